@@ -1,0 +1,17 @@
+/// The most pages of a graph.
+pub const MOST_PAGES: u64 = 68_719_476_735;
+
+/// The most arcs of a graph.
+pub const MOST_ARCS: u64 = 1_099_511_627_776;
+
+/// How many pages back a reference may reach at most.
+pub const MOST_WINDOW: u64 = 65_535;
+
+/// The greatest limit on the references that lead from one page to the next; there may also be none.
+pub const MOST_CHAIN: u64 = 2_147_483_647;
+
+/// The greatest least length of an interval.
+pub const MOST_INTERVAL: u64 = 2_147_483_647;
+
+/// The greatest shrinking factor of a zeta code.
+pub const MOST_ZETA: u32 = 31;
