@@ -1,0 +1,4 @@
+pub mod FilesLemmas
+pub mod PieceLemmas
+pub mod PutsLemmas
+pub mod HeldLemmas

@@ -1,0 +1,22 @@
+use Rattle.std.proofs.Common.{◌-◌, take, drop, List, ℕ, arith, ap, ◌∙◌, length}
+use Rattle.wg_io.proofs.PieceLemmas.{next_piece}
+use Rattle.wg_io.specs.Outside.{Files, appended}
+use Rattle.wg_io.proofs.FilesLemmas.{appended-append, none_falls-trans}
+use Rattle.wg_io.proofs.depot.append_all.Goals as goal
+
+pub loop-at-preserved : goal.loop-at-preserved
+loop-at-preserved g c =
+    let at = c.loop-at.at in
+    let count = c.in_ok-at.field-0 in
+    let piece = c.args.piece.now in
+    let rest = take (length piece - at) (drop at piece) in
+    let name = c.args.name.now in
+    let old = g.D.Depot.files c.args.depot.now in
+    record {
+      within = grind arith;
+      out = λ t. c.in_ok-at.ensures.ok t ∙ ap (λ (f : Files). appended f name (take count rest)) (c.loop-at.invariant.out t)
+          ∙ appended-append old name (take at piece) (take count rest)
+          ∙ ap (λ (l : List ℕ). appended old name l) (next_piece at count piece c.loop-at.invariant.within);
+      later = none_falls-trans _ _ _ c.loop-at.invariant.later c.in_ok-at.ensures.later;
+      untouched = λ z. absurd (omega (arith, c.in_ok-at.ensures.count.0));
+    }

@@ -1,0 +1,53 @@
+//! The outside of a program, by two traits: a [`Depot`] of named files, and a [`Sink`] of bytes.
+//!
+//! Whoever reads or writes is generic over these traits, and its contract says which bytes it read and wrote wherever the
+//! outside can tell them. [`read_whole`] reads a file into a [`List8`], [`append_all`] writes to a file, [`write_all`] and
+//! [`write_pieces`] write to a sink; each loops until all is done or a call is refused.
+//!
+//! | outside | files | bytes |
+//! |---|---|---|
+//! | of the system: tells no bytes | [`FolderDepot`] | [`StdSink`] |
+//! | in memory | [`SteadyDepot`] | [`SteadySink`] |
+//! | in memory, with a call that is to fail | [`MemoryDepot`] | [`MemorySink`] |
+//! | zeros without end | [`ZeroDepot`] | |
+//!
+//! An error is never made up: `Failed`, `Absent` and `Memory` come from an outside only where it counted them, which is how
+//! a contract far above can say that a failed job was the outside's fault. The counts stand still at 2^64 - 1.
+//!
+//! No call holds memory but for the bytes that it answers. The depots and sinks in memory hold their own bytes, and a depot
+//! looks a name up by going through all of them.
+#![tactic(auto)]
+
+mod calls;
+mod depot;
+mod folder;
+mod held;
+mod limits;
+mod memory_depot;
+mod memory_sink;
+mod output;
+mod pieces;
+mod sink;
+mod steady_depot;
+mod steady_sink;
+mod stream;
+mod tally;
+mod whole;
+mod zero_depot;
+
+pub use depot::{Depot, ReadError, WriteError, append_all};
+pub use folder::FolderDepot;
+pub use limits::MOST_BYTES;
+pub use memory_depot::MemoryDepot;
+pub use memory_sink::MemorySink;
+pub use output::Output;
+pub use pieces::write_pieces;
+pub use sink::{Sink, write_all};
+pub use steady_depot::SteadyDepot;
+pub use steady_sink::SteadySink;
+pub use stream::StdSink;
+pub use whole::{List8, LoadError, read_whole};
+pub use zero_depot::ZeroDepot;
+
+#[cfg(test)]
+mod tests;

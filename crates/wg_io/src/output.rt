@@ -1,0 +1,8 @@
+/// What a job writes: the three files of an archive, and the standard output.
+#[derive(Clone, Copy, Debug, PartialEq, Eq)]
+pub enum Output {
+    Properties,
+    Graph,
+    Offsets,
+    Out,
+}

@@ -1,0 +1,102 @@
+// A whole file in memory.
+ghost use Rattle.std.specs.Prelude.{◌≡◌, ◌<◌, ◌≤◌, length, IsTrue, IsErrOf, IfOk, OnOk};
+ghost use Rattle.std.specs.FinMap as map;
+ghost use Rattle.wg_io.specs.Outside.{NoneFalls, Rose};
+ghost use Rattle.wg_io.specs.Reads.{Loads};
+
+use crate::{Depot, MOST_BYTES, ReadError};
+use std::alloc::{AllocError, Global};
+use std::marker::Model;
+use thiserror::Error;
+
+const PIECE: usize = 4096;
+
+/// The bytes of a file, in memory.
+#[derive(Drop)]
+pub struct List8 {
+    bytes: Vec<u8>,
+}
+
+impl Model for List8 {
+    ghost use Rattle.std.specs.Prelude.{List, ℕ};
+
+    ghost Value = { List ℕ };
+
+    ghost view = { λ a. a.bytes.items };
+}
+
+impl List8 {
+    pub fn as_slice(&self) -> &[u8]
+        ensures { result.now ≡ self.now }
+    {
+        self.bytes.as_slice()
+    }
+}
+
+/// Why a file was not read whole.
+#[derive(Clone, Copy, Debug, PartialEq, Eq, Error)]
+pub enum LoadError {
+    #[error("no such file")]
+    Absent,
+    #[error("read failed")]
+    Failed,
+    #[error("too long")]
+    TooLong,
+    #[error("out of memory")]
+    Memory,
+}
+
+impl From<ReadError> for LoadError {
+    ghost use Rattle.wg_io.specs.Reads.{load_error};
+
+    ghost from_gives = { λ r e. e ≡ load_error r };
+
+    fn from(error: ReadError) -> Self {
+        match error {
+            ReadError::Failed => LoadError::Failed,
+            ReadError::Absent => LoadError::Absent,
+            ReadError::Memory => LoadError::Memory,
+        }
+    }
+}
+
+impl From<AllocError> for LoadError {
+    ghost use Rattle.wg_io.specs.declared.whole.LoadError.TheVariants as load;
+
+    ghost from_gives = { λ _ e. e ≡ load.Memory };
+
+    fn from(_: AllocError) -> Self {
+        LoadError::Memory
+    }
+}
+
+/// Reads a whole file into memory, in pieces of 4096 bytes.
+///
+/// The byte at the limit is asked for first, so that a file that is too long is refused before any of it is held; one that
+/// grows meanwhile is refused when it passes the limit.
+pub fn read_whole<D: Depot>(alloc: Global, depot: &mut D, name: &str) -> Result<List8, LoadError>
+    ensures bytes { IsTrue D.told → Loads (map.get (D.files depot.old) name.now) result }
+    ensures same { D.files depot.new ≡ D.files depot.old }
+    ensures absent { IsErrOf result LoadError.Absent → Rose (D.counts depot.old name.now).absences (D.counts depot.new name.now).absences }
+    ensures failed { IsErrOf result LoadError.Failed → Rose (D.counts depot.old name.now).read_faults (D.counts depot.new name.now).read_faults }
+    ensures later { NoneFalls (D.counts depot.old) (D.counts depot.new) }
+    ensures short { IfOk result (λ bytes. length bytes ≤ MOST_BYTES) }
+{
+    let mut probe = [0u8; 1];
+    if depot.read(name, MOST_BYTES, &mut probe)? > 0 {
+        return Err(LoadError::TooLong);
+    }
+    let mut bytes = Vec::new(alloc);
+    let mut buffer = [0u8; PIECE];
+    loop {
+        let count = depot.read(name, bytes.len() as u64, &mut buffer)?;
+        if count == 0 {
+            break;
+        }
+        if bytes.len() + count > MOST_BYTES as usize {
+            return Err(LoadError::TooLong);
+        }
+        bytes.extend_from_slice(&buffer[..count])?;
+    }
+    Ok(List8 { bytes })
+}
