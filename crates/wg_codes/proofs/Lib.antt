@@ -1,0 +1,12 @@
+pub mod Prefix
+pub mod UnaryWords
+pub mod Highest
+pub mod ZetaWords
+pub mod NibbleWords
+pub mod NibblePuts
+pub mod Exists
+pub mod Lengths
+pub mod Folds
+pub mod Windows
+pub mod Writing
+pub mod CodeLaws

@@ -1,0 +1,78 @@
+use Rattle.std.proofs.Common.{◌≡◌, ℕ, zero, suc, ◌+◌, ◌-◌, ◌*◌, ◌/◌, ◌%◌, ◌^◌, ◌<◌, ◌≤◌, Bool, true, false, List, [], ◌∷◌, ◌++◌, refl, sym, ap, ◌∙◌, arith, append_assoc}
+use Rattle.std.proofs.Math.Nat.{pow-suc, div-div-eq-div-mul}
+use Rattle.wg_io.specs.Outside.{Files}
+use Rattle.wg_bits.specs.Bits.{low_bits}
+use Rattle.wg_bits.specs.Written.{HasPut, HasPutLess}
+use Rattle.wg_bits.proofs.LowBits.{low_bits-add, low_bits-above}
+use Rattle.wg_bits.proofs.Writes.{put_less_more, put_then_less}
+use Rattle.wg_codes.specs.Words.{highest, nibble}
+use Rattle.wg_codes.proofs.Writing.{one_bit_one, one_bit_zero, less_same}
+use Rattle.wg_codes.proofs.NibbleWords.{open_digits, open_more, eights, split_word}
+
+digit_open : (t : ℕ) → t < 8 → low_bits 4 t ≡ false ∷ low_bits 3 t
+digit_open t l =
+    let none : t / 2 ^ 3 ≡ 0 = omega arith in
+    low_bits-add 1 3 t ∙ ap (λ k. low_bits 1 k ++ low_bits 3 t) none ∙ ap (λ z. z ++ low_bits 3 t) one_bit_zero
+
+digit_last : (t : ℕ) → t < 8 → low_bits 4 (8 + t) ≡ true ∷ low_bits 3 t
+digit_last t l =
+    let one : (8 + t) / 2 ^ 3 ≡ 1 = omega arith in
+    let turn : 8 + t ≡ 1 * 2 ^ 3 + t = omega arith in
+    low_bits-add 1 3 (8 + t) ∙ ap (λ k. low_bits 1 k ++ low_bits 3 (8 + t)) one
+    ∙ ap (λ z. z ++ low_bits 3 (8 + t)) one_bit_one ∙ ap (λ z. true ∷ z) (ap (low_bits 3) turn ∙ low_bits-above 3 1 t)
+
+-- the digits of v above the last `more` and one
+abbrev pub opened : ℕ → ℕ → List Bool
+opened v more = open_digits (highest v / 3 - more) (v / 8 ^ suc more)
+
+opened_more : (v more : ℕ) → suc more ≤ highest v / 3 → opened v more ≡ opened v (suc more) ++ (false ∷ low_bits 3 (v / 8 ^ suc more % 8))
+opened_more v more l =
+    let count : highest v / 3 - more ≡ suc (highest v / 3 - suc more) = omega arith in
+    let p : 8 ^ suc (suc more) ≡ 8 ^ suc more * 8 = pow-suc 8 (suc more) in
+    let high : v / 8 ^ suc (suc more) ≡ v / 8 ^ suc more / 8 = ap (λ m. v / m) p ∙ sym (div-div-eq-div-mul v (8 ^ suc more) 8) in
+    let whole : v / 8 ^ suc more ≡ v / 8 ^ suc (suc more) * 8 + v / 8 ^ suc more % 8 = omega arith in
+    ap (λ m. open_digits m (v / 8 ^ suc more)) count ∙ ap (open_digits (suc (highest v / 3 - suc more))) whole
+    ∙ open_more (highest v / 3 - suc more) (v / 8 ^ suc (suc more)) (v / 8 ^ suc more % 8) (omega arith)
+
+-- one digit is put
+pub opened_put : (v more m d : ℕ) → 0 < more → more ≤ highest v / 3 → m ≡ more - 1 → d ≡ v / 2 ^ (3 * more) % 8 → opened v more ++ low_bits 4 d ≡ opened v m
+opened_put v zero m d some few em ed = absurd (omega arith)
+opened_put v (suc n) m d some few em ed =
+    let same : m ≡ n = omega arith in
+    let digit : d ≡ v / 8 ^ suc n % 8 = ed ∙ ap (λ k. v / k % 8) (sym (eights (suc n))) in
+    ap (λ z. opened v (suc n) ++ z) (ap (low_bits 4) digit ∙ digit_open (v / 8 ^ suc n % 8) (omega arith))
+    ∙ sym (opened_more v n few) ∙ ap (opened v) (sym same)
+
+last_put : (v : ℕ) → v ≤ 2 ^ 63 - 1 → opened v 0 ++ low_bits 4 (8 + v % 8) ≡ nibble v
+last_put v l =
+    let count : highest v / 3 - 0 ≡ highest v / 3 = omega arith in
+    ap (λ m. open_digits m (v / 8) ++ low_bits 4 (8 + v % 8)) count
+    ∙ ap (λ z. open_digits (highest v / 3) (v / 8) ++ z) (digit_last (v % 8) (omega arith)) ∙ sym (split_word v l)
+
+pub nibble_put : (v more d : ℕ) → v ≤ 2 ^ 63 - 1 → more ≤ 0 → d ≡ 8 + v % 8 → opened v more ++ low_bits 4 d ≡ nibble v
+nibble_put v more d l none e =
+    let z : more ≡ 0 = omega arith in
+    ap (λ m. opened v m ++ low_bits 4 d) z ∙ ap (λ m. opened v 0 ++ low_bits 4 m) e ∙ last_put v l
+
+-- what has been put begins the word
+pub opened_begins : (v more : ℕ) → v ≤ 2 ^ 63 - 1 → more ≤ highest v / 3 → (r : List Bool) × (nibble v ≡ opened v more ++ r)
+opened_begins v zero l few = (low_bits 4 (8 + v % 8), sym (last_put v l))
+opened_begins v (suc n) l few =
+    let h = opened_begins v n l (omega arith) in
+    let digit : List Bool = false ∷ low_bits 3 (v / 8 ^ suc n % 8) in
+    (digit ++ h.0, h.1 ∙ ap (λ z. z ++ h.0) (opened_more v n few) ∙ append_assoc (opened v (suc n)) digit h.0)
+
+pub nothing_opened : (v more : ℕ) → more ≡ highest v / 3 → opened v more ≡ []
+unfolding open_digits
+nothing_opened v more e =
+    let none : highest v / 3 - more ≡ 0 = omega arith in
+    ap (λ m. open_digits m (v / 8 ^ suc more)) none
+
+pub less_nibble : (a b c : Files) (n : List ℕ) (w m : List Bool) (v more d : ℕ) → v ≤ 2 ^ 63 - 1 → 0 < more → more ≤ highest v / 3 → d ≡ v / 2 ^ (3 * more) % 8
+    → HasPut a b n w (opened v more) m → HasPutLess b c n m (low_bits 4 d) → HasPutLess a c n w (nibble v)
+less_nibble a b c n w m v more d l some few e h k =
+    let next : ℕ = more - 1 in
+    let r = opened_begins v (more - 1) l (omega arith) in
+    let all : (opened v more ++ low_bits 4 d) ++ r.0 ≡ nibble v =
+    ap (λ z. z ++ r.0) (opened_put v more (more - 1) d some few refl e) ∙ sym r.1 in
+    less_same a c n w _ _ all (put_less_more a c n w (opened v more ++ low_bits 4 d) r.0 (put_then_less a b c n w (opened v more) m (low_bits 4 d) h k))

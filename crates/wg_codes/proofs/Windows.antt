@@ -1,0 +1,209 @@
+use Rattle.std.proofs.Common.{◌≡◌, ℕ, suc, ◌+◌, ◌-◌, ◌*◌, ◌/◌, ◌%◌, ◌^◌, ◌<◌, ◌≤◌, Bool, false, List, ◌++◌, length, drop, get_or, refl, sym, ap, ◌∙◌, subst, ⊎_elim, arith, append_assoc}
+use Rattle.std.specs.Int.Count.{count_leading_zeros}
+use Rattle.std.proofs.Math.Nat.{pow-suc, div-div-eq-div-mul}
+use Rattle.std.proofs.Math.ListN.{replicate}
+use Rattle.std.proofs.Math.Pow.{pow_mono}
+use Rattle.std.proofs.lemmas.Nat.{leading_top, pow_pos, pow-add, le-div, div_below}
+use Rattle.std.proofs.lemmas.Bool.{cases_eq}
+use Rattle.wg_bits.specs.Bits.{low_bits}
+use Rattle.wg_bits.proofs.LowBits.{length-low_bits, low_bits-add, low_bits-above, low_bits-zero}
+use Rattle.wg_bits.proofs.Rest.{first_bits}
+use Rattle.wg_codes.specs.declared.outcome.Read.TheVariants.{Value}
+use Rattle.wg_codes.specs.Reading.{Reads}
+use Rattle.wg_codes.specs.Words.{highest, unary, gamma, zeta}
+use Rattle.wg_codes.proofs.Highest.{highest_is}
+use Rattle.wg_codes.proofs.ZetaWords.{zeta_top, zeta_value, tail_short, tail_long, short_form, long_form, zeta_span}
+use Rattle.wg_codes.proofs.Writing.{one_bit_one, headed_in_one}
+
+no_ones : count_leading_zeros 64 0 ≡ 64
+unfolding count_leading_zeros
+no_ones = refl
+
+-- a one after m zeros is the unary word of m
+unary_bits : (m : ℕ) → low_bits (m + 1) 1 ≡ unary m
+unfolding unary
+unary_bits m =
+    let half : 1 / 2 ^ 1 ≡ 0 = omega arith in
+    low_bits-add m 1 1 ∙ ap (λ k. low_bits m k ++ low_bits 1 1) half ∙ ap (λ z. z ++ low_bits 1 1) (low_bits-zero m) ∙ ap (λ z. replicate m false ++ z) one_bit_one
+
+-- a gamma word is 2 * m + 1 bits of its number
+pub gamma_bits : (m y : ℕ) → m ≤ 62 → 2 ^ m ≤ y → y < 2 ^ suc m → low_bits (2 * m + 1) y ≡ gamma (y - 1)
+unfolding gamma
+gamma_bits m y few low high =
+    let pos : 0 < 2 ^ m = pow_pos m in
+    let back : y - 1 + 1 ≡ y = omega arith in
+    let place : highest (y - 1 + 1) ≡ m = ap highest back ∙ highest_is y m low high (omega arith) in
+    let p : 2 ^ suc m ≡ 2 ^ m * 2 = pow-suc 2 m in
+    let least : 1 ≤ y / 2 ^ m = le-div 1 y (2 ^ m) pos (omega arith) in
+    let most : y / 2 ^ m < 2 = div_below y (2 ^ m) 2 pos (omega arith) in
+    let one : y / 2 ^ m ≡ 1 = omega arith in
+    let sum : 2 * m + 1 ≡ m + 1 + m = omega arith in
+    ap (λ k. low_bits k y) sum ∙ low_bits-add (m + 1) m y ∙ ap (λ k. low_bits (m + 1) k ++ low_bits m y) one
+    ∙ ap (λ z. z ++ low_bits m y) (unary_bits m)
+    ∙ ap (λ k. unary m ++ low_bits m k) (sym back) ∙ ap (λ k. unary k ++ low_bits k (y - 1 + 1)) (sym place)
+
+-- ---- a gamma word within one window: the number that the window begins with
+pub window_number : (w m : ℕ) → w < 2 ^ 64 → m ≡ count_leading_zeros 64 w → m < 32
+    → (2 ^ m ≤ w / 2 ^ (63 - 2 * m)) × (w / 2 ^ (63 - 2 * m) < 2 ^ suc m)
+window_number w m l e few = ⊎_elim
+    (λ (z : w ≡ 0). let h : count_leading_zeros 64 w ≡ 64 = ap (count_leading_zeros 64) z ∙ no_ones in absurd (omega arith))
+    (λ ne.
+    let t = leading_top 64 w (omega arith) l in
+    let j : ℕ = t.0 in
+    let place : m + (63 - 2 * m) ≡ t.0 = omega (arith, t.1) in
+    let next : suc m + (63 - 2 * m) ≡ suc t.0 = omega (arith, t.1) in
+    let a : 2 ^ m * 2 ^ (63 - 2 * m) ≡ 2 ^ t.0 = sym (pow-add 2 m (63 - 2 * m)) ∙ ap (λ k. 2 ^ k) place in
+    let b : 2 ^ suc m * 2 ^ (63 - 2 * m) ≡ 2 ^ suc t.0 = sym (pow-add 2 (suc m) (63 - 2 * m)) ∙ ap (λ k. 2 ^ k) next in
+    let pos : 0 < 2 ^ (63 - 2 * m) = pow_pos (63 - 2 * m) in
+    (le-div (2 ^ m) w (2 ^ (63 - 2 * m)) pos (omega (arith, t.2)), div_below w (2 ^ (63 - 2 * m)) (2 ^ suc m) pos (omega (arith, t.3))))
+    (cases_eq w 0)
+
+pub fast_found : (z : List Bool) (w m most : ℕ) → w < 2 ^ 64 → m ≡ count_leading_zeros 64 w → m < 32 → m ≤ most → most ≤ 62
+    → ((i : ℕ) → i < 64 → get_or (low_bits 64 w) i false ≡ get_or z i false) → 2 * m + 1 ≤ length z
+    → Reads gamma (2 ^ (most + 1) - 2) z (Value (w / 2 ^ (63 - 2 * m) - 1))
+fast_found z w m most l e few lm cap agree fits =
+    let n = window_number w m l e few in
+    let y : ℕ = w / 2 ^ (63 - 2 * m) in
+    let shift : 64 - (2 * m + 1) ≡ 63 - 2 * m = omega arith in
+    let front : z ≡ low_bits (2 * m + 1) (w / 2 ^ (64 - (2 * m + 1))) ++ drop (2 * m + 1) z =
+    first_bits z w (2 * m + 1) (omega arith) (omega arith) agree fits in
+    let up : 2 ^ suc m ≤ 2 ^ (most + 1) = pow_mono (let s : suc m ≤ most + 1 = omega arith in s) in (
+      omega arith,
+      (
+        drop (2 * m + 1) z,
+        front ∙ ap (λ k. low_bits (2 * m + 1) (w / 2 ^ k) ++ drop (2 * m + 1) z) shift
+            ∙ ap (λ x. x ++ drop (2 * m + 1) z) (gamma_bits m (w / 2 ^ (63 - 2 * m)) (omega arith) n.0 n.1),
+      ),
+    )
+
+pub fast_place : (w m : ℕ) → w < 2 ^ 64 → m ≡ count_leading_zeros 64 w → m < 32 → 2 * m + 1 ≡ length (gamma (w / 2 ^ (63 - 2 * m) - 1))
+fast_place w m l e few =
+    let n = window_number w m l e few in
+    sym (length-low_bits (2 * m + 1) (w / 2 ^ (63 - 2 * m))) ∙ ap length (gamma_bits m (w / 2 ^ (63 - 2 * m)) (omega arith) n.0 n.1)
+
+-- ---- a head and a field within one window
+pub window_field : (w h n : ℕ) → w < 2 ^ 64 → h ≡ count_leading_zeros 64 w → h + n ≤ 63 → (2 ^ n ≤ w / 2 ^ (63 - h - n)) × (w / 2 ^ (63 - h - n) < 2 ^ suc n)
+window_field w h n l e few = ⊎_elim
+    (λ (z : w ≡ 0). let c : count_leading_zeros 64 w ≡ 64 = ap (count_leading_zeros 64) z ∙ no_ones in absurd (omega arith))
+    (λ ne.
+    let t = leading_top 64 w (omega arith) l in
+    let j : ℕ = t.0 in
+    let place : n + (63 - h - n) ≡ t.0 = omega (arith, t.1) in
+    let next : suc n + (63 - h - n) ≡ suc t.0 = omega (arith, t.1) in
+    let a : 2 ^ n * 2 ^ (63 - h - n) ≡ 2 ^ t.0 = sym (pow-add 2 n (63 - h - n)) ∙ ap (λ k. 2 ^ k) place in
+    let b : 2 ^ suc n * 2 ^ (63 - h - n) ≡ 2 ^ suc t.0 = sym (pow-add 2 (suc n) (63 - h - n)) ∙ ap (λ k. 2 ^ k) next in
+    let pos : 0 < 2 ^ (63 - h - n) = pow_pos (63 - h - n) in
+    (le-div (2 ^ n) w (2 ^ (63 - h - n)) pos (omega (arith, t.2)), div_below w (2 ^ (63 - h - n)) (2 ^ suc n) pos (omega (arith, t.3))))
+    (cases_eq w 0)
+
+headed_front : (z : List Bool) (w h n : ℕ) → w < 2 ^ 64 → h ≡ count_leading_zeros 64 w → h + n ≤ 63
+    → ((i : ℕ) → i < 64 → get_or (low_bits 64 w) i false ≡ get_or z i false) → h + n + 1 ≤ length z
+    → (w / 2 ^ (63 - h - n) - 2 ^ n < 2 ^ n) × (z ≡ unary h ++ (low_bits n (w / 2 ^ (63 - h - n) - 2 ^ n) ++ drop (h + n + 1) z))
+headed_front z w h n l e few agree fits =
+    let f = window_field w h n l e few in
+    let p : 2 ^ suc n ≡ 2 ^ n * 2 = pow-suc 2 n in
+    let shift : 64 - (h + n + 1) ≡ 63 - h - n = omega arith in
+    let small : w / 2 ^ (63 - h - n) - 2 ^ n < 2 ^ n = omega (arith, f.0, f.1) in
+    let whole : w / 2 ^ (63 - h - n) ≡ 2 ^ n + (w / 2 ^ (63 - h - n) - 2 ^ n) = omega (arith, f.0) in (
+      small,
+      first_bits z w (h + n + 1) (omega arith) (omega arith) agree fits
+          ∙ ap (λ k. low_bits (h + n + 1) (w / 2 ^ k) ++ drop (h + n + 1) z) shift
+          ∙ ap (λ x. x ++ drop (h + n + 1) z) (headed_in_one h n (w / 2 ^ (63 - h - n) - 2 ^ n) (w / 2 ^ (63 - h - n)) small whole).0
+          ∙ append_assoc (unary h) (low_bits n (w / 2 ^ (63 - h - n) - 2 ^ n)) (drop (h + n + 1) z),
+    )
+
+-- a head whose long form fits is one that words have
+head_small : (k h : ℕ) → 1 ≤ k → h + 1 + (h * k + k) ≤ 64 → h ≤ 63 / k - 1
+head_small k h some fits = let q : h + 1 ≤ 63 / k = le-div (h + 1) 63 k (omega arith) (omega arith) in omega arith
+
+pub window_short : (z : List Bool) (k w h left one low : ℕ) → 1 ≤ k → k ≤ 31 → w < 2 ^ 64 → h ≡ count_leading_zeros 64 w
+    → h + 1 + (h * k + k) ≤ 64 → left ≡ 2 ^ (h * k) → one ≡ 2 ^ (h * k + k - 1) → low ≡ w / 2 ^ (64 - h - (h * k + k)) - one → low < left
+    → ((i : ℕ) → i < 64 → get_or (low_bits 64 w) i false ≡ get_or z i false) → h + (h * k + k) ≤ length z
+    → Reads (zeta k) (zeta_top k) z (Value (left + low - 1)) × (h + (h * k + k) ≡ length (zeta k (left + low - 1)))
+window_short z k w h left one low some few l e fits el eo elow less agree long =
+    let n : ℕ = h * k + k - 1 in
+    let f = headed_front z w h (h * k + k - 1) l e (omega arith) agree (omega arith) in
+    let shift : 63 - h - (h * k + k - 1) ≡ 64 - h - (h * k + k) = omega arith in
+    let same : w / 2 ^ (63 - h - (h * k + k - 1)) - 2 ^ (h * k + k - 1) ≡ low =
+    ap (λ m. w / 2 ^ m - 2 ^ (h * k + k - 1)) shift ∙ ap (λ m. w / 2 ^ (64 - h - (h * k + k)) - m) (sym eo) ∙ sym elow in
+    let room : h * k + k ≤ 63 = omega arith in
+    let below : low < 2 ^ (h * k) = subst (λ m. low < m) el less in
+    let bits : z ≡ unary h ++ (low_bits (h * k + k - 1) low ++ drop (h + (h * k + k - 1) + 1) z) =
+    f.1 ∙ ap (λ m. unary h ++ (low_bits (h * k + k - 1) m ++ drop (h + (h * k + k - 1) + 1) z)) same in
+    let s = short_form k h low some room below in
+    let v : ℕ = 2 ^ (h * k) + low - 1 in
+    let value : left + low - 1 ≡ 2 ^ (h * k) + low - 1 = ap (λ m. m + low - 1) el in
+    let width : length (low_bits (h * k + k - 1) low) ≡ h * k + k - 1 = length-low_bits (h * k + k - 1) low in
+    let span : length (zeta k (2 ^ (h * k) + low - 1)) ≡ h + 1 + length (low_bits (h * k + k - 1) low) =
+    zeta_span k h (2 ^ (h * k) + low - 1) s.0 ∙ ap (λ x. h + 1 + length x) s.2 in (
+      subst (λ m. Reads (zeta k) (zeta_top k) z (Value m)) (sym value)
+          (zeta_value k some few z _ (drop (h + (h * k + k - 1) + 1) z) h (2 ^ (h * k) + low - 1) (head_small k h some fits) bits
+          (tail_short k h low _ (drop (h + (h * k + k - 1) + 1) z) some room below refl)),
+      subst (λ m. h + (h * k + k) ≡ length (zeta k m)) (sym value) (omega arith),
+    )
+
+-- the field of the long form is that of the short one, and a bit more
+longer_field : (w h n one low : ℕ) → h + n ≤ 63 → 1 ≤ n → one ≡ 2 ^ (n - 1) → low ≡ w / 2 ^ (64 - h - n) - one → (w / 2 ^ (63 - h - n) - 2 ^ n) / 2 ≡ low
+longer_field w h n one low few some eo el =
+    let s : 64 - h - n ≡ suc (63 - h - n) = omega arith in
+    let p : 2 ^ (64 - h - n) ≡ 2 ^ (63 - h - n) * 2 = ap (λ m. 2 ^ m) s ∙ pow-suc 2 (63 - h - n) in
+    let t : n ≡ suc (n - 1) = omega arith in
+    let q : 2 ^ n ≡ 2 ^ (n - 1) * 2 = ap (λ m. 2 ^ m) t ∙ pow-suc 2 (n - 1) in
+    let half : w / 2 ^ (63 - h - n) / 2 ≡ w / 2 ^ (64 - h - n) = div-div-eq-div-mul w (2 ^ (63 - h - n)) 2 ∙ ap (λ m. w / m) (sym p) in
+    let x : ℕ = w / 2 ^ (63 - h - n) in
+    omega arith
+
+pub window_long : (z : List Bool) (k w h left one low : ℕ) → 1 ≤ k → k ≤ 31 → w < 2 ^ 64 → h ≡ count_leading_zeros 64 w
+    → h + 1 + (h * k + k) ≤ 64 → left ≡ 2 ^ (h * k) → one ≡ 2 ^ (h * k + k - 1) → low ≡ w / 2 ^ (64 - h - (h * k + k)) - one → left ≤ low
+    → ((i : ℕ) → i < 64 → get_or (low_bits 64 w) i false ≡ get_or z i false) → h + (h * k + k) + 1 ≤ length z
+    → Reads (zeta k) (zeta_top k) z (Value (w / 2 ^ (63 - h - (h * k + k)) - 2 * one - 1))
+    × (h + (h * k + k) + 1 ≡ length (zeta k (w / 2 ^ (63 - h - (h * k + k)) - 2 * one - 1)))
+    × (2 * one + 1 ≤ w / 2 ^ (63 - h - (h * k + k)))
+window_long z k w h left one low some few l e fits el eo elow more agree long =
+    let n : ℕ = h * k + k in
+    let f = headed_front z w h (h * k + k) l e (omega arith) agree long in
+    let g = window_field w h (h * k + k) l e (omega arith) in
+    let t : ℕ = w / 2 ^ (63 - h - (h * k + k)) - 2 ^ (h * k + k) in
+    let half : t / 2 ≡ low = longer_field w h (h * k + k) one low (omega arith) (omega arith) eo elow in
+    let up : h * k + k ≡ suc (h * k + k - 1) = omega arith in
+    let q : 2 ^ (h * k + k) ≡ 2 ^ (h * k + k - 1) * 2 = ap (λ m. 2 ^ m) up ∙ pow-suc 2 (h * k + k - 1) in
+    let both : 2 * one ≡ 2 ^ (h * k + k) = omega arith in
+    let pos : 0 < 2 ^ (h * k) = pow_pos (h * k) in
+    let split : t ≡ 2 * low + t % 2 = omega arith in
+    let bit : t % 2 < 2 = omega arith in
+    let least : 2 ^ (h * k + k) ≤ w / 2 ^ (63 - h - (h * k + k)) = g.0 in
+    let value : w / 2 ^ (63 - h - (h * k + k)) - 2 * one - 1 ≡ 2 * low + t % 2 - 1 = omega arith in
+    let room : h * k + k ≤ 63 = omega arith in
+    let above : 2 ^ (h * k) ≤ low = subst (λ m. m ≤ low) el more in
+    let below : low < 2 ^ (h * k + k - 1) = omega (arith, f.0) in
+    let sum : h * k + k - 1 + 1 ≡ h * k + k = omega arith in
+    let down : t / 2 ^ 1 ≡ low = half in
+    let last : low_bits 1 t ≡ low_bits 1 (t % 2) =
+    ap (low_bits 1) (let m : t ≡ t / 2 * 2 ^ 1 + t % 2 = omega arith in m) ∙ low_bits-above 1 (t / 2) (t % 2) in
+    let cut : low_bits (h * k + k) t ≡ low_bits (h * k + k - 1) low ++ low_bits 1 (t % 2) =
+    ap (λ m. low_bits m t) (sym sum) ∙ low_bits-add (h * k + k - 1) 1 t ∙ ap (λ m. low_bits (h * k + k - 1) m ++ low_bits 1 t) down
+    ∙ ap (λ x. low_bits (h * k + k - 1) low ++ x) last in
+    let s = long_form k h low (t % 2) some room below above bit in
+    let wide : length (low_bits (h * k + k - 1) low ++ low_bits 1 (t % 2)) ≡ h * k + k =
+    ap length (sym cut) ∙ length-low_bits (h * k + k) t in
+    let span : length (zeta k (2 * low + t % 2 - 1)) ≡ h + 1 + length (low_bits (h * k + k - 1) low ++ low_bits 1 (t % 2)) =
+    zeta_span k h (2 * low + t % 2 - 1) s.0 ∙ ap (λ x. h + 1 + length x) s.2 in
+    let end : List Bool = drop (h + (h * k + k) + 1) z in
+    let tail : low_bits (h * k + k) t ++ end ≡ low_bits (h * k + k - 1) low ++ (low_bits 1 (t % 2) ++ end) =
+    ap (λ x. x ++ end) cut ∙ append_assoc (low_bits (h * k + k - 1) low) (low_bits 1 (t % 2)) end in (
+      subst (λ m. Reads (zeta k) (zeta_top k) z (Value m)) (sym value)
+          (zeta_value k some few z _ end h (2 * low + t % 2 - 1) (head_small k h some fits) f.1
+          (tail_long k h low (t % 2) _ _ end some room below above bit tail refl)),
+      subst (λ m. h + (h * k + k) + 1 ≡ length (zeta k m)) (sym value) (omega arith),
+      omega arith,
+    )
+
+-- ---- the numbers of the code
+pub one_below : (w k h one : ℕ) → 1 ≤ k → w < 2 ^ 64 → h ≡ count_leading_zeros 64 w → h + 1 + (h * k + k) ≤ 64 → one ≡ 2 ^ (h * k + k - 1)
+    → (one ≤ w / 2 ^ (64 - h - (h * k + k))) × (one ≤ 2 ^ 62)
+one_below w k h one some l e fits eo =
+    let f = window_field w h (h * k + k - 1) l e (omega arith) in
+    let shift : 63 - h - (h * k + k - 1) ≡ 64 - h - (h * k + k) = omega arith in
+    let small : 2 ^ (h * k + k - 1) ≤ 2 ^ 62 = pow_mono (let s : h * k + k - 1 ≤ 62 = omega arith in s) in
+    let low : 2 ^ (h * k + k - 1) ≤ w / 2 ^ (64 - h - (h * k + k)) = subst (λ m. 2 ^ (h * k + k - 1) ≤ w / 2 ^ m) shift f.0 in
+    (omega arith, omega arith)

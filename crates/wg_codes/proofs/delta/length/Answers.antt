@@ -1,0 +1,9 @@
+use Rattle.std.proofs.Common.{arith}
+use Rattle.wg_codes.proofs.Lengths.{length-delta}
+use Rattle.wg_codes.proofs.delta.length.Goals as goal
+
+pub returns : goal.returns
+returns c =
+    let d = length-delta c.args.v c.highest_one-place.result c.highest_one-place.ensures.place in
+    let g = c.length.ensures.length in
+    omega arith

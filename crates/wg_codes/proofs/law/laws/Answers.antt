@@ -1,0 +1,18 @@
+use Rattle.wg_codes.proofs.Folds.{folds_back, unfolds_from}
+use Rattle.wg_codes.proofs.Exists.{one_case_holds, no_word_begins_another, zeta_one_is_gamma}
+use Rattle.wg_codes.proofs.law.laws.Goals as goal
+
+pub returns-clause-one_case : goal.returns-clause-one_case
+returns-clause-one_case c = one_case_holds
+
+pub returns-clause-no_word_begins_another : goal.returns-clause-no_word_begins_another
+returns-clause-no_word_begins_another c = no_word_begins_another
+
+pub returns-clause-zeta_one : goal.returns-clause-zeta_one
+returns-clause-zeta_one c = zeta_one_is_gamma
+
+pub returns-clause-fold : goal.returns-clause-fold
+returns-clause-fold c = folds_back
+
+pub returns-clause-from : goal.returns-clause-from
+returns-clause-from c = unfolds_from

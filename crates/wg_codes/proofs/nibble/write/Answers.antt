@@ -1,0 +1,42 @@
+use Rattle.std.proofs.Common.{◌++◌, arith, refl, sym, ap, ◌∙◌}
+use Rattle.std.proofs.lemmas.List.{append-nil}
+use Rattle.wg_io.proofs.FilesLemmas.{none_falls-trans}
+use Rattle.wg_bits.proofs.Writes.{put_kept, put_trans, put_then_less, none_falls-refl}
+use Rattle.wg_codes.proofs.Writing.{put_same, less_same}
+use Rattle.wg_codes.proofs.NibblePuts.{nothing_opened, opened_put, nibble_put, less_nibble}
+use Rattle.wg_codes.proofs.nibble.write.Goals as goal
+
+pub loop-more-init : goal.loop-more-init
+loop-more-init g c = record {
+  small = let s = c.highest_one-more.ensures.small in omega arith;
+  within = let p = c.highest_one-more.ensures.place in omega arith;
+  ready = c.requires.ready;
+  put = λ t. put_kept _ _ c.args.writer.now.bits _ _
+      (sym (ap (λ z. c.args.writer.now.bits ++ z) (nothing_opened c.args.v _ (let p = c.highest_one-more.ensures.place in omega arith)) ∙ append-nil c.args.writer.now.bits));
+  later = none_falls-refl _;
+}
+
+pub loop-more-preserved : goal.loop-more-preserved
+loop-more-preserved g c = record {
+  small = omega arith;
+  within = let w = c.loop-more.invariant.within in omega arith;
+  ready = c.in-Ok.ensures.ready;
+  put = λ t. put_same _ _ _ _ _ _ _ (opened_put c.args.v c.loop-more.more _ _ c.loop-more-test.true c.loop-more.invariant.within refl refl)
+      (put_trans _ _ _ _ _ _ _ _ _ (c.loop-more.invariant.put t) (c.in-Ok.ensures.ok t));
+  later = none_falls-trans _ _ _ c.loop-more.invariant.later c.put.ensures.later;
+}
+
+pub returns-in-Err-clause-err : goal.returns-in-Err-clause-err
+returns-in-Err-clause-err g c t =
+    less_nibble _ _ _ _ _ _ c.args.v c.loop-more.more _ c.requires.value c.loop-more-test.true c.loop-more.invariant.within refl
+    (c.loop-more.invariant.put t) (c.in-Err.ensures.err t)
+
+pub returns-in-Ok-put-clause-ok : goal.returns-in-Ok-put-clause-ok
+returns-in-Ok-put-clause-ok g c t =
+    put_same _ _ _ _ _ _ _ (nibble_put c.args.v c.loop-more.more _ c.requires.value c.loop-more-test.false refl)
+    (put_trans _ _ _ _ _ _ _ _ _ (c.loop-more.invariant.put t) (c.in-Ok-put.ensures.ok t))
+
+pub returns-in-Err-put-clause-err : goal.returns-in-Err-put-clause-err
+returns-in-Err-put-clause-err g c t =
+    less_same _ _ _ _ _ _ (nibble_put c.args.v c.loop-more.more _ c.requires.value c.loop-more-test.false refl)
+    (put_then_less _ _ _ _ _ _ _ _ (c.loop-more.invariant.put t) (c.in-Err-put.ensures.err t))

@@ -1,0 +1,5 @@
+pub mod Words
+pub mod Reading
+pub mod Parts
+pub mod Laws
+pub mod Fold

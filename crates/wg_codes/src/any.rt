@@ -1,0 +1,85 @@
+// A code that is chosen while the program runs.
+ghost use Rattle.std.specs.Prelude.{◌≡◌, ◌≤◌, true, false, length, OnOk, OnErr, IsErrOf, IsTrue, ◌↔◌};
+ghost use Rattle.wg_io.specs.Outside.{Rose, NoneFalls};
+ghost use Rattle.wg_params.specs.Codes.{IsCode};
+ghost use Rattle.wg_bits.specs.Bits.{rest};
+ghost use Rattle.wg_bits.specs.Written.{HasPut, HasPutLess};
+ghost use Rattle.wg_codes.specs.Words.{word, top};
+ghost use Rattle.wg_codes.specs.Reading.{Reads, Passes, after};
+
+use crate::{Read, delta, gamma, nibble, unary, zeta};
+use wg_bits::{Cursor, Writer};
+use wg_io::{Depot, WriteError};
+use wg_params::Code;
+
+/// What stands at the cursor. The cursor moves over a whole word, and else stands still.
+pub fn read(code: Code, cursor: &mut Cursor<'_>) -> Read
+    requires { IsCode code }
+    ensures found { Reads (word code) (top code) (rest cursor.old) result }
+    ensures place { cursor.new ≡ after (word code) cursor.old result }
+    ensures passed { Passes (word code) cursor.old cursor.new result }
+{
+    match code {
+        Code::Unary => unary::read(cursor, (1 << 32) - 1),
+        Code::Gamma => gamma::read(cursor, 62),
+        Code::Delta => delta::read(cursor),
+        Code::Zeta(k) => zeta::read(cursor, k),
+        Code::Nibble => nibble::read(cursor),
+    }
+}
+
+/// Puts the word of a value. After an error the writer has failed.
+pub fn write<D: Depot>(
+    code: Code,
+    v: u64,
+    writer: &mut Writer,
+    depot: &mut D,
+    name: &str,
+) -> Result<(), WriteError>
+    requires code { IsCode code }
+    requires value { v ≤ top code }
+    requires ready { writer.old.failed ≡ false }
+    ensures ok { IsTrue D.told → OnOk result (HasPut (D.files depot.old) (D.files depot.new) name.now writer.old.bits (word code v) writer.new.bits) }
+    ensures ready { OnOk result (writer.new.failed ≡ false) }
+    ensures failed { OnErr result (writer.new.failed ≡ true) }
+    ensures err { IsTrue D.told → OnErr result (HasPutLess (D.files depot.old) (D.files depot.new) name.now writer.old.bits (word code v)) }
+    ensures fault { IsErrOf result WriteError.Failed → Rose (D.counts depot.old name.now).write_faults (D.counts depot.new name.now).write_faults }
+    ensures memory { IsErrOf result WriteError.Memory → Rose (D.counts depot.old name.now).wants (D.counts depot.new name.now).wants }
+    ensures later { NoneFalls (D.counts depot.old) (D.counts depot.new) }
+{
+    match code {
+        Code::Unary => unary::write(v, writer, depot, name),
+        Code::Gamma => gamma::write(v, writer, depot, name),
+        Code::Delta => delta::write(v, writer, depot, name),
+        Code::Zeta(k) => zeta::write(k, v, writer, depot, name),
+        Code::Nibble => nibble::write(v, writer, depot, name),
+    }
+}
+
+/// The length of a value's word, in bits.
+pub fn length(code: Code, v: u64) -> u64
+    requires code { IsCode code }
+    requires value { v ≤ top code }
+    ensures { result ≡ length (word code v) }
+{
+    match code {
+        Code::Unary => unary::length(v),
+        Code::Gamma => gamma::length(v),
+        Code::Delta => delta::length(v),
+        Code::Zeta(k) => zeta::length(k, v),
+        Code::Nibble => nibble::length(v),
+    }
+}
+
+/// Whether a code has a word for a value: the test to make before [`write`] and [`length`].
+pub fn holds(code: Code, v: u64) -> bool
+    requires { IsCode code }
+    ensures { IsTrue result ↔ (v ≤ top code) }
+{
+    v <= match code {
+        Code::Unary => (1 << 32) - 1,
+        Code::Gamma | Code::Delta => (1 << 63) - 2,
+        Code::Zeta(k) => (1 << (k * (63 / k))) - 2,
+        Code::Nibble => (1 << 63) - 1,
+    }
+}

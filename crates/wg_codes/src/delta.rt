@@ -1,0 +1,73 @@
+//! Delta: with y one more than the value and m the place of its highest one, the gamma word of m, then the low m bits of y.
+//!
+//! | value | word |
+//! |---|---|
+//! | 0 | `1` |
+//! | 1 | `0100` |
+//! | 2 | `0101` |
+//! | 3 | `01100` |
+//! | 7 | `00100000` |
+ghost use Rattle.std.specs.Prelude.{◌≡◌, ◌-◌, ◌^◌, ◌≤◌, true, false, length, OnOk, OnErr, IsErrOf, IsTrue};
+ghost use Rattle.wg_io.specs.Outside.{Rose, NoneFalls};
+ghost use Rattle.wg_bits.specs.Bits.{rest};
+ghost use Rattle.wg_bits.specs.Written.{HasPut, HasPutLess};
+ghost use Rattle.wg_codes.specs.Words.{delta};
+ghost use Rattle.wg_codes.specs.Reading.{Reads, after};
+
+use crate::headed::{highest_one, number};
+use crate::{Read, gamma};
+use wg_bits::{Cursor, Writer};
+use wg_io::{Depot, WriteError};
+
+// A place is at most 62, so the place of one more than it at most 5: six zeros begin no word.
+pub fn read(cursor: &mut Cursor<'_>) -> Read
+    ensures found { Reads delta (2 ^ 63 - 2) (rest cursor.old) result }
+    ensures place { cursor.new ≡ after delta cursor.old result }
+{
+    let start = cursor.at();
+    match gamma::read(cursor, 5) {
+        Read::Cut => Read::Cut,
+        Read::NoWord => Read::NoWord,
+        Read::Value(place) => match number(cursor, place as u32) {
+            None => {
+                cursor.back(start);
+                Read::Cut
+            }
+            Some(value) => Read::Value(value),
+        },
+    }
+}
+
+pub fn write<D: Depot>(
+    v: u64,
+    writer: &mut Writer,
+    depot: &mut D,
+    name: &str,
+) -> Result<(), WriteError>
+    requires value { v ≤ 2 ^ 63 - 2 }
+    requires ready { writer.old.failed ≡ false }
+    ensures ok { IsTrue D.told → OnOk result (HasPut (D.files depot.old) (D.files depot.new) name.now writer.old.bits (delta v) writer.new.bits) }
+    ensures ready { OnOk result (writer.new.failed ≡ false) }
+    ensures failed { OnErr result (writer.new.failed ≡ true) }
+    ensures err { IsTrue D.told → OnErr result (HasPutLess (D.files depot.old) (D.files depot.new) name.now writer.old.bits (delta v)) }
+    ensures fault { IsErrOf result WriteError.Failed → Rose (D.counts depot.old name.now).write_faults (D.counts depot.new name.now).write_faults }
+    ensures memory { IsErrOf result WriteError.Memory → Rose (D.counts depot.old name.now).wants (D.counts depot.new name.now).wants }
+    ensures later { NoneFalls (D.counts depot.old) (D.counts depot.new) }
+{
+    let place = highest_one(v + 1);
+    match gamma::write(place as u64, writer, depot, name) {
+        Ok(()) => match writer.put(depot, name, v + 1 - (1 << place), place) {
+            Ok(()) => Ok(()),
+            Err(e) => Err(e),
+        },
+        Err(e) => Err(e),
+    }
+}
+
+pub fn length(v: u64) -> u64
+    requires { v ≤ 2 ^ 63 - 2 }
+    ensures { result ≡ length (delta v) }
+{
+    let place = highest_one(v + 1) as u64;
+    gamma::length(place) + place
+}

@@ -1,0 +1,93 @@
+//! Gamma: with y one more than the value and m the place of its highest one, the unary word of m, then the low m bits of y.
+//!
+//! | value | word |
+//! |---|---|
+//! | 0 | `1` |
+//! | 1 | `010` |
+//! | 2 | `011` |
+//! | 3 | `00100` |
+//! | 7 | `0001000` |
+ghost use Rattle.std.specs.Prelude.{◌≡◌, ◌+◌, ◌-◌, ◌*◌, ◌^◌, ◌<◌, ◌≤◌, true, false, length, OnOk, OnErr, IsErrOf, IsTrue};
+ghost use Rattle.wg_io.specs.Outside.{Rose, NoneFalls};
+ghost use Rattle.wg_bits.specs.Bits.{rest};
+ghost use Rattle.wg_bits.specs.Written.{HasPut, HasPutLess};
+ghost use Rattle.wg_codes.specs.Words.{gamma};
+ghost use Rattle.wg_codes.specs.Reading.{Reads, after};
+
+use crate::headed::{highest_one, number, put_headed};
+use crate::{Read, unary};
+use wg_bits::{Cursor, Writer};
+use wg_io::{Depot, WriteError};
+
+// A word of a value whose place is at most `most`: by one load, where all of it lies within the next 64 bits.
+pub fn read(cursor: &mut Cursor<'_>, most: u64) -> Read
+    requires { most ≤ 62 }
+    ensures found { Reads gamma (2 ^ (most + 1) - 2) (rest cursor.old) result }
+    ensures place { cursor.new ≡ after gamma cursor.old result }
+{
+    let word = cursor.peek();
+    let place = word.leading_zeros();
+    if place < 32 && place as u64 <= most && 2 * place as u64 + 1 <= cursor.left() {
+        cursor.advance(2 * place as u64 + 1);
+        return Read::Value((word >> (63 - 2 * place)) - 1);
+    }
+    read_in_steps(cursor, most)
+}
+
+// The same for any word: the unary word first, and then the low bits.
+fn read_in_steps(cursor: &mut Cursor<'_>, most: u64) -> Read
+    requires { most ≤ 62 }
+    ensures found { Reads gamma (2 ^ (most + 1) - 2) (rest cursor.old) result }
+    ensures place { cursor.new ≡ after gamma cursor.old result }
+{
+    let start = cursor.at();
+    match unary::read(cursor, most) {
+        Read::Cut => Read::Cut,
+        Read::NoWord => Read::NoWord,
+        Read::Value(place) => match number(cursor, place as u32) {
+            None => {
+                cursor.back(start);
+                Read::Cut
+            }
+            Some(value) => Read::Value(value),
+        },
+    }
+}
+
+pub fn write<D: Depot>(
+    v: u64,
+    writer: &mut Writer,
+    depot: &mut D,
+    name: &str,
+) -> Result<(), WriteError>
+    requires value { v ≤ 2 ^ 63 - 2 }
+    requires ready { writer.old.failed ≡ false }
+    ensures ok { IsTrue D.told → OnOk result (HasPut (D.files depot.old) (D.files depot.new) name.now writer.old.bits (gamma v) writer.new.bits) }
+    ensures ready { OnOk result (writer.new.failed ≡ false) }
+    ensures failed { OnErr result (writer.new.failed ≡ true) }
+    ensures err { IsTrue D.told → OnErr result (HasPutLess (D.files depot.old) (D.files depot.new) name.now writer.old.bits (gamma v)) }
+    ensures fault { IsErrOf result WriteError.Failed → Rose (D.counts depot.old name.now).write_faults (D.counts depot.new name.now).write_faults }
+    ensures memory { IsErrOf result WriteError.Memory → Rose (D.counts depot.old name.now).wants (D.counts depot.new name.now).wants }
+    ensures later { NoneFalls (D.counts depot.old) (D.counts depot.new) }
+{
+    let place = highest_one(v + 1);
+    match put_headed(
+        writer,
+        depot,
+        name,
+        place as u64,
+        v + 1 - (1 << place),
+        place,
+    ) {
+        Ok(()) => Ok(()),
+        Err(e) => Err(e),
+    }
+}
+
+pub fn length(v: u64) -> u64
+    requires { v < 2 ^ 63 }
+    ensures length { result ≡ length (gamma v) }
+    ensures small { result < 128 }
+{
+    2 * highest_one(v + 1) as u64 + 1
+}

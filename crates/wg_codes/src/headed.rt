@@ -1,0 +1,65 @@
+//! What the codes share: a word's head in unary, and a field of bits behind it.
+ghost use Rattle.std.specs.Prelude.{◌≡◌, ◌+◌, ◌-◌, ◌^◌, ◌<◌, ◌≤◌, true, false, ◌++◌, length, IfSome, IfNone, OnOk, OnErr, IsErrOf, IsTrue};
+ghost use Rattle.wg_io.specs.Outside.{Rose, NoneFalls};
+ghost use Rattle.wg_bits.specs.Bits.{rest, moved, low_bits};
+ghost use Rattle.wg_bits.specs.Written.{HasPut, HasPutLess};
+ghost use Rattle.wg_codes.specs.Words.{highest, unary};
+ghost use Rattle.wg_codes.specs.Parts.{IsNumberAt};
+
+use wg_bits::{Cursor, Writer};
+use wg_io::{Depot, WriteError};
+
+// The place of the highest one, the lowest place being 0; 0 for no one at all.
+pub fn highest_one(y: u64) -> u32
+    ensures place { result ≡ highest y }
+    ensures small { result ≤ 63 }
+{
+    63u32.saturating_sub(y.leading_zeros())
+}
+
+// One less than the number whose highest one stands at `place`, of which the lower bits come next.
+pub fn number(cursor: &mut Cursor<'_>, place: u32) -> Option<u64>
+    requires { place ≤ 62 }
+    ensures none { IfNone result ((length (rest cursor.old) < place) × (cursor.new ≡ cursor.old)) }
+    ensures some { IfSome result (λ v. IsNumberAt place v (rest cursor.old) (rest cursor.new) × (cursor.new ≡ moved cursor.old place)) }
+{
+    let low = cursor.take(place)?;
+    Some((1 << place) - 1 + low)
+}
+
+// A head in unary, and behind it a field of `width` bits. The one of the head is put as a bit more of the field.
+pub fn put_headed<D: Depot>(
+    writer: &mut Writer,
+    depot: &mut D,
+    name: &str,
+    head: u64,
+    field: u64,
+    width: u32,
+) -> Result<(), WriteError>
+    requires ready { writer.old.failed ≡ false }
+    requires width { width ≤ 63 }
+    requires field { field < 2 ^ width }
+    ensures ok { IsTrue D.told → OnOk result (HasPut (D.files depot.old) (D.files depot.new) name.now writer.old.bits (unary head ++ low_bits width field) writer.new.bits) }
+    ensures ready { OnOk result (writer.new.failed ≡ false) }
+    ensures failed { OnErr result (writer.new.failed ≡ true) }
+    ensures err { IsTrue D.told → OnErr result (HasPutLess (D.files depot.old) (D.files depot.new) name.now writer.old.bits (unary head ++ low_bits width field)) }
+    ensures fault { IsErrOf result WriteError.Failed → Rose (D.counts depot.old name.now).write_faults (D.counts depot.new name.now).write_faults }
+    ensures memory { IsErrOf result WriteError.Memory → Rose (D.counts depot.old name.now).wants (D.counts depot.new name.now).wants }
+    ensures later { NoneFalls (D.counts depot.old) (D.counts depot.new) }
+{
+    let marked = (1 << width) + field;
+    if head <= 63 - width as u64 {
+        match writer.put(depot, name, marked, head as u32 + width + 1) {
+            Ok(()) => Ok(()),
+            Err(e) => Err(e),
+        }
+    } else {
+        match writer.zeros(depot, name, head) {
+            Ok(()) => match writer.put(depot, name, marked, width + 1) {
+                Ok(()) => Ok(()),
+                Err(e) => Err(e),
+            },
+            Err(e) => Err(e),
+        }
+    }
+}

@@ -1,0 +1,102 @@
+//! Nibble: the digits of the value in base 8, the highest first and none of them a leading zero, each with a marker bit before
+//! it, which is 1 at the last digit and 0 at the others.
+//!
+//! | value | word |
+//! |---|---|
+//! | 0 | `1000` |
+//! | 1 | `1001` |
+//! | 7 | `1111` |
+//! | 8 | `0001 1000` |
+//! | 63 | `0111 1111` |
+//!
+//! BVGraph's documentation names the code and gives no words for it: the marker and the canonical form are this program's own.
+ghost use Rattle.std.specs.Prelude.{◌≡◌, ◌+◌, ◌-◌, ◌*◌, ◌/◌, ◌%◌, ◌^◌, ◌<◌, ◌≤◌, true, false, length, OnOk, OnErr, IsErrOf, IsTrue};
+ghost use Rattle.wg_io.specs.Outside.{Rose, NoneFalls};
+ghost use Rattle.wg_bits.specs.Bits.{rest};
+ghost use Rattle.wg_bits.specs.Written.{HasPut, HasPutLess};
+ghost use Rattle.wg_codes.specs.Words.{nibble};
+ghost use Rattle.wg_codes.specs.Reading.{Reads, after};
+
+use crate::Read;
+use crate::headed::highest_one;
+use wg_bits::{Cursor, Writer};
+use wg_io::{Depot, WriteError};
+
+// A word has at most 21 digits, and no zero digit in front.
+pub fn read(cursor: &mut Cursor<'_>) -> Read
+    ensures found { Reads nibble (2 ^ 63 - 1) (rest cursor.old) result }
+    ensures place { cursor.new ≡ after nibble cursor.old result }
+{
+    let start = cursor.at();
+    let mut value = 0;
+    for digit in 0..21u32 {
+        match cursor.bit() {
+            None => {
+                cursor.back(start);
+                return Read::Cut;
+            }
+            Some(last) => {
+                if !last && digit == 20 {
+                    cursor.back(start);
+                    return Read::NoWord;
+                }
+                match cursor.take(3) {
+                    None => {
+                        cursor.back(start);
+                        return Read::Cut;
+                    }
+                    Some(next) => {
+                        value = value * 8 + next;
+                        if last {
+                            return Read::Value(value);
+                        }
+                        if value == 0 {
+                            cursor.back(start);
+                            return Read::NoWord;
+                        }
+                    }
+                }
+            }
+        }
+    }
+    cursor.back(start);
+    Read::NoWord
+}
+
+pub fn write<D: Depot>(
+    v: u64,
+    writer: &mut Writer,
+    depot: &mut D,
+    name: &str,
+) -> Result<(), WriteError>
+    requires value { v ≤ 2 ^ 63 - 1 }
+    requires ready { writer.old.failed ≡ false }
+    ensures ok { IsTrue D.told → OnOk result (HasPut (D.files depot.old) (D.files depot.new) name.now writer.old.bits (nibble v) writer.new.bits) }
+    ensures ready { OnOk result (writer.new.failed ≡ false) }
+    ensures failed { OnErr result (writer.new.failed ≡ true) }
+    ensures err { IsTrue D.told → OnErr result (HasPutLess (D.files depot.old) (D.files depot.new) name.now writer.old.bits (nibble v)) }
+    ensures fault { IsErrOf result WriteError.Failed → Rose (D.counts depot.old name.now).write_faults (D.counts depot.new name.now).write_faults }
+    ensures memory { IsErrOf result WriteError.Memory → Rose (D.counts depot.old name.now).wants (D.counts depot.new name.now).wants }
+    ensures later { NoneFalls (D.counts depot.old) (D.counts depot.new) }
+{
+    let mut more = highest_one(v) / 3;
+    while more > 0 {
+        match writer.put(depot, name, (v >> (3 * more)) % 8, 4) {
+            Ok(()) => {
+                more -= 1;
+            }
+            Err(e) => return Err(e),
+        }
+    }
+    match writer.put(depot, name, 8 + v % 8, 4) {
+        Ok(()) => Ok(()),
+        Err(e) => Err(e),
+    }
+}
+
+pub fn length(v: u64) -> u64
+    requires { v ≤ 2 ^ 63 - 1 }
+    ensures { result ≡ length (nibble v) }
+{
+    4 * (highest_one(v) / 3 + 1) as u64
+}

@@ -1,0 +1,10 @@
+/// What stands at some bits. For every code and all bits it is exactly one of these.
+#[derive(Clone, Copy, Debug, PartialEq, Eq)]
+pub enum Read {
+    /// The word of this value, and maybe more.
+    Value(u64),
+    /// A word that the end of the bits cuts off, and nothing else.
+    Cut,
+    /// What no word begins with.
+    NoWord,
+}

@@ -1,0 +1,69 @@
+//! Unary: as many zeros as the value says, then a one.
+//!
+//! | value | word |
+//! |---|---|
+//! | 0 | `1` |
+//! | 1 | `01` |
+//! | 2 | `001` |
+//! | 3 | `0001` |
+//! | 7 | `00000001` |
+ghost use Rattle.std.specs.Prelude.{◌≡◌, ◌+◌, ◌^◌, ◌<◌, true, false, length, OnOk, OnErr, IsErrOf, IsTrue};
+ghost use Rattle.wg_io.specs.Outside.{Rose, NoneFalls};
+ghost use Rattle.wg_bits.specs.Bits.{rest};
+ghost use Rattle.wg_bits.specs.Written.{HasPut, HasPutLess};
+ghost use Rattle.wg_codes.specs.Words.{unary};
+ghost use Rattle.wg_codes.specs.Reading.{Reads, after};
+
+use crate::Read;
+use crate::headed::put_headed;
+use wg_bits::{Cursor, Writer};
+use wg_io::{Depot, WriteError};
+
+// A word of at most `most`.
+pub fn read(cursor: &mut Cursor<'_>, most: u64) -> Read
+    requires { most < 2 ^ 32 }
+    ensures found { Reads unary most (rest cursor.old) result }
+    ensures place { cursor.new ≡ after unary cursor.old result }
+{
+    let start = cursor.at();
+    let zeros = cursor.zeros(most + 1);
+    if zeros > most {
+        cursor.back(start);
+        return Read::NoWord;
+    }
+    match cursor.bit() {
+        None => {
+            cursor.back(start);
+            Read::Cut
+        }
+        Some(_one) => Read::Value(zeros),
+    }
+}
+
+pub fn write<D: Depot>(
+    v: u64,
+    writer: &mut Writer,
+    depot: &mut D,
+    name: &str,
+) -> Result<(), WriteError>
+    requires ready { writer.old.failed ≡ false }
+    ensures ok { IsTrue D.told → OnOk result (HasPut (D.files depot.old) (D.files depot.new) name.now writer.old.bits (unary v) writer.new.bits) }
+    ensures ready { OnOk result (writer.new.failed ≡ false) }
+    ensures failed { OnErr result (writer.new.failed ≡ true) }
+    ensures err { IsTrue D.told → OnErr result (HasPutLess (D.files depot.old) (D.files depot.new) name.now writer.old.bits (unary v)) }
+    ensures fault { IsErrOf result WriteError.Failed → Rose (D.counts depot.old name.now).write_faults (D.counts depot.new name.now).write_faults }
+    ensures memory { IsErrOf result WriteError.Memory → Rose (D.counts depot.old name.now).wants (D.counts depot.new name.now).wants }
+    ensures later { NoneFalls (D.counts depot.old) (D.counts depot.new) }
+{
+    match put_headed(writer, depot, name, v, 0, 0) {
+        Ok(()) => Ok(()),
+        Err(e) => Err(e),
+    }
+}
+
+pub fn length(v: u64) -> u64
+    requires { v < 2 ^ 32 }
+    ensures { result ≡ length (unary v) }
+{
+    v + 1
+}

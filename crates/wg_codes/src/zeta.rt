@@ -1,0 +1,141 @@
+//! Zeta with a shrinking factor k, as the WebGraph paper of Boldi and Vigna has it: with y one more than the value, m the place
+//! of its highest one, h = m / k and left = 2^(hk), the unary word of h, then y in its shortened form: y - left in hk + k - 1
+//! bits where that is below left, else y in hk + k bits. The words of k = 3, and of k = 2:
+//!
+//! | value | k = 3 | k = 2 |
+//! |---|---|---|
+//! | 0 | `100` | `10` |
+//! | 1 | `1010` | `110` |
+//! | 2 | `1011` | `111` |
+//! | 3 | `1100` | `01000` |
+//! | 7 | `0100000` | `011000` |
+ghost use Rattle.std.specs.Prelude.{◌≡◌, ◌+◌, ◌-◌, ◌*◌, ◌/◌, ◌^◌, ◌<◌, ◌≤◌, true, false, length, IfSome, IfNone, OnOk, OnErr, IsErrOf, IsTrue};
+ghost use Rattle.wg_io.specs.Outside.{Rose, NoneFalls};
+ghost use Rattle.wg_bits.specs.Bits.{rest, moved};
+ghost use Rattle.wg_bits.specs.Written.{HasPut, HasPutLess};
+ghost use Rattle.wg_codes.specs.Words.{zeta, shortened};
+ghost use Rattle.wg_codes.specs.Reading.{Reads, after};
+ghost use Rattle.wg_codes.specs.Parts.{IsShortenedAt, IsCutAt};
+
+use crate::headed::{highest_one, put_headed};
+use crate::{Read, unary};
+use wg_bits::{Cursor, Writer};
+use wg_io::{Depot, WriteError};
+
+// A word: by one load, where with its head the long form lies within the next 64 bits. Such a head is below 63 / k, too.
+pub fn read(cursor: &mut Cursor<'_>, k: u32) -> Read
+    requires { (1 ≤ k) × (k ≤ 31) }
+    ensures found { Reads (zeta k) (2 ^ (k * (63 / k)) - 2) (rest cursor.old) result }
+    ensures place { cursor.new ≡ after (zeta k) cursor.old result }
+{
+    let word = cursor.peek();
+    let head = word.leading_zeros();
+    let width = head * k + k;
+    if head + 1 + width <= 64 {
+        let left = 1u64 << (head * k);
+        let one = 1u64 << (width - 1);
+        let low = (word >> (64 - head - width)) - one;
+        if low < left {
+            if (head + width) as u64 <= cursor.left() {
+                cursor.advance((head + width) as u64);
+                return Read::Value(left + low - 1);
+            }
+        } else if (head + width + 1) as u64 <= cursor.left() {
+            cursor.advance((head + width + 1) as u64);
+            return Read::Value((word >> (63 - head - width)) - 2 * one - 1);
+        }
+    }
+    read_in_steps(cursor, k)
+}
+
+// The same for any word: the unary word of the head first, and then the shortened form.
+fn read_in_steps(cursor: &mut Cursor<'_>, k: u32) -> Read
+    requires { (1 ≤ k) × (k ≤ 31) }
+    ensures found { Reads (zeta k) (2 ^ (k * (63 / k)) - 2) (rest cursor.old) result }
+    ensures place { cursor.new ≡ after (zeta k) cursor.old result }
+{
+    let start = cursor.at();
+    match unary::read(cursor, (63 / k - 1) as u64) {
+        Read::Cut => Read::Cut,
+        Read::NoWord => Read::NoWord,
+        Read::Value(head) => match shortened(cursor, k, head as u32) {
+            None => {
+                cursor.back(start);
+                Read::Cut
+            }
+            Some(value) => Read::Value(value),
+        },
+    }
+}
+
+// One less than the number that its shortened form spells.
+fn shortened(cursor: &mut Cursor<'_>, k: u32, head: u32) -> Option<u64>
+    requires k { (1 ≤ k) × (k ≤ 31) }
+    requires head { head < 63 / k }
+    ensures none { IfNone result (IsCutAt k head (rest cursor.old) × (cursor.new ≡ cursor.old)) }
+    ensures some { IfSome result (λ v. IsShortenedAt k head v (rest cursor.old) (rest cursor.new)
+        × (cursor.new ≡ moved cursor.old (length (shortened k head (v + 1))))) }
+{
+    let left = 1u64 << (head * k);
+    let start = cursor.at();
+    match cursor.take(head * k + k - 1) {
+        None => None,
+        Some(low) if low < left => Some(left + low - 1),
+        Some(low) => match cursor.take(1) {
+            None => {
+                cursor.back(start);
+                None
+            }
+            Some(last) => Some(2 * low + last - 1),
+        },
+    }
+}
+
+pub fn write<D: Depot>(
+    k: u32,
+    v: u64,
+    writer: &mut Writer,
+    depot: &mut D,
+    name: &str,
+) -> Result<(), WriteError>
+    requires k { (1 ≤ k) × (k ≤ 31) }
+    requires value { v ≤ 2 ^ (k * (63 / k)) - 2 }
+    requires ready { writer.old.failed ≡ false }
+    ensures ok { IsTrue D.told → OnOk result (HasPut (D.files depot.old) (D.files depot.new) name.now writer.old.bits (zeta k v) writer.new.bits) }
+    ensures ready { OnOk result (writer.new.failed ≡ false) }
+    ensures failed { OnErr result (writer.new.failed ≡ true) }
+    ensures err { IsTrue D.told → OnErr result (HasPutLess (D.files depot.old) (D.files depot.new) name.now writer.old.bits (zeta k v)) }
+    ensures fault { IsErrOf result WriteError.Failed → Rose (D.counts depot.old name.now).write_faults (D.counts depot.new name.now).write_faults }
+    ensures memory { IsErrOf result WriteError.Memory → Rose (D.counts depot.old name.now).wants (D.counts depot.new name.now).wants }
+    ensures later { NoneFalls (D.counts depot.old) (D.counts depot.new) }
+{
+    let head = highest_one(v + 1) / k;
+    let width = head * k + k;
+    let left = 1u64 << (head * k);
+    if v + 1 - left < left {
+        match put_headed(writer, depot, name, head as u64, v + 1 - left, width - 1) {
+            Ok(()) => Ok(()),
+            Err(e) => Err(e),
+        }
+    } else {
+        match put_headed(writer, depot, name, head as u64, v + 1, width) {
+            Ok(()) => Ok(()),
+            Err(e) => Err(e),
+        }
+    }
+}
+
+pub fn length(k: u32, v: u64) -> u64
+    requires k { (1 ≤ k) × (k ≤ 31) }
+    requires value { v ≤ 2 ^ (k * (63 / k)) - 2 }
+    ensures { result ≡ length (zeta k v) }
+{
+    let head = highest_one(v + 1) / k;
+    let width = head * k + k;
+    let left = 1u64 << (head * k);
+    if v + 1 - left < left {
+        (head + width) as u64
+    } else {
+        (head + 1 + width) as u64
+    }
+}
