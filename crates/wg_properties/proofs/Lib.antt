@@ -1,0 +1,5 @@
+pub mod Cuts
+pub mod Kept
+pub mod Pieces
+pub mod Limits
+mod Rows

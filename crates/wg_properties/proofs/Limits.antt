@@ -1,0 +1,118 @@
+-- What is judged is within the limits of the parameters.
+use Rattle.std.proofs.Common.{◌≡◌, ℕ, ◌+◌, ◌≤◌, Bool, true, false, ◌||◌, cond, ltb, List, [], ◌∷◌, map, Option, Some, None, Result, Ok, Err, unwrap_or, refl, subst, arith, codes, eq-eqb}
+use Rattle.std.specs.Str.{bytes_eq}
+use Rattle.std.proofs.lemmas.Bool.{ltb-false, le-ltb, ne_eqb}
+use Rattle.wg_num.specs.Decimal.{number_of}
+use Rattle.wg_params.specs.Codes.{is_gamma_or_delta, is_unary_gamma_or_delta, is_residual_code}
+use Rattle.wg_params.specs.Parameters.{Parameters, IsWithinLimits, first_bad}
+use Rattle.wg_params.specs.declared.key.Key.{Key}
+use Rattle.wg_params.specs.declared.key.Key.TheVariants as key
+use Rattle.wg_params.specs.declared.limits.TheConstants.{MOST_PAGES, MOST_ARCS, MOST_WINDOW, MOST_CHAIN, MOST_INTERVAL, MOST_ZETA}
+use Rattle.wg_properties.specs.Flags.{default_codes, with_flag, codes_from, codes_of, pieces_of, flag_of}
+use Rattle.wg_properties.specs.Judged.{and_then, within, judged_number, judged_chain, judged_zeta, judged_flags}
+use Rattle.wg_properties.specs.declared.fault.PropFault.{PropFault}
+use Rattle.wg_properties.specs.declared.fault.PropFault.TheVariants as fault
+use Rattle.wg_properties.specs.declared.flags.Codes.{Codes}
+use Rattle.wg_properties.specs.declared.flags.Flag.{Flag}
+use Rattle.wg_properties.specs.declared.flags.Flag.TheVariants.{OutdegreesGamma, OutdegreesDelta, BlocksGamma, BlocksDelta, ReferencesUnary, ReferencesGamma, ReferencesDelta, BlockCountUnary, BlockCountGamma, BlockCountDelta, ResidualsGamma, ResidualsDelta, ResidualsZeta, ResidualsNibble, OffsetsGamma, OffsetsDelta}
+
+abbrev ok_number : ℕ → Result ℕ PropFault
+ok_number n = Ok n
+
+within_ok : (k : Key) (least most : ℕ) (o : Option ℕ) (n : ℕ) → within k least most o ≡ ok_number n → (least ≤ n) × (n ≤ most)
+within_ok k least most None n e = absurd cc
+within_ok k least most (Some m) n e = at (ltb m least) (ltb most m) refl refl e
+  where
+    at : (s t : Bool) → ltb m least ≡ s → ltb most m ≡ t → cond (s || t) (Err (fault.Range k)) (ok_number m) ≡ ok_number n → (least ≤ n) × (n ≤ most)
+    at true t a b e = absurd cc
+    at false true a b e = absurd cc
+    at false false a b e = let same : m ≡ n = cc in (omega (arith, ltb-false m least a), omega (arith, ltb-false most m b))
+
+pub number_ok : (k : Key) (most : ℕ) (value : Option (List ℕ)) (n : ℕ) → judged_number k most value ≡ ok_number n → n ≤ most
+number_ok k most None n e = absurd cc
+number_ok k most (Some text) n e = (within_ok k 0 most (number_of text) n e).1
+
+pub zeta_ok : (value : Option (List ℕ)) (n : ℕ) → judged_zeta value ≡ ok_number n → (1 ≤ n) × (n ≤ MOST_ZETA)
+zeta_ok None n e = let three : 3 ≡ n = cc in (omega arith, omega arith)
+zeta_ok (Some text) n e = within_ok key.ZetaK 1 MOST_ZETA (number_of text) n e
+
+pub chain_ok : (value : Option (List ℕ)) (chain : Option ℕ) → judged_chain value ≡ Ok chain → unwrap_or chain 0 ≤ MOST_CHAIN
+chain_ok None chain e = absurd cc
+chain_ok (Some text) chain e = at (bytes_eq text (codes "-1")) e
+  where
+    some : (w : Result ℕ PropFault) → within key.MaxRefCount 0 MOST_CHAIN (number_of text) ≡ w → and_then w (λ n. Ok (Some n)) ≡ Ok chain → unwrap_or chain 0 ≤ MOST_CHAIN
+    some (Ok n) is e = let same : Some n ≡ chain = cc in subst (λ o. unwrap_or o 0 ≤ MOST_CHAIN) same (within_ok key.MaxRefCount 0 MOST_CHAIN (number_of text) n is).1
+    some (Err f) is e = absurd cc
+
+    at : (t : Bool) → cond t (Ok None) (and_then (within key.MaxRefCount 0 MOST_CHAIN (number_of text)) (λ n. Ok (Some n))) ≡ Ok chain → unwrap_or chain 0 ≤ MOST_CHAIN
+    at true e = let same : None ≡ chain = cc in subst (λ o. unwrap_or o 0 ≤ MOST_CHAIN) same (omega arith)
+    at false e = some (within key.MaxRefCount 0 MOST_CHAIN (number_of text)) refl e
+
+-- each field is in a code that it may have
+pub record AreCodes (zeta : ℕ) (c : Codes) : Type 0 where
+  pub outdegrees : is_gamma_or_delta c.outdegrees ≡ true
+  pub references : is_unary_gamma_or_delta c.references ≡ true
+  pub block_counts : is_unary_gamma_or_delta c.block_counts ≡ true
+  pub blocks : is_gamma_or_delta c.blocks ≡ true
+  pub residuals : is_residual_code zeta c.residuals ≡ true
+  pub offsets : is_gamma_or_delta c.offsets ≡ true
+
+flag_keeps : (zeta : ℕ) (c : Codes) (flag : Flag) → AreCodes zeta c → AreCodes zeta (with_flag zeta c flag)
+flag_keeps zeta c OutdegreesGamma a = record { outdegrees = refl; references = a.references; block_counts = a.block_counts; blocks = a.blocks; residuals = a.residuals; offsets = a.offsets }
+flag_keeps zeta c OutdegreesDelta a = record { outdegrees = refl; references = a.references; block_counts = a.block_counts; blocks = a.blocks; residuals = a.residuals; offsets = a.offsets }
+flag_keeps zeta c BlocksGamma a = record { outdegrees = a.outdegrees; references = a.references; block_counts = a.block_counts; blocks = refl; residuals = a.residuals; offsets = a.offsets }
+flag_keeps zeta c BlocksDelta a = record { outdegrees = a.outdegrees; references = a.references; block_counts = a.block_counts; blocks = refl; residuals = a.residuals; offsets = a.offsets }
+flag_keeps zeta c ReferencesUnary a = record { outdegrees = a.outdegrees; references = refl; block_counts = a.block_counts; blocks = a.blocks; residuals = a.residuals; offsets = a.offsets }
+flag_keeps zeta c ReferencesGamma a = record { outdegrees = a.outdegrees; references = refl; block_counts = a.block_counts; blocks = a.blocks; residuals = a.residuals; offsets = a.offsets }
+flag_keeps zeta c ReferencesDelta a = record { outdegrees = a.outdegrees; references = refl; block_counts = a.block_counts; blocks = a.blocks; residuals = a.residuals; offsets = a.offsets }
+flag_keeps zeta c BlockCountUnary a = record { outdegrees = a.outdegrees; references = a.references; block_counts = refl; blocks = a.blocks; residuals = a.residuals; offsets = a.offsets }
+flag_keeps zeta c BlockCountGamma a = record { outdegrees = a.outdegrees; references = a.references; block_counts = refl; blocks = a.blocks; residuals = a.residuals; offsets = a.offsets }
+flag_keeps zeta c BlockCountDelta a = record { outdegrees = a.outdegrees; references = a.references; block_counts = refl; blocks = a.blocks; residuals = a.residuals; offsets = a.offsets }
+flag_keeps zeta c ResidualsGamma a = record { outdegrees = a.outdegrees; references = a.references; block_counts = a.block_counts; blocks = a.blocks; residuals = refl; offsets = a.offsets }
+flag_keeps zeta c ResidualsDelta a = record { outdegrees = a.outdegrees; references = a.references; block_counts = a.block_counts; blocks = a.blocks; residuals = refl; offsets = a.offsets }
+flag_keeps zeta c ResidualsZeta a = record { outdegrees = a.outdegrees; references = a.references; block_counts = a.block_counts; blocks = a.blocks; residuals = eq-eqb zeta zeta refl; offsets = a.offsets }
+flag_keeps zeta c ResidualsNibble a = record { outdegrees = a.outdegrees; references = a.references; block_counts = a.block_counts; blocks = a.blocks; residuals = refl; offsets = a.offsets }
+flag_keeps zeta c OffsetsGamma a = record { outdegrees = a.outdegrees; references = a.references; block_counts = a.block_counts; blocks = a.blocks; residuals = a.residuals; offsets = refl }
+flag_keeps zeta c OffsetsDelta a = record { outdegrees = a.outdegrees; references = a.references; block_counts = a.block_counts; blocks = a.blocks; residuals = a.residuals; offsets = refl }
+
+from_keeps : (zeta i : ℕ) (c d : Codes) (flags : List (Option Flag)) → AreCodes zeta c → codes_from zeta i c flags ≡ Ok d → AreCodes zeta d
+from_keeps zeta i c d [] a e = subst (AreCodes zeta) (let same : c ≡ d = cc in same) a
+from_keeps zeta i c d (None ∷ flags) a e = absurd cc
+from_keeps zeta i c d (Some flag ∷ flags) a e = from_keeps zeta (i + 1) (with_flag zeta c flag) d flags (flag_keeps zeta c flag a) e
+
+pub codes_ok : (zeta : ℕ) (value : List ℕ) (c : Codes) → codes_of zeta value ≡ Ok c → AreCodes zeta c
+unfolding codes_of
+codes_ok zeta value c e =
+    from_keeps zeta 1 (default_codes zeta) c (map flag_of (pieces_of value)) (record { outdegrees = refl; references = refl; block_counts = refl; blocks = refl; residuals = eq-eqb zeta zeta refl; offsets = refl }) e
+
+-- within the limits no key is bad
+pub none_bad : (p : Parameters) → IsWithinLimits p → first_bad p ≡ None
+none_bad p h =
+    let nodes = le-ltb MOST_PAGES p.nodes h.nodes in
+    let arcs = le-ltb MOST_ARCS p.arcs h.arcs in
+    let window = le-ltb MOST_WINDOW p.window h.window in
+    let chain = le-ltb MOST_CHAIN (unwrap_or p.chain 0) h.chain in
+    let interval = le-ltb MOST_INTERVAL p.interval h.interval in
+    let some = ne_eqb p.zeta 0 (λ z. omega (arith, h.some_zeta)) in
+    let zeta = le-ltb MOST_ZETA p.zeta h.zeta in
+    rw (nodes, arcs, window, chain, interval, some, zeta, h.outdegrees, h.references, h.block_counts, h.blocks, h.residuals, h.offsets)
+
+-- what was judged key by key can be made parameters
+pub never_bad : (v : Key → Option (List ℕ)) (nodes arcs window : ℕ) (chain : Option ℕ) (interval zeta : ℕ) (c : Codes) → judged_number key.Nodes MOST_PAGES (v key.Nodes) ≡ Ok nodes → judged_number key.Arcs MOST_ARCS (v key.Arcs) ≡ Ok arcs → judged_number key.WindowSize MOST_WINDOW (v key.WindowSize) ≡ Ok window → judged_chain (v key.MaxRefCount) ≡ Ok chain → judged_number key.MinIntervalLength MOST_INTERVAL (v key.MinIntervalLength) ≡ Ok interval → judged_zeta (v key.ZetaK) ≡ Ok zeta → judged_flags zeta (v key.CompressionFlags) ≡ Ok c → first_bad (record { nodes = nodes; arcs = arcs; window = window; chain = chain; interval = interval; zeta = zeta; outdegrees = c.outdegrees; references = c.references; block_counts = c.block_counts; blocks = c.blocks; residuals = c.residuals; offsets = c.offsets }) ≡ None
+never_bad v nodes arcs window chain interval zeta c e1 e2 e3 e4 e5 e6 e7 =
+    let fields = codes_ok zeta (unwrap_or (v key.CompressionFlags) []) c e7 in
+    none_bad (record { nodes = nodes; arcs = arcs; window = window; chain = chain; interval = interval; zeta = zeta; outdegrees = c.outdegrees; references = c.references; block_counts = c.block_counts; blocks = c.blocks; residuals = c.residuals; offsets = c.offsets }) (record {
+      nodes = number_ok key.Nodes MOST_PAGES (v key.Nodes) nodes e1;
+      arcs = number_ok key.Arcs MOST_ARCS (v key.Arcs) arcs e2;
+      window = number_ok key.WindowSize MOST_WINDOW (v key.WindowSize) window e3;
+      chain = chain_ok (v key.MaxRefCount) chain e4;
+      interval = number_ok key.MinIntervalLength MOST_INTERVAL (v key.MinIntervalLength) interval e5;
+      some_zeta = (zeta_ok (v key.ZetaK) zeta e6).0;
+      zeta = (zeta_ok (v key.ZetaK) zeta e6).1;
+      outdegrees = fields.outdegrees;
+      references = fields.references;
+      block_counts = fields.block_counts;
+      blocks = fields.blocks;
+      residuals = fields.residuals;
+      offsets = fields.offsets;
+    })

@@ -1,0 +1,25 @@
+use thiserror::Error;
+use wg_params::Key;
+
+/// The first fault of a properties text: a line, counted from 1, that would go on in the next; then, in the order in which
+/// the keys are declared, a key that is missing, one whose value is no number or is out of its limits, or another value that
+/// is not accepted. A flag is counted from 1 among the flags.
+#[derive(Clone, Copy, Debug, PartialEq, Eq, Error)]
+pub enum PropFault {
+    #[error("line {0} would go on in the next")]
+    Line(u64),
+    #[error("{0:?} is missing")]
+    Missing(Key),
+    #[error("{0:?} is no number")]
+    Number(Key),
+    #[error("{0:?} is out of its limits")]
+    Range(Key),
+    #[error("the graph is of another class")]
+    Class,
+    #[error("the format is of another version")]
+    Version,
+    #[error("flag {0} is unknown")]
+    Flag(u64),
+    #[error("the bytes are in another order")]
+    Endian,
+}
