@@ -1,0 +1,4 @@
+pub mod Sets
+pub mod Copies
+pub mod Merged
+pub mod Counts

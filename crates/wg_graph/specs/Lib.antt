@@ -1,0 +1,3 @@
+pub mod Ascending
+pub mod Copied
+pub mod Numbers

@@ -1,0 +1,45 @@
+ghost use Rattle.std.specs.Prelude.{◌≡◌, [], ◌∷◌, ◌++◌, OnOk, OnErr};
+
+use std::alloc::{AllocError, Global};
+use std::marker::Model;
+
+/// Numbers in order: 8 bytes each.
+#[derive(Debug, Drop)]
+pub struct List {
+    numbers: Vec<u64>,
+}
+
+impl Model for List {
+    ghost use Rattle.std.specs.Prelude.{List as Numbers, ℕ};
+
+    ghost Value = { Numbers ℕ };
+
+    ghost view = { λ a. a.numbers.items };
+}
+
+impl List {
+    /// No numbers, and no memory yet.
+    pub fn new(alloc: Global) -> List
+        ensures { result ≡ [] }
+    {
+        List {
+            numbers: Vec::new(alloc),
+        }
+    }
+
+    /// Adds a number at the end, in constant time on average.
+    pub fn push(&mut self, number: u64) -> Result<(), AllocError>
+        ensures ok { OnOk result (self.new ≡ self.old ++ number ∷ []) }
+        ensures err { OnErr result (self.new ≡ self.old) }
+    {
+        self.numbers.push(number)?;
+        Ok(())
+    }
+
+    /// The numbers.
+    pub fn as_slice(&self) -> &[u64]
+        ensures { result.now ≡ self.now }
+    {
+        self.numbers.as_slice()
+    }
+}
