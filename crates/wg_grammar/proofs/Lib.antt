@@ -1,0 +1,9 @@
+mod Rows
+pub mod FieldCodes
+pub mod Chain
+pub mod OneRecord
+pub mod Orderly
+pub mod SomeRecord
+pub mod OneGraph
+pub mod Tallies
+pub mod Tails

@@ -1,0 +1,174 @@
+-- The numbers that a progress keeps judge a value, and change with it, as the record does.
+use Rattle.std.proofs.Common.{◌≡◌, ℕ, zero, suc, ◌+◌, ◌≤◌, min, Bool, true, false, cond, ltb, List, [], ◌∷◌, ◌++◌, length, Option, Some, None, refl, sym, ap, subst, ◌∙◌, arith, is_none}
+use Rattle.std.proofs.lemmas.Bool.{ltb-true, ltb-false, le-leb, and_parts}
+use Rattle.std.proofs.lemmas.List.{length_push, get_or_push, nil_from_length}
+use Rattle.wg_params.specs.Parameters.{Parameters}
+use Rattle.wg_params.specs.declared.code.Code.{Code}
+use Rattle.wg_graph.specs.Copied.{is_copied, copied_members}
+use Rattle.wg_graph.proofs.Copies.{copied_count, sum_push, at_positions_all}
+use Rattle.wg_grammar.specs.declared.fault.Field.{Field}
+use Rattle.wg_grammar.specs.declared.fault.Field.TheVariants as field
+use Rattle.wg_grammar.specs.declared.fault.Kind.{Kind}
+use Rattle.wg_grammar.specs.declared.fault.Kind.TheVariants as kind
+use Rattle.wg_grammar.specs.declared.need.Need.TheVariants as need
+use Rattle.wg_grammar.specs.declared.progress.Progress.{Progress}
+use Rattle.wg_grammar.specs.declared.progress.Referenced.{Referenced}
+use Rattle.wg_grammar.specs.Context.{Context, referenced, depth_of}
+use Rattle.wg_grammar.specs.SoFar.{SoFar, value_or_0, last_of, source, own_block, own_left, own_residual, after}
+use Rattle.wg_grammar.specs.Next.{next}
+use Rattle.wg_grammar.specs.Refusal.{passes, refusal}
+use Rattle.wg_grammar.specs.Tally.{Tally, tally, need_of}
+use Rattle.wg_grammar.specs.Judging.{named, Gives, given_length, given_depth, refusal_of, after_of, Due}
+use Rattle.wg_grammar.specs.Follow.{tally_of, Follows}
+use Rattle.wg_grammar.proofs.Chain.{field_of, tests, tested}
+
+pub next_by_numbers : (p : Parameters) (c : Context) (s : SoFar) → next p c s ≡ need_of (tally p c s)
+unfolding next need_of
+next_by_numbers p c s = refl
+
+pub need_follows : (q : Progress) (p : Parameters) (c : Context) (s : SoFar) → Follows q p c s → need_of (tally_of q) ≡ next p c s
+need_follows q p c s f = ap need_of f ∙ sym (next_by_numbers p c s)
+
+-- ---- what is so where a field is next
+
+is_none_is : {A : Type 0} (o : Option A) → is_none o ≡ true → o ≡ None
+is_none_is None e = refl
+is_none_is (Some x) e = absurd cc
+
+due_of : (t : Tally) (f : Field) → tests t f → Due t f
+unfolding tests
+due_of t field.Outdegree e = is_none_is t.outdegree e
+due_of t field.Reference e = is_none_is t.reference (and_parts _ _ e.0).1
+due_of t field.BlockCount e = ltb-true _ _ (and_parts _ _ e).0
+due_of t field.Block e = ltb-true _ _ e
+due_of t field.Copied e = tt
+due_of t field.IntervalCount e = tt
+due_of t field.Left e = ltb-true _ _ e.0
+due_of t field.Length e = ltb-true _ _ e.0
+due_of t field.Residual e = ltb-true _ _ e.0
+due_of t field.Record e = tt
+
+pub due : (t : Tally) (f : Field) (code : Code) → need_of t ≡ need.Read f code → Due t f
+unfolding need_of tests
+due t f code e = due_of t f (subst (tests t) (ap field_of e) (tested t.params _ _ _ _ _ _ _ _ _ _))
+
+-- ---- refusals
+
+depth_named : (p : Parameters) (c : Context) (v : ℕ) → v ≤ min p.window c.page → given_depth (named p c v) ≡ depth_of c.behind v
+depth_named p c zero le = refl
+depth_named p c (suc v) le = rw (le-leb (suc v) (min p.window c.page) le) refl
+
+length_named : (p : Parameters) (c : Context) (v : ℕ) → v ≤ min p.window c.page → given_length (named p c v) ≡ length (referenced c.behind v)
+length_named p c zero le = refl
+length_named p c (suc v) le = rw (le-leb (suc v) (min p.window c.page) le) refl
+
+reference_refusal : (b : Bool) (r : Option ℕ) (x y : ℕ) → (b ≡ false → x ≡ y) → cond b (Some kind.Range) (cond (passes r x) (Some kind.Chain) None) ≡ cond b (Some kind.Range) (cond (passes r y) (Some kind.Chain) None)
+reference_refusal true r x y e = refl
+reference_refusal false r x y e = ap (λ (d : ℕ). cond (passes r d) (Some kind.Chain) None) (e refl)
+
+pub refusal_by_numbers : (p : Parameters) (c : Context) (s : SoFar) (given : Option Referenced) (f : Field) (v : ℕ) → Gives given p c f v → refusal_of (tally p c s) given f v ≡ refusal p c s f v
+unfolding refusal refusal_of
+refusal_by_numbers p c s given field.Outdegree v g = refl
+refusal_by_numbers p c s given field.Reference v g =
+    reference_refusal (ltb (min p.window c.page) v) p.chain _ _ (λ low. rw (g refl) (depth_named p c v (ltb-false _ _ low)))
+refusal_by_numbers p c s given field.BlockCount v g = refl
+refusal_by_numbers p c s given field.Block v g = refl
+refusal_by_numbers p c s given field.Copied v g = refl
+refusal_by_numbers p c s given field.IntervalCount v g = refl
+refusal_by_numbers p c s given field.Left v g = refl
+refusal_by_numbers p c s given field.Length v g = refl
+refusal_by_numbers p c s given field.Residual v g = refl
+refusal_by_numbers p c s given field.Record v g = refl
+
+-- ---- what has been read after a value
+
+pub last_push : (xs : List ℕ) (y : ℕ) → last_of (xs ++ y ∷ []) ≡ y
+last_push xs y = get_or_push xs y 0 _ (omega (arith, length_push xs y))
+
+range_none : (b : Bool) (o : Option Kind) → cond b (Some kind.Range) o ≡ None → b ≡ false
+range_none true o e = absurd cc
+range_none false o e = refl
+
+pub after_by_numbers : (p : Parameters) (c : Context) (s : SoFar) (given : Option Referenced) (f : Field) (v : ℕ) → Gives given p c f v → (f ≡ field.Reference → s.blocks ≡ []) →
+    refusal p c s f v ≡ None → tally p c (after p c s f v) ≡ after_of (tally p c s) given f v
+unfolding refusal after after_of copied_members
+after_by_numbers p c s given field.Outdegree v g early fine = refl
+after_by_numbers p c s given field.Reference v g early fine =
+    let low = ltb-false _ _ (range_none _ _ fine) in
+    let same : given_length given ≡ length (referenced c.behind v) = rw (g refl) (length_named p c v low) in
+    let none = early refl in
+    let all : length (copied_members s.blocks (referenced c.behind v)) ≡ given_length given = rw none (ap length (at_positions_all (is_copied []) 0 (referenced c.behind v) (λ q h. refl)) ∙ sym same) in
+    rw (all, same) refl
+after_by_numbers p c s given field.BlockCount v g early fine = refl
+after_by_numbers p c s given field.Block v g early fine =
+    let fits = ltb-false _ _ (range_none _ _ fine) in
+    rw (length_push s.blocks (own_block s v), sum_push s.blocks (own_block s v), copied_count s.blocks (source c s) (own_block s v) fits) refl
+after_by_numbers p c s given field.Copied v g early fine = refl
+after_by_numbers p c s given field.IntervalCount v g early fine = refl
+after_by_numbers p c s given field.Left v g early fine = rw (last_push s.lefts (value_or_0 (own_left c s v)), length_push s.lefts (value_or_0 (own_left c s v))) refl
+after_by_numbers p c s given field.Length v g early fine = rw (last_push s.lengths (v + p.interval), length_push s.lengths (v + p.interval), sum_push s.lengths (v + p.interval)) refl
+after_by_numbers p c s given field.Residual v g early fine = rw (last_push s.residuals (value_or_0 (own_residual c s v)), length_push s.residuals (value_or_0 (own_residual c s v))) refl
+after_by_numbers p c s given field.Record v g early fine = refl
+
+-- ---- one call
+
+-- a value that is taken
+pub accepted : (q q' : Progress) (p : Parameters) (c : Context) (s : SoFar) (given : Option Referenced) (f : Field) (v : ℕ) →
+    Follows q p c s → Gives given p c f v → (f ≡ field.Reference → q.blocks ≡ 0) →
+    refusal_of (tally_of q) given f v ≡ None → tally_of q' ≡ after_of (tally_of q) given f v →
+    (refusal p c s f v ≡ None) × Follows q' p c (after p c s f v)
+accepted q q' p c s given f v follows gives early fine new =
+    let e : refusal_of (tally_of q) given f v ≡ refusal p c s f v = ap (λ (t : Tally). refusal_of t given f v) follows ∙ refusal_by_numbers p c s given f v gives in
+    let allowed : refusal p c s f v ≡ None = sym e ∙ fine in
+    let none : f ≡ field.Reference → s.blocks ≡ [] = λ h. nil_from_length s.blocks (sym (ap (λ (t : Tally). t.blocks) follows) ∙ early h) in
+    (allowed, new ∙ ap (λ (t : Tally). after_of t given f v) follows ∙ sym (after_by_numbers p c s given f v gives none allowed))
+
+-- a value that is refused
+pub refused : (q : Progress) (p : Parameters) (c : Context) (s : SoFar) (given : Option Referenced) (f : Field) (v : ℕ) (k : Kind) →
+    Follows q p c s → Gives given p c f v → refusal_of (tally_of q) given f v ≡ Some k → refusal p c s f v ≡ Some k
+refused q p c s given f v k follows gives e =
+    let same : refusal_of (tally_of q) given f v ≡ refusal p c s f v = ap (λ (t : Tally). refusal_of t given f v) follows ∙ refusal_by_numbers p c s given f v gives in
+    sym same ∙ e
+
+pub same_field : (f g : Field) (code other : Code) → need.Read f code ≡ need.Read g other → f ≡ g
+same_field f g code other e = cc
+
+-- no block is read before the reference
+pub early_blocks : (q : Progress) (f : Field) → Due (tally_of q) f → f ≡ field.Reference → q.blocks ≡ 0
+early_blocks q field.Reference d e = omega (arith, q.early d)
+early_blocks q field.Outdegree d e = absurd cc
+early_blocks q field.BlockCount d e = absurd cc
+early_blocks q field.Block d e = absurd cc
+early_blocks q field.Copied d e = absurd cc
+early_blocks q field.IntervalCount d e = absurd cc
+early_blocks q field.Left d e = absurd cc
+early_blocks q field.Length d e = absurd cc
+early_blocks q field.Residual d e = absurd cc
+early_blocks q field.Record d e = absurd cc
+
+-- no value changes the parameters or the page
+pub params_stay : (t : Tally) (given : Option Referenced) (f : Field) (v : ℕ) → (after_of t given f v).params ≡ t.params
+unfolding after_of
+params_stay t given field.Outdegree v = refl
+params_stay t given field.Reference v = refl
+params_stay t given field.BlockCount v = refl
+params_stay t given field.Block v = refl
+params_stay t given field.Copied v = refl
+params_stay t given field.IntervalCount v = refl
+params_stay t given field.Left v = refl
+params_stay t given field.Length v = refl
+params_stay t given field.Residual v = refl
+params_stay t given field.Record v = refl
+
+pub page_stays : (t : Tally) (given : Option Referenced) (f : Field) (v : ℕ) → (after_of t given f v).page ≡ t.page
+unfolding after_of
+page_stays t given field.Outdegree v = refl
+page_stays t given field.Reference v = refl
+page_stays t given field.BlockCount v = refl
+page_stays t given field.Block v = refl
+page_stays t given field.Copied v = refl
+page_stays t given field.IntervalCount v = refl
+page_stays t given field.Left v = refl
+page_stays t given field.Length v = refl
+page_stays t given field.Residual v = refl
+page_stays t given field.Record v = refl

@@ -1,0 +1,55 @@
+-- The bits of a graph file: the records of all pages, one after the other, and the tail.
+use Rattle.std.specs.Prelude.{◌≡◌, ◌⊎◌, ℕ, ◌+◌, ◌<◌, ◌≤◌, Bool, true, false, List, [], ◌∷◌, length, take, get_or, map, reverse, Result, Ok, Err}
+use Rattle.std.specs.List.{sum_by}
+use Rattle.wg_params.specs.Parameters.{Parameters}
+use Rattle.wg_grammar.specs.declared.tail.TheConstants.{MOST_TAIL}
+use Rattle.wg_grammar.specs.declared.fault.ArchiveFault.{ArchiveFault}
+use Rattle.wg_grammar.specs.declared.fault.ArchiveFault.TheVariants as faults
+use Rattle.wg_grammar.specs.Context.{Known, Context}
+use Rattle.wg_grammar.specs.Record.{ReadsRecord}
+
+-- the arcs of the pages behind
+abbrev pub arcs_of : List Known → ℕ
+arcs_of behind = sum_by (λ k. length k.list) behind
+
+-- the page after those behind; a reference reaches as far back as the window
+abbrev pub context_of : Parameters → List Known → Context
+context_of p behind = record { page = length behind; arcs_before = arcs_of behind; behind = take p.window behind }
+
+-- With these pages behind, the proper records of ks stand one after the other from the bit at; then last are behind, and end is reached.
+abbrev pub Pages : Parameters → List Bool → List Known → ℕ → List Known → List Known → ℕ → Type 0
+Pages p bits behind at [] last end = (last ≡ behind) × (end ≡ at)
+Pages p bits behind at (k ∷ ks) last end =
+    (mid : ℕ) × (length behind < p.nodes) × ReadsRecord p (context_of p behind) bits at (Ok (record { known = k; end = mid }))
+    × Pages p bits (k ∷ behind) mid ks last end
+
+-- what follows the last word: few bits, all 0
+pub record IsTail (bits : List Bool) (end : ℕ) : Type 0 where
+  pub short : length bits ≤ end + MOST_TAIL
+  pub zeros : (i : ℕ) → end ≤ i → i < length bits → get_or bits i false ≡ false
+
+-- the first bit after the last word that is a one or one too many
+pub record IsTailFault (bits : List Bool) (end at : ℕ) : Type 0 where
+  pub from : end ≤ at
+  pub there : at < length bits
+  pub near : at ≤ end + MOST_TAIL
+  pub zeros : (i : ℕ) → end ≤ i → i < at → get_or bits i false ≡ false
+  pub why : (get_or bits at false ≡ true) ⊎ (at ≡ end + MOST_TAIL)
+
+-- a graph as the lists of its pages, and the bit after its last record
+pub record Accepted : Type 0 where
+  pub graph : List (List ℕ)
+  pub end : ℕ
+
+-- what the file is, where these pages are behind and no more proper records are taken
+abbrev pub Closes : Parameters → List Bool → List Known → ℕ → Result Accepted ArchiveFault → Type 0
+Closes p bits behind at (Ok a) = (length behind ≡ p.nodes) × IsTail bits at × (arcs_of behind ≡ p.arcs) × (a.graph ≡ reverse (map (λ k. k.list) behind)) × (a.end ≡ at)
+Closes p bits behind at (Err (faults.Record e)) = (length behind < p.nodes) × ReadsRecord p (context_of p behind) bits at (Err e)
+Closes p bits behind at (Err (faults.Tail place)) = (length behind ≡ p.nodes) × IsTailFault bits at place
+Closes p bits behind at (Err (faults.ArcsShort total)) = (length behind ≡ p.nodes) × IsTail bits at × (total ≡ arcs_of behind) × (total < p.arcs)
+Closes p bits behind at (Err (faults.Offsets w)) = ⊥
+Closes p bits behind at (Err (faults.Length page found stored)) = ⊥
+
+-- The bits stand for this graph, or this is their first fault.
+abbrev pub ReadsGraph : Parameters → List Bool → Result Accepted ArchiveFault → Type 0
+ReadsGraph p bits w = (ks : List Known) × (behind : List Known) × (at : ℕ) × Pages p bits [] 0 ks behind at × Closes p bits behind at w

@@ -1,0 +1,37 @@
+-- What holds of all records and all graph files.
+use Rattle.std.specs.Prelude.{◌≡◌, ℕ, ◌≤◌, Bool, List, length, Result, Ok}
+use Rattle.wg_graph.specs.Ascending.{Ascends, Below}
+use Rattle.wg_params.specs.Parameters.{Parameters, IsWithinLimits}
+use Rattle.wg_grammar.specs.declared.fault.Fault.{Fault}
+use Rattle.wg_grammar.specs.declared.fault.ArchiveFault.{ArchiveFault}
+use Rattle.wg_grammar.specs.declared.need.Need.TheVariants.{End}
+use Rattle.wg_grammar.specs.Context.{Context}
+use Rattle.wg_grammar.specs.SoFar.{SoFar, nothing_yet, value_or_0}
+use Rattle.wg_grammar.specs.Next.{next}
+use Rattle.wg_grammar.specs.Members.{list_of}
+use Rattle.wg_grammar.specs.Record.{Fields, Whole, ReadsRecord}
+use Rattle.wg_grammar.specs.Archive.{Accepted, ReadsGraph}
+
+-- Bits from a place on are at most one record, or have at most one first fault, and never both.
+abbrev pub RecordIsOne : Type 0
+RecordIsOne = (p : Parameters) (c : Context) (bits : List Bool) (start : ℕ) (w x : Result Whole Fault) → IsWithinLimits p → ReadsRecord p c bits start w → ReadsRecord p c bits start x → w ≡ x
+
+-- They are a record or have a fault.
+abbrev pub RecordIsSome : Type 0
+RecordIsSome = (p : Parameters) (c : Context) (bits : List Bool) (start : ℕ) → IsWithinLimits p → start ≤ length bits → (w : Result Whole Fault) × ReadsRecord p c bits start w
+
+-- The list of a record ascends, and has pages of the graph alone.
+abbrev pub ListsAscend : Type 0
+ListsAscend = (p : Parameters) (c : Context) (bits : List Bool) (start : ℕ) (w : Whole) → ReadsRecord p c bits start (Ok w) → Ascends 0 w.known.list × Below p.nodes w.known.list
+
+-- A record of which all is read has never more successors than its outdegree, so that too few is the one fault there.
+abbrev pub NeverTooMany : Type 0
+NeverTooMany = (p : Parameters) (c : Context) (bits : List Bool) (start : ℕ) (vs : List ℕ) (s : SoFar) (at : ℕ) → Fields p c bits nothing_yet start vs s at → next p c s ≡ End → length (list_of p c s) ≤ value_or_0 s.outdegree
+
+-- Bits stand for at most one graph, or have at most one first fault, and never both.
+abbrev pub GraphIsOne : Type 0
+GraphIsOne = (p : Parameters) (bits : List Bool) (w x : Result Accepted ArchiveFault) → IsWithinLimits p → ReadsGraph p bits w → ReadsGraph p bits x → w ≡ x
+
+-- They stand for a graph or have a fault.
+abbrev pub GraphIsSome : Type 0
+GraphIsSome = (p : Parameters) (bits : List Bool) → IsWithinLimits p → (w : Result Accepted ArchiveFault) × ReadsGraph p bits w

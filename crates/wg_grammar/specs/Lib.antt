@@ -1,0 +1,11 @@
+pub mod Context
+pub mod SoFar
+pub mod Next
+pub mod Refusal
+pub mod Members
+pub mod Record
+pub mod Archive
+pub mod Laws
+pub mod Tally
+pub mod Judging
+pub mod Follow

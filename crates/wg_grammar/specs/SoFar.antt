@@ -1,0 +1,70 @@
+-- What has been read of a record, each number as it is meant and not as it is stored.
+use Rattle.std.specs.Prelude.{ℕ, ◌+◌, ◌-◌, Bool, true, false, ◌==◌, if◌then◌else◌, List, [], ◌∷◌, ◌++◌, length, get_or, sum, Option, Some, None, unwrap_or}
+use Rattle.wg_codes.specs.Fold.{unfolded_from}
+use Rattle.wg_graph.specs.Copied.{copied_members}
+use Rattle.wg_params.specs.Parameters.{Parameters}
+use Rattle.wg_grammar.specs.declared.fault.Field.{Field}
+use Rattle.wg_grammar.specs.declared.fault.Field.TheVariants as field
+use Rattle.wg_grammar.specs.Context.{Context, referenced}
+
+pub record SoFar : Type 0 where
+  pub outdegree : Option ℕ
+  pub reference : Option ℕ
+  pub block_count : Option ℕ
+  pub blocks : List ℕ
+  pub checked : Bool
+  pub interval_count : Option ℕ
+  pub lefts : List ℕ
+  pub lengths : List ℕ
+  pub residuals : List ℕ
+
+abbrev pub nothing_yet : SoFar
+nothing_yet = record { outdegree = None; reference = None; block_count = None; blocks = []; checked = false; interval_count = None; lefts = []; lengths = []; residuals = [] }
+
+abbrev pub value_or_0 : Option ℕ → ℕ
+value_or_0 o = unwrap_or o 0
+
+abbrev pub last_of : List ℕ → ℕ
+last_of xs = get_or xs (length xs - 1) 0
+
+-- the list that the record refers to, empty without a reference
+abbrev pub source : Context → SoFar → List ℕ
+source c s = referenced c.behind (value_or_0 s.reference)
+
+-- the members that the blocks copy
+abbrev pub copied : Context → SoFar → List ℕ
+copied c s = copied_members s.blocks (source c s)
+
+-- how many successors are not copied
+abbrev pub extra : Context → SoFar → ℕ
+extra c s = value_or_0 s.outdegree - length (copied c s)
+
+-- how many of these are missing still
+abbrev pub missing : Context → SoFar → ℕ
+missing c s = extra c s - (sum s.lengths + length s.residuals)
+
+-- A stored value's own: the first block is stored as it is, later ones less 1.
+abbrev pub own_block : SoFar → ℕ → ℕ
+own_block s v = if length s.blocks == 0 then v else v + 1
+
+-- The first left end is stored as the fold of its distance from the page, a later one as its distance from the end of the interval
+-- before, less 1, where the end is one past the last number; none where the number would be below 0.
+abbrev pub own_left : Context → SoFar → ℕ → Option ℕ
+own_left c s v = if length s.lefts == 0 then unfolded_from c.page v else Some (last_of s.lefts + last_of s.lengths + 1 + v)
+
+-- The first residual is stored as the fold of its distance from the page, a later one as the distance from the one before it, less 1.
+abbrev pub own_residual : Context → SoFar → ℕ → Option ℕ
+own_residual c s v = if length s.residuals == 0 then unfolded_from c.page v else Some (last_of s.residuals + 1 + v)
+
+-- what has been read after one more stored value
+unfoldable pub after : Parameters → Context → SoFar → Field → ℕ → SoFar
+after p c s field.Outdegree v = record s { outdegree = Some v }
+after p c s field.Reference v = record s { reference = Some v }
+after p c s field.BlockCount v = record s { block_count = Some v }
+after p c s field.Block v = record s { blocks = s.blocks ++ own_block s v ∷ [] }
+after p c s field.Copied v = record s { checked = true }
+after p c s field.IntervalCount v = record s { interval_count = Some v }
+after p c s field.Left v = record s { lefts = s.lefts ++ value_or_0 (own_left c s v) ∷ [] }
+after p c s field.Length v = record s { lengths = s.lengths ++ (v + p.interval) ∷ [] }
+after p c s field.Residual v = record s { residuals = s.residuals ++ value_or_0 (own_residual c s v) ∷ [] }
+after p c s field.Record v = s

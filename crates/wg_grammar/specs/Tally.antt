@@ -1,0 +1,77 @@
+-- What a `Progress` keeps of a record: numbers of what has been read. What comes next can be told from them.
+use Rattle.std.specs.Prelude.{ℕ, ◌+◌, ◌-◌, Bool, not, ◌&&◌, ◌==◌, nat_lt, if◌then◌else◌, length, sum, Option, is_none}
+use Rattle.wg_params.specs.Parameters.{Parameters}
+use Rattle.wg_params.specs.declared.code.Code.TheVariants.{Gamma}
+use Rattle.wg_grammar.specs.declared.fault.Field.TheVariants as field
+use Rattle.wg_grammar.specs.declared.need.Need.{Need}
+use Rattle.wg_grammar.specs.declared.need.Need.TheVariants as need
+use Rattle.wg_grammar.specs.Context.{Context}
+use Rattle.wg_grammar.specs.SoFar.{SoFar, value_or_0, last_of, source, copied}
+
+-- lists by how many numbers they have, their sum, or their last number
+pub record Tally : Type 0 where
+  pub params : Parameters
+  pub page : ℕ
+  pub arcs_before : ℕ
+  pub outdegree : Option ℕ
+  pub reference : Option ℕ
+  pub source : ℕ
+  pub block_count : Option ℕ
+  pub blocks : ℕ
+  pub blocks_sum : ℕ
+  pub copied : ℕ
+  pub checked : Bool
+  pub interval_count : Option ℕ
+  pub lefts : ℕ
+  pub last_left : ℕ
+  pub lengths : ℕ
+  pub last_length : ℕ
+  pub covered : ℕ
+  pub residuals : ℕ
+  pub last_residual : ℕ
+
+-- the numbers of a record of which s has been read
+abbrev pub tally : Parameters → Context → SoFar → Tally
+tally p c s = record {
+  params = p;
+  page = c.page;
+  arcs_before = c.arcs_before;
+  outdegree = s.outdegree;
+  reference = s.reference;
+  source = length (source c s);
+  block_count = s.block_count;
+  blocks = length s.blocks;
+  blocks_sum = sum s.blocks;
+  copied = length (copied c s);
+  checked = s.checked;
+  interval_count = s.interval_count;
+  lefts = length s.lefts;
+  last_left = last_of s.lefts;
+  lengths = length s.lengths;
+  last_length = last_of s.lengths;
+  covered = sum s.lengths;
+  residuals = length s.residuals;
+  last_residual = last_of s.residuals;
+}
+
+-- how many successors are not copied, and how many of these are missing still
+abbrev pub extra_of : Tally → ℕ
+extra_of t = value_or_0 t.outdegree - t.copied
+
+abbrev pub missing_of : Tally → ℕ
+missing_of t = extra_of t - (t.covered + t.residuals)
+
+-- the next field, by the numbers
+unfoldable pub need_of : Tally → Need
+need_of t =
+    if is_none t.outdegree then need.Read field.Outdegree t.params.outdegrees
+    else if value_or_0 t.outdegree == 0 then need.End
+    else if nat_lt 0 t.params.window && is_none t.reference then need.Read field.Reference t.params.references
+    else if nat_lt 0 (value_or_0 t.reference) && is_none t.block_count then need.Read field.BlockCount t.params.block_counts
+    else if nat_lt t.blocks (value_or_0 t.block_count) then need.Read field.Block t.params.blocks
+    else if nat_lt 0 (value_or_0 t.reference) && not t.checked then need.Check
+    else if nat_lt 0 (extra_of t) && nat_lt 0 t.params.interval && is_none t.interval_count then need.Read field.IntervalCount Gamma
+    else if nat_lt t.lengths t.lefts then need.Read field.Length Gamma
+    else if nat_lt t.lefts (value_or_0 t.interval_count) then need.Read field.Left Gamma
+    else if nat_lt 0 (missing_of t) then need.Read field.Residual t.params.residuals
+    else need.End

@@ -1,0 +1,154 @@
+ghost use Rattle.std.specs.Prelude.{◌≡◌, ◌<◌, Some, None};
+ghost use Rattle.std.specs.Option.{ForSome};
+
+use super::{Progress, Referenced};
+use crate::{Field, Kind};
+
+impl Progress {
+    ghost use Rattle.wg_codes.specs.Fold.{unfolded_from};
+    ghost use Rattle.wg_grammar.specs.Judging.{within, left_of, residual_of, refusal_of};
+    ghost use Rattle.wg_grammar.specs.Follow.{tally_of};
+    ghost use Rattle.wg_grammar.specs.declared.fault.Field.{Field};
+
+    // The number, where it is a page.
+    fn within(&self, number: u64) -> Option<u64>
+        ensures { result ≡ within self.now.params (Some number) }
+    {
+        if number < self.params.nodes() {
+            Some(number)
+        } else {
+            None
+        }
+    }
+
+    // The page that the first left end or residual stands for, if it is one.
+    fn unfolded(&self, value: u64) -> Option<u64>
+        ensures { result ≡ within self.now.params (unfolded_from self.now.page value) }
+    {
+        let half = value / 2;
+        if half >= self.params.nodes() {
+            return None;
+        }
+        if value % 2 == 0 {
+            self.within(self.page + half)
+        } else if half < self.page {
+            Some(self.page - (half + 1))
+        } else {
+            None
+        }
+    }
+
+    // The left end that the value stands for, where it is a page.
+    pub(super) fn left(&self, value: u64) -> Option<u64>
+        ensures { result ≡ within self.now.params (left_of (tally_of self.now) value) }
+    {
+        if self.lefts == 0 {
+            return self.unfolded(value);
+        }
+        if value >= self.params.nodes() {
+            return None;
+        }
+        self.within(self.last_left + self.last_length + 1 + value)
+    }
+
+    // The residual that the value stands for, where it is a page.
+    pub(super) fn residual(&self, value: u64) -> Option<u64>
+        ensures { result ≡ within self.now.params (residual_of (tally_of self.now) value) }
+    {
+        if self.residuals == 0 {
+            return self.unfolded(value);
+        }
+        if value >= self.params.nodes() {
+            return None;
+        }
+        self.within(self.last_residual + 1 + value)
+    }
+
+    // The first reason to refuse a value. Codes have values of up to 64 bits, so each is compared before it is added.
+    #[tactic(auto, unfolding(crate::specs::Judging::refusal_of))]
+    pub(super) fn refusal(
+        &self,
+        field: Field,
+        value: u64,
+        referenced: Option<Referenced>,
+    ) -> Option<Kind>
+        requires { ForSome referenced (λ r. r.depth < self.now.page) }
+        ensures { result ≡ refusal_of (tally_of self.now) referenced field value }
+    {
+        match field {
+            Field::Outdegree => self.refuse_outdegree(value),
+            Field::Reference => self.refuse_reference(value, referenced),
+            Field::BlockCount => (value.saturating_sub(1) > self.source).then_some(Kind::Range),
+            Field::Block => self.refuse_block(value),
+            Field::Copied => (self.copied > self.outdegree()).then_some(Kind::Copied),
+            Field::IntervalCount => self.refuse_interval_count(value),
+            Field::Left => self.left(value).is_none().then_some(Kind::Range),
+            Field::Length => self.refuse_length(value),
+            Field::Residual => self.residual(value).is_none().then_some(Kind::Range),
+            Field::Record => None,
+        }
+    }
+
+    #[tactic(auto, unfolding(crate::specs::Judging::refusal_of))]
+    fn refuse_outdegree(&self, value: u64) -> Option<Kind>
+        ensures { result ≡ refusal_of (tally_of self.now) None Field.Outdegree value }
+    {
+        if value > self.params.nodes() {
+            return Some(Kind::Range);
+        }
+        let arcs = self.params.arcs();
+        (self.arcs_before + value > arcs).then_some(Kind::Total)
+    }
+
+    #[tactic(auto, unfolding(crate::specs::Judging::refusal_of))]
+    fn refuse_reference(&self, value: u64, referenced: Option<Referenced>) -> Option<Kind>
+        requires { ForSome referenced (λ r. r.depth < self.now.page) }
+        ensures { result ≡ refusal_of (tally_of self.now) referenced Field.Reference value }
+    {
+        if value > self.params.window().min(self.page) {
+            return Some(Kind::Range);
+        }
+        let depth = match referenced {
+            Some(r) => r.depth + 1,
+            None => 0,
+        };
+        match self.params.chain() {
+            Some(limit) if depth > limit => Some(Kind::Chain),
+            _ => None,
+        }
+    }
+
+    #[tactic(auto, unfolding(crate::specs::Judging::refusal_of))]
+    fn refuse_block(&self, value: u64) -> Option<Kind>
+        ensures { result ≡ refusal_of (tally_of self.now) None Field.Block value }
+    {
+        let left = self.source - self.blocks_sum;
+        let passes = if self.blocks == 0 {
+            value > left
+        } else {
+            value >= left
+        };
+        passes.then_some(Kind::Range)
+    }
+
+    #[tactic(auto, unfolding(crate::specs::Judging::refusal_of))]
+    fn refuse_interval_count(&self, value: u64) -> Option<Kind>
+        ensures { result ≡ refusal_of (tally_of self.now) None Field.IntervalCount value }
+    {
+        let numbers = value as u128 * self.params.interval() as u128;
+        (numbers > self.extra() as u128).then_some(Kind::Range)
+    }
+
+    #[tactic(auto, unfolding(crate::specs::Judging::refusal_of))]
+    fn refuse_length(&self, value: u64) -> Option<Kind>
+        ensures { result ≡ refusal_of (tally_of self.now) None Field.Length value }
+    {
+        let nodes = self.params.nodes();
+        if value > nodes {
+            return Some(Kind::Range);
+        }
+        let length = value + self.params.interval();
+        let passes = length > self.missing() || self.last_left + length > nodes;
+        passes.then_some(Kind::Range)
+    }
+}

@@ -1,0 +1,69 @@
+ghost use Rattle.std.specs.Prelude.{◌≡◌, ◌≢◌, ◌≤◌, ◌<◌, ◌+◌, ◌^◌, None};
+ghost use Rattle.std.specs.Option.{ForSome};
+
+use super::{Progress, Referenced};
+use crate::Field;
+
+impl Progress {
+    ghost use Rattle.wg_grammar.specs.Judging.{refusal_of, after_of, block_of, copied_after, Due};
+    ghost use Rattle.wg_grammar.specs.Follow.{tally_of};
+
+    // Takes a value that is not refused.
+    #[tactic(auto, unfolding(crate::specs::Judging::refusal_of, crate::specs::Judging::after_of))]
+    pub(super) fn take(&mut self, field: Field, value: u64, referenced: Option<Referenced>)
+        requires due { Due (tally_of self.old) field }
+        requires allowed { refusal_of (tally_of self.old) referenced field value ≡ None }
+        requires known { ForSome referenced (λ r. r.length ≤ self.old.params.nodes) }
+        ensures { tally_of self.new ≡ after_of (tally_of self.old) referenced field value }
+    {
+        match field {
+            Field::Outdegree => self.outdegree = Some(value),
+            Field::Reference => {
+                self.reference = Some(value);
+                self.source = match referenced {
+                    Some(r) => r.length,
+                    None => 0,
+                };
+                self.copied = self.source;
+            }
+            Field::BlockCount => self.block_count = Some(value),
+            Field::Block => self.take_block(value),
+            Field::Copied => self.checked = true,
+            Field::IntervalCount => self.interval_count = Some(value),
+            Field::Left => {
+                self.last_left = self.left(value).unwrap_or(0);
+                self.lefts += 1;
+            }
+            Field::Length => {
+                let length = value + self.params.interval();
+                self.lengths += 1;
+                self.last_length = length;
+                self.covered += length;
+            }
+            Field::Residual => {
+                self.last_residual = self.residual(value).unwrap_or(0);
+                self.residuals += 1;
+            }
+            Field::Record => {}
+        }
+    }
+
+    // Takes a block. What lies past it was counted as copied or skipped, and is the other now.
+    fn take_block(&mut self, value: u64)
+        requires fits { self.old.blocks_sum + block_of (tally_of self.old) value ≤ self.old.source }
+        requires count { self.old.blocks + 1 < 2 ^ 64 }
+        requires refers { self.old.reference ≢ None }
+        ensures { tally_of self.new ≡ record (tally_of self.old) { blocks = self.old.blocks + 1; blocks_sum = self.old.blocks_sum + block_of (tally_of self.old) value; copied = copied_after (tally_of self.old) (self.old.blocks_sum + block_of (tally_of self.old) value) } }
+    {
+        let block = if self.blocks == 0 { value } else { value + 1 };
+        let end = self.blocks_sum + block;
+        let rest = self.source - end;
+        if self.blocks % 2 == 0 {
+            self.copied = self.copied.saturating_sub(rest);
+        } else {
+            self.copied += rest;
+        }
+        self.blocks_sum = end;
+        self.blocks += 1;
+    }
+}

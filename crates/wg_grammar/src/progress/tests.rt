@@ -1,0 +1,114 @@
+ghost use Rattle.std.specs.Prelude.{◌≡◌, ◌≤◌, ◌<◌};
+ghost use Rattle.std.specs.Option.{ForSome};
+ghost use Rattle.wg_grammar.specs.Follow.{tally_of};
+
+use super::*;
+use std::process::Abort;
+use std::test::Fail;
+
+// Reads the value where this is needed.
+fn read(
+    rt: &impl Abort,
+    progress: &mut Progress,
+    need: Need,
+    value: u64,
+    referenced: Option<Referenced>,
+) -> Result<(), Kind>
+    requires length { ForSome referenced (λ r. r.length ≤ (tally_of progress.old).params.nodes) }
+    requires depth { ForSome referenced (λ r. r.depth < (tally_of progress.old).page) }
+    ensures params { (tally_of progress.new).params ≡ (tally_of progress.old).params }
+    ensures page { (tally_of progress.new).page ≡ (tally_of progress.old).page }
+{
+    assert_eq!(rt; progress.need(), need);
+    match progress.need() {
+        Need::Read(_, _) => progress.accept(value, referenced),
+        Need::Check => progress.check_copied(),
+        Need::End => Ok(()),
+    }
+}
+
+#[test]
+fn a_record_with_all_fields(rt: HostRuntime) -> Result<(), Fail> {
+    let gamma = Code::Gamma;
+    let params = Params::new(
+        100,
+        100,
+        7,
+        Some(3),
+        4,
+        3,
+        gamma,
+        Code::Unary,
+        gamma,
+        gamma,
+        Code::Zeta(3),
+        gamma,
+    )?;
+    let mut progress = Progress::start(&params, 10, 20);
+    let p = &mut progress;
+    let named = Referenced {
+        length: 4,
+        depth: 0,
+    };
+    assert_eq!(rt;
+        read(&rt, p, Need::Read(Field::Outdegree, gamma), 81, None),
+        Err(Kind::Total)
+    );
+    assert_eq!(rt;
+        read(&rt, p, Need::Read(Field::Outdegree, gamma), 8, None),
+        Ok(())
+    );
+    assert_eq!(rt;
+        read(
+            &rt,
+            p,
+            Need::Read(Field::Reference, Code::Unary),
+            1,
+            Some(named)
+        ),
+        Ok(())
+    );
+    assert_eq!(rt;
+        read(&rt, p, Need::Read(Field::BlockCount, gamma), 2, None),
+        Ok(())
+    );
+    assert_eq!(rt;
+        read(&rt, p, Need::Read(Field::Block, gamma), 1, None),
+        Ok(())
+    );
+    assert_eq!(rt;
+        read(&rt, p, Need::Read(Field::Block, gamma), 0, None),
+        Ok(())
+    );
+    assert_eq!(rt; read(&rt, p, Need::Check, 0, None), Ok(()));
+    assert_eq!(rt;
+        read(&rt, p, Need::Read(Field::IntervalCount, gamma), 1, None),
+        Ok(())
+    );
+    assert_eq!(rt;
+        read(&rt, p, Need::Read(Field::Left, gamma), 4, None),
+        Ok(())
+    );
+    assert_eq!(rt;
+        read(&rt, p, Need::Read(Field::Length, gamma), 2, None),
+        Err(Kind::Range)
+    );
+    assert_eq!(rt;
+        read(&rt, p, Need::Read(Field::Length, gamma), 0, None),
+        Ok(())
+    );
+    assert_eq!(rt;
+        read(&rt, p, Need::Read(Field::Residual, Code::Zeta(3)), 9, None),
+        Ok(())
+    );
+    assert_eq!(rt; p.need(), Need::End);
+    assert_eq!(rt;
+        (p.outdegree(), p.reference(), p.blocks(), p.blocks_sum()),
+        (8, 1, 2, 2)
+    );
+    assert_eq!(rt;
+        (p.last_left(), p.last_length(), p.last_residual()),
+        (12, 4, 5)
+    );
+    Ok(())
+}
