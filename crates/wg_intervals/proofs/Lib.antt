@@ -1,0 +1,4 @@
+pub mod Words
+pub mod Walks
+pub mod Rows
+pub mod Order

@@ -1,0 +1,33 @@
+-- Intervals that are spelled bit by bit.
+use Rattle.std.proofs.Common.{[], ◌∷◌, drop, refl, lit≤}
+use Rattle.std.specs.Prelude.{None}
+use Rattle.std.specs.Int.Count.{count_leading_zeros}
+use Rattle.wg_bits.specs.Bits.{low_bits, bits_of}
+use Rattle.wg_codes.specs.Words.{highest, unary, gamma}
+use Rattle.wg_intervals.specs.Stored.{IntervalsStandAt}
+
+-- 011 1 1 1, and two bits that belong to nothing
+pub two_of_the_least_length : IntervalsStandAt 0 2 None 2 (bits_of (124 ∷ []))
+unfolding bits_of low_bits gamma highest unary count_leading_zeros
+two_of_the_least_length =
+    let bits = bits_of (124 ∷ []) in (
+      1 ∷ 4 ∷ [],
+      2 ∷ 2 ∷ [],
+      refl,
+      (
+        drop 4 bits,
+        record { v = 2; w = 0; between = drop 3 bits; left_word = (lit≤ tt, refl); length_word = (lit≤ tt, refl); left_is = refl; length_is = refl; some = lit≤ tt; low = lit≤ tt },
+        (drop 6 bits, record { v = 0; w = 0; between = drop 5 bits; left_word = (lit≤ tt, refl); length_word = (lit≤ tt, refl); left_is = refl; length_is = refl; some = lit≤ tt; low = lit≤ tt }, tt),
+      ),
+    )
+
+-- 00110 010
+pub one_before_the_page : IntervalsStandAt 10 2 None 1 (bits_of (50 ∷ []))
+unfolding bits_of low_bits gamma highest unary count_leading_zeros
+one_before_the_page =
+    let bits = bits_of (50 ∷ []) in (
+      7 ∷ [],
+      3 ∷ [],
+      refl,
+      (drop 8 bits, record { v = 5; w = 1; between = drop 5 bits; left_word = (lit≤ tt, refl); length_word = (lit≤ tt, refl); left_is = refl; length_is = refl; some = lit≤ tt; low = lit≤ tt }, tt),
+    )

@@ -1,0 +1,33 @@
+ghost use Rattle.std.specs.Prelude.{◌≤◌, ◌^◌, None, length};
+ghost use Rattle.wg_bits.specs.Bits.{bits_of};
+ghost use Rattle.wg_intervals.specs.Stored.{IntervalsStandAt};
+
+use crate::IntervalWalk;
+use wg_bits::{Bits, Cursor};
+
+// The first five answers of a walk over `count` intervals that are at least 2 long.
+fn first_five(bytes: &[u8], page: u64, count: u64) -> [Option<u64>; 5]
+    requires short { length bytes.now ≤ 2 ^ 46 }
+    requires stand { IntervalsStandAt page 2 None count (bits_of bytes.now) }
+{
+    let mut walk = IntervalWalk::new(Cursor::new(Bits::of(bytes), 0), page, count, 2);
+    [
+        walk.next(),
+        walk.next(),
+        walk.next(),
+        walk.next(),
+        walk.next(),
+    ]
+}
+
+#[test]
+fn numbers_inside_intervals(rt: HostRuntime) {
+    // from 1 and from 4 on, each 2 long, at page 0: stored as 2, 0 and 0, 0
+    let two = first_five(b"\x7C", 0, 2);
+    assert_eq!(rt; two, [Some(1), Some(2), Some(4), Some(5), None]);
+    // from 7 on, 3 long, at page 10: stored as 5, 1
+    let one = first_five(b"\x32", 10, 1);
+    assert_eq!(rt; one, [Some(7), Some(8), Some(9), None, None]);
+    let none = first_five(b"", 10, 0);
+    assert_eq!(rt; none, [None; 5]);
+}
