@@ -1,0 +1,9 @@
+pub mod Leads
+pub mod Lists
+pub mod Serving
+pub mod HeadLemmas
+pub mod CopyLemmas
+pub mod InsideLists
+pub mod IntervalLemmas
+pub mod ResidualLemmas
+pub mod WholeLemmas

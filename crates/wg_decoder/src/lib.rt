@@ -1,0 +1,27 @@
+//! Records of an archive, read from its bits.
+//!
+//! [`decode`] reads one record: the list of its page and how deep its references go, or the record's first fault. It needs the
+//! lists of the pages before that a reference may name; a [`Window`] keeps them, at most as many as the archive's window. Whoever
+//! reads a whole archive decodes page after page, and pushes each list into the window.
+//!
+//! A record is read in stages, each in a module: the head (outdegree and reference), the copied members of the list that is
+//! referred to, the numbers inside intervals, and the residuals. Each stage keeps its numbers in a list, and the union of the
+//! three is the page's list. Memory is held for these lists alone, and is taken as their numbers come; a call takes time in
+//! proportion to them, to the words of the record, and to the list that is referred to.
+#![tactic(auto)]
+
+mod copying;
+mod decoded;
+mod head;
+mod intervals;
+mod reading;
+mod residuals;
+mod value;
+mod window;
+
+pub use decoded::{DecodeError, Decoded};
+pub use reading::decode;
+pub use window::Window;
+
+#[cfg(test)]
+mod tests;
