@@ -1,0 +1,112 @@
+-- Words of an offsets file, one after the other.
+use Rattle.std.proofs.Common.{◌≡◌, ℕ, suc, ◌+◌, ◌-◌, ◌≤◌, Bool, true, false, cond, nat_lt, ◌==◌, ◌&&◌, List, [], ◌∷◌, ◌++◌, length, drop, sum, None, Some, Ok, Err, inl, inr, refl, sym, ◌∙◌, ap, subst, arith, length-append}
+use Rattle.std.proofs.lemmas.List.{get_or_push}
+use Rattle.std.proofs.lemmas.Bool.{ltb-false}
+use Rattle.wg_params.specs.declared.code.Code.{Code}
+use Rattle.wg_codes.specs.declared.outcome.Read.TheVariants.{Value}
+use Rattle.wg_codes.specs.Words.{word, top}
+use Rattle.wg_codes.specs.Reading.{Reads}
+use Rattle.wg_graph.specs.Copied.{ends_of}
+use Rattle.wg_graph.proofs.Copies.{sum_cons, sum_push}
+use Rattle.wg_grammar.specs.Archive.{IsTail, IsTailFault}
+use Rattle.wg_grammar.specs.declared.fault.OffsetWord.{OffsetWord}
+use Rattle.wg_grammar.specs.declared.fault.OffsetWord.TheVariants as faults
+use Rattle.wg_offsets.specs.Words.{places_of, refusal, Words, IsRefused, ReadsOffsets}
+use Rattle.wg_offsets.specs.declared.places.TheConstants.{MOST_PLACE}
+use Rattle.wg_offsets.specs.Places.{last_place}
+use Rattle.wg_offsets.specs.Stages.{HaveStood, LeadsTo}
+
+-- a word more after some
+pub words_more : (c : Code) (bits : List Bool) (before : List ℕ) (at : ℕ) (vs values : List ℕ) (mid v : ℕ) → Words c bits before at vs values mid
+    → Reads (word c) (top c) (drop mid bits) (Value v) → refusal (length values) (sum values) (Value v) ≡ None
+    → Words c bits before at (vs ++ v ∷ []) (values ++ v ∷ []) (mid + length (word c v))
+words_more c bits before at [] values mid v words reads fine = (
+  subst (λ (m : ℕ). Reads (word c) (top c) (drop m bits) (Value v)) words.1 reads,
+  subst (λ (l : List ℕ). refusal (length l) (sum l) (Value v) ≡ None) words.0 fine,
+  (ap (λ (l : List ℕ). l ++ v ∷ []) words.0, ap (λ (m : ℕ). m + length (word c v)) words.1),
+)
+words_more c bits before at (x ∷ vs) values mid v words reads fine =
+    (words.0, words.1, words_more c bits (before ++ x ∷ []) (at + length (word c x)) vs values mid v words.2 reads fine)
+
+-- the place that one value more leads to
+pub ends_more : (n : ℕ) (vs : List ℕ) (v : ℕ) → ends_of n (vs ++ v ∷ []) ≡ ends_of n vs ++ (n + sum vs + v) ∷ []
+ends_more n [] v = ap (λ (k : ℕ). k ∷ []) (omega arith)
+ends_more n (x ∷ vs) v =
+    let same : n + x + sum vs + v ≡ n + sum (x ∷ vs) + v = omega (arith, sum_cons x vs) in
+    ap (λ (l : List ℕ). (n + x) ∷ l) (ends_more (n + x) vs v ∙ ap (λ (k : ℕ). ends_of (n + x) vs ++ k ∷ []) same)
+
+pub length_ends : (n : ℕ) (vs : List ℕ) → length (ends_of n vs) ≡ length vs
+length_ends n [] = refl
+length_ends n (x ∷ vs) = ap suc (length_ends (n + x) vs)
+
+module _ (c : Code) (bits : List Bool) where
+  pub none_yet : HaveStood c bits 0 0 0 []
+  none_yet = record { read = []; values = []; words = (refl, refl); number = refl; total = refl; lead = refl }
+
+  -- there are as many places as words
+  pub as_many : (count at place : ℕ) (places : List ℕ) → HaveStood c bits count at place places → length places ≡ count
+  as_many count at place places h = ap length h.lead ∙ length_ends 0 h.values ∙ h.number
+
+  pub one_more : (count at place : ℕ) (places : List ℕ) (next end : ℕ) → HaveStood c bits count at place places → LeadsTo c bits count place at next end
+      → HaveStood c bits (count + 1) end next (places ++ next ∷ [])
+  one_more count at place places next end h leads =
+      let v : ℕ = leads.0 in
+      let next_is : 0 + sum h.values + v ≡ next = omega (arith, h.total, leads.3) in
+      let fine : refusal (length h.values) (sum h.values) (Value v) ≡ None =
+      subst (λ (k : ℕ). refusal k (sum h.values) (Value v) ≡ None) (sym h.number)
+      (subst (λ (k : ℕ). refusal count k (Value v) ≡ None) (sym h.total) leads.2) in
+      record {
+        read = h.read ++ v ∷ [];
+        values = h.values ++ v ∷ [];
+        words = subst (λ (e : ℕ). Words c bits [] 0 (h.read ++ v ∷ []) (h.values ++ v ∷ []) e) (sym leads.4) (words_more c bits [] 0 h.read h.values at v h.words leads.1 fine);
+        number = omega (arith, length-append h.values (v ∷ []), h.number);
+        total = omega (arith, sum_push h.values v, h.total, leads.3);
+        lead = ap (λ (l : List ℕ). l ++ next ∷ []) h.lead ∙ ap (λ (k : ℕ). places_of h.values ++ k ∷ []) (sym next_is) ∙ sym (ends_more 0 h.values v);
+      }
+
+  -- the next word is refused, and so is the file
+  pub one_refused : (n count at place : ℕ) (places : List ℕ) (e : OffsetWord) → HaveStood c bits count at place places → count ≤ n → IsRefused c bits count place at e
+      → ReadsOffsets c n bits (Err e)
+  one_refused n count at place places e h le refuses =
+      let why : refusal (length h.values) (sum h.values) refuses.0 ≡ Some e =
+      subst (λ (k : ℕ). refusal k (sum h.values) refuses.0 ≡ Some e) (sym h.number)
+      (subst (λ (k : ℕ). refusal count k refuses.0 ≡ Some e) (sym h.total) refuses.2) in
+      (h.read, h.values, at, h.words, inl (omega (arith, h.number), (refuses.0, refuses.1, why)))
+
+  -- all words stand, and what follows them decides
+  pub all_stand : (n at place : ℕ) (places : List ℕ) → HaveStood c bits (n + 1) at place places → IsTail bits at → ReadsOffsets c n bits (Ok places)
+  all_stand n at place places h tail = (h.read, h.values, at, h.words, (h.number, tail, h.lead))
+
+  pub tail_refuses : (n at place : ℕ) (places : List ℕ) (end : ℕ) → HaveStood c bits (n + 1) at place places → IsTailFault bits at end → ReadsOffsets c n bits (Err (faults.Tail end))
+  tail_refuses n at place places end h fault = (h.read, h.values, at, h.words, inr (h.number, (end, fault, refl)))
+
+-- the last place after one more
+pub last_more : (places : List ℕ) (p : ℕ) → last_place (places ++ p ∷ []) ≡ p
+last_more places p = get_or_push places p 0 (length (places ++ p ∷ []) - 1) (omega (arith, length-append places (p ∷ [])))
+
+-- a value that is not refused passes both tests
+passes_first : (b d : Bool) (f : OffsetWord) → cond b (Some faults.First) (cond d (Some f) None) ≡ None → b ≡ false
+passes_first true d f e = absurd cc
+passes_first false d f e = refl
+
+passes_second : (b d : Bool) (f : OffsetWord) → cond b (Some faults.First) (cond d (Some f) None) ≡ None → d ≡ false
+passes_second true d f e = absurd cc
+passes_second false true f e = absurd cc
+passes_second false false f e = refl
+
+pub first_value : (place v : ℕ) → refusal 0 place (Value v) ≡ None → v ≤ 0
+first_value place v fine = ltb-false 0 v (passes_first (nat_lt 0 v) (nat_lt MOST_PLACE (place + v)) (faults.TooFar 0) fine)
+
+-- the first word leads to the first bit
+pub first_leads : (c : Code) (bits : List Bool) (number place at next end : ℕ) → number ≡ 0 → LeadsTo c bits number place at next end → next ≡ place
+first_leads c bits number place at next end none leads =
+    let fine : refusal 0 place (Value leads.0) ≡ None = subst (λ (k : ℕ). refusal k place (Value leads.0) ≡ None) none leads.2 in
+    omega (arith, leads.3, first_value place leads.0 fine)
+
+-- a word that is not refused leads to a place that a file may have
+pub value_within : (number place v : ℕ) → refusal number place (Value v) ≡ None → place + v ≤ MOST_PLACE
+value_within number place v fine =
+    ltb-false MOST_PLACE (place + v) (passes_second (number == 0 && nat_lt 0 v) (nat_lt MOST_PLACE (place + v)) (faults.TooFar number) fine)
+
+pub leads_within : (c : Code) (bits : List Bool) (number place at next end : ℕ) → LeadsTo c bits number place at next end → next ≤ MOST_PLACE
+leads_within c bits number place at next end leads = omega (arith, leads.3, value_within number place leads.0 leads.2)

@@ -1,0 +1,29 @@
+-- How far an offsets file is read.
+use Rattle.std.specs.Prelude.{◌≡◌, ℕ, ◌+◌, Bool, List, [], length, drop, sum, None}
+use Rattle.wg_params.specs.declared.code.Code.{Code}
+use Rattle.wg_codes.specs.declared.outcome.Read.TheVariants.{Value}
+use Rattle.wg_codes.specs.Words.{word, top}
+use Rattle.wg_codes.specs.Reading.{Reads}
+use Rattle.wg_grammar.specs.declared.fault.OffsetWord.{OffsetWord}
+use Rattle.wg_offsets.specs.declared.error.OffsetsError.{OffsetsError}
+use Rattle.wg_offsets.specs.declared.error.OffsetsError.TheVariants as errors
+use Rattle.wg_offsets.specs.Words.{refusal, Words, places_of}
+
+-- what holds of the fault, where the error is one; want of memory may come at any time
+abbrev pub IfWord : OffsetsError → (OffsetWord → Type 0) → Type 0
+IfWord (errors.Word w) P = P w
+IfWord errors.Memory P = Unit {0}
+
+-- so many words stand from the first bit to the bit at; they lead to these places, the last of which is this one
+pub record HaveStood (c : Code) (bits : List Bool) (count at place : ℕ) (places : List ℕ) : Type 0 where
+  pub read : List ℕ
+  pub values : List ℕ
+  pub words : Words c bits [] 0 read values at
+  pub number : length values ≡ count
+  pub total : sum values ≡ place
+  pub lead : places ≡ places_of values
+
+-- the next word stands between the two places, and leads from one place of a record to the next
+abbrev pub LeadsTo : Code → List Bool → ℕ → ℕ → ℕ → ℕ → ℕ → Type 0
+LeadsTo c bits number place at next end =
+    (v : ℕ) × Reads (word c) (top c) (drop at bits) (Value v) × (refusal number place (Value v) ≡ None) × (next ≡ place + v) × (end ≡ at + length (word c v))

@@ -1,0 +1,92 @@
+ghost use Rattle.std.specs.Prelude.{◌≡◌, ℕ, ◌+◌, ◌<◌, ◌≤◌, [], ◌∷◌, ◌++◌, length, get_or, OnOk, OnErr, IfSome, IfNone};
+ghost use Rattle.wg_offsets.specs.Places.{ArePlaces, last_place, record_length, IsFirstMismatch, AgreeInLengths};
+ghost use Rattle.wg_offsets.specs.declared.places.TheConstants.{MOST_PLACE};
+
+use std::alloc::{AllocError, Global};
+use std::marker::Model;
+use wg_io::MOST_BYTES;
+
+/// The last place that a record may begin or end at: the end of the longest graph file, in bits.
+pub const MOST_PLACE: u64 = 8 * MOST_BYTES;
+
+/// The places of records, in bits, and last the place after them.
+#[derive(Debug, Drop)]
+pub struct Offsets {
+    places: Vec<u64>,
+}
+
+impl Model for Offsets {
+    ghost use Rattle.std.specs.Prelude.{List, ℕ};
+    ghost use Rattle.wg_offsets.specs.Places.{ArePlaces};
+
+    ghost Value = { List ℕ };
+
+    ghost view = { λ o. o.places.items };
+
+    ghost invariant = { λ o. ArePlaces o.places.items };
+}
+
+impl Offsets {
+    /// No places, and no memory yet.
+    pub fn new(alloc: Global) -> Offsets
+        ensures { result ≡ [] }
+    {
+        Offsets {
+            places: Vec::new(alloc),
+        }
+    }
+
+    /// Adds the next place, in constant time on average.
+    pub fn push(&mut self, place: u64) -> Result<(), AllocError>
+        requires first { self.old ≡ [] → place ≡ 0 }
+        requires later { last_place self.old ≤ place }
+        requires within { place ≤ MOST_PLACE }
+        ensures ok { OnOk result (self.new ≡ self.old ++ place ∷ []) }
+        ensures err { OnErr result (self.new ≡ self.old) }
+    {
+        self.places.push(place)?;
+        Ok(())
+    }
+
+    /// How many places there are: one more than there are records.
+    pub fn len(&self) -> u64
+        ensures value { result ≡ length self.now }
+        ensures places { ArePlaces self.now }
+    {
+        self.places.len() as u64
+    }
+
+    /// The place of record `x`, or the place after the last record.
+    pub fn place(&self, x: u64) -> u64
+        requires { x < length self.now }
+        ensures value { result ≡ get_or self.now x 0 }
+        ensures within { result ≤ MOST_PLACE }
+    {
+        self.places[x as usize]
+    }
+
+    // How many bits record `x` has.
+    fn record_length(&self, x: u64) -> u64
+        requires { x + 1 < length self.now }
+        ensures { result ≡ record_length self.now x }
+    {
+        self.places[x as usize + 1] - self.places[x as usize]
+    }
+
+    /// The first page whose record has another length in the others than here, with its length here and its length there, in
+    /// bits. It takes one pass.
+    pub fn first_mismatch(&self, other: &Offsets) -> Option<(u64, u64, u64)>
+        requires { length self.now ≡ length other.now }
+        ensures none { IfNone result (AgreeInLengths self.now other.now) }
+        ensures some { IfSome result (λ m. IsFirstMismatch self.now other.now m.0 m.1 m.2) }
+    {
+        for page in 0..self.len().saturating_sub(1) {
+            let here = self.record_length(page);
+            let there = other.record_length(page);
+            if here != there {
+                return Some((page, here, there));
+            }
+        }
+        None
+    }
+}
