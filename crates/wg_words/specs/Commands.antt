@@ -1,0 +1,35 @@
+-- The command line as clap reads it: the commands with what each takes, and what their matches are.
+use Rattle.clap.specs.declared.builder.command.Command.{Command}
+use Rattle.clap.specs.declared.builder.command.Command.TheViews.{out-Command}
+use Rattle.std.specs.Prelude.{◌≡◌, true, false, List, [], ◌∷◌, Option, Some, None, codes}
+use Rattle.clap.specs.Words.{app_of, App, Row, Rule, Text, Kinds, new_app, new_rule, with_rule, with_subcommand, subcommand_of, fault_of}
+
+-- the archive of a command
+abbrev pub base_rule : Rule
+base_rule = record (new_rule (codes "base")) { required = true }
+
+-- check BASE
+abbrev pub check_app : App
+check_app = with_rule (new_app (codes "check")) base_rule
+
+-- one level of subcommands, of which one is required
+abbrev pub program_app : App
+program_app = record (new_app (codes "webgraph")) { top = record (new_app (codes "webgraph")).top { no_binary_name = true; subcommand_required = true } }
+
+-- the command line of the program
+abbrev pub command_app : App
+command_app = with_subcommand program_app check_app.top
+
+-- nothing where the words are refused
+abbrev pub where_empty : {X : Type 0} → Kinds → Option X → Option X
+where_empty [] o = o
+where_empty (k ∷ ks) o = None
+
+-- the subcommand that the words name, with its matches; none where clap refuses the words
+unfoldable pub parsed : List Text → Option (Text × List Row)
+parsed words = where_empty (fault_of command_app words) (subcommand_of command_app words)
+
+-- a command as a parse reads it, with no argument that is global
+pub record IsApp (a : App) (c : Command) : Type 0 where
+  pub app : app_of c ≡ a
+  pub local : (out-Command c).has_globals ≡ false

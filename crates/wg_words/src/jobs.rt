@@ -1,0 +1,18 @@
+use crate::Name;
+use thiserror::Error;
+
+/// What the words ask for.
+#[derive(Drop)]
+pub enum Job {
+    /// `check BASE`: whether the files BASE`.properties` and BASE`.graph` are an archive.
+    Check { base: Name },
+}
+
+/// Why there is no job.
+#[derive(Clone, Copy, Debug, PartialEq, Eq, Error)]
+pub enum JobError {
+    #[error("the words ask for no job")]
+    Usage,
+    #[error("out of memory")]
+    Memory,
+}
