@@ -1,0 +1,56 @@
+-- What stands where a job ends.
+use Rattle.std.proofs.Common.{◌≡◌, ◌⊎◌, inl, inr, ℕ, ◌<◌, List, ◌++◌, length, take, refl, sym, ◌∙◌, ap, subst, Option, Some, None, Result, Ok, Err}
+use Rattle.std.specs.Result.{IsErrAnd, IfErr}
+use Rattle.wg_io.specs.Outside.{Files}
+use Rattle.wg_io.specs.Puts.{Puts}
+use Rattle.wg_io.proofs.PutsLemmas.{is_that_err}
+use Rattle.wg_params.specs.Parameters.{Parameters}
+use Rattle.wg_properties.specs.Judged.{properties_of}
+use Rattle.wg_properties.specs.declared.fault.PropFault.{PropFault}
+use Rattle.wg_grammar.specs.declared.fault.ArchiveFault.{ArchiveFault}
+use Rattle.wg_grammar.specs.declared.fault.ArchiveFault.TheVariants as archive
+use Rattle.wg_words.specs.declared.jobs.Job.{Job}
+use Rattle.wg_cli.specs.Answers.{HasOutput, IsUnput, status_in}
+use Rattle.wg_cli.specs.Lines.{ArePromised, ArePromisedBy, arcs_in}
+use Rattle.wg_cli.specs.declared.ending.Ending.{Ending}
+use Rattle.wg_cli.specs.declared.status.Input.{Input}
+use Rattle.wg_cli.specs.declared.status.Input.TheVariants as input
+use Rattle.wg_cli.specs.declared.status.Status.{Status}
+use Rattle.wg_cli.specs.declared.status.Status.TheVariants.{Done, Memory, BadArchive}
+
+-- the output of a job whose last step puts all of what is due
+pub output_put : (due text old new : List ℕ) (r : Result (Unit {0}) Ending) → text ≡ due → Puts text old new r → IfErr r (λ e. IsUnput e.status) → HasOutput due old new (status_in r)
+output_put due text old new (Ok done) is put only = put ∙ ap (λ (l : List ℕ). old ++ l) is
+output_put due text old new (Err e) is put (inl fault) = subst (λ (s : Status). HasOutput due old new s) (sym fault) (put.0, put.2 ∙ ap (λ (l : List ℕ). old ++ take put.0 l) is)
+output_put due text old new (Err e) is put (inr want) = subst (λ (s : Status). HasOutput due old new s) (sym want) (put.0, put.2 ∙ ap (λ (l : List ℕ). old ++ take put.0 l) is)
+
+abbrev given : Parameters → Result Parameters PropFault
+given p = Ok p
+
+-- a fault names the arcs of the one properties text
+same_arcs : (held : Input → Option (List ℕ)) (text : List ℕ) (p : Parameters) (n : ℕ) → held input.Properties ≡ Some text → properties_of text ≡ Ok p → n ≡ p.arcs
+    → (f : ArchiveFault) → ArePromised held (BadArchive f) n
+same_arcs held text p n there reads is (archive.ArcsShort total) = λ other q here reads'.
+    let same : text ≡ other = cc (there, here) in
+    let one : given p ≡ given q = sym reads ∙ ap properties_of same ∙ reads' in
+    let equal : p ≡ q = cc in
+    is ∙ ap (λ (x : Parameters). x.arcs) equal
+same_arcs held text p n there reads is (archive.Record f) = tt
+same_arcs held text p n there reads is (archive.Tail at) = tt
+same_arcs held text p n there reads is (archive.Offsets w) = tt
+same_arcs held text p n there reads is (archive.Length page found stored) = tt
+
+-- the arcs that a refused graph names
+pub arcs_promised : (held : Input → Option (List ℕ)) (text : List ℕ) (p : Parameters) (r : Result (Unit {0}) Ending) (e : Ending) → IsErrAnd r (λ x. x ≡ e)
+    → held input.Properties ≡ Some text → properties_of text ≡ Ok p → (e.status ≡ Memory) ⊎ ((f : ArchiveFault) × (e.status ≡ BadArchive f) × (e.arcs ≡ p.arcs))
+    → ArePromised held (status_in r) (arcs_in r)
+arcs_promised held text p r e is there reads why =
+    subst (λ (x : Result (Unit {0}) Ending). ArePromised held (status_in x) (arcs_in x)) (sym (is_that_err r e is)) (by_cause why)
+  where
+    by_cause : (e.status ≡ Memory) ⊎ ((f : ArchiveFault) × (e.status ≡ BadArchive f) × (e.arcs ≡ p.arcs)) → ArePromised held e.status e.arcs
+    by_cause (inl want) = subst (λ (s : Status). ArePromised held s e.arcs) (sym want) tt
+    by_cause (inr fault) = subst (λ (s : Status). ArePromised held s e.arcs) (sym fault.1) (same_arcs held text p e.arcs there reads fault.2 fault.0)
+
+pub nothing_promised : (o : Option Job) (files : Files) (n : ℕ) → ArePromisedBy o files Memory n
+nothing_promised None files n = tt
+nothing_promised (Some job) files n = tt

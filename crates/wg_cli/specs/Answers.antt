@@ -1,0 +1,56 @@
+-- Which status a judgement leads to.
+use Rattle.std.specs.Prelude.{◌≡◌, ◌⊎◌, ℕ, List, ◌++◌, length, take, Option, None, Result, Ok, Err}
+use Rattle.wg_io.specs.declared.output.Output.TheVariants.{Out}
+use Rattle.wg_words.specs.declared.jobs.Job.{Job}
+use Rattle.wg_cli.specs.Readings.{Readings}
+use Rattle.wg_cli.specs.Judged.{Judged, refused, status_of, judged}
+use Rattle.wg_cli.specs.declared.ending.Ending.{Ending}
+use Rattle.wg_cli.specs.declared.status.Input.{Input}
+use Rattle.wg_cli.specs.declared.status.Input.TheVariants as input
+use Rattle.wg_cli.specs.declared.status.Status.{Status}
+use Rattle.wg_cli.specs.declared.status.Status.TheVariants.{Done, Memory, ReadFault, WriteFault, Missing}
+
+-- what may come in place of the judgement: want of memory, or a fault of the outside
+abbrev pub IsHindrance : Status → Type 0
+IsHindrance Memory = Unit {0}
+IsHindrance (ReadFault i) = Unit {0}
+IsHindrance (WriteFault o) = Unit {0}
+IsHindrance _ = ⊥
+
+-- the status is that of the judgement, or something came in its place
+abbrev pub Answers : Judged → Status → Type 0
+Answers judgement status = (status ≡ status_of judgement) ⊎ IsHindrance status
+
+-- One step of a judgement: it goes on with this value whatever comes next, or it ends like this whatever would come next.
+abbrev pub Steps : {B : Type 0} → ((B → Judged) → Judged) → Result B Ending → Type 0
+Steps {B} step (Ok b) = (next : B → Judged) → step next ≡ next b
+Steps {B} step (Err e) = (next : B → Judged) → Answers (step next) e.status
+
+-- the status of what has ended or was done
+abbrev pub status_in : {B : Type 0} → Result B Ending → Status
+status_in (Ok b) = Done
+status_in (Err e) = e.status
+
+-- all but one input
+abbrev pub without : Input → (Input → Option (List ℕ)) → Input → Option (List ℕ)
+without input.Properties held input.Properties = None
+without input.Graph held input.Graph = None
+without input.Offsets held input.Offsets = None
+without input.ArcList held input.ArcList = None
+without i held j = held j
+
+-- all inputs before this one are held and without refusal: were it absent, it would be the one to miss
+abbrev pub Reaches : Readings → Job → (Input → Option (List ℕ)) → Input → Type 0
+Reaches r job held i = judged r job (without i held) ≡ refused (Missing i)
+
+-- all of the output at Done, a front of it where a hindrance came, and nothing at a refusal
+abbrev pub HasOutput : List ℕ → List ℕ → List ℕ → Status → Type 0
+HasOutput due old new Done = new ≡ old ++ due
+HasOutput due old new Memory = (k : ℕ) × (new ≡ old ++ take k due)
+HasOutput due old new (ReadFault i) = (k : ℕ) × (new ≡ old ++ take k due)
+HasOutput due old new (WriteFault o) = (k : ℕ) × (new ≡ old ++ take k due)
+HasOutput due old new _ = new ≡ old
+
+-- why an output stopped
+abbrev pub IsUnput : Status → Type 0
+IsUnput status = (status ≡ WriteFault Out) ⊎ (status ≡ Memory)

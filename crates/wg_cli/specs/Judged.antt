@@ -1,0 +1,64 @@
+-- What a job comes to, by what its inputs hold.
+use Rattle.std.specs.Prelude.{ℕ, List, [], ◌++◌, length, nat_lt, if◌then◌else◌, codes, decimal, Option, Some, None, Result, Ok, Err}
+use Rattle.wg_io.specs.declared.limits.TheConstants.{MOST_BYTES}
+use Rattle.wg_params.specs.Parameters.{Parameters}
+use Rattle.wg_properties.specs.Judged.{properties_of}
+use Rattle.wg_properties.specs.declared.fault.PropFault.{PropFault}
+use Rattle.wg_grammar.specs.declared.fault.ArchiveFault.{ArchiveFault}
+use Rattle.wg_grammar.specs.Archive.{Accepted}
+use Rattle.wg_words.specs.declared.jobs.Job.{Job}
+use Rattle.wg_words.specs.declared.jobs.Job.TheVariants.{Check}
+use Rattle.wg_cli.specs.Readings.{Readings}
+use Rattle.wg_cli.specs.declared.status.Input.{Input}
+use Rattle.wg_cli.specs.declared.status.Input.TheVariants as input
+use Rattle.wg_cli.specs.declared.status.Status.{Status}
+use Rattle.wg_cli.specs.declared.status.Status.TheVariants.{Done, Missing, BadProperties, BadArchive, OverLimit}
+
+-- a job is refused with a status, or it is done, with this on the output
+pub data Judged : Type 0 where
+  refused : Status → Judged
+  accepted : List ℕ → Judged
+
+abbrev pub status_of : Judged → Status
+status_of (refused status) = status
+status_of (accepted out) = Done
+
+abbrev pub output_of : Judged → List ℕ
+output_of (refused status) = []
+output_of (accepted out) = out
+
+-- goes on with the bytes of an input, where it is held and not too long
+abbrev pub with_file : Input → Option (List ℕ) → (List ℕ → Judged) → Judged
+with_file i None next = refused (Missing i)
+with_file i (Some bytes) next = if nat_lt MOST_BYTES (length bytes) then refused (OverLimit i) else next bytes
+
+abbrev pub unless_bad_properties : Result Parameters PropFault → (Parameters → Judged) → Judged
+unless_bad_properties (Ok p) next = next p
+unless_bad_properties (Err f) next = refused (BadProperties f)
+
+-- goes on with the parameters that the properties text gives
+abbrev pub with_parameters : List ℕ → (Parameters → Judged) → Judged
+with_parameters text next = unless_bad_properties (properties_of text) next
+
+abbrev pub unless_bad_graph : Result Accepted ArchiveFault → (Accepted → Judged) → Judged
+unless_bad_graph (Ok a) next = next a
+unless_bad_graph (Err f) next = refused (BadArchive f)
+
+-- goes on with the graph that the bytes stand for
+abbrev pub with_graph : Readings → Parameters → List ℕ → (Accepted → Judged) → Judged
+with_graph r p bytes next = unless_bad_graph (r.of p bytes) next
+
+-- goes on with the bits that the records of the graph take
+abbrev pub with_bits : Readings → Parameters → List ℕ → (ℕ → Judged) → Judged
+with_bits r p bytes next = with_graph r p bytes (λ a. next a.end)
+
+-- the line of an accepted archive: its pages, its arcs, and the bits of its records
+abbrev pub ok_line : Parameters → ℕ → List ℕ
+ok_line p bits = codes "ok nodes=" ++ decimal p.nodes ++ codes " arcs=" ++ decimal p.arcs ++ codes " bits=" ++ decimal bits ++ codes "\n"
+
+-- Each command: its inputs in their order, and its output.
+abbrev pub judged : Readings → Job → (Input → Option (List ℕ)) → Judged
+judged r (Check base) held =
+    with_file input.Properties (held input.Properties) (λ text. with_parameters text (λ p.
+    with_file input.Graph (held input.Graph) (λ bytes. with_bits r p bytes (λ bits.
+    accepted (ok_line p bits)))))

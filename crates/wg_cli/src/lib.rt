@@ -1,0 +1,34 @@
+//! The program over any outside: the words' job, done over a depot of files, with its output and a line on standard error.
+//!
+//! [`run`] is the one call. It asks `wg_words` for the job, reads the job's inputs in their order, each judged to its end before the
+//! next is asked for, prints, and ends with a [`Status`]. Its contract says all of this by the job and by what each input holds
+//! (`judged`): which status comes, what stands on the output, which line is reported, and that faults of the outside are told
+//! only where their counts rose.
+//!
+//! `judged` takes the graph of a file from a function that reads all graph files; [`laws`] states that the grammar leaves
+//! exactly one such function.
+//!
+//! A command more is an equation of `judged` with its inputs and outputs, and a module beside `check` whose function has the
+//! same clauses; `run` stays as it is, but for its clause on the files, which a command that writes some will widen. The inputs are
+//! held whole in memory.
+#![tactic(auto)]
+
+mod check;
+mod ending;
+pub mod laws;
+mod load;
+mod names;
+mod perform;
+mod print;
+mod program;
+mod records;
+mod report;
+mod status;
+mod text;
+mod texts;
+
+pub use program::run;
+pub use status::{ArcsKind, Input, Status};
+
+#[cfg(test)]
+mod tests;

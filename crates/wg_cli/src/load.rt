@@ -1,0 +1,46 @@
+ghost use Rattle.std.specs.Prelude.{◌≡◌, ◌≢◌, ◌++◌, ◌≤◌, ◌⊎◌, IsTrue, IsSome, IfOk, IfErr, Some, length};
+ghost use Rattle.wg_io.specs.Outside.{NoneFalls};
+ghost use Rattle.wg_io.specs.declared.limits.TheConstants.{MOST_BYTES};
+ghost use Rattle.wg_cli.specs.Answers.{Steps, status_in};
+ghost use Rattle.wg_cli.specs.Causes.{HasCause};
+ghost use Rattle.wg_cli.specs.Judged.{with_file};
+ghost use Rattle.wg_cli.specs.Names.{file_of, held_by, suffix_of, IsOfInput, no_outputs};
+ghost use Rattle.wg_cli.specs.declared.status.Input.{Input};
+
+use crate::ending::Ending;
+use crate::names::suffix;
+use crate::{Input, Status};
+use std::alloc::{AllocError, Global};
+use wg_io::{Depot, List8, LoadError, read_whole};
+use wg_words::Name;
+
+/// Reads one of an archive's files whole.
+pub fn load<D: Depot>(
+    alloc: Global,
+    depot: &mut D,
+    base: &Name,
+    input: Input,
+) -> Result<List8, Ending>
+    requires { IsSome (suffix_of input) }
+    ensures steps { IsTrue D.told → Steps (with_file input (held_by (file_of base.now) (D.files depot.old) input)) result }
+    ensures held { IsTrue D.told → IfOk result (λ bytes. held_by (file_of base.now) (D.files depot.old) input ≡ Some bytes) }
+    ensures causes { HasCause (file_of base.now) no_outputs (D.counts depot.old) (D.counts depot.new) 0 0 (status_in result) }
+    ensures mine { IfErr result (λ e. IsOfInput input e.status) }
+    ensures same { D.files depot.new ≡ D.files depot.old }
+    ensures later { NoneFalls (D.counts depot.old) (D.counts depot.new) }
+    ensures short { IfOk result (λ bytes. length bytes ≤ MOST_BYTES) }
+{
+    let Some(suffix) = suffix(input) else {
+        unreachable!()
+    };
+    let Ok(name) = base.with_suffix(alloc, suffix) else {
+        return Err(Ending::of(Status::Memory));
+    };
+    match read_whole(alloc, depot, name.as_str()) {
+        Ok(bytes) => Ok(bytes),
+        Err(LoadError::Absent) => Err(Ending::of(Status::Missing(input))),
+        Err(LoadError::Failed) => Err(Ending::of(Status::ReadFault(input))),
+        Err(LoadError::TooLong) => Err(Ending::of(Status::OverLimit(input))),
+        Err(LoadError::Memory) => Err(Ending::of(Status::Memory)),
+    }
+}

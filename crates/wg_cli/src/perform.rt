@@ -1,0 +1,51 @@
+ghost use Rattle.std.specs.Prelude.{◌≡◌, ℕ, IsTrue};
+ghost use Rattle.wg_io.specs.Outside.{NoneFalls};
+ghost use Rattle.wg_io.specs.declared.output.Output.TheVariants.{Out};
+ghost use Rattle.wg_cli.specs.Answers.{Answers, HasOutput, Reaches, status_in};
+ghost use Rattle.wg_cli.specs.Causes.{HasCause};
+ghost use Rattle.wg_cli.specs.Judged.{judged, output_of, status_of};
+ghost use Rattle.wg_cli.specs.Lines.{ArePromised, arcs_in};
+ghost use Rattle.wg_cli.specs.Names.{can_end, held_by, input_name, output_name};
+ghost use Rattle.wg_cli.specs.Readings.{Readings};
+ghost use Rattle.wg_cli.specs.declared.status.Input.{Input};
+
+use crate::Status;
+use crate::check::check;
+use crate::ending::Ending;
+use std::alloc::Global;
+use wg_io::{Depot, Sink};
+use wg_words::{Job, Name};
+
+// How what was done or has ended is reported.
+fn ending_of(done: Result<(), Ending>) -> Ending
+    ensures status { result.status ≡ status_in done }
+    ensures arcs { result.arcs ≡ arcs_in done }
+{
+    match done {
+        Ok(()) => Ending::of(Status::Done),
+        Err(ending) => ending,
+    }
+}
+
+// The archive that is checked.
+fn archive(job: &Job) -> &Name
+    ensures { job.now ≡ Job.Check result.now }
+{
+    let Job::Check { base } = job;
+    base
+}
+
+/// Does the job, and says how it ended.
+pub fn perform<D: Depot, O: Sink>(alloc: Global, job: &Job, depot: &mut D, out: &mut O) -> Ending
+    ensures answers { IsTrue D.told → (r : Readings) → Answers (judged r job.now (held_by (input_name job.now) (D.files depot.old))) result.status }
+    ensures causes { HasCause (input_name job.now) (output_name job.now) (D.counts depot.old) (D.counts depot.new) (O.faults out.old) (O.faults out.new) result.status }
+    ensures possible { IsTrue (can_end job.now result.status) }
+    ensures reached { IsTrue D.told → (r : Readings) (i : Input) → result.status ≡ Status.ReadFault i → Reaches r job.now (held_by (input_name job.now) (D.files depot.old)) i }
+    ensures needed { IsTrue D.told → (r : Readings) → result.status ≡ Status.WriteFault Out → status_of (judged r job.now (held_by (input_name job.now) (D.files depot.old))) ≡ Status.Done }
+    ensures output { IsTrue D.told → IsTrue O.told → (r : Readings) → HasOutput (output_of (judged r job.now (held_by (input_name job.now) (D.files depot.old)))) (O.taken out.old) (O.taken out.new) result.status }
+    ensures promised { IsTrue D.told → ArePromised (held_by (input_name job.now) (D.files depot.old)) result.status result.arcs }
+    ensures same { D.files depot.new ≡ D.files depot.old }
+    ensures later { NoneFalls (D.counts depot.old) (D.counts depot.new) }
+{
+    ending_of(check(alloc, archive(job), depot, out))
+}

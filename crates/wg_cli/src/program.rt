@@ -1,0 +1,87 @@
+ghost use Rattle.std.specs.Prelude.{◌≡◌, ◌⊎◌, ℕ, Some, None, IsTrue, IfOk};
+ghost use Rattle.wg_io.specs.Outside.{Rose};
+ghost use Rattle.wg_io.specs.declared.output.Output.TheVariants.{Out};
+ghost use Rattle.wg_words.specs.Jobs.{job_of};
+ghost use Rattle.wg_words.specs.declared.jobs.Job.{Job};
+ghost use Rattle.wg_cli.specs.Answers.{Answers, HasOutput, Reaches};
+ghost use Rattle.wg_cli.specs.Causes.{HasCause, Reports};
+ghost use Rattle.wg_cli.specs.Judged.{judged, output_of, status_of};
+ghost use Rattle.wg_cli.specs.Lines.{line_of, ArePromised, ArePromisedBy};
+ghost use Rattle.wg_cli.specs.Names.{can_end, held_by, input_name, output_name};
+ghost use Rattle.wg_cli.specs.Readings.{Readings};
+ghost use Rattle.wg_cli.specs.declared.status.Input.{Input};
+
+use crate::Status;
+use crate::ending::Ending;
+use crate::perform::perform;
+use crate::report::report;
+use std::alloc::{AllocError, Global};
+use wg_io::{Depot, Sink};
+use wg_words::{Job, JobError, Words, job};
+
+/// Does what the words ask for: the output goes to `out`, and for every status but `Done` one line to `err`.
+pub fn run<D: Depot, O: Sink, E: Sink>(
+    alloc: Global,
+    words: &Words,
+    depot: &mut D,
+    out: &mut O,
+    err: &mut E,
+) -> Status
+    // Usage comes exactly where the words ask for no job, and nothing is put out then.
+    ensures usage { result ≡ Status.Usage → job_of words.now ≡ None }
+    ensures no_job { job_of words.now ≡ None → (result ≡ Status.Usage) ⊎ (result ≡ Status.Memory) }
+    ensures no_output { job_of words.now ≡ None → O.taken out.new ≡ O.taken out.old }
+
+    // The status is the one that the job and its inputs lead to, or a fault of the outside or want of memory came in its place.
+    ensures answers { IsTrue D.told → (r : Readings) (job : Job) → job_of words.now ≡ Some job → Answers (judged r job (held_by (input_name job) (D.files depot.old))) result }
+    ensures possible { (job : Job) → job_of words.now ≡ Some job → IsTrue (can_end job result) }
+
+    // A fault or an absence is told only where the outside counted it, and only where the job had come so far.
+    ensures causes { (job : Job) → job_of words.now ≡ Some job → HasCause (input_name job) (output_name job) (D.counts depot.old) (D.counts depot.new) (O.faults out.old) (O.faults out.new) result }
+    ensures reached { IsTrue D.told → (r : Readings) (job : Job) → job_of words.now ≡ Some job → (i : Input) → result ≡ Status.ReadFault i → Reaches r job (held_by (input_name job) (D.files depot.old)) i }
+    ensures needed { IsTrue D.told → (r : Readings) (job : Job) → job_of words.now ≡ Some job → result ≡ Status.WriteFault Out → status_of (judged r job (held_by (input_name job) (D.files depot.old))) ≡ Status.Done }
+
+    // What stands on the output, in the files and on the error output.
+    ensures output { IsTrue D.told → IsTrue O.told → (r : Readings) (job : Job) → job_of words.now ≡ Some job → HasOutput (output_of (judged r job (held_by (input_name job) (D.files depot.old)))) (O.taken out.old) (O.taken out.new) result }
+    ensures same { D.files depot.new ≡ D.files depot.old }
+    ensures line { IsTrue E.told → (promised : ℕ) × (IsTrue D.told → ArePromisedBy (job_of words.now) (D.files depot.old) result promised) × Reports (line_of (job_of words.now) promised result) (E.taken err.old) (E.taken err.new) (Rose (E.faults err.old) (E.faults err.new) ⊎ Rose (E.wants err.old) (E.wants err.new)) }
+{
+    let Ok(asked) = asked(alloc, words) else {
+        report(err, &None, 0, Status::Memory);
+        return Status::Memory;
+    };
+    let ending = done(alloc, &asked, depot, out);
+    report(err, &asked, ending.arcs, ending.status);
+    ending.status
+}
+
+// The job, if the words ask for one.
+fn asked(alloc: Global, words: &Words) -> Result<Option<Job>, AllocError>
+    ensures { IfOk result (λ o. o ≡ job_of words.now) }
+{
+    match job(alloc, words) {
+        Ok(job) => Ok(Some(job)),
+        Err(JobError::Usage) => Ok(None),
+        Err(JobError::Memory) => Err(AllocError),
+    }
+}
+
+// Does the job, if there is one.
+fn done<D: Depot, O: Sink>(alloc: Global, asked: &Option<Job>, depot: &mut D, out: &mut O) -> Ending
+    ensures usage { result.status ≡ Status.Usage → asked.now ≡ None }
+    ensures no_job { asked.now ≡ None → result.status ≡ Status.Usage }
+    ensures no_output { asked.now ≡ None → O.taken out.new ≡ O.taken out.old }
+    ensures answers { IsTrue D.told → (r : Readings) (job : Job) → asked.now ≡ Some job → Answers (judged r job (held_by (input_name job) (D.files depot.old))) result.status }
+    ensures possible { (job : Job) → asked.now ≡ Some job → IsTrue (can_end job result.status) }
+    ensures causes { (job : Job) → asked.now ≡ Some job → HasCause (input_name job) (output_name job) (D.counts depot.old) (D.counts depot.new) (O.faults out.old) (O.faults out.new) result.status }
+    ensures reached { IsTrue D.told → (r : Readings) (job : Job) → asked.now ≡ Some job → (i : Input) → result.status ≡ Status.ReadFault i → Reaches r job (held_by (input_name job) (D.files depot.old)) i }
+    ensures needed { IsTrue D.told → (r : Readings) (job : Job) → asked.now ≡ Some job → result.status ≡ Status.WriteFault Out → status_of (judged r job (held_by (input_name job) (D.files depot.old))) ≡ Status.Done }
+    ensures output { IsTrue D.told → IsTrue O.told → (r : Readings) (job : Job) → asked.now ≡ Some job → HasOutput (output_of (judged r job (held_by (input_name job) (D.files depot.old)))) (O.taken out.old) (O.taken out.new) result.status }
+    ensures promised { IsTrue D.told → ArePromisedBy asked.now (D.files depot.old) result.status result.arcs }
+    ensures same { D.files depot.new ≡ D.files depot.old }
+{
+    match asked {
+        None => Ending::of(Status::Usage),
+        Some(job) => perform(alloc, job, depot, out),
+    }
+}

@@ -1,0 +1,179 @@
+//! The line on standard error that says why a job was not done. It takes no memory.
+ghost use Rattle.std.specs.Prelude.{◌≡◌, ◌⊎◌, ◌≤◌, ◌∷◌, [], ◌++◌, IsTrue, IsErr, Some, None, option_map, codes};
+ghost use Rattle.wg_io.specs.Outside.{Rose};
+ghost use Rattle.wg_io.specs.Puts.{Puts};
+ghost use Rattle.wg_cli.specs.Causes.{Reports};
+ghost use Rattle.wg_cli.specs.Lines.{naming, name_in, output_in, line_of};
+ghost use Rattle.wg_cli.specs.Names.{input_name};
+
+use crate::names::suffix;
+use crate::text::Text;
+use crate::{Input, Status, texts};
+use wg_io::{Output, Sink, WriteError, write_all, write_pieces};
+use wg_words::Job;
+
+// The name of a job's input, in two parts.
+fn parts_of_input(job: &Option<Job>, input: Input) -> Option<(&str, &'static str)>
+    ensures { option_map (λ parts. parts.0.now ++ parts.1.now) result ≡ name_in job.now input }
+{
+    match job {
+        None => None,
+        Some(Job::Check { base }) => match suffix(input) {
+            None => None,
+            Some(suffix) => Some((base.as_str(), suffix)),
+        },
+    }
+}
+
+// A line that names a file by the two parts of its name.
+fn naming<S: Sink>(
+    sink: &mut S,
+    before: &str,
+    stem: &str,
+    suffix: &str,
+    after: &[u8],
+) -> Result<(), WriteError>
+    ensures puts { IsTrue S.told → Puts (naming before.now (Some (stem.now ++ suffix.now)) after.now) (S.taken sink.old) (S.taken sink.new) result }
+    ensures cause { IsErr result → Rose (S.faults sink.old) (S.faults sink.new) ⊎ Rose (S.wants sink.old) (S.wants sink.new) }
+{
+    write_five(
+        sink,
+        before.as_bytes(),
+        stem.as_bytes(),
+        suffix.as_bytes(),
+        after,
+        b"\n",
+    )
+}
+
+// Five pieces, one after the other.
+fn write_five<'x, S: Sink>(
+    sink: &mut S,
+    a: &'x [u8],
+    b: &'x [u8],
+    c: &'x [u8],
+    d: &'x [u8],
+    e: &'x [u8],
+) -> Result<(), WriteError>
+    ensures puts { IsTrue S.told → Puts (a.now ++ (b.now ++ c.now) ++ d.now ++ e.now) (S.taken sink.old) (S.taken sink.new) result }
+    ensures cause { IsErr result → Rose (S.faults sink.old) (S.faults sink.new) ⊎ Rose (S.wants sink.old) (S.wants sink.new) }
+{
+    write_pieces(sink, &[a, b, c, d, e])
+}
+
+// A line that names a file of the job.
+fn about<S: Sink>(
+    sink: &mut S,
+    before: &str,
+    job: &Option<Job>,
+    input: Input,
+    after: &[u8],
+) -> Result<(), WriteError>
+    ensures puts { IsTrue S.told → Puts (naming before.now (name_in job.now input) after.now) (S.taken sink.old) (S.taken sink.new) result }
+    ensures cause { IsErr result → Rose (S.faults sink.old) (S.faults sink.new) ⊎ Rose (S.wants sink.old) (S.wants sink.new) }
+{
+    match parts_of_input(job, input) {
+        None => Ok(()),
+        Some((stem, suffix)) => naming(sink, before, stem, suffix, after),
+    }
+}
+
+// A line about an output of the job.
+fn about_output<S: Sink>(sink: &mut S, job: &Option<Job>, output: Output) -> Result<(), WriteError>
+    ensures puts { IsTrue S.told → Puts (naming (codes "wg: write failed: ") (output_in job.now output) []) (S.taken sink.old) (S.taken sink.new) result }
+    ensures cause { IsErr result → Rose (S.faults sink.old) (S.faults sink.new) ⊎ Rose (S.wants sink.old) (S.wants sink.new) }
+{
+    match parts_of_output(job, output) {
+        None => Ok(()),
+        Some((stem, suffix)) => naming(sink, "wg: write failed: ", stem, suffix, b""),
+    }
+}
+
+// The name of an output of the job, in two parts.
+fn parts_of_output(job: &Option<Job>, output: Output) -> Option<(&str, &'static str)>
+    ensures { option_map (λ parts. parts.0.now ++ parts.1.now) result ≡ output_in job.now output }
+{
+    match output {
+        Output::Out => Some(("-", "")),
+        Output::Properties | Output::Graph | Output::Offsets => match job {
+            None => None,
+            Some(Job::Check { .. }) => None,
+        },
+    }
+}
+
+fn write_line<S: Sink>(
+    sink: &mut S,
+    job: &Option<Job>,
+    promised: u64,
+    status: Status,
+) -> Result<(), WriteError>
+    ensures puts { IsTrue S.told → Puts (line_of job.now promised status) (S.taken sink.old) (S.taken sink.new) result }
+    ensures cause { IsErr result → Rose (S.faults sink.old) (S.faults sink.new) ⊎ Rose (S.wants sink.old) (S.wants sink.new) }
+{
+    match status {
+        Status::Done => Ok(()),
+        Status::Usage => write_all(sink, b"wg: bad command line\n"),
+        Status::Memory => write_all(sink, b"wg: out of memory\n"),
+        Status::ReadFault(input) => about(sink, "wg: read failed: ", job, input, b""),
+        Status::WriteFault(output) => about_output(sink, job, output),
+        Status::Missing(input) => about(sink, "wg: missing: ", job, input, b""),
+        Status::BadArcs { line, kind } => {
+            fault_in(sink, job, Input::ArcList, &texts::line(line, kind))
+        }
+        Status::BadProperties(fault) => {
+            fault_in(sink, job, Input::Properties, &texts::properties(fault))
+        }
+        Status::BadArchive(fault) => {
+            let input = texts::file_of_fault(fault);
+            fault_in(sink, job, input, &texts::archive(promised, fault))
+        }
+        Status::NoPage(page) => write_all(sink, texts::no_page(page).as_bytes()),
+        Status::OverLimit(input) => about(sink, "wg: too long: ", job, input, b""),
+    }
+}
+
+// A line about a fault in a file of the job.
+fn fault_in<S: Sink>(
+    sink: &mut S,
+    job: &Option<Job>,
+    input: Input,
+    text: &Text,
+) -> Result<(), WriteError>
+    ensures puts { IsTrue S.told → Puts (naming (codes "wg: ") (name_in job.now input) (codes ": " ++ text.now)) (S.taken sink.old) (S.taken sink.new) result }
+    ensures cause { IsErr result → Rose (S.faults sink.old) (S.faults sink.new) ⊎ Rose (S.wants sink.old) (S.wants sink.new) }
+{
+    match parts_of_input(job, input) {
+        None => Ok(()),
+        Some((stem, suffix)) => write_six(
+            sink,
+            b"wg: ",
+            stem.as_bytes(),
+            suffix.as_bytes(),
+            b": ",
+            text.as_bytes(),
+        ),
+    }
+}
+
+// Five pieces and the end of the line.
+fn write_six<'x, S: Sink>(
+    sink: &mut S,
+    a: &'x [u8],
+    b: &'x [u8],
+    c: &'x [u8],
+    d: &'x [u8],
+    e: &'x [u8],
+) -> Result<(), WriteError>
+    ensures puts { IsTrue S.told → Puts (a.now ++ (b.now ++ c.now) ++ (d.now ++ e.now) ++ codes "\n") (S.taken sink.old) (S.taken sink.new) result }
+    ensures cause { IsErr result → Rose (S.faults sink.old) (S.faults sink.new) ⊎ Rose (S.wants sink.old) (S.wants sink.new) }
+{
+    write_pieces(sink, &[a, b, c, d, e, b"\n"])
+}
+
+/// Writes the line of a status, as far as the sink takes it.
+pub fn report<S: Sink>(sink: &mut S, job: &Option<Job>, promised: u64, status: Status)
+    ensures { IsTrue S.told → Reports (line_of job.now promised status) (S.taken sink.old) (S.taken sink.new) (Rose (S.faults sink.old) (S.faults sink.new) ⊎ Rose (S.wants sink.old) (S.wants sink.new)) }
+{
+    let _ = write_line(sink, job, promised, status);
+}

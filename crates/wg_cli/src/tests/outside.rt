@@ -1,0 +1,85 @@
+//! What the words and the outside lead to.
+use super::*;
+
+const PROPERTIES: &[u8] =
+    b"graphclass=class it.unimi.dsi.webgraph.BVGraph\r\nversion=0\r\nnodes=9\r\n# Thu Nov 26\r\nnodes: 2\r\narcs 1\r\nwindowsize=0\r\nmaxrefcount=3\r\nminintervallength=0\r\navgref=0.5\r\ncompressionflags=RESIDUALS_GAMMA\r\n";
+
+// Runs a line over an outside: the status and what was reported.
+fn reported<D: Depot, O: Sink>(
+    alloc: Global,
+    line: &str,
+    depot: &mut D,
+    out: &mut O,
+) -> Result<(Status, SteadySink), Fail> {
+    let words = words_of(alloc, line)?;
+    let mut err = SteadySink::new(alloc, 4096);
+    let status = run(alloc, &words, depot, out, &mut err);
+    Ok((status, err))
+}
+
+#[test]
+fn lines_without_an_archive(rt: HostRuntime) -> Result<(), Fail> {
+    let cases: [(&str, &[u8], u8, &str); 6] = [
+        ("", PROPERTIES, 2, "wg: bad command line\n"),
+        ("check --help", PROPERTIES, 2, "wg: bad command line\n"),
+        ("check h", PROPERTIES, 6, "wg: missing: h.properties\n"),
+        ("check g", PROPERTIES, 6, "wg: missing: g.graph\n"),
+        ("check g", b"", 8, "wg: g.properties: missing graphclass\n"),
+        (
+            "check g",
+            b"nodes=1\nversion=0\\\n",
+            8,
+            "wg: g.properties: line 2\n",
+        ),
+    ];
+    for (line, properties, code, report) in cases {
+        let mut depot = SteadyDepot::new(rt.alloc(), 3);
+        depot.put_file("g.properties", properties)?;
+        let mut out = SteadySink::new(rt.alloc(), 3);
+        let (status, err) = reported(rt.alloc(), line, &mut depot, &mut out)?;
+        assert!(rt;
+            status.code() == code && err.bytes() == report.as_bytes(),
+            "{line}"
+        );
+        assert!(rt; out.bytes().is_empty(), "{line}");
+    }
+    Ok(())
+}
+
+#[test]
+fn faults_of_the_outside(rt: HostRuntime) -> Result<(), Fail> {
+    let cases = [
+        (2, 0, 4, "wg: read failed: g.properties\n"),
+        (4, 0, 4, "wg: read failed: g.graph\n"),
+        (0, 1, 5, "wg: write failed: -\n"),
+        (0, 2, 0, ""),
+    ];
+    for (read, write, code, report) in cases {
+        let mut depot = MemoryDepot::new(rt.alloc(), 4096);
+        depot.put_file("g.properties", PROPERTIES)?;
+        depot.put_file("g.graph", b"\x4e")?;
+        let mut out = MemorySink::new(rt.alloc(), 4096);
+        if read > 0 {
+            depot.fail_read(read);
+        }
+        if write > 0 {
+            out.fail_write(write);
+        }
+        let (status, err) = reported(rt.alloc(), "check g", &mut depot, &mut out)?;
+        assert!(rt;
+            status.code() == code && err.bytes() == report.as_bytes(),
+            "{report}"
+        );
+    }
+    Ok(())
+}
+
+#[test]
+fn a_file_that_is_too_long(rt: HostRuntime) -> Result<(), Fail> {
+    let mut depot = ZeroDepot::new("g.properties", 70_368_744_177_665);
+    let mut out = SteadySink::new(rt.alloc(), 1);
+    let (status, err) = reported(rt.alloc(), "check g", &mut depot, &mut out)?;
+    assert!(rt; status.code() == 11);
+    assert!(rt; err.bytes() == b"wg: too long: g.properties\n".as_slice());
+    Ok(())
+}
