@@ -1,5 +1,5 @@
 -- Bits stand for at most one graph, and for a graph or a first fault.
-use Rattle.std.proofs.Common.{◌≡◌, ℕ, zero, suc, ◌+◌, ◌-◌, ◌<◌, ◌≤◌, ◌⊎◌, Bool, true, false, cond, List, [], ◌∷◌, length, drop, get_or, map, reverse, Some, None, Result, Ok, Err, refl, sym, ap, subst, ◌∙◌, arith, inl, inr, length-drop}
+use Rattle.std.proofs.Common.{◌≡◌, ℕ, zero, suc, ◌+◌, ◌-◌, ◌<◌, ◌≤◌, ◌⊎◌, Bool, true, false, cond, List, [], ◌∷◌, length, drop, get_or, Some, None, Result, Ok, Err, refl, sym, ap, subst, ◌∙◌, arith, inl, inr, length-drop}
 use Rattle.std.proofs.lemmas.Bool.{cases_eq, cases_Bool, cases_lt, ltb-false}
 use Rattle.std.proofs.lemmas.List.Sums.{sum_by-cons}
 use Rattle.wg_grammar.specs.declared.fault.Field.{Field}
@@ -11,12 +11,12 @@ use Rattle.wg_grammar.specs.declared.fault.Fault.{Fault}
 use Rattle.wg_grammar.specs.declared.fault.ArchiveFault.{ArchiveFault}
 use Rattle.wg_grammar.specs.declared.fault.ArchiveFault.TheVariants as faults
 use Rattle.wg_params.specs.Parameters.{Parameters, IsWithinLimits}
-use Rattle.wg_grammar.specs.Context.{Known, Context}
+use Rattle.wg_grammar.specs.Context.{Context}
 use Rattle.wg_grammar.specs.SoFar.{SoFar, after, nothing_yet, value_or_0}
 use Rattle.wg_grammar.specs.Record.{Whole, Stands, Fields, ReadsRecord}
 use Rattle.wg_grammar.specs.Next.{next}
 use Rattle.wg_grammar.specs.Refusal.{refusal}
-use Rattle.wg_grammar.specs.Archive.{arcs_of, context_of, Pages, IsTail, IsTailFault, Accepted, Closes, ReadsGraph}
+use Rattle.wg_grammar.specs.Archive.{arcs_of, context_of, Pages, IsTail, IsTailFault, Accepted, lists_of, places_of, Closes, ReadsGraph}
 use Rattle.wg_grammar.specs.declared.tail.TheConstants.{MOST_TAIL}
 use Rattle.wg_codes.proofs.CodeLaws.{value_front}
 use Rattle.wg_graph.specs.Ascending.{Ascends, Below}
@@ -35,6 +35,15 @@ stands_within need.End p a bits s at v mid t fits h = absurd h
 pub fields_within : (p : Parameters) (a : Context) (bits : List Bool) (s : SoFar) (at : ℕ) (vs : List ℕ) (t : SoFar) (end : ℕ) → at ≤ length bits → Fields p a bits s at vs t end → end ≤ length bits
 fields_within p a bits s at [] t end fits h = omega (arith, h.1)
 fields_within p a bits s at (v ∷ vs) t end fits h = fields_within p a bits h.0 h.1 vs t end (stands_within (next p a s) p a bits s at v h.1 h.0 fits h.2) h.3
+
+stands_onward : (m : Need) (p : Parameters) (a : Context) (bits : List Bool) (s : SoFar) (at v mid : ℕ) (t : SoFar) → Stands m p a bits s at v mid t → at ≤ mid
+stands_onward (need.Read f c) p a bits s at v mid t h = omega (arith, h.1)
+stands_onward need.Check p a bits s at v mid t h = omega (arith, h.1)
+stands_onward need.End p a bits s at v mid t h = absurd h
+
+fields_onward : (p : Parameters) (a : Context) (bits : List Bool) (s : SoFar) (at : ℕ) (vs : List ℕ) (t : SoFar) (end : ℕ) → Fields p a bits s at vs t end → at ≤ end
+fields_onward p a bits s at [] t end h = omega (arith, h.1)
+fields_onward p a bits s at (v ∷ vs) t end h = omega (arith, stands_onward (next p a s) p a bits s at v h.1 h.0 h.2, fields_onward p a bits h.0 h.1 vs t end h.3)
 
 abbrev ArcsFit : Parameters → Context → SoFar → Type 0
 ArcsFit p a s = a.arcs_before + value_or_0 s.outdegree ≤ p.arcs
@@ -69,6 +78,10 @@ fields_arcs p a bits s at (v ∷ vs) t end fits h = fields_arcs p a bits h.0 h.1
 pub record_within : (p : Parameters) (a : Context) (bits : List Bool) (start : ℕ) (w : Whole) → start ≤ length bits → ReadsRecord p a bits start (Ok w) → w.end ≤ length bits
 record_within p a bits start w fits h = omega (arith, fields_within p a bits nothing_yet start h.0 h.1 h.2 fits h.3, h.4.4)
 
+-- a record ends where it begins or later
+pub record_onward : (p : Parameters) (a : Context) (bits : List Bool) (start : ℕ) (w : Whole) → ReadsRecord p a bits start (Ok w) → start ≤ w.end
+record_onward p a bits start w h = omega (arith, fields_onward p a bits nothing_yet start h.0 h.1 h.2 h.3, h.4.4)
+
 pub record_arcs : (p : Parameters) (a : Context) (bits : List Bool) (start : ℕ) (w : Whole) → a.arcs_before ≤ p.arcs → ReadsRecord p a bits start (Ok w) → a.arcs_before + length w.known.list ≤ p.arcs
 record_arcs p a bits start w fits h =
     let f : ArcsFit p a h.1 = fields_arcs p a bits nothing_yet start h.0 h.1 h.2 (omega arith) h.3 in
@@ -77,7 +90,7 @@ record_arcs p a bits start w fits h =
 
 -- ---- the tail
 
-tail_or_fault : (bits : List Bool) (end at : ℕ) → IsTail bits end → IsTailFault bits end at → ⊥
+pub tail_or_fault : (bits : List Bool) (end at : ℕ) → IsTail bits end → IsTailFault bits end at → ⊥
 tail_or_fault bits end at t f =
     elim f.why [
       | inl one ↦ let z = t.zeros at f.from f.there in absurd (let e : true ≡ false = sym one ∙ z in cc)
@@ -91,7 +104,7 @@ fault_first bits end at place f g lt =
       | inr far ↦ absurd (omega (arith, g.near, far))
     ]
 
-fault_one : (bits : List Bool) (end at place : ℕ) → IsTailFault bits end at → IsTailFault bits end place → at ≡ place
+pub fault_one : (bits : List Bool) (end at place : ℕ) → IsTailFault bits end at → IsTailFault bits end place → at ≡ place
 fault_one bits end at place f g =
     elim (cases_lt at place) [
       | inl lt ↦ absurd (fault_first bits end at place f g lt)
@@ -123,8 +136,8 @@ tail_some bits end fits = tail_from bits end (length bits - end) end (omega arit
 
 -- ---- one
 
-accepted_is : (g h : Accepted) → g.graph ≡ h.graph → g.end ≡ h.end → g ≡ h
-accepted_is g h a b = λ i. record { graph = a i; end = b i }
+accepted_is : (g h : Accepted) → g.graph ≡ h.graph → g.places ≡ h.places → g ≡ h
+accepted_is g h a b = λ i. record { graph = a i; places = b i }
 
 abbrev failed : Fault → Result Whole Fault
 failed e = Err e
@@ -135,7 +148,7 @@ stood w = Ok w
 err_is : (e f : Fault) → failed e ≡ failed f → e ≡ f
 err_is e f h = cc
 
-closes_one : (p : Parameters) → IsWithinLimits p → (bits : List Bool) (behind : List Known) (at : ℕ) (w x : Result Accepted ArchiveFault) → Closes p bits behind at w → Closes p bits behind at x → w ≡ x
+closes_one : (p : Parameters) → IsWithinLimits p → (bits : List Bool) (behind : List Whole) (at : ℕ) (w x : Result Accepted ArchiveFault) → Closes p bits behind at w → Closes p bits behind at x → w ≡ x
 closes_one p limits bits behind at (Ok g) (Ok h) a b = ap Ok (accepted_is g h (a.3 ∙ sym b.3) (a.4 ∙ sym b.4))
 closes_one p limits bits behind at (Ok g) (Err (faults.Record e)) a b = absurd (omega (arith, a.0, b.0))
 closes_one p limits bits behind at (Ok g) (Err (faults.Tail place)) a b = absurd (tail_or_fault bits at place a.1 b.1)
@@ -163,13 +176,13 @@ closes_one p limits bits behind at (Err (faults.ArcsShort total)) (Err (faults.L
 closes_one p limits bits behind at (Err (faults.Offsets f)) w x y = absurd x
 closes_one p limits bits behind at (Err (faults.Length page found stored)) w x y = absurd x
 
-abbrev Walks : Parameters → List Bool → List Known → ℕ → List Known → Result Accepted ArchiveFault → Type 0
-Walks p bits behind at ks w = (last : List Known) × (end : ℕ) × Pages p bits behind at ks last end × Closes p bits last end w
+abbrev Walks : Parameters → List Bool → List Whole → ℕ → List Whole → Result Accepted ArchiveFault → Type 0
+Walks p bits behind at ks w = (last : List Whole) × (end : ℕ) × Pages p bits behind at ks last end × Closes p bits last end w
 
-here : (p : Parameters) (bits : List Bool) (behind : List Known) (at : ℕ) (w : Result Accepted ArchiveFault) → Walks p bits behind at [] w → Closes p bits behind at w
-here p bits behind at w x = subst (λ (k : ℕ). Closes p bits behind k w) x.2.1 (subst (λ (l : List Known). Closes p bits l x.1 w) x.2.0 x.3)
+here : (p : Parameters) (bits : List Bool) (behind : List Whole) (at : ℕ) (w : Result Accepted ArchiveFault) → Walks p bits behind at [] w → Closes p bits behind at w
+here p bits behind at w x = subst (λ (k : ℕ). Closes p bits behind k w) x.2.1 (subst (λ (l : List Whole). Closes p bits l x.1 w) x.2.0 x.3)
 
-goes_or_closes : (p : Parameters) → IsWithinLimits p → (bits : List Bool) (behind : List Known) (at : ℕ) (k : Whole) (w : Result Accepted ArchiveFault) → length behind < p.nodes → ReadsRecord p (context_of p behind) bits at (Ok k) → Closes p bits behind at w → ⊥
+goes_or_closes : (p : Parameters) → IsWithinLimits p → (bits : List Bool) (behind : List Whole) (at : ℕ) (k : Whole) (w : Result Accepted ArchiveFault) → length behind < p.nodes → ReadsRecord p (context_of p behind) bits at (Ok k) → Closes p bits behind at w → ⊥
 goes_or_closes p limits bits behind at k (Ok g) lt c h = absurd (omega (arith, h.0))
 goes_or_closes p limits bits behind at k (Err (faults.Record e)) lt c h = absurd (let s = record_one p limits (context_of p behind) bits at (Ok k) (Err e) c h.1 in cc)
 goes_or_closes p limits bits behind at k (Err (faults.Tail place)) lt c h = absurd (omega (arith, h.0))
@@ -180,48 +193,46 @@ goes_or_closes p limits bits behind at k (Err (faults.Length page found stored))
 ok_whole : (w x : Whole) → stood w ≡ stood x → w ≡ x
 ok_whole w x e = cc
 
-walks_one : (p : Parameters) → IsWithinLimits p → (bits : List Bool) (behind : List Known) (at : ℕ) (ks ls : List Known) (w x : Result Accepted ArchiveFault) → Walks p bits behind at ks w → Walks p bits behind at ls x → w ≡ x
+walks_one : (p : Parameters) → IsWithinLimits p → (bits : List Bool) (behind : List Whole) (at : ℕ) (ks ls : List Whole) (w x : Result Accepted ArchiveFault) → Walks p bits behind at ks w → Walks p bits behind at ls x → w ≡ x
 walks_one p limits bits behind at [] [] w x a b = closes_one p limits bits behind at w x (here p bits behind at w a) (here p bits behind at x b)
-walks_one p limits bits behind at [] (l ∷ ls) w x a b = absurd (goes_or_closes p limits bits behind at _ w b.2.1 b.2.2 (here p bits behind at w a))
-walks_one p limits bits behind at (k ∷ ks) [] w x a b = absurd (goes_or_closes p limits bits behind at _ x a.2.1 a.2.2 (here p bits behind at x b))
+walks_one p limits bits behind at [] (l ∷ ls) w x a b = absurd (goes_or_closes p limits bits behind at _ w b.2.0 b.2.1 (here p bits behind at w a))
+walks_one p limits bits behind at (k ∷ ks) [] w x a b = absurd (goes_or_closes p limits bits behind at _ x a.2.0 a.2.1 (here p bits behind at x b))
 walks_one p limits bits behind at (k ∷ ks) (l ∷ ls) w x a b =
-    let k' : Whole = record { known = k; end = a.2.0 } in
-    let l' : Whole = record { known = l; end = b.2.0 } in
-    let same : l' ≡ k' = ok_whole l' k' (record_one p limits (context_of p behind) bits at (Ok l') (Ok k') b.2.2 a.2.2) in
-    let rest : Walks p bits (k ∷ behind) a.2.0 ls x = subst (λ (r : Whole). Walks p bits (r.known ∷ behind) r.end ls x) same (b.0, b.1, b.2.3, b.3) in
-    walks_one p limits bits (k ∷ behind) a.2.0 ks ls w x (a.0, a.1, a.2.3, a.3) rest
+    let same : l ≡ k = ok_whole l k (record_one p limits (context_of p behind) bits at (Ok l) (Ok k) b.2.1 a.2.1) in
+    let rest : Walks p bits (k ∷ behind) k.end ls x = subst (λ (r : Whole). Walks p bits (r ∷ behind) r.end ls x) same (b.0, b.1, b.2.2, b.3) in
+    walks_one p limits bits (k ∷ behind) k.end ks ls w x (a.0, a.1, a.2.2, a.3) rest
 
 pub graph_one : (p : Parameters) → IsWithinLimits p → (bits : List Bool) (w x : Result Accepted ArchiveFault) → ReadsGraph p bits w → ReadsGraph p bits x → w ≡ x
 graph_one p limits bits w x a b = walks_one p limits bits [] 0 a.0 b.0 w x (a.1, a.2, a.3, a.4) (b.1, b.2, b.3, b.4)
 
 -- ---- some
 
-abbrev Found : Parameters → List Bool → List Known → ℕ → Type 0
-Found p bits behind at = (w : Result Accepted ArchiveFault) × (ks : List Known) × Walks p bits behind at ks w
+abbrev Found : Parameters → List Bool → List Whole → ℕ → Type 0
+Found p bits behind at = (w : Result Accepted ArchiveFault) × (ks : List Whole) × Walks p bits behind at ks w
 
-closes_here : (p : Parameters) (bits : List Bool) (behind : List Known) (at : ℕ) (w : Result Accepted ArchiveFault) → Closes p bits behind at w → Found p bits behind at
+closes_here : (p : Parameters) (bits : List Bool) (behind : List Whole) (at : ℕ) (w : Result Accepted ArchiveFault) → Closes p bits behind at w → Found p bits behind at
 closes_here p bits behind at w h = (w, [], (behind, at, (refl, refl), h))
 
-at_end : (p : Parameters) (bits : List Bool) (behind : List Known) (at : ℕ) → at ≤ length bits → arcs_of behind ≤ p.arcs → length behind ≡ p.nodes → Found p bits behind at
+at_end : (p : Parameters) (bits : List Bool) (behind : List Whole) (at : ℕ) → at ≤ length bits → arcs_of behind ≤ p.arcs → length behind ≡ p.nodes → Found p bits behind at
 at_end p bits behind at fits arcs all =
     elim (tail_some bits at fits) [
       | inl tail ↦ elim (cases_eq (arcs_of behind) p.arcs) [
-        | inl same ↦ closes_here p bits behind at (Ok (record { graph = reverse (map (λ k. k.list) behind); end = at })) (all, tail, same, refl, refl)
+        | inl same ↦ closes_here p bits behind at (Ok (record { graph = lists_of behind; places = places_of behind })) (all, tail, same, refl, refl)
         | inr other ↦ closes_here p bits behind at (Err (faults.ArcsShort (arcs_of behind))) (all, tail, refl, omega arith)
       ]
       | inr f ↦ closes_here p bits behind at (Err (faults.Tail f.0)) (all, f.1)
     ]
 
-arcs_more : (k : Known) (behind : List Known) → arcs_of (k ∷ behind) ≡ length k.list + arcs_of behind
-arcs_more k behind = sum_by-cons (λ (k : Known). length k.list) k behind
+arcs_more : (w : Whole) (behind : List Whole) → arcs_of (w ∷ behind) ≡ length w.known.list + arcs_of behind
+arcs_more w behind = sum_by-cons (λ (w : Whole). length w.known.list) w behind
 
 abbrev Later : ℕ → Parameters → List Bool → Type 0
-Later n p bits = (behind : List Known) (at : ℕ) → at ≤ length bits → arcs_of behind ≤ p.arcs → length behind + n ≡ p.nodes → Found p bits behind at
+Later n p bits = (behind : List Whole) (at : ℕ) → at ≤ length bits → arcs_of behind ≤ p.arcs → length behind + n ≡ p.nodes → Found p bits behind at
 
-record_case : (n : ℕ) (p : Parameters) (bits : List Bool) (behind : List Known) (at : ℕ) (w : Result Whole Fault) → Later n p bits → at ≤ length bits → arcs_of behind ≤ p.arcs → length behind + suc n ≡ p.nodes → ReadsRecord p (context_of p behind) bits at w → Found p bits behind at
+record_case : (n : ℕ) (p : Parameters) (bits : List Bool) (behind : List Whole) (at : ℕ) (w : Result Whole Fault) → Later n p bits → at ≤ length bits → arcs_of behind ≤ p.arcs → length behind + suc n ≡ p.nodes → ReadsRecord p (context_of p behind) bits at w → Found p bits behind at
 record_case n p bits behind at (Ok w) later fits arcs all c =
-    let rest = later (w.known ∷ behind) w.end (record_within p (context_of p behind) bits at w fits c) (omega (arith, arcs_more w.known behind, record_arcs p (context_of p behind) bits at w arcs c)) (omega arith) in
-    (rest.0, w.known ∷ rest.1, (rest.2.0, rest.2.1, (w.end, omega arith, c, rest.2.2), rest.2.3))
+    let rest = later (w ∷ behind) w.end (record_within p (context_of p behind) bits at w fits c) (omega (arith, arcs_more w behind, record_arcs p (context_of p behind) bits at w arcs c)) (omega arith) in
+    (rest.0, w ∷ rest.1, (rest.2.0, rest.2.1, (omega arith, c, rest.2.2), rest.2.3))
 record_case n p bits behind at (Err e) later fits arcs all c = closes_here p bits behind at (Err (faults.Record e)) (omega arith, c)
 
 walks_some : (n : ℕ) (p : Parameters) → IsWithinLimits p → (bits : List Bool) → Later n p bits

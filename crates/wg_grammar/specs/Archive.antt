@@ -5,23 +5,22 @@ use Rattle.wg_params.specs.Parameters.{Parameters}
 use Rattle.wg_grammar.specs.declared.tail.TheConstants.{MOST_TAIL}
 use Rattle.wg_grammar.specs.declared.fault.ArchiveFault.{ArchiveFault}
 use Rattle.wg_grammar.specs.declared.fault.ArchiveFault.TheVariants as faults
-use Rattle.wg_grammar.specs.Context.{Known, Context}
-use Rattle.wg_grammar.specs.Record.{ReadsRecord}
+use Rattle.wg_grammar.specs.Context.{Context}
+use Rattle.wg_grammar.specs.Record.{Whole, ReadsRecord}
 
--- the arcs of the pages behind
-abbrev pub arcs_of : List Known → ℕ
-arcs_of behind = sum_by (λ k. length k.list) behind
+-- the arcs of the records behind
+abbrev pub arcs_of : List Whole → ℕ
+arcs_of behind = sum_by (λ w. length w.known.list) behind
 
--- the page after those behind; a reference reaches as far back as the window
-abbrev pub context_of : Parameters → List Known → Context
-context_of p behind = record { page = length behind; arcs_before = arcs_of behind; behind = take p.window behind }
+-- the page after the records behind, the last of them first; a reference reaches as far back as the window
+abbrev pub context_of : Parameters → List Whole → Context
+context_of p behind = record { page = length behind; arcs_before = arcs_of behind; behind = take p.window (map (λ w. w.known) behind) }
 
--- With these pages behind, the proper records of ks stand one after the other from the bit at; then last are behind, and end is reached.
-abbrev pub Pages : Parameters → List Bool → List Known → ℕ → List Known → List Known → ℕ → Type 0
+-- With these records behind, the proper records of ws stand one after the other from the bit at; then last are behind, and end is reached.
+abbrev pub Pages : Parameters → List Bool → List Whole → ℕ → List Whole → List Whole → ℕ → Type 0
 Pages p bits behind at [] last end = (last ≡ behind) × (end ≡ at)
-Pages p bits behind at (k ∷ ks) last end =
-    (mid : ℕ) × (length behind < p.nodes) × ReadsRecord p (context_of p behind) bits at (Ok (record { known = k; end = mid }))
-    × Pages p bits (k ∷ behind) mid ks last end
+Pages p bits behind at (w ∷ ws) last end =
+    (length behind < p.nodes) × ReadsRecord p (context_of p behind) bits at (Ok w) × Pages p bits (w ∷ behind) w.end ws last end
 
 -- what follows the last word: few bits, all 0
 pub record IsTail (bits : List Bool) (end : ℕ) : Type 0 where
@@ -36,14 +35,21 @@ pub record IsTailFault (bits : List Bool) (end at : ℕ) : Type 0 where
   pub zeros : (i : ℕ) → end ≤ i → i < at → get_or bits i false ≡ false
   pub why : (get_or bits at false ≡ true) ⊎ (at ≡ end + MOST_TAIL)
 
--- a graph as the lists of its pages, and the bit after its last record
+-- a graph as the lists of its pages, and the places of its records: where each begins, and last the bit after them
 pub record Accepted : Type 0 where
   pub graph : List (List ℕ)
-  pub end : ℕ
+  pub places : List ℕ
 
--- what the file is, where these pages are behind and no more proper records are taken
-abbrev pub Closes : Parameters → List Bool → List Known → ℕ → Result Accepted ArchiveFault → Type 0
-Closes p bits behind at (Ok a) = (length behind ≡ p.nodes) × IsTail bits at × (arcs_of behind ≡ p.arcs) × (a.graph ≡ reverse (map (λ k. k.list) behind)) × (a.end ≡ at)
+abbrev pub lists_of : List Whole → List (List ℕ)
+lists_of behind = reverse (map (λ w. w.known.list) behind)
+
+-- the first record begins at the first bit, and each ends where the next begins
+abbrev pub places_of : List Whole → List ℕ
+places_of behind = 0 ∷ reverse (map (λ w. w.end) behind)
+
+-- what the file is, where these records are behind and no more proper ones are taken
+abbrev pub Closes : Parameters → List Bool → List Whole → ℕ → Result Accepted ArchiveFault → Type 0
+Closes p bits behind at (Ok a) = (length behind ≡ p.nodes) × IsTail bits at × (arcs_of behind ≡ p.arcs) × (a.graph ≡ lists_of behind) × (a.places ≡ places_of behind)
 Closes p bits behind at (Err (faults.Record e)) = (length behind < p.nodes) × ReadsRecord p (context_of p behind) bits at (Err e)
 Closes p bits behind at (Err (faults.Tail place)) = (length behind ≡ p.nodes) × IsTailFault bits at place
 Closes p bits behind at (Err (faults.ArcsShort total)) = (length behind ≡ p.nodes) × IsTail bits at × (total ≡ arcs_of behind) × (total < p.arcs)
@@ -52,4 +58,4 @@ Closes p bits behind at (Err (faults.Length page found stored)) = ⊥
 
 -- The bits stand for this graph, or this is their first fault.
 abbrev pub ReadsGraph : Parameters → List Bool → Result Accepted ArchiveFault → Type 0
-ReadsGraph p bits w = (ks : List Known) × (behind : List Known) × (at : ℕ) × Pages p bits [] 0 ks behind at × Closes p bits behind at w
+ReadsGraph p bits w = (ws : List Whole) × (behind : List Whole) × (at : ℕ) × Pages p bits [] 0 ws behind at × Closes p bits behind at w

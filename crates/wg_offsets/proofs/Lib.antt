@@ -1,4 +1,4 @@
 pub mod WordsLemmas
 pub mod PlacesLemmas
-pub mod TailLemmas
 pub mod OneFile
+pub mod Differences

@@ -9,9 +9,8 @@ use Rattle.wg_codes.specs.Reading.{Reads}
 use Rattle.wg_codes.proofs.CodeLaws.{one_result, some_result, value_front}
 use Rattle.wg_grammar.specs.declared.fault.OffsetWord.{OffsetWord}
 use Rattle.wg_grammar.specs.declared.fault.OffsetWord.TheVariants as faults
-use Rattle.wg_grammar.proofs.OneGraph.{tail_some}
+use Rattle.wg_grammar.proofs.OneGraph.{tail_some, tail_or_fault, fault_one}
 use Rattle.wg_offsets.specs.Words.{places_of, refusal, Words, IsRefused, HasNoTail, Closes, ReadsOffsets}
-use Rattle.wg_offsets.proofs.TailLemmas.{tail_or_fault, one_fault}
 
 abbrev Walks : Code → ℕ → List Bool → List ℕ → ℕ → List ℕ → Result (List ℕ) OffsetWord → Type 0
 Walks c n bits before at vs w = (values : List ℕ) × (end : ℕ) × Words c bits before at vs values end × Closes c n bits values end w
@@ -31,7 +30,7 @@ module _ (c : Code) (coded : IsCode c) (n : ℕ) (bits : List Bool) where
       same_fault (refusal (length values) (sum values) b.0) e f (subst (λ (r : Read). refusal (length values) (sum values) r ≡ Some e) same a.2) b.2
 
   tails_one : (at : ℕ) (e f : OffsetWord) → HasNoTail bits at e → HasNoTail bits at f → e ≡ f
-  tails_one at e f a b = a.2 ∙ ap faults.Tail (one_fault bits at a.0 b.0 a.1 b.1) ∙ sym b.2
+  tails_one at e f a b = a.2 ∙ ap faults.Tail (fault_one bits at a.0 b.0 a.1 b.1) ∙ sym b.2
 
   closes_one : (values : List ℕ) (at : ℕ) (w x : Result (List ℕ) OffsetWord) → Closes c n bits values at w → Closes c n bits values at x → w ≡ x
   closes_one values at (Ok p) (Ok q) a b = ap Ok (a.2 ∙ sym b.2)

@@ -1,6 +1,7 @@
 -- The places of records in a graph file.
-use Rattle.std.specs.Prelude.{◌≡◌, ◌≢◌, ℕ, ◌+◌, ◌-◌, ◌<◌, ◌≤◌, List, length, get_or, All}
+use Rattle.std.specs.Prelude.{◌≡◌, ◌≢◌, ℕ, ◌+◌, ◌-◌, ◌<◌, ◌≤◌, not, ◌==◌, List, length, get_or, All}
 use Rattle.std.specs.List.Sorted.{IsNonDecreasing}
+use Rattle.wg_graph.specs.Numbers.{numbers_where}
 use Rattle.wg_offsets.specs.declared.places.TheConstants.{MOST_PLACE}
 
 -- the first place is 0, no place is below the one before it, and none is past the last bit of a file
@@ -28,3 +29,7 @@ pub record IsFirstMismatch (here there : List ℕ) (page length_here length_ther
   pub here_is : length_here ≡ record_length here page
   pub there_is : length_there ≡ record_length there page
   pub differ : length_here ≢ length_there
+
+-- the pages whose records have two lengths, ascending
+abbrev pub pages_that_differ : List ℕ → List ℕ → List ℕ
+pages_that_differ here there = numbers_where (λ x. not (record_length here x == record_length there x)) 0 (length here - 1)
