@@ -65,6 +65,16 @@ impl Offsets {
         self.places[x as usize]
     }
 
+    /// The place after the last record, or 0 where there is no place.
+    pub fn end(&self) -> u64
+        ensures { result ≡ last_place self.now }
+    {
+        match self.places.len() {
+            0 => 0,
+            count => self.places[count - 1],
+        }
+    }
+
     // How many bits record `x` has.
     fn record_length(&self, x: u64) -> u64
         requires { x + 1 < length self.now }
