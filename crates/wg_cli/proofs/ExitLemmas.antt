@@ -1,6 +1,7 @@
 -- What stands where a job ends.
 use Rattle.std.proofs.Common.{◌≡◌, ◌⊎◌, inl, inr, ℕ, ◌<◌, List, ◌++◌, length, take, refl, sym, ◌∙◌, ap, subst, Option, Some, None, Result, Ok, Err}
 use Rattle.std.specs.Result.{IsErrAnd, IfErr}
+use Rattle.std.proofs.lemmas.List.{append-nil}
 use Rattle.wg_io.specs.Outside.{Files}
 use Rattle.wg_io.specs.Puts.{Puts}
 use Rattle.wg_io.proofs.PutsLemmas.{is_that_err}
@@ -11,7 +12,7 @@ use Rattle.wg_grammar.specs.declared.fault.ArchiveFault.{ArchiveFault}
 use Rattle.wg_grammar.specs.declared.fault.ArchiveFault.TheVariants as archive
 use Rattle.wg_words.specs.declared.jobs.Job.{Job}
 use Rattle.wg_cli.specs.Answers.{HasOutput, IsUnput, status_in}
-use Rattle.wg_cli.specs.Lines.{ArePromised, ArePromisedBy, arcs_in}
+use Rattle.wg_cli.specs.Lines.{ArePromised, ArePromisedBy, IsBadArchive, arcs_in}
 use Rattle.wg_cli.specs.declared.ending.Ending.{Ending}
 use Rattle.wg_cli.specs.declared.status.Input.{Input}
 use Rattle.wg_cli.specs.declared.status.Input.TheVariants as input
@@ -23,6 +24,14 @@ pub output_put : (due text old new : List ℕ) (r : Result (Unit {0}) Ending) �
 output_put due text old new (Ok done) is put only = put ∙ ap (λ (l : List ℕ). old ++ l) is
 output_put due text old new (Err e) is put (inl fault) = subst (λ (s : Status). HasOutput due old new s) (sym fault) (put.0, put.2 ∙ ap (λ (l : List ℕ). old ++ take put.0 l) is)
 output_put due text old new (Err e) is put (inr want) = subst (λ (s : Status). HasOutput due old new s) (sym want) (put.0, put.2 ∙ ap (λ (l : List ℕ). old ++ take put.0 l) is)
+
+-- an archive that is refused, or want of memory, puts nothing out
+pub nothing_put : (due old : List ℕ) (promised : ℕ) (r : Result (Unit {0}) Ending) (e : Ending) → IsErrAnd r (λ x. x ≡ e) → IsBadArchive promised e → HasOutput due old old (status_in r)
+nothing_put due old promised r e is why = subst (λ (x : Result (Unit {0}) Ending). HasOutput due old old (status_in x)) (sym (is_that_err r e is)) (by_cause why)
+  where
+    by_cause : IsBadArchive promised e → HasOutput due old old e.status
+    by_cause (inl want) = subst (λ (s : Status). HasOutput due old old s) (sym want) (0, sym (append-nil old))
+    by_cause (inr fault) = subst (λ (s : Status). HasOutput due old old s) (sym fault.1) refl
 
 abbrev given : Parameters → Result Parameters PropFault
 given p = Ok p
@@ -42,12 +51,12 @@ same_arcs held text p n there reads is (archive.Length page found stored) = tt
 
 -- the arcs that a refused graph names
 pub arcs_promised : (held : Input → Option (List ℕ)) (text : List ℕ) (p : Parameters) (r : Result (Unit {0}) Ending) (e : Ending) → IsErrAnd r (λ x. x ≡ e)
-    → held input.Properties ≡ Some text → properties_of text ≡ Ok p → (e.status ≡ Memory) ⊎ ((f : ArchiveFault) × (e.status ≡ BadArchive f) × (e.arcs ≡ p.arcs))
+    → held input.Properties ≡ Some text → properties_of text ≡ Ok p → IsBadArchive p.arcs e
     → ArePromised held (status_in r) (arcs_in r)
 arcs_promised held text p r e is there reads why =
     subst (λ (x : Result (Unit {0}) Ending). ArePromised held (status_in x) (arcs_in x)) (sym (is_that_err r e is)) (by_cause why)
   where
-    by_cause : (e.status ≡ Memory) ⊎ ((f : ArchiveFault) × (e.status ≡ BadArchive f) × (e.arcs ≡ p.arcs)) → ArePromised held e.status e.arcs
+    by_cause : IsBadArchive p.arcs e → ArePromised held e.status e.arcs
     by_cause (inl want) = subst (λ (s : Status). ArePromised held s e.arcs) (sym want) tt
     by_cause (inr fault) = subst (λ (s : Status). ArePromised held s e.arcs) (sym fault.1) (same_arcs held text p e.arcs there reads fault.2 fault.0)
 

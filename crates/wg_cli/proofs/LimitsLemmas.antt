@@ -4,7 +4,9 @@ use Rattle.std.proofs.lemmas.Bool.{ltb-false, eqb-false}
 use Rattle.wg_params.specs.declared.key.Key.{Key}
 use Rattle.wg_params.specs.declared.key.Key.TheVariants as key
 use Rattle.wg_params.specs.declared.limits.TheConstants.{MOST_PAGES, MOST_ARCS, MOST_WINDOW, MOST_CHAIN, MOST_INTERVAL, MOST_ZETA}
-use Rattle.wg_params.specs.Codes.{is_gamma_or_delta, is_unary_gamma_or_delta, is_residual_code}
+use Rattle.wg_params.specs.declared.code.Code.{Code}
+use Rattle.wg_params.specs.declared.code.Code.TheVariants.{Unary, Gamma, Delta, Zeta, Nibble}
+use Rattle.wg_params.specs.Codes.{IsCode, is_gamma_or_delta, is_unary_gamma_or_delta, is_residual_code}
 use Rattle.wg_params.specs.Parameters.{Parameters, IsWithinLimits, first_bad}
 
 -- no test of the chain holds
@@ -65,3 +67,14 @@ within_limits p none =
       residuals = k.4;
       offsets = k.5;
     }
+
+of_two : (c : Code) → is_gamma_or_delta c ≡ true → IsCode c
+of_two Gamma h = tt
+of_two Delta h = tt
+of_two Unary h = tt
+of_two Nibble h = tt
+of_two (Zeta k) h = absurd (let no : false ≡ true = h in cc)
+
+-- the code of offsets is one
+pub coded : (p : Parameters) → IsWithinLimits p → IsCode p.offsets
+coded p limits = of_two p.offsets limits.offsets

@@ -1,38 +1,34 @@
 -- Records of pages, one after the other.
-use Rattle.std.proofs.Common.{◌≡◌, ℕ, zero, suc, ◌+◌, ◌<◌, ◌≤◌, min, Bool, List, [], ◌∷◌, ◌++◌, length, take, refl, sym, ◌∙◌, ap, subst, arith, add_comm, All, Ok, Err, Result, reverse, map}
-use Rattle.std.proofs.lemmas.List.{length-take}
-use Rattle.std.proofs.lemmas.List.Elements.{All-take, All-cons, All-weaker, All-nil}
+use Rattle.std.proofs.Common.{◌≡◌, ℕ, zero, suc, ◌+◌, ◌<◌, ◌≤◌, Bool, List, [], ◌∷◌, ◌++◌, length, take, get_or, refl, sym, ◌∙◌, ap, subst, arith, add_comm, Ok, Err, Result, reverse, map}
+use Rattle.std.proofs.lemmas.List.{reverse-append}
 use Rattle.std.proofs.lemmas.List.Sums.{sum_by-cons}
 use Rattle.wg_params.specs.Parameters.{Parameters}
 use Rattle.wg_graph.specs.Ascending.{Ascends, Below}
 use Rattle.wg_grammar.specs.declared.fault.Fault.{Fault}
+use Rattle.wg_grammar.specs.declared.fault.ArchiveFault.{ArchiveFault}
 use Rattle.wg_grammar.specs.declared.fault.ArchiveFault.TheVariants as faults
 use Rattle.wg_grammar.specs.Context.{Known, Context}
-use Rattle.wg_grammar.specs.Record.{ReadsRecord}
-use Rattle.wg_grammar.specs.Archive.{Pages, context_of, arcs_of, ReadsGraph, IsTail, IsTailFault}
-use Rattle.wg_decoder.specs.Answer.{context_at, OfFault}
-use Rattle.wg_decoder.specs.declared.decoded.DecodeError.{DecodeError}
-use Rattle.wg_decoder.specs.declared.decoded.DecodeError.TheVariants as decode
-use Rattle.wg_cli.specs.Records.{HaveStood, IsRead, of_record}
-use Rattle.wg_cli.specs.declared.records.RecordsError.{RecordsError}
-use Rattle.wg_cli.specs.declared.records.RecordsError.TheVariants as errors
+use Rattle.wg_grammar.specs.Record.{Whole, ReadsRecord}
+use Rattle.wg_grammar.specs.Archive.{Pages, context_of, lists_of, places_of, ReadsGraph}
+use Rattle.wg_decoder.specs.Answer.{context_at}
+use Rattle.wg_decoder.proofs.Serving.{serves_first, serves_next}
+use Rattle.wg_cli.specs.Records.{HaveStood, IsEnded, IsEndFault}
 
 -- a record more after no record
-first_page : (p : Parameters) (bits : List Bool) (first last : List Known) (at mid end : ℕ) (k : Known) → last ≡ first → mid ≡ at
-    → length last < p.nodes → ReadsRecord p (context_of p last) bits mid (Ok (record { known = k; end = end })) → Pages p bits first at (k ∷ []) (k ∷ last) end
-first_page p bits first last at mid end k same there lt reads = (
-  end,
-  subst (λ (l : List Known). length l < p.nodes) same lt,
-  subst (λ (l : List Known). ReadsRecord p (context_of p l) bits at (Ok (record { known = k; end = end }))) same
-      (subst (λ (m : ℕ). ReadsRecord p (context_of p last) bits m (Ok (record { known = k; end = end }))) there reads),
-  (ap (λ (l : List Known). k ∷ l) same, refl),
+first_page : (p : Parameters) (bits : List Bool) (first last : List Whole) (at mid : ℕ) (w : Whole) → last ≡ first → mid ≡ at
+    → length last < p.nodes → ReadsRecord p (context_of p last) bits mid (Ok w) → Pages p bits first at (w ∷ []) (w ∷ last) w.end
+first_page p bits first last at mid w same there lt reads = (
+  subst (λ (l : List Whole). length l < p.nodes) same lt,
+  subst (λ (l : List Whole). ReadsRecord p (context_of p l) bits at (Ok w)) same
+      (subst (λ (m : ℕ). ReadsRecord p (context_of p last) bits m (Ok w)) there reads),
+  (ap (λ (l : List Whole). w ∷ l) same, refl),
 )
 
 -- a record more after some
-pub pages_more : (p : Parameters) (bits : List Bool) (first : List Known) (at : ℕ) (ks last : List Known) (mid end : ℕ) (k : Known) → Pages p bits first at ks last mid
-    → length last < p.nodes → ReadsRecord p (context_of p last) bits mid (Ok (record { known = k; end = end })) → Pages p bits first at (ks ++ k ∷ []) (k ∷ last) end
-pages_more p bits first at [] last mid end k pages lt reads = first_page p bits first last at mid end k pages.0 pages.1 lt reads
-pages_more p bits first at (x ∷ ks) last mid end k pages lt reads = (pages.0, pages.1, pages.2, pages_more p bits (x ∷ first) pages.0 ks last mid end k pages.3 lt reads)
+pub pages_more : (p : Parameters) (bits : List Bool) (first : List Whole) (at : ℕ) (ws last : List Whole) (mid : ℕ) (w : Whole) → Pages p bits first at ws last mid
+    → length last < p.nodes → ReadsRecord p (context_of p last) bits mid (Ok w) → Pages p bits first at (ws ++ w ∷ []) (w ∷ last) w.end
+pages_more p bits first at [] last mid w pages lt reads = first_page p bits first last at mid w pages.0 pages.1 lt reads
+pages_more p bits first at (x ∷ ws) last mid w pages lt reads = (pages.0, pages.1, pages_more p bits (x ∷ first) x.end ws last mid w pages.2 lt reads)
 
 -- the nearest pages after one more
 take_nearest : (w : ℕ) (k : Known) (behind : List Known) → take w (k ∷ take w behind) ≡ take w (k ∷ behind)
@@ -44,19 +40,20 @@ take_nearest (suc w) k behind = ap (λ (l : List Known). k ∷ l) (take_again w 
     take_again (suc w) [] = refl
     take_again (suc w) (x ∷ xs) = ap (λ (l : List Known). x ∷ l) (take_again w xs)
 
+-- the places after one more record
+pub places_more : (w : Whole) (behind : List Whole) → places_of (w ∷ behind) ≡ places_of behind ++ w.end ∷ []
+places_more w behind = ap (λ (l : List ℕ). 0 ∷ l) (reverse-append (w.end ∷ []) (map (λ (v : Whole). v.end) behind))
+
 module _ (p : Parameters) (bits : List Bool) where
-  pub none_yet : HaveStood p bits 0 0 0 []
+  pub none_yet : HaveStood p bits 0 0 0 [] []
   none_yet = record {
     stood = [];
-    behind = [];
     records = (refl, refl);
     count = refl;
     total = refl;
     within = omega arith;
     nearest = sym (take_none p.window);
-    ascend = All-nil (λ (k : Known). Ascends 0 k.list);
-    below = All-nil (λ (k : Known). Below p.nodes k.list);
-    depths = All-nil (λ (k : Known). k.depth < 0);
+    serves = serves_first p;
   }
     where
       take_none : (w : ℕ) → take {A = Known} w [] ≡ []
@@ -64,60 +61,42 @@ module _ (p : Parameters) (bits : List Bool) where
       take_none (suc w) = refl
 
   -- the context in which the next record is read
-  pub next_context : (pages arcs at : ℕ) (kept : List Known) (h : HaveStood p bits pages arcs at kept) → context_at pages arcs kept ≡ context_of p h.behind
-  next_context pages arcs at kept h = λ i. record { page = sym h.count i; arcs_before = sym h.total i; behind = h.nearest i }
+  pub next_context : (pages arcs at : ℕ) (kept : List Known) (behind : List Whole) (h : HaveStood p bits pages arcs at kept behind) → context_at pages arcs kept ≡ context_of p behind
+  next_context pages arcs at kept behind h = λ i. record { page = sym h.count i; arcs_before = sym h.total i; behind = h.nearest i }
 
-  -- as many pages are kept as a reference may reach
-  pub enough_kept : (pages arcs at : ℕ) (kept : List Known) → HaveStood p bits pages arcs at kept → min p.window pages ≤ length kept
-  enough_kept pages arcs at kept h = omega (arith, ap length h.nearest, length-take p.window h.behind, h.count)
-
-  pub one_more : (pages arcs at : ℕ) (kept : List Known) (k : Known) (end : ℕ) → HaveStood p bits pages arcs at kept → pages < p.nodes
-      → ReadsRecord p (context_at pages arcs kept) bits at (Ok (record { known = k; end = end })) → Ascends 0 k.list → Below p.nodes k.list → k.depth ≤ pages
-      → arcs + length k.list ≤ p.arcs → HaveStood p bits (pages + 1) (arcs + length k.list) end (take p.window (k ∷ kept))
-  one_more pages arcs at kept k end h lt reads ascends below depth fits = record {
-    stood = h.stood ++ k ∷ [];
-    behind = k ∷ h.behind;
-    records = pages_more p bits [] 0 h.stood h.behind at end k h.records (omega (arith, h.count))
-        (subst (λ (c : Context). ReadsRecord p c bits at (Ok (record { known = k; end = end }))) (next_context pages arcs at kept h) reads);
+  pub one_more : (pages arcs at : ℕ) (kept : List Known) (behind : List Whole) (w : Whole) → HaveStood p bits pages arcs at kept behind → pages < p.nodes
+      → ReadsRecord p (context_at pages arcs kept) bits at (Ok w) → Ascends 0 w.known.list → Below p.nodes w.known.list → w.known.depth ≤ pages
+      → arcs + length w.known.list ≤ p.arcs → HaveStood p bits (pages + 1) (arcs + length w.known.list) w.end (take p.window (w.known ∷ kept)) (w ∷ behind)
+  one_more pages arcs at kept behind w h lt reads ascends below depth fits = record {
+    stood = h.stood ++ w ∷ [];
+    records = pages_more p bits [] 0 h.stood behind at w h.records (omega (arith, h.count))
+        (subst (λ (c : Context). ReadsRecord p c bits at (Ok w)) (next_context pages arcs at kept behind h) reads);
     count = omega (arith, h.count);
-    total = sum_by-cons (λ (q : Known). length q.list) k h.behind ∙ ap (λ n. length k.list + n) h.total ∙ add_comm (length k.list) arcs;
+    total = sum_by-cons (λ (v : Whole). length v.known.list) w behind ∙ ap (λ (n : ℕ). length w.known.list + n) h.total ∙ add_comm (length w.known.list) arcs;
     within = fits;
-    nearest = ap (λ (l : List Known). take p.window (k ∷ l)) h.nearest ∙ take_nearest p.window k h.behind;
-    ascend = All-take (λ (q : Known). Ascends 0 q.list) p.window (k ∷ kept) (All-cons (λ (q : Known). Ascends 0 q.list) k kept ascends h.ascend);
-    below = All-take (λ (q : Known). Below p.nodes q.list) p.window (k ∷ kept) (All-cons (λ (q : Known). Below p.nodes q.list) k kept below h.below);
-    depths = All-take (λ (q : Known). q.depth < pages + 1) p.window (k ∷ kept) (All-cons (λ (q : Known). q.depth < pages + 1) k kept (omega arith)
-        (All-weaker (λ (q : Known). q.depth < pages) (λ (q : Known). q.depth < pages + 1) (λ q less. omega arith) kept h.depths));
+    nearest = ap (λ (l : List Known). take p.window (w.known ∷ l)) h.nearest ∙ take_nearest p.window w.known (map (λ (v : Whole). v.known) behind);
+    serves = serves_next p pages kept w.known h.serves ascends below depth;
   }
 
   -- the next record is refused, and so is the file
-  pub one_refused : (pages arcs at : ℕ) (kept : List Known) (e : Fault) → HaveStood p bits pages arcs at kept → pages < p.nodes
+  pub one_refused : (pages arcs at : ℕ) (kept : List Known) (behind : List Whole) (e : Fault) → HaveStood p bits pages arcs at kept behind → pages < p.nodes
       → ReadsRecord p (context_at pages arcs kept) bits at (Err e) → ReadsGraph p bits (Err (faults.Record e))
-  one_refused pages arcs at kept e h lt reads = (
+  one_refused pages arcs at kept behind e h lt reads = (
     h.stood,
-    h.behind,
+    behind,
     at,
     h.records,
-    (omega (arith, h.count), subst (λ (c : Context). ReadsRecord p c bits at (Err e)) (next_context pages arcs at kept h) reads),
+    (omega (arith, h.count), subst (λ (c : Context). ReadsRecord p c bits at (Err e)) (next_context pages arcs at kept behind h) reads),
   )
-
-  -- so is it told, where it is no want of memory
-  pub told_refused : (pages arcs at : ℕ) (kept : List Known) (d : DecodeError) (e : RecordsError) → e ≡ of_record d → HaveStood p bits pages arcs at kept → pages < p.nodes
-      → OfFault d (λ f. ReadsRecord p (context_at pages arcs kept) bits at (Err f)) → IsRead p bits (Err e)
-  told_refused pages arcs at kept d e is h lt reads = subst (λ (x : RecordsError). IsRead p bits (Err x)) (sym is) (by_kind d reads)
-    where
-      by_kind : (d : DecodeError) → OfFault d (λ f. ReadsRecord p (context_at pages arcs kept) bits at (Err f)) → IsRead p bits (Err (of_record d))
-      by_kind (decode.Fault f) reads = one_refused pages arcs at kept f h lt reads
-      by_kind decode.Memory reads = tt
 
   -- the records of all pages stand, and what follows them decides
-  pub all_stand : (arcs at : ℕ) (kept : List Known) → HaveStood p bits p.nodes arcs at kept → IsTail bits at → p.arcs ≤ arcs → IsRead p bits (Ok at)
-  all_stand arcs at kept h tail enough = (
-    reverse (map (λ (k : Known). k.list) h.behind),
-    (h.stood, h.behind, at, h.records, (h.count, tail, omega (arith, h.total, h.within), refl, refl)),
-  )
+  pub all_stand : (arcs at : ℕ) (kept : List Known) (behind : List Whole) → HaveStood p bits p.nodes arcs at kept behind → IsEnded p.arcs arcs bits at
+      → ReadsGraph p bits (Ok (record { graph = lists_of behind; places = places_of behind }))
+  all_stand arcs at kept behind h e = (h.stood, behind, at, h.records, (h.count, e.tail, omega (arith, h.total, h.within, e.enough), refl, refl))
 
-  pub tail_refuses : (arcs at place : ℕ) (kept : List Known) → HaveStood p bits p.nodes arcs at kept → IsTailFault bits at place → IsRead p bits (Err (errors.Fault (faults.Tail place)))
-  tail_refuses arcs at place kept h fault = (h.stood, h.behind, at, h.records, (h.count, fault))
-
-  pub too_few : (arcs at : ℕ) (kept : List Known) → HaveStood p bits p.nodes arcs at kept → IsTail bits at → arcs < p.arcs → IsRead p bits (Err (errors.Fault (faults.ArcsShort arcs)))
-  too_few arcs at kept h tail less = (h.stood, h.behind, at, h.records, (h.count, tail, sym h.total, less))
+  pub end_refuses : (arcs at : ℕ) (kept : List Known) (behind : List Whole) (f : ArchiveFault) → HaveStood p bits p.nodes arcs at kept behind → IsEndFault p.arcs arcs bits at f → ReadsGraph p bits (Err f)
+  end_refuses arcs at kept behind (faults.Tail place) h fault = (h.stood, behind, at, h.records, (h.count, fault))
+  end_refuses arcs at kept behind (faults.ArcsShort total) h fault = (h.stood, behind, at, h.records, (h.count, fault.0, fault.1 ∙ sym h.total, omega (arith, fault.1, fault.2)))
+  end_refuses arcs at kept behind (faults.Record e) h fault = absurd fault
+  end_refuses arcs at kept behind (faults.Offsets e) h fault = absurd fault
+  end_refuses arcs at kept behind (faults.Length page found stored) h fault = absurd fault

@@ -1,4 +1,4 @@
--- There is one function that reads all graph files.
+-- There is one function that reads all graph files, and one that reads all offsets files.
 use Rattle.std.proofs.Common.{◌≡◌, ℕ, List, Option, Some, None, Result, Err, refl, sym, ◌∙◌, subst}
 use Rattle.wg_bits.specs.Bits.{bits_of}
 use Rattle.wg_params.specs.declared.key.Key.{Key}
@@ -7,9 +7,13 @@ use Rattle.wg_grammar.specs.declared.fault.ArchiveFault.{ArchiveFault}
 use Rattle.wg_grammar.specs.declared.fault.ArchiveFault.TheVariants.{Tail}
 use Rattle.wg_grammar.specs.Archive.{Accepted, ReadsGraph}
 use Rattle.wg_grammar.proofs.OneGraph.{graph_one, graph_some}
+use Rattle.wg_grammar.specs.declared.fault.OffsetWord.{OffsetWord}
+use Rattle.wg_grammar.specs.declared.fault.OffsetWord.TheVariants.{First}
+use Rattle.wg_offsets.specs.Words.{ReadsOffsets}
+use Rattle.wg_offsets.proofs.OneFile.{offsets_one, offsets_some}
 use Rattle.wg_properties.proofs.Limits.{none_bad}
 use Rattle.wg_cli.specs.Readings.{Readings, ReadingsAreOne}
-use Rattle.wg_cli.proofs.LimitsLemmas.{within_limits}
+use Rattle.wg_cli.proofs.LimitsLemmas.{within_limits, coded}
 
 -- what the bytes stand for, where no key is bad
 abbrev read_where : (p : Parameters) (bad : Option Key) → first_bad p ≡ bad → List ℕ → Result Accepted ArchiveFault
@@ -20,11 +24,25 @@ read_right : (p : Parameters) → IsWithinLimits p → (bytes : List ℕ) (bad :
 read_right p limits bytes None none = (graph_some p (within_limits p none) (bits_of bytes)).1
 read_right p limits bytes (Some key) none = let never : None ≡ Some key = sym (none_bad p limits) ∙ none in absurd cc
 
+-- the places of an offsets file, where no key is bad
+abbrev places_where : (p : Parameters) (bad : Option Key) → first_bad p ≡ bad → List ℕ → Result (List ℕ) OffsetWord
+places_where p None none bytes = (offsets_some p.offsets (coded p (within_limits p none)) p.nodes (bits_of bytes)).0
+places_where p (Some key) none bytes = Err First
+
+places_right : (p : Parameters) → IsWithinLimits p → (bytes : List ℕ) (bad : Option Key) (is : first_bad p ≡ bad) → ReadsOffsets p.offsets p.nodes (bits_of bytes) (places_where p bad is bytes)
+places_right p limits bytes None none = (offsets_some p.offsets (coded p (within_limits p none)) p.nodes (bits_of bytes)).1
+places_right p limits bytes (Some key) none = let never : None ≡ Some key = sym (none_bad p limits) ∙ none in absurd cc
+
 pub the_readings : Readings
 the_readings = record {
-  of = λ p bytes. read_where p (first_bad p) refl bytes;
-  right = λ p limits bytes. read_right p limits bytes (first_bad p) refl;
+  graph = λ p bytes. read_where p (first_bad p) refl bytes;
+  graph_is = λ p limits bytes. read_right p limits bytes (first_bad p) refl;
+  offsets = λ p bytes. places_where p (first_bad p) refl bytes;
+  offsets_are = λ p limits bytes. places_right p limits bytes (first_bad p) refl;
 }
 
 pub readings_one : ReadingsAreOne
-readings_one r q p limits bytes = graph_one p limits (bits_of bytes) (r.of p bytes) (q.of p bytes) (r.right p limits bytes) (q.right p limits bytes)
+readings_one r q p limits bytes = (
+  graph_one p limits (bits_of bytes) (r.graph p bytes) (q.graph p bytes) (r.graph_is p limits bytes) (q.graph_is p limits bytes),
+  offsets_one p.offsets (coded p limits) p.nodes (bits_of bytes) (r.offsets p bytes) (q.offsets p bytes) (r.offsets_are p limits bytes) (q.offsets_are p limits bytes),
+)

@@ -1,29 +1,48 @@
--- A graph file that was read, in a judgement.
-use Rattle.std.proofs.Common.{◌≡◌, ℕ, List, sym, ap, Ok, Err, Result}
+-- Files that were read, in a judgement.
+use Rattle.std.proofs.Common.{◌≡◌, ℕ, List, [], ◌∷◌, sym, ap, Ok, Err, Result}
 use Rattle.wg_bits.specs.Bits.{bits_of}
 use Rattle.wg_params.specs.Parameters.{Parameters, IsWithinLimits}
 use Rattle.wg_grammar.specs.declared.fault.ArchiveFault.{ArchiveFault}
+use Rattle.wg_grammar.specs.declared.fault.ArchiveFault.TheVariants.{Offsets, Length}
+use Rattle.wg_grammar.specs.declared.fault.OffsetWord.{OffsetWord}
 use Rattle.wg_grammar.specs.Archive.{Accepted, ReadsGraph}
 use Rattle.wg_grammar.proofs.OneGraph.{graph_one}
+use Rattle.wg_offsets.specs.Places.{AgreeInLengths, IsFirstMismatch, pages_that_differ}
+use Rattle.wg_offsets.specs.Words.{ReadsOffsets}
+use Rattle.wg_offsets.proofs.OneFile.{offsets_one}
+use Rattle.wg_offsets.proofs.Differences.{none_differ, first_differs}
 use Rattle.wg_cli.specs.Readings.{Readings}
-use Rattle.wg_cli.specs.Judged.{Judged, refused, with_bits, unless_bad_graph}
-use Rattle.wg_cli.specs.Records.{IsRead}
+use Rattle.wg_cli.specs.Judged.{Judged, refused, with_graph, with_places, with_offsets, with_lengths, unless_bad_graph, unless_bad_offsets, unless_some_differ}
 use Rattle.wg_cli.specs.declared.status.Status.TheVariants.{BadArchive}
-use Rattle.wg_cli.specs.declared.records.RecordsError.TheVariants as errors
+use Rattle.wg_cli.proofs.LimitsLemmas.{coded}
 
 module _ (r : Readings) (p : Parameters) (limits : IsWithinLimits p) (bytes : List ℕ) where
   -- the bits stand for one thing alone
-  reads_as : (w : Result Accepted ArchiveFault) → ReadsGraph p (bits_of bytes) w → r.of p bytes ≡ w
-  reads_as w reads = graph_one p limits (bits_of bytes) (r.of p bytes) w (r.right p limits bytes) reads
+  reads_as : (w : Result Accepted ArchiveFault) → ReadsGraph p (bits_of bytes) w → r.graph p bytes ≡ w
+  reads_as w reads = graph_one p limits (bits_of bytes) (r.graph p bytes) w (r.graph_is p limits bytes) reads
 
-  pub goes_on : (end : ℕ) → IsRead p (bits_of bytes) (Ok end) → (next : ℕ → Judged) → with_bits r p bytes next ≡ next end
-  goes_on end read next =
-      let whole : Result Accepted ArchiveFault = Ok (record { graph = read.0; end = end }) in
-      let same : r.of p bytes ≡ whole = reads_as whole read.1 in
-      ap (λ (w : Result Accepted ArchiveFault). unless_bad_graph w (λ a. next a.end)) same
+  pub goes_on : (graph : List (List ℕ)) (places : List ℕ) → ReadsGraph p (bits_of bytes) (Ok (record { graph = graph; places = places })) → (next : Accepted → Judged)
+      → with_graph r p bytes next ≡ next (record { graph = graph; places = places })
+  goes_on graph places read next = ap (λ (w : Result Accepted ArchiveFault). unless_bad_graph w next) (reads_as (Ok (record { graph = graph; places = places })) read)
 
-  pub is_refused : (f : ArchiveFault) → IsRead p (bits_of bytes) (Err (errors.Fault f)) → (next : ℕ → Judged) → with_bits r p bytes next ≡ refused (BadArchive f)
-  is_refused f read next =
-      let fault : Result Accepted ArchiveFault = Err f in
-      let same : r.of p bytes ≡ fault = reads_as fault read in
-      ap (λ (w : Result Accepted ArchiveFault). unless_bad_graph w (λ a. next a.end)) same
+  pub is_refused : (f : ArchiveFault) → ReadsGraph p (bits_of bytes) (Err f) → (next : Accepted → Judged) → with_graph r p bytes next ≡ refused (BadArchive f)
+  is_refused f read next = ap (λ (w : Result Accepted ArchiveFault). unless_bad_graph w next) (reads_as (Err f) read)
+
+  stores : (w : Result (List ℕ) OffsetWord) → ReadsOffsets p.offsets p.nodes (bits_of bytes) w → r.offsets p bytes ≡ w
+  stores w reads = offsets_one p.offsets (coded p limits) p.nodes (bits_of bytes) (r.offsets p bytes) w (r.offsets_are p limits bytes) reads
+
+  pub goes_on_from : (places : List ℕ) → ReadsOffsets p.offsets p.nodes (bits_of bytes) (Ok places) → (next : List ℕ → Judged) → with_offsets r p bytes next ≡ next places
+  goes_on_from places read next = ap (λ (w : Result (List ℕ) OffsetWord). unless_bad_offsets w next) (stores (Ok places) read)
+
+  pub offsets_refused : (f : OffsetWord) → ReadsOffsets p.offsets p.nodes (bits_of bytes) (Err f) → (next : List ℕ → Judged) → with_offsets r p bytes next ≡ refused (BadArchive (Offsets f))
+  offsets_refused f read next = ap (λ (w : Result (List ℕ) OffsetWord). unless_bad_offsets w next) (stores (Err f) read)
+
+-- records that were held against what is stored
+pub all_agree : (found stored : List ℕ) → AgreeInLengths found stored → (next : Unit {0} → Judged) → with_lengths found stored next ≡ next tt
+all_agree found stored agree next = ap (λ (l : List ℕ). unless_some_differ l found stored next) (none_differ found stored agree)
+
+pub one_differs : (found stored : List ℕ) (page here there : ℕ) → IsFirstMismatch found stored page here there → (next : Unit {0} → Judged)
+    → with_lengths found stored next ≡ refused (BadArchive (Length page here there))
+one_differs found stored page here there h next =
+    let first = first_differs found stored page here there h in
+    rw (h.here_is, h.there_is) (ap (λ (l : List ℕ). unless_some_differ l found stored next) first.1)

@@ -1,11 +1,14 @@
 -- What a job comes to, by what its inputs hold.
-use Rattle.std.specs.Prelude.{ℕ, List, [], ◌++◌, length, nat_lt, if◌then◌else◌, codes, decimal, Option, Some, None, Result, Ok, Err}
+use Rattle.std.specs.Prelude.{ℕ, List, [], ◌∷◌, ◌++◌, length, nat_lt, if◌then◌else◌, codes, decimal, Option, Some, None, Result, Ok, Err}
 use Rattle.wg_io.specs.declared.limits.TheConstants.{MOST_BYTES}
 use Rattle.wg_params.specs.Parameters.{Parameters}
 use Rattle.wg_properties.specs.Judged.{properties_of}
 use Rattle.wg_properties.specs.declared.fault.PropFault.{PropFault}
 use Rattle.wg_grammar.specs.declared.fault.ArchiveFault.{ArchiveFault}
+use Rattle.wg_grammar.specs.declared.fault.ArchiveFault.TheVariants.{Offsets, Length}
+use Rattle.wg_grammar.specs.declared.fault.OffsetWord.{OffsetWord}
 use Rattle.wg_grammar.specs.Archive.{Accepted}
+use Rattle.wg_offsets.specs.Places.{last_place, record_length, pages_that_differ}
 use Rattle.wg_words.specs.declared.jobs.Job.{Job}
 use Rattle.wg_words.specs.declared.jobs.Job.TheVariants.{Check}
 use Rattle.wg_cli.specs.Readings.{Readings}
@@ -46,11 +49,27 @@ unless_bad_graph (Err f) next = refused (BadArchive f)
 
 -- goes on with the graph that the bytes stand for
 abbrev pub with_graph : Readings → Parameters → List ℕ → (Accepted → Judged) → Judged
-with_graph r p bytes next = unless_bad_graph (r.of p bytes) next
+with_graph r p bytes next = unless_bad_graph (r.graph p bytes) next
 
--- goes on with the bits that the records of the graph take
-abbrev pub with_bits : Readings → Parameters → List ℕ → (ℕ → Judged) → Judged
-with_bits r p bytes next = with_graph r p bytes (λ a. next a.end)
+-- goes on with the places of its records
+abbrev pub with_places : Readings → Parameters → List ℕ → (List ℕ → Judged) → Judged
+with_places r p bytes next = with_graph r p bytes (λ a. next a.places)
+
+abbrev pub unless_bad_offsets : Result (List ℕ) OffsetWord → (List ℕ → Judged) → Judged
+unless_bad_offsets (Ok places) next = next places
+unless_bad_offsets (Err w) next = refused (BadArchive (Offsets w))
+
+-- goes on with the places that the offsets file stores
+abbrev pub with_offsets : Readings → Parameters → List ℕ → (List ℕ → Judged) → Judged
+with_offsets r p bytes next = unless_bad_offsets (r.offsets p bytes) next
+
+abbrev pub unless_some_differ : List ℕ → List ℕ → List ℕ → (Unit {0} → Judged) → Judged
+unless_some_differ [] found stored next = next tt
+unless_some_differ (x ∷ rest) found stored next = refused (BadArchive (Length x (record_length found x) (record_length stored x)))
+
+-- goes on where each record has the length that is stored
+abbrev pub with_lengths : List ℕ → List ℕ → (Unit {0} → Judged) → Judged
+with_lengths found stored next = unless_some_differ (pages_that_differ found stored) found stored next
 
 -- the line of an accepted archive: its pages, its arcs, and the bits of its records
 abbrev pub ok_line : Parameters → ℕ → List ℕ
@@ -60,5 +79,6 @@ ok_line p bits = codes "ok nodes=" ++ decimal p.nodes ++ codes " arcs=" ++ decim
 abbrev pub judged : Readings → Job → (Input → Option (List ℕ)) → Judged
 judged r (Check base) held =
     with_file input.Properties (held input.Properties) (λ text. with_parameters text (λ p.
-    with_file input.Graph (held input.Graph) (λ bytes. with_bits r p bytes (λ bits.
-    accepted (ok_line p bits)))))
+    with_file input.Graph (held input.Graph) (λ bytes. with_places r p bytes (λ places.
+    with_file input.Offsets (held input.Offsets) (λ more. with_offsets r p more (λ stored.
+    with_lengths places stored (λ same. accepted (ok_line p (last_place places)))))))))

@@ -1,9 +1,9 @@
 pub mod Codes
-pub mod Names
 pub mod Readings
 pub mod Judged
 pub mod Answers
 pub mod Causes
 pub mod Texts
+pub mod Names
 pub mod Lines
 pub mod Records

@@ -1,10 +1,11 @@
 -- The line on standard error.
-use Rattle.std.specs.Prelude.{◌≡◌, ℕ, List, [], ◌∷◌, ◌++◌, codes, Option, Some, None, Result, Ok, Err}
+use Rattle.std.specs.Prelude.{◌≡◌, ◌⊎◌, ℕ, List, [], ◌∷◌, ◌++◌, codes, Option, Some, None, Result, Ok, Err}
 use Rattle.wg_io.specs.Puts.{joined}
 use Rattle.wg_io.specs.declared.output.Output.{Output}
 use Rattle.wg_io.specs.declared.output.Output.TheVariants as output
 use Rattle.wg_params.specs.Parameters.{Parameters}
 use Rattle.wg_properties.specs.Judged.{properties_of}
+use Rattle.wg_grammar.specs.declared.fault.ArchiveFault.{ArchiveFault}
 use Rattle.wg_grammar.specs.declared.fault.ArchiveFault.TheVariants as archive
 use Rattle.wg_words.specs.declared.jobs.Job.{Job}
 use Rattle.wg_io.specs.Outside.{Files}
@@ -49,6 +50,10 @@ line_of job promised (OverLimit i) = naming (codes "wg: too long: ") (name_in jo
 abbrev pub ArePromised : (Input → Option (List ℕ)) → Status → ℕ → Type 0
 ArePromised held (BadArchive (archive.ArcsShort total)) promised = (text : List ℕ) (p : Parameters) → held input.Properties ≡ Some text → properties_of text ≡ Ok p → promised ≡ p.arcs
 ArePromised held status promised = Unit {0}
+
+-- memory was wanting, or the archive is refused, and the ending names the arcs that are promised
+abbrev pub IsBadArchive : ℕ → Ending → Type 0
+IsBadArchive promised e = (e.status ≡ Memory) ⊎ ((f : ArchiveFault) × (e.status ≡ BadArchive f) × (e.arcs ≡ promised))
 
 -- the arcs that an ending names
 abbrev pub arcs_in : {B : Type 0} → Result B Ending → ℕ

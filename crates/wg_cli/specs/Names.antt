@@ -6,6 +6,7 @@ use Rattle.wg_io.specs.declared.output.Output.{Output}
 use Rattle.wg_io.specs.declared.output.Output.TheVariants as output
 use Rattle.wg_words.specs.declared.jobs.Job.{Job}
 use Rattle.wg_words.specs.declared.jobs.Job.TheVariants.{Check}
+use Rattle.wg_cli.specs.Texts.{file_of_fault}
 use Rattle.wg_cli.specs.declared.status.Input.{Input}
 use Rattle.wg_cli.specs.declared.status.Input.TheVariants as input
 use Rattle.wg_cli.specs.declared.status.Status.{Status}
@@ -38,7 +39,7 @@ held_by names files i = option_and_then (map.get files) (names i)
 abbrev pub has_input : Job → Input → Bool
 has_input (Check base) input.Properties = true
 has_input (Check base) input.Graph = true
-has_input (Check base) input.Offsets = false
+has_input (Check base) input.Offsets = true
 has_input (Check base) input.ArcList = false
 
 -- what a job writes
@@ -58,7 +59,7 @@ can_end job (WriteFault o) = has_output job o
 can_end job (Missing i) = has_input job i
 can_end job (BadArcs line kind) = has_input job input.ArcList
 can_end job (BadProperties f) = has_input job input.Properties
-can_end job (BadArchive f) = has_input job input.Graph
+can_end job (BadArchive f) = has_input job (file_of_fault f)
 can_end job (NoPage page) = false
 can_end job (OverLimit i) = has_input job i
 

@@ -1,16 +1,21 @@
--- What all graph files stand for.
+-- What all graph files and all offsets files stand for.
 use Rattle.std.specs.Prelude.{◌≡◌, ℕ, List, Result}
 use Rattle.wg_bits.specs.Bits.{bits_of}
 use Rattle.wg_params.specs.Parameters.{Parameters, IsWithinLimits}
 use Rattle.wg_grammar.specs.declared.fault.ArchiveFault.{ArchiveFault}
+use Rattle.wg_grammar.specs.declared.fault.OffsetWord.{OffsetWord}
 use Rattle.wg_grammar.specs.Archive.{Accepted, ReadsGraph}
+use Rattle.wg_offsets.specs.Words.{ReadsOffsets}
 
--- A function from parameters and the bytes of a graph file to the graph that they stand for, or to their first fault. The
--- grammar leaves one such function, within the limits of the parameters.
+-- Two functions: from parameters and the bytes of a graph file to the graph that they stand for or to their first fault, and from
+-- parameters and the bytes of an offsets file to its places or to its first fault. The definitions leave one of each, within the limits of the
+-- parameters.
 pub record Readings : Type 0 where
-  pub of : Parameters → List ℕ → Result Accepted ArchiveFault
-  pub right : (p : Parameters) → IsWithinLimits p → (bytes : List ℕ) → ReadsGraph p (bits_of bytes) (of p bytes)
+  pub graph : Parameters → List ℕ → Result Accepted ArchiveFault
+  pub graph_is : (p : Parameters) → IsWithinLimits p → (bytes : List ℕ) → ReadsGraph p (bits_of bytes) (graph p bytes)
+  pub offsets : Parameters → List ℕ → Result (List ℕ) OffsetWord
+  pub offsets_are : (p : Parameters) → IsWithinLimits p → (bytes : List ℕ) → ReadsOffsets p.offsets p.nodes (bits_of bytes) (offsets p bytes)
 
--- Two such functions agree within the limits.
+-- Two such pairs agree within the limits.
 abbrev pub ReadingsAreOne : Type 0
-ReadingsAreOne = (r q : Readings) (p : Parameters) → IsWithinLimits p → (bytes : List ℕ) → r.of p bytes ≡ q.of p bytes
+ReadingsAreOne = (r q : Readings) (p : Parameters) → IsWithinLimits p → (bytes : List ℕ) → (r.graph p bytes ≡ q.graph p bytes) × (r.offsets p bytes ≡ q.offsets p bytes)

@@ -1,59 +1,27 @@
 //! The command `check`: whether an archive's files are in order.
-ghost use Rattle.std.specs.Prelude.{◌≡◌, ◌⊎◌, ◌≤◌, ℕ, Some, IsTrue, IfErr, IfOk, Ok, length};
+ghost use Rattle.std.specs.Prelude.{◌≡◌, ℕ, Some, IsTrue};
 ghost use Rattle.wg_io.specs.Outside.{NoneFalls};
-ghost use Rattle.wg_io.specs.declared.limits.TheConstants.{MOST_BYTES};
 ghost use Rattle.wg_io.specs.declared.output.Output.TheVariants.{Out};
-ghost use Rattle.wg_properties.specs.Judged.{properties_of};
-ghost use Rattle.wg_properties.specs.declared.fault.PropFault.{PropFault};
-ghost use Rattle.wg_grammar.specs.declared.fault.ArchiveFault.{ArchiveFault};
 ghost use Rattle.wg_words.specs.declared.jobs.Job.TheVariants.{Check};
-ghost use Rattle.wg_cli.specs.Answers.{Answers, HasOutput, Reaches, Steps, status_in};
+ghost use Rattle.wg_cli.specs.Answers.{Answers, HasOutput, Reaches, status_in};
 ghost use Rattle.wg_cli.specs.Causes.{HasCause};
-ghost use Rattle.wg_cli.specs.Judged.{judged, output_of, status_of, with_parameters, with_bits};
+ghost use Rattle.wg_cli.specs.Judged.{judged, output_of, status_of};
 ghost use Rattle.wg_cli.specs.Lines.{ArePromised, arcs_in};
 ghost use Rattle.wg_cli.specs.Names.{can_end, file_of, held_by, no_outputs};
 ghost use Rattle.wg_cli.specs.Readings.{Readings};
 ghost use Rattle.wg_cli.specs.declared.status.Input.{Input};
 
+use crate::archive::{parameters, places_of_records, same_lengths, stored_places};
 use crate::ending::Ending;
 use crate::load::load;
 use crate::print::print_ok;
-use crate::records::{RecordsError, read_records};
 use crate::{Input, Status};
 use std::alloc::Global;
 use wg_io::{Depot, Sink};
-use wg_params::Params;
 use wg_words::Name;
 
-// The parameters that a properties text gives.
-fn parameters(text: &[u8]) -> Result<Params, Ending>
-    ensures steps { Steps (with_parameters text.now) result }
-    ensures only { IfErr result (λ e. (f : PropFault) × (e.status ≡ Status.BadProperties f)) }
-    ensures value { IfOk result (λ p. properties_of text.now ≡ Ok p) }
-{
-    match wg_properties::read(text) {
-        Ok(params) => Ok(params),
-        Err(fault) => Err(Ending::of(Status::BadProperties(fault))),
-    }
-}
-
-// The bits that the records of a graph file take.
-fn bits_of_records(alloc: Global, params: &Params, bytes: &[u8]) -> Result<u64, Ending>
-    requires { length bytes.now ≤ MOST_BYTES }
-    ensures steps { (r : Readings) → Steps (with_bits r params.now bytes.now) result }
-    ensures only { IfErr result (λ e. (e.status ≡ Status.Memory) ⊎ ((f : ArchiveFault) × (e.status ≡ Status.BadArchive f) × (e.arcs ≡ params.now.arcs))) }
-{
-    match read_records(alloc, params, bytes) {
-        Ok(end) => Ok(end),
-        Err(RecordsError::Fault(fault)) => Err(Ending {
-            status: Status::BadArchive(fault),
-            arcs: params.arcs(),
-        }),
-        Err(RecordsError::Memory) => Err(Ending::of(Status::Memory)),
-    }
-}
-
-/// Judges the properties and the graph of an archive, and prints the line of what they hold.
+/// Judges the three files of an archive, and prints the line of what they hold. It holds the bytes of the graph and of the offsets, 8 bytes a
+/// page for the places of each, and as many lists as a reference may reach back; it costs a pass over each.
 pub fn check<D: Depot, O: Sink>(
     alloc: Global,
     base: &Name,
@@ -72,7 +40,10 @@ pub fn check<D: Depot, O: Sink>(
 {
     let text = load(alloc, depot, base, Input::Properties)?;
     let params = parameters(text.as_slice())?;
-    let bytes = load(alloc, depot, base, Input::Graph)?;
-    let bits = bits_of_records(alloc, &params, bytes.as_slice())?;
-    print_ok(out, &params, bits)
+    let graph = load(alloc, depot, base, Input::Graph)?;
+    let places = places_of_records(alloc, &params, graph.as_slice())?;
+    let offsets = load(alloc, depot, base, Input::Offsets)?;
+    let stored = stored_places(alloc, &params, offsets.as_slice())?;
+    same_lengths(&params, &places, &stored)?;
+    print_ok(out, &params, places.end())
 }

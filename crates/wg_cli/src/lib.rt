@@ -13,6 +13,7 @@
 //! held whole in memory.
 #![tactic(auto)]
 
+mod archive;
 mod check;
 mod ending;
 pub mod laws;

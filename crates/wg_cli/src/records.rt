@@ -1,17 +1,17 @@
 //! The records of a graph file, one after the other, and what follows them.
-ghost use Rattle.std.specs.Prelude.{◌≡◌, ◌≤◌, ◌+◌, ℕ, List, [], IfOk, IfErr, Ok, Err, length};
+ghost use Rattle.std.specs.Prelude.{◌≡◌, ◌≤◌, ◌+◌, ℕ, List, IfOk, IfErr, Ok, Err, length};
 ghost use Rattle.wg_bits.specs.Bits.{bits_of};
 ghost use Rattle.wg_params.specs.Parameters.{IsWithinLimits};
 ghost use Rattle.wg_io.specs.declared.limits.TheConstants.{MOST_BYTES};
 ghost use Rattle.wg_grammar.specs.Archive.{ReadsGraph};
-ghost use Rattle.wg_cli.specs.Records.{HaveStood, IsRead};
-ghost use Rattle.wg_grammar.specs.Context.{Known};
+ghost use Rattle.wg_cli.specs.Records.{IsEnded, IsEndFault, OfArchive};
 
 use std::alloc::{AllocError, Global};
 use thiserror::Error;
 use wg_bits::{Bits, Cursor};
 use wg_decoder::{DecodeError, Window, decode};
 use wg_grammar::{ArchiveFault, tail_fault};
+use wg_offsets::Offsets;
 use wg_params::Params;
 
 /// Why a graph file was not read.
@@ -46,39 +46,41 @@ impl From<AllocError> for RecordsError {
     }
 }
 
-/// Judges the records of all pages, the tail and the total, and answers the bit after the last record. It holds as many lists as
-/// a reference may reach back, and costs a pass over the bytes and over these lists.
-pub fn read_records(alloc: Global, params: &Params, bytes: &[u8]) -> Result<u64, RecordsError>
+/// Judges the records of all pages, the tail and the total, and answers the places of the records. It holds as many lists as a
+/// reference may reach back and 8 bytes a page, and costs a pass over the bytes and over these lists.
+pub fn read_places(alloc: Global, params: &Params, bytes: &[u8]) -> Result<Offsets, RecordsError>
     requires { length bytes.now ≤ MOST_BYTES }
-    ensures read { IsRead params.now (bits_of bytes.now) result }
     ensures limits { IsWithinLimits params.now }
+    ensures read { IfOk result (λ places. (graph : List (List ℕ)) × ReadsGraph params.now (bits_of bytes.now) (Ok (record { graph = graph; places = places }))) }
+    ensures count { IfOk result (λ places. length places ≡ params.now.nodes + 1) }
+    ensures refused { IfErr result (λ e. OfArchive e (λ f. ReadsGraph params.now (bits_of bytes.now) (Err f))) }
 {
+    let nodes = params.nodes();
     let mut cursor = Cursor::new(Bits::of(bytes), 0);
-    let arcs = read_pages(alloc, params, &mut cursor)?;
-    let end = cursor.at();
-    if let Some(at) = tail_fault(&mut cursor) {
+    let mut window = Window::new(alloc, params);
+    let mut arcs = 0;
+    let mut places = Offsets::new(alloc);
+    places.push(0)?;
+    for page in 0..nodes {
+        let decoded = decode(alloc, params, page, arcs, &window, &mut cursor)?;
+        arcs += decoded.list.as_slice().len() as u64;
+        places.push(cursor.at())?;
+        window.push(decoded.list, decoded.depth)?;
+    }
+    judge_end(params, arcs, &mut cursor)?;
+    Ok(places)
+}
+
+// Judges the tail and the total of so many arcs.
+fn judge_end(params: &Params, arcs: u64, cursor: &mut Cursor<'_>) -> Result<(), RecordsError>
+    ensures ended { IfOk result (λ done. IsEnded params.now.arcs arcs cursor.old.bits cursor.old.at) }
+    ensures fault { IfErr result (λ e. OfArchive e (IsEndFault params.now.arcs arcs cursor.old.bits cursor.old.at)) }
+{
+    if let Some(at) = tail_fault(cursor) {
         return Err(RecordsError::Fault(ArchiveFault::Tail(at)));
     }
     if arcs < params.arcs() {
         return Err(RecordsError::Fault(ArchiveFault::ArcsShort(arcs)));
     }
-    Ok(end)
-}
-
-// The records of all pages; it answers how many arcs they have.
-fn read_pages(alloc: Global, params: &Params, cursor: &mut Cursor<'_>) -> Result<u64, RecordsError>
-    requires { cursor.old.at ≡ 0 }
-    ensures limits { IsWithinLimits params.now }
-    ensures bits { cursor.new.bits ≡ cursor.old.bits }
-    ensures stood { IfOk result (λ arcs. (kept : List Known) × HaveStood params.now cursor.old.bits params.now.nodes arcs cursor.new.at kept) }
-    ensures refused { IfErr result (λ e. IsRead params.now cursor.old.bits (Err e)) }
-{
-    let mut window = Window::new(alloc, params);
-    let mut arcs = 0;
-    for page in 0..params.nodes() {
-        let decoded = decode(alloc, params, page, arcs, &window, cursor)?;
-        arcs += decoded.list.as_slice().len() as u64;
-        window.push(decoded.list, decoded.depth)?;
-    }
-    Ok(arcs)
+    Ok(())
 }

@@ -6,6 +6,7 @@ use wg_words::Words;
 
 mod archives;
 mod outside;
+mod tables;
 
 // The words of a line, parted by blanks; an empty line has none.
 fn words_of(alloc: Global, line: &str) -> Result<Words, Fail> {

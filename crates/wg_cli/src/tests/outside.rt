@@ -4,6 +4,10 @@ use super::*;
 const PROPERTIES: &[u8] =
     b"graphclass=class it.unimi.dsi.webgraph.BVGraph\r\nversion=0\r\nnodes=9\r\n# Thu Nov 26\r\nnodes: 2\r\narcs 1\r\nwindowsize=0\r\nmaxrefcount=3\r\nminintervallength=0\r\navgref=0.5\r\ncompressionflags=RESIDUALS_GAMMA\r\n";
 
+// One page more than an archive may have.
+const TOO_MANY_PAGES: &[u8] =
+    b"graphclass=it.unimi.dsi.webgraph.BVGraph\nversion=0\nnodes=68719476736\n";
+
 // Runs a line over an outside: the status and what was reported.
 fn reported<D: Depot, O: Sink>(
     alloc: Global,
@@ -19,22 +23,46 @@ fn reported<D: Depot, O: Sink>(
 
 #[test]
 fn lines_without_an_archive(rt: HostRuntime) -> Result<(), Fail> {
-    let cases: [(&str, &[u8], u8, &str); 6] = [
-        ("", PROPERTIES, 2, "wg: bad command line\n"),
-        ("check --help", PROPERTIES, 2, "wg: bad command line\n"),
-        ("check h", PROPERTIES, 6, "wg: missing: h.properties\n"),
-        ("check g", PROPERTIES, 6, "wg: missing: g.graph\n"),
-        ("check g", b"", 8, "wg: g.properties: missing graphclass\n"),
+    let cases: [(&str, &[u8], &[u8], u8, &str); 8] = [
+        ("", PROPERTIES, b"", 2, "wg: bad command line\n"),
+        ("check --help", PROPERTIES, b"", 2, "wg: bad command line\n"),
+        ("check h", PROPERTIES, b"", 6, "wg: missing: h.properties\n"),
+        ("check g", PROPERTIES, b"", 6, "wg: missing: g.graph\n"),
+        (
+            "check g",
+            PROPERTIES,
+            b"\x4e",
+            6,
+            "wg: missing: g.offsets\n",
+        ),
+        (
+            "check g",
+            b"",
+            b"",
+            8,
+            "wg: g.properties: missing graphclass\n",
+        ),
         (
             "check g",
             b"nodes=1\nversion=0\\\n",
+            b"",
             8,
             "wg: g.properties: line 2\n",
         ),
+        (
+            "check g",
+            TOO_MANY_PAGES,
+            b"",
+            8,
+            "wg: g.properties: range nodes\n",
+        ),
     ];
-    for (line, properties, code, report) in cases {
+    for (line, properties, graph, code, report) in cases {
         let mut depot = SteadyDepot::new(rt.alloc(), 3);
         depot.put_file("g.properties", properties)?;
+        if !graph.is_empty() {
+            depot.put_file("g.graph", graph)?;
+        }
         let mut out = SteadySink::new(rt.alloc(), 3);
         let (status, err) = reported(rt.alloc(), line, &mut depot, &mut out)?;
         assert!(rt;
@@ -51,6 +79,7 @@ fn faults_of_the_outside(rt: HostRuntime) -> Result<(), Fail> {
     let cases = [
         (2, 0, 4, "wg: read failed: g.properties\n"),
         (4, 0, 4, "wg: read failed: g.graph\n"),
+        (7, 0, 4, "wg: read failed: g.offsets\n"),
         (0, 1, 5, "wg: write failed: -\n"),
         (0, 2, 0, ""),
     ];
@@ -58,6 +87,7 @@ fn faults_of_the_outside(rt: HostRuntime) -> Result<(), Fail> {
         let mut depot = MemoryDepot::new(rt.alloc(), 4096);
         depot.put_file("g.properties", PROPERTIES)?;
         depot.put_file("g.graph", b"\x4e")?;
+        depot.put_file("g.offsets", b"\x9d\0")?;
         let mut out = MemorySink::new(rt.alloc(), 4096);
         if read > 0 {
             depot.fail_read(read);

@@ -1,0 +1,84 @@
+//! The files of an archive, each judged as far as it goes by itself, and the offsets held against the records.
+ghost use Rattle.std.specs.Prelude.{◌≡◌, ◌⊎◌, ◌≤◌, ℕ, ◌+◌, IfErr, IfOk, Ok, length};
+ghost use Rattle.wg_io.specs.declared.limits.TheConstants.{MOST_BYTES};
+ghost use Rattle.wg_params.specs.Parameters.{IsWithinLimits};
+ghost use Rattle.wg_properties.specs.Judged.{properties_of};
+ghost use Rattle.wg_properties.specs.declared.fault.PropFault.{PropFault};
+ghost use Rattle.wg_grammar.specs.declared.fault.ArchiveFault.{ArchiveFault};
+ghost use Rattle.wg_cli.specs.Answers.{Steps};
+ghost use Rattle.wg_cli.specs.Judged.{with_parameters, with_places, with_offsets, with_lengths};
+ghost use Rattle.wg_cli.specs.Lines.{IsBadArchive};
+ghost use Rattle.wg_cli.specs.Readings.{Readings};
+
+use crate::Status;
+use crate::ending::Ending;
+use crate::records::{RecordsError, read_places};
+use std::alloc::Global;
+use wg_grammar::ArchiveFault;
+use wg_offsets::{Offsets, OffsetsError};
+use wg_params::Params;
+
+/// The parameters that a properties text gives.
+pub fn parameters(text: &[u8]) -> Result<Params, Ending>
+    ensures steps { Steps (with_parameters text.now) result }
+    ensures only { IfErr result (λ e. (f : PropFault) × (e.status ≡ Status.BadProperties f)) }
+    ensures value { IfOk result (λ p. properties_of text.now ≡ Ok p) }
+{
+    match wg_properties::read(text) {
+        Ok(params) => Ok(params),
+        Err(fault) => Err(Ending::of(Status::BadProperties(fault))),
+    }
+}
+
+/// The places of the records of a graph file.
+pub fn places_of_records(alloc: Global, params: &Params, bytes: &[u8]) -> Result<Offsets, Ending>
+    requires { length bytes.now ≤ MOST_BYTES }
+    ensures steps { (r : Readings) → Steps (with_places r params.now bytes.now) result }
+    ensures only { IfErr result (λ e. IsBadArchive params.now.arcs e) }
+    ensures count { IfOk result (λ places. length places ≡ params.now.nodes + 1) }
+{
+    match read_places(alloc, params, bytes) {
+        Ok(places) => Ok(places),
+        Err(RecordsError::Fault(fault)) => Err(Ending {
+            status: Status::BadArchive(fault),
+            arcs: params.arcs(),
+        }),
+        Err(RecordsError::Memory) => Err(Ending::of(Status::Memory)),
+    }
+}
+
+/// The places that an offsets file stores.
+pub fn stored_places(alloc: Global, params: &Params, bytes: &[u8]) -> Result<Offsets, Ending>
+    requires { length bytes.now ≤ MOST_BYTES }
+    ensures steps { (r : Readings) → Steps (with_offsets r params.now bytes.now) result }
+    ensures only { IfErr result (λ e. IsBadArchive params.now.arcs e) }
+    ensures count { IfOk result (λ places. length places ≡ params.now.nodes + 1) }
+{
+    match wg_offsets::read(alloc, bytes, params.nodes(), params.offsets()) {
+        Ok(stored) => Ok(stored),
+        Err(OffsetsError::Word(word)) => Err(Ending {
+            status: Status::BadArchive(ArchiveFault::Offsets(word)),
+            arcs: params.arcs(),
+        }),
+        Err(OffsetsError::Memory) => Err(Ending::of(Status::Memory)),
+    }
+}
+
+/// Holds the lengths of the records against those that are stored.
+pub fn same_lengths(params: &Params, found: &Offsets, stored: &Offsets) -> Result<(), Ending>
+    requires { length found.now ≡ length stored.now }
+    ensures steps { Steps (with_lengths found.now stored.now) result }
+    ensures only { IfErr result (λ e. IsBadArchive params.now.arcs e) }
+{
+    match found.first_mismatch(stored) {
+        None => Ok(()),
+        Some((page, length, stored)) => Err(Ending {
+            status: Status::BadArchive(ArchiveFault::Length {
+                page,
+                found: length,
+                stored,
+            }),
+            arcs: params.arcs(),
+        }),
+    }
+}
