@@ -1,4 +1,4 @@
-ghost use Rattle.std.specs.Prelude.{◌≡◌, [], ◌∷◌, ◌++◌, OnOk, OnErr};
+ghost use Rattle.std.specs.Prelude.{◌≡◌, [], ◌∷◌, ◌++◌, IfOk, OnOk, OnErr};
 
 use std::alloc::{AllocError, Global};
 use std::marker::Model;
@@ -25,6 +25,15 @@ impl List {
         List {
             numbers: Vec::new(alloc),
         }
+    }
+
+    /// No numbers, and memory for `room` of them.
+    pub fn with_room(alloc: Global, room: usize) -> Result<List, AllocError>
+        ensures { IfOk result (λ list. list ≡ []) }
+    {
+        Ok(List {
+            numbers: Vec::with_capacity(alloc, room)?,
+        })
     }
 
     /// Adds a number at the end, in constant time on average.

@@ -11,7 +11,7 @@ pub fn merge(alloc: Global, a: &[u64], b: &[u64]) -> Result<List, AllocError>
     requires b { Ascends 0 b.now }
     ensures { IfOk result (λ list. (n : ℕ) → Below n a.now → Below n b.now → list ≡ numbers_where (is_in_either a.now b.now) 0 n) }
 {
-    let mut out = List::new(alloc);
+    let mut out = List::with_room(alloc, a.len() + b.len())?;
     let mut i = 0;
     let mut j = 0;
     'both: while i < a.len() && j < b.len() {

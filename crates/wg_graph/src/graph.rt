@@ -1,0 +1,57 @@
+ghost use Rattle.std.specs.Prelude.{◌≡◌, ◌<◌, ◌≤◌};
+ghost use Rattle.wg_params.specs.declared.limits.TheConstants.{MOST_ARCS, MOST_PAGES};
+ghost use Rattle.wg_graph.specs.Ascending.{Ascends, Below};
+ghost use Rattle.wg_graph.specs.Digraph.{IsGraph, successors, arc_count};
+
+use crate::cutting::piece;
+use std::marker::Model;
+
+/// A graph of pages: 8 bytes for each arc, and 8 for each page. Each call takes constant time, and no memory.
+#[derive(Debug, Drop)]
+pub struct Graph {
+    // The end of each list; it begins where the one before it ends.
+    pub(crate) ends: Vec<u64>,
+    // All lists, one after the other.
+    pub(crate) all: Vec<u64>,
+}
+
+impl Model for Graph {
+    ghost use Rattle.std.specs.Prelude.{length};
+    ghost use Rattle.wg_graph.specs.Digraph.{Digraph};
+    ghost use Rattle.wg_graph.specs.Pieces.{cut, IsCut};
+
+    ghost Value = { Digraph };
+
+    ghost view = { λ g. cut (length g.ends.items) g.ends.items g.all.items };
+
+    ghost invariant = { λ g. IsCut (length g.ends.items) g.ends.items g.all.items };
+}
+
+impl Graph {
+    /// How many pages there are.
+    pub fn nodes(&self) -> u64
+        ensures value { result ≡ self.now.nodes }
+        ensures within { result ≤ MOST_PAGES }
+        ensures proper { IsGraph self.now }
+    {
+        self.ends.len() as u64
+    }
+
+    /// How many arcs there are.
+    pub fn arcs(&self) -> u64
+        ensures value { result ≡ arc_count self.now }
+        ensures within { result ≤ MOST_ARCS }
+    {
+        self.all.len() as u64
+    }
+
+    /// The successors of page `x`.
+    pub fn list(&self, x: u64) -> &[u64]
+        requires { x < self.now.nodes }
+        ensures value { result.now ≡ successors self.now x }
+        ensures ascends { Ascends 0 result.now }
+        ensures below { Below self.now.nodes result.now }
+    {
+        piece(&self.ends, &self.all, x as usize)
+    }
+}
