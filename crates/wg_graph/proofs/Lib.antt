@@ -5,3 +5,4 @@ pub mod Counts
 pub mod Ends
 pub mod Fronts
 pub mod Growth
+pub mod Arcs

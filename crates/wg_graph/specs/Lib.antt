@@ -1,3 +1,4 @@
+pub mod Arcs
 pub mod Ascending
 pub mod Copied
 pub mod Digraph

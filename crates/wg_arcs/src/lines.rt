@@ -1,0 +1,166 @@
+ghost use Rattle.std.specs.Prelude.{◌≡◌, ◌+◌, ◌<◌, ◌≤◌, [], ◌∷◌, ◌++◌, length, codes, decimal, IsTrue, IsErrOf, OnOk};
+ghost use Rattle.wg_io.specs.Outside.{Rose};
+ghost use Rattle.wg_io.specs.Puts.{Puts};
+ghost use Rattle.wg_arcs.specs.Printing.{Prints};
+ghost use Rattle.wg_arcs.specs.Text.{arc_line};
+ghost use Rattle.wg_arcs.specs.declared.lines.TheConstants.{BUFFER, ROOM};
+
+use std::marker::Model;
+use wg_io::{Sink, WriteError, write_all};
+use wg_num::decimal_into;
+
+// The bytes that may wait.
+const BUFFER: usize = 8192;
+
+// More than two numbers take, and what stands between and behind them.
+const ROOM: usize = 64;
+
+/// Numbers and bytes on their way into a sink: those that were printed and have not gone out yet.
+///
+/// It holds up to 8192 bytes itself and takes no memory. They go out when there is no room for another line, and all that is
+/// left with [`flush`](Lines::flush). The sink is that of each call: always hand in the same one. After an error what waits is
+/// lost.
+#[derive(Drop)]
+pub struct Lines {
+    // the bytes that wait are the first `len`
+    bytes: [u8; BUFFER],
+    len: usize,
+}
+
+impl Model for Lines {
+    ghost use Rattle.std.specs.Prelude.{List, ℕ, ◌≤◌, take};
+    ghost use Rattle.wg_arcs.specs.declared.lines.TheConstants.{BUFFER};
+
+    ghost Value = { List ℕ };
+
+    ghost view = { λ l. take l.len l.bytes };
+
+    ghost invariant = { λ l. l.len ≤ BUFFER };
+}
+
+impl Lines {
+    /// Nothing waits.
+    pub fn new() -> Lines
+        ensures { result ≡ [] }
+    {
+        Lines {
+            bytes: [0; BUFFER],
+            len: 0,
+        }
+    }
+
+    // How many bytes wait.
+    fn len(&self) -> usize
+        ensures value { result ≡ length self.now }
+        ensures within { result ≤ BUFFER }
+    {
+        self.len
+    }
+
+    // Lets a text wait.
+    fn hold(&mut self, text: &[u8])
+        requires { length self.old + length text.now ≤ BUFFER }
+        ensures { self.new ≡ self.old ++ text.now }
+    {
+        let end = self.len + text.len();
+        self.bytes[self.len..end].copy_from_slice(text);
+        self.len = end;
+    }
+
+    // Lets a number wait, which takes up to 20 digits.
+    fn hold_number(&mut self, number: u64)
+        requires { length self.old + 20 ≤ BUFFER }
+        ensures value { self.new ≡ self.old ++ decimal number }
+        ensures few { length self.new ≤ length self.old + 20 }
+    {
+        let mut digits = [0; 20];
+        let count = decimal_into(number, &mut digits);
+        self.hold(&digits[..count]);
+    }
+
+    // Sends all out where there is no room for one more line.
+    fn make_room<S: Sink>(&mut self, sink: &mut S) -> Result<(), WriteError>
+        ensures room { OnOk result (length self.new + ROOM ≤ BUFFER) }
+        ensures prints { IsTrue S.told → Prints [] (S.taken sink.old) (S.taken sink.new) self.old self.new result }
+        ensures failed { IsErrOf result WriteError.Failed → Rose (S.faults sink.old) (S.faults sink.new) }
+        ensures memory { IsErrOf result WriteError.Memory → Rose (S.wants sink.old) (S.wants sink.new) }
+        ensures later { (S.faults sink.old ≤ S.faults sink.new) × (S.wants sink.old ≤ S.wants sink.new) }
+    {
+        if self.len() + ROOM <= BUFFER {
+            return Ok(());
+        }
+        self.flush(sink)
+    }
+
+    /// Prints a number in decimal digits.
+    pub fn number<S: Sink>(&mut self, sink: &mut S, number: u64) -> Result<(), WriteError>
+        ensures prints { IsTrue S.told → Prints (decimal number) (S.taken sink.old) (S.taken sink.new) self.old self.new result }
+        ensures failed { IsErrOf result WriteError.Failed → Rose (S.faults sink.old) (S.faults sink.new) }
+        ensures memory { IsErrOf result WriteError.Memory → Rose (S.wants sink.old) (S.wants sink.new) }
+        ensures later { (S.faults sink.old ≤ S.faults sink.new) × (S.wants sink.old ≤ S.wants sink.new) }
+    {
+        match self.make_room(sink) {
+            Ok(()) => {
+                self.hold_number(number);
+                Ok(())
+            }
+            Err(e) => Err(e),
+        }
+    }
+
+    /// Prints a byte.
+    pub fn byte<S: Sink>(&mut self, sink: &mut S, byte: u8) -> Result<(), WriteError>
+        ensures prints { IsTrue S.told → Prints (byte ∷ []) (S.taken sink.old) (S.taken sink.new) self.old self.new result }
+        ensures failed { IsErrOf result WriteError.Failed → Rose (S.faults sink.old) (S.faults sink.new) }
+        ensures memory { IsErrOf result WriteError.Memory → Rose (S.wants sink.old) (S.wants sink.new) }
+        ensures later { (S.faults sink.old ≤ S.faults sink.new) × (S.wants sink.old ≤ S.wants sink.new) }
+    {
+        match self.make_room(sink) {
+            Ok(()) => {
+                self.hold(&[byte]);
+                Ok(())
+            }
+            Err(e) => Err(e),
+        }
+    }
+
+    /// Prints the line of an arc.
+    pub fn arc<S: Sink>(&mut self, sink: &mut S, from: u64, to: u64) -> Result<(), WriteError>
+        ensures prints { IsTrue S.told → Prints (arc_line (from, to)) (S.taken sink.old) (S.taken sink.new) self.old self.new result }
+        ensures failed { IsErrOf result WriteError.Failed → Rose (S.faults sink.old) (S.faults sink.new) }
+        ensures memory { IsErrOf result WriteError.Memory → Rose (S.wants sink.old) (S.wants sink.new) }
+        ensures later { (S.faults sink.old ≤ S.faults sink.new) × (S.wants sink.old ≤ S.wants sink.new) }
+    {
+        match self.make_room(sink) {
+            Ok(()) => {
+                self.hold_arc(from, to);
+                Ok(())
+            }
+            Err(e) => Err(e),
+        }
+    }
+
+    // Lets the line of an arc wait.
+    fn hold_arc(&mut self, from: u64, to: u64)
+        requires { length self.old + ROOM ≤ BUFFER }
+        ensures { self.new ≡ self.old ++ arc_line (from, to) }
+    {
+        self.hold_number(from);
+        self.hold(b" ");
+        self.hold_number(to);
+        self.hold(b"\n");
+    }
+
+    /// Sends all out.
+    pub fn flush<S: Sink>(&mut self, sink: &mut S) -> Result<(), WriteError>
+        ensures puts { IsTrue S.told → Puts self.old (S.taken sink.old) (S.taken sink.new) result }
+        ensures empty { self.new ≡ [] }
+        ensures failed { IsErrOf result WriteError.Failed → Rose (S.faults sink.old) (S.faults sink.new) }
+        ensures memory { IsErrOf result WriteError.Memory → Rose (S.wants sink.old) (S.wants sink.new) }
+        ensures later { (S.faults sink.old ≤ S.faults sink.new) × (S.wants sink.old ≤ S.wants sink.new) }
+    {
+        let len = self.len;
+        self.len = 0;
+        write_all(sink, &self.bytes[..len])
+    }
+}
