@@ -1,0 +1,87 @@
+-- What bounds certify that hold of a graph.
+use Rattle.std.proofs.Common.{ℕ, ◌≡◌, ◌+◌, ◌-◌, ◌*◌, ◌<◌, ◌≤◌, List, length, replicate, arith, ap, sym, ◌∙◌, subst}
+use Rattle.std.proofs.lemmas.List.{length-replicate, get_or-replicate}
+use Rattle.std.proofs.lemmas.List.FromFn.{fill_by_all}
+use Rattle.wg_graph.specs.Digraph.{Digraph, IsGraph, arc_count}
+use Rattle.wg_params.specs.declared.limits.TheConstants.{MOST_PAGES}
+use Rattle.wg_rank.specs.Sum.{sum_below}
+use Rattle.wg_rank.specs.Rank.{total, gap, low, high}
+use Rattle.wg_rank.specs.Intervals.{Intervals, AreBounds, IsTable, Holds, by_page}
+use Rattle.wg_rank.specs.Certified.{IsCertified}
+use Rattle.wg_rank.specs.declared.limits.TheConstants.{MOST_DAMPING, MOST_ROUNDS, UNITS}
+use Rattle.wg_rank.proofs.Sums.{sum_same, sum_const}
+use Rattle.wg_rank.proofs.Pageranks.{numerators_total, gap_shrinks, encloses_iterates, encloses_stationary, low_le_high, within_gap, width_is, low_rises, high_falls}
+
+-- ---- where each page has the weight 1
+
+pub one_each : (n v : ℕ) → v < n → by_page (replicate n 1) v ≡ 1
+one_each n v h = get_or-replicate n v 1 0 h
+
+pub weighty : (n : ℕ) → 0 < n → 0 < sum_below n (by_page (replicate n 1))
+weighty n h = omega (arith, sum_same n (by_page (replicate n 1)) (λ _. 1) (one_each n), sum_const n 1)
+
+-- bounds within the limits, where each page has the weight 1
+pub are_bounds : (b : Intervals) → length b.low ≤ MOST_PAGES → b.damping ≤ MOST_DAMPING → b.rounds ≤ MOST_ROUNDS → length b.high ≡ length b.low
+    → b.weights ≡ replicate (length b.low) 1 → AreBounds b
+are_bounds b few damped counted high same = record {
+  few = few;
+  damped = damped;
+  counted = counted;
+  high_pages = high;
+  weight_pages = ap length same ∙ length-replicate (length b.low) 1;
+  some_weight = λ h. rw same (weighty (length b.low) h);
+}
+
+-- ---- what they certify
+
+gap_of : (b : Intervals) (g : Digraph) → Holds b g → gap g (by_page b.low) ≡ gap g (low g b.damping (by_page b.weights) b.rounds)
+gap_of b g o = ap (λ x. UNITS - x) (sum_same g.nodes (by_page b.low) (low g b.damping (by_page b.weights) b.rounds) o.low_is.each)
+
+some_weight : (b : Intervals) (g : Digraph) → AreBounds b → Holds b g → 0 < g.nodes → 0 < total g (by_page b.weights)
+some_weight b g p o so =
+    subst (λ n. 0 < sum_below n (by_page b.weights)) o.low_is.counted (p.some_weight (omega (arith, o.low_is.counted)))
+
+pub certified : (b : Intervals) (g : Digraph) → IsGraph g → AreBounds b → Holds b g → IsCertified b g
+certified b g ok p o =
+    let w : ℕ → ℕ = by_page b.weights in
+    let da : b.damping ≤ 1000 = omega (arith, p.damped) in
+    let heavy = some_weight b g p o in
+    record {
+      iterates = λ j h v i. rw (o.low_is.each v i, o.high_is.each v i) (encloses_iterates g b.damping w ok da (omega arith) (heavy (omega arith)) b.rounds j h v i);
+      stationary = λ q z t s v i. rw (o.low_is.each v i, o.high_is.each v i) (encloses_stationary g b.damping w ok da (omega arith) (heavy (omega arith)) q z t s b.rounds v i);
+      sums = λ so t. numerators_total g b.damping w ok da so (heavy so) t;
+      ordered = λ v i. rw (o.low_is.each v i, o.high_is.each v i) (low_le_high g b.damping w ok da (omega arith) (heavy (omega arith)) b.rounds v i);
+      within_gap = λ v i. rw (gap_of b g o, o.low_is.each v i, o.high_is.each v i) (omega (arith, within_gap g b.damping w ok da (omega arith) (heavy (omega arith)) b.rounds v));
+      width = λ v i. rw (o.low_is.each v i, o.high_is.each v i) (width_is g b.damping w ok da (omega arith) (heavy (omega arith)) b.rounds v);
+    }
+
+module _ (b c : Intervals) (g : Digraph) (ok : IsGraph g) (p : AreBounds b) (o : Holds b g) (q : Holds c g)
+    (d : c.damping ≡ b.damping) (e : c.weights ≡ b.weights) (k : c.rounds ≡ b.rounds + 1) where
+  pub nested : (v : ℕ) → v < g.nodes → (by_page b.low v ≤ by_page c.low v) × (by_page c.high v ≤ by_page b.high v)
+  nested v i =
+      let l = rw (d, e, k) at (q.low_is.each v i) in
+      let h = rw (d, e, k) at (q.high_is.each v i) in
+      let da : b.damping ≤ 1000 = omega (arith, p.damped) in (
+        rw (l, o.low_is.each v i) (low_rises g b.damping (by_page b.weights) ok da (omega arith) (some_weight b g p o (omega arith)) b.rounds v),
+        rw (h, o.high_is.each v i) (high_falls g b.damping (by_page b.weights) ok da (omega arith) (some_weight b g p o (omega arith)) b.rounds v),
+      )
+
+  pub gap_less : 0 < g.nodes
+      → 1000 * gap g (by_page c.low) ≤ b.damping * gap g (by_page b.low) + b.damping * arc_count g + 3 * 1000 * g.nodes
+  gap_less so =
+      let f = rw (d, e, k) at (gap_of c g q) in
+      rw (f, gap_of b g o) (gap_shrinks g b.damping (by_page b.weights) ok (omega (arith, p.damped)) so (some_weight b g p o so) b.rounds)
+
+-- ---- tables of one function are one list
+
+tables_same : (xs ys : List ℕ) (n : ℕ) (f : ℕ → ℕ) → IsTable xs n f → IsTable ys n f → xs ≡ ys
+tables_same xs ys n f t u = fill_by_all f xs n 0 t.counted t.each ∙ sym (fill_by_all f ys n 0 u.counted u.each)
+
+pub one_only : (b c : Intervals) (g : Digraph) → Holds b g → Holds c g → c.damping ≡ b.damping → c.weights ≡ b.weights → c.rounds ≡ b.rounds
+    → (c.low ≡ b.low) × (c.high ≡ b.high)
+one_only b c g o q d e k =
+    let l = rw (d, e, k) at q.low_is in
+    let h = rw (d, e, k) at q.high_is in (
+      tables_same c.low b.low g.nodes (low g b.damping (by_page b.weights) b.rounds) l o.low_is,
+      tables_same c.high b.high g.nodes (high g b.damping (by_page b.weights) b.rounds) h o.high_is,
+    )

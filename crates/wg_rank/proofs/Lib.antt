@@ -1,0 +1,10 @@
+pub mod Sums
+pub mod Arcs
+pub mod Steps
+pub mod Iterates
+pub mod Pageranks
+pub mod Spread
+pub mod Flow
+pub mod Room
+pub mod Rounds
+pub mod Certificates

@@ -1,0 +1,136 @@
+-- What a round leaves, from what was gathered.
+use Rattle.std.specs.Int.{div_ceil}
+use Rattle.std.proofs.Common.{ℕ, ◌≡◌, ◌+◌, ◌-◌, ◌*◌, ◌/◌, ◌<◌, ◌≤◌, ◌==◌, List, All, length, get_or, cond, refl, ap, arith, ◌∙◌, add-one, inl, inr}
+use Rattle.std.proofs.lemmas.Bool.{cases_lt}
+use Rattle.std.proofs.lemmas.List.Elements.{All-from_get_or}
+use Rattle.wg_graph.specs.Arcs.{has_arc}
+use Rattle.wg_graph.specs.Digraph.{Digraph, IsGraph, outdegree}
+use Rattle.wg_rank.specs.Sum.{sum_below}
+use Rattle.wg_rank.specs.Rank.{total, sum_in, sum_dangling, low_flow, high_flow, lower, upper, gap, clipped, low, high}
+use Rattle.wg_rank.specs.Settling.{low_rest, high_rest, settled_low, settled_high, least}
+use Rattle.wg_rank.specs.Intervals.{Intervals, IsTable, Holds, next_low, next_high, by_page}
+use Rattle.wg_rank.specs.declared.limits.TheConstants.{UNITS}
+use Rattle.wg_rank.proofs.Sums.{sum_same, sum_const, term_le_sum}
+use Rattle.wg_rank.proofs.Pageranks.{lower_total}
+
+pub all_within_total : (m : ℕ) (xs : List ℕ) → sum_below (length xs) (by_page xs) ≤ m → All (λ x. x ≤ m) xs
+all_within_total m xs h =
+    All-from_get_or (λ x. x ≤ m) xs 0 (λ i w. omega (arith, h, term_le_sum (length xs) (by_page xs) i w))
+
+-- ---- a round depends on the bounds of pages alone
+
+in_same : (g : Digraph) (f k : ℕ → ℕ) (v : ℕ) → ((u : ℕ) → u < g.nodes → f u ≡ k u) → sum_in g f v ≡ sum_in g k v
+in_same g f k v h = sum_same g.nodes _ _ (λ u w. ap (λ x. cond (has_arc g u v) x 0) (h u w))
+
+dangling_same : (g : Digraph) (f k : ℕ → ℕ) → ((u : ℕ) → u < g.nodes → f u ≡ k u) → sum_dangling g f ≡ sum_dangling g k
+dangling_same g f k h = sum_same g.nodes _ _ (λ u w. ap (λ x. cond (outdegree g u == 0) x 0) (h u w))
+
+module _ (g : Digraph) (a : ℕ) (w : ℕ → ℕ) where
+  pub lower_same : (l k : ℕ → ℕ) (v : ℕ) → ((u : ℕ) → u < g.nodes → l u ≡ k u) → lower g a w l v ≡ lower g a w k v
+  lower_same l k v h =
+      let e1 = in_same g (λ u. l u / outdegree g u) (λ u. k u / outdegree g u) v (λ u i. ap (λ x. x / outdegree g u) (h u i)) in
+      let e2 = dangling_same g l k h in
+      rw (e1, e2) refl
+
+  upper_same : (l k : ℕ → ℕ) (v : ℕ) → ((u : ℕ) → u < g.nodes → l u ≡ k u) → upper g a w l v ≡ upper g a w k v
+  upper_same l k v h =
+      let e1 = in_same g (λ u. div_ceil (l u) (outdegree g u)) (λ u. div_ceil (k u) (outdegree g u)) v (λ u i. ap (λ x. div_ceil x (outdegree g u)) (h u i)) in
+      let e2 = dangling_same g l k h in
+      rw (e1, e2) refl
+
+  pub clipped_same : (l k h j : ℕ → ℕ) (v : ℕ) → v < g.nodes → ((u : ℕ) → u < g.nodes → l u ≡ k u)
+      → ((u : ℕ) → u < g.nodes → h u ≡ j u) → clipped g a w l h v ≡ clipped g a w k j v
+  clipped_same l k h j v i e f =
+      let e1 = lower_same l k v e in
+      let e2 : gap g (lower g a w l) ≡ gap g (lower g a w k) = ap (λ x. UNITS - x) (sum_same g.nodes (lower g a w l) (lower g a w k) (λ u _. lower_same l k u e)) in
+      let e3 = upper_same h j v f in
+      let e4 = f v i in
+      rw (e1, e2, e3, e4) refl
+
+-- one round on, the bounds are those of one round more
+pub holds_more : (b c : Intervals) (g : Digraph) → c.damping ≡ b.damping → c.weights ≡ b.weights → c.rounds ≡ b.rounds + 1
+    → IsTable c.low g.nodes (next_low g b) → IsTable c.high g.nodes (next_high g b) → Holds b g → Holds c g
+holds_more b c g d e k l h o = record {
+  low_is = record {
+    counted = l.counted;
+    each = λ v i. rw (d, e, k, add-one) (l.each v i ∙ lower_same g b.damping (by_page b.weights) _ (low g b.damping (by_page b.weights) b.rounds) v o.low_is.each);
+  };
+  high_is = record {
+    counted = h.counted;
+    each = λ v i. rw (d, e, k, add-one)
+        (h.each v i
+        ∙ clipped_same g b.damping (by_page b.weights) _ (low g b.damping (by_page b.weights) b.rounds) _ (high g b.damping (by_page b.weights) b.rounds) v i o.low_is.each o.high_is.each);
+  };
+}
+
+-- ---- where each page has the weight 1
+
+pub weights_total : (g : Digraph) (w : ℕ → ℕ) → ((v : ℕ) → v < g.nodes → w v ≡ 1) → total g w ≡ g.nodes
+weights_total g w one = sum_same g.nodes w (λ _. 1) one ∙ sum_const g.nodes 1 ∙ omega arith
+
+-- what flows in and what is dangling make the lower bounds
+lower_from : (g : Digraph) (a : ℕ) (w : ℕ → ℕ) → ((v : ℕ) → v < g.nodes → w v ≡ 1) → (l : ℕ → ℕ) (sums : List ℕ) (d : ℕ) → length sums ≡ g.nodes
+    → ((v : ℕ) → v < g.nodes → get_or sums v 0 ≡ low_flow g l v) → d ≡ sum_dangling g l
+    → (v : ℕ) → v < g.nodes → settled_low a (low_rest (length sums) a d) sums v ≡ lower g a w l v
+lower_from g a w one l sums d n flows rest v i =
+    let e : (1000 - a) * UNITS * 1 ≡ (1000 - a) * UNITS = omega arith in
+    rw (flows v i, rest, n, weights_total g w one, one v i, e) refl
+
+pub settled_table : (g : Digraph) (a : ℕ) (w : ℕ → ℕ) → ((v : ℕ) → v < g.nodes → w v ≡ 1) → (l : ℕ → ℕ) (sums xs : List ℕ) (d : ℕ) → length sums ≡ g.nodes
+    → length xs ≡ g.nodes → ((v : ℕ) → v < g.nodes → get_or sums v 0 ≡ low_flow g l v) → d ≡ sum_dangling g l
+    → ((v : ℕ) → v < length sums → get_or xs v 0 ≡ settled_low a (low_rest (length sums) a d) sums v) → IsTable xs g.nodes (lower g a w l)
+settled_table g a w one l sums xs d n m flows rest each = record {
+  counted = m;
+  each = λ v i. each v (omega arith) ∙ lower_from g a w one l sums d n flows rest v i;
+}
+
+-- upper bounds never rise
+pub least_within : (old new : List ℕ) (f k : ℕ → ℕ) (m : ℕ) → length new ≡ length old → All (λ x. x ≤ m) old
+    → ((v : ℕ) → v < length old → get_or new v 0 ≡ least (get_or old v 0) (f v) (k v)) → All (λ x. x ≤ m) new
+least_within old new f k m e h each =
+    All-from_get_or (λ x. x ≤ m) new 0 (λ v i. omega (arith, each v (omega arith), h v 0 (omega arith)))
+
+least_same : (h x y p q s t : ℕ) → x ≡ y → p ≡ q → s ≡ t → least h x (p + s) ≡ least h y (q + t)
+least_same h x y p q s t e f k = rw (e, f, k) refl
+
+module _ (g : Digraph) (a : ℕ) (w : ℕ → ℕ) (one : (v : ℕ) → v < g.nodes → w v ≡ 1) where
+  -- new lower bounds add up to at most 1
+  pub table_total : (l : ℕ → ℕ) (xs : List ℕ) → IsGraph g → a ≤ 1000 → total g l ≤ UNITS → IsTable xs g.nodes (lower g a w l)
+      → sum_below (length xs) (by_page xs) ≤ UNITS
+  table_total l xs ok da t e =
+      rw e.counted (elim (cases_lt 0 g.nodes) [
+        | inl p ↦ omega (arith, sum_same g.nodes (by_page xs) (lower g a w l) e.each, lower_total g a w ok da p (omega (arith, weights_total g w one)) l t)
+        | inr z ↦ let q : g.nodes ≡ 0 = omega arith in rw q (omega arith)
+      ])
+
+  -- what they leave of 1
+  gap_from : (l : ℕ → ℕ) (xs : List ℕ) → IsTable xs g.nodes (lower g a w l) → UNITS - sum_below (length xs) (by_page xs) ≡ gap g (lower g a w l)
+  gap_from l xs e = rw e.counted (ap (λ x. UNITS - x) (sum_same g.nodes (by_page xs) (lower g a w l) e.each))
+
+  upper_from : (h : ℕ → ℕ) (sums : List ℕ) (d n : ℕ) → n ≡ g.nodes
+      → ((v : ℕ) → v < g.nodes → get_or sums v 0 ≡ high_flow g h v) → d ≡ sum_dangling g h
+      → (v : ℕ) → v < g.nodes → settled_high a (high_rest n a d) sums v ≡ upper g a w h v
+  upper_from h sums d n m flows rest v i =
+      let e : (1000 - a) * UNITS * 1 ≡ (1000 - a) * UNITS = omega arith in
+      rw (flows v i, rest, m, weights_total g w one, one v i, e) refl
+
+  -- what flows in, what is dangling and what the lower bounds leave make the upper bounds
+  pub clipped_from : (l h : ℕ → ℕ) (xs ups : List ℕ) (d n : ℕ) → n ≡ g.nodes → IsTable xs g.nodes (lower g a w l)
+      → ((v : ℕ) → v < g.nodes → get_or ups v 0 ≡ high_flow g h v) → d ≡ sum_dangling g h
+      → (v : ℕ) → v < g.nodes
+      → least (h v) (settled_high a (high_rest n a d) ups v) (get_or xs v 0 + (UNITS - sum_below (length xs) (by_page xs)))
+      ≡ clipped g a w l h v
+  clipped_from l h xs ups d n m low_is flows rest v i =
+      least_same (h v) _ (upper g a w h v) _ (lower g a w l v) _ (gap g (lower g a w l))
+      (upper_from h ups d n m flows rest v i) (low_is.each v i) (gap_from l xs low_is)
+
+-- ---- tables of lists that are the same
+
+pub lower_table : (g : Digraph) (a : ℕ) (w xs ys l k : List ℕ) → xs ≡ ys → k ≡ l
+    → IsTable ys g.nodes (lower g a (by_page w) (by_page k)) → IsTable xs g.nodes (lower g a (by_page w) (by_page l))
+lower_table g a w xs ys l k e f t = rw (e, ← f) t
+
+pub clipped_table : (g : Digraph) (a : ℕ) (w xs ys l k h j : List ℕ) → xs ≡ ys → k ≡ l → j ≡ h
+    → IsTable ys g.nodes (clipped g a (by_page w) (by_page k) (by_page j))
+    → IsTable xs g.nodes (clipped g a (by_page w) (by_page l) (by_page h))
+clipped_table g a w xs ys l k h j e f i t = rw (e, ← f, ← i) t

@@ -1,0 +1,109 @@
+use Rattle.std.proofs.Common.{ℕ, ◌≡◌, ◌≢◌, ◌+◌, ◌/◌, ◌≤◌, length, get_or, arith, ap, sym, ◌∙◌}
+use Rattle.std.proofs.Math.Nat.{div-le_self}
+use Rattle.wg_graph.specs.Digraph.{outdegree}
+use Rattle.std.specs.Int.{div_ceil}
+use Rattle.wg_rank.specs.declared.limits.TheConstants.{UNITS}
+use Rattle.wg_rank.proofs.Flow.{gathered_room, dangling_room, gathered_within, dangling_within, gathered_more, gathered_same, dangling_more, dangling_same, div_ceil_le}
+use Rattle.wg_rank.proofs.gathering.gather.Goals as goal
+use Rattle.wg_rank.proofs.gathering.gather.Goals.{in-Some+then-degree-eq0, in-Some+else-degree-eq0, in_default}
+
+pub overflow_add-low_dangling : goal.overflow_add-low_dangling
+overflow_add-low_dangling g c =
+    omega (
+      arith,
+      dangling_room (g.L.Lists.graph c.args.lists.now) c.loop-u.u (λ u. get_or c.args.low.now u 0) c.loop-u.low_dangling (get_or c.args.low.now c.loop-u.u 0) (omega arith)
+          (λ w i. c.requires.low_units w 0 (omega arith)) (c.requires.low_units c.loop-u.u 0 (omega arith)) c.loop-u.invariant.low_rest,
+    )
+
+pub overflow_add-high_dangling : goal.overflow_add-high_dangling
+overflow_add-high_dangling g c =
+    omega (
+      arith,
+      dangling_room (g.L.Lists.graph c.args.lists.now) c.loop-u.u (λ u. get_or c.args.high.now u 0) c.loop-u.high_dangling (get_or c.args.high.now c.loop-u.u 0) (omega arith)
+          (λ w i. c.requires.high_units w 0 (omega arith)) (c.requires.high_units c.loop-u.u 0 (omega arith)) c.loop-u.invariant.high_rest,
+    )
+
+le_both : (x y z : ℕ) → x ≤ y → y ≤ z → x ≤ z
+le_both x y z h k = omega arith
+
+pub spread-requires-clause-room : goal.spread-requires-clause-room
+spread-requires-clause-room g c =
+    gathered_room _ (length c.args.low.now) c.loop-u.u (λ u. get_or c.args.low.now u 0 / outdegree (g.L.Lists.graph c.args.lists.now) u) _ _ (omega arith) (omega arith)
+    (λ w i. le_both _ _ UNITS (div-le_self _ _) (c.requires.low_units w 0 (omega arith)))
+    (le_both _ _ UNITS (div-le_self _ _) (c.requires.low_units c.loop-u.u 0 (omega arith))) c.loop-u.invariant.low
+
+pub spread-requires-else-degree-eq0-clause-room : goal.spread-requires-else-degree-eq0-clause-room
+spread-requires-else-degree-eq0-clause-room g c =
+    gathered_room _ (length c.args.low.now) c.loop-u.u (λ u. div_ceil (get_or c.args.high.now u 0) (outdegree (g.L.Lists.graph c.args.lists.now) u)) _ c.div_ceil.result (omega arith) (omega arith)
+    (λ w i. le_both _ _ UNITS (div_ceil_le _ _) (c.requires.high_units w 0 (omega arith)))
+    (omega (arith, c.div_ceil.ensures, div_ceil_le (get_or c.args.high.now c.loop-u.u 0) (length c.in-Some.list.now), c.requires.high_units c.loop-u.u 0 (omega arith))) c.loop-u.invariant.high
+
+pub loop-u-preserved : goal.loop-u-preserved
+loop-u-preserved g c =
+    let a = c.next_list.follows.holds-at-none in
+    let i = c.loop-u.invariant in
+    let graph = g.L.Lists.graph c.args.lists.now in
+    let n : ℕ = length c.args.low.now in
+    let u : ℕ = c.loop-u.u in
+    let low : ℕ → ℕ = λ u. get_or c.args.low.now u 0 in
+    let high : ℕ → ℕ = λ u. get_or c.args.high.now u 0 in
+    let low_share : ℕ → ℕ = λ u. low u / outdegree graph u in
+    let high_share : ℕ → ℕ = λ u. div_ceil (high u) (outdegree graph u) in
+    elim c.match-next_list.branch [
+      | in-Some+then-degree-eq0 w ↦
+          let l = rw (i.same, i.place) at w.in-Some.ensures.lent in
+          let e : outdegree graph u ≡ 0 = ap length (sym l.1) ∙ w.if-degree-eq0.true in
+          let p = rw w.in-Some.is at a in
+          record {
+            same = rw w.lists-is (p.0 ∙ i.same);
+            place = rw w.lists-is (p.1 ∙ ap (λ k. k + 1) i.place);
+            low = rw w.low_in-is (gathered_same graph n u low_share _ e i.low);
+            high = rw w.high_in-is (gathered_same graph n u high_share _ e i.high);
+            low_rest = rw w.low_dangling-is (dangling_more graph u low _ e i.low_rest);
+            high_rest = rw w.high_dangling-is (dangling_more graph u high _ e i.high_rest);
+          }
+      | in-Some+else-degree-eq0 w ↦
+          let l = rw (i.same, i.place) at w.in-Some.ensures.lent in
+          let d : outdegree graph u ≡ length w.in-Some.list.now = ap length (sym l.1) in
+          let e : outdegree graph u ≢ 0 = λ q. w.if-degree-eq0.false (sym d ∙ q) in
+          let p = rw w.in-Some.is at a in
+          let s1 = rw (l.1) at w.spread.ensures.each in
+          let s2 = rw (w.div_ceil.ensures, l.1) at w.spread-else-degree-eq0.ensures.each in
+          record {
+            same = rw w.lists-is (p.0 ∙ i.same);
+            place = rw w.lists-is (p.1 ∙ ap (λ k. k + 1) i.place);
+            low = rw w.low_in-is (gathered_more graph n u low_share _ _ (omega arith) i.low s1);
+            high = rw w.high_in-is (gathered_more graph n u high_share _ _ (omega arith) i.high s2);
+            low_rest = rw w.low_dangling-is (dangling_same graph u low _ e i.low_rest);
+            high_rest = rw w.high_dangling-is (dangling_same graph u high _ e i.high_rest);
+          }
+      | in_default w ↦ absurd (omega (arith, rw (i.same, i.place) at w.in_default.ensures.lent))
+    ]
+
+pub returns-clause-low_flow : goal.returns-clause-low_flow
+returns-clause-low_flow g c =
+    λ v w. let e : c.loop-u.u ≡ (g.L.Lists.graph c.args.lists.now).nodes = omega arith in rw (← e) (c.loop-u.invariant.low.each v w)
+
+pub returns-clause-high_flow : goal.returns-clause-high_flow
+returns-clause-high_flow g c =
+    λ v w. let e : c.loop-u.u ≡ (g.L.Lists.graph c.args.lists.now).nodes = omega arith in rw (← e) (c.loop-u.invariant.high.each v w)
+
+pub returns-clause-low_in_room : goal.returns-clause-low_in_room
+returns-clause-low_in_room g c =
+    gathered_within (g.L.Lists.graph c.args.lists.now) (length c.args.low.now) c.loop-u.u (λ u. get_or c.args.low.now u 0 / outdegree (g.L.Lists.graph c.args.lists.now) u) _ (omega arith) (omega arith)
+    (λ w i. le_both _ _ UNITS (div-le_self _ _) (c.requires.low_units w 0 (omega arith))) c.loop-u.invariant.low
+
+pub returns-clause-high_in_room : goal.returns-clause-high_in_room
+returns-clause-high_in_room g c =
+    gathered_within (g.L.Lists.graph c.args.lists.now) (length c.args.low.now) c.loop-u.u (λ u. div_ceil (get_or c.args.high.now u 0) (outdegree (g.L.Lists.graph c.args.lists.now) u)) _ (omega arith) (omega arith)
+    (λ w i. le_both _ _ UNITS (div_ceil_le _ _) (c.requires.high_units w 0 (omega arith))) c.loop-u.invariant.high
+
+pub returns-clause-low_dangling_room : goal.returns-clause-low_dangling_room
+returns-clause-low_dangling_room g c =
+    dangling_within (g.L.Lists.graph c.args.lists.now) c.loop-u.u (λ u. get_or c.args.low.now u 0) _ (omega arith)
+    (λ w i. c.requires.low_units w 0 (omega arith)) c.loop-u.invariant.low_rest
+
+pub returns-clause-high_dangling_room : goal.returns-clause-high_dangling_room
+returns-clause-high_dangling_room g c =
+    dangling_within (g.L.Lists.graph c.args.lists.now) c.loop-u.u (λ u. get_or c.args.high.now u 0) _ (omega arith)
+    (λ w i. c.requires.high_units w 0 (omega arith)) c.loop-u.invariant.high_rest

@@ -1,0 +1,28 @@
+-- What is true of the fields of all bounds.
+use Rattle.std.specs.Prelude.{◌≡◌, ◌≤◌, All, length, replicate}
+use Rattle.wg_params.specs.declared.limits.TheConstants.{MOST_PAGES}
+use Rattle.wg_rank.specs.Sum.{sum_below}
+use Rattle.wg_rank.specs.Intervals.{Intervals, by_page}
+use Rattle.wg_rank.specs.declared.limits.TheConstants.{MOST_DAMPING, MOST_ROUNDS, UNITS}
+use Rattle.wg_rank.specs.declared.bounds.Bounds.TheInside.{Inside}
+
+-- each page has the weight 1
+abbrev pub intervals_of : Inside → Intervals
+intervals_of b = record {
+  damping = b.damping;
+  rounds = b.rounds;
+  weights = replicate (length b.low.items) 1;
+  low = b.low.items;
+  high = b.high.items;
+}
+
+pub record AreKept (b : Inside) : Type 0 where
+  pub few : length b.low.items ≤ MOST_PAGES
+  pub damped : b.damping ≤ MOST_DAMPING
+  pub counted : b.rounds ≤ MOST_ROUNDS
+  pub high_pages : length b.high.items ≡ length b.low.items
+  pub next_low_pages : length b.next_low.items ≡ length b.low.items
+  pub high_in_pages : length b.high_in.items ≡ length b.low.items
+  -- so that no sum passes 128 bits
+  pub low_total : sum_below (length b.low.items) (by_page b.low.items) ≤ UNITS
+  pub high_units : All (λ x. x ≤ UNITS) b.high.items

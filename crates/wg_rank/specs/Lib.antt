@@ -1,0 +1,7 @@
+pub mod BoundsInside
+pub mod Certified
+pub mod Intervals
+pub mod Laws
+pub mod Rank
+pub mod Settling
+pub mod Sum

@@ -1,0 +1,119 @@
+ghost use Rattle.std.specs.Prelude.{◌≡◌, ℕ, ◌+◌, ◌*◌, ◌<◌, ◌≤◌, length, replicate, slice_index, IfOk};
+ghost use Rattle.wg_params.specs.declared.limits.TheConstants.{MOST_PAGES};
+ghost use Rattle.wg_graph.specs.Digraph.{Digraph, arc_count};
+ghost use Rattle.wg_rank.specs.Rank.{gap};
+ghost use Rattle.wg_rank.specs.Intervals.{AreBounds, IsTable, Holds, next_low, next_high, by_page};
+ghost use Rattle.wg_rank.specs.Certified.{IsCertified};
+ghost use Rattle.wg_rank.specs.declared.limits.TheConstants.{MOST_DAMPING, MOST_ROUNDS, UNITS};
+
+use crate::UNITS;
+use crate::advancing::advance;
+use std::alloc::{AllocError, Global};
+use std::marker::Model;
+use std::mem;
+use wg_graph::Lists;
+
+/// Bounds of the PageRank of each page, in units of 10^-24. They hold 64 bytes for each page.
+#[derive(Drop)]
+pub struct Bounds {
+    // In thousandths.
+    damping: u64,
+    rounds: u64,
+    low: Vec<u128>,
+    high: Vec<u128>,
+    // What a round writes to: what flows in below, and in place of it the new lower bounds.
+    next_low: Vec<u128>,
+    // What flows in above.
+    high_in: Vec<u128>,
+}
+
+impl Model for Bounds {
+    ghost use Rattle.wg_rank.specs.BoundsInside.{intervals_of, AreKept};
+    ghost use Rattle.wg_rank.specs.Intervals.{Intervals};
+
+    ghost Value = { Intervals };
+
+    ghost view = { intervals_of };
+
+    ghost invariant = { AreKept };
+}
+
+impl Bounds {
+    /// The bounds of `n` pages before the first round, 0 and 1, at a damping in thousandths. Teleport goes to each page alike.
+    /// All memory of later rounds is taken here.
+    pub fn new(alloc: Global, n: u64, damping: u64) -> Result<Bounds, AllocError>
+        requires pages { n ≤ MOST_PAGES }
+        requires damping { damping ≤ MOST_DAMPING }
+        ensures damping { IfOk result (λ b. b.damping ≡ damping) }
+        ensures weights { IfOk result (λ b. b.weights ≡ replicate n 1) }
+        ensures pages { IfOk result (λ b. length b.low ≡ n) }
+        ensures rounds { IfOk result (λ b. b.rounds ≡ 0) }
+        ensures holds { IfOk result (λ b. (g : Digraph) → g.nodes ≡ n → Holds b g) }
+    {
+        let n = n as usize;
+        Ok(Bounds {
+            damping,
+            rounds: 0,
+            low: vec![in alloc; 0; n]?,
+            high: vec![in alloc; UNITS; n]?,
+            next_low: vec![in alloc; 0; n]?,
+            high_in: vec![in alloc; 0; n]?,
+        })
+    }
+
+    /// How many rounds are done.
+    pub fn rounds(&self) -> u64
+        ensures value { result ≡ self.now.rounds }
+        ensures proper { AreBounds self.now }
+    {
+        self.rounds
+    }
+
+    /// The lower bound of page `v`, in units.
+    pub fn low(&self, v: u64) -> u128
+        requires { v < length self.now.low }
+        ensures value { result ≡ slice_index self.now.low v }
+        ensures within { result ≤ UNITS }
+    {
+        self.low[v as usize]
+    }
+
+    /// The upper bound of page `v`, in units.
+    pub fn high(&self, v: u64) -> u128
+        requires { v < length self.now.low }
+        ensures value { result ≡ slice_index self.now.high v }
+        ensures within { result ≤ UNITS }
+    {
+        self.high[v as usize]
+    }
+
+    /// Does one round, in one pass along the lists of a graph with as many pages. Each page's bounds are divided by its
+    /// outdegree once, and for an arc it only adds. It takes no memory and cannot fail.
+    pub fn round<L: Lists>(&mut self, lists: &mut L)
+        requires pages { (L.graph lists.old).nodes ≡ length self.old.low }
+        requires more { self.old.rounds < MOST_ROUNDS }
+        ensures graph { L.graph lists.new ≡ L.graph lists.old }
+        ensures damping { self.new.damping ≡ self.old.damping }
+        ensures weights { self.new.weights ≡ self.old.weights }
+        ensures rounds { self.new.rounds ≡ self.old.rounds + 1 }
+        ensures low { IsTable self.new.low (L.graph lists.old).nodes (next_low (L.graph lists.old) self.old) }
+        ensures high { IsTable self.new.high (L.graph lists.old).nodes (next_high (L.graph lists.old) self.old) }
+        ensures holds { Holds self.old (L.graph lists.old) → Holds self.new (L.graph lists.old) }
+        ensures certified { Holds self.old (L.graph lists.old) → IsCertified self.new (L.graph lists.old) }
+        ensures nested { Holds self.old (L.graph lists.old) → (v : ℕ) → v < length self.old.low
+            → (by_page self.old.low v ≤ by_page self.new.low v) × (by_page self.new.high v ≤ by_page self.old.high v) }
+        ensures gap { let g = L.graph lists.old in Holds self.old g → 0 < g.nodes
+            → 1000 * gap g (by_page self.new.low) ≤ self.old.damping * gap g (by_page self.old.low) + self.old.damping * arc_count g + 3 * 1000 * g.nodes }
+    {
+        self.rounds += 1;
+        advance(
+            lists,
+            self.damping,
+            &self.low,
+            &mut self.high,
+            &mut self.next_low,
+            &mut self.high_in,
+        );
+        mem::swap(&mut self.low, &mut self.next_low);
+    }
+}

@@ -1,0 +1,60 @@
+// What flows to each page, gathered in one pass along the lists.
+
+ghost use Rattle.std.specs.Prelude.{◌≡◌, ℕ, ◌*◌, ◌<◌, ◌≤◌, length, slice_index, All};
+ghost use Rattle.wg_params.specs.declared.limits.TheConstants.{MOST_PAGES};
+ghost use Rattle.wg_graph.specs.Digraph.{IsGraph};
+ghost use Rattle.wg_rank.specs.Intervals.{by_page};
+ghost use Rattle.wg_rank.specs.Rank.{low_flow, high_flow, sum_dangling};
+ghost use Rattle.wg_rank.specs.declared.limits.TheConstants.{UNITS};
+
+use crate::spreading::spread;
+use wg_graph::Lists;
+
+// Adds to `low_in` and `high_in` what flows to each page along arcs, and gives what the dangling pages hold, below and
+// above. A page's share is divided out once and then added to each of its successors.
+pub(crate) fn gather<L: Lists>(
+    lists: &mut L,
+    low: &[u128],
+    high: &[u128],
+    low_in: &mut [u128],
+    high_in: &mut [u128],
+) -> (u128, u128)
+    requires few { length low.now ≤ MOST_PAGES }
+    requires pages { (L.graph lists.old).nodes ≡ length low.now }
+    requires high_pages { length high.now ≡ length low.now }
+    requires low_in_pages { length low_in.old ≡ length low.now }
+    requires high_in_pages { length high_in.old ≡ length low.now }
+    requires low_units { All (λ x. x ≤ UNITS) low.now }
+    requires high_units { All (λ x. x ≤ UNITS) high.now }
+    requires low_empty { All (λ x. x ≡ 0) low_in.old }
+    requires high_empty { All (λ x. x ≡ 0) high_in.old }
+    ensures graph { L.graph lists.new ≡ L.graph lists.old }
+    ensures proper { IsGraph (L.graph lists.old) }
+    ensures low_flow { (v : ℕ) → v < length low.now → slice_index low_in.new v ≡ low_flow (L.graph lists.old) (by_page low.now) v }
+    ensures high_flow { (v : ℕ) → v < length low.now → slice_index high_in.new v ≡ high_flow (L.graph lists.old) (by_page high.now) v }
+    ensures low_dangling { result.0 ≡ sum_dangling (L.graph lists.old) (by_page low.now) }
+    ensures high_dangling { result.1 ≡ sum_dangling (L.graph lists.old) (by_page high.now) }
+    ensures low_in_room { All (λ x. x ≤ MOST_PAGES * UNITS) low_in.new }
+    ensures high_in_room { All (λ x. x ≤ MOST_PAGES * UNITS) high_in.new }
+    ensures low_dangling_room { result.0 ≤ MOST_PAGES * UNITS }
+    ensures high_dangling_room { result.1 ≤ MOST_PAGES * UNITS }
+{
+    // Asked for what a graph's lists are, which its contract says.
+    let _pages = lists.nodes();
+    lists.begin();
+    let mut low_dangling = 0;
+    let mut high_dangling = 0;
+    for u in 0..low.len() {
+        if let Some(list) = lists.next_list() {
+            let degree = list.len() as u128;
+            if degree == 0 {
+                low_dangling += low[u];
+                high_dangling += high[u];
+            } else {
+                spread(low_in, list, low[u] / degree);
+                spread(high_in, list, high[u].div_ceil(degree));
+            }
+        }
+    }
+    (low_dangling, high_dangling)
+}

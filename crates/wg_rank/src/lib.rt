@@ -1,0 +1,36 @@
+//! Bounds of PageRank, after Page and Brin: for each page an interval that holds its share, in whole numbers.
+//!
+//! [`Bounds`] has a lower and an upper bound for each page, in units of 10^-24. They begin at 0 and 1, and each
+//! [`Bounds::round`] takes the damping's part of what flows along the arcs and from the dangling pages, and teleport's
+//! part, all rounded down in the lower bounds and up in the upper ones. The lower bounds leave some rest of 1; no share is
+//! above its lower bound by more than that. After `k` rounds the intervals hold every exact iterate from the `k`-th on and
+//! every stationary vector, they lie within the earlier ones, and their width is bounded by a stated term, which shrinks as
+//! the damping's power does. [`laws`] says the same of bounds before the first round.
+//!
+//! Data flow of a round, in one pass along the lists of [`wg_graph::Lists`]:
+//!
+//! ```text
+//! low, high --> gather: each page's shares, to each of its successors --> what flows in, what dangling pages hold
+//!                                                                              |
+//!               new low, high <-- settle: the damping's part, and teleport's <-+
+//! ```
+//!
+//! Memory is taken by [`Bounds::new`] alone: four numbers of 16 bytes for each page. A round divides each page's two bounds
+//! by its outdegree, once and not for each arc, and what flows in by 1000; for an arc it adds twice. No sum passes 128 bits:
+//! what flows to a page is at most one whole for each page, so below 2^36 * 10^24, and the damping multiplies it by less
+//! than 2^10.
+#![tactic(auto)]
+
+mod advancing;
+mod bounds;
+mod gathering;
+pub mod laws;
+mod limits;
+mod settling;
+mod spreading;
+
+pub use bounds::Bounds;
+pub use limits::{MOST_DAMPING, MOST_ROUNDS, UNITS};
+
+#[cfg(test)]
+mod tests;
