@@ -6,3 +6,4 @@ pub mod Ends
 pub mod Fronts
 pub mod Growth
 pub mod Arcs
+pub mod Asked

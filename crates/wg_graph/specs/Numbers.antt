@@ -14,3 +14,8 @@ is_in_either xs ys y = is_in y xs || is_in y ys
 abbrev pub numbers_where : (ℕ → Bool) → ℕ → ℕ → List ℕ
 numbers_where test n zero = []
 numbers_where test n (suc k) = if test n then n ∷ numbers_where test (n + 1) k else numbers_where test (n + 1) k
+
+-- whether it is the first number of the list
+abbrev pub begins_with : ℕ → List ℕ → Bool
+begins_with y [] = false
+begins_with y (x ∷ xs) = x == y

@@ -4,9 +4,10 @@
 //! [`GraphBuilder`], which takes arcs in ascending order, or whole lists, page by page. [`Lists`] is a graph whose lists are
 //! read in order, wherever they come from; [`GraphLists`] reads those of a [`Graph`].
 //!
-//! [`List`] holds numbers in order, as the successors of one page, and [`merge`] joins two ascending lists into one. The
-//! definitions say what a graph is, which lists ascend, which ascending list a set of numbers has, and which members of a
-//! referenced list its copy blocks copy; the lemmas on them serve every crate that copies, merges or writes lists.
+//! [`List`] holds numbers in order, as the successors of one page, and [`merge`] joins two ascending lists into one.
+//! [`Members`] tells of one number after the other whether it stands in an ascending list. The definitions say what a graph
+//! is, which lists ascend, which ascending list a set of numbers has, and which members of a referenced list its copy blocks
+//! copy; the lemmas on them serve every crate that copies, merges or writes lists.
 //!
 //! A graph holds 8 bytes for each arc and 8 for each page, and lends any list in constant time. Building it takes time in
 //! proportion to its arcs and pages. Memory is taken as the arcs come, and never by the number of pages that is claimed.
@@ -17,12 +18,14 @@ mod cutting;
 mod graph;
 mod list;
 mod lists;
+mod members;
 mod merging;
 
 pub use builder::GraphBuilder;
 pub use graph::Graph;
 pub use list::List;
 pub use lists::{GraphLists, Lists};
+pub use members::Members;
 pub use merging::merge;
 
 #[cfg(test)]
