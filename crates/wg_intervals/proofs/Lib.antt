@@ -2,3 +2,6 @@ pub mod Words
 pub mod Walks
 pub mod Rows
 pub mod Order
+pub mod Maximal
+pub mod Splits
+pub mod Divided

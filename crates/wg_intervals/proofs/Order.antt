@@ -9,7 +9,7 @@ ascends_from : (n m : ℕ) (xs : List ℕ) → n ≤ m → Ascends m xs → Asce
 ascends_from n m [] le a = tt
 ascends_from n m (x ∷ xs) le a = let first = a.0 in (omega (arith, le, first), a.1)
 
-range_ascends : (n l k : ℕ) (xs : List ℕ) → n ≤ l → Ascends (l + k) xs → Ascends n (range_with_len l k ++ xs)
+pub range_ascends : (n l k : ℕ) (xs : List ℕ) → n ≤ l → Ascends (l + k) xs → Ascends n (range_with_len l k ++ xs)
 range_ascends n l zero xs le a = ascends_from n (l + 0) xs (omega (arith, le)) a
 range_ascends n l (suc k) xs le a =
     let place : l + suc k ≡ l + 1 + k = omega arith in

@@ -1,10 +1,11 @@
--- Intervals that are spelled bit by bit.
-use Rattle.std.proofs.Common.{[], ◌∷◌, drop, refl, lit≤}
+-- Intervals that are spelled bit by bit, and intervals of lists.
+use Rattle.std.proofs.Common.{◌≡◌, [], ◌∷◌, drop, refl, lit≤}
 use Rattle.std.specs.Prelude.{None}
 use Rattle.std.specs.Int.Count.{count_leading_zeros}
 use Rattle.wg_bits.specs.Bits.{low_bits, bits_of}
 use Rattle.wg_codes.specs.Words.{highest, unary, gamma}
 use Rattle.wg_intervals.specs.Stored.{IntervalsStandAt}
+use Rattle.wg_intervals.specs.Canonical.{runs_of, intervals_of, residuals_of, ends_and_lengths}
 
 -- 011 1 1 1, and two bits that belong to nothing
 pub two_of_the_least_length : IntervalsStandAt 0 2 None 2 (bits_of (124 ∷ []))
@@ -31,3 +32,20 @@ one_before_the_page =
       refl,
       (drop 8 bits, record { v = 5; w = 1; between = drop 5 bits; left_word = (lit≤ tt, refl); length_word = (lit≤ tt, refl); left_is = refl; length_is = refl; some = lit≤ tt; low = lit≤ tt }, tt),
     )
+
+-- two runs of just the least length
+two_intervals : ends_and_lengths (intervals_of 2 (1 ∷ 2 ∷ 4 ∷ 5 ∷ [])) ≡ 1 ∷ 2 ∷ 4 ∷ 2 ∷ []
+unfolding runs_of
+two_intervals = refl
+
+nothing_left : residuals_of 2 (1 ∷ 2 ∷ 4 ∷ 5 ∷ []) ≡ []
+unfolding runs_of
+nothing_left = refl
+
+short_run_left : residuals_of 3 (0 ∷ 1 ∷ 2 ∷ 4 ∷ 5 ∷ 9 ∷ []) ≡ 4 ∷ 5 ∷ 9 ∷ []
+unfolding runs_of
+short_run_left = refl
+
+no_intervals : residuals_of 0 (0 ∷ 1 ∷ 2 ∷ []) ≡ 0 ∷ 1 ∷ 2 ∷ []
+unfolding runs_of
+no_intervals = refl

@@ -4,12 +4,24 @@
 //! [`IntervalWalk`] gives the numbers inside the intervals, one after the other, ascending. It reads the words of an interval
 //! when it reaches it, with a cursor of its own, so it keeps a few numbers alone.
 //!
-//! Nothing here takes memory, and each step reads at most two words.
+//! Whoever writes a record needs the intervals among the successors that are not copied: [`split`] gives them and the numbers
+//! in none, the residuals, as a [`Split`], in one pass. A [`Run`] gives the maximal runs of consecutive numbers one by one, for
+//! those who only count. The function of [`laws`] states that a split loses nothing, and leaves nothing in residuals that
+//! could stand in an interval.
+//!
+//! Nothing but a [`Split`] takes memory. Each step of a walk reads at most two words.
 #![tactic(auto)]
 
 mod interval;
+pub mod laws;
+mod parts;
+mod run;
+mod splitting;
 #[cfg(test)]
 mod tests;
 mod walk;
 
+pub use parts::Split;
+pub use run::Run;
+pub use splitting::split;
 pub use walk::IntervalWalk;

@@ -2,7 +2,8 @@ ghost use Rattle.std.specs.Prelude.{◌≤◌, ◌^◌, None, length};
 ghost use Rattle.wg_bits.specs.Bits.{bits_of};
 ghost use Rattle.wg_intervals.specs.Stored.{IntervalsStandAt};
 
-use crate::IntervalWalk;
+use crate::{IntervalWalk, split};
+use std::test::Fail;
 use wg_bits::{Bits, Cursor};
 
 // The first five answers of a walk over `count` intervals that are at least 2 long.
@@ -30,4 +31,19 @@ fn numbers_inside_intervals(rt: HostRuntime) {
     assert_eq!(rt; one, [Some(7), Some(8), Some(9), None, None]);
     let none = first_five(b"", 10, 0);
     assert_eq!(rt; none, [None; 5]);
+}
+
+#[test]
+fn runs_of_the_least_length_are_intervals(rt: HostRuntime) -> Result<(), Fail> {
+    let alloc = rt.alloc();
+    let two = split(alloc, &[1, 2, 4, 5], 2)?;
+    assert_eq!(rt; two.intervals.as_slice(), [1, 2, 4, 2].as_slice());
+    assert_eq!(rt; two.residuals.as_slice(), [].as_slice());
+    let one = split(alloc, &[0, 1, 2, 4, 5, 9], 3)?;
+    assert_eq!(rt; one.intervals.as_slice(), [0, 3].as_slice());
+    assert_eq!(rt; one.residuals.as_slice(), [4, 5, 9].as_slice());
+    let none = split(alloc, &[0, 1, 2], 0)?;
+    assert_eq!(rt; none.intervals.as_slice(), [].as_slice());
+    assert_eq!(rt; none.residuals.as_slice(), [0, 1, 2].as_slice());
+    Ok(())
 }
