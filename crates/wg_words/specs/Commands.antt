@@ -8,9 +8,9 @@ use Rattle.clap.specs.Words.{app_of, App, Row, Rule, Text, Kinds, new_app, new_r
 abbrev pub base_rule : Rule
 base_rule = record (new_rule (codes "base")) { required = true }
 
--- check BASE
-abbrev pub check_app : App
-check_app = with_rule (new_app (codes "check")) base_rule
+-- NAME BASE
+abbrev pub archive_app : Text → App
+archive_app name = with_rule (new_app name) base_rule
 
 -- one level of subcommands, of which one is required
 abbrev pub program_app : App
@@ -18,7 +18,7 @@ program_app = record (new_app (codes "webgraph")) { top = record (new_app (codes
 
 -- the command line of the program
 abbrev pub command_app : App
-command_app = with_subcommand program_app check_app.top
+command_app = with_subcommand (with_subcommand (with_subcommand program_app (archive_app (codes "check")).top) (archive_app (codes "arcs")).top) (archive_app (codes "offsets")).top
 
 -- nothing where the words are refused
 abbrev pub where_empty : {X : Type 0} → Kinds → Option X → Option X

@@ -1,7 +1,7 @@
 ghost use Rattle.std.specs.Prelude.{◌≡◌, Some, None, IfOk, IfErr, option_and_then, option_map, map, string_bytes};
 ghost use Rattle.clap.specs.Words.{subcommand_rows_of, rows_of, found_of, first_of};
 ghost use Rattle.wg_words.specs.Commands.{parsed};
-ghost use Rattle.wg_words.specs.Jobs.{job_of, job_from, name_in, nonempty_of};
+ghost use Rattle.wg_words.specs.Jobs.{job_of, job_from, job_on, name_in, nonempty_of};
 
 use crate::commands::command;
 use crate::{Job, JobError, Name, Words};
@@ -53,9 +53,18 @@ fn job_from(alloc: Global, command: &str, found: &ArgMatches<'_>) -> Result<Opti
     let Some(base) = name_at(alloc, found, "base")? else {
         return Ok(None);
     };
+    Ok(job_on(command, base))
+}
+
+// The job of a command on one archive.
+fn job_on(command: &str, base: Name) -> Option<Job>
+    ensures { result ≡ job_on command.now base }
+{
     match command {
-        "check" => Ok(Some(Job::Check { base })),
-        _ => Ok(None),
+        "check" => Some(Job::Check { base }),
+        "arcs" => Some(Job::Arcs { base }),
+        "offsets" => Some(Job::Offsets { base }),
+        _ => None,
     }
 }
 

@@ -1,7 +1,7 @@
 //! The commands of the program with their options and positionals: a function each, as the definitions have an `App` each.
 ghost use Rattle.std.specs.Prelude.{◌≡◌, IfOk, false};
 ghost use Rattle.clap.specs.Words.{rule_of};
-ghost use Rattle.wg_words.specs.Commands.{IsApp, base_rule, check_app, program_app, command_app};
+ghost use Rattle.wg_words.specs.Commands.{IsApp, base_rule, archive_app, program_app, command_app};
 
 use clap::{Arg, Command};
 use std::alloc::{AllocError, Global};
@@ -14,10 +14,11 @@ fn base<'a>(alloc: Global) -> Arg<'a>
     Arg::new(alloc, "base").required(true)
 }
 
-fn check<'a>(alloc: Global) -> Result<Command<'a>, AllocError>
-    ensures { IfOk result (IsApp check_app) }
+// A command on one archive.
+fn on_archive<'a>(alloc: Global, name: &'a str) -> Result<Command<'a>, AllocError>
+    ensures { IfOk result (IsApp (archive_app name.now)) }
 {
-    Command::new(alloc, "check").arg(base(alloc))
+    Command::new(alloc, name).arg(base(alloc))
 }
 
 fn program<'a>(alloc: Global) -> Command<'a>
@@ -32,6 +33,11 @@ fn program<'a>(alloc: Global) -> Command<'a>
 pub fn command<'a>(alloc: Global) -> Result<Command<'a>, AllocError>
     ensures { IfOk result (IsApp command_app) }
 {
-    let check = check(alloc)?;
-    program(alloc).subcommand(check)
+    let check = on_archive(alloc, "check")?;
+    let arcs = on_archive(alloc, "arcs")?;
+    let offsets = on_archive(alloc, "offsets")?;
+    program(alloc)
+        .subcommand(check)?
+        .subcommand(arcs)?
+        .subcommand(offsets)
 }

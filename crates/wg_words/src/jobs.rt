@@ -4,8 +4,12 @@ use thiserror::Error;
 /// What the words ask for.
 #[derive(Drop)]
 pub enum Job {
-    /// `check BASE`: whether the files BASE`.properties` and BASE`.graph` are an archive.
+    /// `check BASE`: whether the files BASE`.properties`, BASE`.graph` and BASE`.offsets` are an archive.
     Check { base: Name },
+    /// `arcs BASE`: the arcs of the graph.
+    Arcs { base: Name },
+    /// `offsets BASE`: the places of the records.
+    Offsets { base: Name },
 }
 
 /// Why there is no job.
