@@ -1,5 +1,5 @@
 -- What stands where a job ends.
-use Rattle.std.proofs.Common.{◌≡◌, ◌⊎◌, inl, inr, ℕ, ◌<◌, List, ◌++◌, length, take, refl, sym, ◌∙◌, ap, subst, Option, Some, None, Result, Ok, Err}
+use Rattle.std.proofs.Common.{◌≡◌, inl, inr, ℕ, List, ◌++◌, take, refl, sym, ◌∙◌, ap, subst, Option, Some, None, Result, Ok, Err}
 use Rattle.std.specs.Result.{IsErrAnd, IfErr}
 use Rattle.std.proofs.lemmas.List.{append-nil}
 use Rattle.wg_io.specs.Outside.{Files}
@@ -12,12 +12,12 @@ use Rattle.wg_grammar.specs.declared.fault.ArchiveFault.{ArchiveFault}
 use Rattle.wg_grammar.specs.declared.fault.ArchiveFault.TheVariants as archive
 use Rattle.wg_words.specs.declared.jobs.Job.{Job}
 use Rattle.wg_cli.specs.Answers.{HasOutput, IsUnput, status_in}
-use Rattle.wg_cli.specs.Lines.{ArePromised, ArePromisedBy, IsBadArchive, arcs_in}
+use Rattle.wg_cli.specs.Lines.{ArePromised, ArePromisedBy, IsBadFile, arcs_in}
 use Rattle.wg_cli.specs.declared.ending.Ending.{Ending}
 use Rattle.wg_cli.specs.declared.status.Input.{Input}
 use Rattle.wg_cli.specs.declared.status.Input.TheVariants as input
 use Rattle.wg_cli.specs.declared.status.Status.{Status}
-use Rattle.wg_cli.specs.declared.status.Status.TheVariants.{Done, Memory, BadArchive}
+use Rattle.wg_cli.specs.declared.status.Status.TheVariants.{Memory, BadArchive}
 
 -- the output of a job whose last step puts all of what is due
 pub output_put : (due text old new : List ℕ) (r : Result (Unit {0}) Ending) → text ≡ due → Puts text old new r → IfErr r (λ e. IsUnput e.status) → HasOutput due old new (status_in r)
@@ -26,12 +26,12 @@ output_put due text old new (Err e) is put (inl fault) = subst (λ (s : Status).
 output_put due text old new (Err e) is put (inr want) = subst (λ (s : Status). HasOutput due old new s) (sym want) (put.0, put.2 ∙ ap (λ (l : List ℕ). old ++ take put.0 l) is)
 
 -- an archive that is refused, or want of memory, puts nothing out
-pub nothing_put : (due old : List ℕ) (promised : ℕ) (r : Result (Unit {0}) Ending) (e : Ending) → IsErrAnd r (λ x. x ≡ e) → IsBadArchive promised e → HasOutput due old old (status_in r)
-nothing_put due old promised r e is why = subst (λ (x : Result (Unit {0}) Ending). HasOutput due old old (status_in x)) (sym (is_that_err r e is)) (by_cause why)
+pub nothing_put : (due old : List ℕ) (i : Input) (promised : ℕ) (r : Result (Unit {0}) Ending) (e : Ending) → IsErrAnd r (λ x. x ≡ e) → IsBadFile i promised e → HasOutput due old old (status_in r)
+nothing_put due old i promised r e is why = subst (λ (x : Result (Unit {0}) Ending). HasOutput due old old (status_in x)) (sym (is_that_err r e is)) (by_cause why)
   where
-    by_cause : IsBadArchive promised e → HasOutput due old old e.status
+    by_cause : IsBadFile i promised e → HasOutput due old old e.status
     by_cause (inl want) = subst (λ (s : Status). HasOutput due old old s) (sym want) (0, sym (append-nil old))
-    by_cause (inr fault) = subst (λ (s : Status). HasOutput due old old s) (sym fault.1) refl
+    by_cause (inr fault) = subst (λ (s : Status). HasOutput due old old s) (sym fault.2) refl
 
 abbrev given : Parameters → Result Parameters PropFault
 given p = Ok p
@@ -51,14 +51,14 @@ same_arcs held text p n there reads is (archive.Length page found stored) = tt
 
 -- the arcs that a refused graph names
 pub arcs_promised : (held : Input → Option (List ℕ)) (text : List ℕ) (p : Parameters) (r : Result (Unit {0}) Ending) (e : Ending) → IsErrAnd r (λ x. x ≡ e)
-    → held input.Properties ≡ Some text → properties_of text ≡ Ok p → IsBadArchive p.arcs e
+    → (i : Input) → held input.Properties ≡ Some text → properties_of text ≡ Ok p → IsBadFile i p.arcs e
     → ArePromised held (status_in r) (arcs_in r)
-arcs_promised held text p r e is there reads why =
+arcs_promised held text p r e is i there reads why =
     subst (λ (x : Result (Unit {0}) Ending). ArePromised held (status_in x) (arcs_in x)) (sym (is_that_err r e is)) (by_cause why)
   where
-    by_cause : IsBadArchive p.arcs e → ArePromised held e.status e.arcs
+    by_cause : IsBadFile i p.arcs e → ArePromised held e.status e.arcs
     by_cause (inl want) = subst (λ (s : Status). ArePromised held s e.arcs) (sym want) tt
-    by_cause (inr fault) = subst (λ (s : Status). ArePromised held s e.arcs) (sym fault.1) (same_arcs held text p e.arcs there reads fault.2 fault.0)
+    by_cause (inr fault) = subst (λ (s : Status). ArePromised held s e.arcs) (sym fault.2) (same_arcs held text p e.arcs there reads fault.3 fault.0)
 
 pub nothing_promised : (o : Option Job) (files : Files) (n : ℕ) → ArePromisedBy o files Memory n
 nothing_promised None files n = tt

@@ -1,8 +1,9 @@
 -- Records of pages, one after the other.
-use Rattle.std.proofs.Common.{◌≡◌, ℕ, zero, suc, ◌+◌, ◌<◌, ◌≤◌, Bool, List, [], ◌∷◌, ◌++◌, length, take, get_or, refl, sym, ◌∙◌, ap, subst, arith, add_comm, Ok, Err, Result, reverse, map}
-use Rattle.std.proofs.lemmas.List.{reverse-append}
-use Rattle.std.proofs.lemmas.List.Sums.{sum_by-cons}
+use Rattle.std.proofs.Common.{◌≡◌, ℕ, zero, suc, ◌+◌, ◌<◌, ◌≤◌, Bool, List, [], ◌∷◌, ◌++◌, length, take, sum_by, refl, sym, ◌∙◌, ap, subst, arith, add_comm, Ok, Err, map}
+use Rattle.std.proofs.lemmas.List.{reverse-append, length-reverse, length-map}
+use Rattle.std.proofs.lemmas.List.Sums.{sum_by-cons, sum_by-append}
 use Rattle.wg_params.specs.Parameters.{Parameters}
+use Rattle.wg_graph.specs.Digraph.{Digraph, arc_count}
 use Rattle.wg_graph.specs.Ascending.{Ascends, Below}
 use Rattle.wg_grammar.specs.declared.fault.Fault.{Fault}
 use Rattle.wg_grammar.specs.declared.fault.ArchiveFault.{ArchiveFault}
@@ -43,6 +44,22 @@ take_nearest (suc w) k behind = ap (λ (l : List Known). k ∷ l) (take_again w 
 -- the places after one more record
 pub places_more : (w : Whole) (behind : List Whole) → places_of (w ∷ behind) ≡ places_of behind ++ w.end ∷ []
 places_more w behind = ap (λ (l : List ℕ). 0 ∷ l) (reverse-append (w.end ∷ []) (map (λ (v : Whole). v.end) behind))
+
+-- the lists after one more record
+pub lists_more : (w : Whole) (behind : List Whole) → lists_of (w ∷ behind) ≡ lists_of behind ++ w.known.list ∷ []
+lists_more w behind = reverse-append (w.known.list ∷ []) (map (λ (v : Whole). v.known.list) behind)
+
+-- how many arcs there are before the first list, and after one more
+pub no_arcs : (g : Digraph) → g.lists ≡ [] → arc_count g ≡ 0
+no_arcs g none = ap (λ (l : List (List ℕ)). sum_by (λ (s : List ℕ). length s) l) none
+
+pub arcs_more : (g h : Digraph) (list : List ℕ) → h.lists ≡ g.lists ++ list ∷ [] → arc_count h ≡ arc_count g + length list
+arcs_more g h list more =
+    let all : arc_count h ≡ sum_by (λ (s : List ℕ). length s) (g.lists ++ list ∷ []) = ap (λ (l : List (List ℕ)). sum_by (λ (s : List ℕ). length s) l) more in
+    omega (arith, all, sum_by-append (λ (s : List ℕ). length s) g.lists (list ∷ []), sum_by-cons (λ (s : List ℕ). length s) list [])
+
+pub length-lists : (behind : List Whole) → length (lists_of behind) ≡ length behind
+length-lists behind = length-reverse (map (λ (v : Whole). v.known.list) behind) ∙ length-map behind (λ (v : Whole). v.known.list)
 
 module _ (p : Parameters) (bits : List Bool) where
   pub none_yet : HaveStood p bits 0 0 0 [] []

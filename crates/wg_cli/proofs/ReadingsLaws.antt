@@ -1,5 +1,5 @@
 -- There is one function that reads all graph files, and one that reads all offsets files.
-use Rattle.std.proofs.Common.{◌≡◌, ℕ, List, Option, Some, None, Result, Err, refl, sym, ◌∙◌, subst}
+use Rattle.std.proofs.Common.{◌≡◌, ℕ, List, Option, Some, None, Result, Err, refl, sym, ◌∙◌}
 use Rattle.wg_bits.specs.Bits.{bits_of}
 use Rattle.wg_params.specs.declared.key.Key.{Key}
 use Rattle.wg_params.specs.Parameters.{Parameters, IsWithinLimits, first_bad}

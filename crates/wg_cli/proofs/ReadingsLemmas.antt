@@ -1,20 +1,30 @@
 -- Files that were read, in a judgement.
-use Rattle.std.proofs.Common.{◌≡◌, ℕ, List, [], ◌∷◌, sym, ap, Ok, Err, Result}
+use Rattle.std.proofs.Common.{◌≡◌, ℕ, Bool, refl, List, ap, Ok, Err, Result}
 use Rattle.wg_bits.specs.Bits.{bits_of}
 use Rattle.wg_params.specs.Parameters.{Parameters, IsWithinLimits}
 use Rattle.wg_grammar.specs.declared.fault.ArchiveFault.{ArchiveFault}
-use Rattle.wg_grammar.specs.declared.fault.ArchiveFault.TheVariants.{Offsets, Length}
+use Rattle.wg_grammar.specs.declared.fault.ArchiveFault.TheVariants as archive
 use Rattle.wg_grammar.specs.declared.fault.OffsetWord.{OffsetWord}
 use Rattle.wg_grammar.specs.Archive.{Accepted, ReadsGraph}
 use Rattle.wg_grammar.proofs.OneGraph.{graph_one}
-use Rattle.wg_offsets.specs.Places.{AgreeInLengths, IsFirstMismatch, pages_that_differ}
+use Rattle.wg_offsets.specs.Places.{AgreeInLengths, IsFirstMismatch}
 use Rattle.wg_offsets.specs.Words.{ReadsOffsets}
 use Rattle.wg_offsets.proofs.OneFile.{offsets_one}
 use Rattle.wg_offsets.proofs.Differences.{none_differ, first_differs}
+use Rattle.wg_cli.specs.Texts.{file_of_fault}
+use Rattle.wg_cli.specs.declared.status.Input.TheVariants.{Graph}
 use Rattle.wg_cli.specs.Readings.{Readings}
-use Rattle.wg_cli.specs.Judged.{Judged, refused, with_graph, with_places, with_offsets, with_lengths, unless_bad_graph, unless_bad_offsets, unless_some_differ}
+use Rattle.wg_cli.specs.Judged.{Judged, refused, with_graph, with_offsets, with_lengths, unless_bad_graph, unless_bad_offsets, unless_some_differ}
 use Rattle.wg_cli.specs.declared.status.Status.TheVariants.{BadArchive}
 use Rattle.wg_cli.proofs.LimitsLemmas.{coded}
+
+-- a fault of a graph file lies there
+pub of_graph : (p : Parameters) (bits : List Bool) (f : ArchiveFault) → ReadsGraph p bits (Err f) → file_of_fault f ≡ Graph
+of_graph p bits (archive.Record e) read = refl
+of_graph p bits (archive.Tail at) read = refl
+of_graph p bits (archive.ArcsShort total) read = refl
+of_graph p bits (archive.Offsets e) read = absurd read.4
+of_graph p bits (archive.Length page found stored) read = absurd read.4
 
 module _ (r : Readings) (p : Parameters) (limits : IsWithinLimits p) (bytes : List ℕ) where
   -- the bits stand for one thing alone
@@ -34,7 +44,7 @@ module _ (r : Readings) (p : Parameters) (limits : IsWithinLimits p) (bytes : Li
   pub goes_on_from : (places : List ℕ) → ReadsOffsets p.offsets p.nodes (bits_of bytes) (Ok places) → (next : List ℕ → Judged) → with_offsets r p bytes next ≡ next places
   goes_on_from places read next = ap (λ (w : Result (List ℕ) OffsetWord). unless_bad_offsets w next) (stores (Ok places) read)
 
-  pub offsets_refused : (f : OffsetWord) → ReadsOffsets p.offsets p.nodes (bits_of bytes) (Err f) → (next : List ℕ → Judged) → with_offsets r p bytes next ≡ refused (BadArchive (Offsets f))
+  pub offsets_refused : (f : OffsetWord) → ReadsOffsets p.offsets p.nodes (bits_of bytes) (Err f) → (next : List ℕ → Judged) → with_offsets r p bytes next ≡ refused (BadArchive (archive.Offsets f))
   offsets_refused f read next = ap (λ (w : Result (List ℕ) OffsetWord). unless_bad_offsets w next) (stores (Err f) read)
 
 -- records that were held against what is stored
@@ -42,7 +52,7 @@ pub all_agree : (found stored : List ℕ) → AgreeInLengths found stored → (n
 all_agree found stored agree next = ap (λ (l : List ℕ). unless_some_differ l found stored next) (none_differ found stored agree)
 
 pub one_differs : (found stored : List ℕ) (page here there : ℕ) → IsFirstMismatch found stored page here there → (next : Unit {0} → Judged)
-    → with_lengths found stored next ≡ refused (BadArchive (Length page here there))
+    → with_lengths found stored next ≡ refused (BadArchive (archive.Length page here there))
 one_differs found stored page here there h next =
     let first = first_differs found stored page here there h in
     rw (h.here_is, h.there_is) (ap (λ (l : List ℕ). unless_some_differ l found stored next) first.1)

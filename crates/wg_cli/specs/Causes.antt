@@ -5,7 +5,7 @@ use Rattle.wg_io.specs.declared.output.Output.{Output}
 use Rattle.wg_io.specs.declared.output.Output.TheVariants as output
 use Rattle.wg_cli.specs.declared.status.Input.{Input}
 use Rattle.wg_cli.specs.declared.status.Status.{Status}
-use Rattle.wg_cli.specs.declared.status.Status.TheVariants.{Usage, ReadFault, WriteFault, Missing}
+use Rattle.wg_cli.specs.declared.status.Status.TheVariants.{ReadFault, WriteFault, Missing}
 
 -- there is such a file, and this count of its name rose
 abbrev pub RoseAt : (Counts → ℕ) → Option (List ℕ) → (List ℕ → Counts) → (List ℕ → Counts) → Type 0

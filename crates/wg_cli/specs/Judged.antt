@@ -1,16 +1,19 @@
 -- What a job comes to, by what its inputs hold.
-use Rattle.std.specs.Prelude.{ℕ, List, [], ◌∷◌, ◌++◌, length, nat_lt, if◌then◌else◌, codes, decimal, Option, Some, None, Result, Ok, Err}
+use Rattle.std.specs.Prelude.{ℕ, List, [], ◌∷◌, ◌++◌, length, map, nat_lt, if◌then◌else◌, codes, decimal, Option, Some, None, Result, Ok, Err}
+use Rattle.wg_io.specs.Puts.{joined}
 use Rattle.wg_io.specs.declared.limits.TheConstants.{MOST_BYTES}
 use Rattle.wg_params.specs.Parameters.{Parameters}
 use Rattle.wg_properties.specs.Judged.{properties_of}
 use Rattle.wg_properties.specs.declared.fault.PropFault.{PropFault}
 use Rattle.wg_grammar.specs.declared.fault.ArchiveFault.{ArchiveFault}
-use Rattle.wg_grammar.specs.declared.fault.ArchiveFault.TheVariants.{Offsets, Length}
+use Rattle.wg_grammar.specs.declared.fault.ArchiveFault.TheVariants as archive
 use Rattle.wg_grammar.specs.declared.fault.OffsetWord.{OffsetWord}
 use Rattle.wg_grammar.specs.Archive.{Accepted}
+use Rattle.wg_graph.specs.Digraph.{Digraph}
+use Rattle.wg_arcs.specs.Text.{text_of_graph}
 use Rattle.wg_offsets.specs.Places.{last_place, record_length, pages_that_differ}
 use Rattle.wg_words.specs.declared.jobs.Job.{Job}
-use Rattle.wg_words.specs.declared.jobs.Job.TheVariants.{Check}
+use Rattle.wg_words.specs.declared.jobs.Job.TheVariants.{Check, Arcs, Offsets}
 use Rattle.wg_cli.specs.Readings.{Readings}
 use Rattle.wg_cli.specs.declared.status.Input.{Input}
 use Rattle.wg_cli.specs.declared.status.Input.TheVariants as input
@@ -51,13 +54,17 @@ unless_bad_graph (Err f) next = refused (BadArchive f)
 abbrev pub with_graph : Readings → Parameters → List ℕ → (Accepted → Judged) → Judged
 with_graph r p bytes next = unless_bad_graph (r.graph p bytes) next
 
+-- goes on with its pages and their lists
+abbrev pub with_digraph : Readings → Parameters → List ℕ → (Digraph → Judged) → Judged
+with_digraph r p bytes next = with_graph r p bytes (λ a. next (record { nodes = p.nodes; lists = a.graph }))
+
 -- goes on with the places of its records
 abbrev pub with_places : Readings → Parameters → List ℕ → (List ℕ → Judged) → Judged
 with_places r p bytes next = with_graph r p bytes (λ a. next a.places)
 
 abbrev pub unless_bad_offsets : Result (List ℕ) OffsetWord → (List ℕ → Judged) → Judged
 unless_bad_offsets (Ok places) next = next places
-unless_bad_offsets (Err w) next = refused (BadArchive (Offsets w))
+unless_bad_offsets (Err w) next = refused (BadArchive (archive.Offsets w))
 
 -- goes on with the places that the offsets file stores
 abbrev pub with_offsets : Readings → Parameters → List ℕ → (List ℕ → Judged) → Judged
@@ -65,7 +72,7 @@ with_offsets r p bytes next = unless_bad_offsets (r.offsets p bytes) next
 
 abbrev pub unless_some_differ : List ℕ → List ℕ → List ℕ → (Unit {0} → Judged) → Judged
 unless_some_differ [] found stored next = next tt
-unless_some_differ (x ∷ rest) found stored next = refused (BadArchive (Length x (record_length found x) (record_length stored x)))
+unless_some_differ (x ∷ rest) found stored next = refused (BadArchive (archive.Length x (record_length found x) (record_length stored x)))
 
 -- goes on where each record has the length that is stored
 abbrev pub with_lengths : List ℕ → List ℕ → (Unit {0} → Judged) → Judged
@@ -75,10 +82,26 @@ with_lengths found stored next = unless_some_differ (pages_that_differ found sto
 abbrev pub ok_line : Parameters → ℕ → List ℕ
 ok_line p bits = codes "ok nodes=" ++ decimal p.nodes ++ codes " arcs=" ++ decimal p.arcs ++ codes " bits=" ++ decimal bits ++ codes "\n"
 
+-- places as a text: a line for each
+abbrev pub number_line : ℕ → List ℕ
+number_line n = decimal n ++ codes "\n"
+
+abbrev pub number_lines : List ℕ → List ℕ
+number_lines places = joined (map number_line places)
+
+-- goes on with the parameters, and the bytes of the graph file
+abbrev pub with_records : (Input → Option (List ℕ)) → (Parameters → List ℕ → Judged) → Judged
+with_records held next =
+    with_file input.Properties (held input.Properties) (λ text. with_parameters text (λ p.
+    with_file input.Graph (held input.Graph) (λ bytes. next p bytes)))
+
 -- Each command: its inputs in their order, and its output.
 abbrev pub judged : Readings → Job → (Input → Option (List ℕ)) → Judged
 judged r (Check base) held =
-    with_file input.Properties (held input.Properties) (λ text. with_parameters text (λ p.
-    with_file input.Graph (held input.Graph) (λ bytes. with_places r p bytes (λ places.
+    with_records held (λ p bytes. with_places r p bytes (λ places.
     with_file input.Offsets (held input.Offsets) (λ more. with_offsets r p more (λ stored.
-    with_lengths places stored (λ same. accepted (ok_line p (last_place places)))))))))
+    with_lengths places stored (λ same. accepted (ok_line p (last_place places)))))))
+judged r (Arcs base) held =
+    with_records held (λ p bytes. with_digraph r p bytes (λ g. accepted (text_of_graph g)))
+judged r (Offsets base) held =
+    with_records held (λ p bytes. with_places r p bytes (λ places. accepted (number_lines places)))

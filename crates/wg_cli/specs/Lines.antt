@@ -1,6 +1,5 @@
 -- The line on standard error.
-use Rattle.std.specs.Prelude.{◌≡◌, ◌⊎◌, ℕ, List, [], ◌∷◌, ◌++◌, codes, Option, Some, None, Result, Ok, Err}
-use Rattle.wg_io.specs.Puts.{joined}
+use Rattle.std.specs.Prelude.{◌≡◌, ◌⊎◌, ℕ, List, [], ◌++◌, codes, Option, Some, None, Result, Ok, Err}
 use Rattle.wg_io.specs.declared.output.Output.{Output}
 use Rattle.wg_io.specs.declared.output.Output.TheVariants as output
 use Rattle.wg_params.specs.Parameters.{Parameters}
@@ -51,9 +50,9 @@ abbrev pub ArePromised : (Input → Option (List ℕ)) → Status → ℕ → Ty
 ArePromised held (BadArchive (archive.ArcsShort total)) promised = (text : List ℕ) (p : Parameters) → held input.Properties ≡ Some text → properties_of text ≡ Ok p → promised ≡ p.arcs
 ArePromised held status promised = Unit {0}
 
--- memory was wanting, or the archive is refused, and the ending names the arcs that are promised
-abbrev pub IsBadArchive : ℕ → Ending → Type 0
-IsBadArchive promised e = (e.status ≡ Memory) ⊎ ((f : ArchiveFault) × (e.status ≡ BadArchive f) × (e.arcs ≡ promised))
+-- memory was wanting, or this file is at fault, and the ending names the arcs that are promised
+abbrev pub IsBadFile : Input → ℕ → Ending → Type 0
+IsBadFile i promised e = (e.status ≡ Memory) ⊎ ((f : ArchiveFault) × (file_of_fault f ≡ i) × (e.status ≡ BadArchive f) × (e.arcs ≡ promised))
 
 -- the arcs that an ending names
 abbrev pub arcs_in : {B : Type 0} → Result B Ending → ℕ

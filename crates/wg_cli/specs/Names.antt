@@ -5,7 +5,7 @@ use Rattle.wg_io.specs.Outside.{Files}
 use Rattle.wg_io.specs.declared.output.Output.{Output}
 use Rattle.wg_io.specs.declared.output.Output.TheVariants as output
 use Rattle.wg_words.specs.declared.jobs.Job.{Job}
-use Rattle.wg_words.specs.declared.jobs.Job.TheVariants.{Check}
+use Rattle.wg_words.specs.declared.jobs.Job.TheVariants.{Check, Arcs, Offsets}
 use Rattle.wg_cli.specs.Texts.{file_of_fault}
 use Rattle.wg_cli.specs.declared.status.Input.{Input}
 use Rattle.wg_cli.specs.declared.status.Input.TheVariants as input
@@ -23,31 +23,43 @@ suffix_of input.ArcList = None
 abbrev pub file_of : List ℕ → Input → Option (List ℕ)
 file_of base i = option_map (λ suffix. base ++ suffix) (suffix_of i)
 
+-- the archive that a job reads
+abbrev pub base_of : Job → List ℕ
+base_of (Check base) = base
+base_of (Arcs base) = base
+base_of (Offsets base) = base
+
 -- the name of a job's input
 abbrev pub input_name : Job → Input → Option (List ℕ)
-input_name (Check base) i = file_of base i
+input_name job i = file_of (base_of job) i
 
 -- the name of a file that a job writes
 abbrev pub output_name : Job → Output → Option (List ℕ)
-output_name (Check base) o = None
+output_name job o = None
 
 -- what an input of these names holds
 abbrev pub held_by : (Input → Option (List ℕ)) → Files → Input → Option (List ℕ)
 held_by names files i = option_and_then (map.get files) (names i)
 
+-- whether a job reads the offsets file
+abbrev pub reads_offsets : Job → Bool
+reads_offsets (Check base) = true
+reads_offsets (Arcs base) = false
+reads_offsets (Offsets base) = false
+
 -- the inputs that a job reads
 abbrev pub has_input : Job → Input → Bool
-has_input (Check base) input.Properties = true
-has_input (Check base) input.Graph = true
-has_input (Check base) input.Offsets = true
-has_input (Check base) input.ArcList = false
+has_input job input.Properties = true
+has_input job input.Graph = true
+has_input job input.Offsets = reads_offsets job
+has_input job input.ArcList = false
 
 -- what a job writes
 abbrev pub has_output : Job → Output → Bool
-has_output (Check base) output.Out = true
-has_output (Check base) output.Properties = false
-has_output (Check base) output.Graph = false
-has_output (Check base) output.Offsets = false
+has_output job output.Out = true
+has_output job output.Properties = false
+has_output job output.Graph = false
+has_output job output.Offsets = false
 
 -- how a job can end at all
 abbrev pub can_end : Job → Status → Bool

@@ -6,15 +6,16 @@ ghost use Rattle.wg_properties.specs.Judged.{properties_of};
 ghost use Rattle.wg_properties.specs.declared.fault.PropFault.{PropFault};
 ghost use Rattle.wg_grammar.specs.declared.fault.ArchiveFault.{ArchiveFault};
 ghost use Rattle.wg_cli.specs.Answers.{Steps};
-ghost use Rattle.wg_cli.specs.Judged.{with_parameters, with_places, with_offsets, with_lengths};
-ghost use Rattle.wg_cli.specs.Lines.{IsBadArchive};
+ghost use Rattle.wg_cli.specs.Judged.{with_parameters, with_digraph, with_places, with_offsets, with_lengths};
+ghost use Rattle.wg_cli.specs.Lines.{IsBadFile};
 ghost use Rattle.wg_cli.specs.Readings.{Readings};
 
-use crate::Status;
 use crate::ending::Ending;
-use crate::records::{RecordsError, read_places};
+use crate::records::{RecordsError, read_graph, read_places};
+use crate::{Input, Status};
 use std::alloc::Global;
 use wg_grammar::ArchiveFault;
+use wg_graph::Graph;
 use wg_offsets::{Offsets, OffsetsError};
 use wg_params::Params;
 
@@ -34,7 +35,7 @@ pub fn parameters(text: &[u8]) -> Result<Params, Ending>
 pub fn places_of_records(alloc: Global, params: &Params, bytes: &[u8]) -> Result<Offsets, Ending>
     requires { length bytes.now ≤ MOST_BYTES }
     ensures steps { (r : Readings) → Steps (with_places r params.now bytes.now) result }
-    ensures only { IfErr result (λ e. IsBadArchive params.now.arcs e) }
+    ensures only { IfErr result (λ e. IsBadFile Input.Graph params.now.arcs e) }
     ensures count { IfOk result (λ places. length places ≡ params.now.nodes + 1) }
 {
     match read_places(alloc, params, bytes) {
@@ -47,11 +48,27 @@ pub fn places_of_records(alloc: Global, params: &Params, bytes: &[u8]) -> Result
     }
 }
 
+/// The graph of a graph file.
+pub fn graph_of_records(alloc: Global, params: &Params, bytes: &[u8]) -> Result<Graph, Ending>
+    requires { length bytes.now ≤ MOST_BYTES }
+    ensures steps { (r : Readings) → Steps (with_digraph r params.now bytes.now) result }
+    ensures only { IfErr result (λ e. IsBadFile Input.Graph params.now.arcs e) }
+{
+    match read_graph(alloc, params, bytes) {
+        Ok(graph) => Ok(graph),
+        Err(RecordsError::Fault(fault)) => Err(Ending {
+            status: Status::BadArchive(fault),
+            arcs: params.arcs(),
+        }),
+        Err(RecordsError::Memory) => Err(Ending::of(Status::Memory)),
+    }
+}
+
 /// The places that an offsets file stores.
 pub fn stored_places(alloc: Global, params: &Params, bytes: &[u8]) -> Result<Offsets, Ending>
     requires { length bytes.now ≤ MOST_BYTES }
     ensures steps { (r : Readings) → Steps (with_offsets r params.now bytes.now) result }
-    ensures only { IfErr result (λ e. IsBadArchive params.now.arcs e) }
+    ensures only { IfErr result (λ e. IsBadFile Input.Offsets params.now.arcs e) }
     ensures count { IfOk result (λ places. length places ≡ params.now.nodes + 1) }
 {
     match wg_offsets::read(alloc, bytes, params.nodes(), params.offsets()) {
@@ -68,7 +85,7 @@ pub fn stored_places(alloc: Global, params: &Params, bytes: &[u8]) -> Result<Off
 pub fn same_lengths(params: &Params, found: &Offsets, stored: &Offsets) -> Result<(), Ending>
     requires { length found.now ≡ length stored.now }
     ensures steps { Steps (with_lengths found.now stored.now) result }
-    ensures only { IfErr result (λ e. IsBadArchive params.now.arcs e) }
+    ensures only { IfErr result (λ e. IsBadFile Input.Offsets params.now.arcs e) }
 {
     match found.first_mismatch(stored) {
         None => Ok(()),

@@ -14,11 +14,13 @@
 #![tactic(auto)]
 
 mod archive;
+mod arcs;
 mod check;
 mod ending;
 pub mod laws;
 mod load;
 mod names;
+mod offsets;
 mod perform;
 mod print;
 mod program;

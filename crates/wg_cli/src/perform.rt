@@ -10,11 +10,13 @@ ghost use Rattle.wg_cli.specs.Readings.{Readings};
 ghost use Rattle.wg_cli.specs.declared.status.Input.{Input};
 
 use crate::Status;
+use crate::arcs::arcs;
 use crate::check::check;
 use crate::ending::Ending;
+use crate::offsets::offsets;
 use std::alloc::Global;
 use wg_io::{Depot, Sink};
-use wg_words::{Job, Name};
+use wg_words::Job;
 
 // How what was done or has ended is reported.
 fn ending_of(done: Result<(), Ending>) -> Ending
@@ -25,14 +27,6 @@ fn ending_of(done: Result<(), Ending>) -> Ending
         Ok(()) => Ending::of(Status::Done),
         Err(ending) => ending,
     }
-}
-
-// The archive that is checked.
-fn archive(job: &Job) -> &Name
-    ensures { job.now ≡ Job.Check result.now }
-{
-    let Job::Check { base } = job;
-    base
 }
 
 /// Does the job, and says how it ended.
@@ -47,5 +41,9 @@ pub fn perform<D: Depot, O: Sink>(alloc: Global, job: &Job, depot: &mut D, out: 
     ensures same { D.files depot.new ≡ D.files depot.old }
     ensures later { NoneFalls (D.counts depot.old) (D.counts depot.new) }
 {
-    ending_of(check(alloc, archive(job), depot, out))
+    match job {
+        Job::Check { base } => ending_of(check(alloc, base, depot, out)),
+        Job::Arcs { base } => ending_of(arcs(alloc, base, depot, out)),
+        Job::Offsets { base } => ending_of(offsets(alloc, base, depot, out)),
+    }
 }

@@ -1,15 +1,20 @@
 //! What goes to the output.
-ghost use Rattle.std.specs.Prelude.{◌≡◌, ◌≤◌, IsTrue, IfErr, Err};
+ghost use Rattle.std.specs.Prelude.{◌≡◌, ◌≤◌, IsTrue, IsErrOf, IfErr, Err};
 ghost use Rattle.wg_io.specs.Outside.{Rose};
 ghost use Rattle.wg_io.specs.Puts.{Puts};
 ghost use Rattle.wg_cli.specs.Answers.{IsUnput, status_in};
-ghost use Rattle.wg_cli.specs.Judged.{ok_line};
+ghost use Rattle.wg_arcs.specs.Printing.{Prints};
+ghost use Rattle.wg_arcs.specs.Text.{text_of_graph};
+ghost use Rattle.wg_cli.specs.Judged.{number_line, number_lines, ok_line};
 ghost use Rattle.wg_io.specs.declared.output.Output.TheVariants.{Out};
 
 use crate::Status;
 use crate::ending::Ending;
 use crate::text::Text;
+use wg_arcs::Lines;
+use wg_graph::Graph;
 use wg_io::{Output, Sink, WriteError, write_all};
+use wg_offsets::Offsets;
 use wg_params::Params;
 
 // A piece of the output.
@@ -21,8 +26,18 @@ fn print<O: Sink>(out: &mut O, piece: &[u8]) -> Result<(), Ending>
 {
     match write_all(out, piece) {
         Ok(()) => Ok(()),
-        Err(WriteError::Failed) => Err(Ending::of(Status::WriteFault(Output::Out))),
-        Err(WriteError::Memory) => Err(Ending::of(Status::Memory)),
+        Err(error) => Err(unput(error)),
+    }
+}
+
+// How a job ends whose output the sink does not take.
+fn unput(error: WriteError) -> Ending
+    ensures only { IsUnput result.status }
+    ensures fault { result.status ≡ Status.WriteFault Out → error ≡ WriteError.Failed }
+{
+    match error {
+        WriteError::Failed => Ending::of(Status::WriteFault(Output::Out)),
+        WriteError::Memory => Ending::of(Status::Memory),
     }
 }
 
@@ -47,4 +62,53 @@ pub fn print_ok<O: Sink>(out: &mut O, params: &Params, bits: u64) -> Result<(), 
     ensures later { O.faults out.old ≤ O.faults out.new }
 {
     print(out, ok_line(params, bits).as_bytes())
+}
+
+/// Prints the arcs of a graph.
+pub fn print_graph<O: Sink>(out: &mut O, graph: &Graph) -> Result<(), Ending>
+    ensures puts { IsTrue O.told → Puts (text_of_graph graph.now) (O.taken out.old) (O.taken out.new) result }
+    ensures cause { status_in result ≡ Status.WriteFault Out → Rose (O.faults out.old) (O.faults out.new) }
+    ensures only { IfErr result (λ e. IsUnput e.status) }
+    ensures later { O.faults out.old ≤ O.faults out.new }
+{
+    match wg_arcs::write(graph, out) {
+        Ok(()) => Ok(()),
+        Err(error) => Err(unput(error)),
+    }
+}
+
+/// Prints places, a line for each.
+pub fn print_places<O: Sink>(out: &mut O, places: &Offsets) -> Result<(), Ending>
+    ensures puts { IsTrue O.told → Puts (number_lines places.now) (O.taken out.old) (O.taken out.new) result }
+    ensures cause { status_in result ≡ Status.WriteFault Out → Rose (O.faults out.old) (O.faults out.new) }
+    ensures only { IfErr result (λ e. IsUnput e.status) }
+    ensures later { O.faults out.old ≤ O.faults out.new }
+{
+    match write_places(out, places) {
+        Ok(()) => Ok(()),
+        Err(error) => Err(unput(error)),
+    }
+}
+
+// Writes places through a fixed buffer.
+fn write_places<S: Sink>(sink: &mut S, places: &Offsets) -> Result<(), WriteError>
+    ensures puts { IsTrue S.told → Puts (number_lines places.now) (S.taken sink.old) (S.taken sink.new) result }
+    ensures failed { IsErrOf result WriteError.Failed → Rose (S.faults sink.old) (S.faults sink.new) }
+    ensures later { S.faults sink.old ≤ S.faults sink.new }
+{
+    let mut lines = Lines::new();
+    for x in 0..places.len() {
+        write_line(&mut lines, sink, places.place(x))?;
+    }
+    lines.flush(sink)
+}
+
+// A line of one number.
+fn write_line<S: Sink>(lines: &mut Lines, sink: &mut S, number: u64) -> Result<(), WriteError>
+    ensures prints { IsTrue S.told → Prints (number_line number) (S.taken sink.old) (S.taken sink.new) lines.old lines.new result }
+    ensures failed { IsErrOf result WriteError.Failed → Rose (S.faults sink.old) (S.faults sink.new) }
+    ensures later { S.faults sink.old ≤ S.faults sink.new }
+{
+    lines.number(sink, number)?;
+    lines.byte(sink, b'\n')
 }

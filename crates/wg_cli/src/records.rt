@@ -11,6 +11,7 @@ use thiserror::Error;
 use wg_bits::{Bits, Cursor};
 use wg_decoder::{DecodeError, Window, decode};
 use wg_grammar::{ArchiveFault, tail_fault};
+use wg_graph::{Graph, GraphBuilder};
 use wg_offsets::Offsets;
 use wg_params::Params;
 
@@ -69,6 +70,30 @@ pub fn read_places(alloc: Global, params: &Params, bytes: &[u8]) -> Result<Offse
     }
     judge_end(params, arcs, &mut cursor)?;
     Ok(places)
+}
+
+/// Judges the same, and answers the graph. It holds 8 bytes an arc and 8 a page, besides as many lists as a reference may reach
+/// back.
+pub fn read_graph(alloc: Global, params: &Params, bytes: &[u8]) -> Result<Graph, RecordsError>
+    requires { length bytes.now ≤ MOST_BYTES }
+    ensures limits { IsWithinLimits params.now }
+    ensures nodes { IfOk result (λ g. g.nodes ≡ params.now.nodes) }
+    ensures read { IfOk result (λ g. (places : List ℕ) × ReadsGraph params.now (bits_of bytes.now) (Ok (record { graph = g.lists; places = places }))) }
+    ensures refused { IfErr result (λ e. OfArchive e (λ f. ReadsGraph params.now (bits_of bytes.now) (Err f))) }
+{
+    let nodes = params.nodes();
+    let mut cursor = Cursor::new(Bits::of(bytes), 0);
+    let mut window = Window::new(alloc, params);
+    let mut arcs = 0;
+    let mut graph = GraphBuilder::new(alloc, nodes)?;
+    for page in 0..nodes {
+        let decoded = decode(alloc, params, page, arcs, &window, &mut cursor)?;
+        arcs += decoded.list.as_slice().len() as u64;
+        graph.push_list(decoded.list.as_slice())?;
+        window.push(decoded.list, decoded.depth)?;
+    }
+    judge_end(params, arcs, &mut cursor)?;
+    Ok(graph.finish()?)
 }
 
 // Judges the tail and the total of so many arcs.

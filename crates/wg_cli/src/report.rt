@@ -6,7 +6,7 @@ ghost use Rattle.wg_cli.specs.Causes.{Reports};
 ghost use Rattle.wg_cli.specs.Lines.{naming, name_in, output_in, line_of};
 ghost use Rattle.wg_cli.specs.Names.{input_name};
 
-use crate::names::suffix;
+use crate::names::{base, suffix};
 use crate::text::Text;
 use crate::{Input, Status, texts};
 use wg_io::{Output, Sink, WriteError, write_all, write_pieces};
@@ -18,9 +18,9 @@ fn parts_of_input(job: &Option<Job>, input: Input) -> Option<(&str, &'static str
 {
     match job {
         None => None,
-        Some(Job::Check { base }) => match suffix(input) {
+        Some(job) => match suffix(input) {
             None => None,
-            Some(suffix) => Some((base.as_str(), suffix)),
+            Some(suffix) => Some((base(job).as_str(), suffix)),
         },
     }
 }
@@ -95,10 +95,7 @@ fn parts_of_output(job: &Option<Job>, output: Output) -> Option<(&str, &'static 
 {
     match output {
         Output::Out => Some(("-", "")),
-        Output::Properties | Output::Graph | Output::Offsets => match job {
-            None => None,
-            Some(Job::Check { .. }) => None,
-        },
+        Output::Properties | Output::Graph | Output::Offsets => None,
     }
 }
 

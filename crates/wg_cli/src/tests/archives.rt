@@ -1,5 +1,5 @@
 //! What `check` says of archives.
-use super::tables::{ACCEPTED, BAD_GRAPHS, BAD_OFFSETS, Case, LONGER, Shape};
+use super::tables::{ACCEPTED, BAD_GRAPHS, BAD_OFFSETS, Case, LONGER, PRINTED, Shape};
 use super::*;
 
 fn properties(alloc: Global, nodes: u64, arcs: u64, shape: &Shape) -> Result<String, Fail> {
@@ -16,9 +16,10 @@ fn properties(alloc: Global, nodes: u64, arcs: u64, shape: &Shape) -> Result<Str
     Ok(format!(in alloc; "{head}{tail}")?)
 }
 
-// What `check g` says of an archive, whose depot and sinks move at most `piece` bytes at once.
+// What a line says of an archive, whose depot and sinks move at most `piece` bytes at once.
 fn says(
     alloc: Global,
+    line: &str,
     piece: u64,
     properties: &str,
     graph: &[u8],
@@ -31,7 +32,7 @@ fn says(
     depot.put_file("g.offsets", offsets)?;
     let mut out = SteadySink::new(alloc, piece);
     let mut err = SteadySink::new(alloc, piece);
-    let words = words_of(alloc, "check g")?;
+    let words = words_of(alloc, line)?;
     let status = run(alloc, &words, &mut depot, &mut out, &mut err);
     Ok((status.code(), out, err))
 }
@@ -41,7 +42,14 @@ fn holds(alloc: Global, case: &Case, code: u8, printed: &str, told: &str) -> Res
     let (nodes, arcs, shape, graph, offsets, _) = *case;
     let properties = properties(alloc, nodes, arcs, &shape)?;
     for piece in [1, 3, 4096] {
-        let (status, out, err) = says(alloc, piece, properties.as_str(), graph, offsets)?;
+        let (status, out, err) = says(
+            alloc,
+            "check g",
+            piece,
+            properties.as_str(),
+            graph,
+            offsets,
+        )?;
         if status != code || out.bytes() != printed.as_bytes() || err.bytes() != told.as_bytes() {
             return Ok(false);
         }
@@ -78,6 +86,39 @@ fn refused_offsets(rt: HostRuntime) -> Result<(), Fail> {
             holds(rt.alloc(), case, 9, "", line.as_str())?,
             "{}",
             case.5
+        );
+    }
+    Ok(())
+}
+
+// Whether a line prints the text, however much moves at once; the offsets file is not asked for.
+fn prints(
+    alloc: Global,
+    line: &str,
+    properties: &str,
+    graph: &[u8],
+    text: &str,
+) -> Result<bool, Fail> {
+    for piece in [1, 3, 4096] {
+        let (status, out, err) = says(alloc, line, piece, properties, graph, b"")?;
+        if status != 0 || out.bytes() != text.as_bytes() || !err.bytes().is_empty() {
+            return Ok(false);
+        }
+    }
+    Ok(true)
+}
+
+#[test]
+fn printed_graphs(rt: HostRuntime) -> Result<(), Fail> {
+    for (nodes, arcs, shape, graph, lines, places) in &PRINTED {
+        let properties = properties(rt.alloc(), *nodes, *arcs, shape)?;
+        assert!(rt;
+            prints(rt.alloc(), "arcs g", properties.as_str(), graph, lines)?,
+            "{lines}"
+        );
+        assert!(rt;
+            prints(rt.alloc(), "offsets g", properties.as_str(), graph, places)?,
+            "{places}"
         );
     }
     Ok(())
@@ -120,6 +161,7 @@ fn a_chain_of_references(rt: HostRuntime) -> Result<(), Fail> {
         let properties = properties(rt.alloc(), 257, 514, &shape)?;
         let (_, out, err) = says(
             rt.alloc(),
+            "check g",
             4096,
             properties.as_str(),
             graph.as_slice(),

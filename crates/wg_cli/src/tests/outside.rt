@@ -1,8 +1,14 @@
 //! What the words and the outside lead to.
+ghost use Rattle.std.specs.Prelude.{◌≤◌, ◌<◌, ◌^◌, ◌-◌};
+
+use super::tables::LINES;
 use super::*;
 
 const PROPERTIES: &[u8] =
     b"graphclass=class it.unimi.dsi.webgraph.BVGraph\r\nversion=0\r\nnodes=9\r\n# Thu Nov 26\r\nnodes: 2\r\narcs 1\r\nwindowsize=0\r\nmaxrefcount=3\r\nminintervallength=0\r\navgref=0.5\r\ncompressionflags=RESIDUALS_GAMMA\r\n";
+
+const FOUR_ARCS: &[u8] =
+    b"graphclass=it.unimi.dsi.webgraph.BVGraph\nversion=0\nnodes=3\narcs=4\nwindowsize=7\nmaxrefcount=3\nminintervallength=4\n";
 
 // One page more than an archive may have.
 const TOO_MANY_PAGES: &[u8] =
@@ -19,6 +25,47 @@ fn reported<D: Depot, O: Sink>(
     let mut err = SteadySink::new(alloc, 4096);
     let status = run(alloc, &words, depot, out, &mut err);
     Ok((status, err))
+}
+
+#[test]
+fn which_lines_are_jobs(rt: HostRuntime) -> Result<(), Fail> {
+    for (line, is_job) in LINES {
+        let mut depot = SteadyDepot::new(rt.alloc(), 4096);
+        let mut out = SteadySink::new(rt.alloc(), 4096);
+        let (status, _) = reported(rt.alloc(), line, &mut depot, &mut out)?;
+        let code = if is_job { 6 } else { 2 };
+        assert!(rt; status.code() == code, "{line}");
+    }
+    Ok(())
+}
+
+// How `line` ends over a graph whose arcs are 16 bytes of text, where the sink takes a byte at once and call `k` fails; and
+// how many bytes went out.
+fn cut_at(alloc: Global, line: &str, k: u64) -> Result<(u8, usize), Fail>
+    requires { (1 ≤ k) × (k < 2 ^ 64 - 1) }
+{
+    let mut depot = SteadyDepot::new(alloc, 4096);
+    depot.put_file("g.properties", FOUR_ARCS)?;
+    depot.put_file("g.graph", b"\x7d\xc6\xe0")?;
+    let mut out = MemorySink::new(alloc, 1);
+    out.fail_write(k);
+    let (status, _) = reported(alloc, line, &mut depot, &mut out)?;
+    Ok((status.code(), out.bytes().len()))
+}
+
+#[test]
+fn each_write_fails_once(rt: HostRuntime) -> Result<(), Fail> {
+    for k in 1..18_u64 {
+        let (code, count) = cut_at(rt.alloc(), "arcs g", k)?;
+        let (wanted, sent) = if k < 17 { (5, k - 1) } else { (0, 16) };
+        assert!(rt; code == wanted && count as u64 == sent, "{k}");
+    }
+    for k in 1..13_u64 {
+        let (code, count) = cut_at(rt.alloc(), "offsets g", k)?;
+        let (wanted, sent) = if k < 12 { (5, k - 1) } else { (0, 11) };
+        assert!(rt; code == wanted && count as u64 == sent, "{k}");
+    }
+    Ok(())
 }
 
 #[test]

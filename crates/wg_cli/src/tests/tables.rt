@@ -439,3 +439,70 @@ pub const BAD_OFFSETS: [Case; 8] = [
         "word 1 cut",
     ),
 ];
+
+/// What `arcs g` and `offsets g` print of a graph.
+pub type Printed = (u64, u64, Shape, &'static [u8], &'static str, &'static str);
+
+pub const PRINTED: [Printed; 6] = [
+    (2, 1, USUAL, b"\x5d\xc0", "0 1\n", "0\n9\n10\n"),
+    (
+        3,
+        4,
+        USUAL,
+        b"\x7d\xc6\xe0",
+        "0 1\n0 2\n1 1\n1 2\n",
+        "0\n12\n18\n19\n",
+    ),
+    (
+        6,
+        4,
+        SHORT_INTERVALS,
+        b"\x2d\xbf\xf0",
+        "0 1\n0 2\n0 4\n0 5\n",
+        "0\n15\n16\n17\n18\n19\n20\n",
+    ),
+    (1, 1, USUAL, b"\x5c", "0 0\n", "0\n8\n"),
+    (0, 0, USUAL, b"", "", "0\n"),
+    (
+        8,
+        7,
+        USUAL,
+        b"\x2f\x75\x54\x45\xaf\xe0",
+        "0 1\n0 3\n0 5\n0 7\n1 1\n1 5\n1 7\n",
+        "0\n23\n37\n38\n39\n40\n41\n42\n43\n",
+    ),
+];
+
+/// Lines of words, and whether they are a job.
+pub const LINES: [(&str, bool); 30] = [
+    ("check g", true),
+    ("arcs g", true),
+    ("offsets g", true),
+    ("check data/a.b", true),
+    ("arcs ./g", true),
+    ("offsets /tmp/g", true),
+    ("check -", true),
+    ("arcs -- g", true),
+    ("offsets -- -g", true),
+    ("arcs -- --help", true),
+    ("check g.graph", true),
+    ("check check", true),
+    ("", false),
+    ("check", false),
+    ("arcs", false),
+    ("offsets", false),
+    ("check g h", false),
+    ("arcs g g", false),
+    ("offsets g 1", false),
+    ("check -g", false),
+    ("arcs --all g", false),
+    ("offsets g --offsets delta", false),
+    ("check --help", false),
+    ("--help", false),
+    ("help arcs", false),
+    ("--version", false),
+    ("-- check g", false),
+    ("g check", false),
+    ("Check g", false),
+    ("build a g --nodes 1", false),
+];

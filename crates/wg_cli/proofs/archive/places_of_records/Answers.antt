@@ -1,10 +1,10 @@
-use Rattle.std.proofs.Common.{ap, sym, subst, inl, Err}
+use Rattle.std.proofs.Common.{ap, sym, subst, inl, inr, refl, Err}
 use Rattle.wg_bits.specs.Bits.{bits_of}
 use Rattle.wg_grammar.specs.Archive.{Accepted, ReadsGraph}
 use Rattle.wg_cli.specs.Judged.{status_of}
 use Rattle.wg_cli.specs.Records.{OfArchive}
 use Rattle.wg_cli.specs.declared.records.RecordsError.{RecordsError}
-use Rattle.wg_cli.proofs.ReadingsLemmas.{goes_on, is_refused}
+use Rattle.wg_cli.proofs.ReadingsLemmas.{goes_on, is_refused, of_graph}
 use Rattle.wg_cli.proofs.archive.places_of_records.Goals as goal
 
 pub returns-in-Ok-clause-steps : goal.returns-in-Ok-clause-steps
@@ -18,3 +18,10 @@ returns-in-Err-Fault-clause-steps c = λ r next.
     let bytes = c.args.bytes.now in
     let fault = subst (λ (e : RecordsError). OfArchive e (λ f. ReadsGraph p (bits_of bytes) (Err f))) c.in-Err-Fault.field-0-is c.in-Err-Fault.ensures.refused in
     inl (sym (ap status_of (is_refused r p c.in-Err-Fault.ensures.limits bytes c.in-Err-Fault.fault fault (λ (a : Accepted). next a.places))))
+
+pub returns-in-Err-Fault-clause-only : goal.returns-in-Err-Fault-clause-only
+returns-in-Err-Fault-clause-only c =
+    let p = c.args.params.now in
+    let bits = bits_of c.args.bytes.now in
+    let fault = subst (λ (e : RecordsError). OfArchive e (λ f. ReadsGraph p bits (Err f))) c.in-Err-Fault.field-0-is c.in-Err-Fault.ensures.refused in
+    inr (c.in-Err-Fault.fault, of_graph p bits c.in-Err-Fault.fault fault, refl, c.arcs.ensures.value)

@@ -1,33 +1,39 @@
-use Rattle.std.proofs.Common.{◌≡◌, sym, ◌∙◌, subst}
-use Rattle.wg_io.specs.declared.output.Output.TheVariants.{Out}
-use Rattle.wg_words.specs.declared.jobs.Job.{Job}
-use Rattle.wg_cli.specs.Answers.{Answers, HasOutput, Reaches, status_in}
-use Rattle.wg_cli.specs.Judged.{judged, output_of, status_of}
-use Rattle.wg_cli.specs.Names.{held_by, input_name}
-use Rattle.wg_cli.specs.declared.status.Status.{Status}
-use Rattle.wg_cli.specs.declared.status.Status.TheVariants.{Done}
+use Rattle.std.proofs.Common.{◌∙◌, sym}
+use Rattle.wg_cli.proofs.JobLemmas.{answers_at, reaches_at, done_at, output_at}
 use Rattle.wg_cli.proofs.perform.perform.Goals as goal
 
-pub returns-clause-answers : goal.returns-clause-answers
-returns-clause-answers g c = λ t r.
-    let files = g.D.Depot.files c.args.depot.now in
-    subst (λ (j : Job). Answers (judged r j (held_by (input_name j) files)) c.ending_of.result.status) (sym c.archive.ensures)
-    (rw c.ending_of.ensures.status (c.check.ensures.answers t r))
+pub returns-in-Check-clause-answers : goal.returns-in-Check-clause-answers
+returns-in-Check-clause-answers g c = λ t r. answers_at r _ _ _ c.in-Check.is _ _ c.ending_of.ensures.status (c.check.ensures.answers t r)
 
-pub returns-clause-reached : goal.returns-clause-reached
-returns-clause-reached g c = λ t r i is.
-    let files = g.D.Depot.files c.args.depot.now in
-    subst (λ (j : Job). Reaches r j (held_by (input_name j) files) i) (sym c.archive.ensures)
-    (c.check.ensures.reached t r i (sym c.ending_of.ensures.status ∙ is))
+pub returns-in-Check-clause-reached : goal.returns-in-Check-clause-reached
+returns-in-Check-clause-reached g c = λ t r i is. reaches_at r _ _ _ c.in-Check.is i (c.check.ensures.reached t r i (sym c.ending_of.ensures.status ∙ is))
 
-pub returns-clause-needed : goal.returns-clause-needed
-returns-clause-needed g c = λ t r is.
-    let files = g.D.Depot.files c.args.depot.now in
-    subst (λ (j : Job). status_of (judged r j (held_by (input_name j) files)) ≡ Done) (sym c.archive.ensures)
-    (c.check.ensures.needed t r (sym c.ending_of.ensures.status ∙ is))
+pub returns-in-Check-clause-needed : goal.returns-in-Check-clause-needed
+returns-in-Check-clause-needed g c = λ t r is. done_at r _ _ _ c.in-Check.is (c.check.ensures.needed t r (sym c.ending_of.ensures.status ∙ is))
 
-pub returns-clause-output : goal.returns-clause-output
-returns-clause-output g c = λ t o r.
-    let files = g.D.Depot.files c.args.depot.now in
-    subst (λ (j : Job). HasOutput (output_of (judged r j (held_by (input_name j) files))) (g.O.Sink.taken c.args.out.now) (g.O.Sink.taken c.check.new.out) c.ending_of.result.status) (sym c.archive.ensures)
-    (rw c.ending_of.ensures.status (c.check.ensures.output t o r))
+pub returns-in-Check-clause-output : goal.returns-in-Check-clause-output
+returns-in-Check-clause-output g c = λ t o r. output_at r _ _ _ c.in-Check.is _ _ _ _ c.ending_of.ensures.status (c.check.ensures.output t o r)
+
+pub returns-in-Arcs-clause-answers : goal.returns-in-Arcs-clause-answers
+returns-in-Arcs-clause-answers g c = λ t r. answers_at r _ _ _ c.in-Arcs.is _ _ c.ending_of-in-Arcs.ensures.status (c.arcs.ensures.answers t r)
+
+pub returns-in-Arcs-clause-reached : goal.returns-in-Arcs-clause-reached
+returns-in-Arcs-clause-reached g c = λ t r i is. reaches_at r _ _ _ c.in-Arcs.is i (c.arcs.ensures.reached t r i (sym c.ending_of-in-Arcs.ensures.status ∙ is))
+
+pub returns-in-Arcs-clause-needed : goal.returns-in-Arcs-clause-needed
+returns-in-Arcs-clause-needed g c = λ t r is. done_at r _ _ _ c.in-Arcs.is (c.arcs.ensures.needed t r (sym c.ending_of-in-Arcs.ensures.status ∙ is))
+
+pub returns-in-Arcs-clause-output : goal.returns-in-Arcs-clause-output
+returns-in-Arcs-clause-output g c = λ t o r. output_at r _ _ _ c.in-Arcs.is _ _ _ _ c.ending_of-in-Arcs.ensures.status (c.arcs.ensures.output t o r)
+
+pub returns-in-Offsets-clause-answers : goal.returns-in-Offsets-clause-answers
+returns-in-Offsets-clause-answers g c = λ t r. answers_at r _ _ _ c.in-Offsets.is _ _ c.ending_of-in-Offsets.ensures.status (c.offsets.ensures.answers t r)
+
+pub returns-in-Offsets-clause-reached : goal.returns-in-Offsets-clause-reached
+returns-in-Offsets-clause-reached g c = λ t r i is. reaches_at r _ _ _ c.in-Offsets.is i (c.offsets.ensures.reached t r i (sym c.ending_of-in-Offsets.ensures.status ∙ is))
+
+pub returns-in-Offsets-clause-needed : goal.returns-in-Offsets-clause-needed
+returns-in-Offsets-clause-needed g c = λ t r is. done_at r _ _ _ c.in-Offsets.is (c.offsets.ensures.needed t r (sym c.ending_of-in-Offsets.ensures.status ∙ is))
+
+pub returns-in-Offsets-clause-output : goal.returns-in-Offsets-clause-output
+returns-in-Offsets-clause-output g c = λ t o r. output_at r _ _ _ c.in-Offsets.is _ _ _ _ c.ending_of-in-Offsets.ensures.status (c.offsets.ensures.output t o r)

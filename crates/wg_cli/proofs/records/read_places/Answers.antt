@@ -1,8 +1,8 @@
-use Rattle.std.proofs.Common.{◌≡◌, ◌+◌, ◌≤◌, ◌<◌, ℕ, Bool, List, [], ◌∷◌, ◌++◌, length, take, refl, sym, ◌∙◌, ap, subst, arith, Ok}
+use Rattle.std.proofs.Common.{◌≡◌, ◌+◌, ◌<◌, ℕ, Bool, List, [], ◌∷◌, ◌++◌, length, take, refl, sym, ◌∙◌, ap, subst, arith, Ok}
 use Rattle.wg_bits.specs.Bits.{bits_of, Place}
 use Rattle.wg_grammar.specs.Context.{Known}
 use Rattle.wg_grammar.specs.Record.{Whole, ReadsRecord}
-use Rattle.wg_grammar.specs.Archive.{places_of, lists_of, ReadsGraph}
+use Rattle.wg_grammar.specs.Archive.{lists_of, ReadsGraph}
 use Rattle.wg_grammar.proofs.OneGraph.{record_onward}
 use Rattle.wg_decoder.specs.Answer.{context_at}
 use Rattle.wg_decoder.specs.Remembered.{known_of}
