@@ -1,9 +1,9 @@
 -- Ascending lists, and the lists of pages that are kept.
-use Rattle.std.proofs.Common.{◌≡◌, ◌∙◌, ℕ, zero, suc, ◌-◌, List, [], ◌∷◌, ◌++◌, length, take, map, get_or, refl, sym, ap, subst, arith, zero-add}
+use Rattle.std.proofs.Common.{◌≡◌, ◌∙◌, ℕ, zero, suc, ◌-◌, Bool, true, false, ◌||◌, List, [], ◌∷◌, ◌++◌, length, take, map, get_or, refl, sym, ap, subst, arith, zero-add}
 use Rattle.std.proofs.lemmas.List.{get_or_at, length_push}
 use Rattle.wg_graph.specs.Ascending.{Ascends, Below}
-use Rattle.wg_graph.specs.Numbers.{is_in_either, numbers_where}
-use Rattle.wg_graph.proofs.Sets.{ascending_is}
+use Rattle.wg_graph.specs.Numbers.{is_in, is_in_either, numbers_where}
+use Rattle.wg_graph.proofs.Sets.{ascending_is, where_same}
 use Rattle.wg_grammar.specs.Context.{Known}
 use Rattle.wg_grammar.specs.SoFar.{last_of}
 use Rattle.wg_decoder.specs.declared.decoded.Decoded.{Decoded}
@@ -29,3 +29,12 @@ known_push n w old pages new d is one less =
 pub union_empty : (xs ys : List ℕ) (n : ℕ) → xs ≡ [] → Ascends 0 ys → Below n ys → ys ≡ numbers_where (is_in_either xs ys) 0 n
 union_empty xs ys n none up low =
     ascending_is 0 n ys up (subst (λ (m : ℕ). Below m ys) (sym (zero-add n)) low) ∙ sym (ap (λ (xs : List ℕ). numbers_where (is_in_either xs ys) 0 n) none)
+
+or_false : (b : Bool) → (b || false) ≡ b
+or_false true = refl
+or_false false = refl
+
+pub union_with_empty : (xs ys : List ℕ) (n : ℕ) → ys ≡ [] → Ascends 0 xs → Below n xs → xs ≡ numbers_where (is_in_either xs ys) 0 n
+union_with_empty xs ys n none up low =
+    ascending_is 0 n xs up (subst (λ (m : ℕ). Below m xs) (sym (zero-add n)) low) ∙ where_same (λ y. is_in y xs) (is_in_either xs []) 0 n (λ y from to. sym (or_false (is_in y xs)))
+    ∙ sym (ap (λ (ys : List ℕ). numbers_where (is_in_either xs ys) 0 n) none)

@@ -1,4 +1,4 @@
-ghost use Rattle.std.specs.Prelude.{◌≡◌, ◌+◌, ◌%◌, ◌==◌, ◌<◌, ◌≤◌, if◌then◌else◌, List, [], ◌++◌, length, IfOk, IfErr, OnOk};
+ghost use Rattle.std.specs.Prelude.{◌≡◌, ◌+◌, ◌%◌, ◌==◌, ◌<◌, ◌≤◌, if◌then◌else◌, List as ListOf, [], ◌++◌, length, IfOk, IfErr, OnOk};
 ghost use Rattle.wg_graph.specs.Ascending.{Ascends, Below};
 ghost use Rattle.wg_grammar.specs.Context.{Known, referenced};
 ghost use Rattle.wg_decoder.specs.Answer.{IfFault};
@@ -9,6 +9,7 @@ use crate::value::value;
 use std::alloc::{AllocError, Global};
 use wg_bits::Cursor;
 use wg_grammar::{Fault, Field, Kind};
+use wg_graph::List;
 use wg_params::Params;
 
 // How many blocks the list is cut into.
@@ -67,11 +68,11 @@ fn block(
 }
 
 // Keeps every other run of members, from the first on.
-fn keep(kept: &mut Vec<u64>, run: &[u64], index: u64) -> Result<(), AllocError>
-    ensures { OnOk result (kept.new.items ≡ kept.old.items ++ (if index % 2 == 0 then run.now else [])) }
+fn keep(kept: &mut List, run: &[u64], index: u64) -> Result<(), AllocError>
+    ensures { OnOk result (kept.new ≡ kept.old ++ (if index % 2 == 0 then run.now else [])) }
 {
     if index % 2 == 0 {
-        kept.extend_from_slice(run)?;
+        kept.extend(run)?;
     }
     Ok(())
 }
@@ -84,13 +85,13 @@ fn blocks(
     list: &[u64],
     count: u64,
     cursor: &mut Cursor<'_>,
-) -> Result<Vec<u64>, DecodeError>
+) -> Result<List, DecodeError>
     ensures bits { cursor.new.bits ≡ cursor.old.bits }
     ensures onward { cursor.old.at ≤ cursor.new.at }
-    ensures ok { IfOk result (λ kept. BlocksCopy params.now page list.now count cursor.old.bits cursor.old.at kept.items cursor.new.at) }
+    ensures ok { IfOk result (λ kept. BlocksCopy params.now page list.now count cursor.old.bits cursor.old.at kept cursor.new.at) }
     ensures fault { IfFault result (λ e. AreNoBlocks params.now page list.now count cursor.old.bits cursor.old.at e) }
 {
-    let mut kept = Vec::new(alloc);
+    let mut kept = List::with_room(alloc, list.len())?;
     let mut done = 0;
     'blocks: for index in 0..count {
         let length = block(params, page, list, index == 0, done, cursor)?;
@@ -110,25 +111,25 @@ pub fn copied(
     reference: u64,
     list: &[u64],
     cursor: &mut Cursor<'_>,
-) -> Result<Vec<u64>, DecodeError>
+) -> Result<List, DecodeError>
     requires some { 0 < outdegree }
     requires there { reference ≤ params.now.window }
     requires ascends { Ascends 0 list.now }
     requires below { Below params.now.nodes list.now }
     ensures bits { cursor.new.bits ≡ cursor.old.bits }
     ensures onward { cursor.old.at ≤ cursor.new.at }
-    ensures fits { IfOk result (λ kept. length kept.items ≤ outdegree) }
-    ensures ascends { IfOk result (λ kept. Ascends 0 kept.items) }
-    ensures below { IfOk result (λ kept. Below params.now.nodes kept.items) }
-    ensures ok { IfOk result (λ kept. (behind : List Known) → referenced behind reference ≡ list.now → Copies params.now page behind outdegree reference cursor.old.bits cursor.old.at kept.items cursor.new.at) }
-    ensures fault { IfFault result (λ e. (behind : List Known) → referenced behind reference ≡ list.now → CopiesNot params.now page behind outdegree reference cursor.old.bits cursor.old.at e) }
+    ensures fits { IfOk result (λ kept. length kept ≤ outdegree) }
+    ensures ascends { IfOk result (λ kept. Ascends 0 kept) }
+    ensures below { IfOk result (λ kept. Below params.now.nodes kept) }
+    ensures ok { IfOk result (λ kept. (behind : ListOf Known) → referenced behind reference ≡ list.now → Copies params.now page behind outdegree reference cursor.old.bits cursor.old.at kept cursor.new.at) }
+    ensures fault { IfFault result (λ e. (behind : ListOf Known) → referenced behind reference ≡ list.now → CopiesNot params.now page behind outdegree reference cursor.old.bits cursor.old.at e) }
 {
     if reference == 0 {
-        return Ok(Vec::new(alloc));
+        return Ok(List::new(alloc));
     }
     let count = block_count(params, page, list, cursor)?;
     let kept = blocks(alloc, params, page, list, count, cursor)?;
-    if kept.len() as u64 > outdegree {
+    if kept.as_slice().len() as u64 > outdegree {
         return Err(DecodeError::Fault(Fault {
             page,
             at: cursor.at(),

@@ -8,6 +8,7 @@ ghost use Rattle.wg_decoder.specs.Stages.{IsNumberAt, IsNoNumberAt};
 ghost use Rattle.wg_decoder.specs.Intervals.{IsIntervalCount, IsNoIntervalCount, left_of, IsLength, IsNoLength, IntervalsHold, AreNoIntervals, Holds, HoldsNot};
 
 use crate::DecodeError;
+use crate::room::first_room;
 use crate::value::{first_number, later_number, value};
 use std::alloc::{AllocError, Global};
 use wg_bits::Cursor;
@@ -132,7 +133,8 @@ fn numbers_inside(
     ensures ok { IfOk result (λ inside. IntervalsHold params.now page extra count cursor.old.bits cursor.old.at inside cursor.new.at) }
     ensures fault { IfFault result (λ e. AreNoIntervals params.now page extra count cursor.old.bits cursor.old.at e) }
 {
-    let mut inside = List::new(alloc);
+    let room = if count == 0 { 0 } else { first_room(extra) };
+    let mut inside = List::with_room(alloc, room)?;
     let mut missing = extra;
     let mut past = 0;
     'numbers: for index in 0..count {

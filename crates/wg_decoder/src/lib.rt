@@ -16,6 +16,7 @@ mod head;
 mod intervals;
 mod reading;
 mod residuals;
+mod room;
 mod value;
 mod window;
 

@@ -17,15 +17,18 @@ use wg_graph::{List, merge};
 use wg_params::Params;
 
 // The numbers of two ascending lists, ascending, a number of both once.
-fn union(alloc: Global, members: &[u64], list: List) -> Result<List, AllocError>
-    requires members { Ascends 0 members.now }
+fn union(alloc: Global, members: List, list: List) -> Result<List, AllocError>
+    requires members { Ascends 0 members }
     requires list { Ascends 0 list }
-    ensures { IfOk result (λ all. (n : ℕ) → Below n members.now → Below n list → all ≡ numbers_where (is_in_either members.now list) 0 n) }
+    ensures { IfOk result (λ all. (n : ℕ) → Below n members → Below n list → all ≡ numbers_where (is_in_either members list) 0 n) }
 {
-    if members.is_empty() {
+    if members.as_slice().is_empty() {
         return Ok(list);
     }
-    merge(alloc, members, list.as_slice())
+    if list.as_slice().is_empty() {
+        return Ok(members);
+    }
+    merge(alloc, members.as_slice(), list.as_slice())
 }
 
 // A record; the cursor stands somewhere in it where it is refused.
@@ -65,12 +68,12 @@ fn read_record(
         list_at(window, reference),
         cursor,
     )?;
-    let extra = outdegree - copied.len() as u64;
+    let extra = outdegree - copied.as_slice().len() as u64;
     let inside = intervals(alloc, params, page, extra, cursor)?;
     let missing = extra - inside.as_slice().len() as u64;
     let residuals = residuals(alloc, params, page, missing, cursor)?;
-    let rest = union(alloc, inside.as_slice(), residuals)?;
-    let list = union(alloc, copied.as_slice(), rest)?;
+    let rest = union(alloc, inside, residuals)?;
+    let list = union(alloc, copied, rest)?;
     if (list.as_slice().len() as u64) < outdegree {
         return Err(DecodeError::Fault(Fault {
             page,

@@ -4,6 +4,7 @@ ghost use Rattle.wg_decoder.specs.Answer.{IfFault};
 ghost use Rattle.wg_decoder.specs.Residuals.{AreResiduals, AreNoResiduals};
 
 use crate::DecodeError;
+use crate::room::first_room;
 use crate::value::{first_number, later_number};
 use std::alloc::Global;
 use wg_bits::Cursor;
@@ -11,7 +12,7 @@ use wg_grammar::Field;
 use wg_graph::List;
 use wg_params::Params;
 
-/// The residuals of a record, of which `missing` come. Memory is taken as they come.
+/// The residuals of a record, of which `missing` come. Memory is taken for a few at first, and for more as they come.
 pub fn residuals(
     alloc: Global,
     params: &Params,
@@ -28,10 +29,10 @@ pub fn residuals(
     ensures ok { IfOk result (λ xs. AreResiduals params.now page missing cursor.old.bits cursor.old.at xs cursor.new.at) }
     ensures fault { IfFault result (λ e. AreNoResiduals params.now page missing cursor.old.bits cursor.old.at e) }
 {
-    let mut list = List::new(alloc);
     if missing == 0 {
-        return Ok(list);
+        return Ok(List::new(alloc));
     }
+    let mut list = List::with_room(alloc, first_room(missing))?;
     let nodes = params.nodes();
     let code = params.residuals();
     let mut last = first_number(nodes, page, Field::Residual, code, cursor)?;

@@ -4,7 +4,7 @@ use Rattle.std.proofs.lemmas.List.{take_all, take_at, get_or_read}
 use Rattle.wg_params.specs.declared.limits.TheConstants.{MOST_ARCS}
 use Rattle.wg_graph.specs.Ascending.{Ascends, Below}
 use Rattle.wg_graph.specs.Digraph.{Digraph, IsGraph, IsFront, successors, arc_count}
-use Rattle.wg_graph.specs.Growing.{FollowsOn, padded, with_arc}
+use Rattle.wg_graph.specs.Growing.{ComesAfter, FollowsOn, padded, with_arc}
 use Rattle.wg_graph.specs.Pieces.{pieces, EndsAt, cut, IsCut}
 use Rattle.wg_graph.proofs.Ends.{pad_ends, pad_pieces, length-pieces, append_ends, append_pieces, grow_ends, grow_pieces, pieces_count}
 use Rattle.wg_graph.proofs.Fronts.{padded_at, front_with_arc, graph_of_front}
@@ -67,21 +67,14 @@ few_begun nodes ends all h = let few = h.front.begun in omega (arith, begun_coun
 pub whole_is_graph : (ends all : List ℕ) → IsCut (length ends) ends all → IsGraph (cut (length ends) ends all)
 whole_is_graph ends all h = graph_of_front (cut (length ends) ends all) h.front (length-pieces 0 ends all)
 
-pub follows_where : (nodes : ℕ) (ends all : List ℕ) (x v : ℕ) (list : List ℕ) (r : Bool) → IsCut nodes ends all → x < nodes → v < nodes → length ends ≤ x + 1 → length all < MOST_ARCS →
-    list ≡ successors (cut nodes ends all) x → (IsTrue r ↔ Below v list) → (IsTrue r ↔ FollowsOn (cut nodes ends all) x v)
-follows_where nodes ends all x v list r h source target not_past room is past =
+pub after_where : (nodes : ℕ) (ends all : List ℕ) (x v : ℕ) (list : List ℕ) (r : Bool) → length ends ≤ x + 1 → list ≡ successors (cut nodes ends all) x → (IsTrue r ↔ Below v list) →
+    (IsTrue r ↔ ComesAfter (cut nodes ends all) x v)
+after_where nodes ends all x v list r not_past is past =
     let size = begun_count nodes ends all in
-    let count = all_count nodes ends all h in
-    (λ t. record { source = source; target = target; not_past = omega arith; above = subst (Below v) is (past.0 t); room = omega arith }, λ f. past.1 (subst (Below v) (sym is) f.above))
+    (λ t. record { not_past = omega arith; above = subst (Below v) is (past.0 t) }, λ f. past.1 (subst (Below v) (sym is) f.above))
 
-pub follows_not : (g : Digraph) (x v : ℕ) → ¬ FollowsOn g x v → (IsTrue false ↔ FollowsOn g x v)
-follows_not g x v never = (λ t. absurd (cc), λ f. absurd (never f))
-
-pub past_not : (nodes : ℕ) (ends all : List ℕ) (x v : ℕ) → x + 1 < length ends → (IsTrue false ↔ FollowsOn (cut nodes ends all) x v)
-past_not nodes ends all x v past = follows_not (cut nodes ends all) x v (λ f. let le = f.not_past in let size = begun_count nodes ends all in omega arith)
-
-pub full_not : (nodes : ℕ) (ends all : List ℕ) (x v : ℕ) → IsCut nodes ends all → MOST_ARCS ≤ length all → (IsTrue false ↔ FollowsOn (cut nodes ends all) x v)
-full_not nodes ends all x v h full = follows_not (cut nodes ends all) x v (λ f. let room = f.room in let count = all_count nodes ends all h in omega arith)
+pub after_not : (nodes : ℕ) (ends all : List ℕ) (x v : ℕ) → x + 1 < length ends → (IsTrue false ↔ ComesAfter (cut nodes ends all) x v)
+after_not nodes ends all x v past = (λ t. absurd (cc), λ f. absurd (let le = f.not_past in let size = begun_count nodes ends all in omega arith))
 
 pub cut_with_arc : (nodes : ℕ) (ends all ends1 all1 : List ℕ) (x v : ℕ) → IsCut nodes ends all → EndsAt 0 ends1 (length all1) → pieces 0 ends1 all1 ≡ with_arc (pieces 0 ends all) x v →
     FollowsOn (cut nodes ends all) x v → IsCut nodes ends1 all1

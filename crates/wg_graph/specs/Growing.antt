@@ -12,6 +12,11 @@ pub record FollowsOn (g : Digraph) (x v : ℕ) : Type 0 where
   pub above : Below v (successors g x)
   pub room : arc_count g < MOST_ARCS
 
+-- the arc from x to v comes after those that are there: no page after x is begun, and v is above the successors of x
+pub record ComesAfter (g : Digraph) (x v : ℕ) : Type 0 where
+  pub not_past : length g.lists ≤ x + 1
+  pub above : Below v (successors g x)
+
 -- with empty lists up to n
 abbrev pub padded : ℕ → List (List ℕ) → List (List ℕ)
 padded n lists = lists ++ replicate (n - length lists) []

@@ -1,8 +1,8 @@
 ghost use Rattle.std.specs.Prelude.{◌≡◌, ◌↔◌, ◌+◌, ◌<◌, ◌≤◌, [], ◌∷◌, ◌++◌, length, IsTrue, IfOk, OnOk, OnErr};
 ghost use Rattle.wg_params.specs.declared.limits.TheConstants.{MOST_ARCS, MOST_PAGES};
 ghost use Rattle.wg_graph.specs.Ascending.{Ascends, Below};
-ghost use Rattle.wg_graph.specs.Digraph.{arc_count, successors};
-ghost use Rattle.wg_graph.specs.Growing.{FollowsOn, with_arc, padded};
+ghost use Rattle.wg_graph.specs.Digraph.{arc_count, successors, IsFront, IsGraph};
+ghost use Rattle.wg_graph.specs.Growing.{ComesAfter, FollowsOn, with_arc, padded};
 
 use crate::Graph;
 use crate::cutting::{add, append, pad, piece};
@@ -58,20 +58,40 @@ impl GraphBuilder {
         }
     }
 
+    /// How many pages there are to be.
+    pub fn nodes(&self) -> u64
+        ensures value { result ≡ self.now.nodes }
+        ensures within { result ≤ MOST_PAGES }
+    {
+        self.nodes
+    }
+
+    /// How many arcs there are so far.
+    pub fn arcs(&self) -> u64
+        ensures value { result ≡ arc_count self.now }
+        ensures within { result ≤ MOST_ARCS }
+    {
+        self.all.len() as u64
+    }
+
+    /// Whether the arc from page `x` to `v` comes after all that are there. It takes constant time.
+    pub fn is_after_all(&self, x: u64, v: u64) -> bool
+        requires { x < self.now.nodes }
+        ensures value { IsTrue result ↔ ComesAfter self.now x v }
+        ensures front { IsFront self.now }
+    {
+        let begun = self.ends.len() as u64;
+        if x + 1 < begun {
+            return false;
+        }
+        is_past(self.begun(x), v)
+    }
+
     /// Whether the arc from `x` to `v` may come next. It takes constant time.
     pub fn fits(&self, x: u64, v: u64) -> bool
         ensures { IsTrue result ↔ FollowsOn self.now x v }
     {
-        if self.nodes <= x || self.nodes <= v {
-            return false;
-        }
-        if x + 1 < self.ends.len() as u64 {
-            return false;
-        }
-        if MOST_ARCS <= self.all.len() as u64 {
-            return false;
-        }
-        is_past(self.begun(x), v)
+        x < self.nodes() && v < self.nodes() && self.is_after_all(x, v) && self.arcs() < MOST_ARCS
     }
 
     /// Adds an arc, in constant time on average but for the pages without arcs that it passes over.
@@ -103,6 +123,7 @@ impl GraphBuilder {
     pub fn finish(self) -> Result<Graph, AllocError>
         ensures nodes { IfOk result (λ g. g.nodes ≡ self.nodes) }
         ensures lists { IfOk result (λ g. g.lists ≡ padded self.nodes self.lists) }
+        ensures proper { IfOk result (λ g. IsGraph g) }
     {
         let GraphBuilder {
             nodes,

@@ -45,6 +45,15 @@ impl List {
         Ok(())
     }
 
+    /// Adds numbers at the end, in their order, in time in proportion to them on average.
+    pub fn extend(&mut self, numbers: &[u64]) -> Result<(), AllocError>
+        ensures ok { OnOk result (self.new ≡ self.old ++ numbers.now) }
+        ensures err { OnErr result (self.new ≡ self.old) }
+    {
+        self.numbers.extend_from_slice(numbers)?;
+        Ok(())
+    }
+
     /// The numbers.
     pub fn as_slice(&self) -> &[u64]
         ensures { result.now ≡ self.now }

@@ -1,4 +1,4 @@
-use Rattle.std.proofs.Common.{◌≡◌, ◌<◌, Bool, List, subst, arith}
+use Rattle.std.proofs.Common.{◌≡◌, ◌<◌, Bool, List, length, ap, subst, arith}
 use Rattle.std.proofs.lemmas.Result.{err_from_is_err_and}
 use Rattle.wg_grammar.specs.declared.fault.Fault.{Fault}
 use Rattle.wg_grammar.specs.Context.{Known, referenced}
@@ -8,7 +8,7 @@ use Rattle.wg_decoder.proofs.CopyLemmas.{copies_none, copies_some, copies_many, 
 use Rattle.wg_decoder.proofs.copying.copied.Goals as goal
 
 pub returns-then-reference-eq0-clause-ok : goal.returns-then-reference-eq0-clause-ok
-returns-then-reference-eq0-clause-ok c behind is = copies_none c.args.params.now c.args.page behind c.args.outdegree c.args.reference c.args.cursor.now.bits c.args.cursor.now.at c.new.result.items (omega arith) c.new.ensures.items
+returns-then-reference-eq0-clause-ok c behind is = copies_none c.args.params.now c.args.page behind c.args.outdegree c.args.reference c.args.cursor.now.bits c.args.cursor.now.at c.new.result (omega arith) c.new.ensures
 
 pub returns-in_err-count-clause-fault : goal.returns-in_err-count-clause-fault
 returns-in_err-count-clause-fault c =
@@ -30,17 +30,17 @@ returns-in_err-kept-clause-fault c =
     (subst (λ (b : List Bool). AreNoBlocks q c.args.page list n b mid e) c.in_ok-count.ensures.bits h))
     c.in_err-kept.ensures.fault)
 
-pub returns-then-len-outdegree-clause-fault : goal.returns-then-len-outdegree-clause-fault
-returns-then-len-outdegree-clause-fault c behind is =
+pub returns-then-as_slice-outdegree-clause-fault : goal.returns-then-as_slice-outdegree-clause-fault
+returns-then-as_slice-outdegree-clause-fault c behind is =
     let q = c.args.params.now in
     let list = c.args.list.now in
     let n = c.in_ok-count.count in
     let mid = c.block_count.new.cursor.at in
     let end = c.blocks-2.new.cursor.at in
     let here = c.args.cursor.now in
-    let members = c.in_ok-kept.kept.items in
+    let members = c.in_ok-kept.kept in
     let cut = subst (λ (b : List Bool). BlocksCopy q c.args.page list n b mid members end) c.in_ok-count.ensures.bits c.in_ok-kept.ensures.ok in
-    copies_many q c.args.page behind here.bits here.at c.args.outdegree c.args.reference n mid end c.at.result list members c.requires.some (omega arith) c.requires.there is c.in_ok-count.ensures.ok cut (omega arith) c.at.ensures.place
+    copies_many q c.args.page behind here.bits here.at c.args.outdegree c.args.reference n mid end c.at.result list members c.requires.some (omega arith) c.requires.there is c.in_ok-count.ensures.ok cut (omega (arith, ap length c.as_slice.ensures)) c.at.ensures.place
 
 pub returns-clause-ascends : goal.returns-clause-ascends
 returns-clause-ascends c = copied_ascends _ _ _ _ _ _ _ _ c.in_ok-kept.ensures.ok c.requires.ascends
@@ -56,6 +56,6 @@ returns-clause-ok c behind is =
     let mid = c.block_count.new.cursor.at in
     let end = c.blocks-2.new.cursor.at in
     let here = c.args.cursor.now in
-    let members = c.in_ok-kept.kept.items in
+    let members = c.in_ok-kept.kept in
     let cut = subst (λ (b : List Bool). BlocksCopy q c.args.page list n b mid members end) c.in_ok-count.ensures.bits c.in_ok-kept.ensures.ok in
-    copies_some q c.args.page behind here.bits here.at c.args.outdegree c.args.reference n mid end list members c.requires.some (omega arith) c.requires.there is c.in_ok-count.ensures.ok cut (omega arith)
+    copies_some q c.args.page behind here.bits here.at c.args.outdegree c.args.reference n mid end list members c.requires.some (omega arith) c.requires.there is c.in_ok-count.ensures.ok cut (omega (arith, ap length c.as_slice.ensures))

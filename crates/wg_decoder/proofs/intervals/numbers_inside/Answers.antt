@@ -16,7 +16,7 @@ returns-in_err-left-clause-fault c =
     let start = c.args.cursor.now in
     let l = c.numbers in
     let i = l.invariant in
-    let p = err_from_is_err_and c.from_residual.result c.from_residual.ensures.1 in
+    let p = err_from_is_err_and c.from_residual-in_err-left.result c.from_residual-in_err-left.ensures.1 in
     let bad = subst (λ (b : List Bool). IsNoNumberAt field.Left Gamma (left_of c.args.page (l.index == 0) l.past) q.nodes b l.cursor.at c.args.page c.in_err-left.field-0.0) i.bits c.in_err-left.ensures.err in
     rw (p.1, p.2) (intervals_unled q c.args.page c.args.extra c.args.count start.bits start.at l.index l.missing l.past l.inside l.cursor.at c.in_err-left.field-0.0 (omega arith) i.listed bad)
 

@@ -1,4 +1,4 @@
-use Rattle.std.proofs.Common.{◌≡◌, ◌∙◌, ℕ, ◌-◌, ◌<◌, List, length, Err, refl, sym, ap, subst, arith}
+use Rattle.std.proofs.Common.{◌≡◌, ◌∙◌, ◌-◌, ◌<◌, List, length, Err, refl, sym, ap, arith}
 use Rattle.std.proofs.lemmas.Result.{err_from_is_err_and}
 use Rattle.wg_grammar.specs.declared.fault.Fault.{Fault}
 use Rattle.wg_grammar.specs.Record.{ReadsRecord}
@@ -6,7 +6,6 @@ use Rattle.wg_grammar.specs.Context.{Known, referenced}
 use Rattle.wg_decoder.specs.Answer.{context_at}
 use Rattle.wg_decoder.specs.Copying.{CopiesNot}
 use Rattle.wg_decoder.specs.Intervals.{HoldsNot}
-use Rattle.wg_graph.specs.Ascending.{Below}
 use Rattle.wg_graph.specs.Numbers.{is_in_either, numbers_where}
 use Rattle.wg_decoder.specs.Residuals.{AreNoResiduals}
 use Rattle.wg_decoder.proofs.WholeLemmas.{reads_fault, fault_weaker, empty_reads, no_reference, no_copies, no_intervals, no_residuals, to_head, to_copies, to_intervals, ReachedCopies, Reached, AllRead, all_read, never_long, whole_reads, whole_twice, union_ascends, union_below}
@@ -68,10 +67,10 @@ returns-in_err-inside-clause-fault c =
     let same2 = c.in_ok-reference.ensures.bits ∙ same1 in
     let same3 = c.in_ok-copied.ensures.bits ∙ same2 in
     let head = to_head q page before behind start.bits b1.bits start.at d b1.at r b2.at same1 some c.in_ok-outdegree.ensures.ok c.in_ok-reference.ensures.ok in
-    let kept = c.in_ok-copied.copied.items in
+    let kept = c.in_ok-copied.copied in
     let x : ReachedCopies q here start.bits start.at d r kept b3.at = to_copies q page before behind start.bits b2.bits start.at d b2.at r kept b3.at same2 head (c.in_ok-copied.ensures.ok behind (sym c.list_at.ensures)) in
-    let extra = d - c.len.result in
-    let extra_is : extra ≡ d - length kept = omega (arith, c.len.ensures) in
+    let extra = d - length c.as_slice.result.now in
+    let extra_is : extra ≡ d - length kept = omega (arith, ap length c.as_slice.ensures) in
     let p = err_from_is_err_and c.from_residual-in_err-inside.result c.from_residual-in_err-inside.ensures.1 in
     rw (p.1, p.2) (fault_weaker c.in_err-inside.field-0.0 (λ (e : Fault). HoldsNot q page extra b3.bits b3.at e) (λ (e : Fault). ReadsRecord q here start.bits start.at (Err e))
     (λ e h. no_intervals q here page start.bits b3.bits start.at d r kept b3.at extra e same3 refl some extra_is x h)
@@ -95,16 +94,16 @@ returns-in_err-residuals-clause-fault c =
     let same2 = c.in_ok-reference.ensures.bits ∙ same1 in
     let same3 = c.in_ok-copied.ensures.bits ∙ same2 in
     let head = to_head q page before behind start.bits b1.bits start.at d b1.at r b2.at same1 some c.in_ok-outdegree.ensures.ok c.in_ok-reference.ensures.ok in
-    let kept = c.in_ok-copied.copied.items in
+    let kept = c.in_ok-copied.copied in
     let x : ReachedCopies q here start.bits start.at d r kept b3.at = to_copies q page before behind start.bits b2.bits start.at d b2.at r kept b3.at same2 head (c.in_ok-copied.ensures.ok behind (sym c.list_at.ensures)) in
-    let extra = d - c.len.result in
-    let extra_is : extra ≡ d - length kept = omega (arith, c.len.ensures) in
+    let extra = d - length c.as_slice.result.now in
+    let extra_is : extra ≡ d - length kept = omega (arith, ap length c.as_slice.ensures) in
     let inside = c.in_ok-inside.inside in
     let b4 = c.intervals.new.cursor in
     let same4 = c.in_ok-inside.ensures.bits ∙ same3 in
     let y : Reached q here start.bits start.at d r kept inside b4.at = to_intervals q here page start.bits b3.bits start.at d r kept b3.at extra inside b4.at same3 refl some extra_is x c.in_ok-inside.ensures.ok in
-    let n = extra - length c.as_slice.result.now in
-    let n_is : n ≡ d - length kept - length inside = omega (arith, extra_is, ap length c.as_slice.ensures) in
+    let n = extra - length c.as_slice-2.result.now in
+    let n_is : n ≡ d - length kept - length inside = omega (arith, extra_is, ap length c.as_slice-2.ensures) in
     let p = err_from_is_err_and c.from_residual-in_err-residuals.result c.from_residual-in_err-residuals.ensures.1 in
     rw (p.1, p.2) (fault_weaker c.in_err-residuals.field-0.0 (λ (e : Fault). AreNoResiduals q page n b4.bits b4.at e) (λ (e : Fault). ReadsRecord q here start.bits start.at (Err e))
     (λ e h. no_residuals q here page start.bits b4.bits start.at d r kept inside b4.at n e same4 refl some n_is y h)
@@ -113,7 +112,7 @@ returns-in_err-residuals-clause-fault c =
 pub union-requires-2-clause-list : goal.union-requires-2-clause-list
 union-requires-2-clause-list c =
     let q = c.args.params.now in
-    union_ascends q.nodes c.as_slice-2.result.now c.in_ok-residuals.residuals c.in_ok-rest.rest (c.in_ok-rest.ensures q.nodes (subst (Below q.nodes) (sym c.as_slice-2.ensures) c.in_ok-inside.ensures.below) c.in_ok-residuals.ensures.below)
+    union_ascends q.nodes c.in_ok-inside.inside c.in_ok-residuals.residuals c.in_ok-rest.rest (c.in_ok-rest.ensures q.nodes c.in_ok-inside.ensures.below c.in_ok-residuals.ensures.below)
 
 pub returns-then-as_slice-outdegree-clause-fault : goal.returns-then-as_slice-outdegree-clause-fault
 returns-then-as_slice-outdegree-clause-fault c =
@@ -133,27 +132,25 @@ returns-then-as_slice-outdegree-clause-fault c =
     let same2 = c.in_ok-reference.ensures.bits ∙ same1 in
     let same3 = c.in_ok-copied.ensures.bits ∙ same2 in
     let head = to_head q page before behind start.bits b1.bits start.at d b1.at r b2.at same1 some c.in_ok-outdegree.ensures.ok c.in_ok-reference.ensures.ok in
-    let kept = c.in_ok-copied.copied.items in
+    let kept = c.in_ok-copied.copied in
     let x : ReachedCopies q here start.bits start.at d r kept b3.at = to_copies q page before behind start.bits b2.bits start.at d b2.at r kept b3.at same2 head (c.in_ok-copied.ensures.ok behind (sym c.list_at.ensures)) in
-    let extra = d - c.len.result in
-    let extra_is : extra ≡ d - length kept = omega (arith, c.len.ensures) in
+    let extra = d - length c.as_slice.result.now in
+    let extra_is : extra ≡ d - length kept = omega (arith, ap length c.as_slice.ensures) in
     let inside = c.in_ok-inside.inside in
     let b4 = c.intervals.new.cursor in
     let same4 = c.in_ok-inside.ensures.bits ∙ same3 in
     let y : Reached q here start.bits start.at d r kept inside b4.at = to_intervals q here page start.bits b3.bits start.at d r kept b3.at extra inside b4.at same3 refl some extra_is x c.in_ok-inside.ensures.ok in
-    let n = extra - length c.as_slice.result.now in
-    let n_is : n ≡ d - length kept - length inside = omega (arith, extra_is, ap length c.as_slice.ensures) in
+    let n = extra - length c.as_slice-2.result.now in
+    let n_is : n ≡ d - length kept - length inside = omega (arith, extra_is, ap length c.as_slice-2.ensures) in
     let ys = c.in_ok-residuals.residuals in
     let rest = c.in_ok-rest.rest in
     let list = c.in_ok-list.list in
     let end = c.residuals.new.cursor in
-    let rest_is : rest ≡ numbers_where (is_in_either inside ys) 0 q.nodes =
-    subst (λ (xs : List ℕ). rest ≡ numbers_where (is_in_either xs ys) 0 q.nodes) c.as_slice-2.ensures (c.in_ok-rest.ensures q.nodes (subst (Below q.nodes) (sym c.as_slice-2.ensures) c.in_ok-inside.ensures.below) c.in_ok-residuals.ensures.below) in
-    let list_is : list ≡ numbers_where (is_in_either kept rest) 0 q.nodes =
-    subst (λ (xs : List ℕ). list ≡ numbers_where (is_in_either xs rest) 0 q.nodes) c.as_slice-3.ensures.value (c.in_ok-list.ensures q.nodes (subst (Below q.nodes) (sym c.as_slice-3.ensures.value) c.in_ok-copied.ensures.below) (union_below q.nodes inside ys rest rest_is)) in
+    let rest_is : rest ≡ numbers_where (is_in_either inside ys) 0 q.nodes = c.in_ok-rest.ensures q.nodes c.in_ok-inside.ensures.below c.in_ok-residuals.ensures.below in
+    let list_is : list ≡ numbers_where (is_in_either kept rest) 0 q.nodes = c.in_ok-list.ensures q.nodes c.in_ok-copied.ensures.below (union_below q.nodes inside ys rest rest_is) in
     let all : AllRead q here start.bits start.at d r list end.at = all_read q here page start.bits b4.bits start.at d r kept inside b4.at n ys rest list end.at same4 refl some n_is y
     c.in_ok-residuals.ensures.ok c.in_ok-residuals.ensures.count rest_is list_is in
-    whole_twice q here start.bits start.at d r c.at-start.result list end.at all (omega (arith, ap length c.as_slice-4.ensures)) c.at-start.ensures.place
+    whole_twice q here start.bits start.at d r c.at-start.result list end.at all (omega (arith, ap length c.as_slice-3.ensures)) c.at-start.ensures.place
 
 pub returns-clause-reads : goal.returns-clause-reads
 returns-clause-reads c =
@@ -173,27 +170,25 @@ returns-clause-reads c =
     let same2 = c.in_ok-reference.ensures.bits ∙ same1 in
     let same3 = c.in_ok-copied.ensures.bits ∙ same2 in
     let head = to_head q page before behind start.bits b1.bits start.at d b1.at r b2.at same1 some c.in_ok-outdegree.ensures.ok c.in_ok-reference.ensures.ok in
-    let kept = c.in_ok-copied.copied.items in
+    let kept = c.in_ok-copied.copied in
     let x : ReachedCopies q here start.bits start.at d r kept b3.at = to_copies q page before behind start.bits b2.bits start.at d b2.at r kept b3.at same2 head (c.in_ok-copied.ensures.ok behind (sym c.list_at.ensures)) in
-    let extra = d - c.len.result in
-    let extra_is : extra ≡ d - length kept = omega (arith, c.len.ensures) in
+    let extra = d - length c.as_slice.result.now in
+    let extra_is : extra ≡ d - length kept = omega (arith, ap length c.as_slice.ensures) in
     let inside = c.in_ok-inside.inside in
     let b4 = c.intervals.new.cursor in
     let same4 = c.in_ok-inside.ensures.bits ∙ same3 in
     let y : Reached q here start.bits start.at d r kept inside b4.at = to_intervals q here page start.bits b3.bits start.at d r kept b3.at extra inside b4.at same3 refl some extra_is x c.in_ok-inside.ensures.ok in
-    let n = extra - length c.as_slice.result.now in
-    let n_is : n ≡ d - length kept - length inside = omega (arith, extra_is, ap length c.as_slice.ensures) in
+    let n = extra - length c.as_slice-2.result.now in
+    let n_is : n ≡ d - length kept - length inside = omega (arith, extra_is, ap length c.as_slice-2.ensures) in
     let ys = c.in_ok-residuals.residuals in
     let rest = c.in_ok-rest.rest in
     let list = c.in_ok-list.list in
     let end = c.residuals.new.cursor in
-    let rest_is : rest ≡ numbers_where (is_in_either inside ys) 0 q.nodes =
-    subst (λ (xs : List ℕ). rest ≡ numbers_where (is_in_either xs ys) 0 q.nodes) c.as_slice-2.ensures (c.in_ok-rest.ensures q.nodes (subst (Below q.nodes) (sym c.as_slice-2.ensures) c.in_ok-inside.ensures.below) c.in_ok-residuals.ensures.below) in
-    let list_is : list ≡ numbers_where (is_in_either kept rest) 0 q.nodes =
-    subst (λ (xs : List ℕ). list ≡ numbers_where (is_in_either xs rest) 0 q.nodes) c.as_slice-3.ensures.value (c.in_ok-list.ensures q.nodes (subst (Below q.nodes) (sym c.as_slice-3.ensures.value) c.in_ok-copied.ensures.below) (union_below q.nodes inside ys rest rest_is)) in
+    let rest_is : rest ≡ numbers_where (is_in_either inside ys) 0 q.nodes = c.in_ok-rest.ensures q.nodes c.in_ok-inside.ensures.below c.in_ok-residuals.ensures.below in
+    let list_is : list ≡ numbers_where (is_in_either kept rest) 0 q.nodes = c.in_ok-list.ensures q.nodes c.in_ok-copied.ensures.below (union_below q.nodes inside ys rest rest_is) in
     let all : AllRead q here start.bits start.at d r list end.at = all_read q here page start.bits b4.bits start.at d r kept inside b4.at n ys rest list end.at same4 refl some n_is y
     c.in_ok-residuals.ensures.ok c.in_ok-residuals.ensures.count rest_is list_is in
-    whole_reads q here start.bits start.at d r c.depth_at.result list end.at all (omega (arith, ap length c.as_slice-4.ensures)) c.depth_at.ensures.depth
+    whole_reads q here start.bits start.at d r c.depth_at.result list end.at all (omega (arith, ap length c.as_slice-3.ensures)) c.depth_at.ensures.depth
 
 pub returns-clause-total : goal.returns-clause-total
 returns-clause-total c =
@@ -213,24 +208,22 @@ returns-clause-total c =
     let same2 = c.in_ok-reference.ensures.bits ∙ same1 in
     let same3 = c.in_ok-copied.ensures.bits ∙ same2 in
     let head = to_head q page before behind start.bits b1.bits start.at d b1.at r b2.at same1 some c.in_ok-outdegree.ensures.ok c.in_ok-reference.ensures.ok in
-    let kept = c.in_ok-copied.copied.items in
+    let kept = c.in_ok-copied.copied in
     let x : ReachedCopies q here start.bits start.at d r kept b3.at = to_copies q page before behind start.bits b2.bits start.at d b2.at r kept b3.at same2 head (c.in_ok-copied.ensures.ok behind (sym c.list_at.ensures)) in
-    let extra = d - c.len.result in
-    let extra_is : extra ≡ d - length kept = omega (arith, c.len.ensures) in
+    let extra = d - length c.as_slice.result.now in
+    let extra_is : extra ≡ d - length kept = omega (arith, ap length c.as_slice.ensures) in
     let inside = c.in_ok-inside.inside in
     let b4 = c.intervals.new.cursor in
     let same4 = c.in_ok-inside.ensures.bits ∙ same3 in
     let y : Reached q here start.bits start.at d r kept inside b4.at = to_intervals q here page start.bits b3.bits start.at d r kept b3.at extra inside b4.at same3 refl some extra_is x c.in_ok-inside.ensures.ok in
-    let n = extra - length c.as_slice.result.now in
-    let n_is : n ≡ d - length kept - length inside = omega (arith, extra_is, ap length c.as_slice.ensures) in
+    let n = extra - length c.as_slice-2.result.now in
+    let n_is : n ≡ d - length kept - length inside = omega (arith, extra_is, ap length c.as_slice-2.ensures) in
     let ys = c.in_ok-residuals.residuals in
     let rest = c.in_ok-rest.rest in
     let list = c.in_ok-list.list in
     let end = c.residuals.new.cursor in
-    let rest_is : rest ≡ numbers_where (is_in_either inside ys) 0 q.nodes =
-    subst (λ (xs : List ℕ). rest ≡ numbers_where (is_in_either xs ys) 0 q.nodes) c.as_slice-2.ensures (c.in_ok-rest.ensures q.nodes (subst (Below q.nodes) (sym c.as_slice-2.ensures) c.in_ok-inside.ensures.below) c.in_ok-residuals.ensures.below) in
-    let list_is : list ≡ numbers_where (is_in_either kept rest) 0 q.nodes =
-    subst (λ (xs : List ℕ). list ≡ numbers_where (is_in_either xs rest) 0 q.nodes) c.as_slice-3.ensures.value (c.in_ok-list.ensures q.nodes (subst (Below q.nodes) (sym c.as_slice-3.ensures.value) c.in_ok-copied.ensures.below) (union_below q.nodes inside ys rest rest_is)) in
+    let rest_is : rest ≡ numbers_where (is_in_either inside ys) 0 q.nodes = c.in_ok-rest.ensures q.nodes c.in_ok-inside.ensures.below c.in_ok-residuals.ensures.below in
+    let list_is : list ≡ numbers_where (is_in_either kept rest) 0 q.nodes = c.in_ok-list.ensures q.nodes c.in_ok-copied.ensures.below (union_below q.nodes inside ys rest rest_is) in
     let all : AllRead q here start.bits start.at d r list end.at = all_read q here page start.bits b4.bits start.at d r kept inside b4.at n ys rest list end.at same4 refl some n_is y
     c.in_ok-residuals.ensures.ok c.in_ok-residuals.ensures.count rest_is list_is in
     omega (arith, never_long q here start.bits start.at d r list end.at all, c.in_ok-outdegree.ensures.total)

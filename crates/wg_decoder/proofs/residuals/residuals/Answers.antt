@@ -17,7 +17,7 @@ returns-in_err-last-clause-fault c =
     let q = c.args.params.now in
     let page = c.args.page in
     let start = c.args.cursor.now in
-    let p = err_from_is_err_and c.from_residual.result c.from_residual.ensures.1 in
+    let p = err_from_is_err_and c.from_residual-in_err-last.result c.from_residual-in_err-last.ensures.1 in
     let bad = rw (c.residuals-code.ensures.value, c.nodes-nodes.ensures.value) at c.in_err-last.ensures.err in
     rw (p.1, p.2) (residuals_fail q page c.args.missing (unfolded_from page) start.bits start.at [] start.at c.in_err-last.field-0.0 (omega arith) (own_first page) (residuals_begin q page c.args.missing start.bits start.at) bad)
 
@@ -29,7 +29,7 @@ rest-init c =
     let y = c.in_ok-last.last in
     let one = rw c.residuals-code.ensures.value at c.in_ok-last.ensures.ok in
     let fits : y < q.nodes = omega (arith, c.in_ok-last.ensures.below, c.nodes-nodes.ensures.value) in
-    let is : c.push.new.self ≡ y ∷ [] = c.in_ok-push.ensures.ok ∙ ap (λ (xs : List ℕ). xs ++ y ∷ []) c.new-list.ensures in
+    let is : c.push.new.self ≡ y ∷ [] = c.in_ok-push.ensures.ok ∙ ap (λ (xs : List ℕ). xs ++ y ∷ []) c.in_ok-list.ensures in
     record {
       bits = c.in_ok-last.ensures.bits;
       onward = c.in_ok-last.ensures.onward;
