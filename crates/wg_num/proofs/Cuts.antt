@@ -5,7 +5,7 @@ use Rattle.std.specs.Str.Lines.{strip_carriage_return}
 use Rattle.std.proofs.lemmas.List.{take_all}
 use Rattle.std.proofs.lemmas.List.Folds.{length-prefix_len}
 use Rattle.std.proofs.lemmas.List.Splits.{slice_split_first, length-slice_split}
-use Rattle.wg_properties.specs.Lines.{lines_of, without_empty_end}
+use Rattle.wg_num.specs.Lines.{lines_of, without_empty_end}
 
 abbrev is_end : ℕ → Bool
 is_end b = b == 10

@@ -1,12 +1,16 @@
-//! Numbers as decimal texts: whole numbers below 2^64 both ways, and parts of 1.
+//! What texts are made of: whole numbers below 2^64 in decimal digits, parts of 1, lines, and blanks.
 //!
 //! [`read_decimal`] accepts the one text that [`decimal_into`] writes of a number and nothing else: no sign, no blanks, no
-//! zeros at the front. [`units_text`] writes a part of 1, in units of 10^-24, with all its 24 digits. None of them takes
-//! memory, and each goes over at most the first 26 digits of its text.
+//! zeros at the front. Each goes over at most the first 20 digits of its text. [`units_text`] writes a part of 1, in units of
+//! 10^-24, with all its 24 digits. [`first_line`] cuts a text after its first line, and [`without_blanks_before`] and
+//! [`without_blanks_after`] drop spaces and tabs; each lends a part of its text, and goes over the part that it cuts off or
+//! drops. No call takes memory.
 #![tactic(auto)]
 
 mod decimal;
+mod lines;
 mod units;
 
 pub use decimal::{decimal_into, read_decimal};
+pub use lines::{first_line, is_blank, without_blanks_after, without_blanks_before};
 pub use units::{UnitsText, units_text};

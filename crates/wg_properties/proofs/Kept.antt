@@ -10,7 +10,7 @@ use Rattle.std.proofs.lemmas.List.{get_or-map, map-set, get_or-set_same, get_or-
 use Rattle.wg_params.specs.declared.key.Key.{Key}
 use Rattle.wg_params.specs.declared.key.Key.TheVariants.{GraphClass, Version, Endianness, Nodes, Arcs, WindowSize, MaxRefCount, MinIntervalLength, ZetaK, CompressionFlags}
 use Rattle.wg_properties.specs.declared.keys.TheConstants.{KEYS}
-use Rattle.wg_properties.specs.Lines.{without_blanks_before}
+use Rattle.wg_num.specs.Lines.{without_blanks_before}
 use Rattle.wg_properties.specs.Pairs.{is_skipped, key_in, value_in, pairs_of, values_of, key_of}
 use Rattle.wg_properties.specs.Values.{place_of, value_at}
 use Rattle.wg_properties.specs.Words.{name_of}

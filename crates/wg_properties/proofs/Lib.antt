@@ -1,4 +1,3 @@
-pub mod Cuts
 pub mod Kept
 pub mod Pieces
 pub mod Limits

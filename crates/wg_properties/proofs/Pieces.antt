@@ -3,7 +3,7 @@ use Rattle.std.proofs.Common.{◌≡◌, ℕ, ◌+◌, ◌<◌, Bool, List, [], 
 use Rattle.std.specs.List.{slice_split}
 use Rattle.std.proofs.lemmas.List.{get_or-map, length-map, drop_all}
 use Rattle.wg_properties.specs.Flags.{default_codes, with_flag, flag_of, pieces_of, codes_from, codes_of}
-use Rattle.wg_properties.specs.Lines.{without_blanks_before, without_blanks_after}
+use Rattle.wg_num.specs.Lines.{without_blanks_before, without_blanks_after}
 use Rattle.wg_properties.specs.declared.fault.PropFault.TheVariants as fault
 use Rattle.wg_properties.specs.declared.flags.Codes.{Codes}
 use Rattle.wg_properties.specs.declared.flags.Flag.{Flag}

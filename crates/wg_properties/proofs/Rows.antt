@@ -7,7 +7,7 @@ use Rattle.wg_params.specs.declared.code.Code.TheVariants.{Unary, Gamma, Delta, 
 use Rattle.wg_params.specs.declared.key.Key.TheVariants as key
 use Rattle.wg_properties.specs.Flags.{flag_of, codes_of}
 use Rattle.wg_properties.specs.Judged.{judged, properties_of}
-use Rattle.wg_properties.specs.Lines.{lines_of, without_blanks_before, without_blanks_after}
+use Rattle.wg_num.specs.Lines.{lines_of, without_blanks_before, without_blanks_after}
 use Rattle.wg_properties.specs.Pairs.{is_continued, key_in, value_in}
 use Rattle.wg_properties.specs.Words.{name_of, word_of, class_name, long_class_name}
 use Rattle.wg_properties.specs.declared.fault.PropFault.TheVariants as fault

@@ -9,7 +9,7 @@ use Rattle.wg_properties.specs.declared.flags.Codes.{Codes}
 use Rattle.wg_properties.specs.declared.flags.Flag.{Flag}
 use Rattle.wg_properties.specs.declared.flags.Flag.TheVariants.{OutdegreesGamma, OutdegreesDelta, BlocksGamma, BlocksDelta, ReferencesUnary, ReferencesGamma, ReferencesDelta, BlockCountUnary, BlockCountGamma, BlockCountDelta, ResidualsGamma, ResidualsDelta, ResidualsZeta, ResidualsNibble, OffsetsGamma, OffsetsDelta}
 use Rattle.wg_properties.specs.declared.flags.TheConstants.{FLAGS}
-use Rattle.wg_properties.specs.Lines.{without_blanks_before, without_blanks_after}
+use Rattle.wg_num.specs.Lines.{without_blanks_before, without_blanks_after}
 use Rattle.wg_properties.specs.Words.{word_of}
 
 -- the codes where no flag says otherwise

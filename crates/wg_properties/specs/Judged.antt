@@ -7,7 +7,7 @@ use Rattle.wg_params.specs.declared.key.Key.{Key}
 use Rattle.wg_params.specs.declared.key.Key.TheVariants as key
 use Rattle.wg_params.specs.declared.limits.TheConstants.{MOST_PAGES, MOST_ARCS, MOST_WINDOW, MOST_CHAIN, MOST_INTERVAL, MOST_ZETA}
 use Rattle.wg_properties.specs.Flags.{codes_of}
-use Rattle.wg_properties.specs.Lines.{lines_of}
+use Rattle.wg_num.specs.Lines.{lines_of}
 use Rattle.wg_properties.specs.Pairs.{first_continued, pairs_of, value_of}
 use Rattle.wg_properties.specs.Words.{name_of, class_name, long_class_name}
 use Rattle.wg_properties.specs.declared.fault.PropFault.{PropFault}

@@ -1,6 +1,5 @@
 pub mod Flags
 pub mod Judged
-pub mod Lines
 pub mod Pairs
 pub mod Values
 pub mod Words

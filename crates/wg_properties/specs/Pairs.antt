@@ -3,7 +3,7 @@ use Rattle.std.specs.Prelude.{ℕ, ◌-◌, ◌==◌, Bool, true, not, ◌&&◌,
 use Rattle.std.specs.List.{before_first, last_or, position_from}
 use Rattle.std.specs.Str.{bytes_eq}
 use Rattle.wg_params.specs.declared.key.Key.{Key}
-use Rattle.wg_properties.specs.Lines.{is_blank, without_blanks_before, without_blanks_after}
+use Rattle.wg_num.specs.Lines.{is_blank, without_blanks_before, without_blanks_after}
 use Rattle.wg_properties.specs.Words.{name_of}
 use Rattle.wg_properties.specs.declared.keys.TheConstants.{KEYS}
 

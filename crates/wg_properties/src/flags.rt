@@ -3,7 +3,7 @@ ghost use Rattle.wg_properties.specs.Flags.{default_codes, with_flag, flag_of, c
 ghost use Rattle.wg_properties.specs.Words.{word_of};
 
 use crate::PropFault;
-use crate::lines::{without_blanks_after, without_blanks_before};
+use wg_num::{without_blanks_after, without_blanks_before};
 use wg_params::Code;
 
 /// A compression flag: a field, and the code that it is in.

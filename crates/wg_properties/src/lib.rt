@@ -22,7 +22,6 @@ mod fault;
 mod flags;
 mod judge;
 mod keys;
-mod lines;
 mod pairs;
 mod values;
 

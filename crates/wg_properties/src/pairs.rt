@@ -1,7 +1,7 @@
 ghost use Rattle.std.specs.Prelude.{◌≡◌, length};
 ghost use Rattle.wg_properties.specs.Pairs.{is_skipped, is_continued, is_separator, ends_key, without_separator, key_in, value_in};
 
-use crate::lines::{is_blank, without_blanks_after, without_blanks_before};
+use wg_num::{is_blank, without_blanks_after, without_blanks_before};
 
 /// Whether a line without blanks at its front is empty or a comment.
 pub fn is_skipped(line: &[u8]) -> bool

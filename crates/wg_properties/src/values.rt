@@ -1,7 +1,7 @@
 ghost use Rattle.std.specs.Prelude.{◌≡◌, ◌≢◌, ◌<◌, ◌∷◌, [], length, Some, None, IfOk, IfErr, OnOk, option_copied, option_map};
 ghost use Rattle.std.specs.List.{last_or};
 ghost use Rattle.wg_params.specs.declared.key.Key.{Key};
-ghost use Rattle.wg_properties.specs.Lines.{lines_of};
+ghost use Rattle.wg_num.specs.Lines.{lines_of};
 ghost use Rattle.wg_properties.specs.Pairs.{first_continued, pairs_of, values_of, value_of};
 ghost use Rattle.wg_properties.specs.Values.{place_of, value_at};
 ghost use Rattle.wg_properties.specs.Words.{name_of};
@@ -9,9 +9,9 @@ ghost use Rattle.wg_properties.specs.declared.fault.PropFault.TheVariants as fau
 
 use crate::PropFault;
 use crate::keys::key_of;
-use crate::lines::{first_line, without_blanks_before};
 use crate::pairs::{is_continued, is_skipped, key_and_value};
 use std::marker::Model;
+use wg_num::{first_line, without_blanks_before};
 use wg_params::Key;
 
 /// The value of each key in a properties text, where it has one.

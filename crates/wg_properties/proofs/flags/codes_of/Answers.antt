@@ -4,7 +4,7 @@ use Rattle.std.proofs.lemmas.Iterator.Consumers.{YieldsList-turn, YieldsList-end
 use Rattle.std.proofs.lemmas.Iterator.Splits.{YieldsList-from_slice_split}
 use Rattle.std.proofs.lemmas.List.{length_push}
 use Rattle.wg_properties.specs.Flags.{codes_from, flag_of}
-use Rattle.wg_properties.specs.Lines.{without_blanks_before}
+use Rattle.wg_num.specs.Lines.{without_blanks_before}
 use Rattle.wg_properties.proofs.Pieces.{is_bar, no_flags, all_flags, flags_of, known, unknown, no_more}
 use Rattle.wg_properties.proofs.flags.codes_of.Goals as goal
 

@@ -3,7 +3,7 @@ use Rattle.std.specs.List.{last_or, position_from}
 use Rattle.wg_properties.specs.Pairs.{is_continued, pairs_of, values_of}
 use Rattle.wg_properties.specs.Values.{value_at}
 use Rattle.wg_properties.specs.Words.{name_of}
-use Rattle.wg_properties.proofs.Cuts.{no_lines}
+use Rattle.wg_num.proofs.Cuts.{no_lines}
 use Rattle.wg_properties.proofs.values.Values.read.Goals as goal
 
 pub returns-clause-values : goal.returns-clause-values

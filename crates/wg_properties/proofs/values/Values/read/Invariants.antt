@@ -1,7 +1,7 @@
 use Rattle.std.proofs.Common.{◌≡◌, ◌+◌, ◌≤◌, length}
 use Rattle.std.specs.List.{last_or, position_from}
 use Rattle.wg_params.specs.declared.key.Key.{Key}
-use Rattle.wg_properties.specs.Lines.{lines_of}
+use Rattle.wg_num.specs.Lines.{lines_of}
 use Rattle.wg_properties.specs.Pairs.{is_continued, first_continued, pairs_of, values_of, value_of}
 use Rattle.wg_properties.specs.Values.{value_at}
 use Rattle.wg_properties.specs.Words.{name_of}

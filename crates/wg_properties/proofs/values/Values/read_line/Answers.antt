@@ -1,6 +1,6 @@
 use Rattle.std.proofs.Common.{◌∙◌, Some, ap, sym}
 use Rattle.std.specs.List.{last_or}
-use Rattle.wg_properties.specs.Lines.{without_blanks_before}
+use Rattle.wg_num.specs.Lines.{without_blanks_before}
 use Rattle.wg_properties.specs.Pairs.{is_skipped, key_in, value_in, key_of, values_of}
 use Rattle.wg_properties.specs.Values.{value_at}
 use Rattle.wg_properties.specs.Words.{name_of}
