@@ -1,2 +1,5 @@
 pub mod Fronts
+pub mod Order
+pub mod Parted
+pub mod Soundness
 pub mod Texts

@@ -1,2 +1,4 @@
+pub mod Growing
 pub mod Printing
+pub mod Reading
 pub mod Text

@@ -3,13 +3,23 @@
 //! [`write`] puts the text of a graph to a sink, arc by arc, ascending. It prints through [`Lines`], a fixed buffer that sends
 //! its bytes out when it is full, so that a sink is called once for some hundred lines. Whoever prints numbers can use it.
 //!
-//! No call takes memory. Writing takes time in proportion to the pages, and to the digits of the arcs.
+//! [`read`] reads such a text into a graph, or names its first faulty line, an [`ArcsError::Line`]. It also takes blanks
+//! between the numbers and round them, lines without words, comments that begin with `#`, and a CR before the end of a line.
+//! The arcs must ascend, and no page may be as large as the number of pages, which is given.
+//!
+//! Writing takes no memory, and time in proportion to the pages, and to the digits of the arcs. Reading goes over the text
+//! once; it holds the graph, and takes memory as the arcs come.
 #![tactic(auto)]
 
+mod fault;
 mod lines;
+mod reading;
+mod words;
 mod writing;
 
+pub use fault::{ArcsError, ArcsKind};
 pub use lines::Lines;
+pub use reading::read;
 pub use writing::write;
 
 #[cfg(test)]

@@ -1,0 +1,8 @@
+use Rattle.wg_arcs.proofs.Parted.{first_none, first_some}
+use Rattle.wg_arcs.proofs.words.first_word.Goals as goal
+
+pub returns-clause-none : goal.returns-clause-none
+returns-clause-none c none = first_none c.args.text.now c.without_blanks_before-text.result.now c.word_length-end.result c.without_blanks_before-text.ensures c.word_length-end.ensures none
+
+pub returns-clause-some : goal.returns-clause-some
+returns-clause-some c some = first_some c.args.text.now c.without_blanks_before-text.result.now c.word_length-end.result c.without_blanks_before-text.ensures c.word_length-end.ensures some
