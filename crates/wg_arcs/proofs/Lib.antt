@@ -1,5 +1,7 @@
+pub mod Climbing
 pub mod Fronts
 pub mod Order
 pub mod Parted
+pub mod ReadBack
 pub mod Soundness
 pub mod Texts

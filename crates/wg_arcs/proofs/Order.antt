@@ -16,10 +16,10 @@ use Rattle.wg_arcs.specs.declared.fault.ArcsKind.TheVariants as kind
 use Rattle.wg_arcs.specs.Reading.{is_before, is_after, refusal_of}
 use Rattle.wg_arcs.specs.Growing.{EndsInArc}
 
-abbrev Arc : Type 0
+abbrev pub Arc : Type 0
 Arc = ℕ × ℕ
 
-last_or-append : (o : Option Arc) (xs ys : List Arc) → last_or o (xs ++ ys) ≡ last_or (last_or o xs) ys
+pub last_or-append : (o : Option Arc) (xs ys : List Arc) → last_or o (xs ++ ys) ≡ last_or (last_or o xs) ys
 last_or-append o [] ys = refl
 last_or-append o (x ∷ xs) ys = last_or-append (Some x) xs ys
 
@@ -31,14 +31,18 @@ last_or-list : (o : Option Arc) (m : ℕ) (list : List ℕ) → 0 < length list 
 last_or-list o m [] some = absurd (omega arith)
 last_or-list o m (b ∷ bs) some = let e : suc (length bs) - 1 ≡ length bs = omega arith in last_or-map o m b bs ∙ ap (λ (k : ℕ). Some (m, get_or (b ∷ bs) k 0)) (sym e)
 
-before_lower : (m t x v : ℕ) → m < x → is_before (m, t) (x, v) ≡ true
+pub before_lower : (m t x v : ℕ) → m < x → is_before (m, t) (x, v) ≡ true
 before_lower m t x v lt = rw (lt-ltb m x lt) refl
 
-before_same : (m t x v : ℕ) → m ≡ x → is_before (m, t) (x, v) ≡ ltb t v
+pub before_same : (m t x v : ℕ) → m ≡ x → is_before (m, t) (x, v) ≡ ltb t v
 before_same m t x v e = rw (le-ltb m x (omega arith), eq-eqb m x e) refl
 
 before_higher : (m t x v : ℕ) → x < m → is_before (m, t) (x, v) ≡ false
 before_higher m t x v lt = rw (le-ltb m x (omega arith), ne_eqb m x (λ e. omega arith)) refl
+
+-- one page's arcs by their second numbers
+pub before_next : (u v w : ℕ) → v < w → is_before (u, v) (u, w) ≡ true
+before_next u v w lt = before_same u v u w refl ∙ lt-ltb v w lt
 
 -- the last page that is begun is m, and its last successor is t
 record EndsAtArc (g : Digraph) (m t : ℕ) : Type 0 where

@@ -12,6 +12,7 @@
 #![tactic(auto)]
 
 mod fault;
+pub mod laws;
 mod lines;
 mod reading;
 mod words;

@@ -1,10 +1,10 @@
 -- The first line of a text, and the lines after it.
-use Rattle.std.proofs.Common.{◌≡◌, ℕ, ◌+◌, ◌<◌, ◌≤◌, Bool, true, false, not, cond, eqb, ◌==◌, List, [], ◌∷◌, length, take, drop, map, refl, ap, sym, ◌∙◌, arith, suc, ne_eqb}
-use Rattle.std.specs.List.{slice_split, onto_first, position_or_len, before_first}
+use Rattle.std.proofs.Common.{◌≡◌, ℕ, ◌+◌, ◌<◌, ◌≤◌, Bool, true, false, not, cond, eqb, ◌==◌, List, [], ◌∷◌, ◌++◌, length, take, drop, map, refl, ap, sym, ◌∙◌, arith, suc, ne_eqb}
+use Rattle.std.specs.List.{All, slice_split, onto_first, position_or_len, before_first}
 use Rattle.std.specs.Str.Lines.{strip_carriage_return}
 use Rattle.std.proofs.lemmas.List.{take_all}
 use Rattle.std.proofs.lemmas.List.Folds.{length-prefix_len}
-use Rattle.std.proofs.lemmas.List.Splits.{slice_split_first, length-slice_split}
+use Rattle.std.proofs.lemmas.List.Splits.{slice_split_at, slice_split_first, length-slice_split}
 use Rattle.wg_num.specs.Lines.{lines_of, without_empty_end}
 
 abbrev is_end : ℕ → Bool
@@ -47,6 +47,14 @@ lines_last text line m e h some s =
     ap (λ parts. map strip_carriage_return (without_empty_end parts)) (uncut text (omega (arith, p)))
     ∙ ap (map strip_carriage_return) (some_line text some)
     ∙ ap (λ l. l ∷ []) (ap strip_carriage_return (sym (take_all m text h)) ∙ sym s)
+
+-- a line and its end, and what follows
+pub line_with_end : (line rest : List ℕ) → All (λ b. is_end b ≡ false) line → lines_of (line ++ 10 ∷ rest) ≡ strip_carriage_return line ∷ lines_of rest
+unfolding lines_of
+line_with_end line rest inside =
+    let some : 0 < length (slice_split is_end rest) = omega (arith, length-slice_split is_end rest) in
+    ap (λ parts. map strip_carriage_return (without_empty_end parts)) (slice_split_at is_end line 10 rest inside refl)
+    ∙ ap (map strip_carriage_return) (not_the_end line (slice_split is_end rest) some)
 
 pub no_lines : (text : List ℕ) → length text ≡ 0 → lines_of text ≡ []
 unfolding lines_of

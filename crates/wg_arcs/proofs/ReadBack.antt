@@ -1,0 +1,128 @@
+-- The text of a graph is read back.
+use Rattle.std.proofs.Common.{◌≡◌, ◌≢◌, ℕ, ◌+◌, ◌-◌, ◌^◌, ◌<◌, ◌≤◌, Bool, true, false, not, cond, eqb, ◌||◌, List, [], ◌∷◌, ◌++◌, map, length, take, drop, get_or, filter, codes, decimal, Option, Some, None, zero, suc, refl, sym, ap, subst, ◌∙◌, arith, inl, inr, append_assoc}
+use Rattle.std.specs.List.{All, slice_split, filter_map, last_or}
+use Rattle.std.specs.Str.Lines.{strip_carriage_return}
+use Rattle.std.specs.Str.Parse.{AllDigits}
+use Rattle.std.proofs.lemmas.Bool.{cases_lt, ne_eqb}
+use Rattle.std.proofs.lemmas.Fmt.{decimal_is_IsNumeral, decimal_nonempty}
+use Rattle.std.proofs.lemmas.Str.Parse.{digit_at}
+use Rattle.std.proofs.lemmas.List.{get_or_default, get_or_past, take-map, get_or-map, length-map, length-take-le}
+use Rattle.std.proofs.lemmas.List.Elements.{All-append, All-cons, All-weaker}
+use Rattle.std.proofs.lemmas.List.Splits.{slice_split_at, slice_split_none}
+use Rattle.wg_params.specs.declared.limits.TheConstants.{MOST_ARCS, MOST_PAGES}
+use Rattle.wg_num.specs.Decimal.{number_of}
+use Rattle.wg_num.specs.Lines.{lines_of, is_blank}
+use Rattle.wg_num.proofs.Cuts.{line_with_end, no_lines}
+use Rattle.wg_num.proofs.Numbers.{number_of-decimal}
+use Rattle.wg_graph.specs.Digraph.{Digraph, IsGraph, arc_count}
+use Rattle.wg_graph.specs.Arcs.{arcs_of}
+use Rattle.wg_graph.proofs.Arcs.{length-arcs_from}
+use Rattle.wg_arcs.specs.Text.{arc_line, text_of_arcs, text_of_graph}
+use Rattle.wg_arcs.specs.Reading.{words_of, is_skipped, arc_in, arc_at, arcs_in, both, is_after, refusal_of, fault_of, fault_at, AreArcs}
+use Rattle.wg_arcs.proofs.Order.{Arc, not_refused}
+use Rattle.wg_arcs.proofs.Climbing.{Within, within_from, within_at, Climbs, climbs_from, climbs_at}
+use Rattle.wg_arcs.specs.Laws.{TextsReadBack}
+
+-- ---- one line
+
+-- the line without its end
+abbrev bare : Arc → List ℕ
+bare a = decimal a.0 ++ 32 ∷ decimal a.1
+
+with_end : (a : Arc) (rest : List ℕ) → arc_line a ++ rest ≡ bare a ++ 10 ∷ rest
+with_end a rest =
+    ap (λ (l : List ℕ). l ++ 10 ∷ [] ++ rest) (append_assoc (decimal a.0) (32 ∷ []) (decimal a.1)) ∙ append_assoc (bare a) (10 ∷ []) rest
+
+digits_high : (n : ℕ) → n < 2 ^ 64 → All (λ b. 48 ≤ b) (decimal n)
+digits_high n small i d lt =
+    let at = digit_at (decimal n) i (decimal_is_IsNumeral n small).0.1 lt in
+    subst (λ (b : ℕ). 48 ≤ b) (get_or_default (decimal n) i 0 d lt) at.0
+
+bare_high : (a : Arc) → a.0 < 2 ^ 64 → a.1 < 2 ^ 64 → All (λ b. 32 ≤ b) (bare a)
+bare_high a s t =
+    All-append (λ b. 32 ≤ b) (decimal a.0) (32 ∷ decimal a.1) (All-weaker (λ b. 48 ≤ b) (λ b. 32 ≤ b) (λ b h. omega arith) (decimal a.0) (digits_high a.0 s))
+    (All-cons (λ b. 32 ≤ b) 32 (decimal a.1) (omega arith) (All-weaker (λ b. 48 ≤ b) (λ b. 32 ≤ b) (λ b h. omega arith) (decimal a.1) (digits_high a.1 t)))
+
+unstripped : (text : List ℕ) → All (λ b. 32 ≤ b) text → strip_carriage_return text ≡ text
+unstripped text high =
+    let k : ℕ = length text - 1 in
+    let other : get_or text k 0 ≡ 13 → ⊥ = λ e. elim (cases_lt k (length text)) [ inl lt ↦ (let h = high k 0 lt in omega arith) | inr le ↦ (let h = get_or_past text k 0 le in omega arith) ] in
+    ap (λ (t : Bool). cond t (take k text) text) (ne_eqb (get_or text k 0) 13 other)
+
+not_blank : (b : ℕ) → 48 ≤ b → is_blank b ≡ false
+not_blank b h = rw (ne_eqb b 32 (λ e. omega arith), ne_eqb b 9 (λ e. omega arith)) refl
+
+words_of_bare : (a : Arc) → a.0 < 2 ^ 64 → a.1 < 2 ^ 64 → words_of (bare a) ≡ decimal a.0 ∷ decimal a.1 ∷ []
+unfolding words_of
+words_of_bare a s t =
+    let plain : (n : ℕ) → n < 2 ^ 64 → All (λ b. is_blank b ≡ false) (decimal n) = λ n small. All-weaker (λ b. 48 ≤ b) (λ b. is_blank b ≡ false) not_blank (decimal n) (digits_high n small) in
+    let parts : slice_split is_blank (bare a) ≡ decimal a.0 ∷ decimal a.1 ∷ [] =
+    slice_split_at is_blank (decimal a.0) 32 (decimal a.1) (plain a.0 s) refl ∙ ap (λ (l : List (List ℕ)). decimal a.0 ∷ l) (slice_split_none is_blank (decimal a.1) (plain a.1 t)) in
+    let some : (n : ℕ) → n < 2 ^ 64 → eqb (length (decimal n)) 0 ≡ false = λ n small. ne_eqb (length (decimal n)) 0 (λ e. omega (arith, decimal_nonempty n small)) in
+    rw (parts, some a.0 s, some a.1 t) refl
+
+not_skipped : (a : Arc) → a.0 < 2 ^ 64 → a.1 < 2 ^ 64 → is_skipped (words_of (bare a)) ≡ false
+not_skipped a s t =
+    let high = digits_high a.0 s 0 0 (decimal_nonempty a.0 s) in
+    rw (words_of_bare a s t) (ne_eqb (get_or (decimal a.0) 0 0) 35 (λ e. omega arith))
+
+arc_in_bare : (a : Arc) → a.0 < 2 ^ 64 → a.1 < 2 ^ 64 → arc_in (words_of (bare a)) ≡ Some a
+arc_in_bare a s t = rw (words_of_bare a s t, number_of-decimal a.0 s, number_of-decimal a.1 t) refl
+
+arc_at_bare : (a : Arc) → a.0 < 2 ^ 64 → a.1 < 2 ^ 64 → arc_at (bare a) ≡ Some a
+arc_at_bare a s t = rw (not_skipped a s t, arc_in_bare a s t) refl
+
+-- ---- all lines
+
+lines_back : (m n : ℕ) (arcs : List Arc) → m ≤ 2 ^ 64 → n ≤ 2 ^ 64 → Within m n arcs → lines_of (text_of_arcs arcs) ≡ map bare arcs
+lines_back m n [] ml nl h = no_lines [] refl
+lines_back m n (a ∷ arcs) ml nl h =
+    let s : a.0 < 2 ^ 64 = omega (arith, h.0) in
+    let t : a.1 < 2 ^ 64 = omega (arith, h.1) in
+    let high = bare_high a s t in
+    let rest = text_of_arcs arcs in
+    let ends : All (λ b. eqb b 10 ≡ false) (bare a) = All-weaker (λ b. 32 ≤ b) (λ b. eqb b 10 ≡ false) (λ b le. ne_eqb b 10 (λ e. omega arith)) (bare a) high in
+    ap lines_of (with_end a rest) ∙ line_with_end (bare a) rest ends ∙ ap (λ (l : List ℕ). l ∷ lines_of rest) (unstripped (bare a) high) ∙ ap (λ (ls : List (List ℕ)). bare a ∷ ls) (lines_back m n arcs ml nl h.2)
+
+arcs_back : (m n : ℕ) (arcs : List Arc) → m ≤ 2 ^ 64 → n ≤ 2 ^ 64 → Within m n arcs → arcs_in (map bare arcs) ≡ arcs
+arcs_back m n [] ml nl h = refl
+arcs_back m n (a ∷ arcs) ml nl h =
+    let s : a.0 < 2 ^ 64 = omega (arith, h.0) in
+    let t : a.1 < 2 ^ 64 = omega (arith, h.1) in
+    let here = arc_at_bare a s t in
+    rw here (ap (λ (l : List Arc). a ∷ l) (arcs_back m n arcs ml nl h.2))
+
+within_front : (m n : ℕ) (arcs : List Arc) (i : ℕ) → Within m n arcs → Within m n (take i arcs)
+within_front m n arcs zero h = tt
+within_front m n [] (suc i) h = tt
+within_front m n (a ∷ arcs) (suc i) h = (h.0, h.1, within_front m n arcs i h.2)
+
+fine_at : (n : ℕ) (arcs : List Arc) (i : ℕ) → n ≤ 2 ^ 64 → length arcs ≤ MOST_ARCS → Within n n arcs → Climbs None arcs → i < length arcs → fault_at n (map bare arcs) i ≡ None
+fine_at n arcs i nl few h climbs lt =
+    let d : Arc = (0, 0) in
+    let a : Arc = get_or arcs i d in
+    let w = within_at n n arcs i d h lt in
+    let s : a.0 < 2 ^ 64 = omega (arith, w.0) in
+    let t : a.1 < 2 ^ 64 = omega (arith, w.1) in
+    let line : get_or (map bare arcs) i [] ≡ bare a = get_or-map bare arcs i d [] lt in
+    let front : arcs_in (take i (map bare arcs)) ≡ take i arcs = ap arcs_in (take-map bare i arcs) ∙ arcs_back n n (take i arcs) nl nl (within_front n n arcs i h) in
+    let size = length-take-le i arcs (omega arith) in
+    let fine : refusal_of n (take i arcs) (Some a) ≡ None = not_refused n a.0 a.1 (take i arcs) w.0 w.1 (climbs_at None arcs i d climbs lt) (omega arith) in
+    ap (λ (l : List ℕ). fault_of n (arcs_in (take i (map bare arcs))) l) line ∙ ap (λ (l : List Arc). fault_of n l (bare a)) front
+    ∙ ap (λ (b : Bool). cond b None (refusal_of n (take i arcs) (arc_in (words_of (bare a))))) (not_skipped a s t) ∙ ap (refusal_of n (take i arcs)) (arc_in_bare a s t) ∙ fine
+
+pub read_back : TextsReadBack
+read_back g proper pages few =
+    let n : ℕ = g.nodes in
+    let size = proper.counted in
+    let nl : n ≤ 2 ^ 64 = omega arith in
+    let within : Within n n (arcs_of g) = within_from n n 0 g.lists (omega arith) proper.below in
+    let climbs : Climbs None (arcs_of g) = climbs_from None 0 g.lists (λ x w le. refl) proper.ascending in
+    let lines : lines_of (text_of_graph g) ≡ map bare (arcs_of g) = lines_back n n (arcs_of g) nl nl within in
+    let count : length (arcs_of g) ≡ arc_count g = length-arcs_from 0 g.lists in
+    subst (λ (ls : List (List ℕ)). AreArcs n ls g) (sym lines) (record {
+      sound = λ i lt. fine_at n (arcs_of g) i nl (omega arith) within climbs (omega (arith, length-map (arcs_of g) bare));
+      nodes = refl;
+      proper = proper;
+      arcs = sym (arcs_back n n (arcs_of g) nl nl within);
+    })
