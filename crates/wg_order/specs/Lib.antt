@@ -1,0 +1,4 @@
+pub mod Inside
+pub mod Keys
+pub mod Order
+pub mod Surely

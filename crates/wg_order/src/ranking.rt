@@ -1,0 +1,117 @@
+ghost use Rattle.std.specs.Prelude.{◌≡◌, ℕ, ◌<◌, ◌≤◌, ◌↔◌, true, false, IsTrue, length, slice_index, IfOk};
+ghost use Rattle.wg_params.specs.declared.limits.TheConstants.{MOST_PAGES};
+ghost use Rattle.wg_graph.specs.Digraph.{Digraph, IsGraph};
+ghost use Rattle.wg_rank.specs.Intervals.{Holds, by_page};
+ghost use Rattle.wg_order.specs.Order.{best, worst, IsRanking};
+ghost use Rattle.wg_order.specs.Surely.{IsSurely};
+
+use crate::arranging::arrange;
+use crate::counting::{count_above, count_below};
+use std::alloc::{AllocError, Global};
+use std::marker::Model;
+use wg_rank::Bounds;
+
+/// Pages ranked by bounds. It holds 48 bytes for each page.
+#[derive(Drop)]
+pub struct Ranking {
+    filled: bool,
+    low: Vec<u128>,
+    high: Vec<u128>,
+    // The pages as they are ranked.
+    order: Vec<u64>,
+    // The pages by upper bounds rising.
+    rising: Vec<u64>,
+}
+
+impl Model for Ranking {
+    ghost use Rattle.wg_order.specs.Order.{Positions};
+    ghost use Rattle.wg_order.specs.Inside.{positions_of, IsKept};
+
+    ghost Value = { Positions };
+
+    ghost view = { positions_of };
+
+    ghost invariant = { IsKept };
+}
+
+impl Ranking {
+    /// A ranking of `n` pages that is still to be filled. All memory of later calls is taken here.
+    pub fn new(alloc: Global, n: u64) -> Result<Ranking, AllocError>
+        requires { n ≤ MOST_PAGES }
+        ensures filled { IfOk result (λ r. r.filled ≡ false) }
+        ensures pages { IfOk result (λ r. length r.low ≡ n) }
+    {
+        let n = n as usize;
+        Ok(Ranking {
+            filled: false,
+            low: vec![in alloc; 0; n]?,
+            high: vec![in alloc; 0; n]?,
+            order: vec![in alloc; 0; n]?,
+            rising: vec![in alloc; 0; n]?,
+        })
+    }
+
+    /// Whether it was filled.
+    pub fn filled(&self) -> bool
+        ensures { IsTrue result ↔ self.now.filled ≡ true }
+    {
+        self.filled
+    }
+
+    /// The page at place `i`, counted from 0.
+    pub fn page(&self, i: u64) -> u64
+        requires place { i < length self.now.low }
+        requires filled { self.now.filled ≡ true }
+        ensures value { result ≡ slice_index self.now.pages i }
+        ensures within { result < length self.now.low }
+    {
+        self.order[i as usize]
+    }
+
+    /// The first position, counted from 1, that the bounds leave to page `v`. It takes time in the logarithm of the pages.
+    pub fn best(&self, v: u64) -> u64
+        requires page { v < length self.now.low }
+        requires filled { self.now.filled ≡ true }
+        ensures { result ≡ best self.now v }
+    {
+        1 + count_above(&self.order, &self.low, self.high[v as usize]) as u64
+    }
+
+    /// The last position, counted from 1, that the bounds leave to page `v`. It takes time in the logarithm of the pages.
+    pub fn worst(&self, v: u64) -> u64
+        requires page { v < length self.now.low }
+        requires filled { self.now.filled ≡ true }
+        ensures { result ≡ worst self.now v }
+    {
+        (self.low.len() - count_below(&self.rising, &self.high, self.low[v as usize])) as u64
+    }
+
+    /// Whether the bounds alone say that page `u` has a greater share than page `v`.
+    pub fn surely_above(&self, u: u64, v: u64) -> bool
+        requires u_page { u < length self.now.low }
+        requires v_page { v < length self.now.low }
+        requires filled { self.now.filled ≡ true }
+        ensures { IsTrue result ↔ by_page self.now.high v < by_page self.now.low u }
+    {
+        self.low[u as usize] > self.high[v as usize]
+    }
+
+    /// Ranks the pages by these bounds, of as many pages. It takes no memory, and time for two sorts.
+    pub fn fill(&mut self, bounds: &Bounds)
+        requires pages { length bounds.now.low ≡ length self.old.low }
+        ensures filled { self.new.filled ≡ true }
+        ensures low { self.new.low ≡ bounds.now.low }
+        ensures high { self.new.high ≡ bounds.now.high }
+        ensures ranking { IsRanking self.new.low self.new.high self.new.pages }
+        ensures surely { (g : Digraph) → IsGraph g → Holds bounds.now g → IsSurely self.new bounds.now g }
+    {
+        arrange(
+            bounds,
+            &mut self.low,
+            &mut self.high,
+            &mut self.order,
+            &mut self.rising,
+        );
+        self.filled = true;
+    }
+}

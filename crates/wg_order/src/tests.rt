@@ -1,0 +1,72 @@
+ghost use Rattle.std.specs.Prelude.{◌≡◌, ◌<◌, true, length, IfOk};
+
+use crate::Ranking;
+use std::alloc::{AllocError, Global};
+use std::process::Abort;
+use std::test::Fail;
+use wg_graph::{Graph, GraphBuilder, GraphLists};
+use wg_rank::Bounds;
+
+// Two pages and the arc from page 0 to page 1.
+fn with_one_arc(rt: &impl Abort, alloc: Global) -> Result<Graph, AllocError>
+    ensures { IfOk result (λ g. g.nodes ≡ 2) }
+{
+    let mut builder = GraphBuilder::new(alloc, 2)?;
+    assert!(rt; builder.fits(0, 1));
+    builder.push(0, 1)?;
+    builder.finish()
+}
+
+// The best and the worst position of a page.
+fn positions(ranking: &Ranking, v: u64) -> (u64, u64)
+    requires page { v < length ranking.now.low }
+    requires filled { ranking.now.filled ≡ true }
+{
+    (ranking.best(v), ranking.worst(v))
+}
+
+#[test]
+fn one_arc(rt: HostRuntime) -> Result<(), Fail> {
+    let graph = with_one_arc(&rt, rt.alloc())?;
+    let mut lists = GraphLists::new(&graph);
+    let mut ranking = Ranking::new(rt.alloc(), 2)?;
+    assert!(rt; !ranking.filled());
+    let mut bounds = Bounds::new(rt.alloc(), 2, 850)?;
+    bounds.round(&mut lists);
+    ranking.fill(&bounds);
+    assert!(rt; ranking.filled());
+    assert_eq!(rt; (ranking.page(0), ranking.page(1)), (1, 0));
+    assert_eq!(rt; positions(&ranking, 1), (1, 2));
+    assert_eq!(rt; positions(&ranking, 0), (1, 2));
+
+    let mut halved = Bounds::new(rt.alloc(), 2, 500)?;
+    halved.round(&mut lists);
+    halved.round(&mut lists);
+    ranking.fill(&halved);
+    assert_eq!(rt; positions(&ranking, 1), (1, 2));
+    assert_eq!(rt; positions(&ranking, 0), (1, 2));
+    assert!(rt; !ranking.surely_above(1, 0));
+    halved.round(&mut lists);
+    ranking.fill(&halved);
+    assert_eq!(rt; positions(&ranking, 1), (1, 1));
+    assert_eq!(rt; positions(&ranking, 0), (2, 2));
+    assert!(rt; ranking.surely_above(1, 0));
+    assert!(rt; !ranking.surely_above(0, 1));
+    Ok(())
+}
+
+#[test]
+fn equal_bounds_leave_the_order_of_numbers(rt: HostRuntime) -> Result<(), Fail> {
+    let graph = with_one_arc(&rt, rt.alloc())?;
+    let mut bounds = Bounds::new(rt.alloc(), 2, 0)?;
+    let mut ranking = Ranking::new(rt.alloc(), 2)?;
+    ranking.fill(&bounds);
+    assert_eq!(rt; (ranking.page(0), ranking.page(1)), (0, 1));
+    assert_eq!(rt; positions(&ranking, 0), (1, 2));
+    bounds.round(&mut GraphLists::new(&graph));
+    ranking.fill(&bounds);
+    assert_eq!(rt; (ranking.page(0), ranking.page(1)), (0, 1));
+    assert_eq!(rt; positions(&ranking, 0), (1, 2));
+    assert_eq!(rt; positions(&ranking, 1), (1, 2));
+    Ok(())
+}
