@@ -1,5 +1,5 @@
 // A whole file in memory.
-ghost use Rattle.std.specs.Prelude.{◌≡◌, ◌<◌, ◌≤◌, length, IsTrue, IsErrOf, IfOk, OnOk};
+ghost use Rattle.std.specs.Prelude.{◌≡◌, ◌<◌, ◌≤◌, [], ◌++◌, length, IsTrue, IsErrOf, IfOk, OnOk, OnErr};
 ghost use Rattle.std.specs.FinMap as map;
 ghost use Rattle.wg_io.specs.Outside.{NoneFalls, Rose};
 ghost use Rattle.wg_io.specs.Reads.{Loads};
@@ -11,7 +11,7 @@ use thiserror::Error;
 
 const PIECE: usize = 4096;
 
-/// The bytes of a file, in memory.
+/// The bytes of a file or a text, in memory.
 #[derive(Drop)]
 pub struct List8 {
     bytes: Vec<u8>,
@@ -26,6 +26,25 @@ impl Model for List8 {
 }
 
 impl List8 {
+    /// No bytes, and no memory yet.
+    pub fn new(alloc: Global) -> List8
+        ensures { result ≡ [] }
+    {
+        List8 {
+            bytes: Vec::new(alloc),
+        }
+    }
+
+    /// Adds bytes at the end.
+    pub fn extend(&mut self, piece: &[u8]) -> Result<(), AllocError>
+        ensures ok { OnOk result (self.new ≡ self.old ++ piece.now) }
+        ensures err { OnErr result (self.new ≡ self.old) }
+    {
+        self.bytes.extend_from_slice(piece)?;
+        Ok(())
+    }
+
+    /// The bytes.
     pub fn as_slice(&self) -> &[u8]
         ensures { result.now ≡ self.now }
     {

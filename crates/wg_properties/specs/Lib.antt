@@ -3,3 +3,4 @@ pub mod Judged
 pub mod Pairs
 pub mod Values
 pub mod Words
+pub mod Text

@@ -1,0 +1,217 @@
+ghost use Rattle.std.specs.Prelude.{◌≡◌, ◌∷◌, ◌++◌, decimal, OnOk, IfOk, if◌then◌else◌};
+ghost use Rattle.wg_params.specs.declared.key.Key.TheVariants as key;
+ghost use Rattle.wg_properties.specs.Text.{outdegree_flag, block_flag, reference_flag, block_count_flag, residual_flag, offset_flag, flags_of, flags_text, chain_text, pair, ended, text_of};
+ghost use Rattle.wg_properties.specs.Words.{word_of};
+
+use crate::flags::{Flag, word_of};
+use crate::keys::key_name;
+use std::alloc::{AllocError, Global};
+use wg_io::List8;
+use wg_num::decimal_into;
+use wg_params::{Code, Key, Params};
+
+fn outdegree_flag(code: Code) -> Option<Flag>
+    ensures { result ≡ outdegree_flag code }
+{
+    match code {
+        Code::Delta => Some(Flag::OutdegreesDelta),
+        Code::Gamma | Code::Unary | Code::Zeta(_) | Code::Nibble => None,
+    }
+}
+
+fn block_flag(code: Code) -> Option<Flag>
+    ensures { result ≡ block_flag code }
+{
+    match code {
+        Code::Delta => Some(Flag::BlocksDelta),
+        Code::Gamma | Code::Unary | Code::Zeta(_) | Code::Nibble => None,
+    }
+}
+
+fn reference_flag(code: Code) -> Option<Flag>
+    ensures { result ≡ reference_flag code }
+{
+    match code {
+        Code::Gamma => Some(Flag::ReferencesGamma),
+        Code::Delta => Some(Flag::ReferencesDelta),
+        Code::Unary | Code::Zeta(_) | Code::Nibble => None,
+    }
+}
+
+fn block_count_flag(code: Code) -> Option<Flag>
+    ensures { result ≡ block_count_flag code }
+{
+    match code {
+        Code::Unary => Some(Flag::BlockCountUnary),
+        Code::Delta => Some(Flag::BlockCountDelta),
+        Code::Gamma | Code::Zeta(_) | Code::Nibble => None,
+    }
+}
+
+fn residual_flag(code: Code) -> Option<Flag>
+    ensures { result ≡ residual_flag code }
+{
+    match code {
+        Code::Gamma => Some(Flag::ResidualsGamma),
+        Code::Delta => Some(Flag::ResidualsDelta),
+        Code::Nibble => Some(Flag::ResidualsNibble),
+        Code::Unary | Code::Zeta(_) => None,
+    }
+}
+
+fn offset_flag(code: Code) -> Option<Flag>
+    ensures { result ≡ offset_flag code }
+{
+    match code {
+        Code::Delta => Some(Flag::OffsetsDelta),
+        Code::Gamma | Code::Unary | Code::Zeta(_) | Code::Nibble => None,
+    }
+}
+
+// The flag of each field, where its code is not the default.
+fn flags_of(params: &Params) -> [Option<Flag>; 6]
+    ensures { result ≡ flags_of params.now }
+{
+    [
+        outdegree_flag(params.outdegrees()),
+        block_flag(params.blocks()),
+        reference_flag(params.references()),
+        block_count_flag(params.block_counts()),
+        residual_flag(params.residuals()),
+        offset_flag(params.offsets()),
+    ]
+}
+
+fn add_flag(text: &mut List8, flag: Flag, is_first: bool) -> Result<(), AllocError>
+    ensures { OnOk result (text.new ≡ text.old ++ (if is_first then word_of flag else 32 ∷ 124 ∷ 32 ∷ word_of flag)) }
+{
+    if is_first {
+        return text.extend(word_of(flag));
+    }
+    text.extend(b" | ")?;
+    text.extend(word_of(flag))
+}
+
+fn add_flags(text: &mut List8, flags: &[Option<Flag>]) -> Result<(), AllocError>
+    ensures { OnOk result (text.new ≡ text.old ++ flags_text flags.now) }
+{
+    let mut is_first = true;
+    for flag in flags {
+        match flag {
+            Some(flag) => {
+                add_flag(text, *flag, is_first)?;
+                is_first = false;
+            }
+            None => {}
+        }
+    }
+    Ok(())
+}
+
+fn add_line(text: &mut List8, key: Key, value: &[u8]) -> Result<(), AllocError>
+    ensures { OnOk result (text.new ≡ text.old ++ ended (pair key value.now)) }
+{
+    text.extend(key_name(key).as_bytes())?;
+    text.extend(b"=")?;
+    text.extend(value)?;
+    text.extend(b"\n")
+}
+
+fn add_number(text: &mut List8, key: Key, value: u64) -> Result<(), AllocError>
+    ensures { OnOk result (text.new ≡ text.old ++ ended (pair key (decimal value))) }
+{
+    let mut digits = [0u8; 20];
+    let count = decimal_into(value, &mut digits);
+    add_line(text, key, &digits[..count])
+}
+
+fn add_chain(text: &mut List8, chain: Option<u64>) -> Result<(), AllocError>
+    ensures { OnOk result (text.new ≡ text.old ++ ended (pair key.MaxRefCount (chain_text chain))) }
+{
+    match chain {
+        Some(limit) => add_number(text, Key::MaxRefCount, limit),
+        None => add_line(text, Key::MaxRefCount, b"-1"),
+    }
+}
+
+fn add_codes(text: &mut List8, params: &Params) -> Result<(), AllocError>
+    ensures { OnOk result (text.new ≡ text.old ++ ended (pair key.CompressionFlags (flags_text (flags_of params.now)))) }
+{
+    text.extend(key_name(Key::CompressionFlags).as_bytes())?;
+    text.extend(b"=")?;
+    add_flags(text, &flags_of(params))?;
+    text.extend(b"\n")
+}
+
+/// The properties text of parameters, which [`read`](crate::read) reads again. Each key has its line, and of the codes those
+/// that are not the defaults are written. The class comes last, so that no text that was cut short is read.
+pub fn write(alloc: Global, params: &Params) -> Result<List8, AllocError>
+    ensures { IfOk result (λ text. text ≡ text_of params.now) }
+{
+    let mut text = List8::new(alloc);
+    text.extend(b"#BVGraph properties\n")?;
+    add_line(&mut text, Key::Version, b"0")?;
+    add_number(&mut text, Key::Nodes, params.nodes())?;
+    add_number(&mut text, Key::Arcs, params.arcs())?;
+    add_number(&mut text, Key::WindowSize, params.window())?;
+    add_chain(&mut text, params.chain())?;
+    add_number(&mut text, Key::MinIntervalLength, params.interval())?;
+    add_number(&mut text, Key::ZetaK, u64::from(params.zeta()))?;
+    add_codes(&mut text, params)?;
+    add_line(&mut text, Key::GraphClass, b"it.unimi.dsi.webgraph.BVGraph")?;
+    Ok(text)
+}
+
+#[cfg(test)]
+mod tests {
+    use super::*;
+    use std::test::Fail;
+
+    #[test]
+    fn text_of_the_defaults(rt: HostRuntime) -> Result<(), Fail> {
+        let params = Params::new(
+            3,
+            4,
+            7,
+            Some(3),
+            4,
+            3,
+            Code::Gamma,
+            Code::Unary,
+            Code::Gamma,
+            Code::Gamma,
+            Code::Zeta(3),
+            Code::Gamma,
+        )?;
+        let text = write(rt.alloc(), &params)?;
+        assert_eq!(rt;
+            text.as_slice(),
+            b"#BVGraph properties\nversion=0\nnodes=3\narcs=4\nwindowsize=7\nmaxrefcount=3\nminintervallength=4\nzetak=3\ncompressionflags=\ngraphclass=it.unimi.dsi.webgraph.BVGraph\n".as_slice()
+        );
+        Ok(())
+    }
+
+    #[test]
+    fn text_of_other_codes(rt: HostRuntime) -> Result<(), Fail> {
+        let params = Params::new(
+            0,
+            0,
+            0,
+            None,
+            0,
+            5,
+            Code::Delta,
+            Code::Gamma,
+            Code::Unary,
+            Code::Gamma,
+            Code::Nibble,
+            Code::Delta,
+        )?;
+        let text = write(rt.alloc(), &params)?;
+        assert_eq!(rt;
+            text.as_slice(),
+            b"#BVGraph properties\nversion=0\nnodes=0\narcs=0\nwindowsize=0\nmaxrefcount=-1\nminintervallength=0\nzetak=5\ncompressionflags=OUTDEGREES_DELTA | REFERENCES_GAMMA | BLOCK_COUNT_UNARY | RESIDUALS_NIBBLE | OFFSETS_DELTA\ngraphclass=it.unimi.dsi.webgraph.BVGraph\n".as_slice()
+        );
+        Ok(())
+    }
+}
