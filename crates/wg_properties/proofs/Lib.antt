@@ -4,3 +4,7 @@ pub mod Limits
 mod Rows
 pub mod Flagged
 pub mod Lined
+pub mod Letters
+pub mod Reread
+pub mod Reflagged
+pub mod Readback

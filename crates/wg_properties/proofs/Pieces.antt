@@ -26,7 +26,7 @@ pub all_flags : (zeta : ℕ) (value : List ℕ) → codes_from zeta 1 (default_c
 unfolding codes_of
 all_flags zeta value = refl
 
-pieces_are : (value : List ℕ) → 0 < length value → pieces_of value ≡ map trimmed (slice_split is_bar value)
+pub pieces_are : (value : List ℕ) → 0 < length value → pieces_of value ≡ map trimmed (slice_split is_bar value)
 pieces_are [] h = absurd (omega arith)
 pieces_are (b ∷ bs) h = refl
 

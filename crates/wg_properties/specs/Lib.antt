@@ -4,3 +4,4 @@ pub mod Pairs
 pub mod Values
 pub mod Words
 pub mod Text
+pub mod Laws
