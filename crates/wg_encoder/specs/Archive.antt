@@ -1,0 +1,38 @@
+-- The graph file and the offsets file of a graph.
+use Rattle.std.specs.Prelude.{ℕ, ◌+◌, ◌*◌, ◌/◌, Bool, false, if◌then◌else◌, List, [], ◌∷◌, ◌++◌, length, take, drop, map, replicate, fold}
+use Rattle.std.specs.List.{flat_map, range_with_len}
+use Rattle.wg_bits.specs.Written.{padding}
+use Rattle.wg_codes.specs.Words.{word}
+use Rattle.wg_params.specs.Parameters.{Parameters}
+use Rattle.wg_encoder.specs.Fields.{bits_of_fields}
+use Rattle.wg_encoder.specs.Greedy.{records_of}
+
+-- the bits of each record
+abbrev pub record_bits : Parameters → List (List ℕ) → List (List Bool)
+record_bits p lists = map bits_of_fields (records_of p [] lists)
+
+-- the records one after the other
+abbrev pub graph_bits : Parameters → List (List ℕ) → List Bool
+graph_bits p lists = flat_map (λ bits. bits) (record_bits p lists)
+
+-- a word of 0, and one of the length of each record
+abbrev pub offsets_bits : Parameters → List (List ℕ) → List Bool
+offsets_bits p lists = flat_map (word p.offsets) (0 ∷ map length (record_bits p lists))
+
+-- zero bits up to a whole byte
+abbrev pub filled : List Bool → List Bool
+filled bits = bits ++ replicate (padding (length bits)) false
+
+-- the number that bits spell, the highest first
+abbrev pub spelled : List Bool → ℕ
+spelled bits = fold (λ n b. 2 * n + (if b then 1 else 0)) 0 bits
+
+-- bytes of eight bits each
+abbrev pub bytes_of : List Bool → List ℕ
+bytes_of bits = map (λ i. spelled (take 8 (drop (8 * i) bits))) (range_with_len 0 (length bits / 8))
+
+unfoldable pub graph_file : Parameters → List (List ℕ) → List ℕ
+graph_file p lists = bytes_of (filled (graph_bits p lists))
+
+unfoldable pub offsets_file : Parameters → List (List ℕ) → List ℕ
+offsets_file p lists = bytes_of (filled (offsets_bits p lists))

@@ -1,0 +1,4 @@
+pub mod Fields
+pub mod Greedy
+pub mod Archive
+pub mod Laws

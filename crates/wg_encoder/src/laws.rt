@@ -1,0 +1,7 @@
+ghost use Rattle.wg_encoder.specs.Laws.{ChosenIsCandidate, ChosenIsShortest};
+
+/// The record that is written of a page is the shortest of its candidates, by the smallest reference.
+pub fn chosen_reference()
+    ensures candidate { ChosenIsCandidate }
+    ensures shortest { ChosenIsShortest }
+{}

@@ -1,0 +1,13 @@
+//! What is written of a graph: its records, and the graph file and the offsets file that they make.
+//!
+//! A page may be written with no reference, or with one to a page before it that has a list to copy from. For each of these
+//! candidates there is one canonical record: the copy blocks are those of `wg_blocks`, the intervals and residuals those of
+//! `wg_intervals`. The greedy archive has for each page, in order, the candidate with the fewest bits, and of several the one
+//! with the smallest reference. The references that were chosen before bear on it by their depths alone, where the archive
+//! limits chains.
+//!
+//! The definitions give the fields of a record with their codes and stored values, the reference that is chosen, and the
+//! bytes of the two files. The function of [`laws`] states that no candidate's record is shorter than the one that is written.
+#![tactic(auto)]
+
+pub mod laws;
