@@ -1,15 +1,12 @@
 -- Lines of letters and values, and what is read of them.
-use Rattle.std.proofs.Common.{◌≡◌, ℕ, suc, ◌+◌, ◌-◌, ◌<◌, ◌≤◌, Bool, true, false, not, ◌&&◌, ◌||◌, cond, eqb, leb, List, [], ◌∷◌, ◌++◌, length, take, drop, get_or, map, reverse, refl, sym, ap, subst, ◌∙◌, inl, inr, arith}
-use Rattle.std.specs.Prelude.{Option, Some, None, filter}
-use Rattle.std.specs.List.{list_all, prefix_len, flat_map, slice_split, position_from, AllPass}
+use Rattle.std.proofs.Common.{◌≡◌, ℕ, ◌-◌, ◌<◌, ◌≤◌, Bool, true, false, not, ◌&&◌, eqb, leb, List, [], ◌∷◌, ◌++◌, length, take, get_or, reverse, refl, sym, ap, ◌∙◌, inl, inr, arith}
+use Rattle.std.specs.List.{list_all, prefix_len}
 use Rattle.std.specs.Str.Lines.{strip_carriage_return}
-use Rattle.std.proofs.lemmas.Bool.{cases_lt, and_parts, and_from, and_right, leb-true, le-leb, not-true, ne_eqb, or_from}
-use Rattle.std.proofs.lemmas.List.{append_assoc, append-nil, take_at, drop_at, take_all, get_or_past, length_push}
+use Rattle.std.proofs.lemmas.Bool.{cases_lt, and_parts, and_from, and_right, leb-true, le-leb, not-true, ne_eqb}
+use Rattle.std.proofs.lemmas.List.{take_all, get_or_past}
 use Rattle.std.proofs.lemmas.List.Sums.{AllPass-from_list_all, suffix_len-take_no}
-use Rattle.std.proofs.lemmas.List.Splits.{slice_split_at}
-use Rattle.wg_properties.specs.Lines.{lines_of, without_empty_end, is_blank, without_blanks_before, without_blanks_after}
-use Rattle.wg_properties.specs.Pairs.{is_skipped, is_continued, ends_key, key_in, value_in}
-use Rattle.wg_properties.specs.Text.{ended}
+use Rattle.wg_num.specs.Lines.{is_blank, without_blanks_before, without_blanks_after}
+use Rattle.wg_properties.specs.Pairs.{is_continued}
 
 -- ---- tests of all bytes
 

@@ -8,3 +8,4 @@ pub mod Letters
 pub mod Reread
 pub mod Reflagged
 pub mod Readback
+pub mod Fronts

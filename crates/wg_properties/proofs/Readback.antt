@@ -1,7 +1,7 @@
 -- A text that was written, read again.
-use Rattle.std.proofs.Common.{◌≡◌, ℕ, ◌+◌, ◌-◌, ◌*◌, ◌%◌, ◌/◌, ◌^◌, ◌<◌, ◌≤◌, Bool, true, false, not, ◌&&◌, ◌||◌, eqb, leb, ltb, List, [], ◌∷◌, ◌++◌, length, get_or, map, refl, sym, ap, subst, ◌∙◌, inl, inr, arith, codes, lit<}
-use Rattle.std.specs.Prelude.{Option, Some, None, Result, Ok, Err, decimal, unwrap_or}
-use Rattle.std.specs.List.{list_all, flat_map, position_from}
+use Rattle.std.proofs.Common.{◌≡◌, ℕ, ◌+◌, ◌-◌, ◌%◌, ◌^◌, ◌<◌, ◌≤◌, Bool, true, false, not, ◌&&◌, ◌||◌, leb, ltb, List, [], ◌∷◌, length, get_or, map, refl, sym, ap, subst, ◌∙◌, inl, inr, arith, codes}
+use Rattle.std.specs.Prelude.{Option, Some, None, Ok, Err, decimal, unwrap_or}
+use Rattle.std.specs.List.{list_all, position_from}
 use Rattle.std.specs.Str.{bytes_eq}
 use Rattle.std.proofs.lemmas.Bool.{cases_lt, and_parts, and_from, leb-true, le-leb, le-ltb, ne_eqb, or_from, false≢true, false_from_ne_true, cond-false}
 use Rattle.std.proofs.lemmas.List.{get_or_past}
@@ -13,14 +13,12 @@ use Rattle.wg_params.specs.Parameters.{Parameters, IsWithinLimits}
 use Rattle.wg_params.specs.declared.key.Key.{Key}
 use Rattle.wg_params.specs.declared.key.Key.TheVariants as key
 use Rattle.wg_params.specs.declared.limits.TheConstants.{MOST_PAGES, MOST_ARCS, MOST_WINDOW, MOST_CHAIN, MOST_INTERVAL, MOST_ZETA}
-use Rattle.wg_properties.specs.Lines.{lines_of, is_blank, without_blanks_before}
-use Rattle.wg_properties.specs.Pairs.{first_continued, is_continued, is_skipped, pairs_of, value_of, key_in, value_in}
+use Rattle.wg_num.specs.Lines.{lines_of, is_blank, without_blanks_before}
+use Rattle.wg_properties.specs.Pairs.{first_continued, is_continued, pairs_of, value_of}
 use Rattle.wg_properties.specs.Words.{name_of, class_name}
 use Rattle.wg_properties.specs.Judged.{within, judged_class, judged_version, judged_endianness, judged_number, judged_chain, judged_zeta, judged_flags, judged, unless_continued, properties_of}
-use Rattle.wg_properties.specs.Text.{flags_text, flags_of, chain_text, pair, written_lines, text_of}
-use Rattle.wg_properties.specs.declared.fault.PropFault.{PropFault}
+use Rattle.wg_properties.specs.Text.{flags_text, flags_of, chain_text, written_lines, text_of}
 use Rattle.wg_properties.specs.declared.fault.PropFault.TheVariants as fault
-use Rattle.wg_properties.specs.declared.flags.Codes.{Codes}
 use Rattle.wg_properties.proofs.Letters.{every_append, every_at, every_more, is_plain, IsValue}
 use Rattle.wg_properties.proofs.Reread.{ArePlain, lines_again, AreValues, line_of, plain_lines, none_continued, pairs_again}
 use Rattle.wg_properties.proofs.Reflagged.{flags_value, codes_in, codes_again}

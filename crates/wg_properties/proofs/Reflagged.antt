@@ -1,6 +1,6 @@
 -- Flags that were written, read again.
-use Rattle.std.proofs.Common.{◌≡◌, ℕ, suc, ◌+◌, ◌-◌, ◌<◌, ◌≤◌, Bool, true, false, not, ◌&&◌, ◌||◌, eqb, leb, List, [], ◌∷◌, ◌++◌, length, take, drop, get_or, map, reverse, refl, sym, ap, subst, ◌∙◌, length-append, inl, inr, arith}
-use Rattle.std.specs.Prelude.{Option, Some, None, Result, Ok, All}
+use Rattle.std.proofs.Common.{◌≡◌, ℕ, suc, ◌+◌, ◌-◌, ◌<◌, ◌≤◌, Bool, true, false, not, ◌&&◌, ◌||◌, eqb, leb, List, [], ◌∷◌, ◌++◌, length, take, drop, get_or, map, reverse, refl, sym, ap, ◌∙◌, length-append, inl, inr, arith}
+use Rattle.std.specs.Prelude.{Option, Some, None, Ok, All}
 use Rattle.std.specs.List.{list_all, prefix_len, slice_split}
 use Rattle.std.proofs.lemmas.Bool.{cases_lt, and_parts, and_from, or_cases, leb-true, le-leb, eqb-true, ne_eqb, or_from, not-true, false≢true}
 use Rattle.std.proofs.lemmas.List.{append_assoc, reverse-append, take-append-le, get_or-append_right, get_or_past}
@@ -11,11 +11,10 @@ use Rattle.wg_params.specs.Codes.{is_gamma_or_delta, is_unary_gamma_or_delta, is
 use Rattle.wg_params.specs.Parameters.{Parameters, IsWithinLimits}
 use Rattle.wg_params.specs.declared.code.Code.{Code}
 use Rattle.wg_params.specs.declared.code.Code.TheVariants.{Unary, Gamma, Delta, Zeta, Nibble}
-use Rattle.wg_properties.specs.declared.fault.PropFault.{PropFault}
 use Rattle.wg_properties.specs.declared.flags.Codes.{Codes}
 use Rattle.wg_properties.specs.declared.flags.Flag.{Flag}
 use Rattle.wg_properties.specs.declared.flags.Flag.TheVariants.{OutdegreesGamma, OutdegreesDelta, BlocksGamma, BlocksDelta, ReferencesUnary, ReferencesGamma, ReferencesDelta, BlockCountUnary, BlockCountGamma, BlockCountDelta, ResidualsGamma, ResidualsDelta, ResidualsZeta, ResidualsNibble, OffsetsGamma, OffsetsDelta}
-use Rattle.wg_properties.specs.Lines.{is_blank, without_blanks_before, without_blanks_after}
+use Rattle.wg_num.specs.Lines.{is_blank, without_blanks_before, without_blanks_after}
 use Rattle.wg_properties.specs.Flags.{default_codes, with_flag, flag_of, codes_from, pieces_of, codes_of}
 use Rattle.wg_properties.specs.Words.{word_of}
 use Rattle.wg_properties.specs.Text.{outdegree_flag, block_flag, reference_flag, block_count_flag, residual_flag, offset_flag, flags_of, joined_by_bars, flags_text}

@@ -1,19 +1,19 @@
 -- Lines that were written, read again.
-use Rattle.std.proofs.Common.{◌≡◌, ℕ, suc, ◌+◌, ◌<◌, Bool, true, false, not, cond, eqb, List, [], ◌∷◌, ◌++◌, length, take, drop, get_or, map, refl, sym, ap, ◌∙◌, length-append, arith}
-use Rattle.std.specs.Prelude.{Option, Some, None, filter, All}
+use Rattle.std.proofs.Common.{◌≡◌, ℕ, ◌+◌, ◌<◌, true, false, not, cond, eqb, List, [], ◌∷◌, ◌++◌, length, take, drop, get_or, map, refl, sym, ap, ◌∙◌, length-append, arith}
+use Rattle.std.specs.Prelude.{Some, None, filter, All}
 use Rattle.std.specs.List.{list_all, flat_map, slice_split, position_from, position_or_len}
 use Rattle.std.specs.Str.Lines.{strip_carriage_return}
-use Rattle.std.proofs.lemmas.Bool.{and_parts, and_from, leb-true, ne_eqb, or_from, cond-true, cond-false, not_from_false}
+use Rattle.std.proofs.lemmas.Bool.{and_parts, ne_eqb, or_from, cond-true, cond-false, not_from_false}
 use Rattle.std.proofs.lemmas.List.{append_assoc, append-nil, take_at, drop_at}
 use Rattle.std.proofs.lemmas.List.Sums.{AllPass-from_list_all}
 use Rattle.std.proofs.lemmas.List.Splits.{slice_split_at, slice_split_none}
 use Rattle.wg_params.specs.declared.key.Key.{Key}
 use Rattle.wg_params.specs.declared.key.Key.TheVariants.{GraphClass, Version, Endianness, Nodes, Arcs, WindowSize, MaxRefCount, MinIntervalLength, ZetaK, CompressionFlags}
-use Rattle.wg_properties.specs.Lines.{lines_of, without_empty_end, is_blank, without_blanks_before, without_blanks_after}
+use Rattle.wg_num.specs.Lines.{lines_of, without_empty_end, is_blank, without_blanks_before, without_blanks_after}
 use Rattle.wg_properties.specs.Pairs.{is_skipped, is_continued, ends_key, without_separator, key_in, value_in, pairs_of}
 use Rattle.wg_properties.specs.Words.{name_of}
 use Rattle.wg_properties.specs.Text.{pair, ended}
-use Rattle.wg_properties.proofs.Cuts.{is_end, not_the_end, some_line}
+use Rattle.wg_num.proofs.Cuts.{is_end, not_the_end}
 use Rattle.wg_properties.proofs.Letters.{every_append, every_more, is_plain, plain_parts, is_letter, letter_low, letter_plain, blank_free_before, blank_free_after, IsValue, no_return, not_continued}
 
 -- ---- lines

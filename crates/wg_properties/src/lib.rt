@@ -17,7 +17,8 @@
 //! taken; the cost is linear in the text, however long its lines, values and blanks are. Of what Java allows besides, a line
 //! that goes on in the next is a fault, and any other backslash is a byte like the rest.
 //!
-//! A text that is written takes some 200 bytes, in a `List8`. The function of [`laws`] states that it is read again.
+//! A text that is written takes some 200 bytes, in a `List8`. The function of [`laws`] states that it is read
+//! again, and that no text that was cut short is read.
 #![tactic(auto)]
 
 mod fault;

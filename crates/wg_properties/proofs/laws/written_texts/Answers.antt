@@ -1,5 +1,9 @@
 use Rattle.wg_properties.proofs.Readback.{read_again}
+use Rattle.wg_properties.proofs.Fronts.{front_refused}
 use Rattle.wg_properties.proofs.laws.written_texts.Goals as goal
 
-pub returns : goal.returns
-returns c = read_again
+pub returns-clause-back : goal.returns-clause-back
+returns-clause-back c = read_again
+
+pub returns-clause-fronts : goal.returns-clause-fronts
+returns-clause-fronts c = front_refused
