@@ -1,11 +1,11 @@
 -- The arcs of a graph ascend, and are between its pages.
-use Rattle.std.proofs.Common.{◌≡◌, ℕ, zero, suc, ◌+◌, ◌<◌, ◌≤◌, true, List, [], ◌∷◌, ◌++◌, map, length, take, get_or, Option, Some, None, refl, sym, ap, subst, ◌∙◌, arith}
+use Rattle.std.proofs.Common.{◌≡◌, ℕ, zero, suc, ◌+◌, ◌<◌, ◌≤◌, true, List, [], ◌∷◌, ◌++◌, map, length, take, get_or, Option, Some, arith}
 use Rattle.std.specs.List.{last_or, All}
 use Rattle.std.proofs.lemmas.List.Elements.{All-head, All-tail}
 use Rattle.wg_graph.specs.Ascending.{Ascends, Below}
 use Rattle.wg_graph.specs.Arcs.{arcs_from}
-use Rattle.wg_arcs.specs.Reading.{is_after, is_before}
-use Rattle.wg_arcs.proofs.Order.{Arc, last_or-append, before_lower, before_same, before_next}
+use Rattle.wg_arcs.specs.Reading.{is_after}
+use Rattle.wg_arcs.proofs.Order.{Arc, before_lower, before_next}
 
 -- each arc comes after the one before it, the first after o
 abbrev pub Climbs : Option Arc → List Arc → Type 0

@@ -5,3 +5,4 @@ pub mod Parted
 pub mod ReadBack
 pub mod Soundness
 pub mod Texts
+pub mod Unique

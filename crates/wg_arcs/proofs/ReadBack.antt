@@ -1,24 +1,22 @@
 -- The text of a graph is read back.
-use Rattle.std.proofs.Common.{◌≡◌, ◌≢◌, ℕ, ◌+◌, ◌-◌, ◌^◌, ◌<◌, ◌≤◌, Bool, true, false, not, cond, eqb, ◌||◌, List, [], ◌∷◌, ◌++◌, map, length, take, drop, get_or, filter, codes, decimal, Option, Some, None, zero, suc, refl, sym, ap, subst, ◌∙◌, arith, inl, inr, append_assoc}
-use Rattle.std.specs.List.{All, slice_split, filter_map, last_or}
+use Rattle.std.proofs.Common.{◌≡◌, ℕ, ◌-◌, ◌^◌, ◌<◌, ◌≤◌, Bool, false, cond, eqb, List, [], ◌∷◌, ◌++◌, map, length, take, get_or, decimal, Some, None, zero, suc, refl, sym, ap, subst, ◌∙◌, arith, inl, inr, append_assoc}
+use Rattle.std.specs.List.{All, slice_split}
 use Rattle.std.specs.Str.Lines.{strip_carriage_return}
-use Rattle.std.specs.Str.Parse.{AllDigits}
 use Rattle.std.proofs.lemmas.Bool.{cases_lt, ne_eqb}
 use Rattle.std.proofs.lemmas.Fmt.{decimal_is_IsNumeral, decimal_nonempty}
 use Rattle.std.proofs.lemmas.Str.Parse.{digit_at}
 use Rattle.std.proofs.lemmas.List.{get_or_default, get_or_past, take-map, get_or-map, length-map, length-take-le}
 use Rattle.std.proofs.lemmas.List.Elements.{All-append, All-cons, All-weaker}
 use Rattle.std.proofs.lemmas.List.Splits.{slice_split_at, slice_split_none}
-use Rattle.wg_params.specs.declared.limits.TheConstants.{MOST_ARCS, MOST_PAGES}
-use Rattle.wg_num.specs.Decimal.{number_of}
+use Rattle.wg_params.specs.declared.limits.TheConstants.{MOST_ARCS}
 use Rattle.wg_num.specs.Lines.{lines_of, is_blank}
 use Rattle.wg_num.proofs.Cuts.{line_with_end, no_lines}
 use Rattle.wg_num.proofs.Numbers.{number_of-decimal}
-use Rattle.wg_graph.specs.Digraph.{Digraph, IsGraph, arc_count}
+use Rattle.wg_graph.specs.Digraph.{arc_count}
 use Rattle.wg_graph.specs.Arcs.{arcs_of}
 use Rattle.wg_graph.proofs.Arcs.{length-arcs_from}
 use Rattle.wg_arcs.specs.Text.{arc_line, text_of_arcs, text_of_graph}
-use Rattle.wg_arcs.specs.Reading.{words_of, is_skipped, arc_in, arc_at, arcs_in, both, is_after, refusal_of, fault_of, fault_at, AreArcs}
+use Rattle.wg_arcs.specs.Reading.{words_of, is_skipped, arc_in, arc_at, arcs_in, refusal_of, fault_of, fault_at, AreArcs}
 use Rattle.wg_arcs.proofs.Order.{Arc, not_refused}
 use Rattle.wg_arcs.proofs.Climbing.{Within, within_from, within_at, Climbs, climbs_from, climbs_at}
 use Rattle.wg_arcs.specs.Laws.{TextsReadBack}

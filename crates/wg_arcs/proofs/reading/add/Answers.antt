@@ -1,4 +1,4 @@
-use Rattle.std.proofs.Common.{◌≡◌, ◌<◌, ◌∙◌, length, ap, refl, arith}
+use Rattle.std.proofs.Common.{◌∙◌, ap, refl, arith}
 use Rattle.wg_graph.specs.Arcs.{arcs_of, arcs_from}
 use Rattle.wg_graph.proofs.Arcs.{with_arc_arcs, length-arcs_from}
 use Rattle.wg_arcs.proofs.Order.{after_all, not_after, refused_for_order, refused_for_number, not_refused}
