@@ -12,8 +12,8 @@ use Rattle.wg_grammar.specs.declared.fault.OffsetWord.{OffsetWord}
 use Rattle.wg_grammar.specs.declared.fault.OffsetWord.TheVariants as word
 use Rattle.wg_grammar.specs.declared.fault.ArchiveFault.{ArchiveFault}
 use Rattle.wg_grammar.specs.declared.fault.ArchiveFault.TheVariants as archive
-use Rattle.wg_cli.specs.declared.status.ArcsKind.{ArcsKind}
-use Rattle.wg_cli.specs.declared.status.ArcsKind.TheVariants as arcs
+use Rattle.wg_arcs.specs.declared.fault.ArcsKind.{ArcsKind}
+use Rattle.wg_arcs.specs.declared.fault.ArcsKind.TheVariants as arcs
 use Rattle.wg_cli.specs.declared.status.Input.{Input}
 use Rattle.wg_cli.specs.declared.status.Input.TheVariants as input
 

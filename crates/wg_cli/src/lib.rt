@@ -31,7 +31,7 @@ mod text;
 mod texts;
 
 pub use program::run;
-pub use status::{ArcsKind, Input, Status};
+pub use status::{Input, Status};
 
 #[cfg(test)]
 mod tests;

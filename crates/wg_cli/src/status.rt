@@ -1,6 +1,7 @@
 ghost use Rattle.std.specs.Prelude.{◌≡◌};
 ghost use Rattle.wg_cli.specs.Codes.{code_of};
 
+use wg_arcs::ArcsKind;
 use wg_grammar::ArchiveFault;
 use wg_io::Output;
 use wg_properties::PropFault;
@@ -12,19 +13,6 @@ pub enum Input {
     Graph,
     Offsets,
     ArcList,
-}
-
-/// Why a line of an arc list is refused.
-#[derive(Clone, Copy, Debug, PartialEq, Eq)]
-pub enum ArcsKind {
-    /// It is not two decimal numbers.
-    Shape,
-    /// A number is no page.
-    Range,
-    /// The arc is not greater than the one before.
-    Order,
-    /// There are more arcs than an archive may have.
-    TooMany,
 }
 
 /// How a run ended.
