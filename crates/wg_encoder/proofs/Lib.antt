@@ -1,2 +1,3 @@
 mod Rows
 pub mod Least
+pub mod Bytes

@@ -1,7 +1,12 @@
-ghost use Rattle.wg_encoder.specs.Laws.{ChosenIsCandidate, ChosenIsShortest};
+ghost use Rattle.wg_encoder.specs.Laws.{ChosenIsCandidate, ChosenIsShortest, FilesHoldTheBits};
 
 /// The record that is written of a page is the shortest of its candidates, by the smallest reference.
 pub fn chosen_reference()
     ensures candidate { ChosenIsCandidate }
     ensures shortest { ChosenIsShortest }
+{}
+
+/// The bytes of the files of a graph are their bits.
+pub fn files()
+    ensures { FilesHoldTheBits }
 {}
