@@ -1,3 +1,4 @@
 mod Rows
 pub mod Least
 pub mod Bytes
+pub mod Tallied

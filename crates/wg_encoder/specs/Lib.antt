@@ -1,4 +1,5 @@
 pub mod Fields
 pub mod Greedy
 pub mod Archive
+pub mod Cost
 pub mod Laws

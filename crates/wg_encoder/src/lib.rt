@@ -10,4 +10,6 @@
 //! bytes of the two files. The function of [`laws`] states that no candidate's record is shorter than the one that is written.
 #![tactic(auto)]
 
+mod blocks;
+mod cost;
 pub mod laws;
