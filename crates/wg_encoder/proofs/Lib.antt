@@ -2,3 +2,4 @@ mod Rows
 pub mod Least
 pub mod Bytes
 pub mod Tallied
+pub mod Gapped

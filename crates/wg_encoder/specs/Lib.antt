@@ -2,4 +2,5 @@ pub mod Fields
 pub mod Greedy
 pub mod Archive
 pub mod Cost
+pub mod Tallies
 pub mod Laws

@@ -12,4 +12,7 @@
 
 mod blocks;
 mod cost;
+mod gap;
+mod intervals;
 pub mod laws;
+mod residuals;
