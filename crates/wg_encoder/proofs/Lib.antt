@@ -3,3 +3,4 @@ pub mod Least
 pub mod Bytes
 pub mod Tallied
 pub mod Gapped
+pub mod Extra

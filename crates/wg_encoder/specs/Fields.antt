@@ -1,6 +1,6 @@
 -- The fields of a record that is written, each with its code and its stored value. By BVGraph's documentation they come in this order:
 -- outdegree, reference, block count and blocks, interval count and each interval's left end and length, residuals.
-use Rattle.std.specs.Prelude.{ℕ, ◌+◌, ◌-◌, pos, ◌-ℤ◌, Bool, not, nat_lt, nat_le, if◌then◌else◌, List, [], ◌∷◌, ◌++◌, length, map, filter, Option, Some, None}
+use Rattle.std.specs.Prelude.{ℕ, ◌+◌, ◌-◌, pos, ◌-ℤ◌, Bool, true, false, not, ◌&&◌, nat_lt, nat_le, if◌then◌else◌, List, [], ◌∷◌, ◌++◌, length, map, filter, Option, Some, None}
 use Rattle.std.specs.List.{flat_map, list_all}
 use Rattle.wg_params.specs.Parameters.{Parameters}
 use Rattle.wg_params.specs.declared.code.Code.{Code}
@@ -61,13 +61,20 @@ residual_fields code page last (y ∷ ys) = written field.Residual code (stored_
 abbrev pub extras : List ℕ → List ℕ → List ℕ
 extras list referenced = filter (λ y. not (is_in y referenced)) list
 
--- Of what is not copied: how many intervals there are, where the archive has intervals; each of them; and the residuals.
+-- whether there are numbers
+abbrev pub has_some : List ℕ → Bool
+has_some [] = false
+has_some (y ∷ ys) = true
+
+-- how many intervals there are, where something is not copied and the archive has intervals
+abbrev pub count_fields : Bool → ℕ → ℕ → List Written
+count_fields found least count = if found && nat_lt 0 least then written field.IntervalCount Gamma count ∷ [] else []
+
+-- Of what is not copied: how many intervals there are; each of them; and the residuals.
 abbrev pub extra_fields : Parameters → ℕ → List ℕ → List Written
-extra_fields p page [] = []
-extra_fields p page (y ∷ ys) =
-    (if nat_lt 0 p.interval then written field.IntervalCount Gamma (length (intervals_of p.interval (y ∷ ys))) ∷ [] else [])
-    ++ interval_fields page p.interval None (intervals_of p.interval (y ∷ ys))
-    ++ residual_fields p.residuals page None (residuals_of p.interval (y ∷ ys))
+extra_fields p page xs =
+    (count_fields (has_some xs) p.interval (length (intervals_of p.interval xs)) ++ interval_fields page p.interval None (intervals_of p.interval xs))
+    ++ residual_fields p.residuals page None (residuals_of p.interval xs)
 
 -- How the list of a page is written with the reference r, where this is the list that r names, empty for none: a reference comes where the
 -- archive has a window, and blocks where the reference is not 0.

@@ -12,6 +12,7 @@
 
 mod blocks;
 mod cost;
+mod extras;
 mod gap;
 mod intervals;
 pub mod laws;

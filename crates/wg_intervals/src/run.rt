@@ -1,5 +1,5 @@
 // Maximal runs of consecutive numbers.
-ghost use Rattle.std.specs.Prelude.{◌≡◌, ◌+◌, ◌<◌, ◌≤◌, ◌^◌, List, ℕ, [], ◌∷◌, ◌++◌, option_to_list, IfSome};
+ghost use Rattle.std.specs.Prelude.{◌≡◌, ◌+◌, ◌<◌, ◌≤◌, ◌^◌, List, ℕ, [], ◌∷◌, ◌++◌, option_to_list, IfSome, OnSome};
 ghost use Rattle.wg_graph.specs.Ascending.{Ascends};
 ghost use Rattle.wg_intervals.specs.Canonical.{runs_of, runs_from};
 
@@ -25,6 +25,8 @@ impl Run {
         ensures runs { (numbers : List ℕ) → Ascends (number + 1) numbers → runs_from self.old (number ∷ numbers) ≡ option_to_list result ++ runs_from self.new numbers }
         ensures ended { IfSome result (λ run. run ≡ self.old) }
         ensures end { self.new.left + self.new.length ≡ number + 1 }
+        ensures some { 0 < self.new.length }
+        ensures anew { OnSome result (self.new.length ≡ 1) }
         ensures longer { self.new.length ≤ self.old.length + 1 }
     {
         if number - self.left == self.length {
