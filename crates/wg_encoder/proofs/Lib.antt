@@ -4,3 +4,4 @@ pub mod Bytes
 pub mod Tallied
 pub mod Gapped
 pub mod Extra
+pub mod Whole

@@ -1,5 +1,5 @@
 -- What fields take.
-use Rattle.std.specs.Prelude.{◌≡◌, ℕ, ◌+◌, ◌*◌, ◌^◌, ◌≤◌, if◌then◌else◌, List, length, map, Option, Some, None}
+use Rattle.std.specs.Prelude.{◌≡◌, ℕ, ◌*◌, ◌^◌, ◌≤◌, if◌then◌else◌, List, length, map, Option, Some, None}
 use Rattle.std.specs.Option.{ForSome}
 use Rattle.wg_params.specs.Codes.{IsCode}
 use Rattle.wg_grammar.specs.declared.fault.Field.TheVariants as field

@@ -76,14 +76,18 @@ extra_fields p page xs =
     (count_fields (has_some xs) p.interval (length (intervals_of p.interval xs)) ++ interval_fields page p.interval None (intervals_of p.interval xs))
     ++ residual_fields p.residuals page None (residuals_of p.interval xs)
 
--- How the list of a page is written with the reference r, where this is the list that r names, empty for none: a reference comes where the
--- archive has a window, and blocks where the reference is not 0.
+-- a reference, where the archive has a window
+abbrev pub reference_fields : Parameters → ℕ → List Written
+reference_fields p r = if nat_lt 0 p.window then written field.Reference p.references r ∷ [] else []
+
+-- the blocks against the list that r names, where r is not 0
+abbrev pub copy_fields : Parameters → ℕ → List ℕ → List ℕ → List Written
+copy_fields p r referenced list = if nat_lt 0 r then block_fields p (canonical_blocks list referenced) else []
+
+-- how the list of a page is written with the reference r, where this is the list that r names, empty for none
 abbrev pub list_fields : Parameters → ℕ → ℕ → List ℕ → List ℕ → List Written
 list_fields p page r referenced [] = []
-list_fields p page r referenced (y ∷ ys) =
-    (if nat_lt 0 p.window then written field.Reference p.references r ∷ [] else [])
-    ++ (if nat_lt 0 r then block_fields p (canonical_blocks (y ∷ ys) referenced) else [])
-    ++ extra_fields p page (extras (y ∷ ys) referenced)
+list_fields p page r referenced (y ∷ ys) = (reference_fields p r ++ copy_fields p r referenced (y ∷ ys)) ++ extra_fields p page (extras (y ∷ ys) referenced)
 
 -- the record of a page by a reference
 unfoldable pub record_fields : Parameters → ℕ → ℕ → List ℕ → List ℕ → List Written

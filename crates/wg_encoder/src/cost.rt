@@ -29,8 +29,8 @@ pub(crate) fn with_field(cost: Option<u128>, code: Code, value: u64) -> Option<u
 
 /// What the fields of both take together.
 pub(crate) fn both(first: Option<u128>, second: Option<u128>) -> Option<u128>
-    requires first { (n : ℕ) × (n < 2 ^ 62) × IsOfWords n first }
-    requires second { (n : ℕ) × (n < 2 ^ 62) × IsOfWords n second }
+    requires first { (n : ℕ) × (n < 2 ^ 63) × IsOfWords n first }
+    requires second { (n : ℕ) × (n < 2 ^ 63) × IsOfWords n second }
     ensures exact { (xs ys : List Written) → first ≡ cost_of xs → second ≡ cost_of ys → result ≡ cost_of (xs ++ ys) }
     ensures few { (m n : ℕ) → IsOfWords m first → IsOfWords n second → IsOfWords (m + n) result }
 {

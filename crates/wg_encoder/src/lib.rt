@@ -6,7 +6,7 @@
 //! with the smallest reference. The references that were chosen before bear on it by their depths alone, where the archive
 //! limits chains.
 //!
-//! The definitions give the fields of a record with their codes and stored values, the reference that is chosen, and the
+//! [`record_cost`] counts the bits of a canonical record from the two lists, without making it. The definitions give the fields of a record with their codes and stored values, the reference that is chosen, and the
 //! bytes of the two files. The function of [`laws`] states that no candidate's record is shorter than the one that is written.
 #![tactic(auto)]
 
@@ -16,4 +16,7 @@ mod extras;
 mod gap;
 mod intervals;
 pub mod laws;
+mod record;
 mod residuals;
+
+pub use record::record_cost;

@@ -1,5 +1,5 @@
-use Rattle.std.proofs.Common.{ℕ, ◌+◌, ◌*◌, ◌^◌, ◌<◌, ◌≤◌, ◌∙◌, refl, arith, ltb}
-use Rattle.wg_encoder.specs.Tallies.{TalliesBoth, length_of}
+use Rattle.std.proofs.Common.{◌+◌, ◌*◌, ◌^◌, ◌∙◌, refl, arith, ltb}
+use Rattle.wg_encoder.specs.Tallies.{TalliesBoth}
 use Rattle.wg_encoder.specs.Fields.{extras}
 use Rattle.wg_intervals.specs.Canonical.{runs_of}
 use Rattle.wg_encoder.proofs.Tallied.{fewer}

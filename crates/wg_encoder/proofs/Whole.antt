@@ -1,0 +1,32 @@
+-- What the parts of a record take together.
+use Rattle.std.proofs.Common.{◌≡◌, ℕ, ◌<◌, ◌≤◌, ltb, List, [], ◌∷◌, ◌++◌, length, refl, sym, arith}
+use Rattle.std.proofs.lemmas.Bool.{cond-true, cond-false, lt-ltb, le-ltb}
+use Rattle.wg_params.specs.Parameters.{Parameters}
+use Rattle.wg_blocks.specs.Canonical.{canonical_blocks}
+use Rattle.wg_grammar.specs.declared.fault.Field.TheVariants as field
+use Rattle.wg_encoder.specs.Fields.{written, block_fields, reference_fields, copy_fields, extras, extra_fields, list_fields, record_fields}
+
+pub with_reference : (p : Parameters) (r : ℕ) → 0 < p.window → written field.Reference p.references r ∷ [] ≡ reference_fields p r
+with_reference p r some = sym (cond-true (ltb 0 p.window) (written field.Reference p.references r ∷ []) [] (lt-ltb 0 p.window some))
+
+pub no_reference : (p : Parameters) (r : ℕ) → p.window ≤ 0 → [] ≡ reference_fields p r
+no_reference p r none = sym (cond-false (ltb 0 p.window) (written field.Reference p.references r ∷ []) [] (le-ltb 0 p.window none))
+
+pub with_blocks : (p : Parameters) (r : ℕ) (referenced list : List ℕ) → 0 < r → block_fields p (canonical_blocks list referenced) ≡ copy_fields p r referenced list
+with_blocks p r referenced list some = sym (cond-true (ltb 0 r) (block_fields p (canonical_blocks list referenced)) [] (lt-ltb 0 r some))
+
+pub no_blocks : (p : Parameters) (r : ℕ) (referenced list : List ℕ) → r ≤ 0 → [] ≡ copy_fields p r referenced list
+no_blocks p r referenced list none = sym (cond-false (ltb 0 r) (block_fields p (canonical_blocks list referenced)) [] (le-ltb 0 r none))
+
+pub list_whole : (p : Parameters) (page r : ℕ) (referenced list : List ℕ) → 0 < length list → (reference_fields p r ++ copy_fields p r referenced list) ++ extra_fields p page (extras list referenced) ≡ list_fields p page r referenced list
+list_whole p page r referenced [] some = absurd (omega arith)
+list_whole p page r referenced (y ∷ ys) some = refl
+
+pub empty_record : (p : Parameters) (page r : ℕ) (referenced list : List ℕ) → length list ≡ 0 → written field.Outdegree p.outdegrees (length list) ∷ [] ≡ record_fields p page r referenced list
+unfolding record_fields
+empty_record p page r referenced [] none = refl
+empty_record p page r referenced (y ∷ ys) none = absurd (omega arith)
+
+pub whole_record : (p : Parameters) (page r : ℕ) (referenced list : List ℕ) → written field.Outdegree p.outdegrees (length list) ∷ list_fields p page r referenced list ≡ record_fields p page r referenced list
+unfolding record_fields
+whole_record p page r referenced list = refl
