@@ -1,12 +1,15 @@
 -- Which records are written: for each page in its turn the shortest.
-use Rattle.std.specs.Prelude.{ℕ, ◌+◌, min, Bool, not, ◌&&◌, ◌||◌, ◌==◌, nat_lt, nat_le, List, [], ◌∷◌, length, find, unwrap_or}
-use Rattle.std.specs.List.{list_all}
+use Rattle.std.specs.Prelude.{ℕ, ◌+◌, min, Bool, not, ◌&&◌, ◌||◌, ◌==◌, nat_lt, nat_le, List, [], ◌∷◌, length, take, find, unwrap_or}
+use Rattle.std.specs.List.{list_all, sum_by}
 use Rattle.wg_graph.specs.Numbers.{numbers_where}
 use Rattle.wg_params.specs.Parameters.{Parameters}
 use Rattle.wg_grammar.specs.Context.{Known, Context, referenced, depth_of}
 use Rattle.wg_grammar.specs.Refusal.{passes}
-use Rattle.wg_grammar.specs.Archive.{context_of}
 use Rattle.wg_encoder.specs.Fields.{Written, bits_of_fields, all_have_words, record_fields}
+
+-- the page after those behind, the nearest of which comes first; a reference reaches as far back as the window
+abbrev pub context_after : Parameters → List Known → Context
+context_after p behind = record { page = length behind; arcs_before = sum_by (λ k. length k.list) behind; behind = take p.window behind }
 
 -- the record of a list by the reference r
 abbrev pub canonical : Parameters → Context → List ℕ → ℕ → List Written
@@ -38,4 +41,4 @@ known_of p c list = record { list = list; depth = depth_of c.behind (chosen p c 
 abbrev pub records_of : Parameters → List Known → List (List ℕ) → List (List Written)
 records_of p behind [] = []
 records_of p behind (list ∷ lists) =
-    canonical p (context_of p behind) list (chosen p (context_of p behind) list) ∷ records_of p (known_of p (context_of p behind) list ∷ behind) lists
+    canonical p (context_after p behind) list (chosen p (context_after p behind) list) ∷ records_of p (known_of p (context_after p behind) list ∷ behind) lists
