@@ -19,7 +19,7 @@ mod words;
 mod writing;
 
 pub use fault::{ArcsError, ArcsKind};
-pub use lines::Lines;
+pub use lines::{Lines, MOST_PIECE};
 pub use reading::read;
 pub use writing::write;
 

@@ -3,7 +3,7 @@ ghost use Rattle.wg_io.specs.Outside.{Rose};
 ghost use Rattle.wg_io.specs.Puts.{Puts};
 ghost use Rattle.wg_arcs.specs.Printing.{Prints};
 ghost use Rattle.wg_arcs.specs.Text.{arc_line};
-ghost use Rattle.wg_arcs.specs.declared.lines.TheConstants.{BUFFER, ROOM};
+ghost use Rattle.wg_arcs.specs.declared.lines.TheConstants.{BUFFER, MOST_PIECE};
 
 use std::marker::Model;
 use wg_io::{Sink, WriteError, write_all};
@@ -12,8 +12,8 @@ use wg_num::decimal_into;
 // The bytes that may wait.
 const BUFFER: usize = 8192;
 
-// More than two numbers take, and what stands between and behind them.
-const ROOM: usize = 64;
+/// The most bytes that are printed at once: more than two numbers take, and what stands between and behind them.
+pub const MOST_PIECE: usize = 128;
 
 /// Numbers and bytes on their way into a sink: those that were printed and have not gone out yet.
 ///
@@ -80,13 +80,13 @@ impl Lines {
 
     // Sends all out where there is no room for one more line.
     fn make_room<S: Sink>(&mut self, sink: &mut S) -> Result<(), WriteError>
-        ensures room { OnOk result (length self.new + ROOM ≤ BUFFER) }
+        ensures room { OnOk result (length self.new + MOST_PIECE ≤ BUFFER) }
         ensures prints { IsTrue S.told → Prints [] (S.taken sink.old) (S.taken sink.new) self.old self.new result }
         ensures failed { IsErrOf result WriteError.Failed → Rose (S.faults sink.old) (S.faults sink.new) }
         ensures memory { IsErrOf result WriteError.Memory → Rose (S.wants sink.old) (S.wants sink.new) }
         ensures later { (S.faults sink.old ≤ S.faults sink.new) × (S.wants sink.old ≤ S.wants sink.new) }
     {
-        if self.len() + ROOM <= BUFFER {
+        if self.len() + MOST_PIECE <= BUFFER {
             return Ok(());
         }
         self.flush(sink)
@@ -124,6 +124,23 @@ impl Lines {
         }
     }
 
+    /// Prints a short text.
+    pub fn text<S: Sink>(&mut self, sink: &mut S, text: &[u8]) -> Result<(), WriteError>
+        requires { length text.now ≤ MOST_PIECE }
+        ensures prints { IsTrue S.told → Prints text.now (S.taken sink.old) (S.taken sink.new) self.old self.new result }
+        ensures failed { IsErrOf result WriteError.Failed → Rose (S.faults sink.old) (S.faults sink.new) }
+        ensures memory { IsErrOf result WriteError.Memory → Rose (S.wants sink.old) (S.wants sink.new) }
+        ensures later { (S.faults sink.old ≤ S.faults sink.new) × (S.wants sink.old ≤ S.wants sink.new) }
+    {
+        match self.make_room(sink) {
+            Ok(()) => {
+                self.hold(text);
+                Ok(())
+            }
+            Err(e) => Err(e),
+        }
+    }
+
     /// Prints the line of an arc.
     pub fn arc<S: Sink>(&mut self, sink: &mut S, from: u64, to: u64) -> Result<(), WriteError>
         ensures prints { IsTrue S.told → Prints (arc_line (from, to)) (S.taken sink.old) (S.taken sink.new) self.old self.new result }
@@ -142,7 +159,7 @@ impl Lines {
 
     // Lets the line of an arc wait.
     fn hold_arc(&mut self, from: u64, to: u64)
-        requires { length self.old + ROOM ≤ BUFFER }
+        requires { length self.old + MOST_PIECE ≤ BUFFER }
         ensures { self.new ≡ self.old ++ arc_line (from, to) }
     {
         self.hold_number(from);
