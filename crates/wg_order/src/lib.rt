@@ -11,11 +11,14 @@
 //!                    \---> rising (by upper bounds) --> worst
 //! ```
 //!
+//! The function of [`laws`] states that any bounds have one ranking.
+//!
 //! Memory is taken by [`Ranking::new`] alone, 48 bytes for each page; with the bounds themselves that is 112.
 #![tactic(auto)]
 
 mod arranging;
 mod counting;
+pub mod laws;
 mod ranking;
 mod sorting;
 
