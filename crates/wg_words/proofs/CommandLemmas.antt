@@ -1,6 +1,6 @@
 -- What clap's clauses say of the program's command line.
-use Rattle.std.proofs.Common.{◌≡◌, ◌⊎◌, inl, inr, true, List, [], ◌∷◌, Option, Some, None, Result, Ok, Err, refl, sym, ◌∙◌, ap, subst}
-use Rattle.clap.specs.Words.{App, Row, Text, Kinds, FailsBy, HasKind, IsAmong, HasMatchesOf, fault_of, is_simple, is_simple_and_free, subcommand_of, subcommand_rows_of}
+use Rattle.std.proofs.Common.{◌≡◌, true, List, [], ◌∷◌, Option, None, refl, sym, ◌∙◌, ap, subst}
+use Rattle.clap.specs.Words.{App, Row, Text, Kinds, IsAmong, fault_of, is_simple, is_simple_and_free, subcommand_of}
 use Rattle.clap.specs.declared.error.kind.ErrorKind.{ErrorKind}
 use Rattle.clap.proofs.OnLiterals.{clap_on_literals}
 use Rattle.wg_words.specs.Commands.{command_app, where_empty, parsed}

@@ -12,13 +12,25 @@ base_rule = record (new_rule (codes "base")) { required = true }
 abbrev pub archive_app : Text → App
 archive_app name = with_rule (new_app name) base_rule
 
+-- --NAME VALUE, which may be absent
+abbrev pub option_rule : Text → Rule
+option_rule name = record (new_rule name) { long = Some name }
+
+-- rank BASE, with the options --rounds, --damping and --top
+abbrev pub rank_app : App
+rank_app = with_rule (with_rule (with_rule (archive_app (codes "rank")) (option_rule (codes "rounds"))) (option_rule (codes "damping"))) (option_rule (codes "top"))
+
 -- one level of subcommands, of which one is required
 abbrev pub program_app : App
 program_app = record (new_app (codes "webgraph")) { top = record (new_app (codes "webgraph")).top { no_binary_name = true; subcommand_required = true } }
 
+-- the commands that take an archive and no option
+abbrev pub plain_app : App
+plain_app = with_subcommand (with_subcommand (with_subcommand program_app (archive_app (codes "check")).top) (archive_app (codes "arcs")).top) (archive_app (codes "offsets")).top
+
 -- the command line of the program
 abbrev pub command_app : App
-command_app = with_subcommand (with_subcommand (with_subcommand program_app (archive_app (codes "check")).top) (archive_app (codes "arcs")).top) (archive_app (codes "offsets")).top
+command_app = with_subcommand plain_app rank_app.top
 
 -- nothing where the words are refused
 abbrev pub where_empty : {X : Type 0} → Kinds → Option X → Option X

@@ -5,11 +5,25 @@ use thiserror::Error;
 #[derive(Drop)]
 pub enum Job {
     /// `check BASE`: whether the files BASE`.properties`, BASE`.graph` and BASE`.offsets` are an archive.
-    Check { base: Name },
+    Check {
+        base: Name,
+    },
     /// `arcs BASE`: the arcs of the graph.
-    Arcs { base: Name },
+    Arcs {
+        base: Name,
+    },
     /// `offsets BASE`: the places of the records.
-    Offsets { base: Name },
+    Offsets {
+        base: Name,
+    },
+    /// `rank BASE`: bounds of each page's PageRank after so many rounds at a damping in thousandths, and the order of the `top`
+    /// best pages. The numbers are at most `wg_rank::MOST_ROUNDS`, `wg_rank::MOST_DAMPING` and `wg_params::MOST_PAGES`.
+    Rank {
+        base: Name,
+        rounds: u64,
+        damping: u64,
+        top: u64,
+    },
 }
 
 /// Why there is no job.

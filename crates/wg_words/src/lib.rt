@@ -1,20 +1,25 @@
 //! The job that the words of a command line ask for.
 //!
 //! [`Words`] holds the words after the program's name. [`job`] reads them with `clap`, by the one table of commands and options in
-//! `commands`, and answers the [`Job`]: an enum with a variant for each command, which owns the names, numbers and codes that
+//! `commands`, and answers the [`Job`]: an enum with a variant for each command, which owns the names and numbers that
 //! the words give. There is no job where `clap` refuses the words, a request for help being such a refusal, or where a value is
 //! out of its range. The definition of the job, `job_of`, is over the matches that `clap` defines for these words.
+//!
+//! A number is read from the text of its option by [`wg_num::read_decimal`], and by none of `clap`'s parsers: digits alone, no 0
+//! before others, at most its limit. An option that is absent gives its default.
 //!
 //! A command more is a variant of `Job`, a function in `commands` with its twin in the definitions, and an arm of `asked`.
 #![tactic(auto)]
 
 mod asked;
 mod commands;
+mod defaults;
 mod jobs;
 mod name;
 mod words;
 
 pub use asked::job;
+pub use defaults::{DEFAULT_DAMPING, DEFAULT_ROUNDS, DEFAULT_TOP};
 pub use jobs::{Job, JobError};
 pub use name::Name;
 pub use words::Words;

@@ -2,7 +2,7 @@ use crate::{Job, JobError, Name, Words, job};
 use std::alloc::Global;
 use std::test::Fail;
 
-// The command and the graph file of the job of a line, whose words are parted by blanks.
+// The command, the numbers and the graph file of the job of a line, whose words are parted by blanks.
 fn job_of_line(alloc: Global, line: &str) -> Result<Option<String>, Fail> {
     let mut words = Words::new(alloc);
     for word in line.split(' ') {
@@ -12,6 +12,17 @@ fn job_of_line(alloc: Global, line: &str) -> Result<Option<String>, Fail> {
         Ok(Job::Check { base }) => named(alloc, "check", &base),
         Ok(Job::Arcs { base }) => named(alloc, "arcs", &base),
         Ok(Job::Offsets { base }) => named(alloc, "offsets", &base),
+        Ok(
+            Job::Rank {
+                base,
+                rounds,
+                damping,
+                top,
+            },
+        ) => {
+            let command = format!(in alloc; "rank {rounds} {damping} {top}")?;
+            named(alloc, command.as_str(), &base)
+        }
         Err(JobError::Usage) => Ok(None),
         Err(JobError::Memory) => Err(Fail::from(JobError::Memory)),
     }
@@ -32,9 +43,30 @@ fn which_lines_are_jobs(rt: HostRuntime) -> Result<(), Fail> {
         ("check -- -g", "check -g.graph"),
         ("arcs g", "arcs g.graph"),
         ("offsets -- g", "offsets g.graph"),
+        ("rank g", "rank 100 850 10 g.graph"),
+        ("rank g --rounds 0 --damping 999", "rank 0 999 10 g.graph"),
+        ("rank --top 3 g", "rank 100 850 3 g.graph"),
+        ("rank g --rounds=5", "rank 5 850 10 g.graph"),
+        (
+            "rank --top 68719476735 --rounds 10000 -- -g",
+            "rank 10000 850 68719476735 -g.graph",
+        ),
+        ("rank -", "rank 100 850 10 -.graph"),
         ("check", ""),
         ("arcs g h", ""),
         ("offsets", ""),
+        ("rank", ""),
+        ("rank g --rounds", ""),
+        ("rank g --rounds 10001", ""),
+        ("rank g --damping 1000", ""),
+        ("rank g --top 68719476736", ""),
+        ("rank g --rounds 05", ""),
+        ("rank g --rounds x", ""),
+        ("rank g --rounds -", ""),
+        ("rank g --rounds=", ""),
+        ("rank g --top -1", ""),
+        ("rank g --rounds 1 --rounds 2", ""),
+        ("check g --rounds 5", ""),
         ("check ", ""),
         ("check -g", ""),
         ("check g h", ""),

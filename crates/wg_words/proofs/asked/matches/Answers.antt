@@ -1,6 +1,5 @@
-use Rattle.std.proofs.Common.{◌≡◌, ◌∙◌, inl, inr, List, map, string_bytes, ap, sym, ⊎_elim}
+use Rattle.std.proofs.Common.{◌∙◌, List, map, string_bytes, ap, sym, ⊎_elim}
 use Rattle.clap.specs.Words.{App, Text, fault_of, is_simple, is_simple_and_free, subcommand_of}
-use Rattle.wg_words.specs.Commands.{command_app, parsed}
 use Rattle.wg_words.proofs.CommandLemmas.{command_simple, command_free, parsed_none, parsed_some, among_at}
 use Rattle.wg_words.proofs.asked.matches.Goals as goal
 
