@@ -2,7 +2,10 @@
 use Rattle.std.proofs.Common.{◌≡◌, inl, inr, ℕ, List, ◌++◌, take, refl, sym, ◌∙◌, ap, subst, Option, Some, None, Result, Ok, Err}
 use Rattle.std.specs.Result.{IsErrAnd, IfErr}
 use Rattle.std.proofs.lemmas.List.{append-nil}
-use Rattle.wg_io.specs.Outside.{Files}
+use Rattle.wg_io.specs.Outside.{Files, Counts, Rose}
+use Rattle.wg_io.specs.declared.output.Output.{Output}
+use Rattle.wg_io.specs.declared.output.Output.TheVariants.{Out}
+use Rattle.wg_cli.specs.Causes.{HasCause}
 use Rattle.wg_io.specs.Puts.{Puts}
 use Rattle.wg_io.proofs.PutsLemmas.{is_that_err}
 use Rattle.wg_params.specs.Parameters.{Parameters}
@@ -17,7 +20,7 @@ use Rattle.wg_cli.specs.declared.ending.Ending.{Ending}
 use Rattle.wg_cli.specs.declared.status.Input.{Input}
 use Rattle.wg_cli.specs.declared.status.Input.TheVariants as input
 use Rattle.wg_cli.specs.declared.status.Status.{Status}
-use Rattle.wg_cli.specs.declared.status.Status.TheVariants.{Memory, BadArchive}
+use Rattle.wg_cli.specs.declared.status.Status.TheVariants.{Done, Memory, ReadFault, WriteFault, Missing, BadArchive}
 
 -- the output of a job whose last step puts all of what is due
 pub output_put : (due text old new : List ℕ) (r : Result (Unit {0}) Ending) → text ≡ due → Puts text old new r → IfErr r (λ e. IsUnput e.status) → HasOutput due old new (status_in r)
@@ -32,6 +35,28 @@ nothing_put due old i promised r e is why = subst (λ (x : Result (Unit {0}) End
     by_cause : IsBadFile i promised e → HasOutput due old old e.status
     by_cause (inl want) = subst (λ (s : Status). HasOutput due old old s) (sym want) (0, sym (append-nil old))
     by_cause (inr fault) = subst (λ (s : Status). HasOutput due old old s) (sym fault.2) refl
+
+-- a last step that only the output can end
+pub unput_cause : (inputs : Input → Option (List ℕ)) (outputs : Output → Option (List ℕ)) (old new : List ℕ → Counts) (faults faults' : ℕ) (r : Result (Unit {0}) Ending)
+    → IfErr r (λ e. IsUnput e.status) → (status_in r ≡ WriteFault Out → Rose faults faults') → HasCause inputs outputs old new faults faults' (status_in r)
+unput_cause inputs outputs old new faults faults' (Ok done) only cause = record {
+  read_fault = λ i is. absurd (let no : Done ≡ ReadFault i = is in cc);
+  missing = λ i is. absurd (let no : Done ≡ Missing i = is in cc);
+  write_fault = λ o other is. absurd (let no : Done ≡ WriteFault o = is in cc);
+  out_fault = cause;
+}
+unput_cause inputs outputs old new faults faults' (Err e) (inl fault) cause = record {
+  read_fault = λ i is. absurd (let no : WriteFault Out ≡ ReadFault i = sym fault ∙ is in cc);
+  missing = λ i is. absurd (let no : WriteFault Out ≡ Missing i = sym fault ∙ is in cc);
+  write_fault = λ o other is. absurd (other (let same : WriteFault o ≡ WriteFault Out = sym is ∙ fault in cc));
+  out_fault = cause;
+}
+unput_cause inputs outputs old new faults faults' (Err e) (inr want) cause = record {
+  read_fault = λ i is. absurd (let no : Memory ≡ ReadFault i = sym want ∙ is in cc);
+  missing = λ i is. absurd (let no : Memory ≡ Missing i = sym want ∙ is in cc);
+  write_fault = λ o other is. absurd (let no : Memory ≡ WriteFault o = sym want ∙ is in cc);
+  out_fault = cause;
+}
 
 abbrev given : Parameters → Result Parameters PropFault
 given p = Ok p

@@ -4,5 +4,6 @@ pub mod KeyNames
 pub mod LimitsLemmas
 pub mod NumberLemmas
 pub mod PagesLemmas
+pub mod RankLemmas
 pub mod ReadingsLaws
 pub mod ReadingsLemmas

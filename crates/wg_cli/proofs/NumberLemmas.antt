@@ -1,29 +1,33 @@
--- Lines of numbers, one after the other.
-use Rattle.std.proofs.Common.{◌≡◌, ℕ, ◌+◌, ◌<◌, List, [], ◌∷◌, ◌++◌, length, take, drop, get_or, refl, sym, ap, subst, ◌∙◌, append_assoc, append-nil}
+-- Lines about numbers, one after the other.
+use Rattle.std.proofs.Common.{◌≡◌, ℕ, ◌+◌, ◌<◌, List, [], ◌∷◌, ◌++◌, map, length, take, drop, get_or, refl, sym, ap, subst, ◌∙◌, append_assoc, append-nil}
 use Rattle.std.proofs.lemmas.List.{take_more, take-append-drop}
+use Rattle.wg_io.specs.Puts.{joined}
 use Rattle.wg_arcs.specs.Printing.{HasPrinted, HasPrintedLess}
 use Rattle.wg_arcs.proofs.Fronts.{printed_more, less_after, less_before}
-use Rattle.wg_cli.specs.Judged.{number_line, number_lines}
 
-number_lines-append : (xs ys : List ℕ) → number_lines (xs ++ ys) ≡ number_lines xs ++ number_lines ys
-number_lines-append [] ys = refl
-number_lines-append (x ∷ xs) ys = ap (λ (l : List ℕ). number_line x ++ l) (number_lines-append xs ys) ∙ sym (append_assoc (number_line x) (number_lines xs) (number_lines ys))
+module _ (line : ℕ → List ℕ) where
+  abbrev lines : List ℕ → List ℕ
+  lines xs = joined (map line xs)
 
-lines_more : (xs : List ℕ) (i : ℕ) → i < length xs → number_lines (take (i + 1) xs) ≡ number_lines (take i xs) ++ number_line (get_or xs i 0)
-lines_more xs i lt = ap number_lines (take_more xs i 0 lt) ∙ number_lines-append (take i xs) (get_or xs i 0 ∷ []) ∙ ap (λ (l : List ℕ). number_lines (take i xs) ++ l) (append-nil (number_line (get_or xs i 0)))
+  lines-append : (xs ys : List ℕ) → lines (xs ++ ys) ≡ lines xs ++ lines ys
+  lines-append [] ys = refl
+  lines-append (x ∷ xs) ys = ap (λ (l : List ℕ). line x ++ l) (lines-append xs ys) ∙ sym (append_assoc (line x) (lines xs) (lines ys))
 
-lines_split : (xs : List ℕ) (i : ℕ) → number_lines xs ≡ number_lines (take i xs) ++ number_lines (drop i xs)
-lines_split xs i = ap number_lines (sym (take-append-drop i xs)) ∙ number_lines-append (take i xs) (drop i xs)
+  lines_more : (xs : List ℕ) (i : ℕ) → i < length xs → lines (take (i + 1) xs) ≡ lines (take i xs) ++ line (get_or xs i 0)
+  lines_more xs i lt = ap lines (take_more xs i 0 lt) ∙ lines-append (take i xs) (get_or xs i 0 ∷ []) ∙ ap (λ (l : List ℕ). lines (take i xs) ++ l) (append-nil (line (get_or xs i 0)))
 
--- one number more is printed
-pub number_printed : (a b c waited mid waits xs : List ℕ) (i : ℕ) → i < length xs → HasPrinted a b waited (number_lines (take i xs)) mid → HasPrinted b c mid (number_line (get_or xs i 0)) waits
-    → HasPrinted a c waited (number_lines (take (i + 1) xs)) waits
-number_printed a b c waited mid waits xs i lt h g =
-    subst (λ (t : List ℕ). HasPrinted a c waited t waits) (sym (lines_more xs i lt)) (printed_more a b c waited mid waits (number_lines (take i xs)) (number_line (get_or xs i 0)) h g)
+  lines_split : (xs : List ℕ) (i : ℕ) → lines xs ≡ lines (take i xs) ++ lines (drop i xs)
+  lines_split xs i = ap lines (sym (take-append-drop i xs)) ∙ lines-append (take i xs) (drop i xs)
 
-pub number_less : (a b c waited mid xs : List ℕ) (i : ℕ) → i < length xs → HasPrinted a b waited (number_lines (take i xs)) mid → HasPrintedLess b c mid (number_line (get_or xs i 0))
-    → HasPrintedLess a c waited (number_lines xs)
-number_less a b c waited mid xs i lt h g =
-    let more : HasPrintedLess a c waited (number_lines (take (i + 1) xs)) =
-    subst (λ (t : List ℕ). HasPrintedLess a c waited t) (sym (lines_more xs i lt)) (less_after a b c waited mid (number_lines (take i xs)) (number_line (get_or xs i 0)) h g) in
-    subst (λ (t : List ℕ). HasPrintedLess a c waited t) (sym (lines_split xs (i + 1))) (less_before a c waited (number_lines (take (i + 1) xs)) (number_lines (drop (i + 1) xs)) more)
+  -- one line more is printed
+  pub line_printed : (a b c waited mid waits xs : List ℕ) (i : ℕ) → i < length xs → HasPrinted a b waited (joined (map line (take i xs))) mid → HasPrinted b c mid (line (get_or xs i 0)) waits
+      → HasPrinted a c waited (joined (map line (take (i + 1) xs))) waits
+  line_printed a b c waited mid waits xs i lt h g =
+      subst (λ (t : List ℕ). HasPrinted a c waited t waits) (sym (lines_more xs i lt)) (printed_more a b c waited mid waits (lines (take i xs)) (line (get_or xs i 0)) h g)
+
+  pub line_less : (a b c waited mid xs : List ℕ) (i : ℕ) → i < length xs → HasPrinted a b waited (joined (map line (take i xs))) mid → HasPrintedLess b c mid (line (get_or xs i 0))
+      → HasPrintedLess a c waited (joined (map line xs))
+  line_less a b c waited mid xs i lt h g =
+      let more : HasPrintedLess a c waited (lines (take (i + 1) xs)) =
+      subst (λ (t : List ℕ). HasPrintedLess a c waited t) (sym (lines_more xs i lt)) (less_after a b c waited mid (lines (take i xs)) (line (get_or xs i 0)) h g) in
+      subst (λ (t : List ℕ). HasPrintedLess a c waited t) (sym (lines_split xs (i + 1))) (less_before a c waited (lines (take (i + 1) xs)) (lines (drop (i + 1) xs)) more)

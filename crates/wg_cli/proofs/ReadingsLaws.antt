@@ -1,4 +1,4 @@
--- There is one function that reads all graph files, and one that reads all offsets files.
+-- There is one function that reads all graph files, one that reads all offsets files, and one that ranks all bounds.
 use Rattle.std.proofs.Common.{◌≡◌, ℕ, List, Option, Some, None, Result, Err, refl, sym, ◌∙◌}
 use Rattle.wg_bits.specs.Bits.{bits_of}
 use Rattle.wg_params.specs.declared.key.Key.{Key}
@@ -13,6 +13,7 @@ use Rattle.wg_offsets.specs.Words.{ReadsOffsets}
 use Rattle.wg_offsets.proofs.OneFile.{offsets_one, offsets_some}
 use Rattle.wg_properties.proofs.Limits.{none_bad}
 use Rattle.wg_cli.specs.Readings.{Readings, ReadingsAreOne}
+use Rattle.wg_order.proofs.OneRanking.{ranking_some, ranking_one}
 use Rattle.wg_cli.proofs.LimitsLemmas.{within_limits, coded}
 
 -- what the bytes stand for, where no key is bad
@@ -39,10 +40,14 @@ the_readings = record {
   graph_is = λ p limits bytes. read_right p limits bytes (first_bad p) refl;
   offsets = λ p bytes. places_where p (first_bad p) refl bytes;
   offsets_are = λ p limits bytes. places_right p limits bytes (first_bad p) refl;
+  ranking = λ low high. (ranking_some low high).0;
+  ranking_is = λ low high. (ranking_some low high).1;
 }
 
 pub readings_one : ReadingsAreOne
-readings_one r q p limits bytes = (
-  graph_one p limits (bits_of bytes) (r.graph p bytes) (q.graph p bytes) (r.graph_is p limits bytes) (q.graph_is p limits bytes),
-  offsets_one p.offsets (coded p limits) p.nodes (bits_of bytes) (r.offsets p bytes) (q.offsets p bytes) (r.offsets_are p limits bytes) (q.offsets_are p limits bytes),
-)
+readings_one r q = record {
+  graph = λ p limits bytes. graph_one p limits (bits_of bytes) (r.graph p bytes) (q.graph p bytes) (r.graph_is p limits bytes) (q.graph_is p limits bytes);
+  offsets = λ p limits bytes.
+      offsets_one p.offsets (coded p limits) p.nodes (bits_of bytes) (r.offsets p bytes) (q.offsets p bytes) (r.offsets_are p limits bytes) (q.offsets_are p limits bytes);
+  ranking = λ low high. ranking_one low high (r.ranking low high) (q.ranking low high) (r.ranking_is low high) (q.ranking_is low high);
+}

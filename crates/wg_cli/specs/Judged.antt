@@ -13,8 +13,9 @@ use Rattle.wg_graph.specs.Digraph.{Digraph}
 use Rattle.wg_arcs.specs.Text.{text_of_graph}
 use Rattle.wg_offsets.specs.Places.{last_place, record_length, pages_that_differ}
 use Rattle.wg_words.specs.declared.jobs.Job.{Job}
-use Rattle.wg_words.specs.declared.jobs.Job.TheVariants.{Check, Arcs, Offsets}
+use Rattle.wg_words.specs.declared.jobs.Job.TheVariants.{Check, Arcs, Offsets, Rank}
 use Rattle.wg_cli.specs.Readings.{Readings}
+use Rattle.wg_cli.specs.Ranked.{ranking_text}
 use Rattle.wg_cli.specs.declared.status.Input.{Input}
 use Rattle.wg_cli.specs.declared.status.Input.TheVariants as input
 use Rattle.wg_cli.specs.declared.status.Status.{Status}
@@ -105,3 +106,5 @@ judged r (Arcs base) held =
     with_records held (λ p bytes. with_digraph r p bytes (λ g. accepted (text_of_graph g)))
 judged r (Offsets base) held =
     with_records held (λ p bytes. with_places r p bytes (λ places. accepted (number_lines places)))
+judged r (Rank base rounds damping top) held =
+    with_records held (λ p bytes. with_digraph r p bytes (λ g. accepted (ranking_text r g rounds damping top)))

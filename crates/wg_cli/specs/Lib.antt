@@ -1,5 +1,6 @@
 pub mod Codes
 pub mod Readings
+pub mod Ranked
 pub mod Judged
 pub mod Answers
 pub mod Causes

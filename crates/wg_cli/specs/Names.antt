@@ -5,7 +5,7 @@ use Rattle.wg_io.specs.Outside.{Files}
 use Rattle.wg_io.specs.declared.output.Output.{Output}
 use Rattle.wg_io.specs.declared.output.Output.TheVariants as output
 use Rattle.wg_words.specs.declared.jobs.Job.{Job}
-use Rattle.wg_words.specs.declared.jobs.Job.TheVariants.{Check, Arcs, Offsets}
+use Rattle.wg_words.specs.declared.jobs.Job.TheVariants.{Check, Arcs, Offsets, Rank}
 use Rattle.wg_cli.specs.Texts.{file_of_fault}
 use Rattle.wg_cli.specs.declared.status.Input.{Input}
 use Rattle.wg_cli.specs.declared.status.Input.TheVariants as input
@@ -28,6 +28,7 @@ abbrev pub base_of : Job → List ℕ
 base_of (Check base) = base
 base_of (Arcs base) = base
 base_of (Offsets base) = base
+base_of (Rank base rounds damping top) = base
 
 -- the name of a job's input
 abbrev pub input_name : Job → Input → Option (List ℕ)
@@ -46,6 +47,7 @@ abbrev pub reads_offsets : Job → Bool
 reads_offsets (Check base) = true
 reads_offsets (Arcs base) = false
 reads_offsets (Offsets base) = false
+reads_offsets (Rank base rounds damping top) = false
 
 -- the inputs that a job reads
 abbrev pub has_input : Job → Input → Bool

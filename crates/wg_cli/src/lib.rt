@@ -24,6 +24,8 @@ mod offsets;
 mod perform;
 mod print;
 mod program;
+mod rank;
+mod ranked;
 mod records;
 mod report;
 mod status;

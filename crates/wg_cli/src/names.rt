@@ -21,6 +21,7 @@ pub fn base(job: &Job) -> &Name
     ensures { result.now ≡ base_of job.now }
 {
     match job {
-        Job::Check { base } | Job::Arcs { base } | Job::Offsets { base } => base,
+        Job::Check { base } | Job::Arcs { base } | Job::Offsets { base } | Job::Rank { base, .. } =>
+            base,
     }
 }

@@ -1,6 +1,7 @@
 ghost use Rattle.std.specs.Prelude.{◌≡◌, ℕ, IsTrue};
 ghost use Rattle.wg_io.specs.Outside.{NoneFalls};
 ghost use Rattle.wg_io.specs.declared.output.Output.TheVariants.{Out};
+ghost use Rattle.wg_words.specs.Jobs.{IsWithin};
 ghost use Rattle.wg_cli.specs.Answers.{Answers, HasOutput, Reaches, status_in};
 ghost use Rattle.wg_cli.specs.Causes.{HasCause};
 ghost use Rattle.wg_cli.specs.Judged.{judged, output_of, status_of};
@@ -14,6 +15,7 @@ use crate::arcs::arcs;
 use crate::check::check;
 use crate::ending::Ending;
 use crate::offsets::offsets;
+use crate::rank::{Asked, rank};
 use std::alloc::Global;
 use wg_io::{Depot, Sink};
 use wg_words::Job;
@@ -31,6 +33,7 @@ fn ending_of(done: Result<(), Ending>) -> Ending
 
 /// Does the job, and says how it ended.
 pub fn perform<D: Depot, O: Sink>(alloc: Global, job: &Job, depot: &mut D, out: &mut O) -> Ending
+    requires { IsWithin job.now }
     ensures answers { IsTrue D.told → (r : Readings) → Answers (judged r job.now (held_by (input_name job.now) (D.files depot.old))) result.status }
     ensures causes { HasCause (input_name job.now) (output_name job.now) (D.counts depot.old) (D.counts depot.new) (O.faults out.old) (O.faults out.new) result.status }
     ensures possible { IsTrue (can_end job.now result.status) }
@@ -45,5 +48,18 @@ pub fn perform<D: Depot, O: Sink>(alloc: Global, job: &Job, depot: &mut D, out: 
         Job::Check { base } => ending_of(check(alloc, base, depot, out)),
         Job::Arcs { base } => ending_of(arcs(alloc, base, depot, out)),
         Job::Offsets { base } => ending_of(offsets(alloc, base, depot, out)),
+        Job::Rank {
+            base,
+            rounds,
+            damping,
+            top,
+        } => {
+            let asked = Asked {
+                rounds: *rounds,
+                damping: *damping,
+                top: *top,
+            };
+            ending_of(rank(alloc, base, asked, depot, out))
+        }
     }
 }

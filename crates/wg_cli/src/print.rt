@@ -1,19 +1,23 @@
 //! What goes to the output.
-ghost use Rattle.std.specs.Prelude.{◌≡◌, ◌≤◌, IsTrue, IsErrOf, IfErr, Err};
+ghost use Rattle.std.specs.Prelude.{◌≡◌, ◌≤◌, ◌<◌, true, length, take, IsTrue, IsErrOf, IfErr, Err};
 ghost use Rattle.wg_io.specs.Outside.{Rose};
 ghost use Rattle.wg_io.specs.Puts.{Puts};
 ghost use Rattle.wg_cli.specs.Answers.{IsUnput, status_in};
 ghost use Rattle.wg_arcs.specs.Printing.{Prints};
 ghost use Rattle.wg_arcs.specs.Text.{text_of_graph};
+ghost use Rattle.wg_arcs.specs.declared.lines.TheConstants.{MOST_PIECE};
+ghost use Rattle.wg_cli.specs.Ranked.{rank_line, rank_lines};
 ghost use Rattle.wg_cli.specs.Judged.{number_line, number_lines, ok_line};
 ghost use Rattle.wg_io.specs.declared.output.Output.TheVariants.{Out};
 
 use crate::Status;
 use crate::ending::Ending;
+use crate::ranked::Ranked;
 use crate::text::Text;
 use wg_arcs::Lines;
 use wg_graph::Graph;
 use wg_io::{Output, Sink, WriteError, write_all};
+use wg_num::units_text;
 use wg_offsets::Offsets;
 use wg_params::Params;
 
@@ -111,4 +115,63 @@ fn write_line<S: Sink>(lines: &mut Lines, sink: &mut S, number: u64) -> Result<(
 {
     lines.number(sink, number)?;
     lines.byte(sink, b'\n')
+}
+
+// The line of a page of the ranking.
+fn rank_line(ranked: &Ranked, page: u64) -> Text
+    requires page { page < length ranked.now.ranking.low }
+    requires filled { ranked.now.ranking.filled ≡ true }
+    requires low { ranked.now.ranking.low ≡ ranked.now.bounds.low }
+    requires high { ranked.now.ranking.high ≡ ranked.now.bounds.high }
+    ensures text { result ≡ rank_line ranked.now.ranking page }
+    ensures short { length result ≤ MOST_PIECE }
+{
+    Text::new()
+        .with_number(page)
+        .with(" ")
+        .with_bytes(units_text(ranked.bounds.low(page)).as_slice())
+        .with(" ")
+        .with_bytes(units_text(ranked.bounds.high(page)).as_slice())
+        .with(" ")
+        .with_number(ranked.ranking.best(page))
+        .with(" ")
+        .with_number(ranked.ranking.worst(page))
+        .with("\n")
+}
+
+// Writes the lines of the first pages of the ranking through a fixed buffer.
+fn write_ranking<S: Sink>(sink: &mut S, ranked: &Ranked, count: u64) -> Result<(), WriteError>
+    requires count { count ≤ length ranked.now.ranking.low }
+    requires filled { ranked.now.ranking.filled ≡ true }
+    requires low { ranked.now.ranking.low ≡ ranked.now.bounds.low }
+    requires high { ranked.now.ranking.high ≡ ranked.now.bounds.high }
+    requires pages { length ranked.now.ranking.pages ≡ length ranked.now.ranking.low }
+    ensures puts { IsTrue S.told → Puts (rank_lines ranked.now.ranking (take count ranked.now.ranking.pages)) (S.taken sink.old) (S.taken sink.new) result }
+    ensures failed { IsErrOf result WriteError.Failed → Rose (S.faults sink.old) (S.faults sink.new) }
+    ensures later { S.faults sink.old ≤ S.faults sink.new }
+{
+    let mut lines = Lines::new();
+    for place in 0..count {
+        let line = rank_line(ranked, ranked.ranking.page(place));
+        lines.text(sink, line.as_bytes())?;
+    }
+    lines.flush(sink)
+}
+
+/// Prints the lines of the first pages of the ranking.
+pub fn print_ranking<O: Sink>(out: &mut O, ranked: &Ranked, count: u64) -> Result<(), Ending>
+    requires count { count ≤ length ranked.now.ranking.low }
+    requires filled { ranked.now.ranking.filled ≡ true }
+    requires low { ranked.now.ranking.low ≡ ranked.now.bounds.low }
+    requires high { ranked.now.ranking.high ≡ ranked.now.bounds.high }
+    requires pages { length ranked.now.ranking.pages ≡ length ranked.now.ranking.low }
+    ensures puts { IsTrue O.told → Puts (rank_lines ranked.now.ranking (take count ranked.now.ranking.pages)) (O.taken out.old) (O.taken out.new) result }
+    ensures cause { status_in result ≡ Status.WriteFault Out → Rose (O.faults out.old) (O.faults out.new) }
+    ensures only { IfErr result (λ e. IsUnput e.status) }
+    ensures later { O.faults out.old ≤ O.faults out.new }
+{
+    match write_ranking(out, ranked, count) {
+        Ok(()) => Ok(()),
+        Err(error) => Err(unput(error)),
+    }
 }

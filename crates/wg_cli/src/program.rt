@@ -1,13 +1,16 @@
-ghost use Rattle.std.specs.Prelude.{◌≡◌, ◌⊎◌, ℕ, Some, None, IsTrue, IfOk};
+ghost use Rattle.std.specs.Prelude.{◌≡◌, ◌≤◌, ◌⊎◌, ℕ, List, Some, None, IsTrue, IfOk, IfSome};
 ghost use Rattle.wg_io.specs.Outside.{Rose};
 ghost use Rattle.wg_io.specs.declared.output.Output.TheVariants.{Out};
-ghost use Rattle.wg_words.specs.Jobs.{job_of};
+ghost use Rattle.wg_params.specs.declared.limits.TheConstants.{MOST_PAGES};
+ghost use Rattle.wg_graph.specs.Digraph.{Digraph, IsGraph};
+ghost use Rattle.wg_words.specs.Jobs.{job_of, IsWithin};
 ghost use Rattle.wg_words.specs.declared.jobs.Job.{Job};
 ghost use Rattle.wg_cli.specs.Answers.{Answers, HasOutput, Reaches};
 ghost use Rattle.wg_cli.specs.Causes.{HasCause, Reports};
 ghost use Rattle.wg_cli.specs.Judged.{judged, output_of, status_of};
 ghost use Rattle.wg_cli.specs.Lines.{line_of, ArePromised, ArePromisedBy};
 ghost use Rattle.wg_cli.specs.Names.{can_end, held_by, input_name, output_name};
+ghost use Rattle.wg_cli.specs.Ranked.{IsProvenRanking};
 ghost use Rattle.wg_cli.specs.Readings.{Readings};
 ghost use Rattle.wg_cli.specs.declared.status.Input.{Input};
 
@@ -41,6 +44,9 @@ pub fn run<D: Depot, O: Sink, E: Sink>(
     ensures reached { IsTrue D.told → (r : Readings) (job : Job) → job_of words.now ≡ Some job → (i : Input) → result ≡ Status.ReadFault i → Reaches r job (held_by (input_name job) (D.files depot.old)) i }
     ensures needed { IsTrue D.told → (r : Readings) (job : Job) → job_of words.now ≡ Some job → result ≡ Status.WriteFault Out → status_of (judged r job (held_by (input_name job) (D.files depot.old))) ≡ Status.Done }
 
+    // What is printed of a ranking: intervals that enclose each exact iterate from the last round on, within the stated width.
+    ensures certified { (r : Readings) (base : List ℕ) (rounds damping top : ℕ) → job_of words.now ≡ Some (Job.Rank base rounds damping top) → result ≡ Status.Done → (g : Digraph) → IsGraph g → g.nodes ≤ MOST_PAGES → IsProvenRanking r rounds damping g }
+
     // What stands on the output, in the files and on the error output.
     ensures output { IsTrue D.told → IsTrue O.told → (r : Readings) (job : Job) → job_of words.now ≡ Some job → HasOutput (output_of (judged r job (held_by (input_name job) (D.files depot.old)))) (O.taken out.old) (O.taken out.new) result }
     ensures same { D.files depot.new ≡ D.files depot.old }
@@ -57,7 +63,8 @@ pub fn run<D: Depot, O: Sink, E: Sink>(
 
 // The job, if the words ask for one.
 fn asked(alloc: Global, words: &Words) -> Result<Option<Job>, AllocError>
-    ensures { IfOk result (λ o. o ≡ job_of words.now) }
+    ensures job { IfOk result (λ o. o ≡ job_of words.now) }
+    ensures within { IfOk result (λ o. IfSome o IsWithin) }
 {
     match job(alloc, words) {
         Ok(job) => Ok(Some(job)),
@@ -68,6 +75,7 @@ fn asked(alloc: Global, words: &Words) -> Result<Option<Job>, AllocError>
 
 // Does the job, if there is one.
 fn done<D: Depot, O: Sink>(alloc: Global, asked: &Option<Job>, depot: &mut D, out: &mut O) -> Ending
+    requires { IfSome asked.now IsWithin }
     ensures usage { result.status ≡ Status.Usage → asked.now ≡ None }
     ensures no_job { asked.now ≡ None → result.status ≡ Status.Usage }
     ensures no_output { asked.now ≡ None → O.taken out.new ≡ O.taken out.old }

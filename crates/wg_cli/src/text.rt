@@ -40,6 +40,16 @@ impl Text {
         self
     }
 
+    /// The text with some bytes more.
+    pub fn with_bytes(mut self, piece: &[u8]) -> Text
+        requires { length self + length piece.now ≤ MOST_TEXT }
+        ensures text { result ≡ self ++ piece.now }
+        ensures length { length result ≡ length self + length piece.now }
+    {
+        let _ = self.bytes.try_extend_from_slice(piece);
+        self
+    }
+
     /// The text with a number more.
     pub fn with_number(mut self, value: u64) -> Text
         requires { length self + 20 ≤ MOST_TEXT }

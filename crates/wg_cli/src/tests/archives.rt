@@ -1,5 +1,7 @@
 //! What `check` says of archives.
-use super::tables::{ACCEPTED, BAD_GRAPHS, BAD_OFFSETS, Case, LONGER, PRINTED, Shape};
+use super::tables::{
+    ACCEPTED, BAD_GRAPHS, BAD_OFFSETS, Case, LONGER, PRINTED, RANKINGS, Shape, USUAL,
+};
 use super::*;
 
 fn properties(alloc: Global, nodes: u64, arcs: u64, shape: &Shape) -> Result<String, Fail> {
@@ -119,6 +121,18 @@ fn printed_graphs(rt: HostRuntime) -> Result<(), Fail> {
         assert!(rt;
             prints(rt.alloc(), "offsets g", properties.as_str(), graph, places)?,
             "{places}"
+        );
+    }
+    Ok(())
+}
+
+#[test]
+fn printed_rankings(rt: HostRuntime) -> Result<(), Fail> {
+    for (nodes, arcs, graph, line, text) in &RANKINGS {
+        let properties = properties(rt.alloc(), *nodes, *arcs, &USUAL)?;
+        assert!(rt;
+            prints(rt.alloc(), line, properties.as_str(), graph, text)?,
+            "{line}"
         );
     }
     Ok(())

@@ -65,6 +65,10 @@ fn each_write_fails_once(rt: HostRuntime) -> Result<(), Fail> {
         let (wanted, sent) = if k < 12 { (5, k - 1) } else { (0, 11) };
         assert!(rt; code == wanted && count as u64 == sent, "{k}");
     }
+    for k in 1..4_u64 {
+        let (code, count) = cut_at(rt.alloc(), "rank g --rounds 1", k)?;
+        assert!(rt; code == 5 && count as u64 == k - 1, "{k}");
+    }
     Ok(())
 }
 

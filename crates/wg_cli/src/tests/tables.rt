@@ -54,7 +54,7 @@ const UNCHAINED: Shape = Shape {
     flags: "",
 };
 
-const USUAL: Shape = Shape {
+pub const USUAL: Shape = Shape {
     window: 7,
     chain: "3",
     interval: 4,
@@ -473,8 +473,66 @@ pub const PRINTED: [Printed; 6] = [
     ),
 ];
 
+/// What a line prints of the ranking of a graph.
+pub type Ranking = (u64, u64, &'static [u8], &'static str, &'static str);
+
+/// Rankings, worked by hand: of one page, of two with the arc 0 1, of three, and of none.
+pub const RANKINGS: [Ranking; 9] = [
+    (
+        2,
+        1,
+        b"\x5d\xc0",
+        "rank g --rounds 1",
+        "1 0.075000000000000000000000 0.925000000000000000000000 1 2\n0 0.075000000000000000000000 0.500000000000000000000000 1 2\n",
+    ),
+    (
+        2,
+        1,
+        b"\x5d\xc0",
+        "rank g --rounds 1 --top 1",
+        "1 0.075000000000000000000000 0.925000000000000000000000 1 2\n",
+    ),
+    (
+        2,
+        1,
+        b"\x5d\xc0",
+        "rank g --rounds 0 --damping 0",
+        "0 0.000000000000000000000000 1.000000000000000000000000 1 2\n1 0.000000000000000000000000 1.000000000000000000000000 1 2\n",
+    ),
+    (
+        2,
+        1,
+        b"\x5d\xc0",
+        "rank g --rounds 1 --damping 0",
+        "0 0.500000000000000000000000 0.500000000000000000000000 1 2\n1 0.500000000000000000000000 0.500000000000000000000000 1 2\n",
+    ),
+    (
+        2,
+        1,
+        b"\x5d\xc0",
+        "rank --damping 500 --rounds 2 g",
+        "1 0.437500000000000000000000 0.687500000000000000000000 1 2\n0 0.312500000000000000000000 0.437500000000000000000000 1 2\n",
+    ),
+    (
+        2,
+        1,
+        b"\x5d\xc0",
+        "rank --damping 500 --rounds 3 g",
+        "1 0.515625000000000000000000 0.640625000000000000000000 1 1\n0 0.359375000000000000000000 0.421875000000000000000000 2 2\n",
+    ),
+    (
+        1,
+        0,
+        b"\x80",
+        "rank g --rounds 1",
+        "0 0.150000000000000000000000 1.000000000000000000000000 1 1\n",
+    ),
+    (0, 0, b"", "rank g", ""),
+    (2, 1, b"\x5d\xc0", "rank g --top 0", ""),
+];
+
 /// Lines of words, and whether they are a job.
-pub const LINES: [(&str, bool); 30] = [
+pub const LINES: [(&str, bool); 34] = [
     ("check g", true),
     ("arcs g", true),
     ("offsets g", true),
@@ -487,6 +545,13 @@ pub const LINES: [(&str, bool); 30] = [
     ("arcs -- --help", true),
     ("check g.graph", true),
     ("check check", true),
+    ("rank g", true),
+    (
+        "rank g --rounds 10000 --damping 999 --top 68719476735",
+        true,
+    ),
+    ("rank g --damping 1000", false),
+    ("rank g --rounds 1 --rounds 2", false),
     ("", false),
     ("check", false),
     ("arcs", false),

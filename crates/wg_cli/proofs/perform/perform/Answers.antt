@@ -37,3 +37,15 @@ returns-in-Offsets-clause-needed g c = λ t r is. done_at r _ _ _ c.in-Offsets.i
 
 pub returns-in-Offsets-clause-output : goal.returns-in-Offsets-clause-output
 returns-in-Offsets-clause-output g c = λ t o r. output_at r _ _ _ c.in-Offsets.is _ _ _ _ c.ending_of-in-Offsets.ensures.status (c.offsets.ensures.output t o r)
+
+pub returns-in-Rank-clause-answers : goal.returns-in-Rank-clause-answers
+returns-in-Rank-clause-answers g c = λ t r. answers_at r _ _ _ c.in-Rank.is _ _ c.ending_of-in-Rank.ensures.status (c.rank.ensures.answers t r)
+
+pub returns-in-Rank-clause-reached : goal.returns-in-Rank-clause-reached
+returns-in-Rank-clause-reached g c = λ t r i is. reaches_at r _ _ _ c.in-Rank.is i (c.rank.ensures.reached t r i (sym c.ending_of-in-Rank.ensures.status ∙ is))
+
+pub returns-in-Rank-clause-needed : goal.returns-in-Rank-clause-needed
+returns-in-Rank-clause-needed g c = λ t r is. done_at r _ _ _ c.in-Rank.is (c.rank.ensures.needed t r (sym c.ending_of-in-Rank.ensures.status ∙ is))
+
+pub returns-in-Rank-clause-output : goal.returns-in-Rank-clause-output
+returns-in-Rank-clause-output g c = λ t o r. output_at r _ _ _ c.in-Rank.is _ _ _ _ c.ending_of-in-Rank.ensures.status (c.rank.ensures.output t o r)

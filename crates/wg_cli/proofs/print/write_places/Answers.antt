@@ -5,7 +5,7 @@ use Rattle.wg_io.specs.declared.depot.WriteError.{WriteError}
 use Rattle.wg_arcs.specs.Printing.{HasPrinted, HasPrintedLess}
 use Rattle.wg_arcs.proofs.Fronts.{puts_of_less, puts_in_the_end}
 use Rattle.wg_cli.specs.Judged.{number_line, number_lines}
-use Rattle.wg_cli.proofs.NumberLemmas.{number_printed, number_less}
+use Rattle.wg_cli.proofs.NumberLemmas.{line_printed, line_less}
 use Rattle.wg_cli.proofs.print.write_places.Goals as goal
 
 pub loop-x-preserved : goal.loop-x-preserved
@@ -13,7 +13,7 @@ loop-x-preserved g c =
     let n = c.len-x-end.ensures.value in
     record {
       printed = λ t.
-          number_printed (g.S.Sink.taken c.args.sink.now) (g.S.Sink.taken c.loop-x.sink) (g.S.Sink.taken c.write_line.new.sink) [] c.loop-x.lines c.write_line.new.lines c.args.places.now c.loop-x.x (omega arith) (c.loop-x.invariant.printed t)
+          line_printed number_line (g.S.Sink.taken c.args.sink.now) (g.S.Sink.taken c.loop-x.sink) (g.S.Sink.taken c.write_line.new.sink) [] c.loop-x.lines c.write_line.new.lines c.args.places.now c.loop-x.x (omega arith) (c.loop-x.invariant.printed t)
           (subst (λ (p : ℕ). HasPrinted (g.S.Sink.taken c.loop-x.sink) (g.S.Sink.taken c.write_line.new.sink) c.loop-x.lines (number_line p) c.write_line.new.lines) c.place.ensures.value (c.in_ok-write_line.ensures.prints t));
       faults = omega (arith, c.in_ok-write_line.ensures.later);
     }
@@ -23,7 +23,7 @@ returns-in_err-write_line-clause-puts g c t =
     let n = c.len-x-end.ensures.value in
     rw (is_that_err c.from_residual.result _ c.from_residual.ensures.1)
     (puts_of_less {E = WriteError} (g.S.Sink.taken c.args.sink.now) (g.S.Sink.taken c.write_line.new.sink) (number_lines c.args.places.now) c.in_err-write_line.field-0.0
-    (number_less (g.S.Sink.taken c.args.sink.now) (g.S.Sink.taken c.loop-x.sink) (g.S.Sink.taken c.write_line.new.sink) [] c.loop-x.lines c.args.places.now c.loop-x.x (omega arith) (c.loop-x.invariant.printed t)
+    (line_less number_line (g.S.Sink.taken c.args.sink.now) (g.S.Sink.taken c.loop-x.sink) (g.S.Sink.taken c.write_line.new.sink) [] c.loop-x.lines c.args.places.now c.loop-x.x (omega arith) (c.loop-x.invariant.printed t)
     (subst (λ (p : ℕ). HasPrintedLess (g.S.Sink.taken c.loop-x.sink) (g.S.Sink.taken c.write_line.new.sink) c.loop-x.lines (number_line p)) c.place.ensures.value (c.in_err-write_line.ensures.prints t))))
 
 pub returns-clause-puts : goal.returns-clause-puts

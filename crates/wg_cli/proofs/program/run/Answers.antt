@@ -1,10 +1,17 @@
 use Rattle.std.proofs.Common.{◌∙◌}
 use Rattle.wg_words.specs.Jobs.{job_of}
 use Rattle.wg_cli.proofs.ExitLemmas.{nothing_promised}
+use Rattle.wg_words.proofs.RankLemmas.{rank_within}
+use Rattle.wg_cli.proofs.RankLemmas.{proven}
 use Rattle.wg_cli.proofs.program.run.Goals as goal
 
 pub returns-in_default-clause-line : goal.returns-in_default-clause-line
 returns-in_default-clause-line g c = λ e. (0, λ t. nothing_promised (job_of c.args.words.now) (g.D.Depot.files c.args.depot.now) 0, c.report.ensures e)
 
 pub returns-clause-output : goal.returns-clause-output
-returns-clause-output g c = λ t o r job is. c.done-ending.ensures.output t o r job (c.in-Ok.ensures ∙ is)
+returns-clause-output g c = λ t o r job is. c.done-ending.ensures.output t o r job (c.in-Ok.ensures.job ∙ is)
+
+pub returns-clause-certified : goal.returns-clause-certified
+returns-clause-certified g c = λ r base rounds damping top is done graph ok small.
+    let within = rank_within c.args.words.now base rounds damping top is in
+    proven r rounds damping within.0 within.1 graph ok small
