@@ -5,7 +5,9 @@ use wg_io::{Depot, MemoryDepot, MemorySink, Sink, SteadyDepot, SteadySink, ZeroD
 use wg_words::Words;
 
 mod archives;
+mod bad_graphs;
 mod outside;
+mod printed;
 mod tables;
 
 // The words of a line, parted by blanks; an empty line has none.

@@ -1,7 +1,7 @@
 //! What `check` says of archives.
-use super::tables::{
-    ACCEPTED, BAD_GRAPHS, BAD_OFFSETS, Case, LONGER, PRINTED, RANKINGS, Shape, USUAL,
-};
+use super::bad_graphs::BAD_GRAPHS;
+use super::printed::{PRINTED, RANKINGS};
+use super::tables::{ACCEPTED, BAD_OFFSETS, Case, LONGER, Shape, USUAL};
 use super::*;
 
 fn properties(alloc: Global, nodes: u64, arcs: u64, shape: &Shape) -> Result<String, Fail> {

@@ -1,7 +1,7 @@
 //! What the words and the outside lead to.
 ghost use Rattle.std.specs.Prelude.{◌≤◌, ◌<◌, ◌^◌, ◌-◌};
 
-use super::tables::LINES;
+use super::printed::LINES;
 use super::*;
 
 const PROPERTIES: &[u8] =

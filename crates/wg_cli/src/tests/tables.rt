@@ -12,7 +12,7 @@ pub struct Shape {
 /// An archive: its pages, its arcs, its other parameters, the bytes of its graph and of its offsets, and what is said.
 pub type Case = (u64, u64, Shape, &'static [u8], &'static [u8], &'static str);
 
-const PLAIN: Shape = Shape {
+pub const PLAIN: Shape = Shape {
     window: 0,
     chain: "3",
     interval: 0,
@@ -26,7 +26,7 @@ const ZETA: Shape = Shape {
     flags: "",
 };
 
-const NIBBLE: Shape = Shape {
+pub const NIBBLE: Shape = Shape {
     window: 0,
     chain: "3",
     interval: 0,
@@ -40,14 +40,14 @@ const DELTA: Shape = Shape {
     flags: "OUTDEGREES_DELTA | RESIDUALS_DELTA",
 };
 
-const REFERRING: Shape = Shape {
+pub const REFERRING: Shape = Shape {
     window: 7,
     chain: "3",
     interval: 0,
     flags: "",
 };
 
-const UNCHAINED: Shape = Shape {
+pub const UNCHAINED: Shape = Shape {
     window: 7,
     chain: "0",
     interval: 0,
@@ -61,14 +61,14 @@ pub const USUAL: Shape = Shape {
     flags: "",
 };
 
-const SHORT_INTERVALS: Shape = Shape {
+pub const SHORT_INTERVALS: Shape = Shape {
     window: 7,
     chain: "3",
     interval: 2,
     flags: "",
 };
 
-const USUAL_UNCHAINED: Shape = Shape {
+pub const USUAL_UNCHAINED: Shape = Shape {
     window: 7,
     chain: "0",
     interval: 4,
@@ -248,151 +248,6 @@ pub const LONGER: [Case; 6] = [
     ),
 ];
 
-/// Archives whose graph is refused.
-pub const BAD_GRAPHS: [Case; 29] = [
-    (2, 1, PLAIN, b"\x4f", b"", "tail bit 7"),
-    (1, 1, PLAIN, b"\x40", b"", "page 0 bit 3 residual cut"),
-    (2, 1, PLAIN, b"\x45", b"", "page 0 bit 3 residual range"),
-    (2, 0, PLAIN, b"\x4e", b"", "page 0 bit 0 outdegree total"),
-    (2, 2, PLAIN, b"\x4e", b"", "arcs 1 of 2"),
-    (1, 0, PLAIN, b"\0", b"", "page 0 bit 0 outdegree cut"),
-    (
-        1,
-        0,
-        PLAIN,
-        b"\0\0\0\0\0\0\0\0\xff",
-        b"",
-        "page 0 bit 0 outdegree noword",
-    ),
-    (
-        2,
-        1,
-        NIBBLE,
-        b"\x40\x80",
-        b"",
-        "page 0 bit 3 residual noword",
-    ),
-    (
-        3,
-        4,
-        UNCHAINED,
-        b"\x7b\x8d\xc0",
-        b"",
-        "page 1 bit 14 reference chain",
-    ),
-    (
-        3,
-        4,
-        REFERRING,
-        b"\x7b\x8d\x44",
-        b"",
-        "page 1 bit 19 block range",
-    ),
-    (
-        3,
-        5,
-        REFERRING,
-        b"\x7b\x84\x72",
-        b"",
-        "page 1 bit 11 record twice",
-    ),
-    (1, 0, USUAL, b"\0", b"", "page 0 bit 0 outdegree cut"),
-    (1, 1, USUAL, b"\x40", b"", "page 0 bit 3 reference cut"),
-    (
-        3,
-        4,
-        USUAL,
-        b"\x7d\xc6\xa2\x40",
-        b"",
-        "page 1 bit 20 block range",
-    ),
-    (
-        3,
-        5,
-        USUAL,
-        b"\x7d\xc2\x3c\x80",
-        b"",
-        "page 1 bit 12 record twice",
-    ),
-    (2, 1, USUAL, b"\x5d\xc1", b"", "tail bit 15"),
-    (
-        2,
-        1,
-        USUAL,
-        b"\x5d\xc0\0\0\0\0\0\0\0\0\0\0\0\0\0\0\0\0",
-        b"",
-        "tail bit 137",
-    ),
-    (2, 2, USUAL, b"\x5d\xc0", b"", "arcs 1 of 2"),
-    (
-        3,
-        3,
-        USUAL,
-        b"\x7d\xc6\xe0",
-        b"",
-        "page 1 bit 12 outdegree total",
-    ),
-    (
-        4,
-        6,
-        USUAL_UNCHAINED,
-        b"\xbe\xa9\xb6\x60",
-        b"",
-        "page 2 bit 17 reference chain",
-    ),
-    (
-        3,
-        3,
-        USUAL,
-        b"\x7d\xc4\xe0",
-        b"",
-        "page 1 bit 18 copied copied",
-    ),
-    (
-        1,
-        0,
-        USUAL,
-        b"\0\0\0\0\0\0\0\x02\0\0\0\0\0\0\0\0",
-        b"",
-        "page 0 bit 0 outdegree range",
-    ),
-    (1, 1, USUAL, b"\x48", b"", "page 0 bit 3 reference range"),
-    (
-        3,
-        4,
-        USUAL,
-        b"\x7d\xc6\x94",
-        b"",
-        "page 1 bit 17 blockcount range",
-    ),
-    (
-        5,
-        4,
-        USUAL,
-        b"\x2d\x80",
-        b"",
-        "page 0 bit 6 intervalcount range",
-    ),
-    (5, 4, USUAL, b"\x2d\x20", b"", "page 0 bit 9 left range"),
-    (5, 4, USUAL, b"\x2d\x16", b"", "page 0 bit 14 length range"),
-    (
-        2_147_483_648,
-        0,
-        USUAL,
-        b"",
-        b"",
-        "page 0 bit 0 outdegree cut",
-    ),
-    (
-        68_719_476_735,
-        0,
-        USUAL,
-        b"",
-        b"",
-        "page 0 bit 0 outdegree cut",
-    ),
-];
-
 /// Archives whose graph is accepted and whose offsets are refused.
 pub const BAD_OFFSETS: [Case; 8] = [
     (1, 0, USUAL, b"\x80", b"\x50", "first word"),
@@ -438,136 +293,4 @@ pub const BAD_OFFSETS: [Case; 8] = [
         b"\x8d\x3a",
         "word 1 cut",
     ),
-];
-
-/// What `arcs g` and `offsets g` print of a graph.
-pub type Printed = (u64, u64, Shape, &'static [u8], &'static str, &'static str);
-
-pub const PRINTED: [Printed; 6] = [
-    (2, 1, USUAL, b"\x5d\xc0", "0 1\n", "0\n9\n10\n"),
-    (
-        3,
-        4,
-        USUAL,
-        b"\x7d\xc6\xe0",
-        "0 1\n0 2\n1 1\n1 2\n",
-        "0\n12\n18\n19\n",
-    ),
-    (
-        6,
-        4,
-        SHORT_INTERVALS,
-        b"\x2d\xbf\xf0",
-        "0 1\n0 2\n0 4\n0 5\n",
-        "0\n15\n16\n17\n18\n19\n20\n",
-    ),
-    (1, 1, USUAL, b"\x5c", "0 0\n", "0\n8\n"),
-    (0, 0, USUAL, b"", "", "0\n"),
-    (
-        8,
-        7,
-        USUAL,
-        b"\x2f\x75\x54\x45\xaf\xe0",
-        "0 1\n0 3\n0 5\n0 7\n1 1\n1 5\n1 7\n",
-        "0\n23\n37\n38\n39\n40\n41\n42\n43\n",
-    ),
-];
-
-/// What a line prints of the ranking of a graph.
-pub type Ranking = (u64, u64, &'static [u8], &'static str, &'static str);
-
-/// Rankings, worked by hand: of one page, of two with the arc 0 1, of three, and of none.
-pub const RANKINGS: [Ranking; 9] = [
-    (
-        2,
-        1,
-        b"\x5d\xc0",
-        "rank g --rounds 1",
-        "1 0.075000000000000000000000 0.925000000000000000000000 1 2\n0 0.075000000000000000000000 0.500000000000000000000000 1 2\n",
-    ),
-    (
-        2,
-        1,
-        b"\x5d\xc0",
-        "rank g --rounds 1 --top 1",
-        "1 0.075000000000000000000000 0.925000000000000000000000 1 2\n",
-    ),
-    (
-        2,
-        1,
-        b"\x5d\xc0",
-        "rank g --rounds 0 --damping 0",
-        "0 0.000000000000000000000000 1.000000000000000000000000 1 2\n1 0.000000000000000000000000 1.000000000000000000000000 1 2\n",
-    ),
-    (
-        2,
-        1,
-        b"\x5d\xc0",
-        "rank g --rounds 1 --damping 0",
-        "0 0.500000000000000000000000 0.500000000000000000000000 1 2\n1 0.500000000000000000000000 0.500000000000000000000000 1 2\n",
-    ),
-    (
-        2,
-        1,
-        b"\x5d\xc0",
-        "rank --damping 500 --rounds 2 g",
-        "1 0.437500000000000000000000 0.687500000000000000000000 1 2\n0 0.312500000000000000000000 0.437500000000000000000000 1 2\n",
-    ),
-    (
-        2,
-        1,
-        b"\x5d\xc0",
-        "rank --damping 500 --rounds 3 g",
-        "1 0.515625000000000000000000 0.640625000000000000000000 1 1\n0 0.359375000000000000000000 0.421875000000000000000000 2 2\n",
-    ),
-    (
-        1,
-        0,
-        b"\x80",
-        "rank g --rounds 1",
-        "0 0.150000000000000000000000 1.000000000000000000000000 1 1\n",
-    ),
-    (0, 0, b"", "rank g", ""),
-    (2, 1, b"\x5d\xc0", "rank g --top 0", ""),
-];
-
-/// Lines of words, and whether they are a job.
-pub const LINES: [(&str, bool); 34] = [
-    ("check g", true),
-    ("arcs g", true),
-    ("offsets g", true),
-    ("check data/a.b", true),
-    ("arcs ./g", true),
-    ("offsets /tmp/g", true),
-    ("check -", true),
-    ("arcs -- g", true),
-    ("offsets -- -g", true),
-    ("arcs -- --help", true),
-    ("check g.graph", true),
-    ("check check", true),
-    ("rank g", true),
-    (
-        "rank g --rounds 10000 --damping 999 --top 68719476735",
-        true,
-    ),
-    ("rank g --damping 1000", false),
-    ("rank g --rounds 1 --rounds 2", false),
-    ("", false),
-    ("check", false),
-    ("arcs", false),
-    ("offsets", false),
-    ("check g h", false),
-    ("arcs g g", false),
-    ("offsets g 1", false),
-    ("check -g", false),
-    ("arcs --all g", false),
-    ("offsets g --offsets delta", false),
-    ("check --help", false),
-    ("--help", false),
-    ("help arcs", false),
-    ("--version", false),
-    ("-- check g", false),
-    ("g check", false),
-    ("Check g", false),
-    ("build a g --nodes 1", false),
 ];
