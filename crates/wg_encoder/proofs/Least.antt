@@ -83,7 +83,7 @@ find_first t n (w ∷ ws) x up there passes =
 
 -- ---- the reference that is chosen
 
-within : (p : Parameters) (c : Context) (list : List ℕ) (r : ℕ) → is_candidate p c list r ≡ true → r ≤ min p.window c.page
+pub within : (p : Parameters) (c : Context) (list : List ℕ) (r : ℕ) → is_candidate p c list r ≡ true → r ≤ min p.window c.page
 within p c list r h =
     elim (or_cases (eqb r 0) _ h) [
       | inl e ↦ let none = eqb-true r 0 e in omega arith

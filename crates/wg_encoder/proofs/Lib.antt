@@ -5,3 +5,5 @@ pub mod Tallied
 pub mod Gapped
 pub mod Extra
 pub mod Whole
+pub mod NoReference
+pub mod Choosing

@@ -4,3 +4,4 @@ pub mod Archive
 pub mod Cost
 pub mod Tallies
 pub mod Laws
+pub mod Encoding

@@ -11,7 +11,9 @@
 #![tactic(auto)]
 
 mod blocks;
+mod choice;
 mod cost;
+mod encoder;
 mod extras;
 mod gap;
 mod intervals;
@@ -19,4 +21,5 @@ pub mod laws;
 mod record;
 mod residuals;
 
+pub use encoder::Encoder;
 pub use record::record_cost;

@@ -1,0 +1,27 @@
+ghost use Rattle.std.specs.Prelude.{◌≡◌, ◌+◌};
+ghost use Rattle.wg_encoder.specs.Encoding.{Encoding, offer_of, IsBest};
+
+/// A reference, and how many bits the record takes by it.
+#[derive(Clone, Copy)]
+pub(crate) struct Choice {
+    pub reference: u64,
+    pub bits: u128,
+}
+
+impl Choice {
+    /// This choice, or the reference that comes next where that one is offered with fewer bits.
+    pub(crate) fn or(self, reference: u64, offered: Option<u128>) -> Choice
+        ensures { (e : Encoding) → IsBest e reference self → offered ≡ offer_of e reference → IsBest e (reference + 1) result }
+    {
+        match offered {
+            Some(bits) => {
+                if bits < self.bits {
+                    Choice { reference, bits }
+                } else {
+                    self
+                }
+            }
+            None => self,
+        }
+    }
+}
