@@ -1,6 +1,7 @@
 -- The references of a page that are looked at one after the other.
-use Rattle.std.proofs.Common.{◌≡◌, ℕ, zero, suc, ◌+◌, ◌-◌, ◌<◌, ◌≤◌, ltb, leb, eqb, min, Bool, true, false, not, ◌&&◌, ◌||◌, List, [], ◌∷◌, length, get_or, refl, sym, ap, subst, ◌∙◌, inl, inr, arith}
+use Rattle.std.proofs.Common.{◌≡◌, ◌^◌, ℕ, zero, suc, ◌+◌, ◌-◌, ◌<◌, ◌≤◌, ltb, leb, eqb, min, Bool, true, false, not, ◌&&◌, ◌||◌, List, [], ◌∷◌, length, get_or, refl, sym, ap, subst, ◌∙◌, inl, inr, arith}
 use Rattle.std.specs.Prelude.{Option, Some, None, All}
+use Rattle.std.specs.Option.{ForSome}
 use Rattle.std.proofs.lemmas.Bool.{cases_lt, cases_eq, cases_Bool, cond-true, cond-false, and_from, and_parts, le-leb, leb-true, leb-false, eqb-true, ne_eqb, or_cases, true≢false}
 use Rattle.wg_graph.specs.Digraph.{Digraph, successors}
 use Rattle.wg_graph.specs.Ascending.{Ascends, Below}
@@ -8,11 +9,12 @@ use Rattle.wg_params.specs.Parameters.{Parameters, IsWithinLimits}
 use Rattle.wg_grammar.specs.Context.{Context, no_page, referenced, depth_of}
 use Rattle.wg_grammar.specs.Refusal.{passes}
 use Rattle.wg_encoder.specs.declared.choice.Choice.{Choice}
-use Rattle.wg_encoder.specs.Fields.{Written, bits_of_fields, all_have_words}
+use Rattle.wg_encoder.specs.Fields.{Written, bits_of_fields, all_have_words, record_fields}
 use Rattle.wg_encoder.specs.Cost.{cost_of}
 use Rattle.wg_encoder.specs.Greedy.{canonical, size_of, is_candidate, chosen}
 use Rattle.wg_encoder.specs.Encoding.{Encoding, pages_before, context_of, list_of, may_take, bits_by, offer_of, IsBest}
 use Rattle.wg_encoder.proofs.NoReference.{no_reference_has}
+use Rattle.wg_encoder.proofs.Short.{record_short}
 use Rattle.wg_encoder.proofs.Least.{chosen_candidate, chosen_shortest, within}
 
 -- ---- the pages before
@@ -66,6 +68,25 @@ alone_is e v list same is up low within nodes here =
     let whole : list ≡ list_of e = is ∙ ap list_of same in
     let below : Below e.graph.nodes list = subst (λ (x : Encoding). Below x.graph.nodes list) same low in
     cost_there (canonical e.params (context_of e) (list_of e) 0) (no_reference_has e.params e.page e.graph.nodes (list_of e) within (let n = within.nodes in omega (arith, n, nodes)) here (subst (Ascends 0) whole up) (subst (Below e.graph.nodes) whole below))
+
+pub size_low : (e v : Encoding) (r : ℕ) (list referenced : List ℕ) (cost : Option ℕ) → v ≡ e → list ≡ successors v.graph v.page → Ascends 0 list → Below v.graph.nodes list → IsWithinLimits e.params → e.params.nodes ≡ e.graph.nodes
+    → r ≤ min e.params.window e.page → Ascends 0 referenced → Below e.graph.nodes referenced → cost ≡ cost_of (record_fields v.params v.page r referenced list) → ForSome cost (λ n. n < 2 ^ 64)
+size_low e v r list referenced cost same is up low within nodes reach up' low' how n there =
+    let below : Below e.graph.nodes list = subst (λ (x : Encoding). Below x.graph.nodes list) same low in
+    let limits : IsWithinLimits v.params = subst (λ (x : Encoding). IsWithinLimits x.params) (sym same) within in
+    let fields : List Written = record_fields v.params v.page r referenced list in
+    let short : length (bits_of_fields fields) < 2 ^ 64 =
+    record_short v.params v.page r e.graph.nodes referenced list limits (let m = within.nodes in omega (arith, m, nodes)) (let w = within.window in omega (arith, reach, w)) up below up' low' in
+    elim (cases_Bool (all_have_words fields)) [
+      | inl h ↦ let bits : n ≡ length (bits_of_fields fields) = some_same n (length (bits_of_fields fields)) (sym there ∙ how ∙ cost_there fields h) in omega (arith, bits, short)
+      | inr h ↦ absurd (none_some n (sym (cond-false (all_have_words fields) (Some (length (bits_of_fields fields))) None h) ∙ sym how ∙ there))
+    ]
+  where
+    some_same : (a b : ℕ) → Some a ≡ Some b → a ≡ b
+    some_same a b e = cc
+
+    none_some : (a : ℕ) → None ≡ Some a → ⊥
+    none_some a e = cc
 
 -- ---- the best of all
 

@@ -6,4 +6,5 @@ pub mod Gapped
 pub mod Extra
 pub mod Whole
 pub mod NoReference
+pub mod Short
 pub mod Choosing

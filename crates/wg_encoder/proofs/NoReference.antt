@@ -81,7 +81,7 @@ gap_low page (Some before) y n low here = omega arith
 
 -- ---- runs
 
-abbrev Low : ℕ → List Run → Type 0
+abbrev pub Low : ℕ → List Run → Type 0
 Low n [] = Unit {0}
 Low n (r ∷ rs) = (0 < r.length) × (r.left + r.length ≤ n) × Low n rs
 
@@ -90,13 +90,13 @@ below_end n l zero zs some low = absurd (omega arith)
 below_end n l (suc zero) zs some low = (omega (arith, low.0), low.1)
 below_end n l (suc (suc k)) zs some low = let rest = below_end n (l + 1) (suc k) zs (omega arith) low.1 in (omega (arith, rest.0), rest.1)
 
-cut_low : (n m : ℕ) (rs : List Run) (xs : List ℕ) → Cut m rs xs → Below n xs → Low n rs
+pub cut_low : (n m : ℕ) (rs : List Run) (xs : List ℕ) → Cut m rs xs → Below n xs → Low n rs
 cut_low n m [] xs cut low = tt
 cut_low n m (r ∷ rs) xs cut low =
     let ends = below_end n r.left r.length cut.2 cut.1 (subst (Below n) cut.3 low) in
     (cut.1, ends.0, cut_low n (r.left + r.length + 1) rs cut.2 cut.4 ends.1)
 
-cut_few : (n m : ℕ) (rs : List Run) (xs : List ℕ) → Cut m rs xs → Low n rs → length rs ≤ n - m
+pub cut_few : (n m : ℕ) (rs : List Run) (xs : List ℕ) → Cut m rs xs → Low n rs → length rs ≤ n - m
 cut_few n m [] xs cut low = omega arith
 cut_few n m (r ∷ rs) xs cut low =
     let rest : length rs ≤ n - (r.left + r.length + 1) = cut_few n (r.left + r.length + 1) rs cut.2 cut.4 low.2 in
@@ -106,7 +106,7 @@ low_where : (n : ℕ) (t : Run → Bool) (rs : List Run) → Low n rs → Low n 
 low_where n t [] low = tt
 low_where n t (r ∷ rs) low = elim (cases_Bool (t r)) [ inl h ↦ rw h (low.0, low.1, low_where n t rs low.2) | inr h ↦ rw h (low_where n t rs low.2) ]
 
-few_where : (t : Run → Bool) (rs : List Run) → length (filter t rs) ≤ length rs
+pub few_where : (t : Run → Bool) (rs : List Run) → length (filter t rs) ≤ length rs
 few_where t [] = omega arith
 few_where t (r ∷ rs) = let rest = few_where t rs in elim (cases_Bool (t r)) [ inl h ↦ rw h (omega (arith, rest)) | inr h ↦ rw h (omega (arith, rest)) ]
 
@@ -158,7 +158,7 @@ list_has p page n [] within few here up low = refl
 list_has p page n (y ∷ ys) within few here up low =
     both_have (reference_fields p 0 ++ copy_fields p 0 [] (y ∷ ys)) (extra_fields p page (extras (y ∷ ys) [])) (both_have (reference_fields p 0) (copy_fields p 0 [] (y ∷ ys)) (reference_has p) refl) (subst (λ xs. all_have_words (extra_fields p page xs) ≡ true) (sym (nothing_copied (y ∷ ys))) (extras_have p page n (y ∷ ys) within few here up low))
 
-short_list : (m n : ℕ) (xs : List ℕ) → Ascends m xs → Below n xs → length xs ≤ n - m
+pub short_list : (m n : ℕ) (xs : List ℕ) → Ascends m xs → Below n xs → length xs ≤ n - m
 short_list m n [] up low = omega arith
 short_list m n (x ∷ xs) up low = let rest : length xs ≤ n - suc x = short_list (suc x) n xs up.1 low.1 in omega (arith, rest, up.0, low.0)
 

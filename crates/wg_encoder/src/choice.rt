@@ -5,12 +5,12 @@ ghost use Rattle.wg_encoder.specs.Encoding.{Encoding, offer_of, IsBest};
 #[derive(Clone, Copy)]
 pub(crate) struct Choice {
     pub reference: u64,
-    pub bits: u128,
+    pub bits: u64,
 }
 
 impl Choice {
     /// This choice, or the reference that comes next where that one is offered with fewer bits.
-    pub(crate) fn or(self, reference: u64, offered: Option<u128>) -> Choice
+    pub(crate) fn or(self, reference: u64, offered: Option<u64>) -> Choice
         ensures { (e : Encoding) → IsBest e reference self → offered ≡ offer_of e reference → IsBest e (reference + 1) result }
     {
         match offered {

@@ -1,5 +1,6 @@
 // The choice of a reference for page after page.
 ghost use Rattle.std.specs.Prelude.{◌≡◌, ℕ, ◌+◌, ◌<◌, ◌≤◌, ◌^◌, ◌&&◌, true, not, nat_le, nat_lt, min, [], length, IfOk, IsTrue, Some};
+ghost use Rattle.std.specs.Option.{ForSome};
 ghost use Rattle.wg_params.specs.Parameters.{IsWithinLimits};
 ghost use Rattle.wg_params.specs.declared.limits.TheConstants.{MOST_WINDOW};
 ghost use Rattle.wg_graph.specs.Ascending.{Ascends, Below};
@@ -117,19 +118,20 @@ impl<'a> Encoder<'a> {
         !self.named(r).is_empty() && !passes(self.params.chain(), self.depth(r))
     }
 
-    // What the record takes by a reference, where each value has a word.
-    fn size(&self, r: u64) -> Option<u128>
+    // What the record takes by a reference, where each value has a word. It is less than 2 ^ 64 bits: a word but that of the
+    // reference and of the block count has at most 2 ^ 8.
+    fn size(&self, r: u64) -> Option<u64>
         requires reach { r ≤ min self.now.params.window self.now.page }
         requires page { self.now.page < self.now.graph.nodes }
         ensures { result ≡ cost_of (canonical self.now.params (context_of self.now) (list_of self.now) r) }
     {
         self.limits();
         let list = self.graph.list(self.page);
-        record_cost(&self.params, self.page, r, self.named(r), list)
+        narrow(record_cost(&self.params, self.page, r, self.named(r), list))
     }
 
     // What the record takes without a reference. All values of it have words.
-    fn alone(&self) -> Option<u128>
+    fn alone(&self) -> Option<u64>
         requires page { self.now.page < self.now.graph.nodes }
         ensures { result ≡ Some (bits_by self.now 0) }
     {
@@ -139,7 +141,7 @@ impl<'a> Encoder<'a> {
     }
 
     // What the record takes by a reference, where this is a candidate.
-    fn offer(&self, r: u64) -> Option<u128>
+    fn offer(&self, r: u64) -> Option<u64>
         requires page { self.now.page < self.now.graph.nodes }
         ensures { result ≡ offer_of self.now r }
     {
@@ -164,7 +166,7 @@ impl<'a> Encoder<'a> {
 
     /// How many bits the canonical record of the page that comes next takes by a candidate. It takes no memory, and time in
     /// proportion to the two lists.
-    pub fn cost(&self, r: u64) -> u128
+    pub fn cost(&self, r: u64) -> u64
         requires page { self.now.page < self.now.graph.nodes }
         requires candidate { is_candidate self.now.params (context_of self.now) (list_of self.now) r ≡ true }
         ensures { result ≡ size_of self.now.params (context_of self.now) (list_of self.now) r }
@@ -206,6 +208,17 @@ impl<'a> Encoder<'a> {
     }
 }
 
+// The same number of bits, in fewer of the machine's.
+fn narrow(bits: Option<u128>) -> Option<u64>
+    requires { ForSome bits (λ n. n < 2 ^ 64) }
+    ensures { result ≡ bits }
+{
+    match bits {
+        Some(bits) => Some(bits as u64),
+        None => None,
+    }
+}
+
 // Whether a depth passes the limit, where there is one.
 fn passes(limit: Option<u64>, depth: u64) -> bool
     ensures { result ≡ passes limit depth }
@@ -213,5 +226,133 @@ fn passes(limit: Option<u64>, depth: u64) -> bool
     match limit {
         Some(limit) => depth > limit,
         None => false,
+    }
+}
+
+#[cfg(test)]
+mod tests {
+    use super::*;
+    use std::process::Abort;
+    use std::test::Fail;
+    use wg_graph::GraphBuilder;
+    use wg_params::Code;
+
+    // An archive in the usual codes.
+    fn usual(nodes: u64, arcs: u64, chain: u64) -> Result<Params, Fail> {
+        Ok(Params::new(
+            nodes,
+            arcs,
+            7,
+            Some(chain),
+            4,
+            3,
+            Code::Gamma,
+            Code::Unary,
+            Code::Gamma,
+            Code::Gamma,
+            Code::Zeta(3),
+            Code::Gamma,
+        )?)
+    }
+
+    // The graph of these arcs, which ascend.
+    fn graph_of(
+        rt: &impl Abort,
+        alloc: Global,
+        n: u64,
+        arcs: &[(u64, u64)],
+    ) -> Result<Graph, AllocError>
+        requires { n < 2 ^ 32 }
+    {
+        let mut builder = GraphBuilder::new(alloc, n)?;
+        for arc in arcs {
+            assert!(rt; builder.fits(arc.0, arc.1));
+            builder.push(arc.0, arc.1)?;
+        }
+        builder.finish()
+    }
+
+    fn begun<'a>(
+        rt: &impl Abort,
+        alloc: Global,
+        params: Params,
+        graph: &'a Graph,
+    ) -> Result<Encoder<'a>, AllocError> {
+        assert_eq!(rt; params.nodes(), graph.nodes());
+        assert_eq!(rt; params.arcs(), graph.arcs());
+        Encoder::new(alloc, params, graph)
+    }
+
+    // Whether the next page may be written by this reference.
+    fn may_take(rt: &impl Abort, encoder: &Encoder<'_>, r: u64) -> bool {
+        assert!(rt; encoder.page() < encoder.graph.nodes());
+        encoder.candidate(r)
+    }
+
+    // What the next page takes without a reference.
+    fn plain(rt: &impl Abort, encoder: &Encoder<'_>) -> u64 {
+        assert!(rt; encoder.page() < encoder.graph.nodes());
+        encoder.cost(0)
+    }
+
+    // Goes on by the reference that is chosen, which is to be r, and to take so many bits.
+    fn written<'a>(
+        rt: &impl Abort,
+        encoder: Encoder<'a>,
+        r: u64,
+        bits: u64,
+    ) -> Result<Encoder<'a>, AllocError> {
+        assert!(rt; encoder.page() < encoder.graph.nodes());
+        assert_eq!(rt; encoder.chosen(), r);
+        assert!(rt; r <= encoder.reach());
+        assert!(rt; encoder.candidate(r));
+        assert_eq!(rt; encoder.cost(r), bits);
+        encoder.go_on(r)
+    }
+
+    #[test]
+    fn a_list_is_copied_whole(rt: HostRuntime) -> Result<(), Fail> {
+        let graph = graph_of(&rt, rt.alloc(), 3, &[(0, 1), (0, 2), (1, 1), (1, 2)])?;
+        let mut encoder = begun(&rt, rt.alloc(), usual(3, 4, 3)?, &graph)?;
+        encoder = written(&rt, encoder, 0, 12)?;
+        assert_eq!(rt; plain(&rt, &encoder), 11);
+        encoder = written(&rt, encoder, 1, 6)?;
+        // all references take as many bits
+        assert!(rt; may_take(&rt, &encoder, 1));
+        encoder = written(&rt, encoder, 0, 1)?;
+        assert_eq!(rt; encoder.page(), 3);
+        Ok(())
+    }
+
+    #[test]
+    fn a_chain_of_one_reference(rt: HostRuntime) -> Result<(), Fail> {
+        let arcs = [(1, 0), (1, 2), (2, 0), (2, 2), (3, 0), (3, 2)];
+        let graph = graph_of(&rt, rt.alloc(), 4, &arcs)?;
+        let mut encoder = begun(&rt, rt.alloc(), usual(4, 6, 1)?, &graph)?;
+        encoder = written(&rt, encoder, 0, 1)?;
+        // page 0 has no successors
+        assert!(rt; !may_take(&rt, &encoder, 1));
+        encoder = written(&rt, encoder, 0, 13)?;
+        encoder = written(&rt, encoder, 1, 6)?;
+        // page 2 refers to page 1
+        assert!(rt; !may_take(&rt, &encoder, 1));
+        assert!(rt; may_take(&rt, &encoder, 2));
+        assert!(rt; !may_take(&rt, &encoder, 3));
+        assert!(rt; !may_take(&rt, &encoder, 4));
+        encoder = written(&rt, encoder, 2, 7)?;
+        assert_eq!(rt; encoder.page(), 4);
+        Ok(())
+    }
+
+    #[test]
+    fn a_list_is_copied_in_part(rt: HostRuntime) -> Result<(), Fail> {
+        let arcs = [(0, 1), (0, 3), (0, 5), (0, 7), (1, 1), (1, 5), (1, 7)];
+        let graph = graph_of(&rt, rt.alloc(), 8, &arcs)?;
+        let mut encoder = begun(&rt, rt.alloc(), usual(8, 7, 3)?, &graph)?;
+        encoder = written(&rt, encoder, 0, 23)?;
+        assert_eq!(rt; plain(&rt, &encoder), 18);
+        encoder = written(&rt, encoder, 1, 14)?;
+        assert_eq!(rt; encoder.page(), 2);
+        Ok(())
     }
 }
