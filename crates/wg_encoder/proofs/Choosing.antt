@@ -1,18 +1,17 @@
 -- The references of a page that are looked at one after the other.
-use Rattle.std.proofs.Common.{◌≡◌, ◌^◌, ℕ, zero, suc, ◌+◌, ◌-◌, ◌<◌, ◌≤◌, ltb, leb, eqb, min, Bool, true, false, not, ◌&&◌, ◌||◌, List, [], ◌∷◌, length, get_or, refl, sym, ap, subst, ◌∙◌, inl, inr, arith}
+use Rattle.std.proofs.Common.{◌≡◌, ◌^◌, ℕ, zero, suc, ◌+◌, ◌-◌, ◌<◌, ◌≤◌, min, true, List, [], ◌∷◌, length, get_or, refl, sym, ap, subst, ◌∙◌, inl, inr, arith}
 use Rattle.std.specs.Prelude.{Option, Some, None, All}
 use Rattle.std.specs.Option.{ForSome}
-use Rattle.std.proofs.lemmas.Bool.{cases_lt, cases_eq, cases_Bool, cond-true, cond-false, and_from, and_parts, le-leb, leb-true, leb-false, eqb-true, ne_eqb, or_cases, true≢false}
+use Rattle.std.proofs.lemmas.Bool.{cases_lt, cases_eq, cases_Bool, cond-true, cond-false}
 use Rattle.wg_graph.specs.Digraph.{Digraph, successors}
 use Rattle.wg_graph.specs.Ascending.{Ascends, Below}
-use Rattle.wg_params.specs.Parameters.{Parameters, IsWithinLimits}
-use Rattle.wg_grammar.specs.Context.{Context, no_page, referenced, depth_of}
-use Rattle.wg_grammar.specs.Refusal.{passes}
+use Rattle.wg_params.specs.Parameters.{IsWithinLimits}
+use Rattle.wg_grammar.specs.Context.{no_page, referenced, depth_of}
 use Rattle.wg_encoder.specs.declared.choice.Choice.{Choice}
 use Rattle.wg_encoder.specs.Fields.{Written, bits_of_fields, all_have_words, record_fields}
 use Rattle.wg_encoder.specs.Cost.{cost_of}
-use Rattle.wg_encoder.specs.Greedy.{canonical, size_of, is_candidate, chosen}
-use Rattle.wg_encoder.specs.Encoding.{Encoding, pages_before, context_of, list_of, may_take, bits_by, offer_of, IsBest}
+use Rattle.wg_encoder.specs.Greedy.{canonical, chosen}
+use Rattle.wg_encoder.specs.Encoding.{Encoding, pages_before, context_of, list_of, may_take, bits_by, IsBest}
 use Rattle.wg_encoder.proofs.NoReference.{no_reference_has}
 use Rattle.wg_encoder.proofs.Short.{record_short}
 use Rattle.wg_encoder.proofs.Least.{chosen_candidate, chosen_shortest, within}

@@ -1,23 +1,22 @@
 -- A record without a reference has a word for each value: its numbers are below twice as many as there are pages, and no code has fewer.
-use Rattle.std.proofs.Common.{◌≡◌, ℕ, zero, suc, ◌+◌, ◌-◌, ◌*◌, ◌/◌, ◌%◌, ◌^◌, ◌<◌, ◌≤◌, ltb, leb, eqb, Bool, true, false, not, ◌&&◌, List, [], ◌∷◌, ◌++◌, length, map, refl, sym, ap, subst, ◌∙◌, inl, inr, arith}
+use Rattle.std.proofs.Common.{◌≡◌, ℕ, zero, suc, ◌+◌, ◌-◌, ◌*◌, ◌/◌, ◌^◌, ◌<◌, ◌≤◌, ltb, leb, eqb, Bool, true, not, ◌&&◌, List, [], ◌∷◌, ◌++◌, length, refl, sym, ap, subst, ◌∙◌, inl, inr, arith}
 use Rattle.std.specs.Prelude.{pos, negsuc, ◌-ℤ◌, filter, Option, Some, None}
 use Rattle.std.specs.List.{list_all, flat_map, range_with_len}
 use Rattle.std.proofs.lemmas.Int.{ints}
-use Rattle.std.proofs.lemmas.Bool.{cases_lt, cases_eq, cases_Bool, and_from, and_parts, le-leb, leb-true, eqb-true, or_cases, true≢false}
+use Rattle.std.proofs.lemmas.Bool.{cases_lt, cases_Bool, and_from, and_parts, le-leb, leb-true, eqb-true, or_cases, true≢false}
 use Rattle.std.proofs.lemmas.List.Folds.{list_all-append}
 use Rattle.wg_graph.specs.Numbers.{is_in}
 use Rattle.wg_graph.specs.Ascending.{Ascends, Below}
 use Rattle.wg_params.specs.declared.code.Code.{Code}
 use Rattle.wg_params.specs.declared.code.Code.TheVariants.{Unary, Gamma, Delta, Zeta, Nibble}
-use Rattle.wg_params.specs.Codes.{is_gamma_or_delta, is_unary_gamma_or_delta, is_residual_code}
+use Rattle.wg_params.specs.Codes.{is_gamma_or_delta, is_residual_code}
 use Rattle.wg_params.specs.Parameters.{Parameters, IsWithinLimits}
 use Rattle.wg_codes.specs.Words.{top}
 use Rattle.wg_codes.specs.Fold.{folded}
 use Rattle.wg_intervals.specs.declared.run.Run.{Run}
 use Rattle.wg_intervals.specs.Canonical.{runs_of, is_long, numbers_of, intervals_of, residuals_of}
 use Rattle.wg_intervals.proofs.Maximal.{Cut, cut_of, in_run}
-use Rattle.wg_grammar.specs.declared.fault.Field.TheVariants as field
-use Rattle.wg_encoder.specs.Fields.{Written, written, all_have_words, stored_gap, count_fields, interval_fields, residual_fields, extras, has_some, extra_fields, reference_fields, copy_fields, list_fields, record_fields}
+use Rattle.wg_encoder.specs.Fields.{Written, all_have_words, stored_gap, count_fields, interval_fields, residual_fields, extras, has_some, extra_fields, reference_fields, copy_fields, list_fields, record_fields}
 
 abbrev has_word : Written → Bool
 has_word f = leb f.value (top f.code)

@@ -1,8 +1,8 @@
 -- No record is long: each word but those of the reference and of the block count has at most 2 ^ 8 bits, whatever the value.
-use Rattle.std.proofs.Common.{◌≡◌, ℕ, zero, suc, ◌+◌, ◌-◌, ◌*◌, ◌/◌, ◌%◌, ◌^◌, ◌<◌, ◌≤◌, ltb, Bool, true, false, not, ◌&&◌, List, [], ◌∷◌, ◌++◌, length, length-append, map, sum, refl, sym, ap, subst, ◌∙◌, inl, inr, arith}
+use Rattle.std.proofs.Common.{◌≡◌, ℕ, zero, suc, ◌+◌, ◌-◌, ◌*◌, ◌/◌, ◌^◌, ◌<◌, ◌≤◌, ltb, Bool, true, not, ◌&&◌, List, [], ◌∷◌, ◌++◌, length, length-append, map, sum, refl, sym, ap, inl, inr, arith}
 use Rattle.std.specs.Prelude.{filter, Option, Some, None}
 use Rattle.std.proofs.Math.Nat.{div-mul-le_self, div-le_self}
-use Rattle.std.proofs.lemmas.Bool.{cases_lt, cases_Bool, eqb-true, true≢false}
+use Rattle.std.proofs.lemmas.Bool.{cases_Bool, eqb-true, true≢false}
 use Rattle.wg_bits.specs.Bits.{low_bits}
 use Rattle.wg_bits.proofs.LowBits.{length-low_bits}
 use Rattle.wg_graph.specs.Numbers.{is_in}
@@ -11,7 +11,7 @@ use Rattle.wg_params.specs.declared.code.Code.{Code}
 use Rattle.wg_params.specs.declared.code.Code.TheVariants.{Unary, Gamma, Delta, Zeta, Nibble}
 use Rattle.wg_params.specs.Codes.{is_gamma_or_delta, is_unary_gamma_or_delta, is_residual_code}
 use Rattle.wg_params.specs.Parameters.{Parameters, IsWithinLimits}
-use Rattle.wg_codes.specs.Words.{highest, unary, gamma, delta, zeta, nibble, digits, shortened, word}
+use Rattle.wg_codes.specs.Words.{highest, gamma, delta, zeta, nibble, digits, shortened, word}
 use Rattle.wg_codes.proofs.UnaryWords.{length-unary}
 use Rattle.wg_codes.proofs.Lengths.{length-gamma, length-delta}
 use Rattle.wg_codes.proofs.ZetaWords.{zeta_span}
@@ -20,11 +20,10 @@ use Rattle.wg_blocks.proofs.Alternate.{AllSome, LaterSome, end_within, later_som
 use Rattle.wg_graph.proofs.Copies.{sum_cons}
 use Rattle.wg_intervals.specs.declared.run.Run.{Run}
 use Rattle.wg_intervals.specs.Canonical.{runs_of, is_long, intervals_of, residuals_of}
-use Rattle.wg_intervals.specs.Laws.{inside}
 use Rattle.wg_intervals.proofs.Maximal.{cut_of}
 use Rattle.wg_intervals.proofs.Divided.{are_once}
 use Rattle.wg_grammar.specs.declared.fault.Field.TheVariants as field
-use Rattle.wg_encoder.specs.Fields.{Written, written, bits_of_fields, stored_blocks, stored_gap, count_fields, interval_fields, residual_fields, extras, has_some, extra_fields, block_fields, reference_fields, copy_fields, list_fields, record_fields}
+use Rattle.wg_encoder.specs.Fields.{Written, written, bits_of_fields, stored_blocks, stored_gap, count_fields, interval_fields, residual_fields, extras, has_some, extra_fields, reference_fields, copy_fields, list_fields, record_fields}
 use Rattle.wg_encoder.proofs.Extra.{ascends-filter}
 use Rattle.wg_encoder.proofs.NoReference.{cut_low, cut_few, few_where, short_list}
 

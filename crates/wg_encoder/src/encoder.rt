@@ -19,9 +19,10 @@ use std::marker::Model;
 use wg_graph::Graph;
 use wg_params::Params;
 
-/// Chooses for page after page of a graph the reference by which it is written.
+/// Chooses for page after page of a graph the reference by which it is written, as the WebGraph paper does: greedily.
 ///
-/// Beside the graph it holds 8 bytes for each page that a reference may name, at most as many as the archive's window.
+/// It is seen as the graph, the page that comes next, and the depths of the pages before it that a reference may name. Beside
+/// the graph it holds 8 bytes for each of these, at most as many as the archive's window.
 #[derive(Drop)]
 pub struct Encoder<'a> {
     params: Params,

@@ -6,7 +6,11 @@
 //! with the smallest reference. The references that were chosen before bear on it by their depths alone, where the archive
 //! limits chains.
 //!
-//! [`record_cost`] counts the bits of a canonical record from the two lists, without making it. The definitions give the fields of a record with their codes and stored values, the reference that is chosen, and the
+//! [`record_cost`] counts the bits of a canonical record from the two lists, without making it. An [`Encoder`] stands at a
+//! page of a graph and knows the depths of the pages that a reference may name, 8 bytes for each: it tells the candidates, what
+//! each of them takes, and which one is written. No record has 2 ^ 64 bits or more.
+//!
+//! The definitions give the fields of a record with their codes and stored values, the reference that is chosen, and the
 //! bytes of the two files. The function of [`laws`] states that no candidate's record is shorter than the one that is written.
 #![tactic(auto)]
 
