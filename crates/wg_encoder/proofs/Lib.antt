@@ -8,3 +8,4 @@ pub mod Whole
 pub mod NoReference
 pub mod Short
 pub mod Choosing
+pub mod Going
