@@ -9,3 +9,5 @@ pub mod NoReference
 pub mod Short
 pub mod Choosing
 pub mod Going
+pub mod Puts
+pub mod Adding

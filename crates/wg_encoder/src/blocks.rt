@@ -60,7 +60,7 @@ impl BlockTally {
     }
 }
 
-fn stored_block(count: u64, block: u64) -> u64
+pub(crate) fn stored_block(count: u64, block: u64) -> u64
     ensures { result ≡ (if count == 0 then block else block - 1) }
 {
     if count == 0 {

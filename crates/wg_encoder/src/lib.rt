@@ -20,10 +20,13 @@ mod cost;
 mod encoder;
 mod extras;
 mod gap;
+mod held;
 mod intervals;
 pub mod laws;
+mod parts;
 mod record;
 mod residuals;
 
 pub use encoder::Encoder;
+pub use held::HeldRecord;
 pub use record::record_cost;

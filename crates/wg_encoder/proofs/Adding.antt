@@ -1,0 +1,153 @@
+-- The parts of a record, added field by field.
+use Rattle.std.proofs.Common.{◌≡◌, ℕ, zero, suc, ◌+◌, ◌-◌, ◌*◌, ◌/◌, ◌^◌, ◌<◌, ◌≤◌, Bool, true, false, not, cond, eqb, List, [], ◌∷◌, ◌++◌, length, map, drop, get_or, refl, sym, ap, subst, ◌∙◌, inl, inr, arith, append_assoc}
+use Rattle.std.specs.Prelude.{Option, Some, None}
+use Rattle.std.proofs.lemmas.Bool.{cases_Bool, ne_eqb, cond-true, cond-false, not_from_true, not_from_false}
+use Rattle.std.proofs.lemmas.List.{append-nil, drop_more, drop_all}
+use Rattle.wg_graph.specs.Numbers.{is_in}
+use Rattle.wg_graph.specs.Ascending.{Ascends}
+use Rattle.wg_params.specs.declared.code.Code.{Code}
+use Rattle.wg_params.specs.declared.code.Code.TheVariants.{Gamma}
+use Rattle.wg_intervals.specs.declared.run.Run.{Run}
+use Rattle.wg_intervals.specs.Canonical.{ends_and_lengths}
+use Rattle.wg_grammar.specs.declared.fault.Field.TheVariants as field
+use Rattle.wg_encoder.specs.Fields.{Written, written, stored_blocks, stored_gap, interval_fields, residual_fields, extras}
+use Rattle.wg_encoder.specs.Kept.{AreLowRuns}
+use Rattle.wg_encoder.proofs.Tallied.{stored_next}
+
+-- one field more
+grow : (fields new whole rest : List Written) (w : Written) → new ≡ fields ++ w ∷ [] → fields ++ w ∷ rest ≡ whole → new ++ rest ≡ whole
+grow fields new whole rest w added is = ap (λ fs. fs ++ rest) added ∙ append_assoc fields (w ∷ []) rest ∙ is
+
+-- ---- what is not copied
+
+-- i numbers of the list are behind
+pub record Leaving (list referenced asked : List ℕ) (i : ℕ) (others : List ℕ) : Type 0 where
+  pub all : others ++ extras (drop i list) referenced ≡ extras list referenced
+  pub least : ℕ
+  pub up : Ascends least (drop i list)
+  pub same : (y : ℕ) → least ≤ y → is_in y asked ≡ is_in y referenced
+
+pub leaving_begun : (list referenced asked others : List ℕ) → others ≡ [] → asked ≡ referenced → Ascends 0 list → Leaving list referenced asked 0 others
+leaving_begun list referenced asked others none asks up = record {
+  all = ap (λ xs. xs ++ extras list referenced) none;
+  least = 0;
+  up = up;
+  same = λ y low. ap (is_in y) asks;
+}
+
+first_extra : (y : ℕ) (rest referenced : List ℕ) (told : Bool) → told ≡ is_in y referenced → cond told [] (y ∷ []) ++ extras rest referenced ≡ extras (y ∷ rest) referenced
+first_extra y rest referenced told tells =
+    let more : List ℕ = extras rest referenced in
+    elim (cases_Bool (is_in y referenced)) [
+      | inl there ↦ ap (λ xs. xs ++ more) (cond-true told [] (y ∷ []) (tells ∙ there)) ∙ sym (cond-false (not (is_in y referenced)) (y ∷ more) more (not_from_true _ there))
+      | inr absent ↦ ap (λ xs. xs ++ more) (cond-false told [] (y ∷ []) (tells ∙ absent)) ∙ sym (cond-true (not (is_in y referenced)) (y ∷ more) more (not_from_false _ absent))
+    ]
+
+pub leaving_more : (list referenced asked left others new : List ℕ) (i : ℕ) (told : Bool) → i < length list → Leaving list referenced asked i others → told ≡ is_in (get_or list i 0) asked
+    → ((y : ℕ) → get_or list i 0 ≤ y → is_in y left ≡ is_in y asked) → new ≡ others ++ cond told [] (get_or list i 0 ∷ []) → Leaving list referenced left (i + 1) new
+leaving_more list referenced asked left others new i told lt l tells later added =
+    let y : ℕ = get_or list i 0 in
+    let rest : List ℕ = drop (i + 1) list in
+    let split : drop i list ≡ y ∷ rest = drop_more list i 0 lt in
+    let up : Ascends l.least (y ∷ rest) = subst (Ascends l.least) split l.up in
+    record {
+      all = ap (λ xs. xs ++ extras rest referenced) added ∙ append_assoc others (cond told [] (y ∷ [])) (extras rest referenced)
+          ∙ ap (λ xs. others ++ xs) (first_extra y rest referenced told (tells ∙ l.same y up.0) ∙ ap (λ xs. extras xs referenced) (sym split)) ∙ l.all;
+      least = suc y;
+      up = up.1;
+      same = λ z low. later z (omega arith) ∙ l.same z (let first : l.least ≤ y = up.0 in omega arith);
+    }
+
+pub leaving_done : (list referenced asked others : List ℕ) (i : ℕ) → length list ≤ i → Leaving list referenced asked i others → others ≡ extras list referenced
+leaving_done list referenced asked others i le l = sym (append-nil others) ∙ ap (λ xs. others ++ extras xs referenced) (sym (drop_all i list le)) ∙ l.all
+
+-- ---- blocks
+
+-- how blocks are stored where i are behind
+abbrev pub stored_from : ℕ → List ℕ → List ℕ
+stored_from zero bs = stored_blocks bs
+stored_from (suc i) bs = map (λ n. n - 1) bs
+
+abbrev pub lengths_from : Code → ℕ → List ℕ → List Written
+lengths_from code i bs = map (written field.Block code) (stored_from i bs)
+
+stored_step : (i b : ℕ) (rest : List ℕ) → stored_from i (b ∷ rest) ≡ stored_next i b ∷ stored_from (suc i) rest
+stored_step zero b rest = refl
+stored_step (suc i) b rest = ap (λ k. k ∷ map (λ n. n - 1) rest) (sym (cond-false (eqb (suc i) 0) b (b - 1) (ne_eqb (suc i) 0 (λ e. omega arith))))
+
+stored_none : (i : ℕ) → stored_from i [] ≡ []
+stored_none zero = refl
+stored_none (suc i) = refl
+
+pub lengths_more : (code : Code) (fields new whole : List Written) (blocks : List ℕ) (i count stored : ℕ) → i < length blocks → fields ++ lengths_from code i (drop i blocks) ≡ whole → count ≡ i
+    → stored ≡ stored_next count (get_or blocks i 0) → new ≡ fields ++ written field.Block code stored ∷ [] → new ++ lengths_from code (i + 1) (drop (i + 1) blocks) ≡ whole
+lengths_more code fields new whole blocks i count stored lt is counted how added =
+    let b : ℕ = get_or blocks i 0 in
+    let rest : List ℕ = drop (i + 1) blocks in
+    let next : suc i ≡ i + 1 = omega arith in
+    let first : stored_from i (drop i blocks) ≡ stored ∷ stored_from (i + 1) rest =
+    ap (stored_from i) (drop_more blocks i 0 lt) ∙ stored_step i b rest ∙ ap (λ k. stored_next i b ∷ stored_from k rest) next ∙ ap (λ k. k ∷ stored_from (i + 1) rest) (ap (λ k. stored_next k b) (sym counted) ∙ sym how) in
+    grow fields new whole (lengths_from code (i + 1) rest) (written field.Block code stored) added (ap (λ xs. fields ++ map (written field.Block code) xs) (sym first) ∙ is)
+
+pub lengths_done : (code : Code) (fields whole : List Written) (blocks : List ℕ) (i : ℕ) → length blocks ≤ i → fields ++ lengths_from code i (drop i blocks) ≡ whole → fields ≡ whole
+lengths_done code fields whole blocks i le is =
+    sym (append-nil fields) ∙ ap (λ xs. fields ++ map (written field.Block code) xs) (sym (ap (stored_from i) (drop_all i blocks le) ∙ stored_none i)) ∙ is
+
+-- ---- residuals
+
+pub residuals_more : (code : Code) (page : ℕ) (last : Option ℕ) (fields new whole : List Written) (ys : List ℕ) (i stored : ℕ) → i < length ys → fields ++ residual_fields code page last (drop i ys) ≡ whole
+    → stored ≡ stored_gap page last (get_or ys i 0) → new ≡ fields ++ written field.Residual code stored ∷ [] → new ++ residual_fields code page (Some (get_or ys i 0)) (drop (i + 1) ys) ≡ whole
+residuals_more code page last fields new whole ys i stored lt is how added =
+    let y : ℕ = get_or ys i 0 in
+    let rest : List Written = residual_fields code page (Some y) (drop (i + 1) ys) in
+    grow fields new whole rest (written field.Residual code stored) added
+    (ap (λ v. fields ++ written field.Residual code v ∷ rest) how ∙ ap (λ xs. fields ++ residual_fields code page last xs) (sym (drop_more ys i 0 lt)) ∙ is)
+
+pub residuals_done : (code : Code) (page : ℕ) (last : Option ℕ) (fields whole : List Written) (ys : List ℕ) (i : ℕ) → length ys ≤ i → fields ++ residual_fields code page last (drop i ys) ≡ whole → fields ≡ whole
+residuals_done code page last fields whole ys i le is = sym (append-nil fields) ∙ ap (λ xs. fields ++ residual_fields code page last xs) (sym (drop_all i ys le)) ∙ is
+
+-- ---- intervals
+
+two_on : (ends : List ℕ) (i : ℕ) → 2 * i + 1 < length ends → drop (2 * i) ends ≡ get_or ends (2 * i) 0 ∷ get_or ends (2 * i + 1) 0 ∷ drop (2 * (i + 1)) ends
+two_on ends i lt =
+    let next : 2 * i + 1 + 1 ≡ 2 * (i + 1) = omega arith in
+    drop_more ends (2 * i) 0 (omega arith) ∙ ap (λ xs. get_or ends (2 * i) 0 ∷ xs) (drop_more ends (2 * i + 1) 0 lt ∙ ap (λ k. get_or ends (2 * i + 1) 0 ∷ drop k ends) next)
+
+pub low_here : (ends : List ℕ) (i : ℕ) → 2 * i + 1 < length ends → AreLowRuns (drop (2 * i) ends)
+    → (0 < get_or ends (2 * i + 1) 0) × (get_or ends (2 * i) 0 + get_or ends (2 * i + 1) 0 ≤ 2 ^ 62) × AreLowRuns (drop (2 * (i + 1)) ends)
+low_here ends i lt low = subst AreLowRuns (two_on ends i lt) low
+
+-- the runs whose ends and lengths are left, after what comes before
+pub record Reaching (page least : ℕ) (whole : List Written) (ends : List ℕ) (past : Option ℕ) (fields : List Written) : Type 0 where
+  pub runs : List Run
+  pub stored : ends ≡ ends_and_lengths runs
+  pub all : fields ++ interval_fields page least past runs ≡ whole
+
+run_added : (page least : ℕ) (whole fields first second : List Written) (past : Option ℕ) (l n gap long : ℕ) (ends : List ℕ) (runs : List Run) → l ∷ n ∷ ends ≡ ends_and_lengths runs → fields ++ interval_fields page least past runs ≡ whole
+    → gap ≡ stored_gap page past l → long ≡ n - least → first ≡ fields ++ written field.Left Gamma gap ∷ [] → second ≡ first ++ written field.Length Gamma long ∷ [] → Reaching page least whole ends (Some (l + n)) second
+run_added page least whole fields first second past l n gap long ends [] e is how much added then = absurd (omega (arith, ap length e))
+run_added page least whole fields first second past l n gap long ends (run ∷ runs) e is how much added then =
+    let left : l ≡ run.left = ap (λ xs. get_or xs 0 0) e in
+    let count : n ≡ run.length = ap (λ xs. get_or xs 1 0) e in
+    let rest : List Written = interval_fields page least (Some (l + n)) runs in
+    let here : fields ++ written field.Left Gamma gap ∷ written field.Length Gamma long ∷ rest ≡ whole =
+    (λ i. fields ++ written field.Left Gamma (how i) ∷ written field.Length Gamma (much i) ∷ rest)
+    ∙ (λ i. fields ++ written field.Left Gamma (stored_gap page past (left i)) ∷ written field.Length Gamma (count i - least) ∷ interval_fields page least (Some (left i + count i)) runs) ∙ is in
+    record {
+      runs = runs;
+      stored = ap (drop 2) e;
+      all = grow first second whole rest (written field.Length Gamma long) then (grow fields first whole (written field.Length Gamma long ∷ rest) (written field.Left Gamma gap) added here);
+    }
+
+pub intervals_more : (page least : ℕ) (whole fields first second : List Written) (past : Option ℕ) (ends : List ℕ) (i gap long : ℕ) → 2 * i + 1 < length ends → Reaching page least whole (drop (2 * i) ends) past fields
+    → gap ≡ stored_gap page past (get_or ends (2 * i) 0) → long ≡ get_or ends (2 * i + 1) 0 - least → first ≡ fields ++ written field.Left Gamma gap ∷ [] → second ≡ first ++ written field.Length Gamma long ∷ []
+    → Reaching page least whole (drop (2 * (i + 1)) ends) (Some (get_or ends (2 * i) 0 + get_or ends (2 * i + 1) 0)) second
+intervals_more page least whole fields first second past ends i gap long lt r how much added then =
+    run_added page least whole fields first second past (get_or ends (2 * i) 0) (get_or ends (2 * i + 1) 0) gap long (drop (2 * (i + 1)) ends) r.runs (sym (two_on ends i lt) ∙ r.stored) r.all how much added then
+
+none_left : (page least : ℕ) (past : Option ℕ) (ends : List ℕ) (runs : List Run) → length ends < 2 → ends ≡ ends_and_lengths runs → interval_fields page least past runs ≡ []
+none_left page least past ends [] few e = refl
+none_left page least past ends (run ∷ runs) few e = absurd (let long : length ends ≡ suc (suc (length (ends_and_lengths runs))) = ap length e in omega arith)
+
+pub intervals_done : (page least : ℕ) (whole fields : List Written) (past : Option ℕ) (ends : List ℕ) → length ends < 2 → Reaching page least whole ends past fields → fields ≡ whole
+intervals_done page least whole fields past ends few r = sym (append-nil fields) ∙ ap (λ z. fields ++ z) (sym (none_left page least past ends r.runs few r.stored)) ∙ r.all

@@ -1,0 +1,86 @@
+// A record in memory, before it is written.
+ghost use Rattle.std.specs.Prelude.{◌≡◌, ◌<◌, true, false, [], ◌∷◌, ◌++◌, OnOk, OnErr, IsErrOf, IsTrue};
+ghost use Rattle.wg_io.specs.Outside.{Rose, NoneFalls};
+ghost use Rattle.wg_params.specs.Codes.{IsCode};
+ghost use Rattle.wg_bits.specs.Written.{HasPut, HasPutLess};
+ghost use Rattle.wg_encoder.specs.Fields.{written, bits_of_fields, all_have_words};
+
+use std::alloc::{AllocError, Global};
+use std::marker::Model;
+use wg_bits::Writer;
+use wg_codes::write;
+use wg_grammar::Field;
+use wg_io::{Depot, WriteError};
+use wg_params::Code;
+
+/// A field with its code and its stored value.
+#[derive(Clone, Copy, Debug)]
+pub(crate) struct HeldField {
+    pub field: Field,
+    pub code: Code,
+    pub value: u64,
+}
+
+/// The fields of a record, in their order: 24 bytes each.
+#[derive(Debug, Drop)]
+pub struct HeldRecord {
+    fields: Vec<HeldField>,
+}
+
+impl Model for HeldRecord {
+    ghost use Rattle.std.specs.Prelude.{List, All, map};
+    ghost use Rattle.wg_params.specs.Codes.{IsCode};
+    ghost use Rattle.wg_encoder.specs.Fields.{Written};
+    ghost use Rattle.wg_encoder.specs.Kept.{as_written};
+
+    ghost Value = { List Written };
+
+    ghost view = { λ r. map as_written r.fields.items };
+
+    ghost invariant = { λ r. All (λ f. IsCode f.code) r.fields.items };
+}
+
+impl HeldRecord {
+    pub(crate) fn new(alloc: Global) -> HeldRecord
+        ensures { result ≡ [] }
+    {
+        HeldRecord {
+            fields: Vec::new(alloc),
+        }
+    }
+
+    pub(crate) fn add(&mut self, field: Field, code: Code, value: u64) -> Result<(), AllocError>
+        requires { IsCode code }
+        ensures { OnOk result (self.new ≡ self.old ++ written field code value ∷ []) }
+    {
+        self.fields.push(HeldField { field, code, value })?;
+        Ok(())
+    }
+
+    /// Puts the words of the fields, one after the other. After an error the writer has failed, and the file's bits are a
+    /// front of what it would have got.
+    pub fn write<D: Depot>(
+        &self,
+        writer: &mut Writer,
+        depot: &mut D,
+        name: &str,
+    ) -> Result<(), WriteError>
+        requires words { all_have_words self.now ≡ true }
+        requires ready { writer.old.failed ≡ false }
+        ensures ok { IsTrue D.told → OnOk result (HasPut (D.files depot.old) (D.files depot.new) name.now writer.old.bits (bits_of_fields self.now) writer.new.bits) }
+        ensures ready { OnOk result (writer.new.failed ≡ false) }
+        ensures failed { OnErr result (writer.new.failed ≡ true) }
+        ensures err { IsTrue D.told → OnErr result (HasPutLess (D.files depot.old) (D.files depot.new) name.now writer.old.bits (bits_of_fields self.now)) }
+        ensures fault { IsErrOf result WriteError.Failed → Rose (D.counts depot.old name.now).write_faults (D.counts depot.new name.now).write_faults }
+        ensures memory { IsErrOf result WriteError.Memory → Rose (D.counts depot.old name.now).wants (D.counts depot.new name.now).wants }
+        ensures later { NoneFalls (D.counts depot.old) (D.counts depot.new) }
+    {
+        for field in self.fields.as_slice() {
+            match write(field.code, field.value, writer, depot, name) {
+                Ok(()) => {}
+                Err(e) => return Err(e),
+            }
+        }
+        Ok(())
+    }
+}
