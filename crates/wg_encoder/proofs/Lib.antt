@@ -11,3 +11,4 @@ pub mod Choosing
 pub mod Going
 pub mod Puts
 pub mod Adding
+pub mod Low

@@ -23,10 +23,12 @@ mod gap;
 mod held;
 mod intervals;
 pub mod laws;
+mod making;
 mod parts;
 mod record;
 mod residuals;
 
 pub use encoder::Encoder;
 pub use held::HeldRecord;
+pub use making::make_record;
 pub use record::record_cost;

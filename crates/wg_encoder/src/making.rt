@@ -1,0 +1,141 @@
+// A whole record, made from the two lists.
+ghost use Rattle.std.specs.Prelude.{◌≡◌, ◌<◌, ◌^◌, ◌++◌, length, OnOk, IfOk};
+ghost use Rattle.wg_graph.specs.Ascending.{Ascends, Below};
+ghost use Rattle.wg_encoder.specs.Fields.{extras, count_fields, extra_fields, reference_fields, copy_fields, list_fields, record_fields};
+
+use crate::held::HeldRecord;
+use crate::parts::{add_blocks, add_intervals, add_residuals, extras_of};
+use std::alloc::{AllocError, Global};
+use wg_blocks::make;
+use wg_grammar::Field;
+use wg_intervals::split;
+use wg_params::{Code, Params};
+
+fn add_reference(
+    fields: &mut HeldRecord,
+    params: &Params,
+    reference: u64,
+) -> Result<(), AllocError>
+    ensures { OnOk result (fields.new ≡ fields.old ++ reference_fields params.now reference) }
+{
+    if params.window() > 0 {
+        return fields.add(Field::Reference, params.references(), reference);
+    }
+    Ok(())
+}
+
+fn add_copies(
+    alloc: Global,
+    fields: &mut HeldRecord,
+    params: &Params,
+    reference: u64,
+    referenced: &[u64],
+    list: &[u64],
+) -> Result<(), AllocError>
+    requires list { Ascends 0 list.now }
+    requires referenced { Ascends 0 referenced.now }
+    ensures { OnOk result (fields.new ≡ fields.old ++ copy_fields params.now reference referenced.now list.now) }
+{
+    if reference > 0 {
+        let blocks = make(alloc, list, referenced)?;
+        return add_blocks(fields, params, blocks.as_slice());
+    }
+    Ok(())
+}
+
+// The interval count is there where something is not copied and the archive has intervals.
+fn add_count(
+    fields: &mut HeldRecord,
+    found: bool,
+    least: u64,
+    count: u64,
+) -> Result<(), AllocError>
+    ensures { OnOk result (fields.new ≡ fields.old ++ count_fields found least count) }
+{
+    if found && least > 0 {
+        return fields.add(Field::IntervalCount, Code::Gamma, count);
+    }
+    Ok(())
+}
+
+// What is not copied: how many intervals there are, each of them, and the residuals.
+fn add_extras(
+    fields: &mut HeldRecord,
+    alloc: Global,
+    params: &Params,
+    page: u64,
+    others: &[u64],
+) -> Result<(), AllocError>
+    requires page { page < 2 ^ 62 }
+    requires others { Ascends 0 others.now }
+    requires low { Below (2 ^ 62) others.now }
+    ensures { OnOk result (fields.new ≡ fields.old ++ extra_fields params.now page others.now) }
+{
+    let least = params.interval();
+    let parts = split(alloc, others, least)?;
+    let ends = parts.intervals.as_slice();
+    add_count(fields, !others.is_empty(), least, ends.len() as u64 / 2)?;
+    add_intervals(fields, page, least, ends)?;
+    add_residuals(
+        fields,
+        page,
+        params.residuals(),
+        parts.residuals.as_slice(),
+    )
+}
+
+fn add_list(
+    alloc: Global,
+    fields: &mut HeldRecord,
+    params: &Params,
+    page: u64,
+    reference: u64,
+    referenced: &[u64],
+    list: &[u64],
+) -> Result<(), AllocError>
+    requires page { page < 2 ^ 62 }
+    requires list { Ascends 0 list.now }
+    requires low { Below (2 ^ 62) list.now }
+    requires referenced { Ascends 0 referenced.now }
+    requires some { 0 < length list.now }
+    ensures { OnOk result (fields.new ≡ fields.old ++ list_fields params.now page reference referenced.now list.now) }
+{
+    add_reference(fields, params, reference)?;
+    add_copies(alloc, fields, params, reference, referenced, list)?;
+    let others = extras_of(alloc, list, referenced)?;
+    add_extras(fields, alloc, params, page, others.as_slice())
+}
+
+/// The canonical record of a page by a reference, where `referenced` is the list that this names, empty for 0. It takes two
+/// passes over the two lists. Beside the record it holds 8 bytes for each block, or for each successor that is not copied 8
+/// bytes and up to 16 more, until it returns.
+pub fn make_record(
+    alloc: Global,
+    params: &Params,
+    page: u64,
+    reference: u64,
+    referenced: &[u64],
+    list: &[u64],
+) -> Result<HeldRecord, AllocError>
+    requires page { page < 2 ^ 62 }
+    requires list { Ascends 0 list.now }
+    requires low { Below (2 ^ 62) list.now }
+    requires referenced { Ascends 0 referenced.now }
+    ensures { IfOk result (λ made. made ≡ record_fields params.now page reference referenced.now list.now) }
+{
+    let mut fields = HeldRecord::new(alloc);
+    fields.add(Field::Outdegree, params.outdegrees(), list.len() as u64)?;
+    if list.is_empty() {
+        return Ok(fields);
+    }
+    add_list(
+        alloc,
+        &mut fields,
+        params,
+        page,
+        reference,
+        referenced,
+        list,
+    )?;
+    Ok(fields)
+}
