@@ -27,8 +27,10 @@ mod making;
 mod parts;
 mod record;
 mod residuals;
+mod writing;
 
 pub use encoder::Encoder;
 pub use held::HeldRecord;
 pub use making::make_record;
 pub use record::record_cost;
+pub use writing::{WriteRecordError, write_offset, write_record};
