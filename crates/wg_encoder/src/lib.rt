@@ -28,6 +28,8 @@ mod parts;
 mod record;
 mod residuals;
 mod writing;
+#[cfg(test)]
+mod writing_tests;
 
 pub use encoder::Encoder;
 pub use held::HeldRecord;

@@ -11,11 +11,7 @@ use wg_grammar::Field;
 use wg_intervals::split;
 use wg_params::{Code, Params};
 
-fn add_reference(
-    fields: &mut HeldRecord,
-    params: &Params,
-    reference: u64,
-) -> Result<(), AllocError>
+fn add_reference(fields: &mut HeldRecord, params: &Params, reference: u64) -> Result<(), AllocError>
     ensures { OnOk result (fields.new ≡ fields.old ++ reference_fields params.now reference) }
 {
     if params.window() > 0 {
@@ -44,12 +40,7 @@ fn add_copies(
 }
 
 // The interval count is there where something is not copied and the archive has intervals.
-fn add_count(
-    fields: &mut HeldRecord,
-    found: bool,
-    least: u64,
-    count: u64,
-) -> Result<(), AllocError>
+fn add_count(fields: &mut HeldRecord, found: bool, least: u64, count: u64) -> Result<(), AllocError>
     ensures { OnOk result (fields.new ≡ fields.old ++ count_fields found least count) }
 {
     if found && least > 0 {
@@ -76,12 +67,7 @@ fn add_extras(
     let ends = parts.intervals.as_slice();
     add_count(fields, !others.is_empty(), least, ends.len() as u64 / 2)?;
     add_intervals(fields, page, least, ends)?;
-    add_residuals(
-        fields,
-        page,
-        params.residuals(),
-        parts.residuals.as_slice(),
-    )
+    add_residuals(fields, page, params.residuals(), parts.residuals.as_slice())
 }
 
 fn add_list(
