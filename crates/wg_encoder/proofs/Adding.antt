@@ -1,6 +1,6 @@
 -- The parts of a record, added field by field.
-use Rattle.std.proofs.Common.{◌≡◌, ℕ, zero, suc, ◌+◌, ◌-◌, ◌*◌, ◌/◌, ◌^◌, ◌<◌, ◌≤◌, Bool, true, false, not, cond, eqb, List, [], ◌∷◌, ◌++◌, length, map, drop, get_or, refl, sym, ap, subst, ◌∙◌, inl, inr, arith, append_assoc}
-use Rattle.std.specs.Prelude.{Option, Some, None}
+use Rattle.std.proofs.Common.{◌≡◌, ℕ, zero, suc, ◌+◌, ◌-◌, ◌*◌, ◌^◌, ◌<◌, ◌≤◌, Bool, not, cond, eqb, List, [], ◌∷◌, ◌++◌, length, map, drop, get_or, refl, sym, ap, subst, ◌∙◌, inl, inr, arith, append_assoc}
+use Rattle.std.specs.Prelude.{Option, Some}
 use Rattle.std.proofs.lemmas.Bool.{cases_Bool, ne_eqb, cond-true, cond-false, not_from_true, not_from_false}
 use Rattle.std.proofs.lemmas.List.{append-nil, drop_more, drop_all}
 use Rattle.wg_graph.specs.Numbers.{is_in}
@@ -11,7 +11,7 @@ use Rattle.wg_intervals.specs.declared.run.Run.{Run}
 use Rattle.wg_intervals.specs.Canonical.{ends_and_lengths}
 use Rattle.wg_grammar.specs.declared.fault.Field.TheVariants as field
 use Rattle.wg_encoder.specs.Fields.{Written, written, stored_blocks, stored_gap, interval_fields, residual_fields, extras}
-use Rattle.wg_encoder.specs.Kept.{AreLowRuns}
+use Rattle.wg_encoder.specs.InMemory.{AreLowRuns}
 use Rattle.wg_encoder.proofs.Tallied.{stored_next}
 
 -- one field more

@@ -1,7 +1,7 @@
 -- The numbers of intervals and residuals are below what those of the list are below.
-use Rattle.std.proofs.Common.{OnOk, Result, Ok, Err, ◌≡◌, ℕ, zero, suc, ◌+◌, ◌*◌, ◌/◌, ◌^◌, ◌<◌, ◌≤◌, Bool, true, false, not, eqb, List, [], ◌∷◌, ◌++◌, length, refl, sym, ap, subst, ◌∙◌, inl, inr, arith, append_assoc}
+use Rattle.std.proofs.Common.{OnOk, Result, Ok, Err, ◌≡◌, ℕ, zero, suc, ◌+◌, ◌*◌, ◌/◌, ◌^◌, ◌<◌, ◌≤◌, Bool, not, eqb, List, [], ◌∷◌, ◌++◌, length, refl, sym, ap, subst, ◌∙◌, inl, inr, arith, append_assoc}
 use Rattle.std.specs.Prelude.{None, filter}
-use Rattle.std.specs.List.{flat_map, range_with_len}
+use Rattle.std.specs.List.{range_with_len}
 use Rattle.std.proofs.lemmas.Bool.{cases_Bool, ne_eqb}
 use Rattle.wg_graph.specs.Ascending.{Ascends, Below}
 use Rattle.wg_params.specs.Parameters.{Parameters}
@@ -13,7 +13,7 @@ use Rattle.wg_graph.specs.Numbers.{is_in}
 use Rattle.wg_encoder.specs.Fields.{Written, has_some, count_fields, interval_fields, residual_fields, extras, extra_fields, reference_fields, copy_fields, list_fields}
 use Rattle.wg_encoder.proofs.Extra.{ascends-filter}
 use Rattle.wg_encoder.proofs.Whole.{list_whole}
-use Rattle.wg_encoder.specs.Kept.{AreLowRuns}
+use Rattle.wg_encoder.specs.InMemory.{AreLowRuns}
 
 below_parts : (m : ℕ) (xs ys : List ℕ) → Below m (xs ++ ys) → Below m xs × Below m ys
 below_parts m [] ys low = (tt, low)

@@ -1,14 +1,13 @@
 -- The words of a record, put one after the other.
-use Rattle.std.proofs.Common.{OnErr, Result, Ok, Err, inl, inr, ◌≡◌, ℕ, zero, suc, ◌+◌, ◌<◌, ◌≤◌, Bool, true, List, [], ◌∷◌, ◌++◌, length, map, take, drop, get_or, refl, sym, ap, subst, ◌∙◌, arith, append_assoc, length-append}
-use Rattle.std.specs.List.{flat_map}
+use Rattle.std.proofs.Common.{OnErr, Result, Ok, Err, inl, inr, ◌≡◌, ℕ, zero, suc, ◌+◌, ◌<◌, ◌≤◌, Bool, true, List, [], ◌∷◌, ◌++◌, length, map, take, drop, get_or, refl, sym, ap, ◌∙◌, arith, length-append}
 use Rattle.std.proofs.lemmas.Bool.{and_parts, leb-true, cases_Bool, cond-false}
 use Rattle.std.proofs.lemmas.List.{append-nil, map-append, take_more, take-append-drop}
-use Rattle.std.proofs.lemmas.List.Concat.{flat_map-append, flat_map-cons}
+use Rattle.std.proofs.lemmas.List.Concat.{flat_map-append}
 use Rattle.wg_io.specs.Outside.{Files}
 use Rattle.wg_bits.specs.Written.{HasPut, HasPutLess}
-use Rattle.wg_bits.proofs.Writes.{put_less_more, put_then_less, put_trans}
+use Rattle.wg_bits.proofs.Writes.{put_less_more, put_then_less}
 use Rattle.wg_codes.specs.Words.{word, top}
-use Rattle.wg_codes.proofs.Writing.{put_same, less_same}
+use Rattle.wg_codes.proofs.Writing.{less_same}
 use Rattle.wg_encoder.specs.declared.held.HeldField.{HeldField}
 use Rattle.wg_bits.specs.Bits.{bits_of}
 use Rattle.wg_codes.proofs.CodeLaws.{word_some}
@@ -16,7 +15,7 @@ use Rattle.wg_params.specs.Parameters.{Parameters}
 use Rattle.wg_encoder.specs.Fields.{Written, bits_of_fields, all_have_words, list_fields, record_fields}
 use Rattle.std.specs.Prelude.{Option, Some, None}
 use Rattle.wg_encoder.specs.Cost.{cost_of}
-use Rattle.wg_encoder.specs.Kept.{as_written}
+use Rattle.wg_encoder.specs.InMemory.{as_written}
 
 abbrev pub bits_held : List HeldField → List Bool
 bits_held hs = bits_of_fields (map as_written hs)

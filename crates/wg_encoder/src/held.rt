@@ -31,7 +31,7 @@ impl Model for HeldRecord {
     ghost use Rattle.std.specs.Prelude.{List, All, map};
     ghost use Rattle.wg_params.specs.Codes.{IsCode};
     ghost use Rattle.wg_encoder.specs.Fields.{Written};
-    ghost use Rattle.wg_encoder.specs.Kept.{as_written};
+    ghost use Rattle.wg_encoder.specs.InMemory.{as_written};
 
     ghost Value = { List Written };
 

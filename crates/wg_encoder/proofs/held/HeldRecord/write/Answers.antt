@@ -1,10 +1,10 @@
-use Rattle.std.proofs.Common.{◌∙◌, sym, ap, map, true}
+use Rattle.std.proofs.Common.{◌∙◌, sym, ap, map}
 use Rattle.std.proofs.lemmas.List.{append-nil}
 use Rattle.wg_io.proofs.FilesLemmas.{none_falls-trans}
 use Rattle.wg_bits.proofs.Writes.{put_kept, put_trans, none_falls-refl}
 use Rattle.wg_codes.proofs.Writing.{put_same, less_same}
 use Rattle.wg_encoder.specs.Fields.{bits_of_fields, all_have_words}
-use Rattle.wg_encoder.specs.Kept.{as_written}
+use Rattle.wg_encoder.specs.InMemory.{as_written}
 use Rattle.wg_encoder.proofs.Puts.{one_more, has_word, less_held}
 use Rattle.wg_encoder.proofs.held.HeldRecord.write.Goals as goal
 

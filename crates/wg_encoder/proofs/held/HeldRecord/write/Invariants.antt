@@ -2,7 +2,7 @@ use Rattle.std.proofs.Common.{◌≡◌, false, IsTrue, take, map}
 use Rattle.wg_io.specs.Outside.{NoneFalls}
 use Rattle.wg_bits.specs.Written.{HasPut}
 use Rattle.wg_encoder.specs.Fields.{bits_of_fields}
-use Rattle.wg_encoder.specs.Kept.{as_written}
+use Rattle.wg_encoder.specs.InMemory.{as_written}
 use Rattle.wg_encoder.proofs.held.HeldRecord.write.Given as goal
 
 abbrev pub invariant-loop-field : goal.invariant-loop-field
