@@ -5,5 +5,4 @@ pub mod Cost
 pub mod Tallies
 pub mod Laws
 pub mod Encoding
-pub mod Kept
 pub mod InMemory

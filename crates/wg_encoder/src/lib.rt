@@ -10,12 +10,13 @@
 //! page of a graph and knows the depths of the pages that a reference may name, 8 bytes for each: it tells the candidates, what
 //! each of them takes, and which one is written. No record has 2 ^ 64 bits or more.
 //!
-//! The definitions give the fields of a record with their codes and stored values, the reference that is chosen, and the
 //! [`make_record`] makes a canonical record from the two lists as a [`HeldRecord`], 24 bytes for each field, and
 //! [`HeldRecord::write`] puts its words through a writer, where each value has one. [`write_record`] does both, and
 //! [`write_offset`] puts a word of the offsets file. Nothing else takes memory.
-//! [`record_cost`] counts the bits of a canonical record from the two lists, without making it. The definitions give the fields of a record with their codes and stored values, the reference that is chosen, and the
-//! bytes of the two files. The function of [`laws`] states that no candidate's record is shorter than the one that is written.
+//!
+//! The definitions give the fields of a record with their codes and stored values, the reference that is chosen, and the
+//! bytes of the two files. The functions of [`laws`] state that no candidate's record is shorter than the one that is
+//! written, and that the bytes of the files are their bits.
 #![tactic(auto)]
 
 mod blocks;
