@@ -12,7 +12,7 @@
 //!
 //! [`make_record`] makes a canonical record from the two lists as a [`HeldRecord`], 24 bytes for each field, and
 //! [`HeldRecord::write`] puts its words through a writer, where each value has one. [`write_record`] does both, and
-//! [`write_offset`] puts a word of the offsets file. Nothing else takes memory.
+//! [`write_offset`] puts a word of the offsets file.
 //!
 //! The definitions give the fields of a record with their codes and stored values, the reference that is chosen, and the
 //! bytes of the two files. The functions of [`laws`] state that no candidate's record is shorter than the one that is
