@@ -99,7 +99,7 @@ pub const LINES: [(&str, bool); 34] = [
     ("offsets g", true),
     ("check data/a.b", true),
     ("arcs ./g", true),
-    ("offsets /tmp/g", true),
+    ("offsets ../g", true),
     ("check -", true),
     ("arcs -- g", true),
     ("offsets -- -g", true),
