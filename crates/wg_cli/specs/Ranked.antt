@@ -3,12 +3,11 @@ use Rattle.std.specs.Prelude.{ℕ, ◌≡◌, ◌≤◌, true, List, ◌++◌, m
 use Rattle.std.specs.List.{range_with_len}
 use Rattle.wg_io.specs.Puts.{joined}
 use Rattle.wg_num.specs.Units.{text_of_units}
-use Rattle.wg_params.specs.declared.limits.TheConstants.{MOST_PAGES}
+use Rattle.wg_params.specs.declared.limits.TheConstants.{MOST_PAGES, MOST_DAMPING, MOST_ROUNDS}
 use Rattle.wg_graph.specs.Digraph.{Digraph, IsGraph}
 use Rattle.wg_rank.specs.Rank.{low, high}
 use Rattle.wg_rank.specs.Intervals.{Intervals, Holds, by_page}
 use Rattle.wg_rank.specs.Certified.{IsCertified}
-use Rattle.wg_rank.specs.declared.limits.TheConstants.{MOST_DAMPING, MOST_ROUNDS}
 use Rattle.wg_order.specs.Order.{Positions, IsRanking, best, worst}
 use Rattle.wg_order.specs.Surely.{IsSurely}
 use Rattle.wg_cli.specs.Readings.{Readings}

@@ -1,6 +1,6 @@
 //! The ranking of a graph's pages by bounds of their PageRank.
 ghost use Rattle.std.specs.Prelude.{◌≤◌, IfOk};
-ghost use Rattle.wg_rank.specs.declared.limits.TheConstants.{MOST_DAMPING, MOST_ROUNDS};
+ghost use Rattle.wg_params.specs.declared.limits.TheConstants.{MOST_DAMPING, MOST_ROUNDS};
 ghost use Rattle.wg_cli.specs.Ranked.{Ranks};
 
 use std::alloc::{AllocError, Global};

@@ -20,7 +20,8 @@ use Rattle.wg_codes.specs.Parts.{IsShortenedAt, IsCutAt}
 use Rattle.std.proofs.lemmas.Nat.{le-div}
 use Rattle.std.proofs.Math.Nat.{pow-suc}
 use Rattle.wg_codes.proofs.ZetaWords.{room, free_zeta, zeta_top, zeta_head_cut, zeta_head_none, zeta_cut, zeta_value, tail_short, tail_long, tail_cut_early, tail_cut_late}
-use Rattle.wg_codes.proofs.NibbleWords.{open_digits, IsOpen, open_none, free_nibble, nibble_cut, last_digit_open, digit_cut, nibble_value, zero_digit, open_next, open_step, nothing_open}
+use Rattle.wg_codes.proofs.NibbleLaw.{free_nibble}
+use Rattle.wg_codes.proofs.NibbleWords.{open_digits, IsOpen, open_none, nibble_cut, last_digit_open, digit_cut, nibble_value, zero_digit, open_next, open_step, nothing_open}
 
 -- the number that k bits spell
 front_number : (z : List Bool) (k : ℕ) → k ≤ length z → (t : ℕ) × (t < 2 ^ k) × (z ≡ low_bits k t ++ drop k z)

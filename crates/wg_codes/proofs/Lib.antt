@@ -3,6 +3,7 @@ pub mod UnaryWords
 pub mod Highest
 pub mod ZetaWords
 pub mod NibbleWords
+pub mod NibbleLaw
 pub mod NibblePuts
 pub mod Exists
 pub mod Lengths

@@ -13,5 +13,7 @@ mod params;
 
 pub use code::Code;
 pub use key::{BadParam, Key};
-pub use limits::{MOST_ARCS, MOST_CHAIN, MOST_INTERVAL, MOST_PAGES, MOST_WINDOW, MOST_ZETA};
+pub use limits::{
+    MOST_ARCS, MOST_CHAIN, MOST_DAMPING, MOST_INTERVAL, MOST_PAGES, MOST_ROUNDS, MOST_WINDOW, MOST_ZETA,
+};
 pub use params::Params;

@@ -15,3 +15,9 @@ pub const MOST_INTERVAL: u64 = 2_147_483_647;
 
 /// The greatest shrinking factor of a zeta code.
 pub const MOST_ZETA: u32 = 31;
+
+/// The greatest damping of a ranking, in thousandths.
+pub const MOST_DAMPING: u64 = 999;
+
+/// The most rounds of a ranking.
+pub const MOST_ROUNDS: u64 = 10_000;

@@ -1,6 +1,7 @@
-ghost use Rattle.std.specs.Prelude.{◌≡◌, ◌≤◌, true, IfOk, IfErr, Some, None, unwrap_or};
+ghost use Rattle.std.specs.Prelude.{◌≡◌, ◌≤◌, true, if◌then◌else◌, IfOk, IfErr, Some, None, unwrap_or};
+ghost use Rattle.std.specs.Option.{ForSome};
 ghost use Rattle.wg_params.specs.Codes.{IsCode, is_gamma_or_delta, is_unary_gamma_or_delta, is_residual_code};
-ghost use Rattle.wg_params.specs.Parameters.{Parameters, IsWithinLimits, first_bad};
+ghost use Rattle.wg_params.specs.Parameters.{Parameters, IsWithinLimits, has_its_codes, first_bad};
 ghost use Rattle.wg_params.specs.declared.limits.TheConstants.{MOST_PAGES, MOST_ARCS, MOST_WINDOW, MOST_CHAIN, MOST_INTERVAL, MOST_ZETA};
 
 use crate::limits::{MOST_ARCS, MOST_CHAIN, MOST_INTERVAL, MOST_PAGES, MOST_WINDOW, MOST_ZETA};
@@ -64,6 +65,36 @@ fn is_residual_code(zeta: u32, code: Code) -> bool
     }
 }
 
+// The first of these keys that is out of its limits.
+fn first_bad_number(
+    nodes: u64,
+    arcs: u64,
+    window: u64,
+    chain: Option<u64>,
+    interval: u64,
+    zeta: u32,
+) -> Option<Key>
+    ensures bad { (p : Parameters) → p.nodes ≡ nodes → p.arcs ≡ arcs → p.window ≡ window → p.chain ≡ chain → p.interval ≡ interval → p.zeta ≡ zeta → ForSome result (λ key. first_bad p ≡ Some key) }
+    ensures good { (p : Parameters) → p.nodes ≡ nodes → p.arcs ≡ arcs → p.window ≡ window → p.chain ≡ chain → p.interval ≡ interval → p.zeta ≡ zeta → result ≡ None → first_bad p ≡ (if has_its_codes p then None else Some Key.CompressionFlags) }
+    ensures within { result ≡ None → (nodes ≤ MOST_PAGES) × (arcs ≤ MOST_ARCS) × (window ≤ MOST_WINDOW) × (unwrap_or chain 0 ≤ MOST_CHAIN) × (interval ≤ MOST_INTERVAL) × (1 ≤ zeta) × (zeta ≤ MOST_ZETA) }
+{
+    if nodes > MOST_PAGES {
+        Some(Key::Nodes)
+    } else if arcs > MOST_ARCS {
+        Some(Key::Arcs)
+    } else if window > MOST_WINDOW {
+        Some(Key::WindowSize)
+    } else if chain.unwrap_or(0) > MOST_CHAIN {
+        Some(Key::MaxRefCount)
+    } else if interval > MOST_INTERVAL {
+        Some(Key::MinIntervalLength)
+    } else if zeta == 0 || zeta > MOST_ZETA {
+        Some(Key::ZetaK)
+    } else {
+        None
+    }
+}
+
 impl Params {
     /// The parameters, where each is within its limits; a code that its field may not have counts as the compression flags.
     pub fn new(
@@ -84,29 +115,9 @@ impl Params {
         ensures within { IfOk result (λ p. first_bad p ≡ None) }
         ensures bad { let given : Parameters = record { nodes = nodes; arcs = arcs; window = window; chain = chain; interval = interval; zeta = zeta; outdegrees = outdegrees; references = references; block_counts = block_counts; blocks = blocks; residuals = residuals; offsets = offsets } in IfErr result (λ e. first_bad given ≡ Some e.key) }
     {
-        if nodes > MOST_PAGES {
-            return Err(BadParam { key: Key::Nodes });
-        }
-        if arcs > MOST_ARCS {
-            return Err(BadParam { key: Key::Arcs });
-        }
-        if window > MOST_WINDOW {
-            return Err(BadParam {
-                key: Key::WindowSize,
-            });
-        }
-        if chain.unwrap_or(0) > MOST_CHAIN {
-            return Err(BadParam {
-                key: Key::MaxRefCount,
-            });
-        }
-        if interval > MOST_INTERVAL {
-            return Err(BadParam {
-                key: Key::MinIntervalLength,
-            });
-        }
-        if zeta == 0 || zeta > MOST_ZETA {
-            return Err(BadParam { key: Key::ZetaK });
+        let bad = first_bad_number(nodes, arcs, window, chain, interval, zeta);
+        if let Some(key) = bad {
+            return Err(BadParam { key });
         }
         let allowed = is_gamma_or_delta(outdegrees)
             && is_unary_gamma_or_delta(references)

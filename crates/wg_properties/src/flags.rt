@@ -58,6 +58,44 @@ pub struct Codes {
     pub offsets: Code,
 }
 
+impl Codes {
+    fn with_outdegrees(self, code: Code) -> Codes
+        ensures { result ≡ record self { outdegrees = code } }
+    {
+        Codes { outdegrees: code, ..self }
+    }
+
+    fn with_references(self, code: Code) -> Codes
+        ensures { result ≡ record self { references = code } }
+    {
+        Codes { references: code, ..self }
+    }
+
+    fn with_block_counts(self, code: Code) -> Codes
+        ensures { result ≡ record self { block_counts = code } }
+    {
+        Codes { block_counts: code, ..self }
+    }
+
+    fn with_blocks(self, code: Code) -> Codes
+        ensures { result ≡ record self { blocks = code } }
+    {
+        Codes { blocks: code, ..self }
+    }
+
+    fn with_residuals(self, code: Code) -> Codes
+        ensures { result ≡ record self { residuals = code } }
+    {
+        Codes { residuals: code, ..self }
+    }
+
+    fn with_offsets(self, code: Code) -> Codes
+        ensures { result ≡ record self { offsets = code } }
+    {
+        Codes { offsets: code, ..self }
+    }
+}
+
 /// The word that stands for a flag.
 #[tactic(auto, unfolding(crate::specs::Words::word_of))]
 pub fn word_of(flag: Flag) -> &'static [u8]
@@ -102,70 +140,22 @@ pub fn with_flag(zeta: u32, codes: Codes, flag: Flag) -> Codes
     ensures { result ≡ with_flag zeta codes flag }
 {
     match flag {
-        Flag::OutdegreesGamma => Codes {
-            outdegrees: Code::Gamma,
-            ..codes
-        },
-        Flag::OutdegreesDelta => Codes {
-            outdegrees: Code::Delta,
-            ..codes
-        },
-        Flag::BlocksGamma => Codes {
-            blocks: Code::Gamma,
-            ..codes
-        },
-        Flag::BlocksDelta => Codes {
-            blocks: Code::Delta,
-            ..codes
-        },
-        Flag::ReferencesUnary => Codes {
-            references: Code::Unary,
-            ..codes
-        },
-        Flag::ReferencesGamma => Codes {
-            references: Code::Gamma,
-            ..codes
-        },
-        Flag::ReferencesDelta => Codes {
-            references: Code::Delta,
-            ..codes
-        },
-        Flag::BlockCountUnary => Codes {
-            block_counts: Code::Unary,
-            ..codes
-        },
-        Flag::BlockCountGamma => Codes {
-            block_counts: Code::Gamma,
-            ..codes
-        },
-        Flag::BlockCountDelta => Codes {
-            block_counts: Code::Delta,
-            ..codes
-        },
-        Flag::ResidualsGamma => Codes {
-            residuals: Code::Gamma,
-            ..codes
-        },
-        Flag::ResidualsDelta => Codes {
-            residuals: Code::Delta,
-            ..codes
-        },
-        Flag::ResidualsZeta => Codes {
-            residuals: Code::Zeta(zeta),
-            ..codes
-        },
-        Flag::ResidualsNibble => Codes {
-            residuals: Code::Nibble,
-            ..codes
-        },
-        Flag::OffsetsGamma => Codes {
-            offsets: Code::Gamma,
-            ..codes
-        },
-        Flag::OffsetsDelta => Codes {
-            offsets: Code::Delta,
-            ..codes
-        },
+        Flag::OutdegreesGamma => codes.with_outdegrees(Code::Gamma),
+        Flag::OutdegreesDelta => codes.with_outdegrees(Code::Delta),
+        Flag::BlocksGamma => codes.with_blocks(Code::Gamma),
+        Flag::BlocksDelta => codes.with_blocks(Code::Delta),
+        Flag::ReferencesUnary => codes.with_references(Code::Unary),
+        Flag::ReferencesGamma => codes.with_references(Code::Gamma),
+        Flag::ReferencesDelta => codes.with_references(Code::Delta),
+        Flag::BlockCountUnary => codes.with_block_counts(Code::Unary),
+        Flag::BlockCountGamma => codes.with_block_counts(Code::Gamma),
+        Flag::BlockCountDelta => codes.with_block_counts(Code::Delta),
+        Flag::ResidualsGamma => codes.with_residuals(Code::Gamma),
+        Flag::ResidualsDelta => codes.with_residuals(Code::Delta),
+        Flag::ResidualsZeta => codes.with_residuals(Code::Zeta(zeta)),
+        Flag::ResidualsNibble => codes.with_residuals(Code::Nibble),
+        Flag::OffsetsGamma => codes.with_offsets(Code::Gamma),
+        Flag::OffsetsDelta => codes.with_offsets(Code::Delta),
     }
 }
 

@@ -3,12 +3,12 @@ use Rattle.std.proofs.Common.{ℕ, ◌≡◌, ◌+◌, ◌-◌, ◌*◌, ◌<◌
 use Rattle.std.proofs.lemmas.List.{length-replicate, get_or-replicate}
 use Rattle.std.proofs.lemmas.List.FromFn.{fill_by_all}
 use Rattle.wg_graph.specs.Digraph.{Digraph, IsGraph, arc_count}
-use Rattle.wg_params.specs.declared.limits.TheConstants.{MOST_PAGES}
+use Rattle.wg_params.specs.declared.limits.TheConstants.{MOST_PAGES, MOST_DAMPING, MOST_ROUNDS}
 use Rattle.wg_rank.specs.Sum.{sum_below}
 use Rattle.wg_rank.specs.Rank.{total, gap, low, high}
 use Rattle.wg_rank.specs.Intervals.{Intervals, AreBounds, IsTable, Holds, by_page}
 use Rattle.wg_rank.specs.Certified.{IsCertified}
-use Rattle.wg_rank.specs.declared.limits.TheConstants.{MOST_DAMPING, MOST_ROUNDS, UNITS}
+use Rattle.wg_rank.specs.declared.limits.TheConstants.{UNITS}
 use Rattle.wg_rank.proofs.Sums.{sum_same, sum_const}
 use Rattle.wg_rank.proofs.Pageranks.{numerators_total, gap_shrinks, encloses_iterates, encloses_stationary, low_le_high, within_gap, width_is, low_rises, high_falls}
 

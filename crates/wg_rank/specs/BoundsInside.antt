@@ -1,9 +1,9 @@
 -- What is true of the fields of all bounds.
 use Rattle.std.specs.Prelude.{◌≡◌, ◌≤◌, All, length, replicate}
-use Rattle.wg_params.specs.declared.limits.TheConstants.{MOST_PAGES}
+use Rattle.wg_params.specs.declared.limits.TheConstants.{MOST_PAGES, MOST_DAMPING, MOST_ROUNDS}
 use Rattle.wg_rank.specs.Sum.{sum_below}
 use Rattle.wg_rank.specs.Intervals.{Intervals, by_page}
-use Rattle.wg_rank.specs.declared.limits.TheConstants.{MOST_DAMPING, MOST_ROUNDS, UNITS}
+use Rattle.wg_rank.specs.declared.limits.TheConstants.{UNITS}
 use Rattle.wg_rank.specs.declared.bounds.Bounds.TheInside.{Inside}
 
 -- each page has the weight 1

@@ -4,7 +4,7 @@ use Rattle.wg_graph.specs.Digraph.{Digraph, IsGraph}
 use Rattle.wg_rank.specs.Rank.{total, numerator, denominator}
 use Rattle.wg_rank.specs.Intervals.{Intervals, AreBounds, Holds}
 use Rattle.wg_rank.specs.Certified.{IsCertified}
-use Rattle.wg_rank.specs.declared.limits.TheConstants.{MOST_DAMPING}
+use Rattle.wg_params.specs.declared.limits.TheConstants.{MOST_DAMPING}
 
 -- The shares of an iterate add up to 1: their numerators to the denominator, which is not 0.
 abbrev pub SharesAddUp : Type 0

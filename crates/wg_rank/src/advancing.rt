@@ -1,12 +1,12 @@
 // One round, over the bounds as slices.
 
 ghost use Rattle.std.specs.Prelude.{◌≡◌, ℕ, ◌≤◌, ◌<◌, length, slice_index, All};
-ghost use Rattle.wg_params.specs.declared.limits.TheConstants.{MOST_PAGES};
+ghost use Rattle.wg_params.specs.declared.limits.TheConstants.{MOST_PAGES, MOST_DAMPING};
 ghost use Rattle.wg_graph.specs.Digraph.{IsGraph};
 ghost use Rattle.wg_rank.specs.Sum.{sum_below};
 ghost use Rattle.wg_rank.specs.Rank.{lower, clipped};
 ghost use Rattle.wg_rank.specs.Intervals.{IsTable, by_page};
-ghost use Rattle.wg_rank.specs.declared.limits.TheConstants.{MOST_DAMPING, UNITS};
+ghost use Rattle.wg_rank.specs.declared.limits.TheConstants.{UNITS};
 
 use crate::UNITS;
 use crate::gathering::gather;

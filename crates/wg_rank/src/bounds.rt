@@ -1,10 +1,10 @@
 ghost use Rattle.std.specs.Prelude.{◌≡◌, ℕ, ◌+◌, ◌*◌, ◌<◌, ◌≤◌, length, replicate, slice_index, IfOk};
-ghost use Rattle.wg_params.specs.declared.limits.TheConstants.{MOST_PAGES};
+ghost use Rattle.wg_params.specs.declared.limits.TheConstants.{MOST_PAGES, MOST_DAMPING, MOST_ROUNDS};
 ghost use Rattle.wg_graph.specs.Digraph.{Digraph, arc_count};
 ghost use Rattle.wg_rank.specs.Rank.{gap};
 ghost use Rattle.wg_rank.specs.Intervals.{AreBounds, IsTable, Holds, next_low, next_high, by_page};
 ghost use Rattle.wg_rank.specs.Certified.{IsCertified};
-ghost use Rattle.wg_rank.specs.declared.limits.TheConstants.{MOST_DAMPING, MOST_ROUNDS, UNITS};
+ghost use Rattle.wg_rank.specs.declared.limits.TheConstants.{UNITS};
 
 use crate::UNITS;
 use crate::advancing::advance;

@@ -30,7 +30,7 @@ mod settling;
 mod spreading;
 
 pub use bounds::Bounds;
-pub use limits::{MOST_DAMPING, MOST_ROUNDS, UNITS};
+pub use limits::UNITS;
 
 #[cfg(test)]
 mod tests;

@@ -1,11 +1,11 @@
 // New bounds from what flows in, where each page has the weight 1.
 
 ghost use Rattle.std.specs.Prelude.{◌≡◌, ℕ, ◌+◌, ◌*◌, ◌<◌, ◌≤◌, length, slice_index, All};
-ghost use Rattle.wg_params.specs.declared.limits.TheConstants.{MOST_PAGES};
+ghost use Rattle.wg_params.specs.declared.limits.TheConstants.{MOST_PAGES, MOST_DAMPING};
 ghost use Rattle.wg_rank.specs.Sum.{sum_below};
 ghost use Rattle.wg_rank.specs.Intervals.{by_page};
 ghost use Rattle.wg_rank.specs.Settling.{low_rest, high_rest, settled_low, settled_high, least};
-ghost use Rattle.wg_rank.specs.declared.limits.TheConstants.{MOST_DAMPING, UNITS};
+ghost use Rattle.wg_rank.specs.declared.limits.TheConstants.{UNITS};
 
 use crate::UNITS;
 

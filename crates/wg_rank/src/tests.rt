@@ -1,10 +1,10 @@
 ghost use Rattle.std.specs.Prelude.{◌≡◌, ◌+◌, ◌*◌, ◌≤◌, [], ◌∷◌, length, replicate, IfOk};
-ghost use Rattle.wg_params.specs.declared.limits.TheConstants.{MOST_PAGES};
+ghost use Rattle.wg_params.specs.declared.limits.TheConstants.{MOST_PAGES, MOST_DAMPING, MOST_ROUNDS};
 ghost use Rattle.wg_graph.specs.Digraph.{Digraph};
 ghost use Rattle.wg_rank.specs.Intervals.{Holds};
 ghost use Rattle.wg_rank.specs.Certified.{IsCertified};
 ghost use Rattle.wg_rank.specs.Rank.{numerator, denominator, exact_step};
-ghost use Rattle.wg_rank.specs.declared.limits.TheConstants.{MOST_DAMPING, MOST_ROUNDS, UNITS};
+ghost use Rattle.wg_rank.specs.declared.limits.TheConstants.{UNITS};
 
 use crate::{Bounds, UNITS, laws};
 use std::alloc::{AllocError, Global};

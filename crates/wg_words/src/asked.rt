@@ -9,8 +9,7 @@ use clap::ArgMatches;
 use clap::error::ErrorKind;
 use std::alloc::{AllocError, Global};
 use wg_num::read_decimal;
-use wg_params::MOST_PAGES;
-use wg_rank::{MOST_DAMPING, MOST_ROUNDS};
+use wg_params::{MOST_DAMPING, MOST_PAGES, MOST_ROUNDS};
 
 /// The job of the words. It takes memory for `clap`'s tables and for the names of the job.
 pub fn job(alloc: Global, words: &Words) -> Result<Job, JobError>

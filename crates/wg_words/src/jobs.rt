@@ -17,7 +17,7 @@ pub enum Job {
         base: Name,
     },
     /// `rank BASE`: bounds of each page's PageRank after so many rounds at a damping in thousandths, and the order of the `top`
-    /// best pages. The numbers are at most `wg_rank::MOST_ROUNDS`, `wg_rank::MOST_DAMPING` and `wg_params::MOST_PAGES`.
+    /// best pages. The numbers are at most `wg_params::MOST_ROUNDS`, `wg_params::MOST_DAMPING` and `wg_params::MOST_PAGES`.
     Rank {
         base: Name,
         rounds: u64,
