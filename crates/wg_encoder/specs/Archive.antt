@@ -15,9 +15,13 @@ record_bits p lists = map bits_of_fields (records_of p [] lists)
 abbrev pub graph_bits : Parameters → List (List ℕ) → List Bool
 graph_bits p lists = flat_map (λ bits. bits) (record_bits p lists)
 
--- a word of 0, and one of the length of each record
+-- 0, and the length of each record
+abbrev pub offset_values : Parameters → List (List ℕ) → List ℕ
+offset_values p lists = 0 ∷ map length (record_bits p lists)
+
+-- a word of each
 abbrev pub offsets_bits : Parameters → List (List ℕ) → List Bool
-offsets_bits p lists = flat_map (word p.offsets) (0 ∷ map length (record_bits p lists))
+offsets_bits p lists = flat_map (word p.offsets) (offset_values p lists)
 
 -- zero bits up to a whole byte
 abbrev pub filled : List Bool → List Bool

@@ -37,6 +37,11 @@ chosen p c list = unwrap_or (find (λ r. list_all (λ s. nat_le (size_of p c lis
 abbrev pub known_of : Parameters → Context → List ℕ → Known
 known_of p c list = record { list = list; depth = depth_of c.behind (chosen p c list) }
 
+-- what is behind once these lists are written
+abbrev pub known_after : Parameters → List Known → List (List ℕ) → List Known
+known_after p behind [] = behind
+known_after p behind (list ∷ lists) = known_after p (known_of p (context_after p behind) list ∷ behind) lists
+
 -- the records of these lists, one after the other, where these pages are behind
 abbrev pub records_of : Parameters → List Known → List (List ℕ) → List (List Written)
 records_of p behind [] = []
