@@ -3,6 +3,7 @@ pub mod Fronts
 pub mod Order
 pub mod Parted
 pub mod ReadBack
+pub mod SomeGraph
 pub mod Soundness
 pub mod Texts
 pub mod Unique

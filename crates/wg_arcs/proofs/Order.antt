@@ -4,12 +4,11 @@ use Rattle.std.specs.List.{last_or}
 use Rattle.std.proofs.lemmas.Bool.{cases_Bool, cases_lt, cases_eq, lt-ltb, le-ltb, ltb-true, lt-leb}
 use Rattle.std.proofs.lemmas.List.{nil_from_length, get_or_past, length-take-le}
 use Rattle.wg_params.specs.declared.limits.TheConstants.{MOST_ARCS}
-use Rattle.wg_graph.specs.Ascending.{Below}
-use Rattle.wg_graph.specs.Digraph.{Digraph, IsFront, successors}
+use Rattle.wg_graph.specs.Ascending.{Ascends, Below}
+use Rattle.wg_graph.specs.Digraph.{Digraph, successors}
 use Rattle.wg_graph.specs.Arcs.{arcs_of, arcs_from}
 use Rattle.wg_graph.specs.Growing.{ComesAfter}
 use Rattle.wg_graph.proofs.Arcs.{last_list, split_last}
-use Rattle.wg_graph.proofs.Fronts.{front_ascends}
 use Rattle.wg_graph.proofs.Growth.{past_last}
 use Rattle.wg_arcs.specs.declared.fault.ArcsKind.TheVariants as kind
 use Rattle.wg_arcs.specs.Reading.{is_before, is_after, refusal_of}
@@ -63,10 +62,10 @@ ends_at g m size ends =
           ∙ last_or-append None (arcs_from 0 init) (map (λ v. (m, v)) (successors g m)) ∙ last_or-list (last_or None (arcs_from 0 init)) m (successors g m) some;
     }
 
-after_arc : (g : Digraph) (m t x v : ℕ) → IsFront g → EndsAtArc g m t → (is_before (m, t) (x, v) ≡ true → ComesAfter g x v) × (ComesAfter g x v → is_before (m, t) (x, v) ≡ true)
-after_arc g m t x v front h =
+after_arc : (g : Digraph) (m t x v : ℕ) → ((y : ℕ) → Ascends 0 (successors g y)) → EndsAtArc g m t → (is_before (m, t) (x, v) ≡ true → ComesAfter g x v) × (ComesAfter g x v → is_before (m, t) (x, v) ≡ true)
+after_arc g m t x v up h =
     let size = h.size in
-    let past = past_last (successors g m) t v (front_ascends g front m) h.some h.last in
+    let past = past_last (successors g m) t v (up m) h.some h.last in
     elim (cases_lt m x) [
       | inl lt ↦ (λ b. record { not_past = omega arith; above = subst (Below v) (sym (get_or_past g.lists x [] (omega arith))) tt }, λ c. before_lower m t x v lt)
       | inr le ↦ elim (cases_eq m x) [
@@ -78,14 +77,14 @@ after_arc g m t x v front h =
       ]
     ]
 
-pub after_all : (g : Digraph) (x v : ℕ) → IsFront g → EndsInArc g → (is_after (last_or None (arcs_of g)) (x, v) ≡ true → ComesAfter g x v) × (ComesAfter g x v → is_after (last_or None (arcs_of g)) (x, v) ≡ true)
-after_all g x v front ends =
+pub after_all : (g : Digraph) (x v : ℕ) → ((y : ℕ) → Ascends 0 (successors g y)) → EndsInArc g → (is_after (last_or None (arcs_of g)) (x, v) ≡ true → ComesAfter g x v) × (ComesAfter g x v → is_after (last_or None (arcs_of g)) (x, v) ≡ true)
+after_all g x v up ends =
     elim (cases_lt 0 (length g.lists)) [
       | inl some ↦
           let m : ℕ = length g.lists - 1 in
           let h = ends_at g m (omega arith) ends in
           let t : ℕ = get_or (successors g m) (length (successors g m) - 1) 0 in
-          subst (λ (o : Option Arc). (is_after o (x, v) ≡ true → ComesAfter g x v) × (ComesAfter g x v → is_after o (x, v) ≡ true)) (sym h.arc) (after_arc g m t x v front h)
+          subst (λ (o : Option Arc). (is_after o (x, v) ≡ true → ComesAfter g x v) × (ComesAfter g x v → is_after o (x, v) ≡ true)) (sym h.arc) (after_arc g m t x v up h)
       | inr none ↦
           let empty : g.lists ≡ [] = nil_from_length g.lists (omega arith) in
           let gone : last_or None (arcs_of g) ≡ None = ap (λ (ls : List (List ℕ)). last_or None (arcs_from 0 ls)) empty in
@@ -94,10 +93,10 @@ after_all g x v front ends =
 
 -- ---- why an arc is refused
 
-pub not_after : (g : Digraph) (x v : ℕ) (r : Bool) → IsFront g → EndsInArc g → (IsTrue r ↔ ComesAfter g x v) → r ≡ false → is_after (last_or None (arcs_of g)) (x, v) ≡ false
-not_after g x v r front ends says no_more =
+pub not_after : (g : Digraph) (x v : ℕ) (r : Bool) → ((y : ℕ) → Ascends 0 (successors g y)) → EndsInArc g → (IsTrue r ↔ ComesAfter g x v) → r ≡ false → is_after (last_or None (arcs_of g)) (x, v) ≡ false
+not_after g x v r up ends says no_more =
     elim (cases_Bool (is_after (last_or None (arcs_of g)) (x, v))) [
-      | inl h ↦ absurd (let t : r ≡ true = says.1 ((after_all g x v front ends).0 h) in cc)
+      | inl h ↦ absurd (let t : r ≡ true = says.1 ((after_all g x v up ends).0 h) in cc)
       | inr h ↦ h
     ]
 

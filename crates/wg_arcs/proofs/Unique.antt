@@ -1,13 +1,14 @@
 -- A text stands for one graph or has one first fault.
-use Rattle.std.proofs.Common.{◌≡◌, ℕ, zero, suc, ◌+◌, ◌<◌, eqb, List, [], ◌∷◌, ◌++◌, map, filter, length, get_or, refl, sym, ap, ◌∙◌, arith, inl, inr, append-nil}
+use Rattle.std.proofs.Common.{◌≡◌, ℕ, zero, suc, ◌+◌, ◌<◌, eqb, List, [], ◌∷◌, ◌++◌, map, filter, length, get_or, Result, Ok, Err, refl, sym, ap, ◌∙◌, arith, inl, inr, append-nil}
 use Rattle.std.proofs.lemmas.Bool.{cases_lt, cases_eq, eq-eqb, ne_eqb}
 use Rattle.std.proofs.lemmas.Option.{none-some, same_Some}
 use Rattle.std.proofs.lemmas.List.{ext_get_or, map-append}
 use Rattle.std.proofs.lemmas.List.Elements.{filter-append}
+use Rattle.wg_num.specs.Lines.{lines_of}
 use Rattle.wg_graph.specs.Digraph.{Digraph}
 use Rattle.wg_graph.specs.Arcs.{arcs_from}
 use Rattle.wg_arcs.specs.declared.fault.ArcsKind.{ArcsKind}
-use Rattle.wg_arcs.specs.Reading.{fault_at, AreArcs, IsFirstFault}
+use Rattle.wg_arcs.specs.Reading.{fault_at, AreArcs, IsFirstFault, IsListed}
 use Rattle.wg_arcs.specs.Laws.{TextsAreOne}
 use Rattle.wg_arcs.proofs.Order.{Arc}
 
@@ -73,3 +74,10 @@ same_fault n lines line line1 kind kind1 f g =
 
 pub texts_are_one : TextsAreOne
 texts_are_one = record { graph = same_graph; never_both = not_both; fault = same_fault }
+
+-- a text has one answer
+pub listed_one : (n : ℕ) (bytes : List ℕ) (w x : Result Digraph (ℕ × ArcsKind)) → IsListed n bytes w → IsListed n bytes x → w ≡ x
+listed_one n bytes (Ok g) (Ok h) a b = ap Ok (same_graph n (lines_of bytes) g h a b)
+listed_one n bytes (Ok g) (Err e) a b = absurd (not_both n (lines_of bytes) g e.0 e.1 a b)
+listed_one n bytes (Err e) (Ok g) a b = absurd (not_both n (lines_of bytes) g e.0 e.1 b a)
+listed_one n bytes (Err e) (Err f) a b = let same = same_fault n (lines_of bytes) e.0 f.0 e.1 f.1 a b in λ i. Err (same.0 i, same.1 i)

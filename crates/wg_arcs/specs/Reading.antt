@@ -81,3 +81,8 @@ abbrev pub IsRead : ℕ → List ℕ → Result Digraph ArcsError → Type 0
 IsRead n bytes (Ok g) = AreArcs n (lines_of bytes) g
 IsRead n bytes (Err (error.Line line kind)) = IsFirstFault n (lines_of bytes) line kind
 IsRead n bytes (Err error.Memory) = Unit {0}
+
+-- the text stands for this graph of n pages, or this line is its first faulty one, of this kind
+abbrev pub IsListed : ℕ → List ℕ → Result Digraph (ℕ × ArcsKind) → Type 0
+IsListed n bytes (Ok g) = AreArcs n (lines_of bytes) g
+IsListed n bytes (Err fault) = IsFirstFault n (lines_of bytes) fault.0 fault.1

@@ -1,6 +1,6 @@
 //! What holds of the definitions.
 
-ghost use Rattle.wg_arcs.specs.Laws.{TextsAreOne, TextsReadBack};
+ghost use Rattle.wg_arcs.specs.Laws.{TextsAreOne, TextsAreSome, TextsReadBack};
 
 /// The text of a graph stands for the graph.
 pub fn texts_read_back()
@@ -9,5 +9,6 @@ pub fn texts_read_back()
 
 /// A text stands for one graph or has one first fault.
 pub fn one_graph()
-    ensures { TextsAreOne }
+    ensures one { TextsAreOne }
+    ensures some { TextsAreSome }
 {}
