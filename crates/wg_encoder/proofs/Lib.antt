@@ -12,3 +12,5 @@ pub mod Going
 pub mod Puts
 pub mod Adding
 pub mod Low
+pub mod ProperFields
+pub mod ProperStages
