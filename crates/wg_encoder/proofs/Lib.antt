@@ -14,3 +14,4 @@ pub mod Adding
 pub mod Low
 pub mod ProperFields
 pub mod ProperStages
+pub mod ProperReading
