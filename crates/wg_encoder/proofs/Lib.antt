@@ -15,3 +15,4 @@ pub mod Low
 pub mod ProperFields
 pub mod ProperStages
 pub mod ProperReading
+pub mod ProperExtras
