@@ -1,17 +1,16 @@
 -- What is written of the successors that are not copied is read as these successors.
-use Rattle.std.proofs.Common.{◌≡◌, ℕ, zero, suc, ◌+◌, ◌-◌, ◌*◌, ◌<◌, ◌≤◌, ltb, leb, eqb, cond, Bool, true, false, not, ◌&&◌, ◌||◌, List, [], ◌∷◌, ◌++◌, length, length-append, map, sum, Option, Some, None, is_none, refl, sym, ap, subst, ◌∙◌, inl, inr, arith, append_assoc}
+use Rattle.std.proofs.Common.{◌≡◌, ℕ, zero, suc, ◌+◌, ◌-◌, ◌*◌, ◌<◌, ◌≤◌, ltb, leb, eqb, Bool, true, false, ◌&&◌, ◌||◌, List, [], ◌∷◌, ◌++◌, length, length-append, map, sum, Option, Some, None, refl, sym, ap, subst, ◌∙◌, inl, inr, arith, append_assoc}
 use Rattle.std.specs.Prelude.{filter}
 use Rattle.std.specs.List.{flat_map, range_with_len}
 use Rattle.std.proofs.Math.Nat.{suc-mul}
-use Rattle.std.proofs.lemmas.Bool.{cases_Bool, cases_lt, cond-true, cond-false, lt-ltb, le-ltb, ltb-true, ltb-false, leb-true, le-leb, lt-leb, ne_eqb, and_parts, and_from, and_cases, or_right, true≢false}
+use Rattle.std.proofs.lemmas.Bool.{cases_Bool, cases_lt, cond-true, cond-false, lt-ltb, le-ltb, leb-true, le-leb, lt-leb, ne_eqb, and_parts, and_from, or_right, true≢false}
 use Rattle.std.proofs.lemmas.List.{length_push, append-nil, length-map}
 use Rattle.std.proofs.lemmas.List.FromFn.{length-range_with_len}
 use Rattle.wg_params.specs.Parameters.{Parameters, IsWithinLimits}
-use Rattle.wg_params.specs.declared.code.Code.{Code}
 use Rattle.wg_params.specs.declared.code.Code.TheVariants.{Gamma}
 use Rattle.wg_graph.specs.Numbers.{is_in}
 use Rattle.wg_graph.specs.Ascending.{Ascends, Below}
-use Rattle.wg_graph.proofs.Sets.{in_head, in_tail, in_past}
+use Rattle.wg_graph.proofs.Sets.{in_head, in_past}
 use Rattle.wg_graph.proofs.Copies.{sum_push, sum_cons}
 use Rattle.wg_intervals.specs.declared.run.Run.{Run}
 use Rattle.wg_intervals.specs.Canonical.{runs_of, is_long, numbers_of, intervals_of, residuals_of}
@@ -205,15 +204,17 @@ extras_admitted p c s xs past up low all =
     let last : Admits p c (with_extras s n ls ks []) (residual_fields p.residuals c.page None ys) (with_extras s n ls ks ys) =
     residuals_read p c s n ls ks [] None ys past counts.2 even (omega (arith, count)) refl (parts_ascend p.interval xs up).1 low_residuals (omega (arith, size)) in
     let t : SoFar = with_extras s n ls ks ys in
-    let front = admits_append p c s (with_extras s n [] [] []) (with_extras s n ls ks []) (count_fields (has_some xs) p.interval (length runs)) (interval_fields c.page p.interval None runs) counts.3 middle in
-    (t, admits_append p c s (with_extras s n ls ks []) t (count_fields (has_some xs) p.interval (length runs) ++ interval_fields c.page p.interval None runs) (residual_fields p.residuals c.page None ys) front last,
-    record {
-      ends = next_end p c s n ls ks ys past counts.2 even (omega (arith, count)) (omega (arith, size));
-      outdegree = refl;
-      reference = refl;
-      blocks = refl;
-      members = λ y. ap (λ b. b || is_in y ys) (covered_is runs y) ∙ together y;
-    })
+    let front = admits_append p c s (with_extras s n [] [] []) (with_extras s n ls ks []) (count_fields (has_some xs) p.interval (length runs)) (interval_fields c.page p.interval None runs) counts.3 middle in (
+      t,
+      admits_append p c s (with_extras s n ls ks []) t (count_fields (has_some xs) p.interval (length runs) ++ interval_fields c.page p.interval None runs) (residual_fields p.residuals c.page None ys) front last,
+      record {
+        ends = next_end p c s n ls ks ys past counts.2 even (omega (arith, count)) (omega (arith, size));
+        outdegree = refl;
+        reference = refl;
+        blocks = refl;
+        members = λ y. ap (λ b. b || is_in y ys) (covered_is runs y) ∙ together y;
+      },
+    )
 
 pub extras_stand : (p : Parameters) (c : Context) (s : SoFar) (xs : List ℕ) (before rest : List Bool)
     → IsWithinLimits p → c.page < p.nodes → IsPastCopies p c s → Ascends 0 xs → Below p.nodes xs → extra c s ≡ length xs

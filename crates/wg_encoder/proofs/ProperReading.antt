@@ -1,5 +1,5 @@
 -- What is needed and allowed once the copies are past: the interval count, each interval's left end and length, and each residual.
-use Rattle.std.proofs.Common.{◌≡◌, ℕ, zero, suc, ◌+◌, ◌-◌, ◌*◌, ◌<◌, ◌≤◌, ltb, leb, eqb, cond, Bool, true, false, not, ◌&&◌, ◌||◌, List, [], ◌∷◌, ◌++◌, length, sum, Option, Some, None, is_none, refl, sym, ap, subst, ◌∙◌, arith}
+use Rattle.std.proofs.Common.{◌≡◌, ℕ, suc, ◌+◌, ◌-◌, ◌*◌, ◌<◌, ◌≤◌, ltb, eqb, cond, true, false, ◌&&◌, List, [], ◌∷◌, ◌++◌, length, sum, Option, Some, None, is_none, refl, sym, ap, subst, ◌∙◌, arith}
 use Rattle.std.proofs.lemmas.Bool.{cond-true, cond-false, lt-ltb, le-ltb, ne_eqb, eq-eqb, or_from}
 use Rattle.std.proofs.lemmas.List.{length_push, get_or_push}
 use Rattle.wg_params.specs.Parameters.{Parameters}
@@ -9,7 +9,6 @@ use Rattle.wg_codes.specs.Fold.{folded}
 use Rattle.wg_codes.proofs.Folds.{unfolds_from}
 use Rattle.wg_grammar.specs.declared.fault.Field.{Field}
 use Rattle.wg_grammar.specs.declared.fault.Field.TheVariants as field
-use Rattle.wg_grammar.specs.declared.fault.Kind.TheVariants as kind
 use Rattle.wg_grammar.specs.declared.need.Need.{Need}
 use Rattle.wg_grammar.specs.declared.need.Need.TheVariants as need
 use Rattle.wg_grammar.specs.Context.{Context}

@@ -1,5 +1,5 @@
 -- How far a canonical record has been read.
-use Rattle.std.proofs.Common.{◌≡◌, ℕ, ◌<◌, ltb, Bool, false, not, ◌&&◌, List, [], length, Some, None, is_none}
+use Rattle.std.proofs.Common.{◌≡◌, ℕ, ◌<◌, ltb, false, not, ◌&&◌, [], length, Some, None, is_none}
 use Rattle.wg_params.specs.Parameters.{Parameters}
 use Rattle.wg_grammar.specs.Context.{Context}
 use Rattle.wg_grammar.specs.SoFar.{SoFar, value_or_0}
