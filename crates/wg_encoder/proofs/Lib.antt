@@ -16,3 +16,4 @@ pub mod ProperFields
 pub mod ProperStages
 pub mod ProperReading
 pub mod ProperExtras
+pub mod ProperLists
