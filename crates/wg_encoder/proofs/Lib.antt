@@ -17,3 +17,4 @@ pub mod ProperStages
 pub mod ProperReading
 pub mod ProperExtras
 pub mod ProperLists
+pub mod ProperFront
