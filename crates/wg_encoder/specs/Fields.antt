@@ -84,6 +84,11 @@ reference_fields p r = if nat_lt 0 p.window then written field.Reference p.refer
 abbrev pub copy_fields : Parameters → ℕ → List ℕ → List ℕ → List Written
 copy_fields p r referenced list = if nat_lt 0 r then block_fields p (canonical_blocks list referenced) else []
 
+-- the reference that a record has: that of an empty list has none
+abbrev pub reference_of : List ℕ → ℕ → ℕ
+reference_of [] r = 0
+reference_of (y ∷ ys) r = r
+
 -- how the list of a page is written with the reference r, where this is the list that r names, empty for none
 abbrev pub list_fields : Parameters → ℕ → ℕ → List ℕ → List ℕ → List Written
 list_fields p page r referenced [] = []

@@ -9,7 +9,7 @@ use Rattle.wg_grammar.specs.Record.{ReadsRecord}
 use Rattle.wg_grammar.specs.Archive.{ReadsGraph}
 use Rattle.wg_bits.specs.Bits.{bits_of}
 use Rattle.wg_offsets.specs.Words.{places_of, ReadsOffsets}
-use Rattle.wg_encoder.specs.Fields.{bits_of_fields}
+use Rattle.wg_encoder.specs.Fields.{bits_of_fields, reference_of}
 use Rattle.wg_encoder.specs.Greedy.{canonical, size_of, is_candidate, chosen}
 use Rattle.wg_encoder.specs.Archive.{graph_bits, offset_values, offsets_bits, filled, graph_file, offsets_file}
 
@@ -30,12 +30,12 @@ pub record IsList (p : Parameters) (list : List ℕ) : Type 0 where
   pub ascends : Ascends 0 list
   pub below : Below p.nodes list
 
--- The canonical record of a list by a candidate is a proper record of this list, wherever its bits stand.
+-- The canonical record of a list by a candidate is a proper record of this list, wherever its bits stand. Where the list is empty it has no reference.
 abbrev pub CanonicalIsProper : Type 0
 CanonicalIsProper =
     (p : Parameters) (c : Context) (list : List ℕ) (r : ℕ) (before rest : List Bool)
     → IsWithinLimits p → c.page < p.nodes → All (λ (k : Known). IsList p k.list) c.behind → IsList p list → c.arcs_before + length list ≤ p.arcs → is_candidate p c list r ≡ true
-    → ReadsRecord p c (before ++ (bits_of_fields (canonical p c list r) ++ rest)) (length before) (Ok (record { known = record { list = list; depth = depth_of c.behind r }; end = length before + size_of p c list r }))
+    → ReadsRecord p c (before ++ (bits_of_fields (canonical p c list r) ++ rest)) (length before) (Ok (record { known = record { list = list; depth = depth_of c.behind (reference_of list r) }; end = length before + size_of p c list r }))
 
 -- so many bits are enough for the records of so many pages with so many arcs
 abbrev pub enough_bits : ℕ → ℕ → ℕ
