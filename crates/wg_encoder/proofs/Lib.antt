@@ -18,3 +18,4 @@ pub mod ProperReading
 pub mod ProperExtras
 pub mod ProperLists
 pub mod ProperFront
+pub mod ProperRecord

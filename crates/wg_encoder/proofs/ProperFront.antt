@@ -1,21 +1,18 @@
 -- The outdegree, the reference and the blocks of a canonical record are those that are needed, and are allowed.
-use Rattle.std.proofs.Common.{◌≡◌, ℕ, zero, suc, ◌+◌, ◌-◌, ◌<◌, ◌≤◌, min, Bool, true, false, not, ◌&&◌, ◌==◌, ltb, nat_lt, if◌then◌else◌, List, [], ◌∷◌, ◌++◌, length, length-append, map, sum, refl, sym, ap, subst, ◌∙◌, inl, inr, arith, append_assoc, is_none}
-use Rattle.std.specs.Prelude.{Option, Some, None, filter}
+use Rattle.std.proofs.Common.{◌≡◌, ℕ, suc, ◌+◌, ◌-◌, ◌<◌, ◌≤◌, min, Bool, true, false, ltb, nat_lt, if◌then◌else◌, List, [], ◌∷◌, ◌++◌, length, map, sum, refl, sym, ap, subst, inl, inr, arith, append_assoc}
+use Rattle.std.specs.Prelude.{Option, Some, None}
 use Rattle.std.proofs.lemmas.Bool.{cases_Bool, lt-ltb, le-ltb, ne_eqb, and_right}
 use Rattle.std.proofs.lemmas.List.{append-nil, length_push}
-use Rattle.wg_graph.specs.Numbers.{is_in}
-use Rattle.wg_graph.specs.Copied.{copied_members}
 use Rattle.wg_graph.proofs.Copies.{sum_cons, sum_push}
 use Rattle.wg_params.specs.Parameters.{Parameters}
-use Rattle.wg_blocks.proofs.Alternate.{AllSome, LaterSome, later_some, end_within, copy_successors}
-use Rattle.wg_blocks.specs.Canonical.{canonical_blocks}
+use Rattle.wg_blocks.proofs.Alternate.{AllSome, LaterSome}
 use Rattle.wg_grammar.specs.declared.fault.Field.TheVariants as field
 use Rattle.wg_grammar.specs.declared.need.Need.TheVariants as need
 use Rattle.wg_grammar.specs.Context.{Context, referenced, depth_of}
 use Rattle.wg_grammar.specs.SoFar.{SoFar, nothing_yet, value_or_0, source, copied, own_block, after}
 use Rattle.wg_grammar.specs.Next.{next}
 use Rattle.wg_grammar.specs.Refusal.{refusal, passes}
-use Rattle.wg_encoder.specs.Fields.{Written, written, stored_blocks, block_fields, reference_fields, copy_fields}
+use Rattle.wg_encoder.specs.Fields.{written, stored_blocks, block_fields, reference_fields}
 use Rattle.wg_encoder.proofs.ProperFields.{Admits}
 use Rattle.wg_encoder.proofs.ProperStages.{IsPastCopies}
 
@@ -105,12 +102,11 @@ later_admitted p c d r n done (b ∷ blocks) some refers window later all fits l
     let total : length more ≡ length done + 1 = length_push done b in
     let rest : Admits p c (referring d r n more false) (map (written field.Block p.blocks) (map (λ k. k - 1) blocks)) (referring d r n (more ++ blocks) false) =
     later_admitted p c d r n more blocks some refers window (omega (arith, total)) (omega (arith, total, all)) (omega (arith, sum_push done b, sum_cons b blocks, fits)) large.1 in
-    let whole : more ++ blocks ≡ done ++ b ∷ blocks = append_assoc done (b ∷ []) blocks in
-    (
+    let whole : more ++ blocks ≡ done ++ b ∷ blocks = append_assoc done (b ∷ []) blocks in (
       block_next p c d r n done some refers window (omega (arith, all)),
       block_fine p c s (b - 1) b own (omega (arith, sum_cons b blocks, fits)),
       subst (λ (z : SoFar). Admits p c z (map (written field.Block p.blocks) (map (λ k. k - 1) blocks)) (referring d r n (done ++ b ∷ blocks) false)) (sym (block_read p c d r n done (b - 1) b own))
-      (subst (λ bs. Admits p c (referring d r n more false) (map (written field.Block p.blocks) (map (λ k. k - 1) blocks)) (referring d r n bs false)) whole rest),
+          (subst (λ bs. Admits p c (referring d r n more false) (map (written field.Block p.blocks) (map (λ k. k - 1) blocks)) (referring d r n bs false)) whole rest),
     )
 
 all_admitted : (p : Parameters) (c : Context) (d r : ℕ) (blocks : List ℕ) → 0 < d → 0 < r → 0 < p.window → sum blocks ≤ length (referenced c.behind r) → LaterSome blocks
@@ -118,21 +114,20 @@ all_admitted : (p : Parameters) (c : Context) (d r : ℕ) (blocks : List ℕ) �
 all_admitted p c d r [] some refers window fits large = refl
 all_admitted p c d r (b ∷ blocks) some refers window fits large =
     let n : ℕ = suc (length blocks) in
-    let total : sum (b ∷ []) ≡ b = omega (arith, sum_cons b []) in
-    (
+    let total : sum (b ∷ []) ≡ b = omega (arith, sum_cons b []) in (
       block_next p c d r n [] some refers window (omega arith),
       block_fine p c (referring d r n [] false) b b refl (omega (arith, sum_cons b blocks, fits)),
       subst (λ (z : SoFar). Admits p c z (map (written field.Block p.blocks) (map (λ k. k - 1) blocks)) (referring d r n (b ∷ blocks) false)) (sym (block_read p c d r n [] b b refl))
-      (later_admitted p c d r n (b ∷ []) blocks some refers window (omega arith) (omega arith) (omega (arith, total, sum_cons b blocks, fits)) large),
+          (later_admitted p c d r n (b ∷ []) blocks some refers window (omega arith) (omega arith) (omega (arith, total, sum_cons b blocks, fits)) large),
     )
 
 pub blocks_admitted : (p : Parameters) (c : Context) (d r : ℕ) (blocks : List ℕ) → 0 < d → 0 < r → 0 < p.window → length blocks ≤ 1 + length (referenced c.behind r) → sum blocks ≤ length (referenced c.behind r) → LaterSome blocks
     → Admits p c (reading d (Some r) None [] false) (block_fields p blocks) (referring d r (length blocks) blocks false)
 blocks_admitted p c d r blocks some refers window few fits large = (
-      count_next p c d r some refers window,
-      count_fine p c (reading d (Some r) None [] false) (length blocks) (omega (arith, few)),
-      subst (λ (z : SoFar). Admits p c z (map (written field.Block p.blocks) (stored_blocks blocks)) (referring d r (length blocks) blocks false)) (sym (count_read p c d r (length blocks))) (all_admitted p c d r blocks some refers window fits large),
-    )
+  count_next p c d r some refers window,
+  count_fine p c (reading d (Some r) None [] false) (length blocks) (omega (arith, few)),
+  subst (λ (z : SoFar). Admits p c z (map (written field.Block p.blocks) (stored_blocks blocks)) (referring d r (length blocks) blocks false)) (sym (count_read p c d r (length blocks))) (all_admitted p c d r blocks some refers window fits large),
+)
 
 -- ---- the check of what is copied
 

@@ -7,6 +7,7 @@ use Rattle.wg_graph.specs.Ascending.{Ascends, Below}
 use Rattle.wg_graph.proofs.Sets.{ascending_is, where_same, below_more}
 use Rattle.wg_encoder.specs.Fields.{extras}
 use Rattle.wg_encoder.proofs.Extra.{ascends-filter}
+use Rattle.wg_encoder.proofs.Short.{below_filter}
 
 and_true : (b : Bool) → (b && true) ≡ b
 and_true true = refl
@@ -34,11 +35,7 @@ in_filter t (x ∷ xs) y =
     none_left true = refl
     none_left false = refl
 
-pub below_filter : (t : ℕ → Bool) (n : ℕ) (xs : List ℕ) → Below n xs → Below n (filter t xs)
-below_filter t n [] low = tt
-below_filter t n (x ∷ xs) low = let rest = below_filter t n xs low.1 in elim (cases_Bool (t x)) [ inl h ↦ rw h (low.0, rest) | inr h ↦ rw h rest ]
-
-pub from_0 : (n : ℕ) (xs : List ℕ) → Below n xs → Below (0 + n) xs
+from_0 : (n : ℕ) (xs : List ℕ) → Below n xs → Below (0 + n) xs
 from_0 n xs low = below_more n (0 + n) xs (omega arith) low
 
 -- two ascending lists have the same members in common, whichever is looked through

@@ -137,7 +137,7 @@ few_later : (bs : List ℕ) → LaterSome bs → length bs ≤ 1 + sum bs
 few_later [] some = omega arith
 few_later (b ∷ bs) some = omega (arith, sum_cons b bs, few_some bs some)
 
-few_blocks : (list referenced : List ℕ) → length (canonical_blocks list referenced) ≤ 1 + length referenced
+pub few_blocks : (list referenced : List ℕ) → length (canonical_blocks list referenced) ≤ 1 + length referenced
 few_blocks list referenced = omega (arith, few_later (canonical_blocks list referenced) (later_some list referenced), end_within list referenced)
 
 stored_as_many : (bs : List ℕ) → length (stored_blocks bs) ≡ length bs
@@ -157,7 +157,7 @@ copies_short p r referenced list within =
       | inr h ↦ rw h (omega arith)
     ]
 
-below_filter : (t : ℕ → Bool) (n : ℕ) (xs : List ℕ) → Below n xs → Below n (filter t xs)
+pub below_filter : (t : ℕ → Bool) (n : ℕ) (xs : List ℕ) → Below n xs → Below n (filter t xs)
 below_filter t n [] low = tt
 below_filter t n (x ∷ xs) low = let rest = below_filter t n xs low.1 in elim (cases_Bool (t x)) [ inl h ↦ rw h (low.0, rest) | inr h ↦ rw h rest ]
 
