@@ -19,3 +19,7 @@ pub mod ProperExtras
 pub mod ProperLists
 pub mod ProperFront
 pub mod ProperRecord
+pub mod ShortRecords
+pub mod Totals
+pub mod Standing
+pub mod Accepted

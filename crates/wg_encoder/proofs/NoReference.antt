@@ -148,7 +148,7 @@ extras_have p page n xs within few here up low =
     (both_have (count_fields (has_some xs) p.interval (length (intervals_of p.interval xs))) (interval_fields page p.interval None (intervals_of p.interval xs)) (count_has (has_some xs) p.interval (length (intervals_of p.interval xs)) (omega (arith, count, long, few))) (intervals_have page p.interval n None (intervals_of p.interval xs) few here (low_where n (is_long p.interval) (runs_of xs) runs)))
     (residuals_have p page n None (residuals_of p.interval xs) within few here (numbers_below n _ (low_where n (λ run. not (is_long p.interval run)) (runs_of xs) runs)))
 
-nothing_copied : (list : List ℕ) → extras list [] ≡ list
+pub nothing_copied : (list : List ℕ) → extras list [] ≡ list
 nothing_copied [] = refl
 nothing_copied (y ∷ ys) = ap (λ xs. y ∷ xs) (nothing_copied ys)
 

@@ -33,7 +33,7 @@ low_highest : (y : ℕ) → highest y ≤ 63
 unfolding highest
 low_highest y = omega arith
 
-gamma_short : (v : ℕ) → length (gamma v) ≤ 2 ^ 7
+pub gamma_short : (v : ℕ) → length (gamma v) ≤ 2 ^ 7
 gamma_short v = omega (arith, length-gamma v (highest (v + 1)) refl, low_highest (v + 1))
 
 delta_short : (v : ℕ) → length (delta v) ≤ 2 ^ 8
@@ -62,7 +62,7 @@ zeta_short k v few =
     omega (arith, zeta_span k h v refl, shortened_short k h (v + 1), div-mul-le_self (highest (v + 1)) k, div-le_self (highest (v + 1)) k, low_highest (v + 1))
 
 -- outdegrees and blocks
-outdegree_short : (code : Code) (v : ℕ) → is_gamma_or_delta code ≡ true → length (word code v) ≤ 2 ^ 8
+pub outdegree_short : (code : Code) (v : ℕ) → is_gamma_or_delta code ≡ true → length (word code v) ≤ 2 ^ 8
 outdegree_short Gamma v is = omega (arith, gamma_short v)
 outdegree_short Delta v is = delta_short v
 outdegree_short Unary v is = absurd (true≢false (sym is))
@@ -86,15 +86,15 @@ residual_short z Unary v few is = absurd (true≢false (sym is))
 
 -- ---- fields
 
-bits_both : (us vs : List Written) → length (bits_of_fields (us ++ vs)) ≡ length (bits_of_fields us) + length (bits_of_fields vs)
+pub bits_both : (us vs : List Written) → length (bits_of_fields (us ++ vs)) ≡ length (bits_of_fields us) + length (bits_of_fields vs)
 bits_both [] vs = omega arith
 bits_both (u ∷ us) vs =
     omega (arith, length-append (word u.code u.value) (bits_of_fields (us ++ vs)), length-append (word u.code u.value) (bits_of_fields us), bits_both us vs)
 
-bits_more : (u : Written) (us : List Written) → length (bits_of_fields (u ∷ us)) ≡ length (word u.code u.value) + length (bits_of_fields us)
+pub bits_more : (u : Written) (us : List Written) → length (bits_of_fields (u ∷ us)) ≡ length (word u.code u.value) + length (bits_of_fields us)
 bits_more u us = length-append (word u.code u.value) (bits_of_fields us)
 
-intervals_short : (page least : ℕ) (past : Option ℕ) (rs : List Run) → length (bits_of_fields (interval_fields page least past rs)) ≤ 2 ^ 8 * length rs
+pub intervals_short : (page least : ℕ) (past : Option ℕ) (rs : List Run) → length (bits_of_fields (interval_fields page least past rs)) ≤ 2 ^ 8 * length rs
 intervals_short page least past [] = omega arith
 intervals_short page least past (r ∷ rs) =
     let rest : List Written = interval_fields page least (Some (r.left + r.length)) rs in
@@ -102,7 +102,7 @@ intervals_short page least past (r ∷ rs) =
     let size : Written = written field.Length Gamma (r.length - least) in
     omega (arith, bits_more left (size ∷ rest), bits_more size rest, gamma_short left.value, gamma_short size.value, intervals_short page least (Some (r.left + r.length)) rs)
 
-residuals_short : (p : Parameters) (page : ℕ) (last : Option ℕ) (ys : List ℕ) → IsWithinLimits p → length (bits_of_fields (residual_fields p.residuals page last ys)) ≤ 2 ^ 8 * length ys
+pub residuals_short : (p : Parameters) (page : ℕ) (last : Option ℕ) (ys : List ℕ) → IsWithinLimits p → length (bits_of_fields (residual_fields p.residuals page last ys)) ≤ 2 ^ 8 * length ys
 residuals_short p page last [] within = omega arith
 residuals_short p page last (y ∷ ys) within =
     let rest : List Written = residual_fields p.residuals page (Some y) ys in
