@@ -1,18 +1,13 @@
 -- No word of nibble begins another.
-use Rattle.std.proofs.Common.{◌≡◌, ℕ, zero, suc, ◌+◌, ◌-◌, ◌*◌, ◌/◌, ◌%◌, ◌^◌, ◌<◌, ◌≤◌, Bool, true, false, List, [], ◌∷◌, ◌++◌, length, refl, sym, ap, ◌∙◌, subst, ⊎_elim, inl, inr, ◌⊎◌, arith, length-append, append_assoc}
-use Rattle.std.proofs.Math.Nat.{pow-suc, div-div-eq-div-mul}
-use Rattle.std.proofs.Math.Numerals.{add-one}
-use Rattle.std.proofs.Math.Pow.{pow_mono}
-use Rattle.std.proofs.lemmas.Nat.{div_below, le-div}
-use Rattle.std.proofs.lemmas.Bool.{cases_order, cases_eq}
-use Rattle.std.proofs.lemmas.List.{append-nil, append_cancel_left}
-use Rattle.wg_bits.specs.Bits.{low_bits, Place, rest, moved}
-use Rattle.wg_bits.proofs.LowBits.{length-low_bits, low_bits-above, low_bits-injective}
-use Rattle.wg_codes.specs.declared.outcome.Read.TheVariants.{Value, Cut, NoWord}
-use Rattle.wg_codes.specs.Reading.{Begins, ProperlyBegins, Reads}
-use Rattle.wg_codes.specs.Words.{highest, nibble, digits}
+use Rattle.std.proofs.Common.{◌≡◌, ℕ, zero, suc, ◌+◌, ◌-◌, ◌*◌, ◌/◌, ◌%◌, ◌^◌, ◌<◌, Bool, true, false, List, ◌∷◌, ◌++◌, length, sym, ap, ◌∙◌, subst, ⊎_elim, arith, append_assoc}
+use Rattle.std.proofs.Math.Nat.{pow-suc}
+use Rattle.std.proofs.lemmas.Bool.{cases_order}
+use Rattle.std.proofs.lemmas.List.{append_cancel_left}
+use Rattle.wg_bits.specs.Bits.{low_bits}
+use Rattle.wg_bits.proofs.LowBits.{length-low_bits, low_bits-injective}
+use Rattle.wg_codes.specs.Words.{highest, nibble}
 use Rattle.wg_codes.proofs.Prefix.{Free, cons_tail}
-use Rattle.wg_codes.proofs.Highest.{highest_bounds, highest_zero, highest_below, between_powers, same_fronts, filled, filled_odd}
+use Rattle.wg_codes.proofs.Highest.{same_fronts}
 use Rattle.wg_codes.proofs.NibbleWords.{open_digits, open_more, full_of, length-open_digits, split_word}
 
 -- ---- the law

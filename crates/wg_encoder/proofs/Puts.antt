@@ -3,6 +3,7 @@ use Rattle.std.proofs.Common.{OnErr, Result, Ok, Err, inl, inr, ◌≡◌, ℕ, 
 use Rattle.std.proofs.lemmas.Bool.{and_parts, leb-true, cases_Bool, cond-false}
 use Rattle.std.proofs.lemmas.List.{append-nil, map-append, take_more, take-append-drop}
 use Rattle.std.proofs.lemmas.List.Concat.{flat_map-append}
+use Rattle.std.proofs.lemmas.List.Elements.{All-nil}
 use Rattle.wg_io.specs.Outside.{Files}
 use Rattle.wg_bits.specs.Written.{HasPut, HasPutLess}
 use Rattle.wg_bits.proofs.Writes.{put_less_more, put_then_less}
@@ -54,7 +55,7 @@ nothing_put p page r referenced list a n w =
     let first : List Bool = word p.outdegrees (length list) in
     let more : List Bool = bits_of_fields (list_fields p page r referenced list) in
     let some : 0 < length (w ++ bits_of_fields (record_fields p page r referenced list)) = omega (arith, word_some p.outdegrees (length list), length-append first more, length-append w (first ++ more)) in
-    record { out = []; files = refl; left = w ++ bits_of_fields (record_fields p page r referenced list); some = some; bits = refl }
+    record { out = []; bytes = All-nil (λ b. b < 2 ^ 8); files = refl; left = w ++ bits_of_fields (record_fields p page r referenced list); some = some; bits = refl }
 
 -- what holds of any end holds where a call fails
 pub on_err : {A E P : Type 0} (r : Result A E) → P → OnErr r P
