@@ -14,14 +14,19 @@
 mod asked;
 mod commands;
 mod defaults;
+mod files;
 mod jobs;
+mod layout;
 mod name;
+mod suffixes;
 mod words;
 
 pub use asked::job;
 pub use defaults::{DEFAULT_DAMPING, DEFAULT_ROUNDS, DEFAULT_TOP};
 pub use jobs::{Job, JobError};
+pub use layout::Layout;
 pub use name::Name;
+pub use suffixes::{GRAPH, OFFSETS, PROPERTIES};
 pub use words::Words;
 
 #[cfg(test)]
