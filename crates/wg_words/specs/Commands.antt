@@ -4,9 +4,13 @@ use Rattle.clap.specs.declared.builder.command.Command.TheViews.{out-Command}
 use Rattle.std.specs.Prelude.{◌≡◌, true, false, List, [], ◌∷◌, Option, Some, None, codes}
 use Rattle.clap.specs.Words.{app_of, App, Row, Rule, Text, Kinds, new_app, new_rule, with_rule, with_subcommand, subcommand_of, fault_of}
 
+-- a word that must be there
+abbrev pub positional_rule : Text → Rule
+positional_rule name = record (new_rule name) { required = true }
+
 -- the archive of a command
 abbrev pub base_rule : Rule
-base_rule = record (new_rule (codes "base")) { required = true }
+base_rule = positional_rule (codes "base")
 
 -- NAME BASE
 abbrev pub archive_app : Text → App
@@ -16,9 +20,39 @@ archive_app name = with_rule (new_app name) base_rule
 abbrev pub option_rule : Text → Rule
 option_rule name = record (new_rule name) { long = Some name }
 
+-- --NAME VALUE, which must be there
+abbrev pub required_rule : Text → Rule
+required_rule name = record (option_rule name) { required = true }
+
 -- rank BASE, with the options --rounds, --damping and --top
 abbrev pub rank_app : App
 rank_app = with_rule (with_rule (with_rule (archive_app (codes "rank")) (option_rule (codes "rounds"))) (option_rule (codes "damping"))) (option_rule (codes "top"))
+
+-- a command with one option more
+abbrev pub with_option : App → Text → App
+with_option a name = with_rule a (option_rule name)
+
+-- the options --window, --chain, --interval and --zeta
+abbrev pub with_limits : App → App
+with_limits a = with_option (with_option (with_option (with_option a (codes "window")) (codes "chain")) (codes "interval")) (codes "zeta")
+
+-- the options --outdegrees, --references, --blockcounts, --blocks, --residuals and --offsets
+abbrev pub with_codes : App → App
+with_codes a =
+    with_option (with_option (with_option (with_option (with_option (with_option a
+    (codes "outdegrees")) (codes "references")) (codes "blockcounts")) (codes "blocks")) (codes "residuals")) (codes "offsets")
+
+-- the options that say how an archive is written
+abbrev pub with_layout : App → App
+with_layout a = with_codes (with_limits a)
+
+-- build ARCS BASE --nodes N
+abbrev pub plain_build_app : App
+plain_build_app = with_rule (with_rule (with_rule (new_app (codes "build")) (positional_rule (codes "arcs"))) base_rule) (required_rule (codes "nodes"))
+
+-- the same with the options that say how the archive is written
+abbrev pub build_app : App
+build_app = with_layout plain_build_app
 
 -- one level of subcommands, of which one is required
 abbrev pub program_app : App
@@ -30,7 +64,7 @@ plain_app = with_subcommand (with_subcommand (with_subcommand program_app (archi
 
 -- the command line of the program
 abbrev pub command_app : App
-command_app = with_subcommand plain_app rank_app.top
+command_app = with_subcommand (with_subcommand plain_app rank_app.top) build_app.top
 
 -- nothing where the words are refused
 abbrev pub where_empty : {X : Type 0} → Kinds → Option X → Option X

@@ -1,17 +1,25 @@
 //! The commands of the program with their options and positionals: a function each, as the definitions have an `App` each.
 ghost use Rattle.std.specs.Prelude.{◌≡◌, IfOk, false};
-ghost use Rattle.clap.specs.Words.{rule_of};
-ghost use Rattle.wg_words.specs.Commands.{IsApp, base_rule, archive_app, option_rule, rank_app, program_app, plain_app, command_app};
+ghost use Rattle.clap.specs.Words.{App, rule_of};
+ghost use Rattle.wg_words.specs.Commands.{IsApp, positional_rule, base_rule, archive_app, option_rule, required_rule, rank_app, with_option, with_limits, with_codes, with_layout, plain_build_app, build_app, program_app, plain_app, command_app};
 
 use clap::{Arg, Command};
 use std::alloc::{AllocError, Global};
+
+// A word that must be there.
+fn positional<'a>(alloc: Global, name: &'a str) -> Arg<'a>
+    ensures rule { rule_of result ≡ positional_rule name.now }
+    ensures local { result.global ≡ false }
+{
+    Arg::new(alloc, name).required(true)
+}
 
 // The archive of a command.
 fn base<'a>(alloc: Global) -> Arg<'a>
     ensures rule { rule_of result ≡ base_rule }
     ensures local { result.global ≡ false }
 {
-    Arg::new(alloc, "base").required(true)
+    positional(alloc, "base")
 }
 
 // A command on one archive.
@@ -29,6 +37,14 @@ fn option<'a>(alloc: Global, name: &'a str) -> Arg<'a>
     Arg::new(alloc, name).long(name)
 }
 
+// An option of one value, which must be there.
+fn required<'a>(alloc: Global, name: &'a str) -> Arg<'a>
+    ensures rule { rule_of result ≡ required_rule name.now }
+    ensures local { result.global ≡ false }
+{
+    option(alloc, name).required(true)
+}
+
 fn rank<'a>(alloc: Global) -> Result<Command<'a>, AllocError>
     ensures { IfOk result (IsApp rank_app) }
 {
@@ -36,6 +52,60 @@ fn rank<'a>(alloc: Global) -> Result<Command<'a>, AllocError>
         .arg(option(alloc, "rounds"))?
         .arg(option(alloc, "damping"))?
         .arg(option(alloc, "top"))
+}
+
+// The command with one option more.
+fn with_option<'a>(alloc: Global, command: Command<'a>, name: &'a str) -> Result<Command<'a>, AllocError>
+    ensures { (a : App) → IsApp a command.entry → IfOk result (IsApp (with_option a name.now)) }
+{
+    command.arg(option(alloc, name))
+}
+
+// The command with the options of an archive's numbers.
+fn with_limits<'a>(alloc: Global, command: Command<'a>) -> Result<Command<'a>, AllocError>
+    ensures { (a : App) → IsApp a command.entry → IfOk result (IsApp (with_limits a)) }
+{
+    let command = with_option(alloc, command, "window")?;
+    let command = with_option(alloc, command, "chain")?;
+    let command = with_option(alloc, command, "interval")?;
+    with_option(alloc, command, "zeta")
+}
+
+// The command with the options of an archive's codes.
+fn with_codes<'a>(alloc: Global, command: Command<'a>) -> Result<Command<'a>, AllocError>
+    ensures { (a : App) → IsApp a command.entry → IfOk result (IsApp (with_codes a)) }
+{
+    let command = with_option(alloc, command, "outdegrees")?;
+    let command = with_option(alloc, command, "references")?;
+    let command = with_option(alloc, command, "blockcounts")?;
+    let command = with_option(alloc, command, "blocks")?;
+    let command = with_option(alloc, command, "residuals")?;
+    with_option(alloc, command, "offsets")
+}
+
+// The command with the options that say how an archive is written.
+fn with_layout<'a>(alloc: Global, command: Command<'a>) -> Result<Command<'a>, AllocError>
+    ensures { (a : App) → IsApp a command.entry → IfOk result (IsApp (with_layout a)) }
+{
+    let command = with_limits(alloc, command)?;
+    with_codes(alloc, command)
+}
+
+// `build` without the options that say how the archive is written.
+fn plain_build<'a>(alloc: Global) -> Result<Command<'a>, AllocError>
+    ensures { IfOk result (IsApp plain_build_app) }
+{
+    Command::new(alloc, "build")
+        .arg(positional(alloc, "arcs"))?
+        .arg(base(alloc))?
+        .arg(required(alloc, "nodes"))
+}
+
+fn build<'a>(alloc: Global) -> Result<Command<'a>, AllocError>
+    ensures { IfOk result (IsApp build_app) }
+{
+    let command = plain_build(alloc)?;
+    with_layout(alloc, command)
 }
 
 fn program<'a>(alloc: Global) -> Command<'a>
@@ -64,5 +134,6 @@ pub fn command<'a>(alloc: Global) -> Result<Command<'a>, AllocError>
     ensures { IfOk result (IsApp command_app) }
 {
     let rank = rank(alloc)?;
-    plain(alloc)?.subcommand(rank)
+    let build = build(alloc)?;
+    plain(alloc)?.subcommand(rank)?.subcommand(build)
 }
