@@ -1,3 +1,5 @@
 pub mod CommandLemmas
 pub mod FileLemmas
-pub mod RankLemmas
+pub mod JobLemmas
+pub mod LayoutLemmas
+pub mod ValueLemmas

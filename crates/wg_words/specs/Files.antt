@@ -1,5 +1,5 @@
 -- The names of an archive's files.
-use Rattle.std.specs.Prelude.{ℕ, ◌≡◌, ◌≢◌, Bool, ◌||◌, List, ◌++◌}
+use Rattle.std.specs.Prelude.{ℕ, ◌≢◌, Bool, ◌||◌, List, ◌++◌}
 use Rattle.std.specs.Str.{bytes_eq}
 use Rattle.wg_words.specs.declared.suffixes.TheConstants.{PROPERTIES, GRAPH, OFFSETS}
 

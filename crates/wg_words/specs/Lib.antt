@@ -1,3 +1,5 @@
 pub mod Commands
 pub mod Files
 pub mod Jobs
+pub mod Layouts
+pub mod Values

@@ -1,14 +1,16 @@
-ghost use Rattle.std.specs.Prelude.{◌≡◌, Some, None, IfOk, IfErr, option_and_then, option_map, map, string_bytes};
-ghost use Rattle.clap.specs.Words.{subcommand_rows_of, rows_of, found_of, first_of};
+ghost use Rattle.std.specs.Prelude.{◌≡◌, Some, None, IfOk, IfErr, option_and_then, map, string_bytes};
+ghost use Rattle.clap.specs.Words.{subcommand_rows_of, rows_of, found_of};
 ghost use Rattle.wg_words.specs.Commands.{parsed};
-ghost use Rattle.wg_words.specs.Jobs.{job_of, job_from, job_on, rank_on, name_in, nonempty_of, number_in, number_or, limited, IsWithin};
+ghost use Rattle.wg_words.specs.Jobs.{job_of, job_from, job_on, rank_on, build_on, build_from, IsWithin};
 
 use crate::commands::command;
+use crate::files::is_file_of;
+use crate::options::layout_at;
+use crate::values::{name_at, number_at, required_at};
 use crate::{DEFAULT_DAMPING, DEFAULT_ROUNDS, DEFAULT_TOP, Job, JobError, Name, Words};
 use clap::ArgMatches;
 use clap::error::ErrorKind;
 use std::alloc::{AllocError, Global};
-use wg_num::read_decimal;
 use wg_params::{MOST_DAMPING, MOST_PAGES, MOST_ROUNDS};
 
 /// The job of the words. It takes memory for `clap`'s tables and for the names of the job.
@@ -56,19 +58,25 @@ fn job_from(alloc: Global, command: &str, found: &ArgMatches<'_>) -> Result<Opti
     let Some(base) = name_at(alloc, found, "base")? else {
         return Ok(None);
     };
-    Ok(job_on(command, found, base))
+    job_on(alloc, command, found, base)
 }
 
 // The job of a command on one archive.
-fn job_on(command: &str, found: &ArgMatches<'_>, base: Name) -> Option<Job>
-    ensures { result ≡ job_on command.now (rows_of (found_of found.now)) base }
+fn job_on(
+    alloc: Global,
+    command: &str,
+    found: &ArgMatches<'_>,
+    base: Name,
+) -> Result<Option<Job>, AllocError>
+    ensures { IfOk result (λ job. job ≡ job_on command.now (rows_of (found_of found.now)) base) }
 {
     match command {
-        "check" => Some(Job::Check { base }),
-        "arcs" => Some(Job::Arcs { base }),
-        "offsets" => Some(Job::Offsets { base }),
-        "rank" => rank_on(found, base),
-        _ => None,
+        "check" => Ok(Some(Job::Check { base })),
+        "arcs" => Ok(Some(Job::Arcs { base })),
+        "offsets" => Ok(Some(Job::Offsets { base })),
+        "rank" => Ok(rank_on(found, base)),
+        "build" => build_on(alloc, found, base),
+        _ => Ok(None),
     }
 }
 
@@ -87,54 +95,29 @@ fn rank_on(found: &ArgMatches<'_>, base: Name) -> Option<Job>
     })
 }
 
-// The text of an argument.
-fn text_at<'a>(found: &ArgMatches<'a>, id: &str) -> Option<&'a str>
-    ensures { option_map (λ s. s.now) result ≡ first_of id.now (rows_of (found_of found.now)) }
+// The building of an archive from an arc list that is none of its files.
+fn build_on(alloc: Global, found: &ArgMatches<'_>, base: Name) -> Result<Option<Job>, AllocError>
+    ensures { IfOk result (λ job. job ≡ build_on (rows_of (found_of found.now)) base) }
 {
-    found.get_str(id)
-}
-
-// The name that an argument gives: none where the argument is absent or empty.
-fn name_at(alloc: Global, found: &ArgMatches<'_>, id: &str) -> Result<Option<Name>, AllocError>
-    ensures { IfOk result (λ name. name ≡ name_in (rows_of (found_of found.now)) id.now) }
-{
-    match text_at(found, id) {
-        None => Ok(None),
-        Some(text) => nonempty(alloc, text),
-    }
-}
-
-fn nonempty(alloc: Global, text: &str) -> Result<Option<Name>, AllocError>
-    ensures { IfOk result (λ name. name ≡ nonempty_of text.now) }
-{
-    if text.is_empty() {
+    let Some(arcs) = name_at(alloc, found, "arcs")? else {
+        return Ok(None);
+    };
+    if is_file_of(base.as_str(), arcs.as_str()) {
         return Ok(None);
     }
-    Ok(Some(Name::new(alloc, text)?))
+    Ok(build_from(found, arcs, base))
 }
 
-// The number that an option gives: its default where the option is absent.
-fn number_at(found: &ArgMatches<'_>, id: &str, default: u64, most: u64) -> Option<u64>
-    ensures { result ≡ number_in (rows_of (found_of found.now)) id.now default most }
+// The building of an archive from a file, with the pages and the layout that the options give.
+fn build_from(found: &ArgMatches<'_>, arcs: Name, base: Name) -> Option<Job>
+    ensures { result ≡ build_from (rows_of (found_of found.now)) base arcs }
 {
-    number_or(text_at(found, id), default, most)
-}
-
-fn number_or(text: Option<&str>, default: u64, most: u64) -> Option<u64>
-    ensures { result ≡ number_or default most (option_map (λ s. s.now) text.entry) }
-{
-    let Some(text) = text else {
-        return Some(default);
-    };
-    limited(read_decimal(text.as_bytes())?, most)
-}
-
-// The number, if it is at most its limit.
-fn limited(number: u64, most: u64) -> Option<u64>
-    ensures { result ≡ limited most number }
-{
-    if number > most {
-        return None;
-    }
-    Some(number)
+    let nodes = required_at(found, "nodes", MOST_PAGES)?;
+    let layout = layout_at(found)?;
+    Some(Job::Build {
+        arcs,
+        base,
+        nodes,
+        layout,
+    })
 }

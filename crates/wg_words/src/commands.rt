@@ -55,7 +55,11 @@ fn rank<'a>(alloc: Global) -> Result<Command<'a>, AllocError>
 }
 
 // The command with one option more.
-fn with_option<'a>(alloc: Global, command: Command<'a>, name: &'a str) -> Result<Command<'a>, AllocError>
+fn with_option<'a>(
+    alloc: Global,
+    command: Command<'a>,
+    name: &'a str,
+) -> Result<Command<'a>, AllocError>
     ensures { (a : App) → IsApp a command.entry → IfOk result (IsApp (with_option a name.now)) }
 {
     command.arg(option(alloc, name))

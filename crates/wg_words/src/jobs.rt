@@ -1,4 +1,4 @@
-use crate::Name;
+use crate::{Layout, Name};
 use thiserror::Error;
 
 /// What the words ask for.
@@ -23,6 +23,14 @@ pub enum Job {
         rounds: u64,
         damping: u64,
         top: u64,
+    },
+    /// `build ARCS BASE --nodes N`: the archive BASE of the graph with so many pages whose arcs the file ARCS lists. The pages
+    /// are at most `wg_params::MOST_PAGES`, the layout is within the limits of `wg_params`, and ARCS is none of the files of BASE.
+    Build {
+        arcs: Name,
+        base: Name,
+        nodes: u64,
+        layout: Layout,
     },
 }
 

@@ -5,6 +5,9 @@
 //! the words give. There is no job where `clap` refuses the words, a request for help being such a refusal, or where a value is
 //! out of its range. The definition of the job, `job_of`, is over the matches that `clap` defines for these words.
 //!
+//! A command that writes an archive takes the options of `options`, and its job has a [`Layout`]: what the words say of the
+//! archive's parameters, all but the numbers of pages and arcs. No such job reads one of the files that it writes.
+//!
 //! A number is read from the text of its option by [`wg_num::read_decimal`], and by none of `clap`'s parsers: digits alone, no 0
 //! before others, at most its limit. An option that is absent gives its default.
 //!
@@ -12,13 +15,16 @@
 #![tactic(auto)]
 
 mod asked;
+mod codes;
 mod commands;
 mod defaults;
 mod files;
 mod jobs;
 mod layout;
 mod name;
+mod options;
 mod suffixes;
+mod values;
 mod words;
 
 pub use asked::job;

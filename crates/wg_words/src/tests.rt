@@ -1,5 +1,6 @@
 use crate::{Job, JobError, Name, Words, job};
 use std::alloc::Global;
+use std::process::Abort;
 use std::test::Fail;
 
 // The command, the numbers and the graph file of the job of a line, whose words are parted by blanks.
@@ -23,6 +24,18 @@ fn job_of_line(alloc: Global, line: &str) -> Result<Option<String>, Fail> {
             let command = format!(in alloc; "rank {rounds} {damping} {top}")?;
             named(alloc, command.as_str(), &base)
         }
+        Ok(
+            Job::Build {
+                arcs,
+                base,
+                nodes,
+                layout,
+            },
+        ) => {
+            let arcs = arcs.as_str();
+            let command = format!(in alloc; "build {arcs} {nodes} {layout:?}")?;
+            named(alloc, command.as_str(), &base)
+        }
         Err(JobError::Usage) => Ok(None),
         Err(JobError::Memory) => Err(Fail::from(JobError::Memory)),
     }
@@ -32,6 +45,16 @@ fn named(alloc: Global, command: &str, base: &Name) -> Result<Option<String>, Fa
     let graph = base.with_suffix(alloc, ".graph")?;
     let graph = graph.as_str();
     Ok(Some(format!(in alloc; "{command} {graph}")?))
+}
+
+// Each line asks for the job beside it, or for none.
+fn assert_jobs(rt: &impl Abort, alloc: Global, lines: &[(&str, &str)]) -> Result<(), Fail> {
+    for (line, asked) in lines {
+        let found = job_of_line(alloc, line)?;
+        let named = found.as_ref().map_or("", |text| text.as_str());
+        assert!(rt; named == *asked, "{line}");
+    }
+    Ok(())
 }
 
 #[test]
@@ -79,10 +102,51 @@ fn which_lines_are_jobs(rt: HostRuntime) -> Result<(), Fail> {
         ("g", ""),
         ("", ""),
     ];
-    for (line, asked) in lines {
-        let found = job_of_line(rt.alloc(), line)?;
-        let named = found.as_ref().map_or("", |text| text.as_str());
-        assert!(rt; named == asked, "{line}");
-    }
-    Ok(())
+    assert_jobs(&rt, rt.alloc(), &lines)
+}
+
+#[test]
+fn which_builds_are_jobs(rt: HostRuntime) -> Result<(), Fail> {
+    let lines = [
+        (
+            "build g.arcs g --nodes 1",
+            "build g.arcs 1 Layout { window: 7, chain: Some(3), interval: 4, zeta: 3, outdegrees: Gamma, references: Unary, block_counts: Gamma, blocks: Gamma, residuals: Zeta(3), offsets: Gamma } g.graph",
+        ),
+        (
+            "build --window 0 --chain=0 --interval 2147483647 --zeta 31 --outdegrees delta --references gamma --blockcounts unary --blocks delta --residuals nibble --offsets delta --nodes=68719476735 a b",
+            "build a 68719476735 Layout { window: 0, chain: Some(0), interval: 2147483647, zeta: 31, outdegrees: Delta, references: Gamma, block_counts: Unary, blocks: Delta, residuals: Nibble, offsets: Delta } b.graph",
+        ),
+        (
+            "build a b --nodes 0 --chain none --zeta 5 --references delta --blockcounts delta",
+            "build a 0 Layout { window: 7, chain: None, interval: 4, zeta: 5, outdegrees: Gamma, references: Delta, block_counts: Delta, blocks: Gamma, residuals: Zeta(5), offsets: Gamma } b.graph",
+        ),
+        (
+            "build --residuals delta --nodes 3 --chain 2147483647 --window 65535 -- -a g",
+            "build -a 3 Layout { window: 65535, chain: Some(2147483647), interval: 4, zeta: 3, outdegrees: Gamma, references: Unary, block_counts: Gamma, blocks: Gamma, residuals: Delta, offsets: Gamma } g.graph",
+        ),
+        ("build a b", ""),
+        ("build a --nodes 1", ""),
+        ("build a b c --nodes 1", ""),
+        ("build a b --nodes x", ""),
+        ("build a b --nodes 68719476736", ""),
+        ("build a b --nodes 1 --nodes 1", ""),
+        ("build a b --nodes 1 --window 65536", ""),
+        ("build a b --nodes 1 --window none", ""),
+        ("build a b --nodes 1 --chain 2147483648", ""),
+        ("build a b --nodes 1 --interval 2147483648", ""),
+        ("build a b --nodes 1 --zeta 0", ""),
+        ("build a b --nodes 1 --zeta 32", ""),
+        ("build a b --nodes 1 --outdegrees unary", ""),
+        ("build a b --nodes 1 --references zeta", ""),
+        ("build a b --nodes 1 --blockcounts zeta", ""),
+        ("build a b --nodes 1 --residuals unary", ""),
+        ("build a b --nodes 1 --offsets nibble", ""),
+        ("build g.graph g --nodes 1", ""),
+        ("build g.properties g --nodes 1", ""),
+        ("build g.offsets g --nodes 1", ""),
+        ("build  b --nodes 1", ""),
+        ("build a  --nodes 1", ""),
+        ("check a --window 1", ""),
+    ];
+    assert_jobs(&rt, rt.alloc(), &lines)
 }

@@ -1,5 +1,5 @@
 use Rattle.std.proofs.Common.{rules}
-use Rattle.wg_words.proofs.RankLemmas.{job_within}
+use Rattle.wg_words.proofs.JobLemmas.{job_within}
 use Rattle.wg_words.proofs.asked.job.Goals as goal
 
 pub returns-in-Ok-Some-clause-within : goal.returns-in-Ok-Some-clause-within

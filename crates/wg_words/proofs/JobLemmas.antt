@@ -1,22 +1,22 @@
--- The numbers of a job are within their limits.
-use Rattle.std.proofs.Common.{◌≡◌, ℕ, ◌≤◌, Bool, true, false, List, Option, Some, None, cond, arith, subst, codes}
+-- A job is within its limits.
+use Rattle.std.proofs.Common.{◌≡◌, ℕ, ◌≤◌, Bool, true, false, List, Option, Some, cond, arith, subst, codes}
 use Rattle.std.specs.Str.{bytes_eq}
 use Rattle.std.proofs.lemmas.Option.{none-some, same_Some, option_and_then_some}
 use Rattle.clap.specs.Words.{Row, Text, first_of}
-use Rattle.wg_num.specs.Decimal.{number_of}
+use Rattle.wg_params.specs.Parameters.{IsWithinLimits}
 use Rattle.wg_params.specs.declared.limits.TheConstants.{MOST_PAGES, MOST_DAMPING, MOST_ROUNDS}
 use Rattle.wg_words.specs.Commands.{parsed}
-use Rattle.wg_words.specs.Jobs.{name_in, limited, number_or, rank_on, job_on, job_from, job_of, IsWithin}
+use Rattle.wg_words.specs.Files.{is_file_of, IsNoFileOf}
+use Rattle.wg_words.specs.Layouts.{params_of}
+use Rattle.wg_words.specs.Values.{name_in, number_up_to}
+use Rattle.wg_words.specs.Jobs.{rank_on, build_from, build_on, job_on, job_from, job_of, IsWithin}
 use Rattle.wg_words.specs.declared.defaults.TheConstants.{DEFAULT_DAMPING, DEFAULT_ROUNDS, DEFAULT_TOP}
 use Rattle.wg_words.specs.declared.jobs.Job.{Job}
-use Rattle.wg_words.specs.declared.jobs.Job.TheVariants.{Check, Arcs, Offsets, Rank}
-
-limited_within : (most n v : ℕ) → limited most n ≡ Some v → v ≤ most
-limited_within most n v is = grind arith
-
-number_within : (default most : ℕ) (o : Option Text) (v : ℕ) → default ≤ most → number_or default most o ≡ Some v → v ≤ most
-number_within default most None v low is = subst (λ (x : ℕ). x ≤ most) (same_Some default v is) low
-number_within default most (Some text) v low is = option_and_then_some (limited most) (number_of text) v is (λ n _ found. limited_within most n v found)
+use Rattle.wg_words.specs.declared.jobs.Job.TheVariants.{Check, Arcs, Offsets, Rank, Build}
+use Rattle.wg_words.specs.declared.layout.Layout.{Layout}
+use Rattle.wg_words.proofs.FileLemmas.{no_file}
+use Rattle.wg_words.proofs.LayoutLemmas.{layout_in_within}
+use Rattle.wg_words.proofs.ValueLemmas.{up_to_within, number_within, some_unless}
 
 rank_on_within : (rows : List Row) (base : Text) (job : Job) → rank_on rows base ≡ Some job → IsWithin job
 rank_on_within rows base job is =
@@ -32,6 +32,18 @@ rank_on_within rows base job is =
       number_within DEFAULT_TOP MOST_PAGES (first_of (codes "top") rows) top fewest is_top,
     ))))
 
+build_from_within : (rows : List Row) (base arcs : Text) (job : Job) → IsNoFileOf base arcs → build_from rows base arcs ≡ Some job → IsWithin job
+build_from_within rows base arcs job apart is =
+    option_and_then_some _ _ job is (λ nodes is_nodes then_layout.
+    option_and_then_some _ _ job then_layout (λ layout is_layout job_is.
+    let few : nodes ≤ MOST_PAGES = option_and_then_some (number_up_to MOST_PAGES) (first_of (codes "nodes") rows) nodes is_nodes (λ text _ found. up_to_within MOST_PAGES text nodes found) in
+    subst IsWithin (same_Some (Build arcs base nodes layout) job job_is) (few, layout_in_within rows layout nodes few is_layout, apart)))
+
+build_on_within : (rows : List Row) (base : Text) (job : Job) → build_on rows base ≡ Some job → IsWithin job
+build_on_within rows base job is =
+    option_and_then_some _ _ job is (λ arcs _ unless_file.
+    some_unless IsWithin (is_file_of base arcs) (build_from rows base arcs) job (λ other. build_from_within rows base arcs job (no_file base arcs other)) unless_file)
+
 -- one of two answers
 chosen_within : (b : Bool) (first other : Option Job) (job : Job) → (first ≡ Some job → IsWithin job) → (other ≡ Some job → IsWithin job) → cond b first other ≡ Some job → IsWithin job
 chosen_within true first other job by_first by_other is = by_first is
@@ -42,7 +54,8 @@ job_on_within command rows base job =
     chosen_within (bytes_eq command (codes "check")) _ _ job (λ is. subst IsWithin (same_Some (Check base) job is) tt)
     (chosen_within (bytes_eq command (codes "arcs")) _ _ job (λ is. subst IsWithin (same_Some (Arcs base) job is) tt)
     (chosen_within (bytes_eq command (codes "offsets")) _ _ job (λ is. subst IsWithin (same_Some (Offsets base) job is) tt)
-    (chosen_within (bytes_eq command (codes "rank")) _ _ job (rank_on_within rows base job) (λ is. absurd (none-some job is)))))
+    (chosen_within (bytes_eq command (codes "rank")) _ _ job (rank_on_within rows base job)
+    (chosen_within (bytes_eq command (codes "build")) _ _ job (build_on_within rows base job) (λ is. absurd (none-some job is))))))
 
 pub job_within : (words : List Text) (job : Job) → job_of words ≡ Some job → IsWithin job
 job_within words job is =
@@ -53,3 +66,7 @@ job_within words job is =
 -- what a caller knows of the numbers of a ranking
 pub rank_within : (words : List Text) (base : Text) (rounds damping top : ℕ) → job_of words ≡ Some (Rank base rounds damping top) → (rounds ≤ MOST_ROUNDS) × (damping ≤ MOST_DAMPING) × (top ≤ MOST_PAGES)
 rank_within words base rounds damping top is = job_within words (Rank base rounds damping top) is
+
+-- what a caller knows of the building of an archive
+pub build_within : (words : List Text) (arcs base : Text) (nodes : ℕ) (layout : Layout) → job_of words ≡ Some (Build arcs base nodes layout) → (nodes ≤ MOST_PAGES) × IsWithinLimits (params_of layout nodes 0) × IsNoFileOf base arcs
+build_within words arcs base nodes layout is = job_within words (Build arcs base nodes layout) is

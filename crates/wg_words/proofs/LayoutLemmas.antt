@@ -1,0 +1,119 @@
+-- A layout that the options give is within the limits.
+use Rattle.std.proofs.Common.{◌≡◌, ℕ, ◌≤◌, ◌==◌, true, List, Option, Some, None, unwrap_or, option_map, arith, refl, subst, codes}
+use Rattle.std.specs.Str.{bytes_eq}
+use Rattle.std.proofs.lemmas.Option.{none-some, same_Some, option_and_then_some}
+use Rattle.clap.specs.Words.{Row, Text, first_of}
+use Rattle.wg_params.specs.Codes.{is_gamma_or_delta, is_unary_gamma_or_delta, is_residual_code}
+use Rattle.wg_params.specs.Parameters.{IsWithinLimits}
+use Rattle.wg_params.specs.declared.code.Code.{Code}
+use Rattle.wg_params.specs.declared.code.Code.TheVariants.{Unary, Gamma, Delta, Zeta, Nibble}
+use Rattle.wg_params.specs.declared.limits.TheConstants.{MOST_PAGES, MOST_ARCS, MOST_WINDOW, MOST_CHAIN, MOST_INTERVAL, MOST_ZETA}
+use Rattle.wg_words.specs.Values.{number_up_to, word_in}
+use Rattle.wg_words.specs.Layouts.{params_of, chain_or, factor_of, zeta_in, gamma_or_delta, unary_gamma_or_delta, residual_code, coded_in, layout_in}
+use Rattle.wg_words.specs.declared.defaults.TheConstants.{DEFAULT_WINDOW, DEFAULT_CHAIN, DEFAULT_INTERVAL, DEFAULT_ZETA, DEFAULT_OUTDEGREES, DEFAULT_REFERENCES, DEFAULT_BLOCK_COUNTS, DEFAULT_BLOCKS, DEFAULT_RESIDUALS, DEFAULT_OFFSETS}
+use Rattle.wg_words.specs.declared.layout.Layout.{Layout}
+use Rattle.wg_words.proofs.ValueLemmas.{up_to_within, number_within, first_or_other}
+
+-- gamma or delta, under whatever holds of both
+named_code : (P : Code → Type 0) (word : Text) (code : Code) → P Gamma → P Delta → gamma_or_delta word ≡ Some code → P code
+named_code P word code gamma delta =
+    first_or_other P (bytes_eq word (codes "gamma")) Gamma _ code gamma
+    (first_or_other P (bytes_eq word (codes "delta")) Delta None code delta (λ is. absurd (none-some code is)))
+
+gamma_or_delta_within : (word : Text) (code : Code) → gamma_or_delta word ≡ Some code → is_gamma_or_delta code ≡ true
+gamma_or_delta_within word code = named_code (λ (x : Code). is_gamma_or_delta x ≡ true) word code refl refl
+
+unary_gamma_or_delta_within : (word : Text) (code : Code) → unary_gamma_or_delta word ≡ Some code → is_unary_gamma_or_delta code ≡ true
+unary_gamma_or_delta_within word code =
+    first_or_other (λ (x : Code). is_unary_gamma_or_delta x ≡ true) (bytes_eq word (codes "unary")) Unary _ code refl
+    (named_code (λ (x : Code). is_unary_gamma_or_delta x ≡ true) word code refl refl)
+
+same_factor : (n : ℕ) → (n == n) ≡ true
+same_factor n = grind arith
+
+residual_code_within : (factor : ℕ) (word : Text) (code : Code) → residual_code factor word ≡ Some code → is_residual_code factor code ≡ true
+residual_code_within factor word code =
+    first_or_other (λ (x : Code). is_residual_code factor x ≡ true) (bytes_eq word (codes "zeta")) (Zeta factor) _ code (same_factor factor)
+    (first_or_other (λ (x : Code). is_residual_code factor x ≡ true) (bytes_eq word (codes "nibble")) Nibble _ code refl
+    (named_code (λ (x : Code). is_residual_code factor x ≡ true) word code refl refl))
+
+-- a limit that is there is at most the greatest
+limit_within : (o : Option ℕ) (chain : Option ℕ) → ((n : ℕ) → o ≡ Some n → n ≤ MOST_CHAIN) → option_map (λ n. Some n) o ≡ Some chain → unwrap_or chain 0 ≤ MOST_CHAIN
+limit_within None chain within is = absurd (none-some chain is)
+limit_within (Some n) chain within is = subst (λ (x : Option ℕ). unwrap_or x 0 ≤ MOST_CHAIN) (same_Some (Some n) chain is) (within n refl)
+
+chain_within : (o : Option Text) (chain : Option ℕ) → chain_or o ≡ Some chain → unwrap_or chain 0 ≤ MOST_CHAIN
+chain_within None chain is =
+    let least : DEFAULT_CHAIN ≤ MOST_CHAIN = omega arith in
+    subst (λ (x : Option ℕ). unwrap_or x 0 ≤ MOST_CHAIN) (same_Some (Some DEFAULT_CHAIN) chain is) least
+chain_within (Some text) chain is =
+    let least : 0 ≤ MOST_CHAIN = omega arith in
+    first_or_other (λ (x : Option ℕ). unwrap_or x 0 ≤ MOST_CHAIN) (bytes_eq text (codes "none")) None _ chain least
+    (limit_within (number_up_to MOST_CHAIN text) chain (λ n found. up_to_within MOST_CHAIN text n found)) is
+
+factor_within : (n factor : ℕ) → n ≤ MOST_ZETA → factor_of n ≡ Some factor → (1 ≤ factor) × (factor ≤ MOST_ZETA)
+factor_within n factor low is = grind arith
+
+zeta_within : (rows : List Row) (factor : ℕ) → zeta_in rows ≡ Some factor → (1 ≤ factor) × (factor ≤ MOST_ZETA)
+zeta_within rows factor is =
+    let least : DEFAULT_ZETA ≤ MOST_ZETA = omega arith in
+    option_and_then_some _ _ factor is (λ n is_number is_factor.
+    factor_within n factor (number_within DEFAULT_ZETA MOST_ZETA (first_of (codes "zeta") rows) n least is_number) is_factor)
+
+coded_within : (rows : List Row) (back : ℕ) (row : Option ℕ) (least factor : ℕ) (layout : Layout) (pages : ℕ) → pages ≤ MOST_PAGES → back ≤ MOST_WINDOW → unwrap_or row 0 ≤ MOST_CHAIN → least ≤ MOST_INTERVAL → (1 ≤ factor) × (factor ≤ MOST_ZETA) → coded_in rows back row least factor ≡ Some layout → IsWithinLimits (params_of layout pages 0)
+coded_within rows back row least factor layout pages few_pages near short small factor_in is =
+    let no_links : 0 ≤ MOST_ARCS = omega arith in
+    option_and_then_some _ _ layout is (λ outdegrees is_outdegrees then_references.
+    option_and_then_some _ _ layout then_references (λ references is_references then_counts.
+    option_and_then_some _ _ layout then_counts (λ counts is_counts then_blocks.
+    option_and_then_some _ _ layout then_blocks (λ blocks is_blocks then_residuals.
+    option_and_then_some _ _ layout then_residuals (λ residuals is_residuals then_offsets.
+    option_and_then_some _ _ layout then_offsets (λ offsets is_offsets layout_is.
+    subst (λ (l : Layout). IsWithinLimits (params_of l pages 0)) (same_Some (record { window = back; chain = row; interval = least; zeta = factor; outdegrees = outdegrees; references = references; block_counts = counts; blocks = blocks; residuals = residuals; offsets = offsets }) layout layout_is) (record {
+      nodes = few_pages;
+      arcs = no_links;
+      window = near;
+      chain = short;
+      interval = small;
+      some_zeta = factor_in.0;
+      zeta = factor_in.1;
+      outdegrees = gamma_or_delta_within (word_in rows (codes "outdegrees") DEFAULT_OUTDEGREES.now) outdegrees is_outdegrees;
+      references = unary_gamma_or_delta_within (word_in rows (codes "references") DEFAULT_REFERENCES.now) references is_references;
+      block_counts = unary_gamma_or_delta_within (word_in rows (codes "blockcounts") DEFAULT_BLOCK_COUNTS.now) counts is_counts;
+      blocks = gamma_or_delta_within (word_in rows (codes "blocks") DEFAULT_BLOCKS.now) blocks is_blocks;
+      residuals = residual_code_within factor (word_in rows (codes "residuals") DEFAULT_RESIDUALS.now) residuals is_residuals;
+      offsets = gamma_or_delta_within (word_in rows (codes "offsets") DEFAULT_OFFSETS.now) offsets is_offsets;
+    })))))))
+
+pub layout_in_within : (rows : List Row) (layout : Layout) (pages : ℕ) → pages ≤ MOST_PAGES → layout_in rows ≡ Some layout → IsWithinLimits (params_of layout pages 0)
+layout_in_within rows layout pages few_pages is =
+    let near : DEFAULT_WINDOW ≤ MOST_WINDOW = omega arith in
+    let small : DEFAULT_INTERVAL ≤ MOST_INTERVAL = omega arith in
+    option_and_then_some _ _ layout is (λ window is_window then_chain.
+    option_and_then_some _ _ layout then_chain (λ chain is_chain then_interval.
+    option_and_then_some _ _ layout then_interval (λ interval is_interval then_zeta.
+    option_and_then_some _ _ layout then_zeta (λ zeta is_zeta is_coded.
+    coded_within rows window chain interval zeta layout pages few_pages
+    (number_within DEFAULT_WINDOW MOST_WINDOW (first_of (codes "window") rows) window near is_window)
+    (chain_within (first_of (codes "chain") rows) chain is_chain)
+    (number_within DEFAULT_INTERVAL MOST_INTERVAL (first_of (codes "interval") rows) interval small is_interval)
+    (zeta_within rows zeta is_zeta)
+    is_coded))))
+
+-- the arcs are counted only when they have been read, and do not change what else is within its limits
+pub layout_within : (layout : Layout) (pages links : ℕ) → IsWithinLimits (params_of layout pages 0) → links ≤ MOST_ARCS → IsWithinLimits (params_of layout pages links)
+layout_within layout pages links within few = record {
+  nodes = within.nodes;
+  arcs = few;
+  window = within.window;
+  chain = within.chain;
+  interval = within.interval;
+  some_zeta = within.some_zeta;
+  zeta = within.zeta;
+  outdegrees = within.outdegrees;
+  references = within.references;
+  block_counts = within.block_counts;
+  blocks = within.blocks;
+  residuals = within.residuals;
+  offsets = within.offsets;
+}

@@ -1,0 +1,38 @@
+-- What a positional or an option gives: a name or a number.
+use Rattle.std.specs.Prelude.{ℕ, nat_le, List, [], ◌∷◌, Option, Some, None, option_and_then, unwrap_or, if◌then◌else◌}
+use Rattle.clap.specs.Words.{Row, Text, first_of}
+use Rattle.wg_num.specs.Decimal.{number_of}
+
+-- a name is not empty
+abbrev pub nonempty_of : Text → Option Text
+nonempty_of [] = None
+nonempty_of (b ∷ bs) = Some (b ∷ bs)
+
+-- the name that an argument gives
+abbrev pub name_in : List Row → Text → Option Text
+name_in rows id = option_and_then nonempty_of (first_of id rows)
+
+-- a number is at most its limit
+abbrev pub limited : ℕ → ℕ → Option ℕ
+limited most n = if nat_le n most then Some n else None
+
+-- the number whose decimal the text is, where it is within the limit
+abbrev pub number_up_to : ℕ → Text → Option ℕ
+number_up_to most text = option_and_then (limited most) (number_of text)
+
+-- the default where there is no text
+abbrev pub number_or : ℕ → ℕ → Option Text → Option ℕ
+number_or default most None = Some default
+number_or default most (Some text) = number_up_to most text
+
+-- the number that an option gives
+abbrev pub number_in : List Row → Text → ℕ → ℕ → Option ℕ
+number_in rows id default most = number_or default most (first_of id rows)
+
+-- the number that an option without a default gives
+abbrev pub required_in : List Row → Text → ℕ → Option ℕ
+required_in rows id most = option_and_then (number_up_to most) (first_of id rows)
+
+-- the word that an option gives
+abbrev pub word_in : List Row → Text → Text → Text
+word_in rows id default = unwrap_or (first_of id rows) default

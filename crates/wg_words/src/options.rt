@@ -1,0 +1,96 @@
+ghost use Rattle.std.specs.Prelude.{◌≡◌, option_map};
+ghost use Rattle.clap.specs.Words.{rows_of, found_of};
+ghost use Rattle.wg_words.specs.Layouts.{chain_of, chain_or, chain_in, factor_of, zeta_in, coded_in, layout_in};
+
+use crate::Layout;
+use crate::codes::{gamma_or_delta, residual_code, unary_gamma_or_delta};
+use crate::defaults::{
+    DEFAULT_BLOCK_COUNTS, DEFAULT_BLOCKS, DEFAULT_CHAIN, DEFAULT_INTERVAL, DEFAULT_OFFSETS,
+    DEFAULT_OUTDEGREES, DEFAULT_REFERENCES, DEFAULT_RESIDUALS, DEFAULT_WINDOW, DEFAULT_ZETA,
+};
+use crate::values::{number_at, number_up_to, text_at, word_at};
+use clap::ArgMatches;
+use wg_params::{MOST_CHAIN, MOST_INTERVAL, MOST_WINDOW, MOST_ZETA};
+
+/// The layout that the options of an archive that is written give: none where one is out of its range.
+pub fn layout_at(found: &ArgMatches<'_>) -> Option<Layout>
+    ensures { result ≡ layout_in (rows_of (found_of found.now)) }
+{
+    let window = number_at(found, "window", DEFAULT_WINDOW, MOST_WINDOW)?;
+    let chain = chain_at(found)?;
+    let interval = number_at(found, "interval", DEFAULT_INTERVAL, MOST_INTERVAL)?;
+    let zeta = zeta_at(found)?;
+    coded_at(found, window, chain, interval, zeta)
+}
+
+// How many references may lead from one page to the next: inside, none for any number.
+fn chain_at(found: &ArgMatches<'_>) -> Option<Option<u64>>
+    ensures { result ≡ chain_in (rows_of (found_of found.now)) }
+{
+    chain_or(text_at(found, "chain"))
+}
+
+fn chain_or(text: Option<&str>) -> Option<Option<u64>>
+    ensures { result ≡ chain_or (option_map (λ s. s.now) text.entry) }
+{
+    let Some(text) = text else {
+        return Some(Some(DEFAULT_CHAIN));
+    };
+    chain_of(text)
+}
+
+fn chain_of(text: &str) -> Option<Option<u64>>
+    ensures { result ≡ chain_of text.now }
+{
+    if text == "none" {
+        return Some(None);
+    }
+    Some(Some(number_up_to(text, MOST_CHAIN)?))
+}
+
+// The shrinking factor of zeta codes.
+fn zeta_at(found: &ArgMatches<'_>) -> Option<u32>
+    ensures { result ≡ zeta_in (rows_of (found_of found.now)) }
+{
+    let zeta = number_at(found, "zeta", u64::from(DEFAULT_ZETA), u64::from(MOST_ZETA))?;
+    factor_of(u32::try_from(zeta).ok()?)
+}
+
+fn factor_of(zeta: u32) -> Option<u32>
+    ensures { result ≡ factor_of zeta }
+{
+    if zeta == 0 {
+        return None;
+    }
+    Some(zeta)
+}
+
+// The layout with these numbers and the codes that the options give.
+fn coded_at(
+    found: &ArgMatches<'_>,
+    window: u64,
+    chain: Option<u64>,
+    interval: u64,
+    zeta: u32,
+) -> Option<Layout>
+    ensures { result ≡ coded_in (rows_of (found_of found.now)) window chain interval zeta }
+{
+    let outdegrees = gamma_or_delta(word_at(found, "outdegrees", DEFAULT_OUTDEGREES))?;
+    let references = unary_gamma_or_delta(word_at(found, "references", DEFAULT_REFERENCES))?;
+    let block_counts = unary_gamma_or_delta(word_at(found, "blockcounts", DEFAULT_BLOCK_COUNTS))?;
+    let blocks = gamma_or_delta(word_at(found, "blocks", DEFAULT_BLOCKS))?;
+    let residuals = residual_code(zeta, word_at(found, "residuals", DEFAULT_RESIDUALS))?;
+    let offsets = gamma_or_delta(word_at(found, "offsets", DEFAULT_OFFSETS))?;
+    Some(Layout {
+        window,
+        chain,
+        interval,
+        zeta,
+        outdegrees,
+        references,
+        block_counts,
+        blocks,
+        residuals,
+        offsets,
+    })
+}

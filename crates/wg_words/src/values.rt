@@ -1,0 +1,81 @@
+ghost use Rattle.std.specs.Prelude.{◌≡◌, IfOk, option_map};
+ghost use Rattle.clap.specs.Words.{rows_of, found_of, first_of};
+ghost use Rattle.wg_words.specs.Values.{nonempty_of, name_in, limited, number_up_to, number_or, number_in, required_in, word_in};
+
+use crate::Name;
+use clap::ArgMatches;
+use std::alloc::{AllocError, Global};
+use wg_num::read_decimal;
+
+/// The text of an argument.
+pub fn text_at<'a>(found: &ArgMatches<'a>, id: &str) -> Option<&'a str>
+    ensures { option_map (λ s. s.now) result ≡ first_of id.now (rows_of (found_of found.now)) }
+{
+    found.get_str(id)
+}
+
+/// The name that an argument gives: none where the argument is absent or empty.
+pub fn name_at(alloc: Global, found: &ArgMatches<'_>, id: &str) -> Result<Option<Name>, AllocError>
+    ensures { IfOk result (λ name. name ≡ name_in (rows_of (found_of found.now)) id.now) }
+{
+    match text_at(found, id) {
+        None => Ok(None),
+        Some(text) => nonempty(alloc, text),
+    }
+}
+
+fn nonempty(alloc: Global, text: &str) -> Result<Option<Name>, AllocError>
+    ensures { IfOk result (λ name. name ≡ nonempty_of text.now) }
+{
+    if text.is_empty() {
+        return Ok(None);
+    }
+    Ok(Some(Name::new(alloc, text)?))
+}
+
+/// The number that an option gives: its default where the option is absent.
+pub fn number_at(found: &ArgMatches<'_>, id: &str, default: u64, most: u64) -> Option<u64>
+    ensures { result ≡ number_in (rows_of (found_of found.now)) id.now default most }
+{
+    number_or(text_at(found, id), default, most)
+}
+
+fn number_or(text: Option<&str>, default: u64, most: u64) -> Option<u64>
+    ensures { result ≡ number_or default most (option_map (λ s. s.now) text.entry) }
+{
+    let Some(text) = text else {
+        return Some(default);
+    };
+    number_up_to(text, most)
+}
+
+/// The number whose decimal the text is, if it is at most its limit.
+pub fn number_up_to(text: &str, most: u64) -> Option<u64>
+    ensures { result ≡ number_up_to most text.now }
+{
+    limited(read_decimal(text.as_bytes())?, most)
+}
+
+// The number, if it is at most its limit.
+fn limited(number: u64, most: u64) -> Option<u64>
+    ensures { result ≡ limited most number }
+{
+    if number > most {
+        return None;
+    }
+    Some(number)
+}
+
+/// The number that an option without a default gives.
+pub fn required_at(found: &ArgMatches<'_>, id: &str, most: u64) -> Option<u64>
+    ensures { result ≡ required_in (rows_of (found_of found.now)) id.now most }
+{
+    number_up_to(text_at(found, id)?, most)
+}
+
+/// The word that an option gives: its default where the option is absent.
+pub fn word_at<'a>(found: &ArgMatches<'a>, id: &str, default: &'a str) -> &'a str
+    ensures { result.now ≡ word_in (rows_of (found_of found.now)) id.now default.now }
+{
+    text_at(found, id).unwrap_or(default)
+}
