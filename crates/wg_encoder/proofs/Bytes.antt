@@ -1,15 +1,18 @@
 -- The bits of bytes that were made of bits.
-use Rattle.std.proofs.Common.{◌≡◌, ℕ, zero, suc, ◌+◌, ◌-◌, ◌*◌, ◌/◌, ◌%◌, ◌^◌, ◌≤◌, Bool, true, false, cond, List, [], ◌∷◌, ◌++◌, length, length-append, take, drop, map, replicate, refl, sym, ap, ◌∙◌, arith}
+use Rattle.std.proofs.Common.{◌≡◌, ℕ, zero, suc, ◌+◌, ◌-◌, ◌*◌, ◌/◌, ◌%◌, ◌^◌, ◌<◌, ◌≤◌, Bool, true, false, cond, List, [], ◌∷◌, ◌++◌, length, length-append, get_or, take, drop, map, replicate, refl, sym, ap, ◌∙◌, arith}
 use Rattle.std.specs.Prelude.{fold}
 use Rattle.std.specs.List.{range_with_len}
 use Rattle.std.proofs.Math.Nat.{pow-suc}
+use Rattle.std.proofs.Math.Pow.{pow_mono}
 use Rattle.std.proofs.Math.Seq.{take-append-add}
-use Rattle.std.proofs.lemmas.List.{drop-drop, take-append-drop, take_all, length-take-le, length-drop, length-replicate}
+use Rattle.std.proofs.lemmas.List.Elements.{All-map}
+use Rattle.std.proofs.lemmas.List.{drop-drop, take-append-drop, take_all, length-take, length-take-le, length-drop, length-replicate}
 use Rattle.wg_params.specs.Parameters.{Parameters}
 use Rattle.wg_bits.specs.Bits.{low_bits, bits_of}
 use Rattle.wg_bits.specs.Written.{padding}
-use Rattle.wg_bits.proofs.Numbers.{number_of, low_bits-number_of}
+use Rattle.wg_bits.proofs.Numbers.{number_of, number_of-lt, low_bits-number_of}
 use Rattle.wg_bits.proofs.Writes.{padded}
+use Rattle.wg_encoder.specs.Gone.{AreBytes}
 use Rattle.wg_encoder.specs.Archive.{graph_bits, offsets_bits, filled, spelled, bytes_of, graph_file, offsets_file}
 
 spelled_from : (a : ℕ) (bits : List Bool) → fold (λ n b. 2 * n + cond b 1 0) a bits ≡ a * 2 ^ length bits + number_of bits
@@ -55,6 +58,15 @@ bits_again bits =
     let even = filled_length bits in
     chunks (length z / 8) 0 z (omega arith) ∙ take_all (8 * (length z / 8)) z (omega (arith, even))
 
+low_byte : (bits : List Bool) → length bits ≤ 8 → spelled bits < 2 ^ 8
+low_byte bits few = let up : 2 ^ length bits ≤ 2 ^ 8 = pow_mono few in omega (arith, spelled_is bits, number_of-lt bits, up)
+
+byte_low : (bits : List Bool) (i : ℕ) → byte_at bits i < 2 ^ 8
+byte_low bits i = low_byte (take 8 (drop (8 * i) bits)) (omega (arith, length-take 8 (drop (8 * i) bits)))
+
+are_bytes : (bits : List Bool) → AreBytes (bytes_of bits)
+are_bytes bits = All-map (λ b. b < 2 ^ 8) (byte_at bits) (range_with_len 0 (length bits / 8)) (λ k d lt. byte_low bits (get_or (range_with_len 0 (length bits / 8)) k d))
+
 pub graph_again : (p : Parameters) (lists : List (List ℕ)) → bits_of (graph_file p lists) ≡ filled (graph_bits p lists)
 unfolding graph_file
 graph_again p lists = bits_again (graph_bits p lists)
@@ -62,3 +74,11 @@ graph_again p lists = bits_again (graph_bits p lists)
 pub offsets_again : (p : Parameters) (lists : List (List ℕ)) → bits_of (offsets_file p lists) ≡ filled (offsets_bits p lists)
 unfolding offsets_file
 offsets_again p lists = bits_again (offsets_bits p lists)
+
+pub graph_bytes : (p : Parameters) (lists : List (List ℕ)) → AreBytes (graph_file p lists)
+unfolding graph_file
+graph_bytes p lists = are_bytes (filled (graph_bits p lists))
+
+pub offsets_bytes : (p : Parameters) (lists : List (List ℕ)) → AreBytes (offsets_file p lists)
+unfolding offsets_file
+offsets_bytes p lists = are_bytes (filled (offsets_bits p lists))

@@ -23,3 +23,8 @@ pub mod ShortRecords
 pub mod Totals
 pub mod Standing
 pub mod Accepted
+pub mod Texts
+pub mod Sent
+pub mod Pages
+pub mod Chosen
+pub mod Stopped

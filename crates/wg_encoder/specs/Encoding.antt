@@ -5,14 +5,19 @@ use Rattle.wg_params.specs.Parameters.{Parameters}
 use Rattle.wg_graph.specs.Digraph.{Digraph, successors}
 use Rattle.wg_grammar.specs.Context.{Known, Context, depth_of}
 use Rattle.wg_encoder.specs.declared.choice.Choice.{Choice}
-use Rattle.wg_encoder.specs.Greedy.{size_of, is_candidate}
+use Rattle.wg_encoder.specs.Greedy.{size_of, is_candidate, chosen}
 
--- the page that comes next, and the depths of the pages before it that a reference may name, the nearest first
+-- The page that comes next; the depths of the pages before it that a reference may name, the nearest first; the bits of the two files that
+-- wait to go out; and how many bits the last record has, 0 before the first, and all records together.
 pub record Encoding : Type 0 where
   pub params : Parameters
   pub graph : Digraph
   pub page : ℕ
   pub depths : List ℕ
+  pub graph_waits : List Bool
+  pub offsets_waits : List Bool
+  pub last : ℕ
+  pub total : ℕ
 
 -- the pages before this one that have these depths, the nearest first
 abbrev pub pages_before : Digraph → ℕ → List ℕ → List Known
@@ -41,7 +46,16 @@ offer_of e r = if may_take e r then Some (bits_by e r) else None
 
 -- the next page, where this one is written by the reference r
 abbrev pub after_by : ℕ → Encoding → Encoding
-after_by r e = record e { page = e.page + 1; depths = take e.params.window (depth_of (context_of e).behind r ∷ e.depths) }
+after_by r e = record e {
+  page = e.page + 1;
+  depths = take e.params.window (depth_of (context_of e).behind r ∷ e.depths);
+  last = bits_by e r;
+  total = e.total + bits_by e r;
+}
+
+-- this reference is the one by which the page is written, and its record has so many bits
+abbrev pub IsChosen : Encoding → Choice → Type 0
+IsChosen e choice = (choice.reference ≡ chosen e.params (context_of e) (list_of e)) × (choice.bits ≡ bits_by e choice.reference)
 
 -- of the candidates below n this one has the shortest record, and is the first of these
 pub record IsBest (e : Encoding) (n : ℕ) (best : Choice) : Type 0 where

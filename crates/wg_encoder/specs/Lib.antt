@@ -6,3 +6,4 @@ pub mod Tallies
 pub mod Laws
 pub mod Encoding
 pub mod InMemory
+pub mod Gone

@@ -1,47 +1,60 @@
 // The choice of a reference for page after page.
-ghost use Rattle.std.specs.Prelude.{◌≡◌, ℕ, ◌+◌, ◌<◌, ◌≤◌, ◌^◌, ◌&&◌, true, not, nat_le, nat_lt, min, [], length, IfOk, IsTrue, Some};
+ghost use Rattle.std.specs.Prelude.{◌≡◌, ℕ, ◌+◌, ◌<◌, ◌≤◌, ◌^◌, ◌&&◌, true, not, nat_le, nat_lt, min, List, [], length, IfOk, IsTrue, Some};
 ghost use Rattle.std.specs.Option.{ForSome};
+ghost use Rattle.std.specs.FinMap as fin;
+ghost use Rattle.wg_io.specs.Outside.{Files};
 ghost use Rattle.wg_params.specs.Parameters.{IsWithinLimits};
 ghost use Rattle.wg_params.specs.declared.limits.TheConstants.{MOST_WINDOW};
 ghost use Rattle.wg_graph.specs.Ascending.{Ascends, Below};
-ghost use Rattle.wg_graph.specs.Digraph.{arc_count};
+ghost use Rattle.wg_graph.specs.Digraph.{IsGraph, arc_count};
 ghost use Rattle.wg_grammar.specs.Context.{referenced, depth_of};
 ghost use Rattle.wg_grammar.specs.Refusal.{passes};
 ghost use Rattle.wg_encoder.specs.Greedy.{canonical, size_of, is_candidate, chosen};
 ghost use Rattle.wg_encoder.specs.Cost.{cost_of};
-ghost use Rattle.wg_encoder.specs.Encoding.{context_of, list_of, may_take, bits_by, offer_of, after_by};
+ghost use Rattle.wg_encoder.specs.Encoding.{context_of, list_of, bits_by, offer_of, IsChosen};
+ghost use Rattle.wg_encoder.specs.Gone.{HasGone};
 
 use crate::choice::Choice;
 use crate::record::record_cost;
 use std::alloc::{AllocError, Global};
 use std::collections::VecDeque;
 use std::marker::Model;
+use wg_bits::Writer;
 use wg_graph::Graph;
 use wg_params::Params;
 
-/// Chooses for page after page of a graph the reference by which it is written, as the WebGraph paper does: greedily.
+/// Writes a graph page by page, each by the reference that makes its record the shortest.
 ///
-/// It is seen as the graph, the page that comes next, and the depths of the pages before it that a reference may name. Beside
-/// the graph it holds 8 bytes for each of these, at most as many as the archive's window.
+/// It is seen as the graph, the page that comes next, the depths of the pages before it that a reference may name, the bits of
+/// the two files that wait to go out, and how many bits there were. Beside the graph it holds 8 bytes for each of these pages, at
+/// most as many as the archive's window, 4096 bytes for each file, and the record of a page while this is written.
 #[derive(Drop)]
 pub struct Encoder<'a> {
-    params: Params,
-    graph: &'a Graph,
-    page: u64,
+    pub(crate) alloc: Global,
+    pub(crate) params: Params,
+    pub(crate) graph: &'a Graph,
+    pub(crate) page: u64,
     // of the pages before that a reference may name, the nearest first
-    depths: VecDeque<u64>,
+    pub(crate) depths: VecDeque<u64>,
+    pub(crate) graph_writer: Writer,
+    pub(crate) offsets_writer: Writer,
+    // the bits of the record before, 0 before the first, and of all records so far
+    pub(crate) last: u64,
+    pub(crate) total: u64,
 }
 
 impl<'a> Model for Encoder<'a> {
-    ghost use Rattle.std.specs.Prelude.{◌≡◌, ◌<◌, ◌≤◌, min, length, All};
+    ghost use Rattle.std.specs.Prelude.{◌≡◌, ◌<◌, ◌≤◌, ◌^◌, false, min, length, take, All};
+    ghost use Rattle.std.specs.List.{sum_by};
     ghost use Rattle.wg_graph.specs.Digraph.{arc_count};
+    ghost use Rattle.wg_encoder.specs.Laws.{enough_bits};
     ghost use Rattle.wg_encoder.specs.Encoding.{Encoding};
 
     ghost Value = { Encoding };
 
-    ghost view = { λ e. record { params = e.params; graph = e.graph.now; page = e.page; depths = e.depths.items } };
+    ghost view = { λ e. record { params = e.params; graph = e.graph.now; page = e.page; depths = e.depths.items; graph_waits = e.graph_writer.bits; offsets_waits = e.offsets_writer.bits; last = e.last; total = e.total } };
 
-    ghost invariant = { λ e. (length e.depths.items ≡ min e.params.window e.page) × (e.page ≤ e.graph.now.nodes) × (e.params.nodes ≡ e.graph.now.nodes) × (e.params.arcs ≡ arc_count e.graph.now) × All (λ d. d < e.page) e.depths.items };
+    ghost invariant = { λ e. (length e.depths.items ≡ min e.params.window e.page) × (e.page ≤ e.graph.now.nodes) × (e.params.nodes ≡ e.graph.now.nodes) × (e.params.arcs ≡ arc_count e.graph.now) × All (λ d. d < e.page) e.depths.items × (e.graph_writer.failed ≡ false) × (e.offsets_writer.failed ≡ false) × (e.last < 2 ^ 62) × (e.total ≤ enough_bits e.page (sum_by (λ list. length list) (take e.page e.graph.now.lists))) };
 }
 
 impl<'a> Encoder<'a> {
@@ -49,13 +62,19 @@ impl<'a> Encoder<'a> {
     pub fn new(alloc: Global, params: Params, graph: &'a Graph) -> Result<Encoder<'a>, AllocError>
         requires nodes { params.nodes ≡ graph.now.nodes }
         requires arcs { params.arcs ≡ arc_count graph.now }
-        ensures { IfOk result (λ e. e ≡ record { params = params; graph = graph.now; page = 0; depths = [] }) }
+        ensures fresh { IfOk result (λ e. e ≡ record { params = params; graph = graph.now; page = 0; depths = []; graph_waits = []; offsets_waits = []; last = 0; total = 0 }) }
+        ensures begun { IfOk result (λ e. (files : Files) (graph_name offsets_name : List ℕ) → fin.get files graph_name ≡ Some [] → fin.get files offsets_name ≡ Some [] → HasGone files graph_name offsets_name e) }
     {
         Ok(Encoder {
+            alloc,
             params,
             graph,
             page: 0,
             depths: VecDeque::new(alloc),
+            graph_writer: Writer::new(),
+            offsets_writer: Writer::new(),
+            last: 0,
+            total: 0,
         })
     }
 
@@ -68,15 +87,18 @@ impl<'a> Encoder<'a> {
     }
 
     // The parameters are within their limits, and are those of the graph.
-    fn limits(&self)
+    pub(crate) fn limits(&self)
         ensures within { IsWithinLimits self.now.params }
         ensures nodes { self.now.params.nodes ≡ self.now.graph.nodes }
+        ensures arcs { self.now.params.arcs ≡ arc_count self.now.graph }
+        ensures proper { IsGraph self.now.graph }
     {
         let _nodes = self.params.nodes();
+        let _pages = self.graph.nodes();
     }
 
     // How far back a reference may reach.
-    fn reach(&self) -> u64
+    pub(crate) fn reach(&self) -> u64
         ensures value { result ≡ min self.now.params.window self.now.page }
         ensures within { result ≤ MOST_WINDOW }
     {
@@ -84,7 +106,7 @@ impl<'a> Encoder<'a> {
     }
 
     // The list that a reference names, empty for 0.
-    fn named(&self, r: u64) -> &[u64]
+    pub(crate) fn named(&self, r: u64) -> &[u64]
         requires reach { r ≤ min self.now.params.window self.now.page }
         requires page { self.now.page < self.now.graph.nodes }
         ensures value { result.now ≡ referenced (context_of self.now).behind r }
@@ -98,7 +120,7 @@ impl<'a> Encoder<'a> {
     }
 
     // The depth of the page by this reference.
-    fn depth(&self, r: u64) -> u64
+    pub(crate) fn depth(&self, r: u64) -> u64
         requires { r ≤ min self.now.params.window self.now.page }
         ensures value { result ≡ depth_of (context_of self.now).behind r }
         ensures within { result ≤ self.now.page }
@@ -178,11 +200,10 @@ impl<'a> Encoder<'a> {
         }
     }
 
-    /// The reference by which the page that comes next is written: of the candidates with the shortest record the smallest.
-    /// It takes no memory, and counts the bits of each candidate's record once.
-    pub fn chosen(&self) -> u64
+    // The reference by which the page that comes next is written, and the bits of its record.
+    pub(crate) fn choose(&self) -> Choice
         requires page { self.now.page < self.now.graph.nodes }
-        ensures { result ≡ chosen self.now.params (context_of self.now) (list_of self.now) }
+        ensures { IsChosen self.now result }
     {
         let mut best = Choice {
             reference: 0,
@@ -191,21 +212,16 @@ impl<'a> Encoder<'a> {
         for r in 1..self.reach() + 1 {
             best = best.or(r, self.offer(r));
         }
-        best.reference
+        best
     }
 
-    // Goes on to the next page, where this one is written by a reference.
-    fn go_on(mut self, r: u64) -> Result<Encoder<'a>, AllocError>
-        requires reach { r ≤ min self.params.window self.page }
-        requires page { self.page < self.graph.nodes }
-        ensures { IfOk result (λ e. e ≡ after_by r self.entry) }
+    /// The reference by which the page that comes next is written: of the candidates with the shortest record the smallest.
+    /// It takes no memory, and counts the bits of each candidate's record once.
+    pub fn chosen(&self) -> u64
+        requires page { self.now.page < self.now.graph.nodes }
+        ensures { result ≡ chosen self.now.params (context_of self.now) (list_of self.now) }
     {
-        let window = self.params.window() as usize;
-        let depth = self.depth(r);
-        self.depths.push_front(depth)?;
-        self.depths.truncate(window);
-        self.page += 1;
-        Ok(self)
+        self.choose().reference
     }
 }
 
@@ -227,133 +243,5 @@ fn passes(limit: Option<u64>, depth: u64) -> bool
     match limit {
         Some(limit) => depth > limit,
         None => false,
-    }
-}
-
-#[cfg(test)]
-mod tests {
-    use super::*;
-    use std::process::Abort;
-    use std::test::Fail;
-    use wg_graph::GraphBuilder;
-    use wg_params::Code;
-
-    // An archive in the usual codes.
-    fn usual(nodes: u64, arcs: u64, chain: u64) -> Result<Params, Fail> {
-        Ok(Params::new(
-            nodes,
-            arcs,
-            7,
-            Some(chain),
-            4,
-            3,
-            Code::Gamma,
-            Code::Unary,
-            Code::Gamma,
-            Code::Gamma,
-            Code::Zeta(3),
-            Code::Gamma,
-        )?)
-    }
-
-    // The graph of these arcs, which ascend.
-    fn graph_of(
-        rt: &impl Abort,
-        alloc: Global,
-        n: u64,
-        arcs: &[(u64, u64)],
-    ) -> Result<Graph, AllocError>
-        requires { n < 2 ^ 32 }
-    {
-        let mut builder = GraphBuilder::new(alloc, n)?;
-        for arc in arcs {
-            assert!(rt; builder.fits(arc.0, arc.1));
-            builder.push(arc.0, arc.1)?;
-        }
-        builder.finish()
-    }
-
-    fn begun<'a>(
-        rt: &impl Abort,
-        alloc: Global,
-        params: Params,
-        graph: &'a Graph,
-    ) -> Result<Encoder<'a>, AllocError> {
-        assert_eq!(rt; params.nodes(), graph.nodes());
-        assert_eq!(rt; params.arcs(), graph.arcs());
-        Encoder::new(alloc, params, graph)
-    }
-
-    // Whether the next page may be written by this reference.
-    fn may_take(rt: &impl Abort, encoder: &Encoder<'_>, r: u64) -> bool {
-        assert!(rt; encoder.page() < encoder.graph.nodes());
-        encoder.candidate(r)
-    }
-
-    // What the next page takes without a reference.
-    fn plain(rt: &impl Abort, encoder: &Encoder<'_>) -> u64 {
-        assert!(rt; encoder.page() < encoder.graph.nodes());
-        encoder.cost(0)
-    }
-
-    // Goes on by the reference that is chosen, which is to be r, and to take so many bits.
-    fn written<'a>(
-        rt: &impl Abort,
-        encoder: Encoder<'a>,
-        r: u64,
-        bits: u64,
-    ) -> Result<Encoder<'a>, AllocError> {
-        assert!(rt; encoder.page() < encoder.graph.nodes());
-        assert_eq!(rt; encoder.chosen(), r);
-        assert!(rt; r <= encoder.reach());
-        assert!(rt; encoder.candidate(r));
-        assert_eq!(rt; encoder.cost(r), bits);
-        encoder.go_on(r)
-    }
-
-    #[test]
-    fn a_list_is_copied_whole(rt: HostRuntime) -> Result<(), Fail> {
-        let graph = graph_of(&rt, rt.alloc(), 3, &[(0, 1), (0, 2), (1, 1), (1, 2)])?;
-        let mut encoder = begun(&rt, rt.alloc(), usual(3, 4, 3)?, &graph)?;
-        encoder = written(&rt, encoder, 0, 12)?;
-        assert_eq!(rt; plain(&rt, &encoder), 11);
-        encoder = written(&rt, encoder, 1, 6)?;
-        // all references take as many bits
-        assert!(rt; may_take(&rt, &encoder, 1));
-        encoder = written(&rt, encoder, 0, 1)?;
-        assert_eq!(rt; encoder.page(), 3);
-        Ok(())
-    }
-
-    #[test]
-    fn a_chain_of_one_reference(rt: HostRuntime) -> Result<(), Fail> {
-        let arcs = [(1, 0), (1, 2), (2, 0), (2, 2), (3, 0), (3, 2)];
-        let graph = graph_of(&rt, rt.alloc(), 4, &arcs)?;
-        let mut encoder = begun(&rt, rt.alloc(), usual(4, 6, 1)?, &graph)?;
-        encoder = written(&rt, encoder, 0, 1)?;
-        // page 0 has no successors
-        assert!(rt; !may_take(&rt, &encoder, 1));
-        encoder = written(&rt, encoder, 0, 13)?;
-        encoder = written(&rt, encoder, 1, 6)?;
-        // page 2 refers to page 1
-        assert!(rt; !may_take(&rt, &encoder, 1));
-        assert!(rt; may_take(&rt, &encoder, 2));
-        assert!(rt; !may_take(&rt, &encoder, 3));
-        assert!(rt; !may_take(&rt, &encoder, 4));
-        encoder = written(&rt, encoder, 2, 7)?;
-        assert_eq!(rt; encoder.page(), 4);
-        Ok(())
-    }
-
-    #[test]
-    fn a_list_is_copied_in_part(rt: HostRuntime) -> Result<(), Fail> {
-        let arcs = [(0, 1), (0, 3), (0, 5), (0, 7), (1, 1), (1, 5), (1, 7)];
-        let graph = graph_of(&rt, rt.alloc(), 8, &arcs)?;
-        let mut encoder = begun(&rt, rt.alloc(), usual(8, 7, 3)?, &graph)?;
-        encoder = written(&rt, encoder, 0, 23)?;
-        assert_eq!(rt; plain(&rt, &encoder), 18);
-        encoder = written(&rt, encoder, 1, 14)?;
-        assert_eq!(rt; encoder.page(), 2);
-        Ok(())
     }
 }

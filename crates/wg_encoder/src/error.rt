@@ -1,0 +1,24 @@
+// Why an archive was not written whole.
+ghost use Rattle.std.specs.Prelude.{◌≡◌};
+ghost use Rattle.wg_encoder.specs.declared.error.EncodeError.TheVariants as errors;
+
+use std::alloc::AllocError;
+use thiserror::Error;
+use wg_io::Output;
+
+/// Why the files of an archive were not written whole: a call on the named one failed, or memory was wanting.
+#[derive(Clone, Copy, Debug, PartialEq, Eq, Error)]
+pub enum EncodeError {
+    #[error("write failed")]
+    Failed(Output),
+    #[error("out of memory")]
+    Memory,
+}
+
+impl From<AllocError> for EncodeError {
+    ghost from_gives = { λ _ e. e ≡ errors.Memory };
+
+    fn from(_error: AllocError) -> Self {
+        EncodeError::Memory
+    }
+}
