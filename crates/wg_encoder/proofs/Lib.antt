@@ -28,3 +28,4 @@ pub mod Sent
 pub mod Pages
 pub mod Chosen
 pub mod Stopped
+pub mod Finished

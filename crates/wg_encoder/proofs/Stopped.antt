@@ -55,7 +55,7 @@ graph_more files g o e s h =
     flat_more (λ bits. bits) (record_bits e.params e.graph.lists) e.page [] (omega (arith, many_bits e.params e.graph.lists, within_lists e s))
     ∙ ap (λ z. flat_map (λ bits. bits) (take e.page (record_bits e.params e.graph.lists)) ++ z) (record_here files g o e s h)
 
-offsets_more : (files : Files) (g o : List ℕ) (e : Encoding) → e.page ≤ length e.graph.lists → HasGone files g o e
+pub offsets_more : (files : Files) (g o : List ℕ) (e : Encoding) → e.page ≤ length e.graph.lists → HasGone files g o e
     → flat_map (word e.params.offsets) (take (e.page + 1) (offset_values e.params e.graph.lists)) ≡ flat_map (word e.params.offsets) (take e.page (offset_values e.params e.graph.lists)) ++ word e.params.offsets e.last
 offsets_more files g o e le h =
     flat_more (word e.params.offsets) (offset_values e.params e.graph.lists) e.page 0 (omega (arith, many_words e.params e.graph.lists))
@@ -143,7 +143,7 @@ stopped_on_graph a b c g o e r made v old new why apart s is makes put less fail
 
 -- ---- step after step
 
-waits_same : (e begun : Encoding) → begun ≡ record e { offsets_waits = begun.offsets_waits } → begun.graph_waits ≡ e.graph_waits
+pub waits_same : (e begun : Encoding) → begun ≡ record e { offsets_waits = begun.offsets_waits } → begun.graph_waits ≡ e.graph_waits
 waits_same e begun same = ap (λ (x : Encoding). x.graph_waits) same
 
 pub next_gone : (a b c : Files) (g o : List ℕ) (e begun put done : Encoding) (choice : Choice) (made : List Written) → g ≢ o → Stands e → IsChosen e choice

@@ -8,7 +8,7 @@ use Rattle.wg_io.specs.declared.output.Output.TheVariants as output
 use Rattle.wg_bits.specs.Bits.{bits_of}
 use Rattle.wg_codes.specs.Words.{word}
 use Rattle.wg_params.specs.Parameters.{Parameters}
-use Rattle.wg_encoder.specs.Archive.{record_bits, offset_values, graph_file, offsets_file}
+use Rattle.wg_encoder.specs.Archive.{record_bits, graph_bits, offset_values, graph_file, offsets_file}
 use Rattle.wg_encoder.specs.Encoding.{Encoding, context_of}
 use Rattle.wg_encoder.specs.Greedy.{context_after, known_after}
 use Rattle.wg_encoder.specs.declared.error.EncodeError.{EncodeError}
@@ -44,6 +44,11 @@ pub record HasGone (files : Files) (graph_name offsets_name : List ℕ) (e : Enc
   pub behind : context_of e ≡ context_after e.params (known_after e.params [] (take e.page e.graph.lists))
   pub last : e.last ≡ get_or (offset_values e.params e.graph.lists) e.page 0
   pub total : e.total ≡ length (flat_map (λ bits. bits) (take e.page (record_bits e.params e.graph.lists)))
+
+-- the files of the greedy archive, whose records have so many bits
+abbrev pub IsWritten : Files → List ℕ → List ℕ → Parameters → List (List ℕ) → ℕ → Type 0
+IsWritten files graph_name offsets_name p lists bits =
+    (bits ≡ length (graph_bits p lists)) × (fin.get files graph_name ≡ Some (graph_file p lists)) × (fin.get files offsets_name ≡ Some (offsets_file p lists))
 
 -- Both files are fronts of the greedy archive's: the one that a call failed on lacks something, and so does one of them where memory was wanting.
 abbrev pub HasStopped : Files → List ℕ → List ℕ → Parameters → List (List ℕ) → EncodeError → Type 0

@@ -19,6 +19,7 @@
 //! written, and that the bytes of the files are their bits.
 #![tactic(auto)]
 
+mod archive;
 mod blocks;
 mod choice;
 mod cost;
@@ -38,6 +39,7 @@ mod writing;
 #[cfg(test)]
 mod writing_tests;
 
+pub use archive::encode;
 pub use encoder::Encoder;
 pub use error::EncodeError;
 pub use held::HeldRecord;

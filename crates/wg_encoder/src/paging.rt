@@ -1,13 +1,12 @@
 // From page to page: what goes to the two files.
-ghost use Rattle.std.specs.Prelude.{◌≡◌, ◌≢◌, ◌+◌, ◌<◌, ◌≤◌, true, length, IfOk, IfErr, OnErr, IsTrue};
+ghost use Rattle.std.specs.Prelude.{◌≡◌, ◌≢◌, ◌+◌, ◌<◌, ◌≤◌, true, false, [], length, replicate, IfOk, IfErr, OnOk, OnErr, IsTrue};
 ghost use Rattle.wg_io.specs.Outside.{NoneFalls};
-ghost use Rattle.wg_bits.specs.Written.{HasPut, HasPutLess};
+ghost use Rattle.wg_bits.specs.Written.{HasPut, HasPutLess, padding};
 ghost use Rattle.wg_codes.specs.Words.{word};
-ghost use Rattle.wg_encoder.specs.Laws.{enough_bits};
 ghost use Rattle.wg_encoder.specs.Fields.{bits_of_fields, all_have_words};
 ghost use Rattle.wg_encoder.specs.Greedy.{canonical};
 ghost use Rattle.wg_encoder.specs.Encoding.{context_of, list_of, after_by, IsChosen};
-ghost use Rattle.wg_encoder.specs.Gone.{HasGone, HasStopped, HasFailed, HasFailedOn, OnlyTwo};
+ghost use Rattle.wg_encoder.specs.Gone.{HasGone, IsWritten, HasStopped, HasFailed, HasFailedOn, OnlyTwo};
 ghost use Rattle.wg_encoder.specs.declared.error.EncodeError.TheVariants as errors;
 
 use crate::choice::Choice;
@@ -16,6 +15,7 @@ use crate::error::EncodeError;
 use crate::held::HeldRecord;
 use crate::making::make_record;
 use std::alloc::AllocError;
+use wg_bits::Writer;
 use wg_codes::write;
 use wg_io::{Depot, Output, WriteError};
 
@@ -138,5 +138,48 @@ impl<'a> Encoder<'a> {
         let begun = self.put_offset(depot, offsets_name)?;
         let put = begun.put_record(&made, depot, graph_name)?;
         Ok(put.go_on(choice)?)
+    }
+
+    /// Puts the last word of the offsets, the length of the last record, and fills up both files to whole bytes. It answers how
+    /// many bits the records have.
+    pub fn finish<D: Depot>(
+        self,
+        depot: &mut D,
+        graph_name: &str,
+        offsets_name: &str,
+    ) -> Result<u64, EncodeError>
+        requires done { self.page ≡ self.graph.nodes }
+        requires apart { graph_name.now ≢ offsets_name.now }
+        ensures ok { IsTrue D.told → HasGone (D.files depot.old) graph_name.now offsets_name.now self.entry → IfOk result (IsWritten (D.files depot.new) graph_name.now offsets_name.now self.entry.params self.entry.graph.lists) }
+        ensures err { IsTrue D.told → HasGone (D.files depot.old) graph_name.now offsets_name.now self.entry → IfErr result (HasStopped (D.files depot.new) graph_name.now offsets_name.now self.entry.params self.entry.graph.lists) }
+        ensures only_two { IsTrue D.told → OnlyTwo graph_name.now offsets_name.now (D.files depot.old) (D.files depot.new) }
+        ensures fault { IfErr result (HasFailed graph_name.now offsets_name.now (D.counts depot.old) (D.counts depot.new)) }
+        ensures later { NoneFalls (D.counts depot.old) (D.counts depot.new) }
+    {
+        self.limits();
+        let bits = self.total;
+        let put = self.put_offset(depot, offsets_name)?;
+        close(put.graph_writer, Output::Graph, depot, graph_name)?;
+        close(put.offsets_writer, Output::Offsets, depot, offsets_name)?;
+        Ok(bits)
+    }
+}
+
+// Fills up a file to a whole byte.
+fn close<D: Depot>(
+    writer: Writer,
+    output: Output,
+    depot: &mut D,
+    name: &str,
+) -> Result<(), EncodeError>
+    requires { writer.failed ≡ false }
+    ensures ok { IsTrue D.told → OnOk result (HasPut (D.files depot.old) (D.files depot.new) name.now writer.bits (replicate (padding (length writer.bits)) false) []) }
+    ensures err { IsTrue D.told → OnErr result (HasPutLess (D.files depot.old) (D.files depot.new) name.now writer.bits (replicate (padding (length writer.bits)) false)) }
+    ensures fault { IfErr result (HasFailedOn output (D.counts depot.old name.now).write_faults (D.counts depot.new name.now).write_faults) }
+    ensures later { NoneFalls (D.counts depot.old) (D.counts depot.new) }
+{
+    match writer.finish(depot, name) {
+        Ok(()) => Ok(()),
+        Err(e) => Err(failed_on(output, e)),
     }
 }
