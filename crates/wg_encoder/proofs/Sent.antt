@@ -12,11 +12,11 @@ use Rattle.wg_bits.proofs.Writes.{bits_of-append}
 use Rattle.wg_encoder.specs.Gone.{AreBytes, HasSent, HoldsLess}
 use Rattle.wg_encoder.proofs.Texts.{sent_less}
 
-get_more : (f : Files) (n sent out : List ℕ) → fin.get f n ≡ Some sent → fin.get (appended f n out) n ≡ Some (sent ++ out)
+pub get_more : (f : Files) (n sent out : List ℕ) → fin.get f n ≡ Some sent → fin.get (appended f n out) n ≡ Some (sent ++ out)
 get_more f n sent [] there = there ∙ ap Some (sym (append-nil sent))
 get_more f n sent (b ∷ bs) there = get-insert_same f n (content f n ++ b ∷ bs) ∙ ap (λ (o : Option (List ℕ)). Some (unwrap_or o [] ++ b ∷ bs)) there
 
-get_other : (f : Files) (n out q : List ℕ) → q ≢ n → fin.get (appended f n out) q ≡ fin.get f q
+pub get_other : (f : Files) (n out q : List ℕ) → q ≢ n → fin.get (appended f n out) q ≡ fin.get f q
 get_other f n [] q apart = refl
 get_other f n (b ∷ bs) q apart = get-insert_other f n (content f n ++ b ∷ bs) q apart
 
