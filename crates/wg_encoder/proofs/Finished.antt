@@ -83,9 +83,9 @@ pub stopped_at_graph : (b c : Files) (g o : List ℕ) (p : Parameters) (lists : 
     → HasPutLess b c g w (fill w) → HasFailedOn output.Graph old new why → HasAll b g o p lists w v → HasStopped c g o p lists why
 stopped_at_graph b c g o p lists w v old new why apart less failed h =
     let graph : HoldsLess (fin.get c g) (graph_file p lists) =
-      put_less b c g w (fill w) (graph_bits p lists) [] (graph_file p lists) less h.records (graph_bytes p lists) (less_filled b c g w (graph_bits p lists) (graph_file p lists) less h.records (graph_again p lists)) in
+    put_less b c g w (fill w) (graph_bits p lists) [] (graph_file p lists) less h.records (graph_bytes p lists) (less_filled b c g w (graph_bits p lists) (graph_file p lists) less h.records (graph_again p lists)) in
     let offsets : HoldsFront (fin.get c o) (offsets_file p lists) =
-      sent_front (fin.get c o) v (offsets_bits p lists) (fill (offsets_bits p lists)) (offsets_file p lists) (sent_along b c o v _ (other_less b c g o _ _ less (λ same. apart (sym same))) h.words) (offsets_bytes p lists) (offsets_again p lists) in
+    sent_front (fin.get c o) v (offsets_bits p lists) (fill (offsets_bits p lists)) (offsets_file p lists) (sent_along b c o v _ (other_less b c g o _ _ less (λ same. apart (sym same))) h.words) (offsets_bytes p lists) (offsets_again p lists) in
     elim failed [
       | inl f ↦ subst (HasStopped c g o p lists) (sym f.0) (graph, offsets)
       | inr m ↦ subst (HasStopped c g o p lists) (sym m) (let both : HoldsLess (fin.get c g) (graph_file p lists) × HoldsFront (fin.get c o) (offsets_file p lists) = (graph, offsets) in inl both)
@@ -96,10 +96,10 @@ pub stopped_at_offsets : (b c d : Files) (g o : List ℕ) (p : Parameters) (list
 stopped_at_offsets b c d g o p lists w v old new why apart put less failed h =
     let words = sent_along b c o v _ (other_put b c g o _ _ _ put (λ same. apart (sym same))) h.words in
     let graph : HoldsFront (fin.get d g) (graph_file p lists) =
-      sent_front (fin.get d g) [] (filled (graph_bits p lists)) [] (graph_file p lists)
-      (sent_along c d g [] _ (other_less c d o g _ _ less apart) (filled_up b c g w (graph_bits p lists) put h.records)) (graph_bytes p lists) (graph_again p lists ∙ sym (append-nil (filled (graph_bits p lists)))) in
+    sent_front (fin.get d g) [] (filled (graph_bits p lists)) [] (graph_file p lists)
+    (sent_along c d g [] _ (other_less c d o g _ _ less apart) (filled_up b c g w (graph_bits p lists) put h.records)) (graph_bytes p lists) (graph_again p lists ∙ sym (append-nil (filled (graph_bits p lists)))) in
     let offsets : HoldsLess (fin.get d o) (offsets_file p lists) =
-      put_less c d o v (fill v) (offsets_bits p lists) [] (offsets_file p lists) less words (offsets_bytes p lists) (less_filled c d o v (offsets_bits p lists) (offsets_file p lists) less words (offsets_again p lists)) in
+    put_less c d o v (fill v) (offsets_bits p lists) [] (offsets_file p lists) less words (offsets_bytes p lists) (less_filled c d o v (offsets_bits p lists) (offsets_file p lists) less words (offsets_again p lists)) in
     elim failed [
       | inl f ↦ subst (HasStopped d g o p lists) (sym f.0) (graph, offsets)
       | inr m ↦ subst (HasStopped d g o p lists) (sym m) (let both : HoldsFront (fin.get d g) (graph_file p lists) × HoldsLess (fin.get d o) (offsets_file p lists) = (graph, offsets) in inr both)

@@ -1,21 +1,15 @@
 -- The words of a record, put one after the other.
-use Rattle.std.proofs.Common.{OnErr, Result, Ok, Err, inl, inr, ◌≡◌, ℕ, zero, suc, ◌+◌, ◌^◌, ◌<◌, ◌≤◌, Bool, true, List, [], ◌∷◌, ◌++◌, length, map, take, drop, get_or, refl, sym, ap, ◌∙◌, arith, length-append}
-use Rattle.std.proofs.lemmas.Bool.{and_parts, leb-true, cases_Bool, cond-false}
+use Rattle.std.proofs.Common.{◌≡◌, ℕ, zero, suc, ◌+◌, ◌<◌, ◌≤◌, Bool, true, List, [], ◌∷◌, ◌++◌, length, map, take, drop, get_or, sym, ap, ◌∙◌, arith}
+use Rattle.std.proofs.lemmas.Bool.{and_parts, leb-true}
 use Rattle.std.proofs.lemmas.List.{append-nil, map-append, take_more, take-append-drop}
 use Rattle.std.proofs.lemmas.List.Concat.{flat_map-append}
-use Rattle.std.proofs.lemmas.List.Elements.{All-nil}
 use Rattle.wg_io.specs.Outside.{Files}
 use Rattle.wg_bits.specs.Written.{HasPut, HasPutLess}
 use Rattle.wg_bits.proofs.Writes.{put_less_more, put_then_less}
 use Rattle.wg_codes.specs.Words.{word, top}
 use Rattle.wg_codes.proofs.Writing.{less_same}
 use Rattle.wg_encoder.specs.declared.held.HeldField.{HeldField}
-use Rattle.wg_bits.specs.Bits.{bits_of}
-use Rattle.wg_codes.proofs.CodeLaws.{word_some}
-use Rattle.wg_params.specs.Parameters.{Parameters}
-use Rattle.wg_encoder.specs.Fields.{Written, bits_of_fields, all_have_words, list_fields, record_fields}
-use Rattle.std.specs.Prelude.{Option, Some, None}
-use Rattle.wg_encoder.specs.Cost.{cost_of}
+use Rattle.wg_encoder.specs.Fields.{Written, bits_of_fields, all_have_words}
 use Rattle.wg_encoder.specs.InMemory.{as_written}
 
 abbrev pub bits_held : List HeldField → List Bool
@@ -47,25 +41,3 @@ pub less_held : (a b c : Files) (n : List ℕ) (w m : List Bool) (hs : List Held
     → HasPutLess a c n w (bits_held hs)
 less_held a b c n w m hs i d lt put less =
     less_same a c n w _ _ (all_held hs i d lt) (put_less_more a c n w _ (bits_held (drop (i + 1) hs)) (put_then_less a b c n w _ m _ put less))
-
--- A record has some bits, so that nothing at all is less than it.
-pub nothing_put : (p : Parameters) (page r : ℕ) (referenced list : List ℕ) (a : Files) (n : List ℕ) (w : List Bool) → HasPutLess a a n w (bits_of_fields (record_fields p page r referenced list))
-unfolding bits_of record_fields
-nothing_put p page r referenced list a n w =
-    let first : List Bool = word p.outdegrees (length list) in
-    let more : List Bool = bits_of_fields (list_fields p page r referenced list) in
-    let some : 0 < length (w ++ bits_of_fields (record_fields p page r referenced list)) = omega (arith, word_some p.outdegrees (length list), length-append first more, length-append w (first ++ more)) in
-    record { out = []; bytes = All-nil (λ b. b < 2 ^ 8); files = refl; left = w ++ bits_of_fields (record_fields p page r referenced list); some = some; bits = refl }
-
--- what holds of any end holds where a call fails
-pub on_err : {A E P : Type 0} (r : Result A E) → P → OnErr r P
-on_err (Ok done) p = tt
-on_err (Err e) p = p
-
--- a record that has a cost has words
-pub costed_words : (fields : List Written) (cost : Option ℕ) (n : ℕ) → cost ≡ cost_of fields → cost ≡ Some n → all_have_words fields ≡ true
-costed_words fields cost n is some =
-    elim (cases_Bool (all_have_words fields)) [
-      | inl all ↦ all
-      | inr missing ↦ absurd (let none : None ≡ Some n = sym (is ∙ cond-false (all_have_words fields) (Some (length (bits_of_fields fields))) None missing) ∙ some in cc)
-    ]

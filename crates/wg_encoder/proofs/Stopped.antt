@@ -111,10 +111,10 @@ stopped_on_offsets a b g o e old new why apart le less failed h =
     let p : Parameters = e.params in
     let lists : List (List ℕ) = e.graph.lists in
     let graph : HoldsFront (fin.get b g) (graph_file p lists) =
-      sent_front _ _ _ (graph_rest p lists e.page) (graph_file p lists) (sent_along a b g e.graph_waits _ (other_less a b o g _ _ less apart) h.records) (graph_bytes p lists) (graph_from p lists e.page) in
+    sent_front _ _ _ (graph_rest p lists e.page) (graph_file p lists) (sent_along a b g e.graph_waits _ (other_less a b o g _ _ less apart) h.records) (graph_bytes p lists) (graph_from p lists e.page) in
     let offsets : HoldsLess (fin.get b o) (offsets_file p lists) =
-      put_less a b o e.offsets_waits (word p.offsets e.last) _ (offsets_rest p lists (e.page + 1)) (offsets_file p lists) less h.words (offsets_bytes p lists)
-      (offsets_from p lists (e.page + 1) ∙ ap (λ z. z ++ offsets_rest p lists (e.page + 1)) (offsets_more a g o e le h)) in
+    put_less a b o e.offsets_waits (word p.offsets e.last) _ (offsets_rest p lists (e.page + 1)) (offsets_file p lists) less h.words (offsets_bytes p lists)
+    (offsets_from p lists (e.page + 1) ∙ ap (λ z. z ++ offsets_rest p lists (e.page + 1)) (offsets_more a g o e le h)) in
     elim failed [
       | inl f ↦ subst (HasStopped b g o p lists) (sym f.0) (graph, offsets)
       | inr m ↦ subst (HasStopped b g o p lists) (sym m) (let both : HoldsFront (fin.get b g) (graph_file p lists) × HoldsLess (fin.get b o) (offsets_file p lists) = (graph, offsets) in inr both)
@@ -131,11 +131,11 @@ stopped_on_graph a b c g o e r made v old new why apart s is makes put less fail
     let whole : bits_of_fields made ≡ bits_of_fields (canonical p (context_of e) (list_of e) (chosen p (context_of e) (list_of e))) = ap bits_of_fields (makes ∙ ap (canonical p (context_of e) (list_of e)) is) in
     let words = sent_along b c o v _ (other_less b c g o _ _ less (λ same. apart (sym same))) (sent_put a b o e.offsets_waits (word p.offsets e.last) v _ put h.words) in
     let offsets : HoldsFront (fin.get c o) (offsets_file p lists) =
-      sent_front _ _ _ (offsets_rest p lists (e.page + 1)) (offsets_file p lists) words (offsets_bytes p lists)
-      (offsets_from p lists (e.page + 1) ∙ ap (λ z. z ++ offsets_rest p lists (e.page + 1)) (offsets_more a g o e (omega (arith, here)) h)) in
+    sent_front _ _ _ (offsets_rest p lists (e.page + 1)) (offsets_file p lists) words (offsets_bytes p lists)
+    (offsets_from p lists (e.page + 1) ∙ ap (λ z. z ++ offsets_rest p lists (e.page + 1)) (offsets_more a g o e (omega (arith, here)) h)) in
     let graph : HoldsLess (fin.get c g) (graph_file p lists) =
-      put_less b c g e.graph_waits (bits_of_fields made) _ (graph_rest p lists (e.page + 1)) (graph_file p lists) less (sent_along a b g e.graph_waits _ (other_put a b o g _ _ _ put apart) h.records) (graph_bytes p lists)
-      (graph_from p lists (e.page + 1) ∙ ap (λ z. z ++ graph_rest p lists (e.page + 1)) (graph_more a g o e s h ∙ ap (λ z. flat_map (λ bits. bits) (take e.page (record_bits p lists)) ++ z) (sym whole))) in
+    put_less b c g e.graph_waits (bits_of_fields made) _ (graph_rest p lists (e.page + 1)) (graph_file p lists) less (sent_along a b g e.graph_waits _ (other_put a b o g _ _ _ put apart) h.records) (graph_bytes p lists)
+    (graph_from p lists (e.page + 1) ∙ ap (λ z. z ++ graph_rest p lists (e.page + 1)) (graph_more a g o e s h ∙ ap (λ z. flat_map (λ bits. bits) (take e.page (record_bits p lists)) ++ z) (sym whole))) in
     elim failed [
       | inl f ↦ subst (HasStopped c g o p lists) (sym f.0) (graph, offsets)
       | inr m ↦ subst (HasStopped c g o p lists) (sym m) (let both : HoldsLess (fin.get c g) (graph_file p lists) × HoldsFront (fin.get c o) (offsets_file p lists) = (graph, offsets) in inl both)

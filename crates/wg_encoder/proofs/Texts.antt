@@ -36,7 +36,7 @@ pub sent_less : (file : Option (List ℕ)) (w bits rest : List Bool) (text : Lis
 sent_less file w bits rest text s all e some =
     let whole : bits_of text ≡ bits_of s.sent ++ (w ++ rest) = ahead (bits_of s.sent) w bits rest (bits_of text) s.all e in
     let short : length s.sent < length text =
-      omega (arith, ap length whole, length-append (bits_of s.sent) (w ++ rest), length-append w rest, length-bits_of s.sent, length-bits_of text) in
+    omega (arith, ap length whole, length-append (bits_of s.sent) (w ++ rest), length-append w rest, length-bits_of s.sent, length-bits_of text) in
     (length s.sent, short, s.there ∙ ap Some (front_is s.sent text (w ++ rest) s.bytes all whole))
 
 pub sent_whole : (file : Option (List ℕ)) (bits : List Bool) (text : List ℕ) → HasSent file [] bits → AreBytes text → bits_of text ≡ bits → file ≡ Some text

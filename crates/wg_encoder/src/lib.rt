@@ -11,12 +11,16 @@
 //! each of them takes, and which one is written. No record has 2 ^ 64 bits or more.
 //!
 //! [`make_record`] makes a canonical record from the two lists as a [`HeldRecord`], 24 bytes for each field, and
-//! [`HeldRecord::write`] puts its words through a writer, where each value has one. [`write_record`] does both, and
-//! [`write_offset`] puts a word of the offsets file.
+//! [`HeldRecord::write`] puts its words through a writer, where each value has one.
+//!
+//! [`Encoder::next`] writes a page, and [`Encoder::finish`] ends the two files once all pages are written; [`encode`] does both
+//! for a whole graph. The words of the offsets file are 0 and the length of each record. An encoder has a writer of 4096 bytes
+//! for each of the files. Where a call of the depot fails, the [`EncodeError`] names the file, and both files are fronts of
+//! those that were to be written.
 //!
 //! The definitions give the fields of a record with their codes and stored values, the reference that is chosen, and the
 //! bytes of the two files. The functions of [`laws`] state that no candidate's record is shorter than the one that is
-//! written, and that the bytes of the files are their bits.
+//! written, that the bytes of the files are their bits, and that these files are accepted and have the graph.
 #![tactic(auto)]
 
 mod archive;
@@ -35,9 +39,8 @@ mod paging;
 mod parts;
 mod record;
 mod residuals;
-mod writing;
 #[cfg(test)]
-mod writing_tests;
+mod tests;
 
 pub use archive::encode;
 pub use encoder::Encoder;
@@ -45,4 +48,3 @@ pub use error::EncodeError;
 pub use held::HeldRecord;
 pub use making::make_record;
 pub use record::record_cost;
-pub use writing::{WriteRecordError, write_offset, write_record};

@@ -52,11 +52,7 @@ impl<'a> Encoder<'a> {
     }
 
     // Puts the word of the offsets file for this page: 0 for page 0, else the length of the record before.
-    fn put_offset<D: Depot>(
-        mut self,
-        depot: &mut D,
-        name: &str,
-    ) -> Result<Encoder<'a>, EncodeError>
+    fn put_offset<D: Depot>(mut self, depot: &mut D, name: &str) -> Result<Encoder<'a>, EncodeError>
         ensures ok { IsTrue D.told → IfOk result (λ e. HasPut (D.files depot.old) (D.files depot.new) name.now self.entry.offsets_waits (word self.entry.params.offsets self.entry.last) e.offsets_waits) }
         ensures on { IfOk result (λ e. e ≡ record self.entry { offsets_waits = e.offsets_waits }) }
         ensures err { IsTrue D.told → OnErr result (HasPutLess (D.files depot.old) (D.files depot.new) name.now self.entry.offsets_waits (word self.entry.params.offsets self.entry.last)) }

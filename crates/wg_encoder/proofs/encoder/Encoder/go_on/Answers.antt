@@ -13,6 +13,15 @@ overflow_add-self-2 c =
 
 pub invariant_of-self : goal.invariant_of-self
 invariant_of-self c =
-    let s = stays_few c.args.self _ c.args.choice c.self.view_is (record { limits = c.limits.ensures.within; nodes = c.limits.ensures.nodes; arcs = c.limits.ensures.arcs; proper = c.limits.ensures.proper; here = c.requires.page }) c.requires.chosen c.self.invariant.8 in
-    (search rules, search rules, c.self.invariant.2, c.self.invariant.3, depths_low c.self.inside.page c.window-window.result c.depth-depth.result c.self.inside.depths.items c.truncate.new.self.items
-      (c.truncate.ensures.items ∙ ap (take c.window-window.result) c.in_ok-push_front.ensures.items) (let page = ap (λ (e : Encoding). e.page) c.self.view_is in omega (arith, page, c.depth-depth.ensures.within)) c.self.invariant.4, c.self.invariant.5, c.self.invariant.6, s.last, s.total)
+    let s = stays_few c.args.self _ c.args.choice c.self.view_is (record { limits = c.limits.ensures.within; nodes = c.limits.ensures.nodes; arcs = c.limits.ensures.arcs; proper = c.limits.ensures.proper; here = c.requires.page }) c.requires.chosen c.self.invariant.8 in (
+      search rules,
+      search rules,
+      c.self.invariant.2,
+      c.self.invariant.3,
+      depths_low c.self.inside.page c.window-window.result c.depth-depth.result c.self.inside.depths.items c.truncate.new.self.items
+          (c.truncate.ensures.items ∙ ap (take c.window-window.result) c.in_ok-push_front.ensures.items) (let page = ap (λ (e : Encoding). e.page) c.self.view_is in omega (arith, page, c.depth-depth.ensures.within)) c.self.invariant.4,
+      c.self.invariant.5,
+      c.self.invariant.6,
+      s.last,
+      s.total,
+    )

@@ -17,6 +17,6 @@ make_record-requires-clause-low c =
 pub returns-clause-words : goal.returns-clause-words
 returns-clause-words c =
     let words = made_words c.args.self.now _ c.args.choice c.list-list.result.now c.named-referenced.result.now c.self.view_is c.list-list.ensures.value c.named-referenced.ensures.value
-        (record { limits = c.limits.ensures.within; nodes = c.limits.ensures.nodes; arcs = c.limits.ensures.arcs; proper = c.limits.ensures.proper; here = c.requires.page }) c.requires.chosen in
+    (record { limits = c.limits.ensures.within; nodes = c.limits.ensures.nodes; arcs = c.limits.ensures.arcs; proper = c.limits.ensures.proper; here = c.requires.page }) c.requires.chosen in
     IfOk-weaker c.make_record.result (λ made. made ≡ record_fields c.self.inside.params c.self.inside.page c.args.choice.reference c.named-referenced.result.now c.list-list.result.now) (λ made. all_have_words made ≡ true)
     (λ made is. ap all_have_words is ∙ words) c.make_record.ensures
