@@ -1,5 +1,5 @@
 // The choice of a reference for page after page.
-ghost use Rattle.std.specs.Prelude.{◌≡◌, ℕ, ◌+◌, ◌<◌, ◌≤◌, ◌^◌, ◌&&◌, true, not, nat_le, nat_lt, min, List, [], length, IfOk, IsTrue, Some};
+ghost use Rattle.std.specs.Prelude.{◌≡◌, ℕ, ◌+◌, ◌<◌, ◌≤◌, ◌^◌, ◌&&◌, true, false, not, nat_le, nat_lt, min, List, [], length, IfOk, IsTrue, Some};
 ghost use Rattle.std.specs.Option.{ForSome};
 ghost use Rattle.std.specs.FinMap as fin;
 ghost use Rattle.wg_io.specs.Outside.{Files};
@@ -36,8 +36,9 @@ pub struct Encoder<'a> {
     pub(crate) page: u64,
     // of the pages before that a reference may name, the nearest first
     pub(crate) depths: VecDeque<u64>,
-    pub(crate) graph_writer: Writer,
-    pub(crate) offsets_writer: Writer,
+    // in memory of their own, since an encoder is moved at each page
+    pub(crate) graph_writer: Box<Writer>,
+    pub(crate) offsets_writer: Box<Writer>,
     // the bits of the record before, 0 before the first, and of all records so far
     pub(crate) last: u64,
     pub(crate) total: u64,
@@ -52,9 +53,9 @@ impl<'a> Model for Encoder<'a> {
 
     ghost Value = { Encoding };
 
-    ghost view = { λ e. record { params = e.params; graph = e.graph.now; page = e.page; depths = e.depths.items; graph_waits = e.graph_writer.bits; offsets_waits = e.offsets_writer.bits; last = e.last; total = e.total } };
+    ghost view = { λ e. record { params = e.params; graph = e.graph.now; page = e.page; depths = e.depths.items; graph_waits = e.graph_writer.value.bits; offsets_waits = e.offsets_writer.value.bits; last = e.last; total = e.total } };
 
-    ghost invariant = { λ e. (length e.depths.items ≡ min e.params.window e.page) × (e.page ≤ e.graph.now.nodes) × (e.params.nodes ≡ e.graph.now.nodes) × (e.params.arcs ≡ arc_count e.graph.now) × All (λ d. d < e.page) e.depths.items × (e.graph_writer.failed ≡ false) × (e.offsets_writer.failed ≡ false) × (e.last < 2 ^ 62) × (e.total ≤ enough_bits e.page (sum_by (λ list. length list) (take e.page e.graph.now.lists))) };
+    ghost invariant = { λ e. (length e.depths.items ≡ min e.params.window e.page) × (e.page ≤ e.graph.now.nodes) × (e.params.nodes ≡ e.graph.now.nodes) × (e.params.arcs ≡ arc_count e.graph.now) × All (λ d. d < e.page) e.depths.items × (e.graph_writer.value.failed ≡ false) × (e.offsets_writer.value.failed ≡ false) × (e.last < 2 ^ 62) × (e.total ≤ enough_bits e.page (sum_by (λ list. length list) (take e.page e.graph.now.lists))) };
 }
 
 impl<'a> Encoder<'a> {
@@ -65,14 +66,16 @@ impl<'a> Encoder<'a> {
         ensures fresh { IfOk result (λ e. e ≡ record { params = params; graph = graph.now; page = 0; depths = []; graph_waits = []; offsets_waits = []; last = 0; total = 0 }) }
         ensures begun { IfOk result (λ e. (files : Files) (graph_name offsets_name : List ℕ) → fin.get files graph_name ≡ Some [] → fin.get files offsets_name ≡ Some [] → HasGone files graph_name offsets_name e) }
     {
+        let graph_writer = writer(alloc)?;
+        let offsets_writer = writer(alloc)?;
         Ok(Encoder {
             alloc,
             params,
             graph,
             page: 0,
             depths: VecDeque::new(alloc),
-            graph_writer: Writer::new(),
-            offsets_writer: Writer::new(),
+            graph_writer,
+            offsets_writer,
             last: 0,
             total: 0,
         })
@@ -98,7 +101,7 @@ impl<'a> Encoder<'a> {
     }
 
     // How far back a reference may reach.
-    pub(crate) fn reach(&self) -> u64
+    fn reach(&self) -> u64
         ensures value { result ≡ min self.now.params.window self.now.page }
         ensures within { result ≤ MOST_WINDOW }
     {
@@ -223,6 +226,14 @@ impl<'a> Encoder<'a> {
     {
         self.choose().reference
     }
+}
+
+// A writer that holds no bits, in memory of its own.
+fn writer(alloc: Global) -> Result<Box<Writer>, AllocError>
+    ensures bits { IfOk result (λ w. w.value.bits ≡ []) }
+    ensures failed { IfOk result (λ w. w.value.failed ≡ false) }
+{
+    Ok(Box::new(alloc, Writer::new())?)
 }
 
 // The same number of bits, in fewer of the machine's.

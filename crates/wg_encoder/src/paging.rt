@@ -63,7 +63,7 @@ impl<'a> Encoder<'a> {
         match write(
             self.params.offsets(),
             self.last,
-            &mut self.offsets_writer,
+            &mut *self.offsets_writer,
             depot,
             name,
         ) {
@@ -86,7 +86,7 @@ impl<'a> Encoder<'a> {
         ensures fault { IfErr result (HasFailedOn Output.Graph (D.counts depot.old name.now).write_faults (D.counts depot.new name.now).write_faults) }
         ensures later { NoneFalls (D.counts depot.old) (D.counts depot.new) }
     {
-        match made.write(&mut self.graph_writer, depot, name) {
+        match made.write(&mut *self.graph_writer, depot, name) {
             Ok(()) => Ok(self),
             Err(e) => Err(failed_on(Output::Graph, e)),
         }
@@ -163,18 +163,18 @@ impl<'a> Encoder<'a> {
 
 // Fills up a file to a whole byte.
 fn close<D: Depot>(
-    writer: Writer,
+    writer: Box<Writer>,
     output: Output,
     depot: &mut D,
     name: &str,
 ) -> Result<(), EncodeError>
-    requires { writer.failed ≡ false }
-    ensures ok { IsTrue D.told → OnOk result (HasPut (D.files depot.old) (D.files depot.new) name.now writer.bits (replicate (padding (length writer.bits)) false) []) }
-    ensures err { IsTrue D.told → OnErr result (HasPutLess (D.files depot.old) (D.files depot.new) name.now writer.bits (replicate (padding (length writer.bits)) false)) }
+    requires { writer.value.failed ≡ false }
+    ensures ok { IsTrue D.told → OnOk result (HasPut (D.files depot.old) (D.files depot.new) name.now writer.value.bits (replicate (padding (length writer.value.bits)) false) []) }
+    ensures err { IsTrue D.told → OnErr result (HasPutLess (D.files depot.old) (D.files depot.new) name.now writer.value.bits (replicate (padding (length writer.value.bits)) false)) }
     ensures fault { IfErr result (HasFailedOn output (D.counts depot.old name.now).write_faults (D.counts depot.new name.now).write_faults) }
     ensures later { NoneFalls (D.counts depot.old) (D.counts depot.new) }
 {
-    match writer.finish(depot, name) {
+    match Box::into_inner(writer).finish(depot, name) {
         Ok(()) => Ok(()),
         Err(e) => Err(failed_on(output, e)),
     }

@@ -8,8 +8,8 @@ use Rattle.wg_encoder.proofs.archive.encode.Goals as goal
 pub returns-in_err-encoder-clause-err : goal.returns-in_err-encoder-clause-err
 returns-in_err-encoder-clause-err g c t graph offsets =
     let e = err_from_is_err_and c.from_residual.result c.from_residual.ensures.1 in
-    if_err _ _ e.0 e.1
-    (stopped_by_memory _ c.args.graph_name.now c.args.offsets_name.now (record { params = c.args.params; graph = c.args.graph.now; page = 0; depths = []; graph_waits = []; offsets_waits = []; last = 0; total = 0 }) e.0 (omega arith) (begun c.args.params c.args.graph.now _ _ _ graph offsets) e.2)
+    if_err c.from_residual.result _ e.0 e.1
+    (stopped_by_memory _ c.args.graph_name.now c.args.offsets_name.now (record { params = c.args.params; graph = c.args.graph.now; page = 0; depths = []; graph_waits = []; offsets_waits = []; last = 0; total = 0 }) e.0 (omega arith) (begun c.args.params c.args.graph.now _ c.args.graph_name.now c.args.offsets_name.now graph offsets) e.2)
 
 pub loop-encoder-init : goal.loop-encoder-init
 loop-encoder-init g c = record {

@@ -12,8 +12,8 @@ returns-clause-begun c files g o graph offsets =
       graph = c.args.graph.now;
       page = 0;
       depths = sym c.new.ensures.items i;
-      graph_waits = sym c.new-2.ensures.bits i;
-      offsets_waits = sym c.new-3.ensures.bits i;
+      graph_waits = sym c.in_ok-graph_writer.ensures.bits i;
+      offsets_waits = sym c.in_ok-offsets_writer.ensures.bits i;
       last = 0;
       total = 0;
     })
