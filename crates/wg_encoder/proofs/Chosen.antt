@@ -1,18 +1,18 @@
 -- The reference by which a page is written: how far it reaches, that its values have words, and that its record is short.
-use Rattle.std.proofs.Common.{◌≡◌, ℕ, ◌+◌, ◌*◌, ◌^◌, ◌<◌, ◌≤◌, eqb, ltb, leb, min, Bool, true, not, ◌&&◌, List, [], ◌∷◌, length, take, refl, sym, ap, subst, ◌∙◌, inl, inr, arith}
+use Rattle.std.proofs.Common.{◌≡◌, ℕ, ◌+◌, ◌^◌, ◌<◌, ◌≤◌, eqb, ltb, leb, min, true, not, ◌&&◌, List, [], ◌∷◌, length, take, sym, ap, subst, ◌∙◌, inl, inr, arith}
 use Rattle.std.specs.Prelude.{All}
 use Rattle.std.specs.List.{sum_by}
 use Rattle.std.proofs.lemmas.Bool.{and_parts, or_cases, eqb-true}
 use Rattle.std.proofs.lemmas.List.Elements.{All-cons, All-same, All-take, All-weaker}
 use Rattle.std.proofs.lemmas.List.Sums.{sum_by_more, sum_by-take-le}
-use Rattle.wg_params.specs.Parameters.{Parameters, IsWithinLimits}
+use Rattle.wg_params.specs.Parameters.{IsWithinLimits}
 use Rattle.wg_graph.specs.Ascending.{Ascends, Below}
 use Rattle.wg_graph.specs.Digraph.{successors, IsGraph, arc_count}
-use Rattle.wg_grammar.specs.Context.{Context, referenced, depth_of}
+use Rattle.wg_grammar.specs.Context.{referenced, depth_of}
 use Rattle.wg_grammar.specs.Refusal.{passes}
 use Rattle.wg_encoder.specs.declared.choice.Choice.{Choice}
 use Rattle.wg_encoder.specs.Fields.{all_have_words, record_fields}
-use Rattle.wg_encoder.specs.Greedy.{canonical, is_candidate, chosen}
+use Rattle.wg_encoder.specs.Greedy.{canonical}
 use Rattle.wg_encoder.specs.Laws.{IsList, enough_bits}
 use Rattle.wg_encoder.specs.Encoding.{Encoding, context_of, list_of, may_take, bits_by, IsChosen}
 use Rattle.wg_encoder.proofs.Least.{chosen_candidate, within}

@@ -1,6 +1,6 @@
 -- The end of the two files, once all pages are done.
-use Rattle.std.proofs.Common.{◌≡◌, ◌≢◌, ◌⊎◌, ℕ, ◌+◌, ◌-◌, ◌*◌, ◌%◌, ◌<◌, ◌≤◌, Bool, false, List, [], ◌∷◌, ◌++◌, length, length-append, take, get_or, replicate, refl, sym, ap, subst, ◌∙◌, inl, inr, arith}
-use Rattle.std.specs.Prelude.{Option, Some}
+use Rattle.std.proofs.Common.{◌≡◌, ◌≢◌, ℕ, ◌+◌, ◌-◌, ◌*◌, ◌%◌, Bool, false, List, [], ◌++◌, length, length-append, take, replicate, sym, ap, subst, ◌∙◌, inl, inr, arith}
+use Rattle.std.specs.Prelude.{Option}
 use Rattle.std.specs.List.{flat_map}
 use Rattle.std.specs.FinMap as fin
 use Rattle.std.proofs.lemmas.List.{append-nil, take_all}
@@ -12,7 +12,6 @@ use Rattle.wg_bits.proofs.Words.{length-bits_of}
 use Rattle.wg_codes.specs.Words.{word}
 use Rattle.wg_params.specs.Parameters.{Parameters}
 use Rattle.wg_encoder.specs.declared.error.EncodeError.{EncodeError}
-use Rattle.wg_encoder.specs.declared.error.EncodeError.TheVariants as error
 use Rattle.wg_encoder.specs.Archive.{record_bits, graph_bits, offset_values, offsets_bits, filled, graph_file, offsets_file}
 use Rattle.wg_encoder.specs.Encoding.{Encoding}
 use Rattle.wg_encoder.specs.Gone.{HasSent, HasGone, IsWritten, HasStopped, HasFailedOn, HoldsFront, HoldsLess}

@@ -1,11 +1,11 @@
 -- From page to page: what has gone out, and what stands in the files where the writing stops.
-use Rattle.std.proofs.Common.{◌≡◌, ◌≢◌, ◌⊎◌, ℕ, zero, suc, ◌+◌, ◌<◌, ◌≤◌, Bool, List, [], ◌∷◌, ◌++◌, length, length-append, take, get_or, refl, sym, ap, subst, ◌∙◌, inl, inr, arith}
+use Rattle.std.proofs.Common.{◌≡◌, ◌≢◌, ℕ, ◌+◌, ◌≤◌, Bool, List, [], ◌∷◌, ◌++◌, length, length-append, take, get_or, refl, sym, ap, subst, ◌∙◌, inl, inr, arith}
 use Rattle.std.specs.Prelude.{Some, Result, Err, IfErr}
 use Rattle.std.specs.List.{flat_map}
 use Rattle.std.specs.FinMap as fin
 use Rattle.std.proofs.Math.Seq.{take-nil}
 use Rattle.std.proofs.lemmas.List.Elements.{All-nil}
-use Rattle.wg_io.specs.Outside.{Files, Counts, NoneFalls, Rose}
+use Rattle.wg_io.specs.Outside.{Files}
 use Rattle.wg_io.specs.declared.output.Output.TheVariants as output
 use Rattle.wg_bits.specs.Bits.{bits_of}
 use Rattle.wg_bits.specs.Written.{HasPut, HasPutLess}
@@ -20,11 +20,11 @@ use Rattle.wg_encoder.specs.Fields.{Written, bits_of_fields}
 use Rattle.wg_encoder.specs.Greedy.{canonical, chosen, context_after, known_of, known_after}
 use Rattle.wg_encoder.specs.Archive.{record_bits, offset_values, graph_file, offsets_file}
 use Rattle.wg_encoder.specs.Encoding.{Encoding, context_of, list_of, bits_by, after_by, IsChosen}
-use Rattle.wg_encoder.specs.Gone.{HasSent, HasGone, HasStopped, HasFailed, HasFailedOn, HoldsFront, HoldsLess, OnlyTwo}
+use Rattle.wg_encoder.specs.Gone.{HasSent, HasGone, HasStopped, HasFailedOn, HoldsFront, HoldsLess}
 use Rattle.wg_encoder.proofs.Bytes.{graph_bytes, offsets_bytes}
 use Rattle.wg_encoder.proofs.Texts.{sent_front, sent_less}
 use Rattle.wg_encoder.proofs.Sent.{sent_put, put_less, other_put, other_less, sent_along}
-use Rattle.wg_encoder.proofs.Pages.{before, known_on, many_bits, many_words, bits_at, next_offset, flat_more, graph_rest, offsets_rest, graph_from, offsets_from, offsets_left}
+use Rattle.wg_encoder.proofs.Pages.{known_on, many_bits, many_words, bits_at, next_offset, flat_more, graph_rest, offsets_rest, graph_from, offsets_from, offsets_left}
 use Rattle.wg_encoder.proofs.Going.{one_page_on}
 use Rattle.wg_encoder.proofs.Chosen.{Stands, within_lists}
 

@@ -1,4 +1,4 @@
-use Rattle.std.proofs.Common.{[], ℕ, refl, ap, arith}
+use Rattle.std.proofs.Common.{[], refl, ap, arith}
 use Rattle.std.proofs.lemmas.Result.{err_from_is_err_and}
 use Rattle.wg_bits.proofs.Writes.{none_falls-refl}
 use Rattle.wg_encoder.specs.Encoding.{Encoding}
