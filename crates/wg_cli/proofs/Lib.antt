@@ -1,5 +1,7 @@
 pub mod ExitLemmas
 pub mod JobLemmas
+pub mod WritingLemmas
+pub mod BuildLemmas
 pub mod KeyNames
 pub mod LimitsLemmas
 pub mod NumberLemmas

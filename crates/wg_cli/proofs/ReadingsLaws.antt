@@ -1,4 +1,4 @@
--- There is one function that reads all graph files, one that reads all offsets files, and one that ranks all bounds.
+-- There is one function that reads all graph files, one that reads all offsets files, one that ranks all bounds, and one that reads all arc lists.
 use Rattle.std.proofs.Common.{◌≡◌, ℕ, List, Option, Some, None, Result, Err, refl, sym, ◌∙◌}
 use Rattle.wg_bits.specs.Bits.{bits_of}
 use Rattle.wg_params.specs.declared.key.Key.{Key}
@@ -12,6 +12,8 @@ use Rattle.wg_grammar.specs.declared.fault.OffsetWord.TheVariants.{First}
 use Rattle.wg_offsets.specs.Words.{ReadsOffsets}
 use Rattle.wg_offsets.proofs.OneFile.{offsets_one, offsets_some}
 use Rattle.wg_properties.proofs.Limits.{none_bad}
+use Rattle.wg_arcs.proofs.SomeGraph.{texts_are_some}
+use Rattle.wg_arcs.proofs.Unique.{listed_one}
 use Rattle.wg_cli.specs.Readings.{Readings, ReadingsAreOne}
 use Rattle.wg_order.proofs.OneRanking.{ranking_some, ranking_one}
 use Rattle.wg_cli.proofs.LimitsLemmas.{within_limits, coded}
@@ -42,6 +44,8 @@ the_readings = record {
   offsets_are = λ p limits bytes. places_right p limits bytes (first_bad p) refl;
   ranking = λ low high. (ranking_some low high).0;
   ranking_is = λ low high. (ranking_some low high).1;
+  listed = λ n bytes. (texts_are_some n bytes).0;
+  listed_is = λ n bytes. (texts_are_some n bytes).1;
 }
 
 pub readings_one : ReadingsAreOne
@@ -50,4 +54,5 @@ readings_one r q = record {
   offsets = λ p limits bytes.
       offsets_one p.offsets (coded p limits) p.nodes (bits_of bytes) (r.offsets p bytes) (q.offsets p bytes) (r.offsets_are p limits bytes) (q.offsets_are p limits bytes);
   ranking = λ low high. ranking_one low high (r.ranking low high) (q.ranking low high) (r.ranking_is low high) (q.ranking_is low high);
+  listed = λ n bytes. listed_one n bytes (r.listed n bytes) (q.listed n bytes) (r.listed_is n bytes) (q.listed_is n bytes);
 }

@@ -11,11 +11,16 @@ use Rattle.wg_offsets.specs.Places.{AgreeInLengths, IsFirstMismatch}
 use Rattle.wg_offsets.specs.Words.{ReadsOffsets}
 use Rattle.wg_offsets.proofs.OneFile.{offsets_one}
 use Rattle.wg_offsets.proofs.Differences.{none_differ, first_differs}
+use Rattle.wg_num.specs.Lines.{lines_of}
+use Rattle.wg_graph.specs.Digraph.{Digraph}
+use Rattle.wg_arcs.specs.declared.fault.ArcsKind.{ArcsKind}
+use Rattle.wg_arcs.specs.Reading.{AreArcs, IsFirstFault, IsListed}
+use Rattle.wg_arcs.proofs.Unique.{listed_one}
 use Rattle.wg_cli.specs.Texts.{file_of_fault}
 use Rattle.wg_cli.specs.declared.status.Input.TheVariants.{Graph}
 use Rattle.wg_cli.specs.Readings.{Readings}
-use Rattle.wg_cli.specs.Judged.{Judged, refused, with_graph, with_offsets, with_lengths, unless_bad_graph, unless_bad_offsets, unless_some_differ}
-use Rattle.wg_cli.specs.declared.status.Status.TheVariants.{BadArchive}
+use Rattle.wg_cli.specs.Judged.{Judged, refused, with_graph, with_offsets, with_lengths, with_list, unless_bad_graph, unless_bad_offsets, unless_bad_list, unless_some_differ}
+use Rattle.wg_cli.specs.declared.status.Status.TheVariants.{BadArcs, BadArchive}
 use Rattle.wg_cli.proofs.LimitsLemmas.{coded}
 
 -- a fault of a graph file lies there
@@ -46,6 +51,17 @@ module _ (r : Readings) (p : Parameters) (limits : IsWithinLimits p) (bytes : Li
 
   pub offsets_refused : (f : OffsetWord) → ReadsOffsets p.offsets p.nodes (bits_of bytes) (Err f) → (next : List ℕ → Judged) → with_offsets r p bytes next ≡ refused (BadArchive (archive.Offsets f))
   offsets_refused f read next = ap (λ (w : Result (List ℕ) OffsetWord). unless_bad_offsets w next) (stores (Err f) read)
+
+-- an arc list that was read
+module _ (r : Readings) (n : ℕ) (bytes : List ℕ) where
+  lists_as : (w : Result Digraph (ℕ × ArcsKind)) → IsListed n bytes w → r.listed n bytes ≡ w
+  lists_as w reads = listed_one n bytes (r.listed n bytes) w (r.listed_is n bytes) reads
+
+  pub list_goes_on : (g : Digraph) → AreArcs n (lines_of bytes) g → (next : Digraph → Judged) → with_list r n bytes next ≡ next g
+  list_goes_on g reads next = ap (λ (w : Result Digraph (ℕ × ArcsKind)). unless_bad_list w next) (lists_as (Ok g) reads)
+
+  pub list_refused : (line : ℕ) (kind : ArcsKind) → IsFirstFault n (lines_of bytes) line kind → (next : Digraph → Judged) → with_list r n bytes next ≡ refused (BadArcs line kind)
+  list_refused line kind reads next = ap (λ (w : Result Digraph (ℕ × ArcsKind)). unless_bad_list w next) (lists_as (Err (line, kind)) reads)
 
 -- records that were held against what is stored
 pub all_agree : (found stored : List ℕ) → AgreeInLengths found stored → (next : Unit {0} → Judged) → with_lengths found stored next ≡ next tt

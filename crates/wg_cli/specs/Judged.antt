@@ -9,30 +9,42 @@ use Rattle.wg_grammar.specs.declared.fault.ArchiveFault.{ArchiveFault}
 use Rattle.wg_grammar.specs.declared.fault.ArchiveFault.TheVariants as archive
 use Rattle.wg_grammar.specs.declared.fault.OffsetWord.{OffsetWord}
 use Rattle.wg_grammar.specs.Archive.{Accepted}
-use Rattle.wg_graph.specs.Digraph.{Digraph}
+use Rattle.wg_graph.specs.Digraph.{Digraph, arc_count}
+use Rattle.wg_arcs.specs.declared.fault.ArcsKind.{ArcsKind}
+use Rattle.wg_encoder.specs.Archive.{graph_bits}
+use Rattle.wg_words.specs.Layouts.{params_of}
 use Rattle.wg_arcs.specs.Text.{text_of_graph}
 use Rattle.wg_offsets.specs.Places.{last_place, record_length, pages_that_differ}
 use Rattle.wg_words.specs.declared.jobs.Job.{Job}
-use Rattle.wg_words.specs.declared.jobs.Job.TheVariants.{Check, Arcs, Offsets, Rank}
+use Rattle.wg_words.specs.declared.jobs.Job.TheVariants.{Check, Arcs, Offsets, Rank, Build}
 use Rattle.wg_cli.specs.Readings.{Readings}
 use Rattle.wg_cli.specs.Ranked.{ranking_text}
+use Rattle.wg_cli.specs.Written.{Archive, greedy_archive}
 use Rattle.wg_cli.specs.declared.status.Input.{Input}
 use Rattle.wg_cli.specs.declared.status.Input.TheVariants as input
 use Rattle.wg_cli.specs.declared.status.Status.{Status}
-use Rattle.wg_cli.specs.declared.status.Status.TheVariants.{Done, Missing, BadProperties, BadArchive, OverLimit}
+use Rattle.wg_cli.specs.declared.status.Status.TheVariants.{Done, Missing, BadArcs, BadProperties, BadArchive, OverLimit}
 
--- a job is refused with a status, or it is done, with this on the output
+-- a job is refused with a status; or it is done, with this on the output; or it is done with these files besides
 pub data Judged : Type 0 where
   refused : Status → Judged
   accepted : List ℕ → Judged
+  built : Archive → List ℕ → Judged
 
 abbrev pub status_of : Judged → Status
 status_of (refused status) = status
 status_of (accepted out) = Done
+status_of (built files out) = Done
 
 abbrev pub output_of : Judged → List ℕ
 output_of (refused status) = []
 output_of (accepted out) = out
+output_of (built files out) = out
+
+abbrev pub files_of : Judged → Option Archive
+files_of (refused status) = None
+files_of (accepted out) = None
+files_of (built files out) = Some files
 
 -- goes on with the bytes of an input, where it is held and not too long
 abbrev pub with_file : Input → Option (List ℕ) → (List ℕ → Judged) → Judged
@@ -90,6 +102,22 @@ number_line n = decimal n ++ codes "\n"
 abbrev pub number_lines : List ℕ → List ℕ
 number_lines places = joined (map number_line places)
 
+abbrev pub unless_bad_list : Result Digraph (ℕ × ArcsKind) → (Digraph → Judged) → Judged
+unless_bad_list (Ok g) next = next g
+unless_bad_list (Err fault) next = refused (BadArcs fault.0 fault.1)
+
+-- goes on with the graph of so many pages that the arc list stands for
+abbrev pub with_list : Readings → ℕ → List ℕ → (Digraph → Judged) → Judged
+with_list r n bytes next = unless_bad_list (r.listed n bytes) next
+
+-- goes on with the graph of so many pages that the arc list holds
+abbrev pub with_arcs : Readings → ℕ → (Input → Option (List ℕ)) → (Digraph → Judged) → Judged
+with_arcs r n held next = with_file input.ArcList (held input.ArcList) (λ bytes. with_list r n bytes next)
+
+-- the greedy archive of a graph is written, and then its line
+abbrev pub builds : Parameters → Digraph → Judged
+builds p g = built (greedy_archive p g) (ok_line p (length (graph_bits p g.lists)))
+
 -- goes on with the parameters, and the bytes of the graph file
 abbrev pub with_records : (Input → Option (List ℕ)) → (Parameters → List ℕ → Judged) → Judged
 with_records held next =
@@ -108,3 +136,10 @@ judged r (Offsets base) held =
     with_records held (λ p bytes. with_places r p bytes (λ places. accepted (number_lines places)))
 judged r (Rank base rounds damping top) held =
     with_records held (λ p bytes. with_digraph r p bytes (λ g. accepted (ranking_text r g rounds damping top)))
+judged r (Build arcs base nodes layout) held =
+    with_arcs r nodes held (λ g. builds (params_of layout nodes (arc_count g)) g)
+
+-- the archive that a job writes, if it does
+abbrev pub written_by : Readings → Job → (Input → Option (List ℕ)) → Option Archive
+written_by r (Build arcs base nodes layout) held = files_of (judged r (Build arcs base nodes layout) held)
+written_by r job held = None

@@ -1,6 +1,7 @@
 pub mod Codes
 pub mod Readings
 pub mod Ranked
+pub mod Written
 pub mod Judged
 pub mod Answers
 pub mod Causes

@@ -15,9 +15,11 @@
 
 mod archive;
 mod arcs;
+mod build;
 mod check;
 mod ending;
 pub mod laws;
+mod listed;
 mod load;
 mod names;
 mod offsets;
@@ -31,6 +33,7 @@ mod report;
 mod status;
 mod text;
 mod texts;
+mod writing;
 
 pub use program::run;
 pub use status::{Input, Status};

@@ -1,27 +1,118 @@
-ghost use Rattle.std.specs.Prelude.{◌≡◌, option_map};
-ghost use Rattle.wg_cli.specs.Names.{base_of, suffix_of};
+ghost use Rattle.std.specs.Prelude.{◌≡◌, ◌++◌, IfOk, IfErr, option_map};
+ghost use Rattle.wg_words.specs.declared.suffixes.TheConstants.{PROPERTIES, GRAPH, OFFSETS};
+ghost use Rattle.wg_cli.specs.Names.{base_of, suffix_of, file_of, list_named, archive_named, input_name, output_name, AreApart};
 
-use crate::Input;
-use wg_words::{Job, Name};
+use crate::ending::Ending;
+use crate::{Input, Status};
+use std::alloc::Global;
+use wg_io::Output;
+use wg_words::{GRAPH, Job, Name, OFFSETS, PROPERTIES};
 
 /// What the name of one of an archive's files ends in; an arc list is no such file.
 pub fn suffix(input: Input) -> Option<&'static str>
     ensures { option_map (λ s. s.now) result ≡ suffix_of input }
 {
     match input {
-        Input::Properties => Some(".properties"),
-        Input::Graph => Some(".graph"),
-        Input::Offsets => Some(".offsets"),
+        Input::Properties => Some(PROPERTIES),
+        Input::Graph => Some(GRAPH),
+        Input::Offsets => Some(OFFSETS),
         Input::ArcList => None,
     }
 }
 
-/// The archive that a job reads.
+/// The archive that a job reads or writes.
 pub fn base(job: &Job) -> &Name
     ensures { result.now ≡ base_of job.now }
 {
     match job {
+        Job::Check { base }
+        | Job::Arcs { base }
+        | Job::Offsets { base }
+        | Job::Rank { base, .. }
+        | Job::Build { base, .. } => base,
+    }
+}
+
+/// The name of a job's input, in two parts.
+pub fn input_parts(job: &Job, input: Input) -> Option<(&str, &'static str)>
+    ensures { option_map (λ parts. parts.0.now ++ parts.1.now) result ≡ input_name job.now input }
+{
+    match job {
         Job::Check { base } | Job::Arcs { base } | Job::Offsets { base } | Job::Rank { base, .. } =>
-            base,
+            file_parts(base, input),
+        Job::Build { arcs, .. } => list_parts(arcs, input),
+    }
+}
+
+// The name of one of an archive's files.
+fn file_parts(base: &Name, input: Input) -> Option<(&str, &'static str)>
+    ensures { option_map (λ parts. parts.0.now ++ parts.1.now) result ≡ file_of base.now input }
+{
+    match suffix(input) {
+        None => None,
+        Some(suffix) => Some((base.as_str(), suffix)),
+    }
+}
+
+// The name of the one input of a job that reads an arc list.
+fn list_parts(arcs: &Name, input: Input) -> Option<(&str, &'static str)>
+    ensures { option_map (λ parts. parts.0.now ++ parts.1.now) result ≡ list_named arcs.now input }
+{
+    match input {
+        Input::ArcList => Some((arcs.as_str(), "")),
+        Input::Properties | Input::Graph | Input::Offsets => None,
+    }
+}
+
+/// The name of a file that a job writes, in two parts.
+pub fn output_parts(job: &Job, output: Output) -> Option<(&str, &'static str)>
+    ensures { option_map (λ parts. parts.0.now ++ parts.1.now) result ≡ output_name job.now output }
+{
+    match job {
+        Job::Check { .. } | Job::Arcs { .. } | Job::Offsets { .. } | Job::Rank { .. } => None,
+        Job::Build { base, .. } => archive_parts(base, output),
+    }
+}
+
+fn archive_parts(base: &Name, output: Output) -> Option<(&str, &'static str)>
+    ensures { option_map (λ parts. parts.0.now ++ parts.1.now) result ≡ archive_named base.now output }
+{
+    match output {
+        Output::Properties => Some((base.as_str(), PROPERTIES)),
+        Output::Graph => Some((base.as_str(), GRAPH)),
+        Output::Offsets => Some((base.as_str(), OFFSETS)),
+        Output::Out => None,
+    }
+}
+
+/// The names of an archive's files.
+#[derive(Drop)]
+pub struct ArchiveNames {
+    pub properties: Name,
+    pub graph: Name,
+    pub offsets: Name,
+}
+
+impl ArchiveNames {
+    pub fn of(alloc: Global, base: &Name) -> Result<ArchiveNames, Ending>
+        ensures names { IfOk result (λ n. n ≡ record { properties = base.now ++ PROPERTIES.now; graph = base.now ++ GRAPH.now; offsets = base.now ++ OFFSETS.now }) }
+        ensures apart { IfOk result AreApart }
+        ensures only { IfErr result (λ e. e.status ≡ Status.Memory) }
+    {
+        Ok(ArchiveNames {
+            properties: named(alloc, base, PROPERTIES)?,
+            graph: named(alloc, base, GRAPH)?,
+            offsets: named(alloc, base, OFFSETS)?,
+        })
+    }
+}
+
+fn named(alloc: Global, base: &Name, suffix: &str) -> Result<Name, Ending>
+    ensures name { IfOk result (λ name. name ≡ base.now ++ suffix.now) }
+    ensures only { IfErr result (λ e. e.status ≡ Status.Memory) }
+{
+    match base.with_suffix(alloc, suffix) {
+        Ok(name) => Ok(name),
+        Err(_) => Err(Ending::of(Status::Memory)),
     }
 }

@@ -1,17 +1,18 @@
-ghost use Rattle.std.specs.Prelude.{◌≡◌, ◌≤◌, ◌⊎◌, ℕ, List, Some, None, IsTrue, IfOk, IfSome};
+ghost use Rattle.std.specs.Prelude.{◌≡◌, ◌≤◌, ◌⊎◌, ℕ, false, List, Some, None, IsTrue, IfOk, IfSome};
 ghost use Rattle.wg_io.specs.Outside.{Rose};
-ghost use Rattle.wg_io.specs.declared.output.Output.TheVariants.{Out};
+ghost use Rattle.wg_io.specs.declared.output.Output.{Output};
 ghost use Rattle.wg_params.specs.declared.limits.TheConstants.{MOST_PAGES};
 ghost use Rattle.wg_graph.specs.Digraph.{Digraph, IsGraph};
 ghost use Rattle.wg_words.specs.Jobs.{job_of, IsWithin};
 ghost use Rattle.wg_words.specs.declared.jobs.Job.{Job};
 ghost use Rattle.wg_cli.specs.Answers.{Answers, HasOutput, Reaches};
 ghost use Rattle.wg_cli.specs.Causes.{HasCause, Reports};
-ghost use Rattle.wg_cli.specs.Judged.{judged, output_of, status_of};
+ghost use Rattle.wg_cli.specs.Judged.{judged, output_of, status_of, written_by};
 ghost use Rattle.wg_cli.specs.Lines.{line_of, ArePromised, ArePromisedBy};
-ghost use Rattle.wg_cli.specs.Names.{can_end, held_by, input_name, output_name};
+ghost use Rattle.wg_cli.specs.Names.{can_end, held_by, input_name, output_name, some_writes_files};
 ghost use Rattle.wg_cli.specs.Ranked.{IsProvenRanking};
 ghost use Rattle.wg_cli.specs.Readings.{Readings};
+ghost use Rattle.wg_cli.specs.Written.{HasFiles};
 ghost use Rattle.wg_cli.specs.declared.status.Input.{Input};
 
 use crate::Status;
@@ -42,14 +43,15 @@ pub fn run<D: Depot, O: Sink, E: Sink>(
     // A fault or an absence is told only where the outside counted it, and only where the job had come so far.
     ensures causes { (job : Job) → job_of words.now ≡ Some job → HasCause (input_name job) (output_name job) (D.counts depot.old) (D.counts depot.new) (O.faults out.old) (O.faults out.new) result }
     ensures reached { IsTrue D.told → (r : Readings) (job : Job) → job_of words.now ≡ Some job → (i : Input) → result ≡ Status.ReadFault i → Reaches r job (held_by (input_name job) (D.files depot.old)) i }
-    ensures needed { IsTrue D.told → (r : Readings) (job : Job) → job_of words.now ≡ Some job → result ≡ Status.WriteFault Out → status_of (judged r job (held_by (input_name job) (D.files depot.old))) ≡ Status.Done }
+    ensures needed { IsTrue D.told → (r : Readings) (job : Job) → job_of words.now ≡ Some job → (o : Output) → result ≡ Status.WriteFault o → status_of (judged r job (held_by (input_name job) (D.files depot.old))) ≡ Status.Done }
 
     // What is printed of a ranking: intervals that enclose each exact iterate from the last round on, within the stated width.
     ensures certified { (r : Readings) (base : List ℕ) (rounds damping top : ℕ) → job_of words.now ≡ Some (Job.Rank base rounds damping top) → result ≡ Status.Done → (g : Digraph) → IsGraph g → g.nodes ≤ MOST_PAGES → IsProvenRanking r rounds damping g }
 
     // What stands on the output, in the files and on the error output.
     ensures output { IsTrue D.told → IsTrue O.told → (r : Readings) (job : Job) → job_of words.now ≡ Some job → HasOutput (output_of (judged r job (held_by (input_name job) (D.files depot.old)))) (O.taken out.old) (O.taken out.new) result }
-    ensures same { D.files depot.new ≡ D.files depot.old }
+    ensures files { IsTrue D.told → (r : Readings) (job : Job) → job_of words.now ≡ Some job → HasFiles (output_name job) (written_by r job (held_by (input_name job) (D.files depot.old))) (D.files depot.old) (D.files depot.new) result }
+    ensures same { some_writes_files (job_of words.now) ≡ false → D.files depot.new ≡ D.files depot.old }
     ensures line { IsTrue E.told → (promised : ℕ) × (IsTrue D.told → ArePromisedBy (job_of words.now) (D.files depot.old) result promised) × Reports (line_of (job_of words.now) promised result) (E.taken err.old) (E.taken err.new) (Rose (E.faults err.old) (E.faults err.new) ⊎ Rose (E.wants err.old) (E.wants err.new)) }
 {
     let Ok(asked) = asked(alloc, words) else {
@@ -83,10 +85,11 @@ fn done<D: Depot, O: Sink>(alloc: Global, asked: &Option<Job>, depot: &mut D, ou
     ensures possible { (job : Job) → asked.now ≡ Some job → IsTrue (can_end job result.status) }
     ensures causes { (job : Job) → asked.now ≡ Some job → HasCause (input_name job) (output_name job) (D.counts depot.old) (D.counts depot.new) (O.faults out.old) (O.faults out.new) result.status }
     ensures reached { IsTrue D.told → (r : Readings) (job : Job) → asked.now ≡ Some job → (i : Input) → result.status ≡ Status.ReadFault i → Reaches r job (held_by (input_name job) (D.files depot.old)) i }
-    ensures needed { IsTrue D.told → (r : Readings) (job : Job) → asked.now ≡ Some job → result.status ≡ Status.WriteFault Out → status_of (judged r job (held_by (input_name job) (D.files depot.old))) ≡ Status.Done }
+    ensures needed { IsTrue D.told → (r : Readings) (job : Job) → asked.now ≡ Some job → (o : Output) → result.status ≡ Status.WriteFault o → status_of (judged r job (held_by (input_name job) (D.files depot.old))) ≡ Status.Done }
     ensures output { IsTrue D.told → IsTrue O.told → (r : Readings) (job : Job) → asked.now ≡ Some job → HasOutput (output_of (judged r job (held_by (input_name job) (D.files depot.old)))) (O.taken out.old) (O.taken out.new) result.status }
     ensures promised { IsTrue D.told → ArePromisedBy asked.now (D.files depot.old) result.status result.arcs }
-    ensures same { D.files depot.new ≡ D.files depot.old }
+    ensures files { IsTrue D.told → (r : Readings) (job : Job) → asked.now ≡ Some job → HasFiles (output_name job) (written_by r job (held_by (input_name job) (D.files depot.old))) (D.files depot.old) (D.files depot.new) result.status }
+    ensures same { some_writes_files asked.now ≡ false → D.files depot.new ≡ D.files depot.old }
 {
     match asked {
         None => Ending::of(Status::Usage),

@@ -1,12 +1,12 @@
 //! The line on standard error that says why a job was not done. It takes no memory.
-ghost use Rattle.std.specs.Prelude.{◌≡◌, ◌⊎◌, ◌≤◌, ◌∷◌, [], ◌++◌, IsTrue, IsErr, Some, None, option_map, codes};
+ghost use Rattle.std.specs.Prelude.{◌≡◌, ◌≢◌, ◌⊎◌, ◌≤◌, ◌∷◌, [], ◌++◌, IsTrue, IsErr, Some, None, option_map, codes};
 ghost use Rattle.wg_io.specs.Outside.{Rose};
 ghost use Rattle.wg_io.specs.Puts.{Puts};
 ghost use Rattle.wg_cli.specs.Causes.{Reports};
 ghost use Rattle.wg_cli.specs.Lines.{naming, name_in, output_in, line_of};
 ghost use Rattle.wg_cli.specs.Names.{input_name};
 
-use crate::names::{base, suffix};
+use crate::names::{input_parts, output_parts};
 use crate::text::Text;
 use crate::{Input, Status, texts};
 use wg_io::{Output, Sink, WriteError, write_all, write_pieces};
@@ -18,10 +18,7 @@ fn parts_of_input(job: &Option<Job>, input: Input) -> Option<(&str, &'static str
 {
     match job {
         None => None,
-        Some(job) => match suffix(input) {
-            None => None,
-            Some(suffix) => Some((base(job).as_str(), suffix)),
-        },
+        Some(job) => input_parts(job, input),
     }
 }
 
@@ -95,7 +92,18 @@ fn parts_of_output(job: &Option<Job>, output: Output) -> Option<(&str, &'static 
 {
     match output {
         Output::Out => Some(("-", "")),
-        Output::Properties | Output::Graph | Output::Offsets => None,
+        Output::Properties | Output::Graph | Output::Offsets => file_parts(job, output),
+    }
+}
+
+// The name of a file that the job writes, in two parts.
+fn file_parts(job: &Option<Job>, output: Output) -> Option<(&str, &'static str)>
+    requires { output ≢ Output.Out }
+    ensures { option_map (λ parts. parts.0.now ++ parts.1.now) result ≡ output_in job.now output }
+{
+    match job {
+        None => None,
+        Some(job) => output_parts(job, output),
     }
 }
 

@@ -6,6 +6,8 @@ use wg_words::Words;
 
 mod archives;
 mod bad_graphs;
+mod built;
+mod lists;
 mod outside;
 mod printed;
 mod tables;

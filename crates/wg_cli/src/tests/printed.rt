@@ -130,5 +130,5 @@ pub const LINES: [(&str, bool); 34] = [
     ("-- check g", false),
     ("g check", false),
     ("Check g", false),
-    ("build a g --nodes 1", false),
+    ("build a g --nodes 1", true),
 ];

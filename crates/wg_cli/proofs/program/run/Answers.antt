@@ -1,7 +1,7 @@
 use Rattle.std.proofs.Common.{◌∙◌}
 use Rattle.wg_words.specs.Jobs.{job_of}
 use Rattle.wg_cli.proofs.ExitLemmas.{nothing_promised}
-use Rattle.wg_words.proofs.RankLemmas.{rank_within}
+use Rattle.wg_words.proofs.JobLemmas.{rank_within}
 use Rattle.wg_cli.proofs.RankLemmas.{proven}
 use Rattle.wg_cli.proofs.program.run.Goals as goal
 

@@ -1,0 +1,165 @@
+//! What `build` writes, and what stands where it is stopped.
+ghost use Rattle.std.specs.Prelude.{◌≤◌, ◌<◌, ◌^◌, ◌-◌};
+
+use super::lists::{BUILT, Built, FOUR_ARCS_TEXT, Held, STOPPED, Stopped, UNBUILT};
+use super::*;
+use wg_io::{LoadError, read_whole};
+
+// Runs a line over a depot: its status, what is printed and what is reported.
+fn told<D: Depot>(
+    alloc: Global,
+    line: &str,
+    depot: &mut D,
+) -> Result<(u8, SteadySink, SteadySink), Fail> {
+    let words = words_of(alloc, line)?;
+    let mut out = SteadySink::new(alloc, 4096);
+    let mut err = SteadySink::new(alloc, 4096);
+    let status = run(alloc, &words, depot, &mut out, &mut err);
+    Ok((status.code(), out, err))
+}
+
+// Whether a line ends with status 0 and prints this.
+fn prints<D: Depot>(alloc: Global, line: &str, depot: &mut D, text: &str) -> Result<bool, Fail> {
+    let (code, out, _) = told(alloc, line, depot)?;
+    Ok(code == 0 && out.bytes() == text.as_bytes())
+}
+
+// Whether a file holds these bytes, or is not there.
+fn holds<D: Depot>(
+    alloc: Global,
+    depot: &mut D,
+    name: &str,
+    bytes: Option<&[u8]>,
+) -> Result<bool, Fail> {
+    match read_whole(alloc, depot, name) {
+        Ok(found) => Ok(bytes == Some(found.as_slice())),
+        Err(LoadError::Absent) => Ok(bytes.is_none()),
+        Err(error) => Err(error.into()),
+    }
+}
+
+fn hold<D: Depot>(alloc: Global, depot: &mut D, held: &Held) -> Result<bool, Fail> {
+    Ok(
+        holds(alloc, depot, "g.properties", held[0])?
+            && holds(alloc, depot, "g.graph", held[1])?
+            && holds(alloc, depot, "g.offsets", held[2])?,
+    )
+}
+
+// Whether the archive is the one that it should be, is accepted, and has the arcs of the list.
+fn is_built(alloc: Global, case: &Built, piece: u64) -> Result<bool, Fail>
+    requires { 1 ≤ piece }
+{
+    let (line, list, graph, offsets, printed) = *case;
+    let mut depot = SteadyDepot::new(alloc, piece);
+    depot.put_file("a", list.as_bytes())?;
+    Ok(
+        prints(alloc, line, &mut depot, printed)?
+            && holds(alloc, &mut depot, "g.graph", Some(graph))?
+            && holds(alloc, &mut depot, "g.offsets", Some(offsets))?
+            && prints(alloc, "check g", &mut depot, printed)?
+            && prints(alloc, "arcs g", &mut depot, list)?,
+    )
+}
+
+#[test]
+fn archives_of_small_lists(rt: HostRuntime) -> Result<(), Fail> {
+    for case in &BUILT {
+        assert!(rt; is_built(rt.alloc(), case, 1)?, "{}", case.0);
+        assert!(rt; is_built(rt.alloc(), case, 4096)?, "{}", case.0);
+    }
+    let mut depot = SteadyDepot::new(rt.alloc(), 3);
+    depot.put_file("a", BUILT[2].1.as_bytes())?;
+    assert!(rt; prints(rt.alloc(), BUILT[2].0, &mut depot, BUILT[2].4)?);
+    assert!(rt; holds(rt.alloc(), &mut depot, "g.properties", Some(FOUR_ARCS_TEXT))?);
+    Ok(())
+}
+
+#[test]
+fn lists_that_are_refused(rt: HostRuntime) -> Result<(), Fail> {
+    for (line, list, code, report) in UNBUILT {
+        let mut depot = SteadyDepot::new(rt.alloc(), 3);
+        depot.put_file("a", list.as_bytes())?;
+        let (status, out, err) = told(rt.alloc(), line, &mut depot)?;
+        assert!(rt;
+            status == code && err.bytes() == report.as_bytes(),
+            "{line}"
+        );
+        assert!(rt; out.bytes().is_empty(), "{line}");
+        assert!(rt;
+            hold(rt.alloc(), &mut depot, &[None, None, None])?,
+            "{line}"
+        );
+    }
+    Ok(())
+}
+
+// Whether a run that is stopped as the case says reports this, and leaves the files so.
+fn is_stopped(alloc: Global, case: &Stopped) -> Result<bool, Fail>
+    requires piece { 1 ≤ case.now.0 }
+    requires create { case.now.1 < 2 ^ 64 - 1 }
+    requires append { case.now.2 < 2 ^ 64 - 1 }
+{
+    let (piece, create, append, report, held) = *case;
+    let mut depot = MemoryDepot::new(alloc, piece);
+    depot.put_file("a", BUILT[2].1.as_bytes())?;
+    if create > 0 {
+        depot.fail_create(create);
+    }
+    if append > 0 {
+        depot.fail_append(append);
+    }
+    let (code, out, err) = told(alloc, BUILT[2].0, &mut depot)?;
+    Ok(
+        code == 5
+            && out.bytes().is_empty()
+            && err.bytes() == report.as_bytes()
+            && hold(alloc, &mut depot, &held)?,
+    )
+}
+
+#[test]
+fn each_file_stops_once(rt: HostRuntime) -> Result<(), Fail> {
+    for case in &STOPPED {
+        assert!(rt; is_stopped(rt.alloc(), case)?, "{}", case.3);
+    }
+    Ok(())
+}
+
+#[test]
+fn the_output_fails_after_the_files(rt: HostRuntime) -> Result<(), Fail> {
+    let mut depot = SteadyDepot::new(rt.alloc(), 4096);
+    depot.put_file("a", BUILT[2].1.as_bytes())?;
+    let words = words_of(rt.alloc(), BUILT[2].0)?;
+    let mut out = MemorySink::new(rt.alloc(), 4096);
+    out.fail_write(1);
+    let mut err = SteadySink::new(rt.alloc(), 4096);
+    let status = run(rt.alloc(), &words, &mut depot, &mut out, &mut err);
+    assert!(rt; status.code() == 5);
+    assert!(rt; prints(rt.alloc(), "check g", &mut depot, BUILT[2].4)?);
+    Ok(())
+}
+
+// A list of 100 arcs from each of 1000 pages.
+fn long_list(alloc: Global) -> Result<String, Fail> {
+    let mut list = String::new(alloc);
+    for u in 0..1000_u64 {
+        for k in 0..100_u64 {
+            let v = 10 * k + u % 7;
+            list.push_str(format!(in alloc; "{u} {v}\n")?.as_str())?;
+        }
+    }
+    Ok(list)
+}
+
+#[test]
+fn a_long_list_is_printed_again(rt: HostRuntime) -> Result<(), Fail> {
+    let list = long_list(rt.alloc())?;
+    let mut depot = SteadyDepot::new(rt.alloc(), 4096);
+    depot.put_file("a", list.as_bytes())?;
+    let (code, out, _) = told(rt.alloc(), "build a g --nodes 1000", &mut depot)?;
+    let (checked, again, _) = told(rt.alloc(), "check g", &mut depot)?;
+    assert!(rt; code == 0 && checked == 0 && out.bytes() == again.bytes());
+    assert!(rt; prints(rt.alloc(), "arcs g", &mut depot, list.as_str())?);
+    Ok(())
+}
