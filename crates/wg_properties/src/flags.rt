@@ -62,37 +62,55 @@ impl Codes {
     fn with_outdegrees(self, code: Code) -> Codes
         ensures { result ≡ record self { outdegrees = code } }
     {
-        Codes { outdegrees: code, ..self }
+        Codes {
+            outdegrees: code,
+            ..self
+        }
     }
 
     fn with_references(self, code: Code) -> Codes
         ensures { result ≡ record self { references = code } }
     {
-        Codes { references: code, ..self }
+        Codes {
+            references: code,
+            ..self
+        }
     }
 
     fn with_block_counts(self, code: Code) -> Codes
         ensures { result ≡ record self { block_counts = code } }
     {
-        Codes { block_counts: code, ..self }
+        Codes {
+            block_counts: code,
+            ..self
+        }
     }
 
     fn with_blocks(self, code: Code) -> Codes
         ensures { result ≡ record self { blocks = code } }
     {
-        Codes { blocks: code, ..self }
+        Codes {
+            blocks: code,
+            ..self
+        }
     }
 
     fn with_residuals(self, code: Code) -> Codes
         ensures { result ≡ record self { residuals = code } }
     {
-        Codes { residuals: code, ..self }
+        Codes {
+            residuals: code,
+            ..self
+        }
     }
 
     fn with_offsets(self, code: Code) -> Codes
         ensures { result ≡ record self { offsets = code } }
     {
-        Codes { offsets: code, ..self }
+        Codes {
+            offsets: code,
+            ..self
+        }
     }
 }
 

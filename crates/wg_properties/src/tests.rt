@@ -29,47 +29,49 @@ fn has_default_codes(params: &Params) -> bool {
         && params.offsets() == Code::Gamma
 }
 
+// Ends of one text that say the same.
+const SPELLINGS: [&[u8]; 36] = [
+    b"nodes=3",
+    b"nodes:3",
+    b"nodes 3",
+    b"nodes\t3",
+    b"nodes = 3",
+    b"nodes : 3",
+    b"nodes\t=\t3",
+    b"nodes= 3",
+    b"nodes =3",
+    b" nodes=3",
+    b"\tnodes=3",
+    b"nodes=3 ",
+    b"nodes=3\t \t",
+    b"nodes=3\n",
+    b"nodes=3\r\n",
+    b"nodes=3\r",
+    b"nodes=3 \r\n\r\n\n",
+    b"\n\r\n \t\nnodes=3",
+    b"nodes=4\nnodes=3",
+    b"nodes=x\nnodes\nnodes=3",
+    b"nodes=3\n#nodes=4",
+    b"nodes=3\n  # nodes=4",
+    b"nodes=3\n!nodes=4",
+    b"nodes=3\r\n#Thu Nov 26 19:35:09 UTC 2026\r\n",
+    b"nodes=3\n# at its end a backslash\\",
+    b"nodes=3\nother=4",
+    b"nodes=3\nNODES=4",
+    b"nodes=3\nnode=4\nnodess=4",
+    b"nodes=3\n\xff\xfe\x00=\xff",
+    b"nodes=3\n=4\n:4",
+    b"nodes=3\nno des=4",
+    b"nodes=3\nendianness=big",
+    b"nodes=3\na backslash before a blank\\ ",
+    b"nodes=3\nzetak=5\nzetak=3",
+    b"nodes=3\ncompressionflags=OUTDEGREES_GAMMA|BLOCKS_GAMMA | REFERENCES_UNARY|\tBLOCK_COUNT_GAMMA | OFFSETS_GAMMA",
+    b"nodes=3\ncompressionflags= RESIDUALS_NIBBLE | RESIDUALS_ZETA\ngraphclass class it.unimi.dsi.webgraph.BVGraph",
+];
+
 #[test]
 fn spellings_of_one_text(rt: HostRuntime) -> Result<(), AllocError> {
-    let table: [&[u8]; 36] = [
-        b"nodes=3",
-        b"nodes:3",
-        b"nodes 3",
-        b"nodes\t3",
-        b"nodes = 3",
-        b"nodes : 3",
-        b"nodes\t=\t3",
-        b"nodes= 3",
-        b"nodes =3",
-        b" nodes=3",
-        b"\tnodes=3",
-        b"nodes=3 ",
-        b"nodes=3\t \t",
-        b"nodes=3\n",
-        b"nodes=3\r\n",
-        b"nodes=3\r",
-        b"nodes=3 \r\n\r\n\n",
-        b"\n\r\n \t\nnodes=3",
-        b"nodes=4\nnodes=3",
-        b"nodes=x\nnodes\nnodes=3",
-        b"nodes=3\n#nodes=4",
-        b"nodes=3\n  # nodes=4",
-        b"nodes=3\n!nodes=4",
-        b"nodes=3\r\n#Thu Nov 26 19:35:09 UTC 2026\r\n",
-        b"nodes=3\n# at its end a backslash\\",
-        b"nodes=3\nother=4",
-        b"nodes=3\nNODES=4",
-        b"nodes=3\nnode=4\nnodess=4",
-        b"nodes=3\n\xff\xfe\x00=\xff",
-        b"nodes=3\n=4\n:4",
-        b"nodes=3\nno des=4",
-        b"nodes=3\nendianness=big",
-        b"nodes=3\na backslash before a blank\\ ",
-        b"nodes=3\nzetak=5\nzetak=3",
-        b"nodes=3\ncompressionflags=OUTDEGREES_GAMMA|BLOCKS_GAMMA | REFERENCES_UNARY|\tBLOCK_COUNT_GAMMA | OFFSETS_GAMMA",
-        b"nodes=3\ncompressionflags= RESIDUALS_NIBBLE | RESIDUALS_ZETA\ngraphclass class it.unimi.dsi.webgraph.BVGraph",
-    ];
-    for (number, end) in table.iter().enumerate() {
+    for (number, end) in SPELLINGS.iter().enumerate() {
         let text = text_ending(rt.alloc(), end)?;
         match read(&text) {
             Ok(params) => {
@@ -82,91 +84,93 @@ fn spellings_of_one_text(rt: HostRuntime) -> Result<(), AllocError> {
     Ok(())
 }
 
+// Ends of a text, and its fault then.
+const FAULTS: [(&[u8], PropFault); 38] = [
+    (b"", PropFault::Missing(Key::Nodes)),
+    (b"nodes", PropFault::Number(Key::Nodes)),
+    (b"nodes=-1", PropFault::Number(Key::Nodes)),
+    (b"nodes=03", PropFault::Number(Key::Nodes)),
+    (b"nodes==3", PropFault::Number(Key::Nodes)),
+    (b"nodes=3\r\r\n", PropFault::Number(Key::Nodes)),
+    (b"nodes=18446744073709551616", PropFault::Number(Key::Nodes)),
+    (b"nodes=68719476736", PropFault::Range(Key::Nodes)),
+    (
+        b"nodes=68719476735\narcs=1099511627777",
+        PropFault::Range(Key::Arcs),
+    ),
+    (b"nodes=3\narcs=4.0", PropFault::Number(Key::Arcs)),
+    (
+        b"nodes=3\nwindowsize=65536",
+        PropFault::Range(Key::WindowSize),
+    ),
+    (
+        b"nodes=3\nwindowsize=-1",
+        PropFault::Number(Key::WindowSize),
+    ),
+    (
+        b"nodes=3\nmaxrefcount=2147483648",
+        PropFault::Range(Key::MaxRefCount),
+    ),
+    (
+        b"nodes=3\nmaxrefcount=-2",
+        PropFault::Number(Key::MaxRefCount),
+    ),
+    (
+        b"nodes=3\nmaxrefcount=-1\nminintervallength=2147483648",
+        PropFault::Range(Key::MinIntervalLength),
+    ),
+    (
+        b"nodes=3\nminintervallength=",
+        PropFault::Number(Key::MinIntervalLength),
+    ),
+    (b"nodes=3\nzetak=0", PropFault::Range(Key::ZetaK)),
+    (b"nodes=3\nzetak=32", PropFault::Range(Key::ZetaK)),
+    (b"nodes=3\nzetak=", PropFault::Number(Key::ZetaK)),
+    (
+        b"nodes=3\ncompressionflags=OUTDEGREES_ZETA",
+        PropFault::Flag(1),
+    ),
+    (
+        b"nodes=3\ncompressionflags=outdegrees_gamma",
+        PropFault::Flag(1),
+    ),
+    (
+        b"nodes=3\ncompressionflags=OUTDEGREES_DELTA BLOCKS_DELTA",
+        PropFault::Flag(1),
+    ),
+    (b"nodes=3\ncompressionflags=|", PropFault::Flag(1)),
+    (
+        b"nodes=3\ncompressionflags=OUTDEGREES_DELTA|",
+        PropFault::Flag(2),
+    ),
+    (
+        b"nodes=3\ncompressionflags=OFFSETS_DELTA|RESIDUALS_NIBBLE|OFFSETS_UNARY|X",
+        PropFault::Flag(3),
+    ),
+    (b"graphclass=BVGraph", PropFault::Class),
+    (b"graphclass=", PropFault::Class),
+    (
+        b"graphclass=class  it.unimi.dsi.webgraph.BVGraph",
+        PropFault::Class,
+    ),
+    (
+        b"graphclass=it.unimi.dsi.webgraph.BVGraphs\nversion=1",
+        PropFault::Class,
+    ),
+    (b"version=1\nendianness=little", PropFault::Version),
+    (b"version=00", PropFault::Version),
+    (b"endianness=little", PropFault::Endian),
+    (b"endianness", PropFault::Endian),
+    (b"graphclass=x\\", PropFault::Line(10)),
+    (b"\n#\\\n\\", PropFault::Line(12)),
+    (b" \\\r\nx\\", PropFault::Line(10)),
+    (b"\xff \\\n", PropFault::Line(10)),
+    (b"x\\ \nx\\", PropFault::Line(11)),
+];
+
 #[test]
 fn faults_of_values(rt: HostRuntime) -> Result<(), AllocError> {
-    let table: [(&[u8], PropFault); 38] = [
-        (b"", PropFault::Missing(Key::Nodes)),
-        (b"nodes", PropFault::Number(Key::Nodes)),
-        (b"nodes=-1", PropFault::Number(Key::Nodes)),
-        (b"nodes=03", PropFault::Number(Key::Nodes)),
-        (b"nodes==3", PropFault::Number(Key::Nodes)),
-        (b"nodes=3\r\r\n", PropFault::Number(Key::Nodes)),
-        (b"nodes=18446744073709551616", PropFault::Number(Key::Nodes)),
-        (b"nodes=68719476736", PropFault::Range(Key::Nodes)),
-        (
-            b"nodes=68719476735\narcs=1099511627777",
-            PropFault::Range(Key::Arcs),
-        ),
-        (b"nodes=3\narcs=4.0", PropFault::Number(Key::Arcs)),
-        (
-            b"nodes=3\nwindowsize=65536",
-            PropFault::Range(Key::WindowSize),
-        ),
-        (
-            b"nodes=3\nwindowsize=-1",
-            PropFault::Number(Key::WindowSize),
-        ),
-        (
-            b"nodes=3\nmaxrefcount=2147483648",
-            PropFault::Range(Key::MaxRefCount),
-        ),
-        (
-            b"nodes=3\nmaxrefcount=-2",
-            PropFault::Number(Key::MaxRefCount),
-        ),
-        (
-            b"nodes=3\nmaxrefcount=-1\nminintervallength=2147483648",
-            PropFault::Range(Key::MinIntervalLength),
-        ),
-        (
-            b"nodes=3\nminintervallength=",
-            PropFault::Number(Key::MinIntervalLength),
-        ),
-        (b"nodes=3\nzetak=0", PropFault::Range(Key::ZetaK)),
-        (b"nodes=3\nzetak=32", PropFault::Range(Key::ZetaK)),
-        (b"nodes=3\nzetak=", PropFault::Number(Key::ZetaK)),
-        (
-            b"nodes=3\ncompressionflags=OUTDEGREES_ZETA",
-            PropFault::Flag(1),
-        ),
-        (
-            b"nodes=3\ncompressionflags=outdegrees_gamma",
-            PropFault::Flag(1),
-        ),
-        (
-            b"nodes=3\ncompressionflags=OUTDEGREES_DELTA BLOCKS_DELTA",
-            PropFault::Flag(1),
-        ),
-        (b"nodes=3\ncompressionflags=|", PropFault::Flag(1)),
-        (
-            b"nodes=3\ncompressionflags=OUTDEGREES_DELTA|",
-            PropFault::Flag(2),
-        ),
-        (
-            b"nodes=3\ncompressionflags=OFFSETS_DELTA|RESIDUALS_NIBBLE|OFFSETS_UNARY|X",
-            PropFault::Flag(3),
-        ),
-        (b"graphclass=BVGraph", PropFault::Class),
-        (b"graphclass=", PropFault::Class),
-        (
-            b"graphclass=class  it.unimi.dsi.webgraph.BVGraph",
-            PropFault::Class,
-        ),
-        (
-            b"graphclass=it.unimi.dsi.webgraph.BVGraphs\nversion=1",
-            PropFault::Class,
-        ),
-        (b"version=1\nendianness=little", PropFault::Version),
-        (b"version=00", PropFault::Version),
-        (b"endianness=little", PropFault::Endian),
-        (b"endianness", PropFault::Endian),
-        (b"graphclass=x\\", PropFault::Line(10)),
-        (b"\n#\\\n\\", PropFault::Line(12)),
-        (b" \\\r\nx\\", PropFault::Line(10)),
-        (b"\xff \\\n", PropFault::Line(10)),
-        (b"x\\ \nx\\", PropFault::Line(11)),
-    ];
-    for (end, fault) in table {
+    for (end, fault) in FAULTS {
         let text = text_ending(rt.alloc(), end)?;
         match read(&text) {
             Ok(params) => assert!(rt; false, "{fault}: {params:?}"),

@@ -72,43 +72,45 @@ fn each_write_fails_once(rt: HostRuntime) -> Result<(), Fail> {
     Ok(())
 }
 
+// A line, what the properties and the graph hold, the status, and the line of error.
+const UNANSWERED: [(&str, &[u8], &[u8], u8, &str); 8] = [
+    ("", PROPERTIES, b"", 2, "wg: bad command line\n"),
+    ("check --help", PROPERTIES, b"", 2, "wg: bad command line\n"),
+    ("check h", PROPERTIES, b"", 6, "wg: missing: h.properties\n"),
+    ("check g", PROPERTIES, b"", 6, "wg: missing: g.graph\n"),
+    (
+        "check g",
+        PROPERTIES,
+        b"\x4e",
+        6,
+        "wg: missing: g.offsets\n",
+    ),
+    (
+        "check g",
+        b"",
+        b"",
+        8,
+        "wg: g.properties: missing graphclass\n",
+    ),
+    (
+        "check g",
+        b"nodes=1\nversion=0\\\n",
+        b"",
+        8,
+        "wg: g.properties: line 2\n",
+    ),
+    (
+        "check g",
+        TOO_MANY_PAGES,
+        b"",
+        8,
+        "wg: g.properties: range nodes\n",
+    ),
+];
+
 #[test]
 fn lines_without_an_archive(rt: HostRuntime) -> Result<(), Fail> {
-    let cases: [(&str, &[u8], &[u8], u8, &str); 8] = [
-        ("", PROPERTIES, b"", 2, "wg: bad command line\n"),
-        ("check --help", PROPERTIES, b"", 2, "wg: bad command line\n"),
-        ("check h", PROPERTIES, b"", 6, "wg: missing: h.properties\n"),
-        ("check g", PROPERTIES, b"", 6, "wg: missing: g.graph\n"),
-        (
-            "check g",
-            PROPERTIES,
-            b"\x4e",
-            6,
-            "wg: missing: g.offsets\n",
-        ),
-        (
-            "check g",
-            b"",
-            b"",
-            8,
-            "wg: g.properties: missing graphclass\n",
-        ),
-        (
-            "check g",
-            b"nodes=1\nversion=0\\\n",
-            b"",
-            8,
-            "wg: g.properties: line 2\n",
-        ),
-        (
-            "check g",
-            TOO_MANY_PAGES,
-            b"",
-            8,
-            "wg: g.properties: range nodes\n",
-        ),
-    ];
-    for (line, properties, graph, code, report) in cases {
+    for (line, properties, graph, code, report) in UNANSWERED {
         let mut depot = SteadyDepot::new(rt.alloc(), 3);
         depot.put_file("g.properties", properties)?;
         if !graph.is_empty() {
