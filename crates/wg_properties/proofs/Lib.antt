@@ -9,3 +9,4 @@ pub mod Reread
 pub mod Reflagged
 pub mod Readback
 pub mod Fronts
+pub mod ShortTexts

@@ -95,7 +95,7 @@ written_pairs p =
 abbrev pub comment : List ℕ
 comment = codes "#BVGraph properties"
 
-lines_are : (p : Parameters) → written_lines p ≡ comment ∷ map line_of (written_pairs p)
+pub lines_are : (p : Parameters) → written_lines p ≡ comment ∷ map line_of (written_pairs p)
 unfolding written_lines
 lines_are p = refl
 

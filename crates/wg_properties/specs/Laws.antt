@@ -1,5 +1,5 @@
 -- What holds of all texts that are written.
-use Rattle.std.specs.Prelude.{◌≡◌, ℕ, ◌+◌, ◌<◌, length, take, Ok, IsErr}
+use Rattle.std.specs.Prelude.{◌≡◌, ℕ, ◌+◌, ◌^◌, ◌<◌, length, take, Ok, IsErr}
 use Rattle.wg_params.specs.Parameters.{Parameters, IsWithinLimits}
 use Rattle.wg_properties.specs.Judged.{properties_of}
 use Rattle.wg_properties.specs.Text.{text_of}
@@ -11,3 +11,7 @@ ReadsBack = (p : Parameters) → IsWithinLimits p → properties_of (text_of p) 
 -- A front of the text that lacks more than its last byte, an LF, is refused.
 abbrev pub FrontsAreRefused : Type 0
 FrontsAreRefused = (p : Parameters) (n : ℕ) → IsWithinLimits p → n + 1 < length (text_of p) → IsErr (properties_of (take n (text_of p)))
+
+-- The text has fewer bytes than this.
+abbrev pub AreShort : Type 0
+AreShort = (p : Parameters) → IsWithinLimits p → length (text_of p) < 2 ^ 9

@@ -1,0 +1,111 @@
+-- A text that was written is short.
+use Rattle.std.proofs.Common.{◌≡◌, ℕ, ◌+◌, ◌*◌, ◌^◌, ◌<◌, ◌≤◌, List, [], ◌∷◌, length, length-append, map, ap, arith}
+use Rattle.std.specs.Prelude.{Option, Some, None, decimal, unwrap_or}
+use Rattle.std.specs.List.{flat_map, filter_map}
+use Rattle.std.proofs.lemmas.Fmt.{length-decimal-le}
+use Rattle.wg_params.specs.Parameters.{Parameters, IsWithinLimits}
+use Rattle.wg_params.specs.declared.key.Key.{Key}
+use Rattle.wg_params.specs.declared.key.Key.TheVariants as key
+use Rattle.wg_params.specs.declared.limits.TheConstants.{MOST_CHAIN}
+use Rattle.wg_properties.specs.Words.{name_of, word_of, class_name}
+use Rattle.wg_properties.specs.Text.{chain_text, ended, flags_of, flags_text, joined_by_bars, text_of}
+use Rattle.wg_properties.specs.declared.flags.Flag.{Flag}
+use Rattle.wg_properties.specs.declared.flags.Flag.TheVariants as flag
+use Rattle.wg_properties.proofs.Reread.{line_of}
+use Rattle.wg_properties.proofs.Readback.{comment, lines_are, written_pairs}
+
+-- ---- words
+
+short_name : (k : Key) → length (name_of k) ≤ 17
+unfolding name_of
+short_name key.GraphClass = omega arith
+short_name key.Version = omega arith
+short_name key.Endianness = omega arith
+short_name key.Nodes = omega arith
+short_name key.Arcs = omega arith
+short_name key.WindowSize = omega arith
+short_name key.MaxRefCount = omega arith
+short_name key.MinIntervalLength = omega arith
+short_name key.ZetaK = omega arith
+short_name key.CompressionFlags = omega arith
+
+short_word : (f : Flag) → length (word_of f) ≤ 17
+unfolding word_of
+short_word flag.OutdegreesGamma = omega arith
+short_word flag.OutdegreesDelta = omega arith
+short_word flag.BlocksGamma = omega arith
+short_word flag.BlocksDelta = omega arith
+short_word flag.ReferencesUnary = omega arith
+short_word flag.ReferencesGamma = omega arith
+short_word flag.ReferencesDelta = omega arith
+short_word flag.BlockCountUnary = omega arith
+short_word flag.BlockCountGamma = omega arith
+short_word flag.BlockCountDelta = omega arith
+short_word flag.ResidualsGamma = omega arith
+short_word flag.ResidualsDelta = omega arith
+short_word flag.ResidualsZeta = omega arith
+short_word flag.ResidualsNibble = omega arith
+short_word flag.OffsetsGamma = omega arith
+short_word flag.OffsetsDelta = omega arith
+
+-- ---- values
+
+short_number : (n : ℕ) → n < 2 ^ 64 → length (decimal n) ≤ 20
+short_number n low = length-decimal-le 20 n (omega arith) (omega arith) low
+
+short_chain : (chain : Option ℕ) → unwrap_or chain 0 ≤ MOST_CHAIN → length (chain_text chain) ≤ 20
+short_chain None low = omega arith
+short_chain (Some n) low = short_number n (omega (arith, low))
+
+-- a bar and the blanks round it before each further word
+joined_more : (w : List ℕ) (ws : List (List ℕ)) → length (joined_by_bars (w ∷ ws)) ≤ length w + 3 + length (joined_by_bars ws)
+joined_more w [] = omega arith
+joined_more w (v ∷ vs) = omega (arith, length-append w (32 ∷ 124 ∷ 32 ∷ joined_by_bars (v ∷ vs)))
+
+short_flags : (flags : List (Option Flag)) → length (flags_text flags) ≤ 20 * length flags
+short_flags [] = omega arith
+short_flags (None ∷ flags) = omega (arith, short_flags flags)
+short_flags (Some f ∷ flags) = omega (arith, joined_more (word_of f) (map word_of (filter_map (λ o. o) flags)), short_word f, short_flags flags)
+
+short_class : length class_name ≤ 29
+unfolding class_name
+short_class = omega arith
+
+-- ---- lines
+
+-- the bytes of the values
+abbrev in_values : List (Key × List ℕ) → ℕ
+in_values [] = 0
+in_values (p ∷ ps) = length p.1 + in_values ps
+
+short_lines : (ps : List (Key × List ℕ)) → length (flat_map ended (map line_of ps)) ≤ 19 * length ps + in_values ps
+short_lines [] = omega arith
+short_lines (p ∷ ps) =
+    omega (
+      arith,
+      length-append (ended (line_of p)) (flat_map ended (map line_of ps)),
+      length-append (line_of p) (10 ∷ []),
+      length-append (name_of p.0) (61 ∷ p.1),
+      short_name p.0,
+      short_lines ps,
+    )
+
+short_values : (p : Parameters) → IsWithinLimits p → in_values (written_pairs p) ≤ 290
+short_values p is =
+    omega (
+      arith,
+      short_number p.nodes (omega (arith, is.nodes)),
+      short_number p.arcs (omega (arith, is.arcs)),
+      short_number p.window (omega (arith, is.window)),
+      short_chain p.chain is.chain,
+      short_number p.interval (omega (arith, is.interval)),
+      short_number p.zeta (omega (arith, is.zeta)),
+      short_flags (flags_of p),
+      short_class,
+    )
+
+pub text_short : (p : Parameters) → IsWithinLimits p → length (text_of p) < 2 ^ 9
+text_short p is =
+    let lines : List (List ℕ) = map line_of (written_pairs p) in
+    let cut : length (text_of p) ≡ length (flat_map ended (comment ∷ lines)) = ap (λ ls. length (flat_map ended ls)) (lines_are p) in
+    omega (arith, cut, length-append (ended comment) (flat_map ended lines), short_lines (written_pairs p), short_values p is)
