@@ -2,6 +2,7 @@ pub mod ExitLemmas
 pub mod JobLemmas
 pub mod WritingLemmas
 pub mod BuildLemmas
+pub mod BuiltLemmas
 pub mod KeyNames
 pub mod LimitsLemmas
 pub mod NumberLemmas

@@ -6,11 +6,11 @@
 //! only where their counts rose.
 //!
 //! `judged` takes the graph of a file from a function that reads all graph files; [`laws`] states that the grammar leaves
-//! exactly one such function.
+//! exactly one such function, and that an archive that was built is accepted.
 //!
 //! A command more is an equation of `judged` with its inputs and outputs, and a module beside `check` whose function has the
-//! same clauses; `run` stays as it is, but for its clause on the files, which a command that writes some will widen. The inputs are
-//! held whole in memory.
+//! same clauses; `run` stays as it is. Its clause `files` says what stands of the three files of a written archive at each
+//! status. The inputs are held whole in memory.
 #![tactic(auto)]
 
 mod archive;

@@ -1,0 +1,90 @@
+-- An archive that was built, in a judgement.
+use Rattle.std.proofs.Common.{◌≡◌, ℕ, ◌+◌, ◌-◌, ◌≤◌, List, [], ◌∷◌, length, get_or, map, sum, nat_lt, refl, ap, ◌∙◌, arith, Some, Result}
+use Rattle.std.proofs.lemmas.Bool.{cond-false, le-ltb}
+use Rattle.wg_io.specs.declared.limits.TheConstants.{MOST_BYTES}
+use Rattle.wg_params.specs.Parameters.{Parameters, IsWithinLimits}
+use Rattle.wg_properties.specs.Text.{text_of}
+use Rattle.wg_properties.specs.declared.fault.PropFault.{PropFault}
+use Rattle.wg_properties.proofs.Readback.{read_again}
+use Rattle.wg_properties.proofs.ShortTexts.{text_short}
+use Rattle.wg_graph.specs.Digraph.{Digraph}
+use Rattle.wg_graph.specs.Copied.{ends_of}
+use Rattle.wg_graph.proofs.Copies.{sum_cons}
+use Rattle.wg_offsets.specs.Places.{last_place}
+use Rattle.wg_offsets.specs.Words.{places_of}
+use Rattle.wg_offsets.proofs.WordsLemmas.{length_ends}
+use Rattle.wg_encoder.specs.Archive.{graph_bits, graph_file, offset_values, offsets_file, record_bits}
+use Rattle.wg_encoder.specs.Laws.{IsAcceptedArchive}
+use Rattle.wg_encoder.proofs.Accepted.{greedy_accepted}
+use Rattle.wg_encoder.proofs.ProperRecord.{canonical_proper}
+use Rattle.wg_encoder.proofs.Totals.{values_sum}
+use Rattle.wg_arcs.specs.Text.{text_of_graph}
+use Rattle.wg_cli.specs.Built.{holding, IsAcceptedAs, BuiltAreAccepted}
+use Rattle.wg_cli.specs.Judged.{Judged, refused, accepted, number_lines, ok_line, unless_bad_properties, with_digraph, with_file, with_lengths, with_offsets, with_parameters, with_places, with_records}
+use Rattle.wg_cli.specs.Ranked.{ranking_text}
+use Rattle.wg_cli.specs.Readings.{Readings}
+use Rattle.wg_cli.specs.Written.{greedy_archive}
+use Rattle.wg_cli.specs.declared.status.Input.{Input}
+use Rattle.wg_cli.specs.declared.status.Input.TheVariants as input
+use Rattle.wg_cli.specs.declared.status.Status.TheVariants.{OverLimit}
+use Rattle.wg_cli.proofs.ReadingsLemmas.{all_agree, goes_on, goes_on_from}
+
+-- ---- places
+
+-- the last of the ends is what the values add up to
+last_end : (n v : ℕ) (vs : List ℕ) → get_or (ends_of n (v ∷ vs)) (length vs) 0 ≡ n + sum (v ∷ vs)
+last_end n v [] = omega (arith, sum_cons v [])
+last_end n v (w ∷ ws) = omega (arith, last_end (n + v) w ws, sum_cons v (w ∷ ws))
+
+last_sum : (v : ℕ) (vs : List ℕ) → last_place (places_of (v ∷ vs)) ≡ sum (v ∷ vs)
+last_sum v vs =
+    let at : length (places_of (v ∷ vs)) - 1 ≡ length vs = omega (arith, length_ends 0 (v ∷ vs)) in
+    ap (λ (k : ℕ). get_or (places_of (v ∷ vs)) k 0) at ∙ omega (arith, last_end 0 v vs)
+
+-- the last record ends where the bits do
+last_bit : (p : Parameters) (lists : List (List ℕ)) → last_place (places_of (offset_values p lists)) ≡ length (graph_bits p lists)
+last_bit p lists = last_sum 0 (map length (record_bits p lists)) ∙ values_sum p lists
+
+-- ---- files
+
+file_goes_on : (i : Input) (bytes : List ℕ) → length bytes ≤ MOST_BYTES → (next : List ℕ → Judged) → with_file i (Some bytes) next ≡ next bytes
+file_goes_on i bytes few next = cond-false (nat_lt MOST_BYTES (length bytes)) (refused (OverLimit i)) (next bytes) (le-ltb MOST_BYTES (length bytes) few)
+
+module _ (r : Readings) (p : Parameters) (g : Digraph) (limits : IsWithinLimits p) (nodes : p.nodes ≡ g.nodes) (is : IsAcceptedArchive p g.lists) where
+  abbrev places : List ℕ
+  places = places_of (offset_values p g.lists)
+
+  records_go_on : (next : Parameters → List ℕ → Judged) → with_records (holding (greedy_archive p g)) next ≡ next p (graph_file p g.lists)
+  records_go_on next =
+      file_goes_on input.Properties (text_of p) (omega (arith, text_short p limits)) (λ text. with_parameters text (λ q. with_file input.Graph (Some (graph_file p g.lists)) (λ bytes. next q bytes)))
+      ∙ ap (λ (w : Result Parameters PropFault). unless_bad_properties w (λ q. with_file input.Graph (Some (graph_file p g.lists)) (λ bytes. next q bytes))) (read_again p limits)
+      ∙ file_goes_on input.Graph (graph_file p g.lists) (omega (arith, is.short_graph)) (λ bytes. next p bytes)
+
+  lists_go_on : (next : Digraph → Judged) → with_records (holding (greedy_archive p g)) (λ q bytes. with_digraph r q bytes next) ≡ next g
+  lists_go_on next =
+      records_go_on (λ q bytes. with_digraph r q bytes next)
+      ∙ goes_on r p limits (graph_file p g.lists) g.lists places is.graph (λ a. next (record { nodes = p.nodes; lists = a.graph }))
+      ∙ ap (λ (n : ℕ). next (record { nodes = n; lists = g.lists })) nodes
+
+  offsets_go_on : (next : List ℕ → Judged) → with_file input.Offsets (Some (offsets_file p g.lists)) (λ more. with_offsets r p more next) ≡ next places
+  offsets_go_on next =
+      file_goes_on input.Offsets (offsets_file p g.lists) (omega (arith, is.short_offsets)) (λ more. with_offsets r p more next)
+      ∙ goes_on_from r p limits (offsets_file p g.lists) places is.offsets next
+
+  accepted_as : (base : List ℕ) → IsAcceptedAs r p g base
+  accepted_as base = record {
+    check =
+        records_go_on (λ q bytes. with_places r q bytes (λ found. with_file input.Offsets (Some (offsets_file p g.lists)) (λ more. with_offsets r q more (λ stored. with_lengths found stored (λ same. accepted (ok_line q (last_place found)))))))
+        ∙ goes_on r p limits (graph_file p g.lists) g.lists places is.graph (λ a. with_file input.Offsets (Some (offsets_file p g.lists)) (λ more. with_offsets r p more (λ stored. with_lengths a.places stored (λ same. accepted (ok_line p (last_place a.places))))))
+        ∙ offsets_go_on (λ stored. with_lengths places stored (λ same. accepted (ok_line p (last_place places))))
+        ∙ all_agree places places (λ x lt. refl) (λ same. accepted (ok_line p (last_place places)))
+        ∙ ap (λ (n : ℕ). accepted (ok_line p n)) (last_bit p g.lists);
+    arcs = lists_go_on (λ h. accepted (text_of_graph h));
+    offsets =
+        records_go_on (λ q bytes. with_places r q bytes (λ found. accepted (number_lines found)))
+        ∙ goes_on r p limits (graph_file p g.lists) g.lists places is.graph (λ a. accepted (number_lines a.places));
+    rank = λ rounds damping top. lists_go_on (λ h. accepted (ranking_text r h rounds damping top));
+  }
+
+pub built_accepted : (r : Readings) → BuiltAreAccepted r
+built_accepted r p g base limits is nodes arcs = accepted_as r p g limits nodes (greedy_accepted canonical_proper p g limits is nodes arcs) base

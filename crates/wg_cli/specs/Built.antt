@@ -1,0 +1,31 @@
+-- What is said of an archive that was built.
+use Rattle.std.specs.Prelude.{◌≡◌, ℕ, List, length, Option, Some, None}
+use Rattle.wg_params.specs.Parameters.{Parameters, IsWithinLimits}
+use Rattle.wg_graph.specs.Digraph.{Digraph, IsGraph, arc_count}
+use Rattle.wg_offsets.specs.Words.{places_of}
+use Rattle.wg_encoder.specs.Archive.{graph_bits, offset_values}
+use Rattle.wg_arcs.specs.Text.{text_of_graph}
+use Rattle.wg_words.specs.declared.jobs.Job.TheVariants.{Check, Arcs, Offsets, Rank}
+use Rattle.wg_cli.specs.Readings.{Readings}
+use Rattle.wg_cli.specs.Ranked.{ranking_text}
+use Rattle.wg_cli.specs.Written.{Archive, greedy_archive}
+use Rattle.wg_cli.specs.Judged.{judged, accepted, number_lines, ok_line}
+use Rattle.wg_cli.specs.declared.status.Input.{Input}
+use Rattle.wg_cli.specs.declared.status.Input.TheVariants as input
+
+-- what the inputs of an archive hold
+abbrev pub holding : Archive → Input → Option (List ℕ)
+holding a input.Properties = Some a.properties
+holding a input.Graph = Some a.graph
+holding a input.Offsets = Some a.offsets
+holding a input.ArcList = None
+
+-- The greedy archive of a graph within the limits is accepted, and its arcs, places and ranking are those of the graph.
+pub record IsAcceptedAs (r : Readings) (p : Parameters) (g : Digraph) (base : List ℕ) : Type 0 where
+  pub check : judged r (Check base) (holding (greedy_archive p g)) ≡ accepted (ok_line p (length (graph_bits p g.lists)))
+  pub arcs : judged r (Arcs base) (holding (greedy_archive p g)) ≡ accepted (text_of_graph g)
+  pub offsets : judged r (Offsets base) (holding (greedy_archive p g)) ≡ accepted (number_lines (places_of (offset_values p g.lists)))
+  pub rank : (rounds damping top : ℕ) → judged r (Rank base rounds damping top) (holding (greedy_archive p g)) ≡ accepted (ranking_text r g rounds damping top)
+
+abbrev pub BuiltAreAccepted : Readings → Type 0
+BuiltAreAccepted r = (p : Parameters) (g : Digraph) (base : List ℕ) → IsWithinLimits p → IsGraph g → p.nodes ≡ g.nodes → p.arcs ≡ arc_count g → IsAcceptedAs r p g base
