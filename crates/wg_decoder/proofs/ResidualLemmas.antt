@@ -1,6 +1,7 @@
 -- Residuals.
-use Rattle.std.proofs.Common.{◌≡◌, ◌∙◌, ℕ, ◌+◌, ◌<◌, Bool, true, false, List, [], ◌∷◌, ◌++◌, length, Option, Some, None, refl, sym, ap, subst, arith}
+use Rattle.std.proofs.Common.{◌≡◌, ◌∙◌, ℕ, suc, ◌+◌, ◌<◌, Bool, true, false, List, [], ◌∷◌, ◌++◌, length, drop, Option, Some, None, refl, sym, ap, subst, arith}
 use Rattle.std.proofs.lemmas.Bool.{ne_eqb}
+use Rattle.std.proofs.lemmas.List.{length_push}
 use Rattle.wg_codes.specs.Fold.{unfolded_from}
 use Rattle.wg_params.specs.Parameters.{Parameters}
 use Rattle.wg_grammar.specs.declared.fault.Fault.{Fault}
@@ -11,7 +12,11 @@ use Rattle.wg_grammar.specs.Context.{Context}
 use Rattle.wg_grammar.specs.Next.{next}
 use Rattle.wg_grammar.specs.SoFar.{SoFar, after, own_residual, last_of}
 use Rattle.wg_grammar.specs.Refusal.{refusal, is_page}
-use Rattle.wg_decoder.specs.Residuals.{AreResiduals, AreNoResiduals}
+use Rattle.wg_graph.specs.Ascending.{Ascends, Below}
+use Rattle.wg_graph.specs.Joined.{Joined}
+use Rattle.wg_graph.proofs.Unions.{joined_all}
+use Rattle.wg_decoder.specs.Residuals.{AreResiduals, AreNoResiduals, Joining, ResidualsJoin}
+use Rattle.wg_decoder.proofs.Lists.{last_push, union_with_empty}
 use Rattle.wg_decoder.specs.Stages.{LeadsTo, FailsFrom, IsNumberAt, IsNoNumberAt}
 use Rattle.wg_decoder.proofs.Leads.{leads_nowhere, leads_on, fails_on, leads_by, fails_number, a_page, no_page}
 
@@ -63,3 +68,51 @@ pub residuals_fail : (p : Parameters) (page n : ℕ) (own : ℕ → Option ℕ) 
 residuals_fail p page n own bits at xs mid e lt mine are bad c s h =
     fails_on p c bits s at (record s { residuals = xs }) mid e (are c s h)
     (residual_fails p c (record s { residuals = xs }) page own bits mid e h.of_page (h.due xs lt) (λ v. mine c s v h.of_page) bad)
+
+-- ---- joined to the members
+
+-- the first
+pub joining_first : (p : Parameters) (page n : ℕ) (members : List ℕ) (bits : List Bool) (at y place : ℕ) (out : List ℕ) (end : ℕ) → 0 < n → IsNumberAt p.residuals (unfolded_from page) bits at y end → y < p.nodes →
+    Joined members (y ∷ []) place out (suc y) → Joining p page n members bits at 1 y place out end
+joining_first p page n members bits at y place out end some one fits joined = record {
+  residuals = y ∷ [];
+  counted = refl;
+  ends = refl;
+  read = residuals_more p page n (unfolded_from page) bits at [] at y end some (own_first page) (residuals_begin p page n bits at) one fits;
+  joined = joined;
+}
+
+-- one more
+pub joining_more : (p : Parameters) (page n : ℕ) (members : List ℕ) (bits : List Bool) (at count last place : ℕ) (out : List ℕ) (mid y next : ℕ) (more : List ℕ) (end : ℕ) → 0 < count → count < n → (h : Joining p page n members bits at count last place out mid) →
+    IsNumberAt p.residuals (λ v. Some (last + 1 + v)) bits mid y end → y < p.nodes → Joined members (h.residuals ++ y ∷ []) next more (suc y) → Joining p page n members bits at (count + 1) y next more end
+joining_more p page n members bits at count last place out mid y next more end some lt h one fits joined = record {
+  residuals = h.residuals ++ y ∷ [];
+  counted = length_push h.residuals y ∙ ap (λ (k : ℕ). k + 1) h.counted;
+  ends = last_push h.residuals y;
+  read = residuals_more p page n (λ v. Some (last + 1 + v)) bits at h.residuals mid y end (omega (arith, h.counted)) (own_later page last h.residuals (omega (arith, h.counted)) h.ends) h.read one fits;
+  joined = joined;
+}
+
+pub joining_fails : (p : Parameters) (page n : ℕ) (members : List ℕ) (bits : List Bool) (at count last place : ℕ) (out : List ℕ) (mid : ℕ) (e : Fault) → 0 < count → count < n → Joining p page n members bits at count last place out mid →
+    IsNoNumberAt field.Residual p.residuals (λ v. Some (last + 1 + v)) p.nodes bits mid page e → AreNoResiduals p page n bits at e
+joining_fails p page n members bits at count last place out mid e some lt h bad =
+    residuals_fail p page n (λ v. Some (last + 1 + v)) bits at h.residuals mid e (omega (arith, h.counted)) (own_later page last h.residuals (omega (arith, h.counted)) h.ends) h.read bad
+
+-- all, and the members above them
+pub joining_all : (p : Parameters) (page n : ℕ) (members : List ℕ) (bits : List Bool) (at count last place : ℕ) (out : List ℕ) (end : ℕ) (list : List ℕ) → count ≡ n → last < p.nodes → Below p.nodes members → Joining p page n members bits at count last place out end →
+    list ≡ out ++ drop place members → ResidualsJoin p page n members bits at list end
+joining_all p page n members bits at count last place out end list all fits low h is = record {
+  residuals = h.residuals;
+  all = h.counted ∙ all;
+  read = h.read;
+  union = is ∙ joined_all members h.residuals place out (suc last) p.nodes h.joined fits low;
+}
+
+-- none at all
+pub joins_none : (p : Parameters) (page n : ℕ) (members : List ℕ) (bits : List Bool) (at : ℕ) → n ≡ 0 → Ascends 0 members → Below p.nodes members → ResidualsJoin p page n members bits at members at
+joins_none p page n members bits at none up low = record {
+  residuals = [];
+  all = sym none;
+  read = residuals_begin p page n bits at;
+  union = union_with_empty members [] p.nodes refl up low;
+}

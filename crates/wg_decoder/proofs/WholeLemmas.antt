@@ -23,7 +23,7 @@ use Rattle.wg_decoder.specs.Answer.{context_at, OfFault, IfFault}
 use Rattle.wg_decoder.specs.Head.{of_outdegree, of_head, IsOutdegree, IsReference, IsNoReference}
 use Rattle.wg_decoder.specs.Copying.{HasCopied, Copies, CopiesNot}
 use Rattle.wg_decoder.specs.Intervals.{HasIntervals, Holds, HoldsNot}
-use Rattle.wg_decoder.specs.Residuals.{IsAtResiduals, AreResiduals, AreNoResiduals}
+use Rattle.wg_decoder.specs.Residuals.{IsAtResiduals, AreNoResiduals, ResidualsJoin}
 use Rattle.wg_decoder.specs.Stages.{LeadsTo, FailsFrom}
 use Rattle.wg_decoder.proofs.Leads.{leads_on, fails_on}
 
@@ -107,22 +107,17 @@ left_over p c d r kept inside t h =
     let all : value_or_0 t.outdegree ≡ d = ap value_or_0 h.outdegree in
     omega (arith, ap length h.copied, h.total)
 
-or_assoc : (a b d : Bool) → ((a || b) || d) ≡ (a || (b || d))
-or_assoc true b d = refl
-or_assoc false b d = refl
-
 -- the members are those of one of three lists
-whole_list : (p : Parameters) (c : Context) (d r : ℕ) (t : SoFar) (kept inside ys rest list : List ℕ) → HasIntervals p c d r kept inside t →
-    rest ≡ numbers_where (is_in_either inside ys) 0 p.nodes → list ≡ numbers_where (is_in_either kept rest) 0 p.nodes → list_of p c (record t { residuals = ys }) ≡ list
+whole_list : (p : Parameters) (c : Context) (d r : ℕ) (t : SoFar) (kept inside members ys list : List ℕ) → HasIntervals p c d r kept inside t →
+    members ≡ numbers_where (is_in_either kept inside) 0 p.nodes → list ≡ numbers_where (is_in_either members ys) 0 p.nodes → list_of p c (record t { residuals = ys }) ≡ list
 unfolding list_of
-whole_list p c d r t kept inside ys rest list h rest_is list_is =
-    where_same (is_member c (record t { residuals = ys })) (is_in_either kept rest) 0 p.nodes
+whole_list p c d r t kept inside members ys list h members_is list_is =
+    where_same (is_member c (record t { residuals = ys })) (is_in_either members ys) 0 p.nodes
     (λ y low high.
-    let of_rest : is_in y rest ≡ (is_in y inside || is_in y ys) = ap (is_in y) rest_is ∙ is_in-where (is_in_either inside ys) 0 p.nodes y low high in
+    let of_members : is_in y members ≡ (is_in y kept || is_in y inside) = ap (is_in y) members_is ∙ is_in-where (is_in_either kept inside) 0 p.nodes y low high in
     ap (λ (xs : List ℕ). is_in y xs || is_covered t.lefts t.lengths y || is_in y ys) h.copied
     ∙ ap (λ (b : Bool). is_in y kept || b || is_in y ys) (h.covers y)
-    ∙ or_assoc (is_in y kept) (is_in y inside) (is_in y ys)
-    ∙ ap (λ (b : Bool). is_in y kept || b) (sym of_rest))
+    ∙ ap (λ (b : Bool). b || is_in y ys) (sym of_members))
     ∙ sym list_is
 
 -- a record of which all is read
@@ -219,19 +214,20 @@ pub no_residuals : (p : Parameters) (c : Context) (page : ℕ) (bits more : List
 no_residuals p c page bits more start d r kept inside mid n e same is some n_is x bad =
     reads_fault p c bits start e (fails_on p c bits nothing_yet start x.so_far mid e x.read (subst (λ (b : List Bool). FailsFrom p c b x.so_far mid e) same (bad c x.so_far (ready p c page bits start d r kept inside mid n is some n_is x))))
 
-pub all_read : (p : Parameters) (c : Context) (page : ℕ) (bits more : List Bool) (start d r : ℕ) (kept inside : List ℕ) (mid n : ℕ) (ys rest list : List ℕ) (end : ℕ) → more ≡ bits → c.page ≡ page → 0 < d → n ≡ d - length kept - length inside →
-    Reached p c bits start d r kept inside mid → AreResiduals p page n more mid ys end → length ys ≡ n → rest ≡ numbers_where (is_in_either inside ys) 0 p.nodes → list ≡ numbers_where (is_in_either kept rest) 0 p.nodes → AllRead p c bits start d r list end
-all_read p c page bits more start d r kept inside mid n ys rest list end same is some n_is x are all rest_is list_is =
+pub all_read : (p : Parameters) (c : Context) (page : ℕ) (bits more : List Bool) (start d r : ℕ) (kept inside : List ℕ) (mid n : ℕ) (members list : List ℕ) (end : ℕ) → more ≡ bits → c.page ≡ page → 0 < d → n ≡ d - length kept - length inside →
+    Reached p c bits start d r kept inside mid → members ≡ numbers_where (is_in_either kept inside) 0 p.nodes → ResidualsJoin p page n members more mid list end → AllRead p c bits start d r list end
+all_read p c page bits more start d r kept inside mid n members list end same is some n_is x members_is join =
+    let ys = join.residuals in
     let s = record x.so_far { residuals = ys } in
     let before = before_residuals p c d r kept inside x.so_far some x.has in
     record {
       so_far = s;
-      done = after_residuals p c x.so_far n ys before (left_over p c d r kept inside x.so_far x.has ∙ sym n_is) all;
+      done = after_residuals p c x.so_far n ys before (left_over p c d r kept inside x.so_far x.has ∙ sym n_is) join.all;
       read = leads_on p c bits nothing_yet start x.so_far mid s end x.read
-          (subst (λ (b : List Bool). LeadsTo p c b x.so_far mid s end) same (are c x.so_far (ready p c page bits start d r kept inside mid n is some n_is x)));
+          (subst (λ (b : List Bool). LeadsTo p c b x.so_far mid s end) same (join.read c x.so_far (ready p c page bits start d r kept inside mid n is some n_is x)));
       outdegree = ap value_or_0 x.has.outdegree;
       refers = x.has.refers;
-      is = whole_list p c d r x.so_far kept inside ys rest list x.has rest_is list_is;
+      is = whole_list p c d r x.so_far kept inside members ys list x.has members_is join.union;
     }
 
 -- the union of two lists of pages ascends, and has pages alone

@@ -8,7 +8,7 @@ ghost use Rattle.wg_decoder.specs.Remembered.{known_of, Serves};
 use crate::copying::copied;
 use crate::head::{depth_at, list_at, outdegree, reference};
 use crate::intervals::intervals;
-use crate::residuals::residuals;
+use crate::residuals::with_residuals;
 use crate::{DecodeError, Decoded, Window};
 use std::alloc::{AllocError, Global};
 use wg_bits::Cursor;
@@ -71,9 +71,8 @@ fn read_record(
     let extra = outdegree - copied.as_slice().len() as u64;
     let inside = intervals(alloc, params, page, extra, cursor)?;
     let missing = extra - inside.as_slice().len() as u64;
-    let residuals = residuals(alloc, params, page, missing, cursor)?;
-    let rest = union(alloc, inside, residuals)?;
-    let list = union(alloc, copied, rest)?;
+    let members = union(alloc, copied, inside)?;
+    let list = with_residuals(alloc, params, page, missing, members, cursor)?;
     if (list.as_slice().len() as u64) < outdegree {
         return Err(DecodeError::Fault(Fault {
             page,

@@ -1,7 +1,7 @@
-ghost use Rattle.std.specs.Prelude.{◌≡◌, ◌<◌, ◌≤◌, length, IfOk};
+ghost use Rattle.std.specs.Prelude.{◌≡◌, ◌<◌, ◌≤◌, IfOk};
 ghost use Rattle.wg_graph.specs.Ascending.{Ascends, Below};
 ghost use Rattle.wg_decoder.specs.Answer.{IfFault};
-ghost use Rattle.wg_decoder.specs.Residuals.{AreResiduals, AreNoResiduals};
+ghost use Rattle.wg_decoder.specs.Residuals.{ResidualsJoin, AreNoResiduals};
 
 use crate::DecodeError;
 use crate::room::first_room;
@@ -9,37 +9,40 @@ use crate::value::{first_number, later_number};
 use std::alloc::Global;
 use wg_bits::Cursor;
 use wg_grammar::Field;
-use wg_graph::List;
+use wg_graph::{List, join};
 use wg_params::Params;
 
-/// The residuals of a record, of which `missing` come. Memory is taken for a few at first, and for more as they come.
-pub fn residuals(
+/// The residuals of a record, of which `missing` come, and the members that it has besides, as one list. Memory is taken for the
+/// members and for a few residuals at first, and for more as they come.
+pub fn with_residuals(
     alloc: Global,
     params: &Params,
     page: u64,
     missing: u64,
+    members: List,
     cursor: &mut Cursor<'_>,
 ) -> Result<List, DecodeError>
-    requires { page < params.now.nodes }
+    requires page { page < params.now.nodes }
+    requires ascends { Ascends 0 members }
+    requires below { Below params.now.nodes members }
     ensures bits { cursor.new.bits ≡ cursor.old.bits }
     ensures onward { cursor.old.at ≤ cursor.new.at }
-    ensures count { IfOk result (λ xs. length xs ≡ missing) }
-    ensures ascends { IfOk result (λ xs. Ascends 0 xs) }
-    ensures below { IfOk result (λ xs. Below params.now.nodes xs) }
-    ensures ok { IfOk result (λ xs. AreResiduals params.now page missing cursor.old.bits cursor.old.at xs cursor.new.at) }
+    ensures ok { IfOk result (λ list. ResidualsJoin params.now page missing members cursor.old.bits cursor.old.at list cursor.new.at) }
     ensures fault { IfFault result (λ e. AreNoResiduals params.now page missing cursor.old.bits cursor.old.at e) }
 {
     if missing == 0 {
-        return Ok(List::new(alloc));
+        return Ok(members);
     }
-    let mut list = List::with_room(alloc, first_room(missing))?;
+    let members = members.as_slice();
+    let mut list = List::with_room(alloc, members.len() + first_room(missing))?;
     let nodes = params.nodes();
     let code = params.residuals();
     let mut last = first_number(nodes, page, Field::Residual, code, cursor)?;
-    list.push(last)?;
+    let mut place = join(&mut list, members, 0, last)?;
     'rest: for _count in 1..missing {
         last = later_number(nodes, page, Field::Residual, code, last + 1, cursor)?;
-        list.push(last)?;
+        place = join(&mut list, members, place, last)?;
     }
+    list.extend(&members[place..])?;
     Ok(list)
 }

@@ -1,6 +1,7 @@
 pub mod Sets
 pub mod Copies
 pub mod Merged
+pub mod Unions
 pub mod Counts
 pub mod Ends
 pub mod Fronts

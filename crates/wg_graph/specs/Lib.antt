@@ -3,6 +3,7 @@ pub mod Ascending
 pub mod Copied
 pub mod Digraph
 pub mod Growing
+pub mod Joined
 pub mod Listing
 pub mod Numbers
 pub mod Pieces

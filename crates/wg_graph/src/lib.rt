@@ -4,7 +4,8 @@
 //! [`GraphBuilder`], which takes arcs in ascending order, or whole lists, page by page. [`Lists`] is a graph whose lists are
 //! read in order, wherever they come from; [`GraphLists`] reads those of a [`Graph`].
 //!
-//! [`List`] holds numbers in order, as the successors of one page, and [`merge`] joins two ascending lists into one.
+//! [`List`] holds numbers in order, as the successors of one page. [`merge`] joins two ascending lists into one, and [`join`] does
+//! so where the numbers of the second come one after the other.
 //! [`Members`] tells of one number after the other whether it stands in an ascending list. The definitions say what a graph
 //! is, which lists ascend, which ascending list a set of numbers has, and which members of a referenced list its copy blocks
 //! copy; the lemmas on them serve every crate that copies, merges or writes lists.
@@ -16,6 +17,7 @@
 mod builder;
 mod cutting;
 mod graph;
+mod joining;
 mod list;
 mod lists;
 mod members;
@@ -23,6 +25,7 @@ mod merging;
 
 pub use builder::GraphBuilder;
 pub use graph::Graph;
+pub use joining::join;
 pub use list::List;
 pub use lists::{GraphLists, Lists};
 pub use members::Members;

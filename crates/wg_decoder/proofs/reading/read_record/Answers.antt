@@ -76,8 +76,8 @@ returns-in_err-inside-clause-fault c =
     (λ e h. no_intervals q here page start.bits b3.bits start.at d r kept b3.at extra e same3 refl some extra_is x h)
     c.in_err-inside.ensures.fault)
 
-pub returns-in_err-residuals-clause-fault : goal.returns-in_err-residuals-clause-fault
-returns-in_err-residuals-clause-fault c =
+pub returns-in_err-list-clause-fault : goal.returns-in_err-list-clause-fault
+returns-in_err-list-clause-fault c =
     let q = c.args.params.now in
     let page = c.args.page in
     let before = c.args.arcs_before in
@@ -104,15 +104,20 @@ returns-in_err-residuals-clause-fault c =
     let y : Reached q here start.bits start.at d r kept inside b4.at = to_intervals q here page start.bits b3.bits start.at d r kept b3.at extra inside b4.at same3 refl some extra_is x c.in_ok-inside.ensures.ok in
     let n = extra - length c.as_slice-2.result.now in
     let n_is : n ≡ d - length kept - length inside = omega (arith, extra_is, ap length c.as_slice-2.ensures) in
-    let p = err_from_is_err_and c.from_residual-in_err-residuals.result c.from_residual-in_err-residuals.ensures.1 in
-    rw (p.1, p.2) (fault_weaker c.in_err-residuals.field-0.0 (λ (e : Fault). AreNoResiduals q page n b4.bits b4.at e) (λ (e : Fault). ReadsRecord q here start.bits start.at (Err e))
+    let p = err_from_is_err_and c.from_residual-in_err-list.result c.from_residual-in_err-list.ensures.1 in
+    rw (p.1, p.2) (fault_weaker c.in_err-list.field-0.0 (λ (e : Fault). AreNoResiduals q page n b4.bits b4.at e) (λ (e : Fault). ReadsRecord q here start.bits start.at (Err e))
     (λ e h. no_residuals q here page start.bits b4.bits start.at d r kept inside b4.at n e same4 refl some n_is y h)
-    c.in_err-residuals.ensures.fault)
+    c.in_err-list.ensures.fault)
 
-pub union-requires-2-clause-list : goal.union-requires-2-clause-list
-union-requires-2-clause-list c =
-    let q = c.args.params.now in
-    union_ascends q.nodes c.in_ok-inside.inside c.in_ok-residuals.residuals c.in_ok-rest.rest (c.in_ok-rest.ensures q.nodes c.in_ok-inside.ensures.below c.in_ok-residuals.ensures.below)
+pub with_residuals-requires-clause-ascends : goal.with_residuals-requires-clause-ascends
+with_residuals-requires-clause-ascends c =
+    let n = c.args.params.now.nodes in
+    union_ascends n c.in_ok-copied.copied c.in_ok-inside.inside c.in_ok-members.members (c.in_ok-members.ensures n c.in_ok-copied.ensures.below c.in_ok-inside.ensures.below)
+
+pub with_residuals-requires-clause-below : goal.with_residuals-requires-clause-below
+with_residuals-requires-clause-below c =
+    let n = c.args.params.now.nodes in
+    union_below n c.in_ok-copied.copied c.in_ok-inside.inside c.in_ok-members.members (c.in_ok-members.ensures n c.in_ok-copied.ensures.below c.in_ok-inside.ensures.below)
 
 pub returns-then-as_slice-outdegree-clause-fault : goal.returns-then-as_slice-outdegree-clause-fault
 returns-then-as_slice-outdegree-clause-fault c =
@@ -142,14 +147,11 @@ returns-then-as_slice-outdegree-clause-fault c =
     let y : Reached q here start.bits start.at d r kept inside b4.at = to_intervals q here page start.bits b3.bits start.at d r kept b3.at extra inside b4.at same3 refl some extra_is x c.in_ok-inside.ensures.ok in
     let n = extra - length c.as_slice-2.result.now in
     let n_is : n ≡ d - length kept - length inside = omega (arith, extra_is, ap length c.as_slice-2.ensures) in
-    let ys = c.in_ok-residuals.residuals in
-    let rest = c.in_ok-rest.rest in
+    let members = c.in_ok-members.members in
     let list = c.in_ok-list.list in
-    let end = c.residuals.new.cursor in
-    let rest_is : rest ≡ numbers_where (is_in_either inside ys) 0 q.nodes = c.in_ok-rest.ensures q.nodes c.in_ok-inside.ensures.below c.in_ok-residuals.ensures.below in
-    let list_is : list ≡ numbers_where (is_in_either kept rest) 0 q.nodes = c.in_ok-list.ensures q.nodes c.in_ok-copied.ensures.below (union_below q.nodes inside ys rest rest_is) in
-    let all : AllRead q here start.bits start.at d r list end.at = all_read q here page start.bits b4.bits start.at d r kept inside b4.at n ys rest list end.at same4 refl some n_is y
-    c.in_ok-residuals.ensures.ok c.in_ok-residuals.ensures.count rest_is list_is in
+    let end = c.with_residuals.new.cursor in
+    let members_is : members ≡ numbers_where (is_in_either kept inside) 0 q.nodes = c.in_ok-members.ensures q.nodes c.in_ok-copied.ensures.below c.in_ok-inside.ensures.below in
+    let all : AllRead q here start.bits start.at d r list end.at = all_read q here page start.bits b4.bits start.at d r kept inside b4.at n members list end.at same4 refl some n_is y members_is c.in_ok-list.ensures.ok in
     whole_twice q here start.bits start.at d r c.at-start.result list end.at all (omega (arith, ap length c.as_slice-3.ensures)) c.at-start.ensures.place
 
 pub returns-clause-reads : goal.returns-clause-reads
@@ -180,14 +182,11 @@ returns-clause-reads c =
     let y : Reached q here start.bits start.at d r kept inside b4.at = to_intervals q here page start.bits b3.bits start.at d r kept b3.at extra inside b4.at same3 refl some extra_is x c.in_ok-inside.ensures.ok in
     let n = extra - length c.as_slice-2.result.now in
     let n_is : n ≡ d - length kept - length inside = omega (arith, extra_is, ap length c.as_slice-2.ensures) in
-    let ys = c.in_ok-residuals.residuals in
-    let rest = c.in_ok-rest.rest in
+    let members = c.in_ok-members.members in
     let list = c.in_ok-list.list in
-    let end = c.residuals.new.cursor in
-    let rest_is : rest ≡ numbers_where (is_in_either inside ys) 0 q.nodes = c.in_ok-rest.ensures q.nodes c.in_ok-inside.ensures.below c.in_ok-residuals.ensures.below in
-    let list_is : list ≡ numbers_where (is_in_either kept rest) 0 q.nodes = c.in_ok-list.ensures q.nodes c.in_ok-copied.ensures.below (union_below q.nodes inside ys rest rest_is) in
-    let all : AllRead q here start.bits start.at d r list end.at = all_read q here page start.bits b4.bits start.at d r kept inside b4.at n ys rest list end.at same4 refl some n_is y
-    c.in_ok-residuals.ensures.ok c.in_ok-residuals.ensures.count rest_is list_is in
+    let end = c.with_residuals.new.cursor in
+    let members_is : members ≡ numbers_where (is_in_either kept inside) 0 q.nodes = c.in_ok-members.ensures q.nodes c.in_ok-copied.ensures.below c.in_ok-inside.ensures.below in
+    let all : AllRead q here start.bits start.at d r list end.at = all_read q here page start.bits b4.bits start.at d r kept inside b4.at n members list end.at same4 refl some n_is y members_is c.in_ok-list.ensures.ok in
     whole_reads q here start.bits start.at d r c.depth_at.result list end.at all (omega (arith, ap length c.as_slice-3.ensures)) c.depth_at.ensures.depth
 
 pub returns-clause-total : goal.returns-clause-total
@@ -218,12 +217,9 @@ returns-clause-total c =
     let y : Reached q here start.bits start.at d r kept inside b4.at = to_intervals q here page start.bits b3.bits start.at d r kept b3.at extra inside b4.at same3 refl some extra_is x c.in_ok-inside.ensures.ok in
     let n = extra - length c.as_slice-2.result.now in
     let n_is : n ≡ d - length kept - length inside = omega (arith, extra_is, ap length c.as_slice-2.ensures) in
-    let ys = c.in_ok-residuals.residuals in
-    let rest = c.in_ok-rest.rest in
+    let members = c.in_ok-members.members in
     let list = c.in_ok-list.list in
-    let end = c.residuals.new.cursor in
-    let rest_is : rest ≡ numbers_where (is_in_either inside ys) 0 q.nodes = c.in_ok-rest.ensures q.nodes c.in_ok-inside.ensures.below c.in_ok-residuals.ensures.below in
-    let list_is : list ≡ numbers_where (is_in_either kept rest) 0 q.nodes = c.in_ok-list.ensures q.nodes c.in_ok-copied.ensures.below (union_below q.nodes inside ys rest rest_is) in
-    let all : AllRead q here start.bits start.at d r list end.at = all_read q here page start.bits b4.bits start.at d r kept inside b4.at n ys rest list end.at same4 refl some n_is y
-    c.in_ok-residuals.ensures.ok c.in_ok-residuals.ensures.count rest_is list_is in
+    let end = c.with_residuals.new.cursor in
+    let members_is : members ≡ numbers_where (is_in_either kept inside) 0 q.nodes = c.in_ok-members.ensures q.nodes c.in_ok-copied.ensures.below c.in_ok-inside.ensures.below in
+    let all : AllRead q here start.bits start.at d r list end.at = all_read q here page start.bits b4.bits start.at d r kept inside b4.at n members list end.at same4 refl some n_is y members_is c.in_ok-list.ensures.ok in
     omega (arith, never_long q here start.bits start.at d r list end.at all, c.in_ok-outdegree.ensures.total)
