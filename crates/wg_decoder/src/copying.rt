@@ -5,8 +5,9 @@ ghost use Rattle.wg_decoder.specs.Answer.{IfFault};
 ghost use Rattle.wg_decoder.specs.Copying.{IsBlockCount, IsNoBlockCount, IsBlock, IsNoBlock, BlocksCopy, AreNoBlocks, Copies, CopiesNot};
 
 use crate::DecodeError;
+use crate::spares::Spares;
 use crate::value::value;
-use std::alloc::{AllocError, Global};
+use std::alloc::AllocError;
 use wg_bits::Cursor;
 use wg_grammar::{Fault, Field, Kind};
 use wg_graph::List;
@@ -79,7 +80,7 @@ fn keep(kept: &mut List, run: &[u64], index: u64) -> Result<(), AllocError>
 
 // The members that `count` blocks copy: those of every other block, and what lies past the last where their number is even.
 fn blocks(
-    alloc: Global,
+    spares: &Spares,
     params: &Params,
     page: u64,
     list: &[u64],
@@ -91,7 +92,7 @@ fn blocks(
     ensures ok { IfOk result (λ kept. BlocksCopy params.now page list.now count cursor.old.bits cursor.old.at kept cursor.new.at) }
     ensures fault { IfFault result (λ e. AreNoBlocks params.now page list.now count cursor.old.bits cursor.old.at e) }
 {
-    let mut kept = List::with_room(alloc, list.len())?;
+    let mut kept = spares.lend(list.len())?;
     let mut done = 0;
     'blocks: for index in 0..count {
         let length = block(params, page, list, index == 0, done, cursor)?;
@@ -104,7 +105,7 @@ fn blocks(
 
 /// The members that the record copies of the list that it refers to; none without a reference.
 pub fn copied(
-    alloc: Global,
+    spares: &Spares,
     params: &Params,
     page: u64,
     outdegree: u64,
@@ -125,10 +126,10 @@ pub fn copied(
     ensures fault { IfFault result (λ e. (behind : ListOf Known) → referenced behind reference ≡ list.now → CopiesNot params.now page behind outdegree reference cursor.old.bits cursor.old.at e) }
 {
     if reference == 0 {
-        return Ok(List::new(alloc));
+        return Ok(spares.nothing());
     }
     let count = block_count(params, page, list, cursor)?;
-    let kept = blocks(alloc, params, page, list, count, cursor)?;
+    let kept = blocks(spares, params, page, list, count, cursor)?;
     if kept.as_slice().len() as u64 > outdegree {
         return Err(DecodeError::Fault(Fault {
             page,

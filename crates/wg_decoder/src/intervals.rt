@@ -9,8 +9,9 @@ ghost use Rattle.wg_decoder.specs.Intervals.{IsIntervalCount, IsNoIntervalCount,
 
 use crate::DecodeError;
 use crate::room::first_room;
+use crate::spares::Spares;
 use crate::value::{first_number, later_number, value};
-use std::alloc::{AllocError, Global};
+use std::alloc::AllocError;
 use wg_bits::Cursor;
 use wg_grammar::{Fault, Field, Kind};
 use wg_graph::List;
@@ -117,7 +118,7 @@ fn extend(list: &mut List, left: u64, length: u64) -> Result<(), AllocError>
 
 // The numbers inside so many intervals, where so many successors are not copied.
 fn numbers_inside(
-    alloc: Global,
+    spares: &Spares,
     params: &Params,
     page: u64,
     extra: u64,
@@ -134,7 +135,7 @@ fn numbers_inside(
     ensures fault { IfFault result (λ e. AreNoIntervals params.now page extra count cursor.old.bits cursor.old.at e) }
 {
     let room = if count == 0 { 0 } else { first_room(extra) };
-    let mut inside = List::with_room(alloc, room)?;
+    let mut inside = spares.lend(room)?;
     let mut missing = extra;
     let mut past = 0;
     'numbers: for index in 0..count {
@@ -150,7 +151,7 @@ fn numbers_inside(
 /// The numbers inside the intervals of a record, of which `extra` successors are not copied; none where there are none or the
 /// archive has no intervals. Memory is taken for each number.
 pub fn intervals(
-    alloc: Global,
+    spares: &Spares,
     params: &Params,
     page: u64,
     extra: u64,
@@ -166,11 +167,11 @@ pub fn intervals(
     ensures fault { IfFault result (λ e. HoldsNot params.now page extra cursor.old.bits cursor.old.at e) }
 {
     if extra == 0 {
-        return Ok(List::new(alloc));
+        return Ok(spares.nothing());
     }
     if params.interval() == 0 {
-        return Ok(List::new(alloc));
+        return Ok(spares.nothing());
     }
     let count = interval_count(params, page, extra, cursor)?;
-    numbers_inside(alloc, params, page, extra, count, cursor)
+    numbers_inside(spares, params, page, extra, count, cursor)
 }

@@ -17,6 +17,7 @@ mod intervals;
 mod reading;
 mod residuals;
 mod room;
+mod spares;
 mod value;
 mod window;
 

@@ -9,6 +9,7 @@ use crate::copying::copied;
 use crate::head::{depth_at, list_at, outdegree, reference};
 use crate::intervals::intervals;
 use crate::residuals::with_residuals;
+use crate::spares::Spares;
 use crate::{DecodeError, Decoded, Window};
 use std::alloc::{AllocError, Global};
 use wg_bits::Cursor;
@@ -17,7 +18,7 @@ use wg_graph::{List, merge};
 use wg_params::Params;
 
 // The numbers of two ascending lists, ascending, a number of both once.
-fn union(alloc: Global, members: List, list: List) -> Result<List, AllocError>
+fn union(alloc: Global, spares: &Spares, members: List, list: List) -> Result<List, AllocError>
     requires members { Ascends 0 members }
     requires list { Ascends 0 list }
     ensures { IfOk result (λ all. (n : ℕ) → Below n members → Below n list → all ≡ numbers_where (is_in_either members list) 0 n) }
@@ -28,7 +29,10 @@ fn union(alloc: Global, members: List, list: List) -> Result<List, AllocError>
     if list.as_slice().is_empty() {
         return Ok(members);
     }
-    merge(alloc, members.as_slice(), list.as_slice())
+    let all = merge(alloc, members.as_slice(), list.as_slice())?;
+    spares.take_back(members);
+    spares.take_back(list);
+    Ok(all)
 }
 
 // A record; the cursor stands somewhere in it where it is refused.
@@ -59,8 +63,9 @@ fn read_record(
         });
     }
     let reference = reference(params, page, window, cursor)?;
+    let spares = window.spares();
     let copied = copied(
-        alloc,
+        spares,
         params,
         page,
         outdegree,
@@ -69,10 +74,10 @@ fn read_record(
         cursor,
     )?;
     let extra = outdegree - copied.as_slice().len() as u64;
-    let inside = intervals(alloc, params, page, extra, cursor)?;
+    let inside = intervals(spares, params, page, extra, cursor)?;
     let missing = extra - inside.as_slice().len() as u64;
-    let members = union(alloc, copied, inside)?;
-    let list = with_residuals(alloc, params, page, missing, members, cursor)?;
+    let members = union(alloc, spares, copied, inside)?;
+    let list = with_residuals(spares, params, page, missing, members, cursor)?;
     if (list.as_slice().len() as u64) < outdegree {
         return Err(DecodeError::Fault(Fault {
             page,

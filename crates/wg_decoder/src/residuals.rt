@@ -5,8 +5,8 @@ ghost use Rattle.wg_decoder.specs.Residuals.{ResidualsJoin, AreNoResiduals};
 
 use crate::DecodeError;
 use crate::room::first_room;
+use crate::spares::Spares;
 use crate::value::{first_number, later_number};
-use std::alloc::Global;
 use wg_bits::Cursor;
 use wg_grammar::Field;
 use wg_graph::{List, join};
@@ -15,7 +15,7 @@ use wg_params::Params;
 /// The residuals of a record, of which `missing` come, and the members that it has besides, as one list. Memory is taken for the
 /// members and for a few residuals at first, and for more as they come.
 pub fn with_residuals(
-    alloc: Global,
+    spares: &Spares,
     params: &Params,
     page: u64,
     missing: u64,
@@ -33,16 +33,17 @@ pub fn with_residuals(
     if missing == 0 {
         return Ok(members);
     }
-    let members = members.as_slice();
-    let mut list = List::with_room(alloc, members.len() + first_room(missing))?;
+    let others = members.as_slice();
+    let mut list = spares.lend(others.len() + first_room(missing))?;
     let nodes = params.nodes();
     let code = params.residuals();
     let mut last = first_number(nodes, page, Field::Residual, code, cursor)?;
-    let mut place = join(&mut list, members, 0, last)?;
+    let mut place = join(&mut list, others, 0, last)?;
     'rest: for _count in 1..missing {
         last = later_number(nodes, page, Field::Residual, code, last + 1, cursor)?;
-        place = join(&mut list, members, place, last)?;
+        place = join(&mut list, others, place, last)?;
     }
-    list.extend(&members[place..])?;
+    list.extend(&others[place..])?;
+    spares.take_back(members);
     Ok(list)
 }

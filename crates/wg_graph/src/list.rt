@@ -36,6 +36,20 @@ impl List {
         })
     }
 
+    /// Makes room for so many numbers more.
+    pub fn reserve(&mut self, room: usize) -> Result<(), AllocError>
+        ensures { self.new ≡ self.old }
+    {
+        self.numbers.reserve_exact(room)
+    }
+
+    /// Drops all numbers, and keeps the memory for others.
+    pub fn clear(&mut self)
+        ensures { self.new ≡ [] }
+    {
+        self.numbers.clear();
+    }
+
     /// Adds a number at the end, in constant time on average.
     pub fn push(&mut self, number: u64) -> Result<(), AllocError>
         ensures ok { OnOk result (self.new ≡ self.old ++ number ∷ []) }

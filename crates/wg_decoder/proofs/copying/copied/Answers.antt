@@ -8,7 +8,7 @@ use Rattle.wg_decoder.proofs.CopyLemmas.{copies_none, copies_some, copies_many, 
 use Rattle.wg_decoder.proofs.copying.copied.Goals as goal
 
 pub returns-then-reference-eq0-clause-ok : goal.returns-then-reference-eq0-clause-ok
-returns-then-reference-eq0-clause-ok c behind is = copies_none c.args.params.now c.args.page behind c.args.outdegree c.args.reference c.args.cursor.now.bits c.args.cursor.now.at c.new.result (omega arith) c.new.ensures
+returns-then-reference-eq0-clause-ok c behind is = copies_none c.args.params.now c.args.page behind c.args.outdegree c.args.reference c.args.cursor.now.bits c.args.cursor.now.at c.nothing.result (omega arith) c.nothing.ensures
 
 pub returns-in_err-count-clause-fault : goal.returns-in_err-count-clause-fault
 returns-in_err-count-clause-fault c =

@@ -27,12 +27,12 @@ pub rest-init : goal.rest-init
 rest-init c =
     let q = c.args.params.now in
     let start = c.args.cursor.now in
-    let members = c.as_slice-members.result.now in
+    let members = c.as_slice-others.result.now in
     let y = c.in_ok-last.last in
     let place = c.in_ok-place.place in
     let one = rw c.residuals-code.ensures.value at c.in_ok-last.ensures.ok in
     let fits : y < q.nodes = omega (arith, c.in_ok-last.ensures.below, c.nodes-nodes.ensures.value) in
-    let none : Joined members [] 0 c.in_ok-list.list 0 = subst (λ (out : List ℕ). Joined members [] 0 out 0) (sym c.in_ok-list.ensures) (joined_none members (subst (Ascends 0) (sym c.as_slice-members.ensures) c.requires.ascends)) in
+    let none : Joined members [] 0 c.in_ok-list.list 0 = subst (λ (out : List ℕ). Joined members [] 0 out 0) (sym c.in_ok-list.ensures) (joined_none members (subst (Ascends 0) (sym c.as_slice-others.ensures) c.requires.ascends)) in
     record {
       bits = c.in_ok-last.ensures.bits;
       onward = c.in_ok-last.ensures.onward;
@@ -45,7 +45,7 @@ pub rest-preserved : goal.rest-preserved
 rest-preserved c =
     let q = c.args.params.now in
     let start = c.args.cursor.now in
-    let members = c.as_slice-members.result.now in
+    let members = c.as_slice-others.result.now in
     let i = c.rest.invariant in
     let x = c.rest.last in
     let y = c.in_ok-last-2.last in
@@ -72,15 +72,15 @@ returns-in_err-last-2-clause-fault c =
     let i = c.rest.invariant in
     let own = λ (v : ℕ). Some (c.rest.last + 1 + v) in
     let bad = subst (λ (b : List Bool). IsNoNumberAt field.Residual q.residuals own q.nodes b c.rest.cursor.at page c.in_err-last-2.field-0.0) i.bits (rw (c.residuals-code.ensures.value, c.nodes-nodes.ensures.value) at c.in_err-last-2.ensures.err) in
-    rw (p.1, p.2) (joining_fails q page c.args.missing c.as_slice-members.result.now start.bits start.at c.rest._count c.rest.last c.rest.place c.rest.list c.rest.cursor.at c.in_err-last-2.field-0.0 (omega arith) (omega arith) i.joining bad)
+    rw (p.1, p.2) (joining_fails q page c.args.missing c.as_slice-others.result.now start.bits start.at c.rest._count c.rest.last c.rest.place c.rest.list c.rest.cursor.at c.in_err-last-2.field-0.0 (omega arith) (omega arith) i.joining bad)
 
 pub returns-clause-ok : goal.returns-clause-ok
 returns-clause-ok c =
     let q = c.args.params.now in
     let start = c.args.cursor.now in
-    let members = c.as_slice-members.result.now in
+    let members = c.as_slice-others.result.now in
     let i = c.rest.invariant in
-    let low = subst (Below q.nodes) (sym c.as_slice-members.ensures) c.requires.below in
+    let low = subst (Below q.nodes) (sym c.as_slice-others.ensures) c.requires.below in
     let is : c.extend.new.self ≡ c.rest.list ++ drop c.rest.place members = c.in_ok-extend.ensures.ok ∙ ap (λ (xs : List ℕ). c.rest.list ++ xs) (take_rest members c.rest.place) in
-    subst (λ (xs : List ℕ). ResidualsJoin q c.args.page c.args.missing xs start.bits start.at c.extend.new.self c.rest.cursor.at) c.as_slice-members.ensures
+    subst (λ (xs : List ℕ). ResidualsJoin q c.args.page c.args.missing xs start.bits start.at c.extend.new.self c.rest.cursor.at) c.as_slice-others.ensures
     (joining_all q c.args.page c.args.missing members start.bits start.at c.rest._count c.rest.last c.rest.place c.rest.list c.rest.cursor.at c.extend.new.self (omega arith) i.inside low i.joining is)

@@ -7,6 +7,6 @@ invariant-rest l = record {
   bits : l.cursor.bits ≡ l.fn.cursor.bits;
   onward : l.fn.cursor.at ≤ l.cursor.at;
   inside : l.last < l.params.nodes;
-  within : l.place ≤ length l.members;
-  joining : Joining l.params l.page l.missing l.members l.fn.cursor.bits l.fn.cursor.at l._count l.last l.place l.list l.cursor.at;
+  within : l.place ≤ length l.others;
+  joining : Joining l.params l.page l.missing l.others l.fn.cursor.bits l.fn.cursor.at l._count l.last l.place l.list l.cursor.at;
 }
