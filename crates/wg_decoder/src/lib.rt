@@ -18,6 +18,7 @@ mod reading;
 mod residuals;
 mod room;
 mod spares;
+mod uniting;
 mod value;
 mod window;
 

@@ -1,6 +1,5 @@
-ghost use Rattle.std.specs.Prelude.{◌≡◌, ℕ, ◌+◌, ◌<◌, ◌≤◌, length, Ok, Err, IfOk, OnErr};
+ghost use Rattle.std.specs.Prelude.{◌≡◌, ◌+◌, ◌<◌, ◌≤◌, length, Ok, Err, IfOk, OnErr};
 ghost use Rattle.wg_graph.specs.Ascending.{Ascends, Below};
-ghost use Rattle.wg_graph.specs.Numbers.{is_in_either, numbers_where};
 ghost use Rattle.wg_grammar.specs.Record.{ReadsRecord};
 ghost use Rattle.wg_decoder.specs.Answer.{context_at, IfFault};
 ghost use Rattle.wg_decoder.specs.Remembered.{known_of, Serves};
@@ -9,31 +8,13 @@ use crate::copying::copied;
 use crate::head::{depth_at, list_at, outdegree, reference};
 use crate::intervals::intervals;
 use crate::residuals::with_residuals;
-use crate::spares::Spares;
+use crate::uniting::union;
 use crate::{DecodeError, Decoded, Window};
-use std::alloc::{AllocError, Global};
+use std::alloc::Global;
 use wg_bits::Cursor;
 use wg_grammar::{Fault, Field, Kind};
-use wg_graph::{List, merge};
+use wg_graph::List;
 use wg_params::Params;
-
-// The numbers of two ascending lists, ascending, a number of both once.
-fn union(alloc: Global, spares: &Spares, members: List, list: List) -> Result<List, AllocError>
-    requires members { Ascends 0 members }
-    requires list { Ascends 0 list }
-    ensures { IfOk result (λ all. (n : ℕ) → Below n members → Below n list → all ≡ numbers_where (is_in_either members list) 0 n) }
-{
-    if members.as_slice().is_empty() {
-        return Ok(list);
-    }
-    if list.as_slice().is_empty() {
-        return Ok(members);
-    }
-    let all = merge(alloc, members.as_slice(), list.as_slice())?;
-    spares.take_back(members);
-    spares.take_back(list);
-    Ok(all)
-}
 
 // A record; the cursor stands somewhere in it where it is refused.
 fn read_record(
@@ -76,7 +57,7 @@ fn read_record(
     let extra = outdegree - copied.as_slice().len() as u64;
     let inside = intervals(spares, params, page, extra, cursor)?;
     let missing = extra - inside.as_slice().len() as u64;
-    let members = union(alloc, spares, copied, inside)?;
+    let members = union(spares, copied, inside)?;
     let list = with_residuals(spares, params, page, missing, members, cursor)?;
     if (list.as_slice().len() as u64) < outdegree {
         return Err(DecodeError::Fault(Fault {

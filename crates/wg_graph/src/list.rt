@@ -36,11 +36,11 @@ impl List {
         })
     }
 
-    /// Makes room for so many numbers more.
+    /// Makes room for so many numbers more, and for others where it is made anew.
     pub fn reserve(&mut self, room: usize) -> Result<(), AllocError>
         ensures { self.new ≡ self.old }
     {
-        self.numbers.reserve_exact(room)
+        self.numbers.reserve(room)
     }
 
     /// Drops all numbers, and keeps the memory for others.
