@@ -5,9 +5,12 @@
 //! reads a whole archive decodes page after page, and pushes each list into the window.
 //!
 //! A record is read in stages, each in a module: the head (outdegree and reference), the copied members of the list that is
-//! referred to, the numbers inside intervals, and the residuals. Each stage keeps its numbers in a list, and the union of the
-//! three is the page's list. Memory is held for these lists alone, and is taken as their numbers come; a call takes time in
-//! proportion to them, to the words of the record, and to the list that is referred to.
+//! referred to, the numbers inside intervals, and the residuals. What is copied and what lies inside intervals are lists, and
+//! their union is one more where there is some of both; the residuals are joined to it while they are read, and that is the
+//! page's list. Memory is held for these lists alone, and is taken as their numbers come. A list that is done with, as the one
+//! that leaves the window, is kept with its memory for a later record, so that few records take any; at most some lists more
+//! than the window has are there, none with more memory than twice the longest so far. A call takes time in proportion to these
+//! lists, to the words of the record, and to the list that is referred to.
 #![tactic(auto)]
 
 mod copying;
