@@ -2,11 +2,12 @@
 use Rattle.std.proofs.Common.{◌≡◌, ℕ, ◌+◌, ◌-◌, ◌<◌, ◌≤◌, ◌⊎◌, true, List, [], ◌∷◌, ◌++◌, length, get_or, replicate, Option, Some, None, Result, Ok, Err, refl, sym, subst, arith, inl, inr, append-nil, length-append}
 use Rattle.std.specs.Prelude.{option_to_list}
 use Rattle.std.specs.List.{All, last_or}
-use Rattle.std.proofs.lemmas.Bool.{cases_Bool, cases_lt, le-leb, lt-leb}
+use Rattle.std.proofs.lemmas.Bool.{cases_Bool, cases_lt, le-leb, lt-leb, le-ltb}
 use Rattle.std.proofs.lemmas.Option.{none-some}
 use Rattle.std.proofs.lemmas.List.{get_or_past}
 use Rattle.std.proofs.lemmas.List.Elements.{All-get_or, All-set, All-append, All-replicate}
 use Rattle.wg_num.specs.Lines.{lines_of}
+use Rattle.wg_params.specs.declared.limits.TheConstants.{MOST_ARCS}
 use Rattle.wg_graph.specs.Ascending.{Ascends, Below}
 use Rattle.wg_graph.specs.Digraph.{Digraph, IsGraph}
 use Rattle.wg_graph.specs.Arcs.{arcs_of, arcs_from}
@@ -69,10 +70,11 @@ filled n lists h =
 -- ---- a line without a fault
 
 -- the arc may come after these
-record IsTaken (n : ℕ) (before : List Arc) (a : Arc) : Type 0 where
-  source : a.0 < n
-  target : a.1 < n
-  after : is_after (last_or None before) a ≡ true
+pub record IsTaken (n : ℕ) (before : List Arc) (a : Arc) : Type 0 where
+  pub source : a.0 < n
+  pub target : a.1 < n
+  pub after : is_after (last_or None before) a ≡ true
+  pub room : length before < MOST_ARCS
 
 taken : (n : ℕ) (before : List Arc) (o : Option Arc) → refusal_of n before o ≡ None → (a : Arc) × (o ≡ Some a) × IsTaken n before a
 taken n before None fine = absurd (none-some kind.Shape (sym fine))
@@ -83,13 +85,16 @@ taken n before (Some a) fine =
         | inr le ↦ absurd (none-some kind.Range (sym (rw (lt-leb n a.0 source, le-leb n a.1 le) at fine)))
         | inl target ↦ elim (cases_Bool (is_after (last_or None before) a)) [
           | inr late ↦ absurd (none-some kind.Order (sym (rw (lt-leb n a.0 source, lt-leb n a.1 target, late) at fine)))
-          | inl after ↦ (a, refl, record { source = source; target = target; after = after })
+          | inl after ↦ elim (cases_lt (length before) MOST_ARCS) [
+            | inr full ↦ absurd (none-some kind.TooMany (sym (rw (lt-leb n a.0 source, lt-leb n a.1 target, after, le-ltb (length before) MOST_ARCS full) at fine)))
+            | inl room ↦ (a, refl, record { source = source; target = target; after = after; room = room })
+          ]
         ]
       ]
     ]
 
 -- it has no arc, or one that may come next
-fine_line : (n : ℕ) (before : List Arc) (text : List ℕ) → fault_of n before text ≡ None → (arc_at text ≡ None) ⊎ ((a : Arc) × (arc_at text ≡ Some a) × IsTaken n before a)
+pub fine_line : (n : ℕ) (before : List Arc) (text : List ℕ) → fault_of n before text ≡ None → (arc_at text ≡ None) ⊎ ((a : Arc) × (arc_at text ≡ Some a) × IsTaken n before a)
 fine_line n before text fine =
     elim (cases_Bool (is_skipped (words_of text))) [
       | inl skipped ↦ inl (rw skipped refl)
