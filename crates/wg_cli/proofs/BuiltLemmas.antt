@@ -1,13 +1,15 @@
 -- An archive that was built, in a judgement.
-use Rattle.std.proofs.Common.{◌≡◌, ℕ, ◌+◌, ◌-◌, ◌≤◌, List, [], ◌∷◌, length, get_or, map, sum, nat_lt, refl, ap, ◌∙◌, arith, Some, Result}
-use Rattle.std.proofs.lemmas.Bool.{cond-false, le-ltb}
+use Rattle.std.proofs.Common.{◌≡◌, ℕ, ◌+◌, ◌-◌, ◌≤◌, List, [], ◌∷◌, length, get_or, map, sum, nat_lt, refl, sym, ap, ◌∙◌, arith, inl, inr, Option, Some, None, Result, Ok, Err}
+use Rattle.std.proofs.lemmas.Bool.{cases_Bool, cond-false, le-ltb}
+use Rattle.std.proofs.lemmas.Option.{none-some, same_Some}
 use Rattle.wg_io.specs.declared.limits.TheConstants.{MOST_BYTES}
 use Rattle.wg_params.specs.Parameters.{Parameters, IsWithinLimits}
 use Rattle.wg_properties.specs.Text.{text_of}
 use Rattle.wg_properties.specs.declared.fault.PropFault.{PropFault}
 use Rattle.wg_properties.proofs.Readback.{read_again}
 use Rattle.wg_properties.proofs.ShortTexts.{text_short}
-use Rattle.wg_graph.specs.Digraph.{Digraph}
+use Rattle.wg_num.specs.Lines.{lines_of}
+use Rattle.wg_graph.specs.Digraph.{Digraph, arc_count}
 use Rattle.wg_graph.specs.Copied.{ends_of}
 use Rattle.wg_graph.proofs.Copies.{sum_cons}
 use Rattle.wg_offsets.specs.Places.{last_place}
@@ -18,15 +20,22 @@ use Rattle.wg_encoder.specs.Laws.{IsAcceptedArchive}
 use Rattle.wg_encoder.proofs.Accepted.{greedy_accepted}
 use Rattle.wg_encoder.proofs.ProperRecord.{canonical_proper}
 use Rattle.wg_encoder.proofs.Totals.{values_sum}
+use Rattle.wg_arcs.specs.Reading.{AreArcs, IsListed}
 use Rattle.wg_arcs.specs.Text.{text_of_graph}
-use Rattle.wg_cli.specs.Built.{holding, IsAcceptedAs, BuiltAreAccepted}
-use Rattle.wg_cli.specs.Judged.{Judged, refused, accepted, number_lines, ok_line, unless_bad_properties, with_digraph, with_file, with_lengths, with_offsets, with_parameters, with_places, with_records}
+use Rattle.wg_arcs.specs.declared.fault.ArcsKind.{ArcsKind}
+use Rattle.wg_arcs.proofs.FewArcs.{listed_few}
+use Rattle.wg_words.specs.Layouts.{params_of}
+use Rattle.wg_words.proofs.LayoutLemmas.{layout_within}
+use Rattle.wg_words.specs.declared.jobs.Job.TheVariants.{Check}
+use Rattle.wg_cli.specs.Built.{holding, IsAcceptedAs, BuiltAreAccepted, BuildsAreAccepted}
+use Rattle.wg_cli.specs.Judged.{Judged, refused, accepted, built, builds, judged, number_lines, ok_line, unless_bad_list, unless_bad_properties, with_digraph, with_file, with_lengths, with_list, with_offsets, with_parameters, with_places, with_records}
 use Rattle.wg_cli.specs.Ranked.{ranking_text}
 use Rattle.wg_cli.specs.Readings.{Readings}
-use Rattle.wg_cli.specs.Written.{greedy_archive}
+use Rattle.wg_cli.specs.Written.{Archive, greedy_archive}
 use Rattle.wg_cli.specs.declared.status.Input.{Input}
 use Rattle.wg_cli.specs.declared.status.Input.TheVariants as input
-use Rattle.wg_cli.specs.declared.status.Status.TheVariants.{OverLimit}
+use Rattle.wg_cli.specs.declared.status.Status.{Status}
+use Rattle.wg_cli.specs.declared.status.Status.TheVariants.{BadArcs, Missing, OverLimit}
 use Rattle.wg_cli.proofs.ReadingsLemmas.{all_agree, goes_on, goes_on_from}
 
 -- ---- places
@@ -88,3 +97,45 @@ module _ (r : Readings) (p : Parameters) (g : Digraph) (limits : IsWithinLimits 
 
 pub built_accepted : (r : Readings) → BuiltAreAccepted r
 built_accepted r p g base limits is nodes arcs = accepted_as r p g limits nodes (greedy_accepted canonical_proper p g limits is nodes arcs) base
+
+-- ---- from what was built back to its graph
+
+-- the archive and the line, where there are some
+abbrev built_in : Judged → Option (Archive × List ℕ)
+built_in (refused status) = None
+built_in (accepted out) = None
+built_in (built a out) = Some (a, out)
+
+none_built : (status : Status) (a : Archive) (out : List ℕ) → refused status ≡ built a out → ⊥
+none_built status a out is = none-some (a, out) (ap built_in is)
+
+same_built : (a b : Archive) (out text : List ℕ) → built a out ≡ built b text → (a ≡ b) × (out ≡ text)
+same_built a b out text is =
+    let same : (a, out) ≡ (b, text) = same_Some (a, out) (b, text) (ap built_in is) in
+    (λ i. (same i).0, λ i. (same i).1)
+
+module _ (a : Archive) (out : List ℕ) where
+  file_behind : (i : Input) (o : Option (List ℕ)) (next : List ℕ → Judged) → with_file i o next ≡ built a out → (bytes : List ℕ) × (next bytes ≡ built a out)
+  file_behind i None next is = absurd (none_built (Missing i) a out is)
+  file_behind i (Some bytes) next is =
+      elim (cases_Bool (nat_lt MOST_BYTES (length bytes))) [
+        | inl long ↦ absurd (none_built (OverLimit i) a out (rw long at is))
+        | inr few ↦ (bytes, rw few at is)
+      ]
+
+  graph_behind : (n : ℕ) (bytes : List ℕ) (w : Result Digraph (ℕ × ArcsKind)) (next : Digraph → Judged) → IsListed n bytes w → unless_bad_list w next ≡ built a out → (g : Digraph) × AreArcs n (lines_of bytes) g × (next g ≡ built a out)
+  graph_behind n bytes (Ok g) next are is = (g, are, is)
+  graph_behind n bytes (Err fault) next are is = absurd (none_built (BadArcs fault.0 fault.1) a out is)
+
+pub builds_accepted : (r : Readings) → BuildsAreAccepted r
+builds_accepted r list_name base nodes layout held a out few within is =
+    let next : Digraph → Judged = λ g. builds (params_of layout nodes (arc_count g)) g in
+    let file = file_behind a out input.ArcList (held input.ArcList) (λ bytes. with_list r nodes bytes next) is in
+    let found = graph_behind a out nodes file.0 (r.listed nodes file.0) next (r.listed_is nodes file.0) file.1 in
+    let g : Digraph = found.0 in
+    let are : AreArcs nodes (lines_of file.0) g = found.1 in
+    let p : Parameters = params_of layout nodes (arc_count g) in
+    let same = same_built (greedy_archive p g) a (ok_line p (length (graph_bits p g.lists))) out found.2 in
+    let limits : IsWithinLimits p = layout_within layout nodes (arc_count g) within (listed_few nodes (lines_of file.0) g are) in
+    let checked = built_accepted r p g base limits are.proper (sym are.nodes) refl in
+    ap (λ (b : Archive). judged r (Check base) (holding b)) (sym same.0) ∙ checked.check ∙ ap accepted same.1

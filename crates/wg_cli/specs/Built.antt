@@ -1,15 +1,18 @@
 -- What is said of an archive that was built.
-use Rattle.std.specs.Prelude.{◌≡◌, ℕ, List, length, Option, Some, None}
+use Rattle.std.specs.Prelude.{◌≡◌, ◌≤◌, ℕ, List, length, Option, Some, None}
 use Rattle.wg_params.specs.Parameters.{Parameters, IsWithinLimits}
+use Rattle.wg_params.specs.declared.limits.TheConstants.{MOST_PAGES}
 use Rattle.wg_graph.specs.Digraph.{Digraph, IsGraph, arc_count}
 use Rattle.wg_offsets.specs.Words.{places_of}
 use Rattle.wg_encoder.specs.Archive.{graph_bits, offset_values}
 use Rattle.wg_arcs.specs.Text.{text_of_graph}
-use Rattle.wg_words.specs.declared.jobs.Job.TheVariants.{Check, Arcs, Offsets, Rank}
+use Rattle.wg_words.specs.Layouts.{params_of}
+use Rattle.wg_words.specs.declared.jobs.Job.TheVariants.{Check, Arcs, Offsets, Rank, Build}
+use Rattle.wg_words.specs.declared.layout.Layout.{Layout}
 use Rattle.wg_cli.specs.Readings.{Readings}
 use Rattle.wg_cli.specs.Ranked.{ranking_text}
 use Rattle.wg_cli.specs.Written.{Archive, greedy_archive}
-use Rattle.wg_cli.specs.Judged.{judged, accepted, number_lines, ok_line}
+use Rattle.wg_cli.specs.Judged.{judged, accepted, built, number_lines, ok_line}
 use Rattle.wg_cli.specs.declared.status.Input.{Input}
 use Rattle.wg_cli.specs.declared.status.Input.TheVariants as input
 
@@ -29,3 +32,9 @@ pub record IsAcceptedAs (r : Readings) (p : Parameters) (g : Digraph) (base : Li
 
 abbrev pub BuiltAreAccepted : Readings → Type 0
 BuiltAreAccepted r = (p : Parameters) (g : Digraph) (base : List ℕ) → IsWithinLimits p → IsGraph g → p.nodes ≡ g.nodes → p.arcs ≡ arc_count g → IsAcceptedAs r p g base
+
+-- What a build comes to within the limits is accepted with the line of the build.
+abbrev pub BuildsAreAccepted : Readings → Type 0
+BuildsAreAccepted r =
+    (list_name base : List ℕ) (nodes : ℕ) (layout : Layout) (held : Input → Option (List ℕ)) (a : Archive) (out : List ℕ)
+    → nodes ≤ MOST_PAGES → IsWithinLimits (params_of layout nodes 0) → judged r (Build list_name base nodes layout) held ≡ built a out → judged r (Check base) (holding a) ≡ accepted out

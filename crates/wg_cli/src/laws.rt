@@ -1,6 +1,6 @@
 //! What the contract of [`run`](crate::run) rests on.
 ghost use Rattle.std.specs.Prelude.{ℕ};
-ghost use Rattle.wg_cli.specs.Built.{BuiltAreAccepted};
+ghost use Rattle.wg_cli.specs.Built.{BuildsAreAccepted, BuiltAreAccepted};
 ghost use Rattle.wg_cli.specs.Readings.{Readings, ReadingsAreOne};
 ghost use Rattle.wg_cli.specs.Ranked.{RankingIsProven};
 
@@ -17,8 +17,11 @@ pub fn rankings()
     ensures { (r : Readings) (rounds damping : ℕ) → RankingIsProven r rounds damping }
 {}
 
-/// An archive that was built is accepted: `check` prints the line that `build` printed, `arcs` the arcs of the graph, `offsets` the
-/// places of the records that were written, and `rank` the ranking of the graph.
+/// What is built is accepted. Of the archive of any graph within the limits, `check` prints the pages, the arcs and the bits of the
+/// records, `arcs` the arcs of the graph, `offsets` the places of the records that were written, and `rank` the ranking of the graph.
+/// And whatever arc list `build` took, with pages and a layout within the limits, `check` accepts the three files that it wrote, and
+/// prints the very line that it printed.
 pub fn built_archives()
-    ensures { (r : Readings) → BuiltAreAccepted r }
+    ensures accepted { (r : Readings) → BuiltAreAccepted r }
+    ensures builds { (r : Readings) → BuildsAreAccepted r }
 {}
