@@ -8,9 +8,9 @@
 //! referred to, the numbers inside intervals, and the residuals. What is copied and what lies inside intervals are lists, and
 //! their union is one more where there is some of both; the residuals are joined to it while they are read, and that is the
 //! page's list. Memory is held for these lists alone, and is taken as their numbers come. A list that is done with, as the one
-//! that leaves the window, is kept with its memory for a later record, so that few records take any; at most some lists more
-//! than the window has are there, none with more memory than twice the longest so far. A call takes time in proportion to these
-//! lists, to the words of the record, and to the list that is referred to.
+//! that leaves the window, is kept with its memory for a later record, so that few records take any. So there are at most a few
+//! lists more than the window has, and none has room for more than twice the numbers of the longest so far. A call takes time in
+//! proportion to these lists, to the words of the record, and to the list that is referred to.
 #![tactic(auto)]
 
 mod copying;
