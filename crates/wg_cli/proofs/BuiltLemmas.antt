@@ -20,13 +20,13 @@ use Rattle.wg_encoder.specs.Laws.{IsAcceptedArchive}
 use Rattle.wg_encoder.proofs.Accepted.{greedy_accepted}
 use Rattle.wg_encoder.proofs.ProperRecord.{canonical_proper}
 use Rattle.wg_encoder.proofs.Totals.{values_sum}
-use Rattle.wg_arcs.specs.Reading.{AreArcs, IsListed}
-use Rattle.wg_arcs.specs.Text.{text_of_graph}
+use Rattle.wg_arcs.specs.Reading.{AreArcs, IsListed, arcs_in}
+use Rattle.wg_arcs.specs.Text.{text_of_arcs, text_of_graph}
 use Rattle.wg_arcs.specs.declared.fault.ArcsKind.{ArcsKind}
 use Rattle.wg_arcs.proofs.FewArcs.{listed_few}
 use Rattle.wg_words.specs.Layouts.{params_of}
 use Rattle.wg_words.proofs.LayoutLemmas.{layout_within}
-use Rattle.wg_words.specs.declared.jobs.Job.TheVariants.{Check}
+use Rattle.wg_words.specs.declared.jobs.Job.TheVariants.{Check, Arcs}
 use Rattle.wg_cli.specs.Built.{holding, IsAcceptedAs, BuiltAreAccepted, BuildsAreAccepted}
 use Rattle.wg_cli.specs.Judged.{Judged, refused, accepted, built, builds, judged, number_lines, ok_line, unless_bad_list, unless_bad_properties, with_digraph, with_file, with_lengths, with_list, with_offsets, with_parameters, with_places, with_records}
 use Rattle.wg_cli.specs.Ranked.{ranking_text}
@@ -115,12 +115,12 @@ same_built a b out text is =
     (λ i. (same i).0, λ i. (same i).1)
 
 module _ (a : Archive) (out : List ℕ) where
-  file_behind : (i : Input) (o : Option (List ℕ)) (next : List ℕ → Judged) → with_file i o next ≡ built a out → (bytes : List ℕ) × (next bytes ≡ built a out)
+  file_behind : (i : Input) (o : Option (List ℕ)) (next : List ℕ → Judged) → with_file i o next ≡ built a out → (bytes : List ℕ) × (o ≡ Some bytes) × (next bytes ≡ built a out)
   file_behind i None next is = absurd (none_built (Missing i) a out is)
   file_behind i (Some bytes) next is =
       elim (cases_Bool (nat_lt MOST_BYTES (length bytes))) [
         | inl long ↦ absurd (none_built (OverLimit i) a out (rw long at is))
-        | inr few ↦ (bytes, rw few at is)
+        | inr few ↦ (bytes, refl, rw few at is)
       ]
 
   graph_behind : (n : ℕ) (bytes : List ℕ) (w : Result Digraph (ℕ × ArcsKind)) (next : Digraph → Judged) → IsListed n bytes w → unless_bad_list w next ≡ built a out → (g : Digraph) × AreArcs n (lines_of bytes) g × (next g ≡ built a out)
@@ -128,14 +128,20 @@ module _ (a : Archive) (out : List ℕ) where
   graph_behind n bytes (Err fault) next are is = absurd (none_built (BadArcs fault.0 fault.1) a out is)
 
 pub builds_accepted : (r : Readings) → BuildsAreAccepted r
-builds_accepted r list_name base nodes layout held a out few within is =
+builds_accepted r list_name base nodes layout held a out within is =
     let next : Digraph → Judged = λ g. builds (params_of layout nodes (arc_count g)) g in
     let file = file_behind a out input.ArcList (held input.ArcList) (λ bytes. with_list r nodes bytes next) is in
-    let found = graph_behind a out nodes file.0 (r.listed nodes file.0) next (r.listed_is nodes file.0) file.1 in
+    let found = graph_behind a out nodes file.0 (r.listed nodes file.0) next (r.listed_is nodes file.0) file.2 in
     let g : Digraph = found.0 in
     let are : AreArcs nodes (lines_of file.0) g = found.1 in
     let p : Parameters = params_of layout nodes (arc_count g) in
     let same = same_built (greedy_archive p g) a (ok_line p (length (graph_bits p g.lists))) out found.2 in
     let limits : IsWithinLimits p = layout_within layout nodes (arc_count g) within (listed_few nodes (lines_of file.0) g are) in
     let checked = built_accepted r p g base limits are.proper (sym are.nodes) refl in
-    ap (λ (b : Archive). judged r (Check base) (holding b)) (sym same.0) ∙ checked.check ∙ ap accepted same.1
+    record {
+      check = ap (λ (b : Archive). judged r (Check base) (holding b)) (sym same.0) ∙ checked.check ∙ ap accepted same.1;
+      arcs = λ bytes there.
+          let one : file.0 ≡ bytes = same_Some file.0 bytes (sym file.1 ∙ there) in
+          ap (λ (b : Archive). judged r (Arcs base) (holding b)) (sym same.0) ∙ checked.arcs
+          ∙ ap (λ (arcs : List (ℕ × ℕ)). accepted (text_of_arcs arcs)) (are.arcs ∙ ap (λ (text : List ℕ). arcs_in (lines_of text)) one);
+    }

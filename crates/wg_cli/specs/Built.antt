@@ -1,11 +1,12 @@
 -- What is said of an archive that was built.
-use Rattle.std.specs.Prelude.{◌≡◌, ◌≤◌, ℕ, List, length, Option, Some, None}
+use Rattle.std.specs.Prelude.{◌≡◌, ℕ, List, length, Option, Some, None}
 use Rattle.wg_params.specs.Parameters.{Parameters, IsWithinLimits}
-use Rattle.wg_params.specs.declared.limits.TheConstants.{MOST_PAGES}
 use Rattle.wg_graph.specs.Digraph.{Digraph, IsGraph, arc_count}
 use Rattle.wg_offsets.specs.Words.{places_of}
 use Rattle.wg_encoder.specs.Archive.{graph_bits, offset_values}
-use Rattle.wg_arcs.specs.Text.{text_of_graph}
+use Rattle.wg_num.specs.Lines.{lines_of}
+use Rattle.wg_arcs.specs.Reading.{arcs_in}
+use Rattle.wg_arcs.specs.Text.{text_of_arcs, text_of_graph}
 use Rattle.wg_words.specs.Layouts.{params_of}
 use Rattle.wg_words.specs.declared.jobs.Job.TheVariants.{Check, Arcs, Offsets, Rank, Build}
 use Rattle.wg_words.specs.declared.layout.Layout.{Layout}
@@ -33,8 +34,13 @@ pub record IsAcceptedAs (r : Readings) (p : Parameters) (g : Digraph) (base : Li
 abbrev pub BuiltAreAccepted : Readings → Type 0
 BuiltAreAccepted r = (p : Parameters) (g : Digraph) (base : List ℕ) → IsWithinLimits p → IsGraph g → p.nodes ≡ g.nodes → p.arcs ≡ arc_count g → IsAcceptedAs r p g base
 
--- What a build comes to within the limits is accepted with the line of the build.
+-- What a build comes to is accepted with the line of the build, and has the arcs that the list holds.
+pub record IsAcceptedBuild (r : Readings) (held : Input → Option (List ℕ)) (base : List ℕ) (a : Archive) (out : List ℕ) : Type 0 where
+  pub check : judged r (Check base) (holding a) ≡ accepted out
+  pub arcs : (bytes : List ℕ) → held input.ArcList ≡ Some bytes → judged r (Arcs base) (holding a) ≡ accepted (text_of_arcs (arcs_in (lines_of bytes)))
+
+-- It does for each list and each layout within the limits.
 abbrev pub BuildsAreAccepted : Readings → Type 0
 BuildsAreAccepted r =
     (list_name base : List ℕ) (nodes : ℕ) (layout : Layout) (held : Input → Option (List ℕ)) (a : Archive) (out : List ℕ)
-    → nodes ≤ MOST_PAGES → IsWithinLimits (params_of layout nodes 0) → judged r (Build list_name base nodes layout) held ≡ built a out → judged r (Check base) (holding a) ≡ accepted out
+    → IsWithinLimits (params_of layout nodes 0) → judged r (Build list_name base nodes layout) held ≡ built a out → IsAcceptedBuild r held base a out
