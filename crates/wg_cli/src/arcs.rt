@@ -20,8 +20,8 @@ use std::alloc::Global;
 use wg_io::{Depot, Sink};
 use wg_words::Name;
 
-/// Prints the arcs of a graph. It judges the whole graph before it prints; it holds the bytes of the graph, 8 bytes an arc and 8 a page, and as
-/// many lists as a reference may reach back.
+/// Prints the arcs of a graph. It judges the whole graph before it prints; it holds the bytes of the graph, 8 bytes an arc and 8 a page, and
+/// the lists that a reference may reach, with a few that wait to be used again.
 pub fn arcs<D: Depot, O: Sink>(
     alloc: Global,
     base: &Name,

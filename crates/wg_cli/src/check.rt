@@ -21,7 +21,8 @@ use wg_io::{Depot, Sink};
 use wg_words::Name;
 
 /// Judges the three files of an archive, and prints the line of what they hold. It holds the bytes of the graph and of the offsets, 8 bytes a
-/// page for the places of each, and as many lists as a reference may reach back; it costs a pass over each.
+/// page for the places of each, and the lists that a reference may reach, with a few that wait to be used again; it costs a
+/// pass over each.
 pub fn check<D: Depot, O: Sink>(
     alloc: Global,
     base: &Name,

@@ -21,7 +21,7 @@ use wg_io::{Depot, Sink};
 use wg_words::Name;
 
 /// Prints the places of the records of a graph, and last the place after them. It judges the whole graph before it prints; it holds the bytes
-/// of the graph, 8 bytes a page, and as many lists as a reference may reach back.
+/// of the graph, 8 bytes a page, and the lists that a reference may reach, with a few that wait to be used again.
 pub fn offsets<D: Depot, O: Sink>(
     alloc: Global,
     base: &Name,

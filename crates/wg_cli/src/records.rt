@@ -47,8 +47,8 @@ impl From<AllocError> for RecordsError {
     }
 }
 
-/// Judges the records of all pages, the tail and the total, and answers the places of the records. It holds as many lists as a
-/// reference may reach back and 8 bytes a page, and costs a pass over the bytes and over these lists.
+/// Judges the records of all pages, the tail and the total, and answers the places of the records. It holds the lists that a
+/// reference may reach, a few that wait to be used again, and 8 bytes a page, and costs a pass over the bytes and over these lists.
 pub fn read_places(alloc: Global, params: &Params, bytes: &[u8]) -> Result<Offsets, RecordsError>
     requires { length bytes.now ≤ MOST_BYTES }
     ensures limits { IsWithinLimits params.now }
@@ -72,8 +72,8 @@ pub fn read_places(alloc: Global, params: &Params, bytes: &[u8]) -> Result<Offse
     Ok(places)
 }
 
-/// Judges the same, and answers the graph. It holds 8 bytes an arc and 8 a page, besides as many lists as a reference may reach
-/// back.
+/// Judges the same, and answers the graph. It holds 8 bytes an arc and 8 a page, besides the lists that a reference may reach
+/// and a few that wait to be used again.
 pub fn read_graph(alloc: Global, params: &Params, bytes: &[u8]) -> Result<Graph, RecordsError>
     requires { length bytes.now ≤ MOST_BYTES }
     ensures limits { IsWithinLimits params.now }

@@ -127,6 +127,18 @@ fn each_file_stops_once(rt: HostRuntime) -> Result<(), Fail> {
 }
 
 #[test]
+fn a_stopped_archive_is_refused(rt: HostRuntime) -> Result<(), Fail> {
+    let mut depot = MemoryDepot::new(rt.alloc(), 1);
+    depot.put_file("a", BUILT[2].1.as_bytes())?;
+    depot.fail_append(4);
+    let (stopped, _, _) = told(rt.alloc(), BUILT[2].0, &mut depot)?;
+    let (refused, _, err) = told(rt.alloc(), "check g", &mut depot)?;
+    assert!(rt; stopped == 5 && refused == 8);
+    assert!(rt; err.bytes() == b"wg: g.properties: missing graphclass\n".as_slice());
+    Ok(())
+}
+
+#[test]
 fn the_output_fails_after_the_files(rt: HostRuntime) -> Result<(), Fail> {
     let mut depot = SteadyDepot::new(rt.alloc(), 4096);
     depot.put_file("a", BUILT[2].1.as_bytes())?;
