@@ -29,6 +29,7 @@ impl<'a> Model for Cursor<'a> {
 
 impl<'a> Cursor<'a> {
     /// A cursor at the place `at`, which may be the end.
+    #[inline(always)]
     pub fn new(bits: Bits<'a>, at: u64) -> Cursor<'a>
         requires { at ≤ length bits }
         ensures { result ≡ record { bits = bits.entry; at = at } }
@@ -40,6 +41,7 @@ impl<'a> Cursor<'a> {
     }
 
     /// The place.
+    #[inline(always)]
     pub fn at(&self) -> u64
         ensures place { result ≡ self.now.at }
         ensures within { result ≤ length self.now.bits }
@@ -49,6 +51,7 @@ impl<'a> Cursor<'a> {
     }
 
     /// How many bits stand from the place on.
+    #[inline(always)]
     pub fn left(&self) -> u64
         ensures { result ≡ length (rest self.now) }
     {
@@ -56,6 +59,7 @@ impl<'a> Cursor<'a> {
     }
 
     /// Goes back to a place that was passed.
+    #[inline(always)]
     pub fn back(&mut self, at: u64)
         requires { at ≤ self.old.at }
         ensures { self.new ≡ record { bits = self.old.bits; at = at } }
@@ -64,6 +68,7 @@ impl<'a> Cursor<'a> {
     }
 
     /// The next 64 bits as a number, the first of them its highest; zero bits stand for what is past the end.
+    #[inline(always)]
     pub fn peek(&self) -> u64
         ensures { low_bits 64 result ≡ front 64 (rest self.now) }
     {
@@ -71,6 +76,7 @@ impl<'a> Cursor<'a> {
     }
 
     /// Moves over bits that are there.
+    #[inline(always)]
     pub fn advance(&mut self, by: u64)
         requires { by ≤ length (rest self.old) }
         ensures { self.new ≡ moved self.old by }

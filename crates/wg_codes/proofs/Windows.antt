@@ -112,6 +112,13 @@ headed_front z w h n l e few agree fits =
           ∙ append_assoc (unary h) (low_bits n (w / 2 ^ (63 - h - n) - 2 ^ n)) (drop (h + n + 1) z),
     )
 
+-- a head alone
+pub unary_found : (z : List Bool) (w h most : ℕ) → w < 2 ^ 64 → h ≡ count_leading_zeros 64 w → h < 64 → h ≤ most
+    → ((i : ℕ) → i < 64 → get_or (low_bits 64 w) i false ≡ get_or z i false) → h + 1 ≤ length z → Reads unary most z (Value h)
+unary_found z w h most l e few lm agree fits =
+    let f = headed_front z w h 0 l e (omega arith) agree (omega arith) in
+    (lm, (low_bits 0 (w / 2 ^ (63 - h - 0) - 2 ^ 0) ++ drop (h + 0 + 1) z, f.1))
+
 -- a head whose long form fits is one that words have
 head_small : (k h : ℕ) → 1 ≤ k → h + 1 + (h * k + k) ≤ 64 → h ≤ 63 / k - 1
 head_small k h some fits = let q : h + 1 ≤ 63 / k = le-div (h + 1) 63 k (omega arith) (omega arith) in omega arith

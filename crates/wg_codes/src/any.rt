@@ -13,6 +13,7 @@ use wg_io::{Depot, WriteError};
 use wg_params::Code;
 
 /// What stands at the cursor. The cursor moves over a whole word, and else stands still.
+#[inline(always)]
 pub fn read(code: Code, cursor: &mut Cursor<'_>) -> Read
     requires { IsCode code }
     ensures found { Reads (word code) (top code) (rest cursor.old) result }
@@ -57,6 +58,7 @@ pub fn write<D: Depot>(
 }
 
 /// The length of a value's word, in bits.
+#[inline(always)]
 pub fn length(code: Code, v: u64) -> u64
     requires code { IsCode code }
     requires value { v ≤ top code }
@@ -72,6 +74,7 @@ pub fn length(code: Code, v: u64) -> u64
 }
 
 /// Whether a code has a word for a value: the test to make before [`write`] and [`length`].
+#[inline(always)]
 pub fn holds(code: Code, v: u64) -> bool
     requires { IsCode code }
     ensures { IsTrue result ↔ (v ≤ top code) }
@@ -79,7 +82,7 @@ pub fn holds(code: Code, v: u64) -> bool
     v <= match code {
         Code::Unary => (1 << 32) - 1,
         Code::Gamma | Code::Delta => (1 << 63) - 2,
-        Code::Zeta(k) => (1 << (k * (63 / k))) - 2,
+        Code::Zeta(k) => (1 << (k * zeta::over(63, k))) - 2,
         Code::Nibble => (1 << 63) - 1,
     }
 }

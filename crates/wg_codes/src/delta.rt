@@ -20,6 +20,8 @@ use wg_bits::{Cursor, Writer};
 use wg_io::{Depot, WriteError};
 
 // A place is at most 62, so the place of one more than it at most 5: six zeros begin no word.
+#[cold]
+#[inline(never)]
 pub fn read(cursor: &mut Cursor<'_>) -> Read
     ensures found { Reads delta (2 ^ 63 - 2) (rest cursor.old) result }
     ensures place { cursor.new ≡ after delta cursor.old result }
@@ -64,6 +66,8 @@ pub fn write<D: Depot>(
     }
 }
 
+#[cold]
+#[inline(never)]
 pub fn length(v: u64) -> u64
     requires { v ≤ 2 ^ 63 - 2 }
     ensures { result ≡ length (delta v) }

@@ -5,6 +5,7 @@ ghost use Rattle.wg_codes.specs.Fold.{folded, unfolded};
 /// A whole number as a value, those near 0 first: 0, -1, 1, -2, 2 become 0, 1, 2, 3, 4.
 ///
 /// The first left end of an interval and the first residual of a page are written so, less the page's own number.
+#[inline(always)]
 pub fn fold(e: i64) -> u64
     ensures { result ≡ folded e }
 {

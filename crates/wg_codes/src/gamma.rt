@@ -20,6 +20,7 @@ use wg_bits::{Cursor, Writer};
 use wg_io::{Depot, WriteError};
 
 // A word of a value whose place is at most `most`: by one load, where all of it lies within the next 64 bits.
+#[inline(always)]
 pub fn read(cursor: &mut Cursor<'_>, most: u64) -> Read
     requires { most ≤ 62 }
     ensures found { Reads gamma (2 ^ (most + 1) - 2) (rest cursor.old) result }
@@ -35,6 +36,8 @@ pub fn read(cursor: &mut Cursor<'_>, most: u64) -> Read
 }
 
 // The same for any word: the unary word first, and then the low bits.
+#[cold]
+#[inline(never)]
 fn read_in_steps(cursor: &mut Cursor<'_>, most: u64) -> Read
     requires { most ≤ 62 }
     ensures found { Reads gamma (2 ^ (most + 1) - 2) (rest cursor.old) result }
@@ -84,6 +87,7 @@ pub fn write<D: Depot>(
     }
 }
 
+#[inline(always)]
 pub fn length(v: u64) -> u64
     requires { v < 2 ^ 63 }
     ensures length { result ≡ length (gamma v) }

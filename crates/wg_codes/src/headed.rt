@@ -10,6 +10,7 @@ use wg_bits::{Cursor, Writer};
 use wg_io::{Depot, WriteError};
 
 // The place of the highest one, the lowest place being 0; 0 for no one at all.
+#[inline(always)]
 pub fn highest_one(y: u64) -> u32
     ensures place { result ≡ highest y }
     ensures small { result ≤ 63 }

@@ -23,6 +23,8 @@ use wg_bits::{Cursor, Writer};
 use wg_io::{Depot, WriteError};
 
 // A word has at most 21 digits, and no zero digit in front.
+#[cold]
+#[inline(never)]
 pub fn read(cursor: &mut Cursor<'_>) -> Read
     ensures found { Reads nibble (2 ^ 63 - 1) (rest cursor.old) result }
     ensures place { cursor.new ≡ after nibble cursor.old result }
@@ -94,6 +96,8 @@ pub fn write<D: Depot>(
     }
 }
 
+#[cold]
+#[inline(never)]
 pub fn length(v: u64) -> u64
     requires { v ≤ 2 ^ 63 - 1 }
     ensures { result ≡ length (nibble v) }

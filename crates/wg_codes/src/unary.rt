@@ -19,8 +19,25 @@ use crate::headed::put_headed;
 use wg_bits::{Cursor, Writer};
 use wg_io::{Depot, WriteError};
 
-// A word of at most `most`.
+// A word of at most `most`: by one load, where all of it lies within the next 64 bits.
+#[inline(always)]
 pub fn read(cursor: &mut Cursor<'_>, most: u64) -> Read
+    requires { most < 2 ^ 32 }
+    ensures found { Reads unary most (rest cursor.old) result }
+    ensures place { cursor.new ≡ after unary cursor.old result }
+{
+    let zeros = cursor.peek().leading_zeros() as u64;
+    if zeros < 64 && zeros <= most && zeros < cursor.left() {
+        cursor.advance(zeros + 1);
+        return Read::Value(zeros);
+    }
+    read_in_steps(cursor, most)
+}
+
+// The same for any word: the zeros first, and then the one.
+#[cold]
+#[inline(never)]
+fn read_in_steps(cursor: &mut Cursor<'_>, most: u64) -> Read
     requires { most < 2 ^ 32 }
     ensures found { Reads unary most (rest cursor.old) result }
     ensures place { cursor.new ≡ after unary cursor.old result }
@@ -61,6 +78,7 @@ pub fn write<D: Depot>(
     }
 }
 
+#[inline(always)]
 pub fn length(v: u64) -> u64
     requires { v < 2 ^ 32 }
     ensures { result ≡ length (unary v) }

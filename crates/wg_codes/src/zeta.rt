@@ -23,6 +23,7 @@ use wg_bits::{Cursor, Writer};
 use wg_io::{Depot, WriteError};
 
 // A word: by one load, where with its head the long form lies within the next 64 bits. Such a head is below 63 / k, too.
+#[inline(always)]
 pub fn read(cursor: &mut Cursor<'_>, k: u32) -> Read
     requires { (1 ≤ k) × (k ≤ 31) }
     ensures found { Reads (zeta k) (2 ^ (k * (63 / k)) - 2) (rest cursor.old) result }
@@ -49,6 +50,8 @@ pub fn read(cursor: &mut Cursor<'_>, k: u32) -> Read
 }
 
 // The same for any word: the unary word of the head first, and then the shortened form.
+#[cold]
+#[inline(never)]
 fn read_in_steps(cursor: &mut Cursor<'_>, k: u32) -> Read
     requires { (1 ≤ k) × (k ≤ 31) }
     ensures found { Reads (zeta k) (2 ^ (k * (63 / k)) - 2) (rest cursor.old) result }
@@ -125,12 +128,25 @@ pub fn write<D: Depot>(
     }
 }
 
+// A quotient by k: where k is the default, by a multiplication in place of a division.
+#[inline(always)]
+pub fn over(n: u32, k: u32) -> u32
+    requires { 1 ≤ k }
+    ensures { result ≡ n / k }
+{
+    if k == 3 {
+        return n / 3;
+    }
+    n / k
+}
+
+#[inline(always)]
 pub fn length(k: u32, v: u64) -> u64
     requires k { (1 ≤ k) × (k ≤ 31) }
     requires value { v ≤ 2 ^ (k * (63 / k)) - 2 }
     ensures { result ≡ length (zeta k v) }
 {
-    let head = highest_one(v + 1) / k;
+    let head = over(highest_one(v + 1), k);
     let width = head * k + k;
     let left = 1u64 << (head * k);
     if v + 1 - left < left {
