@@ -9,6 +9,7 @@ use wg_grammar::{Fault, Field, Kind};
 use wg_params::Code;
 
 // The value of the word at the cursor.
+#[inline(always)]
 pub fn value(page: u64, field: Field, code: Code, cursor: &mut Cursor<'_>) -> Result<u64, Fault>
     requires { IsCode code }
     ensures bits { cursor.new.bits ≡ cursor.old.bits }
@@ -35,6 +36,7 @@ pub fn value(page: u64, field: Field, code: Code, cursor: &mut Cursor<'_>) -> Re
 }
 
 // The number whose distance from the page folds to the value, where it is not below 0.
+#[inline(always)]
 fn unfolded_from(page: u64, value: u64) -> Option<u64>
     requires { page < 2 ^ 36 }
     ensures { result ≡ unfolded_from page value }
@@ -50,6 +52,7 @@ fn unfolded_from(page: u64, value: u64) -> Option<u64>
 }
 
 /// The page that the word at the cursor means by its distance from `page`.
+#[inline(always)]
 pub fn first_number(
     nodes: u64,
     page: u64,
@@ -86,6 +89,7 @@ pub fn first_number(
 }
 
 /// The page that the word at the cursor means by its distance from `least`.
+#[inline(always)]
 pub fn later_number(
     nodes: u64,
     page: u64,

@@ -47,6 +47,7 @@ impl GraphBuilder {
     }
 
     // The successors that page x has so far.
+    #[inline(always)]
     fn begun(&self, x: u64) -> &[u64]
         ensures value { result.now ≡ successors self.now x }
         ensures ascends { Ascends 0 result.now }
@@ -59,6 +60,7 @@ impl GraphBuilder {
     }
 
     /// How many pages there are to be.
+    #[inline(always)]
     pub fn nodes(&self) -> u64
         ensures value { result ≡ self.now.nodes }
         ensures within { result ≤ MOST_PAGES }
@@ -67,6 +69,7 @@ impl GraphBuilder {
     }
 
     /// How many arcs there are so far.
+    #[inline(always)]
     pub fn arcs(&self) -> u64
         ensures value { result ≡ arc_count self.now }
         ensures within { result ≤ MOST_ARCS }
@@ -75,6 +78,7 @@ impl GraphBuilder {
     }
 
     /// Whether the arc from page `x` to `v` comes after all that are there. It takes constant time.
+    #[inline(always)]
     pub fn is_after_all(&self, x: u64, v: u64) -> bool
         requires { x < self.now.nodes }
         ensures value { IsTrue result ↔ ComesAfter self.now x v }
@@ -95,6 +99,7 @@ impl GraphBuilder {
     }
 
     /// Adds an arc, in constant time on average but for the pages without arcs that it passes over.
+    #[inline(always)]
     pub fn push(&mut self, x: u64, v: u64) -> Result<(), AllocError>
         requires { FollowsOn self.old x v }
         ensures nodes { self.new.nodes ≡ self.old.nodes }
@@ -138,6 +143,7 @@ impl GraphBuilder {
 }
 
 // Whether v is above the numbers of the list.
+#[inline(always)]
 fn is_past(list: &[u64], v: u64) -> bool
     requires { Ascends 0 list.now }
     ensures { IsTrue result ↔ Below v list.now }

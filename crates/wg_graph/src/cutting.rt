@@ -7,6 +7,7 @@ ghost use Rattle.wg_graph.specs.Pieces.{pieces, EndsAt};
 use std::alloc::AllocError;
 
 // Where list number x begins, and where it ends.
+#[inline(always)]
 fn span(ends: &[u64], all: &[u64], x: usize) -> (usize, usize)
     requires there { x < length ends.now }
     requires whole { EndsAt 0 ends.now (length all.now) }
@@ -23,6 +24,7 @@ fn span(ends: &[u64], all: &[u64], x: usize) -> (usize, usize)
 }
 
 // List number x.
+#[inline(always)]
 pub fn piece<'a>(ends: &[u64], all: &'a [u64], x: usize) -> &'a [u64]
     requires there { x < length ends.now }
     requires whole { EndsAt 0 ends.now (length all.now) }
@@ -33,6 +35,7 @@ pub fn piece<'a>(ends: &[u64], all: &'a [u64], x: usize) -> &'a [u64]
 }
 
 // Lets empty lists follow, up to n lists.
+#[inline(always)]
 pub fn pad(ends: &mut Vec<u64>, all: &[u64], n: usize) -> Result<(), AllocError>
     requires more { length ends.old.items ≤ n }
     requires whole { EndsAt 0 ends.old.items (length all.now) }
@@ -47,6 +50,7 @@ pub fn pad(ends: &mut Vec<u64>, all: &[u64], n: usize) -> Result<(), AllocError>
 }
 
 // Adds v at the end of list x, and before it the empty lists up to x.
+#[inline(always)]
 pub fn add(ends: &mut Vec<u64>, all: &mut Vec<u64>, x: usize, v: u64) -> Result<(), AllocError>
     requires last { length ends.old.items ≤ x + 1 }
     requires few { x < 2 ^ 60 }

@@ -29,6 +29,7 @@ impl Model for Graph {
 
 impl Graph {
     /// How many pages there are.
+    #[inline(always)]
     pub fn nodes(&self) -> u64
         ensures value { result ≡ self.now.nodes }
         ensures within { result ≤ MOST_PAGES }
@@ -46,6 +47,7 @@ impl Graph {
     }
 
     /// The successors of page `x`.
+    #[inline(always)]
     pub fn list(&self, x: u64) -> &[u64]
         requires { x < self.now.nodes }
         ensures value { result.now ≡ successors self.now x }

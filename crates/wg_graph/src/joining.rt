@@ -5,6 +5,7 @@ use crate::List;
 use std::alloc::AllocError;
 
 // Whether the member at this place is the number.
+#[inline(always)]
 fn stands_at(members: &[u64], place: usize, number: u64) -> bool
     ensures { IsTrue result ↔ ((place < length members.now) × (get_or members.now place 0 ≡ number)) }
 {
@@ -17,6 +18,7 @@ fn stands_at(members: &[u64], place: usize, number: u64) -> bool
 /// Adds to `out` the members from the place `from` on that are below the number, and the number; answers the place of the first
 /// member above it. So numbers that come one after the other, ascending, are joined to an ascending list; the members above the
 /// last are still to be added. All numbers together take one pass over the members.
+#[inline(always)]
 pub fn join(out: &mut List, members: &[u64], from: usize, number: u64) -> Result<usize, AllocError>
     requires { from ≤ length members.now }
     ensures within { IfOk result (λ to. to ≤ length members.now) }

@@ -51,6 +51,7 @@ impl List {
     }
 
     /// Adds a number at the end, in constant time on average.
+    #[inline(always)]
     pub fn push(&mut self, number: u64) -> Result<(), AllocError>
         ensures ok { OnOk result (self.new ≡ self.old ++ number ∷ []) }
         ensures err { OnErr result (self.new ≡ self.old) }
@@ -69,6 +70,7 @@ impl List {
     }
 
     /// The numbers.
+    #[inline(always)]
     pub fn as_slice(&self) -> &[u64]
         ensures { result.now ≡ self.now }
     {

@@ -25,6 +25,7 @@ impl<'a> Model for Members<'a> {
 }
 
 // How many numbers at the front of the list are below this one.
+#[inline(always)]
 fn below(list: &[u64], number: u64) -> usize
     ensures count { result ≡ prefix_len (λ x. nat_lt x number) list.now }
     ensures within { result ≤ length list.now }
@@ -33,12 +34,14 @@ fn below(list: &[u64], number: u64) -> usize
 }
 
 // The list without the numbers at its front that are below this one.
+#[inline(always)]
 fn not_below(list: &[u64], number: u64) -> &[u64]
     ensures { result.now ≡ drop (prefix_len (λ x. nat_lt x number) list.now) list.now }
 {
     &list[below(list, number)..]
 }
 
+#[inline(always)]
 fn begins_with(list: &[u64], number: u64) -> bool
     ensures { result ≡ begins_with number list.now }
 {
@@ -50,6 +53,7 @@ fn begins_with(list: &[u64], number: u64) -> bool
 
 impl<'a> Members<'a> {
     /// Before the first question.
+    #[inline(always)]
     pub fn of(list: &'a [u64]) -> Members<'a>
         requires { Ascends 0 list.now }
         ensures { result ≡ list.now }
@@ -59,6 +63,7 @@ impl<'a> Members<'a> {
 
     /// Whether the number is a member. From then on the answers are right for greater numbers alone. It goes on over the list,
     /// so that all questions together take one pass.
+    #[inline(always)]
     pub fn has(&mut self, number: u64) -> bool
         ensures told { result ≡ is_in number self.old }
         ensures later { (y : ℕ) → number ≤ y → is_in y self.new ≡ is_in y self.old }

@@ -12,6 +12,7 @@ pub struct Run {
 
 impl Run {
     /// The run before the first number, which is empty.
+    #[inline(always)]
     pub fn none() -> Run
         ensures { (result.left ≡ 0) × (result.length ≡ 0) }
     {
@@ -19,6 +20,7 @@ impl Run {
     }
 
     /// Goes on to a greater number, and gives the run that ends before it, if one does.
+    #[inline(always)]
     pub fn step(&mut self, number: u64) -> Option<Run>
         requires greater { self.old.left + self.old.length ≤ number }
         requires short { self.old.length < 2 ^ 63 }
@@ -42,6 +44,7 @@ impl Run {
     }
 
     /// The run, where it is not empty: the last one, where no number is left.
+    #[inline(always)]
     pub fn last(self) -> Option<Run>
         ensures runs { runs_from self [] ≡ option_to_list result }
         ensures same { IfSome result (λ run. run ≡ self) }
