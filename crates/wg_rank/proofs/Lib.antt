@@ -7,4 +7,5 @@ pub mod Spread
 pub mod Flow
 pub mod Room
 pub mod Rounds
+pub mod Quotients
 pub mod Certificates

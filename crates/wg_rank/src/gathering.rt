@@ -7,6 +7,7 @@ ghost use Rattle.wg_rank.specs.Intervals.{by_page};
 ghost use Rattle.wg_rank.specs.Rank.{low_flow, high_flow, sum_dangling};
 ghost use Rattle.wg_rank.specs.declared.limits.TheConstants.{UNITS};
 
+use crate::dividing::{quotient, quotient_up};
 use crate::spreading::spread;
 use wg_graph::Lists;
 
@@ -46,13 +47,14 @@ pub(crate) fn gather<L: Lists>(
     let mut high_dangling = 0;
     for u in 0..low.len() {
         if let Some(list) = lists.next_list() {
-            let degree = list.len() as u128;
+            let degree = list.len() as u64;
             if degree == 0 {
                 low_dangling += low[u];
                 high_dangling += high[u];
             } else {
-                spread(low_in, list, low[u] / degree);
-                spread(high_in, list, high[u].div_ceil(degree));
+                let below = quotient(low[u], degree);
+                let above = quotient_up(high[u], degree);
+                spread(low_in, high_in, list, below, above);
             }
         }
     }

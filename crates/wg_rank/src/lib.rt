@@ -23,6 +23,7 @@
 
 mod advancing;
 mod bounds;
+mod dividing;
 mod gathering;
 pub mod laws;
 mod limits;

@@ -8,6 +8,7 @@ ghost use Rattle.wg_rank.specs.Settling.{low_rest, high_rest, settled_low, settl
 ghost use Rattle.wg_rank.specs.declared.limits.TheConstants.{UNITS};
 
 use crate::UNITS;
+use crate::dividing::{quotient, quotient_up};
 
 // Puts the lower bounds in place of what flows in; the dangling pages hold so much.
 #[tactic(auto, using(crate::proofs::Room::damped_room))]
@@ -26,7 +27,7 @@ pub(crate) fn settle_low(sums: &mut [u128], damping: u64, dangling: u128)
     let teleport = (1000 - damping as u128) * UNITS;
     let rest = damping as u128 * dangling / parts + teleport / parts;
     for sum in sums.iter_mut() {
-        *sum = damping as u128 * *sum / 1000 + rest;
+        *sum = quotient(damping as u128 * *sum, 1000) + rest;
     }
 }
 
@@ -70,7 +71,7 @@ pub(crate) fn settle_high(
     let teleport = (1000 - damping as u128) * UNITS;
     let rest = (damping as u128 * dangling).div_ceil(parts) + teleport.div_ceil(parts);
     for v in 0..high.len() {
-        let above = (damping as u128 * sums[v]).div_ceil(1000) + rest;
+        let above = quotient_up(damping as u128 * sums[v], 1000) + rest;
         high[v] = high[v].min(above).min(low[v] + gap);
     }
 }

@@ -26,17 +26,17 @@ overflow_add-high_dangling g c =
 le_both : (x y z : ℕ) → x ≤ y → y ≤ z → x ≤ z
 le_both x y z h k = omega arith
 
-pub spread-requires-clause-room : goal.spread-requires-clause-room
-spread-requires-clause-room g c =
-    gathered_room _ (length c.args.low.now) c.loop-u.u (λ u. get_or c.args.low.now u 0 / outdegree (g.L.Lists.graph c.args.lists.now) u) _ _ (omega arith) (omega arith)
+pub spread-requires-clause-low_room : goal.spread-requires-clause-low_room
+spread-requires-clause-low_room g c =
+    gathered_room _ (length c.args.low.now) c.loop-u.u (λ u. get_or c.args.low.now u 0 / outdegree (g.L.Lists.graph c.args.lists.now) u) _ c.quotient-below.result (omega arith) (omega arith)
     (λ w i. le_both _ _ UNITS (div-le_self _ _) (c.requires.low_units w 0 (omega arith)))
-    (le_both _ _ UNITS (div-le_self _ _) (c.requires.low_units c.loop-u.u 0 (omega arith))) c.loop-u.invariant.low
+    (omega (arith, c.quotient-below.ensures, div-le_self (get_or c.args.low.now c.loop-u.u 0) (length c.in-Some.list.now), c.requires.low_units c.loop-u.u 0 (omega arith))) c.loop-u.invariant.low
 
-pub spread-requires-else-degree-eq0-clause-room : goal.spread-requires-else-degree-eq0-clause-room
-spread-requires-else-degree-eq0-clause-room g c =
-    gathered_room _ (length c.args.low.now) c.loop-u.u (λ u. div_ceil (get_or c.args.high.now u 0) (outdegree (g.L.Lists.graph c.args.lists.now) u)) _ c.div_ceil.result (omega arith) (omega arith)
+pub spread-requires-clause-high_room : goal.spread-requires-clause-high_room
+spread-requires-clause-high_room g c =
+    gathered_room _ (length c.args.low.now) c.loop-u.u (λ u. div_ceil (get_or c.args.high.now u 0) (outdegree (g.L.Lists.graph c.args.lists.now) u)) _ c.quotient_up-above.result (omega arith) (omega arith)
     (λ w i. le_both _ _ UNITS (div_ceil_le _ _) (c.requires.high_units w 0 (omega arith)))
-    (omega (arith, c.div_ceil.ensures, div_ceil_le (get_or c.args.high.now c.loop-u.u 0) (length c.in-Some.list.now), c.requires.high_units c.loop-u.u 0 (omega arith))) c.loop-u.invariant.high
+    (omega (arith, c.quotient_up-above.ensures, div_ceil_le (get_or c.args.high.now c.loop-u.u 0) (length c.in-Some.list.now), c.requires.high_units c.loop-u.u 0 (omega arith))) c.loop-u.invariant.high
 
 pub loop-u-preserved : goal.loop-u-preserved
 loop-u-preserved g c =
@@ -67,13 +67,13 @@ loop-u-preserved g c =
           let d : outdegree graph u ≡ length w.in-Some.list.now = ap length (sym l.1) in
           let e : outdegree graph u ≢ 0 = λ q. w.if-degree-eq0.false (sym d ∙ q) in
           let p = rw w.in-Some.is at a in
-          let s1 = rw (l.1) at w.spread.ensures.each in
-          let s2 = rw (w.div_ceil.ensures, l.1) at w.spread-else-degree-eq0.ensures.each in
+          let s1 = rw (w.quotient-below.ensures, l.1) at w.spread.ensures.low in
+          let s2 = rw (w.quotient_up-above.ensures, l.1) at w.spread.ensures.high in
           record {
             same = rw w.lists-is (p.0 ∙ i.same);
             place = rw w.lists-is (p.1 ∙ ap (λ k. k + 1) i.place);
             low = rw w.low_in-is (gathered_more graph n u low_share _ _ (omega arith) i.low s1);
-            high = rw w.high_in-is (gathered_more graph n u high_share _ _ (omega arith) i.high s2);
+            high = rw w.high_in-is (gathered_more graph n u high_share _ _ (omega arith) i.high (λ v k. s2 v (omega arith)));
             low_rest = rw w.low_dangling-is (dangling_same graph u low _ e i.low_rest);
             high_rest = rw w.high_dangling-is (dangling_same graph u high _ e i.high_rest);
           }
