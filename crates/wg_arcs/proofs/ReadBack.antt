@@ -24,7 +24,7 @@ use Rattle.wg_arcs.specs.Laws.{TextsReadBack}
 -- ---- one line
 
 -- the line without its end
-abbrev bare : Arc → List ℕ
+abbrev pub bare : Arc → List ℕ
 bare a = decimal a.0 ++ 32 ∷ decimal a.1
 
 with_end : (a : Arc) (rest : List ℕ) → arc_line a ++ rest ≡ bare a ++ 10 ∷ rest
@@ -59,16 +59,26 @@ words_of_bare a s t =
     let some : (n : ℕ) → n < 2 ^ 64 → eqb (length (decimal n)) 0 ≡ false = λ n small. ne_eqb (length (decimal n)) 0 (λ e. omega (arith, decimal_nonempty n small)) in
     rw (parts, some a.0 s, some a.1 t) refl
 
-not_skipped : (a : Arc) → a.0 < 2 ^ 64 → a.1 < 2 ^ 64 → is_skipped (words_of (bare a)) ≡ false
+pub not_skipped : (a : Arc) → a.0 < 2 ^ 64 → a.1 < 2 ^ 64 → is_skipped (words_of (bare a)) ≡ false
 not_skipped a s t =
     let high = digits_high a.0 s 0 0 (decimal_nonempty a.0 s) in
     rw (words_of_bare a s t) (ne_eqb (get_or (decimal a.0) 0 0) 35 (λ e. omega arith))
 
-arc_in_bare : (a : Arc) → a.0 < 2 ^ 64 → a.1 < 2 ^ 64 → arc_in (words_of (bare a)) ≡ Some a
+pub arc_in_bare : (a : Arc) → a.0 < 2 ^ 64 → a.1 < 2 ^ 64 → arc_in (words_of (bare a)) ≡ Some a
 arc_in_bare a s t = rw (words_of_bare a s t, number_of-decimal a.0 s, number_of-decimal a.1 t) refl
 
-arc_at_bare : (a : Arc) → a.0 < 2 ^ 64 → a.1 < 2 ^ 64 → arc_at (bare a) ≡ Some a
+pub arc_at_bare : (a : Arc) → a.0 < 2 ^ 64 → a.1 < 2 ^ 64 → arc_at (bare a) ≡ Some a
 arc_at_bare a s t = rw (not_skipped a s t, arc_in_bare a s t) refl
+
+-- the first line of a text, in its plain form
+pub plain_line : (a : Arc) (rest : List ℕ) → a.0 < 2 ^ 64 → a.1 < 2 ^ 64 → lines_of (arc_line a ++ rest) ≡ bare a ∷ lines_of rest
+plain_line a rest s t =
+    let high = bare_high a s t in
+    let ends : All (λ b. eqb b 10 ≡ false) (bare a) = All-weaker (λ b. 32 ≤ b) (λ b. eqb b 10 ≡ false) (λ b le. ne_eqb b 10 (λ e. omega arith)) (bare a) high in
+    ap lines_of (with_end a rest) ∙ line_with_end (bare a) rest ends ∙ ap (λ (l : List ℕ). l ∷ lines_of rest) (unstripped (bare a) high)
+
+pub plain_fault : (n : ℕ) (before : List Arc) (a : Arc) → a.0 < 2 ^ 64 → a.1 < 2 ^ 64 → fault_of n before (bare a) ≡ refusal_of n before (Some a)
+plain_fault n before a s t = rw (not_skipped a s t, arc_in_bare a s t) refl
 
 -- ---- all lines
 

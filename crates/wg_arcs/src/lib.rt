@@ -14,6 +14,7 @@
 mod fault;
 pub mod laws;
 mod lines;
+mod plain;
 mod reading;
 mod words;
 mod writing;

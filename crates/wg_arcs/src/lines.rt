@@ -1,19 +1,22 @@
-ghost use Rattle.std.specs.Prelude.{◌≡◌, ◌+◌, ◌<◌, ◌≤◌, [], ◌∷◌, ◌++◌, length, codes, decimal, IsTrue, IsErrOf, OnOk};
+ghost use Rattle.std.specs.Prelude.{◌≡◌, ℕ, ◌+◌, ◌<◌, ◌≤◌, [], ◌∷◌, ◌++◌, length, take, codes, decimal, IsTrue, IsErrOf, OnOk};
 ghost use Rattle.wg_io.specs.Outside.{Rose};
 ghost use Rattle.wg_io.specs.Puts.{Puts};
 ghost use Rattle.wg_arcs.specs.Printing.{Prints};
 ghost use Rattle.wg_arcs.specs.Text.{arc_line};
-ghost use Rattle.wg_arcs.specs.declared.lines.TheConstants.{BUFFER, MOST_PIECE};
+ghost use Rattle.wg_arcs.specs.declared.lines.TheConstants.{BUFFER, MOST_PIECE, MOST_START};
 
 use std::marker::Model;
 use wg_io::{Sink, WriteError, write_all};
-use wg_num::decimal_into;
+use wg_num::decimal_at;
 
 // The bytes that may wait.
 const BUFFER: usize = 8192;
 
 /// The most bytes that are printed at once: more than two numbers take, and what stands between and behind them.
 pub const MOST_PIECE: usize = 128;
+
+/// Room for a number and a space.
+pub const MOST_START: usize = 24;
 
 /// Numbers and bytes on their way into a sink: those that were printed and have not gone out yet.
 ///
@@ -50,6 +53,7 @@ impl Lines {
     }
 
     // How many bytes wait.
+    #[inline(always)]
     fn len(&self) -> usize
         ensures value { result ≡ length self.now }
         ensures within { result ≤ BUFFER }
@@ -58,6 +62,7 @@ impl Lines {
     }
 
     // Lets a text wait.
+    #[inline(always)]
     fn hold(&mut self, text: &[u8])
         requires { length self.old + length text.now ≤ BUFFER }
         ensures { self.new ≡ self.old ++ text.now }
@@ -67,18 +72,31 @@ impl Lines {
         self.len = end;
     }
 
+    // Lets the first `count` bytes of a text wait. All of it is copied, which costs less than a copy of any other length.
+    #[inline(always)]
+    fn hold_front(&mut self, text: &[u8; MOST_START], count: usize)
+        requires count { count ≤ MOST_START }
+        requires room { length self.old + MOST_START ≤ BUFFER }
+        ensures { self.new ≡ self.old ++ take count text.now }
+    {
+        let end = self.len + MOST_START;
+        self.bytes[self.len..end].copy_from_slice(text);
+        self.len += count;
+    }
+
     // Lets a number wait, which takes up to 20 digits.
+    #[inline(always)]
     fn hold_number(&mut self, number: u64)
         requires { length self.old + 20 ≤ BUFFER }
         ensures value { self.new ≡ self.old ++ decimal number }
         ensures few { length self.new ≤ length self.old + 20 }
     {
-        let mut digits = [0; 20];
-        let count = decimal_into(number, &mut digits);
-        self.hold(&digits[..count]);
+        let count = decimal_at(number, &mut self.bytes[self.len..]);
+        self.len += count;
     }
 
     // Sends all out where there is no room for one more line.
+    #[inline(always)]
     fn make_room<S: Sink>(&mut self, sink: &mut S) -> Result<(), WriteError>
         ensures room { OnOk result (length self.new + MOST_PIECE ≤ BUFFER) }
         ensures prints { IsTrue S.told → Prints [] (S.taken sink.old) (S.taken sink.new) self.old self.new result }
@@ -93,6 +111,7 @@ impl Lines {
     }
 
     /// Prints a number in decimal digits.
+    #[inline(always)]
     pub fn number<S: Sink>(&mut self, sink: &mut S, number: u64) -> Result<(), WriteError>
         ensures prints { IsTrue S.told → Prints (decimal number) (S.taken sink.old) (S.taken sink.new) self.old self.new result }
         ensures failed { IsErrOf result WriteError.Failed → Rose (S.faults sink.old) (S.faults sink.new) }
@@ -142,6 +161,7 @@ impl Lines {
     }
 
     /// Prints the line of an arc.
+    #[inline(always)]
     pub fn arc<S: Sink>(&mut self, sink: &mut S, from: u64, to: u64) -> Result<(), WriteError>
         ensures prints { IsTrue S.told → Prints (arc_line (from, to)) (S.taken sink.old) (S.taken sink.new) self.old self.new result }
         ensures failed { IsErrOf result WriteError.Failed → Rose (S.faults sink.old) (S.faults sink.new) }
@@ -157,18 +177,65 @@ impl Lines {
         }
     }
 
+    /// Prints the line of an arc that begins with the first `count` bytes of this text.
+    #[inline(always)]
+    pub fn arc_after<S: Sink>(
+        &mut self,
+        sink: &mut S,
+        start: &[u8; MOST_START],
+        count: usize,
+        to: u64,
+    ) -> Result<(), WriteError>
+        requires { count ≤ MOST_START }
+        ensures prints { IsTrue S.told → (from : ℕ) → take count start.now ≡ decimal from ++ codes " " → Prints (arc_line (from, to)) (S.taken sink.old) (S.taken sink.new) self.old self.new result }
+        ensures failed { IsErrOf result WriteError.Failed → Rose (S.faults sink.old) (S.faults sink.new) }
+        ensures memory { IsErrOf result WriteError.Memory → Rose (S.wants sink.old) (S.wants sink.new) }
+        ensures later { (S.faults sink.old ≤ S.faults sink.new) × (S.wants sink.old ≤ S.wants sink.new) }
+    {
+        match self.make_room(sink) {
+            Ok(()) => {
+                self.hold_arc_after(start, count, to);
+                Ok(())
+            }
+            Err(e) => Err(e),
+        }
+    }
+
+    // Lets a line's last number and its end wait.
+    #[inline(always)]
+    fn hold_end(&mut self, to: u64)
+        requires { length self.old + MOST_START ≤ BUFFER }
+        ensures value { self.new ≡ self.old ++ decimal to ++ codes "\n" }
+    {
+        self.hold_number(to);
+        self.hold(b"\n");
+    }
+
+    // Lets such a line wait.
+    #[inline(always)]
+    fn hold_arc_after(&mut self, start: &[u8; MOST_START], count: usize, to: u64)
+        requires start { count ≤ MOST_START }
+        requires room { length self.old + MOST_PIECE ≤ BUFFER }
+        ensures { self.new ≡ self.old ++ (take count start.now ++ decimal to ++ codes "\n") }
+    {
+        self.hold_front(start, count);
+        self.hold_end(to);
+    }
+
     // Lets the line of an arc wait.
+    #[inline(always)]
     fn hold_arc(&mut self, from: u64, to: u64)
         requires { length self.old + MOST_PIECE ≤ BUFFER }
         ensures { self.new ≡ self.old ++ arc_line (from, to) }
     {
         self.hold_number(from);
         self.hold(b" ");
-        self.hold_number(to);
-        self.hold(b"\n");
+        self.hold_end(to);
     }
 
     /// Sends all out.
+    #[cold]
+    #[inline(never)]
     pub fn flush<S: Sink>(&mut self, sink: &mut S) -> Result<(), WriteError>
         ensures puts { IsTrue S.told → Puts self.old (S.taken sink.old) (S.taken sink.new) result }
         ensures empty { self.new ≡ [] }

@@ -1,9 +1,10 @@
-ghost use Rattle.std.specs.Prelude.{◌≡◌, ℕ, ◌+◌, ◌<◌, ◌≤◌, ◌++◌, ◌∷◌, [], Some, None, length, OnOk, IfErr, option_to_list};
+ghost use Rattle.std.specs.Prelude.{◌≡◌, ℕ, ◌+◌, ◌<◌, ◌≤◌, ◌++◌, ◌∷◌, [], Some, None, length, OnOk, IfOk, IfErr, option_to_list};
 ghost use Rattle.wg_params.specs.declared.limits.TheConstants.{MOST_PAGES};
 ghost use Rattle.wg_graph.specs.Arcs.{arcs_of};
 ghost use Rattle.wg_arcs.specs.Reading.{arc_at, refusal_of, fault_of, IsRead};
-ghost use Rattle.wg_arcs.specs.Growing.{EndsInArc, IsRefusedLine};
+ghost use Rattle.wg_arcs.specs.Growing.{EndsInArc, IsRefusedLine, HasRead, HasRefused};
 
+use crate::plain::plain_arc;
 use crate::words::{arc, first_word};
 use crate::{ArcsError, ArcsKind};
 use std::alloc::Global;
@@ -12,6 +13,7 @@ use wg_num::first_line;
 use wg_params::MOST_ARCS;
 
 // Adds an arc of this line.
+#[inline(always)]
 fn add(builder: &mut GraphBuilder, line: u64, u: u64, v: u64) -> Result<(), ArcsError>
     requires { EndsInArc builder.old }
     ensures nodes { OnOk result (builder.new.nodes ≡ builder.old.nodes) }
@@ -43,6 +45,7 @@ fn add(builder: &mut GraphBuilder, line: u64, u: u64, v: u64) -> Result<(), Arcs
 }
 
 // Adds the arc of a line, if it has one.
+#[inline(always)]
 fn read_line(builder: &mut GraphBuilder, line: u64, text: &[u8]) -> Result<(), ArcsError>
     requires { EndsInArc builder.old }
     ensures nodes { OnOk result (builder.new.nodes ≡ builder.old.nodes) }
@@ -67,6 +70,51 @@ fn read_line(builder: &mut GraphBuilder, line: u64, text: &[u8]) -> Result<(), A
     }
 }
 
+// Reads the first line, in any form, and answers the text after it.
+#[cold]
+#[inline(never)]
+fn read_any<'a>(
+    builder: &mut GraphBuilder,
+    line: u64,
+    bytes: &'a [u8],
+) -> Result<&'a [u8], ArcsError>
+    requires some { 0 < length bytes.now }
+    requires ends { EndsInArc builder.old }
+    ensures nodes { OnOk result (builder.new.nodes ≡ builder.old.nodes) }
+    ensures ends { OnOk result (EndsInArc builder.new) }
+    ensures shorter { IfOk result (λ after. length after.now < length bytes.now) }
+    ensures read { IfOk result (λ after. HasRead bytes.now after.now builder.old builder.new) }
+    ensures err { IfErr result (HasRefused line bytes.now builder.old) }
+{
+    let (text, after) = first_line(bytes);
+    read_line(builder, line, text)?;
+    Ok(after)
+}
+
+// Reads the first line, and answers the text after it; a line in its plain form by one pass.
+#[inline(always)]
+fn read_first<'a>(
+    builder: &mut GraphBuilder,
+    line: u64,
+    bytes: &'a [u8],
+) -> Result<&'a [u8], ArcsError>
+    requires some { 0 < length bytes.now }
+    requires ends { EndsInArc builder.old }
+    ensures nodes { OnOk result (builder.new.nodes ≡ builder.old.nodes) }
+    ensures ends { OnOk result (EndsInArc builder.new) }
+    ensures shorter { IfOk result (λ after. length after.now < length bytes.now) }
+    ensures read { IfOk result (λ after. HasRead bytes.now after.now builder.old builder.new) }
+    ensures err { IfErr result (HasRefused line bytes.now builder.old) }
+{
+    match plain_arc(bytes) {
+        Some((from, to, after)) => {
+            add(builder, line, from, to)?;
+            Ok(after)
+        }
+        None => read_any(builder, line, bytes),
+    }
+}
+
 /// Reads the text of a graph of `n` pages, or names its first faulty line. Memory is taken as the arcs come, and at the end 8
 /// bytes for each page; it costs a pass over the text.
 pub fn read(alloc: Global, bytes: &[u8], n: u64) -> Result<Graph, ArcsError>
@@ -77,10 +125,8 @@ pub fn read(alloc: Global, bytes: &[u8], n: u64) -> Result<Graph, ArcsError>
     let mut rest = bytes;
     let mut line = 0;
     'lines: while !rest.is_empty() {
-        let (text, after) = first_line(rest);
         line += 1;
-        read_line(&mut builder, line, text)?;
-        rest = after;
+        rest = read_first(&mut builder, line, rest)?;
     }
     Ok(builder.finish()?)
 }

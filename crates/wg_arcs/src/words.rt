@@ -8,6 +8,7 @@ ghost use Rattle.wg_arcs.specs.Reading.{words_of, arc_in};
 use wg_num::{is_blank, read_decimal, without_blanks_before};
 
 // How many bytes come before the first blank.
+#[inline(always)]
 fn word_length(text: &[u8]) -> usize
     ensures { result ≡ length (before_first is_blank text.now) }
 {
@@ -15,6 +16,7 @@ fn word_length(text: &[u8]) -> usize
 }
 
 /// The first word and what follows it; the word is empty where there is none.
+#[inline(always)]
 pub fn first_word(text: &[u8]) -> (&[u8], &[u8])
     ensures none { length result.0.now ≡ 0 → words_of text.now ≡ [] }
     ensures some { 0 < length result.0.now → words_of text.now ≡ result.0.now ∷ words_of result.1.now }
@@ -25,6 +27,7 @@ pub fn first_word(text: &[u8]) -> (&[u8], &[u8])
 }
 
 /// The arc that a first word and what follows it write, if they do.
+#[inline(always)]
 pub fn arc(first: &[u8], rest: &[u8]) -> Option<(u64, u64)>
     ensures { result ≡ arc_in (first.now ∷ words_of rest.now) }
 {

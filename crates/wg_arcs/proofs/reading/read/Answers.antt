@@ -21,31 +21,29 @@ pub lines-preserved : goal.lines-preserved
 lines-preserved c =
     let n = c.args.n in
     let all = lines_of c.args.bytes.now in
-    let text = c.first_line.result.0.now in
-    let after = c.first_line.result.1.now in
     let g = c.lines.builder in
     let i = c.lines.invariant in
-    let here : SoFar n all (text ∷ lines_of after) c.lines.line g = subst (λ (ls : List (List ℕ)). SoFar n all ls c.lines.line g) c.first_line.ensures.lines i.so_far in
+    let r = c.in_ok-rest.ensures.read in
+    let here : SoFar n all (r.0 ∷ lines_of c.in_ok-rest.rest.now) c.lines.line g = subst (λ (ls : List (List ℕ)). SoFar n all ls c.lines.line g) r.1 i.so_far in
     record {
-      nodes = c.in_ok-read_line.ensures.nodes ∙ i.nodes;
-      ends = c.in_ok-read_line.ensures.ends;
-      few = omega (arith, i.few, c.first_line.ensures.shorter);
-      so_far = so_far_more n all (lines_of after) text c.lines.line g c.read_line.new.builder here (subst (λ (m : ℕ). fault_of m (arcs_of g) text ≡ None) i.nodes c.in_ok-read_line.ensures.fine) c.in_ok-read_line.ensures.arcs;
+      nodes = c.in_ok-rest.ensures.nodes ∙ i.nodes;
+      ends = c.in_ok-rest.ensures.ends;
+      few = omega (arith, i.few, c.in_ok-rest.ensures.shorter);
+      so_far = so_far_more n all (lines_of c.in_ok-rest.rest.now) r.0 c.lines.line g c.read_first.new.builder here (subst (λ (m : ℕ). fault_of m (arcs_of g) r.0 ≡ None) i.nodes r.2) r.3;
     }
 
-pub returns-in_err-read_line : goal.returns-in_err-read_line
-returns-in_err-read_line c =
+pub returns-in_err-rest : goal.returns-in_err-rest
+returns-in_err-rest c =
     let n = c.args.n in
     let bytes = c.args.bytes.now in
-    let text = c.first_line.result.0.now in
-    let after = c.first_line.result.1.now in
     let g = c.lines.builder in
     let i = c.lines.invariant in
-    let e = c.in_err-read_line.field-0.0 in
-    let p = err_from_is_err_and c.from_residual-in_err-read_line.result c.from_residual-in_err-read_line.ensures.1 in
-    let here : SoFar n (lines_of bytes) (text ∷ lines_of after) c.lines.line g = subst (λ (ls : List (List ℕ)). SoFar n (lines_of bytes) ls c.lines.line g) c.first_line.ensures.lines i.so_far in
-    let refused : IsRefusedLine (c.lines.line + 1) (fault_of n (arcs_of g) text) e = subst (λ (m : ℕ). IsRefusedLine (c.lines.line + 1) (fault_of m (arcs_of g) text) e) i.nodes c.in_err-read_line.ensures.err in
-    rw (p.1, p.2) (read_err n bytes (lines_of after) text c.lines.line (c.lines.line + 1) g e here refl refused)
+    let e = c.in_err-rest.field-0.0 in
+    let p = err_from_is_err_and c.from_residual-in_err-rest.result c.from_residual-in_err-rest.ensures.1 in
+    let r = c.in_err-rest.ensures.err in
+    let here : SoFar n (lines_of bytes) (r.0 ∷ lines_of r.1) c.lines.line g = subst (λ (ls : List (List ℕ)). SoFar n (lines_of bytes) ls c.lines.line g) r.2 i.so_far in
+    let refused : IsRefusedLine (c.lines.line + 1) (fault_of n (arcs_of g) r.0) e = subst (λ (m : ℕ). IsRefusedLine (c.lines.line + 1) (fault_of m (arcs_of g) r.0) e) i.nodes r.3 in
+    rw (p.1, p.2) (read_err n bytes (lines_of r.1) r.0 c.lines.line (c.lines.line + 1) g e here refl refused)
 
 pub returns : goal.returns
 returns c =

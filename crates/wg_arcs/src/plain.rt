@@ -1,0 +1,30 @@
+// Lines in their plain form, as the text of a graph has them.
+ghost use Rattle.std.specs.Prelude.{◌≡◌, ◌<◌, ◌^◌, ◌∷◌, ◌++◌, IfSome};
+ghost use Rattle.wg_arcs.specs.Text.{arc_line};
+
+use wg_num::leading_decimal;
+
+// The text after its first byte, where that is this one.
+#[inline(always)]
+fn after(text: &[u8], byte: u8) -> Option<&[u8]>
+    ensures { IfSome result (λ rest. text.now ≡ byte ∷ rest.now) }
+{
+    if !text.is_empty() && text[0] == byte {
+        return Some(&text[1..]);
+    }
+    None
+}
+
+/// The arc of the first line and the text after it, where the line is two numbers, one space between them, and its end. It goes
+/// over the line once.
+#[inline(always)]
+pub fn plain_arc(text: &[u8]) -> Option<(u64, u64, &[u8])>
+    ensures line { IfSome result (λ r. text.now ≡ arc_line (r.0, r.1) ++ r.2.now) }
+    ensures low { IfSome result (λ r. (r.0 < 2 ^ 64) × (r.1 < 2 ^ 64)) }
+{
+    let (from, from_end) = leading_decimal(text)?;
+    let second = after(&text[from_end..], b' ')?;
+    let (to, to_end) = leading_decimal(second)?;
+    let rest = after(&second[to_end..], b'\n')?;
+    Some((from, to, rest))
+}
