@@ -9,7 +9,7 @@ use std::alloc::{AllocError, Global};
 use std::marker::Model;
 use thiserror::Error;
 
-const PIECE: usize = 4096;
+const PIECE: usize = 65_536;
 
 /// The bytes of a file or a text, in memory.
 #[derive(Drop)]
@@ -89,7 +89,7 @@ impl From<AllocError> for LoadError {
     }
 }
 
-/// Reads a whole file into memory, in pieces of 4096 bytes.
+/// Reads a whole file into memory, in pieces of 65536 bytes.
 ///
 /// The byte at the limit is asked for first, so that a file that is too long is refused before any of it is held; one that
 /// grows meanwhile is refused when it passes the limit.
