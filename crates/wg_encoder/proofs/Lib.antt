@@ -5,6 +5,7 @@ pub mod Tallied
 pub mod Gapped
 pub mod Extra
 pub mod Whole
+pub mod Fewer
 pub mod NoReference
 pub mod Short
 pub mod Choosing

@@ -14,6 +14,12 @@ cost_of fields = if all_have_words fields then Some (length (bits_of_fields fiel
 abbrev pub IsOfWords : ℕ → Option ℕ → Type 0
 IsOfWords n cost = ForSome cost (λ bits. bits ≤ n * 2 ^ 64)
 
+-- An answer that is wanted only where fields take less than so many bits: what they take; or nothing, where they take no less or some
+-- value has no word.
+abbrev pub IsFewer : ℕ → Option ℕ → Option ℕ → Type 0
+IsFewer most cost (Some bits) = cost ≡ Some bits
+IsFewer most cost None = ForSome cost (λ bits. most ≤ bits)
+
 -- the tally is that of these blocks
 pub record Tallies (t : BlockTally) (blocks : List ℕ) : Type 0 where
   pub count_is : t.count ≡ length blocks

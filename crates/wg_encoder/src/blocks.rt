@@ -33,6 +33,7 @@ impl BlockTally {
         }
     }
 
+    #[inline(always)]
     fn add(&mut self, block: Option<u64>)
         requires blocks { (blocks : List ℕ) × Tallies self.old blocks }
         requires room { self.old.count < 2 ^ 62 }
@@ -47,6 +48,7 @@ impl BlockTally {
     }
 
     // The first block is stored as it is, later ones less 1.
+    #[inline(always)]
     fn add_block(&mut self, block: u64)
         requires blocks { (blocks : List ℕ) × Tallies self.old blocks }
         requires room { self.old.count < 2 ^ 62 }
@@ -60,6 +62,7 @@ impl BlockTally {
     }
 }
 
+#[inline(always)]
 pub(crate) fn stored_block(count: u64, block: u64) -> u64
     ensures { result ≡ (if count == 0 then block else block - 1) }
 {

@@ -9,6 +9,7 @@ use wg_codes::{holds, length};
 use wg_params::Code;
 
 /// What fields take with one field more; none where some value has no word.
+#[inline(always)]
 pub(crate) fn with_field(cost: Option<u128>, code: Code, value: u64) -> Option<u128>
     requires code { IsCode code }
     requires room { (n : ℕ) × (n < 2 ^ 63) × IsOfWords n cost }
@@ -28,6 +29,7 @@ pub(crate) fn with_field(cost: Option<u128>, code: Code, value: u64) -> Option<u
 }
 
 /// What the fields of both take together.
+#[inline(always)]
 pub(crate) fn both(first: Option<u128>, second: Option<u128>) -> Option<u128>
     requires first { (n : ℕ) × (n < 2 ^ 63) × IsOfWords n first }
     requires second { (n : ℕ) × (n < 2 ^ 63) × IsOfWords n second }

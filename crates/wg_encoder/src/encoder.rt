@@ -10,7 +10,7 @@ ghost use Rattle.wg_graph.specs.Digraph.{IsGraph, arc_count};
 ghost use Rattle.wg_grammar.specs.Context.{referenced, depth_of};
 ghost use Rattle.wg_grammar.specs.Refusal.{passes};
 ghost use Rattle.wg_encoder.specs.Greedy.{canonical, size_of, is_candidate, chosen};
-ghost use Rattle.wg_encoder.specs.Cost.{cost_of};
+ghost use Rattle.wg_encoder.specs.Cost.{cost_of, IsFewer};
 ghost use Rattle.wg_encoder.specs.Encoding.{context_of, list_of, bits_by, offer_of, IsChosen};
 ghost use Rattle.wg_encoder.specs.Gone.{HasGone};
 
@@ -144,16 +144,26 @@ impl<'a> Encoder<'a> {
         !self.named(r).is_empty() && !passes(self.params.chain(), self.depth(r))
     }
 
-    // What the record takes by a reference, where each value has a word. It is less than 2 ^ 64 bits: a word but that of the
-    // reference and of the block count has at most 2 ^ 8.
+    // What the record takes by a reference, where that is wanted only below `most` and each value has a word. It is less than
+    // 2 ^ 64 bits: a word but that of the reference and of the block count has at most 2 ^ 8.
+    fn size_below(&self, r: u64, most: u128) -> Option<u64>
+        requires reach { r ≤ min self.now.params.window self.now.page }
+        requires page { self.now.page < self.now.graph.nodes }
+        ensures fewer { IsFewer most (cost_of (canonical self.now.params (context_of self.now) (list_of self.now) r)) result }
+        ensures short { ForSome (cost_of (canonical self.now.params (context_of self.now) (list_of self.now) r)) (λ n. n < 2 ^ 64) }
+    {
+        self.limits();
+        let list = self.graph.list(self.page);
+        narrow(record_cost(&self.params, self.page, r, self.named(r), list, most))
+    }
+
+    // The same, whatever it is.
     fn size(&self, r: u64) -> Option<u64>
         requires reach { r ≤ min self.now.params.window self.now.page }
         requires page { self.now.page < self.now.graph.nodes }
         ensures { result ≡ cost_of (canonical self.now.params (context_of self.now) (list_of self.now) r) }
     {
-        self.limits();
-        let list = self.graph.list(self.page);
-        narrow(record_cost(&self.params, self.page, r, self.named(r), list))
+        self.size_below(r, 1 << 64)
     }
 
     // What the record takes without a reference. All values of it have words.
@@ -178,6 +188,18 @@ impl<'a> Encoder<'a> {
             return None;
         }
         self.size(r)
+    }
+
+    // The same of a reference but 0, where it is wanted only below `most`.
+    fn offer_below(&self, r: u64, most: u64) -> Option<u64>
+        requires page { self.now.page < self.now.graph.nodes }
+        requires some { 0 < r }
+        ensures { IsFewer most (offer_of self.now r) result }
+    {
+        if self.reach() < r || !self.may_refer(r) {
+            return None;
+        }
+        self.size_below(r, most as u128)
     }
 
     /// Whether the page that comes next may be written by this reference: 0, or one within the window that names a page with
@@ -213,13 +235,13 @@ impl<'a> Encoder<'a> {
             bits: self.cost(0),
         };
         for r in 1..self.reach() + 1 {
-            best = best.or(r, self.offer(r));
+            best = best.or(r, self.offer_below(r, best.bits));
         }
         best
     }
 
     /// The reference by which the page that comes next is written: of the candidates with the shortest record the smallest.
-    /// It takes no memory, and counts the bits of each candidate's record once.
+    /// It takes no memory, and counts the bits of each candidate's record, until there are as many as the best so far has.
     pub fn chosen(&self) -> u64
         requires page { self.now.page < self.now.graph.nodes }
         ensures { result ≡ chosen self.now.params (context_of self.now) (list_of self.now) }

@@ -1,11 +1,11 @@
 // What the successors take that are not copied.
-ghost use Rattle.std.specs.Prelude.{◌≡◌, ℕ, ◌+◌, ◌<◌, ◌≤◌, ◌^◌, List, [], ◌∷◌, ◌++◌, option_to_list};
+ghost use Rattle.std.specs.Prelude.{◌≡◌, ℕ, ◌+◌, ◌<◌, ◌≤◌, ◌^◌, List, [], ◌∷◌, ◌++◌, Some, IsTrue, option_to_list};
 ghost use Rattle.std.specs.Option.{ForSome};
 ghost use Rattle.wg_intervals.specs.declared.run.Run.{Run};
 ghost use Rattle.wg_graph.specs.Ascending.{Ascends, Below};
 ghost use Rattle.wg_intervals.specs.Canonical.{is_long};
 ghost use Rattle.wg_encoder.specs.Fields.{extras, count_fields, extra_fields};
-ghost use Rattle.wg_encoder.specs.Cost.{cost_of, IsOfWords};
+ghost use Rattle.wg_encoder.specs.Cost.{cost_of, IsOfWords, IsFewer};
 ghost use Rattle.wg_encoder.specs.Tallies.{TalliesBoth, SameKinds, length_of};
 
 use crate::cost::{both, with_field};
@@ -36,6 +36,21 @@ impl ExtraTally {
         }
     }
 
+    // Whether what is tallied takes so many bits or more, or has a value without a word.
+    #[inline(always)]
+    fn reaches(&self, most: u128) -> bool
+        ensures { IsTrue result → (m n : ℕ) → self.now.intervals.cost ≡ Some m → self.now.residuals.cost ≡ Some n → most ≤ m + n }
+    {
+        match self.intervals.cost {
+            Some(intervals) => match self.residuals.cost {
+                Some(residuals) => intervals.saturating_add(residuals) >= most,
+                None => true,
+            },
+            None => true,
+        }
+    }
+
+    #[inline(always)]
     fn add(&mut self, run: Option<Run>)
         requires runs { (runs : List Run) × TalliesBoth self.old runs }
         requires room { self.old.intervals.count + self.old.residuals.count + length_of run < 2 ^ 61 }
@@ -52,6 +67,7 @@ impl ExtraTally {
     }
 
     // Each of the two counts stays below the numbers of all runs.
+    #[inline(always)]
     fn add_run(&mut self, run: Run)
         requires runs { (runs : List Run) × TalliesBoth self.old runs }
         requires room { self.old.intervals.count + self.old.residuals.count + run.length < 2 ^ 61 }
@@ -80,25 +96,27 @@ fn count_cost(found: bool, least: u64, count: u64) -> Option<u128>
     Some(0)
 }
 
+#[inline(always)]
 fn is_long(least: u64, run: Run) -> bool
     ensures { result ≡ is_long least run }
 {
     least > 0 && least <= run.length
 }
 
-/// What the successors take that a referenced list does not have: as intervals, with their count, and as residuals. It takes
-/// one pass over both lists.
+/// What the successors take that a referenced list does not have, where that is wanted only below so many bits: as intervals,
+/// with their count, and as residuals. It takes one pass over both lists, which ends as soon as there are so many.
 pub(crate) fn extra_cost(
     params: &Params,
     page: u64,
     list: &[u64],
     referenced: &[u64],
+    most: u128,
 ) -> Option<u128>
     requires page { page < 2 ^ 62 }
     requires list { Ascends 0 list.now }
     requires low { Below (2 ^ 62) list.now }
     requires referenced { Ascends 0 referenced.now }
-    ensures exact { result ≡ cost_of (extra_fields params.now page (extras list.now referenced.now)) }
+    ensures fewer { IsFewer most (cost_of (extra_fields params.now page (extras list.now referenced.now))) result }
     ensures few { IsOfWords (2 ^ 62) result }
 {
     let mut others = Members::of(referenced);
@@ -107,6 +125,9 @@ pub(crate) fn extra_cost(
     for y in list {
         if !others.has(*y) {
             tally.add(run.step(*y));
+            if tally.reaches(most) {
+                return None;
+            }
         }
     }
     tally.add(run.last());

@@ -34,6 +34,7 @@ impl IntervalTally {
         }
     }
 
+    #[inline(always)]
     pub(crate) fn add(&mut self, run: Run)
         requires runs { (runs : List Run) × TalliesRuns self.old runs }
         requires room { self.old.count < 2 ^ 61 }

@@ -36,7 +36,7 @@ pub(crate) fn extras_of(
     requires referenced { Ascends 0 referenced.now }
     ensures { IfOk result (λ others. others ≡ extras list.now referenced.now) }
 {
-    let mut others = Numbers::new(alloc);
+    let mut others = Numbers::with_room(alloc, list.len())?;
     let mut members = Members::of(referenced);
     for y in list {
         add_unless(&mut others, members.has(*y), *y)?;

@@ -36,6 +36,7 @@ impl ResidualTally {
         }
     }
 
+    #[inline(always)]
     fn add(&mut self, number: u64)
         requires numbers { (numbers : List ℕ) × TalliesNumbers self.old numbers }
         requires room { self.old.count < 2 ^ 62 }
@@ -53,6 +54,7 @@ impl ResidualTally {
     }
 
     /// Adds the numbers of a run.
+    #[inline(always)]
     pub(crate) fn add_run(&mut self, run: Run)
         requires numbers { (numbers : List ℕ) × TalliesNumbers self.old numbers }
         requires room { self.old.count + run.length < 2 ^ 62 }

@@ -4,8 +4,9 @@ use Rattle.wg_encoder.specs.Fields.{extras}
 use Rattle.wg_intervals.specs.Canonical.{runs_of}
 use Rattle.wg_encoder.proofs.Tallied.{fewer}
 use Rattle.wg_encoder.proofs.Extra.{begun, next_number, all_taken, found_some, ends_low, length_within, costs_joined, kept_skipped, kept_taken, kept_at}
+use Rattle.wg_encoder.proofs.Fewer.{counted_whole, left_early}
 use Rattle.wg_encoder.proofs.extras.extra_cost.Goals as goal
-use Rattle.wg_encoder.proofs.extras.extra_cost.Goals.{then-not-has, else-not-has}
+use Rattle.wg_encoder.proofs.extras.extra_cost.Goals.{then-not-has+else-reaches, else-not-has}
 
 pub loop-y-init : goal.loop-y-init
 loop-y-init c = record {
@@ -39,7 +40,7 @@ add-requires-clause-low c = ends_low c.step.result c.loop-y.run (2 ^ 62) c.step.
 pub loop-y-preserved : goal.loop-y-preserved
 loop-y-preserved c =
     elim c.if-not-has.branch [
-      | then-not-has w ↦
+      | then-not-has+else-reaches w ↦
           kept_at c.args.params.now c.args.page c.args.list.now c.args.referenced.now c.has.new.self (c.loop-y.y-index + 1) _ _ _ _ w.run-is w.tally-is
           (kept_taken c.args.params.now c.args.page c.args.list.now c.args.referenced.now c.loop-y.others c.has.new.self c.loop-y.y-index c.loop-y.run w.step.new.self c.loop-y.tally w.add.new.self w.step.result c.has.result c.loop-y-test.true c.requires.low c.loop-y.invariant
           c.has.ensures.told w.if-not-has.true c.has.ensures.later w.step.ensures.runs w.step.ensures.end w.step.ensures.some w.step.ensures.ended w.step.ensures.anew w.step.ensures.longer w.add.ensures.exact w.add.ensures.same w.add.ensures.more)
@@ -47,6 +48,13 @@ loop-y-preserved c =
           kept_at c.args.params.now c.args.page c.args.list.now c.args.referenced.now c.has.new.self (c.loop-y.y-index + 1) _ _ _ _ w.run-is w.tally-is
           (kept_skipped c.args.params.now c.args.page c.args.list.now c.args.referenced.now c.loop-y.others c.has.new.self c.loop-y.y-index c.loop-y.run c.loop-y.tally c.has.result c.loop-y-test.true c.loop-y.invariant c.has.ensures.told w.if-not-has.false c.has.ensures.later)
     ]
+
+pub returns-then-reaches-clause-fewer : goal.returns-then-reaches-clause-fewer
+returns-then-reaches-clause-fewer c =
+    left_early c.args.params.now c.args.page c.args.list.now c.args.referenced.now c.has.new.self (c.loop-y.y-index + 1) c.step.new.self c.add.new.self c.args.most
+    (kept_taken c.args.params.now c.args.page c.args.list.now c.args.referenced.now c.loop-y.others c.has.new.self c.loop-y.y-index c.loop-y.run c.step.new.self c.loop-y.tally c.add.new.self c.step.result c.has.result c.loop-y-test.true c.requires.low c.loop-y.invariant
+    c.has.ensures.told c.if-not-has.true c.has.ensures.later c.step.ensures.runs c.step.ensures.end c.step.ensures.some c.step.ensures.ended c.step.ensures.anew c.step.ensures.longer c.add.ensures.exact c.add.ensures.same c.add.ensures.more)
+    (c.reaches.ensures c.if-reaches.true)
 
 pub add-requires-2-clause-low : goal.add-requires-2-clause-low
 add-requires-2-clause-low c = ends_low c.last.result c.loop-y.run (2 ^ 62) c.last.ensures.same c.loop-y.invariant.low
@@ -60,14 +68,14 @@ add-requires-2-clause-room c = omega (arith, c.loop-y.invariant.room, length_wit
 pub add-requires-2-clause-page : goal.add-requires-2-clause-page
 add-requires-2-clause-page c = (omega (arith, c.loop-y.invariant.interval_page, c.requires.page), omega (arith, c.loop-y.invariant.residual_page, c.requires.page))
 
-pub returns-clause-exact : goal.returns-clause-exact
-returns-clause-exact c =
+pub returns-clause-fewer : goal.returns-clause-fewer
+returns-clause-fewer c =
     let k = c.loop-y.invariant in
     let whole : TalliesBoth c.add-2.new.self (runs_of (extras c.args.list.now c.args.referenced.now)) = all_taken c.args.list.now c.args.referenced.now c.loop-y.others c.loop-y.y-index c.loop-y.run c.loop-y.tally c.add-2.new.self c.last.result (omega arith) k.extracting c.last.ensures.runs c.add-2.ensures.exact in
-    costs_joined c.args.params.now c.args.page (extras c.args.list.now c.args.referenced.now) c.add-2.new.self (ltb 0 c.loop-y.run.length) c.count_cost-count.result c.both.result c.both-2.result whole
+    counted_whole c.args.most _ _ (costs_joined c.args.params.now c.args.page (extras c.args.list.now c.args.referenced.now) c.add-2.new.self (ltb 0 c.loop-y.run.length) c.count_cost-count.result c.both.result c.both-2.result whole
     (found_some c.args.list.now c.args.referenced.now c.loop-y.others c.loop-y.y-index c.loop-y.run c.loop-y.tally (ltb 0 c.loop-y.run.length) (omega arith) k.extracting refl)
     (c.add-2.ensures.same.interval_page ∙ k.interval_page) (c.add-2.ensures.same.residual_page ∙ k.residual_page) (c.add-2.ensures.same.least ∙ k.least_is) (c.add-2.ensures.same.code ∙ k.code)
-    c.count_cost-count.ensures.exact c.both.ensures.exact c.both-2.ensures.exact
+    c.count_cost-count.ensures.exact c.both.ensures.exact c.both-2.ensures.exact)
 
 pub both-requires-clause-second : goal.both-requires-clause-second
 both-requires-clause-second c =
