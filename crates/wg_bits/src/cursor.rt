@@ -1,7 +1,7 @@
 // A place that moves over bits.
 ghost use Rattle.std.specs.Prelude.{◌≡◌, ℕ, ◌+◌, ◌-◌, ◌*◌, ◌^◌, ◌<◌, ◌≤◌, Bool, false, List, [], ◌∷◌, ◌++◌, length, replicate, IfSome, IfNone};
 ghost use Rattle.wg_io.specs.declared.limits.TheConstants.{MOST_BYTES};
-ghost use Rattle.wg_bits.specs.Bits.{bits_of, low_bits, front, Place, rest, moved, BeginsWithNoZero};
+ghost use Rattle.wg_bits.specs.Bits.{bits_of, low_bits, front, Position, rest, moved, BeginsWithNoZero};
 
 use crate::Bits;
 use crate::window::window;
@@ -10,8 +10,8 @@ use std::marker::Model;
 /// A place in some bits, counted in bits from the first.
 ///
 /// A call that answers `None` leaves it where it was. The readers of codes look ahead with [`peek`](Cursor::peek), know by
-/// [`left`](Cursor::left) whether what they saw is there, and then move once, with [`advance`](Cursor::advance); where a word
-/// turns out to be cut they go [`back`](Cursor::back).
+/// [`remaining`](Cursor::remaining) whether what they saw is there, and then move once, with [`advance`](Cursor::advance); where a word
+/// turns out to be cut they go [`seek_back`](Cursor::seek_back).
 #[derive(Drop)]
 pub struct Cursor<'a> {
     bytes: &'a [u8],
@@ -20,7 +20,7 @@ pub struct Cursor<'a> {
 }
 
 impl<'a> Model for Cursor<'a> {
-    ghost Value = { Place };
+    ghost Value = { Position };
 
     ghost view = { λ c. record { bits = bits_of c.bytes.now; at = c.at } };
 
@@ -40,6 +40,16 @@ impl<'a> Cursor<'a> {
         }
     }
 
+    /// Another cursor at the same place of the same bits.
+    pub fn again(&self) -> Cursor<'a>
+        ensures { result ≡ self.now }
+    {
+        Cursor {
+            bytes: self.bytes,
+            at: self.at,
+        }
+    }
+
     /// The place.
     #[inline(always)]
     pub fn at(&self) -> u64
@@ -52,7 +62,7 @@ impl<'a> Cursor<'a> {
 
     /// How many bits stand from the place on.
     #[inline(always)]
-    pub fn left(&self) -> u64
+    pub fn remaining(&self) -> u64
         ensures { result ≡ length (rest self.now) }
     {
         8 * self.bytes.len() as u64 - self.at
@@ -60,7 +70,7 @@ impl<'a> Cursor<'a> {
 
     /// Goes back to a place that was passed.
     #[inline(always)]
-    pub fn back(&mut self, at: u64)
+    pub fn seek_back(&mut self, at: u64)
         requires { at ≤ self.old.at }
         ensures { self.new ≡ record { bits = self.old.bits; at = at } }
     {
@@ -89,7 +99,7 @@ impl<'a> Cursor<'a> {
         ensures none { IfNone result ((rest self.old ≡ []) × (self.new ≡ self.old)) }
         ensures some { IfSome result (λ b. (rest self.old ≡ b ∷ rest self.new) × (self.new ≡ moved self.old 1)) }
     {
-        if self.left() == 0 {
+        if self.remaining() == 0 {
             return None;
         }
         let next = self.peek() >> 63 == 1;
@@ -103,7 +113,7 @@ impl<'a> Cursor<'a> {
         ensures none { IfNone result ((length (rest self.old) < count) × (self.new ≡ self.old)) }
         ensures some { IfSome result (λ v. (v < 2 ^ count) × (rest self.old ≡ low_bits count v ++ rest self.new) × (self.new ≡ moved self.old count)) }
     {
-        if self.left() < count as u64 {
+        if self.remaining() < count as u64 {
             return None;
         }
         if count == 0 {
@@ -121,7 +131,7 @@ impl<'a> Cursor<'a> {
         ensures within { result ≤ limit }
         ensures stops { result < limit → BeginsWithNoZero (rest self.new) }
     {
-        let most = limit.min(self.left());
+        let most = limit.min(self.remaining());
         let mut passed = 0;
         while passed < most {
             let run = self.peek().leading_zeros() as u64;

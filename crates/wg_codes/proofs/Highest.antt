@@ -13,7 +13,7 @@ use Rattle.wg_codes.specs.declared.outcome.Read.TheVariants.{Value, Cut, NoWord}
 use Rattle.wg_codes.specs.Reading.{ProperlyBegins, Reads, after}
 use Rattle.wg_codes.specs.Words.{highest, with_low_bits}
 use Rattle.wg_codes.specs.Parts.{IsNumberAt}
-use Rattle.wg_bits.specs.Bits.{Place, moved}
+use Rattle.wg_bits.specs.Bits.{Position, moved}
 use Rattle.wg_codes.proofs.Prefix.{Free, Headed, free_headed, no_head, cut_head, cut_tail, value_tail}
 
 -- ---- the place of the highest one
@@ -170,13 +170,13 @@ low_value heads k few z z1 z2 m v lm e n =
     (e ∙ ap (λ p. heads p ++ z1) (sym n.place))
     (n.bits ∙ ap (λ p. low_bits p (v + 1) ++ z2) (sym n.place))
 
-pub low_place : (heads : ℕ → List Bool) (p q r : Place) (m v : ℕ) → q ≡ after heads p (Value m) → r ≡ moved q m → highest (v + 1) ≡ m
+pub low_place : (heads : ℕ → List Bool) (p q r : Position) (m v : ℕ) → q ≡ after heads p (Value m) → r ≡ moved q m → highest (v + 1) ≡ m
     → r ≡ moved p (length (with_low_bits heads v))
 low_place heads p q r m v eq er h =
     let long : length (with_low_bits heads v) ≡ length (heads m) + m =
     ap (λ k. length (heads k ++ low_bits k (v + 1))) h ∙ length-append (heads m) (low_bits m (v + 1)) ∙ ap (λ n. length (heads m) + n) (length-low_bits m (v + 1)) in
     let sum : p.at + length (heads m) + m ≡ p.at + length (with_low_bits heads v) = omega arith in
-    er ∙ ap (λ x. moved x m) eq ∙ ap (λ a. let x : Place = record { bits = p.bits; at = a } in x) sum
+    er ∙ ap (λ x. moved x m) eq ∙ ap (λ a. let x : Position = record { bits = p.bits; at = a } in x) sum
 
 pub number_read : (m t : ℕ) (z1 z2 : List Bool) → m ≤ 62 → t < 2 ^ m → z1 ≡ low_bits m t ++ z2 → IsNumberAt m (2 ^ m - 1 + t) z1 z2
 number_read m t z1 z2 few l e =

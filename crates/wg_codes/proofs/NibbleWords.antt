@@ -5,7 +5,7 @@ use Rattle.std.proofs.Math.Pow.{pow_mono}
 use Rattle.std.proofs.lemmas.Nat.{div_below, le-div}
 use Rattle.std.proofs.lemmas.Bool.{cases_eq}
 use Rattle.std.proofs.lemmas.List.{append-nil, append_cancel_left}
-use Rattle.wg_bits.specs.Bits.{low_bits, Place, rest, moved}
+use Rattle.wg_bits.specs.Bits.{low_bits, Position, rest, moved}
 use Rattle.wg_bits.proofs.LowBits.{length-low_bits, low_bits-above, low_bits-injective}
 use Rattle.wg_codes.specs.declared.outcome.Read.TheVariants.{Value, Cut, NoWord}
 use Rattle.wg_codes.specs.Reading.{Begins, ProperlyBegins, Reads}
@@ -313,18 +313,18 @@ length-open_digits (suc n) v =
     let e : suc (length (low_bits 3 (v / 8 ^ n) ++ open_digits n v)) ≡ 4 * suc n = omega arith in e
 
 -- the place behind the last digit
-pub nibble_place : (d u t : ℕ) (p q r s : Place) → d ≤ 20 → IsOpen d u → t < 8 → q ≡ moved p (4 * d) → r ≡ moved q 1 → s ≡ moved r 3 → s ≡ moved p (length (nibble (u * 8 + t)))
+pub nibble_place : (d u t : ℕ) (p q r s : Position) → d ≤ 20 → IsOpen d u → t < 8 → q ≡ moved p (4 * d) → r ≡ moved q 1 → s ≡ moved r 3 → s ≡ moved p (length (nibble (u * 8 + t)))
 nibble_place d u t p q r s few o l e f g =
     let long : length (nibble (u * 8 + t)) ≡ 4 * d + 4 =
     ap length (word_from d u t few o l).0 ∙ length-append (open_digits d u) (true ∷ low_bits 3 t)
     ∙ (let a = length-open_digits d u in let b = length-low_bits 3 t in let k : length (open_digits d u) + suc (length (low_bits 3 t)) ≡ 4 * d + 4 = omega arith in k) in
     let sum : p.at + 4 * d + 1 + 3 ≡ p.at + length (nibble (u * 8 + t)) = omega arith in
-    g ∙ ap (λ x. moved x 3) f ∙ ap (λ x. moved (moved x 1) 3) e ∙ ap (λ a. let x : Place = record { bits = p.bits; at = a } in x) sum
+    g ∙ ap (λ x. moved x 3) f ∙ ap (λ x. moved (moved x 1) 3) e ∙ ap (λ a. let x : Position = record { bits = p.bits; at = a } in x) sum
 
-pub digit_place : (d : ℕ) (p q r s : Place) → q ≡ moved p (4 * d) → r ≡ moved q 1 → s ≡ moved r 3 → s ≡ moved p (4 * (d + 1))
+pub digit_place : (d : ℕ) (p q r s : Position) → q ≡ moved p (4 * d) → r ≡ moved q 1 → s ≡ moved r 3 → s ≡ moved p (4 * (d + 1))
 digit_place d p q r s e f g =
     let sum : p.at + 4 * d + 1 + 3 ≡ p.at + 4 * (d + 1) = omega arith in
-    g ∙ ap (λ x. moved x 3) f ∙ ap (λ x. moved (moved x 1) 3) e ∙ ap (λ a. let x : Place = record { bits = p.bits; at = a } in x) sum
+    g ∙ ap (λ x. moved x 3) f ∙ ap (λ x. moved (moved x 1) 3) e ∙ ap (λ a. let x : Position = record { bits = p.bits; at = a } in x) sum
 
 pub value_small : (d u : ℕ) → d ≤ 20 → IsOpen d u → u < 2 ^ 60
 value_small d u few o =
@@ -333,12 +333,12 @@ value_small d u few o =
     let h : u < 8 ^ d = o.0 in
     omega arith
 
-pub nothing_read : (p : Place) → rest p ≡ open_digits 0 0 ++ rest p
+pub nothing_read : (p : Position) → rest p ≡ open_digits 0 0 ++ rest p
 unfolding open_digits
 nothing_read p = refl
 
-pub nothing_moved : (p : Place) → p ≡ moved p 0
-nothing_moved p = let e : p.at ≡ p.at + 0 = omega arith in ap (λ a. let x : Place = record { bits = p.bits; at = a } in x) e
+pub nothing_moved : (p : Position) → p ≡ moved p 0
+nothing_moved p = let e : p.at ≡ p.at + 0 = omega arith in ap (λ a. let x : Position = record { bits = p.bits; at = a } in x) e
 
 pub nothing_open : (z : List Bool) → z ≡ open_digits 0 0 ++ z
 unfolding open_digits

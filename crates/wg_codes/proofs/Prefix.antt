@@ -1,6 +1,6 @@
 use Rattle.std.proofs.Common.{◌≡◌, ℕ, ◌+◌, ◌<◌, ◌≤◌, Bool, List, [], ◌∷◌, ◌++◌, length, drop, refl, sym, ap, ◌∙◌, ⊎_elim, inl, inr, ◌⊎◌, arith, length-append, append_assoc}
 use Rattle.std.proofs.lemmas.List.{append_cancel_left, append-nil, drop-drop, drop_at}
-use Rattle.wg_bits.specs.Bits.{Place, rest, moved}
+use Rattle.wg_bits.specs.Bits.{Position, rest, moved}
 use Rattle.wg_codes.specs.declared.outcome.Read.{Read}
 use Rattle.wg_codes.specs.declared.outcome.Read.TheVariants.{Value, Cut, NoWord}
 use Rattle.wg_codes.specs.Reading.{Begins, ProperlyBegins, Reads, Passes, after}
@@ -103,11 +103,11 @@ free_headed words heads tail head most most_head split free tails a b x y la lb 
     tails a b x y la lb h rests
 
 -- ---- what a reader of heads says to the reader of the whole
-pub rest-moved : (p : Place) (k : ℕ) → rest (moved p k) ≡ drop k (rest p)
+pub rest-moved : (p : Position) (k : ℕ) → rest (moved p k) ≡ drop k (rest p)
 rest-moved p k = sym (drop-drop k p.at p.bits)
 
 -- behind the word that was read stands the rest
-pub rest_after : (words : ℕ → List Bool) (most : ℕ) (old new : Place) (v : ℕ) → Reads words most (rest old) (Value v) → new ≡ after words old (Value v)
+pub rest_after : (words : ℕ → List Bool) (most : ℕ) (old new : Position) (v : ℕ) → Reads words most (rest old) (Value v) → new ≡ after words old (Value v)
     → rest old ≡ words v ++ rest new
 rest_after words most old new v f e =
     let t : List Bool = f.1.0 in
@@ -116,13 +116,13 @@ rest_after words most old new v f e =
     f.1.1 ∙ ap (λ z. words v ++ z) (sym r)
 
 -- what stands between the places
-pub passes : (words : ℕ → List Bool) (most : ℕ) (p q : Place) (r : Read) → Reads words most (rest p) r → q ≡ after words p r → Passes words p q r
+pub passes : (words : ℕ → List Bool) (most : ℕ) (p q : Position) (r : Read) → Reads words most (rest p) r → q ≡ after words p r → Passes words p q r
 passes words most p q (Value v) f e = rest_after words most p q v f e
 passes words most p q Cut f e = ap rest (sym e)
 passes words most p q NoWord f e = ap rest (sym e)
 
 -- back at the place where it began
-pub restored : (old q r s : Place) (w a : ℕ) → q ≡ moved old w → r ≡ q → a ≡ old.at → s ≡ (let x : Place = record { bits = r.bits; at = a } in x) → s ≡ old
+pub restored : (old q r s : Position) (w a : ℕ) → q ≡ moved old w → r ≡ q → a ≡ old.at → s ≡ (let x : Position = record { bits = r.bits; at = a } in x) → s ≡ old
 restored old q r s w a e f g h =
-    let b : r.bits ≡ old.bits = ap (λ p. let x : Place = p in x.bits) (f ∙ e) in
-    h ∙ ap (λ z. let x : Place = record { bits = z; at = a } in x) b ∙ ap (λ n. let x : Place = record { bits = old.bits; at = n } in x) g
+    let b : r.bits ≡ old.bits = ap (λ p. let x : Position = p in x.bits) (f ∙ e) in
+    h ∙ ap (λ z. let x : Position = record { bits = z; at = a } in x) b ∙ ap (λ n. let x : Position = record { bits = old.bits; at = n } in x) g

@@ -5,7 +5,7 @@ use Rattle.std.proofs.Math.Pow.{pow_mono}
 use Rattle.std.proofs.lemmas.Nat.{pow_pos, div_below, mul-le, le-div, one_shl}
 use Rattle.std.proofs.lemmas.Bool.{cases_lt, cond-true, cond-false, lt-ltb, le-ltb}
 use Rattle.std.proofs.lemmas.List.{append-nil, nil_from_length}
-use Rattle.wg_bits.specs.Bits.{low_bits, Place, moved}
+use Rattle.wg_bits.specs.Bits.{low_bits, Position, moved}
 use Rattle.wg_bits.proofs.LowBits.{length-low_bits, low_bits-add, low_bits-above, low_bits-injective}
 use Rattle.wg_codes.specs.declared.outcome.Read.TheVariants.{Value, Cut, NoWord}
 use Rattle.wg_codes.specs.Reading.{ProperlyBegins, Reads, after}
@@ -251,14 +251,14 @@ zeta_span k h v e =
     ap (λ m. length (unary m ++ shortened k m (v + 1))) e ∙ length-append (unary h) (shortened k h (v + 1))
     ∙ ap (λ m. m + length (shortened k h (v + 1))) (length-unary h)
 
-pub zeta_place : (k : ℕ) (p q r : Place) (h v : ℕ) → q ≡ after unary p (Value h) → r ≡ moved q (length (shortened k h (v + 1))) → highest (v + 1) / k ≡ h
+pub zeta_place : (k : ℕ) (p q r : Position) (h v : ℕ) → q ≡ after unary p (Value h) → r ≡ moved q (length (shortened k h (v + 1))) → highest (v + 1) / k ≡ h
     → r ≡ moved p (length (zeta k v))
 unfolding zeta
 zeta_place k p q r h v eq er hh =
     let long : length (zeta k v) ≡ length (unary h) + length (shortened k h (v + 1)) =
     ap (λ m. length (unary m ++ shortened k m (v + 1))) hh ∙ length-append (unary h) (shortened k h (v + 1)) in
     let sum : p.at + length (unary h) + length (shortened k h (v + 1)) ≡ p.at + length (zeta k v) = omega arith in
-    er ∙ ap (λ x. moved x (length (shortened k h (v + 1)))) eq ∙ ap (λ a. let x : Place = record { bits = p.bits; at = a } in x) sum
+    er ∙ ap (λ x. moved x (length (shortened k h (v + 1)))) eq ∙ ap (λ a. let x : Position = record { bits = p.bits; at = a } in x) sum
 
 -- ---- the numbers of the code
 pub left_is : (k h : ℕ) → 1 ≤ k → h * k + k ≤ 63 → (1 * 2 ^ (h * k)) % 2 ^ 64 ≡ 2 ^ (h * k)
@@ -270,17 +270,17 @@ left_small k h some few = pow_mono (let s : h * k ≤ 62 = omega arith in s)
 pub low_small : (k h t : ℕ) → 1 ≤ k → h * k + k ≤ 63 → t < 2 ^ (h * k + k - 1) → t < 2 ^ 62
 low_small k h t some few l = let p : 2 ^ (h * k + k - 1) ≤ 2 ^ 62 = pow_mono (let s : h * k + k - 1 ≤ 62 = omega arith in s) in omega arith
 
-pub place_short : (k h t : ℕ) (p q : Place) → 1 ≤ k → h * k + k ≤ 63 → t < 2 ^ (h * k) → q ≡ moved p (h * k + k - 1)
+pub place_short : (k h t : ℕ) (p q : Position) → 1 ≤ k → h * k + k ≤ 63 → t < 2 ^ (h * k) → q ≡ moved p (h * k + k - 1)
     → q ≡ moved p (length (shortened k h (2 ^ (h * k) + t - 1 + 1)))
 place_short k h t p q some few l e =
     let long : length (shortened k h (2 ^ (h * k) + t - 1 + 1)) ≡ h * k + k - 1 = ap length (short_form k h t some few l).2 ∙ length-low_bits (h * k + k - 1) t in
     e ∙ ap (moved p) (sym long)
 
-pub place_long : (k h t b : ℕ) (p q r : Place) → 1 ≤ k → h * k + k ≤ 63 → t < 2 ^ (h * k + k - 1) → 2 ^ (h * k) ≤ t → b < 2
+pub place_long : (k h t b : ℕ) (p q r : Position) → 1 ≤ k → h * k + k ≤ 63 → t < 2 ^ (h * k + k - 1) → 2 ^ (h * k) ≤ t → b < 2
     → q ≡ moved p (h * k + k - 1) → r ≡ moved q 1 → r ≡ moved p (length (shortened k h (2 * t + b - 1 + 1)))
 place_long k h t b p q r some few l low lb e f =
     let long : length (shortened k h (2 * t + b - 1 + 1)) ≡ h * k + k - 1 + 1 =
     ap length (long_form k h t b some few l low lb).2 ∙ length-append (low_bits (h * k + k - 1) t) (low_bits 1 b)
     ∙ (let a = length-low_bits (h * k + k - 1) t in let c = length-low_bits 1 b in let s : length (low_bits (h * k + k - 1) t) + length (low_bits 1 b) ≡ h * k + k - 1 + 1 = omega arith in s) in
     let sum : p.at + (h * k + k - 1) + 1 ≡ p.at + length (shortened k h (2 * t + b - 1 + 1)) = omega arith in
-    f ∙ ap (λ x. moved x 1) e ∙ ap (λ a. let x : Place = record { bits = p.bits; at = a } in x) sum
+    f ∙ ap (λ x. moved x 1) e ∙ ap (λ a. let x : Position = record { bits = p.bits; at = a } in x) sum

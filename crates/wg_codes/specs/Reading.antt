@@ -1,6 +1,6 @@
 -- What stands at some bits, for any family of words.
 use Rattle.std.specs.Prelude.{◌≡◌, ℕ, ◌<◌, ◌≤◌, Bool, List, ◌++◌, length}
-use Rattle.wg_bits.specs.Bits.{Place, rest, moved}
+use Rattle.wg_bits.specs.Bits.{Position, rest, moved}
 use Rattle.wg_codes.specs.declared.outcome.Read.{Read}
 use Rattle.wg_codes.specs.declared.outcome.Read.TheVariants.{Value, Cut, NoWord}
 
@@ -20,13 +20,13 @@ Reads words most z Cut = (v : ℕ) × (v ≤ most) × ProperlyBegins z (words v)
 Reads words most z NoWord = (v : ℕ) → v ≤ most → (¬ Begins (words v) z) × (¬ ProperlyBegins z (words v))
 
 -- the place after the word that was read, or the same place where none was
-abbrev pub after : (ℕ → List Bool) → Place → Read → Place
+abbrev pub after : (ℕ → List Bool) → Position → Read → Position
 after words p (Value v) = moved p (length (words v))
 after words p Cut = p
 after words p NoWord = p
 
 -- A value's word is what stands between the two places; else they are one.
-abbrev pub Passes : (ℕ → List Bool) → Place → Place → Read → Type 0
+abbrev pub Passes : (ℕ → List Bool) → Position → Position → Read → Type 0
 Passes words p q (Value v) = rest p ≡ words v ++ rest q
 Passes words p q Cut = rest p ≡ rest q
 Passes words p q NoWord = rest p ≡ rest q

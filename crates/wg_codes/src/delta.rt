@@ -32,7 +32,7 @@ pub fn read(cursor: &mut Cursor<'_>) -> Read
         Read::NoWord => Read::NoWord,
         Read::Value(place) => match number(cursor, place as u32) {
             None => {
-                cursor.back(start);
+                cursor.seek_back(start);
                 Read::Cut
             }
             Some(value) => Read::Value(value),

@@ -28,7 +28,7 @@ pub fn read(cursor: &mut Cursor<'_>, most: u64) -> Read
 {
     let word = cursor.peek();
     let place = word.leading_zeros();
-    if place < 32 && place as u64 <= most && 2 * place as u64 + 1 <= cursor.left() {
+    if place < 32 && place as u64 <= most && 2 * place as u64 + 1 <= cursor.remaining() {
         cursor.advance(2 * place as u64 + 1);
         return Read::Value((word >> (63 - 2 * place)) - 1);
     }
@@ -49,7 +49,7 @@ fn read_in_steps(cursor: &mut Cursor<'_>, most: u64) -> Read
         Read::NoWord => Read::NoWord,
         Read::Value(place) => match number(cursor, place as u32) {
             None => {
-                cursor.back(start);
+                cursor.seek_back(start);
                 Read::Cut
             }
             Some(value) => Read::Value(value),

@@ -34,17 +34,17 @@ pub fn read(cursor: &mut Cursor<'_>) -> Read
     for digit in 0..21u32 {
         match cursor.bit() {
             None => {
-                cursor.back(start);
+                cursor.seek_back(start);
                 return Read::Cut;
             }
             Some(last) => {
                 if !last && digit == 20 {
-                    cursor.back(start);
+                    cursor.seek_back(start);
                     return Read::NoWord;
                 }
                 match cursor.take(3) {
                     None => {
-                        cursor.back(start);
+                        cursor.seek_back(start);
                         return Read::Cut;
                     }
                     Some(next) => {
@@ -53,7 +53,7 @@ pub fn read(cursor: &mut Cursor<'_>) -> Read
                             return Read::Value(value);
                         }
                         if value == 0 {
-                            cursor.back(start);
+                            cursor.seek_back(start);
                             return Read::NoWord;
                         }
                     }
@@ -61,7 +61,7 @@ pub fn read(cursor: &mut Cursor<'_>) -> Read
             }
         }
     }
-    cursor.back(start);
+    cursor.seek_back(start);
     Read::NoWord
 }
 

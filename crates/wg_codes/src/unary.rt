@@ -27,7 +27,7 @@ pub fn read(cursor: &mut Cursor<'_>, most: u64) -> Read
     ensures place { cursor.new ≡ after unary cursor.old result }
 {
     let zeros = cursor.peek().leading_zeros() as u64;
-    if zeros < 64 && zeros <= most && zeros < cursor.left() {
+    if zeros < 64 && zeros <= most && zeros < cursor.remaining() {
         cursor.advance(zeros + 1);
         return Read::Value(zeros);
     }
@@ -45,12 +45,12 @@ fn read_in_steps(cursor: &mut Cursor<'_>, most: u64) -> Read
     let start = cursor.at();
     let zeros = cursor.zeros(most + 1);
     if zeros > most {
-        cursor.back(start);
+        cursor.seek_back(start);
         return Read::NoWord;
     }
     match cursor.bit() {
         None => {
-            cursor.back(start);
+            cursor.seek_back(start);
             Read::Cut
         }
         Some(_one) => Read::Value(zeros),

@@ -37,11 +37,11 @@ pub fn read(cursor: &mut Cursor<'_>, k: u32) -> Read
         let one = 1u64 << (width - 1);
         let low = (word >> (64 - head - width)) - one;
         if low < left {
-            if (head + width) as u64 <= cursor.left() {
+            if (head + width) as u64 <= cursor.remaining() {
                 cursor.advance((head + width) as u64);
                 return Read::Value(left + low - 1);
             }
-        } else if (head + width + 1) as u64 <= cursor.left() {
+        } else if (head + width + 1) as u64 <= cursor.remaining() {
             cursor.advance((head + width + 1) as u64);
             return Read::Value((word >> (63 - head - width)) - 2 * one - 1);
         }
@@ -63,7 +63,7 @@ fn read_in_steps(cursor: &mut Cursor<'_>, k: u32) -> Read
         Read::NoWord => Read::NoWord,
         Read::Value(head) => match shortened(cursor, k, head as u32) {
             None => {
-                cursor.back(start);
+                cursor.seek_back(start);
                 Read::Cut
             }
             Some(value) => Read::Value(value),
@@ -86,7 +86,7 @@ fn shortened(cursor: &mut Cursor<'_>, k: u32, head: u32) -> Option<u64>
         Some(low) if low < left => Some(left + low - 1),
         Some(low) => match cursor.take(1) {
             None => {
-                cursor.back(start);
+                cursor.seek_back(start);
                 None
             }
             Some(last) => Some(2 * low + last - 1),

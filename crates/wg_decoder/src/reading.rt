@@ -1,7 +1,7 @@
-ghost use Rattle.std.specs.Prelude.{◌≡◌, ◌+◌, ◌<◌, ◌≤◌, length, Ok, Err, IfOk, OnErr};
+ghost use Rattle.std.specs.Prelude.{◌≡◌, ◌+◌, ◌<◌, ◌≤◌, Bool, List as ListOf, length, Ok, Err, IfOk, OnErr};
 ghost use Rattle.wg_graph.specs.Ascending.{Ascends, Below};
 ghost use Rattle.wg_grammar.specs.Record.{ReadsRecord};
-ghost use Rattle.wg_decoder.specs.Answer.{context_at, IfFault};
+ghost use Rattle.wg_decoder.specs.Answer.{context_at, known_error, IfFault, OnFault, OnRefusal};
 ghost use Rattle.wg_decoder.specs.Remembered.{known_of, Serves};
 
 use crate::copying::copied;
@@ -9,41 +9,46 @@ use crate::head::{depth_at, list_at, outdegree, reference};
 use crate::intervals::intervals;
 use crate::residuals::with_residuals;
 use crate::uniting::union;
-use crate::{DecodeError, Decoded, Window};
+use crate::{DecodeError, Decoded, Unread, Window};
 use std::alloc::Global;
+use std::convert::Infallible;
 use wg_bits::Cursor;
 use wg_grammar::{Fault, Field, Kind};
 use wg_graph::List;
 use wg_params::Params;
+use wg_source::Source;
 
-// A record; the cursor stands somewhere in it where it is refused.
-fn read_record(
+/// The record that comes next from a source, of a page with `arcs_before` arcs before it. The source moves over the record, and
+/// may stand anywhere in it where it is refused, memory is wanting or a word was refused.
+pub fn decode_from<S: Source>(
     alloc: Global,
     params: &Params,
     page: u64,
     arcs_before: u64,
     window: &Window,
-    cursor: &mut Cursor<'_>,
-) -> Result<Decoded, DecodeError>
+    source: &mut S,
+) -> Result<Decoded, Unread<S::Refusal>>
     requires page { page < params.now.nodes }
     requires before { arcs_before ≤ params.now.arcs }
     requires serves { Serves params.now page window.now.behind }
-    ensures bits { cursor.new.bits ≡ cursor.old.bits }
-    ensures onward { cursor.old.at ≤ cursor.new.at }
-    ensures reads { IfOk result (λ d. ReadsRecord params.now (context_at page arcs_before window.now.behind) cursor.old.bits cursor.old.at (Ok (record { known = known_of d; end = cursor.new.at }))) }
-    ensures fault { IfFault result (λ e. ReadsRecord params.now (context_at page arcs_before window.now.behind) cursor.old.bits cursor.old.at (Err e)) }
+    ensures later { S.later source.old source.new }
+    ensures refused { OnRefusal result (S.caused source.old source.new) }
+    ensures reads { (bits : ListOf Bool) → S.reads_from source.old bits → IfOk result (λ d. ReadsRecord params.now (context_at page arcs_before window.now.behind) bits (S.place source.old) (Ok (record { known = known_of d; end = S.place source.new }))) }
+    ensures fault { (bits : ListOf Bool) → S.reads_from source.old bits → OnFault result (λ e. ReadsRecord params.now (context_at page arcs_before window.now.behind) bits (S.place source.old) (Err e)) }
     ensures depth { IfOk result (λ d. d.depth ≤ page) }
+    ensures ascends { IfOk result (λ d. Ascends 0 d.list) }
+    ensures below { IfOk result (λ d. Below params.now.nodes d.list) }
     ensures total { IfOk result (λ d. arcs_before + length d.list ≤ params.now.arcs) }
 {
-    let start = cursor.at();
-    let outdegree = outdegree(params, page, arcs_before, cursor)?;
+    let start = source.at();
+    let outdegree = outdegree(params, page, arcs_before, source)?;
     if outdegree == 0 {
         return Ok(Decoded {
             list: List::new(alloc),
             depth: 0,
         });
     }
-    let reference = reference(params, page, window, cursor)?;
+    let reference = reference(params, page, window, source)?;
     let spares = window.spares();
     let copied = copied(
         spares,
@@ -52,15 +57,15 @@ fn read_record(
         outdegree,
         reference,
         list_at(window, reference),
-        cursor,
+        source,
     )?;
     let extra = outdegree - copied.as_slice().len() as u64;
-    let inside = intervals(spares, params, page, extra, cursor)?;
+    let inside = intervals(spares, params, page, extra, source)?;
     let missing = extra - inside.as_slice().len() as u64;
     let members = union(spares, copied, inside)?;
-    let list = with_residuals(spares, params, page, missing, members, cursor)?;
+    let list = with_residuals(spares, params, page, missing, members, source)?;
     if (list.as_slice().len() as u64) < outdegree {
-        return Err(DecodeError::Fault(Fault {
+        return Err(Unread::Fault(Fault {
             page,
             at: start,
             field: Field::Record,
@@ -71,6 +76,17 @@ fn read_record(
         list,
         depth: depth_at(window, page, reference),
     })
+}
+
+// Bits in memory refuse no word.
+fn error_of(unread: Unread<Infallible>) -> DecodeError
+    ensures { result ≡ known_error unread }
+{
+    match unread {
+        Unread::Fault(fault) => DecodeError::Fault(fault),
+        Unread::Memory => DecodeError::Memory,
+        Unread::Refused(never) => match never {},
+    }
 }
 
 /// The record at the cursor, of a page with `arcs_before` arcs before it. The cursor moves over the record, and stands still
@@ -97,11 +113,11 @@ pub fn decode(
     ensures total { IfOk result (λ d. arcs_before + length d.list ≤ params.now.arcs) }
 {
     let start = cursor.at();
-    match read_record(alloc, params, page, arcs_before, window, cursor) {
+    match decode_from(alloc, params, page, arcs_before, window, cursor) {
         Ok(decoded) => Ok(decoded),
-        Err(error) => {
-            cursor.back(start);
-            Err(error)
+        Err(unread) => {
+            cursor.seek_back(start);
+            Err(error_of(unread))
         }
     }
 }

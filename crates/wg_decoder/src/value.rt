@@ -1,37 +1,48 @@
-ghost use Rattle.std.specs.Prelude.{◌≡◌, ◌+◌, ◌^◌, ◌<◌, ◌≤◌, Some, IfOk, IfErr};
+ghost use Rattle.std.specs.Prelude.{◌≡◌, ◌+◌, ◌^◌, ◌<◌, ◌≤◌, Bool, List, Some, IfOk};
 ghost use Rattle.wg_params.specs.Codes.{IsCode};
 ghost use Rattle.wg_codes.specs.Fold.{unfolded_from};
+ghost use Rattle.wg_decoder.specs.Answer.{OnFault, OnRefusal};
 ghost use Rattle.wg_decoder.specs.Stages.{IsWordAt, IsNoWordAt, IsNumberAt, IsNoNumberAt};
 
-use wg_bits::Cursor;
-use wg_codes::{Read, read};
+use crate::Unread;
+use wg_codes::Read;
 use wg_grammar::{Fault, Field, Kind};
 use wg_params::Code;
+use wg_source::Source;
 
-// The value of the word at the cursor.
+// The value of the word that comes next.
 #[inline(always)]
-pub fn value(page: u64, field: Field, code: Code, cursor: &mut Cursor<'_>) -> Result<u64, Fault>
+pub fn value<S: Source>(
+    page: u64,
+    field: Field,
+    code: Code,
+    source: &mut S,
+) -> Result<u64, Unread<S::Refusal>>
     requires { IsCode code }
-    ensures bits { cursor.new.bits ≡ cursor.old.bits }
-    ensures onward { cursor.old.at ≤ cursor.new.at }
-    ensures ok { IfOk result (λ v. IsWordAt code cursor.old.bits cursor.old.at v cursor.new.at) }
-    ensures err { IfErr result (λ e. IsNoWordAt field code cursor.old.bits cursor.old.at page e) }
+    ensures later { S.later source.old source.new }
+    ensures refused { OnRefusal result (S.caused source.old source.new) }
+    ensures ok { (bits : List Bool) → S.reads_from source.old bits → IfOk result (λ v. IsWordAt code bits (S.place source.old) v (S.place source.new)) }
+    ensures fault { (bits : List Bool) → S.reads_from source.old bits → OnFault result (λ e. IsNoWordAt field code bits (S.place source.old) page e) }
 {
-    let at = cursor.at();
-    match read(code, cursor) {
+    let at = source.at();
+    let read = match source.read(code) {
+        Ok(read) => read,
+        Err(refusal) => return Err(Unread::Refused(refusal)),
+    };
+    match read {
         Read::Value(value) => Ok(value),
-        Read::Cut => Err(Fault {
+        Read::Cut => Err(Unread::Fault(Fault {
             page,
             at,
             field,
             kind: Kind::Cut,
-        }),
-        Read::NoWord => Err(Fault {
+        })),
+        Read::NoWord => Err(Unread::Fault(Fault {
             page,
             at,
             field,
             kind: Kind::NoWord,
-        }),
+        })),
     }
 }
 
@@ -51,25 +62,25 @@ fn unfolded_from(page: u64, value: u64) -> Option<u64>
     }
 }
 
-/// The page that the word at the cursor means by its distance from `page`.
+/// The page that the word that comes next means by its distance from `page`.
 #[inline(always)]
-pub fn first_number(
+pub fn first_number<S: Source>(
     nodes: u64,
     page: u64,
     field: Field,
     code: Code,
-    cursor: &mut Cursor<'_>,
-) -> Result<u64, Fault>
+    source: &mut S,
+) -> Result<u64, Unread<S::Refusal>>
     requires page { page < 2 ^ 36 }
     requires code { IsCode code }
-    ensures bits { cursor.new.bits ≡ cursor.old.bits }
-    ensures onward { cursor.old.at ≤ cursor.new.at }
+    ensures later { S.later source.old source.new }
+    ensures refused { OnRefusal result (S.caused source.old source.new) }
     ensures below { IfOk result (λ y. y < nodes) }
-    ensures ok { IfOk result (λ y. IsNumberAt code (unfolded_from page) cursor.old.bits cursor.old.at y cursor.new.at) }
-    ensures err { IfErr result (λ e. IsNoNumberAt field code (unfolded_from page) nodes cursor.old.bits cursor.old.at page e) }
+    ensures ok { (bits : List Bool) → S.reads_from source.old bits → IfOk result (λ y. IsNumberAt code (unfolded_from page) bits (S.place source.old) y (S.place source.new)) }
+    ensures fault { (bits : List Bool) → S.reads_from source.old bits → OnFault result (λ e. IsNoNumberAt field code (unfolded_from page) nodes bits (S.place source.old) page e) }
 {
-    let at = cursor.at();
-    let value = value(page, field, code, cursor)?;
+    let at = source.at();
+    let value = value(page, field, code, source)?;
     let refused = Fault {
         page,
         at,
@@ -77,44 +88,44 @@ pub fn first_number(
         kind: Kind::Range,
     };
     match unfolded_from(page, value) {
-        None => Err(refused),
+        None => Err(Unread::Fault(refused)),
         Some(number) => {
             if number < nodes {
                 Ok(number)
             } else {
-                Err(refused)
+                Err(Unread::Fault(refused))
             }
         }
     }
 }
 
-/// The page that the word at the cursor means by its distance from `least`.
+/// The page that the word that comes next means by its distance from `least`.
 #[inline(always)]
-pub fn later_number(
+pub fn later_number<S: Source>(
     nodes: u64,
     page: u64,
     field: Field,
     code: Code,
     least: u64,
-    cursor: &mut Cursor<'_>,
-) -> Result<u64, Fault>
+    source: &mut S,
+) -> Result<u64, Unread<S::Refusal>>
     requires { IsCode code }
-    ensures bits { cursor.new.bits ≡ cursor.old.bits }
-    ensures onward { cursor.old.at ≤ cursor.new.at }
+    ensures later { S.later source.old source.new }
+    ensures refused { OnRefusal result (S.caused source.old source.new) }
     ensures below { IfOk result (λ y. y < nodes) }
     ensures above { IfOk result (λ y. least ≤ y) }
-    ensures ok { IfOk result (λ y. IsNumberAt code (λ v. Some (least + v)) cursor.old.bits cursor.old.at y cursor.new.at) }
-    ensures err { IfErr result (λ e. IsNoNumberAt field code (λ v. Some (least + v)) nodes cursor.old.bits cursor.old.at page e) }
+    ensures ok { (bits : List Bool) → S.reads_from source.old bits → IfOk result (λ y. IsNumberAt code (λ v. Some (least + v)) bits (S.place source.old) y (S.place source.new)) }
+    ensures fault { (bits : List Bool) → S.reads_from source.old bits → OnFault result (λ e. IsNoNumberAt field code (λ v. Some (least + v)) nodes bits (S.place source.old) page e) }
 {
-    let at = cursor.at();
-    let value = value(page, field, code, cursor)?;
+    let at = source.at();
+    let value = value(page, field, code, source)?;
     if value >= nodes.saturating_sub(least) {
-        return Err(Fault {
+        return Err(Unread::Fault(Fault {
             page,
             at,
             field,
             kind: Kind::Range,
-        });
+        }));
     }
     Ok(least + value)
 }

@@ -16,7 +16,7 @@ pub fn tail_fault(cursor: &mut Cursor<'_>) -> Option<u64>
     if zeros > MOST_TAIL {
         return Some(start + MOST_TAIL);
     }
-    if cursor.left() > 0 {
+    if cursor.remaining() > 0 {
         return Some(start + zeros);
     }
     None

@@ -1,13 +1,13 @@
 -- What contracts see of a walk.
 use Rattle.std.specs.Prelude.{◌≡◌, ℕ, List, [], ◌∷◌, ◌++◌, length, Option, Some, None}
 use Rattle.std.specs.List.{range_with_len}
-use Rattle.wg_bits.specs.Bits.{Place, rest}
+use Rattle.wg_bits.specs.Bits.{Position, rest}
 use Rattle.wg_intervals.specs.Stored.{StandAt, numbers_inside}
 
 -- where the intervals after the current one stand, and how many; what their left ends and lengths count from; and the next number of the
 -- current interval, and how many are left of it
 pub record Seen : Type 0 where
-  pub place : Place
+  pub place : Position
   pub page : ℕ
   pub least : ℕ
   pub left : ℕ

@@ -1,6 +1,6 @@
 use Rattle.std.proofs.Common.{◌≡◌, ◌+◌, ◌-◌, ◌<◌, ℕ, Bool, List, [], ◌∷◌, ◌++◌, length, take, replicate, refl, sym, ◌∙◌, ap, subst, arith, Ok}
 use Rattle.std.proofs.lemmas.List.{append-nil}
-use Rattle.wg_bits.specs.Bits.{bits_of, Place}
+use Rattle.wg_bits.specs.Bits.{bits_of, Position}
 use Rattle.wg_grammar.specs.Context.{Known}
 use Rattle.wg_grammar.specs.Record.{Whole, ReadsRecord}
 use Rattle.wg_grammar.specs.Archive.{places_of, lists_of, ReadsGraph}
@@ -13,9 +13,9 @@ use Rattle.wg_cli.proofs.records.read_graph.Goals as goal
 pub loop-page-init : goal.loop-page-init
 loop-page-init c =
     let place = c.new-cursor.ensures in
-    let at : c.new-cursor.result.at ≡ 0 = ap (λ (q : Place). q.at) place in
+    let at : c.new-cursor.result.at ≡ 0 = ap (λ (q : Position). q.at) place in
     record {
-      same_bits = ap (λ (q : Place). q.bits) place ∙ c.of.ensures;
+      same_bits = ap (λ (q : Position). q.bits) place ∙ c.of.ensures;
       same_window = rw c.new-window.ensures refl;
       same_nodes = c.in_ok-graph.ensures.nodes ∙ c.nodes-nodes.ensures.value;
       counted = no_arcs c.in_ok-graph.graph c.in_ok-graph.ensures.lists;

@@ -1,5 +1,5 @@
 use Rattle.std.proofs.Common.{◌≡◌, ◌+◌, ◌<◌, ℕ, Bool, List, [], ◌∷◌, ◌++◌, length, take, refl, sym, ◌∙◌, ap, subst, arith, Ok}
-use Rattle.wg_bits.specs.Bits.{bits_of, Place}
+use Rattle.wg_bits.specs.Bits.{bits_of, Position}
 use Rattle.wg_grammar.specs.Context.{Known}
 use Rattle.wg_grammar.specs.Record.{Whole, ReadsRecord}
 use Rattle.wg_grammar.specs.Archive.{lists_of, ReadsGraph}
@@ -15,10 +15,10 @@ use Rattle.wg_cli.proofs.records.read_places.Goals as goal
 pub loop-page-init : goal.loop-page-init
 loop-page-init c =
     let place = c.new-cursor.ensures in
-    let at : c.new-cursor.result.at ≡ 0 = ap (λ (q : Place). q.at) place in
+    let at : c.new-cursor.result.at ≡ 0 = ap (λ (q : Position). q.at) place in
     let one : c.push.new.self ≡ 0 ∷ [] = c.in_ok-push.ensures.ok ∙ ap (λ (l : List ℕ). l ++ 0 ∷ []) c.new-places.ensures in
     record {
-      same_bits = ap (λ (q : Place). q.bits) place ∙ c.of.ensures;
+      same_bits = ap (λ (q : Position). q.bits) place ∙ c.of.ensures;
       same_window = rw c.new-window.ensures refl;
       last = ap last_place one ∙ sym at;
       behind = [];

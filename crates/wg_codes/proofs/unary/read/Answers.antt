@@ -5,9 +5,9 @@ use Rattle.wg_codes.proofs.UnaryWords.{length-unary}
 use Rattle.wg_codes.proofs.Windows.{unary_found}
 use Rattle.wg_codes.proofs.unary.read.Goals as goal
 
-pub returns-then-zeros-left-clause-found : goal.returns-then-zeros-left-clause-found
-returns-then-zeros-left-clause-found c =
+pub returns-then-zeros-remaining-clause-found : goal.returns-then-zeros-remaining-clause-found
+returns-then-zeros-remaining-clause-found c =
     unary_found _ c.peek.result _ c.args.most c.peek.type_inv refl (omega arith) (omega arith) (front_agrees _ _ c.peek.ensures) (omega arith)
 
-pub returns-then-zeros-left-clause-place : goal.returns-then-zeros-left-clause-place
-returns-then-zeros-left-clause-place c = c.advance.ensures ∙ ap (moved c.args.cursor.now) (sym (length-unary _))
+pub returns-then-zeros-remaining-clause-place : goal.returns-then-zeros-remaining-clause-place
+returns-then-zeros-remaining-clause-place c = c.advance.ensures ∙ ap (moved c.args.cursor.now) (sym (length-unary _))
