@@ -1,31 +1,28 @@
+//! A whole record.
 ghost use Rattle.std.specs.Prelude.{◌≡◌, ◌+◌, ◌<◌, ◌≤◌, Bool, List as ListOf, length, Ok, Err, IfOk, OnErr};
 ghost use Rattle.wg_graph.specs.Ascending.{Ascends, Below};
 ghost use Rattle.wg_grammar.specs.Record.{ReadsRecord};
 ghost use Rattle.wg_decoder.specs.Answer.{context_at, known_error, IfFault, OnFault, OnRefusal};
 ghost use Rattle.wg_decoder.specs.Remembered.{known_of, Serves};
 
-use crate::copying::copied;
-use crate::head::{depth_at, list_at, outdegree, reference};
-use crate::intervals::intervals;
-use crate::residuals::with_residuals;
-use crate::uniting::union;
-use crate::{DecodeError, Decoded, Unread, Window};
+use crate::head::{depth_at, list_at, read_head};
+use crate::members::members;
+use crate::{DecodeError, Decoded, Spares, Unread, Window};
 use std::alloc::Global;
 use std::convert::Infallible;
 use wg_bits::Cursor;
 use wg_grammar::{Fault, Field, Kind};
-use wg_graph::List;
 use wg_params::Params;
 use wg_source::Source;
 
 /// The record that comes next from a source, of a page with `arcs_before` arcs before it. The source moves over the record, and
 /// may stand anywhere in it where it is refused, memory is wanting or a word was refused.
 pub fn decode_from<S: Source>(
-    alloc: Global,
     params: &Params,
     page: u64,
     arcs_before: u64,
     window: &Window,
+    spares: &mut Spares,
     source: &mut S,
 ) -> Result<Decoded, Unread<S::Refusal>>
     requires page { page < params.now.nodes }
@@ -33,38 +30,24 @@ pub fn decode_from<S: Source>(
     requires serves { Serves params.now page window.now.behind }
     ensures later { S.later source.old source.new }
     ensures refused { OnRefusal result (S.caused source.old source.new) }
-    ensures reads { (bits : ListOf Bool) → S.reads_from source.old bits → IfOk result (λ d. ReadsRecord params.now (context_at page arcs_before window.now.behind) bits (S.place source.old) (Ok (record { known = known_of d; end = S.place source.new }))) }
-    ensures fault { (bits : ListOf Bool) → S.reads_from source.old bits → OnFault result (λ e. ReadsRecord params.now (context_at page arcs_before window.now.behind) bits (S.place source.old) (Err e)) }
+    ensures reads { (bits : ListOf Bool) → S.reads_from source.old bits → IfOk result (λ d. ReadsRecord params.now (context_at page arcs_before window.now.behind) bits (S.offset source.old) (Ok (record { known = known_of d; end = S.offset source.new }))) }
+    ensures fault { (bits : ListOf Bool) → S.reads_from source.old bits → OnFault result (λ e. ReadsRecord params.now (context_at page arcs_before window.now.behind) bits (S.offset source.old) (Err e)) }
     ensures depth { IfOk result (λ d. d.depth ≤ page) }
     ensures ascends { IfOk result (λ d. Ascends 0 d.list) }
     ensures below { IfOk result (λ d. Below params.now.nodes d.list) }
     ensures total { IfOk result (λ d. arcs_before + length d.list ≤ params.now.arcs) }
 {
     let start = source.at();
-    let outdegree = outdegree(params, page, arcs_before, source)?;
-    if outdegree == 0 {
+    let head = read_head(params, page, arcs_before, window, source)?;
+    if head.outdegree == 0 {
         return Ok(Decoded {
-            list: List::new(alloc),
+            list: spares.nothing(),
             depth: 0,
         });
     }
-    let reference = reference(params, page, window, source)?;
-    let spares = window.spares();
-    let copied = copied(
-        spares,
-        params,
-        page,
-        outdegree,
-        reference,
-        list_at(window, reference),
-        source,
-    )?;
-    let extra = outdegree - copied.as_slice().len() as u64;
-    let inside = intervals(spares, params, page, extra, source)?;
-    let missing = extra - inside.as_slice().len() as u64;
-    let members = union(spares, copied, inside)?;
-    let list = with_residuals(spares, params, page, missing, members, source)?;
-    if (list.as_slice().len() as u64) < outdegree {
+    let named = list_at(window, head.reference);
+    let list = members(spares, params, page, head, named, source)?;
+    if (list.as_slice().len() as u64) < head.outdegree {
         return Err(Unread::Fault(Fault {
             page,
             at: start,
@@ -74,7 +57,7 @@ pub fn decode_from<S: Source>(
     }
     Ok(Decoded {
         list,
-        depth: depth_at(window, page, reference),
+        depth: depth_at(window, page, head.reference),
     })
 }
 
@@ -113,7 +96,8 @@ pub fn decode(
     ensures total { IfOk result (λ d. arcs_before + length d.list ≤ params.now.arcs) }
 {
     let start = cursor.at();
-    match decode_from(alloc, params, page, arcs_before, window, cursor) {
+    let mut spares = Spares::new(alloc);
+    match decode_from(params, page, arcs_before, window, &mut spares, cursor) {
         Ok(decoded) => Ok(decoded),
         Err(unread) => {
             cursor.seek_back(start);

@@ -1,4 +1,4 @@
-ghost use Rattle.std.specs.Prelude.{IfSome, IfNone};
+ghost use Rattle.std.specs.Prelude.{◌≡◌, ◌≤◌, IfSome, IfNone};
 ghost use Rattle.wg_grammar.specs.Archive.{IsTail, IsTailFault};
 
 use wg_bits::Cursor;
@@ -10,6 +10,8 @@ pub const MOST_TAIL: u64 = 127;
 pub fn tail_fault(cursor: &mut Cursor<'_>) -> Option<u64>
     ensures none { IfNone result (IsTail cursor.old.bits cursor.old.at) }
     ensures some { IfSome result (λ at. IsTailFault cursor.old.bits cursor.old.at at) }
+    ensures bits { cursor.new.bits ≡ cursor.old.bits }
+    ensures onward { cursor.old.at ≤ cursor.new.at }
 {
     let start = cursor.at();
     let zeros = cursor.zeros(MOST_TAIL + 1);

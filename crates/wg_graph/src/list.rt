@@ -1,4 +1,4 @@
-ghost use Rattle.std.specs.Prelude.{◌≡◌, [], ◌∷◌, ◌++◌, IfOk, OnOk, OnErr};
+ghost use Rattle.std.specs.Prelude.{◌≡◌, ◌≤◌, [], ◌∷◌, ◌++◌, length, IfOk, OnOk, OnErr};
 
 use std::alloc::{AllocError, Global};
 use std::marker::Model;
@@ -34,6 +34,13 @@ impl List {
         Ok(List {
             numbers: Vec::with_capacity(alloc, room)?,
         })
+    }
+
+    /// For how many numbers it has memory.
+    pub fn room(&self) -> usize
+        ensures { length self.now ≤ result }
+    {
+        self.numbers.capacity()
     }
 
     /// Makes room for so many numbers more, and for others where it is made anew.

@@ -1,0 +1,41 @@
+-- The head of a record, and the members that follow it.
+use Rattle.std.specs.Prelude.{◌≡◌, ℕ, ◌<◌, Bool, List, Err}
+use Rattle.wg_params.specs.Parameters.{Parameters}
+use Rattle.wg_grammar.specs.declared.fault.Fault.{Fault}
+use Rattle.wg_grammar.specs.declared.need.Need.TheVariants as need
+use Rattle.wg_grammar.specs.Context.{Known, Context, referenced}
+use Rattle.wg_grammar.specs.SoFar.{SoFar, nothing_yet, value_or_0}
+use Rattle.wg_grammar.specs.Next.{next}
+use Rattle.wg_grammar.specs.Members.{list_of}
+use Rattle.wg_grammar.specs.Record.{ReadsRecord}
+use Rattle.wg_decoder.specs.Answer.{context_at}
+use Rattle.wg_decoder.specs.Head.{of_outdegree, of_head}
+use Rattle.wg_decoder.specs.Stages.{LeadsTo}
+
+-- the head stands from the bit start to the bit end: the outdegree d, and where it is not 0 the reference r
+pub record IsHead (p : Parameters) (c : Context) (bits : List Bool) (start d r end : ℕ) : Type 0 where
+  pub none : d ≡ 0 → LeadsTo p c bits nothing_yet start (of_outdegree d) end
+  pub some : 0 < d → LeadsTo p c bits nothing_yet start (of_head p d r) end
+
+-- a record of which all is read, with these fields in its head and this list
+pub record AllRead (p : Parameters) (c : Context) (bits : List Bool) (start d r : ℕ) (list : List ℕ) (end : ℕ) : Type 0 where
+  pub so_far : SoFar
+  pub done : next p c so_far ≡ need.End
+  pub read : LeadsTo p c bits nothing_yet start so_far end
+  pub outdegree : value_or_0 so_far.outdegree ≡ d
+  pub refers : value_or_0 so_far.reference ≡ r
+  pub is : list_of p c so_far ≡ list
+
+-- where this head ends at the bit at, and the reference names this list, the record has this list and ends at the bit end
+abbrev pub AreMembers : Parameters → ℕ → ℕ → ℕ → List ℕ → List Bool → ℕ → List ℕ → ℕ → Type 0
+AreMembers p page d r named bits at list end =
+    (arcs_before start : ℕ) (behind : List Known) → referenced behind r ≡ named
+    → LeadsTo p (context_at page arcs_before behind) bits nothing_yet start (of_head p d r) at
+    → AllRead p (context_at page arcs_before behind) bits start d r list end
+
+-- the same of a record that is refused as the fault says
+abbrev pub AreNoMembers : Parameters → ℕ → ℕ → ℕ → List ℕ → List Bool → ℕ → Fault → Type 0
+AreNoMembers p page d r named bits at e =
+    (arcs_before start : ℕ) (behind : List Known) → referenced behind r ≡ named
+    → LeadsTo p (context_at page arcs_before behind) bits nothing_yet start (of_head p d r) at
+    → ReadsRecord p (context_at page arcs_before behind) bits start (Err e)
