@@ -6,7 +6,6 @@ pub mod BuiltLemmas
 pub mod KeyNames
 pub mod LimitsLemmas
 pub mod NumberLemmas
-pub mod PagesLemmas
 pub mod RankLemmas
 pub mod ReadingsLaws
 pub mod ReadingsLemmas

@@ -8,5 +8,4 @@ pub mod Causes
 pub mod Texts
 pub mod Names
 pub mod Lines
-pub mod Records
 pub mod Built

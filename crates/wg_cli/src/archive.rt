@@ -11,13 +11,14 @@ ghost use Rattle.wg_cli.specs.Lines.{IsBadFile};
 ghost use Rattle.wg_cli.specs.Readings.{Readings};
 
 use crate::ending::Ending;
-use crate::records::{RecordsError, read_graph, read_places};
 use crate::{Input, Status};
 use std::alloc::Global;
+use wg_bits::{Bits, Cursor};
 use wg_grammar::ArchiveFault;
 use wg_graph::Graph;
 use wg_offsets::{Offsets, OffsetsError};
 use wg_params::Params;
+use wg_stream::{PagesError, read_graph, read_offsets};
 
 /// The parameters that a properties text gives.
 pub fn parameters(text: &[u8]) -> Result<Params, Ending>
@@ -38,13 +39,14 @@ pub fn places_of_records(alloc: Global, params: &Params, bytes: &[u8]) -> Result
     ensures only { IfErr result (λ e. IsBadFile Input.Graph params.now.arcs e) }
     ensures count { IfOk result (λ places. length places ≡ params.now.nodes + 1) }
 {
-    match read_places(alloc, params, bytes) {
+    match read_offsets(alloc, *params, &mut Cursor::new(Bits::of(bytes), 0)) {
         Ok(places) => Ok(places),
-        Err(RecordsError::Fault(fault)) => Err(Ending {
+        Err(PagesError::Fault(fault)) => Err(Ending {
             status: Status::BadArchive(fault),
             arcs: params.arcs(),
         }),
-        Err(RecordsError::Memory) => Err(Ending::of(Status::Memory)),
+        Err(PagesError::Memory) => Err(Ending::of(Status::Memory)),
+        Err(PagesError::Refused(never)) => match never {},
     }
 }
 
@@ -54,13 +56,14 @@ pub fn graph_of_records(alloc: Global, params: &Params, bytes: &[u8]) -> Result<
     ensures steps { (r : Readings) → Steps (with_digraph r params.now bytes.now) result }
     ensures only { IfErr result (λ e. IsBadFile Input.Graph params.now.arcs e) }
 {
-    match read_graph(alloc, params, bytes) {
+    match read_graph(alloc, *params, &mut Cursor::new(Bits::of(bytes), 0)) {
         Ok(graph) => Ok(graph),
-        Err(RecordsError::Fault(fault)) => Err(Ending {
+        Err(PagesError::Fault(fault)) => Err(Ending {
             status: Status::BadArchive(fault),
             arcs: params.arcs(),
         }),
-        Err(RecordsError::Memory) => Err(Ending::of(Status::Memory)),
+        Err(PagesError::Memory) => Err(Ending::of(Status::Memory)),
+        Err(PagesError::Refused(never)) => match never {},
     }
 }
 

@@ -28,7 +28,6 @@ mod print;
 mod program;
 mod rank;
 mod ranked;
-mod records;
 mod report;
 mod status;
 mod text;

@@ -4,7 +4,6 @@ use Rattle.std.proofs.lemmas.List.{reverse-append, length-reverse, length-map}
 use Rattle.std.proofs.lemmas.List.Sums.{sum_by-cons, sum_by-append}
 use Rattle.wg_params.specs.Parameters.{Parameters}
 use Rattle.wg_graph.specs.Digraph.{Digraph, arc_count}
-use Rattle.wg_graph.specs.Ascending.{Ascends, Below}
 use Rattle.wg_grammar.specs.declared.fault.Fault.{Fault}
 use Rattle.wg_grammar.specs.declared.fault.ArchiveFault.{ArchiveFault}
 use Rattle.wg_grammar.specs.declared.fault.ArchiveFault.TheVariants as faults
@@ -12,8 +11,7 @@ use Rattle.wg_grammar.specs.Context.{Known, Context}
 use Rattle.wg_grammar.specs.Record.{Whole, ReadsRecord}
 use Rattle.wg_grammar.specs.Archive.{Pages, context_of, lists_of, places_of, ReadsGraph}
 use Rattle.wg_decoder.specs.Answer.{context_at}
-use Rattle.wg_decoder.proofs.Serving.{serves_first, serves_next}
-use Rattle.wg_cli.specs.Records.{HaveStood, IsEnded, IsEndFault}
+use Rattle.wg_stream.specs.Prefix.{PrefixRead, IsEnded, IsEndFault}
 
 -- a record more after no record
 first_page : (p : Parameters) (bits : List Bool) (first last : List Whole) (at mid : ℕ) (w : Whole) → last ≡ first → mid ≡ at
@@ -62,15 +60,13 @@ pub length-lists : (behind : List Whole) → length (lists_of behind) ≡ length
 length-lists behind = length-reverse (map (λ (v : Whole). v.known.list) behind) ∙ length-map behind (λ (v : Whole). v.known.list)
 
 module _ (p : Parameters) (bits : List Bool) where
-  pub none_yet : HaveStood p bits 0 0 0 [] []
+  pub none_yet : PrefixRead p bits 0 0 0 [] []
   none_yet = record {
     stood = [];
     records = (refl, refl);
     count = refl;
     total = refl;
-    within = omega arith;
     nearest = sym (take_none p.window);
-    serves = serves_first p;
   }
     where
       take_none : (w : ℕ) → take {A = Known} w [] ≡ []
@@ -78,25 +74,23 @@ module _ (p : Parameters) (bits : List Bool) where
       take_none (suc w) = refl
 
   -- the context in which the next record is read
-  pub next_context : (pages arcs at : ℕ) (kept : List Known) (behind : List Whole) (h : HaveStood p bits pages arcs at kept behind) → context_at pages arcs kept ≡ context_of p behind
+  pub next_context : (pages arcs at : ℕ) (kept : List Known) (behind : List Whole) (h : PrefixRead p bits pages arcs at kept behind) → context_at pages arcs kept ≡ context_of p behind
   next_context pages arcs at kept behind h = λ i. record { page = sym h.count i; arcs_before = sym h.total i; behind = h.nearest i }
 
-  pub one_more : (pages arcs at : ℕ) (kept : List Known) (behind : List Whole) (w : Whole) → HaveStood p bits pages arcs at kept behind → pages < p.nodes
-      → ReadsRecord p (context_at pages arcs kept) bits at (Ok w) → Ascends 0 w.known.list → Below p.nodes w.known.list → w.known.depth ≤ pages
-      → arcs + length w.known.list ≤ p.arcs → HaveStood p bits (pages + 1) (arcs + length w.known.list) w.end (take p.window (w.known ∷ kept)) (w ∷ behind)
-  one_more pages arcs at kept behind w h lt reads ascends below depth fits = record {
+  pub one_more : (pages arcs at : ℕ) (kept : List Known) (behind : List Whole) (w : Whole) → PrefixRead p bits pages arcs at kept behind → pages < p.nodes
+      → ReadsRecord p (context_at pages arcs kept) bits at (Ok w)
+      → PrefixRead p bits (pages + 1) (arcs + length w.known.list) w.end (take p.window (w.known ∷ kept)) (w ∷ behind)
+  one_more pages arcs at kept behind w h lt reads = record {
     stood = h.stood ++ w ∷ [];
     records = pages_more p bits [] 0 h.stood behind at w h.records (omega (arith, h.count))
         (subst (λ (c : Context). ReadsRecord p c bits at (Ok w)) (next_context pages arcs at kept behind h) reads);
     count = omega (arith, h.count);
     total = sum_by-cons (λ (v : Whole). length v.known.list) w behind ∙ ap (λ (n : ℕ). length w.known.list + n) h.total ∙ add_comm (length w.known.list) arcs;
-    within = fits;
     nearest = ap (λ (l : List Known). take p.window (w.known ∷ l)) h.nearest ∙ take_nearest p.window w.known (map (λ (v : Whole). v.known) behind);
-    serves = serves_next p pages kept w.known h.serves ascends below depth;
   }
 
   -- the next record is refused, and so is the file
-  pub one_refused : (pages arcs at : ℕ) (kept : List Known) (behind : List Whole) (e : Fault) → HaveStood p bits pages arcs at kept behind → pages < p.nodes
+  pub one_refused : (pages arcs at : ℕ) (kept : List Known) (behind : List Whole) (e : Fault) → PrefixRead p bits pages arcs at kept behind → pages < p.nodes
       → ReadsRecord p (context_at pages arcs kept) bits at (Err e) → ReadsGraph p bits (Err (faults.Record e))
   one_refused pages arcs at kept behind e h lt reads = (
     h.stood,
@@ -107,11 +101,11 @@ module _ (p : Parameters) (bits : List Bool) where
   )
 
   -- the records of all pages stand, and what follows them decides
-  pub all_stand : (arcs at : ℕ) (kept : List Known) (behind : List Whole) → HaveStood p bits p.nodes arcs at kept behind → IsEnded p.arcs arcs bits at
+  pub all_stand : (arcs at : ℕ) (kept : List Known) (behind : List Whole) → PrefixRead p bits p.nodes arcs at kept behind → arcs ≤ p.arcs → IsEnded p.arcs arcs bits at
       → ReadsGraph p bits (Ok (record { graph = lists_of behind; places = places_of behind }))
-  all_stand arcs at kept behind h e = (h.stood, behind, at, h.records, (h.count, e.tail, omega (arith, h.total, h.within, e.enough), refl, refl))
+  all_stand arcs at kept behind h within e = (h.stood, behind, at, h.records, (h.count, e.tail, omega (arith, h.total, within, e.enough), refl, refl))
 
-  pub end_refuses : (arcs at : ℕ) (kept : List Known) (behind : List Whole) (f : ArchiveFault) → HaveStood p bits p.nodes arcs at kept behind → IsEndFault p.arcs arcs bits at f → ReadsGraph p bits (Err f)
+  pub end_refuses : (arcs at : ℕ) (kept : List Known) (behind : List Whole) (f : ArchiveFault) → PrefixRead p bits p.nodes arcs at kept behind → IsEndFault p.arcs arcs bits at f → ReadsGraph p bits (Err f)
   end_refuses arcs at kept behind (faults.Tail place) h fault = (h.stood, behind, at, h.records, (h.count, fault))
   end_refuses arcs at kept behind (faults.ArcsShort total) h fault = (h.stood, behind, at, h.records, (h.count, fault.0, fault.1 ∙ sym h.total, omega (arith, fault.1, fault.2)))
   end_refuses arcs at kept behind (faults.Record e) h fault = absurd fault

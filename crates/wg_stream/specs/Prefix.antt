@@ -1,0 +1,56 @@
+-- How far the records of an archive have been read.
+use Rattle.std.specs.Prelude.{◌≡◌, ◌<◌, ◌≤◌, ℕ, Bool, List, [], ◌∷◌, length, take, map}
+use Rattle.wg_params.specs.Parameters.{Parameters}
+use Rattle.wg_graph.specs.Ascending.{Ascends, Below}
+use Rattle.wg_grammar.specs.Context.{Known}
+use Rattle.wg_grammar.specs.Record.{Whole}
+use Rattle.wg_grammar.specs.Archive.{Pages, arcs_of, IsTail, IsTailFault}
+use Rattle.wg_grammar.specs.declared.fault.ArchiveFault.{ArchiveFault}
+use Rattle.wg_grammar.specs.declared.fault.ArchiveFault.TheVariants as archive
+use Rattle.wg_decoder.specs.Remembered.{Serves}
+
+-- the parameters; how many pages and arcs were read; what is kept of the pages before the next, the nearest first; and the list of the
+-- page that was read last, empty before the first
+pub record PagesRead : Type 0 where
+  pub params : Parameters
+  pub page : ℕ
+  pub arcs : ℕ
+  pub kept : List Known
+  pub list : List ℕ
+
+-- what holds whatever the bits are
+pub record AreSound (r : PagesRead) : Type 0 where
+  pub few : r.page ≤ r.params.nodes
+  pub within : r.arcs ≤ r.params.arcs
+  pub serves : Serves r.params r.page r.kept
+  pub ascends : Ascends 0 r.list
+  pub below : Below r.params.nodes r.list
+
+-- the records of so many pages with so many arcs stand from the first bit to the bit at, and these pages are kept of them
+pub record PrefixRead (p : Parameters) (bits : List Bool) (pages arcs at : ℕ) (kept : List Known) (behind : List Whole) : Type 0 where
+  pub stood : List Whole
+  pub records : Pages p bits [] 0 stood behind at
+  pub count : length behind ≡ pages
+  pub total : arcs_of behind ≡ arcs
+  pub nearest : kept ≡ take p.window (map (λ w. w.known) behind)
+
+-- these records, the last of them first, are those that were read; the next begins at the bit at
+abbrev pub AreBehind : List Bool → PagesRead → ℕ → List Whole → Type 0
+AreBehind bits r at behind = PrefixRead r.params bits r.page r.arcs at r.kept behind
+
+-- one record more was read than these: it has the list of the page that was read last, and ends at the bit at
+abbrev pub IsOneMore : List Bool → PagesRead → ℕ → List Whole → Type 0
+IsOneMore bits r at behind = (w : Whole) × (w.known.list ≡ r.list) × (w.end ≡ at) × AreBehind bits r at (w ∷ behind)
+
+-- after the records a tail stands, and there are as many arcs as are promised
+pub record IsEnded (promised arcs : ℕ) (bits : List Bool) (at : ℕ) : Type 0 where
+  pub tail : IsTail bits at
+  pub enough : promised ≤ arcs
+
+-- after the records no tail stands, or there are too few arcs
+abbrev pub IsEndFault : ℕ → ℕ → List Bool → ℕ → ArchiveFault → Type 0
+IsEndFault promised arcs bits at (archive.Tail place) = IsTailFault bits at place
+IsEndFault promised arcs bits at (archive.ArcsShort total) = IsTail bits at × (total ≡ arcs) × (arcs < promised)
+IsEndFault promised arcs bits at (archive.Record f) = ⊥
+IsEndFault promised arcs bits at (archive.Offsets f) = ⊥
+IsEndFault promised arcs bits at (archive.Length page found stored) = ⊥

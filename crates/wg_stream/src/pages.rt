@@ -1,0 +1,145 @@
+//! Page after page.
+ghost use Rattle.std.specs.Prelude.{◌≡◌, ◌+◌, ◌<◌, ◌≤◌, Bool, List as ListOf, [], ◌∷◌, Ok, Err, length, take, OnOk, OnErr};
+ghost use Rattle.wg_params.specs.Parameters.{IsWithinLimits};
+ghost use Rattle.wg_graph.specs.Ascending.{Ascends, Below};
+ghost use Rattle.wg_grammar.specs.Record.{Whole};
+ghost use Rattle.wg_grammar.specs.Archive.{lists_of, places_of, ReadsGraph};
+ghost use Rattle.wg_decoder.specs.Remembered.{known_of};
+ghost use Rattle.wg_stream.specs.Errors.{OnFault, OnRefusal};
+ghost use Rattle.wg_stream.specs.Prefix.{AreBehind, IsOneMore};
+
+use crate::PagesError;
+use std::alloc::{AllocError, Global};
+use std::marker::Model;
+use std::mem;
+use wg_decoder::{Decoded, Spares, Window, decode_from};
+use wg_grammar::ArchiveFault;
+use wg_graph::List;
+use wg_params::Params;
+use wg_source::Source;
+
+/// Reads the records of an archive page by page, as `wg_encoder::Encoder` writes them: it owns all that has to be known of the
+/// pages before, and stands at the page that comes next.
+///
+/// It is seen as its parameters, how many pages and arcs were read, what is kept of the pages before, and the list of the page
+/// that was read last. It holds the lists of the window, each with room for at most twice its numbers, and a few lists with
+/// room for as many as the longest. Hand in the same source at each call: the clauses on bits are of one that was.
+#[derive(Drop)]
+pub struct Pages {
+    params: Params,
+    page: u64,
+    arcs: u64,
+    window: Window,
+    spares: Spares,
+    list: List,
+}
+
+impl Model for Pages {
+    ghost use Rattle.std.specs.Prelude.{◌≡◌};
+    ghost use Rattle.wg_stream.specs.Prefix.{PagesRead, AreSound};
+
+    ghost Value = { PagesRead };
+
+    ghost view = { λ r. record { params = r.params; page = r.page; arcs = r.arcs; kept = r.window.behind; list = r.list } };
+
+    ghost invariant = { λ r. (r.window.window ≡ r.params.window)
+        × AreSound (record { params = r.params; page = r.page; arcs = r.arcs; kept = r.window.behind; list = r.list }) };
+}
+
+// Keeps a copy of the list in the window. The list that leaves it serves for the next copy.
+fn keep(window: &mut Window, spares: &mut Spares, decoded: &Decoded) -> Result<(), AllocError>
+    ensures window { window.new.window ≡ window.old.window }
+    ensures ok { OnOk result (window.new.behind ≡ take window.old.window (known_of decoded.now ∷ window.old.behind)) }
+    ensures err { OnErr result (window.new ≡ window.old) }
+{
+    let copy = spares.copy_of(decoded.list.as_slice())?;
+    if let Some(furthest) = window.exchange(copy, decoded.depth)? {
+        spares.take_furthest(furthest.list);
+    }
+    Ok(())
+}
+
+impl Pages {
+    /// Before the first page.
+    pub fn new(alloc: Global, params: Params) -> Pages
+        ensures params { result.params ≡ params }
+        ensures limits { IsWithinLimits params }
+        ensures none { (result.page ≡ 0) × (result.arcs ≡ 0) × (result.list ≡ []) }
+        ensures behind { (bits : ListOf Bool) → AreBehind bits result 0 [] }
+    {
+        Pages {
+            params,
+            page: 0,
+            arcs: 0,
+            window: Window::new(alloc, &params),
+            spares: Spares::new(alloc),
+            list: List::new(alloc),
+        }
+    }
+
+    /// The list of the page that was read last.
+    #[inline(always)]
+    pub fn list(&self) -> &[u64]
+        ensures value { result.now ≡ self.now.list }
+        ensures ascends { Ascends 0 result.now }
+        ensures below { Below self.now.params.nodes result.now }
+        ensures arcs { self.now.arcs ≤ self.now.params.arcs }
+    {
+        self.list.as_slice()
+    }
+
+    /// Reads the record of the page that comes next, and goes on to the one after it. Where it is refused, it stays at this
+    /// page. It takes time in proportion to the words of the record, to its list and to the one that it refers to.
+    pub fn next<S: Source>(&mut self, source: &mut S) -> Result<(), PagesError<S::Refusal>>
+        requires more { self.old.page < self.old.params.nodes }
+        ensures params { self.new.params ≡ self.old.params }
+        ensures page { OnOk result (self.new.page ≡ self.old.page + 1) }
+        ensures arcs { OnOk result (self.new.arcs ≡ self.old.arcs + length self.new.list) }
+        ensures err { OnErr result (self.new ≡ self.old) }
+        ensures later { S.later source.old source.new }
+        ensures refused { OnRefusal result (S.caused source.old source.new) }
+        ensures reads { (bits : ListOf Bool) (behind : ListOf Whole) → S.reads_from source.old bits → AreBehind bits self.old (S.offset source.old) behind
+            → OnOk result (IsOneMore bits self.new (S.offset source.new) behind) }
+        ensures fault { (bits : ListOf Bool) (behind : ListOf Whole) → S.reads_from source.old bits → AreBehind bits self.old (S.offset source.old) behind
+            → OnFault result (λ f. ReadsGraph self.old.params bits (Err f)) }
+    {
+        let decoded = decode_from(
+            &self.params,
+            self.page,
+            self.arcs,
+            &self.window,
+            &mut self.spares,
+            source,
+        )?;
+        keep(&mut self.window, &mut self.spares, &decoded)?;
+        self.page += 1;
+        self.arcs += decoded.list.as_slice().len() as u64;
+        let before = mem::replace(&mut self.list, decoded.list);
+        self.spares.take_back(before);
+        Ok(())
+    }
+
+    /// Judges what follows the records: the tail, and whether there are as many arcs as are promised.
+    pub fn finish<S: Source>(&self, source: &mut S) -> Result<(), PagesError<S::Refusal>>
+        requires done { self.now.page ≡ self.now.params.nodes }
+        ensures total { OnOk result (self.now.arcs ≡ self.now.params.arcs) }
+        ensures later { S.later source.old source.new }
+        ensures refused { OnRefusal result (S.caused source.old source.new) }
+        ensures reads { (bits : ListOf Bool) (behind : ListOf Whole) → S.reads_from source.old bits → AreBehind bits self.now (S.offset source.old) behind
+            → OnOk result (ReadsGraph self.now.params bits (Ok (record { graph = lists_of behind; places = places_of behind }))) }
+        ensures fault { (bits : ListOf Bool) (behind : ListOf Whole) → S.reads_from source.old bits → AreBehind bits self.now (S.offset source.old) behind
+            → OnFault result (λ f. ReadsGraph self.now.params bits (Err f)) }
+    {
+        let tail = match source.tail_fault() {
+            Ok(tail) => tail,
+            Err(refusal) => return Err(PagesError::Refused(refusal)),
+        };
+        if let Some(at) = tail {
+            return Err(PagesError::Fault(ArchiveFault::Tail(at)));
+        }
+        if self.arcs < self.params.arcs() {
+            return Err(PagesError::Fault(ArchiveFault::ArcsShort(self.arcs)));
+        }
+        Ok(())
+    }
+}
