@@ -8,7 +8,7 @@ use Rattle.wg_bits.specs.Bits.{low_bits}
 use Rattle.wg_bits.proofs.LowBits.{length-low_bits}
 use Rattle.wg_codes.specs.Words.{highest, unary, gamma, delta, zeta, nibble, shortened, with_low_bits}
 use Rattle.wg_codes.proofs.UnaryWords.{length-unary}
-use Rattle.wg_codes.proofs.ZetaWords.{zeta_top, headed_zeta, room, bounds_of}
+use Rattle.wg_codes.proofs.ZetaWords.{zeta_top, headed_zeta, room, bounds_of, least_is}
 use Rattle.wg_codes.proofs.Writing.{zeta_put}
 use Rattle.wg_codes.proofs.NibbleWords.{open_digits, split_word, length-open_digits}
 
@@ -72,12 +72,14 @@ top_above k some few =
     let p : 2 ^ 1 ≤ 2 ^ (k * (63 / k)) = pow_mono b in
     (omega arith, omega arith)
 
--- the fields that zeta's writer puts behind a head
-pub zeta_fields : (k v h left : ℕ) → 1 ≤ k → k ≤ 31 → v ≤ zeta_top k → h ≡ highest (v + 1) / k → left ≡ 2 ^ (h * k)
-    → (left ≤ v + 1) × (h * k + k ≤ 63)
-    × (v + 1 - left < left → (v + 1 - left < 2 ^ (h * k + k - 1)) × (unary h ++ low_bits (h * k + k - 1) (v + 1 - left) ≡ zeta k v))
-    × (left ≤ v + 1 - left → (v + 1 < 2 ^ (h * k + k)) × (unary h ++ low_bits (h * k + k) (v + 1) ≡ zeta k v))
-zeta_fields k v h left some few l e el =
+-- the field that zeta's writer puts behind a head: y - least in the short form, and y in the long one
+abbrev pub IsField : ℕ → ℕ → ℕ → ℕ → Type 0
+IsField k v h least = (least ≤ v + 1) × (h * k + k ≤ 63)
+    × (v + 1 - least < least → (v + 1 - least < 2 ^ (h * k + k - 1)) × (unary h ++ low_bits (h * k + k - 1) (v + 1 - least) ≡ zeta k v))
+    × (least ≤ v + 1 - least → (v + 1 < 2 ^ (h * k + k)) × (unary h ++ low_bits (h * k + k) (v + 1) ≡ zeta k v))
+
+field_behind : (k v h least : ℕ) → 1 ≤ k → k ≤ 31 → v ≤ zeta_top k → h ≡ highest (v + 1) / k → least ≡ 2 ^ (h * k) → IsField k v h least
+field_behind k v h least some few l e el =
     let r = head_room k v h some few l e in
     let narrow : 2 ^ (h * k) ≤ 2 ^ (h * k + k - 1) = pow_mono (let s : h * k ≤ h * k + k - 1 = omega arith in s) in
     let low : 2 ^ (h * k) ≤ v + 1 = r.1 in (
@@ -85,10 +87,17 @@ zeta_fields k v h left some few l e el =
       r.0,
       (λ less.
           let short : v + 1 - 2 ^ (h * k) < 2 ^ (h * k) = omega arith in
-          let form : low_bits (h * k + k - 1) (v + 1 - left) ≡ shortened k h (v + 1) =
+          let form : low_bits (h * k + k - 1) (v + 1 - least) ≡ shortened k h (v + 1) =
           ap (λ m. low_bits (h * k + k - 1) (v + 1 - m)) el ∙ sym (cond-true _ _ _ (lt-ltb _ _ short)) in
           (omega arith, zeta_put k v h _ e form)),
       (λ more.
           let long : 2 ^ (h * k) ≤ v + 1 - 2 ^ (h * k) = omega arith in
           (r.2, zeta_put k v h _ e (sym (cond-false _ _ _ (le-ltb _ _ long))))),
     )
+
+-- the same, as the writer comes to its numbers: m is the place of the highest one
+pub zeta_field : (k v m : ℕ) → 1 ≤ k → k ≤ 31 → v ≤ zeta_top k → m ≡ highest (v + 1) → IsField k v (m / k) ((1 * 2 ^ (m / k * k)) % 2 ^ 64)
+zeta_field k v m some few l em =
+    let eh : m / k ≡ highest (v + 1) / k = ap (λ n. n / k) em in
+    let room = head_room k v (m / k) some few l eh in
+    field_behind k v (m / k) _ some few l eh (least_is k (m / k) some room.0)

@@ -7,7 +7,10 @@ pub mod NibbleLaw
 pub mod NibblePuts
 pub mod Exists
 pub mod Lengths
+pub mod ShortWords
+pub mod PrefixReads
 pub mod Folds
 pub mod Windows
 pub mod Writing
 pub mod CodeLaws
+pub mod Standing

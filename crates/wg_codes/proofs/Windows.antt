@@ -123,11 +123,11 @@ unary_found z w h most l e few lm agree fits =
 head_small : (k h : ℕ) → 1 ≤ k → h + 1 + (h * k + k) ≤ 64 → h ≤ 63 / k - 1
 head_small k h some fits = let q : h + 1 ≤ 63 / k = le-div (h + 1) 63 k (omega arith) (omega arith) in omega arith
 
-pub window_short : (z : List Bool) (k w h left one low : ℕ) → 1 ≤ k → k ≤ 31 → w < 2 ^ 64 → h ≡ count_leading_zeros 64 w
-    → h + 1 + (h * k + k) ≤ 64 → left ≡ 2 ^ (h * k) → one ≡ 2 ^ (h * k + k - 1) → low ≡ w / 2 ^ (64 - h - (h * k + k)) - one → low < left
+pub window_short : (z : List Bool) (k w h least one low : ℕ) → 1 ≤ k → k ≤ 31 → w < 2 ^ 64 → h ≡ count_leading_zeros 64 w
+    → h + 1 + (h * k + k) ≤ 64 → least ≡ 2 ^ (h * k) → one ≡ 2 ^ (h * k + k - 1) → low ≡ w / 2 ^ (64 - h - (h * k + k)) - one → low < least
     → ((i : ℕ) → i < 64 → get_or (low_bits 64 w) i false ≡ get_or z i false) → h + (h * k + k) ≤ length z
-    → Reads (zeta k) (zeta_top k) z (Value (left + low - 1)) × (h + (h * k + k) ≡ length (zeta k (left + low - 1)))
-window_short z k w h left one low some few l e fits el eo elow less agree long =
+    → Reads (zeta k) (zeta_top k) z (Value (least + low - 1)) × (h + (h * k + k) ≡ length (zeta k (least + low - 1)))
+window_short z k w h least one low some few l e fits el eo elow less agree long =
     let n : ℕ = h * k + k - 1 in
     let f = headed_front z w h (h * k + k - 1) l e (omega arith) agree (omega arith) in
     let shift : 63 - h - (h * k + k - 1) ≡ 64 - h - (h * k + k) = omega arith in
@@ -139,7 +139,7 @@ window_short z k w h left one low some few l e fits el eo elow less agree long =
     f.1 ∙ ap (λ m. unary h ++ (low_bits (h * k + k - 1) m ++ drop (h + (h * k + k - 1) + 1) z)) same in
     let s = short_form k h low some room below in
     let v : ℕ = 2 ^ (h * k) + low - 1 in
-    let value : left + low - 1 ≡ 2 ^ (h * k) + low - 1 = ap (λ m. m + low - 1) el in
+    let value : least + low - 1 ≡ 2 ^ (h * k) + low - 1 = ap (λ m. m + low - 1) el in
     let width : length (low_bits (h * k + k - 1) low) ≡ h * k + k - 1 = length-low_bits (h * k + k - 1) low in
     let span : length (zeta k (2 ^ (h * k) + low - 1)) ≡ h + 1 + length (low_bits (h * k + k - 1) low) =
     zeta_span k h (2 ^ (h * k) + low - 1) s.0 ∙ ap (λ x. h + 1 + length x) s.2 in (
@@ -160,13 +160,13 @@ longer_field w h n one low few some eo el =
     let x : ℕ = w / 2 ^ (63 - h - n) in
     omega arith
 
-pub window_long : (z : List Bool) (k w h left one low : ℕ) → 1 ≤ k → k ≤ 31 → w < 2 ^ 64 → h ≡ count_leading_zeros 64 w
-    → h + 1 + (h * k + k) ≤ 64 → left ≡ 2 ^ (h * k) → one ≡ 2 ^ (h * k + k - 1) → low ≡ w / 2 ^ (64 - h - (h * k + k)) - one → left ≤ low
+pub window_long : (z : List Bool) (k w h least one low : ℕ) → 1 ≤ k → k ≤ 31 → w < 2 ^ 64 → h ≡ count_leading_zeros 64 w
+    → h + 1 + (h * k + k) ≤ 64 → least ≡ 2 ^ (h * k) → one ≡ 2 ^ (h * k + k - 1) → low ≡ w / 2 ^ (64 - h - (h * k + k)) - one → least ≤ low
     → ((i : ℕ) → i < 64 → get_or (low_bits 64 w) i false ≡ get_or z i false) → h + (h * k + k) + 1 ≤ length z
     → Reads (zeta k) (zeta_top k) z (Value (w / 2 ^ (63 - h - (h * k + k)) - 2 * one - 1))
     × (h + (h * k + k) + 1 ≡ length (zeta k (w / 2 ^ (63 - h - (h * k + k)) - 2 * one - 1)))
     × (2 * one + 1 ≤ w / 2 ^ (63 - h - (h * k + k)))
-window_long z k w h left one low some few l e fits el eo elow more agree long =
+window_long z k w h least one low some few l e fits el eo elow more agree long =
     let n : ℕ = h * k + k in
     let f = headed_front z w h (h * k + k) l e (omega arith) agree long in
     let g = window_field w h (h * k + k) l e (omega arith) in

@@ -37,7 +37,7 @@ pub short_form : (k h t : ℕ) → 1 ≤ k → h * k + k ≤ 63 → t < 2 ^ (h *
     → (highest (2 ^ (h * k) + t - 1 + 1) / k ≡ h) × (2 ^ (h * k) + t - 1 < 2 ^ (h * k + k) - 1)
     × (shortened k h (2 ^ (h * k) + t - 1 + 1) ≡ low_bits (h * k + k - 1) t)
 short_form k h t some few l =
-    let left : ℕ = 2 ^ (h * k) in
+    let least : ℕ = 2 ^ (h * k) in
     let pos : 0 < 2 ^ (h * k) = pow_pos (h * k) in
     let y : ℕ = 2 ^ (h * k) + t - 1 + 1 in
     let ey : 2 ^ (h * k) + t - 1 + 1 ≡ 2 ^ (h * k) + t = omega arith in
@@ -261,11 +261,11 @@ zeta_place k p q r h v eq er hh =
     er ∙ ap (λ x. moved x (length (shortened k h (v + 1)))) eq ∙ ap (λ a. let x : Position = record { bits = p.bits; at = a } in x) sum
 
 -- ---- the numbers of the code
-pub left_is : (k h : ℕ) → 1 ≤ k → h * k + k ≤ 63 → (1 * 2 ^ (h * k)) % 2 ^ 64 ≡ 2 ^ (h * k)
-left_is k h some few = one_shl (h * k) 64 (omega arith)
+pub least_is : (k h : ℕ) → 1 ≤ k → h * k + k ≤ 63 → (1 * 2 ^ (h * k)) % 2 ^ 64 ≡ 2 ^ (h * k)
+least_is k h some few = one_shl (h * k) 64 (omega arith)
 
-pub left_small : (k h : ℕ) → 1 ≤ k → h * k + k ≤ 63 → 2 ^ (h * k) ≤ 2 ^ 62
-left_small k h some few = pow_mono (let s : h * k ≤ 62 = omega arith in s)
+pub least_small : (k h : ℕ) → 1 ≤ k → h * k + k ≤ 63 → 2 ^ (h * k) ≤ 2 ^ 62
+least_small k h some few = pow_mono (let s : h * k ≤ 62 = omega arith in s)
 
 pub low_small : (k h t : ℕ) → 1 ≤ k → h * k + k ≤ 63 → t < 2 ^ (h * k + k - 1) → t < 2 ^ 62
 low_small k h t some few l = let p : 2 ^ (h * k + k - 1) ≤ 2 ^ 62 = pow_mono (let s : h * k + k - 1 ≤ 62 = omega arith in s) in omega arith

@@ -3,3 +3,4 @@ pub mod Reading
 pub mod Parts
 pub mod Laws
 pub mod Fold
+pub mod Standing

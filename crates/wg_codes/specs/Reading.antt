@@ -12,14 +12,14 @@ Begins w z = (t : List Bool) × (z ≡ w ++ t)
 abbrev pub ProperlyBegins : List Bool → List Bool → Type 0
 ProperlyBegins z w = (t : List Bool) × (0 < length t) × (w ≡ z ++ t)
 
--- What stands at the bits z, where the words are those of the values up to most: the word of v; or a proper
+-- What stands at the bits z, if the words are those of the values up to most: the word of v; or a proper
 -- prefix of some word and nothing more; or neither.
 abbrev pub Reads : (ℕ → List Bool) → ℕ → List Bool → Read → Type 0
 Reads words most z (Value v) = (v ≤ most) × Begins (words v) z
 Reads words most z Cut = (v : ℕ) × (v ≤ most) × ProperlyBegins z (words v)
 Reads words most z NoWord = (v : ℕ) → v ≤ most → (¬ Begins (words v) z) × (¬ ProperlyBegins z (words v))
 
--- the place after the word that was read, or the same place where none was
+-- the place after the word that was read, or the same place if none was
 abbrev pub after : (ℕ → List Bool) → Position → Read → Position
 after words p (Value v) = moved p (length (words v))
 after words p Cut = p

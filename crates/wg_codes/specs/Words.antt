@@ -25,7 +25,7 @@ gamma v = with_low_bits unary v
 unfoldable pub delta : ℕ → List Bool
 delta v = with_low_bits gamma v
 
--- With left = 2 ^ (h * k): y - left in h * k + k - 1 bits, where it is below left, else y in h * k + k bits.
+-- With least = 2 ^ (h * k): y - least in h * k + k - 1 bits, if it is below least, else y in h * k + k bits.
 abbrev pub shortened : ℕ → ℕ → ℕ → List Bool
 shortened k h y =
     if nat_lt (y - 2 ^ (h * k)) (2 ^ (h * k)) then low_bits (h * k + k - 1) (y - 2 ^ (h * k)) else low_bits (h * k + k) y

@@ -1,4 +1,5 @@
-//! Delta: with y one more than the value and m the place of its highest one, the gamma word of m, then the low m bits of y.
+//! Delta: with y one more than the value and m the place of its highest one, the gamma word of m, then the low m bits
+//! of y.
 //!
 //! | value | word |
 //! |---|---|
@@ -48,22 +49,21 @@ pub fn write<D: Depot>(
 ) -> Result<(), WriteError>
     requires value { v ≤ 2 ^ 63 - 2 }
     requires ready { writer.old.failed ≡ false }
-    ensures ok { IsTrue D.told → OnOk result (HasPut (D.files depot.old) (D.files depot.new) name.now writer.old.bits (delta v) writer.new.bits) }
+    ensures ok { IsTrue D.told → OnOk result
+        (HasPut (D.files depot.old) (D.files depot.new) name.now writer.old.bits (delta v) writer.new.bits) }
     ensures ready { OnOk result (writer.new.failed ≡ false) }
     ensures failed { OnErr result (writer.new.failed ≡ true) }
-    ensures err { IsTrue D.told → OnErr result (HasPutLess (D.files depot.old) (D.files depot.new) name.now writer.old.bits (delta v)) }
-    ensures fault { IsErrOf result WriteError.Failed → Rose (D.counts depot.old name.now).write_faults (D.counts depot.new name.now).write_faults }
-    ensures memory { IsErrOf result WriteError.Memory → Rose (D.counts depot.old name.now).wants (D.counts depot.new name.now).wants }
+    ensures err { IsTrue D.told → OnErr result
+        (HasPutLess (D.files depot.old) (D.files depot.new) name.now writer.old.bits (delta v)) }
+    ensures fault { IsErrOf result WriteError.Failed →
+        Rose (D.counts depot.old name.now).write_faults (D.counts depot.new name.now).write_faults }
+    ensures memory { IsErrOf result WriteError.Memory →
+        Rose (D.counts depot.old name.now).wants (D.counts depot.new name.now).wants }
     ensures later { NoneFalls (D.counts depot.old) (D.counts depot.new) }
 {
     let place = highest_one(v + 1);
-    match gamma::write(place as u64, writer, depot, name) {
-        Ok(()) => match writer.put(depot, name, v + 1 - (1 << place), place) {
-            Ok(()) => Ok(()),
-            Err(e) => Err(e),
-        },
-        Err(e) => Err(e),
-    }
+    gamma::write(place as u64, writer, depot, name)?;
+    writer.put(depot, name, v + 1 - (1 << place), place)
 }
 
 #[cold]

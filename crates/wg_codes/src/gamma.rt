@@ -1,4 +1,5 @@
-//! Gamma: with y one more than the value and m the place of its highest one, the unary word of m, then the low m bits of y.
+//! Gamma: with y one more than the value and m the place of its highest one, the unary word of m, then the low m bits
+//! of y.
 //!
 //! | value | word |
 //! |---|---|
@@ -19,7 +20,7 @@ use crate::{Read, unary};
 use wg_bits::{Cursor, Writer};
 use wg_io::{Depot, WriteError};
 
-// A word of a value whose place is at most `most`: by one load, where all of it lies within the next 64 bits.
+// A word of a value whose place is at most `most`: by one load, if all of it lies within the next 64 bits.
 #[inline(always)]
 pub fn read(cursor: &mut Cursor<'_>, most: u64) -> Read
     requires { most ≤ 62 }
@@ -65,26 +66,21 @@ pub fn write<D: Depot>(
 ) -> Result<(), WriteError>
     requires value { v ≤ 2 ^ 63 - 2 }
     requires ready { writer.old.failed ≡ false }
-    ensures ok { IsTrue D.told → OnOk result (HasPut (D.files depot.old) (D.files depot.new) name.now writer.old.bits (gamma v) writer.new.bits) }
+    ensures ok { IsTrue D.told → OnOk result
+        (HasPut (D.files depot.old) (D.files depot.new) name.now writer.old.bits (gamma v) writer.new.bits) }
     ensures ready { OnOk result (writer.new.failed ≡ false) }
     ensures failed { OnErr result (writer.new.failed ≡ true) }
-    ensures err { IsTrue D.told → OnErr result (HasPutLess (D.files depot.old) (D.files depot.new) name.now writer.old.bits (gamma v)) }
-    ensures fault { IsErrOf result WriteError.Failed → Rose (D.counts depot.old name.now).write_faults (D.counts depot.new name.now).write_faults }
-    ensures memory { IsErrOf result WriteError.Memory → Rose (D.counts depot.old name.now).wants (D.counts depot.new name.now).wants }
+    ensures err { IsTrue D.told → OnErr result
+        (HasPutLess (D.files depot.old) (D.files depot.new) name.now writer.old.bits (gamma v)) }
+    ensures fault { IsErrOf result WriteError.Failed →
+        Rose (D.counts depot.old name.now).write_faults (D.counts depot.new name.now).write_faults }
+    ensures memory { IsErrOf result WriteError.Memory →
+        Rose (D.counts depot.old name.now).wants (D.counts depot.new name.now).wants }
     ensures later { NoneFalls (D.counts depot.old) (D.counts depot.new) }
 {
     let place = highest_one(v + 1);
-    match put_headed(
-        writer,
-        depot,
-        name,
-        place as u64,
-        v + 1 - (1 << place),
-        place,
-    ) {
-        Ok(()) => Ok(()),
-        Err(e) => Err(e),
-    }
+    let low = v + 1 - (1 << place);
+    put_headed(writer, depot, name, place as u64, low, place)
 }
 
 #[inline(always)]

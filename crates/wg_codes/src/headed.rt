@@ -22,7 +22,8 @@ pub fn highest_one(y: u64) -> u32
 pub fn number(cursor: &mut Cursor<'_>, place: u32) -> Option<u64>
     requires { place ≤ 62 }
     ensures none { IfNone result ((length (rest cursor.old) < place) × (cursor.new ≡ cursor.old)) }
-    ensures some { IfSome result (λ v. IsNumberAt place v (rest cursor.old) (rest cursor.new) × (cursor.new ≡ moved cursor.old place)) }
+    ensures some { IfSome result (λ v. IsNumberAt place v (rest cursor.old) (rest cursor.new)
+        × (cursor.new ≡ moved cursor.old place)) }
 {
     let low = cursor.take(place)?;
     Some((1 << place) - 1 + low)
@@ -40,27 +41,25 @@ pub fn put_headed<D: Depot>(
     requires ready { writer.old.failed ≡ false }
     requires width { width ≤ 63 }
     requires field { field < 2 ^ width }
-    ensures ok { IsTrue D.told → OnOk result (HasPut (D.files depot.old) (D.files depot.new) name.now writer.old.bits (unary head ++ low_bits width field) writer.new.bits) }
+    ensures ok { IsTrue D.told → OnOk result
+        (HasPut (D.files depot.old) (D.files depot.new) name.now writer.old.bits
+        (unary head ++ low_bits width field) writer.new.bits) }
     ensures ready { OnOk result (writer.new.failed ≡ false) }
     ensures failed { OnErr result (writer.new.failed ≡ true) }
-    ensures err { IsTrue D.told → OnErr result (HasPutLess (D.files depot.old) (D.files depot.new) name.now writer.old.bits (unary head ++ low_bits width field)) }
-    ensures fault { IsErrOf result WriteError.Failed → Rose (D.counts depot.old name.now).write_faults (D.counts depot.new name.now).write_faults }
-    ensures memory { IsErrOf result WriteError.Memory → Rose (D.counts depot.old name.now).wants (D.counts depot.new name.now).wants }
+    ensures err { IsTrue D.told → OnErr result
+        (HasPutLess (D.files depot.old) (D.files depot.new) name.now writer.old.bits
+        (unary head ++ low_bits width field)) }
+    ensures fault { IsErrOf result WriteError.Failed →
+        Rose (D.counts depot.old name.now).write_faults (D.counts depot.new name.now).write_faults }
+    ensures memory { IsErrOf result WriteError.Memory →
+        Rose (D.counts depot.old name.now).wants (D.counts depot.new name.now).wants }
     ensures later { NoneFalls (D.counts depot.old) (D.counts depot.new) }
 {
     let marked = (1 << width) + field;
     if head <= 63 - width as u64 {
-        match writer.put(depot, name, marked, head as u32 + width + 1) {
-            Ok(()) => Ok(()),
-            Err(e) => Err(e),
-        }
+        writer.put(depot, name, marked, head as u32 + width + 1)
     } else {
-        match writer.zeros(depot, name, head) {
-            Ok(()) => match writer.put(depot, name, marked, width + 1) {
-                Ok(()) => Ok(()),
-                Err(e) => Err(e),
-            },
-            Err(e) => Err(e),
-        }
+        writer.zeros(depot, name, head)?;
+        writer.put(depot, name, marked, width + 1)
     }
 }

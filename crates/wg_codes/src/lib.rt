@@ -1,16 +1,17 @@
 //! The codes of BVGraph: unary, gamma, delta, zeta and nibble, each of which writes a number as a word of bits.
 //!
-//! [`read`] tells what stands at a cursor: a whole word, which it moves over, or one of two faults ([`Read`]). [`write`] puts
-//! a word through a writer, [`length`] counts its bits without writing it, and [`holds`] tells which values have one.
-//! [`fold`] and [`unfold`] turn whole numbers of either sign into values and back. [`laws`] does nothing: its contract says
-//! what holds of the words themselves, whoever reads them.
+//! [`read`] tells what stands at a cursor: a whole word, which it moves over, or one of two faults ([`Read`]).
+//! [`write`] puts a word through a writer, [`length`] counts its bits without writing it, and [`holds`] tells which
+//! values have one. [`fold`] and [`unfold`] turn whole numbers of either sign into values and back; [`unfold_from`]
+//! gives the number that is so far from another. [`laws`] does nothing: its contract says what holds of the words
+//! themselves, whoever reads them.
 //!
-//! Each code stands in a module of its own, with its reader, its writer and its length side by side. All that takes a [`Code`]
-//! works for a `Zeta(k)` with `k` from 1 to 31 and for every other code.
+//! Each code stands in a module of its own, with its reader, its writer and its length side by side. All that takes a
+//! [`Code`] works for a `Zeta(k)` with `k` from 1 to 31 and for every other code.
 //!
-//! No call takes memory. A word is read and written by a fixed number of loads and shifts, and never bit by bit; a word of
-//! gamma or zeta that lies within 64 bits, as nearly all do, by one load. Two loops are left: unary goes over 64 zeros at a
-//! time, and nibble digit by digit, over at most 21.
+//! No call takes memory. A word is read and written by a fixed number of loads and shifts, and never bit by bit; a
+//! word of gamma or zeta that lies within 64 bits, as nearly all do, by one load. Two loops are left: unary goes over
+//! 64 zeros at a time, and nibble digit by digit, over at most 21.
 #![tactic(auto)]
 
 mod any;
@@ -25,6 +26,6 @@ mod unary;
 mod zeta;
 
 pub use any::{holds, length, read, write};
-pub use folding::{fold, unfold};
+pub use folding::{fold, unfold, unfold_from};
 pub use law::laws;
 pub use outcome::Read;

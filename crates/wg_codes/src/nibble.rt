@@ -1,5 +1,5 @@
-//! Nibble: the digits of the value in base 8, the highest first and none of them a leading zero, each with a marker bit before
-//! it, which is 1 at the last digit and 0 at the others.
+//! Nibble: the digits of the value in base 8, the highest first and none of them a leading zero, each with a marker bit
+//! before it, which is 1 at the last digit and 0 at the others.
 //!
 //! | value | word |
 //! |---|---|
@@ -9,7 +9,8 @@
 //! | 8 | `0001 1000` |
 //! | 63 | `0111 1111` |
 //!
-//! BVGraph's documentation names the code and gives no words for it: the marker and the canonical form are this program's own.
+//! BVGraph's documentation names the code and gives no words for it: the marker and the canonical form are this
+//! program's own.
 ghost use Rattle.std.specs.Prelude.{◌≡◌, ◌+◌, ◌-◌, ◌*◌, ◌/◌, ◌%◌, ◌^◌, ◌<◌, ◌≤◌, true, false, length, OnOk, OnErr, IsErrOf, IsTrue};
 ghost use Rattle.wg_io.specs.Outside.{Rose, NoneFalls};
 ghost use Rattle.wg_bits.specs.Bits.{rest};
@@ -32,33 +33,25 @@ pub fn read(cursor: &mut Cursor<'_>) -> Read
     let start = cursor.at();
     let mut value = 0;
     for digit in 0..21u32 {
-        match cursor.bit() {
-            None => {
-                cursor.seek_back(start);
-                return Read::Cut;
-            }
-            Some(last) => {
-                if !last && digit == 20 {
-                    cursor.seek_back(start);
-                    return Read::NoWord;
-                }
-                match cursor.take(3) {
-                    None => {
-                        cursor.seek_back(start);
-                        return Read::Cut;
-                    }
-                    Some(next) => {
-                        value = value * 8 + next;
-                        if last {
-                            return Read::Value(value);
-                        }
-                        if value == 0 {
-                            cursor.seek_back(start);
-                            return Read::NoWord;
-                        }
-                    }
-                }
-            }
+        let Some(last) = cursor.bit() else {
+            cursor.seek_back(start);
+            return Read::Cut;
+        };
+        if !last && digit == 20 {
+            cursor.seek_back(start);
+            return Read::NoWord;
+        }
+        let Some(next) = cursor.take(3) else {
+            cursor.seek_back(start);
+            return Read::Cut;
+        };
+        value = value * 8 + next;
+        if last {
+            return Read::Value(value);
+        }
+        if value == 0 {
+            cursor.seek_back(start);
+            return Read::NoWord;
         }
     }
     cursor.seek_back(start);
@@ -73,27 +66,24 @@ pub fn write<D: Depot>(
 ) -> Result<(), WriteError>
     requires value { v ≤ 2 ^ 63 - 1 }
     requires ready { writer.old.failed ≡ false }
-    ensures ok { IsTrue D.told → OnOk result (HasPut (D.files depot.old) (D.files depot.new) name.now writer.old.bits (nibble v) writer.new.bits) }
+    ensures ok { IsTrue D.told → OnOk result
+        (HasPut (D.files depot.old) (D.files depot.new) name.now writer.old.bits (nibble v) writer.new.bits) }
     ensures ready { OnOk result (writer.new.failed ≡ false) }
     ensures failed { OnErr result (writer.new.failed ≡ true) }
-    ensures err { IsTrue D.told → OnErr result (HasPutLess (D.files depot.old) (D.files depot.new) name.now writer.old.bits (nibble v)) }
-    ensures fault { IsErrOf result WriteError.Failed → Rose (D.counts depot.old name.now).write_faults (D.counts depot.new name.now).write_faults }
-    ensures memory { IsErrOf result WriteError.Memory → Rose (D.counts depot.old name.now).wants (D.counts depot.new name.now).wants }
+    ensures err { IsTrue D.told → OnErr result
+        (HasPutLess (D.files depot.old) (D.files depot.new) name.now writer.old.bits (nibble v)) }
+    ensures fault { IsErrOf result WriteError.Failed →
+        Rose (D.counts depot.old name.now).write_faults (D.counts depot.new name.now).write_faults }
+    ensures memory { IsErrOf result WriteError.Memory →
+        Rose (D.counts depot.old name.now).wants (D.counts depot.new name.now).wants }
     ensures later { NoneFalls (D.counts depot.old) (D.counts depot.new) }
 {
     let mut more = highest_one(v) / 3;
     while more > 0 {
-        match writer.put(depot, name, (v >> (3 * more)) % 8, 4) {
-            Ok(()) => {
-                more -= 1;
-            }
-            Err(e) => return Err(e),
-        }
+        writer.put(depot, name, (v >> (3 * more)) % 8, 4)?;
+        more -= 1;
     }
-    match writer.put(depot, name, 8 + v % 8, 4) {
-        Ok(()) => Ok(()),
-        Err(e) => Err(e),
-    }
+    writer.put(depot, name, 8 + v % 8, 4)
 }
 
 #[cold]

@@ -1,3 +1,5 @@
+//! What a reader says.
+
 /// What stands at some bits. For every code and all bits it is exactly one of these.
 #[derive(Clone, Copy, Debug, PartialEq, Eq)]
 pub enum Read {

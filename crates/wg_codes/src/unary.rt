@@ -19,7 +19,7 @@ use crate::headed::put_headed;
 use wg_bits::{Cursor, Writer};
 use wg_io::{Depot, WriteError};
 
-// A word of at most `most`: by one load, where all of it lies within the next 64 bits.
+// A word of at most `most`: by one load, if all of it lies within the next 64 bits.
 #[inline(always)]
 pub fn read(cursor: &mut Cursor<'_>, most: u64) -> Read
     requires { most < 2 ^ 32 }
@@ -64,18 +64,19 @@ pub fn write<D: Depot>(
     name: &str,
 ) -> Result<(), WriteError>
     requires ready { writer.old.failed ≡ false }
-    ensures ok { IsTrue D.told → OnOk result (HasPut (D.files depot.old) (D.files depot.new) name.now writer.old.bits (unary v) writer.new.bits) }
+    ensures ok { IsTrue D.told → OnOk result
+        (HasPut (D.files depot.old) (D.files depot.new) name.now writer.old.bits (unary v) writer.new.bits) }
     ensures ready { OnOk result (writer.new.failed ≡ false) }
     ensures failed { OnErr result (writer.new.failed ≡ true) }
-    ensures err { IsTrue D.told → OnErr result (HasPutLess (D.files depot.old) (D.files depot.new) name.now writer.old.bits (unary v)) }
-    ensures fault { IsErrOf result WriteError.Failed → Rose (D.counts depot.old name.now).write_faults (D.counts depot.new name.now).write_faults }
-    ensures memory { IsErrOf result WriteError.Memory → Rose (D.counts depot.old name.now).wants (D.counts depot.new name.now).wants }
+    ensures err { IsTrue D.told → OnErr result
+        (HasPutLess (D.files depot.old) (D.files depot.new) name.now writer.old.bits (unary v)) }
+    ensures fault { IsErrOf result WriteError.Failed →
+        Rose (D.counts depot.old name.now).write_faults (D.counts depot.new name.now).write_faults }
+    ensures memory { IsErrOf result WriteError.Memory →
+        Rose (D.counts depot.old name.now).wants (D.counts depot.new name.now).wants }
     ensures later { NoneFalls (D.counts depot.old) (D.counts depot.new) }
 {
-    match put_headed(writer, depot, name, v, 0, 0) {
-        Ok(()) => Ok(()),
-        Err(e) => Err(e),
-    }
+    put_headed(writer, depot, name, v, 0, 0)
 }
 
 #[inline(always)]

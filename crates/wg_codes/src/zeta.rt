@@ -1,6 +1,6 @@
-//! Zeta with a shrinking factor k, as the WebGraph paper of Boldi and Vigna has it: with y one more than the value, m the place
-//! of its highest one, h = m / k and left = 2^(hk), the unary word of h, then y in its shortened form: y - left in hk + k - 1
-//! bits where that is below left, else y in hk + k bits. The words of k = 3, and of k = 2:
+//! Zeta with a shrinking factor k, as the WebGraph paper of Boldi and Vigna has it: with y one more than the value, m
+//! the place of its highest one, h = m / k and least = 2^(hk), the unary word of h, then y in its shortened form:
+//! y - least in hk + k - 1 bits if that is below least, else y in hk + k bits. The words of k = 3, and of k = 2:
 //!
 //! | value | k = 3 | k = 2 |
 //! |---|---|---|
@@ -22,7 +22,7 @@ use crate::{Read, unary};
 use wg_bits::{Cursor, Writer};
 use wg_io::{Depot, WriteError};
 
-// A word: by one load, where with its head the long form lies within the next 64 bits. Such a head is below 63 / k, too.
+// A word: by one load, if with its head the long form lies within the next 64 bits. Such a head is below 63 / k, too.
 #[inline(always)]
 pub fn read(cursor: &mut Cursor<'_>, k: u32) -> Read
     requires { (1 ≤ k) × (k ≤ 31) }
@@ -33,13 +33,13 @@ pub fn read(cursor: &mut Cursor<'_>, k: u32) -> Read
     let head = word.leading_zeros();
     let width = head * k + k;
     if head + 1 + width <= 64 {
-        let left = 1u64 << (head * k);
+        let least = 1u64 << (head * k);
         let one = 1u64 << (width - 1);
         let low = (word >> (64 - head - width)) - one;
-        if low < left {
+        if low < least {
             if (head + width) as u64 <= cursor.remaining() {
                 cursor.advance((head + width) as u64);
-                return Read::Value(left + low - 1);
+                return Read::Value(least + low - 1);
             }
         } else if (head + width + 1) as u64 <= cursor.remaining() {
             cursor.advance((head + width + 1) as u64);
@@ -79,11 +79,11 @@ fn shortened(cursor: &mut Cursor<'_>, k: u32, head: u32) -> Option<u64>
     ensures some { IfSome result (λ v. IsShortenedAt k head v (rest cursor.old) (rest cursor.new)
         × (cursor.new ≡ moved cursor.old (length (shortened k head (v + 1))))) }
 {
-    let left = 1u64 << (head * k);
+    let least = 1u64 << (head * k);
     let start = cursor.at();
     match cursor.take(head * k + k - 1) {
         None => None,
-        Some(low) if low < left => Some(left + low - 1),
+        Some(low) if low < least => Some(least + low - 1),
         Some(low) => match cursor.take(1) {
             None => {
                 cursor.seek_back(start);
@@ -104,31 +104,29 @@ pub fn write<D: Depot>(
     requires k { (1 ≤ k) × (k ≤ 31) }
     requires value { v ≤ 2 ^ (k * (63 / k)) - 2 }
     requires ready { writer.old.failed ≡ false }
-    ensures ok { IsTrue D.told → OnOk result (HasPut (D.files depot.old) (D.files depot.new) name.now writer.old.bits (zeta k v) writer.new.bits) }
+    ensures ok { IsTrue D.told → OnOk result
+        (HasPut (D.files depot.old) (D.files depot.new) name.now writer.old.bits (zeta k v) writer.new.bits) }
     ensures ready { OnOk result (writer.new.failed ≡ false) }
     ensures failed { OnErr result (writer.new.failed ≡ true) }
-    ensures err { IsTrue D.told → OnErr result (HasPutLess (D.files depot.old) (D.files depot.new) name.now writer.old.bits (zeta k v)) }
-    ensures fault { IsErrOf result WriteError.Failed → Rose (D.counts depot.old name.now).write_faults (D.counts depot.new name.now).write_faults }
-    ensures memory { IsErrOf result WriteError.Memory → Rose (D.counts depot.old name.now).wants (D.counts depot.new name.now).wants }
+    ensures err { IsTrue D.told → OnErr result
+        (HasPutLess (D.files depot.old) (D.files depot.new) name.now writer.old.bits (zeta k v)) }
+    ensures fault { IsErrOf result WriteError.Failed →
+        Rose (D.counts depot.old name.now).write_faults (D.counts depot.new name.now).write_faults }
+    ensures memory { IsErrOf result WriteError.Memory →
+        Rose (D.counts depot.old name.now).wants (D.counts depot.new name.now).wants }
     ensures later { NoneFalls (D.counts depot.old) (D.counts depot.new) }
 {
     let head = highest_one(v + 1) / k;
     let width = head * k + k;
-    let left = 1u64 << (head * k);
-    if v + 1 - left < left {
-        match put_headed(writer, depot, name, head as u64, v + 1 - left, width - 1) {
-            Ok(()) => Ok(()),
-            Err(e) => Err(e),
-        }
+    let least = 1u64 << (head * k);
+    if v + 1 - least < least {
+        put_headed(writer, depot, name, head as u64, v + 1 - least, width - 1)
     } else {
-        match put_headed(writer, depot, name, head as u64, v + 1, width) {
-            Ok(()) => Ok(()),
-            Err(e) => Err(e),
-        }
+        put_headed(writer, depot, name, head as u64, v + 1, width)
     }
 }
 
-// A quotient by k: where k is the default, by a multiplication in place of a division.
+// A quotient by k: if k is the default, by a multiplication in place of a division.
 #[inline(always)]
 pub fn over(n: u32, k: u32) -> u32
     requires { 1 ≤ k }
@@ -148,8 +146,8 @@ pub fn length(k: u32, v: u64) -> u64
 {
     let head = over(highest_one(v + 1), k);
     let width = head * k + k;
-    let left = 1u64 << (head * k);
-    if v + 1 - left < left {
+    let least = 1u64 << (head * k);
+    if v + 1 - least < least {
         (head + width) as u64
     } else {
         (head + 1 + width) as u64

@@ -1,3 +1,4 @@
+//! The value of one field, and the page that it means.
 ghost use Rattle.std.specs.Prelude.{◌≡◌, ◌+◌, ◌^◌, ◌<◌, ◌≤◌, Bool, List, Some, IfOk};
 ghost use Rattle.wg_params.specs.Codes.{IsCode};
 ghost use Rattle.wg_codes.specs.Fold.{unfolded_from};
@@ -5,7 +6,7 @@ ghost use Rattle.wg_decoder.specs.Answer.{OnFault, OnRefusal};
 ghost use Rattle.wg_decoder.specs.Stages.{IsWordAt, IsNoWordAt, IsNumberAt, IsNoNumberAt};
 
 use crate::Unread;
-use wg_codes::Read;
+use wg_codes::{Read, unfold_from};
 use wg_grammar::{Fault, Field, Kind};
 use wg_params::Code;
 use wg_source::Source;
@@ -46,22 +47,6 @@ pub fn value<S: Source>(
     }
 }
 
-// The number whose distance from the page folds to the value, where it is not below 0.
-#[inline(always)]
-fn unfolded_from(page: u64, value: u64) -> Option<u64>
-    requires { page < 2 ^ 36 }
-    ensures { result ≡ unfolded_from page value }
-{
-    let half = value / 2;
-    if value % 2 == 0 {
-        Some(page + half)
-    } else if half < page {
-        Some(page - half - 1)
-    } else {
-        None
-    }
-}
-
 /// The page that the word that comes next means by its distance from `page`.
 #[inline(always)]
 pub fn first_number<S: Source>(
@@ -87,15 +72,9 @@ pub fn first_number<S: Source>(
         field,
         kind: Kind::Range,
     };
-    match unfolded_from(page, value) {
-        None => Err(Unread::Fault(refused)),
-        Some(number) => {
-            if number < nodes {
-                Ok(number)
-            } else {
-                Err(Unread::Fault(refused))
-            }
-        }
+    match unfold_from(page, value) {
+        Some(number) if number < nodes => Ok(number),
+        _ => Err(Unread::Fault(refused)),
     }
 }
 

@@ -1,4 +1,3 @@
-pub mod Words
 pub mod Walks
 pub mod Rows
 pub mod Order

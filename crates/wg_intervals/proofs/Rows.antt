@@ -17,8 +17,8 @@ two_of_the_least_length =
       refl,
       (
         drop 4 bits,
-        record { v = 2; w = 0; between = drop 3 bits; left_word = (lit≤ tt, refl); length_word = (lit≤ tt, refl); left_is = refl; length_is = refl; some = lit≤ tt; low = lit≤ tt },
-        (drop 6 bits, record { v = 0; w = 0; between = drop 5 bits; left_word = (lit≤ tt, refl); length_word = (lit≤ tt, refl); left_is = refl; length_is = refl; some = lit≤ tt; low = lit≤ tt }, tt),
+        record { v = 2; w = 0; between = drop 3 bits; left_word = (lit≤ tt, refl); length_word = (lit≤ tt, refl); left_is = refl; length_is = refl; low = lit≤ tt },
+        (drop 6 bits, record { v = 0; w = 0; between = drop 5 bits; left_word = (lit≤ tt, refl); length_word = (lit≤ tt, refl); left_is = refl; length_is = refl; low = lit≤ tt }, tt),
       ),
     )
 
@@ -30,7 +30,26 @@ one_before_the_page =
       7 ∷ [],
       3 ∷ [],
       refl,
-      (drop 8 bits, record { v = 5; w = 1; between = drop 5 bits; left_word = (lit≤ tt, refl); length_word = (lit≤ tt, refl); left_is = refl; length_is = refl; some = lit≤ tt; low = lit≤ tt }, tt),
+      (drop 8 bits, record { v = 5; w = 1; between = drop 5 bits; left_word = (lit≤ tt, refl); length_word = (lit≤ tt, refl); left_is = refl; length_is = refl; low = lit≤ tt }, tt),
+    )
+
+-- 011 1 1 010 1 1, and six bits that belong to nothing
+pub two_empty : IntervalsStandAt 0 0 None 3 (bits_of (122 ∷ 192 ∷ []))
+unfolding bits_of low_bits gamma highest unary count_leading_zeros
+two_empty =
+    let bits = bits_of (122 ∷ 192 ∷ []) in (
+      1 ∷ 2 ∷ 4 ∷ [],
+      0 ∷ 1 ∷ 0 ∷ [],
+      refl,
+      (
+        drop 4 bits,
+        record { v = 2; w = 0; between = drop 3 bits; left_word = (lit≤ tt, refl); length_word = (lit≤ tt, refl); left_is = refl; length_is = refl; low = lit≤ tt },
+        (
+          drop 8 bits,
+          record { v = 0; w = 1; between = drop 5 bits; left_word = (lit≤ tt, refl); length_word = (lit≤ tt, refl); left_is = refl; length_is = refl; low = lit≤ tt },
+          (drop 10 bits, record { v = 0; w = 0; between = drop 9 bits; left_word = (lit≤ tt, refl); length_word = (lit≤ tt, refl); left_is = refl; length_is = refl; low = lit≤ tt }, tt),
+        ),
+      ),
     )
 
 -- two runs of just the least length

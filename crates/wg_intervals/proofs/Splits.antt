@@ -29,7 +29,7 @@ long_more least a b = sym (ap ends_and_lengths (filter-append (is_long least) a 
 short_more : (least : ℕ) (a b : List Run) → short_part least a ++ short_part least b ≡ short_part least (a ++ b)
 short_more least a b = sym (ap (flat_map numbers_of) (filter-append (λ r. not (is_long least r)) a b) ∙ flat_map-append numbers_of (filter (λ r. not (is_long least r)) a) (filter (λ r. not (is_long least r)) b))
 
--- i numbers are behind: the runs that ended are stored, and the others come from the current run and the numbers to come
+-- i numbers are behind: the runs that ended are stored, the others come from the current run and the numbers to come
 pub record Splitting (least : ℕ) (extras : List ℕ) (i : ℕ) (run : Run) (intervals residuals : List ℕ) : Type 0 where
   pub ended : List Run
   pub all : ended ++ runs_from run (drop i extras) ≡ runs_of extras

@@ -1,5 +1,5 @@
--- Which numbers of an ascending list stand in intervals. By the WebGraph paper an interval is a maximal run of consecutive numbers that is
--- not shorter than the archive's least length; all other numbers are residuals.
+-- Which numbers of an ascending list stand in intervals. By the WebGraph paper an interval is a maximal run of
+-- consecutive numbers that is not shorter than the archive's least length; all other numbers are residuals.
 use Rattle.std.specs.Prelude.{ℕ, ◌+◌, ◌-◌, Bool, not, ◌&&◌, ◌||◌, ◌==◌, nat_lt, nat_le, List, [], ◌∷◌, ◌++◌, map, filter}
 use Rattle.std.specs.List.{range_with_len, flat_map, zip}
 use Rattle.wg_graph.specs.Numbers.{is_in}
@@ -35,6 +35,6 @@ residuals_of least xs = flat_map numbers_of (filter (λ run. not (is_long least 
 abbrev pub ends_and_lengths : List Run → List ℕ
 ends_and_lengths runs = flat_map (λ run. run.left ∷ run.length ∷ []) runs
 
--- the runs from this one on, where these numbers follow
+-- the runs from this one on, if these numbers follow
 abbrev pub runs_from : Run → List ℕ → List Run
 runs_from run xs = runs_of (numbers_of run ++ xs)

@@ -1,10 +1,10 @@
--- How a record stores its intervals. By BVGraph's documentation an interval is stored as its left end and its length, each a word of
--- gamma: the first left end by its distance from the page, a later one by its distance, less 1, from past, which is one past the last
--- number of the interval before; and a length less the least length.
-use Rattle.std.specs.Prelude.{◌≡◌, ℕ, ◌+◌, ◌^◌, ◌<◌, ◌≤◌, Bool, List, [], ◌∷◌, ◌++◌, length, Option, Some, None}
+-- How a record stores its intervals. By BVGraph's documentation an interval is stored as its left end and its length,
+-- each a word of gamma: the first left end by its distance from the page, a later one by its distance, less 1, from
+-- past, which is one past the last number of the interval before; and a length less the least length.
+use Rattle.std.specs.Prelude.{◌≡◌, ℕ, zero, suc, ◌+◌, ◌^◌, ◌≤◌, Bool, List, [], ◌∷◌, ◌++◌, length, Option, Some, None, unwrap_or}
 use Rattle.std.specs.List.{range_with_len}
 use Rattle.wg_params.specs.declared.code.Code.TheVariants.{Gamma}
-use Rattle.wg_codes.specs.Words.{word, top}
+use Rattle.wg_codes.specs.Standing.{IsWord, value_at, behind_value}
 use Rattle.wg_codes.specs.Fold.{unfolded_from}
 
 -- what a stored left end means, at first and after an interval
@@ -12,20 +12,15 @@ abbrev pub left_of : ℕ → Option ℕ → ℕ → Option ℕ
 left_of page None v = unfolded_from page v
 left_of page (Some past) v = Some (past + 1 + v)
 
--- the word of v stands at the bits, with these behind it
-abbrev pub IsWord : ℕ → List Bool → List Bool → Type 0
-IsWord v bits behind = (v ≤ top Gamma) × (bits ≡ word Gamma v ++ behind)
-
--- An interval with this left end and length stands at the bits, with others behind it. It is not empty, and its numbers lie below 2 ^ 62.
+-- An interval with this left end and length stands at the bits, with others behind it. Its end is within 2 ^ 62.
 pub record IsInterval (page least : ℕ) (past : Option ℕ) (left len : ℕ) (bits behind : List Bool) : Type 0 where
   pub v : ℕ
   pub w : ℕ
   pub between : List Bool
-  pub left_word : IsWord v bits between
-  pub length_word : IsWord w between behind
+  pub left_word : IsWord Gamma v bits between
+  pub length_word : IsWord Gamma w between behind
   pub left_is : left_of page past v ≡ Some left
   pub length_is : len ≡ w + least
-  pub some : 0 < len
   pub low : left + len ≤ 2 ^ 62
 
 -- intervals with these left ends and lengths stand at the bits, one after the other
@@ -33,14 +28,25 @@ abbrev pub StandAt : ℕ → ℕ → Option ℕ → List ℕ → List ℕ → Li
 StandAt page least past [] [] bits = Unit {0}
 StandAt page least past [] (n ∷ ns) bits = ⊥
 StandAt page least past (l ∷ ls) [] bits = ⊥
-StandAt page least past (l ∷ ls) (n ∷ ns) bits = (behind : List Bool) × IsInterval page least past l n bits behind × StandAt page least (Some (l + n)) ls ns behind
+StandAt page least past (l ∷ ls) (n ∷ ns) bits =
+    (behind : List Bool) × IsInterval page least past l n bits behind × StandAt page least (Some (l + n)) ls ns behind
 
 -- so many intervals stand at the bits
 abbrev pub IntervalsStandAt : ℕ → ℕ → Option ℕ → ℕ → List Bool → Type 0
-IntervalsStandAt page least past count bits = (lefts : List ℕ) × (lengths : List ℕ) × (length lefts ≡ count) × StandAt page least past lefts lengths bits
+IntervalsStandAt page least past count bits =
+    (lefts : List ℕ) × (lengths : List ℕ) × (length lefts ≡ count) × StandAt page least past lefts lengths bits
 
 -- the numbers inside the intervals, one interval after the other
 abbrev pub numbers_inside : List ℕ → List ℕ → List ℕ
 numbers_inside [] ns = []
 numbers_inside (l ∷ ls) [] = []
 numbers_inside (l ∷ ls) (n ∷ ns) = range_with_len l n ++ numbers_inside ls ns
+
+-- the numbers inside the n intervals that stand at the bits, as a function of the bits
+unfoldable pub numbers_at : ℕ → ℕ → Option ℕ → ℕ → List Bool → List ℕ
+numbers_at page least past zero bits = []
+numbers_at page least past (suc n) bits =
+    let behind_left : List Bool = behind_value Gamma bits in
+    let left : ℕ = unwrap_or (left_of page past (value_at Gamma bits)) 0 in
+    let len : ℕ = value_at Gamma behind_left + least in
+    range_with_len left len ++ numbers_at page least (Some (left + len)) n (behind_value Gamma behind_left)

@@ -1,15 +1,17 @@
 //! The intervals of a record, taken as the numbers inside them.
 //!
 //! An interval is a run of successors that follow one another: a record stores its left end and its length. An
-//! [`IntervalWalk`] gives the numbers inside the intervals, one after the other, ascending. It reads the words of an interval
-//! when it reaches it, with a cursor of its own, so it keeps a few numbers alone.
+//! [`IntervalWalk`] gives the numbers inside the intervals, one after the other, ascending, and contracts see it as the
+//! list of those to come. It reads the words of an interval when it reaches it, with a cursor of its own, so it keeps
+//! a few numbers alone.
 //!
-//! Whoever writes a record needs the intervals among the successors that are not copied: [`split`] gives them and the numbers
-//! in none, the residuals, as a [`Split`], in one pass. A [`Run`] gives the maximal runs of consecutive numbers one by one, for
-//! those who only count. The function of [`laws`] states that a split loses nothing, and leaves nothing in residuals that
-//! could stand in an interval.
+//! Whoever writes a record needs the intervals among the successors that are not copied: [`split`] gives them and the
+//! numbers in none, the residuals, as a [`Split`], in one pass. A [`Run`] gives the maximal runs of consecutive numbers
+//! one by one, for those who only count. The function of [`laws`] states that a split loses nothing, and leaves nothing
+//! in residuals that could stand in an interval.
 //!
-//! Nothing but a [`Split`] takes memory. Each step of a walk reads at most two words.
+//! Nothing but a [`Split`] takes memory. A step of a walk reads two words if it begins an interval, and two more for
+//! each empty one before it.
 #![tactic(auto)]
 
 mod interval;

@@ -1,3 +1,4 @@
+//! The parts of a list: its intervals, and what is in none.
 ghost use Rattle.std.specs.Prelude.{◌≡◌, ◌+◌, ◌≤◌, ◌^◌, [], ◌∷◌, ◌++◌, not, filter, option_to_list, OnOk};
 ghost use Rattle.std.specs.List.{flat_map};
 ghost use Rattle.std.specs.Option.{ForSome};
@@ -7,7 +8,8 @@ use crate::Run;
 use std::alloc::{AllocError, Global};
 use wg_graph::List;
 
-/// The intervals among ascending numbers, and the residuals, which are in none: 16 bytes for each interval, 8 for each residual.
+/// The intervals among ascending numbers, and the residuals, which are in none: 16 bytes for each interval, 8 for each
+/// residual.
 #[derive(Debug, Drop)]
 pub struct Split {
     /// Left end and length of each interval, one after the other.
@@ -28,8 +30,10 @@ impl Split {
     // Adds a run, if there is one, as an interval or as residuals.
     pub(crate) fn add(&mut self, run: Option<Run>, least: u64) -> Result<(), AllocError>
         requires { ForSome run (λ r. r.left + r.length ≤ 2 ^ 64) }
-        ensures intervals { OnOk result (self.new.intervals ≡ self.old.intervals ++ ends_and_lengths (filter (is_long least) (option_to_list run))) }
-        ensures residuals { OnOk result (self.new.residuals ≡ self.old.residuals ++ flat_map numbers_of (filter (λ r. not (is_long least r)) (option_to_list run))) }
+        ensures intervals { OnOk result (self.new.intervals
+            ≡ self.old.intervals ++ ends_and_lengths (filter (is_long least) (option_to_list run))) }
+        ensures residuals { OnOk result (self.new.residuals
+            ≡ self.old.residuals ++ flat_map numbers_of (filter (λ r. not (is_long least r)) (option_to_list run))) }
     {
         match run {
             Some(run) => self.add_run(run, least),
@@ -39,8 +43,10 @@ impl Split {
 
     fn add_run(&mut self, run: Run, least: u64) -> Result<(), AllocError>
         requires { run.left + run.length ≤ 2 ^ 64 }
-        ensures intervals { OnOk result (self.new.intervals ≡ self.old.intervals ++ ends_and_lengths (filter (is_long least) (run ∷ []))) }
-        ensures residuals { OnOk result (self.new.residuals ≡ self.old.residuals ++ flat_map numbers_of (filter (λ r. not (is_long least r)) (run ∷ []))) }
+        ensures intervals { OnOk result (self.new.intervals
+            ≡ self.old.intervals ++ ends_and_lengths (filter (is_long least) (run ∷ []))) }
+        ensures residuals { OnOk result (self.new.residuals
+            ≡ self.old.residuals ++ flat_map numbers_of (filter (λ r. not (is_long least r)) (run ∷ []))) }
     {
         if least > 0 && least <= run.length {
             self.intervals.push(run.left)?;

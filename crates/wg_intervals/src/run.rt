@@ -1,4 +1,4 @@
-// Maximal runs of consecutive numbers.
+//! Maximal runs of consecutive numbers.
 ghost use Rattle.std.specs.Prelude.{◌≡◌, ◌+◌, ◌<◌, ◌≤◌, ◌^◌, List, ℕ, [], ◌∷◌, ◌++◌, option_to_list, IfSome, OnSome};
 ghost use Rattle.wg_graph.specs.Ascending.{Ascends};
 ghost use Rattle.wg_intervals.specs.Canonical.{runs_of, runs_from};
@@ -24,7 +24,8 @@ impl Run {
     pub fn step(&mut self, number: u64) -> Option<Run>
         requires greater { self.old.left + self.old.length ≤ number }
         requires short { self.old.length < 2 ^ 63 }
-        ensures runs { (numbers : List ℕ) → Ascends (number + 1) numbers → runs_from self.old (number ∷ numbers) ≡ option_to_list result ++ runs_from self.new numbers }
+        ensures runs { (numbers : List ℕ) → Ascends (number + 1) numbers
+            → runs_from self.old (number ∷ numbers) ≡ option_to_list result ++ runs_from self.new numbers }
         ensures ended { IfSome result (λ run. run ≡ self.old) }
         ensures end { self.new.left + self.new.length ≡ number + 1 }
         ensures some { 0 < self.new.length }
@@ -43,7 +44,7 @@ impl Run {
         run.last()
     }
 
-    /// The run, where it is not empty: the last one, where no number is left.
+    /// The run, if it is not empty: the last one, if no number is left.
     #[inline(always)]
     pub fn last(self) -> Option<Run>
         ensures runs { runs_from self [] ≡ option_to_list result }

@@ -1,15 +1,17 @@
-// The numbers inside intervals, one after the other.
-ghost use Rattle.std.specs.Prelude.{◌≡◌, ℕ, ◌+◌, ◌^◌, ◌≤◌, List, length, None};
+//! The numbers inside intervals, one after the other.
+ghost use Rattle.std.specs.Prelude.{◌≡◌, ℕ, ◌^◌, ◌≤◌, List, length, None};
 ghost use Rattle.wg_bits.specs.Bits.{rest};
 ghost use Rattle.wg_graph.specs.Ascending.{Ascends};
 ghost use Rattle.wg_intervals.specs.Stored.{StandAt, IntervalsStandAt, numbers_inside};
-ghost use Rattle.wg_intervals.specs.Follow.{Seen, Follows, Gives};
+ghost use Rattle.wg_intervals.specs.Coming.{Gives};
 
+use crate::Run;
 use crate::interval::interval_at;
 use std::marker::Model;
 use wg_bits::Cursor;
 
-/// Gives the numbers inside the intervals of a record, ascending, each once.
+/// Gives the numbers inside the intervals of a record, ascending, each once. Contracts see it as the list of those to
+/// come.
 ///
 /// It reads an interval when the one before it is used up.
 #[derive(Drop)]
@@ -19,67 +21,64 @@ pub struct IntervalWalk<'a> {
     page: u64,
     least: u64,
     // how many intervals have not been read
-    left: u64,
-    // one past the last number of the current interval; none before the first
+    unread: u64,
+    // one past the last number of the interval that was read last; none before the first
     past: Option<u64>,
-    number: u64,
-    // how many numbers of the current interval are left
-    run: u64,
+    // what is left of that interval
+    current: Run,
 }
 
 impl<'a> Model for IntervalWalk<'a> {
-    ghost Value = { Seen };
+    ghost use Rattle.std.specs.Prelude.{ℕ, ◌+◌, ◌^◌, ◌≤◌, List, ◌++◌};
+    ghost use Rattle.wg_bits.specs.Bits.{rest};
+    ghost use Rattle.wg_intervals.specs.Canonical.{numbers_of};
+    ghost use Rattle.wg_intervals.specs.Stored.{IntervalsStandAt, numbers_at};
 
-    ghost view = { λ m. record { place = m.cursor; page = m.page; least = m.least; left = m.left; past = m.past; number = m.number; run = m.run } };
+    ghost Value = { List ℕ };
 
-    ghost invariant = { λ m. IntervalsStandAt m.page m.least m.past m.left (rest m.cursor) × (m.number + m.run ≤ 2 ^ 62) };
+    ghost view = { λ m. numbers_of m.current ++ numbers_at m.page m.least m.past m.unread (rest m.cursor) };
+
+    ghost invariant = { λ m. (m.page ≤ 2 ^ 62) × (m.current.left + m.current.length ≤ 2 ^ 62)
+        × IntervalsStandAt m.page m.least m.past m.unread (rest m.cursor) };
 }
 
 impl<'a> IntervalWalk<'a> {
-    /// A walk before the first number of `count` intervals that stand at the cursor, in the record of `page`. None is shorter
-    /// than `interval`, the archive's least length.
+    /// A walk before the first number of `count` intervals that stand at the cursor, in the record of `page`. None is
+    /// shorter than `interval`, the archive's least length.
     pub fn new(cursor: Cursor<'a>, page: u64, count: u64, interval: u64) -> IntervalWalk<'a>
-        requires { IntervalsStandAt page interval None count (rest cursor) }
-        ensures coming { (lefts lengths : List ℕ) → length lefts ≡ count → StandAt page interval None lefts lengths (rest cursor.entry) → Follows result (numbers_inside lefts lengths) }
-        ensures ascends { (lefts lengths : List ℕ) → StandAt page interval None lefts lengths (rest cursor.entry) → Ascends 0 (numbers_inside lefts lengths) }
+        requires page { page ≤ 2 ^ 62 }
+        requires stand { IntervalsStandAt page interval None count (rest cursor) }
+        ensures coming { (lefts lengths : List ℕ) → length lefts ≡ count
+            → StandAt page interval None lefts lengths (rest cursor.entry) → result ≡ numbers_inside lefts lengths }
+        ensures ascends { (lefts lengths : List ℕ) → StandAt page interval None lefts lengths (rest cursor.entry)
+            → Ascends 0 (numbers_inside lefts lengths) }
     {
         IntervalWalk {
             cursor,
             page,
             least: interval,
-            left: count,
+            unread: count,
             past: None,
-            number: 0,
-            run: 0,
+            current: Run::none(),
         }
     }
 
-    /// The next number; none where nothing is left, again and again.
+    /// The next number; none if nothing is left, again and again.
     pub fn next(&mut self) -> Option<u64>
-        ensures { (coming : List ℕ) → Follows self.old coming → Gives coming result self.new }
+        ensures { Gives self.old result self.new }
     {
-        self.turn();
-        if self.run == 0 {
-            return None;
+        // an interval may be empty, if the least length is 0
+        while self.current.length == 0 {
+            if self.unread == 0 {
+                return None;
+            }
+            self.current = interval_at(&mut self.cursor, self.page, self.least, self.past);
+            self.past = Some(self.current.left + self.current.length);
+            self.unread -= 1;
         }
-        let number = self.number;
-        self.number += 1;
-        self.run -= 1;
+        let number = self.current.left;
+        self.current.left += 1;
+        self.current.length -= 1;
         Some(number)
-    }
-
-    // Goes over to the next interval where nothing is left of this one. No interval is empty.
-    fn turn(&mut self)
-        ensures last { self.new.run ≡ 0 → self.new.left ≡ 0 }
-        ensures same { (coming : List ℕ) → Follows self.old coming → Follows self.new coming }
-    {
-        if self.run > 0 || self.left == 0 {
-            return;
-        }
-        let next = interval_at(&mut self.cursor, self.page, self.least, self.past);
-        self.left -= 1;
-        self.past = Some(next.left + next.length);
-        self.number = next.left;
-        self.run = next.length;
     }
 }

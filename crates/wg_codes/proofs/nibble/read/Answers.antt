@@ -11,22 +11,22 @@ loop-digit-init c = record {
   place = nothing_moved c.args.cursor.now;
 }
 
-pub returns-in-None-clause-found : goal.returns-in-None-clause-found
-returns-in-None-clause-found c =
-    nibble_cut c.loop-digit.digit c.loop-digit.value _ _ c.loop-digit.invariant.few c.loop-digit.invariant.lead c.loop-digit.invariant.digits c.in-None.ensures.none.0
+pub returns-in_default-clause-found : goal.returns-in_default-clause-found
+returns-in_default-clause-found c =
+    nibble_cut c.loop-digit.digit c.loop-digit.value _ _ c.loop-digit.invariant.few c.loop-digit.invariant.lead c.loop-digit.invariant.digits c.in_default.ensures.none.0
 
 pub returns-then-digit-eq20-clause-found : goal.returns-then-digit-eq20-clause-found
 returns-then-digit-eq20-clause-found c =
     last_digit_open c.loop-digit.digit c.loop-digit.value _ _ _ c.in-Some.last (omega arith) (search rules) c.loop-digit.invariant.digits c.in-Some.ensures.some.0
 
-pub returns-in-None-take-clause-found : goal.returns-in-None-take-clause-found
-returns-in-None-take-clause-found c =
+pub returns-in_default-take-clause-found : goal.returns-in_default-take-clause-found
+returns-in_default-take-clause-found c =
     let more : c.in-Some.last ≡ false → c.loop-digit.digit ≤ 19 = λ e.
     elim c.else-not-last.branch [
       | else-not-last-via-then-not-last+else-digit-eq20 w ↦ (let f = c.loop-digit.invariant.few in omega arith)
       | else-not-last-via-else-not-last w ↦ (let t = w.if-not-last.false in cc)
     ] in
-    digit_cut c.loop-digit.digit c.loop-digit.value _ _ _ c.in-Some.last c.loop-digit.invariant.few c.loop-digit.invariant.lead more c.loop-digit.invariant.digits c.in-Some.ensures.some.0 c.in-None-take.ensures.none.0
+    digit_cut c.loop-digit.digit c.loop-digit.value _ _ _ c.in-Some.last c.loop-digit.invariant.few c.loop-digit.invariant.lead more c.loop-digit.invariant.digits c.in-Some.ensures.some.0 c.in_default-take.ensures.none.0
 
 pub overflow_mul-value : goal.overflow_mul-value
 overflow_mul-value c =

@@ -1,5 +1,6 @@
 use Rattle.std.proofs.Common.{◌++◌, arith, refl, sym, ap, ◌∙◌}
 use Rattle.std.proofs.lemmas.List.{append-nil}
+use Rattle.std.proofs.lemmas.Result.{on_ok_weaker, on_err_weaker, err_from_is_err_and}
 use Rattle.wg_io.proofs.FilesLemmas.{none_falls-trans}
 use Rattle.wg_bits.proofs.Writes.{put_kept, put_trans, put_then_less, none_falls-refl}
 use Rattle.wg_codes.proofs.Writing.{put_same, less_same}
@@ -20,23 +21,29 @@ pub loop-more-preserved : goal.loop-more-preserved
 loop-more-preserved g c = record {
   small = omega arith;
   within = let w = c.loop-more.invariant.within in omega arith;
-  ready = c.in-Ok.ensures.ready;
+  ready = c.in_ok-put.ensures.ready;
   put = λ t. put_same _ _ _ _ _ _ _ (opened_put c.args.v c.loop-more.more _ _ c.loop-more-test.true c.loop-more.invariant.within refl refl)
-      (put_trans _ _ _ _ _ _ _ _ _ (c.loop-more.invariant.put t) (c.in-Ok.ensures.ok t));
+      (put_trans _ _ _ _ _ _ _ _ _ (c.loop-more.invariant.put t) (c.in_ok-put.ensures.ok t));
   later = none_falls-trans _ _ _ c.loop-more.invariant.later c.put.ensures.later;
 }
 
-pub returns-in-Err-clause-err : goal.returns-in-Err-clause-err
-returns-in-Err-clause-err g c t =
-    less_nibble _ _ _ _ _ _ c.args.v c.loop-more.more _ c.requires.value c.loop-more-test.true c.loop-more.invariant.within refl
-    (c.loop-more.invariant.put t) (c.in-Err.ensures.err t)
+pub returns-in_err-put-clause-err : goal.returns-in_err-put-clause-err
+returns-in_err-put-clause-err g c t =
+    let p = err_from_is_err_and c.from_residual.result c.from_residual.ensures.1 in
+    rw p.1
+    (less_nibble _ _ _ _ _ _ c.args.v c.loop-more.more _ c.requires.value c.loop-more-test.true c.loop-more.invariant.within refl
+    (c.loop-more.invariant.put t) (c.in_err-put.ensures.err t))
 
-pub returns-in-Ok-put-clause-ok : goal.returns-in-Ok-put-clause-ok
-returns-in-Ok-put-clause-ok g c t =
-    put_same _ _ _ _ _ _ _ (nibble_put c.args.v c.loop-more.more _ c.requires.value c.loop-more-test.false refl)
-    (put_trans _ _ _ _ _ _ _ _ _ (c.loop-more.invariant.put t) (c.in-Ok-put.ensures.ok t))
+pub returns-clause-ok : goal.returns-clause-ok
+returns-clause-ok g c t =
+    on_ok_weaker _
+    (λ put. put_same _ _ _ _ _ _ _ (nibble_put c.args.v c.loop-more.more _ c.requires.value c.loop-more-test.false refl)
+    (put_trans _ _ _ _ _ _ _ _ _ (c.loop-more.invariant.put t) put))
+    (c.put-2.ensures.ok t)
 
-pub returns-in-Err-put-clause-err : goal.returns-in-Err-put-clause-err
-returns-in-Err-put-clause-err g c t =
-    less_same _ _ _ _ _ _ (nibble_put c.args.v c.loop-more.more _ c.requires.value c.loop-more-test.false refl)
-    (put_then_less _ _ _ _ _ _ _ _ (c.loop-more.invariant.put t) (c.in-Err-put.ensures.err t))
+pub returns-clause-err : goal.returns-clause-err
+returns-clause-err g c t =
+    on_err_weaker _
+    (λ less. less_same _ _ _ _ _ _ (nibble_put c.args.v c.loop-more.more _ c.requires.value c.loop-more-test.false refl)
+    (put_then_less _ _ _ _ _ _ _ _ (c.loop-more.invariant.put t) less))
+    (c.put-2.ensures.err t)

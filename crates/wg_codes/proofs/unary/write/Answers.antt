@@ -1,8 +1,9 @@
+use Rattle.std.proofs.lemmas.Result.{on_ok_weaker, on_err_weaker}
 use Rattle.wg_codes.proofs.Writing.{put_same, less_same, unary_put}
 use Rattle.wg_codes.proofs.unary.write.Goals as goal
 
-pub returns-in-Ok-clause-ok : goal.returns-in-Ok-clause-ok
-returns-in-Ok-clause-ok g c t = put_same _ _ _ _ _ _ _ (unary_put c.args.v) (c.in-Ok.ensures.ok t)
+pub returns-clause-ok : goal.returns-clause-ok
+returns-clause-ok g c t = on_ok_weaker _ (put_same _ _ _ _ _ _ _ (unary_put c.args.v)) (c.put_headed.ensures.ok t)
 
-pub returns-in-Err-clause-err : goal.returns-in-Err-clause-err
-returns-in-Err-clause-err g c t = less_same _ _ _ _ _ _ (unary_put c.args.v) (c.in-Err.ensures.err t)
+pub returns-clause-err : goal.returns-clause-err
+returns-clause-err g c t = on_err_weaker _ (less_same _ _ _ _ _ _ (unary_put c.args.v)) (c.put_headed.ensures.err t)

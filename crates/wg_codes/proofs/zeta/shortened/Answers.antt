@@ -3,14 +3,14 @@ use Rattle.wg_bits.specs.Bits.{rest, moved}
 use Rattle.wg_codes.specs.Words.{shortened}
 use Rattle.wg_codes.specs.Parts.{IsShortenedAt}
 use Rattle.wg_codes.proofs.Prefix.{restored}
-use Rattle.wg_codes.proofs.ZetaWords.{room, left_is, left_small, low_small, place_short, place_long, tail_short, tail_long, tail_cut_early, tail_cut_late}
+use Rattle.wg_codes.proofs.ZetaWords.{room, least_is, least_small, low_small, place_short, place_long, tail_short, tail_long, tail_cut_early, tail_cut_late}
 use Rattle.wg_codes.proofs.zeta.shortened.Goals as goal
 
 pub overflow_add-result : goal.overflow_add-result
 overflow_add-result c =
     let fits = room c.args.k c.args.head c.requires.head in
-    let e = left_is c.args.k c.args.head c.requires.k.0 fits in
-    let s = left_small c.args.k c.args.head c.requires.k.0 fits in
+    let e = least_is c.args.k c.args.head c.requires.k.0 fits in
+    let s = least_small c.args.k c.args.head c.requires.k.0 fits in
     omega arith
 
 pub overflow_mul-result : goal.overflow_mul-result
@@ -33,7 +33,7 @@ returns-in-None-clause-none c =
 pub returns-in-Some-clause-some : goal.returns-in-Some-clause-some
 returns-in-Some-clause-some c =
     let fits = room c.args.k c.args.head c.requires.head in
-    let e : (1 * 2 ^ (c.args.head * c.args.k)) % 2 ^ 64 ≡ 2 ^ (c.args.head * c.args.k) = left_is c.args.k c.args.head c.requires.k.0 fits in
+    let e : (1 * 2 ^ (c.args.head * c.args.k)) % 2 ^ 64 ≡ 2 ^ (c.args.head * c.args.k) = least_is c.args.k c.args.head c.requires.k.0 fits in
     let l : c.in-Some.low < 2 ^ (c.args.head * c.args.k) = omega arith in
     subst (λ p. IsShortenedAt c.args.k c.args.head (p + c.in-Some.low - 1) (rest c.args.cursor.now) (rest c.take.new.self)
     × (c.take.new.self ≡ moved c.args.cursor.now (length (shortened c.args.k c.args.head (p + c.in-Some.low - 1 + 1))))) (sym e) (
@@ -44,7 +44,7 @@ returns-in-Some-clause-some c =
 pub returns-in-None-take-clause-none : goal.returns-in-None-take-clause-none
 returns-in-None-take-clause-none c =
     let fits = room c.args.k c.args.head c.requires.head in
-    let e : (1 * 2 ^ (c.args.head * c.args.k)) % 2 ^ 64 ≡ 2 ^ (c.args.head * c.args.k) = left_is c.args.k c.args.head c.requires.k.0 fits in (
+    let e : (1 * 2 ^ (c.args.head * c.args.k)) % 2 ^ 64 ≡ 2 ^ (c.args.head * c.args.k) = least_is c.args.k c.args.head c.requires.k.0 fits in (
       tail_cut_late c.args.k c.args.head c.in-Some.low _ _ c.requires.k.0 fits c.in-Some.ensures.some.0 (omega arith) c.in-Some.ensures.some.1 c.in-None-take.ensures.none.0,
       restored c.args.cursor.now _ _ _ _ _ c.in-Some.ensures.some.2 c.in-None-take.ensures.none.1 c.at-start.ensures.place c.seek_back.ensures,
     )
@@ -52,7 +52,7 @@ returns-in-None-take-clause-none c =
 pub returns-in-Some-take-clause-some : goal.returns-in-Some-take-clause-some
 returns-in-Some-take-clause-some c =
     let fits = room c.args.k c.args.head c.requires.head in
-    let e : (1 * 2 ^ (c.args.head * c.args.k)) % 2 ^ 64 ≡ 2 ^ (c.args.head * c.args.k) = left_is c.args.k c.args.head c.requires.k.0 fits in
+    let e : (1 * 2 ^ (c.args.head * c.args.k)) % 2 ^ 64 ≡ 2 ^ (c.args.head * c.args.k) = least_is c.args.k c.args.head c.requires.k.0 fits in
     let l : 2 ^ (c.args.head * c.args.k) ≤ c.in-Some.low = omega arith in (
       tail_long c.args.k c.args.head c.in-Some.low c.in-Some-take.last _ _ _ c.requires.k.0 fits c.in-Some.ensures.some.0 l c.in-Some-take.ensures.some.0 c.in-Some.ensures.some.1 c.in-Some-take.ensures.some.1,
       place_long c.args.k c.args.head c.in-Some.low c.in-Some-take.last _ _ _ c.requires.k.0 fits c.in-Some.ensures.some.0 l c.in-Some-take.ensures.some.0 c.in-Some.ensures.some.2 c.in-Some-take.ensures.some.2,
