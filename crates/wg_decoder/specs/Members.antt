@@ -26,7 +26,8 @@ pub record AllRead (p : Parameters) (c : Context) (bits : List Bool) (start d r 
   pub refers : value_or_0 so_far.reference ≡ r
   pub is : list_of p c so_far ≡ list
 
--- where this head ends at the bit at, and the reference names this list, the record has this list and ends at the bit end
+-- where this head ends at the bit at, and the reference names this list, the record has this list and ends at the bit
+-- end
 abbrev pub AreMembers : Parameters → ℕ → ℕ → ℕ → List ℕ → List Bool → ℕ → List ℕ → ℕ → Type 0
 AreMembers p page d r named bits at list end =
     (arcs_before start : ℕ) (behind : List Known) → referenced behind r ≡ named

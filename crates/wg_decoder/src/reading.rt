@@ -15,8 +15,8 @@ use wg_grammar::{Fault, Field, Kind};
 use wg_params::Params;
 use wg_source::Source;
 
-/// The record that comes next from a source, of a page with `arcs_before` arcs before it. The source moves over the record, and
-/// may stand anywhere in it where it is refused, memory is wanting or a word was refused.
+/// The record that comes next from a source, of a page with `arcs_before` arcs before it. The source moves over the
+/// record, and may stand anywhere in it where it is refused, memory is wanting or a word was refused.
 pub fn decode_from<S: Source>(
     params: &Params,
     page: u64,
@@ -72,9 +72,9 @@ fn error_of(unread: Unread<Infallible>) -> DecodeError
     }
 }
 
-/// The record at the cursor, of a page with `arcs_before` arcs before it. The cursor moves over the record, and stands still
-/// where it is refused or memory is wanting. Memory is taken as successors come, and not by the outdegree; it costs a word of
-/// each field, and a pass over the list that is referred to.
+/// The record at the cursor, of a page with `arcs_before` arcs before it. The cursor moves over the record, and stands
+/// still where it is refused or memory is wanting. Memory is taken as successors come, and not by the outdegree; it
+/// costs a word of each field, and a pass over the list that is referred to.
 pub fn decode(
     alloc: Global,
     params: &Params,

@@ -16,7 +16,8 @@ arcs_of behind = sum_by (λ w. length w.known.list) behind
 abbrev pub context_of : Parameters → List Whole → Context
 context_of p behind = record { page = length behind; arcs_before = arcs_of behind; behind = take p.window (map (λ w. w.known) behind) }
 
--- With these records behind, the proper records of ws stand one after the other from the bit at; then last are behind, and end is reached.
+-- With these records behind, the proper records of ws stand one after the other from the bit at; then last are behind,
+-- and end is reached.
 abbrev pub Pages : Parameters → List Bool → List Whole → ℕ → List Whole → List Whole → ℕ → Type 0
 Pages p bits behind at [] last end = (last ≡ behind) × (end ≡ at)
 Pages p bits behind at (w ∷ ws) last end =

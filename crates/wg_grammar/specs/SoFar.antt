@@ -47,12 +47,13 @@ missing c s = extra c s - (sum s.lengths + length s.residuals)
 abbrev pub own_block : SoFar → ℕ → ℕ
 own_block s v = if length s.blocks == 0 then v else v + 1
 
--- The first left end is stored as the fold of its distance from the page, a later one as its distance from the end of the interval
--- before, less 1, where the end is one past the last number; none where the number would be below 0.
+-- The first left end is stored as the fold of its distance from the page, a later one as its distance from the end of
+-- the interval before, less 1, where the end is one past the last number; none where the number would be below 0.
 abbrev pub own_left : Context → SoFar → ℕ → Option ℕ
 own_left c s v = if length s.lefts == 0 then unfolded_from c.page v else Some (last_of s.lefts + last_of s.lengths + 1 + v)
 
--- The first residual is stored as the fold of its distance from the page, a later one as the distance from the one before it, less 1.
+-- The first residual is stored as the fold of its distance from the page, a later one as the distance from the one
+-- before it, less 1.
 abbrev pub own_residual : Context → SoFar → ℕ → Option ℕ
 own_residual c s v = if length s.residuals == 0 then unfolded_from c.page v else Some (last_of s.residuals + 1 + v)
 

@@ -1,7 +1,7 @@
 //! The grammar of archives: which bits are the record of a page, and which are a graph file.
 //!
-//! A graph file holds one record for each page, in order, and then a tail of zero bits, at most [`MOST_TAIL`]. The fields of
-//! the record of page `x` come in this order:
+//! A graph file holds one record for each page, in order, and then a tail of zero bits, at most [`MOST_TAIL`]. The
+//! fields of the record of page `x` come in this order:
 //!
 //! | field | there | stored as |
 //! |---|---|---|
@@ -13,10 +13,11 @@
 //! | left end and length of each interval | | the first left end folded as the distance from `x`, later ones as the distance from the end of the interval before, less 1; a length less the least length |
 //! | residuals | while successors are missing | the first folded as the distance from `x`, later ones as the distance from the residual before, less 1 |
 //!
-//! The definitions say what comes next, what is refused and why, which list a record has, and which graph a file holds; the
-//! functions of [`laws`] state that each file is one graph or has one first fault. [`Progress`] is what a reader of records
-//! runs: it tells the next [`Need`], a field and its code, and judges the value that was read there. A refused field is
-//! named by a [`Fault`], and the first fault of a whole archive by an [`ArchiveFault`]. [`tail_fault`] judges the tail.
+//! The definitions say what comes next, what is refused and why, which list a record has, and which graph a file holds;
+//! the functions of [`laws`] state that each file is one graph or has one first fault. [`Progress`] is what a reader of
+//! records runs: it tells the next [`Need`], a field and its code, and judges the value that was read there. A refused
+//! field is named by a [`Fault`], and the first fault of a whole archive by an [`ArchiveFault`]. [`tail_fault`] judges
+//! the tail.
 //!
 //! Nothing here takes memory, and each call takes constant time.
 #![tactic(auto)]

@@ -20,8 +20,9 @@ pub struct Referenced {
 
 /// How far a record has been read: what comes next, and whether a value is allowed there.
 ///
-/// It keeps numbers alone and no lists, so it takes no memory, and each call takes constant time. Whoever reads a record asks
-/// for the next need, reads one word in its code, and hands the value over; a refused value changes nothing.
+/// It keeps numbers alone and no lists, so it takes no memory, and each call takes constant time. Whoever reads a
+/// record asks for the next need, reads one word in its code, and hands the value over; a refused value changes
+/// nothing.
 #[derive(Clone, Copy, Debug)]
 pub struct Progress {
     params: Params,
@@ -173,8 +174,9 @@ impl Progress {
             .saturating_sub(self.residuals)
     }
 
-    /// Takes a value of the field that is needed, or answers the first reason to refuse it. `referenced` is the page that the
-    /// value names, where the value is a reference, is not 0, and does not pass the window or the first page; else none.
+    /// Takes a value of the field that is needed, or answers the first reason to refuse it. `referenced` is the page
+    /// that the value names, where the value is a reference, is not 0, and does not pass the window or the first page;
+    /// else none.
     pub fn accept(&mut self, value: u64, referenced: Option<Referenced>) -> Result<(), Kind>
         requires reads { (f : Field) × (code : Code) × (need_of (tally_of self.old) ≡ Need.Read f code) }
         requires length { ForSome referenced (λ r. r.length ≤ (tally_of self.old).params.nodes) }

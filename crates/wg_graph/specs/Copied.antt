@@ -1,5 +1,5 @@
--- Which members of a referenced list are copied. By the WebGraph paper, copy blocks cut the list into alternate runs: copied,
--- skipped, copied and so on, and what lies past the last block is one more run of the other kind.
+-- Which members of a referenced list are copied. By the WebGraph paper, copy blocks cut the list into alternate runs:
+-- copied, skipped, copied and so on, and what lies past the last block is one more run of the other kind.
 use Rattle.std.specs.Prelude.{ℕ, ◌+◌, ◌%◌, Bool, ◌==◌, nat_le, if◌then◌else◌, List, [], ◌∷◌, count_by}
 
 -- where each block ends, when n positions come before the first

@@ -4,7 +4,8 @@ use Rattle.wg_params.specs.declared.limits.TheConstants.{MOST_ARCS}
 use Rattle.wg_graph.specs.Ascending.{Below}
 use Rattle.wg_graph.specs.Digraph.{Digraph, successors, arc_count}
 
--- the arc from x to v may come next: both are pages, no page after x is begun, v is above the successors of x, and there is room
+-- the arc from x to v may come next: both are pages, no page after x is begun, v is above the successors of x, and
+-- there is room
 pub record FollowsOn (g : Digraph) (x v : ℕ) : Type 0 where
   pub source : x < g.nodes
   pub target : v < g.nodes

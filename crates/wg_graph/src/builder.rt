@@ -110,7 +110,8 @@ impl GraphBuilder {
         Ok(())
     }
 
-    /// Adds the whole list of the next page, the first that is not begun, in time in proportion to its length on average.
+    /// Adds the whole list of the next page, the first that is not begun, in time in proportion to its length on
+    /// average.
     pub fn push_list(&mut self, list: &[u64]) -> Result<(), AllocError>
         requires page { length self.old.lists < self.old.nodes }
         requires ascends { Ascends 0 list.now }

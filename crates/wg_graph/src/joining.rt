@@ -15,9 +15,9 @@ fn stands_at(members: &[u64], place: usize, number: u64) -> bool
     }
 }
 
-/// Adds to `out` the members from the place `from` on that are below the number, and the number; answers the place of the first
-/// member above it. So numbers that come one after the other, ascending, are joined to an ascending list; the members above the
-/// last are still to be added. All numbers together take one pass over the members.
+/// Adds to `out` the members from the place `from` on that are below the number, and the number; answers the place of
+/// the first member above it. So numbers that come one after the other, ascending, are joined to an ascending list; the
+/// members above the last are still to be added. All numbers together take one pass over the members.
 #[inline(always)]
 pub fn join(out: &mut List, members: &[u64], from: usize, number: u64) -> Result<usize, AllocError>
     requires { from ≤ length members.now }

@@ -5,7 +5,8 @@ ghost use Rattle.wg_graph.specs.Ascending.{Ascends, Below};
 use crate::List;
 use std::alloc::{AllocError, Global};
 
-/// The numbers of two ascending lists, ascending, a number of both once. Takes time in proportion to the numbers of both.
+/// The numbers of two ascending lists, ascending, a number of both once. Takes time in proportion to the numbers of
+/// both.
 pub fn merge(alloc: Global, a: &[u64], b: &[u64]) -> Result<List, AllocError>
     requires a { Ascends 0 a.now }
     requires b { Ascends 0 b.now }

@@ -15,8 +15,8 @@ use Rattle.wg_offsets.specs.declared.places.TheConstants.{MOST_PLACE}
 abbrev pub places_of : List ℕ → List ℕ
 places_of values = ends_of 0 values
 
--- Why a word is refused, where so many words stand before it and lead to this place: it is cut; it is none; the first is not 0; or it
--- leads past the last bit that a graph file may have.
+-- Why a word is refused, where so many words stand before it and lead to this place: it is cut; it is none; the first
+-- is not 0; or it leads past the last bit that a graph file may have.
 abbrev pub refusal : ℕ → ℕ → Read → Option OffsetWord
 refusal number place Cut = Some (faults.Cut number)
 refusal number place NoWord = Some (faults.NoWord number)
@@ -25,7 +25,8 @@ refusal number place (Value v) =
     else if nat_lt MOST_PLACE (place + v) then Some (faults.TooFar number)
     else None
 
--- After the words of the values before, the words of vs stand one after the other from the bit at, and none is refused; then last are the values, and end is reached.
+-- After the words of the values before, the words of vs stand one after the other from the bit at, and none is refused;
+-- then last are the values, and end is reached.
 abbrev pub Words : Code → List Bool → List ℕ → ℕ → List ℕ → List ℕ → ℕ → Type 0
 Words c bits before at [] last end = (last ≡ before) × (end ≡ at)
 Words c bits before at (v ∷ vs) last end =

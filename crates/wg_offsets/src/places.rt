@@ -83,8 +83,8 @@ impl Offsets {
         self.places[x as usize + 1] - self.places[x as usize]
     }
 
-    /// The first page whose record has another length in the others than here, with its length here and its length there, in
-    /// bits. It takes one pass.
+    /// The first page whose record has another length in the others than here, with its length here and its length
+    /// there, in bits. It takes one pass.
     pub fn first_mismatch(&self, other: &Offsets) -> Option<(u64, u64, u64)>
         requires { length self.now ≡ length other.now }
         ensures none { IfNone result (AgreeInLengths self.now other.now) }

@@ -14,8 +14,8 @@ use wg_codes::Read;
 use wg_grammar::{OffsetWord, tail_fault};
 use wg_params::Code;
 
-/// Reads the places of `n` records, whose offsets file these bytes are. It takes one pass, and 8 bytes of memory for each
-/// word that it has read.
+/// Reads the places of `n` records, whose offsets file these bytes are. It takes one pass, and 8 bytes of memory for
+/// each word that it has read.
 pub fn read(alloc: Global, bytes: &[u8], n: u64, code: Code) -> Result<Offsets, OffsetsError>
     requires bytes { length bytes.now ≤ MOST_BYTES }
     requires pages { n ≤ MOST_PAGES }

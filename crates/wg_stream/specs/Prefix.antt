@@ -9,8 +9,8 @@ use Rattle.wg_grammar.specs.declared.fault.ArchiveFault.{ArchiveFault}
 use Rattle.wg_grammar.specs.declared.fault.ArchiveFault.TheVariants as archive
 use Rattle.wg_decoder.specs.Remembered.{Serves}
 
--- the parameters; how many pages and arcs were read; what is kept of the pages before the next, the nearest first; and the list of the
--- page that was read last, empty before the first
+-- the parameters; how many pages and arcs were read; what is kept of the pages before the next, the nearest first; and
+-- the list of the page that was read last, empty before the first
 pub record PagesRead : Type 0 where
   pub params : Parameters
   pub page : ℕ
@@ -26,7 +26,8 @@ pub record AreSound (r : PagesRead) : Type 0 where
   pub ascends : Ascends 0 r.list
   pub below : Below r.params.nodes r.list
 
--- the records of so many pages with so many arcs stand from the first bit to the bit at, and these pages are kept of them
+-- the records of so many pages with so many arcs stand from the first bit to the bit at, and these pages are kept of
+-- them
 pub record PrefixRead (p : Parameters) (bits : List Bool) (pages arcs at : ℕ) (kept : List Known) (behind : List Whole) : Type 0 where
   pub stood : List Whole
   pub records : Pages p bits [] 0 stood behind at

@@ -18,12 +18,13 @@ use wg_graph::List;
 use wg_params::Params;
 use wg_source::Source;
 
-/// Reads the records of an archive page by page, as `wg_encoder::Encoder` writes them: it owns all that has to be known of the
-/// pages before, and stands at the page that comes next.
+/// Reads the records of an archive page by page, as `wg_encoder::Encoder` writes them: it owns all that has to be known
+/// of the pages before, and stands at the page that comes next.
 ///
-/// It is seen as its parameters, how many pages and arcs were read, what is kept of the pages before, and the list of the page
-/// that was read last. It holds the lists of the window, each with room for at most twice its numbers, and a few lists with
-/// room for as many as the longest. Hand in the same source at each call: the clauses on bits are of one that was.
+/// It is seen as its parameters, how many pages and arcs were read, what is kept of the pages before, and the list of
+/// the page that was read last. It holds the lists of the window, each with room for at most twice its numbers, and a
+/// few lists with room for as many as the longest. Hand in the same source at each call: the clauses on bits are of one
+/// that was.
 #[derive(Drop)]
 pub struct Pages {
     params: Params,
@@ -88,8 +89,8 @@ impl Pages {
         self.list.as_slice()
     }
 
-    /// Reads the record of the page that comes next, and goes on to the one after it. Where it is refused, it stays at this
-    /// page. It takes time in proportion to the words of the record, to its list and to the one that it refers to.
+    /// Reads the record of the page that comes next, and goes on to the one after it. Where it is refused, it stays at
+    /// this page. It takes time in proportion to the words of the record, to its list and to the one that it refers to.
     pub fn next<S: Source>(&mut self, source: &mut S) -> Result<(), PagesError<S::Refusal>>
         requires more { self.old.page < self.old.params.nodes }
         ensures params { self.new.params ≡ self.old.params }

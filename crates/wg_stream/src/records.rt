@@ -11,8 +11,9 @@ use wg_offsets::Offsets;
 use wg_params::Params;
 use wg_source::Source;
 
-/// Judges the records of all pages, the tail and the number of arcs, and answers the offset of each record and the end of the
-/// last. The source stands at its first bit. Besides what [`Pages`] holds it takes 8 bytes a page, as the records come.
+/// Judges the records of all pages, the tail and the number of arcs, and answers the offset of each record and the end
+/// of the last. The source stands at its first bit. Besides what [`Pages`] holds it takes 8 bytes a page, as the
+/// records come.
 pub fn read_offsets<S: Source>(
     alloc: Global,
     params: Params,
@@ -39,7 +40,8 @@ pub fn read_offsets<S: Source>(
     Ok(offsets)
 }
 
-/// Judges the same, and answers the graph. Besides what [`Pages`] holds it takes 8 bytes an arc and 8 a page, as they come.
+/// Judges the same, and answers the graph. Besides what [`Pages`] holds it takes 8 bytes an arc and 8 a page, as they
+/// come.
 pub fn read_graph<S: Source>(
     alloc: Global,
     params: Params,
