@@ -1,5 +1,5 @@
 -- Ascending numbers, looked up one after the other in an ascending list.
-use Rattle.std.proofs.Common.{◌≡◌, ℕ, zero, suc, ◌+◌, ◌≤◌, true, eqb, ltb, List, [], ◌∷◌, drop, refl, sym, ap, ◌∙◌, arith, inl, inr}
+use Rattle.std.proofs.Common.{◌≡◌, ℕ, zero, suc, ◌+◌, ◌≤◌, true, eqb, ltb, List, [], ◌∷◌, drop, refl, sym, ap, subst, ◌∙◌, arith, inl, inr}
 use Rattle.std.specs.List.{prefix_len}
 use Rattle.std.proofs.lemmas.Bool.{cases_Bool, cases_eq, ltb-true, ltb-false, eq-eqb, ne_eqb}
 use Rattle.wg_graph.specs.Numbers.{is_in, begins_with}
@@ -42,3 +42,7 @@ begins_from_on n y (x ∷ xs) up =
       | inl h ↦ let lt = ltb-true x y h in ap (begins_with y) (from_on_less y x xs h) ∙ begins_from_on (suc x) y xs up.1 ∙ sym (in_tail x y xs (omega (arith, lt)))
       | inr h ↦ let le = ltb-false x y h in rw h (head_is n y x xs le up.1)
     ]
+
+-- the numbers behind the first
+pub ascends-rest : (x : ℕ) (xs rest : List ℕ) → xs ≡ x ∷ rest → Ascends 0 xs → Ascends 0 rest
+ascends-rest x xs rest split up = let both : Ascends 0 (x ∷ rest) = subst (Ascends 0) split up in ascends_more 0 (suc x) rest (omega arith) both.1

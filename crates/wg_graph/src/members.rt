@@ -1,4 +1,4 @@
-ghost use Rattle.std.specs.Prelude.{◌≡◌, ℕ, ◌≤◌, ◌==◌, length, drop, nat_lt};
+ghost use Rattle.std.specs.Prelude.{◌≡◌, ℕ, ◌≤◌, ◌<◌, ◌==◌, ◌∷◌, if◌then◌else◌, length, drop, nat_lt, IfSome, IfNone};
 ghost use Rattle.std.specs.List.{prefix_len};
 ghost use Rattle.wg_graph.specs.Numbers.{is_in, begins_with};
 ghost use Rattle.wg_graph.specs.Ascending.{Ascends};
@@ -71,6 +71,36 @@ impl<'a> Members<'a> {
         self.left = not_below(self.left, number);
         begins_with(self.left, number)
     }
+
+    /// The next member that is left, where it is below the number. It goes past this member.
+    #[inline(always)]
+    pub fn next_below(&mut self, number: u64) -> Option<u64>
+        ensures some { IfSome result (λ x. (x < number) × (self.old ≡ x ∷ self.new)) }
+        ensures none { IfNone result (Ascends number self.old × (self.new ≡ self.old)) }
+    {
+        match self.left.split_first() {
+            Some((first, rest)) if *first < number => {
+                self.left = rest;
+                Some(*first)
+            }
+            _ => None,
+        }
+    }
+
+    /// Whether the next member that is left is this number. It goes past this member.
+    #[inline(always)]
+    pub fn take(&mut self, number: u64) -> bool
+        ensures told { result ≡ begins_with number self.old }
+        ensures past { self.old ≡ (if result then number ∷ self.new else self.new) }
+    {
+        match self.left.split_first() {
+            Some((first, rest)) if *first == number => {
+                self.left = rest;
+                true
+            }
+            _ => false,
+        }
+    }
 }
 
 #[cfg(test)]
@@ -88,5 +118,22 @@ mod tests {
             members.has(9),
         ];
         assert_eq!(rt; answers, [true, false, true, true, false]);
+    }
+
+    #[test]
+    fn members_below_a_number_and_the_number(rt: HostRuntime) {
+        let mut members = Members::of(&[1, 5, 7]);
+        let below = [
+            members.next_below(5),
+            members.next_below(5),
+            members.next_below(5),
+        ];
+        assert_eq!(rt; below, [Some(1), None, None]);
+        let taken = [members.take(5), members.take(5), members.take(6)];
+        assert_eq!(rt; taken, [true, false, false]);
+        assert_eq!(rt;
+            [members.next_below(8), members.next_below(8)],
+            [Some(7), None]
+        );
     }
 }
