@@ -69,12 +69,12 @@ alone_is e v list same is up low within nodes here =
     cost_there (canonical e.params (context_of e) (list_of e) 0) (no_reference_has e.params e.page e.graph.nodes (list_of e) within (let n = within.nodes in omega (arith, n, nodes)) here (subst (Ascends 0) whole up) (subst (Below e.graph.nodes) whole below))
 
 pub size_low : (e v : Encoding) (r : ℕ) (list referenced : List ℕ) (cost : Option ℕ) → v ≡ e → list ≡ successors v.graph v.page → Ascends 0 list → Below v.graph.nodes list → IsWithinLimits e.params → e.params.nodes ≡ e.graph.nodes
-    → r ≤ min e.params.window e.page → Ascends 0 referenced → Below e.graph.nodes referenced → cost ≡ cost_of (record_fields v.params v.page r referenced list) → ForSome cost (λ n. n < 2 ^ 64)
+    → r ≤ min e.params.window e.page → Ascends 0 referenced → Below e.graph.nodes referenced → cost ≡ cost_of (record_fields v.params v.page r referenced list) → ForSome cost (λ n. n < 2 ^ 63)
 size_low e v r list referenced cost same is up low within nodes reach up' low' how n there =
     let below : Below e.graph.nodes list = subst (λ (x : Encoding). Below x.graph.nodes list) same low in
     let limits : IsWithinLimits v.params = subst (λ (x : Encoding). IsWithinLimits x.params) (sym same) within in
     let fields : List Written = record_fields v.params v.page r referenced list in
-    let short : length (bits_of_fields fields) < 2 ^ 64 =
+    let short : length (bits_of_fields fields) < 2 ^ 63 =
     record_short v.params v.page r e.graph.nodes referenced list limits (let m = within.nodes in omega (arith, m, nodes)) (let w = within.window in omega (arith, reach, w)) up below up' low' in
     elim (cases_Bool (all_have_words fields)) [
       | inl h ↦ let bits : n ≡ length (bits_of_fields fields) = some_same n (length (bits_of_fields fields)) (sym there ∙ how ∙ cost_there fields h) in omega (arith, bits, short)

@@ -2,10 +2,12 @@ mod Rows
 pub mod Least
 pub mod Bytes
 pub mod Tallied
-pub mod Gapped
 pub mod Extra
 pub mod Whole
+pub mod Rooms
 pub mod Fewer
+pub mod Dues
+pub mod Both
 pub mod NoReference
 pub mod Short
 pub mod Choosing

@@ -201,7 +201,7 @@ list_short p page r n referenced (y ∷ ys) within few near up low up' low' =
     )
 
 pub record_short : (p : Parameters) (page r n : ℕ) (referenced list : List ℕ) → IsWithinLimits p → n ≤ 2 ^ 36 → r ≤ 2 ^ 36 → Ascends 0 list → Below n list → Ascends 0 referenced → Below n referenced
-    → length (bits_of_fields (record_fields p page r referenced list)) < 2 ^ 64
+    → length (bits_of_fields (record_fields p page r referenced list)) < 2 ^ 63
 unfolding record_fields
 record_short p page r n referenced list within few near up low up' low' =
     omega (

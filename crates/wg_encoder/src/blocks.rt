@@ -1,64 +1,78 @@
 // What copy blocks take.
-ghost use Rattle.std.specs.Prelude.{◌≡◌, ℕ, ◌+◌, ◌-◌, ◌<◌, ◌≤◌, ◌^◌, ◌==◌, if◌then◌else◌, List, [], ◌∷◌, ◌++◌, option_to_list};
+ghost use Rattle.std.specs.Prelude.{◌≡◌, ℕ, ◌+◌, ◌-◌, ◌<◌, ◌^◌, ◌==◌, if◌then◌else◌, List, Bool, [], ◌∷◌};
 ghost use Rattle.wg_params.specs.Codes.{IsCode};
-ghost use Rattle.wg_graph.specs.Ascending.{Ascends};
-ghost use Rattle.wg_blocks.specs.Canonical.{canonical_blocks};
-ghost use Rattle.wg_encoder.specs.Fields.{block_fields};
-ghost use Rattle.wg_encoder.specs.Cost.{cost_of, IsOfWords, Tallies};
+ghost use Rattle.wg_blocks.specs.Canonical.{mask_of};
+ghost use Rattle.wg_encoder.specs.Fields.{copy_fields};
+ghost use Rattle.wg_encoder.specs.Cost.{room_after};
+ghost use Rattle.wg_encoder.specs.Dues.{dues_of_blocks, block_dues, IsWithin};
 
-use crate::cost::{both, with_field};
+use crate::cost::room_after;
 use wg_blocks::Run;
-use wg_graph::Members;
 use wg_params::{Code, Params};
 
-/// How many blocks there are so far, and what they take.
+/// How many blocks there are so far, and the run that goes on. Without a reference none is written.
 #[derive(Clone, Copy)]
 pub(crate) struct BlockTally {
+    pub is_written: bool,
+    pub counts: Code,
     pub code: Code,
     pub count: u64,
-    pub cost: Option<u128>,
+    pub run: Run,
 }
 
 impl BlockTally {
-    fn new(code: Code) -> BlockTally
-        requires { IsCode code }
-        ensures blocks { Tallies result [] }
-        ensures none { result.count ≡ 0 }
-        ensures code { result.code ≡ code }
+    pub(crate) fn new(params: &Params, reference: u64) -> BlockTally
+        ensures fields { (referenced list : List ℕ) → block_dues result (mask_of list referenced) ≡ copy_fields params.now reference referenced list }
+        ensures within { IsWithin result 0 }
     {
         BlockTally {
-            code,
+            is_written: reference > 0,
+            counts: params.block_counts(),
+            code: params.blocks(),
             count: 0,
-            cost: Some(0),
+            run: Run::first(),
         }
     }
 
+    /// Goes on to the next member of the referenced list, and answers what is left of the room.
     #[inline(always)]
-    fn add(&mut self, block: Option<u64>)
-        requires blocks { (blocks : List ℕ) × Tallies self.old blocks }
-        requires room { self.old.count < 2 ^ 62 }
-        ensures exact { (blocks : List ℕ) → Tallies self.old blocks → Tallies self.new (blocks ++ option_to_list block) }
-        ensures code { self.new.code ≡ self.old.code }
-        ensures more { self.new.count ≤ self.old.count + 1 }
+    pub(crate) fn add(&mut self, room: u64, copied: bool) -> u64
+        requires { (i : ℕ) × (i < 2 ^ 62) × IsWithin self.old i }
+        ensures fields { (mask : List Bool) → room_after result (block_dues self.new mask) ≡ room_after room (block_dues self.old (copied ∷ mask)) }
+        ensures within { (i : ℕ) → IsWithin self.old i → IsWithin self.new (i + 1) }
     {
-        match block {
-            Some(block) => self.add_block(block),
-            None => {}
+        match self.run.step(copied) {
+            Some(block) => self.add_block(room, block),
+            None => room,
         }
     }
 
     // The first block is stored as it is, later ones less 1.
     #[inline(always)]
-    fn add_block(&mut self, block: u64)
-        requires blocks { (blocks : List ℕ) × Tallies self.old blocks }
-        requires room { self.old.count < 2 ^ 62 }
-        ensures exact { (blocks : List ℕ) → Tallies self.old blocks → Tallies self.new (blocks ++ block ∷ []) }
-        ensures code { self.new.code ≡ self.old.code }
-        ensures more { self.new.count ≡ self.old.count + 1 }
+    fn add_block(&mut self, room: u64, block: u64) -> u64
+        requires few { self.old.count < 2 ^ 62 }
+        requires code { IsCode self.old.code }
+        ensures fields { (blocks : List ℕ) → room_after result (dues_of_blocks self.new blocks) ≡ room_after room (dues_of_blocks self.old (block ∷ blocks)) }
+        ensures same { self.new ≡ record self.old { count = self.old.count + 1 } }
     {
         let stored = stored_block(self.count, block);
-        self.cost = with_field(self.cost, self.code, stored);
         self.count += 1;
+        if self.is_written {
+            return room_after(room, self.code, stored);
+        }
+        room
+    }
+
+    /// What is left of the room where no member comes any more.
+    #[inline(always)]
+    pub(crate) fn last(&self, room: u64) -> u64
+        requires { (i : ℕ) × IsWithin self.now i }
+        ensures { result ≡ room_after room (block_dues self.now []) }
+    {
+        if self.is_written {
+            return room_after(room, self.counts, self.count);
+        }
+        room
     }
 }
 
@@ -71,21 +85,4 @@ pub(crate) fn stored_block(count: u64, block: u64) -> u64
     } else {
         block.saturating_sub(1)
     }
-}
-
-/// What the block count and the blocks of a list take against the list that it refers to. It takes one pass over both.
-pub(crate) fn block_cost(params: &Params, list: &[u64], referenced: &[u64]) -> Option<u128>
-    requires list { Ascends 0 list.now }
-    requires referenced { Ascends 0 referenced.now }
-    ensures exact { result ≡ cost_of (block_fields params.now (canonical_blocks list.now referenced.now)) }
-    ensures few { IsOfWords (2 ^ 61) result }
-{
-    let mut members = Members::of(list);
-    let mut run = Run::first();
-    let mut blocks = BlockTally::new(params.blocks());
-    for y in referenced {
-        blocks.add(run.step(members.has(*y)));
-    }
-    let count = with_field(Some(0), params.block_counts(), blocks.count);
-    both(count, blocks.cost)
 }

@@ -1,46 +1,23 @@
 // The bits of fields, counted without writing them.
-ghost use Rattle.std.specs.Prelude.{◌≡◌, ℕ, ◌+◌, ◌<◌, ◌^◌, List, ◌∷◌, [], ◌++◌};
+ghost use Rattle.std.specs.Prelude.{◌≡◌, [], ◌∷◌};
 ghost use Rattle.wg_params.specs.Codes.{IsCode};
 ghost use Rattle.wg_grammar.specs.declared.fault.Field.{Field};
-ghost use Rattle.wg_encoder.specs.Fields.{Written, written};
-ghost use Rattle.wg_encoder.specs.Cost.{cost_of, IsOfWords};
+ghost use Rattle.wg_encoder.specs.Fields.{written};
+ghost use Rattle.wg_encoder.specs.Cost.{room_after};
 
 use wg_codes::{holds, length};
 use wg_params::Code;
 
-/// What fields take with one field more; none where some value has no word.
+/// How much of a room of so many bits is left by one field: nothing, where it fills the room or its value has no word. So no
+/// sum of bits can overflow, and whoever finds nothing left need not go on.
 #[inline(always)]
-pub(crate) fn with_field(cost: Option<u128>, code: Code, value: u64) -> Option<u128>
-    requires code { IsCode code }
-    requires room { (n : ℕ) × (n < 2 ^ 63) × IsOfWords n cost }
-    ensures exact { (f : Field) (fields : List Written) → cost ≡ cost_of fields → result ≡ cost_of (fields ++ written f code value ∷ []) }
-    ensures few { (n : ℕ) → IsOfWords n cost → IsOfWords (n + 1) result }
+pub(crate) fn room_after(room: u64, code: Code, value: u64) -> u64
+    requires { IsCode code }
+    ensures { (f : Field) → result ≡ room_after room (written f code value ∷ []) }
 {
-    match cost {
-        Some(bits) => {
-            if holds(code, value) {
-                Some(bits + u128::from(length(code, value)))
-            } else {
-                None
-            }
-        }
-        None => None,
-    }
-}
-
-/// What the fields of both take together.
-#[inline(always)]
-pub(crate) fn both(first: Option<u128>, second: Option<u128>) -> Option<u128>
-    requires first { (n : ℕ) × (n < 2 ^ 63) × IsOfWords n first }
-    requires second { (n : ℕ) × (n < 2 ^ 63) × IsOfWords n second }
-    ensures exact { (xs ys : List Written) → first ≡ cost_of xs → second ≡ cost_of ys → result ≡ cost_of (xs ++ ys) }
-    ensures few { (m n : ℕ) → IsOfWords m first → IsOfWords n second → IsOfWords (m + n) result }
-{
-    match first {
-        Some(bits) => match second {
-            Some(more) => Some(bits + more),
-            None => None,
-        },
-        None => None,
+    if holds(code, value) {
+        room.saturating_sub(length(code, value))
+    } else {
+        0
     }
 }

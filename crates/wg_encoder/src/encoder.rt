@@ -145,16 +145,16 @@ impl<'a> Encoder<'a> {
     }
 
     // What the record takes by a reference, where that is wanted only below `most` and each value has a word. It is less than
-    // 2 ^ 64 bits: a word but that of the reference and of the block count has at most 2 ^ 8.
-    fn size_below(&self, r: u64, most: u128) -> Option<u64>
+    // 2 ^ 63 bits: a word but that of the reference and of the block count has at most 2 ^ 8.
+    fn size_below(&self, r: u64, most: u64) -> Option<u64>
         requires reach { r ≤ min self.now.params.window self.now.page }
         requires page { self.now.page < self.now.graph.nodes }
         ensures fewer { IsFewer most (cost_of (canonical self.now.params (context_of self.now) (list_of self.now) r)) result }
-        ensures short { ForSome (cost_of (canonical self.now.params (context_of self.now) (list_of self.now) r)) (λ n. n < 2 ^ 64) }
+        ensures short { ForSome (cost_of (canonical self.now.params (context_of self.now) (list_of self.now) r)) (λ n. n < 2 ^ 63) }
     {
         self.limits();
         let list = self.graph.list(self.page);
-        narrow(record_cost(&self.params, self.page, r, self.named(r), list, most))
+        record_cost(&self.params, self.page, r, self.named(r), list, most)
     }
 
     // The same, whatever it is.
@@ -163,7 +163,7 @@ impl<'a> Encoder<'a> {
         requires page { self.now.page < self.now.graph.nodes }
         ensures { result ≡ cost_of (canonical self.now.params (context_of self.now) (list_of self.now) r) }
     {
-        self.size_below(r, 1 << 64)
+        self.size_below(r, u64::MAX)
     }
 
     // What the record takes without a reference. All values of it have words.
@@ -199,7 +199,7 @@ impl<'a> Encoder<'a> {
         if self.reach() < r || !self.may_refer(r) {
             return None;
         }
-        self.size_below(r, most as u128)
+        self.size_below(r, most)
     }
 
     /// Whether the page that comes next may be written by this reference: 0, or one within the window that names a page with
@@ -256,17 +256,6 @@ fn writer(alloc: Global) -> Result<Box<Writer>, AllocError>
     ensures failed { IfOk result (λ w. w.value.failed ≡ false) }
 {
     Ok(Box::new(alloc, Writer::new())?)
-}
-
-// The same number of bits, in fewer of the machine's.
-fn narrow(bits: Option<u128>) -> Option<u64>
-    requires { ForSome bits (λ n. n < 2 ^ 64) }
-    ensures { result ≡ bits }
-{
-    match bits {
-        Some(bits) => Some(bits as u64),
-        None => None,
-    }
 }
 
 // Whether a depth passes the limit, where there is one.

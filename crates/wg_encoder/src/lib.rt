@@ -34,6 +34,7 @@ mod gap;
 mod held;
 mod intervals;
 pub mod laws;
+mod lists;
 mod making;
 mod paging;
 mod parts;

@@ -1,72 +1,51 @@
 // What residuals take.
-ghost use Rattle.std.specs.Prelude.{◌≡◌, ℕ, ◌+◌, ◌<◌, ◌≤◌, ◌^◌, List, [], ◌∷◌, ◌++◌};
+ghost use Rattle.std.specs.Prelude.{◌≡◌, ℕ, ◌+◌, ◌<◌, ◌≤◌, ◌^◌, List, ◌∷◌, ◌++◌, Some};
 ghost use Rattle.wg_params.specs.Codes.{IsCode};
 ghost use Rattle.wg_intervals.specs.Canonical.{numbers_of};
-ghost use Rattle.wg_encoder.specs.Tallies.{TalliesNumbers};
+ghost use Rattle.wg_encoder.specs.Cost.{room_after};
+ghost use Rattle.wg_encoder.specs.Dues.{residual_dues};
 
-use crate::cost::with_field;
+use crate::cost::room_after;
 use crate::gap::stored_gap;
 use wg_intervals::Run;
 use wg_params::Code;
 
-/// How many residuals there are so far, the last one, and what they take.
+/// The last residual so far.
 #[derive(Clone, Copy)]
 pub(crate) struct ResidualTally {
     pub page: u64,
     pub code: Code,
-    pub count: u64,
     pub last: Option<u64>,
-    pub cost: Option<u128>,
 }
 
 impl ResidualTally {
-    pub(crate) fn new(page: u64, code: Code) -> ResidualTally
-        requires { IsCode code }
-        ensures numbers { TalliesNumbers result [] }
-        ensures none { result.count ≡ 0 }
-        ensures page { result.page ≡ page }
-        ensures code { result.code ≡ code }
-    {
-        ResidualTally {
-            page,
-            code,
-            count: 0,
-            last: None,
-            cost: Some(0),
-        }
-    }
-
     #[inline(always)]
-    fn add(&mut self, number: u64)
-        requires numbers { (numbers : List ℕ) × TalliesNumbers self.old numbers }
-        requires room { self.old.count < 2 ^ 62 }
+    fn add(&mut self, room: u64, number: u64) -> u64
         requires page { self.old.page < 2 ^ 62 }
+        requires code { IsCode self.old.code }
         requires low { number < 2 ^ 62 }
-        ensures exact { (numbers : List ℕ) → TalliesNumbers self.old numbers → TalliesNumbers self.new (numbers ++ number ∷ []) }
-        ensures page { self.new.page ≡ self.old.page }
-        ensures code { self.new.code ≡ self.old.code }
-        ensures more { self.new.count ≡ self.old.count + 1 }
+        ensures fields { (numbers : List ℕ) → room_after result (residual_dues self.new numbers) ≡ room_after room (residual_dues self.old (number ∷ numbers)) }
+        ensures same { self.new ≡ record self.old { last = Some number } }
     {
-        let stored = stored_gap(self.page, self.last, number);
-        self.cost = with_field(self.cost, self.code, stored);
+        let gap = stored_gap(self.page, self.last, number);
         self.last = Some(number);
-        self.count += 1;
+        room_after(room, self.code, gap)
     }
 
-    /// Adds the numbers of a run.
+    /// Adds the numbers of a run, and answers what is left of the room.
     #[inline(always)]
-    pub(crate) fn add_run(&mut self, run: Run)
-        requires numbers { (numbers : List ℕ) × TalliesNumbers self.old numbers }
-        requires room { self.old.count + run.length < 2 ^ 62 }
+    pub(crate) fn add_run(&mut self, room: u64, run: Run) -> u64
         requires page { self.old.page < 2 ^ 62 }
+        requires code { IsCode self.old.code }
         requires low { run.left + run.length ≤ 2 ^ 62 }
-        ensures exact { (numbers : List ℕ) → TalliesNumbers self.old numbers → TalliesNumbers self.new (numbers ++ numbers_of run) }
+        ensures fields { (numbers : List ℕ) → room_after result (residual_dues self.new numbers) ≡ room_after room (residual_dues self.old (numbers_of run ++ numbers)) }
         ensures page { self.new.page ≡ self.old.page }
         ensures code { self.new.code ≡ self.old.code }
-        ensures more { self.new.count ≡ self.old.count + run.length }
     {
+        let mut room = room;
         for place in 0..run.length {
-            self.add(run.left + place);
+            room = self.add(room, run.left + place);
         }
+        room
     }
 }

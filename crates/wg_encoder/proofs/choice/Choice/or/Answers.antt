@@ -1,4 +1,4 @@
-use Rattle.std.proofs.Common.{◌≡◌, ◌≤◌, ◌<◌, ◌+◌, true, Some, None, sym, subst, inl, inr, arith}
+use Rattle.std.proofs.Common.{◌≡◌, ◌≤◌, true, Some, None, sym, subst, inl, inr, arith}
 use Rattle.std.proofs.lemmas.Bool.{cases_lt, cond-true}
 use Rattle.wg_encoder.specs.Cost.{IsFewer}
 use Rattle.wg_encoder.specs.Encoding.{offer_of, may_take, bits_by}

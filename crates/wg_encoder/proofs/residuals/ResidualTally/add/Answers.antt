@@ -1,15 +1,13 @@
-use Rattle.std.proofs.Common.{arith}
-use Rattle.std.specs.Prelude.{None}
+use Rattle.std.proofs.Common.{◌∷◌, ◌∙◌, Some, ap}
 use Rattle.wg_grammar.specs.declared.fault.Field.TheVariants as field
-use Rattle.wg_encoder.specs.Fields.{residual_fields}
-use Rattle.wg_encoder.proofs.Gapped.{number_more}
+use Rattle.wg_encoder.specs.Fields.{written, residual_fields}
+use Rattle.wg_encoder.specs.Cost.{room_after}
+use Rattle.wg_encoder.proofs.Rooms.{one_written}
 use Rattle.wg_encoder.proofs.residuals.ResidualTally.add.Goals as goal
 
-pub with_field-self-requires-clause-room : goal.with_field-self-requires-clause-room
-with_field-self-requires-clause-room c = (c.args.self.now.count, omega (arith, c.requires.room), c.requires.numbers.1.few)
-
-pub returns-clause-exact : goal.returns-clause-exact
-returns-clause-exact c ys is =
-    number_more c.args.self.now ys c.args.number c.stored_gap-stored.result c.with_field-self.result is c.stored_gap-stored.ensures
-    (c.with_field-self.ensures.exact field.Residual (residual_fields c.args.self.now.code c.args.self.now.page None ys) is.cost_is)
-    (c.with_field-self.ensures.few c.args.self.now.count is.few)
+pub returns-clause-fields : goal.returns-clause-fields
+returns-clause-fields c = λ numbers.
+    let t = c.args.self.now in
+    let rest = residual_fields t.code t.page (Some c.args.number) numbers in
+    one_written c.args.room c.room_after.result (written field.Residual t.code c.stored_gap-gap.result) rest (c.room_after.ensures field.Residual)
+    ∙ ap (λ gap. room_after c.args.room (written field.Residual t.code gap ∷ rest)) c.stored_gap-gap.ensures
