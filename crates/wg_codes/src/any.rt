@@ -30,6 +30,7 @@ pub fn read(code: Code, cursor: &mut Cursor<'_>) -> Read
 }
 
 /// Puts the word of a value. After an error the writer has failed.
+#[inline(always)]
 pub fn write<D: Depot>(
     code: Code,
     v: u64,

@@ -41,6 +41,8 @@ pub fn read(cursor: &mut Cursor<'_>) -> Read
     }
 }
 
+#[cold]
+#[inline(never)]
 pub fn write<D: Depot>(
     v: u64,
     writer: &mut Writer,

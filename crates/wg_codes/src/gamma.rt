@@ -58,6 +58,7 @@ fn read_in_steps(cursor: &mut Cursor<'_>, most: u64) -> Read
     }
 }
 
+#[inline(always)]
 pub fn write<D: Depot>(
     v: u64,
     writer: &mut Writer,

@@ -58,6 +58,8 @@ pub fn read(cursor: &mut Cursor<'_>) -> Read
     Read::NoWord
 }
 
+#[cold]
+#[inline(never)]
 pub fn write<D: Depot>(
     v: u64,
     writer: &mut Writer,

@@ -94,6 +94,7 @@ fn shortened(cursor: &mut Cursor<'_>, k: u32, head: u32) -> Option<u64>
     }
 }
 
+#[inline(always)]
 pub fn write<D: Depot>(
     k: u32,
     v: u64,
@@ -116,7 +117,7 @@ pub fn write<D: Depot>(
         Rose (D.counts depot.old name.now).wants (D.counts depot.new name.now).wants }
     ensures later { NoneFalls (D.counts depot.old) (D.counts depot.new) }
 {
-    let head = highest_one(v + 1) / k;
+    let head = over(highest_one(v + 1), k);
     let width = head * k + k;
     let least = 1u64 << (head * k);
     if v + 1 - least < least {
