@@ -96,8 +96,5 @@ field_behind k v h least some few l e el =
     )
 
 -- the same, as the writer comes to its numbers: m is the place of the highest one
-pub zeta_field : (k v m : ℕ) → 1 ≤ k → k ≤ 31 → v ≤ zeta_top k → m ≡ highest (v + 1) → IsField k v (m / k) ((1 * 2 ^ (m / k * k)) % 2 ^ 64)
-zeta_field k v m some few l em =
-    let eh : m / k ≡ highest (v + 1) / k = ap (λ n. n / k) em in
-    let room = head_room k v (m / k) some few l eh in
-    field_behind k v (m / k) _ some few l eh (least_is k (m / k) some room.0)
+pub zeta_field : (k v h : ℕ) → 1 ≤ k → k ≤ 31 → v ≤ zeta_top k → h ≡ highest (v + 1) / k → IsField k v h ((1 * 2 ^ (h * k)) % 2 ^ 64)
+zeta_field k v h some few l eh = field_behind k v h _ some few l eh (least_is k h some (head_room k v h some few l eh).0)

@@ -29,7 +29,9 @@ pub fn number(cursor: &mut Cursor<'_>, place: u32) -> Option<u64>
     Some((1 << place) - 1 + low)
 }
 
-// A head in unary, and behind it a field of `width` bits. The one of the head is put as a bit more of the field.
+// A head in unary, and behind it a field of `width` bits. The one of the head is put as a bit more of the field, and
+// its zeros with them, where all of these fit a word.
+#[inline(always)]
 pub fn put_headed<D: Depot>(
     writer: &mut Writer,
     depot: &mut D,
@@ -55,11 +57,42 @@ pub fn put_headed<D: Depot>(
         Rose (D.counts depot.old name.now).wants (D.counts depot.new name.now).wants }
     ensures later { NoneFalls (D.counts depot.old) (D.counts depot.new) }
 {
-    let marked = (1 << width) + field;
     if head <= 63 - width as u64 {
-        writer.put(depot, name, marked, head as u32 + width + 1)
-    } else {
-        writer.zeros(depot, name, head)?;
-        writer.put(depot, name, marked, width + 1)
+        return writer.put(depot, name, (1 << width) + field, head as u32 + width + 1);
+    }
+    put_in_two(writer, depot, name, head, field, width)
+}
+
+// The same of any head: the zeros first.
+#[cold]
+#[inline(never)]
+fn put_in_two<D: Depot>(
+    writer: &mut Writer,
+    depot: &mut D,
+    name: &str,
+    head: u64,
+    field: u64,
+    width: u32,
+) -> Result<(), WriteError>
+    requires ready { writer.old.failed ≡ false }
+    requires width { width ≤ 63 }
+    requires field { field < 2 ^ width }
+    ensures ok { IsTrue D.told → OnOk result
+        (HasPut (D.files depot.old) (D.files depot.new) name.now writer.old.bits
+        (unary head ++ low_bits width field) writer.new.bits) }
+    ensures ready { OnOk result (writer.new.failed ≡ false) }
+    ensures failed { OnErr result (writer.new.failed ≡ true) }
+    ensures err { IsTrue D.told → OnErr result
+        (HasPutLess (D.files depot.old) (D.files depot.new) name.now writer.old.bits
+        (unary head ++ low_bits width field)) }
+    ensures fault { IsErrOf result WriteError.Failed →
+        Rose (D.counts depot.old name.now).write_faults (D.counts depot.new name.now).write_faults }
+    ensures memory { IsErrOf result WriteError.Memory →
+        Rose (D.counts depot.old name.now).wants (D.counts depot.new name.now).wants }
+    ensures later { NoneFalls (D.counts depot.old) (D.counts depot.new) }
+{
+    match writer.zeros(depot, name, head) {
+        Ok(()) => writer.put(depot, name, (1 << width) + field, width + 1),
+        Err(e) => Err(e),
     }
 }

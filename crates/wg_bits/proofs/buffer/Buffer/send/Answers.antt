@@ -1,5 +1,5 @@
 use Rattle.std.proofs.lemmas.Result.{on_err_weaker}
-use Rattle.wg_bits.proofs.Writes.{sent, sent_less}
+use Rattle.wg_bits.proofs.Writes.{sent_less}
 use Rattle.wg_bits.proofs.buffer.Buffer.send.Goals as goal
 
 pub returns-clause-err : goal.returns-clause-err
