@@ -11,8 +11,8 @@ cost_of fields = if all_have_words fields then Some (length (bits_of_fields fiel
 abbrev pub room_after : ℕ → List Written → ℕ
 room_after room fields = if all_have_words fields then room - length (bits_of_fields fields) else 0
 
--- An answer that is wanted only where fields take less than so many bits: what they take; or nothing, where they take no less or some
--- value has no word.
+-- An answer that is wanted only where fields take less than so many bits: what they take; or nothing, where they take
+-- no less or some value has no word.
 abbrev pub IsFewer : ℕ → Option ℕ → Option ℕ → Type 0
 IsFewer most cost (Some bits) = cost ≡ Some bits
 IsFewer most cost None = ForSome cost (λ bits. most ≤ bits)

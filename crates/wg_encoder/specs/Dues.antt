@@ -42,7 +42,8 @@ interval_dues t runs = interval_fields t.page t.least t.past runs
 abbrev pub residual_dues : ResidualTally → List ℕ → List Written
 residual_dues t numbers = residual_fields t.code t.page t.last numbers
 
--- the count of all intervals, those that come with these runs, and their residuals; whether the record has extras is told
+-- the count of all intervals, those that come with these runs, and their residuals; whether the record has extras is
+-- told
 abbrev pub dues_of_runs : ExtraTally → Bool → List Run → List Written
 dues_of_runs t found runs =
     (count_fields found t.intervals.least (t.intervals.count + length (filter (is_long t.intervals.least) runs)) ++ interval_dues t.intervals (filter (is_long t.intervals.least) runs))

@@ -7,8 +7,9 @@ use Rattle.wg_grammar.specs.Context.{Known, Context, depth_of}
 use Rattle.wg_encoder.specs.declared.choice.Choice.{Choice}
 use Rattle.wg_encoder.specs.Greedy.{size_of, is_candidate, chosen}
 
--- The page that comes next; the depths of the pages before it that a reference may name, the nearest first; the bits of the two files that
--- wait to go out; and how many bits the last record has, 0 before the first, and all records together.
+-- The page that comes next; the depths of the pages before it that a reference may name, the nearest first; the bits of
+-- the two files that wait to go out; and how many bits the last record has, 0 before the first, and all records
+-- together.
 pub record Encoding : Type 0 where
   pub params : Parameters
   pub graph : Digraph

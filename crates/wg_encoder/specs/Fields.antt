@@ -1,5 +1,6 @@
--- The fields of a record that is written, each with its code and its stored value. By BVGraph's documentation they come in this order:
--- outdegree, reference, block count and blocks, interval count and each interval's left end and length, residuals.
+-- The fields of a record that is written, each with its code and its stored value. By BVGraph's documentation they come
+-- in this order: outdegree, reference, block count and blocks, interval count and each interval's left end and length,
+-- residuals.
 use Rattle.std.specs.Prelude.{ℕ, ◌+◌, ◌-◌, pos, ◌-ℤ◌, Bool, true, false, not, ◌&&◌, nat_lt, nat_le, if◌then◌else◌, List, [], ◌∷◌, ◌++◌, length, map, filter, Option, Some, None}
 use Rattle.std.specs.List.{flat_map, list_all}
 use Rattle.wg_params.specs.Parameters.{Parameters}
@@ -35,8 +36,8 @@ abbrev pub stored_blocks : List ℕ → List ℕ
 stored_blocks [] = []
 stored_blocks (b ∷ bs) = b ∷ map (λ n. n - 1) bs
 
--- A number is stored by its distance from the page, folded, where nothing comes before it; else by its distance from what comes before,
--- less 1.
+-- A number is stored by its distance from the page, folded, where nothing comes before it; else by its distance from
+-- what comes before, less 1.
 abbrev pub stored_gap : ℕ → Option ℕ → ℕ → ℕ
 stored_gap page None y = folded (pos y -ℤ pos page)
 stored_gap page (Some before) y = y - before - 1

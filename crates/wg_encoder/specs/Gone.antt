@@ -50,7 +50,8 @@ abbrev pub IsWritten : Files → List ℕ → List ℕ → Parameters → List (
 IsWritten files graph_name offsets_name p lists bits =
     (bits ≡ length (graph_bits p lists)) × (fin.get files graph_name ≡ Some (graph_file p lists)) × (fin.get files offsets_name ≡ Some (offsets_file p lists))
 
--- Both files are fronts of the greedy archive's: the one that a call failed on lacks something, and so does one of them where memory was wanting.
+-- Both files are fronts of the greedy archive's: the one that a call failed on lacks something, and so does one of them
+-- where memory was wanting.
 abbrev pub HasStopped : Files → List ℕ → List ℕ → Parameters → List (List ℕ) → EncodeError → Type 0
 HasStopped files graph_name offsets_name p lists (error.Failed output.Graph) =
     HoldsLess (fin.get files graph_name) (graph_file p lists) × HoldsFront (fin.get files offsets_name) (offsets_file p lists)

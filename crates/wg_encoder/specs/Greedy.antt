@@ -19,8 +19,8 @@ canonical p c list r = record_fields p c.page r (referenced c.behind r) list
 abbrev pub size_of : Parameters → Context → List ℕ → ℕ → ℕ
 size_of p c list r = length (bits_of_fields (canonical p c list r))
 
--- No reference is always a candidate. A reference is one within the window, where the page that it names has successors, the chain of references
--- gets no longer than the archive allows, and each value of the record has a word.
+-- No reference is always a candidate. A reference is one within the window, where the page that it names has
+-- successors, the chain of references gets no longer than the archive allows, and each value of the record has a word.
 abbrev pub is_candidate : Parameters → Context → List ℕ → ℕ → Bool
 is_candidate p c list r =
     r == 0 || (nat_le r (min p.window c.page) && nat_lt 0 (length (referenced c.behind r)) && not (passes p.chain (depth_of c.behind r)) && all_have_words (canonical p c list r))

@@ -30,7 +30,8 @@ pub record IsList (p : Parameters) (list : List ℕ) : Type 0 where
   pub ascends : Ascends 0 list
   pub below : Below p.nodes list
 
--- The canonical record of a list by a candidate is a proper record of this list, wherever its bits stand. Where the list is empty it has no reference.
+-- The canonical record of a list by a candidate is a proper record of this list, wherever its bits stand. Where the
+-- list is empty it has no reference.
 abbrev pub CanonicalIsProper : Type 0
 CanonicalIsProper =
     (p : Parameters) (c : Context) (list : List ℕ) (r : ℕ) (before rest : List Bool)
@@ -45,7 +46,8 @@ enough_bits pages arcs = 2 ^ 9 * pages + 2 ^ 8 * arcs
 abbrev pub ChosenIsShort : Type 0
 ChosenIsShort = (p : Parameters) (c : Context) (list : List ℕ) → IsWithinLimits p → c.page < p.nodes → IsList p list → size_of p c list (chosen p c list) ≤ enough_bits 1 (length list)
 
--- The graph file stands for these lists, the offsets file stores the places of the records, and both are as short as a file may be.
+-- The graph file stands for these lists, the offsets file stores the places of the records, and both are as short as a
+-- file may be.
 pub record IsAcceptedArchive (p : Parameters) (lists : List (List ℕ)) : Type 0 where
   pub graph : ReadsGraph p (bits_of (graph_file p lists)) (Ok (record { graph = lists; places = places_of (offset_values p lists) }))
   pub offsets : ReadsOffsets p.offsets p.nodes (bits_of (offsets_file p lists)) (Ok (places_of (offset_values p lists)))

@@ -12,8 +12,8 @@ use wg_graph::Graph;
 use wg_io::Depot;
 use wg_params::Params;
 
-/// Writes the graph file and the offsets file of a graph, both of which are there and empty, and answers how many bits the
-/// records have.
+/// Writes the graph file and the offsets file of a graph, both of which are there and empty, and answers how many bits
+/// the records have.
 pub fn encode<D: Depot>(
     alloc: Global,
     params: Params,

@@ -10,7 +10,8 @@ pub(crate) struct Choice {
 }
 
 impl Choice {
-    /// This choice, or the reference that comes next where that one is offered with fewer bits; an offer of more is not asked for.
+    /// This choice, or the reference that comes next where that one is offered with fewer bits; an offer of more is not
+    /// asked for.
     pub(crate) fn or(self, reference: u64, offered: Option<u64>) -> Choice
         ensures { (e : Encoding) → IsBest e reference self → IsFewer self.bits (offer_of e reference) offered → IsBest e (reference + 1) result }
     {

@@ -8,8 +8,8 @@ ghost use Rattle.wg_encoder.specs.Cost.{room_after};
 use wg_codes::{holds, length};
 use wg_params::Code;
 
-/// How much of a room of so many bits is left by one field: nothing, where it fills the room or its value has no word. So no
-/// sum of bits can overflow, and whoever finds nothing left need not go on.
+/// How much of a room of so many bits is left by one field: nothing, where it fills the room or its value has no word.
+/// So no sum of bits can overflow, and whoever finds nothing left need not go on.
 #[inline(always)]
 pub(crate) fn room_after(room: u64, code: Code, value: u64) -> u64
     requires { IsCode code }

@@ -15,6 +15,7 @@ ghost use Rattle.wg_encoder.specs.Encoding.{context_of, list_of, bits_by, offer_
 ghost use Rattle.wg_encoder.specs.Gone.{HasGone};
 
 use crate::choice::Choice;
+use crate::making::Draft;
 use crate::record::record_cost;
 use std::alloc::{AllocError, Global};
 use std::collections::VecDeque;
@@ -25,9 +26,10 @@ use wg_params::Params;
 
 /// Writes a graph page by page, each by the reference that makes its record the shortest.
 ///
-/// It is seen as the graph, the page that comes next, the depths of the pages before it that a reference may name, the bits of
-/// the two files that wait to go out, and how many bits there were. Beside the graph it holds 8 bytes for each of these pages, at
-/// most as many as the archive's window, 4096 bytes for each file, and the record of a page while this is written.
+/// It is seen as the graph, the page that comes next, the depths of the pages before it that a reference may name, the
+/// bits of the two files that wait to go out, and how many bits there were. Beside the graph it holds 8 bytes for each
+/// of these pages, at most as many as the archive's window, 4096 bytes for each file, and memory for the longest record
+/// so far and for the lists that it was made of.
 #[derive(Drop)]
 pub struct Encoder<'a> {
     pub(crate) alloc: Global,
@@ -39,6 +41,8 @@ pub struct Encoder<'a> {
     // in memory of their own, since an encoder is moved at each page
     pub(crate) graph_writer: Box<Writer>,
     pub(crate) offsets_writer: Box<Writer>,
+    // memory for the record of a page, none before the first
+    pub(crate) spare: Option<Box<Draft>>,
     // the bits of the record before, 0 before the first, and of all records so far
     pub(crate) last: u64,
     pub(crate) total: u64,
@@ -76,6 +80,7 @@ impl<'a> Encoder<'a> {
             depths: VecDeque::new(alloc),
             graph_writer,
             offsets_writer,
+            spare: None,
             last: 0,
             total: 0,
         })
@@ -144,8 +149,8 @@ impl<'a> Encoder<'a> {
         !self.named(r).is_empty() && !passes(self.params.chain(), self.depth(r))
     }
 
-    // What the record takes by a reference, where that is wanted only below `most` and each value has a word. It is less than
-    // 2 ^ 63 bits: a word but that of the reference and of the block count has at most 2 ^ 8.
+    // What the record takes by a reference, where that is wanted only below `most` and each value has a word. It is
+    // less than 2 ^ 63 bits: a word but that of the reference and of the block count has at most 2 ^ 8.
     fn size_below(&self, r: u64, most: u64) -> Option<u64>
         requires reach { r ≤ min self.now.params.window self.now.page }
         requires page { self.now.page < self.now.graph.nodes }
@@ -202,9 +207,9 @@ impl<'a> Encoder<'a> {
         self.size_below(r, most)
     }
 
-    /// Whether the page that comes next may be written by this reference: 0, or one within the window that names a page with
-    /// successors, where the chain of references gets no longer than the archive allows and each value of the record has a
-    /// word. It takes no memory, and time in proportion to the two lists.
+    /// Whether the page that comes next may be written by this reference: 0, or one within the window that names a page
+    /// with successors, where the chain of references gets no longer than the archive allows and each value of the
+    /// record has a word. It takes no memory, and time in proportion to the two lists.
     pub fn candidate(&self, r: u64) -> bool
         requires page { self.now.page < self.now.graph.nodes }
         ensures { result ≡ is_candidate self.now.params (context_of self.now) (list_of self.now) r }
@@ -212,8 +217,8 @@ impl<'a> Encoder<'a> {
         self.offer(r).is_some()
     }
 
-    /// How many bits the canonical record of the page that comes next takes by a candidate. It takes no memory, and time in
-    /// proportion to the two lists.
+    /// How many bits the canonical record of the page that comes next takes by a candidate. It takes no memory, and
+    /// time in proportion to the two lists.
     pub fn cost(&self, r: u64) -> u64
         requires page { self.now.page < self.now.graph.nodes }
         requires candidate { is_candidate self.now.params (context_of self.now) (list_of self.now) r ≡ true }
@@ -240,8 +245,9 @@ impl<'a> Encoder<'a> {
         best
     }
 
-    /// The reference by which the page that comes next is written: of the candidates with the shortest record the smallest.
-    /// It takes no memory, and counts the bits of each candidate's record, until there are as many as the best so far has.
+    /// The reference by which the page that comes next is written: of the candidates with the shortest record the
+    /// smallest. It takes no memory, and counts the bits of each candidate's record, until there are as many as the
+    /// best so far has.
     pub fn chosen(&self) -> u64
         requires page { self.now.page < self.now.graph.nodes }
         ensures { result ≡ chosen self.now.params (context_of self.now) (list_of self.now) }

@@ -75,8 +75,8 @@ impl ExtraTally {
         }
     }
 
-    /// Adds the members that come next and are below a number, and answers what is left of the room. It stops where nothing is
-    /// left.
+    /// Adds the members that come next and are below a number, and answers what is left of the room. It stops where
+    /// nothing is left.
     #[inline(always)]
     pub(crate) fn add_below(&mut self, room: u64, members: &mut Members<'_>, number: u64) -> u64
         requires { MayCome self.old members.old }

@@ -3,8 +3,8 @@ ghost use Rattle.wg_encoder.specs.Fields.{stored_gap};
 
 use wg_codes::fold;
 
-/// How a number is stored: by its distance from the page, folded, where nothing comes before it; else by its distance from
-/// what comes before, less 1.
+/// How a number is stored: by its distance from the page, folded, where nothing comes before it; else by its distance
+/// from what comes before, less 1.
 #[inline(always)]
 pub(crate) fn stored_gap(page: u64, before: Option<u64>, number: u64) -> u64
     requires page { page < 2 ^ 62 }

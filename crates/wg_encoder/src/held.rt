@@ -49,6 +49,14 @@ impl HeldRecord {
         }
     }
 
+    // Drops all fields, and keeps the memory for others.
+    pub(crate) fn clear(&mut self)
+        ensures { self.new ≡ [] }
+    {
+        self.fields.clear();
+    }
+
+    #[inline(always)]
     pub(crate) fn add(&mut self, field: Field, code: Code, value: u64) -> Result<(), AllocError>
         requires { IsCode code }
         ensures { OnOk result (self.new ≡ self.old ++ written field code value ∷ []) }
@@ -57,8 +65,8 @@ impl HeldRecord {
         Ok(())
     }
 
-    /// Puts the words of the fields, one after the other. After an error the writer has failed, and the file's bits are a
-    /// front of what it would have got.
+    /// Puts the words of the fields, one after the other. After an error the writer has failed, and the file's bits are
+    /// a front of what it would have got.
     pub fn write<D: Depot>(
         &self,
         writer: &mut Writer,

@@ -21,8 +21,8 @@ pub fn canonical_records()
     ensures { CanonicalIsProper }
 {}
 
-/// The greedy archive of a graph is accepted: its graph file stands for the lists of this graph, its offsets file stores the places of
-/// the records, and both are as short as a file may be.
+/// The greedy archive of a graph is accepted: its graph file stands for the lists of this graph, its offsets file
+/// stores the places of the records, and both are as short as a file may be.
 pub fn greedy_archives()
     ensures { GreedyIsAccepted }
 {}

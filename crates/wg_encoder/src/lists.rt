@@ -12,8 +12,9 @@ use wg_params::Params;
 // no member of a list is as high
 const HIGH: u64 = 1 << 62;
 
-/// How much of the room is left by the blocks of a list and by what is not copied. It takes one pass over both lists: between
-/// two members of the referenced list, those of the list are not copied. The pass ends as soon as nothing is left.
+/// How much of the room is left by the blocks of a list and by what is not copied. It takes one pass over both lists:
+/// between two members of the referenced list, those of the list are not copied. The pass ends as soon as nothing is
+/// left.
 pub(crate) fn room_after_lists(
     params: &Params,
     page: u64,

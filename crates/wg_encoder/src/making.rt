@@ -1,15 +1,36 @@
 // A whole record, made from the two lists.
 ghost use Rattle.std.specs.Prelude.{◌≡◌, ◌<◌, ◌^◌, ◌++◌, length, OnOk, IfOk};
 ghost use Rattle.wg_graph.specs.Ascending.{Ascends, Below};
-ghost use Rattle.wg_encoder.specs.Fields.{extras, count_fields, extra_fields, reference_fields, copy_fields, list_fields, record_fields};
+ghost use Rattle.wg_encoder.specs.Fields.{count_fields, extra_fields, reference_fields, copy_fields, list_fields, record_fields};
 
 use crate::held::HeldRecord;
-use crate::parts::{add_blocks, add_intervals, add_residuals, extras_of};
+use crate::parts::{add_blocks, add_intervals, add_residuals, fill_extras};
 use std::alloc::{AllocError, Global};
-use wg_blocks::make;
+use std::marker::Model;
+use wg_blocks::Blocks;
 use wg_grammar::Field;
-use wg_intervals::split;
+use wg_graph::List as Numbers;
+use wg_intervals::Split;
 use wg_params::{Code, Params};
+
+/// A record that is made, and the lists that it is made of. The next record is made in the same memory.
+#[derive(Drop)]
+pub(crate) struct Draft {
+    record: HeldRecord,
+    blocks: Blocks,
+    // what is not copied, and its parts
+    others: Numbers,
+    parts: Split,
+}
+
+impl Model for Draft {
+    ghost use Rattle.std.specs.Prelude.{List};
+    ghost use Rattle.wg_encoder.specs.Fields.{Written};
+
+    ghost Value = { List Written };
+
+    ghost view = { λ d. d.record };
+}
 
 fn add_reference(fields: &mut HeldRecord, params: &Params, reference: u64) -> Result<(), AllocError>
     ensures { OnOk result (fields.new ≡ fields.old ++ reference_fields params.now reference) }
@@ -21,8 +42,8 @@ fn add_reference(fields: &mut HeldRecord, params: &Params, reference: u64) -> Re
 }
 
 fn add_copies(
-    alloc: Global,
     fields: &mut HeldRecord,
+    blocks: &mut Blocks,
     params: &Params,
     reference: u64,
     referenced: &[u64],
@@ -33,7 +54,7 @@ fn add_copies(
     ensures { OnOk result (fields.new ≡ fields.old ++ copy_fields params.now reference referenced.now list.now) }
 {
     if reference > 0 {
-        let blocks = make(alloc, list, referenced)?;
+        blocks.fill(list, referenced)?;
         return add_blocks(fields, params, blocks.as_slice());
     }
     Ok(())
@@ -52,7 +73,7 @@ fn add_count(fields: &mut HeldRecord, found: bool, least: u64, count: u64) -> Re
 // What is not copied: how many intervals there are, each of them, and the residuals.
 fn add_extras(
     fields: &mut HeldRecord,
-    alloc: Global,
+    parts: &mut Split,
     params: &Params,
     page: u64,
     others: &[u64],
@@ -63,38 +84,93 @@ fn add_extras(
     ensures { OnOk result (fields.new ≡ fields.old ++ extra_fields params.now page others.now) }
 {
     let least = params.interval();
-    let parts = split(alloc, others, least)?;
+    parts.fill(others, least)?;
     let ends = parts.intervals.as_slice();
     add_count(fields, !others.is_empty(), least, ends.len() as u64 / 2)?;
     add_intervals(fields, page, least, ends)?;
     add_residuals(fields, page, params.residuals(), parts.residuals.as_slice())
 }
 
-fn add_list(
-    alloc: Global,
-    fields: &mut HeldRecord,
-    params: &Params,
-    page: u64,
-    reference: u64,
-    referenced: &[u64],
-    list: &[u64],
-) -> Result<(), AllocError>
-    requires page { page < 2 ^ 62 }
-    requires list { Ascends 0 list.now }
-    requires low { Below (2 ^ 62) list.now }
-    requires referenced { Ascends 0 referenced.now }
-    requires some { 0 < length list.now }
-    ensures { OnOk result (fields.new ≡ fields.old ++ list_fields params.now page reference referenced.now list.now) }
-{
-    add_reference(fields, params, reference)?;
-    add_copies(alloc, fields, params, reference, referenced, list)?;
-    let others = extras_of(alloc, list, referenced)?;
-    add_extras(fields, alloc, params, page, others.as_slice())
+impl Draft {
+    // No record, and no memory yet.
+    pub(crate) fn new(alloc: Global) -> Draft {
+        Draft {
+            record: HeldRecord::new(alloc),
+            blocks: Blocks::new(alloc),
+            others: Numbers::new(alloc),
+            parts: Split::new(alloc),
+        }
+    }
+
+    fn add_list(
+        &mut self,
+        params: &Params,
+        page: u64,
+        reference: u64,
+        referenced: &[u64],
+        list: &[u64],
+    ) -> Result<(), AllocError>
+        requires page { page < 2 ^ 62 }
+        requires list { Ascends 0 list.now }
+        requires low { Below (2 ^ 62) list.now }
+        requires referenced { Ascends 0 referenced.now }
+        requires some { 0 < length list.now }
+        ensures { OnOk result (self.new ≡ self.old ++ list_fields params.now page reference referenced.now list.now) }
+    {
+        add_reference(&mut self.record, params, reference)?;
+        add_copies(
+            &mut self.record,
+            &mut self.blocks,
+            params,
+            reference,
+            referenced,
+            list,
+        )?;
+        fill_extras(&mut self.others, list, referenced)?;
+        add_extras(
+            &mut self.record,
+            &mut self.parts,
+            params,
+            page,
+            self.others.as_slice(),
+        )
+    }
+
+    /// Makes the canonical record of a page by a reference, as [`make_record`] does, in place of the one before. After
+    /// an error it is of no use.
+    pub(crate) fn fill(
+        &mut self,
+        params: &Params,
+        page: u64,
+        reference: u64,
+        referenced: &[u64],
+        list: &[u64],
+    ) -> Result<(), AllocError>
+        requires page { page < 2 ^ 62 }
+        requires list { Ascends 0 list.now }
+        requires low { Below (2 ^ 62) list.now }
+        requires referenced { Ascends 0 referenced.now }
+        ensures { OnOk result (self.new ≡ record_fields params.now page reference referenced.now list.now) }
+    {
+        self.record.clear();
+        self.record
+            .add(Field::Outdegree, params.outdegrees(), list.len() as u64)?;
+        if list.is_empty() {
+            return Ok(());
+        }
+        self.add_list(params, page, reference, referenced, list)
+    }
+
+    pub(crate) fn record(&self) -> &HeldRecord
+        ensures { result.now ≡ self.now }
+    {
+        &self.record
+    }
 }
 
-/// The canonical record of a page by a reference, where `referenced` is the list that this names, empty for 0. It takes two
-/// passes over the two lists. Beside the record it holds 8 bytes for each block, or for each successor that is not copied 8
-/// bytes and up to 16 more, until it returns.
+/// The canonical record of a page by a reference, where `referenced` is the list that this names, empty for 0. It takes
+/// two passes over the two lists. Beside the record it holds 8 bytes for each block, or for each successor that is not
+/// copied 8 bytes and up to 16 more, until it returns.
 pub fn make_record(
     alloc: Global,
     params: &Params,
@@ -109,19 +185,7 @@ pub fn make_record(
     requires referenced { Ascends 0 referenced.now }
     ensures { IfOk result (λ made. made ≡ record_fields params.now page reference referenced.now list.now) }
 {
-    let mut fields = HeldRecord::new(alloc);
-    fields.add(Field::Outdegree, params.outdegrees(), list.len() as u64)?;
-    if list.is_empty() {
-        return Ok(fields);
-    }
-    add_list(
-        alloc,
-        &mut fields,
-        params,
-        page,
-        reference,
-        referenced,
-        list,
-    )?;
-    Ok(fields)
+    let mut draft = Draft::new(alloc);
+    draft.fill(params, page, reference, referenced, list)?;
+    Ok(draft.record)
 }

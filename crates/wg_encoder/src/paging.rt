@@ -13,7 +13,7 @@ use crate::choice::Choice;
 use crate::encoder::Encoder;
 use crate::error::EncodeError;
 use crate::held::HeldRecord;
-use crate::making::make_record;
+use crate::making::Draft;
 use std::alloc::AllocError;
 use wg_bits::Writer;
 use wg_codes::write;
@@ -31,24 +31,27 @@ fn failed_on(output: Output, error: WriteError) -> EncodeError
 }
 
 impl<'a> Encoder<'a> {
-    // The record of the page that comes next.
-    fn make(&self, choice: Choice) -> Result<HeldRecord, AllocError>
+    // The memory of the record before, or some that is new.
+    fn take_draft(&mut self) -> Result<Box<Draft>, AllocError>
+        ensures { self.new ≡ self.old }
+    {
+        match self.spare.take() {
+            Some(draft) => Ok(draft),
+            None => Ok(Box::new(self.alloc, Draft::new(self.alloc))?),
+        }
+    }
+
+    // Makes the record of the page that comes next.
+    fn make(&self, draft: &mut Draft, choice: Choice) -> Result<(), AllocError>
         requires page { self.now.page < self.now.graph.nodes }
         requires chosen { IsChosen self.now choice }
-        ensures record_is { IfOk result (λ made. made ≡ canonical self.now.params (context_of self.now) (list_of self.now) choice.reference) }
-        ensures words { IfOk result (λ made. all_have_words made ≡ true) }
+        ensures record_is { OnOk result (draft.new ≡ canonical self.now.params (context_of self.now) (list_of self.now) choice.reference) }
+        ensures words { OnOk result (all_have_words draft.new ≡ true) }
     {
         self.limits();
         let list = self.graph.list(self.page);
         let referenced = self.named(choice.reference);
-        make_record(
-            self.alloc,
-            &self.params,
-            self.page,
-            choice.reference,
-            referenced,
-            list,
-        )
+        draft.fill(&self.params, self.page, choice.reference, referenced, list)
     }
 
     // Puts the word of the offsets file for this page: 0 for page 0, else the length of the record before.
@@ -92,8 +95,8 @@ impl<'a> Encoder<'a> {
         }
     }
 
-    // Goes on to the next page, where this one is written by this choice.
-    fn go_on(mut self, choice: Choice) -> Result<Encoder<'a>, AllocError>
+    // Goes on to the next page, where this one is written by this choice. The draft is kept for the page after it.
+    fn go_on(mut self, draft: Box<Draft>, choice: Choice) -> Result<Encoder<'a>, AllocError>
         requires page { self.page < self.graph.nodes }
         requires chosen { IsChosen self choice }
         ensures { IfOk result (λ e. e ≡ after_by choice.reference self.entry) }
@@ -106,15 +109,16 @@ impl<'a> Encoder<'a> {
         self.page += 1;
         self.last = choice.bits;
         self.total += choice.bits;
+        self.spare = Some(draft);
         Ok(self)
     }
 }
 
 impl<'a> Encoder<'a> {
-    /// Writes the page that comes next, and goes on to the one after it. Its record is made in memory before anything is
-    /// put. The words of the offsets file come one page later: 0 first, then the length of the record before.
+    /// Writes the page that comes next, and goes on to the one after it. Its record is made in memory before anything
+    /// is put. The words of the offsets file come one page later: 0 first, then the length of the record before.
     pub fn next<D: Depot>(
-        self,
+        mut self,
         depot: &mut D,
         graph_name: &str,
         offsets_name: &str,
@@ -130,14 +134,15 @@ impl<'a> Encoder<'a> {
     {
         self.limits();
         let choice = self.choose();
-        let made = self.make(choice)?;
+        let mut draft = self.take_draft()?;
+        self.make(&mut *draft, choice)?;
         let begun = self.put_offset(depot, offsets_name)?;
-        let put = begun.put_record(&made, depot, graph_name)?;
-        Ok(put.go_on(choice)?)
+        let put = begun.put_record(draft.record(), depot, graph_name)?;
+        Ok(put.go_on(draft, choice)?)
     }
 
-    /// Puts the last word of the offsets, the length of the last record, and fills up both files to whole bytes. It answers how
-    /// many bits the records have.
+    /// Puts the last word of the offsets, the length of the last record, and fills up both files to whole bytes. It
+    /// answers how many bits the records have.
     pub fn finish<D: Depot>(
         self,
         depot: &mut D,

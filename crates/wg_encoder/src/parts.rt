@@ -1,5 +1,5 @@
 // The parts of a record, in its order.
-ghost use Rattle.std.specs.Prelude.{◌≡◌, ◌<◌, ◌^◌, List, [], ◌∷◌, ◌++◌, map, if◌then◌else◌, None, OnOk, IfOk};
+ghost use Rattle.std.specs.Prelude.{◌≡◌, ◌<◌, ◌^◌, List, [], ◌∷◌, ◌++◌, map, if◌then◌else◌, None, OnOk};
 ghost use Rattle.wg_params.specs.Codes.{IsCode};
 ghost use Rattle.wg_graph.specs.Ascending.{Ascends, Below};
 ghost use Rattle.wg_intervals.specs.Canonical.{ends_and_lengths};
@@ -11,12 +11,13 @@ ghost use Rattle.wg_encoder.specs.InMemory.{AreLowRuns};
 use crate::blocks::stored_block;
 use crate::gap::stored_gap;
 use crate::held::HeldRecord;
-use std::alloc::{AllocError, Global};
+use std::alloc::AllocError;
 use wg_grammar::Field;
 use wg_graph::{List as Numbers, Members};
 use wg_params::{Code, Params};
 
 // Adds a number where it is not known.
+#[inline(always)]
 fn add_unless(others: &mut Numbers, known: bool, number: u64) -> Result<(), AllocError>
     ensures { OnOk result (others.new ≡ others.old ++ (if known then [] else number ∷ [])) }
 {
@@ -26,22 +27,22 @@ fn add_unless(others: &mut Numbers, known: bool, number: u64) -> Result<(), Allo
     others.push(number)
 }
 
-/// The successors that a referenced list does not have.
-pub(crate) fn extras_of(
-    alloc: Global,
+/// The successors that a referenced list does not have, in place of the numbers that are there.
+pub(crate) fn fill_extras(
+    others: &mut Numbers,
     list: &[u64],
     referenced: &[u64],
-) -> Result<Numbers, AllocError>
+) -> Result<(), AllocError>
     requires list { Ascends 0 list.now }
     requires referenced { Ascends 0 referenced.now }
-    ensures { IfOk result (λ others. others ≡ extras list.now referenced.now) }
+    ensures { OnOk result (others.new ≡ extras list.now referenced.now) }
 {
-    let mut others = Numbers::with_room(alloc, list.len())?;
+    others.clear();
     let mut members = Members::of(referenced);
     for y in list {
-        add_unless(&mut others, members.has(*y), *y)?;
+        add_unless(others, members.has(*y), *y)?;
     }
-    Ok(others)
+    Ok(())
 }
 
 /// The block count, and the blocks.

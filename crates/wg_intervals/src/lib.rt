@@ -6,9 +6,10 @@
 //! a few numbers alone.
 //!
 //! Whoever writes a record needs the intervals among the successors that are not copied: [`split`] gives them and the
-//! numbers in none, the residuals, as a [`Split`], in one pass. A [`Run`] gives the maximal runs of consecutive numbers
-//! one by one, for those who only count. The function of [`laws`] states that a split loses nothing, and leaves nothing
-//! in residuals that could stand in an interval.
+//! numbers in none, the residuals, as a [`Split`], in one pass, and [`Split::fill`] splits those of the next record in
+//! the same memory. A [`Run`] gives the maximal runs of consecutive numbers one by one, for those who only count. The
+//! function of [`laws`] states that a split loses nothing, and leaves nothing in residuals that could stand in an
+//! interval.
 //!
 //! Nothing but a [`Split`] takes memory. A step of a walk reads two words if it begins an interval, and two more for
 //! each empty one before it.

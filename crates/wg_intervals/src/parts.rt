@@ -18,7 +18,8 @@ pub struct Split {
 }
 
 impl Split {
-    pub(crate) fn new(alloc: Global) -> Split
+    /// No numbers, and no memory yet.
+    pub fn new(alloc: Global) -> Split
         ensures { (result.intervals ≡ []) × (result.residuals ≡ []) }
     {
         Split {
@@ -28,6 +29,7 @@ impl Split {
     }
 
     // Adds a run, if there is one, as an interval or as residuals.
+    #[inline(always)]
     pub(crate) fn add(&mut self, run: Option<Run>, least: u64) -> Result<(), AllocError>
         requires { ForSome run (λ r. r.left + r.length ≤ 2 ^ 64) }
         ensures intervals { OnOk result (self.new.intervals

@@ -5,9 +5,14 @@ use Rattle.wg_encoder.proofs.Sent.{other_put, other_less}
 use Rattle.wg_encoder.proofs.Stopped.{if_err, next_gone, stopped_by_memory, stopped_on_offsets, next_stopped_on_graph, next_stopped_by_memory}
 use Rattle.wg_encoder.proofs.encoder.Encoder.next.Goals as goal
 
-pub returns-in_err-made-clause-err : goal.returns-in_err-made-clause-err
-returns-in_err-made-clause-err g c t h =
+pub returns-in_err-draft-clause-err : goal.returns-in_err-draft-clause-err
+returns-in_err-draft-clause-err g c t h =
     let e = err_from_is_err_and c.from_residual.result c.from_residual.ensures.1 in
+    if_err _ _ e.0 e.1 (stopped_by_memory _ _ _ c.args.self e.0 (omega (arith, c.limits.ensures.proper.counted, c.requires.more)) h e.2)
+
+pub returns-in_err-make-clause-err : goal.returns-in_err-make-clause-err
+returns-in_err-make-clause-err g c t h =
+    let e = err_from_is_err_and c.from_residual-in_err-make.result c.from_residual-in_err-make.ensures.1 in
     if_err _ _ e.0 e.1 (stopped_by_memory _ _ _ c.args.self e.0 (omega (arith, c.limits.ensures.proper.counted, c.requires.more)) h e.2)
 
 pub returns-in_err-begun-clause-err : goal.returns-in_err-begun-clause-err
@@ -15,7 +20,7 @@ returns-in_err-begun-clause-err g c t h =
     let e = err_from_is_err_and c.from_residual-in_err-begun.result c.from_residual-in_err-begun.ensures.1 in
     let here = c.limits.ensures.proper.counted in
     if_err _ _ c.in_err-begun.field-0.0 (e.1 ∙ ap Err e.2)
-    (stopped_on_offsets _ _ _ _ c.args.self _ _ _ c.requires.apart (omega (arith, here, c.requires.more)) (c.in_err-begun.ensures.err t) c.in_err-begun.ensures.fault h)
+    (stopped_on_offsets _ _ _ _ c.args.self _ _ _ c.requires.apart (omega (arith, here, c.requires.more)) (rw c.take_draft.ensures at c.in_err-begun.ensures.err t) c.in_err-begun.ensures.fault h)
 
 pub returns-in_err-begun-clause-only_two : goal.returns-in_err-begun-clause-only_two
 returns-in_err-begun-clause-only_two g c t name graph offsets = other_less _ _ _ name _ _ (c.in_err-begun.ensures.err t) offsets
@@ -25,8 +30,8 @@ returns-in_err-put-clause-err g c t h =
     let e = err_from_is_err_and c.from_residual-in_err-put.result c.from_residual-in_err-put.ensures.1 in
     let s : Stands c.args.self = record { limits = c.limits.ensures.within; nodes = c.limits.ensures.nodes; arcs = c.limits.ensures.arcs; proper = c.limits.ensures.proper; here = c.requires.more } in
     if_err _ _ c.in_err-put.field-0.0 (e.1 ∙ ap Err e.2)
-    (next_stopped_on_graph _ _ _ _ _ c.args.self c.in_ok-begun.begun c.choose-choice.result c.in_ok-made.made _ _ _ c.requires.apart s c.choose-choice.ensures c.in_ok-made.ensures.record_is c.in_ok-begun.ensures.on
-    (c.in_ok-begun.ensures.ok t) (c.in_err-put.ensures.err t) c.in_err-put.ensures.fault h)
+    (next_stopped_on_graph _ _ _ _ _ c.args.self c.in_ok-begun.begun c.choose-choice.result c.record.result.now _ _ _ c.requires.apart s c.choose-choice.ensures (c.record.ensures ∙ c.deref.ensures ∙ rw c.take_draft.ensures at c.in_ok-make.ensures.record_is) (rw c.take_draft.ensures at c.in_ok-begun.ensures.on)
+    (rw c.take_draft.ensures at c.in_ok-begun.ensures.ok t) (c.in_err-put.ensures.err t) c.in_err-put.ensures.fault h)
 
 pub returns-in_err-put-clause-only_two : goal.returns-in_err-put-clause-only_two
 returns-in_err-put-clause-only_two g c t name graph offsets = other_less _ _ _ name _ _ (c.in_err-put.ensures.err t) graph ∙ other_put _ _ _ name _ _ _ (c.in_ok-begun.ensures.ok t) offsets
@@ -35,8 +40,8 @@ pub returns-in_err-go_on-clause-err : goal.returns-in_err-go_on-clause-err
 returns-in_err-go_on-clause-err g c t h =
     let e = err_from_is_err_and c.from_residual-in_err-go_on.result c.from_residual-in_err-go_on.ensures.1 in
     let s : Stands c.args.self = record { limits = c.limits.ensures.within; nodes = c.limits.ensures.nodes; arcs = c.limits.ensures.arcs; proper = c.limits.ensures.proper; here = c.requires.more } in
-    if_err _ _ e.0 e.1 (next_stopped_by_memory _ _ _ _ _ c.args.self c.in_ok-begun.begun c.in_ok-put.put c.choose-choice.result c.in_ok-made.made e.0 c.requires.apart s c.choose-choice.ensures c.in_ok-made.ensures.record_is c.in_ok-begun.ensures.on c.in_ok-put.ensures.on
-    (c.in_ok-begun.ensures.ok t) (c.in_ok-put.ensures.ok t) h e.2)
+    if_err _ _ e.0 e.1 (next_stopped_by_memory _ _ _ _ _ c.args.self c.in_ok-begun.begun c.in_ok-put.put c.choose-choice.result c.record.result.now e.0 c.requires.apart s c.choose-choice.ensures (c.record.ensures ∙ c.deref.ensures ∙ rw c.take_draft.ensures at c.in_ok-make.ensures.record_is) (rw c.take_draft.ensures at c.in_ok-begun.ensures.on) c.in_ok-put.ensures.on
+    (rw c.take_draft.ensures at c.in_ok-begun.ensures.ok t) (c.in_ok-put.ensures.ok t) h e.2)
 
 pub returns-in_err-go_on-clause-only_two : goal.returns-in_err-go_on-clause-only_two
 returns-in_err-go_on-clause-only_two g c t name graph offsets = other_put _ _ _ name _ _ _ (c.in_ok-put.ensures.ok t) graph ∙ other_put _ _ _ name _ _ _ (c.in_ok-begun.ensures.ok t) offsets
@@ -44,8 +49,8 @@ returns-in_err-go_on-clause-only_two g c t name graph offsets = other_put _ _ _ 
 pub returns-clause-ok : goal.returns-clause-ok
 returns-clause-ok g c t h =
     let s : Stands c.args.self = record { limits = c.limits.ensures.within; nodes = c.limits.ensures.nodes; arcs = c.limits.ensures.arcs; proper = c.limits.ensures.proper; here = c.requires.more } in
-    next_gone _ _ _ _ _ c.args.self c.in_ok-begun.begun c.in_ok-put.put c.in_ok-go_on.field-0 c.choose-choice.result c.in_ok-made.made c.requires.apart s c.choose-choice.ensures c.in_ok-made.ensures.record_is c.in_ok-begun.ensures.on c.in_ok-put.ensures.on c.in_ok-go_on.ensures
-    (c.in_ok-begun.ensures.ok t) (c.in_ok-put.ensures.ok t) h
+    next_gone _ _ _ _ _ c.args.self c.in_ok-begun.begun c.in_ok-put.put c.in_ok-go_on.field-0 c.choose-choice.result c.record.result.now c.requires.apart s c.choose-choice.ensures (c.record.ensures ∙ c.deref.ensures ∙ rw c.take_draft.ensures at c.in_ok-make.ensures.record_is) (rw c.take_draft.ensures at c.in_ok-begun.ensures.on) c.in_ok-put.ensures.on c.in_ok-go_on.ensures
+    (rw c.take_draft.ensures at c.in_ok-begun.ensures.ok t) (c.in_ok-put.ensures.ok t) h
 
 pub returns-clause-only_two : goal.returns-clause-only_two
 returns-clause-only_two g c t name graph offsets = other_put _ _ _ name _ _ _ (c.in_ok-put.ensures.ok t) graph ∙ other_put _ _ _ name _ _ _ (c.in_ok-begun.ensures.ok t) offsets

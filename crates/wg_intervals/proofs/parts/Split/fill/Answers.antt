@@ -1,12 +1,13 @@
 use Rattle.std.proofs.Common.{arith}
+use Rattle.std.proofs.lemmas.Result.{on_ok_weaker}
 use Rattle.wg_intervals.proofs.Splits.{begun, first_above, more, intervals_done, residuals_done, ends_low}
-use Rattle.wg_intervals.proofs.splitting.split.Goals as goal
+use Rattle.wg_intervals.proofs.parts.Split.fill.Goals as goal
 
 pub loop-number-init : goal.loop-number-init
 loop-number-init c = record {
   short = omega (arith, c.none-run.ensures.1);
   low = omega (arith, c.none-run.ensures.0, c.none-run.ensures.1);
-  splitting = begun c.args.interval c.args.extras.now c.none-run.result _ _ c.none-run.ensures c.new-split.ensures.0 c.new-split.ensures.1 c.requires;
+  splitting = begun c.args.interval c.args.extras.now c.none-run.result _ _ c.none-run.ensures c.clear.ensures c.clear-2.ensures c.requires;
 }
 
 pub step-requires-clause-greater : goal.step-requires-clause-greater
@@ -26,7 +27,7 @@ pub add-requires-2 : goal.add-requires-2
 add-requires-2 c = ends_low _ c.loop-number.run c.last.ensures.same c.loop-number.invariant.low
 
 pub returns-clause-intervals : goal.returns-clause-intervals
-returns-clause-intervals c = intervals_done c.args.interval c.args.extras.now c.loop-number.number-index c.loop-number.run c.last.result _ _ _ (omega arith) c.loop-number.invariant.splitting c.last.ensures.runs c.in_ok-add-2.ensures.intervals
+returns-clause-intervals c = on_ok_weaker _ (intervals_done c.args.interval c.args.extras.now c.loop-number.number-index c.loop-number.run c.last.result _ _ _ (omega arith) c.loop-number.invariant.splitting c.last.ensures.runs) c.add-2.ensures.intervals
 
 pub returns-clause-residuals : goal.returns-clause-residuals
-returns-clause-residuals c = residuals_done c.args.interval c.args.extras.now c.loop-number.number-index c.loop-number.run c.last.result _ _ _ (omega arith) c.loop-number.invariant.splitting c.last.ensures.runs c.in_ok-add-2.ensures.residuals
+returns-clause-residuals c = on_ok_weaker _ (residuals_done c.args.interval c.args.extras.now c.loop-number.number-index c.loop-number.run c.last.result _ _ _ (omega arith) c.loop-number.invariant.splitting c.last.ensures.runs) c.add-2.ensures.residuals

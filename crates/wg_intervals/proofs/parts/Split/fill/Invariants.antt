@@ -1,10 +1,10 @@
 use Rattle.std.proofs.Common.{◌+◌, ◌^◌, ◌≤◌}
 use Rattle.wg_intervals.proofs.Splits.{Splitting}
-use Rattle.wg_intervals.proofs.splitting.split.Given as goal
+use Rattle.wg_intervals.proofs.parts.Split.fill.Given as goal
 
 abbrev pub invariant-loop-number : goal.invariant-loop-number
 invariant-loop-number l = record {
   short : l.run.length ≤ l.number-index;
   low : l.run.left + l.run.length ≤ 2 ^ 64;
-  splitting : Splitting l.interval l.extras l.number-index l.run l.split.intervals l.split.residuals;
+  splitting : Splitting l.interval l.extras l.number-index l.run l.self.intervals l.self.residuals;
 }

@@ -1,5 +1,5 @@
 use Rattle.wg_encoder.proofs.Adding.{Leaving}
-use Rattle.wg_encoder.proofs.parts.extras_of.Given as goal
+use Rattle.wg_encoder.proofs.parts.fill_extras.Given as goal
 
 abbrev pub invariant-loop-y : goal.invariant-loop-y
 invariant-loop-y l = Leaving l.list l.referenced l.members l.y-index l.others
