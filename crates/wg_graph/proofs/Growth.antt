@@ -1,9 +1,8 @@
 -- What the calls on ends leave, and what a builder keeps.
 use Rattle.std.proofs.Common.{◌≡◌, ◌↔◌, ℕ, suc, ◌+◌, ◌-◌, ◌<◌, ◌≤◌, Bool, false, IsTrue, List, [], ◌∷◌, ◌++◌, length, take, get_or, set, replicate, refl, sym, ap, subst, ◌∙◌, arith, length-append}
 use Rattle.std.proofs.lemmas.List.{take_all, take_at, get_or_read}
-use Rattle.wg_params.specs.declared.limits.TheConstants.{MOST_ARCS}
 use Rattle.wg_graph.specs.Ascending.{Ascends, Below}
-use Rattle.wg_graph.specs.Digraph.{Digraph, IsGraph, IsFront, successors, arc_count}
+use Rattle.wg_graph.specs.Digraph.{IsGraph, IsFront, successors, arc_count}
 use Rattle.wg_graph.specs.Growing.{ComesAfter, FollowsOn, padded, with_arc}
 use Rattle.wg_graph.specs.Pieces.{pieces, EndsAt, cut, IsCut}
 use Rattle.wg_graph.proofs.Ends.{pad_ends, pad_pieces, length-pieces, append_ends, append_pieces, grow_ends, grow_pieces, pieces_count}

@@ -1,10 +1,8 @@
--- A merge of two ascending lists is the ascending list of the numbers of either.
-use Rattle.std.proofs.Common.{◌≡◌, ℕ, suc, ◌+◌, ◌<◌, ◌≤◌, Bool, true, false, ◌||◌, List, [], ◌∷◌, ◌++◌, length, drop, get_or, refl, sym, ap, subst, ◌∙◌, arith, inl, inr}
-use Rattle.std.proofs.lemmas.Bool.{cases_lt}
-use Rattle.std.proofs.lemmas.List.{drop_more, drop_all}
+-- Two ascending lists that are merged: the ascending list of the numbers of either.
+use Rattle.std.proofs.Common.{◌≡◌, ℕ, suc, ◌≤◌, Bool, true, false, ◌||◌, List, [], ◌∷◌, ◌++◌, refl, ◌∙◌, arith}
 use Rattle.wg_graph.specs.Numbers.{numbers_where, is_in, is_in_either}
-use Rattle.wg_graph.specs.Ascending.{Ascends, Below}
-use Rattle.wg_graph.proofs.Sets.{grow, grow_end, in_below, in_past, in_head, in_tail, ascends_more}
+use Rattle.wg_graph.specs.Ascending.{Ascends}
+use Rattle.wg_graph.proofs.Sets.{grow, in_below, in_head, in_tail, ascends_more}
 
 -- out has the numbers of both below m, xs and ys those from m on
 pub record Merging (a b xs ys out : List ℕ) (m : ℕ) : Type 0 where
@@ -42,50 +40,3 @@ take_b a b xs ys out m x h up =
 pub take_both : (a b xs ys out : List ℕ) (m x : ℕ) → Merging a b (x ∷ xs) (x ∷ ys) out m → Merging a b xs ys (out ++ x ∷ []) (suc x)
 take_both a b xs ys out m x h =
     least a b (x ∷ xs) (x ∷ ys) xs ys out m x h h.up_a.0 (omega arith, h.up_a.1) (omega arith, h.up_b.1) (rw (in_head x xs) refl) h.up_a.1 h.up_b.1 (λ y low. in_tail x y xs low) (λ y low. in_tail x y ys low)
-
--- ---- by index
-
-abbrev pub At : List ℕ → List ℕ → ℕ → ℕ → List ℕ → Type 0
-At a b i j out = (m : ℕ) × Merging a b (drop i a) (drop j b) out m
-
-head_at : (xs : List ℕ) (i m : ℕ) → i < length xs → Ascends m (drop i xs) → Ascends m (get_or xs i 0 ∷ drop (i + 1) xs)
-head_at xs i m lt h = subst (Ascends m) (drop_more xs i 0 lt) h
-
-abbrev IsAfter : List ℕ → ℕ → ℕ → Type 0
-IsAfter xs i x = (i < length xs → x < get_or xs i 0)
-
-after_at : (xs : List ℕ) (i m x : ℕ) → Ascends m (drop i xs) → IsAfter xs i x → Ascends (suc x) (drop i xs)
-after_at xs i m x h later =
-    elim (cases_lt i (length xs)) [
-      | inl lt ↦ let parts = head_at xs i m lt h in let up : Ascends (suc x) (get_or xs i 0 ∷ drop (i + 1) xs) = (omega (arith, later lt), parts.1) in subst (Ascends (suc x)) (sym (drop_more xs i 0 lt)) up
-      | inr ge ↦ subst (Ascends (suc x)) (sym (drop_all i xs ge)) tt
-    ]
-
-pub step_a : (a b : List ℕ) (i j : ℕ) (out : List ℕ) → At a b i j out → i < length a → IsAfter b j (get_or a i 0) → At a b (i + 1) j (out ++ get_or a i 0 ∷ [])
-step_a a b i j out h lt later =
-    let g : Merging a b (get_or a i 0 ∷ drop (i + 1) a) (drop j b) out h.0 = subst (λ (xs : List ℕ). Merging a b xs (drop j b) out h.0) (drop_more a i 0 lt) h.1 in
-    (suc (get_or a i 0), take_a a b (drop (i + 1) a) (drop j b) out h.0 (get_or a i 0) g (after_at b j h.0 (get_or a i 0) g.up_b later))
-
-pub step_b : (a b : List ℕ) (i j : ℕ) (out : List ℕ) → At a b i j out → j < length b → IsAfter a i (get_or b j 0) → At a b i (j + 1) (out ++ get_or b j 0 ∷ [])
-step_b a b i j out h lt later =
-    let g : Merging a b (drop i a) (get_or b j 0 ∷ drop (j + 1) b) out h.0 = subst (λ (ys : List ℕ). Merging a b (drop i a) ys out h.0) (drop_more b j 0 lt) h.1 in
-    (suc (get_or b j 0), take_b a b (drop i a) (drop (j + 1) b) out h.0 (get_or b j 0) g (after_at a i h.0 (get_or b j 0) g.up_a later))
-
-pub step_both : (a b : List ℕ) (i j : ℕ) (out : List ℕ) → At a b i j out → i < length a → j < length b → get_or a i 0 ≡ get_or b j 0 → At a b (i + 1) (j + 1) (out ++ get_or a i 0 ∷ [])
-step_both a b i j out h la lb same =
-    let g : Merging a b (get_or a i 0 ∷ drop (i + 1) a) (drop j b) out h.0 = subst (λ (xs : List ℕ). Merging a b xs (drop j b) out h.0) (drop_more a i 0 la) h.1 in
-    let k : Merging a b (get_or a i 0 ∷ drop (i + 1) a) (get_or a i 0 ∷ drop (j + 1) b) out h.0 = subst (λ (ys : List ℕ). Merging a b (get_or a i 0 ∷ drop (i + 1) a) ys out h.0) (drop_more b j 0 lb ∙ ap (λ (x : ℕ). x ∷ drop (j + 1) b) (sym same)) g in
-    (suc (get_or a i 0), take_both a b (drop (i + 1) a) (drop (j + 1) b) out h.0 (get_or a i 0) k)
-
-pub begins : (a b : List ℕ) → Ascends 0 a → Ascends 0 b → At a b 0 0 []
-begins a b up_a up_b = (0, record { out_is = refl; up_a = up_a; up_b = up_b; rest_a = λ y low. refl; rest_b = λ y low. refl })
-
-pub ends : (a b : List ℕ) (i j : ℕ) (out : List ℕ) → At a b i j out → length a ≤ i → length b ≤ j → (n : ℕ) → Below n a → Below n b → out ≡ numbers_where (is_in_either a b) 0 n
-ends a b i j out h la lb n below_a below_b =
-    let g = h.1 in
-    let none_a : (y : ℕ) → h.0 ≤ y → is_in y a ≡ false = λ y low. g.rest_a y low ∙ ap (is_in y) (drop_all i a la) in
-    let none_b : (y : ℕ) → h.0 ≤ y → is_in y b ≡ false = λ y low. g.rest_b y low ∙ ap (is_in y) (drop_all j b lb) in
-    elim (cases_lt n h.0) [
-      | inl lt ↦ g.out_is ∙ sym (grow_end (is_in_either a b) n h.0 (omega arith) (λ y low high. rw (in_past n y a below_a low, in_past n y b below_b low) refl))
-      | inr le ↦ g.out_is ∙ grow_end (is_in_either a b) h.0 n le (λ y low high. rw (none_a y low, none_b y low) refl)
-    ]

@@ -4,11 +4,11 @@
 //! [`GraphBuilder`], which takes arcs in ascending order, or whole lists, page by page. [`Lists`] is a graph whose
 //! lists are read in order, wherever they come from; [`GraphLists`] reads those of a [`Graph`].
 //!
-//! [`List`] holds numbers in order, as the successors of one page. [`merge`] joins two ascending lists into one, and
-//! [`join`] does so where the numbers of the second come one after the other. [`Members`] tells of one number after the
-//! other whether it stands in an ascending list. The definitions say what a graph is, which lists ascend, which
-//! ascending list a set of numbers has, and which members of a referenced list its copy blocks copy; the lemmas on them
-//! serve every crate that copies, merges or writes lists.
+//! [`List`] holds numbers in order, as the successors of one page. [`join`] joins to an ascending list the numbers of
+//! another that come one after the other. [`Members`] tells of one number after the other whether it stands in an
+//! ascending list, and gives the members below a number one by one. The definitions say what a graph is, which lists
+//! ascend, which ascending list a set of numbers has, and which members of a referenced list its copy blocks copy; the
+//! lemmas on them serve every crate that copies, joins or writes lists.
 //!
 //! A graph holds 8 bytes for each arc and 8 for each page, and lends any list in constant time. Building it takes time
 //! in proportion to its arcs and pages. Memory is taken as the arcs come, and never by the number of pages that is
@@ -22,7 +22,6 @@ mod joining;
 mod list;
 mod lists;
 mod members;
-mod merging;
 
 pub use builder::GraphBuilder;
 pub use graph::Graph;
@@ -30,7 +29,6 @@ pub use joining::join;
 pub use list::List;
 pub use lists::{GraphLists, Lists};
 pub use members::Members;
-pub use merging::merge;
 
 #[cfg(test)]
 mod tests;
