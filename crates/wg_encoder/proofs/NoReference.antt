@@ -52,7 +52,7 @@ high_in q (x ∷ xs) y all there =
     let parts = and_parts (q x) (list_all q xs) all in
     elim (or_cases (eqb y x) (is_in y xs) there) [ inl e ↦ ap q (eqb-true y x e) ∙ parts.0 | inr h ↦ high_in q xs y parts.1 h ]
 
-zeta_holds : (k v : ℕ) → 1 ≤ k → k ≤ 31 → v ≤ 2 ^ 38 → leb v (top (Zeta k)) ≡ true
+pub zeta_holds : (k v : ℕ) → 1 ≤ k → k ≤ 31 → v ≤ 2 ^ 38 → leb v (top (Zeta k)) ≡ true
 zeta_holds k v some low le =
     let there : is_in k (range_with_len 1 31) ≡ true = in_run 1 31 k [] some (omega arith) in
     let high : 2 ^ 38 ≤ 2 ^ (k * (63 / k)) - 2 = leb-true (2 ^ 38) (2 ^ (k * (63 / k)) - 2) (high_in zeta_high (range_with_len 1 31) k all_high there) in
