@@ -68,24 +68,11 @@ pub fn record_cost(
 mod tests {
     use super::*;
     use std::test::Fail;
-    use wg_params::Code;
+    use wg_vectors::usual;
 
     #[test]
     fn bits_of_small_records(rt: HostRuntime) -> Result<(), Fail> {
-        let params = Params::new(
-            8,
-            16,
-            7,
-            Some(3),
-            2,
-            3,
-            Code::Gamma,
-            Code::Unary,
-            Code::Gamma,
-            Code::Gamma,
-            Code::Zeta(3),
-            Code::Gamma,
-        )?;
+        let params = usual(8, 16, 7, 3, 2)?;
         // no successors; one residual; two intervals
         assert_eq!(rt; record_cost(&params, 1, 0, &[], &[], u64::MAX), Some(1));
         assert_eq!(rt; record_cost(&params, 0, 0, &[], &[1], u64::MAX), Some(9));

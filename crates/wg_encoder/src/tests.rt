@@ -7,25 +7,8 @@ use std::process::Abort;
 use std::test::Fail;
 use wg_graph::{Graph, GraphBuilder};
 use wg_io::{Depot, MemoryDepot, Output, SteadyDepot, read_whole};
-use wg_params::{Code, Params};
-
-// An archive in the usual codes.
-fn usual(nodes: u64, arcs: u64, chain: u64, interval: u64) -> Result<Params, Fail> {
-    Ok(Params::new(
-        nodes,
-        arcs,
-        7,
-        Some(chain),
-        interval,
-        3,
-        Code::Gamma,
-        Code::Unary,
-        Code::Gamma,
-        Code::Gamma,
-        Code::Zeta(3),
-        Code::Gamma,
-    )?)
-}
+use wg_params::Params;
+use wg_vectors::usual;
 
 // The graph of these arcs, which ascend.
 fn graph_of(
@@ -86,7 +69,7 @@ fn gone_on<'a>(
 fn a_list_is_copied_whole(rt: HostRuntime) -> Result<(), Fail> {
     let graph = graph_of(&rt, rt.alloc(), 3, &[(0, 1), (0, 2), (1, 1), (1, 2)])?;
     let mut depot = SteadyDepot::new(rt.alloc(), 2);
-    let mut encoder = begun(&rt, rt.alloc(), usual(3, 4, 3, 4)?, &graph)?;
+    let mut encoder = begun(&rt, rt.alloc(), usual(3, 4, 7, 3, 4)?, &graph)?;
     encoder = gone_on(&rt, encoder, &mut depot, 0, 12)?;
     assert_eq!(rt; plain(&rt, &encoder), 11);
     encoder = gone_on(&rt, encoder, &mut depot, 1, 6)?;
@@ -102,7 +85,7 @@ fn a_chain_of_one_reference(rt: HostRuntime) -> Result<(), Fail> {
     let arcs = [(1, 0), (1, 2), (2, 0), (2, 2), (3, 0), (3, 2)];
     let graph = graph_of(&rt, rt.alloc(), 4, &arcs)?;
     let mut depot = SteadyDepot::new(rt.alloc(), 2);
-    let mut encoder = begun(&rt, rt.alloc(), usual(4, 6, 1, 4)?, &graph)?;
+    let mut encoder = begun(&rt, rt.alloc(), usual(4, 6, 7, 1, 4)?, &graph)?;
     encoder = gone_on(&rt, encoder, &mut depot, 0, 1)?;
     // page 0 has no successors
     assert!(rt; !may_take(&rt, &encoder, 1));
@@ -123,7 +106,7 @@ fn a_list_is_copied_in_part(rt: HostRuntime) -> Result<(), Fail> {
     let arcs = [(0, 1), (0, 3), (0, 5), (0, 7), (1, 1), (1, 5), (1, 7)];
     let graph = graph_of(&rt, rt.alloc(), 8, &arcs)?;
     let mut depot = SteadyDepot::new(rt.alloc(), 2);
-    let mut encoder = begun(&rt, rt.alloc(), usual(8, 7, 3, 4)?, &graph)?;
+    let mut encoder = begun(&rt, rt.alloc(), usual(8, 7, 7, 3, 4)?, &graph)?;
     encoder = gone_on(&rt, encoder, &mut depot, 0, 23)?;
     assert_eq!(rt; plain(&rt, &encoder), 18);
     encoder = gone_on(&rt, encoder, &mut depot, 1, 14)?;
@@ -170,7 +153,7 @@ fn is_encoded(
 
 #[test]
 fn no_pages(rt: HostRuntime) -> Result<(), Fail> {
-    is_encoded(&rt, rt.alloc(), usual(0, 0, 3, 4)?, &[], 0, b"", b"\x80")
+    is_encoded(&rt, rt.alloc(), usual(0, 0, 7, 3, 4)?, &[], 0, b"", b"\x80")
 }
 
 #[test]
@@ -179,7 +162,7 @@ fn three_pages(rt: HostRuntime) -> Result<(), Fail> {
     is_encoded(
         &rt,
         rt.alloc(),
-        usual(3, 4, 3, 4)?,
+        usual(3, 4, 7, 3, 4)?,
         &arcs,
         19,
         b"\x7D\xC6\xE0",
@@ -195,7 +178,7 @@ fn two_blocks(rt: HostRuntime) -> Result<(), Fail> {
     is_encoded(
         &rt,
         rt.alloc(),
-        usual(8, 7, 3, 4)?,
+        usual(8, 7, 7, 3, 4)?,
         &arcs,
         43,
         graph,
@@ -210,7 +193,7 @@ fn short_chains(rt: HostRuntime) -> Result<(), Fail> {
     is_encoded(
         &rt,
         rt.alloc(),
-        usual(4, 6, 1, 4)?,
+        usual(4, 6, 7, 1, 4)?,
         &arcs,
         27,
         graph,
@@ -228,7 +211,7 @@ fn a_write_that_fails(rt: HostRuntime) -> Result<(), Fail> {
         depot.create("offsets")?;
         depot.fail_append(k as u64 + 1);
         let arcs = [(0, 1), (0, 2), (1, 1), (1, 2)];
-        let answer = encoded(&rt, rt.alloc(), usual(3, 4, 3, 4)?, &arcs, &mut depot);
+        let answer = encoded(&rt, rt.alloc(), usual(3, 4, 7, 3, 4)?, &arcs, &mut depot);
         assert_eq!(rt; answer, Err(EncodeError::Failed(outputs[k])));
     }
     Ok(())

@@ -8,6 +8,10 @@ use std::alloc::{AllocError, Global};
 use std::test::Fail;
 use wg_grammar::OffsetWord;
 use wg_params::Code;
+use wg_vectors::{
+    ARCHIVES, LONGER, OFFSETS_BAD_TAIL, OFFSETS_CUT, OFFSETS_NO_WORD, OFFSETS_NOT_FROM_0,
+    OFFSETS_TOO_FAR, bytes_of,
+};
 
 fn has_places(offsets: &Offsets, places: &[u64]) -> bool {
     if offsets.len() != places.len() as u64 {
@@ -23,40 +27,46 @@ fn has_places(offsets: &Offsets, places: &[u64]) -> bool {
 
 #[test]
 fn each_word_leads_from_one_place_to_the_next(rt: HostRuntime) -> Result<(), Fail> {
-    let gamma = read(rt.alloc(), &[0x8d, 0x3a], 3, Code::Gamma)?;
-    assert!(rt; has_places(&gamma, &[0, 12, 18, 19]));
-    let delta = read(rt.alloc(), &[0x92, 0xbd, 0], 3, Code::Delta)?;
-    assert!(rt; has_places(&delta, &[0, 12, 18, 19]));
-    let none = read(rt.alloc(), &[0x80], 0, Code::Gamma)?;
-    assert!(rt; has_places(&none, &[0]));
-    let far = [0x80, 0, 0, 0, 0, 0, 0x20, 0, 0, 0, 0, 0, 0x10];
-    let farthest = read(rt.alloc(), &far, 1, Code::Gamma)?;
-    assert!(rt; has_places(&farthest, &[0, MOST_PLACE]));
+    for archive in ARCHIVES.iter().chain(LONGER.iter()) {
+        let params = archive.shape.params(archive.nodes, archive.arcs)?;
+        let bytes = bytes_of(rt.alloc(), archive.offsets)?;
+        assert!(rt; bytes.len() <= 1 << 46);
+        let offsets = read(rt.alloc(), &bytes, params.nodes(), params.offsets())?;
+        assert!(rt; has_places(&offsets, archive.places), "{}", archive.name);
+    }
     Ok(())
 }
 
-fn fault(alloc: Global, bytes: &[u8], n: u64) -> Option<OffsetsError>
-    requires bytes { length bytes.now ≤ MOST_BYTES }
-    requires pages { n ≤ MOST_PAGES }
-{
-    read(alloc, bytes, n, Code::Gamma).err()
+// After the word of 0 comes that of the last place that there is.
+const FARTHEST: &str =
+    "1 0000000000000000000000000000000000000000000000000 10000000000000000000000000000000000000000000000001";
+
+#[test]
+fn the_last_place(rt: HostRuntime) -> Result<(), Fail> {
+    let bytes = bytes_of(rt.alloc(), FARTHEST)?;
+    assert!(rt; bytes.len() <= 1 << 46);
+    let offsets = read(rt.alloc(), &bytes, 1, Code::Gamma)?;
+    assert!(rt; has_places(&offsets, &[0, MOST_PLACE]));
+    Ok(())
 }
 
 #[test]
-fn the_first_fault_is_named(rt: HostRuntime) {
-    let not_0 = fault(rt.alloc(), &[0x50], 1);
-    assert_eq!(rt; not_0, Some(OffsetsError::Word(OffsetWord::First)));
-    let empty = fault(rt.alloc(), &[], 0);
-    assert_eq!(rt; empty, Some(OffsetsError::Word(OffsetWord::Cut(0))));
-    let cut = fault(rt.alloc(), &[0x80], 1);
-    assert_eq!(rt; cut, Some(OffsetsError::Word(OffsetWord::Cut(1))));
-    let no_word = fault(rt.alloc(), &[0x80, 0, 0, 0, 0, 0, 0, 0, 0], 1);
-    assert_eq!(rt; no_word, Some(OffsetsError::Word(OffsetWord::NoWord(1))));
-    let far = [0x80, 0, 0, 0, 0, 0, 0x20, 0, 0, 0, 0, 0, 0x20];
-    let too_far = fault(rt.alloc(), &far, 1);
-    assert_eq!(rt; too_far, Some(OffsetsError::Word(OffsetWord::TooFar(1))));
-    let tail = fault(rt.alloc(), &[0xa1], 1);
-    assert_eq!(rt; tail, Some(OffsetsError::Word(OffsetWord::Tail(7))));
+fn the_first_fault_is_named(rt: HostRuntime) -> Result<(), Fail> {
+    let cases = [
+        (OFFSETS_NOT_FROM_0.offsets, 1, OffsetWord::First),
+        ("", 0, OffsetWord::Cut(0)),
+        (OFFSETS_CUT.offsets, 1, OffsetWord::Cut(1)),
+        (OFFSETS_NO_WORD.offsets, 1, OffsetWord::NoWord(1)),
+        (OFFSETS_TOO_FAR.offsets, 1, OffsetWord::TooFar(1)),
+        (OFFSETS_BAD_TAIL.offsets, 1, OffsetWord::Tail(7)),
+    ];
+    for (text, n, word) in cases {
+        let bytes = bytes_of(rt.alloc(), text)?;
+        assert!(rt; bytes.len() <= 1 << 46 && n <= 1);
+        let found = read(rt.alloc(), &bytes, n, Code::Gamma).err();
+        assert_eq!(rt; found, Some(OffsetsError::Word(word)), "{text}");
+    }
+    Ok(())
 }
 
 fn of_two_records(alloc: Global, first: u64, second: u64) -> Result<Offsets, AllocError>

@@ -24,3 +24,6 @@ mod records;
 pub use error::PagesError;
 pub use pages::Pages;
 pub use records::{read_graph, read_offsets};
+
+#[cfg(test)]
+mod tests;

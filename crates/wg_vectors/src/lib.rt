@@ -3,11 +3,33 @@
 //!
 //! [`VECTORS`] has words of the five codes, [`NO_WORDS`] bits that are no word, and [`FOLDS`] numbers of either sign with
 //! their values. The tests of this crate run each of them through `wg_codes`, both ways.
+//!
+//! [`ARCHIVES`] are worked archives, bit by bit, with the lists and the places of their records; several have names of their
+//! own. [`LONGER`] has legal archives that are not the shortest, [`BAD_GRAPHS`] and [`BAD_OFFSETS`] have archives with a fault.
+//! [`bytes_of`] turns the text of some bits into bytes, and [`usual`] makes parameters in the usual codes. The tests of the
+//! crates above read, write and refuse these archives.
 #![tactic(auto)]
 
+mod archives;
+mod bits;
 mod codes;
+mod faults;
+mod longer;
+mod shapes;
 
+pub use archives::{
+    ARCHIVES, Archive, BLOCKS, CHAIN, COPIED, COPIED_DELTA, COPIED_GRAPH, COPIED_OFFSETS,
+    INTERVALS, LOOP, NO_PAGES, ONE_ARC, ONE_PAGE, PLAIN_ARC,
+};
+pub use bits::bytes_of;
 pub use codes::{FOLDS, Folded, NO_WORDS, NoWord, VECTORS, Vector};
+pub use faults::{
+    BAD_GRAPHS, BAD_OFFSETS, BAD_TAIL, BLOCK_TOO_LONG, OFFSETS_BAD_TAIL, OFFSETS_CUT,
+    OFFSETS_NO_WORD, OFFSETS_NOT_FROM_0, OFFSETS_TOO_FAR, Refused, TOO_FEW_ARCS, TOO_LONG_A_CHAIN,
+    TWICE,
+};
+pub use longer::LONGER;
+pub use shapes::{PLAIN, Shape, usual};
 
 #[cfg(test)]
 mod tests;

@@ -1,14 +1,24 @@
-//! What `check` says of archives.
-use super::bad_graphs::BAD_GRAPHS;
-use super::printed::{PRINTED, RANKINGS};
-use super::tables::{ACCEPTED, BAD_OFFSETS, Case, LONGER, Shape, USUAL};
+//! What `check`, `arcs` and `offsets` say of archives, and `rank` of some.
+use super::rankings::RANKINGS;
 use super::*;
+use wg_vectors::{ARCHIVES, BAD_GRAPHS, BAD_OFFSETS, LONGER, PLAIN, Refused, Shape};
+
+// The three files of an archive.
+#[derive(Drop)]
+struct Files {
+    properties: String,
+    graph: Vec<u8>,
+    offsets: Vec<u8>,
+}
 
 fn properties(alloc: Global, nodes: u64, arcs: u64, shape: &Shape) -> Result<String, Fail> {
     let window = shape.window;
-    let chain = shape.chain;
     let interval = shape.interval;
     let flags = shape.flags;
+    let chain = match shape.chain {
+        Some(chain) => format!(in alloc; "{chain}")?,
+        None => String::from_str(alloc, "-1")?,
+    };
     let head = format!(in alloc;
         "graphclass=it.unimi.dsi.webgraph.BVGraph\nversion=0\nnodes={nodes}\narcs={arcs}\n"
     )?;
@@ -18,171 +28,162 @@ fn properties(alloc: Global, nodes: u64, arcs: u64, shape: &Shape) -> Result<Str
     Ok(format!(in alloc; "{head}{tail}")?)
 }
 
+fn files_of(alloc: Global, archive: &Archive) -> Result<Files, Fail> {
+    Ok(Files {
+        properties: properties(alloc, archive.nodes, archive.arcs, &archive.shape)?,
+        graph: bytes_of(alloc, archive.graph)?,
+        offsets: bytes_of(alloc, archive.offsets)?,
+    })
+}
+
+fn files_of_refused(alloc: Global, refused: &Refused) -> Result<Files, Fail> {
+    Ok(Files {
+        properties: properties(alloc, refused.nodes, refused.arcs, &refused.shape)?,
+        graph: bytes_of(alloc, refused.graph)?,
+        offsets: bytes_of(alloc, refused.offsets)?,
+    })
+}
+
+// The status that a line ends with, what it prints, and what it says on standard error.
+#[derive(Drop)]
+struct Said {
+    code: u8,
+    out: SteadySink,
+    err: SteadySink,
+}
+
 // What a line says of an archive, whose depot and sinks move at most `piece` bytes at once.
-fn says(
-    alloc: Global,
-    line: &str,
-    piece: u64,
-    properties: &str,
-    graph: &[u8],
-    offsets: &[u8],
-) -> Result<(u8, SteadySink, SteadySink), Fail> {
+fn says(alloc: Global, line: &str, piece: u64, files: &Files) -> Result<Said, Fail> {
     let piece = piece.max(1);
     let mut depot = SteadyDepot::new(alloc, piece);
-    depot.put_file("g.properties", properties.as_bytes())?;
-    depot.put_file("g.graph", graph)?;
-    depot.put_file("g.offsets", offsets)?;
+    depot.put_file("g.properties", files.properties.as_bytes())?;
+    depot.put_file("g.graph", &files.graph)?;
+    depot.put_file("g.offsets", &files.offsets)?;
     let mut out = SteadySink::new(alloc, piece);
     let mut err = SteadySink::new(alloc, piece);
     let words = words_of(alloc, line)?;
-    let status = run(alloc, &words, &mut depot, &mut out, &mut err);
-    Ok((status.code(), out, err))
+    let code = run(alloc, &words, &mut depot, &mut out, &mut err).code();
+    Ok(Said { code, out, err })
 }
 
-// Whether `check` says what the case says, with this status, however much moves at once.
-fn holds(alloc: Global, case: &Case, code: u8, printed: &str, told: &str) -> Result<bool, Fail> {
-    let (nodes, arcs, shape, graph, offsets, _) = *case;
-    let properties = properties(alloc, nodes, arcs, &shape)?;
+// Whether a line ends with this status and says this, however much moves at once.
+fn does_say(
+    alloc: Global,
+    line: &str,
+    files: &Files,
+    code: u8,
+    printed: &str,
+    told: &str,
+) -> Result<bool, Fail> {
     for piece in [1, 3, 4096] {
-        let (status, out, err) = says(
-            alloc,
-            "check g",
-            piece,
-            properties.as_str(),
-            graph,
-            offsets,
-        )?;
-        if status != code || out.bytes() != printed.as_bytes() || err.bytes() != told.as_bytes() {
+        let said = says(alloc, line, piece, files)?;
+        if said.code != code
+            || said.out.bytes() != printed.as_bytes()
+            || said.err.bytes() != told.as_bytes()
+        {
             return Ok(false);
         }
     }
     Ok(true)
+}
+
+// A line for each place.
+fn place_lines(alloc: Global, archive: &Archive) -> Result<String, Fail> {
+    let mut text = String::new(alloc);
+    for place in archive.places {
+        text.push_str(format!(in alloc; "{place}\n")?.as_str())?;
+    }
+    Ok(text)
 }
 
 #[test]
 fn accepted_archives(rt: HostRuntime) -> Result<(), Fail> {
-    for case in ACCEPTED.iter().chain(LONGER.iter()) {
-        assert!(rt; holds(rt.alloc(), case, 0, case.5, "")?, "{}", case.5);
-    }
-    Ok(())
-}
-
-#[test]
-fn refused_graphs(rt: HostRuntime) -> Result<(), Fail> {
-    for case in &BAD_GRAPHS {
-        let line = format!(in rt.alloc(); "wg: g.graph: {}\n", case.5)?;
+    let alloc = rt.alloc();
+    for archive in ARCHIVES.iter().chain(LONGER.iter()) {
+        let files = files_of(alloc, archive)?;
+        let ok = ok_line(alloc, archive)?;
+        let arcs = arc_lines(alloc, archive)?;
+        let places = place_lines(alloc, archive)?;
+        let name = archive.name;
+        assert!(rt; does_say(alloc, "check g", &files, 0, &ok, "")?, "{name}");
+        assert!(rt; does_say(alloc, "arcs g", &files, 0, &arcs, "")?, "{name}");
         assert!(rt;
-            holds(rt.alloc(), case, 9, "", line.as_str())?,
-            "{}",
-            case.5
+            does_say(alloc, "offsets g", &files, 0, &places, "")?,
+            "{name}"
         );
     }
     Ok(())
 }
 
-#[test]
-fn refused_offsets(rt: HostRuntime) -> Result<(), Fail> {
-    for case in &BAD_OFFSETS {
-        let line = format!(in rt.alloc(); "wg: g.offsets: {}\n", case.5)?;
-        assert!(rt;
-            holds(rt.alloc(), case, 9, "", line.as_str())?,
-            "{}",
-            case.5
-        );
-    }
-    Ok(())
-}
-
-// Whether a line prints the text, however much moves at once; the offsets file is not asked for.
-fn prints(
-    alloc: Global,
-    line: &str,
-    properties: &str,
-    graph: &[u8],
-    text: &str,
-) -> Result<bool, Fail> {
-    for piece in [1, 3, 4096] {
-        let (status, out, err) = says(alloc, line, piece, properties, graph, b"")?;
-        if status != 0 || out.bytes() != text.as_bytes() || !err.bytes().is_empty() {
-            return Ok(false);
-        }
-    }
-    Ok(true)
+// Whether `check` says this of a file, and nothing else.
+fn is_refused(alloc: Global, refused: &Refused, file: &str) -> Result<bool, Fail> {
+    let fault = refused.fault;
+    let told = format!(in alloc; "wg: {file}: {fault}\n")?;
+    let files = files_of_refused(alloc, refused)?;
+    does_say(alloc, "check g", &files, 9, "", &told)
 }
 
 #[test]
-fn printed_graphs(rt: HostRuntime) -> Result<(), Fail> {
-    for (nodes, arcs, shape, graph, lines, places) in &PRINTED {
-        let properties = properties(rt.alloc(), *nodes, *arcs, shape)?;
-        assert!(rt;
-            prints(rt.alloc(), "arcs g", properties.as_str(), graph, lines)?,
-            "{lines}"
-        );
-        assert!(rt;
-            prints(rt.alloc(), "offsets g", properties.as_str(), graph, places)?,
-            "{places}"
-        );
+fn refused_archives(rt: HostRuntime) -> Result<(), Fail> {
+    for refused in &BAD_GRAPHS {
+        let fault = refused.fault;
+        assert!(rt; is_refused(rt.alloc(), refused, "g.graph")?, "{fault}");
+    }
+    for refused in &BAD_OFFSETS {
+        let fault = refused.fault;
+        assert!(rt; is_refused(rt.alloc(), refused, "g.offsets")?, "{fault}");
     }
     Ok(())
 }
 
 #[test]
 fn printed_rankings(rt: HostRuntime) -> Result<(), Fail> {
-    for (nodes, arcs, graph, line, text) in &RANKINGS {
-        let properties = properties(rt.alloc(), *nodes, *arcs, &USUAL)?;
+    for ranking in &RANKINGS {
+        let files = files_of(rt.alloc(), &ranking.archive)?;
+        let line = ranking.line;
         assert!(rt;
-            prints(rt.alloc(), line, properties.as_str(), graph, text)?,
+            does_say(rt.alloc(), line, &files, 0, ranking.text, "")?,
             "{line}"
         );
     }
     Ok(())
 }
 
-// Page 0 has the successors 0 and 1, and each later page refers to the one before and copies both: records of 6 bits.
-fn chain_of_257_pages(alloc: Global) -> Result<(Vec<u8>, Vec<u8>), Fail> {
-    let mut graph = Vec::from_slice(alloc, b"\x7d\xb6\xdb")?;
-    for _ in 0..63 {
-        graph.extend_from_slice(b"\x6d\xb6\xdb")?;
+// Page 0 has the successors 0 and 1, and each later page refers to the one before and copies both. Each record has 6 bits.
+fn chain_of_257_pages(alloc: Global, chain: Option<u64>) -> Result<Files, Fail> {
+    let mut graph = String::from_str(alloc, "011 1 1 1")?;
+    let mut offsets = String::from_str(alloc, "1 00111")?;
+    for _ in 0..256 {
+        graph.push_str("011 01 1")?;
+        offsets.push_str("00111")?;
     }
-    graph.push(0x6c)?;
-    // the word of 0 is a one, and that of 6 is `00111`: eight of them take five bytes
-    let mut offsets = Vec::from_slice(alloc, b"\x9c")?;
-    for _ in 0..32 {
-        offsets.extend_from_slice(b"\xe7\x39\xce\x73\x9c")?;
-    }
-    Ok((graph, offsets))
+    let shape = Shape {
+        window: 1,
+        chain,
+        ..PLAIN
+    };
+    Ok(Files {
+        properties: properties(alloc, 257, 514, &shape)?,
+        graph: bytes_of(alloc, &graph)?,
+        offsets: bytes_of(alloc, &offsets)?,
+    })
 }
 
 #[test]
 fn a_chain_of_references(rt: HostRuntime) -> Result<(), Fail> {
-    let (graph, offsets) = chain_of_257_pages(rt.alloc())?;
-    let cases = [
-        ("-1", "ok nodes=257 arcs=514 bits=1542\n", ""),
-        ("256", "ok nodes=257 arcs=514 bits=1542\n", ""),
-        (
-            "255",
-            "",
-            "wg: g.graph: page 256 bit 1539 reference chain\n",
-        ),
-    ];
-    for (chain, printed, reported) in cases {
-        let shape = Shape {
-            window: 1,
-            chain,
-            interval: 0,
-            flags: "RESIDUALS_GAMMA",
-        };
-        let properties = properties(rt.alloc(), 257, 514, &shape)?;
-        let (_, out, err) = says(
-            rt.alloc(),
-            "check g",
-            4096,
-            properties.as_str(),
-            graph.as_slice(),
-            offsets.as_slice(),
-        )?;
-        assert!(rt; out.bytes() == printed.as_bytes(), "{chain}");
-        assert!(rt; err.bytes() == reported.as_bytes(), "{chain}");
+    let alloc = rt.alloc();
+    let ok = "ok nodes=257 arcs=514 bits=1542\n";
+    let fault = "wg: g.graph: page 256 bit 1539 reference chain\n";
+    for (chain, code, printed, told) in [
+        (None, 0, ok, ""),
+        (Some(256), 0, ok, ""),
+        (Some(255), 9, "", fault),
+    ] {
+        let files = chain_of_257_pages(alloc, chain)?;
+        assert!(rt;
+            does_say(alloc, "check g", &files, code, printed, told)?,
+            "{chain:?}"
+        );
     }
     Ok(())
 }

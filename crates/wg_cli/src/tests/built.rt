@@ -1,7 +1,10 @@
 //! What `build` writes, and what stands where it is stopped.
 ghost use Rattle.std.specs.Prelude.{◌≤◌, ◌<◌, ◌^◌, ◌-◌};
 
-use super::lists::{BUILT, Built, FOUR_ARCS_TEXT, Held, STOPPED, Stopped, UNBUILT};
+use super::lists::{
+    BUILD_COPIED, BUILT, Built, COPIED_ARCS, COPIED_OK, COPIED_PROPERTIES, Held, NO_FILES, STOPPED,
+    Stopped, UNBUILT,
+};
 use super::*;
 use wg_io::{LoadError, read_whole};
 
@@ -38,90 +41,115 @@ fn holds<D: Depot>(
     }
 }
 
+// Whether a file holds the bits of this text, or is not there.
+fn holds_bits<D: Depot>(
+    alloc: Global,
+    depot: &mut D,
+    name: &str,
+    text: Option<&str>,
+) -> Result<bool, Fail> {
+    match text {
+        Some(text) => holds(alloc, depot, name, Some(&bytes_of(alloc, text)?)),
+        None => holds(alloc, depot, name, None),
+    }
+}
+
 fn hold<D: Depot>(alloc: Global, depot: &mut D, held: &Held) -> Result<bool, Fail> {
+    let properties = held.properties.map(|text| text.as_bytes());
     Ok(
-        holds(alloc, depot, "g.properties", held[0])?
-            && holds(alloc, depot, "g.graph", held[1])?
-            && holds(alloc, depot, "g.offsets", held[2])?,
+        holds(alloc, depot, "g.properties", properties)?
+            && holds_bits(alloc, depot, "g.graph", held.graph)?
+            && holds_bits(alloc, depot, "g.offsets", held.offsets)?,
     )
 }
 
 // Whether the archive is the one that it should be, is accepted, and has the arcs of the list.
-fn is_built(alloc: Global, case: &Built, piece: u64) -> Result<bool, Fail>
+fn is_built(alloc: Global, built: &Built, piece: u64) -> Result<bool, Fail>
     requires { 1 ≤ piece }
 {
-    let (line, list, graph, offsets, printed) = *case;
+    let archive = &built.archive;
+    let list = arc_lines(alloc, archive)?;
+    let ok = ok_line(alloc, archive)?;
     let mut depot = SteadyDepot::new(alloc, piece);
     depot.put_file("a", list.as_bytes())?;
     Ok(
-        prints(alloc, line, &mut depot, printed)?
-            && holds(alloc, &mut depot, "g.graph", Some(graph))?
-            && holds(alloc, &mut depot, "g.offsets", Some(offsets))?
-            && prints(alloc, "check g", &mut depot, printed)?
-            && prints(alloc, "arcs g", &mut depot, list)?,
+        prints(alloc, built.line, &mut depot, &ok)?
+            && holds_bits(alloc, &mut depot, "g.graph", Some(archive.graph))?
+            && holds_bits(alloc, &mut depot, "g.offsets", Some(archive.offsets))?
+            && prints(alloc, "check g", &mut depot, &ok)?
+            && prints(alloc, "arcs g", &mut depot, &list)?,
     )
 }
 
 #[test]
 fn archives_of_small_lists(rt: HostRuntime) -> Result<(), Fail> {
-    for case in &BUILT {
-        assert!(rt; is_built(rt.alloc(), case, 1)?, "{}", case.0);
-        assert!(rt; is_built(rt.alloc(), case, 4096)?, "{}", case.0);
+    for built in &BUILT {
+        assert!(rt; is_built(rt.alloc(), built, 1)?, "{}", built.line);
+        assert!(rt; is_built(rt.alloc(), built, 4096)?, "{}", built.line);
     }
     let mut depot = SteadyDepot::new(rt.alloc(), 3);
-    depot.put_file("a", BUILT[2].1.as_bytes())?;
-    assert!(rt; prints(rt.alloc(), BUILT[2].0, &mut depot, BUILT[2].4)?);
-    assert!(rt; holds(rt.alloc(), &mut depot, "g.properties", Some(FOUR_ARCS_TEXT))?);
+    depot.put_file("a", COPIED_ARCS.as_bytes())?;
+    assert!(rt; prints(rt.alloc(), BUILD_COPIED, &mut depot, COPIED_OK)?);
+    assert!(rt;
+        holds(
+            rt.alloc(),
+            &mut depot,
+            "g.properties",
+            Some(COPIED_PROPERTIES.as_bytes())
+        )?
+    );
     Ok(())
 }
 
 #[test]
 fn lists_that_are_refused(rt: HostRuntime) -> Result<(), Fail> {
-    for (line, list, code, report) in UNBUILT {
+    for unbuilt in &UNBUILT {
+        let line = unbuilt.line;
         let mut depot = SteadyDepot::new(rt.alloc(), 3);
-        depot.put_file("a", list.as_bytes())?;
-        let (status, out, err) = told(rt.alloc(), line, &mut depot)?;
+        depot.put_file("a", unbuilt.list.as_bytes())?;
+        let (code, out, err) = told(rt.alloc(), line, &mut depot)?;
         assert!(rt;
-            status == code && err.bytes() == report.as_bytes(),
+            code == unbuilt.code && err.bytes() == unbuilt.report.as_bytes(),
             "{line}"
         );
         assert!(rt; out.bytes().is_empty(), "{line}");
-        assert!(rt;
-            hold(rt.alloc(), &mut depot, &[None, None, None])?,
-            "{line}"
-        );
+        assert!(rt; hold(rt.alloc(), &mut depot, &NO_FILES)?, "{line}");
     }
     Ok(())
 }
 
-// Whether a run that is stopped as the case says reports this, and leaves the files so.
-fn is_stopped(alloc: Global, case: &Stopped) -> Result<bool, Fail>
-    requires piece { 1 ≤ case.now.0 }
-    requires create { case.now.1 < 2 ^ 64 - 1 }
-    requires append { case.now.2 < 2 ^ 64 - 1 }
+// Whether a run that is stopped as the row says reports this, and leaves the files so.
+fn is_stopped(alloc: Global, stopped: &Stopped) -> Result<bool, Fail>
+    requires piece { 1 ≤ stopped.now.piece }
+    requires create { stopped.now.create < 2 ^ 64 - 1 }
+    requires append { stopped.now.append < 2 ^ 64 - 1 }
 {
-    let (piece, create, append, report, held) = *case;
-    let mut depot = MemoryDepot::new(alloc, piece);
-    depot.put_file("a", BUILT[2].1.as_bytes())?;
-    if create > 0 {
-        depot.fail_create(create);
+    let mut depot = MemoryDepot::new(alloc, stopped.piece);
+    depot.put_file("a", COPIED_ARCS.as_bytes())?;
+    if stopped.create > 0 {
+        depot.fail_create(stopped.create);
     }
-    if append > 0 {
-        depot.fail_append(append);
+    if stopped.append > 0 {
+        depot.fail_append(stopped.append);
     }
-    let (code, out, err) = told(alloc, BUILT[2].0, &mut depot)?;
+    let (code, out, err) = told(alloc, BUILD_COPIED, &mut depot)?;
     Ok(
         code == 5
             && out.bytes().is_empty()
-            && err.bytes() == report.as_bytes()
-            && hold(alloc, &mut depot, &held)?,
+            && err.bytes() == stopped.report.as_bytes()
+            && hold(alloc, &mut depot, &stopped.held)?,
     )
 }
 
 #[test]
 fn each_file_stops_once(rt: HostRuntime) -> Result<(), Fail> {
-    for case in &STOPPED {
-        assert!(rt; is_stopped(rt.alloc(), case)?, "{}", case.3);
+    for stopped in &STOPPED {
+        assert!(rt;
+            is_stopped(rt.alloc(), stopped)?,
+            "create {}, append {}",
+            stopped.create,
+            stopped.append
+        );
     }
     Ok(())
 }
@@ -129,9 +157,9 @@ fn each_file_stops_once(rt: HostRuntime) -> Result<(), Fail> {
 #[test]
 fn a_stopped_archive_is_refused(rt: HostRuntime) -> Result<(), Fail> {
     let mut depot = MemoryDepot::new(rt.alloc(), 1);
-    depot.put_file("a", BUILT[2].1.as_bytes())?;
+    depot.put_file("a", COPIED_ARCS.as_bytes())?;
     depot.fail_append(4);
-    let (stopped, _, _) = told(rt.alloc(), BUILT[2].0, &mut depot)?;
+    let (stopped, _, _) = told(rt.alloc(), BUILD_COPIED, &mut depot)?;
     let (refused, _, err) = told(rt.alloc(), "check g", &mut depot)?;
     assert!(rt; stopped == 5 && refused == 8);
     assert!(rt; err.bytes() == b"wg: g.properties: missing graphclass\n".as_slice());
@@ -141,14 +169,14 @@ fn a_stopped_archive_is_refused(rt: HostRuntime) -> Result<(), Fail> {
 #[test]
 fn the_output_fails_after_the_files(rt: HostRuntime) -> Result<(), Fail> {
     let mut depot = SteadyDepot::new(rt.alloc(), 4096);
-    depot.put_file("a", BUILT[2].1.as_bytes())?;
-    let words = words_of(rt.alloc(), BUILT[2].0)?;
+    depot.put_file("a", COPIED_ARCS.as_bytes())?;
+    let words = words_of(rt.alloc(), BUILD_COPIED)?;
     let mut out = MemorySink::new(rt.alloc(), 4096);
     out.fail_write(1);
     let mut err = SteadySink::new(rt.alloc(), 4096);
     let status = run(rt.alloc(), &words, &mut depot, &mut out, &mut err);
     assert!(rt; status.code() == 5);
-    assert!(rt; prints(rt.alloc(), "check g", &mut depot, BUILT[2].4)?);
+    assert!(rt; prints(rt.alloc(), "check g", &mut depot, COPIED_OK)?);
     Ok(())
 }
 

@@ -1,208 +1,249 @@
-//! Arc lists, and the archives that are built of them, bit by bit.
+//! Arc lists, the archives that are built of them, and what stands where a build is stopped.
+use wg_vectors::{
+    Archive, BLOCKS, CHAIN, COPIED, COPIED_DELTA, COPIED_GRAPH, COPIED_OFFSETS, INTERVALS, LOOP,
+    NO_PAGES, ONE_ARC, ONE_PAGE, PLAIN_ARC,
+};
 
-/// A line that builds an archive g of the arc list a; the list; the bytes of the graph and of the offsets; and what is printed.
-pub type Built = (
-    &'static str,
-    &'static str,
-    &'static [u8],
-    &'static [u8],
-    &'static str,
-);
-
-const FOUR_ARCS: &str = "0 1\n0 2\n1 1\n1 2\n";
+/// A line that builds an archive g of the arc list a, and the archive that is built where the list has its arcs.
+pub struct Built {
+    pub line: &'static str,
+    pub archive: Archive,
+}
 
 pub const BUILT: [Built; 10] = [
-    (
-        "build a g --nodes 1",
-        "",
-        b"\x80",
-        b"\xa0",
-        "ok nodes=1 arcs=0 bits=1\n",
-    ),
-    (
-        "build a g --nodes 2",
-        "0 1\n",
-        b"\x5d\xc0",
-        b"\x8a\x40",
-        "ok nodes=2 arcs=1 bits=10\n",
-    ),
-    (
-        "build a g --nodes 3",
-        FOUR_ARCS,
-        b"\x7d\xc6\xe0",
-        b"\x8d\x3a",
-        "ok nodes=3 arcs=4 bits=19\n",
-    ),
-    (
-        "build --interval 2 a g --nodes 6",
-        "0 1\n0 2\n0 4\n0 5\n",
-        b"\x2d\xbf\xf0",
-        b"\x84\x12\x49\0",
-        "ok nodes=6 arcs=4 bits=20\n",
-    ),
-    (
-        "build a g --nodes 1",
-        "0 0\n",
-        b"\x5c",
-        b"\x89",
-        "ok nodes=1 arcs=1 bits=8\n",
-    ),
-    (
-        "build a g --nodes 0",
-        "",
-        b"",
-        b"\x80",
-        "ok nodes=0 arcs=0 bits=0\n",
-    ),
-    (
-        "build --chain 1 a g --nodes 4",
-        "1 0\n1 2\n2 0\n2 2\n3 0\n3 2\n",
-        b"\xbe\xa9\xb6\x60",
-        b"\xa1\xc7\x10",
-        "ok nodes=4 arcs=6 bits=27\n",
-    ),
-    (
-        "build a g --nodes 2 --window 0 --interval 0 --residuals gamma",
-        "0 1\n",
-        b"\x4e",
-        b"\x9d\0",
-        "ok nodes=2 arcs=1 bits=7\n",
-    ),
-    (
-        "build a g --nodes 8",
-        "0 1\n0 3\n0 5\n0 7\n1 1\n1 5\n1 7\n",
-        b"\x2f\x75\x54\x45\xaf\xe0",
-        b"\x86\x07\xa4\x92\x40",
-        "ok nodes=8 arcs=7 bits=43\n",
-    ),
-    (
-        "build a g --nodes 3 --offsets delta",
-        FOUR_ARCS,
-        b"\x7d\xc6\xe0",
-        b"\x92\xbd\0",
-        "ok nodes=3 arcs=4 bits=19\n",
-    ),
+    Built {
+        line: "build a g --nodes 1",
+        archive: ONE_PAGE,
+    },
+    Built {
+        line: "build a g --nodes 2",
+        archive: ONE_ARC,
+    },
+    Built {
+        line: BUILD_COPIED,
+        archive: COPIED,
+    },
+    Built {
+        line: "build --interval 2 a g --nodes 6",
+        archive: INTERVALS,
+    },
+    Built {
+        line: "build a g --nodes 1",
+        archive: LOOP,
+    },
+    Built {
+        line: "build a g --nodes 0",
+        archive: NO_PAGES,
+    },
+    Built {
+        line: "build --chain 1 a g --nodes 4",
+        archive: CHAIN,
+    },
+    Built {
+        line: "build a g --nodes 2 --window 0 --interval 0 --residuals gamma",
+        archive: PLAIN_ARC,
+    },
+    Built {
+        line: "build a g --nodes 8",
+        archive: BLOCKS,
+    },
+    Built {
+        line: "build a g --nodes 3 --offsets delta",
+        archive: COPIED_DELTA,
+    },
 ];
+
+/// The line that builds the archive with a copied list, the list of its arcs, what is printed, and its properties text.
+pub const BUILD_COPIED: &str = "build a g --nodes 3";
+
+pub const COPIED_ARCS: &str = "0 1\n0 2\n1 1\n1 2\n";
+
+pub const COPIED_OK: &str = "ok nodes=3 arcs=4 bits=19\n";
+
+pub const COPIED_PROPERTIES: &str =
+    "#BVGraph properties\nversion=0\nnodes=3\narcs=4\nwindowsize=7\nmaxrefcount=3\nminintervallength=4\nzetak=3\ncompressionflags=\ngraphclass=it.unimi.dsi.webgraph.BVGraph\n";
 
 /// A line over an arc list a that holds so much, and the status and the line of error that it ends with.
-pub const UNBUILT: [(&str, &str, u8, &str); 8] = [
-    (
-        "build a g --nodes 2",
-        "0 1\n0 1\n",
-        7,
-        "wg: a: line 2: order\n",
-    ),
-    (
-        "build a g --nodes 2",
-        "# arcs\n0 2\n",
-        7,
-        "wg: a: line 2: range\n",
-    ),
-    (
-        "build a g --nodes 2",
-        "0 1 \n1\n",
-        7,
-        "wg: a: line 2: shape\n",
-    ),
-    (
-        "build a g --nodes 68719476735",
-        "0 x\n",
-        7,
-        "wg: a: line 1: shape\n",
-    ),
-    ("build b g --nodes 2", "0 1\n", 6, "wg: missing: b\n"),
-    ("build a g --nodes x", "0 1\n", 2, "wg: bad command line\n"),
-    ("build a g", "0 1\n", 2, "wg: bad command line\n"),
-    (
-        "build g.graph g --nodes 1",
-        "0 1\n",
-        2,
-        "wg: bad command line\n",
-    ),
+pub struct Unbuilt {
+    pub line: &'static str,
+    pub list: &'static str,
+    pub code: u8,
+    pub report: &'static str,
+}
+
+pub const UNBUILT: [Unbuilt; 8] = [
+    Unbuilt {
+        line: "build a g --nodes 2",
+        list: "0 1\n0 1\n",
+        code: 7,
+        report: "wg: a: line 2: order\n",
+    },
+    Unbuilt {
+        line: "build a g --nodes 2",
+        list: "# arcs\n0 2\n",
+        code: 7,
+        report: "wg: a: line 2: range\n",
+    },
+    Unbuilt {
+        line: "build a g --nodes 2",
+        list: "0 1 \n1\n",
+        code: 7,
+        report: "wg: a: line 2: shape\n",
+    },
+    Unbuilt {
+        line: "build a g --nodes 68719476735",
+        list: "0 x\n",
+        code: 7,
+        report: "wg: a: line 1: shape\n",
+    },
+    Unbuilt {
+        line: "build b g --nodes 2",
+        list: "0 1\n",
+        code: 6,
+        report: "wg: missing: b\n",
+    },
+    Unbuilt {
+        line: "build a g --nodes x",
+        list: "0 1\n",
+        code: 2,
+        report: "wg: bad command line\n",
+    },
+    Unbuilt {
+        line: "build a g",
+        list: "0 1\n",
+        code: 2,
+        report: "wg: bad command line\n",
+    },
+    Unbuilt {
+        line: "build g.graph g --nodes 1",
+        list: "0 1\n",
+        code: 2,
+        report: "wg: bad command line\n",
+    },
 ];
 
-/// What the properties, the graph and the offsets hold, where they are there.
-pub type Held = [Option<&'static [u8]>; 3];
+/// What the three files hold, where they are there: the text of the properties, and the bits of the graph and of the offsets.
+#[derive(Clone, Copy)]
+pub struct Held {
+    pub properties: Option<&'static str>,
+    pub graph: Option<&'static str>,
+    pub offsets: Option<&'static str>,
+}
 
-const GRAPH: Option<&[u8]> = Some(b"\x7d\xc6\xe0");
+pub const NO_FILES: Held = Held {
+    properties: None,
+    graph: None,
+    offsets: None,
+};
 
-const OFFSETS: Option<&[u8]> = Some(b"\x8d\x3a");
+// The files are created in this order, and then written: the graph, the offsets, and last the properties.
+const ONE_FILE: Held = Held {
+    properties: Some(""),
+    ..NO_FILES
+};
 
-const EMPTY: Option<&[u8]> = Some(b"");
+const TWO_FILES: Held = Held {
+    graph: Some(""),
+    ..ONE_FILE
+};
 
-const TWO_BYTES: Option<&[u8]> = Some(b"\x7d\xc6");
+const EMPTY_FILES: Held = Held {
+    offsets: Some(""),
+    ..TWO_FILES
+};
 
-const BEGUN: Option<&[u8]> = Some(b"#B");
+const TWO_BYTES: Held = Held {
+    graph: Some("01111101 11000110"),
+    ..EMPTY_FILES
+};
 
-/// How many bytes move at once; which create or append fails; the line of error; and what stands then.
-pub type Stopped = (u64, u64, u64, &'static str, Held);
+const WITH_GRAPH: Held = Held {
+    graph: Some(COPIED_GRAPH),
+    ..EMPTY_FILES
+};
+
+const WITH_OFFSETS: Held = Held {
+    offsets: Some(COPIED_OFFSETS),
+    ..WITH_GRAPH
+};
+
+const WITH_BEGUN_PROPERTIES: Held = Held {
+    properties: Some("#B"),
+    ..WITH_OFFSETS
+};
+
+/// A build of the archive with a copied list, where so many bytes move at once and one call fails: the create or the append of
+/// this number, if it is not 0. The line of error, and what stands then.
+pub struct Stopped {
+    pub piece: u64,
+    pub create: u64,
+    pub append: u64,
+    pub report: &'static str,
+    pub held: Held,
+}
 
 pub const STOPPED: [Stopped; 9] = [
-    (
-        4096,
-        1,
-        0,
-        "wg: write failed: g.properties\n",
-        [None, None, None],
-    ),
-    (
-        4096,
-        2,
-        0,
-        "wg: write failed: g.graph\n",
-        [EMPTY, None, None],
-    ),
-    (
-        4096,
-        3,
-        0,
-        "wg: write failed: g.offsets\n",
-        [EMPTY, EMPTY, None],
-    ),
-    (
-        4096,
-        0,
-        1,
-        "wg: write failed: g.graph\n",
-        [EMPTY, EMPTY, EMPTY],
-    ),
-    (
-        4096,
-        0,
-        2,
-        "wg: write failed: g.offsets\n",
-        [EMPTY, GRAPH, EMPTY],
-    ),
-    (
-        4096,
-        0,
-        3,
-        "wg: write failed: g.properties\n",
-        [EMPTY, GRAPH, OFFSETS],
-    ),
-    (
-        1,
-        0,
-        3,
-        "wg: write failed: g.graph\n",
-        [EMPTY, TWO_BYTES, EMPTY],
-    ),
-    (
-        1,
-        0,
-        4,
-        "wg: write failed: g.offsets\n",
-        [EMPTY, GRAPH, EMPTY],
-    ),
-    (
-        1,
-        0,
-        8,
-        "wg: write failed: g.properties\n",
-        [BEGUN, GRAPH, OFFSETS],
-    ),
+    Stopped {
+        piece: 4096,
+        create: 1,
+        append: 0,
+        report: "wg: write failed: g.properties\n",
+        held: NO_FILES,
+    },
+    Stopped {
+        piece: 4096,
+        create: 2,
+        append: 0,
+        report: "wg: write failed: g.graph\n",
+        held: ONE_FILE,
+    },
+    Stopped {
+        piece: 4096,
+        create: 3,
+        append: 0,
+        report: "wg: write failed: g.offsets\n",
+        held: TWO_FILES,
+    },
+    Stopped {
+        piece: 4096,
+        create: 0,
+        append: 1,
+        report: "wg: write failed: g.graph\n",
+        held: EMPTY_FILES,
+    },
+    Stopped {
+        piece: 4096,
+        create: 0,
+        append: 2,
+        report: "wg: write failed: g.offsets\n",
+        held: WITH_GRAPH,
+    },
+    Stopped {
+        piece: 4096,
+        create: 0,
+        append: 3,
+        report: "wg: write failed: g.properties\n",
+        held: WITH_OFFSETS,
+    },
+    Stopped {
+        piece: 1,
+        create: 0,
+        append: 3,
+        report: "wg: write failed: g.graph\n",
+        held: TWO_BYTES,
+    },
+    Stopped {
+        piece: 1,
+        create: 0,
+        append: 4,
+        report: "wg: write failed: g.offsets\n",
+        held: WITH_GRAPH,
+    },
+    Stopped {
+        piece: 1,
+        create: 0,
+        append: 8,
+        report: "wg: write failed: g.properties\n",
+        held: WITH_BEGUN_PROPERTIES,
+    },
 ];
-
-/// The properties text of the third archive.
-pub const FOUR_ARCS_TEXT: &[u8] =
-    b"#BVGraph properties\nversion=0\nnodes=3\narcs=4\nwindowsize=7\nmaxrefcount=3\nminintervallength=4\nzetak=3\ncompressionflags=\ngraphclass=it.unimi.dsi.webgraph.BVGraph\n";

@@ -1,13 +1,14 @@
 //! What the words and the outside lead to.
 ghost use Rattle.std.specs.Prelude.{◌≤◌, ◌<◌, ◌^◌, ◌-◌};
 
-use super::printed::LINES;
+use super::lines::{JOBS, NO_JOBS};
 use super::*;
+use wg_vectors::{COPIED, PLAIN_ARC};
 
-const PROPERTIES: &[u8] =
+const PLAIN_PROPERTIES: &[u8] =
     b"graphclass=class it.unimi.dsi.webgraph.BVGraph\r\nversion=0\r\nnodes=9\r\n# Thu Nov 26\r\nnodes: 2\r\narcs 1\r\nwindowsize=0\r\nmaxrefcount=3\r\nminintervallength=0\r\navgref=0.5\r\ncompressionflags=RESIDUALS_GAMMA\r\n";
 
-const FOUR_ARCS: &[u8] =
+const COPIED_PROPERTIES: &[u8] =
     b"graphclass=it.unimi.dsi.webgraph.BVGraph\nversion=0\nnodes=3\narcs=4\nwindowsize=7\nmaxrefcount=3\nminintervallength=4\n";
 
 // One page more than an archive may have.
@@ -27,14 +28,21 @@ fn reported<D: Depot, O: Sink>(
     Ok((status, err))
 }
 
+// How a line ends where there are no files.
+fn code_without_files(alloc: Global, line: &str) -> Result<u8, Fail> {
+    let mut depot = SteadyDepot::new(alloc, 4096);
+    let mut out = SteadySink::new(alloc, 4096);
+    let (status, _) = reported(alloc, line, &mut depot, &mut out)?;
+    Ok(status.code())
+}
+
 #[test]
 fn which_lines_are_jobs(rt: HostRuntime) -> Result<(), Fail> {
-    for (line, is_job) in LINES {
-        let mut depot = SteadyDepot::new(rt.alloc(), 4096);
-        let mut out = SteadySink::new(rt.alloc(), 4096);
-        let (status, _) = reported(rt.alloc(), line, &mut depot, &mut out)?;
-        let code = if is_job { 6 } else { 2 };
-        assert!(rt; status.code() == code, "{line}");
+    for line in JOBS {
+        assert!(rt; code_without_files(rt.alloc(), line)? == 6, "{line}");
+    }
+    for line in NO_JOBS {
+        assert!(rt; code_without_files(rt.alloc(), line)? == 2, "{line}");
     }
     Ok(())
 }
@@ -45,8 +53,8 @@ fn cut_at(alloc: Global, line: &str, k: u64) -> Result<(u8, usize), Fail>
     requires { (1 ≤ k) × (k < 2 ^ 64 - 1) }
 {
     let mut depot = SteadyDepot::new(alloc, 4096);
-    depot.put_file("g.properties", FOUR_ARCS)?;
-    depot.put_file("g.graph", b"\x7d\xc6\xe0")?;
+    depot.put_file("g.properties", COPIED_PROPERTIES)?;
+    depot.put_file("g.graph", &bytes_of(alloc, COPIED.graph)?)?;
     let mut out = MemorySink::new(alloc, 1);
     out.fail_write(k);
     let (status, _) = reported(alloc, line, &mut depot, &mut out)?;
@@ -72,54 +80,87 @@ fn each_write_fails_once(rt: HostRuntime) -> Result<(), Fail> {
     Ok(())
 }
 
-// A line, what the properties and the graph hold, the status, and the line of error.
-const UNANSWERED: [(&str, &[u8], &[u8], u8, &str); 8] = [
-    ("", PROPERTIES, b"", 2, "wg: bad command line\n"),
-    ("check --help", PROPERTIES, b"", 2, "wg: bad command line\n"),
-    ("check h", PROPERTIES, b"", 6, "wg: missing: h.properties\n"),
-    ("check g", PROPERTIES, b"", 6, "wg: missing: g.graph\n"),
-    (
-        "check g",
-        PROPERTIES,
-        b"\x4e",
-        6,
-        "wg: missing: g.offsets\n",
-    ),
-    (
-        "check g",
-        b"",
-        b"",
-        8,
-        "wg: g.properties: missing graphclass\n",
-    ),
-    (
-        "check g",
-        b"nodes=1\nversion=0\\\n",
-        b"",
-        8,
-        "wg: g.properties: line 2\n",
-    ),
-    (
-        "check g",
-        TOO_MANY_PAGES,
-        b"",
-        8,
-        "wg: g.properties: range nodes\n",
-    ),
+// A line over an archive that lacks the offsets, or the graph too; the status and the line of error that it ends with.
+struct Unanswered {
+    line: &'static str,
+    properties: &'static [u8],
+    has_graph: bool,
+    code: u8,
+    report: &'static str,
+}
+
+const UNANSWERED: [Unanswered; 8] = [
+    Unanswered {
+        line: "",
+        properties: PLAIN_PROPERTIES,
+        has_graph: false,
+        code: 2,
+        report: "wg: bad command line\n",
+    },
+    Unanswered {
+        line: "check --help",
+        properties: PLAIN_PROPERTIES,
+        has_graph: false,
+        code: 2,
+        report: "wg: bad command line\n",
+    },
+    Unanswered {
+        line: "check h",
+        properties: PLAIN_PROPERTIES,
+        has_graph: false,
+        code: 6,
+        report: "wg: missing: h.properties\n",
+    },
+    Unanswered {
+        line: "check g",
+        properties: PLAIN_PROPERTIES,
+        has_graph: false,
+        code: 6,
+        report: "wg: missing: g.graph\n",
+    },
+    Unanswered {
+        line: "check g",
+        properties: PLAIN_PROPERTIES,
+        has_graph: true,
+        code: 6,
+        report: "wg: missing: g.offsets\n",
+    },
+    Unanswered {
+        line: "check g",
+        properties: b"",
+        has_graph: false,
+        code: 8,
+        report: "wg: g.properties: missing graphclass\n",
+    },
+    Unanswered {
+        line: "check g",
+        properties: b"nodes=1\nversion=0\\\n",
+        has_graph: false,
+        code: 8,
+        report: "wg: g.properties: line 2\n",
+    },
+    Unanswered {
+        line: "check g",
+        properties: TOO_MANY_PAGES,
+        has_graph: false,
+        code: 8,
+        report: "wg: g.properties: range nodes\n",
+    },
 ];
 
 #[test]
 fn lines_without_an_archive(rt: HostRuntime) -> Result<(), Fail> {
-    for (line, properties, graph, code, report) in UNANSWERED {
+    for row in &UNANSWERED {
+        let line = row.line;
         let mut depot = SteadyDepot::new(rt.alloc(), 3);
-        depot.put_file("g.properties", properties)?;
-        if !graph.is_empty() {
-            depot.put_file("g.graph", graph)?;
+        depot.put_file("g.properties", row.properties)?;
+        if row.has_graph {
+            depot.put_file("g.graph", &bytes_of(rt.alloc(), PLAIN_ARC.graph)?)?;
         }
         let mut out = SteadySink::new(rt.alloc(), 3);
         let (status, err) = reported(rt.alloc(), line, &mut depot, &mut out)?;
         assert!(rt;
-            status.code() == code && err.bytes() == report.as_bytes(),
+            status.code() == row.code && err.bytes() == row.report.as_bytes(),
             "{line}"
         );
         assert!(rt; out.bytes().is_empty(), "{line}");
@@ -127,31 +168,67 @@ fn lines_without_an_archive(rt: HostRuntime) -> Result<(), Fail> {
     Ok(())
 }
 
+// A `check` where the read or the write of this number fails, if it is not 0: the status and the line of error.
+struct Failing {
+    read: u64,
+    write: u64,
+    code: u8,
+    report: &'static str,
+}
+
+const FAILING: [Failing; 5] = [
+    Failing {
+        read: 2,
+        write: 0,
+        code: 4,
+        report: "wg: read failed: g.properties\n",
+    },
+    Failing {
+        read: 4,
+        write: 0,
+        code: 4,
+        report: "wg: read failed: g.graph\n",
+    },
+    Failing {
+        read: 7,
+        write: 0,
+        code: 4,
+        report: "wg: read failed: g.offsets\n",
+    },
+    Failing {
+        read: 0,
+        write: 1,
+        code: 5,
+        report: "wg: write failed: -\n",
+    },
+    Failing {
+        read: 0,
+        write: 2,
+        code: 0,
+        report: "",
+    },
+];
+
 #[test]
 fn faults_of_the_outside(rt: HostRuntime) -> Result<(), Fail> {
-    let cases = [
-        (2, 0, 4, "wg: read failed: g.properties\n"),
-        (4, 0, 4, "wg: read failed: g.graph\n"),
-        (7, 0, 4, "wg: read failed: g.offsets\n"),
-        (0, 1, 5, "wg: write failed: -\n"),
-        (0, 2, 0, ""),
-    ];
-    for (read, write, code, report) in cases {
+    for row in &FAILING {
         let mut depot = MemoryDepot::new(rt.alloc(), 4096);
-        depot.put_file("g.properties", PROPERTIES)?;
-        depot.put_file("g.graph", b"\x4e")?;
-        depot.put_file("g.offsets", b"\x9d\0")?;
+        depot.put_file("g.properties", PLAIN_PROPERTIES)?;
+        depot.put_file("g.graph", &bytes_of(rt.alloc(), PLAIN_ARC.graph)?)?;
+        depot.put_file("g.offsets", &bytes_of(rt.alloc(), PLAIN_ARC.offsets)?)?;
         let mut out = MemorySink::new(rt.alloc(), 4096);
-        if read > 0 {
-            depot.fail_read(read);
+        if row.read > 0 {
+            depot.fail_read(row.read);
         }
-        if write > 0 {
-            out.fail_write(write);
+        if row.write > 0 {
+            out.fail_write(row.write);
         }
         let (status, err) = reported(rt.alloc(), "check g", &mut depot, &mut out)?;
         assert!(rt;
-            status.code() == code && err.bytes() == report.as_bytes(),
-            "{report}"
+            status.code() == row.code && err.bytes() == row.report.as_bytes(),
+            "read {}, write {}",
+            row.read,
+            row.write
         );
     }
     Ok(())

@@ -5,6 +5,7 @@ ghost use Rattle.wg_grammar.specs.Follow.{tally_of};
 use super::*;
 use std::process::Abort;
 use std::test::Fail;
+use wg_vectors::usual;
 
 // Reads the value where this is needed.
 fn read(
@@ -30,20 +31,7 @@ fn read(
 #[test]
 fn a_record_with_all_fields(rt: HostRuntime) -> Result<(), Fail> {
     let gamma = Code::Gamma;
-    let params = Params::new(
-        100,
-        100,
-        7,
-        Some(3),
-        4,
-        3,
-        gamma,
-        Code::Unary,
-        gamma,
-        gamma,
-        Code::Zeta(3),
-        gamma,
-    )?;
+    let params = usual(100, 100, 7, 3, 4)?;
     let mut progress = Progress::start(&params, 10, 20);
     let p = &mut progress;
     let named = Referenced {

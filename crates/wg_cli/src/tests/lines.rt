@@ -1,0 +1,41 @@
+//! Lines that ask for a job, and lines that do not.
+
+pub const JOBS: [&str; 15] = [
+    "check g",
+    "arcs g",
+    "offsets g",
+    "check data/a.b",
+    "arcs ./g",
+    "offsets ../g",
+    "check -",
+    "arcs -- g",
+    "offsets -- -g",
+    "arcs -- --help",
+    "check g.graph",
+    "check check",
+    "rank g",
+    "rank g --rounds 10000 --damping 999 --top 68719476735",
+    "build a g --nodes 1",
+];
+
+pub const NO_JOBS: [&str; 19] = [
+    "rank g --damping 1000",
+    "rank g --rounds 1 --rounds 2",
+    "",
+    "check",
+    "arcs",
+    "offsets",
+    "check g h",
+    "arcs g g",
+    "offsets g 1",
+    "check -g",
+    "arcs --all g",
+    "offsets g --offsets delta",
+    "check --help",
+    "--help",
+    "help arcs",
+    "--version",
+    "-- check g",
+    "g check",
+    "Check g",
+];
