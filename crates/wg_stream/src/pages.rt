@@ -148,7 +148,7 @@ impl Pages {
 #[cfg(test)]
 mod tests {
     use super::*;
-    use crate::tests::stopped;
+    use crate::tests::why_stopped;
     use std::test::Fail;
     use wg_bits::{Bits, Cursor};
     use wg_vectors::{bytes_of, usual};
@@ -162,9 +162,9 @@ mod tests {
         assert!(rt; bytes.len() <= 1 << 46);
         let mut source = Cursor::new(Bits::of(&bytes), 0);
         let mut pages = Pages::new(rt.alloc(), usual(1000, 1001, 7, 3, 4)?);
-        pages.next(&mut source).map_err(stopped)?;
+        pages.next(&mut source).map_err(why_stopped)?;
         assert_eq!(rt; pages.list().len(), 1000);
-        pages.next(&mut source).map_err(stopped)?;
+        pages.next(&mut source).map_err(why_stopped)?;
         assert_eq!(rt; pages.list(), [0].as_slice());
         let kept = pages.window.get(1).ok_or("page 1 is not kept")?;
         assert!(rt;

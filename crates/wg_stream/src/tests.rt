@@ -19,7 +19,7 @@ pub enum Stopped {
     Memory,
 }
 
-pub fn stopped(error: PagesError<Infallible>) -> Stopped {
+pub fn why_stopped(error: PagesError<Infallible>) -> Stopped {
     match error {
         PagesError::Fault(fault) => Stopped::Fault(fault),
         PagesError::Memory => Stopped::Memory,
@@ -36,7 +36,7 @@ fn is_read(rt: &impl Abort, alloc: Global, archive: &Archive) -> Result<(), Fail
     let mut pages = Pages::new(alloc, params);
     let name = archive.name;
     for page in 0..params.nodes() {
-        pages.next(&mut source).map_err(stopped)?;
+        pages.next(&mut source).map_err(why_stopped)?;
         assert!(rt;
             Some(&pages.list()) == archive.lists.get(page as usize),
             "{name}: page {page}"
@@ -46,7 +46,7 @@ fn is_read(rt: &impl Abort, alloc: Global, archive: &Archive) -> Result<(), Fail
             "{name}: page {page}"
         );
     }
-    pages.finish(&mut source).map_err(stopped)?;
+    pages.finish(&mut source).map_err(why_stopped)?;
     Ok(())
 }
 
@@ -77,7 +77,7 @@ fn archives_with_a_fault(rt: HostRuntime) -> Result<(), Fail> {
         assert!(rt; bytes.len() <= 1 << 46);
         let mut source = Cursor::new(Bits::of(&bytes), 0);
         let found = read_graph(rt.alloc(), params, &mut source)
-            .map_err(stopped)
+            .map_err(why_stopped)
             .err();
         assert!(rt; found == Some(Stopped::Fault(fault)), "{}", refused.fault);
     }

@@ -2,10 +2,33 @@ use Rattle.std.proofs.Common.{◌≡◌, ◌+◌, ◌-◌, ◌∙◌, ℕ, List,
 use Rattle.std.proofs.lemmas.List.{append-nil, length-append}
 use Rattle.std.proofs.lemmas.Result.{err_from_is_err_and}
 use Rattle.wg_params.specs.Parameters.{Parameters}
+use Rattle.wg_graph.specs.Ascending.{Below}
 use Rattle.wg_grammar.specs.Archive.{lists_of, places_of, ReadsGraph}
+use Rattle.wg_stream.specs.Prefix.{AreBehind}
 use Rattle.wg_stream.proofs.ErrorLemmas.{fault_weaker, refusal_weaker}
-use Rattle.wg_stream.proofs.PrefixLemmas.{lists_more, arcs_more}
+use Rattle.wg_stream.proofs.PrefixLemmas.{no_arcs, lists_more, arcs_more}
 use Rattle.wg_stream.proofs.records.read_graph.Goals as goal
+
+pub loop-page-init : goal.loop-page-init
+loop-page-init g c =
+    let start = c.requires in
+    record {
+      same_params = c.new-pages.ensures.params;
+      same_page = c.new-pages.ensures.none.0;
+      same_nodes = c.in_ok-graph.ensures.nodes ∙ c.nodes-nodes.ensures.value;
+      counted = no_arcs c.in_ok-graph.graph c.in_ok-graph.ensures.lists ∙ sym c.new-pages.ensures.none.1;
+      begun = ap length c.in_ok-graph.ensures.lists;
+      later = g.met.S.Source.stays _;
+      read = λ bits r. ([], subst (λ (n : ℕ). AreBehind bits c.new-pages.result n []) (sym start) (c.new-pages.ensures.behind bits), c.in_ok-graph.ensures.lists);
+    }
+
+pub next-requires : goal.next-requires
+next-requires g c =
+    let h = c.loop-page.invariant in
+    omega (arith, h.same_page, ap (λ (q : Parameters). q.nodes) h.same_params, c.loop-page-test.true, c.nodes-nodes.ensures.value)
+
+pub returns-in_err-next-clause-later : goal.returns-in_err-next-clause-later
+returns-in_err-next-clause-later g c = g.met.S.Source.goes_on _ _ _ c.loop-page.invariant.later c.in_err-next.ensures.later
 
 pub returns-in_err-next-clause-refused : goal.returns-in_err-next-clause-refused
 returns-in_err-next-clause-refused g c =
@@ -21,6 +44,23 @@ returns-in_err-next-clause-fault g c = λ bits r.
     rw (p.1, p.2) (fault_weaker c.in_err-next.field-0.0 _ _
     (λ f h. subst (λ (q : Parameters). ReadsGraph q bits (Err f)) l.invariant.same_params h)
     (c.in_err-next.ensures.fault bits k.0 on k.1))
+
+pub push_list-requires-clause-page : goal.push_list-requires-clause-page
+push_list-requires-clause-page g c =
+    let h = c.loop-page.invariant in
+    omega (arith, h.begun, h.same_nodes, c.loop-page-test.true, c.nodes-nodes.ensures.value)
+
+pub push_list-requires-clause-below : goal.push_list-requires-clause-below
+push_list-requires-clause-below g c =
+    let h = c.loop-page.invariant in
+    let nodes = ap (λ (q : Parameters). q.nodes) (c.in_ok-next.ensures.params ∙ h.same_params) ∙ sym h.same_nodes in
+    subst (λ (n : ℕ). Below n c.list.result.now) nodes c.list.ensures.below
+
+pub push_list-requires-clause-room : goal.push_list-requires-clause-room
+push_list-requires-clause-room g c =
+    let h = c.loop-page.invariant in
+    let n = c.in_ok-next.ensures in
+    omega (arith, h.counted, n.arcs, ap length c.list.ensures.value, c.list.ensures.arcs, ap (λ (q : Parameters). q.arcs) (n.params ∙ h.same_params), c.new-pages.ensures.limits.arcs)
 
 pub returns-in_err-push_list-clause-later : goal.returns-in_err-push_list-clause-later
 returns-in_err-push_list-clause-later g c = g.met.S.Source.goes_on _ _ _ c.loop-page.invariant.later c.in_ok-next.ensures.later
@@ -48,6 +88,12 @@ loop-page-preserved g c =
             pushed ∙ ap (λ (s : List (List ℕ)). s ++ c.next.new.self.list ∷ []) k.2 ∙ ap (λ (xs : List ℕ). lists_of k.0 ++ xs ∷ []) (sym more.1) ∙ sym (lists_more more.0 k.0),
           );
     }
+
+pub finish-requires : goal.finish-requires
+finish-requires g c =
+    let l = c.loop-page in
+    let h = l.invariant in
+    omega (arith, h.same_page, ap (λ (q : Parameters). q.nodes) h.same_params, c.loop-page-test.false, c.nodes-nodes.ensures.value, l.auto._page-end)
 
 pub returns-in_err-finish-clause-later : goal.returns-in_err-finish-clause-later
 returns-in_err-finish-clause-later g c = g.met.S.Source.goes_on _ _ _ c.loop-page.invariant.later c.in_err-finish.ensures.later

@@ -23,6 +23,11 @@ loop-page-init g c =
       read = λ bits r. ([], subst (λ (n : ℕ). AreBehind bits c.new-pages.result n []) (sym start) (c.new-pages.ensures.behind bits), one);
     }
 
+pub next-requires : goal.next-requires
+next-requires g c =
+    let h = c.loop-page.invariant in
+    omega (arith, h.same_page, ap (λ (q : Parameters). q.nodes) h.same_params, c.loop-page-test.true, c.nodes-nodes.ensures.value)
+
 pub returns-in_err-next-clause-later : goal.returns-in_err-next-clause-later
 returns-in_err-next-clause-later g c = g.met.S.Source.goes_on _ _ _ c.loop-page.invariant.later c.in_err-next.ensures.later
 
@@ -67,6 +72,15 @@ loop-page-preserved g c =
             pushed ∙ ap (λ (xs : List ℕ). xs ++ end ∷ []) k.2 ∙ ap (λ (e : ℕ). places_of k.0 ++ e ∷ []) (sym more.2) ∙ sym (places_more more.0 k.0),
           );
     }
+
+pub finish-requires : goal.finish-requires
+finish-requires g c =
+    let l = c.loop-page in
+    let h = l.invariant in
+    omega (arith, h.same_page, ap (λ (q : Parameters). q.nodes) h.same_params, c.loop-page-test.false, c.nodes-nodes.ensures.value, l.auto._page-end)
+
+pub returns-in_err-finish-clause-later : goal.returns-in_err-finish-clause-later
+returns-in_err-finish-clause-later g c = g.met.S.Source.goes_on _ _ _ c.loop-page.invariant.later c.in_err-finish.ensures.later
 
 pub returns-in_err-finish-clause-refused : goal.returns-in_err-finish-clause-refused
 returns-in_err-finish-clause-refused g c =
