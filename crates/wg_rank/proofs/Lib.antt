@@ -4,6 +4,7 @@ pub mod Steps
 pub mod Iterates
 pub mod Pageranks
 pub mod Spread
+pub mod Inflows
 pub mod Flow
 pub mod Room
 pub mod Rounds

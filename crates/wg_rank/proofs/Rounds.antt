@@ -69,19 +69,19 @@ pub weights_total : (g : Digraph) (w : ℕ → ℕ) → ((v : ℕ) → v < g.nod
 weights_total g w one = sum_same g.nodes w (λ _. 1) one ∙ sum_const g.nodes 1 ∙ omega arith
 
 -- what flows in and what is dangling make the lower bounds
-lower_from : (g : Digraph) (a : ℕ) (w : ℕ → ℕ) → ((v : ℕ) → v < g.nodes → w v ≡ 1) → (l : ℕ → ℕ) (sums : List ℕ) (d : ℕ) → length sums ≡ g.nodes
+lower_from : (g : Digraph) (a : ℕ) (w : ℕ → ℕ) → ((v : ℕ) → v < g.nodes → w v ≡ 1) → (l : ℕ → ℕ) (sums : List ℕ) (d n : ℕ) → n ≡ g.nodes
     → ((v : ℕ) → v < g.nodes → get_or sums v 0 ≡ low_flow g l v) → d ≡ sum_dangling g l
-    → (v : ℕ) → v < g.nodes → settled_low a (low_rest (length sums) a d) sums v ≡ lower g a w l v
-lower_from g a w one l sums d n flows rest v i =
+    → (v : ℕ) → v < g.nodes → settled_low a (low_rest n a d) sums v ≡ lower g a w l v
+lower_from g a w one l sums d n m flows rest v i =
     let e : (1000 - a) * UNITS * 1 ≡ (1000 - a) * UNITS = omega arith in
-    rw (flows v i, rest, n, weights_total g w one, one v i, e) refl
+    rw (flows v i, rest, m, weights_total g w one, one v i, e) refl
 
-pub settled_table : (g : Digraph) (a : ℕ) (w : ℕ → ℕ) → ((v : ℕ) → v < g.nodes → w v ≡ 1) → (l : ℕ → ℕ) (sums xs : List ℕ) (d : ℕ) → length sums ≡ g.nodes
+pub settled_table : (g : Digraph) (a : ℕ) (w : ℕ → ℕ) → ((v : ℕ) → v < g.nodes → w v ≡ 1) → (l : ℕ → ℕ) (sums xs : List ℕ) (d n : ℕ) → n ≡ g.nodes
     → length xs ≡ g.nodes → ((v : ℕ) → v < g.nodes → get_or sums v 0 ≡ low_flow g l v) → d ≡ sum_dangling g l
-    → ((v : ℕ) → v < length sums → get_or xs v 0 ≡ settled_low a (low_rest (length sums) a d) sums v) → IsTable xs g.nodes (lower g a w l)
-settled_table g a w one l sums xs d n m flows rest each = record {
+    → ((v : ℕ) → v < n → get_or xs v 0 ≡ settled_low a (low_rest n a d) sums v) → IsTable xs g.nodes (lower g a w l)
+settled_table g a w one l sums xs d n e m flows rest each = record {
   counted = m;
-  each = λ v i. each v (omega arith) ∙ lower_from g a w one l sums d n flows rest v i;
+  each = λ v i. each v (omega arith) ∙ lower_from g a w one l sums d n e flows rest v i;
 }
 
 -- upper bounds never rise

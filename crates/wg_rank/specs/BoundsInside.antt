@@ -21,8 +21,7 @@ pub record AreKept (b : Inside) : Type 0 where
   pub damped : b.damping ≤ MOST_DAMPING
   pub counted : b.rounds ≤ MOST_ROUNDS
   pub high_pages : length b.high.items ≡ length b.low.items
-  pub next_low_pages : length b.next_low.items ≡ length b.low.items
-  pub high_in_pages : length b.high_in.items ≡ length b.low.items
+  pub inflow_pages : length b.inflows.items ≡ length b.low.items
   -- so that no sum passes 128 bits
   pub low_total : sum_below (length b.low.items) (by_page b.low.items) ≤ UNITS
   pub high_units : All (λ x. x ≤ UNITS) b.high.items

@@ -1,5 +1,6 @@
 pub mod BoundsInside
 pub mod Certified
+pub mod Inflows
 pub mod Intervals
 pub mod Laws
 pub mod Rank

@@ -8,9 +8,9 @@ ghost use Rattle.wg_rank.specs.declared.limits.TheConstants.{UNITS};
 
 use crate::UNITS;
 use crate::advancing::advance;
+use crate::inflow::Inflow;
 use std::alloc::{AllocError, Global};
 use std::marker::Model;
-use std::mem;
 use wg_graph::Lists;
 
 /// Bounds of the PageRank of each page, in units of 10^-24. They hold 64 bytes for each page.
@@ -21,10 +21,8 @@ pub struct Bounds {
     rounds: u64,
     low: Vec<u128>,
     high: Vec<u128>,
-    // What a round writes to: what flows in below, and in place of it the new lower bounds.
-    next_low: Vec<u128>,
-    // What flows in above.
-    high_in: Vec<u128>,
+    // What flows to each page in a round; what it holds between rounds is never read.
+    inflows: Vec<Inflow>,
 }
 
 impl Model for Bounds {
@@ -56,8 +54,7 @@ impl Bounds {
             rounds: 0,
             low: vec![in alloc; 0; n]?,
             high: vec![in alloc; UNITS; n]?,
-            next_low: vec![in alloc; 0; n]?,
-            high_in: vec![in alloc; 0; n]?,
+            inflows: vec![in alloc; Inflow::NONE; n]?,
         })
     }
 
@@ -109,11 +106,9 @@ impl Bounds {
         advance(
             lists,
             self.damping,
-            &self.low,
+            &mut self.low,
             &mut self.high,
-            &mut self.next_low,
-            &mut self.high_in,
+            &mut self.inflows,
         );
-        mem::swap(&mut self.low, &mut self.next_low);
     }
 }

@@ -4,39 +4,38 @@ ghost use Rattle.std.specs.Prelude.{◌≡◌, ℕ, ◌*◌, ◌<◌, ◌≤◌,
 ghost use Rattle.wg_params.specs.declared.limits.TheConstants.{MOST_PAGES};
 ghost use Rattle.wg_graph.specs.Digraph.{IsGraph};
 ghost use Rattle.wg_rank.specs.Intervals.{by_page};
+ghost use Rattle.wg_rank.specs.Inflows.{low_flows, high_flows};
 ghost use Rattle.wg_rank.specs.Rank.{low_flow, high_flow, sum_dangling};
 ghost use Rattle.wg_rank.specs.declared.limits.TheConstants.{UNITS};
 
 use crate::dividing::{quotient, quotient_up};
+use crate::inflow::Inflow;
 use crate::spreading::spread;
 use wg_graph::Lists;
 
-// Adds to `low_in` and `high_in` what flows to each page along arcs, and gives what the dangling pages hold, below and
-// above. A page's share is divided out once and then added to each of its successors.
+// Adds to `inflows` what flows to each page along arcs, and gives what the dangling pages hold, below and above. A page's
+// share is divided out once and then added to each of its successors.
 pub(crate) fn gather<L: Lists>(
     lists: &mut L,
     low: &[u128],
     high: &[u128],
-    low_in: &mut [u128],
-    high_in: &mut [u128],
+    inflows: &mut [Inflow],
 ) -> (u128, u128)
     requires few { length low.now ≤ MOST_PAGES }
     requires pages { (L.graph lists.old).nodes ≡ length low.now }
     requires high_pages { length high.now ≡ length low.now }
-    requires low_in_pages { length low_in.old ≡ length low.now }
-    requires high_in_pages { length high_in.old ≡ length low.now }
+    requires inflow_pages { length inflows.old ≡ length low.now }
     requires low_units { All (λ x. x ≤ UNITS) low.now }
     requires high_units { All (λ x. x ≤ UNITS) high.now }
-    requires low_empty { All (λ x. x ≡ 0) low_in.old }
-    requires high_empty { All (λ x. x ≡ 0) high_in.old }
+    requires empty { All (λ x. x ≡ Inflow.NONE) inflows.old }
     ensures graph { L.graph lists.new ≡ L.graph lists.old }
     ensures proper { IsGraph (L.graph lists.old) }
-    ensures low_flow { (v : ℕ) → v < length low.now → slice_index low_in.new v ≡ low_flow (L.graph lists.old) (by_page low.now) v }
-    ensures high_flow { (v : ℕ) → v < length low.now → slice_index high_in.new v ≡ high_flow (L.graph lists.old) (by_page high.now) v }
+    ensures low_flow { (v : ℕ) → v < length low.now → slice_index (low_flows inflows.new) v ≡ low_flow (L.graph lists.old) (by_page low.now) v }
+    ensures high_flow { (v : ℕ) → v < length low.now → slice_index (high_flows inflows.new) v ≡ high_flow (L.graph lists.old) (by_page high.now) v }
     ensures low_dangling { result.0 ≡ sum_dangling (L.graph lists.old) (by_page low.now) }
     ensures high_dangling { result.1 ≡ sum_dangling (L.graph lists.old) (by_page high.now) }
-    ensures low_in_room { All (λ x. x ≤ MOST_PAGES * UNITS) low_in.new }
-    ensures high_in_room { All (λ x. x ≤ MOST_PAGES * UNITS) high_in.new }
+    ensures low_room { All (λ f. f.low ≤ MOST_PAGES * UNITS) inflows.new }
+    ensures high_room { All (λ f. f.high ≤ MOST_PAGES * UNITS) inflows.new }
     ensures low_dangling_room { result.0 ≤ MOST_PAGES * UNITS }
     ensures high_dangling_room { result.1 ≤ MOST_PAGES * UNITS }
 {
@@ -54,7 +53,7 @@ pub(crate) fn gather<L: Lists>(
             } else {
                 let below = quotient(low[u], degree);
                 let above = quotient_up(high[u], degree);
-                spread(low_in, high_in, list, below, above);
+                spread(inflows, list, below, above);
             }
         }
     }

@@ -25,6 +25,7 @@ mod advancing;
 mod bounds;
 mod dividing;
 mod gathering;
+mod inflow;
 pub mod laws;
 mod limits;
 mod settling;

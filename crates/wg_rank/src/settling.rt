@@ -4,30 +4,33 @@ ghost use Rattle.std.specs.Prelude.{◌≡◌, ℕ, ◌+◌, ◌*◌, ◌<◌, �
 ghost use Rattle.wg_params.specs.declared.limits.TheConstants.{MOST_PAGES, MOST_DAMPING};
 ghost use Rattle.wg_rank.specs.Sum.{sum_below};
 ghost use Rattle.wg_rank.specs.Intervals.{by_page};
+ghost use Rattle.wg_rank.specs.Inflows.{low_flows, high_flows};
 ghost use Rattle.wg_rank.specs.Settling.{low_rest, high_rest, settled_low, settled_high, least};
 ghost use Rattle.wg_rank.specs.declared.limits.TheConstants.{UNITS};
 
 use crate::UNITS;
 use crate::dividing::{quotient, quotient_up};
+use crate::inflow::Inflow;
 
-// Puts the lower bounds in place of what flows in; the dangling pages hold so much.
+// Puts the lower bounds in place of the old ones; the dangling pages hold so much.
 #[tactic(auto, using(crate::proofs::Room::damped_room))]
-pub(crate) fn settle_low(sums: &mut [u128], damping: u64, dangling: u128)
+pub(crate) fn settle_low(low: &mut [u128], inflows: &[Inflow], damping: u64, dangling: u128)
     requires damped { damping ≤ MOST_DAMPING }
-    requires few { length sums.old ≤ MOST_PAGES }
-    requires room { All (λ x. x ≤ MOST_PAGES * UNITS) sums.old }
+    requires few { length low.old ≤ MOST_PAGES }
+    requires inflow_pages { length inflows.now ≡ length low.old }
+    requires room { All (λ f. f.low ≤ MOST_PAGES * UNITS) inflows.now }
     requires dangling_room { dangling ≤ MOST_PAGES * UNITS }
-    ensures each { (v : ℕ) → v < length sums.old → slice_index sums.new v
-        ≡ settled_low damping (low_rest (length sums.old) damping dangling) sums.old v }
+    ensures each { (v : ℕ) → v < length low.old → slice_index low.new v
+        ≡ settled_low damping (low_rest (length low.old) damping dangling) (low_flows inflows.now) v }
 {
-    if sums.is_empty() {
+    if low.is_empty() {
         return;
     }
-    let parts = 1000 * sums.len() as u128;
+    let parts = 1000 * low.len() as u128;
     let teleport = (1000 - damping as u128) * UNITS;
     let rest = damping as u128 * dangling / parts + teleport / parts;
-    for sum in sums.iter_mut() {
-        *sum = quotient(damping as u128 * *sum, 1000) + rest;
+    for v in 0..low.len() {
+        low[v] = quotient(damping as u128 * inflows[v].low, 1000) + rest;
     }
 }
 
@@ -47,7 +50,7 @@ pub(crate) fn total(low: &[u128]) -> u128
 #[tactic(auto, using(crate::proofs::Room::damped_room, crate::proofs::Flow::div_ceil_le))]
 pub(crate) fn settle_high(
     high: &mut [u128],
-    sums: &[u128],
+    inflows: &[Inflow],
     low: &[u128],
     damping: u64,
     dangling: u128,
@@ -55,14 +58,14 @@ pub(crate) fn settle_high(
 )
     requires damped { damping ≤ MOST_DAMPING }
     requires few { length high.old ≤ MOST_PAGES }
-    requires sums_pages { length sums.now ≡ length high.old }
+    requires inflow_pages { length inflows.now ≡ length high.old }
     requires low_pages { length low.now ≡ length high.old }
-    requires room { All (λ x. x ≤ MOST_PAGES * UNITS) sums.now }
+    requires room { All (λ f. f.high ≤ MOST_PAGES * UNITS) inflows.now }
     requires dangling_room { dangling ≤ MOST_PAGES * UNITS }
     requires low_room { All (λ x. x ≤ UNITS) low.now }
     requires gap_room { gap ≤ UNITS }
     ensures each { (v : ℕ) → v < length high.old → slice_index high.new v
-        ≡ least (by_page high.old v) (settled_high damping (high_rest (length high.old) damping dangling) sums.now v) (by_page low.now v + gap) }
+        ≡ least (by_page high.old v) (settled_high damping (high_rest (length high.old) damping dangling) (high_flows inflows.now) v) (by_page low.now v + gap) }
 {
     if high.is_empty() {
         return;
@@ -71,7 +74,7 @@ pub(crate) fn settle_high(
     let teleport = (1000 - damping as u128) * UNITS;
     let rest = (damping as u128 * dangling).div_ceil(parts) + teleport.div_ceil(parts);
     for v in 0..high.len() {
-        let above = quotient_up(damping as u128 * sums[v], 1000) + rest;
+        let above = quotient_up(damping as u128 * inflows[v].high, 1000) + rest;
         high[v] = high[v].min(above).min(low[v] + gap);
     }
 }

@@ -1,6 +1,7 @@
 use Rattle.std.proofs.Common.{arith, ◌≡◌, length, refl, ◌∙◌}
 use Rattle.wg_rank.specs.Intervals.{by_page}
 use Rattle.wg_rank.specs.declared.limits.TheConstants.{UNITS}
+use Rattle.wg_rank.specs.Inflows.{low_flows, high_flows}
 use Rattle.wg_rank.proofs.Rounds.{all_within_total, settled_table, clipped_from, table_total, least_within}
 use Rattle.wg_rank.proofs.advancing.advance.Goals as goal
 
@@ -9,9 +10,9 @@ gather-dangling-requires-clause-low_units g c = all_within_total UNITS _ c.requi
 
 pub total-gap-requires : goal.total-gap-requires
 total-gap-requires g c =
-    table_total (g.L.Lists.graph c.args.lists.now) c.args.damping (λ _. 1) (λ v i. refl) (by_page c.args.low.now) c.settle_low.new.sums
+    table_total (g.L.Lists.graph c.args.lists.now) c.args.damping (λ _. 1) (λ v i. refl) (by_page c.args.low.now) c.settle_low.new.low
     c.gather-dangling.ensures.proper (omega arith) (rw c.requires.pages c.requires.low_total)
-    (settled_table (g.L.Lists.graph c.args.lists.now) c.args.damping (λ _. 1) (λ v i. refl) (by_page c.args.low.now) c.gather-dangling.new.low_in c.settle_low.new.sums c.gather-dangling.result.0
+    (settled_table (g.L.Lists.graph c.args.lists.now) c.args.damping (λ _. 1) (λ v i. refl) (by_page c.args.low.now) (low_flows c.gather-dangling.new.inflows) c.settle_low.new.low c.gather-dangling.result.0 (length c.args.low.now)
     (omega arith) (omega arith) (λ v i. c.gather-dangling.ensures.low_flow v (omega arith)) c.gather-dangling.ensures.low_dangling c.settle_low.ensures.each)
 
 pub overflow_sub-gap : goal.overflow_sub-gap
@@ -19,23 +20,23 @@ overflow_sub-gap g c =
     omega (
       arith,
       c.total-gap.ensures,
-      table_total (g.L.Lists.graph c.args.lists.now) c.args.damping (λ _. 1) (λ v i. refl) (by_page c.args.low.now) c.settle_low.new.sums
+      table_total (g.L.Lists.graph c.args.lists.now) c.args.damping (λ _. 1) (λ v i. refl) (by_page c.args.low.now) c.settle_low.new.low
           c.gather-dangling.ensures.proper (omega arith) (rw c.requires.pages c.requires.low_total)
-          (settled_table (g.L.Lists.graph c.args.lists.now) c.args.damping (λ _. 1) (λ v i. refl) (by_page c.args.low.now) c.gather-dangling.new.low_in c.settle_low.new.sums c.gather-dangling.result.0
+          (settled_table (g.L.Lists.graph c.args.lists.now) c.args.damping (λ _. 1) (λ v i. refl) (by_page c.args.low.now) (low_flows c.gather-dangling.new.inflows) c.settle_low.new.low c.gather-dangling.result.0 (length c.args.low.now)
           (omega arith) (omega arith) (λ v i. c.gather-dangling.ensures.low_flow v (omega arith)) c.gather-dangling.ensures.low_dangling c.settle_low.ensures.each),
     )
 
 pub settle_high-requires-clause-low_room : goal.settle_high-requires-clause-low_room
 settle_high-requires-clause-low_room g c =
-    all_within_total UNITS c.settle_low.new.sums
-    (table_total (g.L.Lists.graph c.args.lists.now) c.args.damping (λ _. 1) (λ v i. refl) (by_page c.args.low.now) c.settle_low.new.sums
+    all_within_total UNITS c.settle_low.new.low
+    (table_total (g.L.Lists.graph c.args.lists.now) c.args.damping (λ _. 1) (λ v i. refl) (by_page c.args.low.now) c.settle_low.new.low
     c.gather-dangling.ensures.proper (omega arith) (rw c.requires.pages c.requires.low_total)
-    (settled_table (g.L.Lists.graph c.args.lists.now) c.args.damping (λ _. 1) (λ v i. refl) (by_page c.args.low.now) c.gather-dangling.new.low_in c.settle_low.new.sums c.gather-dangling.result.0
+    (settled_table (g.L.Lists.graph c.args.lists.now) c.args.damping (λ _. 1) (λ v i. refl) (by_page c.args.low.now) (low_flows c.gather-dangling.new.inflows) c.settle_low.new.low c.gather-dangling.result.0 (length c.args.low.now)
     (omega arith) (omega arith) (λ v i. c.gather-dangling.ensures.low_flow v (omega arith)) c.gather-dangling.ensures.low_dangling c.settle_low.ensures.each))
 
 pub returns-clause-low : goal.returns-clause-low
 returns-clause-low g c = λ w one.
-    settled_table (g.L.Lists.graph c.args.lists.now) c.args.damping w (λ v i. one v (omega arith)) (by_page c.args.low.now) c.gather-dangling.new.low_in c.settle_low.new.sums c.gather-dangling.result.0
+    settled_table (g.L.Lists.graph c.args.lists.now) c.args.damping w (λ v i. one v (omega arith)) (by_page c.args.low.now) (low_flows c.gather-dangling.new.inflows) c.settle_low.new.low c.gather-dangling.result.0 (length c.args.low.now)
     (omega arith) (omega arith) (λ v i. c.gather-dangling.ensures.low_flow v (omega arith)) c.gather-dangling.ensures.low_dangling c.settle_low.ensures.each
 
 pub returns-clause-high : goal.returns-clause-high
@@ -44,15 +45,15 @@ returns-clause-high g c = λ w one. record {
   each = λ v i.
       let e = rw c.total-gap.ensures at (c.settle_high.ensures.each v (omega arith)) in
       e ∙ clipped_from (g.L.Lists.graph c.args.lists.now) c.args.damping w (λ v i. one v (omega arith)) (by_page c.args.low.now) (by_page c.args.high.now)
-      c.settle_low.new.sums c.gather-dangling.new.high_in c.gather-dangling.result.1 (length c.args.high.now) (omega arith) (returns-clause-low g c w one)
+      c.settle_low.new.low (high_flows c.gather-dangling.new.inflows) c.gather-dangling.result.1 (length c.args.high.now) (omega arith) (returns-clause-low g c w one)
       (λ v i. c.gather-dangling.ensures.high_flow v (omega arith)) c.gather-dangling.ensures.high_dangling v i;
 }
 
 pub returns-clause-low_total : goal.returns-clause-low_total
 returns-clause-low_total g c =
-    let e : length c.settle_low.new.sums ≡ length c.args.low.now = omega arith in
+    let e : length c.settle_low.new.low ≡ length c.args.low.now = omega arith in
     rw (← e)
-    (table_total (g.L.Lists.graph c.args.lists.now) c.args.damping (λ _. 1) (λ v i. refl) (by_page c.args.low.now) c.settle_low.new.sums
+    (table_total (g.L.Lists.graph c.args.lists.now) c.args.damping (λ _. 1) (λ v i. refl) (by_page c.args.low.now) c.settle_low.new.low
     c.gather-dangling.ensures.proper (omega arith) (rw c.requires.pages c.requires.low_total)
     (returns-clause-low g c (λ _. 1) (λ v i. refl)))
 

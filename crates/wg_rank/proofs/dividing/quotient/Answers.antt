@@ -1,4 +1,3 @@
-use Rattle.std.proofs.Common.{arith}
 use Rattle.wg_rank.proofs.Quotients.{cut_quotient}
 use Rattle.wg_rank.proofs.dividing.quotient.Goals as goal
 

@@ -25,8 +25,7 @@ invariant_of-result c =
       damped = c.requires.damping;
       counted = omega arith;
       high_pages = omega (arith, c.in_ok-vec.ensures.len, c.in_ok-vec-2.ensures.len);
-      next_low_pages = omega (arith, c.in_ok-vec.ensures.len, c.in_ok-vec-3.ensures.len);
-      high_in_pages = omega (arith, c.in_ok-vec.ensures.len, c.in_ok-vec-4.ensures.len);
+      inflow_pages = omega (arith, c.in_ok-vec.ensures.len, c.in_ok-vec-3.ensures.len);
       low_total = omega (arith, sum_table c.args.n _ (table_replicate c.args.n 0 _ e1));
       high_units = rw e2 (All-replicate (λ x. x ≤ UNITS) c.args.n _ (omega arith));
     }

@@ -8,17 +8,17 @@ use Rattle.wg_rank.proofs.bounds.Bounds.round.Goals as goal
 pub returns-clause-low : goal.returns-clause-low
 returns-clause-low g c =
     rw (← c.self.view_is)
-    (lower_table (g.L.Lists.graph c.args.lists.now) c.self.inside.damping (replicate (length c.self.inside.low.items) 1) c.swap.new.x.items c.advance.new.next_low c.self.inside.low.items c.deref.result.now
-    (ap (λ v. v.items) c.swap.ensures.x_after ∙ with_items_is c.self.inside.next_low c.advance.new.next_low (omega arith))
-    c.deref.ensures.value
+    (lower_table (g.L.Lists.graph c.args.lists.now) c.self.inside.damping (replicate (length c.self.inside.low.items) 1) _ c.advance.new.low c.self.inside.low.items c.deref_mut.result.now
+    (with_items_is c.self.inside.low c.advance.new.low (omega arith))
+    c.deref_mut.ensures.value
     (c.advance.ensures.low (by_page (replicate (length c.self.inside.low.items) 1)) (λ v i. one_each (length c.self.inside.low.items) v (omega arith))))
 
 pub returns-clause-high : goal.returns-clause-high
 returns-clause-high g c =
     rw (← c.self.view_is)
-    (clipped_table (g.L.Lists.graph c.args.lists.now) c.self.inside.damping (replicate (length c.self.inside.low.items) 1) _ c.advance.new.high c.self.inside.low.items c.deref.result.now c.self.inside.high.items c.deref_mut.result.now
+    (clipped_table (g.L.Lists.graph c.args.lists.now) c.self.inside.damping (replicate (length c.self.inside.low.items) 1) _ c.advance.new.high c.self.inside.low.items c.deref_mut.result.now c.self.inside.high.items c.deref_mut-2.result.now
     (with_items_is c.self.inside.high c.advance.new.high (omega arith))
-    c.deref.ensures.value c.deref_mut.ensures.value
+    c.deref_mut.ensures.value c.deref_mut-2.ensures.value
     (c.advance.ensures.high (by_page (replicate (length c.self.inside.low.items) 1)) (λ v i. one_each (length c.self.inside.low.items) v (omega arith))))
 
 pub returns-clause-weights : goal.returns-clause-weights
