@@ -1,4 +1,4 @@
-use Rattle.std.proofs.Common.{◌≡◌, ◌+◌, ◌≤◌, Bool, List, length, drop, subst, ap, arith}
+use Rattle.std.proofs.Common.{◌≡◌, Bool, List, drop, subst, ap, arith}
 use Rattle.wg_bits.specs.Bits.{Position, rest}
 use Rattle.wg_codes.specs.Reading.{Reads, after}
 use Rattle.wg_codes.specs.Words.{word, top}

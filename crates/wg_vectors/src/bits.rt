@@ -2,8 +2,8 @@
 
 use std::alloc::{AllocError, Global};
 
-/// The bytes whose bits a text spells: its ones and zeros in order, without the blanks that part them, and the last byte filled
-/// with zeros.
+/// The bytes whose bits a text spells: its ones and zeros in order, without the blanks that part them, and the last
+/// byte filled with zeros.
 pub fn bytes_of(alloc: Global, text: &str) -> Result<Vec<u8>, AllocError> {
     let mut bytes = Vec::new(alloc);
     let mut byte = 0;

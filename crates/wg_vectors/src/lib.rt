@@ -1,13 +1,14 @@
-//! Worked values to hold the other crates against, as tables that anyone can read: they come from the formats' descriptions
-//! and not from a program.
+//! Worked values to hold the other crates against, as tables that anyone can read: they come from the formats'
+//! descriptions and not from a program.
 //!
-//! [`VECTORS`] has words of the five codes, [`NO_WORDS`] bits that are no word, and [`FOLDS`] numbers of either sign with
-//! their values. The tests of this crate run each of them through `wg_codes`, both ways.
+//! [`VECTORS`] has words of the five codes, [`NO_WORDS`] bits that are no word, and [`FOLDS`] numbers of either sign
+//! with their values. The tests of this crate run each of them through `wg_codes`, both ways.
 //!
-//! [`ARCHIVES`] are worked archives, bit by bit, with the lists and the places of their records; several have names of their
-//! own. [`LONGER`] has legal archives that are not the shortest, [`BAD_GRAPHS`] and [`BAD_OFFSETS`] have archives with a fault.
-//! [`bytes_of`] turns the text of some bits into bytes, and [`usual`] makes parameters in the usual codes. The tests of the
-//! crates above read, write and refuse these archives.
+//! [`ARCHIVES`] has worked archives, bit by bit, with the list of each page and the offset of each record. [`LONGER`]
+//! has legal archives that are not the shortest, and [`BAD_GRAPHS`] and [`BAD_OFFSETS`] have archives with a fault. An
+//! archive that a test needs by itself has a name of its own, as [`ONE_ARC`] or [`TWICE`]. [`bytes_of`] turns the text
+//! of some bits into bytes, and [`usual`] makes parameters in the usual codes. The crates above read, write and refuse
+//! these archives in their tests.
 #![tactic(auto)]
 
 mod archives;

@@ -17,8 +17,9 @@ pub const LONGER: [Archive; 6] = [
         lists: &[&[], &[0]],
         places: &[0, 1, 12],
     },
-    // The successors 0 to 3 of page 0 would be one interval of the least length 4. They are residuals: outdegree 4 `00101`,
-    // reference 0 `1`, no interval `1`, then 0 folded to 0 and three times the next number, stored as 0: `100` each.
+    // The successors 0 to 3 of page 0 would be one interval of the least length 4. They are residuals: outdegree 4
+    // `00101`, reference 0 `1`, no interval `1`, then 0 folded to 0 and three times the next number, stored as 0: `100`
+    // each.
     Archive {
         name: "an interval as residuals",
         nodes: 4,
@@ -29,8 +30,8 @@ pub const LONGER: [Archive; 6] = [
         lists: &[&[0, 1, 2, 3], &[], &[], &[]],
         places: &[0, 19, 20, 21, 22],
     },
-    // The blocks of page 1 end early. Both pages have the successors 1 and 2, but one block of 1 `010` `010` copies the first alone,
-    // and the second, one page on, folded to 2, is the residual `1011`.
+    // The blocks of page 1 end early. Both pages have the successors 1 and 2, but one block of 1 `010` `010` copies the
+    // first alone, and the second, one page on, folded to 2, is the residual `1011`.
     Archive {
         name: "blocks that end early",
         nodes: 3,
@@ -52,8 +53,8 @@ pub const LONGER: [Archive; 6] = [
         lists: &[&[1, 2], &[1, 2], &[]],
         places: &[0, 12, 23, 24],
     },
-    // The interval of page 0 ends early. Of the successors 0 to 4 it has 0 to 3: one interval `010`, left end 0 folded to 0 `1`, length 4
-    // less 4 `1`; then 4, folded to 8, is the residual `0100001`.
+    // The interval of page 0 ends early. Of the successors 0 to 4 it has 0 to 3: one interval `010`, left end 0 folded
+    // to 0 `1`, length 4 less 4 `1`; then 4, folded to 8, is the residual `0100001`.
     Archive {
         name: "an interval that ends early",
         nodes: 5,
@@ -64,8 +65,8 @@ pub const LONGER: [Archive; 6] = [
         lists: &[&[0, 1, 2, 3, 4], &[], &[], &[], &[]],
         places: &[0, 18, 19, 20, 21, 22],
     },
-    // Page 1 refers to page 0 and copies nothing of it: one block of 0 `010` `1`, all skipped after it; then no interval `1`, and 0, one
-    // page back, folded to 1 `1010`.
+    // Page 1 refers to page 0 and copies nothing of it: one block of 0 `010` `1`, all skipped after it; then no
+    // interval `1`, and 0, one page back, folded to 1 `1010`.
     Archive {
         name: "a reference that copies nothing",
         nodes: 3,

@@ -1,11 +1,12 @@
 // What the properties of an archive say, besides how many pages and arcs it has.
-ghost use Rattle.std.specs.Prelude.{◌≡◌, Some, IfOk};
-ghost use Rattle.wg_params.specs.declared.code.Code.TheVariants as codes;
+ghost use Rattle.std.specs.Prelude.{◌≡◌, IfOk};
+ghost use Rattle.wg_vectors.specs.Usual.{parameters_of, usual_parameters};
 
 use wg_params::{BadParam, Code, Params};
 
-/// How far the references and the intervals of an archive go, and the codes of its fields, which `flags` tells in the words of
-/// a properties text. Where no flag says otherwise, references are in unary and the other fields in gamma, but residuals in zeta.
+/// How far the references and the intervals of an archive go, and the codes of its fields, which `flags` tells in the
+/// words of a properties text. If no flag says otherwise, references are in unary and the other fields in gamma, but
+/// residuals in zeta with k = 3.
 #[derive(Clone, Copy, Debug)]
 pub struct Shape {
     pub window: u64,
@@ -21,7 +22,7 @@ pub struct Shape {
 impl Shape {
     /// The parameters of an archive of this shape.
     pub fn params(&self, nodes: u64, arcs: u64) -> Result<Params, BadParam>
-        ensures { IfOk result (λ p. (p.nodes ≡ nodes) × (p.arcs ≡ arcs)) }
+        ensures { IfOk result (λ p. p ≡ parameters_of self.now nodes arcs) }
     {
         Params::new(
             nodes,
@@ -48,7 +49,7 @@ pub fn usual(
     chain: u64,
     interval: u64,
 ) -> Result<Params, BadParam>
-    ensures { IfOk result (λ p. (p.nodes ≡ nodes) × (p.arcs ≡ arcs)) }
+    ensures { IfOk result (λ p. p ≡ usual_parameters nodes arcs window chain interval) }
 {
     let shape = Shape {
         window,

@@ -28,20 +28,23 @@ fn properties(alloc: Global, nodes: u64, arcs: u64, shape: &Shape) -> Result<Str
     Ok(format!(in alloc; "{head}{tail}")?)
 }
 
-fn files_of(alloc: Global, archive: &Archive) -> Result<Files, Fail> {
+fn files_of(
+    alloc: Global,
+    nodes: u64,
+    arcs: u64,
+    shape: &Shape,
+    graph: &str,
+    offsets: &str,
+) -> Result<Files, Fail> {
     Ok(Files {
-        properties: properties(alloc, archive.nodes, archive.arcs, &archive.shape)?,
-        graph: bytes_of(alloc, archive.graph)?,
-        offsets: bytes_of(alloc, archive.offsets)?,
+        properties: properties(alloc, nodes, arcs, shape)?,
+        graph: bytes_of(alloc, graph)?,
+        offsets: bytes_of(alloc, offsets)?,
     })
 }
 
-fn files_of_refused(alloc: Global, refused: &Refused) -> Result<Files, Fail> {
-    Ok(Files {
-        properties: properties(alloc, refused.nodes, refused.arcs, &refused.shape)?,
-        graph: bytes_of(alloc, refused.graph)?,
-        offsets: bytes_of(alloc, refused.offsets)?,
-    })
+fn files_of_archive(alloc: Global, x: &Archive) -> Result<Files, Fail> {
+    files_of(alloc, x.nodes, x.arcs, &x.shape, x.graph, x.offsets)
 }
 
 // The status that a line ends with, what it prints, and what it says on standard error.
@@ -100,7 +103,7 @@ fn place_lines(alloc: Global, archive: &Archive) -> Result<String, Fail> {
 fn accepted_archives(rt: HostRuntime) -> Result<(), Fail> {
     let alloc = rt.alloc();
     for archive in ARCHIVES.iter().chain(LONGER.iter()) {
-        let files = files_of(alloc, archive)?;
+        let files = files_of_archive(alloc, archive)?;
         let ok = ok_line(alloc, archive)?;
         let arcs = arc_lines(alloc, archive)?;
         let places = place_lines(alloc, archive)?;
@@ -115,11 +118,11 @@ fn accepted_archives(rt: HostRuntime) -> Result<(), Fail> {
     Ok(())
 }
 
-// Whether `check` says this of a file, and nothing else.
-fn is_refused(alloc: Global, refused: &Refused, file: &str) -> Result<bool, Fail> {
-    let fault = refused.fault;
+// Whether `check` says of a file what the row says, and nothing else.
+fn is_refused(alloc: Global, x: &Refused, file: &str) -> Result<bool, Fail> {
+    let fault = x.fault;
     let told = format!(in alloc; "wg: {file}: {fault}\n")?;
-    let files = files_of_refused(alloc, refused)?;
+    let files = files_of(alloc, x.nodes, x.arcs, &x.shape, x.graph, x.offsets)?;
     does_say(alloc, "check g", &files, 9, "", &told)
 }
 
@@ -127,11 +130,19 @@ fn is_refused(alloc: Global, refused: &Refused, file: &str) -> Result<bool, Fail
 fn refused_archives(rt: HostRuntime) -> Result<(), Fail> {
     for refused in &BAD_GRAPHS {
         let fault = refused.fault;
-        assert!(rt; is_refused(rt.alloc(), refused, "g.graph")?, "{fault}");
+        let graph = refused.graph;
+        assert!(rt;
+            is_refused(rt.alloc(), refused, "g.graph")?,
+            "{fault}: {graph}"
+        );
     }
     for refused in &BAD_OFFSETS {
         let fault = refused.fault;
-        assert!(rt; is_refused(rt.alloc(), refused, "g.offsets")?, "{fault}");
+        let offsets = refused.offsets;
+        assert!(rt;
+            is_refused(rt.alloc(), refused, "g.offsets")?,
+            "{fault}: {offsets}"
+        );
     }
     Ok(())
 }
@@ -139,7 +150,7 @@ fn refused_archives(rt: HostRuntime) -> Result<(), Fail> {
 #[test]
 fn printed_rankings(rt: HostRuntime) -> Result<(), Fail> {
     for ranking in &RANKINGS {
-        let files = files_of(rt.alloc(), &ranking.archive)?;
+        let files = files_of_archive(rt.alloc(), &ranking.archive)?;
         let line = ranking.line;
         assert!(rt;
             does_say(rt.alloc(), line, &files, 0, ranking.text, "")?,
@@ -149,7 +160,8 @@ fn printed_rankings(rt: HostRuntime) -> Result<(), Fail> {
     Ok(())
 }
 
-// Page 0 has the successors 0 and 1, and each later page refers to the one before and copies both. Each record has 6 bits.
+// Page 0 has the successors 0 and 1, and each later page refers to the one before and copies both. Each record has 6
+// bits, and `00111` is the word of 6.
 fn chain_of_257_pages(alloc: Global, chain: Option<u64>) -> Result<Files, Fail> {
     let mut graph = String::from_str(alloc, "011 1 1 1")?;
     let mut offsets = String::from_str(alloc, "1 00111")?;
@@ -162,11 +174,7 @@ fn chain_of_257_pages(alloc: Global, chain: Option<u64>) -> Result<Files, Fail> 
         chain,
         ..PLAIN
     };
-    Ok(Files {
-        properties: properties(alloc, 257, 514, &shape)?,
-        graph: bytes_of(alloc, &graph)?,
-        offsets: bytes_of(alloc, &offsets)?,
-    })
+    files_of(alloc, 257, 514, &shape, &graph, &offsets)
 }
 
 #[test]

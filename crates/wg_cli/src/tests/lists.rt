@@ -122,7 +122,8 @@ pub const UNBUILT: [Unbuilt; 8] = [
     },
 ];
 
-/// What the three files hold, where they are there: the text of the properties, and the bits of the graph and of the offsets.
+/// What the three files hold, if they are there: the text of the properties, and the bits of the graph and of the
+/// offsets.
 #[derive(Clone, Copy)]
 pub struct Held {
     pub properties: Option<&'static str>,
@@ -172,8 +173,8 @@ const WITH_BEGUN_PROPERTIES: Held = Held {
     ..WITH_OFFSETS
 };
 
-/// A build of the archive with a copied list, where so many bytes move at once and one call fails: the create or the append of
-/// this number, if it is not 0. The line of error, and what stands then.
+/// A build of the archive with a copied list, where so many bytes move at once and one call fails: the create or the
+/// append of this number, if it is not 0. The line of error, and what stands then.
 pub struct Stopped {
     pub piece: u64,
     pub create: u64,

@@ -47,8 +47,8 @@ fn which_lines_are_jobs(rt: HostRuntime) -> Result<(), Fail> {
     Ok(())
 }
 
-// How `line` ends over a graph whose arcs are 16 bytes of text, where the sink takes a byte at once and call `k` fails; and
-// how many bytes went out.
+// How `line` ends over a graph whose arcs are 16 bytes of text, where the sink takes a byte at once and call `k` fails;
+// and how many bytes went out.
 fn cut_at(alloc: Global, line: &str, k: u64) -> Result<(u8, usize), Fail>
     requires { (1 ≤ k) × (k < 2 ^ 64 - 1) }
 {

@@ -1,4 +1,4 @@
-use Rattle.std.proofs.Common.{◌≡◌, ◌<◌, refl, arith}
+use Rattle.std.proofs.Common.{◌<◌, refl, arith}
 use Rattle.std.proofs.lemmas.Result.{err_from_is_err_and}
 use Rattle.wg_decoder.specs.Answer.{context_at}
 use Rattle.wg_decoder.proofs.Faults.{fault_weaker, refusal_weaker}
