@@ -1,6 +1,7 @@
 //! What `check`, `arcs` and `offsets` say of archives, and `rank` of some.
 use super::rankings::RANKINGS;
 use super::*;
+use std::process::Abort;
 use wg_vectors::{ARCHIVES, BAD_GRAPHS, BAD_OFFSETS, LONGER, PLAIN, Refused, Shape};
 
 // The three files of an archive.
@@ -126,25 +127,22 @@ fn is_refused(alloc: Global, x: &Refused, file: &str) -> Result<bool, Fail> {
     does_say(alloc, "check g", &files, 9, "", &told)
 }
 
-#[test]
-fn refused_archives(rt: HostRuntime) -> Result<(), Fail> {
-    for refused in &BAD_GRAPHS {
-        let fault = refused.fault;
-        let graph = refused.graph;
+// Each row of a table is to be refused as it says, for this file.
+fn are_refused(rt: &impl Abort, alloc: Global, table: &[Refused], file: &str) -> Result<(), Fail> {
+    for (row, refused) in table.iter().enumerate() {
         assert!(rt;
-            is_refused(rt.alloc(), refused, "g.graph")?,
-            "{fault}: {graph}"
-        );
-    }
-    for refused in &BAD_OFFSETS {
-        let fault = refused.fault;
-        let offsets = refused.offsets;
-        assert!(rt;
-            is_refused(rt.alloc(), refused, "g.offsets")?,
-            "{fault}: {offsets}"
+            is_refused(alloc, refused, file)?,
+            "row {row}: {}",
+            refused.fault
         );
     }
     Ok(())
+}
+
+#[test]
+fn refused_archives(rt: HostRuntime) -> Result<(), Fail> {
+    are_refused(&rt, rt.alloc(), &BAD_GRAPHS, "g.graph")?;
+    are_refused(&rt, rt.alloc(), &BAD_OFFSETS, "g.offsets")
 }
 
 #[test]

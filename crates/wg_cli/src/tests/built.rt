@@ -144,6 +144,7 @@ fn is_stopped(alloc: Global, stopped: &Stopped) -> Result<bool, Fail>
 #[test]
 fn each_file_stops_once(rt: HostRuntime) -> Result<(), Fail> {
     for stopped in &STOPPED {
+        assert!(rt; stopped.piece > 0 && stopped.create < 10 && stopped.append < 10);
         assert!(rt;
             is_stopped(rt.alloc(), stopped)?,
             "create {}, append {}",
