@@ -1,4 +1,4 @@
-// A place that moves over bits.
+// An offset that moves over bits.
 ghost use Rattle.std.specs.Prelude.{◌≡◌, ℕ, ◌+◌, ◌-◌, ◌*◌, ◌^◌, ◌<◌, ◌≤◌, Bool, false, List, [], ◌∷◌, ◌++◌, length, replicate, IfSome, IfNone};
 ghost use Rattle.wg_io.specs.declared.limits.TheConstants.{MOST_BYTES};
 ghost use Rattle.wg_bits.specs.Bits.{bits_of, low_bits, front, Position, rest, moved, BeginsWithNoZero};
@@ -7,11 +7,11 @@ use crate::Bits;
 use crate::window::window;
 use std::marker::Model;
 
-/// A place in some bits, counted in bits from the first.
+/// An offset in some bits, counted in bits from the first.
 ///
-/// A call that answers `None` leaves it where it was. The readers of codes look ahead with [`peek`](Cursor::peek), know by
-/// [`remaining`](Cursor::remaining) whether what they saw is there, and then move once, with [`advance`](Cursor::advance); where a word
-/// turns out to be cut they go [`seek_back`](Cursor::seek_back).
+/// A call that answers `None` leaves it where it was. The readers of codes look ahead with [`peek`](Cursor::peek), know
+/// by [`remaining`](Cursor::remaining) whether what they saw is there, and then move once, with
+/// [`advance`](Cursor::advance); where a word turns out to be cut they go [`seek_back`](Cursor::seek_back).
 #[derive(Drop)]
 pub struct Cursor<'a> {
     bytes: &'a [u8],
@@ -28,7 +28,7 @@ impl<'a> Model for Cursor<'a> {
 }
 
 impl<'a> Cursor<'a> {
-    /// A cursor at the place `at`, which may be the end.
+    /// A cursor at the offset `at`, which may be the end.
     #[inline(always)]
     pub fn new(bits: Bits<'a>, at: u64) -> Cursor<'a>
         requires { at ≤ length bits }
@@ -40,7 +40,7 @@ impl<'a> Cursor<'a> {
         }
     }
 
-    /// Another cursor at the same place of the same bits.
+    /// Another cursor at the same offset of the same bits.
     pub fn again(&self) -> Cursor<'a>
         ensures { result ≡ self.now }
     {
@@ -50,17 +50,17 @@ impl<'a> Cursor<'a> {
         }
     }
 
-    /// The place.
+    /// The offset.
     #[inline(always)]
     pub fn at(&self) -> u64
-        ensures place { result ≡ self.now.at }
+        ensures offset { result ≡ self.now.at }
         ensures within { result ≤ length self.now.bits }
         ensures short { length self.now.bits ≤ 8 * MOST_BYTES }
     {
         self.at
     }
 
-    /// How many bits stand from the place on.
+    /// How many bits stand from the offset on.
     #[inline(always)]
     pub fn remaining(&self) -> u64
         ensures { result ≡ length (rest self.now) }
@@ -68,7 +68,7 @@ impl<'a> Cursor<'a> {
         8 * self.bytes.len() as u64 - self.at
     }
 
-    /// Goes back to a place that was passed.
+    /// Goes back to an offset that was passed.
     #[inline(always)]
     pub fn seek_back(&mut self, at: u64)
         requires { at ≤ self.old.at }
@@ -127,7 +127,7 @@ impl<'a> Cursor<'a> {
     /// Moves over the zero bits that come next, but at most `limit` of them, and counts them.
     pub fn zeros(&mut self, limit: u64) -> u64
         ensures zeros { rest self.old ≡ replicate result false ++ rest self.new }
-        ensures place { self.new ≡ moved self.old result }
+        ensures offset { self.new ≡ moved self.old result }
         ensures within { result ≤ limit }
         ensures stops { result < limit → BeginsWithNoZero (rest self.new) }
     {

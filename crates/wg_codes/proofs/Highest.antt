@@ -16,7 +16,7 @@ use Rattle.wg_codes.specs.Parts.{IsNumberAt}
 use Rattle.wg_bits.specs.Bits.{Position, moved}
 use Rattle.wg_codes.proofs.Prefix.{Free, Headed, free_headed, no_head, cut_head, cut_tail, value_tail}
 
--- ---- the place of the highest one
+-- ---- the index of the highest one
 pub highest_bounds : (y : ℕ) → 0 < y → y < 2 ^ 64 → (2 ^ highest y ≤ y) × (y < 2 ^ suc (highest y))
 unfolding highest
 highest_bounds y pos l =
@@ -100,7 +100,7 @@ number_at m t few l =
     let e : 2 ^ m - 1 + t + 1 ≡ 1 * 2 ^ m + t = omega arith in
     (highest_is (2 ^ m - 1 + t + 1) m (omega arith) (omega arith) (omega arith), ap (low_bits m) e ∙ low_bits-above m 1 t, omega arith)
 
--- numbers with one place and the same low bits are equal
+-- numbers with one index and the same low bits are equal
 same_numbers : (y z m : ℕ) → 2 ^ m ≤ y → y < 2 ^ suc m → 2 ^ m ≤ z → z < 2 ^ suc m → low_bits m y ≡ low_bits m z → y ≡ z
 same_numbers y z m ly hy lz hz e =
     let p : 2 ^ suc m ≡ 2 ^ m * 2 = pow-suc 2 m in
@@ -167,8 +167,8 @@ pub low_value : (heads : ℕ → List Bool) (k : ℕ) → k ≤ 62 → (z z1 z2 
 low_value heads k few z z1 z2 m v lm e n =
     value_tail (with_low_bits heads) heads low_tail place_of (2 ^ (k + 1) - 2) k (headed_low heads k few) z z1 z2 v
     (below_all m k v lm n.below)
-    (e ∙ ap (λ p. heads p ++ z1) (sym n.place))
-    (n.bits ∙ ap (λ p. low_bits p (v + 1) ++ z2) (sym n.place))
+    (e ∙ ap (λ p. heads p ++ z1) (sym n.index))
+    (n.bits ∙ ap (λ p. low_bits p (v + 1) ++ z2) (sym n.index))
 
 pub low_place : (heads : ℕ → List Bool) (p q r : Position) (m v : ℕ) → q ≡ after heads p (Value m) → r ≡ moved q m → highest (v + 1) ≡ m
     → r ≡ moved p (length (with_low_bits heads v))
@@ -181,4 +181,4 @@ low_place heads p q r m v eq er h =
 pub number_read : (m t : ℕ) (z1 z2 : List Bool) → m ≤ 62 → t < 2 ^ m → z1 ≡ low_bits m t ++ z2 → IsNumberAt m (2 ^ m - 1 + t) z1 z2
 number_read m t z1 z2 few l e =
     let n = number_at m t few l in
-    record { place = n.0; below = n.2; bits = e ∙ ap (λ z. z ++ z2) (sym n.1) }
+    record { index = n.0; below = n.2; bits = e ∙ ap (λ z. z ++ z2) (sym n.1) }

@@ -312,7 +312,7 @@ length-open_digits (suc n) v =
     let c = length-open_digits n v in
     let e : suc (length (low_bits 3 (v / 8 ^ n) ++ open_digits n v)) ≡ 4 * suc n = omega arith in e
 
--- the place behind the last digit
+-- the offset behind the last digit
 pub nibble_place : (d u t : ℕ) (p q r s : Position) → d ≤ 20 → IsOpen d u → t < 8 → q ≡ moved p (4 * d) → r ≡ moved q 1 → s ≡ moved r 3 → s ≡ moved p (length (nibble (u * 8 + t)))
 nibble_place d u t p q r s few o l e f g =
     let long : length (nibble (u * 8 + t)) ≡ 4 * d + 4 =

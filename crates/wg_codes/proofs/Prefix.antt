@@ -121,7 +121,7 @@ passes words most p q (Value v) f e = rest_after words most p q v f e
 passes words most p q Cut f e = ap rest (sym e)
 passes words most p q NoWord f e = ap rest (sym e)
 
--- back at the place where it began
+-- back at the offset where it began
 pub restored : (old q r s : Position) (w a : ℕ) → q ≡ moved old w → r ≡ q → a ≡ old.at → s ≡ (let x : Position = record { bits = r.bits; at = a } in x) → s ≡ old
 restored old q r s w a e f g h =
     let b : r.bits ≡ old.bits = ap (λ p. let x : Position = p in x.bits) (f ∙ e) in

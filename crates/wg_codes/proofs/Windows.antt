@@ -32,7 +32,7 @@ unfolding gamma
 gamma_bits m y few low high =
     let pos : 0 < 2 ^ m = pow_pos m in
     let back : y - 1 + 1 ≡ y = omega arith in
-    let place : highest (y - 1 + 1) ≡ m = ap highest back ∙ highest_is y m low high (omega arith) in
+    let index : highest (y - 1 + 1) ≡ m = ap highest back ∙ highest_is y m low high (omega arith) in
     let p : 2 ^ suc m ≡ 2 ^ m * 2 = pow-suc 2 m in
     let least : 1 ≤ y / 2 ^ m = le-div 1 y (2 ^ m) pos (omega arith) in
     let most : y / 2 ^ m < 2 = div_below y (2 ^ m) 2 pos (omega arith) in
@@ -40,7 +40,7 @@ gamma_bits m y few low high =
     let sum : 2 * m + 1 ≡ m + 1 + m = omega arith in
     ap (λ k. low_bits k y) sum ∙ low_bits-add (m + 1) m y ∙ ap (λ k. low_bits (m + 1) k ++ low_bits m y) one
     ∙ ap (λ z. z ++ low_bits m y) (unary_bits m)
-    ∙ ap (λ k. unary m ++ low_bits m k) (sym back) ∙ ap (λ k. unary k ++ low_bits k (y - 1 + 1)) (sym place)
+    ∙ ap (λ k. unary m ++ low_bits m k) (sym back) ∙ ap (λ k. unary k ++ low_bits k (y - 1 + 1)) (sym index)
 
 -- ---- a gamma word within one window: the number that the window begins with
 pub window_number : (w m : ℕ) → w < 2 ^ 64 → m ≡ count_leading_zeros 64 w → m < 32
@@ -50,9 +50,9 @@ window_number w m l e few = ⊎_elim
     (λ ne.
     let t = leading_top 64 w (omega arith) l in
     let j : ℕ = t.0 in
-    let place : m + (63 - 2 * m) ≡ t.0 = omega (arith, t.1) in
+    let index : m + (63 - 2 * m) ≡ t.0 = omega (arith, t.1) in
     let next : suc m + (63 - 2 * m) ≡ suc t.0 = omega (arith, t.1) in
-    let a : 2 ^ m * 2 ^ (63 - 2 * m) ≡ 2 ^ t.0 = sym (pow-add 2 m (63 - 2 * m)) ∙ ap (λ k. 2 ^ k) place in
+    let a : 2 ^ m * 2 ^ (63 - 2 * m) ≡ 2 ^ t.0 = sym (pow-add 2 m (63 - 2 * m)) ∙ ap (λ k. 2 ^ k) index in
     let b : 2 ^ suc m * 2 ^ (63 - 2 * m) ≡ 2 ^ suc t.0 = sym (pow-add 2 (suc m) (63 - 2 * m)) ∙ ap (λ k. 2 ^ k) next in
     let pos : 0 < 2 ^ (63 - 2 * m) = pow_pos (63 - 2 * m) in
     (le-div (2 ^ m) w (2 ^ (63 - 2 * m)) pos (omega (arith, t.2)), div_below w (2 ^ (63 - 2 * m)) (2 ^ suc m) pos (omega (arith, t.3))))
@@ -88,9 +88,9 @@ window_field w h n l e few = ⊎_elim
     (λ ne.
     let t = leading_top 64 w (omega arith) l in
     let j : ℕ = t.0 in
-    let place : n + (63 - h - n) ≡ t.0 = omega (arith, t.1) in
+    let index : n + (63 - h - n) ≡ t.0 = omega (arith, t.1) in
     let next : suc n + (63 - h - n) ≡ suc t.0 = omega (arith, t.1) in
-    let a : 2 ^ n * 2 ^ (63 - h - n) ≡ 2 ^ t.0 = sym (pow-add 2 n (63 - h - n)) ∙ ap (λ k. 2 ^ k) place in
+    let a : 2 ^ n * 2 ^ (63 - h - n) ≡ 2 ^ t.0 = sym (pow-add 2 n (63 - h - n)) ∙ ap (λ k. 2 ^ k) index in
     let b : 2 ^ suc n * 2 ^ (63 - h - n) ≡ 2 ^ suc t.0 = sym (pow-add 2 (suc n) (63 - h - n)) ∙ ap (λ k. 2 ^ k) next in
     let pos : 0 < 2 ^ (63 - h - n) = pow_pos (63 - h - n) in
     (le-div (2 ^ n) w (2 ^ (63 - h - n)) pos (omega (arith, t.2)), div_below w (2 ^ (63 - h - n)) (2 ^ suc n) pos (omega (arith, t.3))))

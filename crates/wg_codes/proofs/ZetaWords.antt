@@ -22,7 +22,7 @@ room k h l =
     let b : 63 / k * k ≤ 63 = div-mul-le_self 63 k in
     omega arith
 
--- the place of a number between the powers
+-- the index of a number between the powers
 place_between : (k h y : ℕ) → 1 ≤ k → h * k + k ≤ 63 → 2 ^ (h * k) ≤ y → y < 2 ^ (h * k + k) → highest y / k ≡ h
 place_between k h y some few low high =
     let pos : 0 < 2 ^ (h * k) = pow_pos (h * k) in
@@ -76,14 +76,14 @@ pub tail_short : (k h t : ℕ) (z1 z2 : List Bool) → 1 ≤ k → h * k + k ≤
     → IsShortenedAt k h (2 ^ (h * k) + t - 1) z1 z2
 tail_short k h t z1 z2 some few l e =
     let f = short_form k h t some few l in
-    record { place = f.0; below = f.1; bits = e ∙ ap (λ z. z ++ z2) (sym f.2) }
+    record { index = f.0; below = f.1; bits = e ∙ ap (λ z. z ++ z2) (sym f.2) }
 
 pub tail_long : (k h t b : ℕ) (z1 z2 z3 : List Bool) → 1 ≤ k → h * k + k ≤ 63 → t < 2 ^ (h * k + k - 1) → 2 ^ (h * k) ≤ t → b < 2
     → z1 ≡ low_bits (h * k + k - 1) t ++ z2 → z2 ≡ low_bits 1 b ++ z3 → IsShortenedAt k h (2 * t + b - 1) z1 z3
 tail_long k h t b z1 z2 z3 some few l low lb e f =
     let g = long_form k h t b some few l low lb in
     record {
-      place = g.0;
+      index = g.0;
       below = g.1;
       bits = e ∙ ap (λ z. low_bits (h * k + k - 1) t ++ z) f ∙ sym (append_assoc (low_bits (h * k + k - 1) t) (low_bits 1 b) z3) ∙ ap (λ z. z ++ z3) (sym g.2);
     }
@@ -95,13 +95,13 @@ tail_cut_early k h z some few short =
     ⊎_elim
     (λ (m : t < 2 ^ (h * k)).
     let g = short_form k h t some few m in
-    let r : IsCutAt k h z = record { v = 2 ^ (h * k) + t - 1; place = g.0; below = g.1; cut = (f.2.0, f.2.1, g.2 ∙ f.2.2) } in r)
+    let r : IsCutAt k h z = record { v = 2 ^ (h * k) + t - 1; index = g.0; below = g.1; cut = (f.2.0, f.2.1, g.2 ∙ f.2.2) } in r)
     (λ (m : 2 ^ (h * k) ≤ t).
     let g = long_form k h t 0 some few f.1 m (omega arith) in
     let more : 0 < length (f.2.0 ++ low_bits 1 0) = omega (arith, length-append f.2.0 (low_bits 1 0), length-low_bits 1 0) in
     let r : IsCutAt k h z = record {
       v = 2 * t + 0 - 1;
-      place = g.0;
+      index = g.0;
       below = g.1;
       cut = (f.2.0 ++ low_bits 1 0, more, g.2 ∙ ap (λ y. y ++ low_bits 1 0) f.2.2 ∙ append_assoc z f.2.0 (low_bits 1 0));
     } in r)
@@ -113,7 +113,7 @@ tail_cut_late k h t z y some few l low e f =
     let g = long_form k h t 0 some few l low (omega arith) in
     let none : y ≡ [] = nil_from_length y (omega arith) in
     let whole : z ≡ low_bits (h * k + k - 1) t = e ∙ ap (λ x. low_bits (h * k + k - 1) t ++ x) none ∙ append-nil _ in
-    record { v = 2 * t + 0 - 1; place = g.0; below = g.1; cut = (low_bits 1 0, omega (arith, length-low_bits 1 0), g.2 ∙ ap (λ x. x ++ low_bits 1 0) (sym whole)) }
+    record { v = 2 * t + 0 - 1; index = g.0; below = g.1; cut = (low_bits 1 0, omega (arith, length-low_bits 1 0), g.2 ∙ ap (λ x. x ++ low_bits 1 0) (sym whole)) }
 
 -- ---- the words
 abbrev pub zeta_head : ℕ → ℕ → ℕ
@@ -233,8 +233,8 @@ zeta_cut k some few z z1 h lh e c =
     let q : 0 < 63 / k = quotient_some k some few in
     cut_tail (zeta k) unary (zeta_tail k) (zeta_head k) (zeta_top k) (63 / k - 1) (headed_zeta k some few) z z1 c.v
     (below_zeta k h c.v lh q c.below)
-    (e ∙ ap (λ p. unary p ++ z1) (sym c.place))
-    (subst (λ p. ProperlyBegins z1 (shortened k p (c.v + 1))) (sym c.place) c.cut)
+    (e ∙ ap (λ p. unary p ++ z1) (sym c.index))
+    (subst (λ p. ProperlyBegins z1 (shortened k p (c.v + 1))) (sym c.index) c.cut)
 
 pub zeta_value : (k : ℕ) → 1 ≤ k → k ≤ 31 → (z z1 z2 : List Bool) (h v : ℕ) → h ≤ 63 / k - 1 → z ≡ unary h ++ z1 → IsShortenedAt k h v z1 z2
     → Reads (zeta k) (zeta_top k) z (Value v)
@@ -242,8 +242,8 @@ zeta_value k some few z z1 z2 h v lh e n =
     let q : 0 < 63 / k = quotient_some k some few in
     value_tail (zeta k) unary (zeta_tail k) (zeta_head k) (zeta_top k) (63 / k - 1) (headed_zeta k some few) z z1 z2 v
     (below_zeta k h v lh q n.below)
-    (e ∙ ap (λ p. unary p ++ z1) (sym n.place))
-    (n.bits ∙ ap (λ p. shortened k p (v + 1) ++ z2) (sym n.place))
+    (e ∙ ap (λ p. unary p ++ z1) (sym n.index))
+    (n.bits ∙ ap (λ p. shortened k p (v + 1) ++ z2) (sym n.index))
 
 pub zeta_span : (k h v : ℕ) → highest (v + 1) / k ≡ h → length (zeta k v) ≡ h + 1 + length (shortened k h (v + 1))
 unfolding zeta

@@ -19,7 +19,7 @@ Reads words most z (Value v) = (v ≤ most) × Begins (words v) z
 Reads words most z Cut = (v : ℕ) × (v ≤ most) × ProperlyBegins z (words v)
 Reads words most z NoWord = (v : ℕ) → v ≤ most → (¬ Begins (words v) z) × (¬ ProperlyBegins z (words v))
 
--- the place after the word that was read, or the same place if none was
+-- the offset after the word that was read, or the same offset if none was
 abbrev pub after : (ℕ → List Bool) → Position → Read → Position
 after words p (Value v) = moved p (length (words v))
 after words p Cut = p

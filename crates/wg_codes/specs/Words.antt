@@ -5,7 +5,7 @@ use Rattle.wg_bits.specs.Bits.{low_bits}
 use Rattle.wg_params.specs.declared.code.Code.{Code}
 use Rattle.wg_params.specs.declared.code.Code.TheVariants.{Unary, Gamma, Delta, Zeta, Nibble}
 
--- the place of the highest one of a y below 2 ^ 64, the lowest place being 0
+-- the index of the highest one of a y below 2 ^ 64, the lowest index being 0
 unfoldable pub highest : ℕ → ℕ
 highest y = 63 - count_leading_zeros 64 y
 
@@ -13,7 +13,7 @@ highest y = 63 - count_leading_zeros 64 y
 unfoldable pub unary : ℕ → List Bool
 unary v = replicate v false ++ true ∷ []
 
--- With y = v + 1 and m the place of its highest one: the word of m, then the low m bits of y.
+-- With y = v + 1 and m the index of its highest one: the word of m, then the low m bits of y.
 abbrev pub with_low_bits : (ℕ → List Bool) → ℕ → List Bool
 with_low_bits head v = head (highest (v + 1)) ++ low_bits (highest (v + 1)) (v + 1)
 

@@ -17,7 +17,7 @@ use wg_params::Code;
 pub fn read(code: Code, cursor: &mut Cursor<'_>) -> Read
     requires { IsCode code }
     ensures found { Reads (word code) (top code) (rest cursor.old) result }
-    ensures place { cursor.new ≡ after (word code) cursor.old result }
+    ensures moves { cursor.new ≡ after (word code) cursor.old result }
     ensures passed { Passes (word code) cursor.old cursor.new result }
 {
     match code {

@@ -1,4 +1,4 @@
-//! Delta: with y one more than the value and m the place of its highest one, the gamma word of m, then the low m bits
+//! Delta: with y one more than the value and m the index of its highest one, the gamma word of m, then the low m bits
 //! of y.
 //!
 //! | value | word |
@@ -20,18 +20,18 @@ use crate::{Read, gamma};
 use wg_bits::{Cursor, Writer};
 use wg_io::{Depot, WriteError};
 
-// A place is at most 62, so the place of one more than it at most 5: six zeros begin no word.
+// An index is at most 62, so the index of one more than it at most 5: six zeros begin no word.
 #[cold]
 #[inline(never)]
 pub fn read(cursor: &mut Cursor<'_>) -> Read
     ensures found { Reads delta (2 ^ 63 - 2) (rest cursor.old) result }
-    ensures place { cursor.new ≡ after delta cursor.old result }
+    ensures moves { cursor.new ≡ after delta cursor.old result }
 {
     let start = cursor.at();
     match gamma::read(cursor, 5) {
         Read::Cut => Read::Cut,
         Read::NoWord => Read::NoWord,
-        Read::Value(place) => match number(cursor, place as u32) {
+        Read::Value(index) => match number(cursor, index as u32) {
             None => {
                 cursor.seek_back(start);
                 Read::Cut
@@ -63,9 +63,9 @@ pub fn write<D: Depot>(
         Rose (D.counts depot.old name.now).wants (D.counts depot.new name.now).wants }
     ensures later { NoneFalls (D.counts depot.old) (D.counts depot.new) }
 {
-    let place = highest_one(v + 1);
-    gamma::write(place as u64, writer, depot, name)?;
-    writer.put(depot, name, v + 1 - (1 << place), place)
+    let index = highest_one(v + 1);
+    gamma::write(index as u64, writer, depot, name)?;
+    writer.put(depot, name, v + 1 - (1 << index), index)
 }
 
 #[cold]
@@ -74,6 +74,6 @@ pub fn length(v: u64) -> u64
     requires { v ≤ 2 ^ 63 - 2 }
     ensures { result ≡ length (delta v) }
 {
-    let place = highest_one(v + 1) as u64;
-    gamma::length(place) + place
+    let index = highest_one(v + 1) as u64;
+    gamma::length(index) + index
 }

@@ -1,4 +1,4 @@
-//! Gamma: with y one more than the value and m the place of its highest one, the unary word of m, then the low m bits
+//! Gamma: with y one more than the value and m the index of its highest one, the unary word of m, then the low m bits
 //! of y.
 //!
 //! | value | word |
@@ -20,18 +20,18 @@ use crate::{Read, unary};
 use wg_bits::{Cursor, Writer};
 use wg_io::{Depot, WriteError};
 
-// A word of a value whose place is at most `most`: by one load, if all of it lies within the next 64 bits.
+// A word of a value whose index is at most `most`: by one load, if all of it lies within the next 64 bits.
 #[inline(always)]
 pub fn read(cursor: &mut Cursor<'_>, most: u64) -> Read
     requires { most ≤ 62 }
     ensures found { Reads gamma (2 ^ (most + 1) - 2) (rest cursor.old) result }
-    ensures place { cursor.new ≡ after gamma cursor.old result }
+    ensures moves { cursor.new ≡ after gamma cursor.old result }
 {
     let word = cursor.peek();
-    let place = word.leading_zeros();
-    if place < 32 && place as u64 <= most && 2 * place as u64 + 1 <= cursor.remaining() {
-        cursor.advance(2 * place as u64 + 1);
-        return Read::Value((word >> (63 - 2 * place)) - 1);
+    let index = word.leading_zeros();
+    if index < 32 && index as u64 <= most && 2 * index as u64 + 1 <= cursor.remaining() {
+        cursor.advance(2 * index as u64 + 1);
+        return Read::Value((word >> (63 - 2 * index)) - 1);
     }
     read_in_steps(cursor, most)
 }
@@ -42,13 +42,13 @@ pub fn read(cursor: &mut Cursor<'_>, most: u64) -> Read
 fn read_in_steps(cursor: &mut Cursor<'_>, most: u64) -> Read
     requires { most ≤ 62 }
     ensures found { Reads gamma (2 ^ (most + 1) - 2) (rest cursor.old) result }
-    ensures place { cursor.new ≡ after gamma cursor.old result }
+    ensures moves { cursor.new ≡ after gamma cursor.old result }
 {
     let start = cursor.at();
     match unary::read(cursor, most) {
         Read::Cut => Read::Cut,
         Read::NoWord => Read::NoWord,
-        Read::Value(place) => match number(cursor, place as u32) {
+        Read::Value(index) => match number(cursor, index as u32) {
             None => {
                 cursor.seek_back(start);
                 Read::Cut
@@ -79,9 +79,9 @@ pub fn write<D: Depot>(
         Rose (D.counts depot.old name.now).wants (D.counts depot.new name.now).wants }
     ensures later { NoneFalls (D.counts depot.old) (D.counts depot.new) }
 {
-    let place = highest_one(v + 1);
-    let low = v + 1 - (1 << place);
-    put_headed(writer, depot, name, place as u64, low, place)
+    let index = highest_one(v + 1);
+    let low = v + 1 - (1 << index);
+    put_headed(writer, depot, name, index as u64, low, index)
 }
 
 #[inline(always)]

@@ -9,24 +9,24 @@ ghost use Rattle.wg_codes.specs.Parts.{IsNumberAt};
 use wg_bits::{Cursor, Writer};
 use wg_io::{Depot, WriteError};
 
-// The place of the highest one, the lowest place being 0; 0 for no one at all.
+// The index of the highest one, the lowest index being 0; 0 for no one at all.
 #[inline(always)]
 pub fn highest_one(y: u64) -> u32
-    ensures place { result ≡ highest y }
+    ensures index { result ≡ highest y }
     ensures small { result ≤ 63 }
 {
     63u32.saturating_sub(y.leading_zeros())
 }
 
-// One less than the number whose highest one stands at `place`, of which the lower bits come next.
-pub fn number(cursor: &mut Cursor<'_>, place: u32) -> Option<u64>
-    requires { place ≤ 62 }
-    ensures none { IfNone result ((length (rest cursor.old) < place) × (cursor.new ≡ cursor.old)) }
-    ensures some { IfSome result (λ v. IsNumberAt place v (rest cursor.old) (rest cursor.new)
-        × (cursor.new ≡ moved cursor.old place)) }
+// One less than the number whose highest one stands at `index`, of which the lower bits come next.
+pub fn number(cursor: &mut Cursor<'_>, index: u32) -> Option<u64>
+    requires { index ≤ 62 }
+    ensures none { IfNone result ((length (rest cursor.old) < index) × (cursor.new ≡ cursor.old)) }
+    ensures some { IfSome result (λ v. IsNumberAt index v (rest cursor.old) (rest cursor.new)
+        × (cursor.new ≡ moved cursor.old index)) }
 {
-    let low = cursor.take(place)?;
-    Some((1 << place) - 1 + low)
+    let low = cursor.take(index)?;
+    Some((1 << index) - 1 + low)
 }
 
 // A head in unary, and behind it a field of `width` bits. The one of the head is put as a bit more of the field, and

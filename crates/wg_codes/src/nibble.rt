@@ -28,7 +28,7 @@ use wg_io::{Depot, WriteError};
 #[inline(never)]
 pub fn read(cursor: &mut Cursor<'_>) -> Read
     ensures found { Reads nibble (2 ^ 63 - 1) (rest cursor.old) result }
-    ensures place { cursor.new ≡ after nibble cursor.old result }
+    ensures moves { cursor.new ≡ after nibble cursor.old result }
 {
     let start = cursor.at();
     let mut value = 0;

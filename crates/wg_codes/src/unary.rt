@@ -24,7 +24,7 @@ use wg_io::{Depot, WriteError};
 pub fn read(cursor: &mut Cursor<'_>, most: u64) -> Read
     requires { most < 2 ^ 32 }
     ensures found { Reads unary most (rest cursor.old) result }
-    ensures place { cursor.new ≡ after unary cursor.old result }
+    ensures moves { cursor.new ≡ after unary cursor.old result }
 {
     let zeros = cursor.peek().leading_zeros() as u64;
     if zeros < 64 && zeros <= most && zeros < cursor.remaining() {
@@ -40,7 +40,7 @@ pub fn read(cursor: &mut Cursor<'_>, most: u64) -> Read
 fn read_in_steps(cursor: &mut Cursor<'_>, most: u64) -> Read
     requires { most < 2 ^ 32 }
     ensures found { Reads unary most (rest cursor.old) result }
-    ensures place { cursor.new ≡ after unary cursor.old result }
+    ensures moves { cursor.new ≡ after unary cursor.old result }
 {
     let start = cursor.at();
     let zeros = cursor.zeros(most + 1);

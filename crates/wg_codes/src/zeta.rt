@@ -1,5 +1,5 @@
 //! Zeta with a shrinking factor k, as the WebGraph paper of Boldi and Vigna has it: with y one more than the value, m
-//! the place of its highest one, h = m / k and least = 2^(hk), the unary word of h, then y in its shortened form:
+//! the index of its highest one, h = m / k and least = 2^(hk), the unary word of h, then y in its shortened form:
 //! y - least in hk + k - 1 bits if that is below least, else y in hk + k bits. The words of k = 3, and of k = 2:
 //!
 //! | value | k = 3 | k = 2 |
@@ -27,7 +27,7 @@ use wg_io::{Depot, WriteError};
 pub fn read(cursor: &mut Cursor<'_>, k: u32) -> Read
     requires { (1 ≤ k) × (k ≤ 31) }
     ensures found { Reads (zeta k) (2 ^ (k * (63 / k)) - 2) (rest cursor.old) result }
-    ensures place { cursor.new ≡ after (zeta k) cursor.old result }
+    ensures moves { cursor.new ≡ after (zeta k) cursor.old result }
 {
     let word = cursor.peek();
     let head = word.leading_zeros();
@@ -55,7 +55,7 @@ pub fn read(cursor: &mut Cursor<'_>, k: u32) -> Read
 fn read_in_steps(cursor: &mut Cursor<'_>, k: u32) -> Read
     requires { (1 ≤ k) × (k ≤ 31) }
     ensures found { Reads (zeta k) (2 ^ (k * (63 / k)) - 2) (rest cursor.old) result }
-    ensures place { cursor.new ≡ after (zeta k) cursor.old result }
+    ensures moves { cursor.new ≡ after (zeta k) cursor.old result }
 {
     let start = cursor.at();
     match unary::read(cursor, (63 / k - 1) as u64) {

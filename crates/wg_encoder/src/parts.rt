@@ -85,9 +85,9 @@ pub(crate) fn add_intervals(
     ensures { (runs : List Run) → ends.now ≡ ends_and_lengths runs → OnOk result (fields.new ≡ fields.old ++ interval_fields page least None runs) }
 {
     let mut past = None;
-    for place in 0..ends.len() / 2 {
-        let left = ends[2 * place];
-        let length = ends[2 * place + 1];
+    for index in 0..ends.len() / 2 {
+        let left = ends[2 * index];
+        let length = ends[2 * index + 1];
         fields.add(Field::Left, Code::Gamma, stored_gap(page, past, left))?;
         fields.add(Field::Length, Code::Gamma, length.saturating_sub(least))?;
         past = Some(left + length);

@@ -43,8 +43,8 @@ impl ResidualTally {
         ensures code { self.new.code ≡ self.old.code }
     {
         let mut room = room;
-        for place in 0..run.length {
-            room = self.add(room, run.left + place);
+        for index in 0..run.length {
+            room = self.add(room, run.left + index);
         }
         room
     }

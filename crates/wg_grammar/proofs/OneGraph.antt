@@ -97,18 +97,18 @@ tail_or_fault bits end at t f =
       | inr far ↦ absurd (omega (arith, t.short, f.there, far))
     ]
 
-fault_first : (bits : List Bool) (end at place : ℕ) → IsTailFault bits end at → IsTailFault bits end place → at < place → ⊥
-fault_first bits end at place f g lt =
+fault_first : (bits : List Bool) (end at offset : ℕ) → IsTailFault bits end at → IsTailFault bits end offset → at < offset → ⊥
+fault_first bits end at offset f g lt =
     elim f.why [
       | inl one ↦ let z = g.zeros at f.from lt in absurd (let e : true ≡ false = sym one ∙ z in cc)
       | inr far ↦ absurd (omega (arith, g.near, far))
     ]
 
-pub fault_one : (bits : List Bool) (end at place : ℕ) → IsTailFault bits end at → IsTailFault bits end place → at ≡ place
-fault_one bits end at place f g =
-    elim (cases_lt at place) [
-      | inl lt ↦ absurd (fault_first bits end at place f g lt)
-      | inr le ↦ elim (cases_lt place at) [ inl lt ↦ absurd (fault_first bits end place at g f lt) | inr ge ↦ omega arith ]
+pub fault_one : (bits : List Bool) (end at offset : ℕ) → IsTailFault bits end at → IsTailFault bits end offset → at ≡ offset
+fault_one bits end at offset f g =
+    elim (cases_lt at offset) [
+      | inl lt ↦ absurd (fault_first bits end at offset f g lt)
+      | inr le ↦ elim (cases_lt offset at) [ inl lt ↦ absurd (fault_first bits end offset at g f lt) | inr ge ↦ omega arith ]
     ]
 
 abbrev Tailed : List Bool → ℕ → Type 0
@@ -151,26 +151,26 @@ err_is e f h = cc
 closes_one : (p : Parameters) → IsWithinLimits p → (bits : List Bool) (behind : List Whole) (at : ℕ) (w x : Result Accepted ArchiveFault) → Closes p bits behind at w → Closes p bits behind at x → w ≡ x
 closes_one p limits bits behind at (Ok g) (Ok h) a b = ap Ok (accepted_is g h (a.3 ∙ sym b.3) (a.4 ∙ sym b.4))
 closes_one p limits bits behind at (Ok g) (Err (faults.Record e)) a b = absurd (omega (arith, a.0, b.0))
-closes_one p limits bits behind at (Ok g) (Err (faults.Tail place)) a b = absurd (tail_or_fault bits at place a.1 b.1)
+closes_one p limits bits behind at (Ok g) (Err (faults.Tail offset)) a b = absurd (tail_or_fault bits at offset a.1 b.1)
 closes_one p limits bits behind at (Ok g) (Err (faults.ArcsShort total)) a b = absurd (omega (arith, a.2, b.2, b.3))
 closes_one p limits bits behind at (Err (faults.Record e)) (Ok g) b a = absurd (omega (arith, a.0, b.0))
 closes_one p limits bits behind at (Err (faults.Record e)) (Err (faults.Record f)) a b = ap (λ (e : Fault). Err (faults.Record e)) (err_is e f (record_one p limits (context_of p behind) bits at (Err e) (Err f) a.1 b.1))
-closes_one p limits bits behind at (Err (faults.Record e)) (Err (faults.Tail place)) a b = absurd (omega (arith, a.0, b.0))
+closes_one p limits bits behind at (Err (faults.Record e)) (Err (faults.Tail offset)) a b = absurd (omega (arith, a.0, b.0))
 closes_one p limits bits behind at (Err (faults.Record e)) (Err (faults.ArcsShort total)) a b = absurd (omega (arith, a.0, b.0))
-closes_one p limits bits behind at (Err (faults.Tail place)) (Ok g) b a = absurd (tail_or_fault bits at place a.1 b.1)
-closes_one p limits bits behind at (Err (faults.Tail place)) (Err (faults.Record e)) a b = absurd (omega (arith, a.0, b.0))
-closes_one p limits bits behind at (Err (faults.Tail place)) (Err (faults.Tail other)) a b = ap (λ (k : ℕ). Err (faults.Tail k)) (fault_one bits at place other a.1 b.1)
-closes_one p limits bits behind at (Err (faults.Tail place)) (Err (faults.ArcsShort total)) a b = absurd (tail_or_fault bits at place b.1 a.1)
+closes_one p limits bits behind at (Err (faults.Tail offset)) (Ok g) b a = absurd (tail_or_fault bits at offset a.1 b.1)
+closes_one p limits bits behind at (Err (faults.Tail offset)) (Err (faults.Record e)) a b = absurd (omega (arith, a.0, b.0))
+closes_one p limits bits behind at (Err (faults.Tail offset)) (Err (faults.Tail other)) a b = ap (λ (k : ℕ). Err (faults.Tail k)) (fault_one bits at offset other a.1 b.1)
+closes_one p limits bits behind at (Err (faults.Tail offset)) (Err (faults.ArcsShort total)) a b = absurd (tail_or_fault bits at offset b.1 a.1)
 closes_one p limits bits behind at (Err (faults.ArcsShort total)) (Ok g) b a = absurd (omega (arith, a.2, b.2, b.3))
 closes_one p limits bits behind at (Err (faults.ArcsShort total)) (Err (faults.Record e)) a b = absurd (omega (arith, a.0, b.0))
-closes_one p limits bits behind at (Err (faults.ArcsShort total)) (Err (faults.Tail place)) a b = absurd (tail_or_fault bits at place a.1 b.1)
+closes_one p limits bits behind at (Err (faults.ArcsShort total)) (Err (faults.Tail offset)) a b = absurd (tail_or_fault bits at offset a.1 b.1)
 closes_one p limits bits behind at (Err (faults.ArcsShort total)) (Err (faults.ArcsShort other)) a b = ap (λ (k : ℕ). Err (faults.ArcsShort k)) (a.2 ∙ sym b.2)
 closes_one p limits bits behind at (Ok g) (Err (faults.Offsets f)) x y = absurd y
 closes_one p limits bits behind at (Ok g) (Err (faults.Length page found stored)) x y = absurd y
 closes_one p limits bits behind at (Err (faults.Record e)) (Err (faults.Offsets f)) x y = absurd y
 closes_one p limits bits behind at (Err (faults.Record e)) (Err (faults.Length page found stored)) x y = absurd y
-closes_one p limits bits behind at (Err (faults.Tail place)) (Err (faults.Offsets f)) x y = absurd y
-closes_one p limits bits behind at (Err (faults.Tail place)) (Err (faults.Length page found stored)) x y = absurd y
+closes_one p limits bits behind at (Err (faults.Tail offset)) (Err (faults.Offsets f)) x y = absurd y
+closes_one p limits bits behind at (Err (faults.Tail offset)) (Err (faults.Length page found stored)) x y = absurd y
 closes_one p limits bits behind at (Err (faults.ArcsShort total)) (Err (faults.Offsets f)) x y = absurd y
 closes_one p limits bits behind at (Err (faults.ArcsShort total)) (Err (faults.Length page found stored)) x y = absurd y
 closes_one p limits bits behind at (Err (faults.Offsets f)) w x y = absurd x
@@ -185,7 +185,7 @@ here p bits behind at w x = subst (λ (k : ℕ). Closes p bits behind k w) x.2.1
 goes_or_closes : (p : Parameters) → IsWithinLimits p → (bits : List Bool) (behind : List Whole) (at : ℕ) (k : Whole) (w : Result Accepted ArchiveFault) → length behind < p.nodes → ReadsRecord p (context_of p behind) bits at (Ok k) → Closes p bits behind at w → ⊥
 goes_or_closes p limits bits behind at k (Ok g) lt c h = absurd (omega (arith, h.0))
 goes_or_closes p limits bits behind at k (Err (faults.Record e)) lt c h = absurd (let s = record_one p limits (context_of p behind) bits at (Ok k) (Err e) c h.1 in cc)
-goes_or_closes p limits bits behind at k (Err (faults.Tail place)) lt c h = absurd (omega (arith, h.0))
+goes_or_closes p limits bits behind at k (Err (faults.Tail offset)) lt c h = absurd (omega (arith, h.0))
 goes_or_closes p limits bits behind at k (Err (faults.ArcsShort total)) lt c h = absurd (omega (arith, h.0))
 goes_or_closes p limits bits behind at k (Err (faults.Offsets f)) lt c h = h
 goes_or_closes p limits bits behind at k (Err (faults.Length page found stored)) lt c h = h

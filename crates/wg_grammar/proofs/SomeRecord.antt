@@ -57,10 +57,10 @@ checked_less : (p : Parameters) (c : Context) (bits : List Bool) (s : SoFar) (at
 unfolding after unchecked_one
 checked_less p c bits s at n one less = omega arith
 
-refused_at : (p : Parameters) (c : Context) (bits : List Bool) (start : ℕ) (s : SoFar) (at : ℕ) (f : Field) (k : Kind) (place : ℕ) (m : Need) → next p c s ≡ m →
-    Refused m p c bits start s at (record { page = c.page; at = place; field = f; kind = k }) → Found p c bits start s at
-refused_at p c bits start s at f k place m is h =
-    let e : Fault = record { page = c.page; at = place; field = f; kind = k } in
+refused_at : (p : Parameters) (c : Context) (bits : List Bool) (start : ℕ) (s : SoFar) (at : ℕ) (f : Field) (k : Kind) (offset : ℕ) (m : Need) → next p c s ≡ m →
+    Refused m p c bits start s at (record { page = c.page; at = offset; field = f; kind = k }) → Found p c bits start s at
+refused_at p c bits start s at f k offset m is h =
+    let e : Fault = record { page = c.page; at = offset; field = f; kind = k } in
     stops_here p c bits start s at (Err e) (subst (λ (m : Need). Refused m p c bits start s at e) (sym is) h, refl)
 
 judged_value : (n : ℕ) (p : Parameters) (c : Context) (bits : List Bool) (start : ℕ) (s : SoFar) (at : ℕ) (f : Field) (code : Code) (v : ℕ) (o : Option Kind) →

@@ -52,7 +52,7 @@ places_of behind = 0 ∷ reverse (map (λ w. w.end) behind)
 abbrev pub Closes : Parameters → List Bool → List Whole → ℕ → Result Accepted ArchiveFault → Type 0
 Closes p bits behind at (Ok a) = (length behind ≡ p.nodes) × IsTail bits at × (arcs_of behind ≡ p.arcs) × (a.graph ≡ lists_of behind) × (a.places ≡ places_of behind)
 Closes p bits behind at (Err (faults.Record e)) = (length behind < p.nodes) × ReadsRecord p (context_of p behind) bits at (Err e)
-Closes p bits behind at (Err (faults.Tail place)) = (length behind ≡ p.nodes) × IsTailFault bits at place
+Closes p bits behind at (Err (faults.Tail offset)) = (length behind ≡ p.nodes) × IsTailFault bits at offset
 Closes p bits behind at (Err (faults.ArcsShort total)) = (length behind ≡ p.nodes) × IsTail bits at × (total ≡ arcs_of behind) × (total < p.arcs)
 Closes p bits behind at (Err (faults.Offsets w)) = ⊥
 Closes p bits behind at (Err (faults.Length page found stored)) = ⊥

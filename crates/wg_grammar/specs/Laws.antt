@@ -12,7 +12,7 @@ use Rattle.wg_grammar.specs.Members.{list_of}
 use Rattle.wg_grammar.specs.Record.{Fields, Whole, ReadsRecord}
 use Rattle.wg_grammar.specs.Archive.{Accepted, ReadsGraph}
 
--- Bits from a place on are at most one record, or have at most one first fault, and never both.
+-- Bits from an offset on are at most one record, or have at most one first fault, and never both.
 abbrev pub RecordIsOne : Type 0
 RecordIsOne = (p : Parameters) (c : Context) (bits : List Bool) (start : ℕ) (w x : Result Whole Fault) → IsWithinLimits p → ReadsRecord p c bits start w → ReadsRecord p c bits start x → w ≡ x
 

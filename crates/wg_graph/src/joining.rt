@@ -1,39 +1,40 @@
+//! A number joined to an ascending list.
 ghost use Rattle.std.specs.Prelude.{◌≡◌, ◌↔◌, ℕ, suc, ◌<◌, ◌≤◌, List as ListOf, [], ◌∷◌, ◌++◌, length, get_or, IfOk, IsTrue};
 ghost use Rattle.wg_graph.specs.Joined.{Joined};
 
 use crate::List;
 use std::alloc::AllocError;
 
-// Whether the member at this place is the number.
+// Whether the member with this index is the number.
 #[inline(always)]
-fn stands_at(members: &[u64], place: usize, number: u64) -> bool
-    ensures { IsTrue result ↔ ((place < length members.now) × (get_or members.now place 0 ≡ number)) }
+fn stands_at(members: &[u64], index: usize, number: u64) -> bool
+    ensures { IsTrue result ↔ ((index < length members.now) × (get_or members.now index 0 ≡ number)) }
 {
-    match members.get(place) {
+    match members.get(index) {
         Some(member) => *member == number,
         None => false,
     }
 }
 
-/// Adds to `out` the members from the place `from` on that are below the number, and the number; answers the place of
-/// the first member above it. So numbers that come one after the other, ascending, are joined to an ascending list; the
-/// members above the last are still to be added. All numbers together take one pass over the members.
+/// Adds to `out` the members from index `from` on that are below the number, and the number; answers how many members
+/// are not above it. So numbers that come one after the other, ascending, are joined to an ascending list; the members
+/// above the last are still to be added. All numbers together take one pass over the members.
 #[inline(always)]
 pub fn join(out: &mut List, members: &[u64], from: usize, number: u64) -> Result<usize, AllocError>
     requires { from ≤ length members.now }
     ensures within { IfOk result (λ to. to ≤ length members.now) }
     ensures joined { IfOk result (λ to. (numbers : ListOf ℕ) (m : ℕ) → m ≤ number → Joined members.now numbers from out.old m → Joined members.now (numbers ++ number ∷ []) to out.new (suc number)) }
 {
-    let mut place = from;
-    'below: while place < members.len() && members[place] < number {
-        out.push(members[place])?;
-        place += 1;
+    let mut taken = from;
+    'below: while taken < members.len() && members[taken] < number {
+        out.push(members[taken])?;
+        taken += 1;
     }
     out.push(number)?;
-    if stands_at(members, place, number) {
-        return Ok(place + 1);
+    if stands_at(members, taken, number) {
+        return Ok(taken + 1);
     }
-    Ok(place)
+    Ok(taken)
 }
 
 #[cfg(test)]

@@ -61,8 +61,8 @@ impl<'a> Members<'a> {
         Members { left: list }
     }
 
-    /// Whether the number is a member. From then on the answers are right for greater numbers alone. It goes on over the list,
-    /// so that all questions together take one pass.
+    /// Whether the number is a member. From then on the answers are right for greater numbers alone. It goes on over
+    /// the list, so that all questions together take one pass.
     #[inline(always)]
     pub fn has(&mut self, number: u64) -> bool
         ensures told { result ≡ is_in number self.old }

@@ -63,8 +63,8 @@ fn add_numbers(list: &mut List, run: Run) -> Result<(), AllocError>
     requires { run.left + run.length ≤ 2 ^ 64 }
     ensures { OnOk result (list.new ≡ list.old ++ numbers_of run) }
 {
-    for place in 0..run.length {
-        list.push(run.left + place)?;
+    for index in 0..run.length {
+        list.push(run.left + index)?;
     }
     Ok(())
 }

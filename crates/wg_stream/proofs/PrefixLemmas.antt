@@ -106,7 +106,7 @@ module _ (p : Parameters) (bits : List Bool) where
   all_stand arcs at kept behind h within e = (h.stood, behind, at, h.records, (h.count, e.tail, omega (arith, h.total, within, e.enough), refl, refl))
 
   pub end_refuses : (arcs at : ℕ) (kept : List Known) (behind : List Whole) (f : ArchiveFault) → PrefixRead p bits p.nodes arcs at kept behind → IsEndFault p.arcs arcs bits at f → ReadsGraph p bits (Err f)
-  end_refuses arcs at kept behind (faults.Tail place) h fault = (h.stood, behind, at, h.records, (h.count, fault))
+  end_refuses arcs at kept behind (faults.Tail offset) h fault = (h.stood, behind, at, h.records, (h.count, fault))
   end_refuses arcs at kept behind (faults.ArcsShort total) h fault = (h.stood, behind, at, h.records, (h.count, fault.0, fault.1 ∙ sym h.total, omega (arith, fault.1, fault.2)))
   end_refuses arcs at kept behind (faults.Record e) h fault = absurd fault
   end_refuses arcs at kept behind (faults.Offsets e) h fault = absurd fault

@@ -50,7 +50,7 @@ pub record IsEnded (promised arcs : ℕ) (bits : List Bool) (at : ℕ) : Type 0 
 
 -- after the records no tail stands, or there are too few arcs
 abbrev pub IsEndFault : ℕ → ℕ → List Bool → ℕ → ArchiveFault → Type 0
-IsEndFault promised arcs bits at (archive.Tail place) = IsTailFault bits at place
+IsEndFault promised arcs bits at (archive.Tail offset) = IsTailFault bits at offset
 IsEndFault promised arcs bits at (archive.ArcsShort total) = IsTail bits at × (total ≡ arcs) × (arcs < promised)
 IsEndFault promised arcs bits at (archive.Record f) = ⊥
 IsEndFault promised arcs bits at (archive.Offsets f) = ⊥

@@ -16,15 +16,15 @@ pub returns-in-None-clause-found : goal.returns-in-None-clause-found
 unfolding delta
 returns-in-None-clause-found c =
     low_cut gamma 62 (omega arith) _ _ _ c.in-Value.ensures.found.0
-    (rest_after gamma 62 _ _ _ c.in-Value.ensures.found c.in-Value.ensures.place) c.in-None.ensures.none.0
+    (rest_after gamma 62 _ _ _ c.in-Value.ensures.found c.in-Value.ensures.moves) c.in-None.ensures.none.0
 
 pub returns-in-Some-clause-found : goal.returns-in-Some-clause-found
 unfolding delta
 returns-in-Some-clause-found c =
     low_value gamma 62 (omega arith) _ _ _ _ _ c.in-Value.ensures.found.0
-    (rest_after gamma 62 _ _ _ c.in-Value.ensures.found c.in-Value.ensures.place) c.in-Some.ensures.some.0
+    (rest_after gamma 62 _ _ _ c.in-Value.ensures.found c.in-Value.ensures.moves) c.in-Some.ensures.some.0
 
-pub returns-in-Some-clause-place : goal.returns-in-Some-clause-place
+pub returns-in-Some-clause-moves : goal.returns-in-Some-clause-moves
 unfolding delta
-returns-in-Some-clause-place c =
-    low_place gamma _ _ _ _ _ c.in-Value.ensures.place c.in-Some.ensures.some.1 c.in-Some.ensures.some.0.place
+returns-in-Some-clause-moves c =
+    low_place gamma _ _ _ _ _ c.in-Value.ensures.moves c.in-Some.ensures.some.1 c.in-Some.ensures.some.0.index

@@ -7,22 +7,22 @@ use Rattle.wg_codes.proofs.Writing.{put_same, less_same, field_of, delta_put}
 use Rattle.wg_codes.proofs.delta.write.Goals as goal
 
 pub overflow_sub-v : goal.overflow_sub-v
-overflow_sub-v g c = (field_of c.args.v c.highest_one-place.result _ c.requires.value c.highest_one-place.ensures.place (one_shl c.highest_one-place.result 64 (omega arith))).0
+overflow_sub-v g c = (field_of c.args.v c.highest_one-index.result _ c.requires.value c.highest_one-index.ensures.index (one_shl c.highest_one-index.result 64 (omega arith))).0
 
 pub put-requires-clause-value : goal.put-requires-clause-value
-put-requires-clause-value g c = (field_of c.args.v c.highest_one-place.result _ c.requires.value c.highest_one-place.ensures.place (one_shl c.highest_one-place.result 64 (omega arith))).1
+put-requires-clause-value g c = (field_of c.args.v c.highest_one-index.result _ c.requires.value c.highest_one-index.ensures.index (one_shl c.highest_one-index.result 64 (omega arith))).1
 
 pub returns-clause-ok : goal.returns-clause-ok
 returns-clause-ok g c t =
     on_ok_weaker _
-    (λ put. put_same _ _ _ _ _ _ _ (delta_put c.args.v c.highest_one-place.result _ c.highest_one-place.ensures.place (field_of c.args.v c.highest_one-place.result _ c.requires.value c.highest_one-place.ensures.place (one_shl c.highest_one-place.result 64 (omega arith))).3)
+    (λ put. put_same _ _ _ _ _ _ _ (delta_put c.args.v c.highest_one-index.result _ c.highest_one-index.ensures.index (field_of c.args.v c.highest_one-index.result _ c.requires.value c.highest_one-index.ensures.index (one_shl c.highest_one-index.result 64 (omega arith))).3)
     (put_trans _ _ _ _ _ _ _ _ _ (c.in_ok-write.ensures.ok t) put))
     (c.put.ensures.ok t)
 
 pub returns-clause-err : goal.returns-clause-err
 returns-clause-err g c t =
     on_err_weaker _
-    (λ less. less_same _ _ _ _ _ _ (delta_put c.args.v c.highest_one-place.result _ c.highest_one-place.ensures.place (field_of c.args.v c.highest_one-place.result _ c.requires.value c.highest_one-place.ensures.place (one_shl c.highest_one-place.result 64 (omega arith))).3)
+    (λ less. less_same _ _ _ _ _ _ (delta_put c.args.v c.highest_one-index.result _ c.highest_one-index.ensures.index (field_of c.args.v c.highest_one-index.result _ c.requires.value c.highest_one-index.ensures.index (one_shl c.highest_one-index.result 64 (omega arith))).3)
     (put_then_less _ _ _ _ _ _ _ _ (c.in_ok-write.ensures.ok t) less))
     (c.put.ensures.err t)
 
@@ -31,5 +31,5 @@ returns-in_err-write-clause-err g c t =
     let p = err_from_is_err_and c.from_residual.result c.from_residual.ensures.1 in
     rw p.1
     (less_same _ _ _ _ _ _
-    (delta_put c.args.v c.highest_one-place.result (c.args.v + 1) c.highest_one-place.ensures.place (ap (λ k. low_bits k (c.args.v + 1)) c.highest_one-place.ensures.place))
+    (delta_put c.args.v c.highest_one-index.result (c.args.v + 1) c.highest_one-index.ensures.index (ap (λ k. low_bits k (c.args.v + 1)) c.highest_one-index.ensures.index))
     (put_less_more _ _ _ _ _ _ (c.in_err-write.ensures.err t)))

@@ -15,15 +15,15 @@ pub returns-in-None-clause-found : goal.returns-in-None-clause-found
 unfolding gamma
 returns-in-None-clause-found c =
     low_cut unary c.args.most c.requires _ _ _ c.in-Value.ensures.found.0
-    (rest_after unary c.args.most _ _ _ c.in-Value.ensures.found c.in-Value.ensures.place) c.in-None.ensures.none.0
+    (rest_after unary c.args.most _ _ _ c.in-Value.ensures.found c.in-Value.ensures.moves) c.in-None.ensures.none.0
 
 pub returns-in-Some-clause-found : goal.returns-in-Some-clause-found
 unfolding gamma
 returns-in-Some-clause-found c =
     low_value unary c.args.most c.requires _ _ _ _ _ c.in-Value.ensures.found.0
-    (rest_after unary c.args.most _ _ _ c.in-Value.ensures.found c.in-Value.ensures.place) c.in-Some.ensures.some.0
+    (rest_after unary c.args.most _ _ _ c.in-Value.ensures.found c.in-Value.ensures.moves) c.in-Some.ensures.some.0
 
-pub returns-in-Some-clause-place : goal.returns-in-Some-clause-place
+pub returns-in-Some-clause-moves : goal.returns-in-Some-clause-moves
 unfolding gamma
-returns-in-Some-clause-place c =
-    low_place unary _ _ _ _ _ c.in-Value.ensures.place c.in-Some.ensures.some.1 c.in-Some.ensures.some.0.place
+returns-in-Some-clause-moves c =
+    low_place unary _ _ _ _ _ c.in-Value.ensures.moves c.in-Some.ensures.some.1 c.in-Some.ensures.some.0.index

@@ -1,5 +1,5 @@
 use Rattle.wg_codes.proofs.Lengths.{highest_value}
 use Rattle.wg_codes.proofs.headed.highest_one.Goals as goal
 
-pub returns-clause-place : goal.returns-clause-place
-returns-clause-place c = highest_value c.args.y _ c.saturating_sub.ensures
+pub returns-clause-index : goal.returns-clause-index
+returns-clause-index c = highest_value c.args.y _ c.saturating_sub.ensures

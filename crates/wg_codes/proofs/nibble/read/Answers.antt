@@ -8,7 +8,7 @@ loop-digit-init c = record {
   few = omega arith;
   lead = open_none;
   digits = nothing_read c.args.cursor.now;
-  place = nothing_moved c.args.cursor.now;
+  moves = nothing_moved c.args.cursor.now;
 }
 
 pub returns-in_default-clause-found : goal.returns-in_default-clause-found
@@ -42,10 +42,10 @@ returns-then-last-clause-found c =
     nibble_value c.loop-digit.digit c.loop-digit.value c.in-Some-take.next _ _ _ _ c.in-Some.last c.loop-digit.invariant.few c.loop-digit.invariant.lead
     c.in-Some-take.ensures.some.0 c.if-last.true c.loop-digit.invariant.digits c.in-Some.ensures.some.0 c.in-Some-take.ensures.some.1
 
-pub returns-then-last-clause-place : goal.returns-then-last-clause-place
-returns-then-last-clause-place c =
+pub returns-then-last-clause-moves : goal.returns-then-last-clause-moves
+returns-then-last-clause-moves c =
     nibble_place c.loop-digit.digit c.loop-digit.value c.in-Some-take.next _ _ _ _ c.loop-digit.invariant.few c.loop-digit.invariant.lead
-    c.in-Some-take.ensures.some.0 c.loop-digit.invariant.place c.in-Some.ensures.some.1 c.in-Some-take.ensures.some.2
+    c.in-Some-take.ensures.some.0 c.loop-digit.invariant.moves c.in-Some.ensures.some.1 c.in-Some-take.ensures.some.2
 
 pub returns-then-value-eq0-clause-found : goal.returns-then-value-eq0-clause-found
 returns-then-value-eq0-clause-found c =
@@ -64,5 +64,5 @@ loop-digit-preserved c =
       lead = open_next c.loop-digit.digit c.loop-digit.value c.in-Some-take.next c.loop-digit.invariant.lead c.in-Some-take.ensures.some.0 (λ e. omega arith);
       digits = open_step c.loop-digit.digit c.loop-digit.value c.in-Some-take.next _ _ _ _ c.in-Some.last c.in-Some-take.ensures.some.0 c.if-last.false
           c.loop-digit.invariant.digits c.in-Some.ensures.some.0 c.in-Some-take.ensures.some.1;
-      place = digit_place c.loop-digit.digit _ _ _ _ c.loop-digit.invariant.place c.in-Some.ensures.some.1 c.in-Some-take.ensures.some.2;
+      moves = digit_place c.loop-digit.digit _ _ _ _ c.loop-digit.invariant.moves c.in-Some.ensures.some.1 c.in-Some-take.ensures.some.2;
     }

@@ -8,5 +8,5 @@ invariant-loop-digit l = record {
   few : l.digit ≤ 20;
   lead : IsOpen l.digit l.value;
   digits : rest l.fn.cursor ≡ open_digits l.digit l.value ++ rest l.cursor;
-  place : l.cursor ≡ moved l.fn.cursor (4 * l.digit);
+  moves : l.cursor ≡ moved l.fn.cursor (4 * l.digit);
 }

@@ -10,10 +10,10 @@ use Rattle.wg_codes.proofs.nibble.write.Goals as goal
 pub loop-more-init : goal.loop-more-init
 loop-more-init g c = record {
   small = let s = c.highest_one-more.ensures.small in omega arith;
-  within = let p = c.highest_one-more.ensures.place in omega arith;
+  within = let p = c.highest_one-more.ensures.index in omega arith;
   ready = c.requires.ready;
   put = λ t. put_kept _ _ c.args.writer.now.bits _ _
-      (sym (ap (λ z. c.args.writer.now.bits ++ z) (nothing_opened c.args.v _ (let p = c.highest_one-more.ensures.place in omega arith)) ∙ append-nil c.args.writer.now.bits));
+      (sym (ap (λ z. c.args.writer.now.bits ++ z) (nothing_opened c.args.v _ (let p = c.highest_one-more.ensures.index in omega arith)) ∙ append-nil c.args.writer.now.bits));
   later = none_falls-refl _;
 }
 

@@ -9,5 +9,5 @@ pub returns-then-zeros-remaining-clause-found : goal.returns-then-zeros-remainin
 returns-then-zeros-remaining-clause-found c =
     unary_found _ c.peek.result _ c.args.most c.peek.type_inv refl (omega arith) (omega arith) (front_agrees _ _ c.peek.ensures) (omega arith)
 
-pub returns-then-zeros-remaining-clause-place : goal.returns-then-zeros-remaining-clause-place
-returns-then-zeros-remaining-clause-place c = c.advance.ensures ∙ ap (moved c.args.cursor.now) (sym (length-unary _))
+pub returns-then-zeros-remaining-clause-moves : goal.returns-then-zeros-remaining-clause-moves
+returns-then-zeros-remaining-clause-moves c = c.advance.ensures ∙ ap (moved c.args.cursor.now) (sym (length-unary _))

@@ -13,5 +13,5 @@ returns-in-Some-clause-found c =
     unary_value c.args.most c.zeros-zeros.result _ _ _ _ c.if-zeros-most.false c.zeros-zeros.ensures.zeros
     (c.zeros-zeros.ensures.stops (omega arith)) c.in-Some.ensures.some.0
 
-pub returns-in-Some-clause-place : goal.returns-in-Some-clause-place
-returns-in-Some-clause-place c = unary_place c.args.cursor.now _ _ c.zeros-zeros.result c.zeros-zeros.ensures.place c.in-Some.ensures.some.1
+pub returns-in-Some-clause-moves : goal.returns-in-Some-clause-moves
+returns-in-Some-clause-moves c = unary_place c.args.cursor.now _ _ c.zeros-zeros.result c.zeros-zeros.ensures.offset c.in-Some.ensures.some.1

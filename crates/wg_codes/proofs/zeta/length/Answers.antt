@@ -6,14 +6,14 @@ use Rattle.wg_codes.proofs.zeta.length.Goals as goal
 
 pub overflow_sub-v : goal.overflow_sub-v
 overflow_sub-v c =
-    let r = head_room c.args.k c.args.v c.over-head.result c.requires.k.0 c.requires.k.1 c.requires.value (c.over-head.ensures ∙ ap (λ m. m / c.args.k) c.highest_one.ensures.place) in
+    let r = head_room c.args.k c.args.v c.over-head.result c.requires.k.0 c.requires.k.1 c.requires.value (c.over-head.ensures ∙ ap (λ m. m / c.args.k) c.highest_one.ensures.index) in
     let e = least_is c.args.k c.over-head.result c.requires.k.0 r.0 in
     subst (λ m. m ≤ c.args.v + 1) (sym e) r.1
 
 pub returns-then-v-least : goal.returns-then-v-least
 returns-then-v-least c =
     let h : ℕ = c.over-head.result in
-    let eh : c.over-head.result ≡ highest (c.args.v + 1) / c.args.k = c.over-head.ensures ∙ ap (λ m. m / c.args.k) c.highest_one.ensures.place in
+    let eh : c.over-head.result ≡ highest (c.args.v + 1) / c.args.k = c.over-head.ensures ∙ ap (λ m. m / c.args.k) c.highest_one.ensures.index in
     let r = head_room c.args.k c.args.v c.over-head.result c.requires.k.0 c.requires.k.1 c.requires.value eh in
     let e : (1 * 2 ^ (c.over-head.result * c.args.k)) % 2 ^ 64 ≡ 2 ^ (c.over-head.result * c.args.k) = least_is c.args.k c.over-head.result c.requires.k.0 r.0 in
     let some : 1 ≤ c.args.k = c.requires.k.0 in
@@ -24,7 +24,7 @@ returns-then-v-least c =
 pub returns-else-v-least : goal.returns-else-v-least
 returns-else-v-least c =
     let h : ℕ = c.over-head.result in
-    let eh : c.over-head.result ≡ highest (c.args.v + 1) / c.args.k = c.over-head.ensures ∙ ap (λ m. m / c.args.k) c.highest_one.ensures.place in
+    let eh : c.over-head.result ≡ highest (c.args.v + 1) / c.args.k = c.over-head.ensures ∙ ap (λ m. m / c.args.k) c.highest_one.ensures.index in
     let r = head_room c.args.k c.args.v c.over-head.result c.requires.k.0 c.requires.k.1 c.requires.value eh in
     let e : (1 * 2 ^ (c.over-head.result * c.args.k)) % 2 ^ 64 ≡ 2 ^ (c.over-head.result * c.args.k) = least_is c.args.k c.over-head.result c.requires.k.0 r.0 in
     let some : 1 ≤ c.args.k = c.requires.k.0 in

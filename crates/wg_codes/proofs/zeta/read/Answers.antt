@@ -15,8 +15,8 @@ pub returns-then-head-width-clause-found : goal.returns-then-head-width-clause-f
 returns-then-head-width-clause-found c =
     (window_short _ c.args.k c.peek-word.result (count_leading_zeros 64 c.peek-word.result) _ _ _ c.requires.0 c.requires.1 c.peek-word.type_inv refl (omega arith) (least_is c.args.k (count_leading_zeros 64 c.peek-word.result) c.requires.0 (omega arith)) (one_shl ((count_leading_zeros 64 c.peek-word.result) * c.args.k + c.args.k - 1) 64 (omega arith)) refl c.if-low-least.true (front_agrees _ _ c.peek-word.ensures) (omega arith)).0
 
-pub returns-then-head-width-clause-place : goal.returns-then-head-width-clause-place
-returns-then-head-width-clause-place c =
+pub returns-then-head-width-clause-moves : goal.returns-then-head-width-clause-moves
+returns-then-head-width-clause-moves c =
     c.advance.ensures ∙ ap (moved c.args.cursor.now)
     (window_short _ c.args.k c.peek-word.result (count_leading_zeros 64 c.peek-word.result) _ _ _ c.requires.0 c.requires.1 c.peek-word.type_inv refl (omega arith) (least_is c.args.k (count_leading_zeros 64 c.peek-word.result) c.requires.0 (omega arith)) (one_shl ((count_leading_zeros 64 c.peek-word.result) * c.args.k + c.args.k - 1) 64 (omega arith)) refl c.if-low-least.true (front_agrees _ _ c.peek-word.ensures) (omega arith)).1
 
@@ -36,7 +36,7 @@ pub returns-then-head-width-2-clause-found : goal.returns-then-head-width-2-clau
 returns-then-head-width-2-clause-found c =
     (window_long _ c.args.k c.peek-word.result (count_leading_zeros 64 c.peek-word.result) _ _ _ c.requires.0 c.requires.1 c.peek-word.type_inv refl (omega arith) (least_is c.args.k (count_leading_zeros 64 c.peek-word.result) c.requires.0 (omega arith)) (one_shl ((count_leading_zeros 64 c.peek-word.result) * c.args.k + c.args.k - 1) 64 (omega arith)) refl c.if-low-least.false (front_agrees _ _ c.peek-word.ensures) (omega arith)).0
 
-pub returns-then-head-width-2-clause-place : goal.returns-then-head-width-2-clause-place
-returns-then-head-width-2-clause-place c =
+pub returns-then-head-width-2-clause-moves : goal.returns-then-head-width-2-clause-moves
+returns-then-head-width-2-clause-moves c =
     c.advance-then-head-width-2.ensures ∙ ap (moved c.args.cursor.now)
     (window_long _ c.args.k c.peek-word.result (count_leading_zeros 64 c.peek-word.result) _ _ _ c.requires.0 c.requires.1 c.peek-word.type_inv refl (omega arith) (least_is c.args.k (count_leading_zeros 64 c.peek-word.result) c.requires.0 (omega arith)) (one_shl ((count_leading_zeros 64 c.peek-word.result) * c.args.k + c.args.k - 1) 64 (omega arith)) refl c.if-low-least.false (front_agrees _ _ c.peek-word.ensures) (omega arith)).1

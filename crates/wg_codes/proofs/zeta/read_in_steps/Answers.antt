@@ -12,13 +12,13 @@ returns-in-NoWord-clause-found c = zeta_head_none c.args.k c.requires.0 c.requir
 pub returns-in-None-clause-found : goal.returns-in-None-clause-found
 returns-in-None-clause-found c =
     zeta_cut c.args.k c.requires.0 c.requires.1 _ _ _ c.in-Value.ensures.found.0
-    (rest_after unary _ _ _ _ c.in-Value.ensures.found c.in-Value.ensures.place) c.in-None.ensures.none.0
+    (rest_after unary _ _ _ _ c.in-Value.ensures.found c.in-Value.ensures.moves) c.in-None.ensures.none.0
 
 pub returns-in-Some-clause-found : goal.returns-in-Some-clause-found
 returns-in-Some-clause-found c =
     zeta_value c.args.k c.requires.0 c.requires.1 _ _ _ _ _ c.in-Value.ensures.found.0
-    (rest_after unary _ _ _ _ c.in-Value.ensures.found c.in-Value.ensures.place) c.in-Some.ensures.some.0
+    (rest_after unary _ _ _ _ c.in-Value.ensures.found c.in-Value.ensures.moves) c.in-Some.ensures.some.0
 
-pub returns-in-Some-clause-place : goal.returns-in-Some-clause-place
-returns-in-Some-clause-place c =
-    zeta_place c.args.k _ _ _ _ _ c.in-Value.ensures.place c.in-Some.ensures.some.1 c.in-Some.ensures.some.0.place
+pub returns-in-Some-clause-moves : goal.returns-in-Some-clause-moves
+returns-in-Some-clause-moves c =
+    zeta_place c.args.k _ _ _ _ _ c.in-Value.ensures.moves c.in-Some.ensures.some.1 c.in-Some.ensures.some.0.index

@@ -46,7 +46,7 @@ returns-in-None-take-clause-none c =
     let fits = room c.args.k c.args.head c.requires.head in
     let e : (1 * 2 ^ (c.args.head * c.args.k)) % 2 ^ 64 ≡ 2 ^ (c.args.head * c.args.k) = least_is c.args.k c.args.head c.requires.k.0 fits in (
       tail_cut_late c.args.k c.args.head c.in-Some.low _ _ c.requires.k.0 fits c.in-Some.ensures.some.0 (omega arith) c.in-Some.ensures.some.1 c.in-None-take.ensures.none.0,
-      restored c.args.cursor.now _ _ _ _ _ c.in-Some.ensures.some.2 c.in-None-take.ensures.none.1 c.at-start.ensures.place c.seek_back.ensures,
+      restored c.args.cursor.now _ _ _ _ _ c.in-Some.ensures.some.2 c.in-None-take.ensures.none.1 c.at-start.ensures.offset c.seek_back.ensures,
     )
 
 pub returns-in-Some-take-clause-some : goal.returns-in-Some-take-clause-some

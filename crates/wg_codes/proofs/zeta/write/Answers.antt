@@ -5,41 +5,41 @@ use Rattle.wg_codes.proofs.Writing.{put_same, less_same}
 use Rattle.wg_codes.proofs.zeta.write.Goals as goal
 
 pub overflow_sub-v : goal.overflow_sub-v
-overflow_sub-v g c = (zeta_field c.args.k c.args.v c.over-head.result c.requires.k.0 c.requires.k.1 c.requires.value (c.over-head.ensures ∙ ap (λ m. m / c.args.k) c.highest_one.ensures.place)).0
+overflow_sub-v g c = (zeta_field c.args.k c.args.v c.over-head.result c.requires.k.0 c.requires.k.1 c.requires.value (c.over-head.ensures ∙ ap (λ m. m / c.args.k) c.highest_one.ensures.index)).0
 
 pub overflow_sub-v-then-v-least : goal.overflow_sub-v-then-v-least
-overflow_sub-v-then-v-least g c = (zeta_field c.args.k c.args.v c.over-head.result c.requires.k.0 c.requires.k.1 c.requires.value (c.over-head.ensures ∙ ap (λ m. m / c.args.k) c.highest_one.ensures.place)).0
+overflow_sub-v-then-v-least g c = (zeta_field c.args.k c.args.v c.over-head.result c.requires.k.0 c.requires.k.1 c.requires.value (c.over-head.ensures ∙ ap (λ m. m / c.args.k) c.highest_one.ensures.index)).0
 
 pub put_headed-requires-clause-width : goal.put_headed-requires-clause-width
-put_headed-requires-clause-width g c = let z = zeta_field c.args.k c.args.v c.over-head.result c.requires.k.0 c.requires.k.1 c.requires.value (c.over-head.ensures ∙ ap (λ m. m / c.args.k) c.highest_one.ensures.place) in omega (arith, z.1)
+put_headed-requires-clause-width g c = let z = zeta_field c.args.k c.args.v c.over-head.result c.requires.k.0 c.requires.k.1 c.requires.value (c.over-head.ensures ∙ ap (λ m. m / c.args.k) c.highest_one.ensures.index) in omega (arith, z.1)
 
 pub put_headed-requires-clause-field : goal.put_headed-requires-clause-field
 put_headed-requires-clause-field g c =
-    let z = zeta_field c.args.k c.args.v c.over-head.result c.requires.k.0 c.requires.k.1 c.requires.value (c.over-head.ensures ∙ ap (λ m. m / c.args.k) c.highest_one.ensures.place) in (z.2 c.if-v-least.true).0
+    let z = zeta_field c.args.k c.args.v c.over-head.result c.requires.k.0 c.requires.k.1 c.requires.value (c.over-head.ensures ∙ ap (λ m. m / c.args.k) c.highest_one.ensures.index) in (z.2 c.if-v-least.true).0
 
 pub put_headed-requires-else-v-least-clause-width : goal.put_headed-requires-else-v-least-clause-width
-put_headed-requires-else-v-least-clause-width g c = (zeta_field c.args.k c.args.v c.over-head.result c.requires.k.0 c.requires.k.1 c.requires.value (c.over-head.ensures ∙ ap (λ m. m / c.args.k) c.highest_one.ensures.place)).1
+put_headed-requires-else-v-least-clause-width g c = (zeta_field c.args.k c.args.v c.over-head.result c.requires.k.0 c.requires.k.1 c.requires.value (c.over-head.ensures ∙ ap (λ m. m / c.args.k) c.highest_one.ensures.index)).1
 
 pub put_headed-requires-else-v-least-clause-field : goal.put_headed-requires-else-v-least-clause-field
 put_headed-requires-else-v-least-clause-field g c =
-    let z = zeta_field c.args.k c.args.v c.over-head.result c.requires.k.0 c.requires.k.1 c.requires.value (c.over-head.ensures ∙ ap (λ m. m / c.args.k) c.highest_one.ensures.place) in (z.3 c.if-v-least.false).0
+    let z = zeta_field c.args.k c.args.v c.over-head.result c.requires.k.0 c.requires.k.1 c.requires.value (c.over-head.ensures ∙ ap (λ m. m / c.args.k) c.highest_one.ensures.index) in (z.3 c.if-v-least.false).0
 
 pub returns-then-v-least-clause-ok : goal.returns-then-v-least-clause-ok
 returns-then-v-least-clause-ok g c t =
-    let z = zeta_field c.args.k c.args.v c.over-head.result c.requires.k.0 c.requires.k.1 c.requires.value (c.over-head.ensures ∙ ap (λ m. m / c.args.k) c.highest_one.ensures.place) in
+    let z = zeta_field c.args.k c.args.v c.over-head.result c.requires.k.0 c.requires.k.1 c.requires.value (c.over-head.ensures ∙ ap (λ m. m / c.args.k) c.highest_one.ensures.index) in
     on_ok_weaker _ (put_same _ _ _ _ _ _ _ (z.2 c.if-v-least.true).1) (c.put_headed.ensures.ok t)
 
 pub returns-then-v-least-clause-err : goal.returns-then-v-least-clause-err
 returns-then-v-least-clause-err g c t =
-    let z = zeta_field c.args.k c.args.v c.over-head.result c.requires.k.0 c.requires.k.1 c.requires.value (c.over-head.ensures ∙ ap (λ m. m / c.args.k) c.highest_one.ensures.place) in
+    let z = zeta_field c.args.k c.args.v c.over-head.result c.requires.k.0 c.requires.k.1 c.requires.value (c.over-head.ensures ∙ ap (λ m. m / c.args.k) c.highest_one.ensures.index) in
     on_err_weaker _ (less_same _ _ _ _ _ _ (z.2 c.if-v-least.true).1) (c.put_headed.ensures.err t)
 
 pub returns-else-v-least-clause-ok : goal.returns-else-v-least-clause-ok
 returns-else-v-least-clause-ok g c t =
-    let z = zeta_field c.args.k c.args.v c.over-head.result c.requires.k.0 c.requires.k.1 c.requires.value (c.over-head.ensures ∙ ap (λ m. m / c.args.k) c.highest_one.ensures.place) in
+    let z = zeta_field c.args.k c.args.v c.over-head.result c.requires.k.0 c.requires.k.1 c.requires.value (c.over-head.ensures ∙ ap (λ m. m / c.args.k) c.highest_one.ensures.index) in
     on_ok_weaker _ (put_same _ _ _ _ _ _ _ (z.3 c.if-v-least.false).1) (c.put_headed-else-v-least.ensures.ok t)
 
 pub returns-else-v-least-clause-err : goal.returns-else-v-least-clause-err
 returns-else-v-least-clause-err g c t =
-    let z = zeta_field c.args.k c.args.v c.over-head.result c.requires.k.0 c.requires.k.1 c.requires.value (c.over-head.ensures ∙ ap (λ m. m / c.args.k) c.highest_one.ensures.place) in
+    let z = zeta_field c.args.k c.args.v c.over-head.result c.requires.k.0 c.requires.k.1 c.requires.value (c.over-head.ensures ∙ ap (λ m. m / c.args.k) c.highest_one.ensures.index) in
     on_err_weaker _ (less_same _ _ _ _ _ _ (z.3 c.if-v-least.false).1) (c.put_headed-else-v-least.ensures.err t)

@@ -7,8 +7,8 @@ use Rattle.wg_encoder.specs.InMemory.{AreLowRuns}
 use Rattle.wg_encoder.proofs.Adding.{Reaching}
 use Rattle.wg_encoder.proofs.parts.add_intervals.Given as goal
 
-abbrev pub invariant-loop-place : goal.invariant-loop-place
-invariant-loop-place l = record {
-  low : AreLowRuns (drop (2 * l.place) l.ends);
-  reaching : (runs : List Run) → l.ends ≡ ends_and_lengths runs → Reaching l.page l.least (l.fn.fields ++ interval_fields l.page l.least None runs) (drop (2 * l.place) l.ends) l.past l.fields;
+abbrev pub invariant-loop-index : goal.invariant-loop-index
+invariant-loop-index l = record {
+  low : AreLowRuns (drop (2 * l.index) l.ends);
+  reaching : (runs : List Run) → l.ends ≡ ends_and_lengths runs → Reaching l.page l.least (l.fn.fields ++ interval_fields l.page l.least None runs) (drop (2 * l.index) l.ends) l.past l.fields;
 }
