@@ -95,13 +95,13 @@ one_word text some =
 pub first_none : (text bare : List ℕ) (end : ℕ) → bare ≡ without_blanks_before text → end ≡ length (before_first is_blank bare) → length (take end bare) ≡ 0 → words_of text ≡ []
 unfolding without_blanks_before
 first_none text bare end is at none =
-    let place : end ≡ position_or_len is_blank bare = at ∙ length-prefix_len (λ (b : ℕ). not (is_blank b)) bare in
-    sym (words_after_blanks text) ∙ ap words_of (sym is) ∙ no_words bare (subst Begins (sym is) (begins text)) (subst (λ (n : ℕ). length (take n bare) ≡ 0) place none)
+    let stands : end ≡ position_or_len is_blank bare = at ∙ length-prefix_len (λ (b : ℕ). not (is_blank b)) bare in
+    sym (words_after_blanks text) ∙ ap words_of (sym is) ∙ no_words bare (subst Begins (sym is) (begins text)) (subst (λ (n : ℕ). length (take n bare) ≡ 0) stands none)
 
 pub first_some : (text bare : List ℕ) (end : ℕ) → bare ≡ without_blanks_before text → end ≡ length (before_first is_blank bare) → 0 < length (take end bare) →
     words_of text ≡ take end bare ∷ words_of (take (length bare - end) (drop end bare))
 unfolding without_blanks_before
 first_some text bare end is at some =
-    let place : end ≡ position_or_len is_blank bare = at ∙ length-prefix_len (λ (b : ℕ). not (is_blank b)) bare in
-    let words : words_of bare ≡ take end bare ∷ words_of (drop end bare) = rw place (one_word bare (subst (λ (n : ℕ). 0 < length (take n bare)) place some)) in
+    let stands : end ≡ position_or_len is_blank bare = at ∙ length-prefix_len (λ (b : ℕ). not (is_blank b)) bare in
+    let words : words_of bare ≡ take end bare ∷ words_of (drop end bare) = rw stands (one_word bare (subst (λ (n : ℕ). 0 < length (take n bare)) stands some)) in
     sym (words_after_blanks text) ∙ ap words_of (sym is) ∙ words ∙ ap (λ (l : List ℕ). take end bare ∷ words_of l) (sym (take_rest bare end))

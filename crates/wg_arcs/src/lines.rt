@@ -1,5 +1,5 @@
 ghost use Rattle.std.specs.Prelude.{◌≡◌, ℕ, ◌+◌, ◌<◌, ◌≤◌, [], ◌∷◌, ◌++◌, length, take, codes, decimal, IsTrue, IsErrOf, OnOk};
-ghost use Rattle.wg_io.specs.Outside.{Rose};
+ghost use Rattle.wg_io.specs.Outside.{Increased};
 ghost use Rattle.wg_io.specs.Puts.{Puts};
 ghost use Rattle.wg_arcs.specs.Printing.{Prints};
 ghost use Rattle.wg_arcs.specs.Text.{arc_line};
@@ -100,8 +100,8 @@ impl Lines {
     fn make_room<S: Sink>(&mut self, sink: &mut S) -> Result<(), WriteError>
         ensures room { OnOk result (length self.new + MOST_PIECE ≤ BUFFER) }
         ensures prints { IsTrue S.told → Prints [] (S.taken sink.old) (S.taken sink.new) self.old self.new result }
-        ensures failed { IsErrOf result WriteError.Failed → Rose (S.faults sink.old) (S.faults sink.new) }
-        ensures memory { IsErrOf result WriteError.Memory → Rose (S.wants sink.old) (S.wants sink.new) }
+        ensures failed { IsErrOf result WriteError.Failed → Increased (S.faults sink.old) (S.faults sink.new) }
+        ensures memory { IsErrOf result WriteError.Memory → Increased (S.wants sink.old) (S.wants sink.new) }
         ensures later { (S.faults sink.old ≤ S.faults sink.new) × (S.wants sink.old ≤ S.wants sink.new) }
     {
         if self.len() + MOST_PIECE <= BUFFER {
@@ -114,8 +114,8 @@ impl Lines {
     #[inline(always)]
     pub fn number<S: Sink>(&mut self, sink: &mut S, number: u64) -> Result<(), WriteError>
         ensures prints { IsTrue S.told → Prints (decimal number) (S.taken sink.old) (S.taken sink.new) self.old self.new result }
-        ensures failed { IsErrOf result WriteError.Failed → Rose (S.faults sink.old) (S.faults sink.new) }
-        ensures memory { IsErrOf result WriteError.Memory → Rose (S.wants sink.old) (S.wants sink.new) }
+        ensures failed { IsErrOf result WriteError.Failed → Increased (S.faults sink.old) (S.faults sink.new) }
+        ensures memory { IsErrOf result WriteError.Memory → Increased (S.wants sink.old) (S.wants sink.new) }
         ensures later { (S.faults sink.old ≤ S.faults sink.new) × (S.wants sink.old ≤ S.wants sink.new) }
     {
         match self.make_room(sink) {
@@ -130,8 +130,8 @@ impl Lines {
     /// Prints a byte.
     pub fn byte<S: Sink>(&mut self, sink: &mut S, byte: u8) -> Result<(), WriteError>
         ensures prints { IsTrue S.told → Prints (byte ∷ []) (S.taken sink.old) (S.taken sink.new) self.old self.new result }
-        ensures failed { IsErrOf result WriteError.Failed → Rose (S.faults sink.old) (S.faults sink.new) }
-        ensures memory { IsErrOf result WriteError.Memory → Rose (S.wants sink.old) (S.wants sink.new) }
+        ensures failed { IsErrOf result WriteError.Failed → Increased (S.faults sink.old) (S.faults sink.new) }
+        ensures memory { IsErrOf result WriteError.Memory → Increased (S.wants sink.old) (S.wants sink.new) }
         ensures later { (S.faults sink.old ≤ S.faults sink.new) × (S.wants sink.old ≤ S.wants sink.new) }
     {
         match self.make_room(sink) {
@@ -147,8 +147,8 @@ impl Lines {
     pub fn text<S: Sink>(&mut self, sink: &mut S, text: &[u8]) -> Result<(), WriteError>
         requires { length text.now ≤ MOST_PIECE }
         ensures prints { IsTrue S.told → Prints text.now (S.taken sink.old) (S.taken sink.new) self.old self.new result }
-        ensures failed { IsErrOf result WriteError.Failed → Rose (S.faults sink.old) (S.faults sink.new) }
-        ensures memory { IsErrOf result WriteError.Memory → Rose (S.wants sink.old) (S.wants sink.new) }
+        ensures failed { IsErrOf result WriteError.Failed → Increased (S.faults sink.old) (S.faults sink.new) }
+        ensures memory { IsErrOf result WriteError.Memory → Increased (S.wants sink.old) (S.wants sink.new) }
         ensures later { (S.faults sink.old ≤ S.faults sink.new) × (S.wants sink.old ≤ S.wants sink.new) }
     {
         match self.make_room(sink) {
@@ -164,8 +164,8 @@ impl Lines {
     #[inline(always)]
     pub fn arc<S: Sink>(&mut self, sink: &mut S, from: u64, to: u64) -> Result<(), WriteError>
         ensures prints { IsTrue S.told → Prints (arc_line (from, to)) (S.taken sink.old) (S.taken sink.new) self.old self.new result }
-        ensures failed { IsErrOf result WriteError.Failed → Rose (S.faults sink.old) (S.faults sink.new) }
-        ensures memory { IsErrOf result WriteError.Memory → Rose (S.wants sink.old) (S.wants sink.new) }
+        ensures failed { IsErrOf result WriteError.Failed → Increased (S.faults sink.old) (S.faults sink.new) }
+        ensures memory { IsErrOf result WriteError.Memory → Increased (S.wants sink.old) (S.wants sink.new) }
         ensures later { (S.faults sink.old ≤ S.faults sink.new) × (S.wants sink.old ≤ S.wants sink.new) }
     {
         match self.make_room(sink) {
@@ -188,8 +188,8 @@ impl Lines {
     ) -> Result<(), WriteError>
         requires { count ≤ MOST_START }
         ensures prints { IsTrue S.told → (from : ℕ) → take count start.now ≡ decimal from ++ codes " " → Prints (arc_line (from, to)) (S.taken sink.old) (S.taken sink.new) self.old self.new result }
-        ensures failed { IsErrOf result WriteError.Failed → Rose (S.faults sink.old) (S.faults sink.new) }
-        ensures memory { IsErrOf result WriteError.Memory → Rose (S.wants sink.old) (S.wants sink.new) }
+        ensures failed { IsErrOf result WriteError.Failed → Increased (S.faults sink.old) (S.faults sink.new) }
+        ensures memory { IsErrOf result WriteError.Memory → Increased (S.wants sink.old) (S.wants sink.new) }
         ensures later { (S.faults sink.old ≤ S.faults sink.new) × (S.wants sink.old ≤ S.wants sink.new) }
     {
         match self.make_room(sink) {
@@ -239,8 +239,8 @@ impl Lines {
     pub fn flush<S: Sink>(&mut self, sink: &mut S) -> Result<(), WriteError>
         ensures puts { IsTrue S.told → Puts self.old (S.taken sink.old) (S.taken sink.new) result }
         ensures empty { self.new ≡ [] }
-        ensures failed { IsErrOf result WriteError.Failed → Rose (S.faults sink.old) (S.faults sink.new) }
-        ensures memory { IsErrOf result WriteError.Memory → Rose (S.wants sink.old) (S.wants sink.new) }
+        ensures failed { IsErrOf result WriteError.Failed → Increased (S.faults sink.old) (S.faults sink.new) }
+        ensures memory { IsErrOf result WriteError.Memory → Increased (S.wants sink.old) (S.wants sink.new) }
         ensures later { (S.faults sink.old ≤ S.faults sink.new) × (S.wants sink.old ≤ S.wants sink.new) }
     {
         let len = self.len;

@@ -1,5 +1,5 @@
 ghost use Rattle.std.specs.Prelude.{◌≡◌, ◌≤◌, ◌++◌, map, take, codes, decimal, IsTrue, IsErrOf};
-ghost use Rattle.wg_io.specs.Outside.{Rose};
+ghost use Rattle.wg_io.specs.Outside.{Increased};
 ghost use Rattle.wg_io.specs.Puts.{Puts};
 ghost use Rattle.wg_arcs.specs.Printing.{Prints};
 ghost use Rattle.wg_arcs.specs.declared.lines.TheConstants.{MOST_START};
@@ -29,8 +29,8 @@ fn print_list<S: Sink>(
     list: &[u64],
 ) -> Result<(), WriteError>
     ensures prints { IsTrue S.told → Prints (text_of_arcs (map (λ v. (page, v)) list.now)) (S.taken sink.old) (S.taken sink.new) lines.old lines.new result }
-    ensures failed { IsErrOf result WriteError.Failed → Rose (S.faults sink.old) (S.faults sink.new) }
-    ensures memory { IsErrOf result WriteError.Memory → Rose (S.wants sink.old) (S.wants sink.new) }
+    ensures failed { IsErrOf result WriteError.Failed → Increased (S.faults sink.old) (S.faults sink.new) }
+    ensures memory { IsErrOf result WriteError.Memory → Increased (S.wants sink.old) (S.wants sink.new) }
     ensures later { (S.faults sink.old ≤ S.faults sink.new) × (S.wants sink.old ≤ S.wants sink.new) }
 {
     let mut start = [0; MOST_START];
@@ -44,8 +44,8 @@ fn print_list<S: Sink>(
 /// Writes the text of a graph. It takes no memory, and one call of the sink for some hundred arcs.
 pub fn write<S: Sink>(graph: &Graph, sink: &mut S) -> Result<(), WriteError>
     ensures puts { IsTrue S.told → Puts (text_of_graph graph.now) (S.taken sink.old) (S.taken sink.new) result }
-    ensures failed { IsErrOf result WriteError.Failed → Rose (S.faults sink.old) (S.faults sink.new) }
-    ensures memory { IsErrOf result WriteError.Memory → Rose (S.wants sink.old) (S.wants sink.new) }
+    ensures failed { IsErrOf result WriteError.Failed → Increased (S.faults sink.old) (S.faults sink.new) }
+    ensures memory { IsErrOf result WriteError.Memory → Increased (S.wants sink.old) (S.wants sink.new) }
     ensures later { (S.faults sink.old ≤ S.faults sink.new) × (S.wants sink.old ≤ S.wants sink.new) }
 {
     let mut lines = Lines::new();

@@ -2,7 +2,7 @@
 use Rattle.std.proofs.Common.{◌≡◌, inl, inr, ℕ, ◌≤◌, List, ◌++◌, refl, sym, ap, subst, ◌∙◌, arith, Option, Some, None, Result, Ok, Err}
 use Rattle.std.specs.Result.{IfErr, IsErrAnd}
 use Rattle.std.proofs.lemmas.List.{append-nil}
-use Rattle.wg_io.specs.Outside.{Files, Counts, NoneFalls, Rose}
+use Rattle.wg_io.specs.Outside.{Files, Counts, NonDecreasing, Increased}
 use Rattle.wg_io.specs.declared.output.Output.{Output}
 use Rattle.wg_io.specs.declared.output.Output.TheVariants as output
 use Rattle.wg_io.proofs.PutsLemmas.{is_that_err}
@@ -42,11 +42,11 @@ module _ (n : ArchiveNames) (base : List ℕ) (is : n ≡ names_for base) where
   rose_as o old new rose = subst (λ (x : Option (List ℕ)). RoseAt (λ c. c.write_faults) x old new) (named_as o) rose
 
 -- ---- counts
-rose_from : (a b c : ℕ) → a ≤ b → Rose b c → Rose a c
+rose_from : (a b c : ℕ) → a ≤ b → Increased b c → Increased a c
 rose_from a b c le (inl more) = inl (omega (arith, le, more))
 rose_from a b c le (inr last) = inr last
 
-pub rose_since : (name : Option (List ℕ)) (old mid new : List ℕ → Counts) → NoneFalls old mid → RoseAt (λ c. c.write_faults) name mid new → RoseAt (λ c. c.write_faults) name old new
+pub rose_since : (name : Option (List ℕ)) (old mid new : List ℕ → Counts) → NonDecreasing old mid → RoseAt (λ c. c.write_faults) name mid new → RoseAt (λ c. c.write_faults) name old new
 rose_since None old mid new falls rose = rose
 rose_since (Some name) old mid new falls rose = rose_from (old name).write_faults (mid name).write_faults (new name).write_faults (falls.write_faults name) rose
 

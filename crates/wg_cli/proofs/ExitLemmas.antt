@@ -2,7 +2,7 @@
 use Rattle.std.proofs.Common.{◌≡◌, inl, inr, ℕ, List, ◌++◌, take, refl, sym, ◌∙◌, ap, subst, Option, Some, None, Result, Ok, Err}
 use Rattle.std.specs.Result.{IsErrAnd, IfErr}
 use Rattle.std.proofs.lemmas.List.{append-nil}
-use Rattle.wg_io.specs.Outside.{Files, Counts, Rose}
+use Rattle.wg_io.specs.Outside.{Files, Counts, Increased}
 use Rattle.wg_io.specs.declared.output.Output.{Output}
 use Rattle.wg_io.specs.declared.output.Output.TheVariants.{Out}
 use Rattle.wg_cli.specs.Causes.{HasCause}
@@ -38,7 +38,7 @@ nothing_put due old i promised r e is why = subst (λ (x : Result (Unit {0}) End
 
 -- a last step that only the output can end
 pub unput_cause : (inputs : Input → Option (List ℕ)) (outputs : Output → Option (List ℕ)) (old new : List ℕ → Counts) (faults faults' : ℕ) (r : Result (Unit {0}) Ending)
-    → IfErr r (λ e. IsUnput e.status) → (status_in r ≡ WriteFault Out → Rose faults faults') → HasCause inputs outputs old new faults faults' (status_in r)
+    → IfErr r (λ e. IsUnput e.status) → (status_in r ≡ WriteFault Out → Increased faults faults') → HasCause inputs outputs old new faults faults' (status_in r)
 unput_cause inputs outputs old new faults faults' (Ok done) only cause = record {
   read_fault = λ i is. absurd (let no : Done ≡ ReadFault i = is in cc);
   missing = λ i is. absurd (let no : Done ≡ Missing i = is in cc);

@@ -1,6 +1,6 @@
 -- What the outside shows of an answer.
 use Rattle.std.specs.Prelude.{◌≡◌, ◌≢◌, ◌⊎◌, ◌<◌, ℕ, List, ◌++◌, length, take, Option, Some, None}
-use Rattle.wg_io.specs.Outside.{Counts, Rose}
+use Rattle.wg_io.specs.Outside.{Counts, Increased}
 use Rattle.wg_io.specs.declared.output.Output.{Output}
 use Rattle.wg_io.specs.declared.output.Output.TheVariants as output
 use Rattle.wg_cli.specs.declared.status.Input.{Input}
@@ -10,14 +10,14 @@ use Rattle.wg_cli.specs.declared.status.Status.TheVariants.{ReadFault, WriteFaul
 -- there is such a file, and this count of its name rose
 abbrev pub RoseAt : (Counts → ℕ) → Option (List ℕ) → (List ℕ → Counts) → (List ℕ → Counts) → Type 0
 RoseAt count None old new = ⊥
-RoseAt count (Some name) old new = Rose (count (old name)) (count (new name))
+RoseAt count (Some name) old new = Increased (count (old name)) (count (new name))
 
 -- a fault or an absence is told only where the count of its own file rose, and a fault of the output where the output's faults rose
 pub record HasCause (inputs : Input → Option (List ℕ)) (outputs : Output → Option (List ℕ)) (old new : List ℕ → Counts) (faults faults' : ℕ) (status : Status) : Type 0 where
   pub read_fault : (i : Input) → status ≡ ReadFault i → RoseAt (λ c. c.read_faults) (inputs i) old new
   pub missing : (i : Input) → status ≡ Missing i → RoseAt (λ c. c.absences) (inputs i) old new
   pub write_fault : (o : Output) → o ≢ output.Out → status ≡ WriteFault o → RoseAt (λ c. c.write_faults) (outputs o) old new
-  pub out_fault : status ≡ WriteFault output.Out → Rose faults faults'
+  pub out_fault : status ≡ WriteFault output.Out → Increased faults faults'
 
 -- the line is there, or a front of it, and this only where the sink failed
 abbrev pub Reports : List ℕ → List ℕ → List ℕ → Type 0 → Type 0

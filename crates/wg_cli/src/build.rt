@@ -1,6 +1,6 @@
 //! The command `build`: an archive from a list of arcs.
 ghost use Rattle.std.specs.Prelude.{◌≡◌, ◌≤◌, ◌⊎◌, ℕ, Some, IsTrue, IfOk, IfErr};
-ghost use Rattle.wg_io.specs.Outside.{NoneFalls};
+ghost use Rattle.wg_io.specs.Outside.{NonDecreasing};
 ghost use Rattle.wg_io.specs.declared.output.Output.{Output};
 ghost use Rattle.wg_params.specs.Parameters.{IsWithinLimits};
 ghost use Rattle.wg_params.specs.declared.limits.TheConstants.{MOST_PAGES};
@@ -48,7 +48,7 @@ pub fn build<D: Depot, O: Sink>(
     ensures output { IsTrue D.told → IsTrue O.told → (r : Readings) → HasOutput (output_of (judged r (Build arcs.now base.now nodes layout.now) (held_by (list_named arcs.now) (D.files depot.old)))) (O.taken out.old) (O.taken out.new) (status_in result) }
     ensures promised { IsTrue D.told → ArePromised (held_by (list_named arcs.now) (D.files depot.old)) (status_in result) (arcs_in result) }
     ensures files { IsTrue D.told → (r : Readings) → HasFiles (archive_named base.now) (files_of (judged r (Build arcs.now base.now nodes layout.now) (held_by (list_named arcs.now) (D.files depot.old)))) (D.files depot.old) (D.files depot.new) (status_in result) }
-    ensures later { NoneFalls (D.counts depot.old) (D.counts depot.new) }
+    ensures later { NonDecreasing (D.counts depot.old) (D.counts depot.new) }
 {
     let graph = listed(alloc, arcs, nodes, depot)?;
     let params = params_for(layout, &graph);
@@ -64,7 +64,7 @@ fn listed<D: Depot>(alloc: Global, arcs: &Name, nodes: u64, depot: &mut D) -> Re
     ensures only { IfErr result (λ e. IsOfInput Input.ArcList e.status ⊎ ((line : ℕ) × (kind : ArcsKind) × (e.status ≡ Status.BadArcs line kind))) }
     ensures nodes { IfOk result (λ g. g.nodes ≡ nodes) }
     ensures same { D.files depot.new ≡ D.files depot.old }
-    ensures later { NoneFalls (D.counts depot.old) (D.counts depot.new) }
+    ensures later { NonDecreasing (D.counts depot.old) (D.counts depot.new) }
 {
     let bytes = load_file(alloc, depot, arcs.as_str(), Input::ArcList)?;
     graph_of_list(alloc, bytes.as_slice(), nodes)

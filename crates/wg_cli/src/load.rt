@@ -1,5 +1,5 @@
 ghost use Rattle.std.specs.Prelude.{◌≡◌, ◌≢◌, ◌++◌, ◌≤◌, ◌⊎◌, ℕ, List, Option, IsTrue, IsSome, IfOk, IfErr, Some, length};
-ghost use Rattle.wg_io.specs.Outside.{NoneFalls};
+ghost use Rattle.wg_io.specs.Outside.{NonDecreasing};
 ghost use Rattle.wg_io.specs.declared.limits.TheConstants.{MOST_BYTES};
 ghost use Rattle.wg_cli.specs.Answers.{Steps, status_in};
 ghost use Rattle.wg_cli.specs.Causes.{HasCause};
@@ -26,7 +26,7 @@ pub fn load_file<D: Depot>(
     ensures causes { (names : Input → Option (List ℕ)) → names input ≡ Some name.now → HasCause names no_outputs (D.counts depot.old) (D.counts depot.new) 0 0 (status_in result) }
     ensures mine { IfErr result (λ e. IsOfInput input e.status) }
     ensures same { D.files depot.new ≡ D.files depot.old }
-    ensures later { NoneFalls (D.counts depot.old) (D.counts depot.new) }
+    ensures later { NonDecreasing (D.counts depot.old) (D.counts depot.new) }
     ensures short { IfOk result (λ bytes. length bytes ≤ MOST_BYTES) }
 {
     match read_whole(alloc, depot, name) {
@@ -51,7 +51,7 @@ pub fn load<D: Depot>(
     ensures causes { HasCause (file_of base.now) no_outputs (D.counts depot.old) (D.counts depot.new) 0 0 (status_in result) }
     ensures mine { IfErr result (λ e. IsOfInput input e.status) }
     ensures same { D.files depot.new ≡ D.files depot.old }
-    ensures later { NoneFalls (D.counts depot.old) (D.counts depot.new) }
+    ensures later { NonDecreasing (D.counts depot.old) (D.counts depot.new) }
     ensures short { IfOk result (λ bytes. length bytes ≤ MOST_BYTES) }
 {
     let Some(suffix) = suffix(input) else {

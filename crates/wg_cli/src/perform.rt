@@ -1,5 +1,5 @@
 ghost use Rattle.std.specs.Prelude.{◌≡◌, ℕ, false, IsTrue};
-ghost use Rattle.wg_io.specs.Outside.{NoneFalls};
+ghost use Rattle.wg_io.specs.Outside.{NonDecreasing};
 ghost use Rattle.wg_io.specs.declared.output.Output.{Output};
 ghost use Rattle.wg_words.specs.Jobs.{IsWithin};
 ghost use Rattle.wg_cli.specs.Answers.{Answers, HasOutput, Reaches, status_in};
@@ -45,7 +45,7 @@ pub fn perform<D: Depot, O: Sink>(alloc: Global, job: &Job, depot: &mut D, out: 
     ensures promised { IsTrue D.told → ArePromised (held_by (input_name job.now) (D.files depot.old)) result.status result.arcs }
     ensures files { IsTrue D.told → (r : Readings) → HasFiles (output_name job.now) (written_by r job.now (held_by (input_name job.now) (D.files depot.old))) (D.files depot.old) (D.files depot.new) result.status }
     ensures same { writes_files job.now ≡ false → D.files depot.new ≡ D.files depot.old }
-    ensures later { NoneFalls (D.counts depot.old) (D.counts depot.new) }
+    ensures later { NonDecreasing (D.counts depot.old) (D.counts depot.new) }
 {
     match job {
         Job::Check { base } => ending_of(check(alloc, base, depot, out)),

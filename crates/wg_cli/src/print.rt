@@ -1,6 +1,6 @@
 //! What goes to the output.
 ghost use Rattle.std.specs.Prelude.{◌≡◌, ◌≤◌, ◌<◌, true, length, take, IsTrue, IsErrOf, IfErr, Err};
-ghost use Rattle.wg_io.specs.Outside.{Rose};
+ghost use Rattle.wg_io.specs.Outside.{Increased};
 ghost use Rattle.wg_io.specs.Puts.{Puts};
 ghost use Rattle.wg_cli.specs.Answers.{IsUnput, status_in};
 ghost use Rattle.wg_arcs.specs.Printing.{Prints};
@@ -24,7 +24,7 @@ use wg_params::Params;
 // A piece of the output.
 fn print<O: Sink>(out: &mut O, piece: &[u8]) -> Result<(), Ending>
     ensures puts { IsTrue O.told → Puts piece.now (O.taken out.old) (O.taken out.new) result }
-    ensures cause { status_in result ≡ Status.WriteFault Out → Rose (O.faults out.old) (O.faults out.new) }
+    ensures cause { status_in result ≡ Status.WriteFault Out → Increased (O.faults out.old) (O.faults out.new) }
     ensures only { IfErr result (λ e. IsUnput e.status) }
     ensures later { O.faults out.old ≤ O.faults out.new }
 {
@@ -61,7 +61,7 @@ fn ok_line(params: &Params, bits: u64) -> Text
 /// Prints the line of an accepted archive, in one call where the output takes it whole.
 pub fn print_ok<O: Sink>(out: &mut O, params: &Params, bits: u64) -> Result<(), Ending>
     ensures puts { IsTrue O.told → Puts (ok_line params.now bits) (O.taken out.old) (O.taken out.new) result }
-    ensures cause { status_in result ≡ Status.WriteFault Out → Rose (O.faults out.old) (O.faults out.new) }
+    ensures cause { status_in result ≡ Status.WriteFault Out → Increased (O.faults out.old) (O.faults out.new) }
     ensures only { IfErr result (λ e. IsUnput e.status) }
     ensures later { O.faults out.old ≤ O.faults out.new }
 {
@@ -71,7 +71,7 @@ pub fn print_ok<O: Sink>(out: &mut O, params: &Params, bits: u64) -> Result<(), 
 /// Prints the arcs of a graph.
 pub fn print_graph<O: Sink>(out: &mut O, graph: &Graph) -> Result<(), Ending>
     ensures puts { IsTrue O.told → Puts (text_of_graph graph.now) (O.taken out.old) (O.taken out.new) result }
-    ensures cause { status_in result ≡ Status.WriteFault Out → Rose (O.faults out.old) (O.faults out.new) }
+    ensures cause { status_in result ≡ Status.WriteFault Out → Increased (O.faults out.old) (O.faults out.new) }
     ensures only { IfErr result (λ e. IsUnput e.status) }
     ensures later { O.faults out.old ≤ O.faults out.new }
 {
@@ -84,7 +84,7 @@ pub fn print_graph<O: Sink>(out: &mut O, graph: &Graph) -> Result<(), Ending>
 /// Prints places, a line for each.
 pub fn print_places<O: Sink>(out: &mut O, places: &Offsets) -> Result<(), Ending>
     ensures puts { IsTrue O.told → Puts (number_lines places.now) (O.taken out.old) (O.taken out.new) result }
-    ensures cause { status_in result ≡ Status.WriteFault Out → Rose (O.faults out.old) (O.faults out.new) }
+    ensures cause { status_in result ≡ Status.WriteFault Out → Increased (O.faults out.old) (O.faults out.new) }
     ensures only { IfErr result (λ e. IsUnput e.status) }
     ensures later { O.faults out.old ≤ O.faults out.new }
 {
@@ -97,7 +97,7 @@ pub fn print_places<O: Sink>(out: &mut O, places: &Offsets) -> Result<(), Ending
 // Writes places through a fixed buffer.
 fn write_places<S: Sink>(sink: &mut S, places: &Offsets) -> Result<(), WriteError>
     ensures puts { IsTrue S.told → Puts (number_lines places.now) (S.taken sink.old) (S.taken sink.new) result }
-    ensures failed { IsErrOf result WriteError.Failed → Rose (S.faults sink.old) (S.faults sink.new) }
+    ensures failed { IsErrOf result WriteError.Failed → Increased (S.faults sink.old) (S.faults sink.new) }
     ensures later { S.faults sink.old ≤ S.faults sink.new }
 {
     let mut lines = Lines::new();
@@ -110,7 +110,7 @@ fn write_places<S: Sink>(sink: &mut S, places: &Offsets) -> Result<(), WriteErro
 // A line of one number.
 fn write_line<S: Sink>(lines: &mut Lines, sink: &mut S, number: u64) -> Result<(), WriteError>
     ensures prints { IsTrue S.told → Prints (number_line number) (S.taken sink.old) (S.taken sink.new) lines.old lines.new result }
-    ensures failed { IsErrOf result WriteError.Failed → Rose (S.faults sink.old) (S.faults sink.new) }
+    ensures failed { IsErrOf result WriteError.Failed → Increased (S.faults sink.old) (S.faults sink.new) }
     ensures later { S.faults sink.old ≤ S.faults sink.new }
 {
     lines.number(sink, number)?;
@@ -147,7 +147,7 @@ fn write_ranking<S: Sink>(sink: &mut S, ranked: &Ranked, count: u64) -> Result<(
     requires high { ranked.now.ranking.high ≡ ranked.now.bounds.high }
     requires pages { length ranked.now.ranking.pages ≡ length ranked.now.ranking.low }
     ensures puts { IsTrue S.told → Puts (rank_lines ranked.now.ranking (take count ranked.now.ranking.pages)) (S.taken sink.old) (S.taken sink.new) result }
-    ensures failed { IsErrOf result WriteError.Failed → Rose (S.faults sink.old) (S.faults sink.new) }
+    ensures failed { IsErrOf result WriteError.Failed → Increased (S.faults sink.old) (S.faults sink.new) }
     ensures later { S.faults sink.old ≤ S.faults sink.new }
 {
     let mut lines = Lines::new();
@@ -166,7 +166,7 @@ pub fn print_ranking<O: Sink>(out: &mut O, ranked: &Ranked, count: u64) -> Resul
     requires high { ranked.now.ranking.high ≡ ranked.now.bounds.high }
     requires pages { length ranked.now.ranking.pages ≡ length ranked.now.ranking.low }
     ensures puts { IsTrue O.told → Puts (rank_lines ranked.now.ranking (take count ranked.now.ranking.pages)) (O.taken out.old) (O.taken out.new) result }
-    ensures cause { status_in result ≡ Status.WriteFault Out → Rose (O.faults out.old) (O.faults out.new) }
+    ensures cause { status_in result ≡ Status.WriteFault Out → Increased (O.faults out.old) (O.faults out.new) }
     ensures only { IfErr result (λ e. IsUnput e.status) }
     ensures later { O.faults out.old ≤ O.faults out.new }
 {

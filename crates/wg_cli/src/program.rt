@@ -1,5 +1,5 @@
 ghost use Rattle.std.specs.Prelude.{◌≡◌, ◌≤◌, ◌⊎◌, ℕ, false, List, Some, None, IsTrue, IfOk, IfSome};
-ghost use Rattle.wg_io.specs.Outside.{Rose};
+ghost use Rattle.wg_io.specs.Outside.{Increased};
 ghost use Rattle.wg_io.specs.declared.output.Output.{Output};
 ghost use Rattle.wg_params.specs.declared.limits.TheConstants.{MOST_PAGES};
 ghost use Rattle.wg_graph.specs.Digraph.{Digraph, IsGraph};
@@ -52,7 +52,7 @@ pub fn run<D: Depot, O: Sink, E: Sink>(
     ensures output { IsTrue D.told → IsTrue O.told → (r : Readings) (job : Job) → job_of words.now ≡ Some job → HasOutput (output_of (judged r job (held_by (input_name job) (D.files depot.old)))) (O.taken out.old) (O.taken out.new) result }
     ensures files { IsTrue D.told → (r : Readings) (job : Job) → job_of words.now ≡ Some job → HasFiles (output_name job) (written_by r job (held_by (input_name job) (D.files depot.old))) (D.files depot.old) (D.files depot.new) result }
     ensures same { some_writes_files (job_of words.now) ≡ false → D.files depot.new ≡ D.files depot.old }
-    ensures line { IsTrue E.told → (promised : ℕ) × (IsTrue D.told → ArePromisedBy (job_of words.now) (D.files depot.old) result promised) × Reports (line_of (job_of words.now) promised result) (E.taken err.old) (E.taken err.new) (Rose (E.faults err.old) (E.faults err.new) ⊎ Rose (E.wants err.old) (E.wants err.new)) }
+    ensures line { IsTrue E.told → (promised : ℕ) × (IsTrue D.told → ArePromisedBy (job_of words.now) (D.files depot.old) result promised) × Reports (line_of (job_of words.now) promised result) (E.taken err.old) (E.taken err.new) (Increased (E.faults err.old) (E.faults err.new) ⊎ Increased (E.wants err.old) (E.wants err.new)) }
 {
     let Ok(asked) = asked(alloc, words) else {
         report(err, &None, 0, Status::Memory);

@@ -1,7 +1,7 @@
 //! The command `rank`: the pages by their PageRank, with bounds that enclose it.
 ghost use Rattle.std.specs.Prelude.{◌≡◌, ◌≤◌, ℕ, Some, IsTrue, IfOk, IfErr};
 ghost use Rattle.wg_params.specs.declared.limits.TheConstants.{MOST_DAMPING, MOST_ROUNDS};
-ghost use Rattle.wg_io.specs.Outside.{NoneFalls};
+ghost use Rattle.wg_io.specs.Outside.{NonDecreasing};
 ghost use Rattle.wg_io.specs.declared.output.Output.TheVariants.{Out};
 ghost use Rattle.wg_words.specs.declared.jobs.Job.TheVariants.{Rank};
 ghost use Rattle.wg_cli.specs.Answers.{Answers, HasOutput, Reaches, status_in};
@@ -51,7 +51,7 @@ pub fn rank<D: Depot, O: Sink>(
     ensures output { IsTrue D.told → IsTrue O.told → (r : Readings) → HasOutput (output_of (judged r (Rank base.now asked.rounds asked.damping asked.top) (held_by (file_of base.now) (D.files depot.old)))) (O.taken out.old) (O.taken out.new) (status_in result) }
     ensures promised { IsTrue D.told → ArePromised (held_by (file_of base.now) (D.files depot.old)) (status_in result) (arcs_in result) }
     ensures same { D.files depot.new ≡ D.files depot.old }
-    ensures later { NoneFalls (D.counts depot.old) (D.counts depot.new) }
+    ensures later { NonDecreasing (D.counts depot.old) (D.counts depot.new) }
 {
     let text = load(alloc, depot, base, Input::Properties)?;
     let params = parameters(text.as_slice())?;

@@ -1,6 +1,6 @@
 //! The line on standard error that says why a job was not done. It takes no memory.
 ghost use Rattle.std.specs.Prelude.{◌≡◌, ◌≢◌, ◌⊎◌, ◌≤◌, ◌∷◌, [], ◌++◌, IsTrue, IsErr, Some, None, option_map, codes};
-ghost use Rattle.wg_io.specs.Outside.{Rose};
+ghost use Rattle.wg_io.specs.Outside.{Increased};
 ghost use Rattle.wg_io.specs.Puts.{Puts};
 ghost use Rattle.wg_cli.specs.Causes.{Reports};
 ghost use Rattle.wg_cli.specs.Lines.{naming, name_in, output_in, line_of};
@@ -31,7 +31,7 @@ fn naming<S: Sink>(
     after: &[u8],
 ) -> Result<(), WriteError>
     ensures puts { IsTrue S.told → Puts (naming before.now (Some (stem.now ++ suffix.now)) after.now) (S.taken sink.old) (S.taken sink.new) result }
-    ensures cause { IsErr result → Rose (S.faults sink.old) (S.faults sink.new) ⊎ Rose (S.wants sink.old) (S.wants sink.new) }
+    ensures cause { IsErr result → Increased (S.faults sink.old) (S.faults sink.new) ⊎ Increased (S.wants sink.old) (S.wants sink.new) }
 {
     write_five(
         sink,
@@ -53,7 +53,7 @@ fn write_five<'x, S: Sink>(
     e: &'x [u8],
 ) -> Result<(), WriteError>
     ensures puts { IsTrue S.told → Puts (a.now ++ (b.now ++ c.now) ++ d.now ++ e.now) (S.taken sink.old) (S.taken sink.new) result }
-    ensures cause { IsErr result → Rose (S.faults sink.old) (S.faults sink.new) ⊎ Rose (S.wants sink.old) (S.wants sink.new) }
+    ensures cause { IsErr result → Increased (S.faults sink.old) (S.faults sink.new) ⊎ Increased (S.wants sink.old) (S.wants sink.new) }
 {
     write_pieces(sink, &[a, b, c, d, e])
 }
@@ -67,7 +67,7 @@ fn about<S: Sink>(
     after: &[u8],
 ) -> Result<(), WriteError>
     ensures puts { IsTrue S.told → Puts (naming before.now (name_in job.now input) after.now) (S.taken sink.old) (S.taken sink.new) result }
-    ensures cause { IsErr result → Rose (S.faults sink.old) (S.faults sink.new) ⊎ Rose (S.wants sink.old) (S.wants sink.new) }
+    ensures cause { IsErr result → Increased (S.faults sink.old) (S.faults sink.new) ⊎ Increased (S.wants sink.old) (S.wants sink.new) }
 {
     match parts_of_input(job, input) {
         None => Ok(()),
@@ -78,7 +78,7 @@ fn about<S: Sink>(
 // A line about an output of the job.
 fn about_output<S: Sink>(sink: &mut S, job: &Option<Job>, output: Output) -> Result<(), WriteError>
     ensures puts { IsTrue S.told → Puts (naming (codes "wg: write failed: ") (output_in job.now output) []) (S.taken sink.old) (S.taken sink.new) result }
-    ensures cause { IsErr result → Rose (S.faults sink.old) (S.faults sink.new) ⊎ Rose (S.wants sink.old) (S.wants sink.new) }
+    ensures cause { IsErr result → Increased (S.faults sink.old) (S.faults sink.new) ⊎ Increased (S.wants sink.old) (S.wants sink.new) }
 {
     match parts_of_output(job, output) {
         None => Ok(()),
@@ -114,7 +114,7 @@ fn write_line<S: Sink>(
     status: Status,
 ) -> Result<(), WriteError>
     ensures puts { IsTrue S.told → Puts (line_of job.now promised status) (S.taken sink.old) (S.taken sink.new) result }
-    ensures cause { IsErr result → Rose (S.faults sink.old) (S.faults sink.new) ⊎ Rose (S.wants sink.old) (S.wants sink.new) }
+    ensures cause { IsErr result → Increased (S.faults sink.old) (S.faults sink.new) ⊎ Increased (S.wants sink.old) (S.wants sink.new) }
 {
     match status {
         Status::Done => Ok(()),
@@ -146,7 +146,7 @@ fn fault_in<S: Sink>(
     text: &Text,
 ) -> Result<(), WriteError>
     ensures puts { IsTrue S.told → Puts (naming (codes "wg: ") (name_in job.now input) (codes ": " ++ text.now)) (S.taken sink.old) (S.taken sink.new) result }
-    ensures cause { IsErr result → Rose (S.faults sink.old) (S.faults sink.new) ⊎ Rose (S.wants sink.old) (S.wants sink.new) }
+    ensures cause { IsErr result → Increased (S.faults sink.old) (S.faults sink.new) ⊎ Increased (S.wants sink.old) (S.wants sink.new) }
 {
     match parts_of_input(job, input) {
         None => Ok(()),
@@ -171,14 +171,14 @@ fn write_six<'x, S: Sink>(
     e: &'x [u8],
 ) -> Result<(), WriteError>
     ensures puts { IsTrue S.told → Puts (a.now ++ (b.now ++ c.now) ++ (d.now ++ e.now) ++ codes "\n") (S.taken sink.old) (S.taken sink.new) result }
-    ensures cause { IsErr result → Rose (S.faults sink.old) (S.faults sink.new) ⊎ Rose (S.wants sink.old) (S.wants sink.new) }
+    ensures cause { IsErr result → Increased (S.faults sink.old) (S.faults sink.new) ⊎ Increased (S.wants sink.old) (S.wants sink.new) }
 {
     write_pieces(sink, &[a, b, c, d, e, b"\n"])
 }
 
 /// Writes the line of a status, as far as the sink takes it.
 pub fn report<S: Sink>(sink: &mut S, job: &Option<Job>, promised: u64, status: Status)
-    ensures { IsTrue S.told → Reports (line_of job.now promised status) (S.taken sink.old) (S.taken sink.new) (Rose (S.faults sink.old) (S.faults sink.new) ⊎ Rose (S.wants sink.old) (S.wants sink.new)) }
+    ensures { IsTrue S.told → Reports (line_of job.now promised status) (S.taken sink.old) (S.taken sink.new) (Increased (S.faults sink.old) (S.faults sink.new) ⊎ Increased (S.wants sink.old) (S.wants sink.new)) }
 {
     let _ = write_line(sink, job, promised, status);
 }

@@ -1,7 +1,7 @@
 //! An archive on its way into its three files. The properties come last: until they are whole, no one takes the files for an archive.
 ghost use Rattle.std.specs.Prelude.{◌≡◌, ◌≢◌, ℕ, List, [], length, IsTrue, OnOk, IfOk, IfErr, Some};
 ghost use Rattle.std.specs.FinMap as map;
-ghost use Rattle.wg_io.specs.Outside.{NoneFalls, Rose, created, appended};
+ghost use Rattle.wg_io.specs.Outside.{NonDecreasing, Increased, created, appended};
 ghost use Rattle.wg_graph.specs.Digraph.{arc_count};
 ghost use Rattle.wg_properties.specs.Text.{text_of};
 ghost use Rattle.wg_encoder.specs.Archive.{graph_bits, graph_file, offsets_file};
@@ -38,8 +38,8 @@ fn create<D: Depot>(depot: &mut D, name: &Name, output: Output) -> Result<(), En
     ensures err { IfErr result (λ e. D.files depot.new ≡ D.files depot.old) }
     ensures others { IsTrue D.told → (q : List ℕ) → q ≢ name.now → map.get (D.files depot.new) q ≡ map.get (D.files depot.old) q }
     ensures only { IfErr result (λ e. IsStoppedAt output e.status) }
-    ensures cause { status_in result ≡ Status.WriteFault output → Rose (D.counts depot.old name.now).write_faults (D.counts depot.new name.now).write_faults }
-    ensures later { NoneFalls (D.counts depot.old) (D.counts depot.new) }
+    ensures cause { status_in result ≡ Status.WriteFault output → Increased (D.counts depot.old name.now).write_faults (D.counts depot.new name.now).write_faults }
+    ensures later { NonDecreasing (D.counts depot.old) (D.counts depot.new) }
 {
     match depot.create(name.as_str()) {
         Ok(()) => Ok(()),
@@ -55,7 +55,7 @@ fn create_files<D: Depot>(depot: &mut D, names: &ArchiveNames) -> Result<(), End
     ensures others { IsTrue D.told → OthersStay (names_of names.now) (D.files depot.old) (D.files depot.new) }
     ensures only { IfErr result (λ e. IsStopped e.status) }
     ensures causes { (o : Output) → status_in result ≡ Status.WriteFault o → RoseAt (λ c. c.write_faults) (names_of names.now o) (D.counts depot.old) (D.counts depot.new) }
-    ensures later { NoneFalls (D.counts depot.old) (D.counts depot.new) }
+    ensures later { NonDecreasing (D.counts depot.old) (D.counts depot.new) }
 {
     create(depot, &names.properties, Output::Properties)?;
     create(depot, &names.graph, Output::Graph)?;
@@ -89,7 +89,7 @@ fn write_records<D: Depot>(
     ensures others { IsTrue D.told → OthersStay (names_of names.now) (D.files depot.old) (D.files depot.new) }
     ensures only { IfErr result (λ e. IsStopped e.status) }
     ensures causes { (o : Output) → status_in result ≡ Status.WriteFault o → RoseAt (λ c. c.write_faults) (names_of names.now o) (D.counts depot.old) (D.counts depot.new) }
-    ensures later { NoneFalls (D.counts depot.old) (D.counts depot.new) }
+    ensures later { NonDecreasing (D.counts depot.old) (D.counts depot.new) }
 {
     match encode(
         alloc,
@@ -116,7 +116,7 @@ fn write_properties<D: Depot>(
     ensures others { IsTrue D.told → OthersStay (names_of names.now) (D.files depot.old) (D.files depot.new) }
     ensures only { IfErr result (λ e. IsStopped e.status) }
     ensures causes { (o : Output) → status_in result ≡ Status.WriteFault o → RoseAt (λ c. c.write_faults) (names_of names.now o) (D.counts depot.old) (D.counts depot.new) }
-    ensures later { NoneFalls (D.counts depot.old) (D.counts depot.new) }
+    ensures later { NonDecreasing (D.counts depot.old) (D.counts depot.new) }
 {
     match append_all(depot, names.properties.as_str(), text) {
         Ok(()) => Ok(()),
@@ -151,7 +151,7 @@ pub fn write_archive<D: Depot>(
     ensures others { IsTrue D.told → OthersStay (archive_named base.now) (D.files depot.old) (D.files depot.new) }
     ensures only { IfErr result (λ e. IsStopped e.status) }
     ensures causes { (o : Output) → status_in result ≡ Status.WriteFault o → RoseAt (λ c. c.write_faults) (archive_named base.now o) (D.counts depot.old) (D.counts depot.new) }
-    ensures later { NoneFalls (D.counts depot.old) (D.counts depot.new) }
+    ensures later { NonDecreasing (D.counts depot.old) (D.counts depot.new) }
 {
     let names = ArchiveNames::of(alloc, base)?;
     let text = properties_text(alloc, params)?;

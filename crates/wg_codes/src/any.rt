@@ -1,6 +1,6 @@
 //! A code that is chosen while the program runs.
 ghost use Rattle.std.specs.Prelude.{◌≡◌, ◌≤◌, true, false, length, OnOk, OnErr, IsErrOf, IsTrue, ◌↔◌};
-ghost use Rattle.wg_io.specs.Outside.{Rose, NoneFalls};
+ghost use Rattle.wg_io.specs.Outside.{Increased, NonDecreasing};
 ghost use Rattle.wg_params.specs.Codes.{IsCode};
 ghost use Rattle.wg_bits.specs.Bits.{rest};
 ghost use Rattle.wg_bits.specs.Written.{HasPut, HasPutLess};
@@ -48,10 +48,10 @@ pub fn write<D: Depot>(
     ensures err { IsTrue D.told → OnErr result
         (HasPutLess (D.files depot.old) (D.files depot.new) name.now writer.old.bits (word code v)) }
     ensures fault { IsErrOf result WriteError.Failed →
-        Rose (D.counts depot.old name.now).write_faults (D.counts depot.new name.now).write_faults }
+        Increased (D.counts depot.old name.now).write_faults (D.counts depot.new name.now).write_faults }
     ensures memory { IsErrOf result WriteError.Memory →
-        Rose (D.counts depot.old name.now).wants (D.counts depot.new name.now).wants }
-    ensures later { NoneFalls (D.counts depot.old) (D.counts depot.new) }
+        Increased (D.counts depot.old name.now).wants (D.counts depot.new name.now).wants }
+    ensures later { NonDecreasing (D.counts depot.old) (D.counts depot.new) }
 {
     match code {
         Code::Unary => unary::write(v, writer, depot, name),

@@ -1,6 +1,6 @@
 //! What the codes share: a word's head in unary, and a field of bits behind it.
 ghost use Rattle.std.specs.Prelude.{◌≡◌, ◌+◌, ◌-◌, ◌^◌, ◌<◌, ◌≤◌, true, false, ◌++◌, length, IfSome, IfNone, OnOk, OnErr, IsErrOf, IsTrue};
-ghost use Rattle.wg_io.specs.Outside.{Rose, NoneFalls};
+ghost use Rattle.wg_io.specs.Outside.{Increased, NonDecreasing};
 ghost use Rattle.wg_bits.specs.Bits.{rest, moved, low_bits};
 ghost use Rattle.wg_bits.specs.Written.{HasPut, HasPutLess};
 ghost use Rattle.wg_codes.specs.Words.{highest, unary};
@@ -52,10 +52,10 @@ pub fn put_headed<D: Depot>(
         (HasPutLess (D.files depot.old) (D.files depot.new) name.now writer.old.bits
         (unary head ++ low_bits width field)) }
     ensures fault { IsErrOf result WriteError.Failed →
-        Rose (D.counts depot.old name.now).write_faults (D.counts depot.new name.now).write_faults }
+        Increased (D.counts depot.old name.now).write_faults (D.counts depot.new name.now).write_faults }
     ensures memory { IsErrOf result WriteError.Memory →
-        Rose (D.counts depot.old name.now).wants (D.counts depot.new name.now).wants }
-    ensures later { NoneFalls (D.counts depot.old) (D.counts depot.new) }
+        Increased (D.counts depot.old name.now).wants (D.counts depot.new name.now).wants }
+    ensures later { NonDecreasing (D.counts depot.old) (D.counts depot.new) }
 {
     if head <= 63 - width as u64 {
         return writer.put(depot, name, (1 << width) + field, head as u32 + width + 1);
@@ -86,10 +86,10 @@ fn put_in_two<D: Depot>(
         (HasPutLess (D.files depot.old) (D.files depot.new) name.now writer.old.bits
         (unary head ++ low_bits width field)) }
     ensures fault { IsErrOf result WriteError.Failed →
-        Rose (D.counts depot.old name.now).write_faults (D.counts depot.new name.now).write_faults }
+        Increased (D.counts depot.old name.now).write_faults (D.counts depot.new name.now).write_faults }
     ensures memory { IsErrOf result WriteError.Memory →
-        Rose (D.counts depot.old name.now).wants (D.counts depot.new name.now).wants }
-    ensures later { NoneFalls (D.counts depot.old) (D.counts depot.new) }
+        Increased (D.counts depot.old name.now).wants (D.counts depot.new name.now).wants }
+    ensures later { NonDecreasing (D.counts depot.old) (D.counts depot.new) }
 {
     match writer.zeros(depot, name, head) {
         Ok(()) => writer.put(depot, name, (1 << width) + field, width + 1),

@@ -10,7 +10,7 @@
 //! | 3 | `1100` | `01000` |
 //! | 7 | `0100000` | `011000` |
 ghost use Rattle.std.specs.Prelude.{◌≡◌, ◌+◌, ◌-◌, ◌*◌, ◌/◌, ◌^◌, ◌<◌, ◌≤◌, true, false, length, IfSome, IfNone, OnOk, OnErr, IsErrOf, IsTrue};
-ghost use Rattle.wg_io.specs.Outside.{Rose, NoneFalls};
+ghost use Rattle.wg_io.specs.Outside.{Increased, NonDecreasing};
 ghost use Rattle.wg_bits.specs.Bits.{rest, moved};
 ghost use Rattle.wg_bits.specs.Written.{HasPut, HasPutLess};
 ghost use Rattle.wg_codes.specs.Words.{zeta, shortened};
@@ -112,10 +112,10 @@ pub fn write<D: Depot>(
     ensures err { IsTrue D.told → OnErr result
         (HasPutLess (D.files depot.old) (D.files depot.new) name.now writer.old.bits (zeta k v)) }
     ensures fault { IsErrOf result WriteError.Failed →
-        Rose (D.counts depot.old name.now).write_faults (D.counts depot.new name.now).write_faults }
+        Increased (D.counts depot.old name.now).write_faults (D.counts depot.new name.now).write_faults }
     ensures memory { IsErrOf result WriteError.Memory →
-        Rose (D.counts depot.old name.now).wants (D.counts depot.new name.now).wants }
-    ensures later { NoneFalls (D.counts depot.old) (D.counts depot.new) }
+        Increased (D.counts depot.old name.now).wants (D.counts depot.new name.now).wants }
+    ensures later { NonDecreasing (D.counts depot.old) (D.counts depot.new) }
 {
     let head = over(highest_one(v + 1), k);
     let width = head * k + k;

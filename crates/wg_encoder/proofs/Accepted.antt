@@ -47,8 +47,8 @@ word_stands : (c : Code) (v at : ℕ) (bits before more : List Bool) → is_gamm
 word_stands c v at bits before more is low here start =
     (top_high c v is low, (more, (λ i. drop (start i) (here i)) ∙ drop-append_seam before (word c v ++ more)))
 
-fine_value : (number place v : ℕ) → 0 < number → place + v ≤ MOST_PLACE → refusal number place (Value v) ≡ None
-fine_value number place v some le = rw (ne_eqb number 0 (λ e. absurd (omega arith)), le-ltb MOST_PLACE (place + v) le) refl
+fine_value : (number offset v : ℕ) → 0 < number → offset + v ≤ MOST_PLACE → refusal number offset (Value v) ≡ None
+fine_value number offset v some le = rw (ne_eqb number 0 (λ e. absurd (omega arith)), le-ltb MOST_PLACE (offset + v) le) refl
 
 words_stand : (c : Code) (bits : List Bool) (read : List ℕ) (at : ℕ) (vs : List ℕ) (before more : List Bool) → is_gamma_or_delta c ≡ true → 0 < length read → sum read + sum vs ≤ MOST_PLACE → bits ≡ before ++ (flat_map (word c) vs ++ more) → at ≡ length before
     → Words c bits read at vs (read ++ vs) (at + length (flat_map (word c) vs))

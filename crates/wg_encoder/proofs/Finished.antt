@@ -14,7 +14,7 @@ use Rattle.wg_params.specs.Parameters.{Parameters}
 use Rattle.wg_encoder.specs.declared.error.EncodeError.{EncodeError}
 use Rattle.wg_encoder.specs.Archive.{record_bits, graph_bits, offset_values, offsets_bits, filled, graph_file, offsets_file}
 use Rattle.wg_encoder.specs.Encoding.{Encoding}
-use Rattle.wg_encoder.specs.Gone.{HasSent, HasGone, IsWritten, HasStopped, HasFailedOn, HoldsFront, HoldsLess}
+use Rattle.wg_encoder.specs.Gone.{HasSent, HasSentUpTo, IsWritten, HasStopped, HasFailedOn, HoldsFront, HoldsLess}
 use Rattle.wg_encoder.proofs.Bytes.{graph_again, offsets_again, graph_bytes, offsets_bytes}
 use Rattle.wg_encoder.proofs.Texts.{sent_front, sent_whole}
 use Rattle.wg_encoder.proofs.Sent.{sent_put, put_less, other_put, other_less, sent_along}
@@ -40,7 +40,7 @@ pub record HasAll (files : Files) (g o : List ℕ) (p : Parameters) (lists : Lis
   pub words : HasSent (fin.get files o) v (offsets_bits p lists)
 
 pub all_gone : (a b : Files) (g o : List ℕ) (e begun view : Encoding) → g ≢ o → e.page ≡ length e.graph.lists → begun ≡ record e { offsets_waits = begun.offsets_waits } → view ≡ begun
-    → HasPut a b o e.offsets_waits (word e.params.offsets e.last) begun.offsets_waits → HasGone a g o e → HasAll b g o e.params e.graph.lists view.graph_waits view.offsets_waits
+    → HasPut a b o e.offsets_waits (word e.params.offsets e.last) begun.offsets_waits → HasSentUpTo a g o e → HasAll b g o e.params e.graph.lists view.graph_waits view.offsets_waits
 all_gone a b g o e begun view apart done first same offset h =
     let p : Parameters = e.params in
     let lists : List (List ℕ) = e.graph.lists in
@@ -59,7 +59,7 @@ filled_up : (a b : Files) (n : List ℕ) (w bits : List Bool) → HasPut a b n w
 filled_up a b n w bits h s = subst (HasSent (fin.get b n) []) (ap (λ z. bits ++ z) (same_fill (fin.get a n) w bits s)) (sent_put a b n w (fill w) [] bits h s)
 
 -- the bits of all records
-pub all_counted : (a : Files) (g o : List ℕ) (e : Encoding) → e.page ≡ length e.graph.lists → HasGone a g o e → e.total ≡ length (graph_bits e.params e.graph.lists)
+pub all_counted : (a : Files) (g o : List ℕ) (e : Encoding) → e.page ≡ length e.graph.lists → HasSentUpTo a g o e → e.total ≡ length (graph_bits e.params e.graph.lists)
 all_counted a g o e done h =
     let id : List Bool → List Bool = λ bits. bits in
     h.total ∙ ap (λ rs. length (flat_map id rs)) (take_all e.page (record_bits e.params e.graph.lists) (omega (arith, many_bits e.params e.graph.lists, done)))

@@ -20,7 +20,7 @@ use Rattle.wg_encoder.specs.Fields.{Written, bits_of_fields}
 use Rattle.wg_encoder.specs.Greedy.{canonical, chosen, context_after, known_of, known_after}
 use Rattle.wg_encoder.specs.Archive.{record_bits, offset_values, graph_file, offsets_file}
 use Rattle.wg_encoder.specs.Encoding.{Encoding, context_of, list_of, bits_by, after_by, IsChosen}
-use Rattle.wg_encoder.specs.Gone.{HasSent, HasGone, HasStopped, HasFailedOn, HoldsFront, HoldsLess}
+use Rattle.wg_encoder.specs.Gone.{HasSent, HasSentUpTo, HasStopped, HasFailedOn, HoldsFront, HoldsLess}
 use Rattle.wg_encoder.proofs.Bytes.{graph_bytes, offsets_bytes}
 use Rattle.wg_encoder.proofs.Texts.{sent_front, sent_less}
 use Rattle.wg_encoder.proofs.Sent.{sent_put, put_less, other_put, other_less, sent_along}
@@ -30,7 +30,7 @@ use Rattle.wg_encoder.proofs.Chosen.{Stands, within_lists}
 
 -- before page 0, over empty files
 pub begun : (p : Parameters) (d : Digraph) (files : Files) (g o : List ℕ) → fin.get files g ≡ Some [] → fin.get files o ≡ Some []
-    → HasGone files g o (record { params = p; graph = d; page = 0; depths = []; graph_waits = []; offsets_waits = []; last = 0; total = 0 })
+    → HasSentUpTo files g o (record { params = p; graph = d; page = 0; depths = []; graph_waits = []; offsets_waits = []; last = 0; total = 0 })
 unfolding bits_of
 begun p d files g o graph offsets = record {
   records = record { sent = []; there = graph; bytes = All-nil _; all = refl };
@@ -42,20 +42,20 @@ begun p d files g o graph offsets = record {
 
 -- ---- the record of the page, and the word before it
 
-record_here : (files : Files) (g o : List ℕ) (e : Encoding) → Stands e → HasGone files g o e
+record_here : (files : Files) (g o : List ℕ) (e : Encoding) → Stands e → HasSentUpTo files g o e
     → get_or (record_bits e.params e.graph.lists) e.page [] ≡ bits_of_fields (canonical e.params (context_of e) (list_of e) (chosen e.params (context_of e) (list_of e)))
 record_here files g o e s h =
     bits_at e.params e.graph.lists e.page (within_lists e s)
     ∙ ap (λ (c : Context). bits_of_fields (canonical e.params c (list_of e) (chosen e.params c (list_of e)))) (sym h.behind)
 
-graph_more : (files : Files) (g o : List ℕ) (e : Encoding) → Stands e → HasGone files g o e
+graph_more : (files : Files) (g o : List ℕ) (e : Encoding) → Stands e → HasSentUpTo files g o e
     → flat_map (λ bits. bits) (take (e.page + 1) (record_bits e.params e.graph.lists))
     ≡ flat_map (λ bits. bits) (take e.page (record_bits e.params e.graph.lists)) ++ bits_of_fields (canonical e.params (context_of e) (list_of e) (chosen e.params (context_of e) (list_of e)))
 graph_more files g o e s h =
     flat_more (λ bits. bits) (record_bits e.params e.graph.lists) e.page [] (omega (arith, many_bits e.params e.graph.lists, within_lists e s))
     ∙ ap (λ z. flat_map (λ bits. bits) (take e.page (record_bits e.params e.graph.lists)) ++ z) (record_here files g o e s h)
 
-pub offsets_more : (files : Files) (g o : List ℕ) (e : Encoding) → e.page ≤ length e.graph.lists → HasGone files g o e
+pub offsets_more : (files : Files) (g o : List ℕ) (e : Encoding) → e.page ≤ length e.graph.lists → HasSentUpTo files g o e
     → flat_map (word e.params.offsets) (take (e.page + 1) (offset_values e.params e.graph.lists)) ≡ flat_map (word e.params.offsets) (take e.page (offset_values e.params e.graph.lists)) ++ word e.params.offsets e.last
 offsets_more files g o e le h =
     flat_more (word e.params.offsets) (offset_values e.params e.graph.lists) e.page 0 (omega (arith, many_words e.params e.graph.lists))
@@ -69,8 +69,8 @@ put_by e w v = record e { graph_waits = w; offsets_waits = v }
 
 pub gone_on : (a b c : Files) (g o : List ℕ) (e : Encoding) (r : ℕ) (made : List Written) (w v : List Bool)
     → g ≢ o → Stands e → r ≡ chosen e.params (context_of e) (list_of e) → made ≡ canonical e.params (context_of e) (list_of e) r
-    → HasPut a b o e.offsets_waits (word e.params.offsets e.last) v → HasPut b c g e.graph_waits (bits_of_fields made) w → HasGone a g o e
-    → HasGone c g o (after_by r (put_by e w v))
+    → HasPut a b o e.offsets_waits (word e.params.offsets e.last) v → HasPut b c g e.graph_waits (bits_of_fields made) w → HasSentUpTo a g o e
+    → HasSentUpTo c g o (after_by r (put_by e w v))
 gone_on a b c g o e r made w v apart s is makes offset record_put h =
     let p : Parameters = e.params in
     let lists : List (List ℕ) = e.graph.lists in
@@ -93,7 +93,7 @@ gone_on a b c g o e r made w v apart s is makes offset record_put h =
 -- ---- where the writing stops
 
 -- before all pages are done the last word is missing
-stands : (files : Files) (g o : List ℕ) (e : Encoding) → e.page ≤ length e.graph.lists → HasGone files g o e
+stands : (files : Files) (g o : List ℕ) (e : Encoding) → e.page ≤ length e.graph.lists → HasSentUpTo files g o e
     → HoldsFront (fin.get files g) (graph_file e.params e.graph.lists) × HoldsLess (fin.get files o) (offsets_file e.params e.graph.lists)
 stands files g o e le h =
     let p : Parameters = e.params in
@@ -102,11 +102,11 @@ stands files g o e le h =
       sent_less _ _ _ (offsets_rest p lists e.page) (offsets_file p lists) h.words (offsets_bytes p lists) (offsets_from p lists e.page) (offsets_left p lists e.page le),
     )
 
-pub stopped_by_memory : (files : Files) (g o : List ℕ) (e : Encoding) (why : EncodeError) → e.page ≤ length e.graph.lists → HasGone files g o e → why ≡ error.Memory → HasStopped files g o e.params e.graph.lists why
+pub stopped_by_memory : (files : Files) (g o : List ℕ) (e : Encoding) (why : EncodeError) → e.page ≤ length e.graph.lists → HasSentUpTo files g o e → why ≡ error.Memory → HasStopped files g o e.params e.graph.lists why
 stopped_by_memory files g o e why le h is = subst (HasStopped files g o e.params e.graph.lists) (sym is) (let both = stands files g o e le h in inr both)
 
 pub stopped_on_offsets : (a b : Files) (g o : List ℕ) (e : Encoding) (old new : ℕ) (why : EncodeError) → g ≢ o → e.page ≤ length e.graph.lists
-    → HasPutLess a b o e.offsets_waits (word e.params.offsets e.last) → HasFailedOn output.Offsets old new why → HasGone a g o e → HasStopped b g o e.params e.graph.lists why
+    → HasPutLess a b o e.offsets_waits (word e.params.offsets e.last) → HasFailedOn output.Offsets old new why → HasSentUpTo a g o e → HasStopped b g o e.params e.graph.lists why
 stopped_on_offsets a b g o e old new why apart le less failed h =
     let p : Parameters = e.params in
     let lists : List (List ℕ) = e.graph.lists in
@@ -122,7 +122,7 @@ stopped_on_offsets a b g o e old new why apart le less failed h =
 
 pub stopped_on_graph : (a b c : Files) (g o : List ℕ) (e : Encoding) (r : ℕ) (made : List Written) (v : List Bool) (old new : ℕ) (why : EncodeError)
     → g ≢ o → Stands e → r ≡ chosen e.params (context_of e) (list_of e) → made ≡ canonical e.params (context_of e) (list_of e) r
-    → HasPut a b o e.offsets_waits (word e.params.offsets e.last) v → HasPutLess b c g e.graph_waits (bits_of_fields made) → HasFailedOn output.Graph old new why → HasGone a g o e
+    → HasPut a b o e.offsets_waits (word e.params.offsets e.last) v → HasPutLess b c g e.graph_waits (bits_of_fields made) → HasFailedOn output.Graph old new why → HasSentUpTo a g o e
     → HasStopped c g o e.params e.graph.lists why
 stopped_on_graph a b c g o e r made v old new why apart s is makes put less failed h =
     let p : Parameters = e.params in
@@ -148,28 +148,28 @@ waits_same e begun same = ap (λ (x : Encoding). x.graph_waits) same
 
 pub next_gone : (a b c : Files) (g o : List ℕ) (e begun put done : Encoding) (choice : Choice) (made : List Written) → g ≢ o → Stands e → IsChosen e choice
     → made ≡ canonical e.params (context_of e) (list_of e) choice.reference → begun ≡ record e { offsets_waits = begun.offsets_waits } → put ≡ record begun { graph_waits = put.graph_waits } → done ≡ after_by choice.reference put
-    → HasPut a b o e.offsets_waits (word e.params.offsets e.last) begun.offsets_waits → HasPut b c g begun.graph_waits (bits_of_fields made) put.graph_waits → HasGone a g o e
-    → HasGone c g o done
+    → HasPut a b o e.offsets_waits (word e.params.offsets e.last) begun.offsets_waits → HasPut b c g begun.graph_waits (bits_of_fields made) put.graph_waits → HasSentUpTo a g o e
+    → HasSentUpTo c g o done
 next_gone a b c g o e begun put done choice made apart s is makes first second third offset record_put h =
     let w : List Bool = put.graph_waits in
     let v : List Bool = begun.offsets_waits in
-    subst (HasGone c g o) (sym (third ∙ ap (after_by choice.reference) (second ∙ ap (λ (x : Encoding). record x { graph_waits = w }) first)))
+    subst (HasSentUpTo c g o) (sym (third ∙ ap (after_by choice.reference) (second ∙ ap (λ (x : Encoding). record x { graph_waits = w }) first)))
     (gone_on a b c g o e choice.reference made w v apart s is.0 makes offset (subst (λ ws. HasPut b c g ws (bits_of_fields made) w) (waits_same e begun first) record_put) h)
 
 pub next_stopped_on_graph : (a b c : Files) (g o : List ℕ) (e begun : Encoding) (choice : Choice) (made : List Written) (old new : ℕ) (why : EncodeError) → g ≢ o → Stands e → IsChosen e choice
     → made ≡ canonical e.params (context_of e) (list_of e) choice.reference → begun ≡ record e { offsets_waits = begun.offsets_waits }
-    → HasPut a b o e.offsets_waits (word e.params.offsets e.last) begun.offsets_waits → HasPutLess b c g begun.graph_waits (bits_of_fields made) → HasFailedOn output.Graph old new why → HasGone a g o e
+    → HasPut a b o e.offsets_waits (word e.params.offsets e.last) begun.offsets_waits → HasPutLess b c g begun.graph_waits (bits_of_fields made) → HasFailedOn output.Graph old new why → HasSentUpTo a g o e
     → HasStopped c g o e.params e.graph.lists why
 next_stopped_on_graph a b c g o e begun choice made old new why apart s is makes first offset less failed h =
     stopped_on_graph a b c g o e choice.reference made begun.offsets_waits old new why apart s is.0 makes offset (subst (λ ws. HasPutLess b c g ws (bits_of_fields made)) (waits_same e begun first) less) failed h
 
 pub next_stopped_by_memory : (a b c : Files) (g o : List ℕ) (e begun put : Encoding) (choice : Choice) (made : List Written) (why : EncodeError) → g ≢ o → Stands e → IsChosen e choice
     → made ≡ canonical e.params (context_of e) (list_of e) choice.reference → begun ≡ record e { offsets_waits = begun.offsets_waits } → put ≡ record begun { graph_waits = put.graph_waits }
-    → HasPut a b o e.offsets_waits (word e.params.offsets e.last) begun.offsets_waits → HasPut b c g begun.graph_waits (bits_of_fields made) put.graph_waits → HasGone a g o e → why ≡ error.Memory
+    → HasPut a b o e.offsets_waits (word e.params.offsets e.last) begun.offsets_waits → HasPut b c g begun.graph_waits (bits_of_fields made) put.graph_waits → HasSentUpTo a g o e → why ≡ error.Memory
     → HasStopped c g o e.params e.graph.lists why
 next_stopped_by_memory a b c g o e begun put choice made why apart s is makes first second offset record_put h memory =
     let next : Encoding = after_by choice.reference (put_by e put.graph_waits begun.offsets_waits) in
-    let gone : HasGone c g o next = gone_on a b c g o e choice.reference made put.graph_waits begun.offsets_waits apart s is.0 makes offset (subst (λ ws. HasPut b c g ws (bits_of_fields made) put.graph_waits) (waits_same e begun first) record_put) h in
+    let gone : HasSentUpTo c g o next = gone_on a b c g o e choice.reference made put.graph_waits begun.offsets_waits apart s is.0 makes offset (subst (λ ws. HasPut b c g ws (bits_of_fields made) put.graph_waits) (waits_same e begun first) record_put) h in
     stopped_by_memory c g o next why (let here = within_lists e s in let le : e.page + 1 ≤ length e.graph.lists = omega (arith, here) in le) gone memory
 
 -- ---- the exit of a call

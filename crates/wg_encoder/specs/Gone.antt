@@ -2,7 +2,7 @@
 use Rattle.std.specs.Prelude.{◌≡◌, ◌≢◌, ◌⊎◌, ℕ, ◌<◌, ◌^◌, Bool, List, [], ◌++◌, length, take, get_or, All, Option, Some}
 use Rattle.std.specs.List.{flat_map}
 use Rattle.std.specs.FinMap as fin
-use Rattle.wg_io.specs.Outside.{Files, Counts, Rose}
+use Rattle.wg_io.specs.Outside.{Files, Counts, Increased}
 use Rattle.wg_io.specs.declared.output.Output.{Output}
 use Rattle.wg_io.specs.declared.output.Output.TheVariants as output
 use Rattle.wg_bits.specs.Bits.{bits_of}
@@ -38,7 +38,7 @@ abbrev pub OnlyTwo : List ℕ → List ℕ → Files → Files → Type 0
 OnlyTwo graph_name offsets_name old new = (name : List ℕ) → name ≢ graph_name → name ≢ offsets_name → fin.get new name ≡ fin.get old name
 
 -- The files with what waits have the records of the pages before this one, and as many words of offsets.
-pub record HasGone (files : Files) (graph_name offsets_name : List ℕ) (e : Encoding) : Type 0 where
+pub record HasSentUpTo (files : Files) (graph_name offsets_name : List ℕ) (e : Encoding) : Type 0 where
   pub records : HasSent (fin.get files graph_name) e.graph_waits (flat_map (λ bits. bits) (take e.page (record_bits e.params e.graph.lists)))
   pub words : HasSent (fin.get files offsets_name) e.offsets_waits (flat_map (word e.params.offsets) (take e.page (offset_values e.params e.graph.lists)))
   pub behind : context_of e ≡ context_after e.params (known_after e.params [] (take e.page e.graph.lists))
@@ -65,12 +65,12 @@ HasStopped files graph_name offsets_name p lists (error.Failed output.Out) = ⊥
 
 -- A call failed on one of the two files alone, and only where the count of its failures rose.
 abbrev pub HasFailed : List ℕ → List ℕ → (List ℕ → Counts) → (List ℕ → Counts) → EncodeError → Type 0
-HasFailed graph_name offsets_name old new (error.Failed output.Graph) = Rose (old graph_name).write_faults (new graph_name).write_faults
-HasFailed graph_name offsets_name old new (error.Failed output.Offsets) = Rose (old offsets_name).write_faults (new offsets_name).write_faults
+HasFailed graph_name offsets_name old new (error.Failed output.Graph) = Increased (old graph_name).write_faults (new graph_name).write_faults
+HasFailed graph_name offsets_name old new (error.Failed output.Offsets) = Increased (old offsets_name).write_faults (new offsets_name).write_faults
 HasFailed graph_name offsets_name old new error.Memory = Unit {0}
 HasFailed graph_name offsets_name old new (error.Failed output.Properties) = ⊥
 HasFailed graph_name offsets_name old new (error.Failed output.Out) = ⊥
 
 -- the same of a call on one file
 abbrev pub HasFailedOn : Output → ℕ → ℕ → EncodeError → Type 0
-HasFailedOn named before now e = ((e ≡ error.Failed named) × Rose before now) ⊎ (e ≡ error.Memory)
+HasFailedOn named before now e = ((e ≡ error.Failed named) × Increased before now) ⊎ (e ≡ error.Memory)

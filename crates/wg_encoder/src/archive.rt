@@ -1,7 +1,7 @@
 // A whole archive.
 ghost use Rattle.std.specs.Prelude.{◌≡◌, ◌≢◌, ◌≤◌, [], Some, IfOk, IfErr, IsTrue};
 ghost use Rattle.std.specs.FinMap as fin;
-ghost use Rattle.wg_io.specs.Outside.{NoneFalls};
+ghost use Rattle.wg_io.specs.Outside.{NonDecreasing};
 ghost use Rattle.wg_graph.specs.Digraph.{arc_count};
 ghost use Rattle.wg_encoder.specs.Gone.{IsWritten, HasStopped, HasFailed, OnlyTwo};
 
@@ -29,7 +29,7 @@ pub fn encode<D: Depot>(
     ensures err { IsTrue D.told → fin.get (D.files depot.old) graph_name.now ≡ Some [] → fin.get (D.files depot.old) offsets_name.now ≡ Some [] → IfErr result (HasStopped (D.files depot.new) graph_name.now offsets_name.now params graph.now.lists) }
     ensures only_two { IsTrue D.told → OnlyTwo graph_name.now offsets_name.now (D.files depot.old) (D.files depot.new) }
     ensures fault { IfErr result (HasFailed graph_name.now offsets_name.now (D.counts depot.old) (D.counts depot.new)) }
-    ensures later { NoneFalls (D.counts depot.old) (D.counts depot.new) }
+    ensures later { NonDecreasing (D.counts depot.old) (D.counts depot.new) }
 {
     let mut encoder = Encoder::new(alloc, params, graph)?;
     while encoder.page() < graph.nodes() {

@@ -12,7 +12,7 @@ ghost use Rattle.wg_grammar.specs.Refusal.{passes};
 ghost use Rattle.wg_encoder.specs.Greedy.{canonical, size_of, is_candidate, chosen};
 ghost use Rattle.wg_encoder.specs.Cost.{cost_of, IsFewer};
 ghost use Rattle.wg_encoder.specs.Encoding.{context_of, list_of, bits_by, offer_of, IsChosen};
-ghost use Rattle.wg_encoder.specs.Gone.{HasGone};
+ghost use Rattle.wg_encoder.specs.Gone.{HasSentUpTo};
 
 use crate::choice::Choice;
 use crate::making::Draft;
@@ -68,7 +68,7 @@ impl<'a> Encoder<'a> {
         requires nodes { params.nodes ≡ graph.now.nodes }
         requires arcs { params.arcs ≡ arc_count graph.now }
         ensures fresh { IfOk result (λ e. e ≡ record { params = params; graph = graph.now; page = 0; depths = []; graph_waits = []; offsets_waits = []; last = 0; total = 0 }) }
-        ensures begun { IfOk result (λ e. (files : Files) (graph_name offsets_name : List ℕ) → fin.get files graph_name ≡ Some [] → fin.get files offsets_name ≡ Some [] → HasGone files graph_name offsets_name e) }
+        ensures begun { IfOk result (λ e. (files : Files) (graph_name offsets_name : List ℕ) → fin.get files graph_name ≡ Some [] → fin.get files offsets_name ≡ Some [] → HasSentUpTo files graph_name offsets_name e) }
     {
         let graph_writer = writer(alloc)?;
         let offsets_writer = writer(alloc)?;
@@ -114,7 +114,7 @@ impl<'a> Encoder<'a> {
     }
 
     // The list that a reference names, empty for 0.
-    pub(crate) fn named(&self, r: u64) -> &[u64]
+    pub(crate) fn referenced_list(&self, r: u64) -> &[u64]
         requires reach { r ≤ min self.now.params.window self.now.page }
         requires page { self.now.page < self.now.graph.nodes }
         ensures value { result.now ≡ referenced (context_of self.now).behind r }
@@ -146,7 +146,7 @@ impl<'a> Encoder<'a> {
         requires page { self.now.page < self.now.graph.nodes }
         ensures { result ≡ (nat_lt 0 (length (referenced (context_of self.now).behind r)) && not (passes self.now.params.chain (depth_of (context_of self.now).behind r))) }
     {
-        !self.named(r).is_empty() && !passes(self.params.chain(), self.depth(r))
+        !self.referenced_list(r).is_empty() && !passes(self.params.chain(), self.depth(r))
     }
 
     // What the record takes by a reference, where that is wanted only below `most` and each value has a word. It is
@@ -159,7 +159,7 @@ impl<'a> Encoder<'a> {
     {
         self.limits();
         let list = self.graph.list(self.page);
-        record_cost(&self.params, self.page, r, self.named(r), list, most)
+        record_cost(&self.params, self.page, r, self.referenced_list(r), list, most)
     }
 
     // The same, whatever it is.

@@ -1,6 +1,6 @@
 // A record in memory, before it is written.
 ghost use Rattle.std.specs.Prelude.{◌≡◌, ◌<◌, true, false, [], ◌∷◌, ◌++◌, OnOk, OnErr, IsErrOf, IsTrue};
-ghost use Rattle.wg_io.specs.Outside.{Rose, NoneFalls};
+ghost use Rattle.wg_io.specs.Outside.{Increased, NonDecreasing};
 ghost use Rattle.wg_params.specs.Codes.{IsCode};
 ghost use Rattle.wg_bits.specs.Written.{HasPut, HasPutLess};
 ghost use Rattle.wg_encoder.specs.Fields.{written, bits_of_fields, all_have_words};
@@ -79,9 +79,9 @@ impl HeldRecord {
         ensures ready { OnOk result (writer.new.failed ≡ false) }
         ensures failed { OnErr result (writer.new.failed ≡ true) }
         ensures err { IsTrue D.told → OnErr result (HasPutLess (D.files depot.old) (D.files depot.new) name.now writer.old.bits (bits_of_fields self.now)) }
-        ensures fault { IsErrOf result WriteError.Failed → Rose (D.counts depot.old name.now).write_faults (D.counts depot.new name.now).write_faults }
-        ensures memory { IsErrOf result WriteError.Memory → Rose (D.counts depot.old name.now).wants (D.counts depot.new name.now).wants }
-        ensures later { NoneFalls (D.counts depot.old) (D.counts depot.new) }
+        ensures fault { IsErrOf result WriteError.Failed → Increased (D.counts depot.old name.now).write_faults (D.counts depot.new name.now).write_faults }
+        ensures memory { IsErrOf result WriteError.Memory → Increased (D.counts depot.old name.now).wants (D.counts depot.new name.now).wants }
+        ensures later { NonDecreasing (D.counts depot.old) (D.counts depot.new) }
     {
         for field in self.fields.as_slice() {
             match write(field.code, field.value, writer, depot, name) {

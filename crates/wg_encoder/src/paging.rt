@@ -1,12 +1,12 @@
 // From page to page: what goes to the two files.
 ghost use Rattle.std.specs.Prelude.{◌≡◌, ◌≢◌, ◌+◌, ◌<◌, ◌≤◌, true, false, [], length, replicate, IfOk, IfErr, OnOk, OnErr, IsTrue};
-ghost use Rattle.wg_io.specs.Outside.{NoneFalls};
+ghost use Rattle.wg_io.specs.Outside.{NonDecreasing};
 ghost use Rattle.wg_bits.specs.Written.{HasPut, HasPutLess, padding};
 ghost use Rattle.wg_codes.specs.Words.{word};
 ghost use Rattle.wg_encoder.specs.Fields.{bits_of_fields, all_have_words};
 ghost use Rattle.wg_encoder.specs.Greedy.{canonical};
 ghost use Rattle.wg_encoder.specs.Encoding.{context_of, list_of, after_by, IsChosen};
-ghost use Rattle.wg_encoder.specs.Gone.{HasGone, IsWritten, HasStopped, HasFailed, HasFailedOn, OnlyTwo};
+ghost use Rattle.wg_encoder.specs.Gone.{HasSentUpTo, IsWritten, HasStopped, HasFailed, HasFailedOn, OnlyTwo};
 ghost use Rattle.wg_encoder.specs.declared.error.EncodeError.TheVariants as errors;
 
 use crate::choice::Choice;
@@ -50,7 +50,7 @@ impl<'a> Encoder<'a> {
     {
         self.limits();
         let list = self.graph.list(self.page);
-        let referenced = self.named(choice.reference);
+        let referenced = self.referenced_list(choice.reference);
         draft.fill(&self.params, self.page, choice.reference, referenced, list)
     }
 
@@ -60,7 +60,7 @@ impl<'a> Encoder<'a> {
         ensures on { IfOk result (λ e. e ≡ record self.entry { offsets_waits = e.offsets_waits }) }
         ensures err { IsTrue D.told → OnErr result (HasPutLess (D.files depot.old) (D.files depot.new) name.now self.entry.offsets_waits (word self.entry.params.offsets self.entry.last)) }
         ensures fault { IfErr result (HasFailedOn Output.Offsets (D.counts depot.old name.now).write_faults (D.counts depot.new name.now).write_faults) }
-        ensures later { NoneFalls (D.counts depot.old) (D.counts depot.new) }
+        ensures later { NonDecreasing (D.counts depot.old) (D.counts depot.new) }
     {
         self.limits();
         match write(
@@ -87,7 +87,7 @@ impl<'a> Encoder<'a> {
         ensures on { IfOk result (λ e. e ≡ record self.entry { graph_waits = e.graph_waits }) }
         ensures err { IsTrue D.told → OnErr result (HasPutLess (D.files depot.old) (D.files depot.new) name.now self.entry.graph_waits (bits_of_fields made.now)) }
         ensures fault { IfErr result (HasFailedOn Output.Graph (D.counts depot.old name.now).write_faults (D.counts depot.new name.now).write_faults) }
-        ensures later { NoneFalls (D.counts depot.old) (D.counts depot.new) }
+        ensures later { NonDecreasing (D.counts depot.old) (D.counts depot.new) }
     {
         match made.write(&mut *self.graph_writer, depot, name) {
             Ok(()) => Ok(self),
@@ -125,12 +125,12 @@ impl<'a> Encoder<'a> {
     ) -> Result<Encoder<'a>, EncodeError>
         requires more { self.page < self.graph.nodes }
         requires apart { graph_name.now ≢ offsets_name.now }
-        ensures ok { IsTrue D.told → HasGone (D.files depot.old) graph_name.now offsets_name.now self.entry → IfOk result (λ e. HasGone (D.files depot.new) graph_name.now offsets_name.now e) }
+        ensures ok { IsTrue D.told → HasSentUpTo (D.files depot.old) graph_name.now offsets_name.now self.entry → IfOk result (λ e. HasSentUpTo (D.files depot.new) graph_name.now offsets_name.now e) }
         ensures on { IfOk result (λ e. (e.page ≡ self.entry.page + 1) × (e.params ≡ self.entry.params) × (e.graph ≡ self.entry.graph)) }
-        ensures err { IsTrue D.told → HasGone (D.files depot.old) graph_name.now offsets_name.now self.entry → IfErr result (HasStopped (D.files depot.new) graph_name.now offsets_name.now self.entry.params self.entry.graph.lists) }
+        ensures err { IsTrue D.told → HasSentUpTo (D.files depot.old) graph_name.now offsets_name.now self.entry → IfErr result (HasStopped (D.files depot.new) graph_name.now offsets_name.now self.entry.params self.entry.graph.lists) }
         ensures only_two { IsTrue D.told → OnlyTwo graph_name.now offsets_name.now (D.files depot.old) (D.files depot.new) }
         ensures fault { IfErr result (HasFailed graph_name.now offsets_name.now (D.counts depot.old) (D.counts depot.new)) }
-        ensures later { NoneFalls (D.counts depot.old) (D.counts depot.new) }
+        ensures later { NonDecreasing (D.counts depot.old) (D.counts depot.new) }
     {
         self.limits();
         let choice = self.choose();
@@ -151,11 +151,11 @@ impl<'a> Encoder<'a> {
     ) -> Result<u64, EncodeError>
         requires done { self.page ≡ self.graph.nodes }
         requires apart { graph_name.now ≢ offsets_name.now }
-        ensures ok { IsTrue D.told → HasGone (D.files depot.old) graph_name.now offsets_name.now self.entry → IfOk result (IsWritten (D.files depot.new) graph_name.now offsets_name.now self.entry.params self.entry.graph.lists) }
-        ensures err { IsTrue D.told → HasGone (D.files depot.old) graph_name.now offsets_name.now self.entry → IfErr result (HasStopped (D.files depot.new) graph_name.now offsets_name.now self.entry.params self.entry.graph.lists) }
+        ensures ok { IsTrue D.told → HasSentUpTo (D.files depot.old) graph_name.now offsets_name.now self.entry → IfOk result (IsWritten (D.files depot.new) graph_name.now offsets_name.now self.entry.params self.entry.graph.lists) }
+        ensures err { IsTrue D.told → HasSentUpTo (D.files depot.old) graph_name.now offsets_name.now self.entry → IfErr result (HasStopped (D.files depot.new) graph_name.now offsets_name.now self.entry.params self.entry.graph.lists) }
         ensures only_two { IsTrue D.told → OnlyTwo graph_name.now offsets_name.now (D.files depot.old) (D.files depot.new) }
         ensures fault { IfErr result (HasFailed graph_name.now offsets_name.now (D.counts depot.old) (D.counts depot.new)) }
-        ensures later { NoneFalls (D.counts depot.old) (D.counts depot.new) }
+        ensures later { NonDecreasing (D.counts depot.old) (D.counts depot.new) }
     {
         self.limits();
         let bits = self.total;
@@ -177,7 +177,7 @@ fn close<D: Depot>(
     ensures ok { IsTrue D.told → OnOk result (HasPut (D.files depot.old) (D.files depot.new) name.now writer.value.bits (replicate (padding (length writer.value.bits)) false) []) }
     ensures err { IsTrue D.told → OnErr result (HasPutLess (D.files depot.old) (D.files depot.new) name.now writer.value.bits (replicate (padding (length writer.value.bits)) false)) }
     ensures fault { IfErr result (HasFailedOn output (D.counts depot.old name.now).write_faults (D.counts depot.new name.now).write_faults) }
-    ensures later { NoneFalls (D.counts depot.old) (D.counts depot.new) }
+    ensures later { NonDecreasing (D.counts depot.old) (D.counts depot.new) }
 {
     match Box::into_inner(writer).finish(depot, name) {
         Ok(()) => Ok(()),

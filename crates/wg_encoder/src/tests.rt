@@ -27,7 +27,7 @@ fn graph_of(
     builder.finish()
 }
 
-fn begun<'a>(
+fn start_encoder<'a>(
     rt: &impl Abort,
     alloc: Global,
     params: Params,
@@ -51,7 +51,7 @@ fn plain(rt: &impl Abort, encoder: &Encoder<'_>) -> u64 {
 }
 
 // Goes on by the reference that is chosen, which is to be r, and to take so many bits.
-fn gone_on<'a>(
+fn go_on_by<'a>(
     rt: &impl Abort,
     encoder: Encoder<'a>,
     depot: &mut SteadyDepot,
@@ -69,13 +69,13 @@ fn gone_on<'a>(
 fn a_list_is_copied_whole(rt: HostRuntime) -> Result<(), Fail> {
     let graph = graph_of(&rt, rt.alloc(), 3, &[(0, 1), (0, 2), (1, 1), (1, 2)])?;
     let mut depot = SteadyDepot::new(rt.alloc(), 2);
-    let mut encoder = begun(&rt, rt.alloc(), usual(3, 4, 7, 3, 4)?, &graph)?;
-    encoder = gone_on(&rt, encoder, &mut depot, 0, 12)?;
+    let mut encoder = start_encoder(&rt, rt.alloc(), usual(3, 4, 7, 3, 4)?, &graph)?;
+    encoder = go_on_by(&rt, encoder, &mut depot, 0, 12)?;
     assert_eq!(rt; plain(&rt, &encoder), 11);
-    encoder = gone_on(&rt, encoder, &mut depot, 1, 6)?;
+    encoder = go_on_by(&rt, encoder, &mut depot, 1, 6)?;
     // all references take as many bits
     assert!(rt; may_take(&rt, &encoder, 1));
-    encoder = gone_on(&rt, encoder, &mut depot, 0, 1)?;
+    encoder = go_on_by(&rt, encoder, &mut depot, 0, 1)?;
     assert_eq!(rt; encoder.page(), 3);
     Ok(())
 }
@@ -85,18 +85,18 @@ fn a_chain_of_one_reference(rt: HostRuntime) -> Result<(), Fail> {
     let arcs = [(1, 0), (1, 2), (2, 0), (2, 2), (3, 0), (3, 2)];
     let graph = graph_of(&rt, rt.alloc(), 4, &arcs)?;
     let mut depot = SteadyDepot::new(rt.alloc(), 2);
-    let mut encoder = begun(&rt, rt.alloc(), usual(4, 6, 7, 1, 4)?, &graph)?;
-    encoder = gone_on(&rt, encoder, &mut depot, 0, 1)?;
+    let mut encoder = start_encoder(&rt, rt.alloc(), usual(4, 6, 7, 1, 4)?, &graph)?;
+    encoder = go_on_by(&rt, encoder, &mut depot, 0, 1)?;
     // page 0 has no successors
     assert!(rt; !may_take(&rt, &encoder, 1));
-    encoder = gone_on(&rt, encoder, &mut depot, 0, 13)?;
-    encoder = gone_on(&rt, encoder, &mut depot, 1, 6)?;
+    encoder = go_on_by(&rt, encoder, &mut depot, 0, 13)?;
+    encoder = go_on_by(&rt, encoder, &mut depot, 1, 6)?;
     // page 2 refers to page 1
     assert!(rt; !may_take(&rt, &encoder, 1));
     assert!(rt; may_take(&rt, &encoder, 2));
     assert!(rt; !may_take(&rt, &encoder, 3));
     assert!(rt; !may_take(&rt, &encoder, 4));
-    encoder = gone_on(&rt, encoder, &mut depot, 2, 7)?;
+    encoder = go_on_by(&rt, encoder, &mut depot, 2, 7)?;
     assert_eq!(rt; encoder.page(), 4);
     Ok(())
 }
@@ -106,16 +106,16 @@ fn a_list_is_copied_in_part(rt: HostRuntime) -> Result<(), Fail> {
     let arcs = [(0, 1), (0, 3), (0, 5), (0, 7), (1, 1), (1, 5), (1, 7)];
     let graph = graph_of(&rt, rt.alloc(), 8, &arcs)?;
     let mut depot = SteadyDepot::new(rt.alloc(), 2);
-    let mut encoder = begun(&rt, rt.alloc(), usual(8, 7, 7, 3, 4)?, &graph)?;
-    encoder = gone_on(&rt, encoder, &mut depot, 0, 23)?;
+    let mut encoder = start_encoder(&rt, rt.alloc(), usual(8, 7, 7, 3, 4)?, &graph)?;
+    encoder = go_on_by(&rt, encoder, &mut depot, 0, 23)?;
     assert_eq!(rt; plain(&rt, &encoder), 18);
-    encoder = gone_on(&rt, encoder, &mut depot, 1, 14)?;
+    encoder = go_on_by(&rt, encoder, &mut depot, 1, 14)?;
     assert_eq!(rt; encoder.page(), 2);
     Ok(())
 }
 
 // Writes the archive of a graph into the files `graph` and `offsets` of a depot.
-fn encoded<D: Depot>(
+fn encode_arcs<D: Depot>(
     rt: &impl Abort,
     alloc: Global,
     params: Params,
@@ -142,7 +142,7 @@ fn is_encoded(
     let mut depot = SteadyDepot::new(alloc, 2);
     depot.create("graph")?;
     depot.create("offsets")?;
-    assert_eq!(rt; encoded(rt, alloc, params, arcs, &mut depot)?, bits);
+    assert_eq!(rt; encode_arcs(rt, alloc, params, arcs, &mut depot)?, bits);
     assert_eq!(rt; read_whole(alloc, &mut depot, "graph")?.as_slice(), graph);
     assert_eq!(rt;
         read_whole(alloc, &mut depot, "offsets")?.as_slice(),
@@ -211,7 +211,7 @@ fn a_write_that_fails(rt: HostRuntime) -> Result<(), Fail> {
         depot.create("offsets")?;
         depot.fail_append(k as u64 + 1);
         let arcs = [(0, 1), (0, 2), (1, 1), (1, 2)];
-        let answer = encoded(&rt, rt.alloc(), usual(3, 4, 7, 3, 4)?, &arcs, &mut depot);
+        let answer = encode_arcs(&rt, rt.alloc(), usual(3, 4, 7, 3, 4)?, &arcs, &mut depot);
         assert_eq!(rt; answer, Err(EncodeError::Failed(outputs[k])));
     }
     Ok(())

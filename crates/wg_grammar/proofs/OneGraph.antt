@@ -16,7 +16,7 @@ use Rattle.wg_grammar.specs.SoFar.{SoFar, after, nothing_yet, value_or_0}
 use Rattle.wg_grammar.specs.Record.{Whole, Stands, Fields, ReadsRecord}
 use Rattle.wg_grammar.specs.Next.{next}
 use Rattle.wg_grammar.specs.Refusal.{refusal}
-use Rattle.wg_grammar.specs.Archive.{arcs_of, context_of, Pages, IsTail, IsTailFault, Accepted, lists_of, places_of, Closes, ReadsGraph}
+use Rattle.wg_grammar.specs.Archive.{arcs_of, context_of, Pages, IsTail, IsTailFault, Accepted, lists_of, places_of, EndsAs, ReadsGraph}
 use Rattle.wg_grammar.specs.declared.tail.TheConstants.{MOST_TAIL}
 use Rattle.wg_codes.proofs.CodeLaws.{value_front}
 use Rattle.wg_graph.specs.Ascending.{Ascends, Below}
@@ -148,7 +148,7 @@ stood w = Ok w
 err_is : (e f : Fault) → failed e ≡ failed f → e ≡ f
 err_is e f h = cc
 
-closes_one : (p : Parameters) → IsWithinLimits p → (bits : List Bool) (behind : List Whole) (at : ℕ) (w x : Result Accepted ArchiveFault) → Closes p bits behind at w → Closes p bits behind at x → w ≡ x
+closes_one : (p : Parameters) → IsWithinLimits p → (bits : List Bool) (behind : List Whole) (at : ℕ) (w x : Result Accepted ArchiveFault) → EndsAs p bits behind at w → EndsAs p bits behind at x → w ≡ x
 closes_one p limits bits behind at (Ok g) (Ok h) a b = ap Ok (accepted_is g h (a.3 ∙ sym b.3) (a.4 ∙ sym b.4))
 closes_one p limits bits behind at (Ok g) (Err (faults.Record e)) a b = absurd (omega (arith, a.0, b.0))
 closes_one p limits bits behind at (Ok g) (Err (faults.Tail offset)) a b = absurd (tail_or_fault bits at offset a.1 b.1)
@@ -177,12 +177,12 @@ closes_one p limits bits behind at (Err (faults.Offsets f)) w x y = absurd x
 closes_one p limits bits behind at (Err (faults.Length page found stored)) w x y = absurd x
 
 abbrev Walks : Parameters → List Bool → List Whole → ℕ → List Whole → Result Accepted ArchiveFault → Type 0
-Walks p bits behind at ks w = (last : List Whole) × (end : ℕ) × Pages p bits behind at ks last end × Closes p bits last end w
+Walks p bits behind at ks w = (last : List Whole) × (end : ℕ) × Pages p bits behind at ks last end × EndsAs p bits last end w
 
-here : (p : Parameters) (bits : List Bool) (behind : List Whole) (at : ℕ) (w : Result Accepted ArchiveFault) → Walks p bits behind at [] w → Closes p bits behind at w
-here p bits behind at w x = subst (λ (k : ℕ). Closes p bits behind k w) x.2.1 (subst (λ (l : List Whole). Closes p bits l x.1 w) x.2.0 x.3)
+here : (p : Parameters) (bits : List Bool) (behind : List Whole) (at : ℕ) (w : Result Accepted ArchiveFault) → Walks p bits behind at [] w → EndsAs p bits behind at w
+here p bits behind at w x = subst (λ (k : ℕ). EndsAs p bits behind k w) x.2.1 (subst (λ (l : List Whole). EndsAs p bits l x.1 w) x.2.0 x.3)
 
-goes_or_closes : (p : Parameters) → IsWithinLimits p → (bits : List Bool) (behind : List Whole) (at : ℕ) (k : Whole) (w : Result Accepted ArchiveFault) → length behind < p.nodes → ReadsRecord p (context_of p behind) bits at (Ok k) → Closes p bits behind at w → ⊥
+goes_or_closes : (p : Parameters) → IsWithinLimits p → (bits : List Bool) (behind : List Whole) (at : ℕ) (k : Whole) (w : Result Accepted ArchiveFault) → length behind < p.nodes → ReadsRecord p (context_of p behind) bits at (Ok k) → EndsAs p bits behind at w → ⊥
 goes_or_closes p limits bits behind at k (Ok g) lt c h = absurd (omega (arith, h.0))
 goes_or_closes p limits bits behind at k (Err (faults.Record e)) lt c h = absurd (let s = record_one p limits (context_of p behind) bits at (Ok k) (Err e) c h.1 in cc)
 goes_or_closes p limits bits behind at k (Err (faults.Tail offset)) lt c h = absurd (omega (arith, h.0))
@@ -210,7 +210,7 @@ graph_one p limits bits w x a b = walks_one p limits bits [] 0 a.0 b.0 w x (a.1,
 abbrev Found : Parameters → List Bool → List Whole → ℕ → Type 0
 Found p bits behind at = (w : Result Accepted ArchiveFault) × (ks : List Whole) × Walks p bits behind at ks w
 
-closes_here : (p : Parameters) (bits : List Bool) (behind : List Whole) (at : ℕ) (w : Result Accepted ArchiveFault) → Closes p bits behind at w → Found p bits behind at
+closes_here : (p : Parameters) (bits : List Bool) (behind : List Whole) (at : ℕ) (w : Result Accepted ArchiveFault) → EndsAs p bits behind at w → Found p bits behind at
 closes_here p bits behind at w h = (w, [], (behind, at, (refl, refl), h))
 
 at_end : (p : Parameters) (bits : List Bool) (behind : List Whole) (at : ℕ) → at ≤ length bits → arcs_of behind ≤ p.arcs → length behind ≡ p.nodes → Found p bits behind at

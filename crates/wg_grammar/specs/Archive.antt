@@ -49,14 +49,14 @@ abbrev pub places_of : List Whole → List ℕ
 places_of behind = 0 ∷ reverse (map (λ w. w.end) behind)
 
 -- what the file is, where these records are behind and no more proper ones are taken
-abbrev pub Closes : Parameters → List Bool → List Whole → ℕ → Result Accepted ArchiveFault → Type 0
-Closes p bits behind at (Ok a) = (length behind ≡ p.nodes) × IsTail bits at × (arcs_of behind ≡ p.arcs) × (a.graph ≡ lists_of behind) × (a.places ≡ places_of behind)
-Closes p bits behind at (Err (faults.Record e)) = (length behind < p.nodes) × ReadsRecord p (context_of p behind) bits at (Err e)
-Closes p bits behind at (Err (faults.Tail offset)) = (length behind ≡ p.nodes) × IsTailFault bits at offset
-Closes p bits behind at (Err (faults.ArcsShort total)) = (length behind ≡ p.nodes) × IsTail bits at × (total ≡ arcs_of behind) × (total < p.arcs)
-Closes p bits behind at (Err (faults.Offsets w)) = ⊥
-Closes p bits behind at (Err (faults.Length page found stored)) = ⊥
+abbrev pub EndsAs : Parameters → List Bool → List Whole → ℕ → Result Accepted ArchiveFault → Type 0
+EndsAs p bits behind at (Ok a) = (length behind ≡ p.nodes) × IsTail bits at × (arcs_of behind ≡ p.arcs) × (a.graph ≡ lists_of behind) × (a.places ≡ places_of behind)
+EndsAs p bits behind at (Err (faults.Record e)) = (length behind < p.nodes) × ReadsRecord p (context_of p behind) bits at (Err e)
+EndsAs p bits behind at (Err (faults.Tail offset)) = (length behind ≡ p.nodes) × IsTailFault bits at offset
+EndsAs p bits behind at (Err (faults.ArcsShort total)) = (length behind ≡ p.nodes) × IsTail bits at × (total ≡ arcs_of behind) × (total < p.arcs)
+EndsAs p bits behind at (Err (faults.Offsets w)) = ⊥
+EndsAs p bits behind at (Err (faults.Length page found stored)) = ⊥
 
 -- The bits stand for this graph, or this is their first fault.
 abbrev pub ReadsGraph : Parameters → List Bool → Result Accepted ArchiveFault → Type 0
-ReadsGraph p bits w = (ws : List Whole) × (behind : List Whole) × (at : ℕ) × Pages p bits [] 0 ws behind at × Closes p bits behind at w
+ReadsGraph p bits w = (ws : List Whole) × (behind : List Whole) × (at : ℕ) × Pages p bits [] 0 ws behind at × EndsAs p bits behind at w

@@ -116,11 +116,11 @@ impl Progress {
         ensures by_numbers { result ≡ need_of (tally_of self.now) }
         ensures exact { (p : Parameters) (c : Context) (s : SoFar) → Follows self.now p c s → result ≡ next p c s }
     {
-        self.needed()
+        self.next_field()
     }
 
     #[tactic(auto, unfolding(crate::specs::Tally::need_of))]
-    fn needed(&self) -> Need
+    fn next_field(&self) -> Need
         ensures { result ≡ need_of (tally_of self.now) }
     {
         let degree = match self.outdegree {
@@ -186,7 +186,7 @@ impl Progress {
         ensures page { (tally_of self.new).page ≡ (tally_of self.old).page }
         ensures exact { (p : Parameters) (c : Context) (s : SoFar) (f : Field) (code : Code) → Follows self.old p c s → next p c s ≡ Need.Read f code → Gives referenced p c f value → Judges result (refusal p c s f value) × OnOk result (Follows self.new p c (after p c s f value)) }
     {
-        match self.needed() {
+        match self.next_field() {
             Need::Read(field, _) => match self.refusal(field, value, referenced) {
                 Some(kind) => Err(kind),
                 None => {

@@ -48,7 +48,7 @@ impl GraphBuilder {
 
     // The successors that page x has so far.
     #[inline(always)]
-    fn begun(&self, x: u64) -> &[u64]
+    fn list_so_far(&self, x: u64) -> &[u64]
         ensures value { result.now ≡ successors self.now x }
         ensures ascends { Ascends 0 result.now }
     {
@@ -88,7 +88,7 @@ impl GraphBuilder {
         if x + 1 < begun {
             return false;
         }
-        is_past(self.begun(x), v)
+        is_past(self.list_so_far(x), v)
     }
 
     /// Whether the arc from `x` to `v` may come next. It takes constant time.

@@ -9,7 +9,7 @@ use Rattle.std.proofs.lemmas.Map.Views.{tells_apart}
 use Rattle.std.proofs.lemmas.Map.Lookups.{exact_bytes}
 use Rattle.std.proofs.lemmas.List.{append-nil}
 use Rattle.std.specs.FinMap.{get, insert, empty, get-empty, get-insert, same_map, slice_cmp-IsAntisymmetric, nat_cmp-IsAntisymmetric}
-use Rattle.wg_io.specs.Outside.{Files, Counts, NoneFalls, appended, content}
+use Rattle.wg_io.specs.Outside.{Files, Counts, NonDecreasing, appended, content}
 
 -- one name is another
 abbrev pub is_name : List ℕ → List ℕ → Bool
@@ -46,7 +46,7 @@ appended-append f n (x ∷ a) (y ∷ b) =
     ∙ ap (λ (l : List ℕ). insert f n l) (append_assoc (content f n) (x ∷ a) (y ∷ b))
 
 -- counts that don't fall twice
-pub none_falls-trans : (a b c : List ℕ → Counts) → NoneFalls a b → NoneFalls b c → NoneFalls a c
+pub none_falls-trans : (a b c : List ℕ → Counts) → NonDecreasing a b → NonDecreasing b c → NonDecreasing a c
 none_falls-trans a b c ab bc = record {
   read_faults = λ n. omega (arith, ab.read_faults n, bc.read_faults n);
   write_faults = λ n. omega (arith, ab.write_faults n, bc.write_faults n);
@@ -55,7 +55,7 @@ none_falls-trans a b c ab bc = record {
 }
 
 -- one count for all names
-pub none_falls_once : (a b : Counts) → a.read_faults ≤ b.read_faults → a.write_faults ≤ b.write_faults → a.absences ≤ b.absences → a.wants ≤ b.wants → NoneFalls (λ _. a) (λ _. b)
+pub none_falls_once : (a b : Counts) → a.read_faults ≤ b.read_faults → a.write_faults ≤ b.write_faults → a.absences ≤ b.absences → a.wants ≤ b.wants → NonDecreasing (λ _. a) (λ _. b)
 none_falls_once a b r w s m = record { read_faults = λ _. r; write_faults = λ _. w; absences = λ _. s; wants = λ _. m }
 
 -- names that the order does not tell apart are one

@@ -73,7 +73,7 @@ one_more_other name hs i h lt here other none =
     subst (All (IsOther name)) (sym (rw add-one (take-suc hs i h lt ∙ ap (λ (x : Held). take i hs ++ x ∷ []) here)))
     (All-push (IsOther name) (take i hs) h none other)
 
--- the place of a name, found by its test
+-- the index of a name, found by its test
 pub found_at : (hs : List Held) (i : ℕ) (h : Held) (name text : List ℕ) (r : Bool) → i < length hs → h ≡ get_or hs i h → text ≡ string_bytes h.name
     → r ≡ true → r ≡ pointwise eqb text name → All (IsOther name) (take i hs) → IsAt hs name i
 found_at hs i h name text r lt here of is test none = record {
@@ -82,17 +82,17 @@ found_at hs i h name text r lt here of is test none = record {
   first = none;
 }
 
--- and a place of another name
+-- and an index of another name
 pub other_at : (hs : List Held) (i : ℕ) (h : Held) (name text : List ℕ) (r : Bool) → i < length hs → h ≡ get_or hs i h → text ≡ string_bytes h.name
     → r ≡ false → r ≡ pointwise eqb text name → All (IsOther name) (take i hs) → All (IsOther name) (take (i + 1) hs)
 other_at hs i h name text r lt here of is test none = one_more_other name hs i h lt (sym here) (λ e. texts_differ text name r is test (of ∙ e)) none
 
--- a list with other bytes in the file at a name's place
+-- a list with other bytes in the file at a name's index
 pub put_at : (hs : List Held) (i : ℕ) (name : List ℕ) (h new : Held) → IsAt hs name i → h ≡ get_or hs i h → string_bytes new.name ≡ string_bytes h.name
     → files_of (set hs i new) ≡ insert (files_of hs) name new.bytes.items
 put_at hs i name h new at here kept = files_set hs i name new at.within at.first at.named (kept ∙ at.named h (slice_get-get_or hs i h at.within ∙ ap (λ (x : Held). Some x) (sym here)))
 
--- what stands at a name's place
+-- what stands at a name's index
 pub get_at : (hs : List Held) (i : ℕ) (name : List ℕ) (h : Held) → IsAt hs name i → h ≡ get_or hs i h → get (files_of hs) name ≡ Some h.bytes.items
 get_at hs i name h at here =
     let is : slice_get hs i ≡ Some h = slice_get-get_or hs i h at.within ∙ ap (λ (x : Held). Some x) (sym here) in
@@ -119,7 +119,7 @@ chosen false x y same = refl
 pub insert_held : (f : Files) (n b : List ℕ) → get f n ≡ Some b → insert f n b ≡ f
 insert_held f n b is = same_files _ _ (λ q. get-insert_name f n b q ∙ chosen (is_name q n) (Some b) (get f q) (λ t. sym (ap (get f) (same_name q n t) ∙ is)))
 
--- a place's file with bytes more
+-- an index's file with bytes more
 pub extended_at : (hs : List Held) (i : ℕ) (name piece : List ℕ) (h new : Held) → IsAt hs name i → h ≡ get_or hs i h → string_bytes new.name ≡ string_bytes h.name
     → new.bytes.items ≡ h.bytes.items ++ piece → 0 < length piece → files_of (set hs i new) ≡ appended (files_of hs) name piece
 extended_at hs i name piece h new at here kept more some =
@@ -127,7 +127,7 @@ extended_at hs i name piece h new at here kept more some =
     ∙ ap (λ (l : List ℕ). insert (files_of hs) name l) more
     ∙ appended_content (files_of hs) name h.bytes.items piece some (get_at hs i name h at here)
 
--- a place's file with the bytes that it had
+-- an index's file with the bytes that it had
 pub unchanged_at : (hs : List Held) (i : ℕ) (name : List ℕ) (h new : Held) → IsAt hs name i → h ≡ get_or hs i h → string_bytes new.name ≡ string_bytes h.name
     → new.bytes.items ≡ h.bytes.items → files_of (set hs i new) ≡ files_of hs
 unchanged_at hs i name h new at here kept same =

@@ -4,7 +4,7 @@ use Rattle.std.specs.Result.{IsErrAnd}
 use Rattle.std.proofs.Math.Seq.{take-append-add}
 use Rattle.std.proofs.lemmas.List.{append-nil, take-append-le}
 use Rattle.std.proofs.lemmas.Result.{err_from_is_err_and}
-use Rattle.wg_io.specs.Outside.{Rose}
+use Rattle.wg_io.specs.Outside.{Increased}
 use Rattle.wg_io.specs.Puts.{Puts, joined}
 
 -- the error that the exit of a `?` hands on
@@ -12,12 +12,12 @@ pub is_that_err : {B E : Type 0} (r : Result B E) (e : E) → IsErrAnd r (λ x. 
 is_that_err r e is = let p = err_from_is_err_and r is in p.1 ∙ ap (λ x. Err x) p.2
 
 -- what rose has risen, when other calls came before and after
-pub rose_on : (a b c d : ℕ) → a ≤ b → Rose b c → c ≤ d → Rose a d
+pub rose_on : (a b c d : ℕ) → a ≤ b → Increased b c → c ≤ d → Increased a d
 rose_on a b c d le (inl up) le' = inl (omega arith)
 rose_on a b c d le (inr last) le' = inr (omega arith)
 
 -- a count that is the constant 0 never rose
-pub not_rose : {A : Type 0} → Rose 0 0 → A
+pub not_rose : {A : Type 0} → Increased 0 0 → A
 not_rose (inl up) = absurd (omega arith)
 not_rose (inr last) = absurd (omega arith)
 

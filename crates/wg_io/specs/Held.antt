@@ -11,8 +11,8 @@ files_of helds = from_entries (map (λ h. (string_bytes h.name, h.bytes.items)) 
 abbrev pub IsOther : List ℕ → Held → Type 0
 IsOther name held = string_bytes held.name ≢ name
 
--- the first file of this name stands at this place
-pub record IsAt (helds : List Held) (name : List ℕ) (place : ℕ) : Type 0 where
-  pub within : place < length helds
-  pub named : (h : Held) → slice_get helds place ≡ Some h → string_bytes h.name ≡ name
-  pub first : All (IsOther name) (take place helds)
+-- the first file of this name stands at this index
+pub record IsAt (helds : List Held) (name : List ℕ) (index : ℕ) : Type 0 where
+  pub within : index < length helds
+  pub named : (h : Held) → slice_get helds index ≡ Some h → string_bytes h.name ≡ name
+  pub first : All (IsOther name) (take index helds)

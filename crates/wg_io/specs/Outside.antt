@@ -33,15 +33,15 @@ pub record Counts : Type 0 where
   pub wants : ℕ
 
 -- a count went up, or it stands at its last value
-abbrev pub Rose : ℕ → ℕ → Type 0
-Rose before now = (before < now) ⊎ (2 ^ 64 - 1 ≤ now)
+abbrev pub Increased : ℕ → ℕ → Type 0
+Increased before now = (before < now) ⊎ (2 ^ 64 - 1 ≤ now)
 
 -- one more, up to the last value
 abbrev pub risen : ℕ → ℕ
 risen count = min (count + 1) (2 ^ 64 - 1)
 
 -- no count of any name falls
-pub record NoneFalls (old new : List ℕ → Counts) : Type 0 where
+pub record NonDecreasing (old new : List ℕ → Counts) : Type 0 where
   pub read_faults : (n : List ℕ) → (old n).read_faults ≤ (new n).read_faults
   pub write_faults : (n : List ℕ) → (old n).write_faults ≤ (new n).write_faults
   pub absences : (n : List ℕ) → (old n).absences ≤ (new n).absences

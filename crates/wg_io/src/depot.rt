@@ -1,7 +1,7 @@
 // Files by their names.
 ghost use Rattle.std.specs.Prelude.{◌≡◌, ◌<◌, ◌≤◌, ℕ, Bool, List, [], length, take, IsTrue, IfOk, OnOk, OnErr, IsErrOf};
 ghost use Rattle.std.specs.FinMap as map;
-ghost use Rattle.wg_io.specs.Outside.{Files, Counts, NoneFalls, Rose, appended, created};
+ghost use Rattle.wg_io.specs.Outside.{Files, Counts, NonDecreasing, Increased, appended, created};
 ghost use Rattle.wg_io.specs.Reads.{Reads};
 
 use thiserror::Error;
@@ -44,25 +44,25 @@ pub trait Depot {
     /// found no memory.
     ghost counts: { Self → List ℕ → Counts };
 
-    /// Reads bytes of a file from the place `at` on into the front of `buf`, and answers how many: none at or past the
+    /// Reads bytes of a file from the offset `at` on into the front of `buf`, and answers how many: none at or past the
     /// file's end, and else at least one, maybe fewer than there is room for.
     fn read(&mut self, name: &str, at: u64, buf: &mut [u8]) -> Result<usize, ReadError>
         requires { 0 < length buf.old }
         ensures count { IfOk result (λ count. count ≤ length buf.new) }
         ensures bytes { IsTrue told → Reads (map.get (files self.old) name.now) at buf.new result }
         ensures same { files self.new ≡ files self.old }
-        ensures absent { IsErrOf result ReadError.Absent → Rose (counts self.old name.now).absences (counts self.new name.now).absences }
-        ensures failed { IsErrOf result ReadError.Failed → Rose (counts self.old name.now).read_faults (counts self.new name.now).read_faults }
-        ensures memory { IsErrOf result ReadError.Memory → Rose (counts self.old name.now).wants (counts self.new name.now).wants }
-        ensures later { NoneFalls (counts self.old) (counts self.new) };
+        ensures absent { IsErrOf result ReadError.Absent → Increased (counts self.old name.now).absences (counts self.new name.now).absences }
+        ensures failed { IsErrOf result ReadError.Failed → Increased (counts self.old name.now).read_faults (counts self.new name.now).read_faults }
+        ensures memory { IsErrOf result ReadError.Memory → Increased (counts self.old name.now).wants (counts self.new name.now).wants }
+        ensures later { NonDecreasing (counts self.old) (counts self.new) };
 
     /// Leaves an empty file of this name, whatever it held.
     fn create(&mut self, name: &str) -> Result<(), WriteError>
         ensures ok { IsTrue told → OnOk result (files self.new ≡ created (files self.old) name.now) }
         ensures err { OnErr result (files self.new ≡ files self.old) }
-        ensures failed { IsErrOf result WriteError.Failed → Rose (counts self.old name.now).write_faults (counts self.new name.now).write_faults }
-        ensures memory { IsErrOf result WriteError.Memory → Rose (counts self.old name.now).wants (counts self.new name.now).wants }
-        ensures later { NoneFalls (counts self.old) (counts self.new) };
+        ensures failed { IsErrOf result WriteError.Failed → Increased (counts self.old name.now).write_faults (counts self.new name.now).write_faults }
+        ensures memory { IsErrOf result WriteError.Memory → Increased (counts self.old name.now).wants (counts self.new name.now).wants }
+        ensures later { NonDecreasing (counts self.old) (counts self.new) };
 
     /// Adds a front of the piece, at least one byte, to the end of a file, and answers its length. An absent file is begun.
     fn append(&mut self, name: &str, piece: &[u8]) -> Result<usize, WriteError>
@@ -70,18 +70,18 @@ pub trait Depot {
         ensures count { IfOk result (λ count. (0 < count) × (count ≤ length piece.now)) }
         ensures ok { IsTrue told → IfOk result (λ count. files self.new ≡ appended (files self.old) name.now (take count piece.now)) }
         ensures err { OnErr result (files self.new ≡ files self.old) }
-        ensures failed { IsErrOf result WriteError.Failed → Rose (counts self.old name.now).write_faults (counts self.new name.now).write_faults }
-        ensures memory { IsErrOf result WriteError.Memory → Rose (counts self.old name.now).wants (counts self.new name.now).wants }
-        ensures later { NoneFalls (counts self.old) (counts self.new) };
+        ensures failed { IsErrOf result WriteError.Failed → Increased (counts self.old name.now).write_faults (counts self.new name.now).write_faults }
+        ensures memory { IsErrOf result WriteError.Memory → Increased (counts self.old name.now).wants (counts self.new name.now).wants }
+        ensures later { NonDecreasing (counts self.old) (counts self.new) };
 }
 
 /// Adds the whole piece to the end of a file. After an error a front of it may have been added, and never all of it.
 pub fn append_all<D: Depot>(depot: &mut D, name: &str, piece: &[u8]) -> Result<(), WriteError>
     ensures ok { IsTrue D.told → OnOk result (D.files depot.new ≡ appended (D.files depot.old) name.now piece.now) }
     ensures err { IsTrue D.told → OnErr result ((k : ℕ) × (k < length piece.now) × (D.files depot.new ≡ appended (D.files depot.old) name.now (take k piece.now))) }
-    ensures failed { IsErrOf result WriteError.Failed → Rose (D.counts depot.old name.now).write_faults (D.counts depot.new name.now).write_faults }
-    ensures memory { IsErrOf result WriteError.Memory → Rose (D.counts depot.old name.now).wants (D.counts depot.new name.now).wants }
-    ensures later { NoneFalls (D.counts depot.old) (D.counts depot.new) }
+    ensures failed { IsErrOf result WriteError.Failed → Increased (D.counts depot.old name.now).write_faults (D.counts depot.new name.now).write_faults }
+    ensures memory { IsErrOf result WriteError.Memory → Increased (D.counts depot.old name.now).wants (D.counts depot.new name.now).wants }
+    ensures later { NonDecreasing (D.counts depot.old) (D.counts depot.new) }
     ensures no_call { piece.now ≡ [] → depot.new ≡ depot.old }
 {
     let mut at = 0;

@@ -84,7 +84,7 @@ impl<R: Files<File = File> + Drop> Depot for FolderDepot<R> {
     }
 }
 
-// A positioned read, for some file systems refuse a seek to a place that a read may well ask for.
+// A positioned read, for some file systems refuse a seek to an offset that a read may well ask for.
 fn read_at<R: Files<File = File>>(rt: &R, name: &str, at: u64, buf: &mut [u8]) -> io::Result<usize>
     ensures { IfOk result (λ count. count ≤ length buf.new) }
 {

@@ -46,8 +46,8 @@ impl HeldFiles {
     pub fn get(&self, name: &str) -> Option<&[u8]>
         ensures { option_map (λ bytes. bytes.now) result ≡ map.get self.now name.now }
     {
-        let place = place_of(self.helds.as_slice(), name)?;
-        Some(self.helds[place].bytes.as_slice())
+        let index = index_of(self.helds.as_slice(), name)?;
+        Some(self.helds[index].bytes.as_slice())
     }
 
     /// Gives a name these bytes, in place of those that it had.
@@ -70,13 +70,13 @@ impl HeldFiles {
 }
 
 // Where the first file of this name stands.
-fn place_of(helds: &[Held], name: &str) -> Option<usize>
-    ensures found { IfSome result (λ place. IsAt helds.now name.now place) }
+fn index_of(helds: &[Held], name: &str) -> Option<usize>
+    ensures found { IfSome result (λ index. IsAt helds.now name.now index) }
     ensures missing { IfNone result (All (IsOther name.now) helds.now) }
 {
-    for (place, held) in helds.iter().enumerate() {
+    for (index, held) in helds.iter().enumerate() {
         if held.name.as_str() == name {
-            return Some(place);
+            return Some(index);
         }
     }
     None
@@ -92,9 +92,9 @@ fn put(alloc: Global, helds: &mut Vec<Held>, name: &str, bytes: Vec<u8>) -> Resu
     ensures ok { OnOk result (files_of helds.new.items ≡ map.insert (files_of helds.old.items) name.now bytes.items) }
     ensures err { OnErr result (files_of helds.new.items ≡ files_of helds.old.items) }
 {
-    match place_of(helds.as_slice(), name) {
-        Some(place) => {
-            let held = &mut helds[place];
+    match index_of(helds.as_slice(), name) {
+        Some(index) => {
+            let held = &mut helds[index];
             held.bytes = bytes;
             Ok(())
         }
@@ -111,9 +111,9 @@ fn extend(alloc: Global, helds: &mut Vec<Held>, name: &str, piece: &[u8]) -> Res
     ensures ok { OnOk result (files_of helds.new.items ≡ appended (files_of helds.old.items) name.now piece.now) }
     ensures err { OnErr result (files_of helds.new.items ≡ files_of helds.old.items) }
 {
-    match place_of(helds.as_slice(), name) {
-        Some(place) => {
-            let held = &mut helds[place];
+    match index_of(helds.as_slice(), name) {
+        Some(index) => {
+            let held = &mut helds[index];
             held.bytes.extend_from_slice(piece)?;
             Ok(())
         }

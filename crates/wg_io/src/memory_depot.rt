@@ -2,7 +2,7 @@
 ghost use Rattle.std.specs.Prelude.{◌≡◌, ◌≢◌, ◌-◌, ◌^◌, ◌<◌, ◌≤◌, ◌↔◌, ◌⊎◌, ℕ, min, length, take, IsTrue, IfOk, IfErr, OnOk, OnErr, IsErrOf};
 ghost use Rattle.std.specs.FinMap as map;
 ghost use Rattle.wg_io.specs.Memory.{failing_counts, FailingFiles, no_calls, one_more, IsNamed};
-ghost use Rattle.wg_io.specs.Outside.{NoneFalls, appended, content, created, risen};
+ghost use Rattle.wg_io.specs.Outside.{NonDecreasing, appended, content, created, risen};
 ghost use Rattle.wg_io.specs.Reads.{Reads};
 
 use crate::calls::Counter;
@@ -116,7 +116,7 @@ impl Depot for MemoryDepot {
         ensures failed { IsErrOf result ReadError.Failed → self.new ≡ record self.old { reads = one_more self.old.reads; read_faults = risen self.old.read_faults } }
         ensures absent { IsErrOf result ReadError.Absent → self.new ≡ record self.old { reads = one_more self.old.reads; steady = record self.old.steady { absences = risen self.old.steady.absences } } }
         ensures no_memory { IfErr result (λ error. error ≢ ReadError.Memory) }
-        ensures later { NoneFalls (λ _. failing_counts self.old) (λ _. failing_counts self.new) }
+        ensures later { NonDecreasing (λ _. failing_counts self.old) (λ _. failing_counts self.new) }
     {
         if self.reads.begin() && self.steady.holds(name) {
             self.tally.read_failed();
@@ -131,7 +131,7 @@ impl Depot for MemoryDepot {
         ensures ok { OnOk result (self.new ≡ record self.old { creates = one_more self.old.creates; steady = record self.old.steady { files = created self.old.steady.files name.now } }) }
         ensures failed { IsErrOf result WriteError.Failed → self.new ≡ record self.old { creates = one_more self.old.creates; write_faults = risen self.old.write_faults } }
         ensures wanted { IsErrOf result WriteError.Memory → self.new ≡ record self.old { creates = one_more self.old.creates; steady = record self.old.steady { wants = risen self.old.steady.wants } } }
-        ensures later { NoneFalls (λ _. failing_counts self.old) (λ _. failing_counts self.new) }
+        ensures later { NonDecreasing (λ _. failing_counts self.old) (λ _. failing_counts self.new) }
     {
         if self.creates.begin() {
             self.tally.write_failed();
@@ -149,7 +149,7 @@ impl Depot for MemoryDepot {
         ensures ok { IfOk result (λ count. self.new ≡ record self.old { appends = one_more self.old.appends; steady = record self.old.steady { files = appended self.old.steady.files name.now (take count piece.now) } }) }
         ensures failed { IsErrOf result WriteError.Failed → self.new ≡ record self.old { appends = one_more self.old.appends; write_faults = risen self.old.write_faults } }
         ensures wanted { IsErrOf result WriteError.Memory → self.new ≡ record self.old { appends = one_more self.old.appends; steady = record self.old.steady { wants = risen self.old.steady.wants } } }
-        ensures later { NoneFalls (λ _. failing_counts self.old) (λ _. failing_counts self.new) }
+        ensures later { NonDecreasing (λ _. failing_counts self.old) (λ _. failing_counts self.new) }
     {
         if self.appends.begin() {
             self.tally.write_failed();

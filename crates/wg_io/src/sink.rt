@@ -1,6 +1,6 @@
 // Where bytes go.
 ghost use Rattle.std.specs.Prelude.{◌≡◌, ◌<◌, ◌≤◌, ℕ, Bool, List, [], ◌++◌, length, take, IsTrue, IfOk, OnErr, IsErrOf};
-ghost use Rattle.wg_io.specs.Outside.{Rose};
+ghost use Rattle.wg_io.specs.Outside.{Increased};
 ghost use Rattle.wg_io.specs.Puts.{Puts};
 
 use crate::WriteError;
@@ -25,16 +25,16 @@ pub trait Sink {
         ensures count { IfOk result (λ count. (0 < count) × (count ≤ length piece.now)) }
         ensures ok { IsTrue told → IfOk result (λ count. taken self.new ≡ taken self.old ++ take count piece.now) }
         ensures err { OnErr result (taken self.new ≡ taken self.old) }
-        ensures failed { IsErrOf result WriteError.Failed → Rose (faults self.old) (faults self.new) }
-        ensures memory { IsErrOf result WriteError.Memory → Rose (wants self.old) (wants self.new) }
+        ensures failed { IsErrOf result WriteError.Failed → Increased (faults self.old) (faults self.new) }
+        ensures memory { IsErrOf result WriteError.Memory → Increased (wants self.old) (wants self.new) }
         ensures later { (faults self.old ≤ faults self.new) × (wants self.old ≤ wants self.new) };
 }
 
 /// Writes the whole piece. After an error a front of it may be out, and never all of it.
 pub fn write_all<S: Sink>(sink: &mut S, piece: &[u8]) -> Result<(), WriteError>
     ensures puts { IsTrue S.told → Puts piece.now (S.taken sink.old) (S.taken sink.new) result }
-    ensures failed { IsErrOf result WriteError.Failed → Rose (S.faults sink.old) (S.faults sink.new) }
-    ensures memory { IsErrOf result WriteError.Memory → Rose (S.wants sink.old) (S.wants sink.new) }
+    ensures failed { IsErrOf result WriteError.Failed → Increased (S.faults sink.old) (S.faults sink.new) }
+    ensures memory { IsErrOf result WriteError.Memory → Increased (S.wants sink.old) (S.wants sink.new) }
     ensures later { (S.faults sink.old ≤ S.faults sink.new) × (S.wants sink.old ≤ S.wants sink.new) }
     ensures no_call { piece.now ≡ [] → sink.new ≡ sink.old }
 {

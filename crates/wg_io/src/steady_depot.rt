@@ -2,7 +2,7 @@
 ghost use Rattle.std.specs.Prelude.{◌≡◌, ◌≢◌, ◌-◌, ◌<◌, ◌≤◌, ℕ, min, length, take, IfOk, IfErr, OnOk, OnErr, IsOk, IsErrOf};
 ghost use Rattle.std.specs.FinMap as map;
 ghost use Rattle.wg_io.specs.Memory.{steady_counts, SteadyFiles};
-ghost use Rattle.wg_io.specs.Outside.{NoneFalls, appended, content, created, risen};
+ghost use Rattle.wg_io.specs.Outside.{NonDecreasing, appended, content, created, risen};
 ghost use Rattle.wg_io.specs.Reads.{IsPieceOf, Reads};
 
 use crate::held::HeldFiles;
@@ -81,7 +81,7 @@ impl Depot for SteadyDepot {
         ensures ok { OnOk result (self.new ≡ self.old) }
         ensures absent { OnErr result (self.new ≡ record self.old { absences = risen self.old.absences }) }
         ensures only_absent { IfErr result (λ error. error ≡ ReadError.Absent) }
-        ensures later { NoneFalls (λ _. steady_counts self.old) (λ _. steady_counts self.new) }
+        ensures later { NonDecreasing (λ _. steady_counts self.old) (λ _. steady_counts self.new) }
     {
         match self.files.get(name) {
             Some(file) => Ok(copy_piece(file, at, self.piece, buf)),
@@ -97,7 +97,7 @@ impl Depot for SteadyDepot {
         ensures ok { OnOk result (self.new ≡ record self.old { files = created self.old.files name.now }) }
         ensures wanted { OnErr result (self.new ≡ record self.old { wants = risen self.old.wants }) }
         ensures only_memory { IfErr result (λ error. error ≡ WriteError.Memory) }
-        ensures later { NoneFalls (λ _. steady_counts self.old) (λ _. steady_counts self.new) }
+        ensures later { NonDecreasing (λ _. steady_counts self.old) (λ _. steady_counts self.new) }
     {
         match self.files.put(name, b"") {
             Ok(()) => Ok(()),
@@ -116,7 +116,7 @@ impl Depot for SteadyDepot {
         ensures ok { IfOk result (λ count. self.new ≡ record self.old { files = appended self.old.files name.now (take count piece.now) }) }
         ensures wanted { OnErr result (self.new ≡ record self.old { wants = risen self.old.wants }) }
         ensures only_memory { IfErr result (λ error. error ≡ WriteError.Memory) }
-        ensures later { NoneFalls (λ _. steady_counts self.old) (λ _. steady_counts self.new) }
+        ensures later { NonDecreasing (λ _. steady_counts self.old) (λ _. steady_counts self.new) }
     {
         let count = piece.len().min(self.piece as usize);
         match self.files.extend(name, &piece[..count]) {
@@ -129,7 +129,7 @@ impl Depot for SteadyDepot {
     }
 }
 
-// Copies what stands in the file from a place on, as far as the buffer and one call go.
+// Copies what stands in the file from an offset on, as far as the buffer and one call go.
 fn copy_piece(file: &[u8], at: u64, piece: u64, buf: &mut [u8]) -> usize
     requires room { 0 < length buf.old }
     requires piece { 0 < piece }

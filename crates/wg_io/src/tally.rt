@@ -1,6 +1,6 @@
 // How often calls were refused.
 ghost use Rattle.std.specs.Prelude.{◌≡◌, ◌≤◌, ◌↔◌};
-ghost use Rattle.wg_io.specs.Outside.{risen, NoneFalls};
+ghost use Rattle.wg_io.specs.Outside.{risen, NonDecreasing};
 
 use crate::WriteError;
 use std::io::ErrorKind;
@@ -38,7 +38,7 @@ impl Tally {
     pub fn read_failed(&mut self)
         ensures risen { self.new ≡ record self.old { read_faults = risen self.old.read_faults } }
         ensures more { self.old.read_faults ≤ self.new.read_faults }
-        ensures later { NoneFalls (λ _. self.old) (λ _. self.new) }
+        ensures later { NonDecreasing (λ _. self.old) (λ _. self.new) }
     {
         self.read_faults = self.read_faults.saturating_add(1);
     }
@@ -46,7 +46,7 @@ impl Tally {
     pub fn write_failed(&mut self)
         ensures risen { self.new ≡ record self.old { write_faults = risen self.old.write_faults } }
         ensures more { self.old.write_faults ≤ self.new.write_faults }
-        ensures later { NoneFalls (λ _. self.old) (λ _. self.new) }
+        ensures later { NonDecreasing (λ _. self.old) (λ _. self.new) }
     {
         self.write_faults = self.write_faults.saturating_add(1);
     }
@@ -54,7 +54,7 @@ impl Tally {
     pub fn absent(&mut self)
         ensures risen { self.new ≡ record self.old { absences = risen self.old.absences } }
         ensures more { self.old.absences ≤ self.new.absences }
-        ensures later { NoneFalls (λ _. self.old) (λ _. self.new) }
+        ensures later { NonDecreasing (λ _. self.old) (λ _. self.new) }
     {
         self.absences = self.absences.saturating_add(1);
     }
@@ -62,7 +62,7 @@ impl Tally {
     pub fn wanted(&mut self)
         ensures risen { self.new ≡ record self.old { wants = risen self.old.wants } }
         ensures more { self.old.wants ≤ self.new.wants }
-        ensures later { NoneFalls (λ _. self.old) (λ _. self.new) }
+        ensures later { NonDecreasing (λ _. self.old) (λ _. self.new) }
     {
         self.wants = self.wants.saturating_add(1);
     }
@@ -72,7 +72,7 @@ impl Tally {
         ensures failed { result ≡ WriteError.Failed → self.new ≡ record self.old { write_faults = risen self.old.write_faults } }
         ensures memory { result ≡ WriteError.Memory → self.new ≡ record self.old { wants = risen self.old.wants } }
         ensures which { (result ≡ WriteError.Memory) ↔ (kind ≡ ErrorKind.OutOfMemory) }
-        ensures later { NoneFalls (λ _. self.old) (λ _. self.new) }
+        ensures later { NonDecreasing (λ _. self.old) (λ _. self.new) }
     {
         match kind {
             ErrorKind::OutOfMemory => {

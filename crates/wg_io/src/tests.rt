@@ -43,8 +43,8 @@ fn a_file_of_the_system_is_read_at_any_place(rt: HostRuntime) {
     let mut buffer = [0u8; 8];
     assert_eq!(rt; depot.read(name, 18, &mut buffer), Ok(8));
     assert_eq!(rt; &buffer, b"ccessors");
-    for place in [26, MOST_BYTES] {
-        assert_eq!(rt; depot.read(name, place, &mut buffer), Ok(0), "at {place}");
+    for offset in [26, MOST_BYTES] {
+        assert_eq!(rt; depot.read(name, offset, &mut buffer), Ok(0), "at {offset}");
     }
     assert!(rt; fs::remove_file(&rt, name).is_ok());
 }

@@ -1,7 +1,7 @@
 // A whole file in memory.
 ghost use Rattle.std.specs.Prelude.{◌≡◌, ◌<◌, ◌≤◌, [], ◌++◌, length, IsTrue, IsErrOf, IfOk, OnOk, OnErr};
 ghost use Rattle.std.specs.FinMap as map;
-ghost use Rattle.wg_io.specs.Outside.{NoneFalls, Rose};
+ghost use Rattle.wg_io.specs.Outside.{NonDecreasing, Increased};
 ghost use Rattle.wg_io.specs.Reads.{Loads};
 
 use crate::{Depot, MOST_BYTES, ReadError};
@@ -96,9 +96,9 @@ impl From<AllocError> for LoadError {
 pub fn read_whole<D: Depot>(alloc: Global, depot: &mut D, name: &str) -> Result<List8, LoadError>
     ensures bytes { IsTrue D.told → Loads (map.get (D.files depot.old) name.now) result }
     ensures same { D.files depot.new ≡ D.files depot.old }
-    ensures absent { IsErrOf result LoadError.Absent → Rose (D.counts depot.old name.now).absences (D.counts depot.new name.now).absences }
-    ensures failed { IsErrOf result LoadError.Failed → Rose (D.counts depot.old name.now).read_faults (D.counts depot.new name.now).read_faults }
-    ensures later { NoneFalls (D.counts depot.old) (D.counts depot.new) }
+    ensures absent { IsErrOf result LoadError.Absent → Increased (D.counts depot.old name.now).absences (D.counts depot.new name.now).absences }
+    ensures failed { IsErrOf result LoadError.Failed → Increased (D.counts depot.old name.now).read_faults (D.counts depot.new name.now).read_faults }
+    ensures later { NonDecreasing (D.counts depot.old) (D.counts depot.new) }
     ensures short { IfOk result (λ bytes. length bytes ≤ MOST_BYTES) }
 {
     let mut probe = [0u8; 1];

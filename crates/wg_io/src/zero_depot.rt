@@ -2,7 +2,7 @@
 ghost use Rattle.std.specs.Prelude.{◌≡◌, ◌-◌, ◌<◌, ◌≤◌, ℕ, min, length, take, replicate, IfOk, IfErr, OnOk, OnErr, IsErrOf};
 ghost use Rattle.std.specs.FinMap as map;
 ghost use Rattle.wg_io.specs.Memory.{zero_counts, OneFile, files_of_zeros};
-ghost use Rattle.wg_io.specs.Outside.{NoneFalls, Rose, appended, created, risen};
+ghost use Rattle.wg_io.specs.Outside.{NonDecreasing, Increased, appended, created, risen};
 ghost use Rattle.wg_io.specs.Reads.{IsPieceOf, Reads};
 
 use crate::tally::Tally;
@@ -58,10 +58,10 @@ impl<'a> Depot for ZeroDepot<'a> {
         ensures ok { OnOk result (self.new ≡ self.old) }
         ensures absent { OnErr result (self.new ≡ record self.old { absences = risen self.old.absences }) }
         ensures only_absent { IfErr result (λ error. error ≡ ReadError.Absent) }
-        ensures absences { IsErrOf result ReadError.Absent → Rose self.old.absences self.new.absences }
-        ensures failed { IsErrOf result ReadError.Failed → Rose 0 0 }
-        ensures memory { IsErrOf result ReadError.Memory → Rose 0 0 }
-        ensures later { NoneFalls (λ _. zero_counts self.old) (λ _. zero_counts self.new) }
+        ensures absences { IsErrOf result ReadError.Absent → Increased self.old.absences self.new.absences }
+        ensures failed { IsErrOf result ReadError.Failed → Increased 0 0 }
+        ensures memory { IsErrOf result ReadError.Memory → Increased 0 0 }
+        ensures later { NonDecreasing (λ _. zero_counts self.old) (λ _. zero_counts self.new) }
     {
         if name == self.name {
             return Ok(fill_piece(self.length, at, buf));
@@ -75,10 +75,10 @@ impl<'a> Depot for ZeroDepot<'a> {
         ensures fails { result ≡ Err WriteError.Failed }
         ensures ok { OnOk result (files_of_zeros self.new ≡ created (files_of_zeros self.old) name.now) }
         ensures err { OnErr result (files_of_zeros self.new ≡ files_of_zeros self.old) }
-        ensures failed { IsErrOf result WriteError.Failed → Rose self.old.write_faults self.new.write_faults }
-        ensures memory { IsErrOf result WriteError.Memory → Rose 0 0 }
+        ensures failed { IsErrOf result WriteError.Failed → Increased self.old.write_faults self.new.write_faults }
+        ensures memory { IsErrOf result WriteError.Memory → Increased 0 0 }
         ensures counted { self.new ≡ record self.old { write_faults = risen self.old.write_faults } }
-        ensures later { NoneFalls (λ _. zero_counts self.old) (λ _. zero_counts self.new) }
+        ensures later { NonDecreasing (λ _. zero_counts self.old) (λ _. zero_counts self.new) }
     {
         self.tally.write_failed();
         Err(WriteError::Failed)
@@ -91,17 +91,17 @@ impl<'a> Depot for ZeroDepot<'a> {
         ensures fails { result ≡ Err WriteError.Failed }
         ensures ok { IfOk result (λ count. files_of_zeros self.new ≡ appended (files_of_zeros self.old) name.now (take count piece.now)) }
         ensures err { OnErr result (files_of_zeros self.new ≡ files_of_zeros self.old) }
-        ensures failed { IsErrOf result WriteError.Failed → Rose self.old.write_faults self.new.write_faults }
-        ensures memory { IsErrOf result WriteError.Memory → Rose 0 0 }
+        ensures failed { IsErrOf result WriteError.Failed → Increased self.old.write_faults self.new.write_faults }
+        ensures memory { IsErrOf result WriteError.Memory → Increased 0 0 }
         ensures counted { self.new ≡ record self.old { write_faults = risen self.old.write_faults } }
-        ensures later { NoneFalls (λ _. zero_counts self.old) (λ _. zero_counts self.new) }
+        ensures later { NonDecreasing (λ _. zero_counts self.old) (λ _. zero_counts self.new) }
     {
         self.tally.write_failed();
         Err(WriteError::Failed)
     }
 }
 
-// The zeros from a place on, as far as the buffer goes.
+// The zeros from an offset on, as far as the buffer goes.
 fn fill_piece(zeros: u64, at: u64, buf: &mut [u8]) -> usize
     requires { 0 < length buf.old }
     ensures bytes { IsPieceOf (replicate zeros 0) at buf.new result }

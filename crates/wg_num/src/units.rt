@@ -34,8 +34,8 @@ pub fn units_text(value: u128) -> UnitsText
 {
     let mut bytes = [b'.'; 26];
     let mut rest = value;
-    for place in (2..26).rev() {
-        bytes[place] = b'0' + (rest % 10) as u8;
+    for index in (2..26).rev() {
+        bytes[index] = b'0' + (rest % 10) as u8;
         rest /= 10;
     }
     bytes[0] = b'0' + rest as u8;

@@ -10,10 +10,10 @@ use Rattle.wg_codes.proofs.CodeLaws.{one_result, some_result, value_front}
 use Rattle.wg_grammar.specs.declared.fault.OffsetWord.{OffsetWord}
 use Rattle.wg_grammar.specs.declared.fault.OffsetWord.TheVariants as faults
 use Rattle.wg_grammar.proofs.OneGraph.{tail_some, tail_or_fault, fault_one}
-use Rattle.wg_offsets.specs.Words.{places_of, refusal, Words, IsRefused, HasNoTail, Closes, ReadsOffsets}
+use Rattle.wg_offsets.specs.Words.{places_of, refusal, Words, IsRefused, HasNoTail, EndsAs, ReadsOffsets}
 
 abbrev Walks : Code → ℕ → List Bool → List ℕ → ℕ → List ℕ → Result (List ℕ) OffsetWord → Type 0
-Walks c n bits before at vs w = (values : List ℕ) × (end : ℕ) × Words c bits before at vs values end × Closes c n bits values end w
+Walks c n bits before at vs w = (values : List ℕ) × (end : ℕ) × Words c bits before at vs values end × EndsAs c n bits values end w
 
 same_fault : (o : Option OffsetWord) (e f : OffsetWord) → o ≡ Some e → o ≡ Some f → e ≡ f
 same_fault o e f a b = let s : Some e ≡ Some f = sym a ∙ b in cc
@@ -32,7 +32,7 @@ module _ (c : Code) (coded : IsCode c) (n : ℕ) (bits : List Bool) where
   tails_one : (at : ℕ) (e f : OffsetWord) → HasNoTail bits at e → HasNoTail bits at f → e ≡ f
   tails_one at e f a b = a.2 ∙ ap faults.Tail (fault_one bits at a.0 b.0 a.1 b.1) ∙ sym b.2
 
-  closes_one : (values : List ℕ) (at : ℕ) (w x : Result (List ℕ) OffsetWord) → Closes c n bits values at w → Closes c n bits values at x → w ≡ x
+  closes_one : (values : List ℕ) (at : ℕ) (w x : Result (List ℕ) OffsetWord) → EndsAs c n bits values at w → EndsAs c n bits values at x → w ≡ x
   closes_one values at (Ok p) (Ok q) a b = ap Ok (a.2 ∙ sym b.2)
   closes_one values at (Ok p) (Err e) a b = elim b [ inl r ↦ absurd (omega (arith, a.0, r.0)) | inr t ↦ absurd (tail_or_fault bits at t.1.0 a.1 t.1.1) ]
   closes_one values at (Err e) (Ok p) b a = elim b [ inl r ↦ absurd (omega (arith, a.0, r.0)) | inr t ↦ absurd (tail_or_fault bits at t.1.0 a.1 t.1.1) ]
@@ -47,15 +47,15 @@ module _ (c : Code) (coded : IsCode c) (n : ℕ) (bits : List Bool) where
   words_length before at (v ∷ vs) values end words =
       omega (arith, words_length (before ++ v ∷ []) (at + length (word c v)) vs values end words.2, length-append before (v ∷ []))
 
-  few : (values : List ℕ) (at : ℕ) (w : Result (List ℕ) OffsetWord) → Closes c n bits values at w → length values ≤ n + 1
+  few : (values : List ℕ) (at : ℕ) (w : Result (List ℕ) OffsetWord) → EndsAs c n bits values at w → length values ≤ n + 1
   few values at (Ok p) h = omega (arith, h.0)
   few values at (Err e) h = elim h [ inl r ↦ omega (arith, r.0) | inr t ↦ omega (arith, t.0) ]
 
-  here : (before : List ℕ) (at : ℕ) (w : Result (List ℕ) OffsetWord) → Walks c n bits before at [] w → Closes c n bits before at w
-  here before at w x = subst (λ (k : ℕ). Closes c n bits before k w) x.2.1 (subst (λ (l : List ℕ). Closes c n bits l x.1 w) x.2.0 x.3)
+  here : (before : List ℕ) (at : ℕ) (w : Result (List ℕ) OffsetWord) → Walks c n bits before at [] w → EndsAs c n bits before at w
+  here before at w x = subst (λ (k : ℕ). EndsAs c n bits before k w) x.2.1 (subst (λ (l : List ℕ). EndsAs c n bits l x.1 w) x.2.0 x.3)
 
   goes_or_closes : (before : List ℕ) (at v : ℕ) (w : Result (List ℕ) OffsetWord) → length before ≤ n → Reads (word c) (top c) (drop at bits) (reads.Value v)
-      → refusal (length before) (sum before) (reads.Value v) ≡ None → Closes c n bits before at w → ⊥
+      → refusal (length before) (sum before) (reads.Value v) ≡ None → EndsAs c n bits before at w → ⊥
   goes_or_closes before at v (Ok p) le found fine h = absurd (omega (arith, h.0))
   goes_or_closes before at v (Err e) le found fine h =
       elim h [
@@ -89,7 +89,7 @@ module _ (c : Code) (coded : IsCode c) (n : ℕ) (bits : List Bool) where
   abbrev Found : List ℕ → ℕ → Type 0
   Found before at = (w : Result (List ℕ) OffsetWord) × (vs : List ℕ) × Walks c n bits before at vs w
 
-  closes_here : (before : List ℕ) (at : ℕ) (w : Result (List ℕ) OffsetWord) → Closes c n bits before at w → Found before at
+  closes_here : (before : List ℕ) (at : ℕ) (w : Result (List ℕ) OffsetWord) → EndsAs c n bits before at w → Found before at
   closes_here before at w h = (w, [], (before, at, (refl, refl), h))
 
   at_end : (before : List ℕ) (at : ℕ) → at ≤ length bits → length before ≡ n + 1 → Found before at

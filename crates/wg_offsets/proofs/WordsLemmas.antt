@@ -14,7 +14,7 @@ use Rattle.wg_grammar.specs.declared.fault.OffsetWord.TheVariants as faults
 use Rattle.wg_offsets.specs.Words.{places_of, refusal, Words, IsRefused, ReadsOffsets}
 use Rattle.wg_offsets.specs.declared.places.TheConstants.{MOST_PLACE}
 use Rattle.wg_offsets.specs.Places.{last_place}
-use Rattle.wg_offsets.specs.Stages.{HaveStood, LeadsTo}
+use Rattle.wg_offsets.specs.Stages.{PrefixRead, LeadsTo}
 
 -- a word more after some
 pub words_more : (c : Code) (bits : List Bool) (before : List ℕ) (at : ℕ) (vs values : List ℕ) (mid v : ℕ) → Words c bits before at vs values mid
@@ -28,7 +28,7 @@ words_more c bits before at [] values mid v words reads fine = (
 words_more c bits before at (x ∷ vs) values mid v words reads fine =
     (words.0, words.1, words_more c bits (before ++ x ∷ []) (at + length (word c x)) vs values mid v words.2 reads fine)
 
--- the place that one value more leads to
+-- the offset that one value more leads to
 pub ends_more : (n : ℕ) (vs : List ℕ) (v : ℕ) → ends_of n (vs ++ v ∷ []) ≡ ends_of n vs ++ (n + sum vs + v) ∷ []
 ends_more n [] v = ap (λ (k : ℕ). k ∷ []) (omega arith)
 ends_more n (x ∷ vs) v =
@@ -40,16 +40,16 @@ length_ends n [] = refl
 length_ends n (x ∷ vs) = ap suc (length_ends (n + x) vs)
 
 module _ (c : Code) (bits : List Bool) where
-  pub none_yet : HaveStood c bits 0 0 0 []
+  pub none_yet : PrefixRead c bits 0 0 0 []
   none_yet = record { read = []; values = []; words = (refl, refl); number = refl; total = refl; lead = refl }
 
   -- there are as many places as words
-  pub as_many : (count at place : ℕ) (places : List ℕ) → HaveStood c bits count at place places → length places ≡ count
-  as_many count at place places h = ap length h.lead ∙ length_ends 0 h.values ∙ h.number
+  pub as_many : (count at offset : ℕ) (places : List ℕ) → PrefixRead c bits count at offset places → length places ≡ count
+  as_many count at offset places h = ap length h.lead ∙ length_ends 0 h.values ∙ h.number
 
-  pub one_more : (count at place : ℕ) (places : List ℕ) (next end : ℕ) → HaveStood c bits count at place places → LeadsTo c bits count place at next end
-      → HaveStood c bits (count + 1) end next (places ++ next ∷ [])
-  one_more count at place places next end h leads =
+  pub one_more : (count at offset : ℕ) (places : List ℕ) (next end : ℕ) → PrefixRead c bits count at offset places → LeadsTo c bits count offset at next end
+      → PrefixRead c bits (count + 1) end next (places ++ next ∷ [])
+  one_more count at offset places next end h leads =
       let v : ℕ = leads.0 in
       let next_is : 0 + sum h.values + v ≡ next = omega (arith, h.total, leads.3) in
       let fine : refusal (length h.values) (sum h.values) (Value v) ≡ None =
@@ -65,22 +65,22 @@ module _ (c : Code) (bits : List Bool) where
       }
 
   -- the next word is refused, and so is the file
-  pub one_refused : (n count at place : ℕ) (places : List ℕ) (e : OffsetWord) → HaveStood c bits count at place places → count ≤ n → IsRefused c bits count place at e
+  pub one_refused : (n count at offset : ℕ) (places : List ℕ) (e : OffsetWord) → PrefixRead c bits count at offset places → count ≤ n → IsRefused c bits count offset at e
       → ReadsOffsets c n bits (Err e)
-  one_refused n count at place places e h le refuses =
+  one_refused n count at offset places e h le refuses =
       let why : refusal (length h.values) (sum h.values) refuses.0 ≡ Some e =
       subst (λ (k : ℕ). refusal k (sum h.values) refuses.0 ≡ Some e) (sym h.number)
       (subst (λ (k : ℕ). refusal count k refuses.0 ≡ Some e) (sym h.total) refuses.2) in
       (h.read, h.values, at, h.words, inl (omega (arith, h.number), (refuses.0, refuses.1, why)))
 
   -- all words stand, and what follows them decides
-  pub all_stand : (n at place : ℕ) (places : List ℕ) → HaveStood c bits (n + 1) at place places → IsTail bits at → ReadsOffsets c n bits (Ok places)
-  all_stand n at place places h tail = (h.read, h.values, at, h.words, (h.number, tail, h.lead))
+  pub all_stand : (n at offset : ℕ) (places : List ℕ) → PrefixRead c bits (n + 1) at offset places → IsTail bits at → ReadsOffsets c n bits (Ok places)
+  all_stand n at offset places h tail = (h.read, h.values, at, h.words, (h.number, tail, h.lead))
 
-  pub tail_refuses : (n at place : ℕ) (places : List ℕ) (end : ℕ) → HaveStood c bits (n + 1) at place places → IsTailFault bits at end → ReadsOffsets c n bits (Err (faults.Tail end))
-  tail_refuses n at place places end h fault = (h.read, h.values, at, h.words, inr (h.number, (end, fault, refl)))
+  pub tail_refuses : (n at offset : ℕ) (places : List ℕ) (end : ℕ) → PrefixRead c bits (n + 1) at offset places → IsTailFault bits at end → ReadsOffsets c n bits (Err (faults.Tail end))
+  tail_refuses n at offset places end h fault = (h.read, h.values, at, h.words, inr (h.number, (end, fault, refl)))
 
--- the last place after one more
+-- the last offset after one more
 pub last_more : (places : List ℕ) (p : ℕ) → last_place (places ++ p ∷ []) ≡ p
 last_more places p = get_or_push places p 0 (length (places ++ p ∷ []) - 1) (omega (arith, length-append places (p ∷ [])))
 
@@ -94,19 +94,19 @@ passes_second true d f e = absurd cc
 passes_second false true f e = absurd cc
 passes_second false false f e = refl
 
-pub first_value : (place v : ℕ) → refusal 0 place (Value v) ≡ None → v ≤ 0
-first_value place v fine = ltb-false 0 v (passes_first (nat_lt 0 v) (nat_lt MOST_PLACE (place + v)) (faults.TooFar 0) fine)
+pub first_value : (offset v : ℕ) → refusal 0 offset (Value v) ≡ None → v ≤ 0
+first_value offset v fine = ltb-false 0 v (passes_first (nat_lt 0 v) (nat_lt MOST_PLACE (offset + v)) (faults.TooFar 0) fine)
 
 -- the first word leads to the first bit
-pub first_leads : (c : Code) (bits : List Bool) (number place at next end : ℕ) → number ≡ 0 → LeadsTo c bits number place at next end → next ≡ place
-first_leads c bits number place at next end none leads =
-    let fine : refusal 0 place (Value leads.0) ≡ None = subst (λ (k : ℕ). refusal k place (Value leads.0) ≡ None) none leads.2 in
-    omega (arith, leads.3, first_value place leads.0 fine)
+pub first_leads : (c : Code) (bits : List Bool) (number offset at next end : ℕ) → number ≡ 0 → LeadsTo c bits number offset at next end → next ≡ offset
+first_leads c bits number offset at next end none leads =
+    let fine : refusal 0 offset (Value leads.0) ≡ None = subst (λ (k : ℕ). refusal k offset (Value leads.0) ≡ None) none leads.2 in
+    omega (arith, leads.3, first_value offset leads.0 fine)
 
--- a word that is not refused leads to a place that a file may have
-pub value_within : (number place v : ℕ) → refusal number place (Value v) ≡ None → place + v ≤ MOST_PLACE
-value_within number place v fine =
-    ltb-false MOST_PLACE (place + v) (passes_second (number == 0 && nat_lt 0 v) (nat_lt MOST_PLACE (place + v)) (faults.TooFar number) fine)
+-- a word that is not refused leads to an offset that a file may have
+pub value_within : (number offset v : ℕ) → refusal number offset (Value v) ≡ None → offset + v ≤ MOST_PLACE
+value_within number offset v fine =
+    ltb-false MOST_PLACE (offset + v) (passes_second (number == 0 && nat_lt 0 v) (nat_lt MOST_PLACE (offset + v)) (faults.TooFar number) fine)
 
-pub leads_within : (c : Code) (bits : List Bool) (number place at next end : ℕ) → LeadsTo c bits number place at next end → next ≤ MOST_PLACE
-leads_within c bits number place at next end leads = omega (arith, leads.3, value_within number place leads.0 leads.2)
+pub leads_within : (c : Code) (bits : List Bool) (number offset at next end : ℕ) → LeadsTo c bits number offset at next end → next ≤ MOST_PLACE
+leads_within c bits number offset at next end leads = omega (arith, leads.3, value_within number offset leads.0 leads.2)

@@ -4,7 +4,7 @@ use Rattle.std.specs.List.Sorted.{IsNonDecreasing}
 use Rattle.wg_graph.specs.Numbers.{numbers_where}
 use Rattle.wg_offsets.specs.declared.places.TheConstants.{MOST_PLACE}
 
--- the first place is 0, no place is below the one before it, and none is past the last bit of a file
+-- the first offset is 0, no offset is below the one before it, and none is past the last bit of a file
 pub record ArePlaces (places : List ℕ) : Type 0 where
   pub first : get_or places 0 0 ≡ 0
   pub never_fall : IsNonDecreasing places

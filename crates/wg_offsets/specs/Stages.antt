@@ -15,15 +15,15 @@ IfWord (errors.Word w) P = P w
 IfWord errors.Memory P = Unit {0}
 
 -- so many words stand from the first bit to the bit at; they lead to these places, the last of which is this one
-pub record HaveStood (c : Code) (bits : List Bool) (count at place : ℕ) (places : List ℕ) : Type 0 where
+pub record PrefixRead (c : Code) (bits : List Bool) (count at offset : ℕ) (places : List ℕ) : Type 0 where
   pub read : List ℕ
   pub values : List ℕ
   pub words : Words c bits [] 0 read values at
   pub number : length values ≡ count
-  pub total : sum values ≡ place
+  pub total : sum values ≡ offset
   pub lead : places ≡ places_of values
 
--- the next word stands between the two places, and leads from one place of a record to the next
+-- the next word stands between the two places, and leads from one offset of a record to the next
 abbrev pub LeadsTo : Code → List Bool → ℕ → ℕ → ℕ → ℕ → ℕ → Type 0
-LeadsTo c bits number place at next end =
-    (v : ℕ) × Reads (word c) (top c) (drop at bits) (Value v) × (refusal number place (Value v) ≡ None) × (next ≡ place + v) × (end ≡ at + length (word c v))
+LeadsTo c bits number offset at next end =
+    (v : ℕ) × Reads (word c) (top c) (drop at bits) (Value v) × (refusal number offset (Value v) ≡ None) × (next ≡ offset + v) × (end ≡ at + length (word c v))

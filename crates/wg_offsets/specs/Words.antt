@@ -11,18 +11,18 @@ use Rattle.wg_grammar.specs.declared.fault.OffsetWord.{OffsetWord}
 use Rattle.wg_grammar.specs.declared.fault.OffsetWord.TheVariants as faults
 use Rattle.wg_offsets.specs.declared.places.TheConstants.{MOST_PLACE}
 
--- a place for each value: the sum of the values up to it
+-- an offset for each value: the sum of the values up to it
 abbrev pub places_of : List ℕ → List ℕ
 places_of values = ends_of 0 values
 
--- Why a word is refused, where so many words stand before it and lead to this place: it is cut; it is none; the first
+-- Why a word is refused, where so many words stand before it and lead to this offset: it is cut; it is none; the first
 -- is not 0; or it leads past the last bit that a graph file may have.
 abbrev pub refusal : ℕ → ℕ → Read → Option OffsetWord
-refusal number place Cut = Some (faults.Cut number)
-refusal number place NoWord = Some (faults.NoWord number)
-refusal number place (Value v) =
+refusal number offset Cut = Some (faults.Cut number)
+refusal number offset NoWord = Some (faults.NoWord number)
+refusal number offset (Value v) =
     if number == 0 && nat_lt 0 v then Some faults.First
-    else if nat_lt MOST_PLACE (place + v) then Some (faults.TooFar number)
+    else if nat_lt MOST_PLACE (offset + v) then Some (faults.TooFar number)
     else None
 
 -- After the words of the values before, the words of vs stand one after the other from the bit at, and none is refused;
@@ -33,19 +33,19 @@ Words c bits before at (v ∷ vs) last end =
     Reads (word c) (top c) (drop at bits) (Value v) × (refusal (length before) (sum before) (Value v) ≡ None)
     × Words c bits (before ++ v ∷ []) (at + length (word c v)) vs last end
 
--- what stands at the bit at is refused, where so many words stand before it and lead to this place
+-- what stands at the bit at is refused, where so many words stand before it and lead to this offset
 abbrev pub IsRefused : Code → List Bool → ℕ → ℕ → ℕ → OffsetWord → Type 0
-IsRefused c bits number place at e = (r : Read) × Reads (word c) (top c) (drop at bits) r × (refusal number place r ≡ Some e)
+IsRefused c bits number offset at e = (r : Read) × Reads (word c) (top c) (drop at bits) r × (refusal number offset r ≡ Some e)
 
 -- the tail is refused
 abbrev pub HasNoTail : List Bool → ℕ → OffsetWord → Type 0
-HasNoTail bits at e = (place : ℕ) × IsTailFault bits at place × (e ≡ faults.Tail place)
+HasNoTail bits at e = (offset : ℕ) × IsTailFault bits at offset × (e ≡ faults.Tail offset)
 
 -- what the file is, where the words of these values stand and no more are taken
-abbrev pub Closes : Code → ℕ → List Bool → List ℕ → ℕ → Result (List ℕ) OffsetWord → Type 0
-Closes c n bits values at (Ok places) = (length values ≡ n + 1) × IsTail bits at × (places ≡ places_of values)
-Closes c n bits values at (Err e) = ((length values ≤ n) × IsRefused c bits (length values) (sum values) at e) ⊎ ((length values ≡ n + 1) × HasNoTail bits at e)
+abbrev pub EndsAs : Code → ℕ → List Bool → List ℕ → ℕ → Result (List ℕ) OffsetWord → Type 0
+EndsAs c n bits values at (Ok places) = (length values ≡ n + 1) × IsTail bits at × (places ≡ places_of values)
+EndsAs c n bits values at (Err e) = ((length values ≤ n) × IsRefused c bits (length values) (sum values) at e) ⊎ ((length values ≡ n + 1) × HasNoTail bits at e)
 
 -- The bits are the offsets file of n records with these places, or this is their first fault.
 abbrev pub ReadsOffsets : Code → ℕ → List Bool → Result (List ℕ) OffsetWord → Type 0
-ReadsOffsets c n bits w = (vs : List ℕ) × (values : List ℕ) × (at : ℕ) × Words c bits [] 0 vs values at × Closes c n bits values at w
+ReadsOffsets c n bits w = (vs : List ℕ) × (values : List ℕ) × (at : ℕ) × Words c bits [] 0 vs values at × EndsAs c n bits values at w

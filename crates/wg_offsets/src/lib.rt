@@ -2,15 +2,15 @@
 //!
 //! An offsets file holds one word for each page and one more, in gamma or delta, and then a tail of zero bits. The
 //! first word is 0, and each later one is the length of a record, in bits. So the sums of the words are the places of
-//! the records, and the last of them is the place after the last record.
+//! the records, and the last of them is the offset after the last record.
 //!
 //! [`read`] reads such a file into [`Offsets`], or names its first fault, an [`OffsetsError::Word`].
 //! [`Offsets::first_mismatch`] compares the lengths of records that two of them tell, as those of a file and those of
 //! the records that were read. The function of [`laws`] states that each file has one list of places or one first
 //! fault.
 //!
-//! Offsets hold 8 bytes for each place. Memory is taken as the words come, and never by the number of pages that an
-//! archive claims. Reading costs a pass over the bytes, and looking up a place takes constant time.
+//! Offsets hold 8 bytes for each offset. Memory is taken as the words come, and never by the number of pages that an
+//! archive claims. Reading costs a pass over the bytes, and looking up an offset takes constant time.
 #![tactic(auto)]
 
 mod error;

@@ -6,10 +6,10 @@ use std::alloc::{AllocError, Global};
 use std::marker::Model;
 use wg_io::MOST_BYTES;
 
-/// The last place that a record may begin or end at: the end of the longest graph file, in bits.
+/// The last offset that a record may begin or end at: the end of the longest graph file, in bits.
 pub const MOST_PLACE: u64 = 8 * MOST_BYTES;
 
-/// The places of records, in bits, and last the place after them.
+/// The offsets of records, in bits, and last the offset after them.
 #[derive(Debug, Drop)]
 pub struct Offsets {
     places: Vec<u64>,
@@ -36,15 +36,15 @@ impl Offsets {
         }
     }
 
-    /// Adds the next place, in constant time on average.
-    pub fn push(&mut self, place: u64) -> Result<(), AllocError>
-        requires first { self.old ≡ [] → place ≡ 0 }
-        requires later { last_place self.old ≤ place }
-        requires within { place ≤ MOST_PLACE }
-        ensures ok { OnOk result (self.new ≡ self.old ++ place ∷ []) }
+    /// Adds the next offset, in constant time on average.
+    pub fn push(&mut self, offset: u64) -> Result<(), AllocError>
+        requires first { self.old ≡ [] → offset ≡ 0 }
+        requires later { last_place self.old ≤ offset }
+        requires within { offset ≤ MOST_PLACE }
+        ensures ok { OnOk result (self.new ≡ self.old ++ offset ∷ []) }
         ensures err { OnErr result (self.new ≡ self.old) }
     {
-        self.places.push(place)?;
+        self.places.push(offset)?;
         Ok(())
     }
 
@@ -56,7 +56,7 @@ impl Offsets {
         self.places.len() as u64
     }
 
-    /// The place of record `x`, or the place after the last record.
+    /// The offset of record `x`, or the offset after the last record.
     pub fn place(&self, x: u64) -> u64
         requires { x < length self.now }
         ensures value { result ≡ get_or self.now x 0 }
@@ -65,7 +65,7 @@ impl Offsets {
         self.places[x as usize]
     }
 
-    /// The place after the last record, or 0 where there is no place.
+    /// The offset after the last record, or 0 where there are no places.
     pub fn end(&self) -> u64
         ensures { result ≡ last_place self.now }
     {

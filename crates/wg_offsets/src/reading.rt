@@ -5,7 +5,7 @@ ghost use Rattle.wg_io.specs.declared.limits.TheConstants.{MOST_BYTES};
 ghost use Rattle.wg_bits.specs.Bits.{bits_of};
 ghost use Rattle.wg_offsets.specs.declared.places.TheConstants.{MOST_PLACE};
 ghost use Rattle.wg_offsets.specs.Words.{IsRefused, ReadsOffsets};
-ghost use Rattle.wg_offsets.specs.Stages.{IfWord, HaveStood, LeadsTo};
+ghost use Rattle.wg_offsets.specs.Stages.{IfWord, PrefixRead, LeadsTo};
 
 use crate::{MOST_PLACE, Offsets, OffsetsError};
 use std::alloc::Global;
@@ -43,25 +43,25 @@ fn read_places(
     requires pages { n ≤ MOST_PAGES }
     requires code { IsCode code }
     ensures bits { cursor.new.bits ≡ cursor.old.bits }
-    ensures stood { IfOk result (λ places. (place : ℕ) × HaveStood code cursor.old.bits (n + 1) cursor.new.at place places) }
+    ensures stood { IfOk result (λ places. (offset : ℕ) × PrefixRead code cursor.old.bits (n + 1) cursor.new.at offset places) }
     ensures refused { IfErr result (λ e. IfWord e (λ w. ReadsOffsets code n cursor.old.bits (Err w))) }
 {
     let mut offsets = Offsets::new(alloc);
-    let mut place = 0;
+    let mut offset = 0;
     for word in 0..n + 1 {
-        place = next_place(cursor, code, word, place)?;
-        offsets.push(place)?;
+        offset = next_offset(cursor, code, word, offset)?;
+        offsets.push(offset)?;
     }
     Ok(offsets)
 }
 
-// The place that the word at the cursor leads to.
-fn next_place(cursor: &mut Cursor<'_>, code: Code, word: u64, place: u64) -> Result<u64, OffsetWord>
+// The offset that the word at the cursor leads to.
+fn next_offset(cursor: &mut Cursor<'_>, code: Code, word: u64, offset: u64) -> Result<u64, OffsetWord>
     requires code { IsCode code }
-    requires place { place ≤ MOST_PLACE }
+    requires offset { offset ≤ MOST_PLACE }
     ensures bits { cursor.new.bits ≡ cursor.old.bits }
-    ensures stood { IfOk result (λ next. LeadsTo code cursor.old.bits word place cursor.old.at next cursor.new.at) }
-    ensures refused { IfErr result (λ e. IsRefused code cursor.old.bits word place cursor.old.at e) }
+    ensures stood { IfOk result (λ next. LeadsTo code cursor.old.bits word offset cursor.old.at next cursor.new.at) }
+    ensures refused { IfErr result (λ e. IsRefused code cursor.old.bits word offset cursor.old.at e) }
 {
     match wg_codes::read(code, cursor) {
         Read::Cut => Err(OffsetWord::Cut(word)),
@@ -70,10 +70,10 @@ fn next_place(cursor: &mut Cursor<'_>, code: Code, word: u64, place: u64) -> Res
             if word == 0 && value > 0 {
                 return Err(OffsetWord::First);
             }
-            if value > MOST_PLACE - place {
+            if value > MOST_PLACE - offset {
                 return Err(OffsetWord::TooFar(word));
             }
-            Ok(place + value)
+            Ok(offset + value)
         }
     }
 }

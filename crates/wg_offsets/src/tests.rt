@@ -17,8 +17,8 @@ fn has_places(offsets: &Offsets, places: &[u64]) -> bool {
     if offsets.len() != places.len() as u64 {
         return false;
     }
-    for (x, place) in places.iter().enumerate() {
-        if offsets.place(x as u64) != *place {
+    for (x, offset) in places.iter().enumerate() {
+        if offsets.place(x as u64) != *offset {
             return false;
         }
     }
@@ -37,7 +37,7 @@ fn each_word_leads_from_one_place_to_the_next(rt: HostRuntime) -> Result<(), Fai
     Ok(())
 }
 
-// After the word of 0 comes that of the last place that there is.
+// After the word of 0 comes that of the last offset that there is.
 const FARTHEST: &str =
     "1 0000000000000000000000000000000000000000000000000 10000000000000000000000000000000000000000000000001";
 

@@ -22,7 +22,7 @@ impl Progress {
     }
 
     // The page that the first left end or residual stands for, if it is one.
-    fn unfolded(&self, value: u64) -> Option<u64>
+    fn page_from(&self, value: u64) -> Option<u64>
         ensures { result ≡ within self.now.params (unfolded_from self.now.page value) }
     {
         let half = value / 2;
@@ -43,7 +43,7 @@ impl Progress {
         ensures { result ≡ within self.now.params (left_of (tally_of self.now) value) }
     {
         if self.lefts == 0 {
-            return self.unfolded(value);
+            return self.page_from(value);
         }
         if value >= self.params.nodes() {
             return None;
@@ -56,7 +56,7 @@ impl Progress {
         ensures { result ≡ within self.now.params (residual_of (tally_of self.now) value) }
     {
         if self.residuals == 0 {
-            return self.unfolded(value);
+            return self.page_from(value);
         }
         if value >= self.params.nodes() {
             return None;

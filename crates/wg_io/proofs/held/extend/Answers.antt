@@ -16,16 +16,16 @@ on_ok (Err e) f p = tt
 pub returns-in_err-extend_from_slice-in-Some-clause-err :
     goal.returns-in_err-extend_from_slice-in-Some-clause-err
 returns-in_err-extend_from_slice-in-Some-clause-err c =
-    let at = subst (λ (hs : List Held). IsAt hs c.args.name.now c.in-Some.place) c.as_slice.ensures.value c.in-Some.ensures.found in
+    let at = subst (λ (hs : List Held). IsAt hs c.args.name.now c.in-Some.index) c.as_slice.ensures.value c.in-Some.ensures.found in
     let old = c.index_mut-held.result.now in
     on_err c.from_residual.result
-    (unchanged_at c.args.helds.now.items c.in-Some.place c.args.name.now old record { name = old.name; bytes = c.extend_from_slice.new.self } at c.index_mut-held.ensures.value refl c.in_err-extend_from_slice-in-Some.ensures.items)
+    (unchanged_at c.args.helds.now.items c.in-Some.index c.args.name.now old record { name = old.name; bytes = c.extend_from_slice.new.self } at c.index_mut-held.ensures.value refl c.in_err-extend_from_slice-in-Some.ensures.items)
 
 pub returns-in_ok-extend_from_slice-in-Some-clause-ok :
     goal.returns-in_ok-extend_from_slice-in-Some-clause-ok
 returns-in_ok-extend_from_slice-in-Some-clause-ok c =
-    let at = subst (λ (hs : List Held). IsAt hs c.args.name.now c.in-Some.place) c.as_slice.ensures.value c.in-Some.ensures.found in
-    extended_at c.args.helds.now.items c.in-Some.place c.args.name.now c.args.piece.now c.index_mut-held.result.now _ at c.index_mut-held.ensures.value refl c.in_ok-extend_from_slice-in-Some.ensures.items c.requires
+    let at = subst (λ (hs : List Held). IsAt hs c.args.name.now c.in-Some.index) c.as_slice.ensures.value c.in-Some.ensures.found in
+    extended_at c.args.helds.now.items c.in-Some.index c.args.name.now c.args.piece.now c.index_mut-held.result.now _ at c.index_mut-held.ensures.value refl c.in_ok-extend_from_slice-in-Some.ensures.items c.requires
 
 pub returns-in_ok-copy_of-in-None-clause-ok : goal.returns-in_ok-copy_of-in-None-clause-ok
 returns-in_ok-copy_of-in-None-clause-ok c =

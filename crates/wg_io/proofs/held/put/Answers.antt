@@ -6,8 +6,8 @@ use Rattle.wg_io.proofs.held.put.Goals as goal
 
 pub returns-in-Some-clause-ok : goal.returns-in-Some-clause-ok
 returns-in-Some-clause-ok c =
-    let at = subst (λ (hs : List Held). IsAt hs c.args.name.now c.in-Some.place) c.as_slice.ensures.value c.in-Some.ensures.found in
-    put_at c.args.helds.now.items c.in-Some.place c.args.name.now c.index_mut-held.result.now _ at c.index_mut-held.ensures.value refl
+    let at = subst (λ (hs : List Held). IsAt hs c.args.name.now c.in-Some.index) c.as_slice.ensures.value c.in-Some.ensures.found in
+    put_at c.args.helds.now.items c.in-Some.index c.args.name.now c.index_mut-held.result.now _ at c.index_mut-held.ensures.value refl
 
 pub returns-in_ok-push-in-None-clause-ok : goal.returns-in_ok-push-in-None-clause-ok
 returns-in_ok-push-in-None-clause-ok c =

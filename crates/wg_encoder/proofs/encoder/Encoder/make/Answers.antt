@@ -6,8 +6,8 @@ use Rattle.wg_encoder.specs.Encoding.{Encoding}
 use Rattle.wg_encoder.proofs.Chosen.{chosen_reach, made_words}
 use Rattle.wg_encoder.proofs.encoder.Encoder.make.Goals as goal
 
-pub named-referenced-requires-clause-reach : goal.named-referenced-requires-clause-reach
-named-referenced-requires-clause-reach c = chosen_reach c.args.self.now c.args.choice c.requires.chosen
+pub referenced_list-referenced-requires-clause-reach : goal.referenced_list-referenced-requires-clause-reach
+referenced_list-referenced-requires-clause-reach c = chosen_reach c.args.self.now c.args.choice c.requires.chosen
 
 pub fill-requires-clause-low : goal.fill-requires-clause-low
 fill-requires-clause-low c =
@@ -16,6 +16,6 @@ fill-requires-clause-low c =
 
 pub returns-clause-words : goal.returns-clause-words
 returns-clause-words c =
-    let words = made_words c.args.self.now _ c.args.choice c.list-list.result.now c.named-referenced.result.now c.self.view_is c.list-list.ensures.value c.named-referenced.ensures.value
+    let words = made_words c.args.self.now _ c.args.choice c.list-list.result.now c.referenced_list-referenced.result.now c.self.view_is c.list-list.ensures.value c.referenced_list-referenced.ensures.value
     (record { limits = c.limits.ensures.within; nodes = c.limits.ensures.nodes; arcs = c.limits.ensures.arcs; proper = c.limits.ensures.proper; here = c.requires.page }) c.requires.chosen in
-    on_ok_weaker c.fill.result (λ (is : c.fill.new.self ≡ record_fields c.self.inside.params c.self.inside.page c.args.choice.reference c.named-referenced.result.now c.list-list.result.now). ap all_have_words is ∙ words) c.fill.ensures
+    on_ok_weaker c.fill.result (λ (is : c.fill.new.self ≡ record_fields c.self.inside.params c.self.inside.page c.args.choice.reference c.referenced_list-referenced.result.now c.list-list.result.now). ap all_have_words is ∙ words) c.fill.ensures

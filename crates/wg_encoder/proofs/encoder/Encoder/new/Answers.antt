@@ -1,12 +1,12 @@
 use Rattle.std.proofs.Common.{sym, subst}
 use Rattle.wg_encoder.specs.Encoding.{Encoding}
-use Rattle.wg_encoder.specs.Gone.{HasGone}
+use Rattle.wg_encoder.specs.Gone.{HasSentUpTo}
 use Rattle.wg_encoder.proofs.Stopped.{begun}
 use Rattle.wg_encoder.proofs.encoder.Encoder.new.Goals as goal
 
 pub returns-clause-begun : goal.returns-clause-begun
 returns-clause-begun c files g o graph offsets =
-    subst (λ (e : Encoding). HasGone files g o e)
+    subst (λ (e : Encoding). HasSentUpTo files g o e)
     (λ i. record {
       params = c.args.params;
       graph = c.args.graph.now;

@@ -22,7 +22,7 @@ returns-clause-short c =
     let self = c.args.self.now in
     let list : c.list-list.result.now ≡ list_of self = c.list-list.ensures.value ∙ ap list_of c.self.view_is in
     subst (λ cost. ForSome cost (λ n. n < 2 ^ 63))
-    (ap (λ (x : Encoding). cost_of (record_fields x.params x.page c.args.r c.named.result.now c.list-list.result.now)) c.self.view_is
-    ∙ (λ j. cost_of (record_fields self.params self.page c.args.r (c.named.ensures.value j) (list j))))
-    (size_low c.args.self.now _ c.args.r c.list-list.result.now c.named.result.now _ c.self.view_is c.list-list.ensures.value c.list-list.ensures.ascends c.list-list.ensures.below c.limits.ensures.within c.limits.ensures.nodes c.requires.reach c.named.ensures.ascends
-    c.named.ensures.below refl)
+    (ap (λ (x : Encoding). cost_of (record_fields x.params x.page c.args.r c.referenced_list.result.now c.list-list.result.now)) c.self.view_is
+    ∙ (λ j. cost_of (record_fields self.params self.page c.args.r (c.referenced_list.ensures.value j) (list j))))
+    (size_low c.args.self.now _ c.args.r c.list-list.result.now c.referenced_list.result.now _ c.self.view_is c.list-list.ensures.value c.list-list.ensures.ascends c.list-list.ensures.below c.limits.ensures.within c.limits.ensures.nodes c.requires.reach c.referenced_list.ensures.ascends
+    c.referenced_list.ensures.below refl)

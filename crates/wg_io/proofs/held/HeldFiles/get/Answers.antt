@@ -7,10 +7,10 @@ use Rattle.wg_io.specs.declared.held.Held.{Held}
 use Rattle.wg_io.proofs.HeldLemmas.{get_at, content_nowhere}
 use Rattle.wg_io.proofs.held.HeldFiles.get.Goals as goal
 
-pub returns-in_err-place : goal.returns-in_err-place
-returns-in_err-place c =
+pub returns-in_err-index : goal.returns-in_err-index
+returns-in_err-index c =
     let name = c.args.name.now in
-    let none = subst (λ (hs : List Held). All (IsOther name) hs) c.as_slice.ensures.value c.in_err-place.ensures.missing in
+    let none = subst (λ (hs : List Held). All (IsOther name) hs) c.as_slice.ensures.value c.in_err-index.ensures.missing in
     ap (λ (o : Option (Bor (List ℕ))). option_map (λ bytes. bytes.now) o) c.from_residual.ensures
     ∙ sym (content_nowhere c.self.inside.helds.items name none)
     ∙ ap (λ (f : Files). get f name) c.self.view_is
@@ -18,7 +18,7 @@ returns-in_err-place c =
 pub returns : goal.returns
 returns c =
     let name = c.args.name.now in
-    let at = subst (λ (hs : List Held). IsAt hs name c.in_ok-place.place) c.as_slice.ensures.value c.in_ok-place.ensures.found in
+    let at = subst (λ (hs : List Held). IsAt hs name c.in_ok-index.index) c.as_slice.ensures.value c.in_ok-index.ensures.found in
     ap (λ (bytes : List ℕ). Some bytes) c.as_slice-2.ensures.value
-    ∙ sym (get_at c.self.inside.helds.items c.in_ok-place.place name c.index.result.now at c.index.ensures)
+    ∙ sym (get_at c.self.inside.helds.items c.in_ok-index.index name c.index.result.now at c.index.ensures)
     ∙ ap (λ (f : Files). get f name) c.self.view_is
