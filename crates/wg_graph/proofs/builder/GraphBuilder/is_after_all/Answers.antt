@@ -4,8 +4,8 @@ use Rattle.wg_graph.specs.Pieces.{cut}
 use Rattle.wg_graph.proofs.Growth.{after_where, after_not}
 use Rattle.wg_graph.proofs.builder.GraphBuilder.is_after_all.Goals as goal
 
-pub returns-then-x-list_so_far-clause-value : goal.returns-then-x-list_so_far-clause-value
-returns-then-x-list_so_far-clause-value c = rw (← c.self.view_is) (after_not c.self.inside.nodes c.self.inside.ends.items c.self.inside.all.items c.args.x c.args.v (omega arith))
+pub returns-then-x-begun-clause-value : goal.returns-then-x-begun-clause-value
+returns-then-x-begun-clause-value c = rw (← c.self.view_is) (after_not c.self.inside.nodes c.self.inside.ends.items c.self.inside.all.items c.args.x c.args.v (omega arith))
 
 pub returns-clause-value : goal.returns-clause-value
 returns-clause-value c =
