@@ -1,49 +1,15 @@
 -- Files by their names, after several changes.
-use Rattle.std.proofs.Common.{◌≡◌, ℕ, ◌≤◌, Bool, true, false, cond, List, [], ◌∷◌, ◌++◌, refl, sym, ◌∙◌, ap, arith, append_assoc, Option, Some, None, unwrap_or, ◌≢◌, true≢false}
-use Rattle.std.specs.Ordering.{nat_cmp, eq_by_cmp}
-use Rattle.std.specs.Cmp.{eq_by_cmp_equiv}
+use Rattle.std.proofs.Common.{◌≡◌, ℕ, ◌≤◌, Bool, true, false, cond, List, [], ◌∷◌, ◌++◌, refl, sym, ◌∙◌, ap, arith, Option, Some, None, unwrap_or, ◌≢◌, true≢false, take, Result, Ok, Err}
+use Rattle.std.specs.Ordering.{nat_cmp}
 use Rattle.std.specs.Cmp.Lexicographic.{slice_cmp, pointwise, bytes_decides}
 use Rattle.std.proofs.Math.Dec.{eqb}
-use Rattle.std.proofs.lemmas.Cmp.{nat_list_cmp_total}
 use Rattle.std.proofs.lemmas.Map.Views.{tells_apart}
 use Rattle.std.proofs.lemmas.Map.Lookups.{exact_bytes}
-use Rattle.std.proofs.lemmas.List.{append-nil}
-use Rattle.std.specs.FinMap.{get, insert, empty, get-empty, get-insert, same_map, slice_cmp-IsAntisymmetric, nat_cmp-IsAntisymmetric}
+use Rattle.std.proofs.lemmas.List.{append-nil, append_cancel_left}
+use Rattle.std.specs.Result.{IfOk, OnErr}
+use Rattle.std.specs.FinMap.{get, insert, empty, get-empty}
 use Rattle.wg_io.specs.Outside.{Files, Counts, NonDecreasing, appended, content}
-
--- one name is another
-abbrev pub is_name : List ℕ → List ℕ → Bool
-is_name q n = eq_by_cmp (slice_cmp nat_cmp) q n
-
-pub is_name_refl : (n : List ℕ) → is_name n n ≡ true
-is_name_refl n = (eq_by_cmp_equiv nat_list_cmp_total).refl n
-
-pub get-insert_name : (f : Files) (n b q : List ℕ) → get (insert f n b) q ≡ cond (is_name q n) (Some b) (get f q)
-get-insert_name f n b q = get-insert nat_list_cmp_total f n b q
-
-pub get-insert_same : (f : Files) (n b : List ℕ) → get (insert f n b) n ≡ Some b
-get-insert_same f n b = get-insert_name f n b n ∙ ap (λ t. cond t (Some b) (get f n)) (is_name_refl n)
-
-pub same_files : (f h : Files) → ((q : List ℕ) → get f q ≡ get h q) → f ≡ h
-same_files f h each = same_map nat_list_cmp_total (slice_cmp-IsAntisymmetric nat_cmp-IsAntisymmetric) f h each
-
-over : {A : Type 0} (t : Bool) (x y z : A) → cond t x (cond t y z) ≡ cond t x z
-over true x y z = refl
-over false x y z = refl
-
--- the later of two files of one name stays
-pub insert-insert : (f : Files) (n a b : List ℕ) → insert (insert f n a) n b ≡ insert f n b
-insert-insert f n a b = same_files _ _ (λ q. get-insert_name (insert f n a) n b q ∙ ap (cond (is_name q n) (Some b)) (get-insert_name f n a q) ∙ over (is_name q n) (Some b) (Some a) (get f q) ∙ sym (get-insert_name f n b q))
-
--- two pieces at the end of a file are one
-pub appended-append : (f : Files) (n a b : List ℕ) → appended (appended f n a) n b ≡ appended f n (a ++ b)
-appended-append f n [] b = refl
-appended-append f n (x ∷ a) [] = ap (λ l. appended f n l) (sym (append-nil (x ∷ a)))
-appended-append f n (x ∷ a) (y ∷ b) =
-    let whole = content f n ++ x ∷ a in
-    ap (λ (o : Option (List ℕ)). insert (insert f n whole) n (unwrap_or o [] ++ y ∷ b)) (get-insert_same f n whole)
-    ∙ insert-insert f n whole (whole ++ y ∷ b)
-    ∙ ap (λ (l : List ℕ). insert f n l) (append_assoc (content f n) (x ∷ a) (y ∷ b))
+pub use Rattle.wg_io.specs.FileLaws.{is_name, is_name_refl, get-insert_name, get-insert_same, same_files, insert-insert, appended-append}
 
 -- counts that don't fall twice
 pub none_falls-trans : (a b c : List ℕ → Counts) → NonDecreasing a b → NonDecreasing b c → NonDecreasing a c
@@ -83,3 +49,28 @@ get-one_file n b q is = ap (get (insert empty n b)) is ∙ get-insert_same empty
 
 pub get-no_other_file : (n b q : List ℕ) → (q ≡ n → ⊥) → get (insert (empty {R = slice_cmp nat_cmp}) n b) q ≡ None
 get-no_other_file n b q apart = get-insert_other empty n b q apart ∙ get-empty (slice_cmp nat_cmp) q
+
+-- counts that are as they were
+pub none_falls-refl : (a : List ℕ → Counts) → NonDecreasing a a
+none_falls-refl a = record { read_faults = λ n. omega arith; write_faults = λ n. omega arith; absences = λ n. omega arith; wants = λ n. omega arith }
+
+-- what a file holds with bytes more
+pub content-appended : (f : Files) (n text : List ℕ) → content (appended f n text) n ≡ content f n ++ text
+content-appended f n [] = sym (append-nil (content f n))
+content-appended f n (b ∷ bs) = ap (λ (o : Option (List ℕ)). unwrap_or o []) (get-insert_same f n (content f n ++ b ∷ bs))
+
+-- text at the end of a file is text behind what it held
+pub more_content : {E : Type 0} (f h : Files) (n piece : List ℕ) (r : Result ℕ E) → IfOk r (λ count. h ≡ appended f n (take count piece)) → IfOk r (λ count. content h n ≡ content f n ++ take count piece)
+more_content f h n piece (Ok count) is = ap (λ (d : Files). content d n) is ∙ content-appended f n (take count piece)
+more_content f h n piece (Err e) is = tt
+
+-- what one call adds, if anything
+pub one_text : {E : Type 0} (f h : Files) (n piece : List ℕ) (r : Result ℕ E) → IfOk r (λ count. h ≡ appended f n (take count piece)) → OnErr r (h ≡ f) → (text : List ℕ) × (h ≡ appended f n text)
+one_text f h n piece (Ok count) is err = (take count piece, is)
+one_text f h n piece (Err e) is err = ([], err)
+
+-- A text behind what the file held, and a text at its end, are one.
+pub file_grown : (f h : Files) (n text : List ℕ) → (more : List ℕ) × (h ≡ appended f n more) → content h n ≡ content f n ++ text → h ≡ appended f n text
+file_grown f h n text more is =
+    let long : content f n ++ more.0 ≡ content f n ++ text = sym (content-appended f n more.0) ∙ ap (λ (d : Files). content d n) (sym more.1) ∙ is in
+    more.1 ∙ ap (λ (l : List ℕ). appended f n l) (append_cancel_left (content f n) _ _ long)

@@ -1,5 +1,9 @@
 pub mod Outside
+pub mod FileLaws
 pub mod Reads
 pub mod Puts
+pub mod Printing
+pub mod Refusals
 pub mod Memory
+pub mod Later
 pub mod Held

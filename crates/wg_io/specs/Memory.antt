@@ -72,11 +72,18 @@ pub record SteadyBytes : Type 0 where
   pub piece : ℕ
   pub wants : ℕ
 
+-- no write fails
+abbrev pub steady_refusals : SteadyBytes → Refusals
+steady_refusals s = record { faults = 0; wants = s.wants }
+
 -- the same with a call that is to fail
 pub record FailingBytes : Type 0 where
   pub steady : SteadyBytes
   pub writes : Calls
   pub faults : ℕ
+
+abbrev pub failing_refusals : FailingBytes → Refusals
+failing_refusals s = record { faults = s.faults; wants = s.steady.wants }
 
 -- one file of zeros, and how often it was written to or another name was read
 pub record OneFile : Type 0 where

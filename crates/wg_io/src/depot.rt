@@ -1,5 +1,5 @@
 // Files by their names.
-ghost use Rattle.std.specs.Prelude.{◌≡◌, ◌<◌, ◌≤◌, ℕ, Bool, List, [], length, take, IsTrue, IfOk, OnOk, OnErr, IsErrOf};
+ghost use Rattle.std.specs.Prelude.{◌≡◌, ◌<◌, ◌≤◌, ℕ, Bool, List, length, take, IsTrue, IfOk, OnOk, OnErr, IsErrOf};
 ghost use Rattle.std.specs.FinMap as map;
 ghost use Rattle.wg_io.specs.Outside.{Files, Counts, NonDecreasing, Increased, appended, created};
 ghost use Rattle.wg_io.specs.Reads.{Reads};
@@ -64,7 +64,7 @@ pub trait Depot {
         ensures memory { IsErrOf result WriteError.Memory → Increased (counts self.old name.now).wants (counts self.new name.now).wants }
         ensures later { NonDecreasing (counts self.old) (counts self.new) };
 
-    /// Adds a front of the piece, at least one byte, to the end of a file, and answers its length. An absent file is begun.
+    /// Adds a prefix of the piece, at least one byte, to the end of a file, and answers its length. An absent file is begun.
     fn append(&mut self, name: &str, piece: &[u8]) -> Result<usize, WriteError>
         requires { 0 < length piece.now }
         ensures count { IfOk result (λ count. (0 < count) × (count ≤ length piece.now)) }
@@ -73,20 +73,4 @@ pub trait Depot {
         ensures failed { IsErrOf result WriteError.Failed → Increased (counts self.old name.now).write_faults (counts self.new name.now).write_faults }
         ensures memory { IsErrOf result WriteError.Memory → Increased (counts self.old name.now).wants (counts self.new name.now).wants }
         ensures later { NonDecreasing (counts self.old) (counts self.new) };
-}
-
-/// Adds the whole piece to the end of a file. After an error a front of it may have been added, and never all of it.
-pub fn append_all<D: Depot>(depot: &mut D, name: &str, piece: &[u8]) -> Result<(), WriteError>
-    ensures ok { IsTrue D.told → OnOk result (D.files depot.new ≡ appended (D.files depot.old) name.now piece.now) }
-    ensures err { IsTrue D.told → OnErr result ((k : ℕ) × (k < length piece.now) × (D.files depot.new ≡ appended (D.files depot.old) name.now (take k piece.now))) }
-    ensures failed { IsErrOf result WriteError.Failed → Increased (D.counts depot.old name.now).write_faults (D.counts depot.new name.now).write_faults }
-    ensures memory { IsErrOf result WriteError.Memory → Increased (D.counts depot.old name.now).wants (D.counts depot.new name.now).wants }
-    ensures later { NonDecreasing (D.counts depot.old) (D.counts depot.new) }
-    ensures no_call { piece.now ≡ [] → depot.new ≡ depot.old }
-{
-    let mut at = 0;
-    while at < piece.len() {
-        at += depot.append(name, &piece[at..])?;
-    }
-    Ok(())
 }

@@ -4,6 +4,7 @@ ghost use Rattle.std.specs.Prelude.{◌≡◌, ◌<◌, ◌≤◌, ℕ, IfOk, le
 use crate::stream::write_some;
 use crate::tally::Tally;
 use crate::{Depot, ReadError, WriteError};
+use std::alloc::Global;
 use std::fs::{File, OpenOptions};
 use std::io::{self, ErrorKind};
 use std::marker::Model;
@@ -12,14 +13,18 @@ use std::rt::Files;
 
 /// Files of the system, by their paths. It tells no bytes, and counts for all names together.
 ///
-/// Each call opens the file anew, so `append` is best handed some thousand bytes at once.
+/// The file that was read last stays open, and so does the one that was appended to last, so that a file that is read or
+/// written in pieces costs one call of the system a piece. Each holds a copy of its name; if there is no memory for it, the
+/// next call opens the file anew. A file that others put under the name of an open one goes unseen.
 #[derive(Drop)]
-pub struct FolderDepot<R: Files<File = File> + Drop> {
+pub struct FolderDepot<R: Files<File = File> + AllocGlobal + Drop> {
     rt: R,
     tally: Tally,
+    read_last: Option<OpenFile>,
+    appended_last: Option<OpenFile>,
 }
 
-impl<R: Files<File = File> + Drop> Model for FolderDepot<R> {
+impl<R: Files<File = File> + AllocGlobal + Drop> Model for FolderDepot<R> {
     ghost use Rattle.wg_io.specs.Outside.{Counts};
 
     ghost Value = { Counts };
@@ -27,18 +32,20 @@ impl<R: Files<File = File> + Drop> Model for FolderDepot<R> {
     ghost view = { λ a. a.tally };
 }
 
-impl<R: Files<File = File> + Drop> FolderDepot<R> {
+impl<R: Files<File = File> + AllocGlobal + Drop> FolderDepot<R> {
     pub fn new(rt: R) -> FolderDepot<R>
         ensures { result ≡ record { read_faults = 0; write_faults = 0; absences = 0; wants = 0 } }
     {
         FolderDepot {
             rt,
             tally: Tally::new(),
+            read_last: None,
+            appended_last: None,
         }
     }
 }
 
-impl<R: Files<File = File> + Drop> Depot for FolderDepot<R> {
+impl<R: Files<File = File> + AllocGlobal + Drop> Depot for FolderDepot<R> {
     ghost use Rattle.std.specs.Prelude.{false};
     ghost use Rattle.std.specs.FinMap as map;
 
@@ -49,10 +56,11 @@ impl<R: Files<File = File> + Drop> Depot for FolderDepot<R> {
     ghost counts = { λ d _. d };
 
     fn read(&mut self, name: &str, at: u64, buf: &mut [u8]) -> Result<usize, ReadError> {
-        let error = match read_at(&self.rt, name, at, buf) {
+        let error = match read_at(&self.rt, &mut self.read_last, name, at, buf) {
             Ok(count) => return Ok(count),
             Err(error) => error,
         };
+        self.read_last = None;
         match error.kind() {
             ErrorKind::NotFound => {
                 self.tally.absent();
@@ -70,6 +78,8 @@ impl<R: Files<File = File> + Drop> Depot for FolderDepot<R> {
     }
 
     fn create(&mut self, name: &str) -> Result<(), WriteError> {
+        let_go(&mut self.read_last, name);
+        let_go(&mut self.appended_last, name);
         match create_at(&self.rt, name) {
             Ok(()) => Ok(()),
             Err(error) => Err(self.tally.refused_write(error.kind())),
@@ -77,18 +87,66 @@ impl<R: Files<File = File> + Drop> Depot for FolderDepot<R> {
     }
 
     fn append(&mut self, name: &str, piece: &[u8]) -> Result<usize, WriteError> {
-        match append_to(&self.rt, name, piece) {
+        let_go(&mut self.read_last, name);
+        match append_to(&self.rt, &mut self.appended_last, name, piece) {
             Ok(count) => Ok(count),
-            Err(error) => Err(self.tally.refused_write(error.kind())),
+            Err(error) => {
+                self.appended_last = None;
+                Err(self.tally.refused_write(error.kind()))
+            }
         }
     }
 }
 
+// An open file, and the name that it was opened by.
+#[derive(Drop)]
+struct OpenFile {
+    name: String,
+    file: File,
+}
+
+// Lets go of the open file, if it has this name.
+fn let_go(last: &mut Option<OpenFile>, name: &str) {
+    if is_open(last, name) {
+        *last = None;
+    }
+}
+
+// Whether the open file has this name.
+fn is_open(last: &Option<OpenFile>, name: &str) -> bool {
+    match last {
+        Some(open) => open.name.as_str() == name,
+        None => false,
+    }
+}
+
+// Keeps a file open, in place of another one.
+fn keep(alloc: Global, last: &mut Option<OpenFile>, name: &str, file: File) {
+    *last = match String::from_str(alloc, name) {
+        Ok(name) => Some(OpenFile { name, file }),
+        Err(_) => None,
+    };
+}
+
 // A positioned read, for some file systems refuse a seek to an offset that a read may well ask for.
-fn read_at<R: Files<File = File>>(rt: &R, name: &str, at: u64, buf: &mut [u8]) -> io::Result<usize>
+fn read_at<R: Files<File = File> + AllocGlobal>(
+    rt: &R,
+    last: &mut Option<OpenFile>,
+    name: &str,
+    at: u64,
+    buf: &mut [u8],
+) -> io::Result<usize>
     ensures { IfOk result (λ count. count ≤ length buf.new) }
 {
-    File::open(rt, name)?.read_at(buf, at)
+    if let Some(open) = last {
+        if open.name.as_str() == name {
+            return open.file.read_at(buf, at);
+        }
+    }
+    let file = File::open(rt, name)?;
+    let count = file.read_at(buf, at)?;
+    keep(rt.alloc(), last, name, file);
+    Ok(count)
 }
 
 fn create_at<R: Files<File = File>>(rt: &R, name: &str) -> io::Result<()> {
@@ -96,9 +154,21 @@ fn create_at<R: Files<File = File>>(rt: &R, name: &str) -> io::Result<()> {
     Ok(())
 }
 
-fn append_to<R: Files>(rt: &R, name: &str, piece: &[u8]) -> io::Result<usize>
+fn append_to<R: Files<File = File> + AllocGlobal>(
+    rt: &R,
+    last: &mut Option<OpenFile>,
+    name: &str,
+    piece: &[u8],
+) -> io::Result<usize>
     ensures { IfOk result (λ count. (0 < count) × (count ≤ length piece.now)) }
 {
+    if let Some(open) = last {
+        if open.name.as_str() == name {
+            return write_some(&mut open.file, piece);
+        }
+    }
     let mut file = OpenOptions::new().append(true).create(true).open(rt, name)?;
-    write_some(&mut file, piece)
+    let count = write_some(&mut file, piece)?;
+    keep(rt.alloc(), last, name, file);
+    Ok(count)
 }

@@ -2,7 +2,8 @@
 //!
 //! Whoever reads or writes is generic over these traits, and its contract says which bytes it read and wrote wherever the
 //! outside can tell them. [`read_whole`] reads a file into a [`List8`], [`append_all`] writes to a file, [`write_all`] and
-//! [`write_pieces`] write to a sink; each loops until all is done or a call is refused.
+//! [`write_pieces`] write to a sink; each loops until all is done or a call is refused. [`Lines`] prints numbers and short
+//! texts through a fixed buffer, so that a sink is called once for some thousand bytes. A [`FileSink`] is a file of any depot.
 //!
 //! | outside | files | bytes |
 //! |---|---|---|
@@ -14,15 +15,18 @@
 //! An error is never made up: `Failed`, `Absent` and `Memory` come from an outside only where it counted them, which is how
 //! a contract far above can say that a failed job was the outside's fault. The counts stand still at 2^64 - 1.
 //!
-//! No call holds memory but for the bytes that it answers. The depots and sinks in memory hold their own bytes, and a depot
-//! looks a name up by going through all of them.
+//! No call holds memory but for the bytes that it answers, and the names of two open files of the system. The depots and sinks
+//! in memory hold their own bytes, and a depot looks a name up by going through all of them.
 #![tactic(auto)]
 
+mod appending;
 mod calls;
 mod depot;
+mod file_sink;
 mod folder;
 mod held;
 mod limits;
+mod lines;
 mod memory_depot;
 mod memory_sink;
 mod output;
@@ -35,14 +39,17 @@ mod tally;
 mod whole;
 mod zero_depot;
 
-pub use depot::{Depot, ReadError, WriteError, append_all};
+pub use appending::append_all;
+pub use depot::{Depot, ReadError, WriteError};
+pub use file_sink::FileSink;
 pub use folder::FolderDepot;
 pub use limits::MOST_BYTES;
+pub use lines::{Lines, MOST_PIECE, MOST_START};
 pub use memory_depot::MemoryDepot;
 pub use memory_sink::MemorySink;
 pub use output::Output;
-pub use pieces::write_pieces;
-pub use sink::{Sink, write_all};
+pub use pieces::{write_all, write_pieces};
+pub use sink::Sink;
 pub use steady_depot::SteadyDepot;
 pub use steady_sink::SteadySink;
 pub use stream::StdSink;

@@ -1,6 +1,7 @@
 // A sink in memory with a write that is to fail.
 ghost use Rattle.std.specs.Prelude.{◌≡◌, ◌+◌, ◌-◌, ◌<◌, ◌≤◌, ◌^◌, ◌↔◌, [], IsErrOf, IfOk, OnErr, IsTrue, length, take, ◌++◌, min};
-ghost use Rattle.wg_io.specs.Memory.{FailingBytes, no_calls, one_more, IsNamed};
+ghost use Rattle.wg_io.specs.Later.{NoneFalls};
+ghost use Rattle.wg_io.specs.Memory.{FailingBytes, failing_refusals, no_calls, one_more, IsNamed};
 ghost use Rattle.wg_io.specs.Outside.{risen};
 
 use crate::calls::Counter;
@@ -57,6 +58,8 @@ impl MemorySink {
 
 impl Sink for MemorySink {
     ghost use Rattle.std.specs.Prelude.{true};
+    ghost use Rattle.wg_io.specs.Memory.{failing_refusals};
+    ghost use Rattle.wg_io.specs.Later.{NoneFalls, none_falls, none_falls_twice};
 
     ghost told = { true };
 
@@ -66,6 +69,8 @@ impl Sink for MemorySink {
 
     ghost wants = { λ s. s.steady.wants };
 
+    ghost later = { λ a b. NoneFalls (failing_refusals a) (failing_refusals b) };
+
     fn write(&mut self, piece: &[u8]) -> Result<usize, WriteError>
         requires { 0 < length piece.now }
         ensures count { IfOk result (λ count. (0 < count) × (count ≤ length piece.now)) }
@@ -74,7 +79,7 @@ impl Sink for MemorySink {
         ensures ok { IfOk result (λ count. self.new ≡ record self.old { writes = one_more self.old.writes; steady = record self.old.steady { taken = self.old.steady.taken ++ take count piece.now } }) }
         ensures failed { IsErrOf result WriteError.Failed → self.new ≡ record self.old { writes = one_more self.old.writes; faults = risen self.old.faults } }
         ensures wanted { IsErrOf result WriteError.Memory → self.new ≡ record self.old { writes = one_more self.old.writes; steady = record self.old.steady { wants = risen self.old.steady.wants } } }
-        ensures later { (self.old.faults ≤ self.new.faults) × (self.old.steady.wants ≤ self.new.steady.wants) }
+        ensures later { NoneFalls (failing_refusals self.old) (failing_refusals self.new) }
     {
         if self.writes.begin() {
             self.tally.write_failed();
@@ -82,4 +87,10 @@ impl Sink for MemorySink {
         }
         self.steady.write(piece)
     }
+
+    ghost stays = { λ a. none_falls (failing_refusals a) };
+
+    ghost goes_on = { λ a b c. none_falls_twice (failing_refusals a) (failing_refusals b) (failing_refusals c) };
+
+    ghost onward = { λ a b l. l };
 }

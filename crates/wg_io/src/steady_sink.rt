@@ -1,6 +1,7 @@
 // A sink in memory.
 ghost use Rattle.std.specs.Prelude.{◌≡◌, ◌<◌, ◌≤◌, [], ◌++◌, min, length, take, IfOk, IfErr, OnErr};
-ghost use Rattle.wg_io.specs.Memory.{SteadyBytes};
+ghost use Rattle.wg_io.specs.Later.{NoneFalls};
+ghost use Rattle.wg_io.specs.Memory.{SteadyBytes, steady_refusals};
 ghost use Rattle.wg_io.specs.Outside.{risen};
 
 use crate::tally::Tally;
@@ -50,6 +51,8 @@ impl SteadySink {
 
 impl Sink for SteadySink {
     ghost use Rattle.std.specs.Prelude.{true};
+    ghost use Rattle.wg_io.specs.Memory.{steady_refusals};
+    ghost use Rattle.wg_io.specs.Later.{NoneFalls, none_falls, none_falls_twice};
 
     ghost told = { true };
 
@@ -59,6 +62,8 @@ impl Sink for SteadySink {
 
     ghost wants = { λ s. s.wants };
 
+    ghost later = { λ a b. NoneFalls (steady_refusals a) (steady_refusals b) };
+
     fn write(&mut self, piece: &[u8]) -> Result<usize, WriteError>
         requires { 0 < length piece.now }
         ensures count { IfOk result (λ count. (0 < count) × (count ≤ length piece.now)) }
@@ -66,7 +71,7 @@ impl Sink for SteadySink {
         ensures ok { IfOk result (λ count. self.new ≡ record self.old { taken = self.old.taken ++ take count piece.now }) }
         ensures wanted { OnErr result (self.new ≡ record self.old { wants = risen self.old.wants }) }
         ensures only_memory { IfErr result (λ error. error ≡ WriteError.Memory) }
-        ensures later { self.old.wants ≤ self.new.wants }
+        ensures later { NoneFalls (steady_refusals self.old) (steady_refusals self.new) }
     {
         let count = piece.len().min(self.piece as usize);
         match self.taken.extend_from_slice(&piece[..count]) {
@@ -77,4 +82,10 @@ impl Sink for SteadySink {
             }
         }
     }
+
+    ghost stays = { λ a. none_falls (steady_refusals a) };
+
+    ghost goes_on = { λ a b c. none_falls_twice (steady_refusals a) (steady_refusals b) (steady_refusals c) };
+
+    ghost onward = { λ a b l. l };
 }

@@ -36,6 +36,7 @@ impl<W: Write + Drop> StdSink<W> {
 
 impl<W: Write + Drop> Sink for StdSink<W> {
     ghost use Rattle.std.specs.Prelude.{false, []};
+    ghost use Rattle.wg_io.specs.Later.{NoneFalls, none_falls, none_falls_twice};
 
     ghost told = { false };
 
@@ -45,12 +46,20 @@ impl<W: Write + Drop> Sink for StdSink<W> {
 
     ghost wants = { λ s. s.wants };
 
+    ghost later = { NoneFalls };
+
     fn write(&mut self, piece: &[u8]) -> Result<usize, WriteError> {
         match write_some(&mut self.stream, piece) {
             Ok(count) => Ok(count),
             Err(error) => Err(self.tally.refused_write(error.kind())),
         }
     }
+
+    ghost stays = { none_falls };
+
+    ghost goes_on = { none_falls_twice };
+
+    ghost onward = { λ a b l. l };
 }
 
 /// Writes at least one byte: a write of none is a failure, for it would be tried for ever.

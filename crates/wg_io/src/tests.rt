@@ -1,6 +1,7 @@
 use crate::{
-    Depot, FolderDepot, LoadError, MOST_BYTES, MemoryDepot, MemorySink, Sink, StdSink, SteadyDepot,
-    SteadySink, WriteError, ZeroDepot, append_all, read_whole, write_all, write_pieces,
+    Depot, FileSink, FolderDepot, Lines, LoadError, MOST_BYTES, MemoryDepot, MemorySink, Sink,
+    StdSink, SteadyDepot, SteadySink, WriteError, ZeroDepot, append_all, read_whole, write_all,
+    write_pieces,
 };
 use std::alloc::Global;
 use std::fs;
@@ -46,6 +47,10 @@ fn a_file_of_the_system_is_read_at_any_place(rt: HostRuntime) {
     for offset in [26, MOST_BYTES] {
         assert_eq!(rt; depot.read(name, offset, &mut buffer), Ok(0), "at {offset}");
     }
+    assert_eq!(rt; depot.append(name, b" more"), Ok(5));
+    assert_eq!(rt; depot.read(name, 27, &mut buffer), Ok(4));
+    assert_eq!(rt; depot.create(name), Ok(()));
+    assert_eq!(rt; depot.read(name, 0, &mut buffer), Ok(0));
     assert!(rt; fs::remove_file(&rt, name).is_ok());
 }
 
@@ -94,6 +99,30 @@ fn bytes_in_memory_are_taken_in_pieces(rt: HostRuntime) {
         let mut sink = SteadySink::new(rt.alloc(), piece);
         assert_eq!(rt; write_all(&mut sink, TEXT), Ok(()));
         assert_eq!(rt; sink.bytes(), TEXT);
+    }
+}
+
+fn print_lines<S: Sink>(sink: &mut S) -> Result<(), WriteError> {
+    let mut lines = Lines::new();
+    lines.text(sink, b"pages ")?;
+    lines.number(sink, 12)?;
+    lines.byte(sink, b'\n')?;
+    for second in [345, u64::MAX] {
+        lines.pair(sink, 0, second)?;
+    }
+    lines.flush(sink)
+}
+
+#[test]
+fn lines_go_into_a_file(rt: HostRuntime) {
+    let text: &[u8] = b"# pages 12\n0 345\n0 18446744073709551615\n";
+    for piece in [1, 4096] {
+        let mut depot = MemoryDepot::new(rt.alloc(), piece);
+        assert!(rt; depot.put_file("a", b"# ").is_ok());
+        assert!(rt; depot.put_file("b", TEXT).is_ok());
+        assert_eq!(rt; print_lines(&mut FileSink::new(&mut depot, "a")), Ok(()));
+        assert!(rt; holds(rt.alloc(), &mut depot, "a", text), "piece {piece}");
+        assert!(rt; holds(rt.alloc(), &mut depot, "b", TEXT));
     }
 }
 

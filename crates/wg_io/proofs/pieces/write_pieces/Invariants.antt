@@ -1,4 +1,4 @@
-use Rattle.std.proofs.Common.{◌≡◌, ◌≤◌, ◌++◌, map, take, IsTrue}
+use Rattle.std.proofs.Common.{◌≡◌, ◌++◌, map, take, IsTrue}
 use Rattle.wg_io.specs.Puts.{joined}
 use Rattle.wg_io.proofs.pieces.write_pieces.Given as goal
 
@@ -6,6 +6,5 @@ use Rattle.wg_io.proofs.pieces.write_pieces.Given as goal
 abbrev pub invariant-loop-piece : goal.invariant-loop-piece
 invariant-loop-piece g l = let s = g.S.Sink in record {
   out : IsTrue s.told → s.taken l.sink ≡ s.taken l.fn.sink ++ joined (map (λ p. p.now) (take l.piece-index l.pieces));
-  faults : s.faults l.fn.sink ≤ s.faults l.sink;
-  wants : s.wants l.fn.sink ≤ s.wants l.sink;
+  later : s.later l.fn.sink l.sink;
 }

@@ -1,12 +1,12 @@
-ghost use Rattle.std.specs.Prelude.{◌≡◌, ℕ, ◌+◌, ◌<◌, ◌≤◌, [], ◌∷◌, ◌++◌, length, take, codes, decimal, IsTrue, IsErrOf, OnOk};
-ghost use Rattle.wg_io.specs.Outside.{Increased};
+// Numbers and texts into a sink, through a buffer.
+ghost use Rattle.std.specs.Prelude.{◌≡◌, ◌+◌, ◌≤◌, [], ◌∷◌, ◌++◌, length, take, codes, decimal, IsTrue, OnOk};
 ghost use Rattle.wg_io.specs.Puts.{Puts};
-ghost use Rattle.wg_arcs.specs.Printing.{Prints};
-ghost use Rattle.wg_arcs.specs.Text.{arc_line};
-ghost use Rattle.wg_arcs.specs.declared.lines.TheConstants.{BUFFER, MOST_PIECE, MOST_START};
+ghost use Rattle.wg_io.specs.Printing.{Prints, pair_line};
+ghost use Rattle.wg_io.specs.Refusals.{SinkRefusals};
+ghost use Rattle.wg_io.specs.declared.lines.TheConstants.{BUFFER, MOST_PIECE, MOST_START};
 
+use crate::{Sink, WriteError, write_all};
 use std::marker::Model;
-use wg_io::{Sink, WriteError, write_all};
 use wg_num::decimal_at;
 
 // The bytes that may wait.
@@ -32,7 +32,7 @@ pub struct Lines {
 
 impl Model for Lines {
     ghost use Rattle.std.specs.Prelude.{List, ℕ, ◌≤◌, take};
-    ghost use Rattle.wg_arcs.specs.declared.lines.TheConstants.{BUFFER};
+    ghost use Rattle.wg_io.specs.declared.lines.TheConstants.{BUFFER};
 
     ghost Value = { List ℕ };
 
@@ -74,7 +74,7 @@ impl Lines {
 
     // Lets the first `count` bytes of a text wait. All of it is copied, which costs less than a copy of any other length.
     #[inline(always)]
-    fn hold_front(&mut self, text: &[u8; MOST_START], count: usize)
+    fn hold_prefix(&mut self, text: &[u8; MOST_START], count: usize)
         requires count { count ≤ MOST_START }
         requires room { length self.old + MOST_START ≤ BUFFER }
         ensures { self.new ≡ self.old ++ take count text.now }
@@ -100,9 +100,8 @@ impl Lines {
     fn make_room<S: Sink>(&mut self, sink: &mut S) -> Result<(), WriteError>
         ensures room { OnOk result (length self.new + MOST_PIECE ≤ BUFFER) }
         ensures prints { IsTrue S.told → Prints [] (S.taken sink.old) (S.taken sink.new) self.old self.new result }
-        ensures failed { IsErrOf result WriteError.Failed → Increased (S.faults sink.old) (S.faults sink.new) }
-        ensures memory { IsErrOf result WriteError.Memory → Increased (S.wants sink.old) (S.wants sink.new) }
-        ensures later { (S.faults sink.old ≤ S.faults sink.new) × (S.wants sink.old ≤ S.wants sink.new) }
+        ensures later { S.later sink.old sink.new }
+        ensures refusals { SinkRefusals ⟦<S as Sink>⟧ sink.old sink.new result }
     {
         if self.len() + MOST_PIECE <= BUFFER {
             return Ok(());
@@ -114,9 +113,8 @@ impl Lines {
     #[inline(always)]
     pub fn number<S: Sink>(&mut self, sink: &mut S, number: u64) -> Result<(), WriteError>
         ensures prints { IsTrue S.told → Prints (decimal number) (S.taken sink.old) (S.taken sink.new) self.old self.new result }
-        ensures failed { IsErrOf result WriteError.Failed → Increased (S.faults sink.old) (S.faults sink.new) }
-        ensures memory { IsErrOf result WriteError.Memory → Increased (S.wants sink.old) (S.wants sink.new) }
-        ensures later { (S.faults sink.old ≤ S.faults sink.new) × (S.wants sink.old ≤ S.wants sink.new) }
+        ensures later { S.later sink.old sink.new }
+        ensures refusals { SinkRefusals ⟦<S as Sink>⟧ sink.old sink.new result }
     {
         match self.make_room(sink) {
             Ok(()) => {
@@ -130,9 +128,8 @@ impl Lines {
     /// Prints a byte.
     pub fn byte<S: Sink>(&mut self, sink: &mut S, byte: u8) -> Result<(), WriteError>
         ensures prints { IsTrue S.told → Prints (byte ∷ []) (S.taken sink.old) (S.taken sink.new) self.old self.new result }
-        ensures failed { IsErrOf result WriteError.Failed → Increased (S.faults sink.old) (S.faults sink.new) }
-        ensures memory { IsErrOf result WriteError.Memory → Increased (S.wants sink.old) (S.wants sink.new) }
-        ensures later { (S.faults sink.old ≤ S.faults sink.new) × (S.wants sink.old ≤ S.wants sink.new) }
+        ensures later { S.later sink.old sink.new }
+        ensures refusals { SinkRefusals ⟦<S as Sink>⟧ sink.old sink.new result }
     {
         match self.make_room(sink) {
             Ok(()) => {
@@ -147,9 +144,8 @@ impl Lines {
     pub fn text<S: Sink>(&mut self, sink: &mut S, text: &[u8]) -> Result<(), WriteError>
         requires { length text.now ≤ MOST_PIECE }
         ensures prints { IsTrue S.told → Prints text.now (S.taken sink.old) (S.taken sink.new) self.old self.new result }
-        ensures failed { IsErrOf result WriteError.Failed → Increased (S.faults sink.old) (S.faults sink.new) }
-        ensures memory { IsErrOf result WriteError.Memory → Increased (S.wants sink.old) (S.wants sink.new) }
-        ensures later { (S.faults sink.old ≤ S.faults sink.new) × (S.wants sink.old ≤ S.wants sink.new) }
+        ensures later { S.later sink.old sink.new }
+        ensures refusals { SinkRefusals ⟦<S as Sink>⟧ sink.old sink.new result }
     {
         match self.make_room(sink) {
             Ok(()) => {
@@ -160,41 +156,40 @@ impl Lines {
         }
     }
 
-    /// Prints the line of an arc.
+    /// Prints a line of two numbers, parted by a space.
     #[inline(always)]
-    pub fn arc<S: Sink>(&mut self, sink: &mut S, from: u64, to: u64) -> Result<(), WriteError>
-        ensures prints { IsTrue S.told → Prints (arc_line (from, to)) (S.taken sink.old) (S.taken sink.new) self.old self.new result }
-        ensures failed { IsErrOf result WriteError.Failed → Increased (S.faults sink.old) (S.faults sink.new) }
-        ensures memory { IsErrOf result WriteError.Memory → Increased (S.wants sink.old) (S.wants sink.new) }
-        ensures later { (S.faults sink.old ≤ S.faults sink.new) × (S.wants sink.old ≤ S.wants sink.new) }
+    pub fn pair<S: Sink>(&mut self, sink: &mut S, first: u64, second: u64) -> Result<(), WriteError>
+        ensures prints { IsTrue S.told → Prints (pair_line (first, second)) (S.taken sink.old) (S.taken sink.new) self.old self.new result }
+        ensures later { S.later sink.old sink.new }
+        ensures refusals { SinkRefusals ⟦<S as Sink>⟧ sink.old sink.new result }
     {
         match self.make_room(sink) {
             Ok(()) => {
-                self.hold_arc(from, to);
+                self.hold_pair(first, second);
                 Ok(())
             }
             Err(e) => Err(e),
         }
     }
 
-    /// Prints the line of an arc that begins with the first `count` bytes of this text.
+    /// Prints such a line, if the first `count` bytes of `start` are its first number and the space: they were made once for
+    /// many lines.
     #[inline(always)]
-    pub fn arc_after<S: Sink>(
+    pub fn pair_after<S: Sink>(
         &mut self,
         sink: &mut S,
         start: &[u8; MOST_START],
         count: usize,
-        to: u64,
+        second: u64,
     ) -> Result<(), WriteError>
         requires { count ≤ MOST_START }
-        ensures prints { IsTrue S.told → (from : ℕ) → take count start.now ≡ decimal from ++ codes " " → Prints (arc_line (from, to)) (S.taken sink.old) (S.taken sink.new) self.old self.new result }
-        ensures failed { IsErrOf result WriteError.Failed → Increased (S.faults sink.old) (S.faults sink.new) }
-        ensures memory { IsErrOf result WriteError.Memory → Increased (S.wants sink.old) (S.wants sink.new) }
-        ensures later { (S.faults sink.old ≤ S.faults sink.new) × (S.wants sink.old ≤ S.wants sink.new) }
+        ensures prints { IsTrue S.told → Prints (take count start.now ++ decimal second ++ codes "\n") (S.taken sink.old) (S.taken sink.new) self.old self.new result }
+        ensures later { S.later sink.old sink.new }
+        ensures refusals { SinkRefusals ⟦<S as Sink>⟧ sink.old sink.new result }
     {
         match self.make_room(sink) {
             Ok(()) => {
-                self.hold_arc_after(start, count, to);
+                self.hold_pair_after(start, count, second);
                 Ok(())
             }
             Err(e) => Err(e),
@@ -203,34 +198,34 @@ impl Lines {
 
     // Lets a line's last number and its end wait.
     #[inline(always)]
-    fn hold_end(&mut self, to: u64)
+    fn hold_end(&mut self, second: u64)
         requires { length self.old + MOST_START ≤ BUFFER }
-        ensures value { self.new ≡ self.old ++ decimal to ++ codes "\n" }
+        ensures value { self.new ≡ self.old ++ decimal second ++ codes "\n" }
     {
-        self.hold_number(to);
+        self.hold_number(second);
         self.hold(b"\n");
     }
 
-    // Lets such a line wait.
+    // Lets a line wait that begins with a text.
     #[inline(always)]
-    fn hold_arc_after(&mut self, start: &[u8; MOST_START], count: usize, to: u64)
+    fn hold_pair_after(&mut self, start: &[u8; MOST_START], count: usize, second: u64)
         requires start { count ≤ MOST_START }
         requires room { length self.old + MOST_PIECE ≤ BUFFER }
-        ensures { self.new ≡ self.old ++ (take count start.now ++ decimal to ++ codes "\n") }
+        ensures { self.new ≡ self.old ++ (take count start.now ++ decimal second ++ codes "\n") }
     {
-        self.hold_front(start, count);
-        self.hold_end(to);
+        self.hold_prefix(start, count);
+        self.hold_end(second);
     }
 
-    // Lets the line of an arc wait.
+    // Lets a line of two numbers wait.
     #[inline(always)]
-    fn hold_arc(&mut self, from: u64, to: u64)
+    fn hold_pair(&mut self, first: u64, second: u64)
         requires { length self.old + MOST_PIECE ≤ BUFFER }
-        ensures { self.new ≡ self.old ++ arc_line (from, to) }
+        ensures { self.new ≡ self.old ++ pair_line (first, second) }
     {
-        self.hold_number(from);
+        self.hold_number(first);
         self.hold(b" ");
-        self.hold_end(to);
+        self.hold_end(second);
     }
 
     /// Sends all out.
@@ -239,9 +234,8 @@ impl Lines {
     pub fn flush<S: Sink>(&mut self, sink: &mut S) -> Result<(), WriteError>
         ensures puts { IsTrue S.told → Puts self.old (S.taken sink.old) (S.taken sink.new) result }
         ensures empty { self.new ≡ [] }
-        ensures failed { IsErrOf result WriteError.Failed → Increased (S.faults sink.old) (S.faults sink.new) }
-        ensures memory { IsErrOf result WriteError.Memory → Increased (S.wants sink.old) (S.wants sink.new) }
-        ensures later { (S.faults sink.old ≤ S.faults sink.new) × (S.wants sink.old ≤ S.wants sink.new) }
+        ensures later { S.later sink.old sink.new }
+        ensures refusals { SinkRefusals ⟦<S as Sink>⟧ sink.old sink.new result }
     {
         let len = self.len;
         self.len = 0;

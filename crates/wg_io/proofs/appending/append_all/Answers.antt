@@ -1,8 +1,9 @@
 use Rattle.std.proofs.Common.{◌-◌, take, drop, List, ℕ, arith, ap, ◌∙◌, length}
 use Rattle.wg_io.proofs.PieceLemmas.{next_piece}
 use Rattle.wg_io.specs.Outside.{Files, appended}
+use Rattle.wg_io.proofs.RefusalLemmas.{file_done, file_after, file_exit}
 use Rattle.wg_io.proofs.FilesLemmas.{appended-append, none_falls-trans}
-use Rattle.wg_io.proofs.depot.append_all.Goals as goal
+use Rattle.wg_io.proofs.appending.append_all.Goals as goal
 
 pub loop-at-preserved : goal.loop-at-preserved
 loop-at-preserved g c =
@@ -20,3 +21,11 @@ loop-at-preserved g c =
       later = none_falls-trans _ _ _ c.loop-at.invariant.later c.in_ok-at.ensures.later;
       untouched = λ z. absurd (omega (arith, c.in_ok-at.ensures.count.0));
     }
+
+pub returns-in_err-at-clause-refusals : goal.returns-in_err-at-clause-refusals
+returns-in_err-at-clause-refusals g c =
+    file_exit _ _ _ _ _ c.from_residual.ensures.1 (file_after _ _ _ _ _ c.loop-at.invariant.later
+    (record { failed = c.in_err-at.ensures.failed; memory = c.in_err-at.ensures.memory; later = c.in_err-at.ensures.later }))
+
+pub returns-clause-refusals : goal.returns-clause-refusals
+returns-clause-refusals g c = file_done _ _ _ _ c.loop-at.invariant.later
