@@ -1,8 +1,7 @@
 // Whole bytes on their way into a file.
-ghost use Rattle.std.specs.Prelude.{◌≡◌, ◌<◌, ◌≤◌, ◌^◌, List, [], ◌∷◌, ◌++◌, length, All, OnOk, OnErr, IsErrOf, IsTrue};
-ghost use Rattle.wg_io.specs.Outside.{Increased, NonDecreasing};
+ghost use Rattle.std.specs.Prelude.{◌≡◌, ◌<◌, ◌≤◌, ◌^◌, List, [], ◌∷◌, ◌++◌, length, All};
 ghost use Rattle.wg_bits.specs.Bits.{bits_of, low_bits};
-ghost use Rattle.wg_bits.specs.Written.{HasPut, HasPutLess};
+ghost use Rattle.wg_bits.specs.Written.{Sends};
 ghost use Rattle.wg_bits.specs.declared.buffer.TheConstants.{BUFFER, FULL};
 
 use std::marker::Model;
@@ -73,11 +72,7 @@ impl Buffer {
     #[inline(never)]
     pub(crate) fn send<D: Depot>(&mut self, depot: &mut D, name: &str) -> Result<(), WriteError>
         ensures empty { self.new ≡ [] }
-        ensures ok { IsTrue D.told → OnOk result (HasPut (D.files depot.old) (D.files depot.new) name.now (bits_of self.old) [] []) }
-        ensures err { IsTrue D.told → OnErr result (HasPutLess (D.files depot.old) (D.files depot.new) name.now (bits_of self.old) []) }
-        ensures fault { IsErrOf result WriteError.Failed → Increased (D.counts depot.old name.now).write_faults (D.counts depot.new name.now).write_faults }
-        ensures memory { IsErrOf result WriteError.Memory → Increased (D.counts depot.old name.now).wants (D.counts depot.new name.now).wants }
-        ensures later { NonDecreasing (D.counts depot.old) (D.counts depot.new) }
+        ensures sends { Sends ⟦<D as Depot>⟧ depot.old depot.new name.now (bits_of self.old) [] [] result }
     {
         are_bytes(&self.bytes[..self.len]);
         let sent = append_all(depot, name, &self.bytes[..self.len]);
@@ -95,11 +90,7 @@ impl Buffer {
     ) -> Result<(), WriteError>
         requires { length self.old ≤ FULL }
         ensures room { length self.new ≤ FULL }
-        ensures ok { IsTrue D.told → OnOk result (HasPut (D.files depot.old) (D.files depot.new) name.now (bits_of self.old) (low_bits 64 word) (bits_of self.new)) }
-        ensures err { IsTrue D.told → OnErr result (HasPutLess (D.files depot.old) (D.files depot.new) name.now (bits_of self.old) (low_bits 64 word)) }
-        ensures fault { IsErrOf result WriteError.Failed → Increased (D.counts depot.old name.now).write_faults (D.counts depot.new name.now).write_faults }
-        ensures memory { IsErrOf result WriteError.Memory → Increased (D.counts depot.old name.now).wants (D.counts depot.new name.now).wants }
-        ensures later { NonDecreasing (D.counts depot.old) (D.counts depot.new) }
+        ensures sends { Sends ⟦<D as Depot>⟧ depot.old depot.new name.now (bits_of self.old) (low_bits 64 word) (bits_of self.new) result }
     {
         self.push_word(word);
         if self.len > FULL {
