@@ -1,12 +1,13 @@
-use Rattle.std.proofs.Common.{◌≡◌, ℕ, zero, suc, ◌+◌, ◌-◌, ◌*◌, ◌/◌, ◌%◌, ◌^◌, ◌<◌, ◌≤◌, Bool, true, false, List, [], ◌∷◌, ◌++◌, refl, sym, ap, ◌∙◌, arith, append_assoc}
+use Rattle.std.proofs.Common.{◌≡◌, ℕ, zero, suc, ◌+◌, ◌-◌, ◌*◌, ◌/◌, ◌%◌, ◌^◌, ◌<◌, ◌≤◌, Bool, true, false, List, [], ◌∷◌, ◌++◌, refl, sym, ap, ◌∙◌, arith, append_assoc, Err}
 use Rattle.std.proofs.Math.Nat.{pow-suc, div-div-eq-div-mul}
-use Rattle.wg_io.specs.Outside.{Files}
+use Rattle.wg_io.specs.declared.depot.Depot as depot
+use Rattle.wg_io.specs.declared.depot.WriteError.{WriteError}
 use Rattle.wg_bits.specs.Bits.{low_bits}
-use Rattle.wg_bits.specs.Written.{HasPut, HasPutLess}
+use Rattle.wg_bits.specs.Written.{Sends}
 use Rattle.wg_bits.proofs.LowBits.{low_bits-add, low_bits-above}
-use Rattle.wg_bits.proofs.Writes.{put_less_more, put_then_less}
+use Rattle.wg_bits.proofs.Sending.{Sent, sends_as, sends_then, sends_cut}
 use Rattle.wg_codes.specs.Words.{highest, nibble}
-use Rattle.wg_codes.proofs.Writing.{one_bit_one, one_bit_zero, less_same}
+use Rattle.wg_codes.proofs.Writing.{one_bit_one, one_bit_zero}
 use Rattle.wg_codes.proofs.NibbleWords.{open_digits, open_more, eights, split_word}
 
 digit_open : (t : ℕ) → t < 8 → low_bits 4 t ≡ false ∷ low_bits 3 t
@@ -68,11 +69,11 @@ nothing_opened v more e =
     let none : highest v / 3 - more ≡ 0 = omega arith in
     ap (λ m. open_digits m (v / 8 ^ suc more)) none
 
-pub less_nibble : (a b c : Files) (n : List ℕ) (w m : List Bool) (v more d : ℕ) → v ≤ 2 ^ 63 - 1 → 0 < more → more ≤ highest v / 3 → d ≡ v / 2 ^ (3 * more) % 8
-    → HasPut a b n w (opened v more) m → HasPutLess b c n m (low_bits 4 d) → HasPutLess a c n w (nibble v)
-less_nibble a b c n w m v more d l some few e h k =
-    let next : ℕ = more - 1 in
+-- a refused digit
+pub sends_some_digits : {D A : Type 0} (dep : depot.Ghosts D) (a b c : D) (n : List ℕ) (w m x z : List Bool) (v more d : ℕ) (e : WriteError) → v ≤ 2 ^ 63 - 1 → 0 < more → more ≤ highest v / 3
+    → d ≡ v / 2 ^ (3 * more) % 8 → Sent dep a b n w (opened v more) m → Sends {A = A} dep b c n m (low_bits 4 d) x (Err e) → Sends {A = A} dep a c n w (nibble v) z (Err e)
+sends_some_digits dep a b c n w m x z v more d e l some few is h k =
     let r = opened_begins v (more - 1) l (omega arith) in
     let all : (opened v more ++ low_bits 4 d) ++ r.0 ≡ nibble v =
-    ap (λ z. z ++ r.0) (opened_put v more (more - 1) d some few refl e) ∙ sym r.1 in
-    less_same a c n w _ _ all (put_less_more a c n w (opened v more ++ low_bits 4 d) r.0 (put_then_less a b c n w (opened v more) m (low_bits 4 d) h k))
+    ap (λ z. z ++ r.0) (opened_put v more (more - 1) d some few refl is) ∙ sym r.1 in
+    sends_as dep a c n w _ _ z _ all (sends_cut dep a c n w _ r.0 x z e (sends_then dep a b c n w _ m _ x _ _ h k))

@@ -5,19 +5,10 @@ use Rattle.std.proofs.Math.Numerals.{add-one}
 use Rattle.std.proofs.Math.Pow.{pow_mono}
 use Rattle.std.proofs.lemmas.Nat.{shr_high}
 use Rattle.std.proofs.lemmas.List.{append-nil}
-use Rattle.wg_io.specs.Outside.{Files}
 use Rattle.wg_bits.specs.Bits.{low_bits}
-use Rattle.wg_bits.specs.Written.{HasPut, HasPutLess}
 use Rattle.wg_bits.proofs.LowBits.{low_bits-add, low_bits-above, low_bits-zero}
 use Rattle.wg_codes.specs.Words.{highest, unary, gamma, delta, zeta, shortened}
 use Rattle.wg_codes.proofs.Highest.{highest_bounds, highest_below}
-
--- the same bits, put in another form
-pub put_same : (a b : Files) (n : List ℕ) (w p q x : List Bool) → p ≡ q → HasPut a b n w p x → HasPut a b n w q x
-put_same a b n w p q x e h = subst (λ z. HasPut a b n w z x) e h
-
-pub less_same : (a b : Files) (n : List ℕ) (w p q : List Bool) → p ≡ q → HasPutLess a b n w p → HasPutLess a b n w q
-less_same a b n w p q e h = subst (λ z. HasPutLess a b n w z) e h
 
 pub one_bit_one : low_bits 1 1 ≡ true ∷ []
 unfolding low_bits

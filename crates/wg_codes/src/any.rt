@@ -1,9 +1,8 @@
 //! A code that is chosen while the program runs.
-ghost use Rattle.std.specs.Prelude.{◌≡◌, ◌≤◌, true, false, length, OnOk, OnErr, IsErrOf, IsTrue, ◌↔◌};
-ghost use Rattle.wg_io.specs.Outside.{Increased, NonDecreasing};
+ghost use Rattle.std.specs.Prelude.{◌≡◌, ◌≤◌, false, length, is_err, IsTrue, ◌↔◌};
 ghost use Rattle.wg_params.specs.Codes.{IsCode};
 ghost use Rattle.wg_bits.specs.Bits.{rest};
-ghost use Rattle.wg_bits.specs.Written.{HasPut, HasPutLess};
+ghost use Rattle.wg_bits.specs.Written.{Sends};
 ghost use Rattle.wg_codes.specs.Words.{word, top};
 ghost use Rattle.wg_codes.specs.Reading.{Reads, Passes, after};
 
@@ -41,17 +40,8 @@ pub fn write<D: Depot>(
     requires code { IsCode code }
     requires value { v ≤ top code }
     requires ready { writer.old.failed ≡ false }
-    ensures ok { IsTrue D.told → OnOk result
-        (HasPut (D.files depot.old) (D.files depot.new) name.now writer.old.bits (word code v) writer.new.bits) }
-    ensures ready { OnOk result (writer.new.failed ≡ false) }
-    ensures failed { OnErr result (writer.new.failed ≡ true) }
-    ensures err { IsTrue D.told → OnErr result
-        (HasPutLess (D.files depot.old) (D.files depot.new) name.now writer.old.bits (word code v)) }
-    ensures fault { IsErrOf result WriteError.Failed →
-        Increased (D.counts depot.old name.now).write_faults (D.counts depot.new name.now).write_faults }
-    ensures memory { IsErrOf result WriteError.Memory →
-        Increased (D.counts depot.old name.now).wants (D.counts depot.new name.now).wants }
-    ensures later { NonDecreasing (D.counts depot.old) (D.counts depot.new) }
+    ensures sends { Sends ⟦<D as Depot>⟧ depot.old depot.new name.now writer.old.bits (word code v) writer.new.bits result }
+    ensures failed { writer.new.failed ≡ is_err result }
 {
     match code {
         Code::Unary => unary::write(v, writer, depot, name),

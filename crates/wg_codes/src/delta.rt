@@ -8,10 +8,9 @@
 //! | 2 | `0101` |
 //! | 3 | `01100` |
 //! | 7 | `00100000` |
-ghost use Rattle.std.specs.Prelude.{◌≡◌, ◌-◌, ◌^◌, ◌≤◌, true, false, length, OnOk, OnErr, IsErrOf, IsTrue};
-ghost use Rattle.wg_io.specs.Outside.{Increased, NonDecreasing};
+ghost use Rattle.std.specs.Prelude.{◌≡◌, ◌-◌, ◌^◌, ◌≤◌, false, length, is_err};
 ghost use Rattle.wg_bits.specs.Bits.{rest};
-ghost use Rattle.wg_bits.specs.Written.{HasPut, HasPutLess};
+ghost use Rattle.wg_bits.specs.Written.{Sends};
 ghost use Rattle.wg_codes.specs.Words.{delta};
 ghost use Rattle.wg_codes.specs.Reading.{Reads, after};
 
@@ -51,17 +50,8 @@ pub fn write<D: Depot>(
 ) -> Result<(), WriteError>
     requires value { v ≤ 2 ^ 63 - 2 }
     requires ready { writer.old.failed ≡ false }
-    ensures ok { IsTrue D.told → OnOk result
-        (HasPut (D.files depot.old) (D.files depot.new) name.now writer.old.bits (delta v) writer.new.bits) }
-    ensures ready { OnOk result (writer.new.failed ≡ false) }
-    ensures failed { OnErr result (writer.new.failed ≡ true) }
-    ensures err { IsTrue D.told → OnErr result
-        (HasPutLess (D.files depot.old) (D.files depot.new) name.now writer.old.bits (delta v)) }
-    ensures fault { IsErrOf result WriteError.Failed →
-        Increased (D.counts depot.old name.now).write_faults (D.counts depot.new name.now).write_faults }
-    ensures memory { IsErrOf result WriteError.Memory →
-        Increased (D.counts depot.old name.now).wants (D.counts depot.new name.now).wants }
-    ensures later { NonDecreasing (D.counts depot.old) (D.counts depot.new) }
+    ensures sends { Sends ⟦<D as Depot>⟧ depot.old depot.new name.now writer.old.bits (delta v) writer.new.bits result }
+    ensures failed { writer.new.failed ≡ is_err result }
 {
     let index = highest_one(v + 1);
     gamma::write(index as u64, writer, depot, name)?;

@@ -1,8 +1,7 @@
 //! What the codes share: a word's head in unary, and a field of bits behind it.
-ghost use Rattle.std.specs.Prelude.{◌≡◌, ◌+◌, ◌-◌, ◌^◌, ◌<◌, ◌≤◌, true, false, ◌++◌, length, IfSome, IfNone, OnOk, OnErr, IsErrOf, IsTrue};
-ghost use Rattle.wg_io.specs.Outside.{Increased, NonDecreasing};
+ghost use Rattle.std.specs.Prelude.{◌≡◌, ◌+◌, ◌-◌, ◌^◌, ◌<◌, ◌≤◌, false, ◌++◌, length, IfSome, IfNone, is_err};
 ghost use Rattle.wg_bits.specs.Bits.{rest, moved, low_bits};
-ghost use Rattle.wg_bits.specs.Written.{HasPut, HasPutLess};
+ghost use Rattle.wg_bits.specs.Written.{Sends};
 ghost use Rattle.wg_codes.specs.Words.{highest, unary};
 ghost use Rattle.wg_codes.specs.Parts.{IsNumberAt};
 
@@ -43,19 +42,9 @@ pub fn put_headed<D: Depot>(
     requires ready { writer.old.failed ≡ false }
     requires width { width ≤ 63 }
     requires field { field < 2 ^ width }
-    ensures ok { IsTrue D.told → OnOk result
-        (HasPut (D.files depot.old) (D.files depot.new) name.now writer.old.bits
-        (unary head ++ low_bits width field) writer.new.bits) }
-    ensures ready { OnOk result (writer.new.failed ≡ false) }
-    ensures failed { OnErr result (writer.new.failed ≡ true) }
-    ensures err { IsTrue D.told → OnErr result
-        (HasPutLess (D.files depot.old) (D.files depot.new) name.now writer.old.bits
-        (unary head ++ low_bits width field)) }
-    ensures fault { IsErrOf result WriteError.Failed →
-        Increased (D.counts depot.old name.now).write_faults (D.counts depot.new name.now).write_faults }
-    ensures memory { IsErrOf result WriteError.Memory →
-        Increased (D.counts depot.old name.now).wants (D.counts depot.new name.now).wants }
-    ensures later { NonDecreasing (D.counts depot.old) (D.counts depot.new) }
+    ensures sends { Sends ⟦<D as Depot>⟧ depot.old depot.new name.now writer.old.bits
+        (unary head ++ low_bits width field) writer.new.bits result }
+    ensures failed { writer.new.failed ≡ is_err result }
 {
     if head <= 63 - width as u64 {
         return writer.put(depot, name, (1 << width) + field, head as u32 + width + 1);
@@ -77,19 +66,9 @@ fn put_in_two<D: Depot>(
     requires ready { writer.old.failed ≡ false }
     requires width { width ≤ 63 }
     requires field { field < 2 ^ width }
-    ensures ok { IsTrue D.told → OnOk result
-        (HasPut (D.files depot.old) (D.files depot.new) name.now writer.old.bits
-        (unary head ++ low_bits width field) writer.new.bits) }
-    ensures ready { OnOk result (writer.new.failed ≡ false) }
-    ensures failed { OnErr result (writer.new.failed ≡ true) }
-    ensures err { IsTrue D.told → OnErr result
-        (HasPutLess (D.files depot.old) (D.files depot.new) name.now writer.old.bits
-        (unary head ++ low_bits width field)) }
-    ensures fault { IsErrOf result WriteError.Failed →
-        Increased (D.counts depot.old name.now).write_faults (D.counts depot.new name.now).write_faults }
-    ensures memory { IsErrOf result WriteError.Memory →
-        Increased (D.counts depot.old name.now).wants (D.counts depot.new name.now).wants }
-    ensures later { NonDecreasing (D.counts depot.old) (D.counts depot.new) }
+    ensures sends { Sends ⟦<D as Depot>⟧ depot.old depot.new name.now writer.old.bits
+        (unary head ++ low_bits width field) writer.new.bits result }
+    ensures failed { writer.new.failed ≡ is_err result }
 {
     match writer.zeros(depot, name, head) {
         Ok(()) => writer.put(depot, name, (1 << width) + field, width + 1),

@@ -7,10 +7,9 @@
 //! | 2 | `001` |
 //! | 3 | `0001` |
 //! | 7 | `00000001` |
-ghost use Rattle.std.specs.Prelude.{◌≡◌, ◌+◌, ◌^◌, ◌<◌, true, false, length, OnOk, OnErr, IsErrOf, IsTrue};
-ghost use Rattle.wg_io.specs.Outside.{Increased, NonDecreasing};
+ghost use Rattle.std.specs.Prelude.{◌≡◌, ◌+◌, ◌^◌, ◌<◌, false, length, is_err};
 ghost use Rattle.wg_bits.specs.Bits.{rest};
-ghost use Rattle.wg_bits.specs.Written.{HasPut, HasPutLess};
+ghost use Rattle.wg_bits.specs.Written.{Sends};
 ghost use Rattle.wg_codes.specs.Words.{unary};
 ghost use Rattle.wg_codes.specs.Reading.{Reads, after};
 
@@ -65,17 +64,8 @@ pub fn write<D: Depot>(
     name: &str,
 ) -> Result<(), WriteError>
     requires ready { writer.old.failed ≡ false }
-    ensures ok { IsTrue D.told → OnOk result
-        (HasPut (D.files depot.old) (D.files depot.new) name.now writer.old.bits (unary v) writer.new.bits) }
-    ensures ready { OnOk result (writer.new.failed ≡ false) }
-    ensures failed { OnErr result (writer.new.failed ≡ true) }
-    ensures err { IsTrue D.told → OnErr result
-        (HasPutLess (D.files depot.old) (D.files depot.new) name.now writer.old.bits (unary v)) }
-    ensures fault { IsErrOf result WriteError.Failed →
-        Increased (D.counts depot.old name.now).write_faults (D.counts depot.new name.now).write_faults }
-    ensures memory { IsErrOf result WriteError.Memory →
-        Increased (D.counts depot.old name.now).wants (D.counts depot.new name.now).wants }
-    ensures later { NonDecreasing (D.counts depot.old) (D.counts depot.new) }
+    ensures sends { Sends ⟦<D as Depot>⟧ depot.old depot.new name.now writer.old.bits (unary v) writer.new.bits result }
+    ensures failed { writer.new.failed ≡ is_err result }
 {
     put_headed(writer, depot, name, v, 0, 0)
 }

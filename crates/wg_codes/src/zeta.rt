@@ -9,10 +9,9 @@
 //! | 2 | `1011` | `111` |
 //! | 3 | `1100` | `01000` |
 //! | 7 | `0100000` | `011000` |
-ghost use Rattle.std.specs.Prelude.{◌≡◌, ◌+◌, ◌-◌, ◌*◌, ◌/◌, ◌^◌, ◌<◌, ◌≤◌, true, false, length, IfSome, IfNone, OnOk, OnErr, IsErrOf, IsTrue};
-ghost use Rattle.wg_io.specs.Outside.{Increased, NonDecreasing};
+ghost use Rattle.std.specs.Prelude.{◌≡◌, ◌+◌, ◌-◌, ◌*◌, ◌/◌, ◌^◌, ◌<◌, ◌≤◌, false, length, IfSome, IfNone, is_err};
 ghost use Rattle.wg_bits.specs.Bits.{rest, moved};
-ghost use Rattle.wg_bits.specs.Written.{HasPut, HasPutLess};
+ghost use Rattle.wg_bits.specs.Written.{Sends};
 ghost use Rattle.wg_codes.specs.Words.{zeta, shortened};
 ghost use Rattle.wg_codes.specs.Reading.{Reads, after};
 ghost use Rattle.wg_codes.specs.Parts.{IsShortenedAt, IsCutAt};
@@ -105,17 +104,8 @@ pub fn write<D: Depot>(
     requires k { (1 ≤ k) × (k ≤ 31) }
     requires value { v ≤ 2 ^ (k * (63 / k)) - 2 }
     requires ready { writer.old.failed ≡ false }
-    ensures ok { IsTrue D.told → OnOk result
-        (HasPut (D.files depot.old) (D.files depot.new) name.now writer.old.bits (zeta k v) writer.new.bits) }
-    ensures ready { OnOk result (writer.new.failed ≡ false) }
-    ensures failed { OnErr result (writer.new.failed ≡ true) }
-    ensures err { IsTrue D.told → OnErr result
-        (HasPutLess (D.files depot.old) (D.files depot.new) name.now writer.old.bits (zeta k v)) }
-    ensures fault { IsErrOf result WriteError.Failed →
-        Increased (D.counts depot.old name.now).write_faults (D.counts depot.new name.now).write_faults }
-    ensures memory { IsErrOf result WriteError.Memory →
-        Increased (D.counts depot.old name.now).wants (D.counts depot.new name.now).wants }
-    ensures later { NonDecreasing (D.counts depot.old) (D.counts depot.new) }
+    ensures sends { Sends ⟦<D as Depot>⟧ depot.old depot.new name.now writer.old.bits (zeta k v) writer.new.bits result }
+    ensures failed { writer.new.failed ≡ is_err result }
 {
     let head = over(highest_one(v + 1), k);
     let width = head * k + k;

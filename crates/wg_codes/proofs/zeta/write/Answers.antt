@@ -1,7 +1,6 @@
 use Rattle.std.proofs.Common.{◌∙◌, ◌/◌, ap, arith}
-use Rattle.std.proofs.lemmas.Result.{on_ok_weaker, on_err_weaker}
+use Rattle.wg_bits.proofs.Sending.{sends_as}
 use Rattle.wg_codes.proofs.Lengths.{zeta_field}
-use Rattle.wg_codes.proofs.Writing.{put_same, less_same}
 use Rattle.wg_codes.proofs.zeta.write.Goals as goal
 
 pub overflow_sub-v : goal.overflow_sub-v
@@ -24,22 +23,12 @@ pub put_headed-requires-else-v-least-clause-field : goal.put_headed-requires-els
 put_headed-requires-else-v-least-clause-field g c =
     let z = zeta_field c.args.k c.args.v c.over-head.result c.requires.k.0 c.requires.k.1 c.requires.value (c.over-head.ensures ∙ ap (λ m. m / c.args.k) c.highest_one.ensures.index) in (z.3 c.if-v-least.false).0
 
-pub returns-then-v-least-clause-ok : goal.returns-then-v-least-clause-ok
-returns-then-v-least-clause-ok g c t =
+pub returns-then-v-least-clause-sends : goal.returns-then-v-least-clause-sends
+returns-then-v-least-clause-sends g c =
     let z = zeta_field c.args.k c.args.v c.over-head.result c.requires.k.0 c.requires.k.1 c.requires.value (c.over-head.ensures ∙ ap (λ m. m / c.args.k) c.highest_one.ensures.index) in
-    on_ok_weaker _ (put_same _ _ _ _ _ _ _ (z.2 c.if-v-least.true).1) (c.put_headed.ensures.ok t)
+    sends_as _ _ _ _ _ _ _ _ _ (z.2 c.if-v-least.true).1 c.put_headed.ensures.sends
 
-pub returns-then-v-least-clause-err : goal.returns-then-v-least-clause-err
-returns-then-v-least-clause-err g c t =
+pub returns-else-v-least-clause-sends : goal.returns-else-v-least-clause-sends
+returns-else-v-least-clause-sends g c =
     let z = zeta_field c.args.k c.args.v c.over-head.result c.requires.k.0 c.requires.k.1 c.requires.value (c.over-head.ensures ∙ ap (λ m. m / c.args.k) c.highest_one.ensures.index) in
-    on_err_weaker _ (less_same _ _ _ _ _ _ (z.2 c.if-v-least.true).1) (c.put_headed.ensures.err t)
-
-pub returns-else-v-least-clause-ok : goal.returns-else-v-least-clause-ok
-returns-else-v-least-clause-ok g c t =
-    let z = zeta_field c.args.k c.args.v c.over-head.result c.requires.k.0 c.requires.k.1 c.requires.value (c.over-head.ensures ∙ ap (λ m. m / c.args.k) c.highest_one.ensures.index) in
-    on_ok_weaker _ (put_same _ _ _ _ _ _ _ (z.3 c.if-v-least.false).1) (c.put_headed-else-v-least.ensures.ok t)
-
-pub returns-else-v-least-clause-err : goal.returns-else-v-least-clause-err
-returns-else-v-least-clause-err g c t =
-    let z = zeta_field c.args.k c.args.v c.over-head.result c.requires.k.0 c.requires.k.1 c.requires.value (c.over-head.ensures ∙ ap (λ m. m / c.args.k) c.highest_one.ensures.index) in
-    on_err_weaker _ (less_same _ _ _ _ _ _ (z.3 c.if-v-least.false).1) (c.put_headed-else-v-least.ensures.err t)
+    sends_as _ _ _ _ _ _ _ _ _ (z.3 c.if-v-least.false).1 c.put_headed-else-v-least.ensures.sends
