@@ -1,6 +1,5 @@
 pub mod Climbing
 pub mod FewArcs
-pub mod Fronts
 pub mod Order
 pub mod Parted
 pub mod ReadBack

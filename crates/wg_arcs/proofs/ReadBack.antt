@@ -17,6 +17,7 @@ use Rattle.wg_graph.specs.Arcs.{arcs_of}
 use Rattle.wg_graph.proofs.Arcs.{length-arcs_from}
 use Rattle.wg_arcs.specs.Text.{arc_line, text_of_arcs, text_of_graph}
 use Rattle.wg_arcs.specs.Reading.{words_of, is_skipped, arc_in, arc_at, arcs_in, refusal_of, fault_of, fault_at, AreArcs}
+use Rattle.wg_arcs.proofs.Texts.{text_is_of_arcs}
 use Rattle.wg_arcs.proofs.Order.{Arc, not_refused}
 use Rattle.wg_arcs.proofs.Climbing.{Within, within_from, within_at, Climbs, climbs_from, climbs_at}
 use Rattle.wg_arcs.specs.Laws.{TextsReadBack}
@@ -126,7 +127,7 @@ read_back g proper pages few =
     let nl : n ≤ 2 ^ 64 = omega arith in
     let within : Within n n (arcs_of g) = within_from n n 0 g.lists (omega arith) proper.below in
     let climbs : Climbs None (arcs_of g) = climbs_from None 0 g.lists (λ x w le. refl) proper.ascending in
-    let lines : lines_of (text_of_graph g) ≡ map bare (arcs_of g) = lines_back n n (arcs_of g) nl nl within in
+    let lines : lines_of (text_of_graph g) ≡ map bare (arcs_of g) = ap lines_of (text_is_of_arcs g) ∙ lines_back n n (arcs_of g) nl nl within in
     let count : length (arcs_of g) ≡ arc_count g = length-arcs_from 0 g.lists in
     subst (λ (ls : List (List ℕ)). AreArcs n ls g) (sym lines) (record {
       sound = λ i lt. fine_at n (arcs_of g) i nl (omega arith) within climbs (omega (arith, length-map (arcs_of g) bare));

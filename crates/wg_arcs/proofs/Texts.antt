@@ -1,66 +1,99 @@
 -- The text of arcs, one after the other.
-use Rattle.std.proofs.Common.{◌≡◌, ℕ, ◌+◌, ◌<◌, List, [], ◌∷◌, ◌++◌, map, length, take, drop, get_or, refl, sym, ap, subst, ◌∙◌, append_assoc, append-nil}
+use Rattle.std.proofs.Common.{◌≡◌, ℕ, ◌+◌, ◌<◌, List, [], ◌∷◌, ◌++◌, map, length, take, drop, get_or, codes, decimal, refl, sym, ap, subst, ◌∙◌, append_assoc, append-nil}
 use Rattle.std.proofs.lemmas.List.{map-append, take_more, take-append-drop}
+use Rattle.wg_io.specs.Printing.{HasPrinted, HasPrintedLess}
+use Rattle.wg_io.specs.Puts.{joined}
+use Rattle.wg_io.proofs.PrintLemmas.{printed_more, less_after, less_before}
 use Rattle.wg_graph.specs.Digraph.{Digraph, successors}
-use Rattle.wg_graph.specs.Arcs.{arcs_from}
+use Rattle.wg_graph.specs.Arcs.{arcs_from, arcs_of}
 use Rattle.wg_graph.proofs.Arcs.{arcs_from_more, arcs_from_split}
-use Rattle.wg_arcs.specs.Text.{arc_line, text_of_arcs, text_of_graph}
-use Rattle.wg_arcs.specs.Printing.{HasPrinted, HasPrintedLess}
-use Rattle.wg_arcs.proofs.Fronts.{printed_more, less_after, less_before}
+use Rattle.wg_arcs.specs.Text.{arc_line, text_of_arcs, page_lines, lines_from, text_of_graph}
+
+joined-append : (xs ys : List (List ℕ)) → joined (xs ++ ys) ≡ joined xs ++ joined ys
+joined-append [] ys = refl
+joined-append (x ∷ xs) ys = ap (λ (l : List ℕ). x ++ l) (joined-append xs ys) ∙ sym (append_assoc x (joined xs) (joined ys))
 
 pub text_of_arcs-append : (xs ys : List (ℕ × ℕ)) → text_of_arcs (xs ++ ys) ≡ text_of_arcs xs ++ text_of_arcs ys
-text_of_arcs-append [] ys = refl
-text_of_arcs-append (x ∷ xs) ys = ap (λ (l : List ℕ). arc_line x ++ l) (text_of_arcs-append xs ys) ∙ sym (append_assoc (arc_line x) (text_of_arcs xs) (text_of_arcs ys))
+text_of_arcs-append xs ys = ap joined (map-append arc_line xs ys) ∙ joined-append (map arc_line xs) (map arc_line ys)
 
--- the arcs from u to each of a list
-abbrev pub list_text : ℕ → List ℕ → List ℕ
-list_text u vs = text_of_arcs (map (λ v. (u, v)) vs)
+-- ---- the lines of a page
 
-list_text_more : (u : ℕ) (vs : List ℕ) (i : ℕ) → i < length vs → list_text u (take (i + 1) vs) ≡ list_text u (take i vs) ++ arc_line (u, get_or vs i 0)
-list_text_more u vs i lt =
+pub page_lines_more : (u : ℕ) (vs : List ℕ) (i : ℕ) → i < length vs → page_lines u (take (i + 1) vs) ≡ page_lines u (take i vs) ++ arc_line (u, get_or vs i 0)
+page_lines_more u vs i lt =
     let v : ℕ = get_or vs i 0 in
-    ap (list_text u) (take_more vs i 0 lt) ∙ ap text_of_arcs (map-append (λ (v : ℕ). (u, v)) (take i vs) (v ∷ [])) ∙ text_of_arcs-append (map (λ v. (u, v)) (take i vs)) ((u, v) ∷ [])
-    ∙ ap (λ (l : List ℕ). list_text u (take i vs) ++ l) (append-nil (arc_line (u, v)))
+    let line : ℕ → List ℕ = λ v. arc_line (u, v) in
+    ap (page_lines u) (take_more vs i 0 lt) ∙ ap joined (map-append line (take i vs) (v ∷ [])) ∙ joined-append (map line (take i vs)) (line v ∷ [])
+    ∙ ap (λ (l : List ℕ). page_lines u (take i vs) ++ l) (append-nil (arc_line (u, v)))
 
-list_text_split : (u : ℕ) (vs : List ℕ) (i : ℕ) → list_text u vs ≡ list_text u (take i vs) ++ list_text u (drop i vs)
-list_text_split u vs i =
-    ap (list_text u) (sym (take-append-drop i vs)) ∙ ap text_of_arcs (map-append (λ (v : ℕ). (u, v)) (take i vs) (drop i vs)) ∙ text_of_arcs-append (map (λ v. (u, v)) (take i vs)) (map (λ v. (u, v)) (drop i vs))
+pub page_lines_split : (u : ℕ) (vs : List ℕ) (i : ℕ) → page_lines u vs ≡ page_lines u (take i vs) ++ page_lines u (drop i vs)
+page_lines_split u vs i =
+    let line : ℕ → List ℕ = λ v. arc_line (u, v) in
+    ap (page_lines u) (sym (take-append-drop i vs)) ∙ ap joined (map-append line (take i vs) (drop i vs)) ∙ joined-append (map line (take i vs)) (map line (drop i vs))
+
+-- a line whose beginning was written before
+pub line_after : (start : List ℕ) (u v : ℕ) → start ≡ decimal u ++ codes " " → start ++ decimal v ++ codes "\n" ≡ arc_line (u, v)
+line_after start u v is = ap (λ (l : List ℕ). l ++ decimal v ++ codes "\n") is
 
 -- one arc of a list more is printed
-pub arc_printed : (a b c waited mid waits vs : List ℕ) (u i : ℕ) → i < length vs → HasPrinted a b waited (list_text u (take i vs)) mid → HasPrinted b c mid (arc_line (u, get_or vs i 0)) waits →
-    HasPrinted a c waited (list_text u (take (i + 1) vs)) waits
+pub arc_printed : (a b c waited mid waits vs : List ℕ) (u i : ℕ) → i < length vs → HasPrinted a b waited (page_lines u (take i vs)) mid → HasPrinted b c mid (arc_line (u, get_or vs i 0)) waits →
+    HasPrinted a c waited (page_lines u (take (i + 1) vs)) waits
 arc_printed a b c waited mid waits vs u i lt h g =
-    subst (λ (t : List ℕ). HasPrinted a c waited t waits) (sym (list_text_more u vs i lt)) (printed_more a b c waited mid waits (list_text u (take i vs)) (arc_line (u, get_or vs i 0)) h g)
+    subst (λ (t : List ℕ). HasPrinted a c waited t waits) (sym (page_lines_more u vs i lt)) (printed_more a b c waited mid waits (page_lines u (take i vs)) (arc_line (u, get_or vs i 0)) h g)
 
-pub arc_less : (a b c waited mid vs : List ℕ) (u i : ℕ) → i < length vs → HasPrinted a b waited (list_text u (take i vs)) mid → HasPrintedLess b c mid (arc_line (u, get_or vs i 0)) →
-    HasPrintedLess a c waited (list_text u vs)
+pub arc_less : (a b c waited mid vs : List ℕ) (u i : ℕ) → i < length vs → HasPrinted a b waited (page_lines u (take i vs)) mid → HasPrintedLess b c mid (arc_line (u, get_or vs i 0)) →
+    HasPrintedLess a c waited (page_lines u vs)
 arc_less a b c waited mid vs u i lt h g =
-    let more : HasPrintedLess a c waited (list_text u (take (i + 1) vs)) =
-    subst (λ (t : List ℕ). HasPrintedLess a c waited t) (sym (list_text_more u vs i lt)) (less_after a b c waited mid (list_text u (take i vs)) (arc_line (u, get_or vs i 0)) h g) in
-    subst (λ (t : List ℕ). HasPrintedLess a c waited t) (sym (list_text_split u vs (i + 1))) (less_before a c waited (list_text u (take (i + 1) vs)) (list_text u (drop (i + 1) vs)) more)
+    let more : HasPrintedLess a c waited (page_lines u (take (i + 1) vs)) =
+    subst (λ (t : List ℕ). HasPrintedLess a c waited t) (sym (page_lines_more u vs i lt)) (less_after a b c waited mid (page_lines u (take i vs)) (arc_line (u, get_or vs i 0)) h g) in
+    subst (λ (t : List ℕ). HasPrintedLess a c waited t) (sym (page_lines_split u vs (i + 1))) (less_before a c waited (page_lines u (take (i + 1) vs)) (page_lines u (drop (i + 1) vs)) more)
 
 -- ---- the pages of a graph
 
--- the arcs of the first pages
-abbrev pub front_text : Digraph → ℕ → List ℕ
-front_text g i = text_of_arcs (arcs_from 0 (take i g.lists))
+-- they are the lines of its arcs
+page_is_of_arcs : (u : ℕ) (vs : List ℕ) → page_lines u vs ≡ text_of_arcs (map (λ v. (u, v)) vs)
+page_is_of_arcs u [] = refl
+page_is_of_arcs u (v ∷ vs) = ap (λ (l : List ℕ). arc_line (u, v) ++ l) (page_is_of_arcs u vs)
 
-front_text_more : (g : Digraph) (i : ℕ) → i < length g.lists → front_text g (i + 1) ≡ front_text g i ++ list_text i (successors g i)
-front_text_more g i lt = ap text_of_arcs (arcs_from_more g.lists i lt) ∙ text_of_arcs-append (arcs_from 0 (take i g.lists)) (map (λ v. (i, v)) (successors g i))
+pub lines_are_of_arcs : (u : ℕ) (lists : List (List ℕ)) → lines_from u lists ≡ text_of_arcs (arcs_from u lists)
+lines_are_of_arcs u [] = refl
+lines_are_of_arcs u (list ∷ lists) =
+    ap (λ (l : List ℕ). l ++ lines_from (u + 1) lists) (page_is_of_arcs u list) ∙ ap (λ (l : List ℕ). text_of_arcs (map (λ v. (u, v)) list) ++ l) (lines_are_of_arcs (u + 1) lists)
+    ∙ sym (text_of_arcs-append (map (λ v. (u, v)) list) (arcs_from (u + 1) lists))
 
-front_text_split : (g : Digraph) (i : ℕ) → (rest : List ℕ) × (text_of_graph g ≡ front_text g i ++ rest)
-front_text_split g i = let s = arcs_from_split g.lists i in (text_of_arcs s.0, ap text_of_arcs s.1 ∙ text_of_arcs-append (arcs_from 0 (take i g.lists)) s.0)
+pub text_is_of_arcs : (g : Digraph) → text_of_graph g ≡ text_of_arcs (arcs_of g)
+text_is_of_arcs g = lines_are_of_arcs 0 g.lists
+
+-- one page more
+pub lines_from_more : (lists : List (List ℕ)) (i : ℕ) → i < length lists → lines_from 0 (take (i + 1) lists) ≡ lines_from 0 (take i lists) ++ page_lines i (get_or lists i [])
+lines_from_more lists i lt =
+    let list : List ℕ = get_or lists i [] in
+    lines_are_of_arcs 0 (take (i + 1) lists) ∙ ap text_of_arcs (arcs_from_more lists i lt) ∙ text_of_arcs-append (arcs_from 0 (take i lists)) (map (λ v. (i, v)) list)
+    ∙ ap (λ (l : List ℕ). l ++ text_of_arcs (map (λ v. (i, v)) list)) (sym (lines_are_of_arcs 0 (take i lists)))
+    ∙ ap (λ (l : List ℕ). lines_from 0 (take i lists) ++ l) (sym (page_is_of_arcs i list))
+
+-- the pages up to one, and the rest
+pub lines_from_split : (lists : List (List ℕ)) (i : ℕ) → (rest : List ℕ) × (lines_from 0 lists ≡ lines_from 0 (take i lists) ++ rest)
+lines_from_split lists i =
+    let s = arcs_from_split lists i in (
+      text_of_arcs s.0,
+      lines_are_of_arcs 0 lists ∙ ap text_of_arcs s.1 ∙ text_of_arcs-append (arcs_from 0 (take i lists)) s.0
+          ∙ ap (λ (l : List ℕ). l ++ text_of_arcs s.0) (sym (lines_are_of_arcs 0 (take i lists))),
+    )
+
+-- the lines of the first pages
+abbrev pub first_lines : Digraph → ℕ → List ℕ
+first_lines g i = lines_from 0 (take i g.lists)
 
 -- one page more is printed
-pub page_printed : (a b c waited mid waits : List ℕ) (g : Digraph) (i : ℕ) → i < length g.lists → HasPrinted a b waited (front_text g i) mid → HasPrinted b c mid (list_text i (successors g i)) waits →
-    HasPrinted a c waited (front_text g (i + 1)) waits
+pub page_printed : (a b c waited mid waits : List ℕ) (g : Digraph) (i : ℕ) → i < length g.lists → HasPrinted a b waited (first_lines g i) mid → HasPrinted b c mid (page_lines i (successors g i)) waits →
+    HasPrinted a c waited (first_lines g (i + 1)) waits
 page_printed a b c waited mid waits g i lt h k =
-    subst (λ (t : List ℕ). HasPrinted a c waited t waits) (sym (front_text_more g i lt)) (printed_more a b c waited mid waits (front_text g i) (list_text i (successors g i)) h k)
+    subst (λ (t : List ℕ). HasPrinted a c waited t waits) (sym (lines_from_more g.lists i lt)) (printed_more a b c waited mid waits (first_lines g i) (page_lines i (successors g i)) h k)
 
-pub page_less : (a b c waited mid : List ℕ) (g : Digraph) (i : ℕ) → i < length g.lists → HasPrinted a b waited (front_text g i) mid → HasPrintedLess b c mid (list_text i (successors g i)) →
+pub page_less : (a b c waited mid : List ℕ) (g : Digraph) (i : ℕ) → i < length g.lists → HasPrinted a b waited (first_lines g i) mid → HasPrintedLess b c mid (page_lines i (successors g i)) →
     HasPrintedLess a c waited (text_of_graph g)
 page_less a b c waited mid g i lt h k =
-    let rest = front_text_split g (i + 1) in
-    let more : HasPrintedLess a c waited (front_text g (i + 1)) =
-    subst (λ (t : List ℕ). HasPrintedLess a c waited t) (sym (front_text_more g i lt)) (less_after a b c waited mid (front_text g i) (list_text i (successors g i)) h k) in
-    subst (λ (t : List ℕ). HasPrintedLess a c waited t) (sym rest.1) (less_before a c waited (front_text g (i + 1)) rest.0 more)
+    let rest = lines_from_split g.lists (i + 1) in
+    let more : HasPrintedLess a c waited (first_lines g (i + 1)) =
+    subst (λ (t : List ℕ). HasPrintedLess a c waited t) (sym (lines_from_more g.lists i lt)) (less_after a b c waited mid (first_lines g i) (page_lines i (successors g i)) h k) in
+    subst (λ (t : List ℕ). HasPrintedLess a c waited t) (sym rest.1) (less_before a c waited (first_lines g (i + 1)) rest.0 more)

@@ -1,4 +1,4 @@
-use crate::{ArcsError, ArcsKind, Lines, read, write};
+use crate::{ArcsError, ArcsKind, read, write, write_list};
 use std::test::Fail;
 use wg_graph::GraphBuilder;
 use wg_io::SteadySink;
@@ -17,16 +17,13 @@ fn each_arc_is_a_line(rt: HostRuntime) -> Result<(), Fail> {
 }
 
 #[test]
-fn numbers_and_bytes_come_in_order(rt: HostRuntime) -> Result<(), Fail> {
+fn the_lines_of_a_page_are_written(rt: HostRuntime) -> Result<(), Fail> {
     let mut sink = SteadySink::new(rt.alloc(), 4096);
-    let mut lines = Lines::new();
-    lines.number(&mut sink, 18_446_744_073_709_551_615)?;
-    lines.byte(&mut sink, b' ')?;
-    lines.number(&mut sink, 0)?;
-    lines.byte(&mut sink, b'\n')?;
-    lines.arc(&mut sink, 7, 8)?;
-    lines.flush(&mut sink)?;
-    assert_eq!(rt; sink.bytes(), b"18446744073709551615 0\n7 8\n".as_slice());
+    write_list(10, &[0, 9, 18_446_744_073_709_551_615], &mut sink)?;
+    assert_eq!(rt;
+        sink.bytes(),
+        b"10 0\n10 9\n10 18446744073709551615\n".as_slice()
+    );
     Ok(())
 }
 

@@ -1,0 +1,29 @@
+use Rattle.std.proofs.Common.{List, ℕ, subst}
+use Rattle.wg_io.specs.Printing.{HasPrinted, HasPrintedLess}
+use Rattle.wg_io.specs.declared.depot.WriteError.{WriteError}
+use Rattle.wg_io.proofs.PrintLemmas.{puts_of_less, puts_in_the_end}
+use Rattle.wg_io.proofs.PutsLemmas.{is_that_err}
+use Rattle.wg_io.proofs.RefusalLemmas.{sink_after, sink_exit}
+use Rattle.wg_arcs.specs.Text.{page_lines}
+use Rattle.wg_arcs.proofs.writing.write_list.Goals as goal
+
+pub returns-in_err-print_list-clause-puts : goal.returns-in_err-print_list-clause-puts
+returns-in_err-print_list-clause-puts g c t =
+    rw (is_that_err c.from_residual.result _ c.from_residual.ensures.1)
+    (puts_of_less {E = WriteError} _ _ (page_lines c.args.page c.args.list.now) c.in_err-print_list.field-0.0
+    (subst (λ (l : List ℕ). HasPrintedLess (g.S.Sink.taken c.args.sink.now) (g.S.Sink.taken c.print_list.new.sink) l (page_lines c.args.page c.args.list.now)) c.new-lines.ensures (c.in_err-print_list.ensures.prints t)))
+
+pub returns-in_err-print_list-clause-refusals : goal.returns-in_err-print_list-clause-refusals
+returns-in_err-print_list-clause-refusals g c = sink_exit _ _ _ _ _ c.from_residual.ensures.1 c.in_err-print_list.ensures.refusals
+
+pub returns-clause-puts : goal.returns-clause-puts
+returns-clause-puts g c t =
+    puts_in_the_end _ _ _ _ _ c.flush.result
+    (subst (λ (l : List ℕ). HasPrinted (g.S.Sink.taken c.args.sink.now) (g.S.Sink.taken c.print_list.new.sink) l (page_lines c.args.page c.args.list.now) c.print_list.new.lines) c.new-lines.ensures (c.in_ok-print_list.ensures.prints t))
+    (c.flush.ensures.puts t)
+
+pub returns-clause-later : goal.returns-clause-later
+returns-clause-later g c = g.met.S.Sink.goes_on _ _ _ c.in_ok-print_list.ensures.later c.flush.ensures.later
+
+pub returns-clause-refusals : goal.returns-clause-refusals
+returns-clause-refusals g c = sink_after _ _ _ _ _ c.in_ok-print_list.ensures.refusals.counts c.flush.ensures.refusals
