@@ -6,7 +6,7 @@ use Rattle.wg_io.specs.Outside.{Files, Counts, NonDecreasing, Increased}
 use Rattle.wg_io.specs.declared.output.Output.{Output}
 use Rattle.wg_io.specs.declared.output.Output.TheVariants as output
 use Rattle.wg_io.proofs.PutsLemmas.{is_that_err}
-use Rattle.wg_words.specs.declared.suffixes.TheConstants.{PROPERTIES, GRAPH, OFFSETS}
+use Rattle.wg_io.specs.declared.suffixes.TheConstants.{PROPERTIES, GRAPH, OFFSETS}
 use Rattle.wg_cli.specs.Answers.{Answers, HasOutput, IsUnput, Steps, status_in}
 use Rattle.wg_cli.specs.Causes.{HasCause, RoseAt}
 use Rattle.wg_cli.specs.Judged.{Judged, built, files_of}

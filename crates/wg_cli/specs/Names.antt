@@ -4,7 +4,7 @@ use Rattle.std.specs.FinMap as map
 use Rattle.wg_io.specs.Outside.{Files}
 use Rattle.wg_io.specs.declared.output.Output.{Output}
 use Rattle.wg_io.specs.declared.output.Output.TheVariants as output
-use Rattle.wg_words.specs.declared.suffixes.TheConstants.{PROPERTIES, GRAPH, OFFSETS}
+use Rattle.wg_io.specs.declared.suffixes.TheConstants.{PROPERTIES, GRAPH, OFFSETS}
 use Rattle.wg_words.specs.declared.jobs.Job.{Job}
 use Rattle.wg_words.specs.declared.jobs.Job.TheVariants.{Check, Arcs, Offsets, Rank, Build}
 use Rattle.wg_cli.specs.Texts.{file_of_fault}

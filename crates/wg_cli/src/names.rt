@@ -1,12 +1,12 @@
 ghost use Rattle.std.specs.Prelude.{◌≡◌, ◌++◌, IfOk, IfErr, option_map};
-ghost use Rattle.wg_words.specs.declared.suffixes.TheConstants.{PROPERTIES, GRAPH, OFFSETS};
+ghost use Rattle.wg_io.specs.declared.suffixes.TheConstants.{PROPERTIES, GRAPH, OFFSETS};
 ghost use Rattle.wg_cli.specs.Names.{base_of, suffix_of, file_of, list_named, archive_named, input_name, output_name, AreApart};
 
 use crate::ending::Ending;
 use crate::{Input, Status};
 use std::alloc::Global;
-use wg_io::Output;
-use wg_words::{GRAPH, Job, Name, OFFSETS, PROPERTIES};
+use wg_io::{GRAPH, OFFSETS, Output, PROPERTIES};
+use wg_words::{Job, Name};
 
 /// What the name of one of an archive's files ends in; an arc list is no such file.
 pub fn suffix(input: Input) -> Option<&'static str>

@@ -4,3 +4,4 @@ pub mod PutsLemmas
 pub mod PrintLemmas
 pub mod RefusalLemmas
 pub mod HeldLemmas
+pub mod SuffixLemmas

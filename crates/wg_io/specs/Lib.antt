@@ -7,3 +7,4 @@ pub mod Refusals
 pub mod Memory
 pub mod Later
 pub mod Held
+pub mod Suffixes

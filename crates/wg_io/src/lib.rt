@@ -35,6 +35,7 @@ mod sink;
 mod steady_depot;
 mod steady_sink;
 mod stream;
+mod suffixes;
 mod tally;
 mod whole;
 mod zero_depot;
@@ -53,6 +54,7 @@ pub use sink::Sink;
 pub use steady_depot::SteadyDepot;
 pub use steady_sink::SteadySink;
 pub use stream::StdSink;
+pub use suffixes::{GRAPH, OFFSETS, PROPERTIES};
 pub use whole::{List8, LoadError, read_whole};
 pub use zero_depot::ZeroDepot;
 

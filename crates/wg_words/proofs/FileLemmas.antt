@@ -6,7 +6,7 @@ use Rattle.std.proofs.lemmas.Bool.Decides.{same_from_decides}
 use Rattle.std.proofs.lemmas.List.{append_cancel_left}
 use Rattle.std.proofs.lemmas.Slice.Eq.{bytes_eq-Decides}
 use Rattle.wg_words.specs.Files.{is_file_of, IsNoFileOf}
-use Rattle.wg_words.specs.declared.suffixes.TheConstants.{PROPERTIES, GRAPH, OFFSETS}
+use Rattle.wg_io.specs.declared.suffixes.TheConstants.{PROPERTIES, GRAPH, OFFSETS}
 
 -- after the first part, the name is the whole where its rest is the second part
 pub rest_decides : (name first rest second : List ℕ) → name ≡ first ++ rest → bytes_eq rest second ≡ bytes_eq name (first ++ second)

@@ -23,7 +23,6 @@ mod jobs;
 mod layout;
 mod name;
 mod options;
-mod suffixes;
 mod values;
 mod words;
 
@@ -32,7 +31,6 @@ pub use defaults::{DEFAULT_DAMPING, DEFAULT_ROUNDS, DEFAULT_TOP};
 pub use jobs::{Job, JobError};
 pub use layout::Layout;
 pub use name::Name;
-pub use suffixes::{GRAPH, OFFSETS, PROPERTIES};
 pub use words::Words;
 
 #[cfg(test)]
