@@ -1,60 +1,58 @@
 -- The references of a page that are looked at one after the other.
-use Rattle.std.proofs.Common.{◌≡◌, ◌^◌, ℕ, zero, suc, ◌+◌, ◌-◌, ◌<◌, ◌≤◌, min, true, List, [], ◌∷◌, length, get_or, refl, sym, ap, subst, ◌∙◌, inl, inr, arith}
+use Rattle.std.proofs.Common.{◌≡◌, ◌^◌, ℕ, zero, suc, ◌+◌, ◌-◌, ◌<◌, ◌≤◌, min, true, List, [], ◌∷◌, length, map, take, get_or, refl, sym, ap, subst, ◌∙◌, inl, inr, arith}
 use Rattle.std.specs.Prelude.{Option, Some, None, All}
 use Rattle.std.specs.Option.{ForSome}
 use Rattle.std.proofs.lemmas.Bool.{cases_lt, cases_eq, cases_Bool, cond-true, cond-false}
+use Rattle.std.proofs.lemmas.List.{length-map, get_or-map, get_or-take}
 use Rattle.wg_graph.specs.Digraph.{Digraph, successors}
 use Rattle.wg_graph.specs.Ascending.{Ascends, Below}
-use Rattle.wg_params.specs.Parameters.{IsWithinLimits}
-use Rattle.wg_grammar.specs.Context.{no_page, referenced, depth_of}
+use Rattle.wg_params.specs.Parameters.{Parameters, IsWithinLimits}
+use Rattle.wg_grammar.specs.Context.{Known, no_page, referenced, depth_of}
 use Rattle.wg_encoder.specs.declared.choice.Choice.{Choice}
 use Rattle.wg_encoder.specs.Fields.{Written, bits_of_fields, all_have_words, record_fields}
 use Rattle.wg_encoder.specs.Cost.{cost_of}
-use Rattle.wg_encoder.specs.Greedy.{canonical, chosen}
-use Rattle.wg_encoder.specs.Encoding.{Encoding, pages_before, context_of, list_of, may_take, bits_by, IsBest}
+use Rattle.wg_encoder.specs.Greedy.{canonical, chosen, known_after}
+use Rattle.wg_encoder.specs.Encoding.{Encoding, context_at, context_of, list_of, may_take, bits_by, IsBest}
 use Rattle.wg_encoder.proofs.NoReference.{no_reference_has}
 use Rattle.wg_encoder.proofs.Short.{record_short}
 use Rattle.wg_encoder.proofs.Least.{chosen_candidate, chosen_shortest, within}
+use Rattle.wg_encoder.proofs.Pages.{list_back}
 
 -- ---- the pages before
 
-list_at : (g : Digraph) (page : ℕ) (depths : List ℕ) (i : ℕ) → i < length depths → (get_or (pages_before g page depths) i no_page).list ≡ successors g (page - suc i)
-list_at g page [] i lt = absurd (omega arith)
-list_at g page (d ∷ ds) zero lt = refl
-list_at g page (d ∷ ds) (suc i) lt = list_at g (page - 1) ds i (omega arith) ∙ ap (successors g) (let e : page - 1 - suc i ≡ page - suc (suc i) = omega arith in e)
+named_at : (p : Parameters) (g : Digraph) (page r : ℕ) → page ≤ length g.lists → 0 < r → r ≤ min p.window page → referenced (context_at p g page).behind r ≡ successors g (page - r)
+named_at p g page zero here some le = absurd (omega arith)
+named_at p g page (suc i) here some le =
+    ap (λ (k : Known). k.list) (get_or-take p.window (known_after p [] (take page g.lists)) i no_page (omega (arith, le))) ∙ list_back p g.lists page i (omega (arith, le)) here
 
-depth_at : (g : Digraph) (page : ℕ) (depths : List ℕ) (i d : ℕ) → i < length depths → (get_or (pages_before g page depths) i no_page).depth ≡ get_or depths i d
-depth_at g page [] i d lt = absurd (omega arith)
-depth_at g page (x ∷ xs) zero d lt = refl
-depth_at g page (x ∷ xs) (suc i) d lt = depth_at g (page - 1) xs i d (omega arith)
+pub named_in : (e v : Encoding) (r : ℕ) → v ≡ e → e.page ≤ length e.graph.lists → 0 < r → r ≤ min e.params.window e.page → referenced (context_of e).behind r ≡ successors v.graph (v.page - r)
+named_in e v r same here some le = named_at e.params e.graph e.page r here some le ∙ sym (ap (λ (x : Encoding). successors x.graph (x.page - r)) same)
 
-named_at : (g : Digraph) (page : ℕ) (depths : List ℕ) (r : ℕ) → 0 < r → r ≤ length depths → referenced (pages_before g page depths) r ≡ successors g (page - r)
-named_at g page depths zero some le = absurd (omega arith)
-named_at g page depths (suc i) some le = list_at g page depths i (omega arith)
-
-deep_at : (g : Digraph) (page : ℕ) (depths : List ℕ) (r d : ℕ) → 0 < r → r ≤ length depths → depth_of (pages_before g page depths) r ≡ get_or depths (r - 1) d + 1
-deep_at g page depths zero d some le = absurd (omega arith)
-deep_at g page depths (suc i) d some le =
+deep_at : (behind : List Known) (r d : ℕ) → 0 < r → r ≤ length behind → depth_of behind r ≡ get_or (map (λ k. k.depth) behind) (r - 1) d + 1
+deep_at behind zero d some le = absurd (omega arith)
+deep_at behind (suc i) d some le =
     let here : suc i - 1 ≡ i = omega arith in
-    ap suc (depth_at g page depths i d (omega arith) ∙ ap (λ k. get_or depths k d) (sym here)) ∙ (let e : suc (get_or depths (suc i - 1) d) ≡ get_or depths (suc i - 1) d + 1 = omega arith in e)
+    let at : get_or (map (λ (k : Known). k.depth) behind) (suc i - 1) d ≡ (get_or behind i no_page).depth =
+    ap (λ n. get_or (map (λ (k : Known). k.depth) behind) n d) here ∙ get_or-map (λ (k : Known). k.depth) behind i no_page d (omega arith) in
+    (let e : suc (get_or behind i no_page).depth ≡ get_or (map (λ (k : Known). k.depth) behind) (suc i - 1) d + 1 = omega (arith, at) in e)
 
--- an encoding that is seen as another one
-abbrev Full : Encoding → Type 0
-Full e = length e.depths ≡ min e.params.window e.page
+-- as many depths as a reference may name
+abbrev AreAll : Encoding → List ℕ → Type 0
+AreAll e depths = length depths ≡ min e.params.window e.page
 
-reach_of : (e v : Encoding) (r : ℕ) → v ≡ e → Full v → r ≤ min e.params.window e.page → r ≤ length v.depths
-reach_of e v r same full le = let low : r ≤ min v.params.window v.page = subst (λ (x : Encoding). r ≤ min x.params.window x.page) (sym same) le in omega (arith, low, full)
+abbrev AreDepths : Encoding → List ℕ → Type 0
+AreDepths e depths = depths ≡ map (λ k. k.depth) (context_of e).behind
 
-pub named_in : (e v : Encoding) (r : ℕ) → v ≡ e → Full v → 0 < r → r ≤ min e.params.window e.page → referenced (context_of e).behind r ≡ successors v.graph (v.page - r)
-named_in e v r same full some le =
-    subst (λ (x : Encoding). referenced (context_of x).behind r ≡ successors v.graph (v.page - r)) same (named_at v.graph v.page v.depths r some (reach_of e v r same full le))
+deep_here : (e : Encoding) (depths : List ℕ) (r d : ℕ) → AreAll e depths → AreDepths e depths → 0 < r → r ≤ min e.params.window e.page → depth_of (context_of e).behind r ≡ get_or depths (r - 1) d + 1
+deep_here e depths r d all are some le =
+    let many : length depths ≡ length (context_of e).behind = ap (λ (ds : List ℕ). length ds) are ∙ length-map (context_of e).behind (λ (k : Known). k.depth) in
+    deep_at (context_of e).behind r d some (omega (arith, le, all, many)) ∙ ap (λ (ds : List ℕ). get_or ds (r - 1) d + 1) (sym are)
 
-pub deep_in : (e v : Encoding) (r d : ℕ) → v ≡ e → Full v → 0 < r → r ≤ min e.params.window e.page → depth_of (context_of e).behind r ≡ get_or v.depths (r - 1) d + 1
-deep_in e v r d same full some le =
-    subst (λ (x : Encoding). depth_of (context_of x).behind r ≡ get_or v.depths (r - 1) d + 1) same (deep_at v.graph v.page v.depths r d some (reach_of e v r same full le))
+pub deep_in : (e v : Encoding) (depths : List ℕ) (r d : ℕ) → v ≡ e → AreAll v depths → AreDepths v depths → 0 < r → r ≤ min e.params.window e.page → depth_of (context_of e).behind r ≡ get_or depths (r - 1) d + 1
+deep_in e v depths r d same all are some le = deep_here e depths r d (subst (λ x. AreAll x depths) same all) (subst (λ x. AreDepths x depths) same are) some le
 
-pub deep_low : (e v : Encoding) (r d : ℕ) → v ≡ e → Full v → All (λ n. n < v.page) v.depths → 0 < r → r ≤ min e.params.window e.page → get_or v.depths (r - 1) d < v.page
-deep_low e v r d same full low some le = let reach = reach_of e v r same full le in low (r - 1) d (omega (arith, reach, some))
+pub deep_low : (e v : Encoding) (depths : List ℕ) (r d : ℕ) → v ≡ e → AreAll v depths → All (λ n. n < v.page) depths → 0 < r → r ≤ min e.params.window e.page → get_or depths (r - 1) d < v.page
+deep_low e v depths r d same all low some le = let many = subst (λ x. AreAll x depths) same all in low (r - 1) d (omega (arith, many, some, le))
 
 -- ---- offers
 

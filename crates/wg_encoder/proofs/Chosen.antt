@@ -60,17 +60,17 @@ chosen_few e choice s is =
     omega (arith, is.1 ∙ ap (bits_by e) is.0, short)
 
 -- the bits of the records so far are few
-abbrev pub IsFew : Encoding → Type 0
-IsFew e = e.total ≤ enough_bits e.page (sum_by (λ (list : List ℕ). length list) (take e.page e.graph.lists))
+abbrev pub IsFew : Encoding → ℕ → Type 0
+IsFew e total = total ≤ enough_bits e.page (sum_by (λ (list : List ℕ). length list) (take e.page e.graph.lists))
 
 -- and stay few, with those of this page
-pub record StaysFew (e : Encoding) (bits : ℕ) : Type 0 where
+pub record StaysFew (e : Encoding) (before bits : ℕ) : Type 0 where
   pub last : bits < 2 ^ 62
-  pub total : e.total + bits ≤ enough_bits (e.page + 1) (sum_by (λ (list : List ℕ). length list) (take (e.page + 1) e.graph.lists))
-  pub room : e.total + bits < 2 ^ 64
+  pub total : before + bits ≤ enough_bits (e.page + 1) (sum_by (λ (list : List ℕ). length list) (take (e.page + 1) e.graph.lists))
+  pub room : before + bits < 2 ^ 64
 
-few_here : (e : Encoding) (choice : Choice) → Stands e → IsChosen e choice → IsFew e → StaysFew e choice.bits
-few_here e choice s is few =
+few_here : (e : Encoding) (choice : Choice) (total : ℕ) → Stands e → IsChosen e choice → IsFew e total → StaysFew e total choice.bits
+few_here e choice total s is few =
     let size : List ℕ → ℕ = λ list. length list in
     let bits = chosen_few e choice s is in
     let more : sum_by size (take (e.page + 1) e.graph.lists) ≡ sum_by size (take e.page e.graph.lists) + length (list_of e) = sum_by_more size e.graph.lists e.page [] (within_lists e s) in
@@ -81,8 +81,8 @@ few_here e choice s is few =
       room = omega (arith, bits, more, all, few, s.arcs, s.limits.arcs, s.nodes, s.limits.nodes, s.here);
     }
 
-pub stays_few : (e v : Encoding) (choice : Choice) → v ≡ e → Stands e → IsChosen e choice → IsFew v → StaysFew v choice.bits
-stays_few e v choice same s is few = subst (λ (x : Encoding). StaysFew x choice.bits) (sym same) (few_here e choice s is (subst IsFew same few))
+pub stays_few : (e v : Encoding) (choice : Choice) (total : ℕ) → v ≡ e → Stands e → IsChosen e choice → IsFew v total → StaysFew v total choice.bits
+stays_few e v choice total same s is few = subst (λ (x : Encoding). StaysFew x total choice.bits) (sym same) (few_here e choice total s is (subst (λ x. IsFew x total) same few))
 
 -- the same of the fields as they are made
 pub made_words : (e v : Encoding) (choice : Choice) (list named : List ℕ) → v ≡ e → list ≡ successors v.graph v.page → named ≡ referenced (context_of e).behind choice.reference → Stands e → IsChosen e choice

@@ -1,41 +1,66 @@
--- From one page to the next: what an encoder knows is what is behind in the greedy archive.
-use Rattle.std.proofs.Common.{◌≡◌, ℕ, zero, suc, ◌+◌, ◌-◌, ◌<◌, List, [], ◌∷◌, length, take, refl, ap, ◌∙◌, arith}
-use Rattle.std.specs.List.{sum_by}
-use Rattle.std.proofs.lemmas.List.Sums.{sum_by-cons, sum_by_more}
-use Rattle.wg_graph.specs.Digraph.{Digraph, successors, IsGraph}
+-- From one page to the next: what an encoder knows is what the greedy archive has.
+use Rattle.std.proofs.Common.{◌≡◌, ℕ, zero, suc, ◌+◌, List, [], ◌∷◌, ◌++◌, length, length-append, map, take, get_or, refl, sym, ap, subst, ◌∙◌, arith}
+use Rattle.std.proofs.lemmas.List.{take-take, take-map}
+use Rattle.wg_params.specs.Parameters.{Parameters}
+use Rattle.wg_graph.specs.Digraph.{Digraph}
 use Rattle.wg_grammar.specs.Context.{Known, Context, depth_of}
-use Rattle.wg_encoder.specs.Greedy.{context_after, chosen, known_of}
-use Rattle.wg_encoder.specs.Encoding.{Encoding, pages_before, context_of, list_of, after_by}
+use Rattle.wg_encoder.specs.declared.choice.Choice.{Choice}
+use Rattle.wg_encoder.specs.Fields.{bits_of_fields}
+use Rattle.wg_encoder.specs.Greedy.{canonical, chosen, known_of, known_after}
+use Rattle.wg_encoder.specs.Archive.{record_bits}
+use Rattle.wg_encoder.specs.Encoding.{Encoding, context_of, list_of, bits_before, IsChosen, IsGreedyUpTo}
+use Rattle.wg_encoder.proofs.Pages.{before, same_context, known_on, many_bits, bits_at, next_offset, flat_more}
+use Rattle.wg_encoder.proofs.Chosen.{Stands, within_lists}
 
-take_less : {X : Type 0} (w : ℕ) (xs : List X) → take w (take (suc w) xs) ≡ take w xs
-take_less zero xs = refl
-take_less (suc w) [] = refl
-take_less (suc w) (x ∷ xs) = ap (λ ys. x ∷ ys) (take_less w xs)
+take_less : {X : Type 0} (w : ℕ) (x : X) (xs : List X) → take w (x ∷ take w xs) ≡ take w (x ∷ xs)
+take_less zero x xs = refl
+take_less (suc w) x xs = ap (λ ys. x ∷ ys) (take-take w (suc w) xs (omega arith))
 
-pages_take : (g : Digraph) (page w : ℕ) (depths : List ℕ) → pages_before g page (take w depths) ≡ take w (pages_before g page depths)
-pages_take g page zero depths = refl
-pages_take g page (suc w) [] = refl
-pages_take g page (suc w) (d ∷ ds) = ap (λ ks. record { list = successors g (page - 1); depth = d } ∷ ks) (pages_take g (page - 1) w ds)
+-- the bits of the record by which the page is written
+pub record_here : (e : Encoding) → Stands e → get_or (record_bits e.params e.graph.lists) e.page [] ≡ bits_of_fields (canonical e.params (context_of e) (list_of e) (chosen e.params (context_of e) (list_of e)))
+record_here e s =
+    let here = within_lists e s in
+    bits_at e.params e.graph.lists e.page here
+    ∙ ap (λ (c : Context). bits_of_fields (canonical e.params c (list_of e) (chosen e.params c (list_of e)))) (sym (same_context e.params e.graph e.page (omega (arith, here))))
 
-behind_more : (g : Digraph) (page w d : ℕ) (depths : List ℕ) (known : List Known) → pages_before g page depths ≡ take w known
-    → pages_before g (page + 1) (take w (d ∷ depths)) ≡ take w (record { list = successors g page; depth = d } ∷ known)
-behind_more g page zero d depths known same = refl
-behind_more g page (suc w) d depths known same =
-    let back : page + 1 - 1 ≡ page = omega arith in
-    ap (λ n. let k : Known = record { list = successors g n; depth = d } in k ∷ pages_before g n (take w depths)) back
-    ∙ ap (λ ks. let k : Known = record { list = successors g page; depth = d } in k ∷ ks) (pages_take g page w depths ∙ ap (take w) same ∙ take_less w known)
+pub graph_more : (e : Encoding) → Stands e
+    → bits_before e.params e.graph (e.page + 1) ≡ bits_before e.params e.graph e.page ++ bits_of_fields (canonical e.params (context_of e) (list_of e) (chosen e.params (context_of e) (list_of e)))
+graph_more e s =
+    flat_more (λ bits. bits) (record_bits e.params e.graph.lists) e.page [] (omega (arith, many_bits e.params e.graph.lists, within_lists e s))
+    ∙ ap (λ z. bits_before e.params e.graph e.page ++ z) (record_here e s)
 
--- the next page, where this one is written by the reference that is chosen
-pub one_page_on : (e : Encoding) (known : List Known) → IsGraph e.graph → e.page < e.graph.nodes → context_of e ≡ context_after e.params known
-    → context_of (after_by (chosen e.params (context_of e) (list_of e)) e) ≡ context_after e.params (known_of e.params (context_of e) (list_of e) ∷ known)
-one_page_on e known proper here same =
-    let d : ℕ = depth_of (context_of e).behind (chosen e.params (context_of e) (list_of e)) in
-    let size : List ℕ → ℕ = λ list. length list in
-    let k : Known = record { list = list_of e; depth = d } in
-    let page : e.page + 1 ≡ length (k ∷ known) = (let p = ap (λ (c : Context). c.page) same in let q : e.page + 1 ≡ suc (length known) = omega (arith, p) in q) in
-    let arcs : sum_by size (take (e.page + 1) e.graph.lists) ≡ sum_by (λ (x : Known). length x.list) (k ∷ known) =
-    (let a = ap (λ (c : Context). c.arcs_before) same in
-    let more = sum_by_more size e.graph.lists e.page [] (let n = proper.counted in omega (arith, n, here)) in
-    omega (arith, a, more, sum_by-cons (λ (x : Known). length x.list) k known)) in
-    let behind = behind_more e.graph e.page e.params.window d e.depths known (ap (λ (c : Context). c.behind) same) in
-    (λ i. record { page = page i; arcs_before = arcs i; behind = behind i })
+-- the pages behind the next one
+behind_more : (e : Encoding) → Stands e → known_after e.params [] (take (e.page + 1) e.graph.lists) ≡ known_of e.params (context_of e) (list_of e) ∷ known_after e.params [] (take e.page e.graph.lists)
+behind_more e s =
+    let here = within_lists e s in
+    known_on e.params e.graph.lists e.page here
+    ∙ ap (λ (c : Context). known_of e.params c (list_of e) ∷ known_after e.params [] (take e.page e.graph.lists)) (sym (same_context e.params e.graph e.page (omega (arith, here))))
+
+depths_more : (e : Encoding) (r : ℕ) (depths : List ℕ) → Stands e → r ≡ chosen e.params (context_of e) (list_of e) → depths ≡ map (λ k. k.depth) (context_of e).behind
+    → take e.params.window (depth_of (context_of e).behind r ∷ depths) ≡ map (λ k. k.depth) (take e.params.window (known_after e.params [] (take (e.page + 1) e.graph.lists)))
+depths_more e r depths s is are =
+    let w : ℕ = e.params.window in
+    let k : Known = known_of e.params (context_of e) (list_of e) in
+    let known : List Known = known_after e.params [] (take e.page e.graph.lists) in
+    ap (λ n. take w (depth_of (context_of e).behind n ∷ depths)) is
+    ∙ ap (λ ds. take w (k.depth ∷ ds)) are
+    ∙ take-map (λ (x : Known). x.depth) w (k ∷ take w known)
+    ∙ ap (map (λ (x : Known). x.depth)) (take_less w k known ∙ ap (take w) (sym (behind_more e s)))
+
+greedy_here : (e : Encoding) (choice : Choice) (depths now : List ℕ) (last total : ℕ) → Stands e → IsChosen e choice → IsGreedyUpTo e.params e.graph e.page depths last total
+    → now ≡ take e.params.window (depth_of (context_of e).behind choice.reference ∷ depths) → IsGreedyUpTo e.params e.graph (e.page + 1) now choice.bits (total + choice.bits)
+greedy_here e choice depths now last total s is greedy taken =
+    let bits : choice.bits ≡ length (bits_of_fields (canonical e.params (context_of e) (list_of e) (chosen e.params (context_of e) (list_of e)))) =
+    is.1 ∙ ap (λ r. length (bits_of_fields (canonical e.params (context_of e) (list_of e) r))) is.0 in
+    record {
+      are_depths = taken ∙ depths_more e choice.reference depths s is.0 greedy.are_depths;
+      is_last = bits ∙ sym (next_offset e.params e.graph.lists e.page (within_lists e s) ∙ ap (λ bs. length bs) (record_here e s));
+      is_total = omega (arith, bits, greedy.is_total, ap (λ bs. length bs) (graph_more e s), length-append (bits_before e.params e.graph e.page) (bits_of_fields (canonical e.params (context_of e) (list_of e) (chosen e.params (context_of e) (list_of e)))));
+    }
+
+-- what is known once the page is written by the reference that is chosen
+pub greedy_on : (e v : Encoding) (choice : Choice) (d : ℕ) (depths now : List ℕ) (last total : ℕ) → v ≡ e → Stands e → IsChosen e choice → IsGreedyUpTo v.params v.graph v.page depths last total
+    → d ≡ depth_of (context_of e).behind choice.reference → now ≡ take v.params.window (d ∷ depths) → IsGreedyUpTo v.params v.graph (v.page + 1) now choice.bits (total + choice.bits)
+greedy_on e v choice d depths now last total same s is greedy deep taken =
+    subst (λ (x : Encoding). IsGreedyUpTo x.params x.graph x.page depths last total → now ≡ take x.params.window (d ∷ depths) → IsGreedyUpTo x.params x.graph (x.page + 1) now choice.bits (total + choice.bits)) (sym same)
+    (λ g t. greedy_here e choice depths now last total s is g (t ∙ ap (λ n. take e.params.window (n ∷ depths)) deep)) greedy taken

@@ -1,17 +1,20 @@
 -- The record of a page among those of all pages, and the words of the offsets.
-use Rattle.std.proofs.Common.{◌≡◌, ℕ, zero, suc, ◌+◌, ◌<◌, ◌≤◌, Bool, false, List, [], ◌∷◌, ◌++◌, length, length-append, append_assoc, take, drop, get_or, replicate, refl, sym, ap, ◌∙◌, arith}
-use Rattle.std.specs.List.{flat_map}
-use Rattle.std.proofs.lemmas.List.{append-nil, take_more, take-append-drop, drop_more, length-map, get_or-map}
+use Rattle.std.proofs.Common.{◌≡◌, ℕ, zero, suc, ◌+◌, ◌-◌, ◌<◌, ◌≤◌, Bool, false, List, [], ◌∷◌, ◌++◌, length, length-append, append_assoc, take, drop, get_or, replicate, refl, sym, ap, ◌∙◌, arith}
+use Rattle.std.specs.List.{flat_map, sum_by}
+use Rattle.std.proofs.lemmas.List.{append-nil, take_more, take-append-drop, drop_more, length-map, length-take, get_or-map}
+use Rattle.std.proofs.lemmas.List.Sums.{sum_by-cons}
 use Rattle.std.proofs.lemmas.List.Concat.{flat_map-append}
 use Rattle.wg_bits.specs.Bits.{bits_of}
 use Rattle.wg_bits.specs.Written.{padding}
 use Rattle.wg_codes.specs.Words.{word}
 use Rattle.wg_codes.proofs.CodeLaws.{word_some}
 use Rattle.wg_params.specs.Parameters.{Parameters}
-use Rattle.wg_grammar.specs.Context.{Known, Context}
+use Rattle.wg_graph.specs.Digraph.{Digraph}
+use Rattle.wg_grammar.specs.Context.{Known, Context, no_page}
 use Rattle.wg_encoder.specs.Fields.{Written, bits_of_fields}
 use Rattle.wg_encoder.specs.Greedy.{context_after, canonical, chosen, known_of, known_after, records_of}
 use Rattle.wg_encoder.specs.Archive.{record_bits, graph_bits, offset_values, offsets_bits, graph_file, offsets_file}
+use Rattle.wg_encoder.specs.Encoding.{context_at}
 use Rattle.wg_encoder.proofs.Bytes.{graph_again, offsets_again}
 
 -- where the record of a page stands, after these lists
@@ -33,6 +36,31 @@ known_more p behind (l ∷ ls) (suc n) lt = known_more p (known_of p (context_af
 pub known_on : (p : Parameters) (lists : List (List ℕ)) (page : ℕ) → page < length lists
     → known_after p [] (take (page + 1) lists) ≡ known_of p (before p [] lists page) (get_or lists page []) ∷ known_after p [] (take page lists)
 known_on p lists page lt = ap (λ n. known_after p [] (take n lists)) (let e : page + 1 ≡ suc page = omega arith in e) ∙ known_more p [] lists page lt
+
+-- the successors of a page before, the nearest first
+pub list_back : (p : Parameters) (lists : List (List ℕ)) (page i : ℕ) → i < page → page ≤ length lists → (get_or (known_after p [] (take page lists)) i no_page).list ≡ get_or lists (page - suc i) []
+list_back p lists zero i some le = absurd (omega arith)
+list_back p lists (suc n) zero some le = ap (λ ks. (get_or ks 0 no_page).list) (known_more p [] lists n (omega arith)) ∙ ap (λ k. get_or lists k []) (let e : n ≡ suc n - 1 = omega arith in e)
+list_back p lists (suc n) (suc i) some le =
+    ap (λ ks. (get_or ks (suc i) no_page).list) (known_more p [] lists n (omega arith)) ∙ list_back p lists n i (omega arith) (omega arith)
+    ∙ ap (λ k. get_or lists k []) (let e : n - suc i ≡ suc n - suc (suc i) = omega arith in e)
+
+many_known : (p : Parameters) (behind : List Known) (lists : List (List ℕ)) → length (known_after p behind lists) ≡ length behind + length lists
+many_known p behind [] = omega arith
+many_known p behind (l ∷ ls) = omega (arith, many_known p (known_of p (context_after p behind) l ∷ behind) ls)
+
+arcs_known : (p : Parameters) (behind : List Known) (lists : List (List ℕ)) → sum_by (λ k. length k.list) (known_after p behind lists) ≡ sum_by (λ k. length k.list) behind + sum_by (λ list. length list) lists
+arcs_known p behind [] = omega arith
+arcs_known p behind (l ∷ ls) =
+    let k : Known = known_of p (context_after p behind) l in
+    omega (arith, arcs_known p (k ∷ behind) ls, sum_by-cons (λ (x : Known). length x.list) k behind, sum_by-cons (λ (list : List ℕ). length list) l ls)
+
+-- a page stands after the lists of the pages before it
+pub same_context : (p : Parameters) (g : Digraph) (page : ℕ) → page ≤ length g.lists → context_at p g page ≡ before p [] g.lists page
+same_context p g page le =
+    let many : page ≡ length (known_after p [] (take page g.lists)) = omega (arith, many_known p [] (take page g.lists), length-take page g.lists) in
+    let arcs : sum_by (λ (list : List ℕ). length list) (take page g.lists) ≡ sum_by (λ (k : Known). length k.list) (known_after p [] (take page g.lists)) = omega (arith, arcs_known p [] (take page g.lists)) in
+    λ i. record { page = many i; arcs_before = arcs i; behind = take p.window (known_after p [] (take page g.lists)) }
 
 many_records : (p : Parameters) (behind : List Known) (lists : List (List ℕ)) → length (records_of p behind lists) ≡ length lists
 many_records p behind [] = refl

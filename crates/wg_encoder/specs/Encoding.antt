@@ -1,33 +1,44 @@
 -- Where an encoder stands, and which reference is the best so far.
-use Rattle.std.specs.Prelude.{◌≡◌, ℕ, ◌+◌, ◌-◌, ◌<◌, ◌≤◌, Bool, true, if◌then◌else◌, List, [], ◌∷◌, length, take, Option, Some, None}
-use Rattle.std.specs.List.{sum_by}
+use Rattle.std.specs.Prelude.{◌≡◌, ℕ, ◌+◌, ◌<◌, ◌≤◌, Bool, true, if◌then◌else◌, List, [], length, map, take, get_or, Option, Some, None}
+use Rattle.std.specs.List.{flat_map, sum_by}
 use Rattle.wg_params.specs.Parameters.{Parameters}
 use Rattle.wg_graph.specs.Digraph.{Digraph, successors}
-use Rattle.wg_grammar.specs.Context.{Known, Context, depth_of}
+use Rattle.wg_grammar.specs.Context.{Context}
 use Rattle.wg_encoder.specs.declared.choice.Choice.{Choice}
-use Rattle.wg_encoder.specs.Greedy.{size_of, is_candidate, chosen}
+use Rattle.wg_encoder.specs.Greedy.{known_after, size_of, is_candidate, chosen}
+use Rattle.wg_encoder.specs.Archive.{record_bits, offset_values}
 
--- The page that comes next; the depths of the pages before it that a reference may name, the nearest first; the bits of
--- the two files that wait to go out; and how many bits the last record has, 0 before the first, and all records
--- together.
+-- The page that comes next, where each page before it is written by the reference that is chosen; and the bits of the
+-- two files that wait to go out.
 pub record Encoding : Type 0 where
   pub params : Parameters
   pub graph : Digraph
   pub page : ℕ
-  pub depths : List ℕ
   pub graph_waits : List Bool
   pub offsets_waits : List Bool
-  pub last : ℕ
-  pub total : ℕ
 
--- the pages before this one that have these depths, the nearest first
-abbrev pub pages_before : Digraph → ℕ → List ℕ → List Known
-pages_before g page [] = []
-pages_before g page (depth ∷ depths) = record { list = successors g (page - 1); depth = depth } ∷ pages_before g (page - 1) depths
+-- where the record of a page of a graph stands, if each page before it is written by the reference that is chosen
+abbrev pub context_at : Parameters → Digraph → ℕ → Context
+context_at p g page = record { page = page; arcs_before = sum_by (λ list. length list) (take page g.lists); behind = take p.window (known_after p [] (take page g.lists)) }
+
+-- the bits of the records before a page
+abbrev pub bits_before : Parameters → Digraph → ℕ → List Bool
+bits_before p g page = flat_map (λ bits. bits) (take page (record_bits p g.lists))
+
+-- the number that the offsets file has for a page: 0 for page 0, else the length of the record before
+abbrev pub offset_value : Parameters → Digraph → ℕ → ℕ
+offset_value p g page = get_or (offset_values p g.lists) page 0
+
+-- What is known of the pages before this one is what the greedy archive has: the depths of those that a reference may
+-- name, the nearest first; and how many bits the last record has, 0 before the first, and all records together.
+pub record IsGreedyUpTo (p : Parameters) (g : Digraph) (page : ℕ) (depths : List ℕ) (last total : ℕ) : Type 0 where
+  pub are_depths : depths ≡ map (λ k. k.depth) (context_at p g page).behind
+  pub is_last : last ≡ offset_value p g page
+  pub is_total : total ≡ length (bits_before p g page)
 
 -- where the record of the page stands
 abbrev pub context_of : Encoding → Context
-context_of e = record { page = e.page; arcs_before = sum_by (λ list. length list) (take e.page e.graph.lists); behind = pages_before e.graph e.page e.depths }
+context_of e = context_at e.params e.graph e.page
 
 -- the successors of the page
 abbrev pub list_of : Encoding → List ℕ
@@ -44,15 +55,6 @@ bits_by e r = size_of e.params (context_of e) (list_of e) r
 -- the same where it may
 abbrev pub offer_of : Encoding → ℕ → Option ℕ
 offer_of e r = if may_take e r then Some (bits_by e r) else None
-
--- the next page, where this one is written by the reference r
-abbrev pub after_by : ℕ → Encoding → Encoding
-after_by r e = record e {
-  page = e.page + 1;
-  depths = take e.params.window (depth_of (context_of e).behind r ∷ e.depths);
-  last = bits_by e r;
-  total = e.total + bits_by e r;
-}
 
 -- this reference is the one by which the page is written, and its record has so many bits
 abbrev pub IsChosen : Encoding → Choice → Type 0

@@ -3,6 +3,7 @@ ghost use Rattle.std.specs.Prelude.{◌≡◌, ℕ, ◌+◌, ◌<◌, ◌≤◌,
 ghost use Rattle.std.specs.Option.{ForSome};
 ghost use Rattle.std.specs.FinMap as fin;
 ghost use Rattle.wg_io.specs.Outside.{Files};
+ghost use Rattle.wg_io.specs.Suffixes.{graph_name, offsets_name};
 ghost use Rattle.wg_params.specs.Parameters.{IsWithinLimits};
 ghost use Rattle.wg_params.specs.declared.limits.TheConstants.{MOST_WINDOW};
 ghost use Rattle.wg_graph.specs.Ascending.{Ascends, Below};
@@ -16,6 +17,7 @@ ghost use Rattle.wg_encoder.specs.Gone.{HasSentUpTo};
 
 use crate::choice::Choice;
 use crate::making::Draft;
+use crate::names::FileNames;
 use crate::record::record_cost;
 use std::alloc::{AllocError, Global};
 use std::collections::VecDeque;
@@ -26,10 +28,10 @@ use wg_params::Params;
 
 /// Writes a graph page by page, each by the reference that makes its record the shortest.
 ///
-/// It is seen as the graph, the page that comes next, the depths of the pages before it that a reference may name, the
-/// bits of the two files that wait to go out, and how many bits there were. Beside the graph it holds 8 bytes for each
-/// of these pages, at most as many as the archive's window, 4096 bytes for each file, and memory for the longest record
-/// so far and for the lists that it was made of.
+/// It is seen as the graph, the page that comes next, and the bits of the two files that wait to go out. What it knows
+/// of the pages before is that each of them was written by the reference that is chosen. Beside the graph it holds
+/// 8 bytes for each page that a reference may name, at most as many as the archive's window, 4096 bytes for each file
+/// and their names, and memory for the longest record so far and for the lists that it was made of.
 #[derive(Drop)]
 pub struct Encoder<'a> {
     pub(crate) alloc: Global,
@@ -43,6 +45,8 @@ pub struct Encoder<'a> {
     pub(crate) offsets_writer: Box<Writer>,
     // memory for the record of a page, none before the first
     pub(crate) spare: Option<Box<Draft>>,
+    // of the archive that the last call named, none before the first
+    pub(crate) names: Option<Box<FileNames>>,
     // the bits of the record before, 0 before the first, and of all records so far
     pub(crate) last: u64,
     pub(crate) total: u64,
@@ -53,13 +57,13 @@ impl<'a> Model for Encoder<'a> {
     ghost use Rattle.std.specs.List.{sum_by};
     ghost use Rattle.wg_graph.specs.Digraph.{arc_count};
     ghost use Rattle.wg_encoder.specs.Laws.{enough_bits};
-    ghost use Rattle.wg_encoder.specs.Encoding.{Encoding};
+    ghost use Rattle.wg_encoder.specs.Encoding.{Encoding, IsGreedyUpTo};
 
     ghost Value = { Encoding };
 
-    ghost view = { λ e. record { params = e.params; graph = e.graph.now; page = e.page; depths = e.depths.items; graph_waits = e.graph_writer.value.bits; offsets_waits = e.offsets_writer.value.bits; last = e.last; total = e.total } };
+    ghost view = { λ e. record { params = e.params; graph = e.graph.now; page = e.page; graph_waits = e.graph_writer.value.bits; offsets_waits = e.offsets_writer.value.bits } };
 
-    ghost invariant = { λ e. (length e.depths.items ≡ min e.params.window e.page) × (e.page ≤ e.graph.now.nodes) × (e.params.nodes ≡ e.graph.now.nodes) × (e.params.arcs ≡ arc_count e.graph.now) × All (λ d. d < e.page) e.depths.items × (e.graph_writer.value.failed ≡ false) × (e.offsets_writer.value.failed ≡ false) × (e.last < 2 ^ 62) × (e.total ≤ enough_bits e.page (sum_by (λ list. length list) (take e.page e.graph.now.lists))) };
+    ghost invariant = { λ e. (length e.depths.items ≡ min e.params.window e.page) × (e.page ≤ e.graph.now.nodes) × (e.params.nodes ≡ e.graph.now.nodes) × (e.params.arcs ≡ arc_count e.graph.now) × All (λ d. d < e.page) e.depths.items × (e.graph_writer.value.failed ≡ false) × (e.offsets_writer.value.failed ≡ false) × (e.last < 2 ^ 62) × (e.total ≤ enough_bits e.page (sum_by (λ list. length list) (take e.page e.graph.now.lists))) × IsGreedyUpTo e.params e.graph.now e.page e.depths.items e.last e.total };
 }
 
 impl<'a> Encoder<'a> {
@@ -67,8 +71,8 @@ impl<'a> Encoder<'a> {
     pub fn new(alloc: Global, params: Params, graph: &'a Graph) -> Result<Encoder<'a>, AllocError>
         requires nodes { params.nodes ≡ graph.now.nodes }
         requires arcs { params.arcs ≡ arc_count graph.now }
-        ensures fresh { IfOk result (λ e. e ≡ record { params = params; graph = graph.now; page = 0; depths = []; graph_waits = []; offsets_waits = []; last = 0; total = 0 }) }
-        ensures begun { IfOk result (λ e. (files : Files) (graph_name offsets_name : List ℕ) → fin.get files graph_name ≡ Some [] → fin.get files offsets_name ≡ Some [] → HasSentUpTo files graph_name offsets_name e) }
+        ensures fresh { IfOk result (λ e. e ≡ record { params = params; graph = graph.now; page = 0; graph_waits = []; offsets_waits = [] }) }
+        ensures begun { IfOk result (λ e. (files : Files) (base : List ℕ) → fin.get files (graph_name base) ≡ Some [] → fin.get files (offsets_name base) ≡ Some [] → HasSentUpTo files base e) }
     {
         let graph_writer = writer(alloc)?;
         let offsets_writer = writer(alloc)?;
@@ -81,6 +85,7 @@ impl<'a> Encoder<'a> {
             graph_writer,
             offsets_writer,
             spare: None,
+            names: None,
             last: 0,
             total: 0,
         })
@@ -121,6 +126,7 @@ impl<'a> Encoder<'a> {
         ensures ascends { Ascends 0 result.now }
         ensures below { Below self.now.graph.nodes result.now }
     {
+        self.limits();
         if r == 0 {
             return &[];
         }
@@ -159,7 +165,14 @@ impl<'a> Encoder<'a> {
     {
         self.limits();
         let list = self.graph.list(self.page);
-        record_cost(&self.params, self.page, r, self.referenced_list(r), list, most)
+        record_cost(
+            &self.params,
+            self.page,
+            r,
+            self.referenced_list(r),
+            list,
+            most,
+        )
     }
 
     // The same, whatever it is.
@@ -217,13 +230,15 @@ impl<'a> Encoder<'a> {
         self.offer(r).is_some()
     }
 
-    /// How many bits the canonical record of the page that comes next takes by a candidate. It takes no memory, and
-    /// time in proportion to the two lists.
-    pub fn cost(&self, r: u64) -> u64
-        requires page { self.now.page < self.now.graph.nodes }
+    /// How many bits the canonical record of page `x`, the one that comes next, takes by a candidate. It takes no
+    /// memory, and time in proportion to the two lists.
+    pub fn cost(&self, x: u64, r: u64) -> u64
+        requires more { self.now.page < self.now.graph.nodes }
+        requires page { x ≡ self.now.page }
         requires candidate { is_candidate self.now.params (context_of self.now) (list_of self.now) r ≡ true }
         ensures { result ≡ size_of self.now.params (context_of self.now) (list_of self.now) r }
     {
+        prove!(x == self.page);
         match self.offer(r) {
             Some(bits) => bits,
             None => unreachable!(),
@@ -237,7 +252,7 @@ impl<'a> Encoder<'a> {
     {
         let mut best = Choice {
             reference: 0,
-            bits: self.cost(0),
+            bits: self.cost(self.page, 0),
         };
         for r in 1..self.reach() + 1 {
             best = best.or(r, self.offer_below(r, best.bits));

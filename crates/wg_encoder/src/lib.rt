@@ -36,6 +36,7 @@ mod intervals;
 pub mod laws;
 mod lists;
 mod making;
+mod names;
 mod paging;
 mod parts;
 mod record;

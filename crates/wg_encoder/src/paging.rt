@@ -1,11 +1,12 @@
 // From page to page: what goes to the two files.
-ghost use Rattle.std.specs.Prelude.{◌≡◌, ◌≢◌, ◌+◌, ◌<◌, ◌≤◌, true, false, [], length, replicate, IfOk, IfErr, OnOk, OnErr, IsTrue};
+ghost use Rattle.std.specs.Prelude.{◌≡◌, ◌+◌, ◌<◌, ◌≤◌, true, false, [], length, replicate, IfOk, IfErr, OnOk, OnErr, IsTrue};
 ghost use Rattle.wg_io.specs.Outside.{NonDecreasing};
 ghost use Rattle.wg_bits.specs.Written.{HasPut, HasPutLess, padding};
 ghost use Rattle.wg_codes.specs.Words.{word};
 ghost use Rattle.wg_encoder.specs.Fields.{bits_of_fields, all_have_words};
 ghost use Rattle.wg_encoder.specs.Greedy.{canonical};
-ghost use Rattle.wg_encoder.specs.Encoding.{context_of, list_of, after_by, IsChosen};
+ghost use Rattle.wg_encoder.specs.Archive.{graph_bits};
+ghost use Rattle.wg_encoder.specs.Encoding.{context_of, list_of, offset_value, IsChosen};
 ghost use Rattle.wg_encoder.specs.Gone.{HasSentUpTo, IsWritten, HasStopped, HasFailed, HasFailedOn, OnlyTwo};
 ghost use Rattle.wg_encoder.specs.declared.error.EncodeError.TheVariants as errors;
 
@@ -14,6 +15,7 @@ use crate::encoder::Encoder;
 use crate::error::EncodeError;
 use crate::held::HeldRecord;
 use crate::making::Draft;
+use crate::names::FileNames;
 use std::alloc::AllocError;
 use wg_bits::Writer;
 use wg_codes::write;
@@ -41,6 +43,19 @@ impl<'a> Encoder<'a> {
         }
     }
 
+    // The names of the archive's files: those of the call before, or some that are new.
+    fn take_names(&mut self, base: &str) -> Result<Box<FileNames>, AllocError>
+        ensures names { IfOk result (λ names. names.value ≡ base.now) }
+        ensures same { self.new ≡ self.old }
+    {
+        if let Some(names) = self.names.take() {
+            if names.are_of(base) {
+                return Ok(names);
+            }
+        }
+        Ok(Box::new(self.alloc, FileNames::of(self.alloc, base)?)?)
+    }
+
     // Makes the record of the page that comes next.
     fn make(&self, draft: &mut Draft, choice: Choice) -> Result<(), AllocError>
         requires page { self.now.page < self.now.graph.nodes }
@@ -56,9 +71,9 @@ impl<'a> Encoder<'a> {
 
     // Puts the word of the offsets file for this page: 0 for page 0, else the length of the record before.
     fn put_offset<D: Depot>(mut self, depot: &mut D, name: &str) -> Result<Encoder<'a>, EncodeError>
-        ensures ok { IsTrue D.told → IfOk result (λ e. HasPut (D.files depot.old) (D.files depot.new) name.now self.entry.offsets_waits (word self.entry.params.offsets self.entry.last) e.offsets_waits) }
+        ensures ok { IsTrue D.told → IfOk result (λ e. HasPut (D.files depot.old) (D.files depot.new) name.now self.entry.offsets_waits (word self.entry.params.offsets (offset_value self.entry.params self.entry.graph self.entry.page)) e.offsets_waits) }
         ensures on { IfOk result (λ e. e ≡ record self.entry { offsets_waits = e.offsets_waits }) }
-        ensures err { IsTrue D.told → OnErr result (HasPutLess (D.files depot.old) (D.files depot.new) name.now self.entry.offsets_waits (word self.entry.params.offsets self.entry.last)) }
+        ensures err { IsTrue D.told → OnErr result (HasPutLess (D.files depot.old) (D.files depot.new) name.now self.entry.offsets_waits (word self.entry.params.offsets (offset_value self.entry.params self.entry.graph self.entry.page))) }
         ensures fault { IfErr result (HasFailedOn Output.Offsets (D.counts depot.old name.now).write_faults (D.counts depot.new name.now).write_faults) }
         ensures later { NonDecreasing (D.counts depot.old) (D.counts depot.new) }
     {
@@ -95,11 +110,17 @@ impl<'a> Encoder<'a> {
         }
     }
 
-    // Goes on to the next page, where this one is written by this choice. The draft is kept for the page after it.
-    fn go_on(mut self, draft: Box<Draft>, choice: Choice) -> Result<Encoder<'a>, AllocError>
+    // Goes on to the next page, where this one is written by this choice. The draft and the names are kept for the page
+    // after it.
+    fn go_on(
+        mut self,
+        draft: Box<Draft>,
+        names: Box<FileNames>,
+        choice: Choice,
+    ) -> Result<Encoder<'a>, AllocError>
         requires page { self.page < self.graph.nodes }
         requires chosen { IsChosen self choice }
-        ensures { IfOk result (λ e. e ≡ after_by choice.reference self.entry) }
+        ensures { IfOk result (λ e. e ≡ record self.entry { page = self.entry.page + 1 }) }
     {
         self.limits();
         let window = self.params.window() as usize;
@@ -110,58 +131,51 @@ impl<'a> Encoder<'a> {
         self.last = choice.bits;
         self.total += choice.bits;
         self.spare = Some(draft);
+        self.names = Some(names);
         Ok(self)
     }
 }
 
 impl<'a> Encoder<'a> {
     /// Writes the page that comes next, and goes on to the one after it. Its record is made in memory before anything
-    /// is put. The words of the offsets file come one page later: 0 first, then the length of the record before.
-    pub fn next<D: Depot>(
-        mut self,
-        depot: &mut D,
-        graph_name: &str,
-        offsets_name: &str,
-    ) -> Result<Encoder<'a>, EncodeError>
+    /// is put. The words of the offsets file come one page later: 0 first, then the length of the record before. The
+    /// names of the two files are made when a name of an archive first comes, or another one, and then held.
+    pub fn next<D: Depot>(mut self, depot: &mut D, base: &str) -> Result<Encoder<'a>, EncodeError>
         requires more { self.page < self.graph.nodes }
-        requires apart { graph_name.now ≢ offsets_name.now }
-        ensures ok { IsTrue D.told → HasSentUpTo (D.files depot.old) graph_name.now offsets_name.now self.entry → IfOk result (λ e. HasSentUpTo (D.files depot.new) graph_name.now offsets_name.now e) }
-        ensures on { IfOk result (λ e. (e.page ≡ self.entry.page + 1) × (e.params ≡ self.entry.params) × (e.graph ≡ self.entry.graph)) }
-        ensures err { IsTrue D.told → HasSentUpTo (D.files depot.old) graph_name.now offsets_name.now self.entry → IfErr result (HasStopped (D.files depot.new) graph_name.now offsets_name.now self.entry.params self.entry.graph.lists) }
-        ensures only_two { IsTrue D.told → OnlyTwo graph_name.now offsets_name.now (D.files depot.old) (D.files depot.new) }
-        ensures fault { IfErr result (HasFailed graph_name.now offsets_name.now (D.counts depot.old) (D.counts depot.new)) }
+        ensures on { IfOk result (λ e. e ≡ record self.entry { page = self.entry.page + 1; graph_waits = e.graph_waits; offsets_waits = e.offsets_waits }) }
+        ensures ok { IsTrue D.told → HasSentUpTo (D.files depot.old) base.now self.entry → IfOk result (λ e. HasSentUpTo (D.files depot.new) base.now e) }
+        ensures err { IsTrue D.told → HasSentUpTo (D.files depot.old) base.now self.entry → IfErr result (HasStopped (D.files depot.new) base.now self.entry.params self.entry.graph.lists) }
+        ensures only_two { IsTrue D.told → OnlyTwo base.now (D.files depot.old) (D.files depot.new) }
+        ensures fault { IfErr result (HasFailed base.now (D.counts depot.old) (D.counts depot.new)) }
         ensures later { NonDecreasing (D.counts depot.old) (D.counts depot.new) }
     {
         self.limits();
         let choice = self.choose();
         let mut draft = self.take_draft()?;
         self.make(&mut *draft, choice)?;
-        let begun = self.put_offset(depot, offsets_name)?;
-        let put = begun.put_record(draft.record(), depot, graph_name)?;
-        Ok(put.go_on(draft, choice)?)
+        let names = self.take_names(base)?;
+        let begun = self.put_offset(depot, names.offsets())?;
+        let put = begun.put_record(draft.record(), depot, names.graph())?;
+        Ok(put.go_on(draft, names, choice)?)
     }
 
     /// Puts the last word of the offsets, the length of the last record, and fills up both files to whole bytes. It
     /// answers how many bits the records have.
-    pub fn finish<D: Depot>(
-        self,
-        depot: &mut D,
-        graph_name: &str,
-        offsets_name: &str,
-    ) -> Result<u64, EncodeError>
+    pub fn finish<D: Depot>(mut self, depot: &mut D, base: &str) -> Result<u64, EncodeError>
         requires done { self.page ≡ self.graph.nodes }
-        requires apart { graph_name.now ≢ offsets_name.now }
-        ensures ok { IsTrue D.told → HasSentUpTo (D.files depot.old) graph_name.now offsets_name.now self.entry → IfOk result (IsWritten (D.files depot.new) graph_name.now offsets_name.now self.entry.params self.entry.graph.lists) }
-        ensures err { IsTrue D.told → HasSentUpTo (D.files depot.old) graph_name.now offsets_name.now self.entry → IfErr result (HasStopped (D.files depot.new) graph_name.now offsets_name.now self.entry.params self.entry.graph.lists) }
-        ensures only_two { IsTrue D.told → OnlyTwo graph_name.now offsets_name.now (D.files depot.old) (D.files depot.new) }
-        ensures fault { IfErr result (HasFailed graph_name.now offsets_name.now (D.counts depot.old) (D.counts depot.new)) }
+        ensures bits { IfOk result (λ bits. bits ≡ length (graph_bits self.entry.params self.entry.graph.lists)) }
+        ensures ok { IsTrue D.told → HasSentUpTo (D.files depot.old) base.now self.entry → OnOk result (IsWritten (D.files depot.new) base.now self.entry.params self.entry.graph.lists) }
+        ensures err { IsTrue D.told → HasSentUpTo (D.files depot.old) base.now self.entry → IfErr result (HasStopped (D.files depot.new) base.now self.entry.params self.entry.graph.lists) }
+        ensures only_two { IsTrue D.told → OnlyTwo base.now (D.files depot.old) (D.files depot.new) }
+        ensures fault { IfErr result (HasFailed base.now (D.counts depot.old) (D.counts depot.new)) }
         ensures later { NonDecreasing (D.counts depot.old) (D.counts depot.new) }
     {
         self.limits();
         let bits = self.total;
-        let put = self.put_offset(depot, offsets_name)?;
-        close(put.graph_writer, Output::Graph, depot, graph_name)?;
-        close(put.offsets_writer, Output::Offsets, depot, offsets_name)?;
+        let names = self.take_names(base)?;
+        let put = self.put_offset(depot, names.offsets())?;
+        close(put.graph_writer, Output::Graph, depot, names.graph())?;
+        close(put.offsets_writer, Output::Offsets, depot, names.offsets())?;
         Ok(bits)
     }
 }

@@ -47,7 +47,7 @@ fn may_take(rt: &impl Abort, encoder: &Encoder<'_>, r: u64) -> bool {
 // What the next page takes without a reference.
 fn plain(rt: &impl Abort, encoder: &Encoder<'_>) -> u64 {
     assert!(rt; encoder.page() < encoder.graph.nodes());
-    encoder.cost(0)
+    encoder.cost(encoder.page(), 0)
 }
 
 // Goes on by the reference that is chosen, which is to be r, and to take so many bits.
@@ -61,8 +61,8 @@ fn go_on_by<'a>(
     assert!(rt; encoder.page() < encoder.graph.nodes());
     assert_eq!(rt; encoder.chosen(), r);
     assert!(rt; encoder.candidate(r));
-    assert_eq!(rt; encoder.cost(r), bits);
-    encoder.next(depot, "graph", "offsets")
+    assert_eq!(rt; encoder.cost(encoder.page(), r), bits);
+    encoder.next(depot, "g")
 }
 
 #[test]
@@ -126,7 +126,7 @@ fn encode_arcs<D: Depot>(
     let graph = graph_of(rt, alloc, params.nodes(), arcs)?;
     assert_eq!(rt; params.nodes(), graph.nodes());
     assert_eq!(rt; params.arcs(), graph.arcs());
-    encode(alloc, params, &graph, depot, "graph", "offsets")
+    encode(alloc, params, &graph, depot, "g")
 }
 
 // The records of the archive are to have so many bits, and its files these bytes.
@@ -140,12 +140,12 @@ fn is_encoded(
     offsets: &[u8],
 ) -> Result<(), Fail> {
     let mut depot = SteadyDepot::new(alloc, 2);
-    depot.create("graph")?;
-    depot.create("offsets")?;
+    depot.create("g.graph")?;
+    depot.create("g.offsets")?;
     assert_eq!(rt; encode_arcs(rt, alloc, params, arcs, &mut depot)?, bits);
-    assert_eq!(rt; read_whole(alloc, &mut depot, "graph")?.as_slice(), graph);
+    assert_eq!(rt; read_whole(alloc, &mut depot, "g.graph")?.as_slice(), graph);
     assert_eq!(rt;
-        read_whole(alloc, &mut depot, "offsets")?.as_slice(),
+        read_whole(alloc, &mut depot, "g.offsets")?.as_slice(),
         offsets
     );
     Ok(())
@@ -207,8 +207,8 @@ fn a_write_that_fails(rt: HostRuntime) -> Result<(), Fail> {
     let outputs = [Output::Graph, Output::Graph, Output::Offsets];
     for k in 0..3 {
         let mut depot = MemoryDepot::new(rt.alloc(), 2);
-        depot.create("graph")?;
-        depot.create("offsets")?;
+        depot.create("g.graph")?;
+        depot.create("g.offsets")?;
         depot.fail_append(k as u64 + 1);
         let arcs = [(0, 1), (0, 2), (1, 1), (1, 2)];
         let answer = encode_arcs(&rt, rt.alloc(), usual(3, 4, 7, 3, 4)?, &arcs, &mut depot);

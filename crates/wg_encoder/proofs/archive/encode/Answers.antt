@@ -9,13 +9,13 @@ pub returns-in_err-encoder-clause-err : goal.returns-in_err-encoder-clause-err
 returns-in_err-encoder-clause-err g c t graph offsets =
     let e = err_from_is_err_and c.from_residual.result c.from_residual.ensures.1 in
     if_err c.from_residual.result _ e.0 e.1
-    (stopped_by_memory _ c.args.graph_name.now c.args.offsets_name.now (record { params = c.args.params; graph = c.args.graph.now; page = 0; depths = []; graph_waits = []; offsets_waits = []; last = 0; total = 0 }) e.0 (omega arith) (begun c.args.params c.args.graph.now _ c.args.graph_name.now c.args.offsets_name.now graph offsets) e.2)
+    (stopped_by_memory _ c.args.base.now (record { params = c.args.params; graph = c.args.graph.now; page = 0; graph_waits = []; offsets_waits = [] }) e.0 (omega arith) (begun c.args.params c.args.graph.now _ c.args.base.now graph offsets) e.2)
 
 pub loop-encoder-init : goal.loop-encoder-init
 loop-encoder-init g c = record {
   params = ap (λ (e : Encoding). e.params) c.in_ok-encoder.ensures.fresh;
   graph = ap (λ (e : Encoding). e.graph) c.in_ok-encoder.ensures.fresh;
-  gone = λ t. c.in_ok-encoder.ensures.begun _ _ _;
+  gone = λ t. c.in_ok-encoder.ensures.begun _ _;
   only_two = λ t name graph offsets. refl;
   later = none_falls-refl _;
 }

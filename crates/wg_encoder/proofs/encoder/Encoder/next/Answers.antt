@@ -1,56 +1,89 @@
-use Rattle.std.proofs.Common.{◌∙◌, Err, ap, arith}
+use Rattle.std.proofs.Common.{◌≡◌, ◌∙◌, Err, ap, arith}
 use Rattle.std.proofs.lemmas.Result.{err_from_is_err_and}
+use Rattle.wg_io.specs.Suffixes.{graph_name, offsets_name}
 use Rattle.wg_encoder.proofs.Chosen.{Stands}
 use Rattle.wg_encoder.proofs.Sent.{other_put, other_less}
-use Rattle.wg_encoder.proofs.Stopped.{if_err, next_gone, stopped_by_memory, stopped_on_offsets, next_stopped_on_graph, next_stopped_by_memory}
+use Rattle.wg_encoder.proofs.Stopped.{IsMade, word_put, word_less, if_err, next_gone, stopped_by_memory, stopped_on_offsets, next_stopped_on_graph, next_stopped_by_memory}
 use Rattle.wg_encoder.proofs.encoder.Encoder.next.Goals as goal
 
 pub returns-in_err-draft-clause-err : goal.returns-in_err-draft-clause-err
 returns-in_err-draft-clause-err g c t h =
     let e = err_from_is_err_and c.from_residual.result c.from_residual.ensures.1 in
-    if_err _ _ e.0 e.1 (stopped_by_memory _ _ _ c.args.self e.0 (omega (arith, c.limits.ensures.proper.counted, c.requires.more)) h e.2)
+    if_err _ _ e.0 e.1 (stopped_by_memory _ _ c.args.self e.0 (omega (arith, c.limits.ensures.proper.counted, c.requires.more)) h e.2)
 
 pub returns-in_err-make-clause-err : goal.returns-in_err-make-clause-err
 returns-in_err-make-clause-err g c t h =
     let e = err_from_is_err_and c.from_residual-in_err-make.result c.from_residual-in_err-make.ensures.1 in
-    if_err _ _ e.0 e.1 (stopped_by_memory _ _ _ c.args.self e.0 (omega (arith, c.limits.ensures.proper.counted, c.requires.more)) h e.2)
+    if_err _ _ e.0 e.1 (stopped_by_memory _ _ c.args.self e.0 (omega (arith, c.limits.ensures.proper.counted, c.requires.more)) h e.2)
+
+pub returns-in_err-names-clause-err : goal.returns-in_err-names-clause-err
+returns-in_err-names-clause-err g c t h =
+    let e = err_from_is_err_and c.from_residual-in_err-names.result c.from_residual-in_err-names.ensures.1 in
+    if_err _ _ e.0 e.1 (stopped_by_memory _ _ c.args.self e.0 (omega (arith, c.limits.ensures.proper.counted, c.requires.more)) h e.2)
 
 pub returns-in_err-begun-clause-err : goal.returns-in_err-begun-clause-err
 returns-in_err-begun-clause-err g c t h =
     let e = err_from_is_err_and c.from_residual-in_err-begun.result c.from_residual-in_err-begun.ensures.1 in
     let here = c.limits.ensures.proper.counted in
+    let offsets : c.offsets.result.now ≡ offsets_name c.args.base.now = c.offsets.ensures ∙ ap offsets_name (c.deref.ensures ∙ c.in_ok-names.ensures.names) in
+    let less = word_less _ _ c.args.base.now _ c.args.self _ (c.take_names.ensures.same ∙ c.take_draft.ensures) offsets (c.in_err-begun.ensures.err t) in
     if_err _ _ c.in_err-begun.field-0.0 (e.1 ∙ ap Err e.2)
-    (stopped_on_offsets _ _ _ _ c.args.self _ _ _ c.requires.apart (omega (arith, here, c.requires.more)) (rw c.take_draft.ensures at c.in_err-begun.ensures.err t) c.in_err-begun.ensures.fault h)
+    (stopped_on_offsets _ _ c.args.base.now c.args.self _ _ _ (omega (arith, here, c.requires.more)) less c.in_err-begun.ensures.fault h)
 
 pub returns-in_err-begun-clause-only_two : goal.returns-in_err-begun-clause-only_two
-returns-in_err-begun-clause-only_two g c t name graph offsets = other_less _ _ _ name _ _ (c.in_err-begun.ensures.err t) offsets
+returns-in_err-begun-clause-only_two g c t name graph offsets =
+    let is : c.offsets.result.now ≡ offsets_name c.args.base.now = c.offsets.ensures ∙ ap offsets_name (c.deref.ensures ∙ c.in_ok-names.ensures.names) in
+    other_less _ _ _ name _ _ (rw is at c.in_err-begun.ensures.err t) offsets
 
 pub returns-in_err-put-clause-err : goal.returns-in_err-put-clause-err
 returns-in_err-put-clause-err g c t h =
     let e = err_from_is_err_and c.from_residual-in_err-put.result c.from_residual-in_err-put.ensures.1 in
     let s : Stands c.args.self = record { limits = c.limits.ensures.within; nodes = c.limits.ensures.nodes; arcs = c.limits.ensures.arcs; proper = c.limits.ensures.proper; here = c.requires.more } in
+    let offsets : c.offsets.result.now ≡ offsets_name c.args.base.now = c.offsets.ensures ∙ ap offsets_name (c.deref.ensures ∙ c.in_ok-names.ensures.names) in
+    let graph : c.graph.result.now ≡ graph_name c.args.base.now = c.graph.ensures ∙ ap graph_name (c.deref-3.ensures ∙ c.in_ok-names.ensures.names) in
+    let same = c.take_names.ensures.same ∙ c.take_draft.ensures in
+    let made : IsMade c.args.self c.choose-choice.result c.record.result.now = c.record.ensures ∙ c.deref-2.ensures ∙ rw c.take_draft.ensures at c.in_ok-make.ensures.record_is in
+    let put = word_put _ _ c.args.base.now _ c.args.self _ _ (c.take_names.ensures.same ∙ c.take_draft.ensures) offsets (c.in_ok-begun.ensures.ok t) in
     if_err _ _ c.in_err-put.field-0.0 (e.1 ∙ ap Err e.2)
-    (next_stopped_on_graph _ _ _ _ _ c.args.self c.in_ok-begun.begun c.choose-choice.result c.record.result.now _ _ _ c.requires.apart s c.choose-choice.ensures (c.record.ensures ∙ c.deref.ensures ∙ rw c.take_draft.ensures at c.in_ok-make.ensures.record_is) (rw c.take_draft.ensures at c.in_ok-begun.ensures.on)
-    (rw c.take_draft.ensures at c.in_ok-begun.ensures.ok t) (c.in_err-put.ensures.err t) c.in_err-put.ensures.fault h)
+    (next_stopped_on_graph _ _ _ c.args.base.now c.args.self c.in_ok-begun.begun c.choose-choice.result c.record.result.now _ _ _ s c.choose-choice.ensures made (rw same at c.in_ok-begun.ensures.on) put (rw graph at c.in_err-put.ensures.err t) c.in_err-put.ensures.fault h)
 
 pub returns-in_err-put-clause-only_two : goal.returns-in_err-put-clause-only_two
-returns-in_err-put-clause-only_two g c t name graph offsets = other_less _ _ _ name _ _ (c.in_err-put.ensures.err t) graph ∙ other_put _ _ _ name _ _ _ (c.in_ok-begun.ensures.ok t) offsets
+returns-in_err-put-clause-only_two g c t name graph offsets =
+    let first : c.offsets.result.now ≡ offsets_name c.args.base.now = c.offsets.ensures ∙ ap offsets_name (c.deref.ensures ∙ c.in_ok-names.ensures.names) in
+    let second : c.graph.result.now ≡ graph_name c.args.base.now = c.graph.ensures ∙ ap graph_name (c.deref-3.ensures ∙ c.in_ok-names.ensures.names) in
+    other_less _ _ _ name _ _ (rw second at c.in_err-put.ensures.err t) graph ∙ other_put _ _ _ name _ _ _ (rw first at c.in_ok-begun.ensures.ok t) offsets
 
 pub returns-in_err-go_on-clause-err : goal.returns-in_err-go_on-clause-err
 returns-in_err-go_on-clause-err g c t h =
     let e = err_from_is_err_and c.from_residual-in_err-go_on.result c.from_residual-in_err-go_on.ensures.1 in
     let s : Stands c.args.self = record { limits = c.limits.ensures.within; nodes = c.limits.ensures.nodes; arcs = c.limits.ensures.arcs; proper = c.limits.ensures.proper; here = c.requires.more } in
-    if_err _ _ e.0 e.1 (next_stopped_by_memory _ _ _ _ _ c.args.self c.in_ok-begun.begun c.in_ok-put.put c.choose-choice.result c.record.result.now e.0 c.requires.apart s c.choose-choice.ensures (c.record.ensures ∙ c.deref.ensures ∙ rw c.take_draft.ensures at c.in_ok-make.ensures.record_is) (rw c.take_draft.ensures at c.in_ok-begun.ensures.on) c.in_ok-put.ensures.on
-    (rw c.take_draft.ensures at c.in_ok-begun.ensures.ok t) (c.in_ok-put.ensures.ok t) h e.2)
+    let offsets : c.offsets.result.now ≡ offsets_name c.args.base.now = c.offsets.ensures ∙ ap offsets_name (c.deref.ensures ∙ c.in_ok-names.ensures.names) in
+    let graph : c.graph.result.now ≡ graph_name c.args.base.now = c.graph.ensures ∙ ap graph_name (c.deref-3.ensures ∙ c.in_ok-names.ensures.names) in
+    let same = c.take_names.ensures.same ∙ c.take_draft.ensures in
+    let made : IsMade c.args.self c.choose-choice.result c.record.result.now = c.record.ensures ∙ c.deref-2.ensures ∙ rw c.take_draft.ensures at c.in_ok-make.ensures.record_is in
+    let put = word_put _ _ c.args.base.now _ c.args.self _ _ (c.take_names.ensures.same ∙ c.take_draft.ensures) offsets (c.in_ok-begun.ensures.ok t) in
+    if_err _ _ e.0 e.1 (next_stopped_by_memory _ _ _ c.args.base.now c.args.self c.in_ok-begun.begun c.in_ok-put.put c.choose-choice.result c.record.result.now e.0 s c.choose-choice.ensures made (rw same at c.in_ok-begun.ensures.on) c.in_ok-put.ensures.on
+    put (rw graph at c.in_ok-put.ensures.ok t) h e.2)
 
 pub returns-in_err-go_on-clause-only_two : goal.returns-in_err-go_on-clause-only_two
-returns-in_err-go_on-clause-only_two g c t name graph offsets = other_put _ _ _ name _ _ _ (c.in_ok-put.ensures.ok t) graph ∙ other_put _ _ _ name _ _ _ (c.in_ok-begun.ensures.ok t) offsets
+returns-in_err-go_on-clause-only_two g c t name graph offsets =
+    let first : c.offsets.result.now ≡ offsets_name c.args.base.now = c.offsets.ensures ∙ ap offsets_name (c.deref.ensures ∙ c.in_ok-names.ensures.names) in
+    let second : c.graph.result.now ≡ graph_name c.args.base.now = c.graph.ensures ∙ ap graph_name (c.deref-3.ensures ∙ c.in_ok-names.ensures.names) in
+    other_put _ _ _ name _ _ _ (rw second at c.in_ok-put.ensures.ok t) graph ∙ other_put _ _ _ name _ _ _ (rw first at c.in_ok-begun.ensures.ok t) offsets
 
 pub returns-clause-ok : goal.returns-clause-ok
 returns-clause-ok g c t h =
     let s : Stands c.args.self = record { limits = c.limits.ensures.within; nodes = c.limits.ensures.nodes; arcs = c.limits.ensures.arcs; proper = c.limits.ensures.proper; here = c.requires.more } in
-    next_gone _ _ _ _ _ c.args.self c.in_ok-begun.begun c.in_ok-put.put c.in_ok-go_on.field-0 c.choose-choice.result c.record.result.now c.requires.apart s c.choose-choice.ensures (c.record.ensures ∙ c.deref.ensures ∙ rw c.take_draft.ensures at c.in_ok-make.ensures.record_is) (rw c.take_draft.ensures at c.in_ok-begun.ensures.on) c.in_ok-put.ensures.on c.in_ok-go_on.ensures
-    (rw c.take_draft.ensures at c.in_ok-begun.ensures.ok t) (c.in_ok-put.ensures.ok t) h
+    let offsets : c.offsets.result.now ≡ offsets_name c.args.base.now = c.offsets.ensures ∙ ap offsets_name (c.deref.ensures ∙ c.in_ok-names.ensures.names) in
+    let graph : c.graph.result.now ≡ graph_name c.args.base.now = c.graph.ensures ∙ ap graph_name (c.deref-3.ensures ∙ c.in_ok-names.ensures.names) in
+    let same = c.take_names.ensures.same ∙ c.take_draft.ensures in
+    let made : IsMade c.args.self c.choose-choice.result c.record.result.now = c.record.ensures ∙ c.deref-2.ensures ∙ rw c.take_draft.ensures at c.in_ok-make.ensures.record_is in
+    let put = word_put _ _ c.args.base.now _ c.args.self _ _ (c.take_names.ensures.same ∙ c.take_draft.ensures) offsets (c.in_ok-begun.ensures.ok t) in
+    next_gone _ _ _ c.args.base.now c.args.self c.in_ok-begun.begun c.in_ok-put.put c.in_ok-go_on.field-0 c.choose-choice.result c.record.result.now s c.choose-choice.ensures made (rw same at c.in_ok-begun.ensures.on) c.in_ok-put.ensures.on c.in_ok-go_on.ensures
+    put (rw graph at c.in_ok-put.ensures.ok t) h
 
 pub returns-clause-only_two : goal.returns-clause-only_two
-returns-clause-only_two g c t name graph offsets = other_put _ _ _ name _ _ _ (c.in_ok-put.ensures.ok t) graph ∙ other_put _ _ _ name _ _ _ (c.in_ok-begun.ensures.ok t) offsets
+returns-clause-only_two g c t name graph offsets =
+    let first : c.offsets.result.now ≡ offsets_name c.args.base.now = c.offsets.ensures ∙ ap offsets_name (c.deref.ensures ∙ c.in_ok-names.ensures.names) in
+    let second : c.graph.result.now ≡ graph_name c.args.base.now = c.graph.ensures ∙ ap graph_name (c.deref-3.ensures ∙ c.in_ok-names.ensures.names) in
+    other_put _ _ _ name _ _ _ (rw second at c.in_ok-put.ensures.ok t) graph ∙ other_put _ _ _ name _ _ _ (rw first at c.in_ok-begun.ensures.ok t) offsets
