@@ -1,15 +1,13 @@
 -- From one page to the next: what an encoder knows is what the greedy archive has.
 use Rattle.std.proofs.Common.{◌≡◌, ℕ, zero, suc, ◌+◌, List, [], ◌∷◌, ◌++◌, length, length-append, map, take, get_or, refl, sym, ap, subst, ◌∙◌, arith}
 use Rattle.std.proofs.lemmas.List.{take-take, take-map}
-use Rattle.wg_params.specs.Parameters.{Parameters}
-use Rattle.wg_graph.specs.Digraph.{Digraph}
 use Rattle.wg_grammar.specs.Context.{Known, Context, depth_of}
 use Rattle.wg_encoder.specs.declared.choice.Choice.{Choice}
 use Rattle.wg_encoder.specs.Fields.{bits_of_fields}
 use Rattle.wg_encoder.specs.Greedy.{canonical, chosen, known_of, known_after}
 use Rattle.wg_encoder.specs.Archive.{record_bits}
 use Rattle.wg_encoder.specs.Encoding.{Encoding, context_of, list_of, bits_before, IsChosen, IsGreedyUpTo}
-use Rattle.wg_encoder.proofs.Pages.{before, same_context, known_on, many_bits, bits_at, next_offset, flat_more}
+use Rattle.wg_encoder.proofs.Pages.{same_context, known_on, many_bits, bits_at, next_offset, flat_more}
 use Rattle.wg_encoder.proofs.Chosen.{Stands, within_lists}
 
 take_less : {X : Type 0} (w : ℕ) (x : X) (xs : List X) → take w (x ∷ take w xs) ≡ take w (x ∷ xs)

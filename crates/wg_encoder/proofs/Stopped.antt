@@ -17,7 +17,7 @@ use Rattle.wg_encoder.specs.declared.error.EncodeError.{EncodeError}
 use Rattle.wg_encoder.specs.declared.error.EncodeError.TheVariants as error
 use Rattle.wg_encoder.specs.declared.choice.Choice.{Choice}
 use Rattle.wg_encoder.specs.Fields.{Written, bits_of_fields}
-use Rattle.wg_encoder.specs.Greedy.{canonical, chosen}
+use Rattle.wg_encoder.specs.Greedy.{canonical}
 use Rattle.wg_encoder.specs.Archive.{offset_values, graph_file, offsets_file}
 use Rattle.wg_encoder.specs.Encoding.{Encoding, context_of, list_of, bits_before, offset_value, IsChosen}
 use Rattle.wg_encoder.specs.Gone.{HasSent, HasSentUpTo, HasStopped, HasFailedOn, HoldsFront, HoldsLess}

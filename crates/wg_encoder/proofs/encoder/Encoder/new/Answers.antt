@@ -1,4 +1,4 @@
-use Rattle.std.proofs.Common.{sym, refl, subst}
+use Rattle.std.proofs.Common.{sym, subst}
 use Rattle.wg_encoder.specs.Encoding.{Encoding}
 use Rattle.wg_encoder.specs.Gone.{HasSentUpTo}
 use Rattle.wg_encoder.proofs.Stopped.{begun}
