@@ -8,19 +8,10 @@ use wg_graph::{Graph, GraphBuilder};
 use wg_io::{Depot, MemoryDepot, Output, SteadyDepot, read_whole};
 use wg_vectors::{
     Archive, BLOCKS, CHAIN, COPIED, COPIED_DELTA, INTERVALS, LOOP, NO_PAGES, ONE_ARC, PLAIN_ARC,
-    Shape, bytes_of,
+    bytes_of, usual,
 };
 
-// A list that is copied twice, since a chain may have one reference alone.
-const SHORT_CHAINS: Archive = Archive {
-    shape: Shape {
-        chain: Some(1),
-        ..CHAIN.shape
-    },
-    ..CHAIN
-};
-
-const WRITTEN: [Archive; 9] = [
+const WRITTEN: [Archive; 8] = [
     NO_PAGES,
     LOOP,
     PLAIN_ARC,
@@ -29,7 +20,6 @@ const WRITTEN: [Archive; 9] = [
     COPIED_DELTA,
     INTERVALS,
     BLOCKS,
-    SHORT_CHAINS,
 ];
 
 fn graph_of(rt: &impl Abort, alloc: Global, archive: &Archive) -> Result<Graph, AllocError> {
@@ -124,14 +114,13 @@ fn go_on<'a>(
 }
 
 #[test]
-fn choices_of_short_chains(rt: HostRuntime) -> Result<(), Fail> {
-    let graph = graph_of(&rt, rt.alloc(), &SHORT_CHAINS)?;
-    let params = SHORT_CHAINS
-        .shape
-        .params(SHORT_CHAINS.nodes, SHORT_CHAINS.arcs)?;
+fn chains_of_one_reference(rt: HostRuntime) -> Result<(), Fail> {
+    let graph = graph_of(&rt, rt.alloc(), &CHAIN)?;
+    let params = usual(CHAIN.nodes, CHAIN.arcs, 7, 1, 4)?;
     assert_eq!(rt; params.nodes(), graph.nodes());
     assert_eq!(rt; params.arcs(), graph.arcs());
     let mut depot = SteadyDepot::new(rt.alloc(), 2);
+    depot.create("g.graph")?;
     let mut encoder = Encoder::new(rt.alloc(), params, &graph)?;
     // page 0 has no successors, page 1 no reference, and page 2 refers to page 1
     let may = [
@@ -146,6 +135,11 @@ fn choices_of_short_chains(rt: HostRuntime) -> Result<(), Fail> {
         assert_eq!(rt; choice(&rt, &encoder), chosen[page]);
         encoder = go_on(&rt, encoder, &mut depot)?;
     }
-    assert_eq!(rt; encoder.page(), 4);
+    assert_eq!(rt; encoder.page(), graph.nodes());
+    assert_eq!(rt; encoder.finish(&mut depot, "g")?, 27);
+    assert_eq!(rt;
+        read_whole(rt.alloc(), &mut depot, "g.graph")?.as_slice(),
+        bytes_of(rt.alloc(), CHAIN.graph)?.as_slice()
+    );
     Ok(())
 }
