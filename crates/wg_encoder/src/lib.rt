@@ -7,16 +7,18 @@
 //! depths alone, where the archive limits chains.
 //!
 //! [`record_cost`] counts the bits of a canonical record from the two lists, without making it. An [`Encoder`] stands
-//! at a page of a graph and knows the depths of the pages that a reference may name, 8 bytes for each: it tells the
-//! candidates, what each of them takes, and which one is written. No record has 2 ^ 64 bits or more.
+//! at a page of a graph, where each page before it was written by the reference that is chosen, and knows the depths of
+//! the pages that a reference may name, 8 bytes for each: it tells the candidates, what each of them takes, and which
+//! one is written. No record has 2 ^ 64 bits or more.
 //!
 //! [`make_record`] makes a canonical record from the two lists as a [`HeldRecord`], 24 bytes for each field, and
 //! [`HeldRecord::write`] puts its words through a writer, where each value has one.
 //!
 //! [`Encoder::next`] writes a page, and [`Encoder::finish`] ends the two files once all pages are written; [`encode`]
-//! does both for a whole graph. The words of the offsets file are 0 and the length of each record. An encoder has a
-//! writer of 4096 bytes for each of the files. Where a call of the depot fails, the [`EncodeError`] names the file, and
-//! both files are fronts of those that were to be written.
+//! does both for a whole graph. All three take the archive's name, and write the files of its suffixes. The words of the
+//! offsets file are 0 and the length of each record. An encoder has a writer of 4096 bytes for each of the files. If a
+//! call of the depot fails, the [`EncodeError`] names the file, and both files are prefixes of those that were to be
+//! written.
 //!
 //! The definitions give the fields of a record with their codes and stored values, the reference that is chosen, and
 //! the bytes of the two files. The functions of [`laws`] state that no candidate's record is shorter than the one that

@@ -12,6 +12,8 @@
 //! | in memory, with a call that is to fail | [`MemoryDepot`] | [`MemorySink`] |
 //! | zeros without end | [`ZeroDepot`] | |
 //!
+//! [`PROPERTIES`], [`GRAPH`] and [`OFFSETS`] are what the names of an archive's files end in.
+//!
 //! An error is never made up: `Failed`, `Absent` and `Memory` come from an outside only where it counted them, which is how
 //! a contract far above can say that a failed job was the outside's fault. The counts stand still at 2^64 - 1.
 //!
