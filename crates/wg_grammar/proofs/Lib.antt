@@ -7,3 +7,4 @@ pub mod SomeRecord
 pub mod OneGraph
 pub mod Tallies
 pub mod Tails
+pub mod ProperGraphs

@@ -1,6 +1,7 @@
 -- What holds of all records and all graph files.
-use Rattle.std.specs.Prelude.{◌≡◌, ℕ, ◌≤◌, Bool, List, length, Result, Ok}
+use Rattle.std.specs.Prelude.{◌≡◌, ℕ, ◌+◌, ◌≤◌, Bool, List, length, Result, Ok}
 use Rattle.wg_graph.specs.Ascending.{Ascends, Below}
+use Rattle.wg_graph.specs.Digraph.{Digraph, IsGraph, arc_count}
 use Rattle.wg_params.specs.Parameters.{Parameters, IsWithinLimits}
 use Rattle.wg_grammar.specs.declared.fault.Fault.{Fault}
 use Rattle.wg_grammar.specs.declared.fault.ArchiveFault.{ArchiveFault}
@@ -35,3 +36,19 @@ GraphIsOne = (p : Parameters) (bits : List Bool) (w x : Result Accepted ArchiveF
 -- They stand for a graph or have a fault.
 abbrev pub GraphIsSome : Type 0
 GraphIsSome = (p : Parameters) (bits : List Bool) → IsWithinLimits p → (w : Result Accepted ArchiveFault) × ReadsGraph p bits w
+
+-- the graph that was accepted
+abbrev pub graph_of : Parameters → Accepted → Digraph
+graph_of p a = record { nodes = p.nodes; lists = a.graph }
+
+-- Bits that stand for a graph give each page one list, which ascends and has pages alone.
+abbrev pub GraphIsProper : Type 0
+GraphIsProper = (p : Parameters) (bits : List Bool) (a : Accepted) → ReadsGraph p bits (Ok a) → IsGraph (graph_of p a)
+
+-- It has exactly the arcs that the parameters promise.
+abbrev pub ArcsAreAsPromised : Type 0
+ArcsAreAsPromised = (p : Parameters) (bits : List Bool) (a : Accepted) → ReadsGraph p bits (Ok a) → arc_count (graph_of p a) ≡ p.arcs
+
+-- Each record has an offset, and so has the bit after the last.
+abbrev pub OffsetsAreAll : Type 0
+OffsetsAreAll = (p : Parameters) (bits : List Bool) (a : Accepted) → ReadsGraph p bits (Ok a) → length a.places ≡ p.nodes + 1

@@ -1,4 +1,4 @@
-ghost use Rattle.wg_grammar.specs.Laws.{RecordIsOne, RecordIsSome, ListsAscend, NeverTooMany, GraphIsOne, GraphIsSome};
+ghost use Rattle.wg_grammar.specs.Laws.{RecordIsOne, RecordIsSome, ListsAscend, NeverTooMany, GraphIsOne, GraphIsSome, GraphIsProper, ArcsAreAsPromised, OffsetsAreAll};
 
 /// Bits are one record or have one first fault.
 pub fn one_record()
@@ -16,4 +16,12 @@ pub fn lists()
 pub fn one_graph()
     ensures one { GraphIsOne }
     ensures some { GraphIsSome }
+{}
+
+/// Bits that stand for a graph stand for a proper one, with the promised pages and arcs, and an offset for each record
+/// and for the bit after the last.
+pub fn graphs_are_proper()
+    ensures proper { GraphIsProper }
+    ensures arcs { ArcsAreAsPromised }
+    ensures offsets { OffsetsAreAll }
 {}

@@ -14,10 +14,10 @@
 //! | residuals | while successors are missing | the first folded as the distance from `x`, later ones as the distance from the residual before, less 1 |
 //!
 //! The definitions say what comes next, what is refused and why, which list a record has, and which graph a file holds;
-//! the functions of [`laws`] state that each file is one graph or has one first fault. [`Progress`] is what a reader of
-//! records runs: it tells the next [`Need`], a field and its code, and judges the value that was read there. A refused
-//! field is named by a [`Fault`], and the first fault of a whole archive by an [`ArchiveFault`]. [`tail_fault`] judges
-//! the tail.
+//! the functions of [`laws`] state that each file is one graph or has one first fault, and that the graph has one
+//! ascending list of pages for each page and the promised arcs. [`Progress`] is what a reader of records runs: it tells
+//! the next [`Need`], a field and its code, and judges the value that was read there. A refused field is named by a
+//! [`Fault`], and the first fault of a whole archive by an [`ArchiveFault`]. [`tail_fault`] judges the tail.
 //!
 //! Nothing here takes memory, and each call takes constant time.
 #![tactic(auto)]
