@@ -1,7 +1,8 @@
-ghost use Rattle.std.specs.Prelude.{◌≡◌, ◌<◌, ◌≤◌};
+ghost use Rattle.std.specs.Prelude.{◌≡◌, ◌<◌, ◌≤◌, length};
 ghost use Rattle.wg_params.specs.declared.limits.TheConstants.{MOST_ARCS, MOST_PAGES};
 ghost use Rattle.wg_graph.specs.Ascending.{Ascends, Below};
 ghost use Rattle.wg_graph.specs.Digraph.{IsGraph, successors, arc_count};
+ghost use Rattle.wg_graph.specs.Pieces.{cut, IsCut};
 
 use crate::cutting::piece;
 use std::marker::Model;
@@ -28,6 +29,14 @@ impl Model for Graph {
 }
 
 impl Graph {
+    /// The graph whose lists stand one after the other in `all`, each up to its end in `ends`. It takes no memory.
+    pub fn from_parts(ends: Vec<u64>, all: Vec<u64>) -> Graph
+        requires { IsCut (length ends.items) ends.items all.items }
+        ensures { result ≡ cut (length ends.items) ends.items all.items }
+    {
+        Graph { ends, all }
+    }
+
     /// How many pages there are.
     #[inline(always)]
     pub fn nodes(&self) -> u64

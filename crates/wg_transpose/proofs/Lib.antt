@@ -1,0 +1,6 @@
+pub mod Reversed
+pub mod Totals
+pub mod Seen
+pub mod Places
+pub mod Steps
+pub mod Whole

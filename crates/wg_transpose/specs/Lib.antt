@@ -1,0 +1,3 @@
+pub mod Transposed
+pub mod SoFar
+pub mod Laws
