@@ -19,7 +19,7 @@ pub record AreCounts (n : ℕ) (lists : ℕ → List ℕ) (counts : List ℕ) : 
   pub pages : length counts ≡ n
   pub each : (v : ℕ) → v < n → get_or counts v 0 ≡ length (lists v)
 
--- these are fronts of the lists of predecessors; each stands from the start of its list on, and has its end
+-- these are prefixes of the lists of predecessors: each stands from the start of its list on, and its end is known
 pub record ArePlaced (g : Digraph) (lists : ℕ → List ℕ) (ends all : List ℕ) : Type 0 where
   pub pages : length ends ≡ g.nodes
   pub room : length all ≡ arc_count g
