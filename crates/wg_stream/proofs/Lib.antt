@@ -1,2 +1,7 @@
 pub mod PrefixLemmas
 pub mod ErrorLemmas
+pub mod HeldLemmas
+pub mod FillLemmas
+pub mod TailLemmas
+pub mod FirstErrorLemmas
+pub mod ReadingLemmas

@@ -111,3 +111,7 @@ module _ (p : Parameters) (bits : List Bool) where
   end_refuses arcs at kept behind (faults.Record e) h fault = absurd fault
   end_refuses arcs at kept behind (faults.Offsets e) h fault = absurd fault
   end_refuses arcs at kept behind (faults.Length page found stored) h fault = absurd fault
+
+-- the same end by another name
+pub read_to : (p : Parameters) (bits : List Bool) (pages arcs a b : ℕ) (kept : List Known) (behind : List Whole) → a ≡ b → PrefixRead p bits pages arcs a kept behind → PrefixRead p bits pages arcs b kept behind
+read_to p bits pages arcs a b kept behind same h = subst (λ (n : ℕ). PrefixRead p bits pages arcs n kept behind) same h

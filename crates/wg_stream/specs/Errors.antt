@@ -23,6 +23,14 @@ abbrev pub OnFault : {A R : Type 0} → Result A (PagesError R) → (ArchiveFaul
 OnFault (Ok x) P = Unit {0}
 OnFault (Err e) P = OfFault e P
 
+-- a fault of the graph file
+abbrev pub IsOfGraph : ArchiveFault → Type 0
+IsOfGraph (archive.Record f) = Unit {0}
+IsOfGraph (archive.Tail offset) = Unit {0}
+IsOfGraph (archive.ArcsShort total) = Unit {0}
+IsOfGraph (archive.Offsets f) = ⊥
+IsOfGraph (archive.Length page found stored) = ⊥
+
 -- what holds of the refusal, where the error is one
 abbrev pub OfRefusal : {R : Type 0} → PagesError R → (R → Type 0) → Type 0
 OfRefusal (Fault f) P = Unit {0}

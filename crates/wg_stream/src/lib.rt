@@ -1,29 +1,52 @@
-//! The records of an archive, all of them in order, from any source of words.
+//! The records of an archive, all of them in order: from any source of words, or from a file that is read in pieces.
 //!
 //! [`Pages`] reads record after record, and judges what follows the last: the tail and the number of arcs. It keeps the
 //! lists that a reference may reach, and lends each page's list in turn. [`read_offsets`] and [`read_graph`] are loops
 //! over it that keep where each record ends, and what list it has; whoever reads an archive in another way writes a
 //! loop of its own.
 //!
+//! [`Reader`] lends the lists of a graph file of a depot, which need not fit into memory. It owns a [`Pages`] and a
+//! [`Stretch`], the bytes that are held; a [`FileSource`] over these is the source of its words.
+//!
 //! ```text
-//! source --> Pages::next --> the list of the page --> kept, printed, counted
-//!              |    ^
-//!              v    |
-//!            window of the lists before
+//! file in pieces --> Stretch --> FileSource --> Pages::next --> the list of the page --> kept, printed, counted
+//!                                                |    ^
+//!                                                v    |
+//!                                              window of the lists before
 //! ```
 //!
 //! Memory is held for the lists of the window, each with room for at most twice its numbers, and for a few lists more
-//! while a record is read. Of a source that cannot tell its bits it is still known that each list ascends, that its
-//! numbers are pages, and that all lists together have no more numbers than arcs are promised.
+//! while a record is read. A stretch is one piece of 4096 bytes and what a word may need of the next; no bytes of a
+//! record are kept, however long it is. The zeros of a long unary word are counted piece by piece, and a word that
+//! the end of a piece cuts is read when the next piece is there. A word that is held costs a comparison more than one
+//! from bytes in memory.
+//!
+//! Of a source that cannot tell its bits it is still known that each list ascends, that its numbers are pages, and that
+//! all lists together have no more numbers than arcs are promised.
 #![tactic(auto)]
 
 mod error;
+mod file_source;
+mod filling;
+mod first;
 mod pages;
+mod parts;
+mod reader;
 mod records;
+mod state;
+mod stream_error;
+mod stretch;
 
 pub use error::PagesError;
+pub use file_source::FileSource;
+pub use first::First;
 pub use pages::Pages;
+pub use reader::Reader;
 pub use records::{read_graph, read_offsets};
+pub use stream_error::StreamError;
+pub use stretch::Stretch;
 
+#[cfg(test)]
+mod in_pieces;
 #[cfg(test)]
 mod tests;

@@ -1,11 +1,11 @@
 //! Page after page.
-ghost use Rattle.std.specs.Prelude.{◌≡◌, ◌+◌, ◌<◌, ◌≤◌, Bool, List as ListOf, [], ◌∷◌, Ok, Err, length, take, OnOk, OnErr};
+ghost use Rattle.std.specs.Prelude.{◌≡◌, ◌+◌, ◌<◌, ◌≤◌, Bool, true, false, List as ListOf, [], ◌∷◌, Ok, Err, length, take, OnOk, OnErr};
 ghost use Rattle.wg_params.specs.Parameters.{IsWithinLimits};
 ghost use Rattle.wg_graph.specs.Ascending.{Ascends, Below};
 ghost use Rattle.wg_grammar.specs.Record.{Whole};
 ghost use Rattle.wg_grammar.specs.Archive.{lists_of, places_of, ReadsGraph};
 ghost use Rattle.wg_decoder.specs.Remembered.{known_of};
-ghost use Rattle.wg_stream.specs.Errors.{OnFault, OnRefusal};
+ghost use Rattle.wg_stream.specs.Errors.{OnFault, OnRefusal, IsOfGraph};
 ghost use Rattle.wg_stream.specs.Prefix.{AreBehind, IsOneMore};
 
 use crate::PagesError;
@@ -89,6 +89,14 @@ impl Pages {
         self.list.as_slice()
     }
 
+    /// Whether the records of all pages were read.
+    pub fn is_done(&self) -> bool
+        ensures done { result ≡ true → self.now.page ≡ self.now.params.nodes }
+        ensures more { result ≡ false → self.now.page < self.now.params.nodes }
+    {
+        self.page == self.params.nodes()
+    }
+
     /// Reads the record of the page that comes next, and goes on to the one after it. Where it is refused, it stays at
     /// this page. It takes time in proportion to the words of the record, to its list and to the one that it refers to.
     pub fn next<S: Source>(&mut self, source: &mut S) -> Result<(), PagesError<S::Refusal>>
@@ -97,6 +105,7 @@ impl Pages {
         ensures page { OnOk result (self.new.page ≡ self.old.page + 1) }
         ensures arcs { OnOk result (self.new.arcs ≡ self.old.arcs + length self.new.list) }
         ensures err { OnErr result (self.new ≡ self.old) }
+        ensures graph { OnFault result IsOfGraph }
         ensures later { S.later source.old source.new }
         ensures refused { OnRefusal result (S.caused source.old source.new) }
         ensures reads { (bits : ListOf Bool) (behind : ListOf Whole) → S.reads_from source.old bits → AreBehind bits self.old (S.offset source.old) behind
@@ -124,6 +133,7 @@ impl Pages {
     pub fn finish<S: Source>(&self, source: &mut S) -> Result<(), PagesError<S::Refusal>>
         requires done { self.now.page ≡ self.now.params.nodes }
         ensures total { OnOk result (self.now.arcs ≡ self.now.params.arcs) }
+        ensures graph { OnFault result IsOfGraph }
         ensures later { S.later source.old source.new }
         ensures refused { OnRefusal result (S.caused source.old source.new) }
         ensures reads { (bits : ListOf Bool) (behind : ListOf Whole) → S.reads_from source.old bits → AreBehind bits self.now (S.offset source.old) behind

@@ -1,0 +1,12 @@
+use Rattle.std.proofs.Common.{ap, sym, ◌∙◌, ◌<◌, length, arith}
+use Rattle.std.proofs.lemmas.Bool.{ltb-true}
+use Rattle.wg_bits.specs.Bits.{Position, rest}
+use Rattle.wg_stream.specs.Held.{ahead}
+use Rattle.wg_stream.proofs.HeldLemmas.{length-ahead}
+use Rattle.wg_stream.proofs.stretch.Stretch.holds_bit.Goals as goal
+
+pub returns-clause-room : goal.returns-clause-room
+returns-clause-room c = λ yes.
+    let some : 0 < c.remaining.result = ltb-true _ _ yes in
+    let here = ap (λ (p : Position). length (rest p)) c.cursor-cursor.ensures.position in
+    omega (arith, some, here, c.remaining.ensures, length-ahead c.args.self.now c.cursor-cursor.ensures.inside)

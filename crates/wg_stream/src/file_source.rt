@@ -1,0 +1,75 @@
+//! A file of a depot as a source of words.
+ghost use Rattle.std.specs.Prelude.{◌≡◌, List, ℕ, Some, IsTrue};
+ghost use Rattle.std.specs.FinMap as map;
+ghost use Rattle.wg_bits.specs.Bits.{bits_of};
+ghost use Rattle.wg_stream.specs.Held.{IsHeldOf};
+ghost use Rattle.wg_stream.specs.Stepping.{Steps, HasCause};
+ghost use Rattle.wg_stream.specs.StepLaws.{no_step, two_steps, later_cause, still_there};
+ghost use Rattle.std.proofs.Common.{refl, ◌∙◌};
+
+use crate::Stretch;
+use crate::filling::{next_tail_fault, next_word};
+use wg_codes::Read;
+use wg_io::{Depot, LoadError};
+use wg_params::Code;
+use wg_source::Source;
+
+/// A file of a depot, of which a stretch is held. It reads on in pieces of at most 4096 bytes.
+///
+/// A word that a piece cuts waits for the next piece, and only the end of the file cuts a word for good. What is held is
+/// to be of the same file at each call. [`Stretch::look`] tells before the first word whether the file is too long.
+#[derive(Drop)]
+pub struct FileSource<'a, D: Depot> {
+    depot: &'a mut D,
+    name: &'a str,
+    held: &'a mut Stretch,
+}
+
+impl<'a, D: Depot> FileSource<'a, D> {
+    /// The file of this name, from the next bit on.
+    #[inline(always)]
+    pub fn new(depot: &'a mut D, name: &'a str, held: &'a mut Stretch) -> FileSource<'a, D>
+        ensures depot { result.depot ≡ depot.entry }
+        ensures held { result.held ≡ held.entry }
+        ensures name { result.name.now ≡ name.now }
+    {
+        FileSource { depot, name, held }
+    }
+}
+
+impl<'a, D: Depot> Source for FileSource<'a, D> {
+    type Refusal = LoadError;
+
+    ghost reads_from = { λ s bits. IsTrue D.told × ((file : List ℕ) × (map.get (D.files s.depot.now) s.name.now ≡ Some file) × IsHeldOf file s.held.now × (bits_of file ≡ bits)) };
+
+    ghost offset = { λ s. s.held.now.at };
+
+    ghost later = { λ a b. (b.depot.ghost_name ≡ a.depot.ghost_name) × (b.held.ghost_name ≡ a.held.ghost_name) × (b.name.now ≡ a.name.now)
+        × Steps D.told a.name.now (D.files a.depot.now) (D.files b.depot.now) (D.counts a.depot.now) (D.counts b.depot.now) a.held.now b.held.now };
+
+    ghost caused = { λ a b e. HasCause D.told a.name.now (D.files a.depot.now) (D.counts a.depot.now) (D.counts b.depot.now) a.held.now e };
+
+    #[inline(always)]
+    fn at(&self) -> u64 {
+        self.held.at()
+    }
+
+    #[inline(always)]
+    fn read(&mut self, code: Code) -> Result<Read, LoadError> {
+        next_word(self.held, self.depot, self.name, code)
+    }
+
+    fn tail_fault(&mut self) -> Result<Option<u64>, LoadError> {
+        next_tail_fault(self.held, self.depot, self.name)
+    }
+
+    ghost stays = { λ a. (refl, refl, refl, no_step _ _ _ _ _) };
+
+    ghost goes_on = { λ a b c l m. (m.0 ∙ l.0, m.1 ∙ l.1, m.2 ∙ l.2, two_steps _ _ _ _ _ _ _ _ _ _ _ _ l.2 l.3 m.3) };
+
+    ghost onward = { λ a b l. l.3.onward };
+
+    ghost same_bits = { λ a b bits l r. (r.0, (r.1.0, still_there _ _ _ _ _ _ _ _ _ r.1.0 l.2 l.3 r.1.1, l.3.in_step r.0 r.1.0 r.1.1 r.1.2, r.1.3)) };
+
+    ghost still_caused = { λ a b c r l x. later_cause _ _ _ _ _ _ _ _ _ _ r l.2 l.3 x };
+}

@@ -1,0 +1,272 @@
+//! The bytes of a file that are held while it is read.
+ghost use Rattle.std.specs.Prelude.{◌≡◌, ◌⊎◌, ◌+◌, ◌-◌, ◌*◌, ◌/◌, ◌<◌, ◌≤◌, ℕ, IsTrue, false, true, [], ◌++◌, List, Some, None, Err, length, drop, replicate, OnOk, OnErr, IfErr, IfSome, IfNone};
+ghost use Rattle.std.specs.FinMap as map;
+ghost use Rattle.wg_io.specs.declared.limits.TheConstants.{MOST_BYTES};
+ghost use Rattle.wg_io.specs.declared.whole.LoadError.TheVariants as load;
+ghost use Rattle.wg_params.specs.Codes.{IsCode};
+ghost use Rattle.wg_bits.specs.Bits.{bits_of, BeginsWithNoZero};
+ghost use Rattle.wg_codes.specs.Words.{word, top};
+ghost use Rattle.wg_codes.specs.Reading.{Reads};
+ghost use Rattle.wg_codes.specs.declared.outcome.Read.TheVariants.{Cut};
+ghost use Rattle.wg_grammar.specs.Archive.{IsTail, IsTailFault};
+ghost use Rattle.wg_source.specs.Standing.{StopsAt};
+ghost use Rattle.wg_stream.specs.Held.{HoldsNext, IsInside, ahead};
+ghost use Rattle.wg_stream.specs.Stepping.{Steps, HasCause};
+ghost use Rattle.wg_stream.specs.declared.stretch.TheConstants.{WORD, ROOM};
+
+use std::marker::Model;
+use wg_bits::{Bits, Cursor};
+use wg_codes::Read;
+use wg_io::{Depot, LoadError, MOST_BYTES};
+use wg_params::Code;
+
+// The most bytes that one call reads.
+const PIECE: usize = 4096;
+
+// No word but those of unary has more bytes, wherever in a byte it begins.
+pub const WORD: usize = 17;
+
+const ROOM: usize = PIECE + WORD;
+
+/// The bytes of a file from some offset on, as far as they were read and are not passed, and the bit that comes next.
+#[derive(Drop)]
+pub struct Stretch {
+    bytes: [u8; ROOM],
+    length: usize,
+    // the offset of the first of them in the file
+    first: u64,
+    // the bit that comes next, counted from the first of them
+    here: u64,
+    ended: bool,
+    looked: bool,
+}
+
+impl Model for Stretch {
+    ghost use Rattle.std.specs.Prelude.{ℕ, ◌+◌, ◌*◌, ◌≤◌, take};
+    ghost use Rattle.wg_io.specs.declared.limits.TheConstants.{MOST_BYTES};
+    ghost use Rattle.wg_stream.specs.Held.{Held};
+    ghost use Rattle.wg_stream.specs.declared.stretch.TheConstants.{ROOM};
+
+    ghost Value = { Held };
+
+    ghost view = { λ s. record { bytes = take s.length s.bytes; first = s.first; at = 8 * s.first + s.here; ended = s.ended; looked = s.looked } };
+
+    ghost invariant = { λ s. (s.length ≤ ROOM) × (s.here ≤ 8 * s.length) × (s.first + s.length ≤ MOST_BYTES) };
+}
+
+impl Stretch {
+    /// Nothing of a file yet, of which nothing is known.
+    pub fn new() -> Stretch
+        ensures { result ≡ record { bytes = []; first = 0; at = 0; ended = false; looked = false } }
+    {
+        Stretch {
+            bytes: [0; ROOM],
+            length: 0,
+            first: 0,
+            here: 0,
+            ended: false,
+            looked: false,
+        }
+    }
+
+    /// The offset of the bit that comes next.
+    #[inline(always)]
+    pub(crate) fn at(&self) -> u64
+        ensures at { result ≡ self.now.at }
+        ensures short { result ≤ 8 * MOST_BYTES }
+    {
+        8 * self.first + self.here
+    }
+
+    /// Whether the file has no more bytes.
+    pub(crate) fn ended(&self) -> bool
+        ensures { result ≡ self.now.ended }
+    {
+        self.ended
+    }
+
+    // A cursor over what is held, at the bit that comes next.
+    #[inline(always)]
+    fn cursor(&self) -> Cursor<'_>
+        ensures position { result ≡ record { bits = bits_of self.now.bytes; at = self.now.at - 8 * self.now.first } }
+        ensures inside { IsInside self.now }
+    {
+        Cursor::new(Bits::of(&self.bytes[..self.length]), self.here)
+    }
+
+    /// Moves over bits that are held.
+    #[inline(always)]
+    pub(crate) fn advance(&mut self, by: u64)
+        requires { self.old.at + by ≤ 8 * (self.old.first + length self.old.bytes) }
+        ensures { self.new ≡ record self.old { at = self.old.at + by } }
+    {
+        self.here += by;
+    }
+
+    /// Whether from the byte of the next bit on a word's bytes are held, or all that the file has.
+    #[inline(always)]
+    pub(crate) fn is_ready(&self) -> bool
+        ensures ready { IsTrue result → HoldsNext WORD self.now }
+        ensures inside { IsInside self.now }
+        ensures more { result ≡ false → self.now.ended ≡ false }
+        ensures few { result ≡ false → self.now.first + length self.now.bytes < self.now.at / 8 + WORD }
+    {
+        self.here / 8 + WORD as u64 <= self.length as u64 || self.ended
+    }
+
+    /// Lets go of the bytes before the one of the next bit.
+    pub(crate) fn drop_passed(&mut self)
+        ensures { self.new ≡ record self.old { bytes = drop (self.old.at / 8 - self.old.first) self.old.bytes; first = self.old.at / 8 } }
+    {
+        let passed = (self.here / 8) as usize;
+        self.bytes.copy_within(passed..self.length, 0);
+        self.length -= passed;
+        self.first += passed as u64;
+        self.here %= 8;
+    }
+
+    // The file has no more bytes.
+    fn end(&mut self)
+        ensures { self.new ≡ record self.old { ended = true } }
+    {
+        self.ended = true;
+    }
+
+    // Holds some bytes more.
+    fn extend(&mut self, piece: &[u8])
+        requires room { length self.old.bytes + length piece.now ≤ ROOM }
+        requires short { self.old.first + length self.old.bytes + length piece.now ≤ MOST_BYTES }
+        ensures { self.new ≡ record self.old { bytes = self.old.bytes ++ piece.now } }
+    {
+        let end = self.length + piece.len();
+        self.bytes[self.length..end].copy_from_slice(piece);
+        self.length = end;
+    }
+
+    // The offset after the last byte that is held.
+    fn last(&self) -> u64
+        ensures offset { result ≡ self.now.first + length self.now.bytes }
+        ensures short { result ≤ MOST_BYTES }
+    {
+        self.first + self.length as u64
+    }
+
+    /// Asks once for the byte at the limit, so that a file that is too long is refused before any of it is read.
+    #[inline(always)]
+    pub fn look<D: Depot>(&mut self, depot: &mut D, name: &str) -> Result<(), LoadError>
+        ensures steps { Steps D.told name.now (D.files depot.old) (D.files depot.new) (D.counts depot.old) (D.counts depot.new) self.old self.new }
+        ensures cause { IfErr result (HasCause D.told name.now (D.files depot.old) (D.counts depot.old) (D.counts depot.new) self.old) }
+        ensures ok { OnOk result (self.new ≡ record self.old { looked = true }) }
+        ensures err { OnErr result (self.new ≡ self.old) }
+        ensures absent { IsTrue D.told → map.get (D.files depot.old) name.now ≡ None → self.old.looked ≡ false → result ≡ Err load.Absent }
+    {
+        if self.looked {
+            return Ok(());
+        }
+        self.look_now(depot, name)
+    }
+
+    // The same, if nobody has looked yet.
+    #[cold]
+    #[inline(never)]
+    fn look_now<D: Depot>(&mut self, depot: &mut D, name: &str) -> Result<(), LoadError>
+        ensures steps { Steps D.told name.now (D.files depot.old) (D.files depot.new) (D.counts depot.old) (D.counts depot.new) self.old self.new }
+        ensures cause { IfErr result (HasCause D.told name.now (D.files depot.old) (D.counts depot.old) (D.counts depot.new) self.old) }
+        ensures ok { OnOk result (self.new ≡ record self.old { looked = true }) }
+        ensures err { OnErr result (self.new ≡ self.old) }
+        ensures absent { IsTrue D.told → map.get (D.files depot.old) name.now ≡ None → result ≡ Err load.Absent }
+    {
+        let mut byte = [0u8; 1];
+        let count = depot.read(name, MOST_BYTES, &mut byte)?;
+        if count > 0 {
+            return Err(LoadError::TooLong);
+        }
+        self.looked = true;
+        Ok(())
+    }
+
+    /// Reads one piece more.
+    pub(crate) fn read_piece<D: Depot>(
+        &mut self,
+        depot: &mut D,
+        name: &str,
+    ) -> Result<(), LoadError>
+        requires room { length self.old.bytes ≤ WORD }
+        requires more { self.old.ended ≡ false }
+        ensures steps { Steps D.told name.now (D.files depot.old) (D.files depot.new) (D.counts depot.old) (D.counts depot.new) self.old self.new }
+        ensures cause { IfErr result (HasCause D.told name.now (D.files depot.old) (D.counts depot.old) (D.counts depot.new) self.old) }
+        ensures more { OnOk result ((length self.old.bytes < length self.new.bytes) ⊎ (self.new.ended ≡ true)) }
+        ensures least { length self.old.bytes ≤ length self.new.bytes }
+        ensures first { self.new.first ≡ self.old.first }
+        ensures at { self.new.at ≡ self.old.at }
+    {
+        let end = self.last();
+        let mut piece = [0u8; PIECE];
+        let count = depot.read(name, end, &mut piece)?;
+        if count == 0 {
+            self.end();
+            return Ok(());
+        }
+        if end + count as u64 > MOST_BYTES {
+            return Err(LoadError::TooLong);
+        }
+        self.extend(&piece[..count]);
+        Ok(())
+    }
+
+    /// Reads what stands in the bits that are held, and moves over a whole word.
+    #[inline(always)]
+    pub(crate) fn read(&mut self, code: Code) -> Read
+        requires { IsCode code }
+        ensures found { Reads (word code) (top code) (ahead self.old) result }
+        ensures moved { self.new ≡ record self.old { at = self.new.at } }
+        ensures stops { StopsAt code self.old.at result self.new.at }
+        ensures still { result ≡ Cut → self.new ≡ self.old }
+        ensures onward { self.old.at ≤ self.new.at }
+        ensures inside { IsInside self.old }
+    {
+        let mut cursor = self.cursor();
+        let read = wg_codes::read(code, &mut cursor);
+        let here = cursor.at();
+        self.here = here;
+        read
+    }
+
+    /// Moves over the zero bits that come next and are held, but at most `limit` of them, and counts them.
+    pub(crate) fn zeros(&mut self, limit: u64) -> u64
+        ensures zeros { ahead self.old ≡ replicate result false ++ ahead self.new }
+        ensures moved { self.new ≡ record self.old { at = self.old.at + result } }
+        ensures within { result ≤ limit }
+        ensures stops { result < limit → BeginsWithNoZero (ahead self.new) }
+        ensures inside { IsInside self.new }
+    {
+        let mut cursor = self.cursor();
+        let zeros = cursor.zeros(limit);
+        let end = cursor.at();
+        self.advance(zeros);
+        zeros
+    }
+
+    /// Whether a bit is held.
+    pub(crate) fn holds_bit(&self) -> bool
+        ensures some { IsTrue result → 0 < length (ahead self.now) }
+        ensures room { IsTrue result → self.now.at + 1 ≤ 8 * (self.now.first + length self.now.bytes) }
+        ensures none { result ≡ false → ahead self.now ≡ [] }
+    {
+        let cursor = self.cursor();
+        cursor.remaining() > 0
+    }
+
+    /// The first bit from the next one on that no tail has, by what is held: a one, or one bit too many.
+    pub(crate) fn tail_fault(&self) -> Option<u64>
+        ensures none { IfNone result (IsTail (bits_of self.now.bytes) (self.now.at - 8 * self.now.first)) }
+        ensures some { IfSome result (λ at. (8 * self.now.first ≤ at) × IsTailFault (bits_of self.now.bytes) (self.now.at - 8 * self.now.first) (at - 8 * self.now.first)) }
+        ensures inside { IsInside self.now }
+    {
+        let mut cursor = self.cursor();
+        match wg_grammar::tail_fault(&mut cursor) {
+            Some(at) => Some(8 * self.first + at),
+            None => None,
+        }
+    }
+}
