@@ -20,8 +20,9 @@ fn is_read(rt: &impl Abort, alloc: Global, archive: &Archive, piece: u64) -> Res
     requires { 0 < piece }
 {
     let name = archive.name;
+    let bytes = bytes_of(alloc, archive.graph)?;
     let mut depot = MemoryDepot::new(alloc, piece);
-    depot.put_file("g.graph", &bytes_of(alloc, archive.graph)?)?;
+    depot.put_file("g.graph", &bytes)?;
     let params = archive.shape.params(archive.nodes, archive.arcs)?;
     let mut reader = Reader::new(alloc, params, "g.graph")?;
     for page in 0..archive.nodes {
@@ -167,10 +168,11 @@ fn a_file_that_shrinks_meanwhile(rt: HostRuntime) -> Result<(), Fail> {
 fn value_behind(alloc: Global, ones: &str, code: Code, word: &str) -> Result<Option<u64>, Fail>
     requires { IsCode code }
 {
+    let text = format!(in alloc; "{ones}{word}")?;
+    let bytes = bytes_of(alloc, text.as_str())?;
     let mut depot = MemoryDepot::new(alloc, 4096);
     append_all(&mut depot, "words", &[255; 4095])?;
-    let text = format!(in alloc; "{ones}{word}")?;
-    append_all(&mut depot, "words", &bytes_of(alloc, text.as_str())?)?;
+    append_all(&mut depot, "words", &bytes)?;
     let mut held = Stretch::new();
     let mut source = FileSource::new(&mut depot, "words", &mut held);
     for _one in 0..8 * 4095 {
