@@ -1,10 +1,9 @@
 -- The lists of predecessors while the arcs of one page are gone through.
 use Rattle.std.proofs.Common.{◌≡◌, ◌≢◌, ℕ, zero, suc, ◌+◌, ◌-◌, ◌<◌, ◌≤◌, Bool, true, false, cond, ◌||◌, eqb, List, [], ◌∷◌, ◌++◌, length, take, get_or, refl, sym, ap, subst, ◌∙◌, arith, inl, inr, add-one, append-nil, length-append}
-use Rattle.std.proofs.lemmas.Bool.{cases_Bool, cases_lt, ne_eqb, eq-eqb}
-use Rattle.std.proofs.lemmas.List.{take_more, take_all}
+use Rattle.std.proofs.lemmas.Bool.{cases_Bool, ne_eqb, eq-eqb}
 use Rattle.wg_graph.specs.Ascending.{Ascends, Below}
 use Rattle.wg_graph.specs.Numbers.{is_in, numbers_where}
-use Rattle.wg_graph.specs.Digraph.{Digraph, IsGraph, successors}
+use Rattle.wg_graph.specs.Digraph.{Digraph, successors}
 use Rattle.wg_graph.specs.Arcs.{has_arc}
 use Rattle.wg_graph.proofs.Sets.{where_split, grow, grow_end}
 use Rattle.wg_transpose.specs.SoFar.{predecessors_below}
