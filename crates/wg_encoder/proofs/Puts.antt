@@ -1,13 +1,13 @@
 -- The words of a record, put one after the other.
-use Rattle.std.proofs.Common.{◌≡◌, ℕ, zero, suc, ◌+◌, ◌<◌, ◌≤◌, Bool, true, List, [], ◌∷◌, ◌++◌, length, map, take, drop, get_or, sym, ap, ◌∙◌, arith}
+use Rattle.std.proofs.Common.{◌≡◌, ℕ, zero, suc, ◌+◌, ◌<◌, ◌≤◌, Bool, true, List, [], ◌∷◌, ◌++◌, length, map, take, drop, get_or, Ok, Err, sym, ap, ◌∙◌, arith}
 use Rattle.std.proofs.lemmas.Bool.{and_parts, leb-true}
 use Rattle.std.proofs.lemmas.List.{append-nil, map-append, take_more, take-append-drop}
 use Rattle.std.proofs.lemmas.List.Concat.{flat_map-append}
-use Rattle.wg_io.specs.Outside.{Files}
-use Rattle.wg_bits.specs.Written.{HasPut, HasPutLess}
-use Rattle.wg_bits.proofs.Writes.{put_less_more, put_then_less}
+use Rattle.wg_io.specs.declared.depot.Depot as depot
+use Rattle.wg_io.specs.declared.depot.WriteError.{WriteError}
+use Rattle.wg_bits.specs.Written.{Sends}
+use Rattle.wg_bits.proofs.Sending.{Sent, sends_as, sends_then, sends_cut}
 use Rattle.wg_codes.specs.Words.{word, top}
-use Rattle.wg_codes.proofs.Writing.{less_same}
 use Rattle.wg_encoder.specs.declared.held.HeldField.{HeldField}
 use Rattle.wg_encoder.specs.Fields.{Written, bits_of_fields, all_have_words}
 use Rattle.wg_encoder.specs.InMemory.{as_written}
@@ -37,7 +37,11 @@ has_word [] i d lt all = absurd (omega arith)
 has_word (h ∷ hs) zero d lt all = leb-true h.value (top h.code) (and_parts _ _ all).0
 has_word (h ∷ hs) (suc i) d lt all = has_word hs i d (omega arith) (and_parts _ _ all).1
 
-pub less_held : (a b c : Files) (n : List ℕ) (w m : List Bool) (hs : List HeldField) (i : ℕ) (d : HeldField) → i < length hs → HasPut a b n w (bits_held (take i hs)) m → HasPutLess b c n m (word (get_or hs i d).code (get_or hs i d).value)
-    → HasPutLess a c n w (bits_held hs)
-less_held a b c n w m hs i d lt put less =
-    less_same a c n w _ _ (all_held hs i d lt) (put_less_more a c n w _ (bits_held (drop (i + 1) hs)) (put_then_less a b c n w _ m _ put less))
+module _ {D : Type 0} (s : depot.Ghosts D) (a b c : D) (n : List ℕ) (w m x : List Bool) (hs : List HeldField) (i : ℕ) (d : HeldField) (lt : i < length hs) (sent : Sent s a b n w (bits_held (take i hs)) m) where
+  -- one word more is on its way
+  pub held_on : Sends {A = Unit {0}} s b c n m (word (get_or hs i d).code (get_or hs i d).value) x (Ok tt) → Sent s a c n w (bits_held (take (i + 1) hs)) x
+  held_on word = sends_as s a c n w _ _ x _ (one_more hs i d lt) (sends_then s a b c n w _ m _ x tt _ sent word)
+
+  -- a word is cut, and those that follow are missing
+  pub held_cut : (e : WriteError) → Sends {A = Unit {0}} s b c n m (word (get_or hs i d).code (get_or hs i d).value) x (Err e) → Sends {A = Unit {0}} s a c n w (bits_held hs) x (Err e)
+  held_cut e word = sends_as s a c n w _ _ x _ (all_held hs i d lt) (sends_cut s a c n w _ (bits_held (drop (i + 1) hs)) x x e (sends_then s a b c n w _ m _ x tt _ sent word))

@@ -1,12 +1,14 @@
 -- What has gone out of an archive, and what stands of its files if the writing stopped.
-use Rattle.std.specs.Prelude.{◌≡◌, ◌≢◌, ◌⊎◌, ℕ, ◌<◌, ◌^◌, Bool, List, ◌++◌, length, take, All, Option, Some}
+use Rattle.std.specs.Prelude.{◌≡◌, ◌≢◌, ◌⊎◌, ℕ, ◌<◌, ◌^◌, Bool, List, ◌++◌, length, take, All, Option, Some, Result, IsTrue, IfOk, IfErr, OnErr}
 use Rattle.std.specs.List.{flat_map}
 use Rattle.std.specs.FinMap as fin
-use Rattle.wg_io.specs.Outside.{Files, Counts, Increased}
+use Rattle.wg_io.specs.Outside.{Files, Counts, Increased, NonDecreasing}
 use Rattle.wg_io.specs.Suffixes.{graph_name, offsets_name}
 use Rattle.wg_io.specs.declared.output.Output.{Output}
 use Rattle.wg_io.specs.declared.output.Output.TheVariants as output
+use Rattle.wg_io.specs.declared.depot.Depot as depot
 use Rattle.wg_bits.specs.Bits.{bits_of}
+use Rattle.wg_bits.specs.Written.{HasPut, HasPutLess}
 use Rattle.wg_codes.specs.Words.{word}
 use Rattle.wg_params.specs.Parameters.{Parameters}
 use Rattle.wg_encoder.specs.Archive.{offset_values, graph_file, offsets_file}
@@ -70,3 +72,14 @@ HasFailed base old new (error.Failed output.Out) = ⊥
 -- the same of a call on one file
 abbrev pub HasFailedOn : Output → ℕ → ℕ → EncodeError → Type 0
 HasFailedOn named before now e = ((e ≡ error.Failed named) × Increased before now) ⊎ (e ≡ error.Memory)
+
+-- What a call promises that puts bits on their way into one of the two files: by the depot's ghost members, before and
+-- after, the bits that waited, those that it puts, and those that wait then.
+pub record SendsTo {D A : Type 0} (named : Output) (d : depot.Ghosts D) (before after : D) (name : List ℕ) (waited put : List Bool) (waits : A → List Bool) (result : Result A EncodeError) : Type 0 where
+  -- at Ok all are on their way
+  pub ok : IsTrue d.told → IfOk result (λ x. HasPut (d.files before) (d.files after) name waited put (waits x))
+  -- after an error a proper prefix of them is out
+  pub err : IsTrue d.told → OnErr result (HasPutLess (d.files before) (d.files after) name waited put)
+  -- a failure is of this file, and the depot's own
+  pub fault : IfErr result (HasFailedOn named (d.counts before name).write_faults (d.counts after name).write_faults)
+  pub later : NonDecreasing (d.counts before) (d.counts after)

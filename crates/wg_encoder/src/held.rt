@@ -1,8 +1,7 @@
 // A record in memory, before it is written.
-ghost use Rattle.std.specs.Prelude.{◌≡◌, ◌<◌, true, false, [], ◌∷◌, ◌++◌, OnOk, OnErr, IsErrOf, IsTrue};
-ghost use Rattle.wg_io.specs.Outside.{Increased, NonDecreasing};
+ghost use Rattle.std.specs.Prelude.{◌≡◌, ◌<◌, true, false, [], ◌∷◌, ◌++◌, OnOk, is_err};
 ghost use Rattle.wg_params.specs.Codes.{IsCode};
-ghost use Rattle.wg_bits.specs.Written.{HasPut, HasPutLess};
+ghost use Rattle.wg_bits.specs.Written.{Sends};
 ghost use Rattle.wg_encoder.specs.Fields.{written, bits_of_fields, all_have_words};
 
 use std::alloc::{AllocError, Global};
@@ -66,7 +65,7 @@ impl HeldRecord {
     }
 
     /// Puts the words of the fields, one after the other. After an error the writer has failed, and the file's bits are
-    /// a front of what it would have got.
+    /// a prefix of what it would have got.
     pub fn write<D: Depot>(
         &self,
         writer: &mut Writer,
@@ -75,13 +74,8 @@ impl HeldRecord {
     ) -> Result<(), WriteError>
         requires words { all_have_words self.now ≡ true }
         requires ready { writer.old.failed ≡ false }
-        ensures ok { IsTrue D.told → OnOk result (HasPut (D.files depot.old) (D.files depot.new) name.now writer.old.bits (bits_of_fields self.now) writer.new.bits) }
-        ensures ready { OnOk result (writer.new.failed ≡ false) }
-        ensures failed { OnErr result (writer.new.failed ≡ true) }
-        ensures err { IsTrue D.told → OnErr result (HasPutLess (D.files depot.old) (D.files depot.new) name.now writer.old.bits (bits_of_fields self.now)) }
-        ensures fault { IsErrOf result WriteError.Failed → Increased (D.counts depot.old name.now).write_faults (D.counts depot.new name.now).write_faults }
-        ensures memory { IsErrOf result WriteError.Memory → Increased (D.counts depot.old name.now).wants (D.counts depot.new name.now).wants }
-        ensures later { NonDecreasing (D.counts depot.old) (D.counts depot.new) }
+        ensures sends { Sends ⟦<D as Depot>⟧ depot.old depot.new name.now writer.old.bits (bits_of_fields self.now) writer.new.bits result }
+        ensures failed { writer.new.failed ≡ is_err result }
     {
         for field in self.fields.as_slice() {
             match write(field.code, field.value, writer, depot, name) {

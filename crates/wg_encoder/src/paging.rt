@@ -1,13 +1,13 @@
 // From page to page: what goes to the two files.
 ghost use Rattle.std.specs.Prelude.{◌≡◌, ◌+◌, ◌<◌, ◌≤◌, true, false, [], length, replicate, IfOk, IfErr, OnOk, OnErr, IsTrue};
 ghost use Rattle.wg_io.specs.Outside.{NonDecreasing};
-ghost use Rattle.wg_bits.specs.Written.{HasPut, HasPutLess, padding};
+ghost use Rattle.wg_bits.specs.Written.{padding};
 ghost use Rattle.wg_codes.specs.Words.{word};
 ghost use Rattle.wg_encoder.specs.Fields.{bits_of_fields, all_have_words};
 ghost use Rattle.wg_encoder.specs.Greedy.{canonical};
 ghost use Rattle.wg_encoder.specs.Archive.{graph_bits};
 ghost use Rattle.wg_encoder.specs.Encoding.{context_of, list_of, offset_value, IsChosen};
-ghost use Rattle.wg_encoder.specs.Gone.{HasSentUpTo, IsWritten, HasStopped, HasFailed, HasFailedOn, OnlyTwo};
+ghost use Rattle.wg_encoder.specs.Gone.{HasSentUpTo, IsWritten, HasStopped, HasFailed, SendsTo, OnlyTwo};
 ghost use Rattle.wg_encoder.specs.declared.error.EncodeError.TheVariants as errors;
 
 use crate::choice::Choice;
@@ -71,11 +71,8 @@ impl<'a> Encoder<'a> {
 
     // Puts the word of the offsets file for this page: 0 for page 0, else the length of the record before.
     fn put_offset<D: Depot>(mut self, depot: &mut D, name: &str) -> Result<Encoder<'a>, EncodeError>
-        ensures ok { IsTrue D.told → IfOk result (λ e. HasPut (D.files depot.old) (D.files depot.new) name.now self.entry.offsets_waits (word self.entry.params.offsets (offset_value self.entry.params self.entry.graph self.entry.page)) e.offsets_waits) }
+        ensures sends { SendsTo Output.Offsets ⟦<D as Depot>⟧ depot.old depot.new name.now self.entry.offsets_waits (word self.entry.params.offsets (offset_value self.entry.params self.entry.graph self.entry.page)) (λ e. e.offsets_waits) result }
         ensures on { IfOk result (λ e. e ≡ record self.entry { offsets_waits = e.offsets_waits }) }
-        ensures err { IsTrue D.told → OnErr result (HasPutLess (D.files depot.old) (D.files depot.new) name.now self.entry.offsets_waits (word self.entry.params.offsets (offset_value self.entry.params self.entry.graph self.entry.page))) }
-        ensures fault { IfErr result (HasFailedOn Output.Offsets (D.counts depot.old name.now).write_faults (D.counts depot.new name.now).write_faults) }
-        ensures later { NonDecreasing (D.counts depot.old) (D.counts depot.new) }
     {
         self.limits();
         match write(
@@ -98,11 +95,8 @@ impl<'a> Encoder<'a> {
         name: &str,
     ) -> Result<Encoder<'a>, EncodeError>
         requires { all_have_words made.now ≡ true }
-        ensures ok { IsTrue D.told → IfOk result (λ e. HasPut (D.files depot.old) (D.files depot.new) name.now self.entry.graph_waits (bits_of_fields made.now) e.graph_waits) }
+        ensures sends { SendsTo Output.Graph ⟦<D as Depot>⟧ depot.old depot.new name.now self.entry.graph_waits (bits_of_fields made.now) (λ e. e.graph_waits) result }
         ensures on { IfOk result (λ e. e ≡ record self.entry { graph_waits = e.graph_waits }) }
-        ensures err { IsTrue D.told → OnErr result (HasPutLess (D.files depot.old) (D.files depot.new) name.now self.entry.graph_waits (bits_of_fields made.now)) }
-        ensures fault { IfErr result (HasFailedOn Output.Graph (D.counts depot.old name.now).write_faults (D.counts depot.new name.now).write_faults) }
-        ensures later { NonDecreasing (D.counts depot.old) (D.counts depot.new) }
     {
         match made.write(&mut *self.graph_writer, depot, name) {
             Ok(()) => Ok(self),
@@ -188,10 +182,7 @@ fn close<D: Depot>(
     name: &str,
 ) -> Result<(), EncodeError>
     requires { writer.value.failed ≡ false }
-    ensures ok { IsTrue D.told → OnOk result (HasPut (D.files depot.old) (D.files depot.new) name.now writer.value.bits (replicate (padding (length writer.value.bits)) false) []) }
-    ensures err { IsTrue D.told → OnErr result (HasPutLess (D.files depot.old) (D.files depot.new) name.now writer.value.bits (replicate (padding (length writer.value.bits)) false)) }
-    ensures fault { IfErr result (HasFailedOn output (D.counts depot.old name.now).write_faults (D.counts depot.new name.now).write_faults) }
-    ensures later { NonDecreasing (D.counts depot.old) (D.counts depot.new) }
+    ensures { SendsTo output ⟦<D as Depot>⟧ depot.old depot.new name.now writer.value.bits (replicate (padding (length writer.value.bits)) false) (λ _. []) result }
 {
     match Box::into_inner(writer).finish(depot, name) {
         Ok(()) => Ok(()),

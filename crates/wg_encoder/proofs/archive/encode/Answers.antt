@@ -1,6 +1,6 @@
 use Rattle.std.proofs.Common.{[], refl, ap, arith}
 use Rattle.std.proofs.lemmas.Result.{err_from_is_err_and}
-use Rattle.wg_bits.proofs.Writes.{none_falls-refl}
+use Rattle.wg_io.proofs.FilesLemmas.{none_falls-refl}
 use Rattle.wg_encoder.specs.Encoding.{Encoding}
 use Rattle.wg_encoder.proofs.Stopped.{if_err, begun, stopped_by_memory}
 use Rattle.wg_encoder.proofs.archive.encode.Goals as goal

@@ -16,14 +16,14 @@ returns-in_err-put-clause-err g c t h =
     let e = err_from_is_err_and c.from_residual-in_err-put.result c.from_residual-in_err-put.ensures.1 in
     let here = c.limits.ensures.proper.counted in
     let offsets : c.offsets.result.now ≡ offsets_name c.args.base.now = c.offsets.ensures ∙ ap offsets_name (c.deref.ensures ∙ c.in_ok-names.ensures.names) in
-    let less = word_less _ _ c.args.base.now _ c.args.self _ (c.take_names.ensures.same) offsets (c.in_err-put.ensures.err t) in
+    let less = word_less _ _ c.args.base.now _ c.args.self _ (c.take_names.ensures.same) offsets (c.in_err-put.ensures.sends.err t) in
     if_err _ _ c.in_err-put.field-0.0 (e.1 ∙ ap Err e.2)
-    (stopped_on_offsets _ _ c.args.base.now c.args.self _ _ _ (omega (arith, here, c.requires.done)) less c.in_err-put.ensures.fault h)
+    (stopped_on_offsets _ _ c.args.base.now c.args.self _ _ _ (omega (arith, here, c.requires.done)) less c.in_err-put.ensures.sends.fault h)
 
 pub returns-in_err-put-clause-only_two : goal.returns-in_err-put-clause-only_two
 returns-in_err-put-clause-only_two g c t name graph offsets =
     let is : c.offsets.result.now ≡ offsets_name c.args.base.now = c.offsets.ensures ∙ ap offsets_name (c.deref.ensures ∙ c.in_ok-names.ensures.names) in
-    other_less _ _ _ name _ _ (rw is at c.in_err-put.ensures.err t) offsets
+    other_less _ _ _ name _ _ (rw is at c.in_err-put.ensures.sends.err t) offsets
 
 pub returns-in_err-close-clause-err : goal.returns-in_err-close-clause-err
 returns-in_err-close-clause-err g c t h =
@@ -31,7 +31,7 @@ returns-in_err-close-clause-err g c t h =
     let done : c.args.self.page ≡ length c.args.self.graph.lists = c.requires.done ∙ sym c.limits.ensures.proper.counted in
     let offsets : c.offsets.result.now ≡ offsets_name c.args.base.now = c.offsets.ensures ∙ ap offsets_name (c.deref.ensures ∙ c.in_ok-names.ensures.names) in
     let graph : c.graph.result.now ≡ graph_name c.args.base.now = c.graph.ensures ∙ ap graph_name (c.deref-2.ensures ∙ c.in_ok-names.ensures.names) in
-    let put = word_put _ _ c.args.base.now _ c.args.self _ _ (c.take_names.ensures.same) offsets (c.in_ok-put.ensures.ok t) in
+    let put = word_put _ _ c.args.base.now _ c.args.self _ _ (c.take_names.ensures.same) offsets (c.in_ok-put.ensures.sends.ok t) in
     let all = all_gone _ _ c.args.base.now c.args.self c.in_ok-put.put _ done (rw c.take_names.ensures.same at c.in_ok-put.ensures.on) c.put.view_is put h in
     if_err _ _ c.in_err-close.field-0.0 (e.1 ∙ ap Err e.2)
     (stopped_at_graph c.args.base.now c.args.self.params c.args.self.graph.lists _ _ _ _ _ _ _ (rw graph at c.in_err-close.ensures.err t) c.in_err-close.ensures.fault all)
@@ -40,7 +40,7 @@ pub returns-in_err-close-clause-only_two : goal.returns-in_err-close-clause-only
 returns-in_err-close-clause-only_two g c t name graph offsets =
     let first : c.offsets.result.now ≡ offsets_name c.args.base.now = c.offsets.ensures ∙ ap offsets_name (c.deref.ensures ∙ c.in_ok-names.ensures.names) in
     let second : c.graph.result.now ≡ graph_name c.args.base.now = c.graph.ensures ∙ ap graph_name (c.deref-2.ensures ∙ c.in_ok-names.ensures.names) in
-    other_less _ _ _ name _ _ (rw second at c.in_err-close.ensures.err t) graph ∙ other_put _ _ _ name _ _ _ (rw first at c.in_ok-put.ensures.ok t) offsets
+    other_less _ _ _ name _ _ (rw second at c.in_err-close.ensures.err t) graph ∙ other_put _ _ _ name _ _ _ (rw first at c.in_ok-put.ensures.sends.ok t) offsets
 
 pub returns-in_err-close-2-clause-err : goal.returns-in_err-close-2-clause-err
 returns-in_err-close-2-clause-err g c t h =
@@ -49,7 +49,7 @@ returns-in_err-close-2-clause-err g c t h =
     let offsets : c.offsets.result.now ≡ offsets_name c.args.base.now = c.offsets.ensures ∙ ap offsets_name (c.deref.ensures ∙ c.in_ok-names.ensures.names) in
     let graph : c.graph.result.now ≡ graph_name c.args.base.now = c.graph.ensures ∙ ap graph_name (c.deref-2.ensures ∙ c.in_ok-names.ensures.names) in
     let last : c.offsets-2.result.now ≡ offsets_name c.args.base.now = c.offsets-2.ensures ∙ ap offsets_name (c.deref-3.ensures ∙ c.in_ok-names.ensures.names) in
-    let put = word_put _ _ c.args.base.now _ c.args.self _ _ (c.take_names.ensures.same) offsets (c.in_ok-put.ensures.ok t) in
+    let put = word_put _ _ c.args.base.now _ c.args.self _ _ (c.take_names.ensures.same) offsets (c.in_ok-put.ensures.sends.ok t) in
     let all = all_gone _ _ c.args.base.now c.args.self c.in_ok-put.put _ done (rw c.take_names.ensures.same at c.in_ok-put.ensures.on) c.put.view_is put h in
     if_err _ _ c.in_err-close-2.field-0.0 (e.1 ∙ ap Err e.2)
     (stopped_at_offsets c.args.base.now c.args.self.params c.args.self.graph.lists _ _ _ _ _ _ _ _ (rw graph at c.in_ok-close.ensures.ok t) (rw last at c.in_err-close-2.ensures.err t) c.in_err-close-2.ensures.fault all)
@@ -59,7 +59,7 @@ returns-in_err-close-2-clause-only_two g c t name graph offsets =
     let first : c.offsets.result.now ≡ offsets_name c.args.base.now = c.offsets.ensures ∙ ap offsets_name (c.deref.ensures ∙ c.in_ok-names.ensures.names) in
     let second : c.graph.result.now ≡ graph_name c.args.base.now = c.graph.ensures ∙ ap graph_name (c.deref-2.ensures ∙ c.in_ok-names.ensures.names) in
     let last : c.offsets-2.result.now ≡ offsets_name c.args.base.now = c.offsets-2.ensures ∙ ap offsets_name (c.deref-3.ensures ∙ c.in_ok-names.ensures.names) in
-    other_less _ _ _ name _ _ (rw last at c.in_err-close-2.ensures.err t) offsets ∙ other_put _ _ _ name _ _ _ (rw second at c.in_ok-close.ensures.ok t) graph ∙ other_put _ _ _ name _ _ _ (rw first at c.in_ok-put.ensures.ok t) offsets
+    other_less _ _ _ name _ _ (rw last at c.in_err-close-2.ensures.err t) offsets ∙ other_put _ _ _ name _ _ _ (rw second at c.in_ok-close.ensures.ok t) graph ∙ other_put _ _ _ name _ _ _ (rw first at c.in_ok-put.ensures.sends.ok t) offsets
 
 pub returns-clause-bits : goal.returns-clause-bits
 returns-clause-bits g c =
@@ -71,7 +71,7 @@ returns-clause-ok g c t h =
     let offsets : c.offsets.result.now ≡ offsets_name c.args.base.now = c.offsets.ensures ∙ ap offsets_name (c.deref.ensures ∙ c.in_ok-names.ensures.names) in
     let graph : c.graph.result.now ≡ graph_name c.args.base.now = c.graph.ensures ∙ ap graph_name (c.deref-2.ensures ∙ c.in_ok-names.ensures.names) in
     let last : c.offsets-2.result.now ≡ offsets_name c.args.base.now = c.offsets-2.ensures ∙ ap offsets_name (c.deref-3.ensures ∙ c.in_ok-names.ensures.names) in
-    let put = word_put _ _ c.args.base.now _ c.args.self _ _ (c.take_names.ensures.same) offsets (c.in_ok-put.ensures.ok t) in
+    let put = word_put _ _ c.args.base.now _ c.args.self _ _ (c.take_names.ensures.same) offsets (c.in_ok-put.ensures.sends.ok t) in
     let all = all_gone _ _ c.args.base.now c.args.self c.in_ok-put.put _ done (rw c.take_names.ensures.same at c.in_ok-put.ensures.on) c.put.view_is put h in
     written c.args.base.now c.args.self.params c.args.self.graph.lists _ _ _ _ _ (rw graph at c.in_ok-close.ensures.ok t) (rw last at c.in_ok-close-2.ensures.ok t) all
 
@@ -80,4 +80,4 @@ returns-clause-only_two g c t name graph offsets =
     let first : c.offsets.result.now ≡ offsets_name c.args.base.now = c.offsets.ensures ∙ ap offsets_name (c.deref.ensures ∙ c.in_ok-names.ensures.names) in
     let second : c.graph.result.now ≡ graph_name c.args.base.now = c.graph.ensures ∙ ap graph_name (c.deref-2.ensures ∙ c.in_ok-names.ensures.names) in
     let last : c.offsets-2.result.now ≡ offsets_name c.args.base.now = c.offsets-2.ensures ∙ ap offsets_name (c.deref-3.ensures ∙ c.in_ok-names.ensures.names) in
-    other_put _ _ _ name _ _ _ (rw last at c.in_ok-close-2.ensures.ok t) offsets ∙ other_put _ _ _ name _ _ _ (rw second at c.in_ok-close.ensures.ok t) graph ∙ other_put _ _ _ name _ _ _ (rw first at c.in_ok-put.ensures.ok t) offsets
+    other_put _ _ _ name _ _ _ (rw last at c.in_ok-close-2.ensures.ok t) offsets ∙ other_put _ _ _ name _ _ _ (rw second at c.in_ok-close.ensures.ok t) graph ∙ other_put _ _ _ name _ _ _ (rw first at c.in_ok-put.ensures.sends.ok t) offsets

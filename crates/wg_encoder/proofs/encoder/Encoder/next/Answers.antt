@@ -26,14 +26,14 @@ returns-in_err-begun-clause-err g c t h =
     let e = err_from_is_err_and c.from_residual-in_err-begun.result c.from_residual-in_err-begun.ensures.1 in
     let here = c.limits.ensures.proper.counted in
     let offsets : c.offsets.result.now ≡ offsets_name c.args.base.now = c.offsets.ensures ∙ ap offsets_name (c.deref.ensures ∙ c.in_ok-names.ensures.names) in
-    let less = word_less _ _ c.args.base.now _ c.args.self _ (c.take_names.ensures.same ∙ c.take_draft.ensures) offsets (c.in_err-begun.ensures.err t) in
+    let less = word_less _ _ c.args.base.now _ c.args.self _ (c.take_names.ensures.same ∙ c.take_draft.ensures) offsets (c.in_err-begun.ensures.sends.err t) in
     if_err _ _ c.in_err-begun.field-0.0 (e.1 ∙ ap Err e.2)
-    (stopped_on_offsets _ _ c.args.base.now c.args.self _ _ _ (omega (arith, here, c.requires.more)) less c.in_err-begun.ensures.fault h)
+    (stopped_on_offsets _ _ c.args.base.now c.args.self _ _ _ (omega (arith, here, c.requires.more)) less c.in_err-begun.ensures.sends.fault h)
 
 pub returns-in_err-begun-clause-only_two : goal.returns-in_err-begun-clause-only_two
 returns-in_err-begun-clause-only_two g c t name graph offsets =
     let is : c.offsets.result.now ≡ offsets_name c.args.base.now = c.offsets.ensures ∙ ap offsets_name (c.deref.ensures ∙ c.in_ok-names.ensures.names) in
-    other_less _ _ _ name _ _ (rw is at c.in_err-begun.ensures.err t) offsets
+    other_less _ _ _ name _ _ (rw is at c.in_err-begun.ensures.sends.err t) offsets
 
 pub returns-in_err-put-clause-err : goal.returns-in_err-put-clause-err
 returns-in_err-put-clause-err g c t h =
@@ -43,15 +43,15 @@ returns-in_err-put-clause-err g c t h =
     let graph : c.graph.result.now ≡ graph_name c.args.base.now = c.graph.ensures ∙ ap graph_name (c.deref-3.ensures ∙ c.in_ok-names.ensures.names) in
     let same = c.take_names.ensures.same ∙ c.take_draft.ensures in
     let made : IsMade c.args.self c.choose-choice.result c.record.result.now = c.record.ensures ∙ c.deref-2.ensures ∙ rw c.take_draft.ensures at c.in_ok-make.ensures.record_is in
-    let put = word_put _ _ c.args.base.now _ c.args.self _ _ (c.take_names.ensures.same ∙ c.take_draft.ensures) offsets (c.in_ok-begun.ensures.ok t) in
+    let put = word_put _ _ c.args.base.now _ c.args.self _ _ (c.take_names.ensures.same ∙ c.take_draft.ensures) offsets (c.in_ok-begun.ensures.sends.ok t) in
     if_err _ _ c.in_err-put.field-0.0 (e.1 ∙ ap Err e.2)
-    (next_stopped_on_graph _ _ _ c.args.base.now c.args.self c.in_ok-begun.begun c.choose-choice.result c.record.result.now _ _ _ s c.choose-choice.ensures made (rw same at c.in_ok-begun.ensures.on) put (rw graph at c.in_err-put.ensures.err t) c.in_err-put.ensures.fault h)
+    (next_stopped_on_graph _ _ _ c.args.base.now c.args.self c.in_ok-begun.begun c.choose-choice.result c.record.result.now _ _ _ s c.choose-choice.ensures made (rw same at c.in_ok-begun.ensures.on) put (rw graph at c.in_err-put.ensures.sends.err t) c.in_err-put.ensures.sends.fault h)
 
 pub returns-in_err-put-clause-only_two : goal.returns-in_err-put-clause-only_two
 returns-in_err-put-clause-only_two g c t name graph offsets =
     let first : c.offsets.result.now ≡ offsets_name c.args.base.now = c.offsets.ensures ∙ ap offsets_name (c.deref.ensures ∙ c.in_ok-names.ensures.names) in
     let second : c.graph.result.now ≡ graph_name c.args.base.now = c.graph.ensures ∙ ap graph_name (c.deref-3.ensures ∙ c.in_ok-names.ensures.names) in
-    other_less _ _ _ name _ _ (rw second at c.in_err-put.ensures.err t) graph ∙ other_put _ _ _ name _ _ _ (rw first at c.in_ok-begun.ensures.ok t) offsets
+    other_less _ _ _ name _ _ (rw second at c.in_err-put.ensures.sends.err t) graph ∙ other_put _ _ _ name _ _ _ (rw first at c.in_ok-begun.ensures.sends.ok t) offsets
 
 pub returns-in_err-go_on-clause-err : goal.returns-in_err-go_on-clause-err
 returns-in_err-go_on-clause-err g c t h =
@@ -61,15 +61,15 @@ returns-in_err-go_on-clause-err g c t h =
     let graph : c.graph.result.now ≡ graph_name c.args.base.now = c.graph.ensures ∙ ap graph_name (c.deref-3.ensures ∙ c.in_ok-names.ensures.names) in
     let same = c.take_names.ensures.same ∙ c.take_draft.ensures in
     let made : IsMade c.args.self c.choose-choice.result c.record.result.now = c.record.ensures ∙ c.deref-2.ensures ∙ rw c.take_draft.ensures at c.in_ok-make.ensures.record_is in
-    let put = word_put _ _ c.args.base.now _ c.args.self _ _ (c.take_names.ensures.same ∙ c.take_draft.ensures) offsets (c.in_ok-begun.ensures.ok t) in
+    let put = word_put _ _ c.args.base.now _ c.args.self _ _ (c.take_names.ensures.same ∙ c.take_draft.ensures) offsets (c.in_ok-begun.ensures.sends.ok t) in
     if_err _ _ e.0 e.1 (next_stopped_by_memory _ _ _ c.args.base.now c.args.self c.in_ok-begun.begun c.in_ok-put.put c.choose-choice.result c.record.result.now e.0 s c.choose-choice.ensures made (rw same at c.in_ok-begun.ensures.on) c.in_ok-put.ensures.on
-    put (rw graph at c.in_ok-put.ensures.ok t) h e.2)
+    put (rw graph at c.in_ok-put.ensures.sends.ok t) h e.2)
 
 pub returns-in_err-go_on-clause-only_two : goal.returns-in_err-go_on-clause-only_two
 returns-in_err-go_on-clause-only_two g c t name graph offsets =
     let first : c.offsets.result.now ≡ offsets_name c.args.base.now = c.offsets.ensures ∙ ap offsets_name (c.deref.ensures ∙ c.in_ok-names.ensures.names) in
     let second : c.graph.result.now ≡ graph_name c.args.base.now = c.graph.ensures ∙ ap graph_name (c.deref-3.ensures ∙ c.in_ok-names.ensures.names) in
-    other_put _ _ _ name _ _ _ (rw second at c.in_ok-put.ensures.ok t) graph ∙ other_put _ _ _ name _ _ _ (rw first at c.in_ok-begun.ensures.ok t) offsets
+    other_put _ _ _ name _ _ _ (rw second at c.in_ok-put.ensures.sends.ok t) graph ∙ other_put _ _ _ name _ _ _ (rw first at c.in_ok-begun.ensures.sends.ok t) offsets
 
 pub returns-clause-ok : goal.returns-clause-ok
 returns-clause-ok g c t h =
@@ -78,12 +78,12 @@ returns-clause-ok g c t h =
     let graph : c.graph.result.now ≡ graph_name c.args.base.now = c.graph.ensures ∙ ap graph_name (c.deref-3.ensures ∙ c.in_ok-names.ensures.names) in
     let same = c.take_names.ensures.same ∙ c.take_draft.ensures in
     let made : IsMade c.args.self c.choose-choice.result c.record.result.now = c.record.ensures ∙ c.deref-2.ensures ∙ rw c.take_draft.ensures at c.in_ok-make.ensures.record_is in
-    let put = word_put _ _ c.args.base.now _ c.args.self _ _ (c.take_names.ensures.same ∙ c.take_draft.ensures) offsets (c.in_ok-begun.ensures.ok t) in
+    let put = word_put _ _ c.args.base.now _ c.args.self _ _ (c.take_names.ensures.same ∙ c.take_draft.ensures) offsets (c.in_ok-begun.ensures.sends.ok t) in
     next_gone _ _ _ c.args.base.now c.args.self c.in_ok-begun.begun c.in_ok-put.put c.in_ok-go_on.field-0 c.choose-choice.result c.record.result.now s c.choose-choice.ensures made (rw same at c.in_ok-begun.ensures.on) c.in_ok-put.ensures.on c.in_ok-go_on.ensures
-    put (rw graph at c.in_ok-put.ensures.ok t) h
+    put (rw graph at c.in_ok-put.ensures.sends.ok t) h
 
 pub returns-clause-only_two : goal.returns-clause-only_two
 returns-clause-only_two g c t name graph offsets =
     let first : c.offsets.result.now ≡ offsets_name c.args.base.now = c.offsets.ensures ∙ ap offsets_name (c.deref.ensures ∙ c.in_ok-names.ensures.names) in
     let second : c.graph.result.now ≡ graph_name c.args.base.now = c.graph.ensures ∙ ap graph_name (c.deref-3.ensures ∙ c.in_ok-names.ensures.names) in
-    other_put _ _ _ name _ _ _ (rw second at c.in_ok-put.ensures.ok t) graph ∙ other_put _ _ _ name _ _ _ (rw first at c.in_ok-begun.ensures.ok t) offsets
+    other_put _ _ _ name _ _ _ (rw second at c.in_ok-put.ensures.sends.ok t) graph ∙ other_put _ _ _ name _ _ _ (rw first at c.in_ok-begun.ensures.sends.ok t) offsets
