@@ -1,5 +1,5 @@
 pub mod ExitLemmas
-pub mod JobLemmas
+pub mod PerformsLemmas
 pub mod WritingLemmas
 pub mod BuildLemmas
 pub mod BuiltLemmas

@@ -1,12 +1,12 @@
 -- Which status a judgement leads to.
-use Rattle.std.specs.Prelude.{◌≡◌, ◌⊎◌, ℕ, List, ◌++◌, take, Option, None, Result, Ok, Err}
+use Rattle.std.specs.Prelude.{◌≡◌, ◌⊎◌, ℕ, nat_eq, if◌then◌else◌, List, ◌++◌, take, Option, None, Result, Ok, Err}
 use Rattle.wg_io.specs.declared.output.Output.TheVariants.{Out}
 use Rattle.wg_words.specs.declared.jobs.Job.{Job}
 use Rattle.wg_cli.specs.Readings.{Readings}
 use Rattle.wg_cli.specs.Judged.{Judged, refused, status_of, judged}
+use Rattle.wg_cli.specs.Names.{input_code}
 use Rattle.wg_cli.specs.declared.ending.Ending.{Ending}
 use Rattle.wg_cli.specs.declared.status.Input.{Input}
-use Rattle.wg_cli.specs.declared.status.Input.TheVariants as input
 use Rattle.wg_cli.specs.declared.status.Status.{Status}
 use Rattle.wg_cli.specs.declared.status.Status.TheVariants.{Done, Memory, ReadFault, WriteFault, Missing}
 
@@ -33,11 +33,7 @@ status_in (Err e) = e.status
 
 -- all but one input
 abbrev pub without : Input → (Input → Option (List ℕ)) → Input → Option (List ℕ)
-without input.Properties held input.Properties = None
-without input.Graph held input.Graph = None
-without input.Offsets held input.Offsets = None
-without input.ArcList held input.ArcList = None
-without i held j = held j
+without i held j = if nat_eq (input_code i) (input_code j) then None else held j
 
 -- all inputs before this one are held and without refusal: were it absent, it would be the one to miss
 abbrev pub Reaches : Readings → Job → (Input → Option (List ℕ)) → Input → Type 0

@@ -17,6 +17,7 @@ use Rattle.wg_arcs.specs.Text.{text_of_graph}
 use Rattle.wg_offsets.specs.Places.{last_place, record_length, pages_that_differ}
 use Rattle.wg_words.specs.declared.jobs.Job.{Job}
 use Rattle.wg_words.specs.declared.jobs.Job.TheVariants.{Check, Arcs, Offsets, Rank, Build}
+use Rattle.wg_cli.specs.Names.{writes_files}
 use Rattle.wg_cli.specs.Readings.{Readings}
 use Rattle.wg_cli.specs.Ranked.{ranking_text}
 use Rattle.wg_cli.specs.Written.{Archive, greedy_archive}
@@ -141,5 +142,4 @@ judged r (Build arcs base nodes layout) held =
 
 -- the archive that a job writes, if it does
 abbrev pub written_by : Readings → Job → (Input → Option (List ℕ)) → Option Archive
-written_by r (Build arcs base nodes layout) held = files_of (judged r (Build arcs base nodes layout) held)
-written_by r job held = None
+written_by r job held = if writes_files job then files_of (judged r job held) else None

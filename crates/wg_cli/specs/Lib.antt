@@ -9,3 +9,4 @@ pub mod Texts
 pub mod Names
 pub mod Lines
 pub mod Built
+pub mod Performs

@@ -1,5 +1,5 @@
 -- The files of a job.
-use Rattle.std.specs.Prelude.{◌≡◌, ◌≢◌, ◌⊎◌, ℕ, Bool, true, false, List, ◌++◌, Option, Some, None, option_map, option_and_then}
+use Rattle.std.specs.Prelude.{◌≡◌, ◌≢◌, ◌⊎◌, ℕ, Bool, true, false, if◌then◌else◌, nat_eq, nat_lt, List, [], ◌∷◌, ◌++◌, length, Option, Some, None, is_some, option_map, option_and_then}
 use Rattle.std.specs.FinMap as map
 use Rattle.wg_io.specs.Outside.{Files}
 use Rattle.wg_io.specs.declared.output.Output.{Output}
@@ -33,20 +33,60 @@ base_of (Offsets base) = base
 base_of (Rank base rounds damping top) = base
 base_of (Build arcs base nodes layout) = base
 
--- the one input of a job that reads an arc list
-abbrev pub list_named : List ℕ → Input → Option (List ℕ)
-list_named name input.ArcList = Some name
-list_named name input.Properties = None
-list_named name input.Graph = None
-list_named name input.Offsets = None
+-- inputs and outputs by number, so that two of them can be compared
+abbrev pub input_code : Input → ℕ
+input_code input.Properties = 0
+input_code input.Graph = 1
+input_code input.Offsets = 2
+input_code input.ArcList = 3
+
+abbrev pub output_code : Output → ℕ
+output_code output.Properties = 0
+output_code output.Graph = 1
+output_code output.Offsets = 2
+output_code output.Out = 3
+
+-- the name of an input, or of an output, in a list of them with their names
+abbrev pub name_of_input : List (Input × List ℕ) → Input → Option (List ℕ)
+name_of_input [] i = None
+name_of_input (entry ∷ rest) i = if nat_eq (input_code entry.0) (input_code i) then Some entry.1 else name_of_input rest i
+
+abbrev pub name_of_output : List (Output × List ℕ) → Output → Option (List ℕ)
+name_of_output [] o = None
+name_of_output (entry ∷ rest) o = if nat_eq (output_code entry.0) (output_code o) then Some entry.1 else name_of_output rest o
+
+-- the files of an archive's records, all files of an archive, and an arc list
+abbrev pub record_files : List ℕ → List (Input × List ℕ)
+record_files base = (input.Properties, base ++ PROPERTIES.now) ∷ (input.Graph, base ++ GRAPH.now) ∷ []
+
+abbrev pub archive_files : List ℕ → List (Input × List ℕ)
+archive_files base = (input.Properties, base ++ PROPERTIES.now) ∷ (input.Graph, base ++ GRAPH.now) ∷ (input.Offsets, base ++ OFFSETS.now) ∷ []
+
+abbrev pub list_file : List ℕ → List (Input × List ℕ)
+list_file name = (input.ArcList, name) ∷ []
+
+-- the files of an archive that is written
+abbrev pub archive_outputs : List ℕ → List (Output × List ℕ)
+archive_outputs base = (output.Properties, base ++ PROPERTIES.now) ∷ (output.Graph, base ++ GRAPH.now) ∷ (output.Offsets, base ++ OFFSETS.now) ∷ []
+
+-- what each job reads, in its order, and what it writes
+abbrev pub inputs_of : Job → List (Input × List ℕ)
+inputs_of (Check base) = archive_files base
+inputs_of (Arcs base) = record_files base
+inputs_of (Offsets base) = record_files base
+inputs_of (Rank base rounds damping top) = record_files base
+inputs_of (Build arcs base nodes layout) = list_file arcs
+
+abbrev pub outputs_of : Job → List (Output × List ℕ)
+outputs_of (Build arcs base nodes layout) = archive_outputs base
+outputs_of _ = []
 
 -- the name of a job's input
+abbrev pub list_named : List ℕ → Input → Option (List ℕ)
+list_named name i = name_of_input (list_file name) i
+
 abbrev pub input_name : Job → Input → Option (List ℕ)
-input_name (Check base) i = file_of base i
-input_name (Arcs base) i = file_of base i
-input_name (Offsets base) i = file_of base i
-input_name (Rank base rounds damping top) i = file_of base i
-input_name (Build arcs base nodes layout) i = list_named arcs i
+input_name job i = name_of_input (inputs_of job) i
 
 -- the outputs of what writes no file
 abbrev pub no_outputs : Output → Option (List ℕ)
@@ -54,10 +94,7 @@ no_outputs o = None
 
 -- the files of an archive that is written
 abbrev pub archive_named : List ℕ → Output → Option (List ℕ)
-archive_named base output.Properties = file_of base input.Properties
-archive_named base output.Graph = file_of base input.Graph
-archive_named base output.Offsets = file_of base input.Offsets
-archive_named base output.Out = None
+archive_named base o = name_of_output (archive_outputs base) o
 
 -- these names, by their file
 abbrev pub names_of : ArchiveNames → Output → Option (List ℕ)
@@ -74,44 +111,19 @@ pub record AreApart (n : ArchiveNames) : Type 0 where
 
 -- the name of a file that a job writes
 abbrev pub output_name : Job → Output → Option (List ℕ)
-output_name (Check base) o = None
-output_name (Arcs base) o = None
-output_name (Offsets base) o = None
-output_name (Rank base rounds damping top) o = None
-output_name (Build arcs base nodes layout) o = archive_named base o
+output_name job o = name_of_output (outputs_of job) o
 
 -- what an input of these names holds
 abbrev pub held_by : (Input → Option (List ℕ)) → Files → Input → Option (List ℕ)
 held_by names files i = option_and_then (map.get files) (names i)
 
--- whether it is a file of an archive, with the offsets or without
-abbrev pub is_of_archive : Bool → Input → Bool
-is_of_archive offsets input.Properties = true
-is_of_archive offsets input.Graph = true
-is_of_archive offsets input.Offsets = offsets
-is_of_archive offsets input.ArcList = false
-
-abbrev pub is_list : Input → Bool
-is_list input.Properties = false
-is_list input.Graph = false
-is_list input.Offsets = false
-is_list input.ArcList = true
-
 -- the inputs that a job reads
 abbrev pub has_input : Job → Input → Bool
-has_input (Check base) i = is_of_archive true i
-has_input (Arcs base) i = is_of_archive false i
-has_input (Offsets base) i = is_of_archive false i
-has_input (Rank base rounds damping top) i = is_of_archive false i
-has_input (Build arcs base nodes layout) i = is_list i
+has_input job i = is_some (input_name job i)
 
 -- whether a job writes files
 abbrev pub writes_files : Job → Bool
-writes_files (Check base) = false
-writes_files (Arcs base) = false
-writes_files (Offsets base) = false
-writes_files (Rank base rounds damping top) = false
-writes_files (Build arcs base nodes layout) = true
+writes_files job = nat_lt 0 (length (outputs_of job))
 
 -- the same for the job of some words, if there is one
 abbrev pub some_writes_files : Option Job → Bool
@@ -121,9 +133,7 @@ some_writes_files (Some job) = writes_files job
 -- what a job writes
 abbrev pub has_output : Job → Output → Bool
 has_output job output.Out = true
-has_output job output.Properties = writes_files job
-has_output job output.Graph = writes_files job
-has_output job output.Offsets = writes_files job
+has_output job o = is_some (output_name job o)
 
 -- how a job can end at all
 abbrev pub can_end : Job → Status → Bool

@@ -1,20 +1,18 @@
 //! The command `build`: an archive from a list of arcs.
-ghost use Rattle.std.specs.Prelude.{◌≡◌, ◌≤◌, ◌⊎◌, ℕ, Some, IsTrue, IfOk, IfErr};
+ghost use Rattle.std.specs.Prelude.{◌≡◌, ◌≤◌, ◌⊎◌, ℕ, IsTrue, IfOk, IfErr};
 ghost use Rattle.wg_io.specs.Outside.{NonDecreasing};
-ghost use Rattle.wg_io.specs.declared.output.Output.{Output};
 ghost use Rattle.wg_params.specs.Parameters.{IsWithinLimits};
 ghost use Rattle.wg_params.specs.declared.limits.TheConstants.{MOST_PAGES};
 ghost use Rattle.wg_arcs.specs.declared.fault.ArcsKind.{ArcsKind};
 ghost use Rattle.wg_words.specs.Layouts.{params_of};
 ghost use Rattle.wg_words.specs.declared.jobs.Job.TheVariants.{Build};
-ghost use Rattle.wg_cli.specs.Answers.{Answers, HasOutput, Reaches, Steps, status_in};
+ghost use Rattle.wg_cli.specs.Answers.{Steps, status_in};
 ghost use Rattle.wg_cli.specs.Causes.{HasCause};
-ghost use Rattle.wg_cli.specs.Judged.{judged, output_of, status_of, files_of, with_arcs};
-ghost use Rattle.wg_cli.specs.Lines.{ArePromised, arcs_in};
-ghost use Rattle.wg_cli.specs.Names.{archive_named, can_end, held_by, list_named, no_outputs, IsOfInput};
+ghost use Rattle.wg_cli.specs.Judged.{with_arcs};
+ghost use Rattle.wg_cli.specs.Lines.{arcs_in};
+ghost use Rattle.wg_cli.specs.Names.{held_by, list_named, no_outputs, IsOfInput};
+ghost use Rattle.wg_cli.specs.Performs.{Does};
 ghost use Rattle.wg_cli.specs.Readings.{Readings};
-ghost use Rattle.wg_cli.specs.Written.{HasFiles};
-ghost use Rattle.wg_cli.specs.declared.status.Input.{Input};
 
 use crate::ending::Ending;
 use crate::listed::{graph_of_list, params_for};
@@ -40,15 +38,7 @@ pub fn build<D: Depot, O: Sink>(
 ) -> Result<(), Ending>
     requires nodes { nodes ≤ MOST_PAGES }
     requires layout { IsWithinLimits (params_of layout.now nodes 0) }
-    ensures answers { IsTrue D.told → (r : Readings) → Answers (judged r (Build arcs.now base.now nodes layout.now) (held_by (list_named arcs.now) (D.files depot.old))) (status_in result) }
-    ensures causes { HasCause (list_named arcs.now) (archive_named base.now) (D.counts depot.old) (D.counts depot.new) (O.faults out.old) (O.faults out.new) (status_in result) }
-    ensures possible { IsTrue (can_end (Build arcs.now base.now nodes layout.now) (status_in result)) }
-    ensures reached { IsTrue D.told → (r : Readings) (i : Input) → status_in result ≡ Status.ReadFault i → Reaches r (Build arcs.now base.now nodes layout.now) (held_by (list_named arcs.now) (D.files depot.old)) i }
-    ensures needed { IsTrue D.told → (r : Readings) (o : Output) → status_in result ≡ Status.WriteFault o → status_of (judged r (Build arcs.now base.now nodes layout.now) (held_by (list_named arcs.now) (D.files depot.old))) ≡ Status.Done }
-    ensures output { IsTrue D.told → IsTrue O.told → (r : Readings) → HasOutput (output_of (judged r (Build arcs.now base.now nodes layout.now) (held_by (list_named arcs.now) (D.files depot.old)))) (O.taken out.old) (O.taken out.new) (status_in result) }
-    ensures promised { IsTrue D.told → ArePromised (held_by (list_named arcs.now) (D.files depot.old)) (status_in result) (arcs_in result) }
-    ensures files { IsTrue D.told → (r : Readings) → HasFiles (archive_named base.now) (files_of (judged r (Build arcs.now base.now nodes layout.now) (held_by (list_named arcs.now) (D.files depot.old)))) (D.files depot.old) (D.files depot.new) (status_in result) }
-    ensures later { NonDecreasing (D.counts depot.old) (D.counts depot.new) }
+    ensures { Does ⟦<D as Depot>⟧ ⟦<O as Sink>⟧ (Build arcs.now base.now nodes layout.now) depot.old depot.new out.old out.new (status_in result) (arcs_in result) }
 {
     let graph = listed(alloc, arcs, nodes, depot)?;
     let params = params_for(layout, &graph);

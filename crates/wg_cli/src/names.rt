@@ -1,6 +1,6 @@
 ghost use Rattle.std.specs.Prelude.{◌≡◌, ◌++◌, IfOk, IfErr, option_map};
 ghost use Rattle.wg_io.specs.declared.suffixes.TheConstants.{PROPERTIES, GRAPH, OFFSETS};
-ghost use Rattle.wg_cli.specs.Names.{base_of, suffix_of, file_of, list_named, archive_named, input_name, output_name, AreApart};
+ghost use Rattle.wg_cli.specs.Names.{archive_files, archive_named, base_of, input_name, list_named, name_of_input, output_name, record_files, suffix_of, AreApart};
 
 use crate::ending::Ending;
 use crate::{Input, Status};
@@ -38,19 +38,34 @@ pub fn input_parts(job: &Job, input: Input) -> Option<(&str, &'static str)>
     ensures { option_map (λ parts. parts.0.now ++ parts.1.now) result ≡ input_name job.now input }
 {
     match job {
-        Job::Check { base } | Job::Arcs { base } | Job::Offsets { base } | Job::Rank { base, .. } =>
-            file_parts(base, input),
+        Job::Check { base } => archive_input(base, input),
+        Job::Arcs { base } | Job::Offsets { base } | Job::Rank { base, .. } => record_input(
+            base, input,
+        ),
         Job::Build { arcs, .. } => list_parts(arcs, input),
     }
 }
 
 // The name of one of an archive's files.
-fn file_parts(base: &Name, input: Input) -> Option<(&str, &'static str)>
-    ensures { option_map (λ parts. parts.0.now ++ parts.1.now) result ≡ file_of base.now input }
+fn archive_input(base: &Name, input: Input) -> Option<(&str, &'static str)>
+    ensures { option_map (λ parts. parts.0.now ++ parts.1.now) result ≡ name_of_input (archive_files base.now) input }
 {
-    match suffix(input) {
-        None => None,
-        Some(suffix) => Some((base.as_str(), suffix)),
+    match input {
+        Input::Properties => Some((base.as_str(), PROPERTIES)),
+        Input::Graph => Some((base.as_str(), GRAPH)),
+        Input::Offsets => Some((base.as_str(), OFFSETS)),
+        Input::ArcList => None,
+    }
+}
+
+// The name of one of the files of an archive's records.
+fn record_input(base: &Name, input: Input) -> Option<(&str, &'static str)>
+    ensures { option_map (λ parts. parts.0.now ++ parts.1.now) result ≡ name_of_input (record_files base.now) input }
+{
+    match input {
+        Input::Properties => Some((base.as_str(), PROPERTIES)),
+        Input::Graph => Some((base.as_str(), GRAPH)),
+        Input::Offsets | Input::ArcList => None,
     }
 }
 

@@ -1,15 +1,8 @@
 //! The command `offsets`: the places of the records.
-ghost use Rattle.std.specs.Prelude.{◌≡◌, ℕ, Some, IsTrue};
-ghost use Rattle.wg_io.specs.Outside.{NonDecreasing};
-ghost use Rattle.wg_io.specs.declared.output.Output.TheVariants.{Out};
 ghost use Rattle.wg_words.specs.declared.jobs.Job.TheVariants.{Offsets};
-ghost use Rattle.wg_cli.specs.Answers.{Answers, HasOutput, Reaches, status_in};
-ghost use Rattle.wg_cli.specs.Causes.{HasCause};
-ghost use Rattle.wg_cli.specs.Judged.{judged, output_of, status_of};
-ghost use Rattle.wg_cli.specs.Lines.{ArePromised, arcs_in};
-ghost use Rattle.wg_cli.specs.Names.{can_end, file_of, held_by, no_outputs};
-ghost use Rattle.wg_cli.specs.Readings.{Readings};
-ghost use Rattle.wg_cli.specs.declared.status.Input.{Input};
+ghost use Rattle.wg_cli.specs.Answers.{status_in};
+ghost use Rattle.wg_cli.specs.Lines.{arcs_in};
+ghost use Rattle.wg_cli.specs.Performs.{Does};
 
 use crate::archive::{parameters, places_of_records};
 use crate::ending::Ending;
@@ -28,15 +21,7 @@ pub fn offsets<D: Depot, O: Sink>(
     depot: &mut D,
     out: &mut O,
 ) -> Result<(), Ending>
-    ensures answers { IsTrue D.told → (r : Readings) → Answers (judged r (Offsets base.now) (held_by (file_of base.now) (D.files depot.old))) (status_in result) }
-    ensures causes { HasCause (file_of base.now) no_outputs (D.counts depot.old) (D.counts depot.new) (O.faults out.old) (O.faults out.new) (status_in result) }
-    ensures possible { IsTrue (can_end (Offsets base.now) (status_in result)) }
-    ensures reached { IsTrue D.told → (r : Readings) (i : Input) → status_in result ≡ Status.ReadFault i → Reaches r (Offsets base.now) (held_by (file_of base.now) (D.files depot.old)) i }
-    ensures needed { IsTrue D.told → (r : Readings) → status_in result ≡ Status.WriteFault Out → status_of (judged r (Offsets base.now) (held_by (file_of base.now) (D.files depot.old))) ≡ Status.Done }
-    ensures output { IsTrue D.told → IsTrue O.told → (r : Readings) → HasOutput (output_of (judged r (Offsets base.now) (held_by (file_of base.now) (D.files depot.old)))) (O.taken out.old) (O.taken out.new) (status_in result) }
-    ensures promised { IsTrue D.told → ArePromised (held_by (file_of base.now) (D.files depot.old)) (status_in result) (arcs_in result) }
-    ensures same { D.files depot.new ≡ D.files depot.old }
-    ensures later { NonDecreasing (D.counts depot.old) (D.counts depot.new) }
+    ensures { Does ⟦<D as Depot>⟧ ⟦<O as Sink>⟧ (Offsets base.now) depot.old depot.new out.old out.new (status_in result) (arcs_in result) }
 {
     let text = load(alloc, depot, base, Input::Properties)?;
     let params = parameters(text.as_slice())?;

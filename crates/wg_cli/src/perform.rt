@@ -1,15 +1,8 @@
-ghost use Rattle.std.specs.Prelude.{◌≡◌, ℕ, false, IsTrue};
-ghost use Rattle.wg_io.specs.Outside.{NonDecreasing};
-ghost use Rattle.wg_io.specs.declared.output.Output.{Output};
+ghost use Rattle.std.specs.Prelude.{◌≡◌};
 ghost use Rattle.wg_words.specs.Jobs.{IsWithin};
-ghost use Rattle.wg_cli.specs.Answers.{Answers, HasOutput, Reaches, status_in};
-ghost use Rattle.wg_cli.specs.Causes.{HasCause};
-ghost use Rattle.wg_cli.specs.Judged.{judged, output_of, status_of, written_by};
-ghost use Rattle.wg_cli.specs.Lines.{ArePromised, arcs_in};
-ghost use Rattle.wg_cli.specs.Names.{can_end, held_by, input_name, output_name, writes_files};
-ghost use Rattle.wg_cli.specs.Readings.{Readings};
-ghost use Rattle.wg_cli.specs.Written.{HasFiles};
-ghost use Rattle.wg_cli.specs.declared.status.Input.{Input};
+ghost use Rattle.wg_cli.specs.Answers.{status_in};
+ghost use Rattle.wg_cli.specs.Lines.{arcs_in};
+ghost use Rattle.wg_cli.specs.Performs.{Does};
 
 use crate::Status;
 use crate::arcs::arcs;
@@ -36,16 +29,7 @@ fn ending_of(done: Result<(), Ending>) -> Ending
 /// Does the job, and says how it ended.
 pub fn perform<D: Depot, O: Sink>(alloc: Global, job: &Job, depot: &mut D, out: &mut O) -> Ending
     requires { IsWithin job.now }
-    ensures answers { IsTrue D.told → (r : Readings) → Answers (judged r job.now (held_by (input_name job.now) (D.files depot.old))) result.status }
-    ensures causes { HasCause (input_name job.now) (output_name job.now) (D.counts depot.old) (D.counts depot.new) (O.faults out.old) (O.faults out.new) result.status }
-    ensures possible { IsTrue (can_end job.now result.status) }
-    ensures reached { IsTrue D.told → (r : Readings) (i : Input) → result.status ≡ Status.ReadFault i → Reaches r job.now (held_by (input_name job.now) (D.files depot.old)) i }
-    ensures needed { IsTrue D.told → (r : Readings) (o : Output) → result.status ≡ Status.WriteFault o → status_of (judged r job.now (held_by (input_name job.now) (D.files depot.old))) ≡ Status.Done }
-    ensures output { IsTrue D.told → IsTrue O.told → (r : Readings) → HasOutput (output_of (judged r job.now (held_by (input_name job.now) (D.files depot.old)))) (O.taken out.old) (O.taken out.new) result.status }
-    ensures promised { IsTrue D.told → ArePromised (held_by (input_name job.now) (D.files depot.old)) result.status result.arcs }
-    ensures files { IsTrue D.told → (r : Readings) → HasFiles (output_name job.now) (written_by r job.now (held_by (input_name job.now) (D.files depot.old))) (D.files depot.old) (D.files depot.new) result.status }
-    ensures same { writes_files job.now ≡ false → D.files depot.new ≡ D.files depot.old }
-    ensures later { NonDecreasing (D.counts depot.old) (D.counts depot.new) }
+    ensures { Does ⟦<D as Depot>⟧ ⟦<O as Sink>⟧ job.now depot.old depot.new out.old out.new result.status result.arcs }
 {
     match job {
         Job::Check { base } => ending_of(check(alloc, base, depot, out)),

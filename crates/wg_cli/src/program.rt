@@ -8,8 +8,9 @@ ghost use Rattle.wg_words.specs.declared.jobs.Job.{Job};
 ghost use Rattle.wg_cli.specs.Answers.{Answers, HasOutput, Reaches};
 ghost use Rattle.wg_cli.specs.Causes.{HasCause, Reports};
 ghost use Rattle.wg_cli.specs.Judged.{judged, output_of, status_of, written_by};
-ghost use Rattle.wg_cli.specs.Lines.{line_of, ArePromised, ArePromisedBy};
+ghost use Rattle.wg_cli.specs.Lines.{line_of, ArePromisedBy};
 ghost use Rattle.wg_cli.specs.Names.{can_end, held_by, input_name, output_name, some_writes_files};
+ghost use Rattle.wg_cli.specs.Performs.{Does};
 ghost use Rattle.wg_cli.specs.Ranked.{IsProvenRanking};
 ghost use Rattle.wg_cli.specs.Readings.{Readings};
 ghost use Rattle.wg_cli.specs.Written.{HasFiles};
@@ -81,14 +82,8 @@ fn done<D: Depot, O: Sink>(alloc: Global, asked: &Option<Job>, depot: &mut D, ou
     ensures usage { result.status ≡ Status.Usage → asked.now ≡ None }
     ensures no_job { asked.now ≡ None → result.status ≡ Status.Usage }
     ensures no_output { asked.now ≡ None → O.taken out.new ≡ O.taken out.old }
-    ensures answers { IsTrue D.told → (r : Readings) (job : Job) → asked.now ≡ Some job → Answers (judged r job (held_by (input_name job) (D.files depot.old))) result.status }
-    ensures possible { (job : Job) → asked.now ≡ Some job → IsTrue (can_end job result.status) }
-    ensures causes { (job : Job) → asked.now ≡ Some job → HasCause (input_name job) (output_name job) (D.counts depot.old) (D.counts depot.new) (O.faults out.old) (O.faults out.new) result.status }
-    ensures reached { IsTrue D.told → (r : Readings) (job : Job) → asked.now ≡ Some job → (i : Input) → result.status ≡ Status.ReadFault i → Reaches r job (held_by (input_name job) (D.files depot.old)) i }
-    ensures needed { IsTrue D.told → (r : Readings) (job : Job) → asked.now ≡ Some job → (o : Output) → result.status ≡ Status.WriteFault o → status_of (judged r job (held_by (input_name job) (D.files depot.old))) ≡ Status.Done }
-    ensures output { IsTrue D.told → IsTrue O.told → (r : Readings) (job : Job) → asked.now ≡ Some job → HasOutput (output_of (judged r job (held_by (input_name job) (D.files depot.old)))) (O.taken out.old) (O.taken out.new) result.status }
+    ensures performs { (job : Job) → asked.now ≡ Some job → Does ⟦<D as Depot>⟧ ⟦<O as Sink>⟧ job depot.old depot.new out.old out.new result.status result.arcs }
     ensures promised { IsTrue D.told → ArePromisedBy asked.now (D.files depot.old) result.status result.arcs }
-    ensures files { IsTrue D.told → (r : Readings) (job : Job) → asked.now ≡ Some job → HasFiles (output_name job) (written_by r job (held_by (input_name job) (D.files depot.old))) (D.files depot.old) (D.files depot.new) result.status }
     ensures same { some_writes_files asked.now ≡ false → D.files depot.new ≡ D.files depot.old }
 {
     match asked {

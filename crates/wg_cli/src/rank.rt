@@ -1,17 +1,11 @@
 //! The command `rank`: the pages by their PageRank, with bounds that enclose it.
-ghost use Rattle.std.specs.Prelude.{◌≡◌, ◌≤◌, ℕ, Some, IsTrue, IfOk, IfErr};
+ghost use Rattle.std.specs.Prelude.{◌≡◌, ◌≤◌, IfOk, IfErr};
 ghost use Rattle.wg_params.specs.declared.limits.TheConstants.{MOST_DAMPING, MOST_ROUNDS};
-ghost use Rattle.wg_io.specs.Outside.{NonDecreasing};
-ghost use Rattle.wg_io.specs.declared.output.Output.TheVariants.{Out};
 ghost use Rattle.wg_words.specs.declared.jobs.Job.TheVariants.{Rank};
-ghost use Rattle.wg_cli.specs.Answers.{Answers, HasOutput, Reaches, status_in};
-ghost use Rattle.wg_cli.specs.Causes.{HasCause};
-ghost use Rattle.wg_cli.specs.Judged.{judged, output_of, status_of};
-ghost use Rattle.wg_cli.specs.Lines.{ArePromised, arcs_in};
-ghost use Rattle.wg_cli.specs.Names.{can_end, file_of, held_by, no_outputs};
+ghost use Rattle.wg_cli.specs.Answers.{status_in};
+ghost use Rattle.wg_cli.specs.Lines.{arcs_in};
+ghost use Rattle.wg_cli.specs.Performs.{Does};
 ghost use Rattle.wg_cli.specs.Ranked.{Ranks};
-ghost use Rattle.wg_cli.specs.Readings.{Readings};
-ghost use Rattle.wg_cli.specs.declared.status.Input.{Input};
 
 use crate::archive::{graph_of_records, parameters};
 use crate::ending::Ending;
@@ -43,15 +37,7 @@ pub fn rank<D: Depot, O: Sink>(
 ) -> Result<(), Ending>
     requires rounds { asked.rounds ≤ MOST_ROUNDS }
     requires damping { asked.damping ≤ MOST_DAMPING }
-    ensures answers { IsTrue D.told → (r : Readings) → Answers (judged r (Rank base.now asked.rounds asked.damping asked.top) (held_by (file_of base.now) (D.files depot.old))) (status_in result) }
-    ensures causes { HasCause (file_of base.now) no_outputs (D.counts depot.old) (D.counts depot.new) (O.faults out.old) (O.faults out.new) (status_in result) }
-    ensures possible { IsTrue (can_end (Rank base.now asked.rounds asked.damping asked.top) (status_in result)) }
-    ensures reached { IsTrue D.told → (r : Readings) (i : Input) → status_in result ≡ Status.ReadFault i → Reaches r (Rank base.now asked.rounds asked.damping asked.top) (held_by (file_of base.now) (D.files depot.old)) i }
-    ensures needed { IsTrue D.told → (r : Readings) → status_in result ≡ Status.WriteFault Out → status_of (judged r (Rank base.now asked.rounds asked.damping asked.top) (held_by (file_of base.now) (D.files depot.old))) ≡ Status.Done }
-    ensures output { IsTrue D.told → IsTrue O.told → (r : Readings) → HasOutput (output_of (judged r (Rank base.now asked.rounds asked.damping asked.top) (held_by (file_of base.now) (D.files depot.old)))) (O.taken out.old) (O.taken out.new) (status_in result) }
-    ensures promised { IsTrue D.told → ArePromised (held_by (file_of base.now) (D.files depot.old)) (status_in result) (arcs_in result) }
-    ensures same { D.files depot.new ≡ D.files depot.old }
-    ensures later { NonDecreasing (D.counts depot.old) (D.counts depot.new) }
+    ensures { Does ⟦<D as Depot>⟧ ⟦<O as Sink>⟧ (Rank base.now asked.rounds asked.damping asked.top) depot.old depot.new out.old out.new (status_in result) (arcs_in result) }
 {
     let text = load(alloc, depot, base, Input::Properties)?;
     let params = parameters(text.as_slice())?;

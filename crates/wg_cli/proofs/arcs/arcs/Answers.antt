@@ -1,12 +1,17 @@
-use Rattle.std.proofs.Common.{rules, ◌≡◌, ap, sym}
-use Rattle.wg_words.specs.declared.jobs.Job.TheVariants.{Arcs}
-use Rattle.wg_arcs.specs.Text.{text_of_graph}
-use Rattle.wg_cli.specs.Judged.{judged, accepted, output_of}
-use Rattle.wg_cli.specs.Names.{held_by, file_of}
-use Rattle.wg_cli.proofs.ExitLemmas.{output_put}
+use Rattle.std.proofs.Common.{rules, refl}
+use Rattle.wg_cli.proofs.PerformsLemmas.{printed, stopped, unread}
+use Rattle.wg_cli.specs.Names.{file_of}
+use Rattle.wg_cli.specs.declared.status.Input.TheVariants as input
 use Rattle.wg_cli.proofs.arcs.arcs.Goals as goal
 
-pub returns-clause-output : goal.returns-clause-output
-returns-clause-output g c = λ t o r.
-    let is : judged r (Arcs c.args.base.now) (held_by (file_of c.args.base.now) (g.D.Depot.files c.args.depot.now)) ≡ accepted (text_of_graph c.in_ok-graph.graph) = search rules in
-    output_put _ _ _ _ c.print_graph.result (sym (ap output_of is)) (c.print_graph.ensures.puts o) c.print_graph.ensures.only
+pub returns-in_err-text : goal.returns-in_err-text
+returns-in_err-text g c = unread (file_of c.args.base.now) input.Properties _ _ _ _ _ _ _ refl refl refl refl (search rules) (search rules) (search rules) (search rules) (search rules) (search rules)
+
+pub returns-in_err-bytes : goal.returns-in_err-bytes
+returns-in_err-bytes g c = unread (file_of c.args.base.now) input.Graph _ _ _ _ _ _ _ refl refl refl refl (search rules) (search rules) (search rules) (search rules) (search rules) (search rules)
+
+pub returns-in_err-graph : goal.returns-in_err-graph
+returns-in_err-graph g c = stopped _ _ _ _ _ _ _ refl (search rules) refl (search rules) (search rules) (search rules) (search rules) (search rules) (search rules) (search rules)
+
+pub returns : goal.returns
+returns g c = printed _ _ _ _ _ _ c.print_graph.result refl (λ t r. search rules) (search rules) (search rules) c.print_graph.ensures.puts c.print_graph.ensures.only c.print_graph.ensures.cause

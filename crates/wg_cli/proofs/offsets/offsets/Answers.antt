@@ -1,11 +1,17 @@
-use Rattle.std.proofs.Common.{rules, ◌≡◌, ap, sym}
-use Rattle.wg_words.specs.declared.jobs.Job.TheVariants.{Offsets}
-use Rattle.wg_cli.specs.Judged.{judged, accepted, output_of, number_lines}
-use Rattle.wg_cli.specs.Names.{held_by, file_of}
-use Rattle.wg_cli.proofs.ExitLemmas.{output_put}
+use Rattle.std.proofs.Common.{rules, refl}
+use Rattle.wg_cli.proofs.PerformsLemmas.{printed, stopped, unread}
+use Rattle.wg_cli.specs.Names.{file_of}
+use Rattle.wg_cli.specs.declared.status.Input.TheVariants as input
 use Rattle.wg_cli.proofs.offsets.offsets.Goals as goal
 
-pub returns-clause-output : goal.returns-clause-output
-returns-clause-output g c = λ t o r.
-    let is : judged r (Offsets c.args.base.now) (held_by (file_of c.args.base.now) (g.D.Depot.files c.args.depot.now)) ≡ accepted (number_lines c.in_ok-places.places) = search rules in
-    output_put _ _ _ _ c.print_places.result (sym (ap output_of is)) (c.print_places.ensures.puts o) c.print_places.ensures.only
+pub returns-in_err-text : goal.returns-in_err-text
+returns-in_err-text g c = unread (file_of c.args.base.now) input.Properties _ _ _ _ _ _ _ refl refl refl refl (search rules) (search rules) (search rules) (search rules) (search rules) (search rules)
+
+pub returns-in_err-graph : goal.returns-in_err-graph
+returns-in_err-graph g c = unread (file_of c.args.base.now) input.Graph _ _ _ _ _ _ _ refl refl refl refl (search rules) (search rules) (search rules) (search rules) (search rules) (search rules)
+
+pub returns-in_err-places : goal.returns-in_err-places
+returns-in_err-places g c = stopped _ _ _ _ _ _ _ refl (search rules) refl (search rules) (search rules) (search rules) (search rules) (search rules) (search rules) (search rules)
+
+pub returns : goal.returns
+returns g c = printed _ _ _ _ _ _ c.print_places.result refl (λ t r. search rules) (search rules) (search rules) c.print_places.ensures.puts c.print_places.ensures.only c.print_places.ensures.cause

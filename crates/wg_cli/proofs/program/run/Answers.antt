@@ -8,8 +8,26 @@ use Rattle.wg_cli.proofs.program.run.Goals as goal
 pub returns-in_default-clause-line : goal.returns-in_default-clause-line
 returns-in_default-clause-line g c = λ e. (0, λ t. nothing_promised (job_of c.args.words.now) (g.D.Depot.files c.args.depot.now) 0, c.report.ensures e)
 
+pub returns-clause-answers : goal.returns-clause-answers
+returns-clause-answers g c = λ t r job is. (c.done-ending.ensures.performs job (c.in-Ok.ensures.job ∙ is)).answers t r
+
+pub returns-clause-possible : goal.returns-clause-possible
+returns-clause-possible g c = λ job is. (c.done-ending.ensures.performs job (c.in-Ok.ensures.job ∙ is)).possible
+
+pub returns-clause-causes : goal.returns-clause-causes
+returns-clause-causes g c = λ job is. (c.done-ending.ensures.performs job (c.in-Ok.ensures.job ∙ is)).causes
+
+pub returns-clause-reached : goal.returns-clause-reached
+returns-clause-reached g c = λ t r job is i fault. (c.done-ending.ensures.performs job (c.in-Ok.ensures.job ∙ is)).reached t r i fault
+
+pub returns-clause-needed : goal.returns-clause-needed
+returns-clause-needed g c = λ t r job is o fault. (c.done-ending.ensures.performs job (c.in-Ok.ensures.job ∙ is)).needed t r o fault
+
 pub returns-clause-output : goal.returns-clause-output
-returns-clause-output g c = λ t o r job is. c.done-ending.ensures.output t o r job (c.in-Ok.ensures.job ∙ is)
+returns-clause-output g c = λ t o r job is. (c.done-ending.ensures.performs job (c.in-Ok.ensures.job ∙ is)).output t o r
+
+pub returns-clause-files : goal.returns-clause-files
+returns-clause-files g c = λ t r job is. (c.done-ending.ensures.performs job (c.in-Ok.ensures.job ∙ is)).files t r
 
 pub returns-clause-certified : goal.returns-clause-certified
 returns-clause-certified g c = λ r base rounds damping top is done graph ok small.
