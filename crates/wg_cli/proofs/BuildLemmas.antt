@@ -8,7 +8,7 @@ use Rattle.wg_io.specs.declared.output.Output.TheVariants as output
 use Rattle.wg_io.proofs.PutsLemmas.{is_that_err}
 use Rattle.wg_io.specs.declared.suffixes.TheConstants.{PROPERTIES, GRAPH, OFFSETS}
 use Rattle.wg_cli.specs.Answers.{Answers, HasOutput, IsUnput, Steps, status_in}
-use Rattle.wg_cli.specs.Causes.{HasCause, RoseAt}
+use Rattle.wg_cli.specs.Causes.{HasCause, IncreasedAt}
 use Rattle.wg_cli.specs.Judged.{Judged, built, files_of}
 use Rattle.wg_cli.specs.Names.{archive_named, names_of}
 use Rattle.wg_cli.specs.Written.{Archive, Three, three_of, AreWhole, HasFiles, OthersStay, Stand, IsStopped}
@@ -38,15 +38,15 @@ module _ (n : ArchiveNames) (base : List ℕ) (is : n ≡ names_for base) where
   pub others_as : (f h : Files) → OthersStay (names_of n) f h → OthersStay (archive_named base) f h
   others_as f h stay q other = stay q (λ o same. other o (sym (named_as o) ∙ same))
 
-  pub rose_as : (o : Output) (old new : List ℕ → Counts) → RoseAt (λ c. c.write_faults) (names_of n o) old new → RoseAt (λ c. c.write_faults) (archive_named base o) old new
-  rose_as o old new rose = subst (λ (x : Option (List ℕ)). RoseAt (λ c. c.write_faults) x old new) (named_as o) rose
+  pub rose_as : (o : Output) (old new : List ℕ → Counts) → IncreasedAt (λ c. c.write_faults) (names_of n o) old new → IncreasedAt (λ c. c.write_faults) (archive_named base o) old new
+  rose_as o old new rose = subst (λ (x : Option (List ℕ)). IncreasedAt (λ c. c.write_faults) x old new) (named_as o) rose
 
 -- ---- counts
 rose_from : (a b c : ℕ) → a ≤ b → Increased b c → Increased a c
 rose_from a b c le (inl more) = inl (omega (arith, le, more))
 rose_from a b c le (inr last) = inr last
 
-pub rose_since : (name : Option (List ℕ)) (old mid new : List ℕ → Counts) → NonDecreasing old mid → RoseAt (λ c. c.write_faults) name mid new → RoseAt (λ c. c.write_faults) name old new
+pub rose_since : (name : Option (List ℕ)) (old mid new : List ℕ → Counts) → NonDecreasing old mid → IncreasedAt (λ c. c.write_faults) name mid new → IncreasedAt (λ c. c.write_faults) name old new
 rose_since None old mid new falls rose = rose
 rose_since (Some name) old mid new falls rose = rose_from (old name).write_faults (mid name).write_faults (new name).write_faults (falls.write_faults name) rose
 
@@ -59,7 +59,7 @@ ended_by r e is = ap status_in (is_that_err r e is)
 
 -- ---- a writing that was stopped
 pub stopped_cause : (inputs : Input → Option (List ℕ)) (base : List ℕ) (old new : List ℕ → Counts) (faults faults' : ℕ) (s : Status) → IsStopped s
-    → ((o : Output) → s ≡ WriteFault o → RoseAt (λ c. c.write_faults) (archive_named base o) old new) → HasCause inputs (archive_named base) old new faults faults' s
+    → ((o : Output) → s ≡ WriteFault o → IncreasedAt (λ c. c.write_faults) (archive_named base o) old new) → HasCause inputs (archive_named base) old new faults faults' s
 stopped_cause inputs base old new faults faults' s (inl fault) rose = record {
   read_fault = λ i is. absurd (let no : WriteFault fault.0 ≡ ReadFault i = sym fault.1 ∙ is in cc);
   missing = λ i is. absurd (let no : WriteFault fault.0 ≡ Missing i = sym fault.1 ∙ is in cc);

@@ -131,7 +131,7 @@ pub builds_accepted : (r : Readings) → BuildsAreAccepted r
 builds_accepted r list_name base nodes layout held a out within is =
     let next : Digraph → Judged = λ g. builds (params_of layout nodes (arc_count g)) g in
     let file = file_behind a out input.ArcList (held input.ArcList) (λ bytes. with_list r nodes bytes next) is in
-    let found = graph_behind a out nodes file.0 (r.listed nodes file.0) next (r.listed_is nodes file.0) file.2 in
+    let found = graph_behind a out nodes file.0 (r.arc_list.value nodes file.0) next (r.arc_list.reads nodes file.0) file.2 in
     let g : Digraph = found.0 in
     let are : AreArcs nodes (lines_of file.0) g = found.1 in
     let p : Parameters = params_of layout nodes (arc_count g) in

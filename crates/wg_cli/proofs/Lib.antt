@@ -9,3 +9,5 @@ pub mod NumberLemmas
 pub mod RankLemmas
 pub mod ReadingsLaws
 pub mod ReadingsLemmas
+pub mod ProvenLemmas
+pub mod SteadyLemmas

@@ -1,15 +1,15 @@
 -- How a job is shown to have been done, or to have ended.
-use Rattle.std.proofs.Common.{◌≡◌, inl, inr, ℕ, Bool, false, if◌then◌else◌, List, refl, sym, ◌∙◌, ap, subst, Option, None, Result, Ok, Err}
+use Rattle.std.proofs.Common.{◌≡◌, ◌⊎◌, inl, inr, ℕ, Bool, false, if◌then◌else◌, List, refl, sym, ◌∙◌, ap, subst, Option, Some, None, Result, Ok, Err}
 use Rattle.std.specs.Bool.{IsTrue}
 use Rattle.std.specs.Result.{IfErr}
 use Rattle.std.proofs.lemmas.List.{append-nil}
 use Rattle.wg_io.specs.Outside.{Counts, NonDecreasing, Increased}
 use Rattle.wg_io.specs.Puts.{Puts}
 use Rattle.wg_io.specs.declared.output.Output.{Output}
-use Rattle.wg_io.specs.declared.output.Output.TheVariants.{Out}
+use Rattle.wg_io.specs.declared.output.Output.TheVariants.{Out, Properties, Graph, Offsets}
 use Rattle.wg_words.specs.declared.jobs.Job.{Job}
-use Rattle.wg_cli.specs.Answers.{Answers, HasOutput, IsUnput, Reaches, status_in}
-use Rattle.wg_cli.specs.Causes.{HasCause, RoseAt}
+use Rattle.wg_cli.specs.Answers.{Answers, HasOutput, IsHindrance, IsUnput, Reaches, status_in}
+use Rattle.wg_cli.specs.Causes.{AreFaultless, HasCause, IncreasedAt}
 use Rattle.wg_cli.specs.Judged.{Judged, accepted, files_of, judged, output_of, status_of, written_by}
 use Rattle.wg_cli.specs.Lines.{ArePromised, arcs_in}
 use Rattle.wg_cli.specs.Names.{can_end, has_input, held_by, input_name, output_name, no_outputs, writes_files, IsOfInput}
@@ -106,6 +106,28 @@ put_reads (Err e) i (inl fault) is = let no : WriteFault Out ≡ ReadFault i = s
 put_reads (Err e) i (inr want) is = let no : Memory ≡ ReadFault i = sym want ∙ is in cc
 
 -- all was judged, and this text is put out
+pub printed_by : (job : Job) (td to : Bool) (before after : Outside) (text : Readings → List ℕ) (r : Result (Unit {0}) Ending) → writes_files job ≡ false
+    → (IsTrue td → (q : Readings) → judged_on q job before.files ≡ accepted (text q))
+    → after.files ≡ before.files
+    → NonDecreasing before.counts after.counts
+    → (IsTrue to → (q : Readings) → Puts (text q) before.taken after.taken r)
+    → IfErr r (λ e. IsUnput e.status)
+    → (status_in r ≡ WriteFault Out → Increased before.faults after.faults)
+    → Performs job td to before after (status_in r) (arcs_in r)
+printed_by job td to before after text r none is same later puts only cause = record {
+  answers = λ t q. put_answers _ (text q) r (is t q) only;
+  possible = put_possible job r only;
+  causes = unput_cause _ _ _ _ _ _ r only cause;
+  reached = λ t q i fault. absurd (put_reads r i only fault);
+  needed = λ t q o fault. ap status_of (is t q);
+  output = λ t o q. output_put _ (text q) _ _ r (sym (ap output_of (is t q))) (puts o q) only;
+  files = λ t q. files_same job none before after (status_in r) same q;
+  same = λ is. same;
+  later = later;
+  promised = λ t. put_promised (held_by (input_name job) before.files) r only;
+}
+
+-- the same, where the text is one whatever the readings are
 pub printed : (job : Job) (td to : Bool) (before after : Outside) (text : List ℕ) (r : Result (Unit {0}) Ending) → writes_files job ≡ false
     → (IsTrue td → (q : Readings) → judged_on q job before.files ≡ accepted text)
     → after.files ≡ before.files
@@ -114,18 +136,8 @@ pub printed : (job : Job) (td to : Bool) (before after : Outside) (text : List �
     → IfErr r (λ e. IsUnput e.status)
     → (status_in r ≡ WriteFault Out → Increased before.faults after.faults)
     → Performs job td to before after (status_in r) (arcs_in r)
-printed job td to before after text r none is same later puts only cause = record {
-  answers = λ t q. put_answers _ text r (is t q) only;
-  possible = put_possible job r only;
-  causes = unput_cause _ _ _ _ _ _ r only cause;
-  reached = λ t q i fault. absurd (put_reads r i only fault);
-  needed = λ t q o fault. ap status_of (is t q);
-  output = λ t o q. output_put _ text _ _ r (sym (ap output_of (is t q))) (puts o) only;
-  files = λ t q. files_same job none before after (status_in r) same q;
-  same = λ is. same;
-  later = later;
-  promised = λ t. put_promised (held_by (input_name job) before.files) r only;
-}
+printed job td to before after text r none is same later puts only cause =
+    printed_by job td to before after (λ q. text) r none is same later (λ o q. puts o) only cause
 
 -- ---- a job that was stopped where it reads an input
 abbrev pub Names : Type 0
@@ -153,10 +165,10 @@ own_missing i j s (inr (inr (inr long))) is = absurd (let no : OverLimit i ≡ M
 cause_named : (mine yours : Names) (outputs : Output → Option (List ℕ)) (i : Input) (old new : List ℕ → Counts) (faults faults' : ℕ) (s : Status) → IsOfInput i s → yours i ≡ mine i
     → HasCause mine no_outputs old new 0 0 s → HasCause yours outputs old new faults faults' s
 cause_named mine yours outputs i old new faults faults' s only same cause = record {
-  read_fault = λ j is. subst (λ (k : Input). mine k ≡ yours k → RoseAt (λ c. c.read_faults) (yours k) old new) (own_read i j s only is)
-      (λ e. subst (λ (n : Option (List ℕ)). RoseAt (λ c. c.read_faults) n old new) e (cause.read_fault i (is ∙ ap ReadFault (sym (own_read i j s only is))))) (subst (λ (k : Input). mine k ≡ yours k) (own_read i j s only is) (sym same));
-  missing = λ j is. subst (λ (k : Input). mine k ≡ yours k → RoseAt (λ c. c.absences) (yours k) old new) (own_missing i j s only is)
-      (λ e. subst (λ (n : Option (List ℕ)). RoseAt (λ c. c.absences) n old new) e (cause.missing i (is ∙ ap Missing (sym (own_missing i j s only is))))) (subst (λ (k : Input). mine k ≡ yours k) (own_missing i j s only is) (sym same));
+  read_fault = λ j is. subst (λ (k : Input). mine k ≡ yours k → IncreasedAt (λ c. c.read_faults) (yours k) old new) (own_read i j s only is)
+      (λ e. subst (λ (n : Option (List ℕ)). IncreasedAt (λ c. c.read_faults) n old new) e (cause.read_fault i (is ∙ ap ReadFault (sym (own_read i j s only is))))) (subst (λ (k : Input). mine k ≡ yours k) (own_read i j s only is) (sym same));
+  missing = λ j is. subst (λ (k : Input). mine k ≡ yours k → IncreasedAt (λ c. c.absences) (yours k) old new) (own_missing i j s only is)
+      (λ e. subst (λ (n : Option (List ℕ)). IncreasedAt (λ c. c.absences) n old new) e (cause.missing i (is ∙ ap Missing (sym (own_missing i j s only is))))) (subst (λ (k : Input). mine k ≡ yours k) (own_missing i j s only is) (sym same));
   write_fault = λ o other is. absurd (no_write i s o only is);
   out_fault = λ is. absurd (no_write i s Out only is);
 }
@@ -193,3 +205,30 @@ unread names i job td to before after s a none has named silent only cause same 
     stopped job td to before after s a none (unread_stop i s only) silent same answers (unread_possible job i s has only)
     (cause_named names (input_name job) (output_name job) i before.counts after.counts before.faults after.faults s only named cause)
     reached later (λ t. unread_promised (held_by (input_name job) before.files) i s a only)
+
+-- ---- a job that nothing outside hinders
+pub not_at : (count : Counts → ℕ) (name : Option (List ℕ)) (old new : List ℕ → Counts) → ((n : List ℕ) → ¬ Increased (count (old n)) (count (new n))) → ¬ IncreasedAt count name old new
+not_at count None old new none more = more
+not_at count (Some n) old new none more = none n more
+
+module _ (inputs : Names) (outputs : Output → Option (List ℕ)) (old new : List ℕ → Counts) (faults faults' : ℕ) (none : AreFaultless old new faults faults') where
+  pub no_fault_in : (o : Output) → HasCause inputs outputs old new faults faults' (WriteFault o) → ⊥
+  no_fault_in Out cause = none.output (cause.out_fault refl)
+  no_fault_in Properties cause = not_at (λ c. c.write_faults) (outputs Properties) old new none.writes (cause.write_fault Properties (λ same. cc) refl)
+  no_fault_in Graph cause = not_at (λ c. c.write_faults) (outputs Graph) old new none.writes (cause.write_fault Graph (λ same. cc) refl)
+  no_fault_in Offsets cause = not_at (λ c. c.write_faults) (outputs Offsets) old new none.writes (cause.write_fault Offsets (λ same. cc) refl)
+
+  -- memory alone comes in the place of the judgement
+  pub unhindered : (j : Judged) (s : Status) → HasCause inputs outputs old new faults faults' s → Answers j s → (s ≡ status_of j) ⊎ (s ≡ Memory)
+  unhindered j s cause (inl is) = inl is
+  unhindered j Memory cause (inr hinders) = inr refl
+  unhindered j (ReadFault i) cause (inr hinders) = absurd (not_at (λ c. c.read_faults) (inputs i) old new none.reads (cause.read_fault i refl))
+  unhindered j (WriteFault o) cause (inr hinders) = absurd (no_fault_in o cause)
+  unhindered j Done cause (inr hinders) = absurd hinders
+  unhindered j Usage cause (inr hinders) = absurd hinders
+  unhindered j (Missing i) cause (inr hinders) = absurd hinders
+  unhindered j (BadArcs line kind) cause (inr hinders) = absurd hinders
+  unhindered j (BadProperties f) cause (inr hinders) = absurd hinders
+  unhindered j (BadArchive f) cause (inr hinders) = absurd hinders
+  unhindered j (NoPage page) cause (inr hinders) = absurd hinders
+  unhindered j (OverLimit i) cause (inr hinders) = absurd hinders

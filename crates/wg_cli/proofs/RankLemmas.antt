@@ -1,5 +1,5 @@
 -- A ranking that was made is the one of the judgement, and says what is proved of it.
-use Rattle.std.proofs.Common.{◌≡◌, ◌≤◌, ◌<◌, ℕ, zero, suc, length, take, replicate, min, refl, sym, ◌∙◌, ap, subst, arith}
+use Rattle.std.proofs.Common.{◌≡◌, ◌≤◌, ◌<◌, ℕ, zero, suc, List, length, take, replicate, min, refl, sym, ◌∙◌, ap, subst, arith}
 use Rattle.std.proofs.lemmas.List.{length-replicate, get_or-replicate, take_min}
 use Rattle.std.proofs.lemmas.List.Sorted.{length_permutation}
 use Rattle.std.proofs.lemmas.List.FromFn.{fill_by_all, get_or-map-range_with_len, length-map-range_with_len, length-range_with_len}
@@ -9,44 +9,47 @@ use Rattle.wg_rank.specs.Rank.{low, high}
 use Rattle.wg_rank.specs.Sum.{sum_below}
 use Rattle.wg_rank.specs.Intervals.{Intervals, AreBounds, Holds, IsTable, by_page}
 use Rattle.wg_rank.proofs.Certificates.{certified}
-use Rattle.wg_order.specs.Order.{Positions}
+use Rattle.wg_order.specs.Order.{IsRanking, Positions}
 use Rattle.wg_order.proofs.OneRanking.{ranking_one}
 use Rattle.wg_order.proofs.Surely.{surely_from}
 use Rattle.wg_cli.specs.Readings.{Readings}
 use Rattle.wg_cli.specs.Ranked.{Ranks, RankingIsProven, alike, bounds_after, of_pages, positions_of, rank_lines, ranking_text}
-use Rattle.wg_cli.specs.declared.ranked.Ranked.{Ranked}
+
+-- a ranking has each page once
+pub counted : (low high pages : List ℕ) → IsRanking low high pages → length pages ≡ length low
+counted low high pages is = length_permutation _ _ is.all ∙ length-range_with_len 0 (length low)
 
 module _ (g : Digraph) (rounds damping : ℕ) where
   -- ---- what was made
 
-  module _ (x : Ranked) (h : Ranks g rounds damping x) where
-    low_is : x.bounds.low ≡ (bounds_after g damping rounds).low
+  module _ (b : Intervals) (s : Positions) (h : Ranks g rounds damping b s) where
+    low_is : b.low ≡ (bounds_after g damping rounds).low
     low_is =
-        let t : IsTable x.bounds.low g.nodes (low g damping (by_page (alike g)) rounds) = rw (← h.after, ← h.damped, ← h.weighed) h.holds.low_is in
-        fill_by_all (low g damping (by_page (alike g)) rounds) x.bounds.low g.nodes 0 t.counted t.each
+        let t : IsTable b.low g.nodes (low g damping (by_page (alike g)) rounds) = rw (← h.after, ← h.damped, ← h.weighed) h.holds.low_is in
+        fill_by_all (low g damping (by_page (alike g)) rounds) b.low g.nodes 0 t.counted t.each
 
-    high_is : x.bounds.high ≡ (bounds_after g damping rounds).high
+    high_is : b.high ≡ (bounds_after g damping rounds).high
     high_is =
-        let t : IsTable x.bounds.high g.nodes (high g damping (by_page (alike g)) rounds) = rw (← h.after, ← h.damped, ← h.weighed) h.holds.high_is in
-        fill_by_all (high g damping (by_page (alike g)) rounds) x.bounds.high g.nodes 0 t.counted t.each
+        let t : IsTable b.high g.nodes (high g damping (by_page (alike g)) rounds) = rw (← h.after, ← h.damped, ← h.weighed) h.holds.high_is in
+        fill_by_all (high g damping (by_page (alike g)) rounds) b.high g.nodes 0 t.counted t.each
 
-    pub positions_are : (r : Readings) → x.ranking ≡ positions_of r (bounds_after g damping rounds)
+    pub positions_are : (r : Readings) → s ≡ positions_of r (bounds_after g damping rounds)
     positions_are r =
-        let l : x.ranking.low ≡ (bounds_after g damping rounds).low = h.same_low ∙ low_is in
-        let u : x.ranking.high ≡ (bounds_after g damping rounds).high = h.same_high ∙ high_is in
-        let pages : x.ranking.pages ≡ r.ranking x.ranking.low x.ranking.high = ranking_one x.ranking.low x.ranking.high x.ranking.pages (r.ranking x.ranking.low x.ranking.high) h.ranked (r.ranking_is x.ranking.low x.ranking.high) in
-        let same : r.ranking x.ranking.low x.ranking.high ≡ r.ranking (bounds_after g damping rounds).low (bounds_after g damping rounds).high = λ i. r.ranking (l i) (u i) in
+        let l : s.low ≡ (bounds_after g damping rounds).low = h.same_low ∙ low_is in
+        let u : s.high ≡ (bounds_after g damping rounds).high = h.same_high ∙ high_is in
+        let pages : s.pages ≡ r.ranking.value s.low s.high = ranking_one s.low s.high s.pages (r.ranking.value s.low s.high) h.ranked (r.ranking.reads s.low s.high) in
+        let same : r.ranking.value s.low s.high ≡ r.ranking.value (bounds_after g damping rounds).low (bounds_after g damping rounds).high = λ i. r.ranking.value (l i) (u i) in
         λ i. record { filled = h.filled i; low = l i; high = u i; pages = (pages ∙ same) i }
 
-    pub length_low : length x.ranking.low ≡ g.nodes
+    pub length_low : length s.low ≡ g.nodes
     length_low = ap length h.same_low ∙ h.holds.low_is.counted
 
     -- the first of as many pages as are asked for, or of all
-    pub text_is : (r : Readings) (top : ℕ) → rank_lines x.ranking (take (min top g.nodes) x.ranking.pages) ≡ ranking_text r g rounds damping top
+    pub text_is : (r : Readings) (top : ℕ) → rank_lines s (take (min top g.nodes) s.pages) ≡ ranking_text r g rounds damping top
     text_is r top =
-        let count : length x.ranking.pages ≡ g.nodes = length_permutation _ _ h.ranked.all ∙ length-range_with_len 0 (length x.ranking.low) ∙ length_low in
-        let cut : take (min top g.nodes) x.ranking.pages ≡ take top x.ranking.pages = ap (λ (n : ℕ). take (min top n) x.ranking.pages) (sym count) ∙ take_min top x.ranking.pages in
-        ap (rank_lines x.ranking) cut ∙ ap (λ (s : Positions). rank_lines s (take top s.pages)) (positions_are r)
+        let count : length s.pages ≡ g.nodes = counted s.low s.high s.pages h.ranked ∙ length_low in
+        let cut : take (min top g.nodes) s.pages ≡ take top s.pages = ap (λ (n : ℕ). take (min top n) s.pages) (sym count) ∙ take_min top s.pages in
+        ap (rank_lines s) cut ∙ ap (λ (t : Positions). rank_lines t (take top t.pages)) (positions_are r)
 
   -- ---- what is proved of it
 

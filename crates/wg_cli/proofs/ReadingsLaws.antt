@@ -38,21 +38,27 @@ places_right p limits bytes (Some key) none = let never : None ≡ Some key = sy
 
 pub the_readings : Readings
 the_readings = record {
-  graph = λ p bytes. read_where p (first_bad p) refl bytes;
-  graph_is = λ p limits bytes. read_right p limits bytes (first_bad p) refl;
-  offsets = λ p bytes. places_where p (first_bad p) refl bytes;
-  offsets_are = λ p limits bytes. places_right p limits bytes (first_bad p) refl;
-  ranking = λ low high. (ranking_some low high).0;
-  ranking_is = λ low high. (ranking_some low high).1;
-  listed = λ n bytes. (texts_are_some n bytes).0;
-  listed_is = λ n bytes. (texts_are_some n bytes).1;
+  graph = record {
+    value = λ p bytes. read_where p (first_bad p) refl bytes;
+    reads = λ p limits bytes. read_right p limits bytes (first_bad p) refl;
+  };
+  offsets = record {
+    value = λ p bytes. places_where p (first_bad p) refl bytes;
+    reads = λ p limits bytes. places_right p limits bytes (first_bad p) refl;
+  };
+  ranking = record { value = λ low high. (ranking_some low high).0; reads = λ low high. (ranking_some low high).1 };
+  arc_list = record { value = λ n bytes. (texts_are_some n bytes).0; reads = λ n bytes. (texts_are_some n bytes).1 };
 }
 
 pub readings_one : ReadingsAreOne
 readings_one r q = record {
-  graph = λ p limits bytes. graph_one p limits (bits_of bytes) (r.graph p bytes) (q.graph p bytes) (r.graph_is p limits bytes) (q.graph_is p limits bytes);
+  graph = λ p limits bytes.
+      graph_one p limits (bits_of bytes) (r.graph.value p bytes) (q.graph.value p bytes) (r.graph.reads p limits bytes) (q.graph.reads p limits bytes);
   offsets = λ p limits bytes.
-      offsets_one p.offsets (coded p limits) p.nodes (bits_of bytes) (r.offsets p bytes) (q.offsets p bytes) (r.offsets_are p limits bytes) (q.offsets_are p limits bytes);
-  ranking = λ low high. ranking_one low high (r.ranking low high) (q.ranking low high) (r.ranking_is low high) (q.ranking_is low high);
-  listed = λ n bytes. listed_one n bytes (r.listed n bytes) (q.listed n bytes) (r.listed_is n bytes) (q.listed_is n bytes);
+      offsets_one p.offsets (coded p limits) p.nodes (bits_of bytes) (r.offsets.value p bytes) (q.offsets.value p bytes)
+      (r.offsets.reads p limits bytes) (q.offsets.reads p limits bytes);
+  ranking = λ low high.
+      ranking_one low high (r.ranking.value low high) (q.ranking.value low high) (r.ranking.reads low high) (q.ranking.reads low high);
+  arc_list = λ n bytes.
+      listed_one n bytes (r.arc_list.value n bytes) (q.arc_list.value n bytes) (r.arc_list.reads n bytes) (q.arc_list.reads n bytes);
 }

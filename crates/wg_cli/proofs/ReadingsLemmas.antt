@@ -33,8 +33,8 @@ of_graph p bits (archive.Length page found stored) read = absurd read.4
 
 module _ (r : Readings) (p : Parameters) (limits : IsWithinLimits p) (bytes : List ℕ) where
   -- the bits stand for one thing alone
-  reads_as : (w : Result Accepted ArchiveFault) → ReadsGraph p (bits_of bytes) w → r.graph p bytes ≡ w
-  reads_as w reads = graph_one p limits (bits_of bytes) (r.graph p bytes) w (r.graph_is p limits bytes) reads
+  reads_as : (w : Result Accepted ArchiveFault) → ReadsGraph p (bits_of bytes) w → r.graph.value p bytes ≡ w
+  reads_as w reads = graph_one p limits (bits_of bytes) (r.graph.value p bytes) w (r.graph.reads p limits bytes) reads
 
   pub goes_on : (graph : List (List ℕ)) (places : List ℕ) → ReadsGraph p (bits_of bytes) (Ok (record { graph = graph; places = places })) → (next : Accepted → Judged)
       → with_graph r p bytes next ≡ next (record { graph = graph; places = places })
@@ -43,8 +43,8 @@ module _ (r : Readings) (p : Parameters) (limits : IsWithinLimits p) (bytes : Li
   pub is_refused : (f : ArchiveFault) → ReadsGraph p (bits_of bytes) (Err f) → (next : Accepted → Judged) → with_graph r p bytes next ≡ refused (BadArchive f)
   is_refused f read next = ap (λ (w : Result Accepted ArchiveFault). unless_bad_graph w next) (reads_as (Err f) read)
 
-  stores : (w : Result (List ℕ) OffsetWord) → ReadsOffsets p.offsets p.nodes (bits_of bytes) w → r.offsets p bytes ≡ w
-  stores w reads = offsets_one p.offsets (coded p limits) p.nodes (bits_of bytes) (r.offsets p bytes) w (r.offsets_are p limits bytes) reads
+  stores : (w : Result (List ℕ) OffsetWord) → ReadsOffsets p.offsets p.nodes (bits_of bytes) w → r.offsets.value p bytes ≡ w
+  stores w reads = offsets_one p.offsets (coded p limits) p.nodes (bits_of bytes) (r.offsets.value p bytes) w (r.offsets.reads p limits bytes) reads
 
   pub goes_on_from : (places : List ℕ) → ReadsOffsets p.offsets p.nodes (bits_of bytes) (Ok places) → (next : List ℕ → Judged) → with_offsets r p bytes next ≡ next places
   goes_on_from places read next = ap (λ (w : Result (List ℕ) OffsetWord). unless_bad_offsets w next) (stores (Ok places) read)
@@ -54,8 +54,8 @@ module _ (r : Readings) (p : Parameters) (limits : IsWithinLimits p) (bytes : Li
 
 -- an arc list that was read
 module _ (r : Readings) (n : ℕ) (bytes : List ℕ) where
-  lists_as : (w : Result Digraph (ℕ × ArcsKind)) → IsListed n bytes w → r.listed n bytes ≡ w
-  lists_as w reads = listed_one n bytes (r.listed n bytes) w (r.listed_is n bytes) reads
+  lists_as : (w : Result Digraph (ℕ × ArcsKind)) → IsListed n bytes w → r.arc_list.value n bytes ≡ w
+  lists_as w reads = listed_one n bytes (r.arc_list.value n bytes) w (r.arc_list.reads n bytes) reads
 
   pub list_goes_on : (g : Digraph) → AreArcs n (lines_of bytes) g → (next : Digraph → Judged) → with_list r n bytes next ≡ next g
   list_goes_on g reads next = ap (λ (w : Result Digraph (ℕ × ArcsKind)). unless_bad_list w next) (lists_as (Ok g) reads)

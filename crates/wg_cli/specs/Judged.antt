@@ -66,7 +66,7 @@ unless_bad_graph (Err f) next = refused (BadArchive f)
 
 -- goes on with the graph that the bytes stand for
 abbrev pub with_graph : Readings → Parameters → List ℕ → (Accepted → Judged) → Judged
-with_graph r p bytes next = unless_bad_graph (r.graph p bytes) next
+with_graph r p bytes next = unless_bad_graph (r.graph.value p bytes) next
 
 -- goes on with its pages and their lists
 abbrev pub with_digraph : Readings → Parameters → List ℕ → (Digraph → Judged) → Judged
@@ -82,7 +82,7 @@ unless_bad_offsets (Err w) next = refused (BadArchive (archive.Offsets w))
 
 -- goes on with the places that the offsets file stores
 abbrev pub with_offsets : Readings → Parameters → List ℕ → (List ℕ → Judged) → Judged
-with_offsets r p bytes next = unless_bad_offsets (r.offsets p bytes) next
+with_offsets r p bytes next = unless_bad_offsets (r.offsets.value p bytes) next
 
 abbrev pub unless_some_differ : List ℕ → List ℕ → List ℕ → (Unit {0} → Judged) → Judged
 unless_some_differ [] found stored next = next tt
@@ -109,7 +109,7 @@ unless_bad_list (Err fault) next = refused (BadArcs fault.0 fault.1)
 
 -- goes on with the graph of so many pages that the arc list stands for
 abbrev pub with_list : Readings → ℕ → List ℕ → (Digraph → Judged) → Judged
-with_list r n bytes next = unless_bad_list (r.listed n bytes) next
+with_list r n bytes next = unless_bad_list (r.arc_list.value n bytes) next
 
 -- goes on with the graph of so many pages that the arc list holds
 abbrev pub with_arcs : Readings → ℕ → (Input → Option (List ℕ)) → (Digraph → Judged) → Judged

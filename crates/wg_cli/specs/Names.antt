@@ -117,6 +117,10 @@ output_name job o = name_of_output (outputs_of job) o
 abbrev pub held_by : (Input → Option (List ℕ)) → Files → Input → Option (List ℕ)
 held_by names files i = option_and_then (map.get files) (names i)
 
+-- what the inputs of a job hold
+abbrev pub held_for : Job → Files → Input → Option (List ℕ)
+held_for job files = held_by (input_name job) files
+
 -- the inputs that a job reads
 abbrev pub has_input : Job → Input → Bool
 has_input job i = is_some (input_name job i)
@@ -135,6 +139,10 @@ abbrev pub has_output : Job → Output → Bool
 has_output job output.Out = true
 has_output job o = is_some (output_name job o)
 
+-- whether a job asks for pages by their numbers
+abbrev pub names_pages : Job → Bool
+names_pages job = false
+
 -- how a job can end at all
 abbrev pub can_end : Job → Status → Bool
 can_end job Done = true
@@ -146,7 +154,7 @@ can_end job (Missing i) = has_input job i
 can_end job (BadArcs line kind) = has_input job input.ArcList
 can_end job (BadProperties f) = has_input job input.Properties
 can_end job (BadArchive f) = has_input job (file_of_fault f)
-can_end job (NoPage page) = false
+can_end job (NoPage page) = names_pages job
 can_end job (OverLimit i) = has_input job i
 
 -- how the reading of an input can end

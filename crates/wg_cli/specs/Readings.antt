@@ -11,25 +11,39 @@ use Rattle.wg_grammar.specs.Archive.{Accepted, ReadsGraph}
 use Rattle.wg_offsets.specs.Words.{ReadsOffsets}
 use Rattle.wg_order.specs.Order.{IsRanking}
 
--- Four functions: from parameters and the bytes of a graph file to the graph that they stand for or to their first fault; from
--- parameters and the bytes of an offsets file to its places or to its first fault; from the bounds of pages to their ranking; and from a number of
--- pages and an arc list to its graph or to its first faulty line. The definitions leave one of each, within the limits of the parameters.
-pub record Readings : Type 0 where
-  pub graph : Parameters → List ℕ → Result Accepted ArchiveFault
-  pub graph_is : (p : Parameters) → IsWithinLimits p → (bytes : List ℕ) → ReadsGraph p (bits_of bytes) (graph p bytes)
-  pub offsets : Parameters → List ℕ → Result (List ℕ) OffsetWord
-  pub offsets_are : (p : Parameters) → IsWithinLimits p → (bytes : List ℕ) → ReadsOffsets p.offsets p.nodes (bits_of bytes) (offsets p bytes)
-  pub ranking : List ℕ → List ℕ → List ℕ
-  pub ranking_is : (low high : List ℕ) → IsRanking low high (ranking low high)
-  pub listed : ℕ → List ℕ → Result Digraph (ℕ × ArcsKind)
-  pub listed_is : (n : ℕ) (bytes : List ℕ) → IsListed n bytes (listed n bytes)
+-- from parameters and the bytes of a graph file to the graph that they stand for, or to their first fault
+pub record GraphReading : Type 0 where
+  pub value : Parameters → List ℕ → Result Accepted ArchiveFault
+  pub reads : (p : Parameters) → IsWithinLimits p → (bytes : List ℕ) → ReadsGraph p (bits_of bytes) (value p bytes)
 
--- Two such fours agree within the limits.
+-- from parameters and the bytes of an offsets file to its places, or to its first fault
+pub record OffsetsReading : Type 0 where
+  pub value : Parameters → List ℕ → Result (List ℕ) OffsetWord
+  pub reads : (p : Parameters) → IsWithinLimits p → (bytes : List ℕ) → ReadsOffsets p.offsets p.nodes (bits_of bytes) (value p bytes)
+
+-- from the bounds of pages to the pages as they are ranked
+pub record RankingReading : Type 0 where
+  pub value : List ℕ → List ℕ → List ℕ
+  pub reads : (low high : List ℕ) → IsRanking low high (value low high)
+
+-- from a number of pages and an arc list to its graph, or to its first faulty line
+pub record ListReading : Type 0 where
+  pub value : ℕ → List ℕ → Result Digraph (ℕ × ArcsKind)
+  pub reads : (n : ℕ) (bytes : List ℕ) → IsListed n bytes (value n bytes)
+
+-- One function of each kind. The definitions leave one choice for each, within the limits of the parameters.
+pub record Readings : Type 0 where
+  pub graph : GraphReading
+  pub offsets : OffsetsReading
+  pub ranking : RankingReading
+  pub arc_list : ListReading
+
+-- Two such choices agree within the limits.
 pub record ReadingsAgree (r q : Readings) : Type 0 where
-  pub graph : (p : Parameters) → IsWithinLimits p → (bytes : List ℕ) → r.graph p bytes ≡ q.graph p bytes
-  pub offsets : (p : Parameters) → IsWithinLimits p → (bytes : List ℕ) → r.offsets p bytes ≡ q.offsets p bytes
-  pub ranking : (low high : List ℕ) → r.ranking low high ≡ q.ranking low high
-  pub listed : (n : ℕ) (bytes : List ℕ) → r.listed n bytes ≡ q.listed n bytes
+  pub graph : (p : Parameters) → IsWithinLimits p → (bytes : List ℕ) → r.graph.value p bytes ≡ q.graph.value p bytes
+  pub offsets : (p : Parameters) → IsWithinLimits p → (bytes : List ℕ) → r.offsets.value p bytes ≡ q.offsets.value p bytes
+  pub ranking : (low high : List ℕ) → r.ranking.value low high ≡ q.ranking.value low high
+  pub arc_list : (n : ℕ) (bytes : List ℕ) → r.arc_list.value n bytes ≡ q.arc_list.value n bytes
 
 abbrev pub ReadingsAreOne : Type 0
 ReadingsAreOne = (r q : Readings) → ReadingsAgree r q

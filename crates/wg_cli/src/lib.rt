@@ -30,12 +30,14 @@ mod rank;
 mod ranked;
 mod report;
 mod status;
+mod steady;
 mod text;
 mod texts;
 mod writing;
 
 pub use program::run;
 pub use status::{Input, Status};
+pub use steady::run_in_memory;
 
 #[cfg(test)]
 mod tests;

@@ -38,6 +38,7 @@ fn print<O: Sink>(out: &mut O, piece: &[u8]) -> Result<(), Ending>
 fn unput(error: WriteError) -> Ending
     ensures only { IsUnput result.status }
     ensures fault { result.status ≡ Status.WriteFault Out → error ≡ WriteError.Failed }
+    ensures want { result.status ≡ Status.Memory → error ≡ WriteError.Memory }
 {
     match error {
         WriteError::Failed => Ending::of(Status::WriteFault(Output::Out)),
@@ -119,10 +120,7 @@ fn write_line<S: Sink>(lines: &mut Lines, sink: &mut S, number: u64) -> Result<(
 
 // The line of a page of the ranking.
 fn rank_line(ranked: &Ranked, page: u64) -> Text
-    requires page { page < length ranked.now.ranking.low }
-    requires filled { ranked.now.ranking.filled ≡ true }
-    requires low { ranked.now.ranking.low ≡ ranked.now.bounds.low }
-    requires high { ranked.now.ranking.high ≡ ranked.now.bounds.high }
+    requires { page < length ranked.now.ranking.low }
     ensures text { result ≡ rank_line ranked.now.ranking page }
     ensures short { length result ≤ MOST_PIECE }
 {
@@ -141,14 +139,11 @@ fn rank_line(ranked: &Ranked, page: u64) -> Text
 
 // Writes the lines of the first pages of the ranking through a fixed buffer.
 fn write_ranking<S: Sink>(sink: &mut S, ranked: &Ranked, count: u64) -> Result<(), WriteError>
-    requires count { count ≤ length ranked.now.ranking.low }
-    requires filled { ranked.now.ranking.filled ≡ true }
-    requires low { ranked.now.ranking.low ≡ ranked.now.bounds.low }
-    requires high { ranked.now.ranking.high ≡ ranked.now.bounds.high }
-    requires pages { length ranked.now.ranking.pages ≡ length ranked.now.ranking.low }
+    requires { count ≤ length ranked.now.ranking.low }
     ensures puts { IsTrue S.told → Puts (rank_lines ranked.now.ranking (take count ranked.now.ranking.pages)) (S.taken sink.old) (S.taken sink.new) result }
     ensures failed { IsErrOf result WriteError.Failed → Increased (S.faults sink.old) (S.faults sink.new) }
-    ensures later { S.faults sink.old ≤ S.faults sink.new }
+    ensures memory { IsErrOf result WriteError.Memory → Increased (S.wants sink.old) (S.wants sink.new) }
+    ensures later { (S.faults sink.old ≤ S.faults sink.new) × (S.wants sink.old ≤ S.wants sink.new) }
 {
     let mut lines = Lines::new();
     for place in 0..count {
@@ -160,13 +155,10 @@ fn write_ranking<S: Sink>(sink: &mut S, ranked: &Ranked, count: u64) -> Result<(
 
 /// Prints the lines of the first pages of the ranking.
 pub fn print_ranking<O: Sink>(out: &mut O, ranked: &Ranked, count: u64) -> Result<(), Ending>
-    requires count { count ≤ length ranked.now.ranking.low }
-    requires filled { ranked.now.ranking.filled ≡ true }
-    requires low { ranked.now.ranking.low ≡ ranked.now.bounds.low }
-    requires high { ranked.now.ranking.high ≡ ranked.now.bounds.high }
-    requires pages { length ranked.now.ranking.pages ≡ length ranked.now.ranking.low }
+    requires { count ≤ length ranked.now.ranking.low }
     ensures puts { IsTrue O.told → Puts (rank_lines ranked.now.ranking (take count ranked.now.ranking.pages)) (O.taken out.old) (O.taken out.new) result }
     ensures cause { status_in result ≡ Status.WriteFault Out → Increased (O.faults out.old) (O.faults out.new) }
+    ensures memory { status_in result ≡ Status.Memory → Increased (O.wants out.old) (O.wants out.new) }
     ensures only { IfErr result (λ e. IsUnput e.status) }
     ensures later { O.faults out.old ≤ O.faults out.new }
 {

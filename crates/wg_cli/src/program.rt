@@ -6,12 +6,12 @@ ghost use Rattle.wg_graph.specs.Digraph.{Digraph, IsGraph};
 ghost use Rattle.wg_words.specs.Jobs.{job_of, IsWithin};
 ghost use Rattle.wg_words.specs.declared.jobs.Job.{Job};
 ghost use Rattle.wg_cli.specs.Answers.{Answers, HasOutput, Reaches};
-ghost use Rattle.wg_cli.specs.Causes.{HasCause, Reports};
-ghost use Rattle.wg_cli.specs.Judged.{judged, output_of, status_of, written_by};
+ghost use Rattle.wg_cli.specs.Causes.{AreFaultless, HasCause, Reports};
+ghost use Rattle.wg_cli.specs.Judged.{output_of, status_of, written_by};
 ghost use Rattle.wg_cli.specs.Lines.{line_of, ArePromisedBy};
-ghost use Rattle.wg_cli.specs.Names.{can_end, held_by, input_name, output_name, some_writes_files};
-ghost use Rattle.wg_cli.specs.Performs.{Does};
-ghost use Rattle.wg_cli.specs.Ranked.{IsProvenRanking};
+ghost use Rattle.wg_cli.specs.Names.{can_end, held_for, input_name, output_name, some_writes_files};
+ghost use Rattle.wg_cli.specs.Performs.{judged_on, Does};
+ghost use Rattle.wg_cli.specs.Ranked.{IsProvenRanking, PrintsProvenRanking};
 ghost use Rattle.wg_cli.specs.Readings.{Readings};
 ghost use Rattle.wg_cli.specs.Written.{HasFiles};
 ghost use Rattle.wg_cli.specs.declared.status.Input.{Input};
@@ -32,40 +32,58 @@ pub fn run<D: Depot, O: Sink, E: Sink>(
     out: &mut O,
     err: &mut E,
 ) -> Status
-    // Usage comes exactly where the words ask for no job, and nothing is put out then.
+    // Usage comes exactly if the words ask for no job, and nothing is put out then.
     ensures usage { result ≡ Status.Usage → job_of words.now ≡ None }
     ensures no_job { job_of words.now ≡ None → (result ≡ Status.Usage) ⊎ (result ≡ Status.Memory) }
     ensures no_output { job_of words.now ≡ None → O.taken out.new ≡ O.taken out.old }
 
-    // The status is the one that the job and its inputs lead to, or a fault of the outside or want of memory came in its place.
-    ensures answers { IsTrue D.told → (r : Readings) (job : Job) → job_of words.now ≡ Some job → Answers (judged r job (held_by (input_name job) (D.files depot.old))) result }
+    // The status is the one that the job and its inputs lead to, or a fault of the outside or out of memory came in its place;
+    // if nothing outside was at fault, memory alone can.
+    ensures answers { IsTrue D.told → (r : Readings) (job : Job) → job_of words.now ≡ Some job
+        → Answers (judged_on r job (D.files depot.old)) result }
     ensures possible { (job : Job) → job_of words.now ≡ Some job → IsTrue (can_end job result) }
+    ensures complete { IsTrue D.told → (r : Readings) (job : Job) → job_of words.now ≡ Some job
+        → AreFaultless (D.counts depot.old) (D.counts depot.new) (O.faults out.old) (O.faults out.new)
+        → (result ≡ status_of (judged_on r job (D.files depot.old))) ⊎ (result ≡ Status.Memory) }
 
-    // A fault or an absence is told only where the outside counted it, and only where the job had come so far.
-    ensures causes { (job : Job) → job_of words.now ≡ Some job → HasCause (input_name job) (output_name job) (D.counts depot.old) (D.counts depot.new) (O.faults out.old) (O.faults out.new) result }
-    ensures reached { IsTrue D.told → (r : Readings) (job : Job) → job_of words.now ≡ Some job → (i : Input) → result ≡ Status.ReadFault i → Reaches r job (held_by (input_name job) (D.files depot.old)) i }
-    ensures needed { IsTrue D.told → (r : Readings) (job : Job) → job_of words.now ≡ Some job → (o : Output) → result ≡ Status.WriteFault o → status_of (judged r job (held_by (input_name job) (D.files depot.old))) ≡ Status.Done }
+    // A fault or an absence is told only if the outside counted it, and only if the job had come so far.
+    ensures causes { (job : Job) → job_of words.now ≡ Some job
+        → HasCause (input_name job) (output_name job) (D.counts depot.old) (D.counts depot.new) (O.faults out.old) (O.faults out.new) result }
+    ensures reached { IsTrue D.told → (r : Readings) (job : Job) → job_of words.now ≡ Some job
+        → (i : Input) → result ≡ Status.ReadFault i → Reaches r job (held_for job (D.files depot.old)) i }
+    ensures needed { IsTrue D.told → (r : Readings) (job : Job) → job_of words.now ≡ Some job
+        → (o : Output) → result ≡ Status.WriteFault o → status_of (judged_on r job (D.files depot.old)) ≡ Status.Done }
 
     // What is printed of a ranking: intervals that enclose each exact iterate from the last round on, within the stated width.
-    ensures certified { (r : Readings) (base : List ℕ) (rounds damping top : ℕ) → job_of words.now ≡ Some (Job.Rank base rounds damping top) → result ≡ Status.Done → (g : Digraph) → IsGraph g → g.nodes ≤ MOST_PAGES → IsProvenRanking r rounds damping g }
+    ensures certified { IsTrue D.told → IsTrue O.told → (r : Readings) (base : List ℕ) (rounds damping top : ℕ)
+        → job_of words.now ≡ Some (Job.Rank base rounds damping top) → result ≡ Status.Done
+        → PrintsProvenRanking r (held_for (Job.Rank base rounds damping top) (D.files depot.old)) rounds damping top (O.taken out.old) (O.taken out.new) }
+    ensures enclosing { (r : Readings) (base : List ℕ) (rounds damping top : ℕ)
+        → job_of words.now ≡ Some (Job.Rank base rounds damping top) → result ≡ Status.Done
+        → (g : Digraph) → IsGraph g → g.nodes ≤ MOST_PAGES → IsProvenRanking r rounds damping g }
 
     // What stands on the output, in the files and on the error output.
-    ensures output { IsTrue D.told → IsTrue O.told → (r : Readings) (job : Job) → job_of words.now ≡ Some job → HasOutput (output_of (judged r job (held_by (input_name job) (D.files depot.old)))) (O.taken out.old) (O.taken out.new) result }
-    ensures files { IsTrue D.told → (r : Readings) (job : Job) → job_of words.now ≡ Some job → HasFiles (output_name job) (written_by r job (held_by (input_name job) (D.files depot.old))) (D.files depot.old) (D.files depot.new) result }
+    ensures output { IsTrue D.told → IsTrue O.told → (r : Readings) (job : Job) → job_of words.now ≡ Some job
+        → HasOutput (output_of (judged_on r job (D.files depot.old))) (O.taken out.old) (O.taken out.new) result }
+    ensures files { IsTrue D.told → (r : Readings) (job : Job) → job_of words.now ≡ Some job
+        → HasFiles (output_name job) (written_by r job (held_for job (D.files depot.old))) (D.files depot.old) (D.files depot.new) result }
     ensures same { some_writes_files (job_of words.now) ≡ false → D.files depot.new ≡ D.files depot.old }
-    ensures line { IsTrue E.told → (promised : ℕ) × (IsTrue D.told → ArePromisedBy (job_of words.now) (D.files depot.old) result promised) × Reports (line_of (job_of words.now) promised result) (E.taken err.old) (E.taken err.new) (Increased (E.faults err.old) (E.faults err.new) ⊎ Increased (E.wants err.old) (E.wants err.new)) }
+    ensures line { IsTrue E.told
+        → (promised : ℕ) × (IsTrue D.told → ArePromisedBy (job_of words.now) (D.files depot.old) result promised)
+        × Reports (line_of (job_of words.now) promised result) (E.taken err.old) (E.taken err.new)
+        (Increased (E.faults err.old) (E.faults err.new) ⊎ Increased (E.wants err.old) (E.wants err.new)) }
 {
-    let Ok(asked) = asked(alloc, words) else {
+    let Ok(wanted) = find_job(alloc, words) else {
         report(err, &None, 0, Status::Memory);
         return Status::Memory;
     };
-    let ending = done(alloc, &asked, depot, out);
-    report(err, &asked, ending.arcs, ending.status);
+    let ending = try_job(alloc, &wanted, depot, out);
+    report(err, &wanted, ending.arcs, ending.status);
     ending.status
 }
 
 // The job, if the words ask for one.
-fn asked(alloc: Global, words: &Words) -> Result<Option<Job>, AllocError>
+fn find_job(alloc: Global, words: &Words) -> Result<Option<Job>, AllocError>
     ensures job { IfOk result (λ o. o ≡ job_of words.now) }
     ensures within { IfOk result (λ o. IfSome o IsWithin) }
 {
@@ -77,16 +95,22 @@ fn asked(alloc: Global, words: &Words) -> Result<Option<Job>, AllocError>
 }
 
 // Does the job, if there is one.
-fn done<D: Depot, O: Sink>(alloc: Global, asked: &Option<Job>, depot: &mut D, out: &mut O) -> Ending
-    requires { IfSome asked.now IsWithin }
-    ensures usage { result.status ≡ Status.Usage → asked.now ≡ None }
-    ensures no_job { asked.now ≡ None → result.status ≡ Status.Usage }
-    ensures no_output { asked.now ≡ None → O.taken out.new ≡ O.taken out.old }
-    ensures performs { (job : Job) → asked.now ≡ Some job → Does ⟦<D as Depot>⟧ ⟦<O as Sink>⟧ job depot.old depot.new out.old out.new result.status result.arcs }
-    ensures promised { IsTrue D.told → ArePromisedBy asked.now (D.files depot.old) result.status result.arcs }
-    ensures same { some_writes_files asked.now ≡ false → D.files depot.new ≡ D.files depot.old }
+fn try_job<D: Depot, O: Sink>(
+    alloc: Global,
+    wanted: &Option<Job>,
+    depot: &mut D,
+    out: &mut O,
+) -> Ending
+    requires { IfSome wanted.now IsWithin }
+    ensures usage { result.status ≡ Status.Usage → wanted.now ≡ None }
+    ensures no_job { wanted.now ≡ None → result.status ≡ Status.Usage }
+    ensures no_output { wanted.now ≡ None → O.taken out.new ≡ O.taken out.old }
+    ensures performs { (job : Job) → wanted.now ≡ Some job
+        → Does ⟦<D as Depot>⟧ ⟦<O as Sink>⟧ job depot.old depot.new out.old out.new result.status result.arcs }
+    ensures promised { IsTrue D.told → ArePromisedBy wanted.now (D.files depot.old) result.status result.arcs }
+    ensures same { some_writes_files wanted.now ≡ false → D.files depot.new ≡ D.files depot.old }
 {
-    match asked {
+    match wanted {
         None => Ending::of(Status::Usage),
         Some(job) => perform(alloc, job, depot, out),
     }

@@ -1,17 +1,21 @@
 //! The command `rank`: the pages by their PageRank, with bounds that enclose it.
-ghost use Rattle.std.specs.Prelude.{◌≡◌, ◌≤◌, IfOk, IfErr};
+ghost use Rattle.std.specs.Prelude.{◌≡◌, ◌≤◌, IsTrue, IfOk, IfErr};
+ghost use Rattle.wg_io.specs.Outside.{Increased};
+ghost use Rattle.wg_io.specs.Puts.{Puts};
+ghost use Rattle.wg_io.specs.declared.output.Output.TheVariants.{Out};
 ghost use Rattle.wg_params.specs.declared.limits.TheConstants.{MOST_DAMPING, MOST_ROUNDS};
 ghost use Rattle.wg_words.specs.declared.jobs.Job.TheVariants.{Rank};
-ghost use Rattle.wg_cli.specs.Answers.{status_in};
+ghost use Rattle.wg_cli.specs.Answers.{IsUnput, status_in};
 ghost use Rattle.wg_cli.specs.Lines.{arcs_in};
 ghost use Rattle.wg_cli.specs.Performs.{Does};
-ghost use Rattle.wg_cli.specs.Ranked.{Ranks};
+ghost use Rattle.wg_cli.specs.Ranked.{AreReady, ranking_text};
+ghost use Rattle.wg_cli.specs.Readings.{Readings};
 
 use crate::archive::{graph_of_records, parameters};
 use crate::ending::Ending;
 use crate::load::load;
 use crate::print::print_ranking;
-use crate::ranked::Ranked;
+use crate::ranked::Room;
 use crate::{Input, Status};
 use std::alloc::Global;
 use wg_graph::Graph;
@@ -43,19 +47,34 @@ pub fn rank<D: Depot, O: Sink>(
     let params = parameters(text.as_slice())?;
     let bytes = load(alloc, depot, base, Input::Graph)?;
     let graph = graph_of_records(alloc, &params, bytes.as_slice())?;
-    let ranked = ranked(alloc, &graph, asked)?;
-    print_ranking(out, &ranked, asked.top.min(graph.nodes()))
+    let room = room_for(alloc, &graph, asked.damping)?;
+    print_ranks(out, &graph, room, asked)
 }
 
-// The ranking of a graph's pages.
-fn ranked(alloc: Global, graph: &Graph, asked: Asked) -> Result<Ranked, Ending>
-    requires rounds { asked.rounds ≤ MOST_ROUNDS }
-    requires damping { asked.damping ≤ MOST_DAMPING }
-    ensures ranks { IfOk result (λ x. Ranks graph.now asked.rounds asked.damping x) }
+// All memory that the rounds and the ranking take.
+fn room_for(alloc: Global, graph: &Graph, damping: u64) -> Result<Room, Ending>
+    requires { damping ≤ MOST_DAMPING }
+    ensures ready { IfOk result (λ r. AreReady graph.now r.bounds r.ranking) }
+    ensures damping { IfOk result (λ r. r.bounds.damping ≡ damping) }
     ensures only { IfErr result (λ e. e.status ≡ Status.Memory) }
 {
-    match Ranked::new(alloc, graph, asked.rounds, asked.damping) {
-        Ok(ranked) => Ok(ranked),
+    match Room::new(alloc, graph, damping) {
+        Ok(room) => Ok(room),
         Err(_) => Err(Ending::of(Status::Memory)),
     }
+}
+
+// Does the rounds, and prints the first pages of the ranking. It takes no memory, so that the output alone can stop it.
+fn print_ranks<O: Sink>(out: &mut O, graph: &Graph, room: Room, asked: Asked) -> Result<(), Ending>
+    requires rounds { asked.rounds ≤ MOST_ROUNDS }
+    requires ready { AreReady graph.now room.bounds room.ranking }
+    requires damping { room.bounds.damping ≡ asked.damping }
+    ensures puts { IsTrue O.told → (r : Readings)
+        → Puts (ranking_text r graph.now asked.rounds asked.damping asked.top) (O.taken out.old) (O.taken out.new) result }
+    ensures cause { status_in result ≡ Status.WriteFault Out → Increased (O.faults out.old) (O.faults out.new) }
+    ensures memory { status_in result ≡ Status.Memory → Increased (O.wants out.old) (O.wants out.new) }
+    ensures only { IfErr result (λ e. IsUnput e.status) }
+{
+    let ranked = room.rank(graph, asked.rounds);
+    print_ranking(out, &ranked, asked.top.min(graph.nodes()))
 }

@@ -6,7 +6,7 @@ ghost use Rattle.wg_graph.specs.Digraph.{arc_count};
 ghost use Rattle.wg_properties.specs.Text.{text_of};
 ghost use Rattle.wg_encoder.specs.Archive.{graph_bits, graph_file, offsets_file};
 ghost use Rattle.wg_cli.specs.Answers.{status_in};
-ghost use Rattle.wg_cli.specs.Causes.{RoseAt};
+ghost use Rattle.wg_cli.specs.Causes.{IncreasedAt};
 ghost use Rattle.wg_cli.specs.Names.{archive_named, names_of, AreApart};
 ghost use Rattle.wg_cli.specs.Written.{Archive, greedy_archive, three_of, Three, emptied, unnamed, status_of_error, AreWhole, OthersStay, Stand, IsStoppedAt, IsStopped};
 
@@ -54,7 +54,7 @@ fn create_files<D: Depot>(depot: &mut D, names: &ArchiveNames) -> Result<(), End
     ensures err { IsTrue D.told → (a : Archive) → IfErr result (λ e. Stand a (three_of (names_of names.now) (D.files depot.old)) (three_of (names_of names.now) (D.files depot.new)) e.status) }
     ensures others { IsTrue D.told → OthersStay (names_of names.now) (D.files depot.old) (D.files depot.new) }
     ensures only { IfErr result (λ e. IsStopped e.status) }
-    ensures causes { (o : Output) → status_in result ≡ Status.WriteFault o → RoseAt (λ c. c.write_faults) (names_of names.now o) (D.counts depot.old) (D.counts depot.new) }
+    ensures causes { (o : Output) → status_in result ≡ Status.WriteFault o → IncreasedAt (λ c. c.write_faults) (names_of names.now o) (D.counts depot.old) (D.counts depot.new) }
     ensures later { NonDecreasing (D.counts depot.old) (D.counts depot.new) }
 {
     create(depot, &names.properties, Output::Properties)?;
@@ -88,7 +88,7 @@ fn write_records<D: Depot>(
     ensures err { IsTrue D.told → three_of (names_of names.now) (D.files depot.old) ≡ emptied → (before : Three) → IfErr result (λ e. Stand (greedy_archive params.now graph.now) before (three_of (names_of names.now) (D.files depot.new)) e.status) }
     ensures others { IsTrue D.told → OthersStay (names_of names.now) (D.files depot.old) (D.files depot.new) }
     ensures only { IfErr result (λ e. IsStopped e.status) }
-    ensures causes { (o : Output) → status_in result ≡ Status.WriteFault o → RoseAt (λ c. c.write_faults) (names_of names.now o) (D.counts depot.old) (D.counts depot.new) }
+    ensures causes { (o : Output) → status_in result ≡ Status.WriteFault o → IncreasedAt (λ c. c.write_faults) (names_of names.now o) (D.counts depot.old) (D.counts depot.new) }
     ensures later { NonDecreasing (D.counts depot.old) (D.counts depot.new) }
 {
     match encode(
@@ -115,7 +115,7 @@ fn write_properties<D: Depot>(
     ensures err { IsTrue D.told → (a : Archive) → a.properties ≡ text.now → three_of (names_of names.now) (D.files depot.old) ≡ unnamed a → (before : Three) → IfErr result (λ e. Stand a before (three_of (names_of names.now) (D.files depot.new)) e.status) }
     ensures others { IsTrue D.told → OthersStay (names_of names.now) (D.files depot.old) (D.files depot.new) }
     ensures only { IfErr result (λ e. IsStopped e.status) }
-    ensures causes { (o : Output) → status_in result ≡ Status.WriteFault o → RoseAt (λ c. c.write_faults) (names_of names.now o) (D.counts depot.old) (D.counts depot.new) }
+    ensures causes { (o : Output) → status_in result ≡ Status.WriteFault o → IncreasedAt (λ c. c.write_faults) (names_of names.now o) (D.counts depot.old) (D.counts depot.new) }
     ensures later { NonDecreasing (D.counts depot.old) (D.counts depot.new) }
 {
     match append_all(depot, names.properties.as_str(), text) {
@@ -150,7 +150,7 @@ pub fn write_archive<D: Depot>(
     ensures err { IsTrue D.told → IfErr result (λ e. Stand (greedy_archive params.now graph.now) (three_of (archive_named base.now) (D.files depot.old)) (three_of (archive_named base.now) (D.files depot.new)) e.status) }
     ensures others { IsTrue D.told → OthersStay (archive_named base.now) (D.files depot.old) (D.files depot.new) }
     ensures only { IfErr result (λ e. IsStopped e.status) }
-    ensures causes { (o : Output) → status_in result ≡ Status.WriteFault o → RoseAt (λ c. c.write_faults) (archive_named base.now o) (D.counts depot.old) (D.counts depot.new) }
+    ensures causes { (o : Output) → status_in result ≡ Status.WriteFault o → IncreasedAt (λ c. c.write_faults) (archive_named base.now o) (D.counts depot.old) (D.counts depot.new) }
     ensures later { NonDecreasing (D.counts depot.old) (D.counts depot.new) }
 {
     let names = ArchiveNames::of(alloc, base)?;

@@ -13,7 +13,7 @@ loop-place-preserved g c =
     let l = c.loop-place in
     let s = c.args.ranked.now.ranking in
     let first : List ℕ = take c.args.count s.pages in
-    let inside : l.place < length first = omega (arith, length-take c.args.count s.pages, c.requires.count, c.requires.pages, c.loop-place-test.true) in
+    let inside : l.place < length first = omega (arith, length-take c.args.count s.pages, c.requires, c.args.ranked.now.counted, c.loop-place-test.true) in
     let here : c.as_bytes.result.now ≡ rank_line s (get_or first l.place 0) =
     c.as_bytes.ensures ∙ c.rank_line-line.ensures.text ∙ ap (rank_line s) (c.page.ensures.value ∙ sym (get_or-take c.args.count s.pages l.place 0 (omega (arith, c.loop-place-test.true)))) in
     record {
@@ -21,6 +21,7 @@ loop-place-preserved g c =
           line_printed (rank_line s) (g.S.Sink.taken c.args.sink.now) (g.S.Sink.taken l.sink) (g.S.Sink.taken c.text.new.sink) [] l.lines c.text.new.self first l.place inside (l.invariant.printed t)
           (subst (λ (p : List ℕ). HasPrinted (g.S.Sink.taken l.sink) (g.S.Sink.taken c.text.new.sink) l.lines p c.text.new.self) here (c.in_ok-text.ensures.prints t));
       faults = omega (arith, l.invariant.faults, c.in_ok-text.ensures.later.0);
+      wants = omega (arith, l.invariant.wants, c.in_ok-text.ensures.later.1);
     }
 
 pub returns-in_err-text-clause-puts : goal.returns-in_err-text-clause-puts
@@ -28,7 +29,7 @@ returns-in_err-text-clause-puts g c t =
     let l = c.loop-place in
     let s = c.args.ranked.now.ranking in
     let first : List ℕ = take c.args.count s.pages in
-    let inside : l.place < length first = omega (arith, length-take c.args.count s.pages, c.requires.count, c.requires.pages, c.loop-place-test.true) in
+    let inside : l.place < length first = omega (arith, length-take c.args.count s.pages, c.requires, c.args.ranked.now.counted, c.loop-place-test.true) in
     let here : c.as_bytes.result.now ≡ rank_line s (get_or first l.place 0) =
     c.as_bytes.ensures ∙ c.rank_line-line.ensures.text ∙ ap (rank_line s) (c.page.ensures.value ∙ sym (get_or-take c.args.count s.pages l.place 0 (omega (arith, c.loop-place-test.true)))) in
     rw (is_that_err c.from_residual.result _ c.from_residual.ensures.1)

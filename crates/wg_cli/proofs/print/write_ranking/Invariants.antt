@@ -8,4 +8,5 @@ abbrev pub invariant-loop-place : goal.invariant-loop-place
 invariant-loop-place g l = let s = g.S.Sink in record {
   printed : IsTrue s.told → HasPrinted (s.taken l.fn.sink) (s.taken l.sink) [] (rank_lines l.ranked.ranking (take l.place (take l.count l.ranked.ranking.pages))) l.lines;
   faults : s.faults l.fn.sink ≤ s.faults l.sink;
+  wants : s.wants l.fn.sink ≤ s.wants l.sink;
 }

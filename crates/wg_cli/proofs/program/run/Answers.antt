@@ -1,7 +1,15 @@
-use Rattle.std.proofs.Common.{◌∙◌}
+use Rattle.std.proofs.Common.{◌∙◌, subst}
 use Rattle.wg_words.specs.Jobs.{job_of}
+use Rattle.wg_words.specs.declared.jobs.Job.TheVariants.{Rank}
+use Rattle.wg_cli.specs.Answers.{Answers, HasOutput}
+use Rattle.wg_cli.specs.Judged.{output_of, status_of}
+use Rattle.wg_cli.specs.Names.{held_for}
+use Rattle.wg_cli.specs.Performs.{judged_on}
+use Rattle.wg_cli.specs.declared.status.Status.{Status}
 use Rattle.wg_cli.proofs.ExitLemmas.{nothing_promised}
 use Rattle.wg_words.proofs.JobLemmas.{rank_within}
+use Rattle.wg_cli.proofs.PerformsLemmas.{unhindered}
+use Rattle.wg_cli.proofs.ProvenLemmas.{proven_ranking, when_done}
 use Rattle.wg_cli.proofs.RankLemmas.{proven}
 use Rattle.wg_cli.proofs.program.run.Goals as goal
 
@@ -9,27 +17,42 @@ pub returns-in_default-clause-line : goal.returns-in_default-clause-line
 returns-in_default-clause-line g c = λ e. (0, λ t. nothing_promised (job_of c.args.words.now) (g.D.Depot.files c.args.depot.now) 0, c.report.ensures e)
 
 pub returns-clause-answers : goal.returns-clause-answers
-returns-clause-answers g c = λ t r job is. (c.done-ending.ensures.performs job (c.in-Ok.ensures.job ∙ is)).answers t r
+returns-clause-answers g c = λ t r job is. (c.try_job-ending.ensures.performs job (c.in-Ok.ensures.job ∙ is)).answers t r
 
 pub returns-clause-possible : goal.returns-clause-possible
-returns-clause-possible g c = λ job is. (c.done-ending.ensures.performs job (c.in-Ok.ensures.job ∙ is)).possible
+returns-clause-possible g c = λ job is. (c.try_job-ending.ensures.performs job (c.in-Ok.ensures.job ∙ is)).possible
 
 pub returns-clause-causes : goal.returns-clause-causes
-returns-clause-causes g c = λ job is. (c.done-ending.ensures.performs job (c.in-Ok.ensures.job ∙ is)).causes
+returns-clause-causes g c = λ job is. (c.try_job-ending.ensures.performs job (c.in-Ok.ensures.job ∙ is)).causes
 
 pub returns-clause-reached : goal.returns-clause-reached
-returns-clause-reached g c = λ t r job is i fault. (c.done-ending.ensures.performs job (c.in-Ok.ensures.job ∙ is)).reached t r i fault
+returns-clause-reached g c = λ t r job is i fault. (c.try_job-ending.ensures.performs job (c.in-Ok.ensures.job ∙ is)).reached t r i fault
 
 pub returns-clause-needed : goal.returns-clause-needed
-returns-clause-needed g c = λ t r job is o fault. (c.done-ending.ensures.performs job (c.in-Ok.ensures.job ∙ is)).needed t r o fault
+returns-clause-needed g c = λ t r job is o fault. (c.try_job-ending.ensures.performs job (c.in-Ok.ensures.job ∙ is)).needed t r o fault
 
 pub returns-clause-output : goal.returns-clause-output
-returns-clause-output g c = λ t o r job is. (c.done-ending.ensures.performs job (c.in-Ok.ensures.job ∙ is)).output t o r
+returns-clause-output g c = λ t o r job is. (c.try_job-ending.ensures.performs job (c.in-Ok.ensures.job ∙ is)).output t o r
 
 pub returns-clause-files : goal.returns-clause-files
-returns-clause-files g c = λ t r job is. (c.done-ending.ensures.performs job (c.in-Ok.ensures.job ∙ is)).files t r
+returns-clause-files g c = λ t r job is. (c.try_job-ending.ensures.performs job (c.in-Ok.ensures.job ∙ is)).files t r
 
-pub returns-clause-certified : goal.returns-clause-certified
-returns-clause-certified g c = λ r base rounds damping top is done graph ok small.
+pub returns-clause-enclosing : goal.returns-clause-enclosing
+returns-clause-enclosing g c = λ r base rounds damping top is done graph ok small.
     let within = rank_within c.args.words.now base rounds damping top is in
     proven r rounds damping within.0 within.1 graph ok small
+
+pub returns-clause-complete : goal.returns-clause-complete
+returns-clause-complete g c = λ t r job is quiet.
+    let does = c.try_job-ending.ensures.performs job (c.in-Ok.ensures.job ∙ is) in
+    unhindered _ _ _ _ _ _ quiet (judged_on r job (g.D.Depot.files c.args.depot.now)) _ does.causes (does.answers t r)
+
+pub returns-clause-certified : goal.returns-clause-certified
+returns-clause-certified g c = λ t o r base rounds damping top is done.
+    let job = Rank base rounds damping top in
+    let files = g.D.Depot.files c.args.depot.now in
+    let does = c.try_job-ending.ensures.performs job (c.in-Ok.ensures.job ∙ is) in
+    let within = rank_within c.args.words.now base rounds damping top is in
+    proven_ranking r (held_for job files) base rounds damping top _ _ within.0 within.1
+    (when_done (judged_on r job files) (subst (Answers (judged_on r job files)) done (does.answers t r)))
+    (subst (HasOutput (output_of (judged_on r job files)) (g.O.Sink.taken c.args.out.now) (g.O.Sink.taken c.try_job-ending.new.out)) done (does.output t o r))

@@ -1,6 +1,6 @@
 use Rattle.std.proofs.Common.{◌≡◌, refl}
 use Rattle.wg_cli.proofs.PerformsLemmas.{performs_at}
-use Rattle.wg_cli.proofs.program.done.Goals as goal
+use Rattle.wg_cli.proofs.program.try_job.Goals as goal
 
 pub returns-in-Some-clause-performs : goal.returns-in-Some-clause-performs
 returns-in-Some-clause-performs g c = λ job is.

@@ -1,7 +1,7 @@
 use Rattle.std.proofs.Common.{◌≡◌, length}
 use Rattle.wg_rank.specs.Intervals.{Holds}
 use Rattle.wg_cli.specs.Ranked.{alike}
-use Rattle.wg_cli.proofs.ranked.Ranked.new.Given as goal
+use Rattle.wg_cli.proofs.ranked.Room.rank.Given as goal
 
 -- the bounds are those of the graph after the rounds so far
 abbrev pub invariant-loop : goal.invariant-loop
@@ -10,7 +10,7 @@ invariant-loop l = record {
   pages : length l.bounds.low ≡ l.graph.nodes;
   ranked_pages : length l.ranking.low ≡ l.graph.nodes;
   after : l.bounds.rounds ≡ l.counter;
-  damped : l.bounds.damping ≡ l.damping;
+  damped : l.bounds.damping ≡ l.fn.self.bounds.damping;
   weighed : l.bounds.weights ≡ alike l.graph;
   holds : Holds l.bounds l.graph;
 }

@@ -1,0 +1,19 @@
+use Rattle.std.proofs.Common.{ℕ, List, refl}
+use Rattle.wg_io.specs.Memory.{steady_counts}
+use Rattle.wg_words.specs.Jobs.{job_of}
+use Rattle.wg_cli.specs.Causes.{AreFaultless}
+use Rattle.wg_cli.proofs.SteadyLemmas.{faultless, no_read_fault, no_write_fault}
+use Rattle.wg_cli.proofs.steady.run_in_memory.Goals as goal
+
+pub returns-clause-answers : goal.returns-clause-answers
+returns-clause-answers c = λ r job is. c.run.ensures.complete refl r job is (faultless _ _ (λ n. (refl, refl, refl, refl)))
+
+pub returns-clause-no_read_fault : goal.returns-clause-no_read_fault
+returns-clause-no_read_fault c =
+    no_read_fault _ _ _ _ (faultless (λ (n : List ℕ). steady_counts c.args.depot.now) (λ (n : List ℕ). steady_counts c.run.new.depot) (λ n. (refl, refl, refl, refl))) c.run.result
+    (job_of c.args.words.now) c.run.ensures.no_job c.run.ensures.causes
+
+pub returns-clause-no_write_fault : goal.returns-clause-no_write_fault
+returns-clause-no_write_fault c =
+    no_write_fault _ _ _ _ (faultless (λ (n : List ℕ). steady_counts c.args.depot.now) (λ (n : List ℕ). steady_counts c.run.new.depot) (λ n. (refl, refl, refl, refl))) c.run.result
+    (job_of c.args.words.now) c.run.ensures.no_job c.run.ensures.causes
