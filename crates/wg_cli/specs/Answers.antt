@@ -1,5 +1,7 @@
 -- Which status a judgement leads to.
-use Rattle.std.specs.Prelude.{◌≡◌, ◌⊎◌, ℕ, nat_eq, if◌then◌else◌, List, ◌++◌, take, Option, None, Result, Ok, Err}
+use Rattle.std.specs.Prelude.{◌≡◌, ◌⊎◌, ℕ, nat_eq, if◌then◌else◌, List, ◌++◌, take, Option, None, Result, Ok, Err, IfErr}
+use Rattle.wg_io.specs.Outside.{Increased}
+use Rattle.wg_io.specs.declared.sink.Sink as sink
 use Rattle.wg_io.specs.declared.output.Output.TheVariants.{Out}
 use Rattle.wg_words.specs.declared.jobs.Job.{Job}
 use Rattle.wg_cli.specs.Readings.{Readings}
@@ -47,6 +49,12 @@ HasOutput due old new (ReadFault i) = (k : ℕ) × (new ≡ old ++ take k due)
 HasOutput due old new (WriteFault o) = (k : ℕ) × (new ≡ old ++ take k due)
 HasOutput due old new _ = new ≡ old
 
--- why an output stopped
+-- how the output ends a job
 abbrev pub IsUnput : Status → Type 0
 IsUnput status = (status ≡ WriteFault Out) ⊎ (status ≡ Memory)
+
+-- a job ended at its output, and only where the output counted a fault or that it was out of memory
+pub record PrintRefusals {S A : Type 0} (s : sink.Ghosts S) (before after : S) (result : Result A Ending) : Type 0 where
+  pub only : IfErr result (λ e. IsUnput e.status)
+  pub failed : status_in result ≡ WriteFault Out → Increased (s.faults before) (s.faults after)
+  pub memory : status_in result ≡ Memory → Increased (s.wants before) (s.wants after)

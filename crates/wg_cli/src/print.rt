@@ -1,11 +1,11 @@
 //! What goes to the output.
 ghost use Rattle.std.specs.Prelude.{◌≡◌, ◌≤◌, ◌<◌, true, length, take, IsTrue, IsErrOf, IfErr, Err};
-ghost use Rattle.wg_io.specs.Outside.{Increased};
 ghost use Rattle.wg_io.specs.Puts.{Puts};
-ghost use Rattle.wg_cli.specs.Answers.{IsUnput, status_in};
-ghost use Rattle.wg_arcs.specs.Printing.{Prints};
+ghost use Rattle.wg_io.specs.Refusals.{SinkRefusals};
+ghost use Rattle.wg_cli.specs.Answers.{IsUnput, PrintRefusals};
+ghost use Rattle.wg_io.specs.Printing.{Prints};
 ghost use Rattle.wg_arcs.specs.Text.{text_of_graph};
-ghost use Rattle.wg_arcs.specs.declared.lines.TheConstants.{MOST_PIECE};
+ghost use Rattle.wg_io.specs.declared.lines.TheConstants.{MOST_PIECE};
 ghost use Rattle.wg_cli.specs.Ranked.{rank_line, rank_lines};
 ghost use Rattle.wg_cli.specs.Judged.{number_line, number_lines, ok_line};
 ghost use Rattle.wg_io.specs.declared.output.Output.TheVariants.{Out};
@@ -14,9 +14,8 @@ use crate::Status;
 use crate::ending::Ending;
 use crate::ranked::Ranked;
 use crate::text::Text;
-use wg_arcs::Lines;
 use wg_graph::Graph;
-use wg_io::{Output, Sink, WriteError, write_all};
+use wg_io::{Lines, Output, Sink, WriteError, write_all};
 use wg_num::units_text;
 use wg_offsets::Offsets;
 use wg_params::Params;
@@ -24,9 +23,7 @@ use wg_params::Params;
 // A piece of the output.
 fn print<O: Sink>(out: &mut O, piece: &[u8]) -> Result<(), Ending>
     ensures puts { IsTrue O.told → Puts piece.now (O.taken out.old) (O.taken out.new) result }
-    ensures cause { status_in result ≡ Status.WriteFault Out → Increased (O.faults out.old) (O.faults out.new) }
-    ensures only { IfErr result (λ e. IsUnput e.status) }
-    ensures later { O.faults out.old ≤ O.faults out.new }
+    ensures refusals { PrintRefusals ⟦<O as Sink>⟧ out.old out.new result }
 {
     match write_all(out, piece) {
         Ok(()) => Ok(()),
@@ -62,9 +59,7 @@ fn ok_line(params: &Params, bits: u64) -> Text
 /// Prints the line of an accepted archive, in one call where the output takes it whole.
 pub fn print_ok<O: Sink>(out: &mut O, params: &Params, bits: u64) -> Result<(), Ending>
     ensures puts { IsTrue O.told → Puts (ok_line params.now bits) (O.taken out.old) (O.taken out.new) result }
-    ensures cause { status_in result ≡ Status.WriteFault Out → Increased (O.faults out.old) (O.faults out.new) }
-    ensures only { IfErr result (λ e. IsUnput e.status) }
-    ensures later { O.faults out.old ≤ O.faults out.new }
+    ensures refusals { PrintRefusals ⟦<O as Sink>⟧ out.old out.new result }
 {
     print(out, ok_line(params, bits).as_bytes())
 }
@@ -72,9 +67,7 @@ pub fn print_ok<O: Sink>(out: &mut O, params: &Params, bits: u64) -> Result<(), 
 /// Prints the arcs of a graph.
 pub fn print_graph<O: Sink>(out: &mut O, graph: &Graph) -> Result<(), Ending>
     ensures puts { IsTrue O.told → Puts (text_of_graph graph.now) (O.taken out.old) (O.taken out.new) result }
-    ensures cause { status_in result ≡ Status.WriteFault Out → Increased (O.faults out.old) (O.faults out.new) }
-    ensures only { IfErr result (λ e. IsUnput e.status) }
-    ensures later { O.faults out.old ≤ O.faults out.new }
+    ensures refusals { PrintRefusals ⟦<O as Sink>⟧ out.old out.new result }
 {
     match wg_arcs::write(graph, out) {
         Ok(()) => Ok(()),
@@ -85,9 +78,7 @@ pub fn print_graph<O: Sink>(out: &mut O, graph: &Graph) -> Result<(), Ending>
 /// Prints places, a line for each.
 pub fn print_places<O: Sink>(out: &mut O, places: &Offsets) -> Result<(), Ending>
     ensures puts { IsTrue O.told → Puts (number_lines places.now) (O.taken out.old) (O.taken out.new) result }
-    ensures cause { status_in result ≡ Status.WriteFault Out → Increased (O.faults out.old) (O.faults out.new) }
-    ensures only { IfErr result (λ e. IsUnput e.status) }
-    ensures later { O.faults out.old ≤ O.faults out.new }
+    ensures refusals { PrintRefusals ⟦<O as Sink>⟧ out.old out.new result }
 {
     match write_places(out, places) {
         Ok(()) => Ok(()),
@@ -98,8 +89,8 @@ pub fn print_places<O: Sink>(out: &mut O, places: &Offsets) -> Result<(), Ending
 // Writes places through a fixed buffer.
 fn write_places<S: Sink>(sink: &mut S, places: &Offsets) -> Result<(), WriteError>
     ensures puts { IsTrue S.told → Puts (number_lines places.now) (S.taken sink.old) (S.taken sink.new) result }
-    ensures failed { IsErrOf result WriteError.Failed → Increased (S.faults sink.old) (S.faults sink.new) }
-    ensures later { S.faults sink.old ≤ S.faults sink.new }
+    ensures later { S.later sink.old sink.new }
+    ensures refusals { SinkRefusals ⟦<S as Sink>⟧ sink.old sink.new result }
 {
     let mut lines = Lines::new();
     for x in 0..places.len() {
@@ -111,8 +102,8 @@ fn write_places<S: Sink>(sink: &mut S, places: &Offsets) -> Result<(), WriteErro
 // A line of one number.
 fn write_line<S: Sink>(lines: &mut Lines, sink: &mut S, number: u64) -> Result<(), WriteError>
     ensures prints { IsTrue S.told → Prints (number_line number) (S.taken sink.old) (S.taken sink.new) lines.old lines.new result }
-    ensures failed { IsErrOf result WriteError.Failed → Increased (S.faults sink.old) (S.faults sink.new) }
-    ensures later { S.faults sink.old ≤ S.faults sink.new }
+    ensures later { S.later sink.old sink.new }
+    ensures refusals { SinkRefusals ⟦<S as Sink>⟧ sink.old sink.new result }
 {
     lines.number(sink, number)?;
     lines.byte(sink, b'\n')
@@ -141,9 +132,8 @@ fn rank_line(ranked: &Ranked, page: u64) -> Text
 fn write_ranking<S: Sink>(sink: &mut S, ranked: &Ranked, count: u64) -> Result<(), WriteError>
     requires { count ≤ length ranked.now.ranking.low }
     ensures puts { IsTrue S.told → Puts (rank_lines ranked.now.ranking (take count ranked.now.ranking.pages)) (S.taken sink.old) (S.taken sink.new) result }
-    ensures failed { IsErrOf result WriteError.Failed → Increased (S.faults sink.old) (S.faults sink.new) }
-    ensures memory { IsErrOf result WriteError.Memory → Increased (S.wants sink.old) (S.wants sink.new) }
-    ensures later { (S.faults sink.old ≤ S.faults sink.new) × (S.wants sink.old ≤ S.wants sink.new) }
+    ensures later { S.later sink.old sink.new }
+    ensures refusals { SinkRefusals ⟦<S as Sink>⟧ sink.old sink.new result }
 {
     let mut lines = Lines::new();
     for place in 0..count {
@@ -157,10 +147,7 @@ fn write_ranking<S: Sink>(sink: &mut S, ranked: &Ranked, count: u64) -> Result<(
 pub fn print_ranking<O: Sink>(out: &mut O, ranked: &Ranked, count: u64) -> Result<(), Ending>
     requires { count ≤ length ranked.now.ranking.low }
     ensures puts { IsTrue O.told → Puts (rank_lines ranked.now.ranking (take count ranked.now.ranking.pages)) (O.taken out.old) (O.taken out.new) result }
-    ensures cause { status_in result ≡ Status.WriteFault Out → Increased (O.faults out.old) (O.faults out.new) }
-    ensures memory { status_in result ≡ Status.Memory → Increased (O.wants out.old) (O.wants out.new) }
-    ensures only { IfErr result (λ e. IsUnput e.status) }
-    ensures later { O.faults out.old ≤ O.faults out.new }
+    ensures refusals { PrintRefusals ⟦<O as Sink>⟧ out.old out.new result }
 {
     match write_ranking(out, ranked, count) {
         Ok(()) => Ok(()),

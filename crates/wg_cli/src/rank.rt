@@ -1,11 +1,9 @@
 //! The command `rank`: the pages by their PageRank, with bounds that enclose it.
 ghost use Rattle.std.specs.Prelude.{◌≡◌, ◌≤◌, IsTrue, IfOk, IfErr};
-ghost use Rattle.wg_io.specs.Outside.{Increased};
 ghost use Rattle.wg_io.specs.Puts.{Puts};
-ghost use Rattle.wg_io.specs.declared.output.Output.TheVariants.{Out};
 ghost use Rattle.wg_params.specs.declared.limits.TheConstants.{MOST_DAMPING, MOST_ROUNDS};
 ghost use Rattle.wg_words.specs.declared.jobs.Job.TheVariants.{Rank};
-ghost use Rattle.wg_cli.specs.Answers.{IsUnput, status_in};
+ghost use Rattle.wg_cli.specs.Answers.{PrintRefusals, status_in};
 ghost use Rattle.wg_cli.specs.Lines.{arcs_in};
 ghost use Rattle.wg_cli.specs.Performs.{Does};
 ghost use Rattle.wg_cli.specs.Ranked.{AreReady, ranking_text};
@@ -71,9 +69,7 @@ fn print_ranks<O: Sink>(out: &mut O, graph: &Graph, room: Room, asked: Asked) ->
     requires damping { room.bounds.damping ≡ asked.damping }
     ensures puts { IsTrue O.told → (r : Readings)
         → Puts (ranking_text r graph.now asked.rounds asked.damping asked.top) (O.taken out.old) (O.taken out.new) result }
-    ensures cause { status_in result ≡ Status.WriteFault Out → Increased (O.faults out.old) (O.faults out.new) }
-    ensures memory { status_in result ≡ Status.Memory → Increased (O.wants out.old) (O.wants out.new) }
-    ensures only { IfErr result (λ e. IsUnput e.status) }
+    ensures refusals { PrintRefusals ⟦<O as Sink>⟧ out.old out.new result }
 {
     let ranked = room.rank(graph, asked.rounds);
     print_ranking(out, &ranked, asked.top.min(graph.nodes()))

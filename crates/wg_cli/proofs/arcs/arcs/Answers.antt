@@ -14,4 +14,4 @@ pub returns-in_err-graph : goal.returns-in_err-graph
 returns-in_err-graph g c = stopped _ _ _ _ _ _ _ refl (search rules) refl (search rules) (search rules) (search rules) (search rules) (search rules) (search rules) (search rules)
 
 pub returns : goal.returns
-returns g c = printed _ _ _ _ _ _ c.print_graph.result refl (λ t r. search rules) (search rules) (search rules) c.print_graph.ensures.puts c.print_graph.ensures.only c.print_graph.ensures.cause
+returns g c = printed _ _ _ _ _ _ c.print_graph.result refl (λ t r. search rules) (search rules) (search rules) c.print_graph.ensures.puts c.print_graph.ensures.refusals.only c.print_graph.ensures.refusals.failed

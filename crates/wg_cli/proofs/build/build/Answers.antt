@@ -70,14 +70,14 @@ returns g c = record {
       let is = c.in_ok-graph.ensures.steps t r (λ h. builds (params_of c.args.layout.now c.args.nodes (arc_count h)) h) ∙ ap (λ (p : Parameters). builds p graph) (sym p_is) in
       let line : ok_line c.params_for-params.result c.in_ok-bits.bits ≡ ok_line c.params_for-params.result (length (graph_bits c.params_for-params.result graph.lists)) =
       ap (λ (n : ℕ). ok_line c.params_for-params.result n) (c.in_ok-bits.ensures.ok t).1 in
-      output_put _ _ _ _ c.print_ok.result (line ∙ sym (ap output_of is)) (c.print_ok.ensures.puts o) c.print_ok.ensures.only;
+      output_put _ _ _ _ c.print_ok.result (line ∙ sym (ap output_of is)) (c.print_ok.ensures.puts o) c.print_ok.ensures.refusals.only;
   files = λ t r.
       let graph : Digraph = c.in_ok-graph.graph in
       let p_is : c.params_for-params.result ≡ params_of c.args.layout.now c.args.nodes (arc_count graph) =
       c.params_for-params.ensures ∙ ap (λ (n : ℕ). params_of c.args.layout.now n (arc_count graph)) c.in_ok-graph.ensures.nodes in
       let is = c.in_ok-graph.ensures.steps t r (λ h. builds (params_of c.args.layout.now c.args.nodes (arc_count h)) h) ∙ ap (λ (p : Parameters). builds p graph) (sym p_is) in
       built_files _ _ (greedy_archive c.params_for-params.result graph) _ _ _ _ _ is c.listed.ensures.same (c.write_archive.ensures.others t)
-      (put_stands (greedy_archive c.params_for-params.result graph) _ _ c.print_ok.result c.print_ok.ensures.only (c.in_ok-bits.ensures.ok t).0);
+      (put_stands (greedy_archive c.params_for-params.result graph) _ _ c.print_ok.result c.print_ok.ensures.refusals.only (c.in_ok-bits.ensures.ok t).0);
   same = search rules;
   later = search rules;
   promised = search rules;

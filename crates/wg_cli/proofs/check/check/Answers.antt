@@ -23,4 +23,4 @@ pub returns-in_err-same_lengths : goal.returns-in_err-same_lengths
 returns-in_err-same_lengths g c = stopped _ _ _ _ _ _ _ refl (search rules) refl (search rules) (search rules) (search rules) (search rules) (search rules) (search rules) (search rules)
 
 pub returns : goal.returns
-returns g c = printed _ _ _ _ _ _ c.print_ok.result refl (λ t r. search rules) (search rules) (search rules) c.print_ok.ensures.puts c.print_ok.ensures.only c.print_ok.ensures.cause
+returns g c = printed _ _ _ _ _ _ c.print_ok.result refl (λ t r. search rules) (search rules) (search rules) c.print_ok.ensures.puts c.print_ok.ensures.refusals.only c.print_ok.ensures.refusals.failed

@@ -14,4 +14,4 @@ pub returns-in_err-places : goal.returns-in_err-places
 returns-in_err-places g c = stopped _ _ _ _ _ _ _ refl (search rules) refl (search rules) (search rules) (search rules) (search rules) (search rules) (search rules) (search rules)
 
 pub returns : goal.returns
-returns g c = printed _ _ _ _ _ _ c.print_places.result refl (λ t r. search rules) (search rules) (search rules) c.print_places.ensures.puts c.print_places.ensures.only c.print_places.ensures.cause
+returns g c = printed _ _ _ _ _ _ c.print_places.result refl (λ t r. search rules) (search rules) (search rules) c.print_places.ensures.puts c.print_places.ensures.refusals.only c.print_places.ensures.refusals.failed

@@ -1,5 +1,5 @@
-use Rattle.std.proofs.Common.{◌≤◌, [], take, IsTrue}
-use Rattle.wg_arcs.specs.Printing.{HasPrinted}
+use Rattle.std.proofs.Common.{[], take, IsTrue}
+use Rattle.wg_io.specs.Printing.{HasPrinted}
 use Rattle.wg_cli.specs.Judged.{number_lines}
 use Rattle.wg_cli.proofs.print.write_places.Given as goal
 
@@ -7,5 +7,5 @@ use Rattle.wg_cli.proofs.print.write_places.Given as goal
 abbrev pub invariant-loop-x : goal.invariant-loop-x
 invariant-loop-x g l = let s = g.S.Sink in record {
   printed : IsTrue s.told → HasPrinted (s.taken l.fn.sink) (s.taken l.sink) [] (number_lines (take l.x l.places)) l.lines;
-  faults : s.faults l.fn.sink ≤ s.faults l.sink;
+  later : s.later l.fn.sink l.sink;
 }

@@ -1,9 +1,10 @@
 use Rattle.std.proofs.Common.{◌≡◌, ◌<◌, ◌∙◌, [], take, get_or, length, ℕ, List, sym, ap, subst, arith}
 use Rattle.std.proofs.lemmas.List.{take_all, get_or-take, length-take}
 use Rattle.wg_io.proofs.PutsLemmas.{is_that_err}
+use Rattle.wg_io.proofs.RefusalLemmas.{sink_after, sink_exit}
 use Rattle.wg_io.specs.declared.depot.WriteError.{WriteError}
-use Rattle.wg_arcs.specs.Printing.{HasPrinted, HasPrintedLess}
-use Rattle.wg_arcs.proofs.Fronts.{puts_of_less, puts_in_the_end}
+use Rattle.wg_io.specs.Printing.{HasPrinted, HasPrintedLess}
+use Rattle.wg_io.proofs.PrintLemmas.{puts_of_less, puts_in_the_end}
 use Rattle.wg_cli.specs.Ranked.{rank_line, rank_lines}
 use Rattle.wg_cli.proofs.NumberLemmas.{line_printed, line_less}
 use Rattle.wg_cli.proofs.print.write_ranking.Goals as goal
@@ -20,8 +21,7 @@ loop-place-preserved g c =
       printed = λ t.
           line_printed (rank_line s) (g.S.Sink.taken c.args.sink.now) (g.S.Sink.taken l.sink) (g.S.Sink.taken c.text.new.sink) [] l.lines c.text.new.self first l.place inside (l.invariant.printed t)
           (subst (λ (p : List ℕ). HasPrinted (g.S.Sink.taken l.sink) (g.S.Sink.taken c.text.new.sink) l.lines p c.text.new.self) here (c.in_ok-text.ensures.prints t));
-      faults = omega (arith, l.invariant.faults, c.in_ok-text.ensures.later.0);
-      wants = omega (arith, l.invariant.wants, c.in_ok-text.ensures.later.1);
+      later = g.met.S.Sink.goes_on _ _ _ c.loop-place.invariant.later c.in_ok-text.ensures.later;
     }
 
 pub returns-in_err-text-clause-puts : goal.returns-in_err-text-clause-puts
@@ -46,3 +46,16 @@ returns-clause-puts g c t =
     puts_in_the_end (g.S.Sink.taken c.args.sink.now) (g.S.Sink.taken l.sink) (g.S.Sink.taken c.flush.new.sink) (rank_lines s first) l.lines c.flush.result
     (subst (λ (ps : List ℕ). HasPrinted (g.S.Sink.taken c.args.sink.now) (g.S.Sink.taken l.sink) [] (rank_lines s ps) l.lines) all (l.invariant.printed t))
     (c.flush.ensures.puts t)
+
+pub returns-in_err-text-clause-later : goal.returns-in_err-text-clause-later
+returns-in_err-text-clause-later g c = g.met.S.Sink.goes_on _ _ _ c.loop-place.invariant.later c.in_err-text.ensures.later
+
+pub returns-in_err-text-clause-refusals : goal.returns-in_err-text-clause-refusals
+returns-in_err-text-clause-refusals g c =
+    sink_exit _ _ _ _ _ c.from_residual.ensures.1 (sink_after _ _ _ _ _ (g.met.S.Sink.onward _ _ c.loop-place.invariant.later) c.in_err-text.ensures.refusals)
+
+pub returns-clause-later : goal.returns-clause-later
+returns-clause-later g c = g.met.S.Sink.goes_on _ _ _ c.loop-place.invariant.later c.flush.ensures.later
+
+pub returns-clause-refusals : goal.returns-clause-refusals
+returns-clause-refusals g c = sink_after _ _ _ _ _ (g.met.S.Sink.onward _ _ c.loop-place.invariant.later) c.flush.ensures.refusals

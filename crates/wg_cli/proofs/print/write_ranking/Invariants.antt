@@ -1,5 +1,5 @@
-use Rattle.std.proofs.Common.{◌≤◌, [], take, IsTrue}
-use Rattle.wg_arcs.specs.Printing.{HasPrinted}
+use Rattle.std.proofs.Common.{[], take, IsTrue}
+use Rattle.wg_io.specs.Printing.{HasPrinted}
 use Rattle.wg_cli.specs.Ranked.{rank_lines}
 use Rattle.wg_cli.proofs.print.write_ranking.Given as goal
 
@@ -7,6 +7,5 @@ use Rattle.wg_cli.proofs.print.write_ranking.Given as goal
 abbrev pub invariant-loop-place : goal.invariant-loop-place
 invariant-loop-place g l = let s = g.S.Sink in record {
   printed : IsTrue s.told → HasPrinted (s.taken l.fn.sink) (s.taken l.sink) [] (rank_lines l.ranked.ranking (take l.place (take l.count l.ranked.ranking.pages))) l.lines;
-  faults : s.faults l.fn.sink ≤ s.faults l.sink;
-  wants : s.wants l.fn.sink ≤ s.wants l.sink;
+  later : s.later l.fn.sink l.sink;
 }

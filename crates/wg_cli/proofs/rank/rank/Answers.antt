@@ -22,4 +22,4 @@ pub returns : goal.returns
 returns g c =
     let asked = c.args.asked in
     printed_by _ _ _ _ _ (λ (r : Readings). ranking_text r c.in_ok-graph.graph asked.rounds asked.damping asked.top) c.print_ranks.result refl
-    (λ t r. search rules) (search rules) (search rules) c.print_ranks.ensures.puts c.print_ranks.ensures.only c.print_ranks.ensures.cause
+    (λ t r. search rules) (search rules) (search rules) c.print_ranks.ensures.puts c.print_ranks.ensures.refusals.only c.print_ranks.ensures.refusals.failed
