@@ -6,40 +6,15 @@ use Rattle.wg_io.specs.Outside.{Files, Counts, NonDecreasing, Increased}
 use Rattle.wg_io.specs.declared.output.Output.{Output}
 use Rattle.wg_io.specs.declared.output.Output.TheVariants as output
 use Rattle.wg_io.proofs.PutsLemmas.{is_that_err}
-use Rattle.wg_io.specs.declared.suffixes.TheConstants.{PROPERTIES, GRAPH, OFFSETS}
 use Rattle.wg_cli.specs.Answers.{Answers, HasOutput, IsUnput, Steps, status_in}
 use Rattle.wg_cli.specs.Causes.{HasCause, IncreasedAt}
 use Rattle.wg_cli.specs.Judged.{Judged, built, files_of}
-use Rattle.wg_cli.specs.Names.{archive_named, names_of}
-use Rattle.wg_cli.specs.Written.{Archive, Three, three_of, AreWhole, HasFiles, OthersStay, Stand, IsStopped}
+use Rattle.wg_cli.specs.Names.{archive_named}
+use Rattle.wg_cli.specs.Written.{Archive, ArchiveFiles, archive_at, AreWhole, HasFiles, OthersStay, FilesAfter, IsStopped}
 use Rattle.wg_cli.specs.declared.ending.Ending.{Ending}
-use Rattle.wg_cli.specs.declared.names.ArchiveNames.{ArchiveNames}
 use Rattle.wg_cli.specs.declared.status.Input.{Input}
 use Rattle.wg_cli.specs.declared.status.Status.{Status}
 use Rattle.wg_cli.specs.declared.status.Status.TheVariants.{Memory, ReadFault, WriteFault, Missing}
-
--- ---- names
-abbrev pub names_for : List ℕ → ArchiveNames
-names_for base = record { properties = base ++ PROPERTIES.now; graph = base ++ GRAPH.now; offsets = base ++ OFFSETS.now }
-
-module _ (n : ArchiveNames) (base : List ℕ) (is : n ≡ names_for base) where
-  named_as : (o : Output) → names_of n o ≡ archive_named base o
-  named_as output.Properties = ap (λ (x : ArchiveNames). Some x.properties) is
-  named_as output.Graph = ap (λ (x : ArchiveNames). Some x.graph) is
-  named_as output.Offsets = ap (λ (x : ArchiveNames). Some x.offsets) is
-  named_as output.Out = refl
-
-  pub stand_as : (a : Archive) (f h : Files) (s : Status) → Stand a (three_of (names_of n) f) (three_of (names_of n) h) s → Stand a (three_of (archive_named base) f) (three_of (archive_named base) h) s
-  stand_as a f h s st = subst (λ (x : ArchiveNames). Stand a (three_of (names_of x) f) (three_of (names_of x) h) s) is st
-
-  pub whole_as : (a : Archive) (h : Files) → AreWhole a (three_of (names_of n) h) → AreWhole a (three_of (archive_named base) h)
-  whole_as a h whole = subst (λ (x : ArchiveNames). AreWhole a (three_of (names_of x) h)) is whole
-
-  pub others_as : (f h : Files) → OthersStay (names_of n) f h → OthersStay (archive_named base) f h
-  others_as f h stay q other = stay q (λ o same. other o (sym (named_as o) ∙ same))
-
-  pub rose_as : (o : Output) (old new : List ℕ → Counts) → IncreasedAt (λ c. c.write_faults) (names_of n o) old new → IncreasedAt (λ c. c.write_faults) (archive_named base o) old new
-  rose_as o old new rose = subst (λ (x : Option (List ℕ)). IncreasedAt (λ c. c.write_faults) x old new) (named_as o) rose
 
 -- ---- counts
 rose_from : (a b c : ℕ) → a ≤ b → Increased b c → Increased a c
@@ -78,10 +53,10 @@ stopped_output due old s (inl fault) = subst (HasOutput due old old) (sym fault.
 stopped_output due old s (inr want) = subst (HasOutput due old old) (sym want) (0, sym (append-nil old))
 
 -- the files are whole before the output is asked for
-pub put_stands : (a : Archive) (old new : Three) (r : Result (Unit {0}) Ending) → IfErr r (λ e. IsUnput e.status) → AreWhole a new → Stand a old new (status_in r)
+pub put_stands : (a : Archive) (old new : ArchiveFiles) (r : Result (Unit {0}) Ending) → IfErr r (λ e. IsUnput e.status) → AreWhole a new → FilesAfter a old new (status_in r)
 put_stands a old new (Ok done) only whole = whole
-put_stands a old new (Err e) (inl fault) whole = subst (Stand a old new) (sym fault) whole
-put_stands a old new (Err e) (inr want) whole = subst (Stand a old new) (sym want) (inr (inr (inr whole)))
+put_stands a old new (Err e) (inl fault) whole = subst (FilesAfter a old new) (sym fault) whole
+put_stands a old new (Err e) (inr want) whole = subst (FilesAfter a old new) (sym want) (inr (inr (inr whole)))
 
 -- ---- one step of a judgement after another
 pub steps_then : {C : Type 0} (first second : (C → Judged) → Judged) (r : Result C Ending) → ((next : C → Judged) → first next ≡ second next) → Steps second r → Steps first r
@@ -90,7 +65,7 @@ steps_then first second (Err e) same steps = λ next. subst (λ (j : Judged). An
 
 -- the files of a job that is done but for the writing
 pub built_files : (names : Output → Option (List ℕ)) (j : Judged) (a : Archive) (out : List ℕ) (first old new : Files) (s : Status) → j ≡ built a out → old ≡ first
-    → OthersStay names old new → Stand a (three_of names old) (three_of names new) s → HasFiles names (files_of j) first new s
+    → OthersStay names old new → FilesAfter a (archive_at names old) (archive_at names new) s → HasFiles names (files_of j) first new s
 built_files names j a out first old new s is same others stands =
     subst (λ (x : Judged). HasFiles names (files_of x) first new s) (sym is)
-    (subst (λ (f : Files). OthersStay names f new) same others, subst (λ (f : Files). Stand a (three_of names f) (three_of names new) s) same stands)
+    (subst (λ (f : Files). OthersStay names f new) same others, subst (λ (f : Files). FilesAfter a (archive_at names f) (archive_at names new) s) same stands)

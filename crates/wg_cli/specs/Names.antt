@@ -8,7 +8,6 @@ use Rattle.wg_io.specs.declared.suffixes.TheConstants.{PROPERTIES, GRAPH, OFFSET
 use Rattle.wg_words.specs.declared.jobs.Job.{Job}
 use Rattle.wg_words.specs.declared.jobs.Job.TheVariants.{Check, Arcs, Offsets, Rank, Build}
 use Rattle.wg_cli.specs.Texts.{file_of_fault}
-use Rattle.wg_cli.specs.declared.names.ArchiveNames.{ArchiveNames}
 use Rattle.wg_cli.specs.declared.status.Input.{Input}
 use Rattle.wg_cli.specs.declared.status.Input.TheVariants as input
 use Rattle.wg_cli.specs.declared.status.Status.{Status}
@@ -95,19 +94,6 @@ no_outputs o = None
 -- the files of an archive that is written
 abbrev pub archive_named : List ℕ → Output → Option (List ℕ)
 archive_named base o = name_of_output (archive_outputs base) o
-
--- these names, by their file
-abbrev pub names_of : ArchiveNames → Output → Option (List ℕ)
-names_of n output.Properties = Some n.properties
-names_of n output.Graph = Some n.graph
-names_of n output.Offsets = Some n.offsets
-names_of n output.Out = None
-
--- no two of them are one
-pub record AreApart (n : ArchiveNames) : Type 0 where
-  pub properties_graph : n.properties ≢ n.graph
-  pub properties_offsets : n.properties ≢ n.offsets
-  pub graph_offsets : n.graph ≢ n.offsets
 
 -- the name of a file that a job writes
 abbrev pub output_name : Job → Output → Option (List ℕ)

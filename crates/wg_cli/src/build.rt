@@ -40,14 +40,14 @@ pub fn build<D: Depot, O: Sink>(
     requires layout { IsWithinLimits (params_of layout.now nodes 0) }
     ensures { Does ⟦<D as Depot>⟧ ⟦<O as Sink>⟧ (Build arcs.now base.now nodes layout.now) depot.old depot.new out.old out.new (status_in result) (arcs_in result) }
 {
-    let graph = listed(alloc, arcs, nodes, depot)?;
+    let graph = load_graph(alloc, arcs, nodes, depot)?;
     let params = params_for(layout, &graph);
     let bits = write_archive(alloc, &params, &graph, base, depot)?;
     print_ok(out, &params, bits)
 }
 
 // The graph of the arc list, whose bytes are not held any longer.
-fn listed<D: Depot>(alloc: Global, arcs: &Name, nodes: u64, depot: &mut D) -> Result<Graph, Ending>
+fn load_graph<D: Depot>(alloc: Global, arcs: &Name, nodes: u64, depot: &mut D) -> Result<Graph, Ending>
     requires { nodes ≤ MOST_PAGES }
     ensures steps { IsTrue D.told → (r : Readings) → Steps (with_arcs r nodes (held_by (list_named arcs.now) (D.files depot.old))) result }
     ensures causes { HasCause (list_named arcs.now) no_outputs (D.counts depot.old) (D.counts depot.new) 0 0 (status_in result) }

@@ -1,6 +1,6 @@
 ghost use Rattle.std.specs.Prelude.{◌≡◌, ◌++◌, IfOk, IfErr, option_map};
 ghost use Rattle.wg_io.specs.declared.suffixes.TheConstants.{PROPERTIES, GRAPH, OFFSETS};
-ghost use Rattle.wg_cli.specs.Names.{archive_files, archive_named, base_of, input_name, list_named, name_of_input, output_name, record_files, suffix_of, AreApart};
+ghost use Rattle.wg_cli.specs.Names.{archive_files, archive_named, base_of, input_name, list_named, name_of_input, output_name, record_files, suffix_of};
 
 use crate::ending::Ending;
 use crate::{Input, Status};
@@ -100,29 +100,8 @@ fn archive_parts(base: &Name, output: Output) -> Option<(&str, &'static str)>
     }
 }
 
-/// The names of an archive's files.
-#[derive(Drop)]
-pub struct ArchiveNames {
-    pub properties: Name,
-    pub graph: Name,
-    pub offsets: Name,
-}
-
-impl ArchiveNames {
-    pub fn of(alloc: Global, base: &Name) -> Result<ArchiveNames, Ending>
-        ensures names { IfOk result (λ n. n ≡ record { properties = base.now ++ PROPERTIES.now; graph = base.now ++ GRAPH.now; offsets = base.now ++ OFFSETS.now }) }
-        ensures apart { IfOk result AreApart }
-        ensures only { IfErr result (λ e. e.status ≡ Status.Memory) }
-    {
-        Ok(ArchiveNames {
-            properties: named(alloc, base, PROPERTIES)?,
-            graph: named(alloc, base, GRAPH)?,
-            offsets: named(alloc, base, OFFSETS)?,
-        })
-    }
-}
-
-fn named(alloc: Global, base: &Name, suffix: &str) -> Result<Name, Ending>
+/// The name of one of an archive's files, by its suffix.
+pub fn file_name(alloc: Global, base: &Name, suffix: &str) -> Result<Name, Ending>
     ensures name { IfOk result (λ name. name ≡ base.now ++ suffix.now) }
     ensures only { IfErr result (λ e. e.status ≡ Status.Memory) }
 {

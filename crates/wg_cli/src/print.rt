@@ -27,12 +27,12 @@ fn print<O: Sink>(out: &mut O, piece: &[u8]) -> Result<(), Ending>
 {
     match write_all(out, piece) {
         Ok(()) => Ok(()),
-        Err(error) => Err(unput(error)),
+        Err(error) => Err(output_ending(error)),
     }
 }
 
 // How a job ends whose output the sink does not take.
-fn unput(error: WriteError) -> Ending
+fn output_ending(error: WriteError) -> Ending
     ensures only { IsUnput result.status }
     ensures fault { result.status ≡ Status.WriteFault Out → error ≡ WriteError.Failed }
     ensures want { result.status ≡ Status.Memory → error ≡ WriteError.Memory }
@@ -71,7 +71,7 @@ pub fn print_graph<O: Sink>(out: &mut O, graph: &Graph) -> Result<(), Ending>
 {
     match wg_arcs::write(graph, out) {
         Ok(()) => Ok(()),
-        Err(error) => Err(unput(error)),
+        Err(error) => Err(output_ending(error)),
     }
 }
 
@@ -82,7 +82,7 @@ pub fn print_places<O: Sink>(out: &mut O, places: &Offsets) -> Result<(), Ending
 {
     match write_places(out, places) {
         Ok(()) => Ok(()),
-        Err(error) => Err(unput(error)),
+        Err(error) => Err(output_ending(error)),
     }
 }
 
@@ -151,6 +151,6 @@ pub fn print_ranking<O: Sink>(out: &mut O, ranked: &Ranked, count: u64) -> Resul
 {
     match write_ranking(out, ranked, count) {
         Ok(()) => Ok(()),
-        Err(error) => Err(unput(error)),
+        Err(error) => Err(output_ending(error)),
     }
 }

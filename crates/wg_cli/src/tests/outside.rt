@@ -16,7 +16,7 @@ const TOO_MANY_PAGES: &[u8] =
     b"graphclass=it.unimi.dsi.webgraph.BVGraph\nversion=0\nnodes=68719476736\n";
 
 // Runs a line over an outside: the status and what was reported.
-fn reported<D: Depot, O: Sink>(
+fn report_of<D: Depot, O: Sink>(
     alloc: Global,
     line: &str,
     depot: &mut D,
@@ -32,7 +32,7 @@ fn reported<D: Depot, O: Sink>(
 fn code_without_files(alloc: Global, line: &str) -> Result<u8, Fail> {
     let mut depot = SteadyDepot::new(alloc, 4096);
     let mut out = SteadySink::new(alloc, 4096);
-    let (status, _) = reported(alloc, line, &mut depot, &mut out)?;
+    let (status, _) = report_of(alloc, line, &mut depot, &mut out)?;
     Ok(status.code())
 }
 
@@ -57,7 +57,7 @@ fn cut_at(alloc: Global, line: &str, k: u64) -> Result<(u8, usize), Fail>
     depot.put_file("g.graph", &bytes_of(alloc, COPIED.graph)?)?;
     let mut out = MemorySink::new(alloc, 1);
     out.fail_write(k);
-    let (status, _) = reported(alloc, line, &mut depot, &mut out)?;
+    let (status, _) = report_of(alloc, line, &mut depot, &mut out)?;
     Ok((status.code(), out.bytes().len()))
 }
 
@@ -158,7 +158,7 @@ fn lines_without_an_archive(rt: HostRuntime) -> Result<(), Fail> {
             depot.put_file("g.graph", &bytes_of(rt.alloc(), PLAIN_ARC.graph)?)?;
         }
         let mut out = SteadySink::new(rt.alloc(), 3);
-        let (status, err) = reported(rt.alloc(), line, &mut depot, &mut out)?;
+        let (status, err) = report_of(rt.alloc(), line, &mut depot, &mut out)?;
         assert!(rt;
             status.code() == row.code && err.bytes() == row.report.as_bytes(),
             "{line}"
@@ -223,7 +223,7 @@ fn faults_of_the_outside(rt: HostRuntime) -> Result<(), Fail> {
         if row.write > 0 {
             out.fail_write(row.write);
         }
-        let (status, err) = reported(rt.alloc(), "check g", &mut depot, &mut out)?;
+        let (status, err) = report_of(rt.alloc(), "check g", &mut depot, &mut out)?;
         assert!(rt;
             status.code() == row.code && err.bytes() == row.report.as_bytes(),
             "read {}, write {}",
@@ -238,7 +238,7 @@ fn faults_of_the_outside(rt: HostRuntime) -> Result<(), Fail> {
 fn a_file_that_is_too_long(rt: HostRuntime) -> Result<(), Fail> {
     let mut depot = ZeroDepot::new("g.properties", 70_368_744_177_665);
     let mut out = SteadySink::new(rt.alloc(), 1);
-    let (status, err) = reported(rt.alloc(), "check g", &mut depot, &mut out)?;
+    let (status, err) = report_of(rt.alloc(), "check g", &mut depot, &mut out)?;
     assert!(rt; status.code() == 11);
     assert!(rt; err.bytes() == b"wg: too long: g.properties\n".as_slice());
     Ok(())

@@ -7,7 +7,7 @@ use Rattle.wg_cli.specs.Answers.{HasOutput}
 use Rattle.wg_cli.specs.Causes.{HasCause}
 use Rattle.wg_cli.specs.Judged.{builds, ok_line, output_of}
 use Rattle.wg_cli.specs.Names.{archive_named, list_named}
-use Rattle.wg_cli.specs.Written.{greedy_archive, Stand, three_of}
+use Rattle.wg_cli.specs.Written.{greedy_archive, FilesAfter, archive_at}
 use Rattle.wg_cli.specs.declared.status.Status.{Status}
 use Rattle.wg_cli.proofs.ExitLemmas.{output_put}
 use Rattle.wg_cli.proofs.BuildLemmas.{rose_since, ended_by, stopped_cause, stopped_output, put_stands, built_files}
@@ -36,7 +36,7 @@ returns-in_err-bits g c = record {
       subst (λ (s : Status). HasCause (list_named c.args.arcs.now) (archive_named c.args.base.now) (g.D.Depot.counts c.args.depot.now) (g.D.Depot.counts c.write_archive.new.depot) (g.O.Sink.faults c.args.out.now) (g.O.Sink.faults c.args.out.now) s)
       (sym (ended_by c.from_residual-in_err-bits.result c.in_err-bits.field-0.0 c.from_residual-in_err-bits.ensures.1))
       (stopped_cause _ c.args.base.now _ _ _ _ c.in_err-bits.field-0.0.status c.in_err-bits.ensures.only
-      (λ o is. rose_since (archive_named c.args.base.now o) _ _ _ c.listed.ensures.later (c.in_err-bits.ensures.causes o is)));
+      (λ o is. rose_since (archive_named c.args.base.now o) _ _ _ c.load_graph.ensures.later (c.in_err-bits.ensures.causes o is)));
   reached = search rules;
   needed = search rules;
   output = λ t o r.
@@ -48,8 +48,8 @@ returns-in_err-bits g c = record {
       let p_is : c.params_for-params.result ≡ params_of c.args.layout.now c.args.nodes (arc_count graph) =
       c.params_for-params.ensures ∙ ap (λ (n : ℕ). params_of c.args.layout.now n (arc_count graph)) c.in_ok-graph.ensures.nodes in
       let is = c.in_ok-graph.ensures.steps t r (λ h. builds (params_of c.args.layout.now c.args.nodes (arc_count h)) h) ∙ ap (λ (p : Parameters). builds p graph) (sym p_is) in
-      built_files _ _ (greedy_archive c.params_for-params.result graph) _ _ _ _ _ is c.listed.ensures.same (c.write_archive.ensures.others t)
-      (subst (Stand (greedy_archive c.params_for-params.result graph) (three_of (archive_named c.args.base.now) (g.D.Depot.files c.listed.new.depot)) (three_of (archive_named c.args.base.now) (g.D.Depot.files c.write_archive.new.depot)))
+      built_files _ _ (greedy_archive c.params_for-params.result graph) _ _ _ _ _ is c.load_graph.ensures.same (c.write_archive.ensures.others t)
+      (subst (FilesAfter (greedy_archive c.params_for-params.result graph) (archive_at (archive_named c.args.base.now) (g.D.Depot.files c.load_graph.new.depot)) (archive_at (archive_named c.args.base.now) (g.D.Depot.files c.write_archive.new.depot)))
       (sym (ended_by c.from_residual-in_err-bits.result c.in_err-bits.field-0.0 c.from_residual-in_err-bits.ensures.1)) (c.in_err-bits.ensures.err t));
   same = search rules;
   later = search rules;
@@ -76,7 +76,7 @@ returns g c = record {
       let p_is : c.params_for-params.result ≡ params_of c.args.layout.now c.args.nodes (arc_count graph) =
       c.params_for-params.ensures ∙ ap (λ (n : ℕ). params_of c.args.layout.now n (arc_count graph)) c.in_ok-graph.ensures.nodes in
       let is = c.in_ok-graph.ensures.steps t r (λ h. builds (params_of c.args.layout.now c.args.nodes (arc_count h)) h) ∙ ap (λ (p : Parameters). builds p graph) (sym p_is) in
-      built_files _ _ (greedy_archive c.params_for-params.result graph) _ _ _ _ _ is c.listed.ensures.same (c.write_archive.ensures.others t)
+      built_files _ _ (greedy_archive c.params_for-params.result graph) _ _ _ _ _ is c.load_graph.ensures.same (c.write_archive.ensures.others t)
       (put_stands (greedy_archive c.params_for-params.result graph) _ _ c.print_ok.result c.print_ok.ensures.refusals.only (c.in_ok-bits.ensures.ok t).0);
   same = search rules;
   later = search rules;

@@ -4,7 +4,7 @@ use Rattle.wg_cli.specs.Answers.{Steps}
 use Rattle.wg_cli.specs.Judged.{with_arcs, with_list}
 use Rattle.wg_cli.specs.Names.{held_by, list_named}
 use Rattle.wg_cli.proofs.BuildLemmas.{steps_then}
-use Rattle.wg_cli.proofs.build.listed.Goals as goal
+use Rattle.wg_cli.proofs.build.load_graph.Goals as goal
 
 pub returns-in_err-bytes-clause-steps : goal.returns-in_err-bytes-clause-steps
 returns-in_err-bytes-clause-steps g c = λ t r.
