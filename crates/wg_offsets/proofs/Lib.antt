@@ -2,3 +2,4 @@ pub mod WordsLemmas
 pub mod PlacesLemmas
 pub mod OneFile
 pub mod Differences
+pub mod ErrorLemmas

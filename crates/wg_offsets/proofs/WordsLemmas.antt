@@ -3,6 +3,7 @@ use Rattle.std.proofs.Common.{◌≡◌, ℕ, suc, ◌+◌, ◌-◌, ◌≤◌, 
 use Rattle.std.proofs.lemmas.List.{get_or_push}
 use Rattle.std.proofs.lemmas.Bool.{ltb-false}
 use Rattle.wg_params.specs.declared.code.Code.{Code}
+use Rattle.wg_codes.specs.declared.outcome.Read.{Read}
 use Rattle.wg_codes.specs.declared.outcome.Read.TheVariants.{Value}
 use Rattle.wg_codes.specs.Words.{word, top}
 use Rattle.wg_codes.specs.Reading.{Reads}
@@ -14,7 +15,8 @@ use Rattle.wg_grammar.specs.declared.fault.OffsetWord.TheVariants as faults
 use Rattle.wg_offsets.specs.Words.{places_of, refusal, Words, IsRefused, ReadsOffsets}
 use Rattle.wg_offsets.specs.declared.places.TheConstants.{MOST_PLACE}
 use Rattle.wg_offsets.specs.Places.{last_place}
-use Rattle.wg_offsets.specs.Stages.{PrefixRead, LeadsTo}
+use Rattle.wg_source.specs.Standing.{IsReadAt}
+use Rattle.wg_offsets.specs.Stages.{PrefixRead, LeadsTo, LeadsBy}
 
 -- a word more after some
 pub words_more : (c : Code) (bits : List Bool) (before : List ℕ) (at : ℕ) (vs values : List ℕ) (mid v : ℕ) → Words c bits before at vs values mid
@@ -42,10 +44,6 @@ length_ends n (x ∷ vs) = ap suc (length_ends (n + x) vs)
 module _ (c : Code) (bits : List Bool) where
   pub none_yet : PrefixRead c bits 0 0 0 []
   none_yet = record { read = []; values = []; words = (refl, refl); number = refl; total = refl; lead = refl }
-
-  -- there are as many places as words
-  pub as_many : (count at offset : ℕ) (places : List ℕ) → PrefixRead c bits count at offset places → length places ≡ count
-  as_many count at offset places h = ap length h.lead ∙ length_ends 0 h.values ∙ h.number
 
   pub one_more : (count at offset : ℕ) (places : List ℕ) (next end : ℕ) → PrefixRead c bits count at offset places → LeadsTo c bits count offset at next end
       → PrefixRead c bits (count + 1) end next (places ++ next ∷ [])
@@ -97,16 +95,13 @@ passes_second false false f e = refl
 pub first_value : (offset v : ℕ) → refusal 0 offset (Value v) ≡ None → v ≤ 0
 first_value offset v fine = ltb-false 0 v (passes_first (nat_lt 0 v) (nat_lt MOST_PLACE (offset + v)) (faults.TooFar 0) fine)
 
--- the first word leads to the first bit
-pub first_leads : (c : Code) (bits : List Bool) (number offset at next end : ℕ) → number ≡ 0 → LeadsTo c bits number offset at next end → next ≡ offset
-first_leads c bits number offset at next end none leads =
-    let fine : refusal 0 offset (Value leads.0) ≡ None = subst (λ (k : ℕ). refusal k offset (Value leads.0) ≡ None) none leads.2 in
-    omega (arith, leads.3, first_value offset leads.0 fine)
-
 -- a word that is not refused leads to an offset that a file may have
 pub value_within : (number offset v : ℕ) → refusal number offset (Value v) ≡ None → offset + v ≤ MOST_PLACE
 value_within number offset v fine =
     ltb-false MOST_PLACE (offset + v) (passes_second (number == 0 && nat_lt 0 v) (nat_lt MOST_PLACE (offset + v)) (faults.TooFar number) fine)
 
-pub leads_within : (c : Code) (bits : List Bool) (number offset at next end : ℕ) → LeadsTo c bits number offset at next end → next ≤ MOST_PLACE
-leads_within c bits number offset at next end leads = omega (arith, leads.3, value_within number offset leads.0 leads.2)
+-- a word that stands there and leads on
+pub leads_from : (c : Code) (bits : List Bool) (number offset at : ℕ) (r : Read) (next end : ℕ) → IsReadAt c bits at r end → LeadsBy number offset r next → LeadsTo c bits number offset at next end
+leads_from c bits number offset at r next end found leads =
+    let here = subst (λ (q : Read). IsReadAt c bits at q end) leads.1 found in
+    (leads.0, here.0, leads.2, leads.3, here.1)

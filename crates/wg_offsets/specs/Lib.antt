@@ -1,4 +1,5 @@
 pub mod Places
 pub mod Words
 pub mod Stages
+pub mod Errors
 pub mod Laws

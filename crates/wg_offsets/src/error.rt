@@ -31,3 +31,54 @@ impl From<AllocError> for OffsetsError {
         OffsetsError::Memory
     }
 }
+
+/// Why a word of an offsets file was not read.
+pub enum WordError<R> {
+    /// It is refused, or the tail after the words.
+    Word(OffsetWord),
+    /// The source refused to read on.
+    Refused(R),
+}
+
+impl<R> From<OffsetWord> for WordError<R> {
+    ghost use Rattle.wg_offsets.specs.declared.error.WordError.TheVariants as words;
+
+    ghost from_gives = { λ w e. e ≡ words.Word w };
+
+    fn from(word: OffsetWord) -> Self {
+        WordError::Word(word)
+    }
+}
+
+/// Why the offsets were not read from a source.
+pub enum ReadError<R> {
+    /// The first fault of its words, or of the tail after them.
+    Word(OffsetWord),
+    /// The source refused to read on.
+    Refused(R),
+    /// There was no memory for the places.
+    Memory,
+}
+
+impl<R> From<WordError<R>> for ReadError<R> {
+    ghost use Rattle.wg_offsets.specs.Errors.{of_word};
+
+    ghost from_gives = { λ w e. e ≡ of_word w };
+
+    fn from(error: WordError<R>) -> Self {
+        match error {
+            WordError::Word(word) => ReadError::Word(word),
+            WordError::Refused(refusal) => ReadError::Refused(refusal),
+        }
+    }
+}
+
+impl<R> From<AllocError> for ReadError<R> {
+    ghost use Rattle.wg_offsets.specs.declared.error.ReadError.TheVariants as reads;
+
+    ghost from_gives = { λ _ e. e ≡ reads.Memory };
+
+    fn from(_error: AllocError) -> Self {
+        ReadError::Memory
+    }
+}

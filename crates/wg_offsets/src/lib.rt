@@ -4,7 +4,8 @@
 //! first word is 0, and each later one is the length of a record, in bits. So the sums of the words are the places of
 //! the records, and the last of them is the offset after the last record.
 //!
-//! [`read`] reads such a file into [`Offsets`], or names its first fault, an [`OffsetsError::Word`].
+//! [`Words`] reads such a file word by word, from any source, and keeps the last offset only. [`read_from`] keeps all of
+//! them as [`Offsets`], and [`read`] reads them from bytes in memory; each names the first fault of the file.
 //! [`Offsets::first_mismatch`] compares the lengths of records that two of them tell, as those of a file and those of
 //! the records that were read. The function of [`laws`] states that each file has one list of places or one first
 //! fault.
@@ -17,10 +18,12 @@ mod error;
 pub mod laws;
 mod places;
 mod reading;
+mod words;
 
-pub use error::OffsetsError;
+pub use error::{OffsetsError, ReadError, WordError};
 pub use places::{MOST_PLACE, Offsets};
-pub use reading::read;
+pub use reading::{read, read_from};
+pub use words::Words;
 
 #[cfg(test)]
 mod tests;

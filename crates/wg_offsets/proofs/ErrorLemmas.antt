@@ -1,0 +1,21 @@
+-- An error of a word as one of the whole file.
+use Rattle.wg_grammar.specs.declared.fault.OffsetWord.{OffsetWord}
+use Rattle.wg_offsets.specs.declared.error.WordError.{WordError}
+use Rattle.wg_offsets.specs.declared.error.WordError.TheVariants as words
+use Rattle.wg_offsets.specs.declared.error.ReadError.{ReadError}
+use Rattle.wg_offsets.specs.declared.error.ReadError.TheVariants as reads
+use Rattle.wg_offsets.specs.Errors.{OfWord, OfRefusal, of_word, IfWordOf, IfRefusalOf, known_error}
+use Rattle.wg_offsets.specs.Stages.{IfWord}
+
+pub word_of_file : {R : Type 0} (x : WordError R) (P Q : OffsetWord → Type 0) → ((w : OffsetWord) → P w → Q w) → OfWord x P → IfWordOf (of_word x) Q
+word_of_file (words.Word w) P Q on h = on w h
+word_of_file (words.Refused r) P Q on h = tt
+
+pub refusal_of_file : {R : Type 0} (x : WordError R) (P Q : R → Type 0) → ((r : R) → P r → Q r) → OfRefusal x P → IfRefusalOf (of_word x) Q
+refusal_of_file (words.Word w) P Q on h = tt
+refusal_of_file (words.Refused r) P Q on h = on r h
+
+pub word_of_bits : {R : Type 0} (x : ReadError R) (P : OffsetWord → Type 0) → IfWordOf x P → IfWord (known_error x) P
+word_of_bits (reads.Word w) P h = h
+word_of_bits (reads.Refused r) P h = tt
+word_of_bits reads.Memory P h = tt
