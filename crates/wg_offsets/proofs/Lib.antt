@@ -3,3 +3,4 @@ pub mod PlacesLemmas
 pub mod OneFile
 pub mod Differences
 pub mod ErrorLemmas
+pub mod ComparingLemmas

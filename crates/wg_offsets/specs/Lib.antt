@@ -2,4 +2,5 @@ pub mod Places
 pub mod Words
 pub mod Stages
 pub mod Errors
+pub mod Comparing
 pub mod Laws

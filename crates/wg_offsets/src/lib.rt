@@ -7,19 +7,22 @@
 //! [`Words`] reads such a file word by word, from any source, and keeps the last offset only. [`read_from`] keeps all of
 //! them as [`Offsets`], and [`read`] reads them from bytes in memory; each names the first fault of the file.
 //! [`Offsets::first_mismatch`] compares the lengths of records that two of them tell, as those of a file and those of
-//! the records that were read. The function of [`laws`] states that each file has one list of places or one first
-//! fault.
+//! the records that were read; a [`Comparison`] does so record after record. The function of [`laws`] states that each
+//! file has one list of places or one first fault.
 //!
 //! Offsets hold 8 bytes for each offset. Memory is taken as the words come, and never by the number of pages that an
-//! archive claims. Reading costs a pass over the bytes, and looking up an offset takes constant time.
+//! archive claims; words and a comparison take none. Reading costs a pass over the file, and looking up an offset takes
+//! constant time.
 #![tactic(auto)]
 
+mod comparing;
 mod error;
 pub mod laws;
 mod places;
 mod reading;
 mod words;
 
+pub use comparing::Comparison;
 pub use error::{OffsetsError, ReadError, WordError};
 pub use places::{MOST_PLACE, Offsets};
 pub use reading::{read, read_from};

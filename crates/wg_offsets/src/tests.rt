@@ -3,7 +3,7 @@ ghost use Rattle.wg_io.specs.declared.limits.TheConstants.{MOST_BYTES};
 ghost use Rattle.wg_params.specs.declared.limits.TheConstants.{MOST_PAGES};
 ghost use Rattle.wg_offsets.specs.declared.places.TheConstants.{MOST_PLACE};
 
-use crate::{MOST_PLACE, Offsets, OffsetsError, read};
+use crate::{Comparison, MOST_PLACE, Offsets, OffsetsError, read};
 use std::alloc::{AllocError, Global};
 use std::test::Fail;
 use wg_grammar::OffsetWord;
@@ -91,4 +91,14 @@ fn the_first_length_that_differs_is_found(rt: HostRuntime) -> Result<(), Fail> {
     let second = of_two_records(rt.alloc(), 9, 11)?;
     assert_eq!(rt; here.first_mismatch(&second), Some((1, 1, 2)));
     Ok(())
+}
+
+#[test]
+fn lengths_are_compared_as_they_come(rt: HostRuntime) {
+    let mut comparison = Comparison::new();
+    comparison.push(9, 9);
+    assert_eq!(rt; comparison.first_mismatch(), None);
+    comparison.push(10, 11);
+    comparison.push(12, 12);
+    assert_eq!(rt; comparison.first_mismatch(), Some((1, 1, 2)));
 }
