@@ -1,11 +1,11 @@
 -- The names of an archive's files.
-use Rattle.std.proofs.Common.{◌≡◌, ◌≢◌, ℕ, Bool, true, false, ◌||◌, List, ◌++◌, Decides, refl, sym, ◌∙◌, ap}
+use Rattle.std.proofs.Common.{◌≡◌, ◌≢◌, ◌<◌, ℕ, arith, length, get_or, reverse, Bool, true, false, ◌||◌, List, ◌++◌, Decides, refl, sym, ◌∙◌, ap}
 use Rattle.std.specs.Str.{bytes_eq}
 use Rattle.std.proofs.lemmas.Bool.{false≢true}
 use Rattle.std.proofs.lemmas.Bool.Decides.{same_from_decides}
-use Rattle.std.proofs.lemmas.List.{append_cancel_left}
+use Rattle.std.proofs.lemmas.List.{append_cancel_left, append_cancel_right, reverse-append, get_or_append_left}
 use Rattle.std.proofs.lemmas.Slice.Eq.{bytes_eq-Decides}
-use Rattle.wg_words.specs.Files.{is_file_of, IsNoFileOf}
+use Rattle.wg_words.specs.Files.{is_file_of, IsNoFileOf, ShareNoFile}
 use Rattle.wg_io.specs.declared.suffixes.TheConstants.{PROPERTIES, GRAPH, OFFSETS}
 
 -- after the first part, the name is the whole where its rest is the second part
@@ -39,3 +39,44 @@ no_file base name is =
       graph = not_whole name (base ++ GRAPH.now) second.1;
       offsets = not_whole name (base ++ OFFSETS.now) first.1;
     }
+
+-- counted from the end, a byte of the last part of a text is a byte of the text
+from_end : (first last : List ℕ) (k : ℕ) → k < length (reverse last) → get_or (reverse (first ++ last)) k 0 ≡ get_or (reverse last) k 0
+from_end first last k inside = ap (λ (l : List ℕ). get_or l k 0) (reverse-append first last) ∙ get_or_append_left (reverse last) (reverse first) 0 k inside
+
+-- texts differ if their last parts differ in a byte, counted from the end
+ends_differ : (k : ℕ) (s t : List ℕ) → k < length (reverse s) → k < length (reverse t) → get_or (reverse s) k 0 ≢ get_or (reverse t) k 0 → (a b : List ℕ) → a ++ s ≢ b ++ t
+ends_differ k s t in_s in_t other a b = λ e. other (sym (from_end a s k in_s) ∙ ap (λ (l : List ℕ). get_or (reverse l) k 0) e ∙ from_end b t k in_t)
+
+properties_not_graph : (a b : List ℕ) → a ++ PROPERTIES.now ≢ b ++ GRAPH.now
+properties_not_graph = ends_differ 0 PROPERTIES.now GRAPH.now (omega arith) (omega arith) (λ e. omega (arith, e))
+
+properties_not_offsets : (a b : List ℕ) → a ++ PROPERTIES.now ≢ b ++ OFFSETS.now
+properties_not_offsets = ends_differ 1 PROPERTIES.now OFFSETS.now (omega arith) (omega arith) (λ e. omega (arith, e))
+
+graph_not_offsets : (a b : List ℕ) → a ++ GRAPH.now ≢ b ++ OFFSETS.now
+graph_not_offsets = ends_differ 0 GRAPH.now OFFSETS.now (omega arith) (omega arith) (λ e. omega (arith, e))
+
+-- archives of other names share no file
+pub no_file_shared : (input output : List ℕ) → input ≢ output → ShareNoFile input output
+no_file_shared input output other = record {
+  properties = record {
+    properties = λ e. other (append_cancel_right input output PROPERTIES.now e);
+    graph = properties_not_graph input output;
+    offsets = properties_not_offsets input output;
+  };
+  graph = record {
+    properties = λ e. properties_not_graph output input (sym e);
+    graph = λ e. other (append_cancel_right input output GRAPH.now e);
+    offsets = graph_not_offsets input output;
+  };
+  offsets = record {
+    properties = λ e. properties_not_offsets output input (sym e);
+    graph = λ e. graph_not_offsets output input (sym e);
+    offsets = λ e. other (append_cancel_right input output OFFSETS.now e);
+  };
+}
+
+-- the same by the test
+pub no_file_shared_unless : (input output : List ℕ) → bytes_eq input output ≡ false → ShareNoFile input output
+no_file_shared_unless input output is = no_file_shared input output (not_whole input output is)

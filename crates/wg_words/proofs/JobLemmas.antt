@@ -1,20 +1,21 @@
 -- A job is within its limits.
-use Rattle.std.proofs.Common.{◌≡◌, ℕ, ◌≤◌, Bool, true, false, List, Option, Some, cond, arith, subst, codes}
+use Rattle.std.proofs.Common.{◌≡◌, ℕ, ◌≤◌, Bool, true, false, List, Option, Some, None, refl, option_map, cond, arith, subst, codes}
 use Rattle.std.specs.Str.{bytes_eq}
 use Rattle.std.proofs.lemmas.Option.{none-some, same_Some, option_and_then_some}
 use Rattle.clap.specs.Words.{Row, Text, first_of}
 use Rattle.wg_params.specs.Parameters.{IsWithinLimits}
 use Rattle.wg_params.specs.declared.limits.TheConstants.{MOST_PAGES, MOST_DAMPING, MOST_ROUNDS}
 use Rattle.wg_words.specs.Commands.{parsed}
-use Rattle.wg_words.specs.Files.{is_file_of, IsNoFileOf}
+use Rattle.wg_words.specs.Files.{is_file_of, IsNoFileOf, ShareNoFile}
 use Rattle.wg_words.specs.Layouts.{params_of}
 use Rattle.wg_words.specs.Values.{name_in, number_up_to}
-use Rattle.wg_words.specs.Jobs.{rank_on, build_from, build_on, job_on, job_from, job_of, IsWithin}
+use Rattle.wg_words.specs.Jobs.{rank_on, build_from, build_on, conversion_from, conversion_of, conversion_in, recoding, transposing, job_on, job_on_base, job_from, job_of, IsConversion, IsWithin}
+use Rattle.wg_words.specs.declared.conversion.Conversion.{Conversion}
 use Rattle.wg_words.specs.declared.defaults.TheConstants.{DEFAULT_DAMPING, DEFAULT_ROUNDS, DEFAULT_TOP}
 use Rattle.wg_words.specs.declared.jobs.Job.{Job}
-use Rattle.wg_words.specs.declared.jobs.Job.TheVariants.{Check, Arcs, Offsets, Rank, Build}
+use Rattle.wg_words.specs.declared.jobs.Job.TheVariants.{Check, Arcs, Offsets, Rank, Build, Recode, Transpose}
 use Rattle.wg_words.specs.declared.layout.Layout.{Layout}
-use Rattle.wg_words.proofs.FileLemmas.{no_file}
+use Rattle.wg_words.proofs.FileLemmas.{no_file, no_file_shared_unless}
 use Rattle.wg_words.proofs.LayoutLemmas.{layout_in_within}
 use Rattle.wg_words.proofs.ValueLemmas.{up_to_within, number_within, some_unless}
 
@@ -44,6 +45,30 @@ build_on_within rows base job is =
     option_and_then_some _ _ job is (λ arcs _ unless_file.
     some_unless IsWithin (is_file_of base arcs) (build_from rows base arcs) job (λ other. build_from_within rows base arcs job (no_file base arcs other)) unless_file)
 
+-- what is known of a conversion
+abbrev IsProper : Conversion → Type 0
+IsProper c = IsConversion c.input c.output c.layout
+
+conversion_from_within : (rows : List Row) (input output : Text) (c : Conversion) → ShareNoFile input output → conversion_from rows input output ≡ Some c → IsProper c
+conversion_from_within rows input output c apart is =
+    let no_pages : 0 ≤ MOST_PAGES = omega arith in
+    option_and_then_some _ _ c is (λ layout is_layout c_is.
+    subst IsProper (same_Some (record { input = input; output = output; layout = layout }) c c_is) (layout_in_within rows layout 0 no_pages is_layout, apart))
+
+conversion_of_within : (rows : List Row) (input : Text) (c : Conversion) → conversion_of rows input ≡ Some c → IsProper c
+conversion_of_within rows input c is =
+    option_and_then_some _ _ c is (λ output _ unless_same.
+    some_unless IsProper (bytes_eq input output) (conversion_from rows input output) c (λ other. conversion_from_within rows input output c (no_file_shared_unless input output other)) unless_same)
+
+conversion_in_within : (rows : List Row) (c : Conversion) → conversion_in rows ≡ Some c → IsProper c
+conversion_in_within rows c is =
+    option_and_then_some (conversion_of rows) (name_in rows (codes "in")) c is (λ input _ then_output. conversion_of_within rows input c then_output)
+
+-- the job of a conversion is within its limits, as the conversion is
+mapped_within : (make : Conversion → Job) → ((c : Conversion) → IsProper c → IsWithin (make c)) → (o : Option Conversion) → ((c : Conversion) → o ≡ Some c → IsProper c) → (job : Job) → option_map make o ≡ Some job → IsWithin job
+mapped_within make makes None within job is = absurd (none-some job is)
+mapped_within make makes (Some c) within job is = subst IsWithin (same_Some (make c) job is) (makes c (within c refl))
+
 -- one of two answers
 chosen_within : (b : Bool) (first other : Option Job) (job : Job) → (first ≡ Some job → IsWithin job) → (other ≡ Some job → IsWithin job) → cond b first other ≡ Some job → IsWithin job
 chosen_within true first other job by_first by_other is = by_first is
@@ -57,11 +82,19 @@ job_on_within command rows base job =
     (chosen_within (bytes_eq command (codes "rank")) _ _ job (rank_on_within rows base job)
     (chosen_within (bytes_eq command (codes "build")) _ _ job (build_on_within rows base job) (λ is. absurd (none-some job is))))))
 
+job_on_base_within : (command : Text) (rows : List Row) (job : Job) → job_on_base command rows ≡ Some job → IsWithin job
+job_on_base_within command rows job is =
+    option_and_then_some (job_on command rows) (name_in rows (codes "base")) job is (λ base _ on. job_on_within command rows base job on)
+
+job_from_within : (command : Text) (rows : List Row) (job : Job) → job_from (command, rows) ≡ Some job → IsWithin job
+job_from_within command rows job =
+    chosen_within (bytes_eq command (codes "recode")) _ _ job (mapped_within recoding (λ c within. within) (conversion_in rows) (conversion_in_within rows) job)
+    (chosen_within (bytes_eq command (codes "transpose")) _ _ job (mapped_within transposing (λ c within. within) (conversion_in rows) (conversion_in_within rows) job)
+    (job_on_base_within command rows job))
+
 pub job_within : (words : List Text) (job : Job) → job_of words ≡ Some job → IsWithin job
 job_within words job is =
-    option_and_then_some job_from (parsed words) job is (λ found _ from.
-    option_and_then_some (job_on found.0 found.1) (name_in found.1 (codes "base")) job from (λ base _ on.
-    job_on_within found.0 found.1 base job on))
+    option_and_then_some job_from (parsed words) job is (λ found _ from. job_from_within found.0 found.1 job from)
 
 -- what a caller knows of the numbers of a ranking
 pub rank_within : (words : List Text) (base : Text) (rounds damping top : ℕ) → job_of words ≡ Some (Rank base rounds damping top) → (rounds ≤ MOST_ROUNDS) × (damping ≤ MOST_DAMPING) × (top ≤ MOST_PAGES)
@@ -70,3 +103,10 @@ rank_within words base rounds damping top is = job_within words (Rank base round
 -- what a caller knows of the building of an archive
 pub build_within : (words : List Text) (arcs base : Text) (nodes : ℕ) (layout : Layout) → job_of words ≡ Some (Build arcs base nodes layout) → (nodes ≤ MOST_PAGES) × IsWithinLimits (params_of layout nodes 0) × IsNoFileOf base arcs
 build_within words arcs base nodes layout is = job_within words (Build arcs base nodes layout) is
+
+-- what a caller knows of a command that reads one archive and writes another
+pub recode_within : (words : List Text) (input output : Text) (layout : Layout) → job_of words ≡ Some (Recode input output layout) → IsConversion input output layout
+recode_within words input output layout is = job_within words (Recode input output layout) is
+
+pub transpose_within : (words : List Text) (input output : Text) (layout : Layout) → job_of words ≡ Some (Transpose input output layout) → IsConversion input output layout
+transpose_within words input output layout is = job_within words (Transpose input output layout) is

@@ -101,10 +101,10 @@ layout_in_within rows layout pages few_pages is =
     (zeta_within rows zeta is_zeta)
     is_coded))))
 
--- the arcs are counted only when they have been read, and do not change what else is within its limits
-pub layout_within : (layout : Layout) (pages links : ℕ) → IsWithinLimits (params_of layout pages 0) → links ≤ MOST_ARCS → IsWithinLimits (params_of layout pages links)
-layout_within layout pages links within few = record {
-  nodes = within.nodes;
+-- a layout that is within its limits for one graph is so for any, as far as its pages and arcs are
+pub layout_for_any : (layout : Layout) (pages links other_pages other_links : ℕ) → IsWithinLimits (params_of layout other_pages other_links) → pages ≤ MOST_PAGES → links ≤ MOST_ARCS → IsWithinLimits (params_of layout pages links)
+layout_for_any layout pages links other_pages other_links within few_pages few = record {
+  nodes = few_pages;
   arcs = few;
   window = within.window;
   chain = within.chain;
@@ -118,6 +118,10 @@ layout_within layout pages links within few = record {
   residuals = within.residuals;
   offsets = within.offsets;
 }
+
+-- the arcs are counted only when they have been read, and do not change what else is within its limits
+pub layout_within : (layout : Layout) (pages links : ℕ) → IsWithinLimits (params_of layout pages 0) → links ≤ MOST_ARCS → IsWithinLimits (params_of layout pages links)
+layout_within layout pages links within few = layout_for_any layout pages links pages 0 within within.nodes few
 
 not_zero : (n : ℕ) → 1 ≤ n → (n == 0) ≡ false
 not_zero n some = grind arith

@@ -54,6 +54,14 @@ plain_build_app = with_rule (with_rule (with_rule (new_app (codes "build")) (pos
 abbrev pub build_app : App
 build_app = with_layout plain_build_app
 
+-- NAME IN OUT
+abbrev pub two_archives_app : Text → App
+two_archives_app name = with_rule (with_rule (new_app name) (positional_rule (codes "in"))) (positional_rule (codes "out"))
+
+-- the same with the options that say how the archive OUT is written
+abbrev pub conversion_app : Text → App
+conversion_app name = with_layout (two_archives_app name)
+
 -- one level of subcommands, of which one is required
 abbrev pub program_app : App
 program_app = record (new_app (codes "webgraph")) { top = record (new_app (codes "webgraph")).top { no_binary_name = true; subcommand_required = true } }
@@ -62,9 +70,13 @@ program_app = record (new_app (codes "webgraph")) { top = record (new_app (codes
 abbrev pub plain_app : App
 plain_app = with_subcommand (with_subcommand (with_subcommand program_app (archive_app (codes "check")).top) (archive_app (codes "arcs")).top) (archive_app (codes "offsets")).top
 
+-- a command line with one command more
+abbrev pub with_command : App → App → App
+with_command line command = with_subcommand line command.top
+
 -- the command line of the program
 abbrev pub command_app : App
-command_app = with_subcommand (with_subcommand plain_app rank_app.top) build_app.top
+command_app = with_command (with_command (with_command (with_command plain_app rank_app) build_app) (conversion_app (codes "recode"))) (conversion_app (codes "transpose"))
 
 -- nothing where the words are refused
 abbrev pub where_empty : {X : Type 0} → Kinds → Option X → Option X

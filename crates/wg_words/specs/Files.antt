@@ -12,3 +12,9 @@ pub record IsNoFileOf (base name : List ℕ) : Type 0 where
   pub properties : name ≢ base ++ PROPERTIES.now
   pub graph : name ≢ base ++ GRAPH.now
   pub offsets : name ≢ base ++ OFFSETS.now
+
+-- no file of the one archive is one of the other's
+pub record ShareNoFile (input output : List ℕ) : Type 0 where
+  pub properties : IsNoFileOf output (input ++ PROPERTIES.now)
+  pub graph : IsNoFileOf output (input ++ GRAPH.now)
+  pub offsets : IsNoFileOf output (input ++ OFFSETS.now)

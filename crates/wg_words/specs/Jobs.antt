@@ -1,16 +1,18 @@
 -- The job that the words ask for.
-use Rattle.std.specs.Prelude.{◌≤◌, ⊤, List, Option, Some, None, option_and_then, codes, if◌then◌else◌}
+use Rattle.std.specs.Prelude.{◌≤◌, ⊤, List, Option, Some, None, option_and_then, option_map, codes, if◌then◌else◌}
 use Rattle.std.specs.Str.{bytes_eq}
 use Rattle.clap.specs.Words.{Row, Text}
 use Rattle.wg_params.specs.Parameters.{IsWithinLimits}
 use Rattle.wg_params.specs.declared.limits.TheConstants.{MOST_PAGES, MOST_DAMPING, MOST_ROUNDS}
 use Rattle.wg_words.specs.Commands.{parsed}
-use Rattle.wg_words.specs.Files.{is_file_of, IsNoFileOf}
+use Rattle.wg_words.specs.Files.{is_file_of, IsNoFileOf, ShareNoFile}
 use Rattle.wg_words.specs.Layouts.{params_of, layout_in}
 use Rattle.wg_words.specs.Values.{name_in, number_in, required_in}
+use Rattle.wg_words.specs.declared.conversion.Conversion.{Conversion}
 use Rattle.wg_words.specs.declared.defaults.TheConstants.{DEFAULT_DAMPING, DEFAULT_ROUNDS, DEFAULT_TOP}
 use Rattle.wg_words.specs.declared.jobs.Job.{Job}
-use Rattle.wg_words.specs.declared.jobs.Job.TheVariants.{Check, Arcs, Offsets, Rank, Build}
+use Rattle.wg_words.specs.declared.jobs.Job.TheVariants.{Check, Arcs, Offsets, Rank, Build, Recode, Transpose}
+use Rattle.wg_words.specs.declared.layout.Layout.{Layout}
 
 -- the ranking of an archive, with the numbers that the options give
 abbrev pub rank_on : List Row → Text → Option Job
@@ -36,6 +38,27 @@ build_on rows base =
     option_and_then (λ arcs. if is_file_of base arcs then None else build_from rows base arcs)
     (name_in rows (codes "arcs"))
 
+-- the conversion between two archives, with the layout that the options give
+abbrev pub conversion_from : List Row → Text → Text → Option Conversion
+conversion_from rows input output = option_and_then (λ layout. Some (record { input = input; output = output; layout = layout })) (layout_in rows)
+
+-- the conversion of an archive into one of another name
+abbrev pub conversion_of : List Row → Text → Option Conversion
+conversion_of rows input =
+    option_and_then (λ output. if bytes_eq input output then None else conversion_from rows input output)
+    (name_in rows (codes "out"))
+
+-- the conversion that the words ask for
+abbrev pub conversion_in : List Row → Option Conversion
+conversion_in rows = option_and_then (conversion_of rows) (name_in rows (codes "in"))
+
+-- the job that a conversion is
+abbrev pub recoding : Conversion → Job
+recoding c = Recode c.input c.output c.layout
+
+abbrev pub transposing : Conversion → Job
+transposing c = Transpose c.input c.output c.layout
+
 -- the job of a command on one archive
 abbrev pub job_on : Text → List Row → Text → Option Job
 job_on command rows base =
@@ -46,16 +69,29 @@ job_on command rows base =
     else if bytes_eq command (codes "build") then build_on rows base
     else None
 
+-- the same, with the archive that the words name
+abbrev pub job_on_base : Text → List Row → Option Job
+job_on_base command rows = option_and_then (job_on command rows) (name_in rows (codes "base"))
+
 -- the job of a command by its matches
 abbrev pub job_from : Text × List Row → Option Job
-job_from found = option_and_then (job_on found.0 found.1) (name_in found.1 (codes "base"))
+job_from found =
+    if bytes_eq found.0 (codes "recode") then option_map recoding (conversion_in found.1)
+    else if bytes_eq found.0 (codes "transpose") then option_map transposing (conversion_in found.1)
+    else job_on_base found.0 found.1
 
 -- the job of the words: none where clap refuses them, or where a part of the job is out of its range
 abbrev pub job_of : List Text → Option Job
 job_of words = option_and_then job_from (parsed words)
 
+-- the layout is within its limits, even for a graph without pages, and the archive that is written has no file of the other
+abbrev pub IsConversion : Text → Text → Layout → Type 0
+IsConversion input output layout = IsWithinLimits (params_of layout 0 0) × ShareNoFile input output
+
 -- the numbers and the codes of a job are within their limits, and no job reads a file that it writes
 abbrev pub IsWithin : Job → Type 0
 IsWithin (Rank base rounds damping top) = (rounds ≤ MOST_ROUNDS) × (damping ≤ MOST_DAMPING) × (top ≤ MOST_PAGES)
 IsWithin (Build arcs base nodes layout) = (nodes ≤ MOST_PAGES) × IsWithinLimits (params_of layout nodes 0) × IsNoFileOf base arcs
+IsWithin (Recode input output layout) = IsConversion input output layout
+IsWithin (Transpose input output layout) = IsConversion input output layout
 IsWithin _ = ⊤

@@ -1,9 +1,10 @@
 ghost use Rattle.std.specs.Prelude.{◌≡◌, Some, None, IfOk, IfErr, option_and_then, map, string_bytes};
 ghost use Rattle.clap.specs.Words.{subcommand_rows_of, rows_of, found_of};
 ghost use Rattle.wg_words.specs.Commands.{parsed};
-ghost use Rattle.wg_words.specs.Jobs.{job_of, job_from, job_on, rank_on, build_on, build_from, IsWithin};
+ghost use Rattle.wg_words.specs.Jobs.{job_of, job_from, job_on_base, job_on, rank_on, build_on, build_from, recoding, transposing, IsWithin};
 
 use crate::commands::command;
+use crate::conversion::{Conversion, conversion_at};
 use crate::files::is_file_of;
 use crate::options::layout_at;
 use crate::values::{name_at, number_at, required_at};
@@ -54,6 +55,41 @@ fn matches<'a>(alloc: Global, words: &'a [String]) -> Result<Option<ArgMatches<'
 // The job of one subcommand.
 fn job_from(alloc: Global, command: &str, found: &ArgMatches<'_>) -> Result<Option<Job>, AllocError>
     ensures { IfOk result (λ job. job ≡ job_from (command.now, rows_of (found_of found.now))) }
+{
+    match command {
+        "recode" => Ok(conversion_at(alloc, found)?.map(recoding)),
+        "transpose" => Ok(conversion_at(alloc, found)?.map(transposing)),
+        _ => job_on_base(alloc, command, found),
+    }
+}
+
+fn recoding(conversion: Conversion) -> Job
+    ensures { result ≡ recoding conversion }
+{
+    Job::Recode {
+        input: conversion.input,
+        output: conversion.output,
+        layout: conversion.layout,
+    }
+}
+
+fn transposing(conversion: Conversion) -> Job
+    ensures { result ≡ transposing conversion }
+{
+    Job::Transpose {
+        input: conversion.input,
+        output: conversion.output,
+        layout: conversion.layout,
+    }
+}
+
+// The job of a command on one archive, which the words name.
+fn job_on_base(
+    alloc: Global,
+    command: &str,
+    found: &ArgMatches<'_>,
+) -> Result<Option<Job>, AllocError>
+    ensures { IfOk result (λ job. job ≡ job_on_base command.now (rows_of (found_of found.now))) }
 {
     let Some(base) = name_at(alloc, found, "base")? else {
         return Ok(None);

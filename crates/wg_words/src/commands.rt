@@ -1,7 +1,7 @@
 //! The commands of the program with their options and positionals: a function each, as the definitions have an `App` each.
 ghost use Rattle.std.specs.Prelude.{◌≡◌, IfOk, false};
 ghost use Rattle.clap.specs.Words.{App, rule_of};
-ghost use Rattle.wg_words.specs.Commands.{IsApp, positional_rule, base_rule, archive_app, option_rule, required_rule, rank_app, with_option, with_limits, with_codes, with_layout, plain_build_app, build_app, program_app, plain_app, command_app};
+ghost use Rattle.wg_words.specs.Commands.{IsApp, positional_rule, base_rule, archive_app, option_rule, required_rule, rank_app, with_option, with_limits, with_codes, with_layout, plain_build_app, build_app, two_archives_app, conversion_app, program_app, plain_app, with_command, command_app};
 
 use clap::{Arg, Command};
 use std::alloc::{AllocError, Global};
@@ -112,6 +112,23 @@ fn build<'a>(alloc: Global) -> Result<Command<'a>, AllocError>
     with_layout(alloc, command)
 }
 
+// A command on two archives.
+fn on_two_archives<'a>(alloc: Global, name: &'a str) -> Result<Command<'a>, AllocError>
+    ensures { IfOk result (IsApp (two_archives_app name.now)) }
+{
+    Command::new(alloc, name)
+        .arg(positional(alloc, "in"))?
+        .arg(positional(alloc, "out"))
+}
+
+// A command that reads one archive and writes another.
+fn conversion<'a>(alloc: Global, name: &'a str) -> Result<Command<'a>, AllocError>
+    ensures { IfOk result (IsApp (conversion_app name.now)) }
+{
+    let command = on_two_archives(alloc, name)?;
+    with_layout(alloc, command)
+}
+
 fn program<'a>(alloc: Global) -> Command<'a>
     ensures { IsApp program_app result }
 {
@@ -133,11 +150,24 @@ fn plain<'a>(alloc: Global) -> Result<Command<'a>, AllocError>
         .subcommand(offsets)
 }
 
+// The command line with one command more.
+fn with_command<'a>(line: Command<'a>, command: Command<'a>) -> Result<Command<'a>, AllocError>
+    ensures { (a b : App) → IsApp a line.entry → IsApp b command.entry → IfOk result (IsApp (with_command a b)) }
+{
+    line.subcommand(command)
+}
+
 /// The command line of the program: the words begin with the subcommand, which is required.
 pub fn command<'a>(alloc: Global) -> Result<Command<'a>, AllocError>
     ensures { IfOk result (IsApp command_app) }
 {
+    let line = plain(alloc)?;
     let rank = rank(alloc)?;
+    let line = with_command(line, rank)?;
     let build = build(alloc)?;
-    plain(alloc)?.subcommand(rank)?.subcommand(build)
+    let line = with_command(line, build)?;
+    let recode = conversion(alloc, "recode")?;
+    let line = with_command(line, recode)?;
+    let transpose = conversion(alloc, "transpose")?;
+    with_command(line, transpose)
 }

@@ -32,6 +32,20 @@ pub enum Job {
         nodes: u64,
         layout: Layout,
     },
+    /// `recode IN OUT`: the archive OUT of the graph of the archive IN. The layout is within the limits of `wg_params`, and the
+    /// two names differ, so that no file of IN is one of OUT.
+    Recode {
+        input: Name,
+        output: Name,
+        layout: Layout,
+    },
+    /// `transpose IN OUT`: the archive OUT of the graph of the archive IN with each arc the other way round. The layout and the
+    /// names are as for `recode`.
+    Transpose {
+        input: Name,
+        output: Name,
+        layout: Layout,
+    },
 }
 
 /// Why there is no job.

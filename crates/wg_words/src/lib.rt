@@ -6,7 +6,8 @@
 //! out of its range. The definition of the job, `job_of`, is over the matches that `clap` defines for these words.
 //!
 //! A command that writes an archive takes the options of `options`, and its job has a [`Layout`]: what the words say of the
-//! archive's parameters, all but the numbers of pages and arcs. No such job reads one of the files that it writes.
+//! archive's parameters, all but the numbers of pages and arcs. No such job reads one of the files that it writes. What `recode`
+//! and `transpose` take is one `Conversion`, which becomes the job of either.
 //!
 //! A number is read from the text of its option by [`wg_num::read_decimal`], and by none of `clap`'s parsers: digits alone, no 0
 //! before others, at most its limit. An option that is absent gives its default.
@@ -17,6 +18,7 @@
 mod asked;
 mod codes;
 mod commands;
+mod conversion;
 mod defaults;
 mod files;
 mod jobs;

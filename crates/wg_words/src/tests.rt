@@ -1,50 +1,75 @@
-use crate::{Job, JobError, Name, Words, job};
+use crate::{Job, JobError, Layout, Name, Words, job};
 use std::alloc::Global;
 use std::process::Abort;
 use std::test::Fail;
 
-// The command, the numbers and the graph file of the job of a line, whose words are parted by blanks.
+// What the job of a line is, if it has one. The words of the line are parted by blanks.
 fn job_of_line(alloc: Global, line: &str) -> Result<Option<String>, Fail> {
     let mut words = Words::new(alloc);
     for word in line.split(' ') {
         words.push(word)?;
     }
     match job(alloc, &words) {
-        Ok(Job::Check { base }) => named(alloc, "check", &base),
-        Ok(Job::Arcs { base }) => named(alloc, "arcs", &base),
-        Ok(Job::Offsets { base }) => named(alloc, "offsets", &base),
-        Ok(
-            Job::Rank {
-                base,
-                rounds,
-                damping,
-                top,
-            },
-        ) => {
-            let command = format!(in alloc; "rank {rounds} {damping} {top}")?;
-            named(alloc, command.as_str(), &base)
-        }
-        Ok(
-            Job::Build {
-                arcs,
-                base,
-                nodes,
-                layout,
-            },
-        ) => {
-            let arcs = arcs.as_str();
-            let command = format!(in alloc; "build {arcs} {nodes} {layout:?}")?;
-            named(alloc, command.as_str(), &base)
-        }
+        Ok(job) => Ok(Some(described(alloc, &job)?)),
         Err(JobError::Usage) => Ok(None),
         Err(JobError::Memory) => Err(Fail::from(JobError::Memory)),
     }
 }
 
-fn named(alloc: Global, command: &str, base: &Name) -> Result<Option<String>, Fail> {
+// The command, what the options give, and the graph file of the archive: of the one that is written, if there are two.
+fn described(alloc: Global, job: &Job) -> Result<String, Fail> {
+    match job {
+        Job::Check { base } => named(alloc, "check", base),
+        Job::Arcs { base } => named(alloc, "arcs", base),
+        Job::Offsets { base } => named(alloc, "offsets", base),
+        Job::Rank {
+            base,
+            rounds,
+            damping,
+            top,
+        } => {
+            let command = format!(in alloc; "rank {rounds} {damping} {top}")?;
+            named(alloc, command.as_str(), base)
+        }
+        Job::Build {
+            arcs,
+            base,
+            nodes,
+            layout,
+        } => {
+            let arcs = arcs.as_str();
+            let command = format!(in alloc; "build {arcs} {nodes} {layout:?}")?;
+            named(alloc, command.as_str(), base)
+        }
+        Job::Recode {
+            input,
+            output,
+            layout,
+        } => converted(alloc, "recode", input, output, layout),
+        Job::Transpose {
+            input,
+            output,
+            layout,
+        } => converted(alloc, "transpose", input, output, layout),
+    }
+}
+
+fn converted(
+    alloc: Global,
+    command: &str,
+    input: &Name,
+    output: &Name,
+    layout: &Layout,
+) -> Result<String, Fail> {
+    let input = input.as_str();
+    let command = format!(in alloc; "{command} {input} {layout:?}")?;
+    named(alloc, command.as_str(), output)
+}
+
+fn named(alloc: Global, command: &str, base: &Name) -> Result<String, Fail> {
     let graph = base.with_suffix(alloc, ".graph")?;
     let graph = graph.as_str();
-    Ok(Some(format!(in alloc; "{command} {graph}")?))
+    Ok(format!(in alloc; "{command} {graph}")?)
 }
 
 // Each line asks for the job beside it, or for none.
@@ -147,6 +172,54 @@ fn which_builds_are_jobs(rt: HostRuntime) -> Result<(), Fail> {
         ("build  b --nodes 1", ""),
         ("build a  --nodes 1", ""),
         ("check a --window 1", ""),
+    ];
+    assert_jobs(&rt, rt.alloc(), &lines)
+}
+
+#[test]
+fn which_conversions_are_jobs(rt: HostRuntime) -> Result<(), Fail> {
+    let lines = [
+        (
+            "recode g h",
+            "recode g Layout { window: 7, chain: Some(3), interval: 4, zeta: 3, outdegrees: Gamma, references: Unary, block_counts: Gamma, blocks: Gamma, residuals: Zeta(3), offsets: Gamma } h.graph",
+        ),
+        (
+            "transpose h g",
+            "transpose h Layout { window: 7, chain: Some(3), interval: 4, zeta: 3, outdegrees: Gamma, references: Unary, block_counts: Gamma, blocks: Gamma, residuals: Zeta(3), offsets: Gamma } g.graph",
+        ),
+        (
+            "recode --window 0 --chain=none --interval 0 --zeta 1 --outdegrees delta --references delta --blockcounts delta --blocks delta --residuals zeta --offsets delta -- -g -",
+            "recode -g Layout { window: 0, chain: None, interval: 0, zeta: 1, outdegrees: Delta, references: Delta, block_counts: Delta, blocks: Delta, residuals: Zeta(1), offsets: Delta } -.graph",
+        ),
+        (
+            "transpose a --residuals gamma a.b --window 65535",
+            "transpose a Layout { window: 65535, chain: Some(3), interval: 4, zeta: 3, outdegrees: Gamma, references: Unary, block_counts: Gamma, blocks: Gamma, residuals: Gamma, offsets: Gamma } a.b.graph",
+        ),
+        (
+            "recode g ./g",
+            "recode g Layout { window: 7, chain: Some(3), interval: 4, zeta: 3, outdegrees: Gamma, references: Unary, block_counts: Gamma, blocks: Gamma, residuals: Zeta(3), offsets: Gamma } ./g.graph",
+        ),
+        ("recode g g", ""),
+        ("transpose g g", ""),
+        ("recode --window 1 -- g g", ""),
+        ("recode", ""),
+        ("recode g", ""),
+        ("transpose g", ""),
+        ("recode g --window 1", ""),
+        ("recode g h i", ""),
+        ("transpose g h i", ""),
+        ("recode g h --nodes 1", ""),
+        ("transpose g h --nodes 1", ""),
+        ("recode g h --rounds 1", ""),
+        ("recode  h", ""),
+        ("recode g ", ""),
+        ("transpose  h", ""),
+        ("transpose g ", ""),
+        ("recode g h --window 65536", ""),
+        ("transpose g h --chain x", ""),
+        ("recode g h --residuals unary", ""),
+        ("transpose g h --offsets", ""),
+        ("transpose g h --window 1 --window 1", ""),
     ];
     assert_jobs(&rt, rt.alloc(), &lines)
 }
