@@ -1,0 +1,13 @@
+pub mod Words
+pub mod ResidualLemmas
+pub mod Unions
+pub mod CopyLemmas
+pub mod PassLemmas
+pub mod Going
+pub mod Tails
+pub mod Heads
+pub mod LaidOut
+pub mod Counting
+pub mod Beginning
+pub mod Transfer
+pub mod BelowLemmas

@@ -1,0 +1,15 @@
+-- The three fronts of a record, from which its list comes.
+use Rattle.std.specs.Prelude.{◌≡◌, ℕ, List, length, Option}
+use Rattle.wg_iterators.specs.declared.fields.Fronts.{Fronts}
+use Rattle.wg_iterators.specs.Coming.{union_of}
+use Rattle.wg_iterators.specs.Fronts.{copied_of, IsOfBlocks}
+use Rattle.wg_iterators.specs.Apart.{AreApart}
+use Rattle.wg_iterators.specs.Laid.{list_or_none}
+
+-- These are the fronts of a record with this list, which refers to the list below: no number comes in two of them, and
+-- together they are the list.
+pub record AreFronts (f : Fronts) (below : Option (List ℕ)) (list : List ℕ) : Type 0 where
+  pub outdegree : f.outdegree ≡ length list
+  pub blocks : IsOfBlocks f.mask
+  pub apart : AreApart (copied_of f.mask (list_or_none below)) f.intervals f.residuals
+  pub union : union_of (copied_of f.mask (list_or_none below)) (union_of f.intervals f.residuals) ≡ list

@@ -1,0 +1,37 @@
+-- The copied members and the residuals of a record, as the lists that are still to come. Each is told from what stands at
+-- its own offset of the bits.
+use Rattle.std.specs.Prelude.{ℕ, zero, suc, ◌+◌, Bool, not, if◌then◌else◌, List, [], ◌∷◌, Option, Some, None}
+use Rattle.wg_params.specs.declared.code.Code.{Code}
+use Rattle.wg_params.specs.Codes.{IsCode}
+use Rattle.wg_codes.specs.Fold.{unfolded_from}
+use Rattle.wg_bits.specs.Bits.{rest}
+use Rattle.wg_graph.specs.Copied.{is_copied, at_positions}
+use Rattle.wg_blocks.specs.Follow.{runs, Seen as MaskSeen, Follows as MaskFollows}
+use Rattle.wg_grammar.specs.SoFar.{value_or_0}
+use Rattle.wg_codes.specs.Standing.{value_at, behind_value, values_at}
+
+-- whether the mask copies the position q places on
+abbrev pub copies : MaskSeen → ℕ → Bool
+copies m q =
+    let here : Bool = is_copied (runs m.run (values_at m.code m.left (rest m.position))) q in
+    if m.copied then here else not here
+
+-- of the members that are still to come below, those that the mask copies
+abbrev pub copied_of : MaskSeen → List ℕ → List ℕ
+copied_of m xs = at_positions (copies m) 0 xs
+
+-- the mask is that of some blocks, some positions on
+abbrev pub IsOfBlocks : MaskSeen → Type 0
+IsOfBlocks m = IsCode m.code × ((blocks : List ℕ) × (p : ℕ) × MaskFollows m blocks p)
+
+-- what a stored residual means, at first and after another
+abbrev pub residual_of : ℕ → Option ℕ → ℕ → Option ℕ
+residual_of page None v = unfolded_from page v
+residual_of page (Some last) v = Some (last + 1 + v)
+
+-- the n residuals that stand at the bits
+unfoldable pub residuals_at : Code → ℕ → Option ℕ → ℕ → List Bool → List ℕ
+residuals_at c page last zero z = []
+residuals_at c page last (suc n) z =
+    let y : ℕ = value_or_0 (residual_of page last (value_at c z)) in
+    y ∷ residuals_at c page (Some y) n (behind_value c z)

@@ -1,0 +1,60 @@
+//! The fields of a record, passed once to find where its three fronts begin.
+ghost use Rattle.std.specs.Prelude.{◌≡◌, ◌<◌, ℕ, List, Option};
+ghost use Rattle.wg_graph.specs.Ascending.{Ascends};
+ghost use Rattle.wg_iterators.specs.Laid.{list_or_none, length_of};
+ghost use Rattle.wg_iterators.specs.Proper.{IsRecord};
+ghost use Rattle.wg_iterators.specs.Fields.{AreFronts};
+
+use crate::passing::{pass_blocks, pass_intervals};
+use crate::residuals::Residuals;
+use crate::value::{value, value_where};
+use wg_bits::Cursor;
+use wg_blocks::Mask;
+use wg_intervals::IntervalWalk;
+use wg_params::{Code, Params};
+
+/// What the list of a record is read from: a mask over the members of the list that it refers to, the numbers inside its
+/// intervals, and its residuals.
+#[derive(Drop)]
+pub struct Fronts<'a> {
+    pub outdegree: u64,
+    pub mask: Mask<'a>,
+    pub intervals: IntervalWalk<'a>,
+    pub residuals: Residuals<'a>,
+}
+
+/// The fronts of the record of `page`, which stands at the cursor. `source` is the length of the list that the record
+/// refers to; none, if it has no reference.
+pub fn find_fronts<'a>(
+    params: &Params,
+    page: u64,
+    mut cursor: Cursor<'a>,
+    source: Option<u64>,
+) -> Fronts<'a>
+    requires page { page < params.now.nodes }
+    requires proper { (below : Option (List ℕ)) × (list : List ℕ) × IsRecord params.now page below cursor list
+        × (source ≡ length_of below) }
+    ensures { (below : Option (List ℕ)) (list : List ℕ) → IsRecord params.now page below cursor.entry list
+        → source ≡ length_of below → Ascends 0 (list_or_none below) → AreFronts result below list }
+{
+    // tells the limits
+    params.nodes();
+    let outdegree = value(params.outdegrees(), &mut cursor);
+    let refers = (outdegree > 0) & (params.window() > 0);
+    value_where(refers, params.references(), &mut cursor);
+    let count = value_where(source.is_some(), params.block_counts(), &mut cursor);
+    let mask = Mask::new(cursor.again(), params.blocks(), count);
+    let copied = pass_blocks(params.blocks(), count, source.unwrap_or(0), &mut cursor);
+    let extra = outdegree - copied;
+    let has_intervals = (extra > 0) & (params.interval() > 0);
+    let count = value_where(has_intervals, Code::Gamma, &mut cursor);
+    let intervals = IntervalWalk::new(cursor.again(), page, count, params.interval());
+    let covered = pass_intervals(params.interval(), count, &mut cursor);
+    let residuals = Residuals::new(cursor, params.residuals(), page, extra - covered);
+    Fronts {
+        outdegree,
+        mask,
+        intervals,
+        residuals,
+    }
+}

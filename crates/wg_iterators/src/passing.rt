@@ -1,0 +1,73 @@
+//! Words that are passed to find what stands behind them.
+ghost use Rattle.std.specs.Prelude.{◌≡◌, ℕ, ◌+◌, ◌-◌, ◌%◌, ◌^◌, ◌<◌, ◌≤◌, ◌==◌, if◌then◌else◌, List, Bool, Option, length, sum};
+ghost use Rattle.wg_params.specs.Codes.{IsCode};
+ghost use Rattle.wg_bits.specs.Bits.{rest};
+ghost use Rattle.wg_graph.specs.Copied.{copied_members};
+ghost use Rattle.wg_blocks.specs.Stored.{blocks_of};
+ghost use Rattle.wg_iterators.specs.Laid.{WordsTo, IntervalsTo};
+
+use crate::value::value;
+use wg_bits::Cursor;
+use wg_params::Code;
+
+// A block's length: the first is stored as it is, later ones less 1.
+fn block_of(index: u64, stored: u64) -> u64
+    requires { stored < 2 ^ 63 }
+    ensures { result ≡ (if index == 0 then stored else stored + 1) }
+{
+    if index == 0 { stored } else { stored + 1 }
+}
+
+// The number copied, when `left` members past a block change from copied to skipped, or the other way round.
+fn turned(index: u64, copied: u64, left: u64) -> u64
+    requires less { index % 2 ≡ 0 → left ≤ copied }
+    requires more { index % 2 ≡ 1 → copied + left < 2 ^ 64 }
+    ensures { result ≡ (if index % 2 == 0 then copied - left else copied + left) }
+{
+    if index % 2 == 0 {
+        copied - left
+    } else {
+        copied + left
+    }
+}
+
+// Passes so many blocks of a list with `source` members, and counts the members that they copy.
+pub(crate) fn pass_blocks(code: Code, count: u64, source: u64, cursor: &mut Cursor<'_>) -> u64
+    requires code { IsCode code }
+    requires stand { (values : List ℕ) × (behind : List Bool) × (length values ≡ count)
+        × (sum (blocks_of values) ≤ source) × WordsTo code values (rest cursor.old) behind }
+    ensures copied { (values : List ℕ) (behind : List Bool) → length values ≡ count
+        → sum (blocks_of values) ≤ source → WordsTo code values (rest cursor.old) behind
+        → (list : List ℕ) → length list ≡ source → result ≡ length (copied_members (blocks_of values) list) }
+    ensures behind { (values : List ℕ) (behind : List Bool) → length values ≡ count
+        → sum (blocks_of values) ≤ source → WordsTo code values (rest cursor.old) behind → behind ≡ rest cursor.new }
+{
+    let mut copied = source;
+    let mut left = source;
+    'blocks: for index in 0..count {
+        let stored = value(code, cursor);
+        left -= block_of(index, stored);
+        copied = turned(index, copied, left);
+    }
+    copied
+}
+
+// Passes so many intervals, and counts the numbers inside them.
+pub(crate) fn pass_intervals(least: u64, count: u64, cursor: &mut Cursor<'_>) -> u64
+    requires { (page : ℕ) × (past : Option ℕ) × (lefts : List ℕ) × (lengths : List ℕ) × (behind : List Bool)
+        × (length lefts ≡ count) × (sum lengths < 2 ^ 63)
+        × IntervalsTo page least past lefts lengths (rest cursor.old) behind }
+    ensures covered { (page : ℕ) (past : Option ℕ) (lefts lengths : List ℕ) (behind : List Bool)
+        → length lefts ≡ count → IntervalsTo page least past lefts lengths (rest cursor.old) behind
+        → result ≡ sum lengths }
+    ensures behind { (page : ℕ) (past : Option ℕ) (lefts lengths : List ℕ) (behind : List Bool)
+        → length lefts ≡ count → IntervalsTo page least past lefts lengths (rest cursor.old) behind
+        → behind ≡ rest cursor.new }
+{
+    let mut covered = 0;
+    'intervals: for _index in 0..count {
+        value(Code::Gamma, cursor);
+        covered += value(Code::Gamma, cursor) + least;
+    }
+    covered
+}

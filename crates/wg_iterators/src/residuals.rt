@@ -1,0 +1,88 @@
+//! The residuals of a record, one after the other.
+ghost use Rattle.std.specs.Prelude.{◌≡◌, ℕ, ◌^◌, ◌<◌, List, length, None, Some};
+ghost use Rattle.wg_params.specs.Codes.{IsCode};
+ghost use Rattle.wg_bits.specs.Bits.{rest};
+ghost use Rattle.wg_intervals.specs.Coming.{Gives};
+ghost use Rattle.wg_iterators.specs.Fronts.{residual_of};
+ghost use Rattle.wg_iterators.specs.Laid.{ResidualsAt};
+
+use crate::value::value;
+use std::marker::Model;
+use wg_bits::Cursor;
+use wg_codes::unfold_from;
+use wg_params::Code;
+
+/// Gives the residuals of a record, ascending. Contracts see it as the list of those to come.
+#[derive(Drop)]
+pub struct Residuals<'a> {
+    // stands behind the residuals that were read
+    cursor: Cursor<'a>,
+    code: Code,
+    page: u64,
+    // the last one that was given
+    last: Option<u64>,
+    // how many have not been read
+    unread: u64,
+}
+
+impl<'a> Model for Residuals<'a> {
+    ghost use Rattle.std.specs.Prelude.{◌≡◌, ℕ, List, ◌^◌, ◌<◌, length};
+    ghost use Rattle.wg_params.specs.Codes.{IsCode};
+    ghost use Rattle.wg_bits.specs.Bits.{rest};
+    ghost use Rattle.wg_iterators.specs.Fronts.{residuals_at};
+    ghost use Rattle.wg_iterators.specs.Laid.{ResidualsAt};
+
+    ghost Value = { List ℕ };
+
+    ghost view = { λ r. residuals_at r.code r.page r.last r.unread (rest r.cursor) };
+
+    ghost invariant = { λ r. IsCode r.code × (r.page < 2 ^ 62)
+        × ((ys : List ℕ) × (length ys ≡ r.unread) × ResidualsAt r.code r.page r.last ys (rest r.cursor)) };
+}
+
+// The page that is stored as this value.
+fn page_of(page: u64, last: Option<u64>, value: u64) -> u64
+    requires page { page < 2 ^ 62 }
+    requires means { (y : ℕ) × (y < 2 ^ 62) × (residual_of page last value ≡ Some y) }
+    ensures { residual_of page last value ≡ Some result }
+{
+    match last {
+        Some(last) => last + 1 + value,
+        None => match unfold_from(page, value) {
+            Some(page) => page,
+            None => unreachable!(),
+        },
+    }
+}
+
+impl<'a> Residuals<'a> {
+    // The residuals that stand at the cursor, so many.
+    pub(crate) fn new(cursor: Cursor<'a>, code: Code, page: u64, count: u64) -> Residuals<'a>
+        requires code { IsCode code }
+        requires page { page < 2 ^ 62 }
+        requires stand { (ys : List ℕ) × (length ys ≡ count) × ResidualsAt code page None ys (rest cursor) }
+        ensures { (ys : List ℕ) → length ys ≡ count → ResidualsAt code page None ys (rest cursor.entry)
+            → result ≡ ys }
+    {
+        Residuals {
+            cursor,
+            code,
+            page,
+            last: None,
+            unread: count,
+        }
+    }
+
+    /// The next residual; none if none is left, again and again.
+    pub fn next(&mut self) -> Option<u64>
+        ensures { Gives self.old result self.new }
+    {
+        if self.unread == 0 {
+            return None;
+        }
+        let number = page_of(self.page, self.last, value(self.code, &mut self.cursor));
+        self.last = Some(number);
+        self.unread -= 1;
+        Some(number)
+    }
+}
