@@ -3,27 +3,45 @@
 #![tactic(auto)]
 
 use std::env;
-use std::io::Write;
+use std::io::{ErrorKind, Write};
 use std::process::ExitCode;
 use wg_cli::{Status, run};
 use wg_io::{FolderDepot, StdSink};
 use wg_words::Words;
 
-// The words after the program's name; none where there is no memory for them.
-fn words(rt: &HostRuntime) -> Option<Words> {
-    let mut words = Words::new(rt.alloc());
-    let mut args = env::args(rt).ok()?;
+// The words after the program's name, or why there are none: a word that is not UTF-8 is no word of a command.
+fn words(rt: &HostRuntime) -> Result<Words, Status> {
+    let mut args = match env::args(rt) {
+        Ok(args) => args,
+        Err(error) => match error.kind() {
+            ErrorKind::OutOfMemory => return Err(Status::Memory),
+            _ => return Err(Status::Usage),
+        },
+    };
     let _ = args.next();
+    let mut words = Words::new(rt.alloc());
     for word in args {
-        words.push(word.as_str()).ok()?;
+        if words.push(word.as_str()).is_err() {
+            return Err(Status::Memory);
+        }
     }
-    Some(words)
+    Ok(words)
+}
+
+// Says on standard error why there is no job to run.
+fn refuse(rt: &HostRuntime, status: Status) -> ExitCode {
+    let line = match status {
+        Status::Usage => b"wg: bad command line\n".as_slice(),
+        _ => b"wg: out of memory\n".as_slice(),
+    };
+    let _ = rt.stderr().write_all(line);
+    ExitCode::from(status.code())
 }
 
 fn main(rt: HostRuntime) -> ExitCode {
-    let Some(words) = words(&rt) else {
-        let _ = rt.stderr().write_all(b"wg: out of memory\n");
-        return ExitCode::from(Status::Memory.code());
+    let words = match words(&rt) {
+        Ok(words) => words,
+        Err(status) => return refuse(&rt, status),
     };
     let mut depot = FolderDepot::new(&rt);
     let mut out = StdSink::new(rt.stdout());

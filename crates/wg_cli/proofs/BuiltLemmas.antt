@@ -24,6 +24,7 @@ use Rattle.wg_arcs.specs.Reading.{AreArcs, IsListed, arcs_in}
 use Rattle.wg_arcs.specs.Text.{text_of_arcs, text_of_graph}
 use Rattle.wg_arcs.specs.declared.fault.ArcsKind.{ArcsKind}
 use Rattle.wg_arcs.proofs.FewArcs.{listed_few}
+use Rattle.wg_arcs.proofs.Texts.{text_is_of_arcs}
 use Rattle.wg_words.specs.Layouts.{params_of}
 use Rattle.wg_words.proofs.LayoutLemmas.{layout_within}
 use Rattle.wg_words.specs.declared.jobs.Job.TheVariants.{Check, Arcs}
@@ -142,6 +143,6 @@ builds_accepted r list_name base nodes layout held a out within is =
       check = ap (λ (b : Archive). judged r (Check base) (holding b)) (sym same.0) ∙ checked.check ∙ ap accepted same.1;
       arcs = λ bytes there.
           let one : file.0 ≡ bytes = same_Some file.0 bytes (sym file.1 ∙ there) in
-          ap (λ (b : Archive). judged r (Arcs base) (holding b)) (sym same.0) ∙ checked.arcs
+          ap (λ (b : Archive). judged r (Arcs base) (holding b)) (sym same.0) ∙ checked.arcs ∙ ap accepted (text_is_of_arcs g)
           ∙ ap (λ (arcs : List (ℕ × ℕ)). accepted (text_of_arcs arcs)) (are.arcs ∙ ap (λ (text : List ℕ). arcs_in (lines_of text)) one);
     }

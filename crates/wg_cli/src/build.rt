@@ -47,7 +47,12 @@ pub fn build<D: Depot, O: Sink>(
 }
 
 // The graph of the arc list, whose bytes are not held any longer.
-fn load_graph<D: Depot>(alloc: Global, arcs: &Name, nodes: u64, depot: &mut D) -> Result<Graph, Ending>
+fn load_graph<D: Depot>(
+    alloc: Global,
+    arcs: &Name,
+    nodes: u64,
+    depot: &mut D,
+) -> Result<Graph, Ending>
     requires { nodes ≤ MOST_PAGES }
     ensures steps { IsTrue D.told → (r : Readings) → Steps (with_arcs r nodes (held_by (list_named arcs.now) (D.files depot.old))) result }
     ensures causes { HasCause (list_named arcs.now) no_outputs (D.counts depot.old) (D.counts depot.new) 0 0 (status_in result) }

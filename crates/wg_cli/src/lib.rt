@@ -8,9 +8,10 @@
 //! `judged` takes the graph of a file from a function that reads all graph files; [`laws`] states that the grammar leaves
 //! exactly one such function, and that an archive that was built is accepted.
 //!
-//! A command more is an equation of `judged` with its inputs and outputs, and a module beside `check` whose function has the
-//! same clauses; `run` stays as it is. Its clause `files` says what stands of the three files of a written archive at each
-//! status. The inputs are held whole in memory.
+//! What a job promises is one set of facts over what was outside before and after (`Performs`). Each command has it as its one clause,
+//! by the word `Does`, and `run` spells it out. A command more is an equation of `judged`, the lists of its inputs and outputs, and a
+//! module beside `check` with that clause; `run` stays as it is. Its clause `files` says what stands of the three files of a written
+//! archive at each status. The inputs are held whole in memory.
 #![tactic(auto)]
 
 mod archive;

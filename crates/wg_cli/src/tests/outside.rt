@@ -15,6 +15,10 @@ const COPIED_PROPERTIES: &[u8] =
 const TOO_MANY_PAGES: &[u8] =
     b"graphclass=it.unimi.dsi.webgraph.BVGraph\nversion=0\nnodes=68719476736\n";
 
+// A code that no field may have.
+const NO_CODE: &[u8] =
+    b"graphclass=it.unimi.dsi.webgraph.BVGraph\nversion=0\nnodes=2\narcs=1\nwindowsize=0\nmaxrefcount=3\nminintervallength=0\ncompressionflags=RESIDUALS_GOLOMB\n";
+
 // Runs a line over an outside: the status and what was reported.
 fn report_of<D: Depot, O: Sink>(
     alloc: Global,
@@ -89,7 +93,7 @@ struct Unanswered {
     report: &'static str,
 }
 
-const UNANSWERED: [Unanswered; 8] = [
+const UNANSWERED: [Unanswered; 9] = [
     Unanswered {
         line: "",
         properties: PLAIN_PROPERTIES,
@@ -145,6 +149,13 @@ const UNANSWERED: [Unanswered; 8] = [
         has_graph: false,
         code: 8,
         report: "wg: g.properties: range nodes\n",
+    },
+    Unanswered {
+        line: "check g",
+        properties: NO_CODE,
+        has_graph: false,
+        code: 8,
+        report: "wg: g.properties: flag 1\n",
     },
 ];
 

@@ -1,5 +1,5 @@
 //! Rankings that are printed, worked by hand.
-use wg_vectors::{Archive, NO_PAGES, ONE_ARC, ONE_PAGE};
+use wg_vectors::{Archive, LOOP, NO_PAGES, ONE_ARC, ONE_PAGE};
 
 /// What a line prints of an archive.
 pub struct Ranking {
@@ -8,7 +8,7 @@ pub struct Ranking {
     pub text: &'static str,
 }
 
-pub const RANKINGS: [Ranking; 9] = [
+pub const RANKINGS: [Ranking; 10] = [
     Ranking {
         archive: ONE_ARC,
         line: "rank g --rounds 1",
@@ -43,6 +43,11 @@ pub const RANKINGS: [Ranking; 9] = [
         archive: ONE_PAGE,
         line: "rank g --rounds 1",
         text: "0 0.150000000000000000000000 1.000000000000000000000000 1 1\n",
+    },
+    Ranking {
+        archive: LOOP,
+        line: "rank g --rounds 0",
+        text: "0 0.000000000000000000000000 1.000000000000000000000000 1 1\n",
     },
     Ranking {
         archive: NO_PAGES,

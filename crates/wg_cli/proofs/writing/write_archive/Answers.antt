@@ -46,7 +46,7 @@ returns-in_err-write_properties-clause-causes g c = λ o is.
 pub returns-clause-ok : goal.returns-clause-ok
 returns-clause-ok g c = λ t.
     let empty = c.in_ok-create_files.ensures.ok t in (
-          (c.in_ok-write_properties.ensures.ok t (greedy_archive c.args.params.now c.args.graph.now) (sym (c.as_slice.ensures ∙ c.in_ok-text.ensures.text)) (c.in_ok-bits.ensures.ok t empty)),
+      (c.in_ok-write_properties.ensures.ok t (greedy_archive c.args.params.now c.args.graph.now) (sym (c.as_slice.ensures ∙ c.in_ok-text.ensures.text)) (c.in_ok-bits.ensures.ok t empty)),
       c.in_ok-bits.ensures.bits t empty,
     )
 
