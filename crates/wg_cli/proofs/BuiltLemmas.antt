@@ -1,5 +1,5 @@
 -- An archive that was built, in a judgement.
-use Rattle.std.proofs.Common.{◌≡◌, ℕ, ◌+◌, ◌-◌, ◌≤◌, List, [], ◌∷◌, length, get_or, map, sum, nat_lt, refl, sym, ap, ◌∙◌, arith, inl, inr, Option, Some, None, Result, Ok, Err}
+use Rattle.std.proofs.Common.{◌≡◌, ℕ, ◌+◌, ◌-◌, ◌≤◌, List, [], ◌∷◌, length, get_or, map, sum, nat_lt, refl, sym, ap, subst, ◌∙◌, arith, inl, inr, Option, Some, None, Result, Ok, Err}
 use Rattle.std.proofs.lemmas.Bool.{cases_Bool, cond-false, le-ltb}
 use Rattle.std.proofs.lemmas.Option.{none-some, same_Some}
 use Rattle.wg_io.specs.declared.limits.TheConstants.{MOST_BYTES}
@@ -25,14 +25,14 @@ use Rattle.wg_arcs.specs.Text.{text_of_arcs, text_of_graph}
 use Rattle.wg_arcs.specs.declared.fault.ArcsKind.{ArcsKind}
 use Rattle.wg_arcs.proofs.FewArcs.{listed_few}
 use Rattle.wg_arcs.proofs.Texts.{text_is_of_arcs}
-use Rattle.wg_words.specs.Layouts.{params_of}
-use Rattle.wg_words.proofs.LayoutLemmas.{layout_within}
+use Rattle.wg_params.specs.declared.limits.TheConstants.{MOST_PAGES}
+use Rattle.wg_words.proofs.LayoutLemmas.{layout_for_any}
 use Rattle.wg_words.specs.declared.jobs.Job.TheVariants.{Check, Arcs}
 use Rattle.wg_cli.specs.Built.{holding, IsAcceptedAs, BuiltAreAccepted, BuildsAreAccepted}
 use Rattle.wg_cli.specs.Judged.{Judged, refused, accepted, built, builds, judged, number_lines, ok_line, unless_bad_list, unless_bad_properties, with_digraph, with_file, with_lengths, with_list, with_offsets, with_parameters, with_places, with_records}
 use Rattle.wg_cli.specs.Ranked.{ranking_text}
 use Rattle.wg_cli.specs.Readings.{Readings}
-use Rattle.wg_cli.specs.Written.{Archive, greedy_archive}
+use Rattle.wg_cli.specs.Written.{Archive, greedy_archive, params_for}
 use Rattle.wg_cli.specs.declared.status.Input.{Input}
 use Rattle.wg_cli.specs.declared.status.Input.TheVariants as input
 use Rattle.wg_cli.specs.declared.status.Status.{Status}
@@ -130,15 +130,15 @@ module _ (a : Archive) (out : List ℕ) where
 
 pub builds_accepted : (r : Readings) → BuildsAreAccepted r
 builds_accepted r list_name base nodes layout held a out within is =
-    let next : Digraph → Judged = λ g. builds (params_of layout nodes (arc_count g)) g in
+    let next : Digraph → Judged = builds layout in
     let file = file_behind a out input.ArcList (held input.ArcList) (λ bytes. with_list r nodes bytes next) is in
     let found = graph_behind a out nodes file.0 (r.arc_list.value nodes file.0) next (r.arc_list.reads nodes file.0) file.2 in
     let g : Digraph = found.0 in
     let are : AreArcs nodes (lines_of file.0) g = found.1 in
-    let p : Parameters = params_of layout nodes (arc_count g) in
+    let p : Parameters = params_for layout g in
     let same = same_built (greedy_archive p g) a (ok_line p (length (graph_bits p g.lists))) out found.2 in
-    let limits : IsWithinLimits p = layout_within layout nodes (arc_count g) within (listed_few nodes (lines_of file.0) g are) in
-    let checked = built_accepted r p g base limits are.proper (sym are.nodes) refl in
+    let limits : IsWithinLimits p = layout_for_any layout g.nodes (arc_count g) nodes 0 within (subst (λ (n : ℕ). n ≤ MOST_PAGES) (sym are.nodes) within.nodes) (listed_few nodes (lines_of file.0) g are) in
+    let checked = built_accepted r p g base limits are.proper refl refl in
     record {
       check = ap (λ (b : Archive). judged r (Check base) (holding b)) (sym same.0) ∙ checked.check ∙ ap accepted same.1;
       arcs = λ bytes there.

@@ -3,7 +3,8 @@ use Rattle.std.proofs.Common.{◌≡◌, ◌⊎◌, inl, inr, ℕ, Bool, false, 
 use Rattle.std.specs.Bool.{IsTrue}
 use Rattle.std.specs.Result.{IfErr}
 use Rattle.std.proofs.lemmas.List.{append-nil}
-use Rattle.wg_io.specs.Outside.{Counts, NonDecreasing, Increased}
+use Rattle.std.specs.FinMap as map
+use Rattle.wg_io.specs.Outside.{Files, Counts, NonDecreasing, Increased}
 use Rattle.wg_io.specs.Puts.{Puts}
 use Rattle.wg_io.specs.declared.output.Output.{Output}
 use Rattle.wg_io.specs.declared.output.Output.TheVariants.{Out, Properties, Graph, Offsets}
@@ -15,7 +16,7 @@ use Rattle.wg_cli.specs.Lines.{ArePromised, arcs_in}
 use Rattle.wg_cli.specs.Names.{can_end, has_input, held_by, input_name, output_name, no_outputs, writes_files, IsOfInput}
 use Rattle.wg_cli.specs.Performs.{Outside, Performs, judged_on}
 use Rattle.wg_cli.specs.Readings.{Readings}
-use Rattle.wg_cli.specs.Written.{Archive, HasFiles}
+use Rattle.wg_cli.specs.Written.{Archive, ArchiveFiles, FilesAfter, HasFiles, archive_at}
 use Rattle.wg_cli.specs.declared.ending.Ending.{Ending}
 use Rattle.wg_cli.specs.declared.status.Input.{Input}
 use Rattle.wg_cli.specs.declared.status.Status.{Status}
@@ -58,11 +59,29 @@ stop_output due old new (BadArchive f) stop same = same
 stop_output due old new (NoPage page) stop same = same
 stop_output due old new (OverLimit i) stop same = same
 
+-- the files before any of them was touched
+kept_after : (a : Archive) (old new : ArchiveFiles) (s : Status) → IsStop s → new ≡ old → FilesAfter a old new s
+kept_after a old new Done stop same = absurd stop
+kept_after a old new (WriteFault o) stop same = absurd stop
+kept_after a old new Memory stop same = inl (inl same)
+kept_after a old new (ReadFault i) stop same = same
+kept_after a old new Usage stop same = same
+kept_after a old new (Missing i) stop same = same
+kept_after a old new (BadArcs line kind) stop same = same
+kept_after a old new (BadProperties f) stop same = same
+kept_after a old new (BadArchive f) stop same = same
+kept_after a old new (NoPage page) stop same = same
+kept_after a old new (OverLimit i) stop same = same
+
+files_kept : (names : Output → Option (List ℕ)) (a : Option Archive) (old new : Files) (s : Status) → IsStop s → new ≡ old → HasFiles names a old new s
+files_kept names None old new s stop same = same
+files_kept names (Some a) old new s stop same = (λ name other. ap (λ (f : Files). map.get f name) same, kept_after a _ _ s stop (ap (archive_at names) same))
+
 no_fault : (s : Status) (o : Output) → IsStop s → s ≡ WriteFault o → ⊥
 no_fault s o stop is = subst IsStop is stop
 
--- a job that was stopped before any output
-pub stopped : (job : Job) (td to : Bool) (before after : Outside) (s : Status) (a : ℕ) → writes_files job ≡ false
+-- a job that was stopped before it wrote anything
+pub stopped : (job : Job) (td to : Bool) (before after : Outside) (s : Status) (a : ℕ)
     → IsStop s → after.taken ≡ before.taken → after.files ≡ before.files
     → (IsTrue td → (r : Readings) → Answers (judged_on r job before.files) s)
     → IsTrue (can_end job s)
@@ -71,14 +90,14 @@ pub stopped : (job : Job) (td to : Bool) (before after : Outside) (s : Status) (
     → NonDecreasing before.counts after.counts
     → (IsTrue td → ArePromised (held_by (input_name job) before.files) s a)
     → Performs job td to before after s a
-stopped job td to before after s a none stop silent same answers possible causes reached later promised = record {
+stopped job td to before after s a stop silent same answers possible causes reached later promised = record {
   answers = answers;
   possible = possible;
   causes = causes;
   reached = reached;
   needed = λ t r o is. absurd (no_fault s o stop is);
   output = λ t o r. stop_output _ before.taken after.taken s stop silent;
-  files = λ t r. files_same job none before after s same r;
+  files = λ t r. files_kept (output_name job) _ before.files after.files s stop same;
   same = λ is. same;
   later = later;
   promised = promised;
@@ -192,7 +211,7 @@ unread_promised held i s a (inr (inr (inl gone))) = subst (λ (x : Status). AreP
 unread_promised held i s a (inr (inr (inr long))) = subst (λ (x : Status). ArePromised held x a) (sym long) tt
 
 -- an input was not read, which is named by this naming too
-pub unread : (names : Names) (i : Input) (job : Job) (td to : Bool) (before after : Outside) (s : Status) (a : ℕ) → writes_files job ≡ false
+pub unread : (names : Names) (i : Input) (job : Job) (td to : Bool) (before after : Outside) (s : Status) (a : ℕ)
     → IsTrue (has_input job i) → input_name job i ≡ names i → after.taken ≡ before.taken
     → IsOfInput i s
     → HasCause names no_outputs before.counts after.counts 0 0 s
@@ -201,8 +220,8 @@ pub unread : (names : Names) (i : Input) (job : Job) (td to : Bool) (before afte
     → (IsTrue td → (r : Readings) → Answers (judged_on r job before.files) s)
     → (IsTrue td → (r : Readings) (j : Input) → s ≡ ReadFault j → Reaches r job (held_by (input_name job) before.files) j)
     → Performs job td to before after s a
-unread names i job td to before after s a none has named silent only cause same later answers reached =
-    stopped job td to before after s a none (unread_stop i s only) silent same answers (unread_possible job i s has only)
+unread names i job td to before after s a has named silent only cause same later answers reached =
+    stopped job td to before after s a (unread_stop i s only) silent same answers (unread_possible job i s has only)
     (cause_named names (input_name job) (output_name job) i before.counts after.counts before.faults after.faults s only named cause)
     reached later (λ t. unread_promised (held_by (input_name job) before.files) i s a only)
 

@@ -9,18 +9,19 @@ use Rattle.wg_grammar.specs.declared.fault.ArchiveFault.{ArchiveFault}
 use Rattle.wg_grammar.specs.declared.fault.ArchiveFault.TheVariants as archive
 use Rattle.wg_grammar.specs.declared.fault.OffsetWord.{OffsetWord}
 use Rattle.wg_grammar.specs.Archive.{Accepted}
-use Rattle.wg_graph.specs.Digraph.{Digraph, arc_count}
+use Rattle.wg_graph.specs.Digraph.{Digraph}
 use Rattle.wg_arcs.specs.declared.fault.ArcsKind.{ArcsKind}
 use Rattle.wg_encoder.specs.Archive.{graph_bits}
-use Rattle.wg_words.specs.Layouts.{params_of}
+use Rattle.wg_transpose.specs.Transposed.{transposed}
 use Rattle.wg_arcs.specs.Text.{text_of_graph}
 use Rattle.wg_offsets.specs.Places.{last_place, record_length, pages_that_differ}
 use Rattle.wg_words.specs.declared.jobs.Job.{Job}
-use Rattle.wg_words.specs.declared.jobs.Job.TheVariants.{Check, Arcs, Offsets, Rank, Build}
+use Rattle.wg_words.specs.declared.jobs.Job.TheVariants.{Check, Arcs, Offsets, Rank, Build, Recode, Transpose}
+use Rattle.wg_words.specs.declared.layout.Layout.{Layout}
 use Rattle.wg_cli.specs.Names.{writes_files}
 use Rattle.wg_cli.specs.Readings.{Readings}
 use Rattle.wg_cli.specs.Ranked.{ranking_text}
-use Rattle.wg_cli.specs.Written.{Archive, greedy_archive}
+use Rattle.wg_cli.specs.Written.{Archive, greedy_archive, params_for}
 use Rattle.wg_cli.specs.declared.status.Input.{Input}
 use Rattle.wg_cli.specs.declared.status.Input.TheVariants as input
 use Rattle.wg_cli.specs.declared.status.Status.{Status}
@@ -115,9 +116,13 @@ with_list r n bytes next = unless_bad_list (r.arc_list.value n bytes) next
 abbrev pub with_arcs : Readings → ℕ → (Input → Option (List ℕ)) → (Digraph → Judged) → Judged
 with_arcs r n held next = with_file input.ArcList (held input.ArcList) (λ bytes. with_list r n bytes next)
 
--- the greedy archive of a graph is written, and then its line
-abbrev pub builds : Parameters → Digraph → Judged
-builds p g = built (greedy_archive p g) (ok_line p (length (graph_bits p g.lists)))
+-- the line of the greedy archive of a graph
+abbrev pub greedy_line : Parameters → Digraph → List ℕ
+greedy_line p g = ok_line p (length (graph_bits p g.lists))
+
+-- the greedy archive of a graph is written in this layout, and then its line
+abbrev pub builds : Layout → Digraph → Judged
+builds l g = built (greedy_archive (params_for l g) g) (greedy_line (params_for l g) g)
 
 -- goes on with the parameters, and the bytes of the graph file
 abbrev pub with_records : (Input → Option (List ℕ)) → (Parameters → List ℕ → Judged) → Judged
@@ -138,7 +143,11 @@ judged r (Offsets base) held =
 judged r (Rank base rounds damping top) held =
     with_records held (λ p bytes. with_digraph r p bytes (λ g. accepted (ranking_text r g rounds damping top)))
 judged r (Build arcs base nodes layout) held =
-    with_arcs r nodes held (λ g. builds (params_of layout nodes (arc_count g)) g)
+    with_arcs r nodes held (λ g. builds layout g)
+judged r (Recode base to layout) held =
+    with_records held (λ p bytes. with_digraph r p bytes (λ g. builds layout g))
+judged r (Transpose base to layout) held =
+    with_records held (λ p bytes. with_digraph r p bytes (λ g. builds layout (transposed g)))
 
 -- the archive that a job writes, if it does
 abbrev pub written_by : Readings → Job → (Input → Option (List ℕ)) → Option Archive

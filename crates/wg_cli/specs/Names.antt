@@ -6,7 +6,7 @@ use Rattle.wg_io.specs.declared.output.Output.{Output}
 use Rattle.wg_io.specs.declared.output.Output.TheVariants as output
 use Rattle.wg_io.specs.declared.suffixes.TheConstants.{PROPERTIES, GRAPH, OFFSETS}
 use Rattle.wg_words.specs.declared.jobs.Job.{Job}
-use Rattle.wg_words.specs.declared.jobs.Job.TheVariants.{Check, Arcs, Offsets, Rank, Build}
+use Rattle.wg_words.specs.declared.jobs.Job.TheVariants.{Check, Arcs, Offsets, Rank, Build, Recode, Transpose}
 use Rattle.wg_cli.specs.Texts.{file_of_fault}
 use Rattle.wg_cli.specs.declared.status.Input.{Input}
 use Rattle.wg_cli.specs.declared.status.Input.TheVariants as input
@@ -23,14 +23,6 @@ suffix_of input.ArcList = None
 -- the name of one of an archive's files
 abbrev pub file_of : List ℕ → Input → Option (List ℕ)
 file_of base i = option_map (λ suffix. base ++ suffix) (suffix_of i)
-
--- the archive that a job reads or writes
-abbrev pub base_of : Job → List ℕ
-base_of (Check base) = base
-base_of (Arcs base) = base
-base_of (Offsets base) = base
-base_of (Rank base rounds damping top) = base
-base_of (Build arcs base nodes layout) = base
 
 -- inputs and outputs by number, so that two of them can be compared
 abbrev pub input_code : Input → ℕ
@@ -75,9 +67,13 @@ inputs_of (Arcs base) = record_files base
 inputs_of (Offsets base) = record_files base
 inputs_of (Rank base rounds damping top) = record_files base
 inputs_of (Build arcs base nodes layout) = list_file arcs
+inputs_of (Recode base to layout) = record_files base
+inputs_of (Transpose base to layout) = record_files base
 
 abbrev pub outputs_of : Job → List (Output × List ℕ)
 outputs_of (Build arcs base nodes layout) = archive_outputs base
+outputs_of (Recode from base layout) = archive_outputs base
+outputs_of (Transpose from base layout) = archive_outputs base
 outputs_of _ = []
 
 -- the name of a job's input

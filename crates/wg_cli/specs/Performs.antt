@@ -1,17 +1,20 @@
 -- What stands where a job has ended.
-use Rattle.std.specs.Prelude.{◌≡◌, ℕ, Bool, false, List, IsTrue}
+use Rattle.std.specs.Prelude.{◌≡◌, ℕ, Bool, false, List, Option, Some, Result, IsTrue, IfErr}
 use Rattle.wg_io.specs.Outside.{Files, Counts, NonDecreasing}
 use Rattle.wg_io.specs.declared.depot.Depot as depot
 use Rattle.wg_io.specs.declared.sink.Sink as sink
 use Rattle.wg_io.specs.declared.output.Output.{Output}
+use Rattle.wg_graph.specs.Digraph.{Digraph}
 use Rattle.wg_words.specs.declared.jobs.Job.{Job}
-use Rattle.wg_cli.specs.Answers.{Answers, HasOutput, Reaches}
+use Rattle.wg_words.specs.declared.layout.Layout.{Layout}
+use Rattle.wg_cli.specs.Answers.{Answers, HasOutput, Reaches, status_in}
 use Rattle.wg_cli.specs.Causes.{HasCause}
-use Rattle.wg_cli.specs.Judged.{Judged, judged, output_of, status_of, written_by}
+use Rattle.wg_cli.specs.Judged.{Judged, greedy_line, judged, output_of, status_of, written_by}
 use Rattle.wg_cli.specs.Lines.{ArePromised}
-use Rattle.wg_cli.specs.Names.{can_end, held_by, input_name, output_name, writes_files}
+use Rattle.wg_cli.specs.Names.{archive_named, can_end, held_by, input_name, output_name, writes_files}
 use Rattle.wg_cli.specs.Readings.{Readings}
-use Rattle.wg_cli.specs.Written.{HasFiles}
+use Rattle.wg_cli.specs.Written.{HasFiles, IsStopped, greedy_archive, params_for}
+use Rattle.wg_cli.specs.declared.ending.Ending.{Ending}
 use Rattle.wg_cli.specs.declared.status.Input.{Input}
 use Rattle.wg_cli.specs.declared.status.Status.{Status}
 use Rattle.wg_cli.specs.declared.status.Status.TheVariants.{Done, ReadFault, WriteFault}
@@ -58,3 +61,21 @@ pub record Performs (job : Job) (told_files told_out : Bool) (before after : Out
 abbrev pub Does : {D O : Type 0} → depot.Ghosts D → sink.Ghosts O → Job → D → D → O → O → Status → ℕ → Type 0
 Does d o job before after out out' status arcs =
     Performs job d.told o.told (outside (d.files before) (d.counts before) (o.taken out) (o.faults out)) (outside (d.files after) (d.counts after) (o.taken out') (o.faults out')) status arcs
+
+-- The greedy archive of a graph was written in a layout, and its line printed; or what was left where this stopped.
+pub record BuildsArchive (l : Layout) (g : Digraph) (base : List ℕ) (told_files told_out : Bool) (before after : Outside) (result : Result (Unit {0}) Ending) : Type 0 where
+  -- a file, the output or memory alone can stop it
+  pub only : IfErr result (λ e. IsStopped e.status)
+  -- a fault is told only where the outside counted it
+  pub causes : (inputs : Input → Option (List ℕ)) → HasCause inputs (archive_named base) before.counts after.counts before.faults after.faults (status_in result)
+  -- what stands on the output
+  pub output : IsTrue told_files → IsTrue told_out → HasOutput (greedy_line (params_for l g) g) before.taken after.taken (status_in result)
+  -- what stands in the files
+  pub files : IsTrue told_files → HasFiles (archive_named base) (Some (greedy_archive (params_for l g) g)) before.files after.files (status_in result)
+  -- no count of the depot falls
+  pub later : NonDecreasing before.counts after.counts
+
+-- the same, of a depot and an output that a function changes
+abbrev pub Builds : {D O : Type 0} → depot.Ghosts D → sink.Ghosts O → Layout → Digraph → List ℕ → D → D → O → O → Result (Unit {0}) Ending → Type 0
+Builds d o l g base before after out out' result =
+    BuildsArchive l g base d.told o.told (outside (d.files before) (d.counts before) (o.taken out) (o.faults out)) (outside (d.files after) (d.counts after) (o.taken out') (o.faults out')) result

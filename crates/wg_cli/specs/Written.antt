@@ -6,11 +6,13 @@ use Rattle.wg_io.specs.declared.output.Output.{Output}
 use Rattle.wg_io.specs.declared.output.Output.TheVariants as output
 use Rattle.wg_params.specs.Parameters.{Parameters}
 use Rattle.wg_properties.specs.Text.{text_of}
-use Rattle.wg_graph.specs.Digraph.{Digraph}
+use Rattle.wg_graph.specs.Digraph.{Digraph, arc_count}
 use Rattle.wg_encoder.specs.Archive.{graph_file, offsets_file}
 use Rattle.wg_encoder.specs.Gone.{HoldsFront, HoldsLess}
 use Rattle.wg_encoder.specs.declared.error.EncodeError.{EncodeError}
 use Rattle.wg_encoder.specs.declared.error.EncodeError.TheVariants as error
+use Rattle.wg_words.specs.Layouts.{params_of}
+use Rattle.wg_words.specs.declared.layout.Layout.{Layout}
 use Rattle.wg_cli.specs.declared.status.Status.{Status}
 use Rattle.wg_cli.specs.declared.status.Status.TheVariants.{Done, Memory, WriteFault}
 
@@ -19,6 +21,10 @@ pub record Archive : Type 0 where
   pub properties : List ℕ
   pub graph : List ℕ
   pub offsets : List ℕ
+
+-- the parameters of an archive of a graph in this layout
+abbrev pub params_for : Layout → Digraph → Parameters
+params_for l g = params_of l g.nodes (arc_count g)
 
 -- the greedy archive of a graph
 abbrev pub greedy_archive : Parameters → Digraph → Archive

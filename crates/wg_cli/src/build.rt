@@ -14,11 +14,10 @@ ghost use Rattle.wg_cli.specs.Names.{held_by, list_named, no_outputs, IsOfInput}
 ghost use Rattle.wg_cli.specs.Performs.{Does};
 ghost use Rattle.wg_cli.specs.Readings.{Readings};
 
+use crate::building::build_archive;
 use crate::ending::Ending;
-use crate::listed::{graph_of_list, params_for};
+use crate::listed::graph_of_list;
 use crate::load::load_file;
-use crate::print::print_ok;
-use crate::writing::write_archive;
 use crate::{Input, Status};
 use std::alloc::Global;
 use wg_graph::Graph;
@@ -37,13 +36,11 @@ pub fn build<D: Depot, O: Sink>(
     out: &mut O,
 ) -> Result<(), Ending>
     requires nodes { nodes ≤ MOST_PAGES }
-    requires layout { IsWithinLimits (params_of layout.now nodes 0) }
+    requires layout { IsWithinLimits (params_of layout.now 0 0) }
     ensures { Does ⟦<D as Depot>⟧ ⟦<O as Sink>⟧ (Build arcs.now base.now nodes layout.now) depot.old depot.new out.old out.new (status_in result) (arcs_in result) }
 {
     let graph = load_graph(alloc, arcs, nodes, depot)?;
-    let params = params_for(layout, &graph);
-    let bits = write_archive(alloc, &params, &graph, base, depot)?;
-    print_ok(out, &params, bits)
+    build_archive(alloc, layout, &graph, base, depot, out)
 }
 
 // The graph of the arc list, whose bytes are not held any longer.

@@ -17,6 +17,7 @@
 mod archive;
 mod arcs;
 mod build;
+mod building;
 mod check;
 mod ending;
 pub mod laws;
@@ -29,11 +30,13 @@ mod print;
 mod program;
 mod rank;
 mod ranked;
+mod recode;
 mod report;
 mod status;
 mod steady;
 mod text;
 mod texts;
+mod transpose;
 mod writing;
 
 pub use program::run;

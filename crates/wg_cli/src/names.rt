@@ -1,6 +1,6 @@
 ghost use Rattle.std.specs.Prelude.{◌≡◌, ◌++◌, IfOk, IfErr, option_map};
 ghost use Rattle.wg_io.specs.declared.suffixes.TheConstants.{PROPERTIES, GRAPH, OFFSETS};
-ghost use Rattle.wg_cli.specs.Names.{archive_files, archive_named, base_of, input_name, list_named, name_of_input, output_name, record_files, suffix_of};
+ghost use Rattle.wg_cli.specs.Names.{archive_files, archive_named, input_name, list_named, name_of_input, output_name, record_files, suffix_of};
 
 use crate::ending::Ending;
 use crate::{Input, Status};
@@ -20,19 +20,6 @@ pub fn suffix(input: Input) -> Option<&'static str>
     }
 }
 
-/// The archive that a job reads or writes.
-pub fn base(job: &Job) -> &Name
-    ensures { result.now ≡ base_of job.now }
-{
-    match job {
-        Job::Check { base }
-        | Job::Arcs { base }
-        | Job::Offsets { base }
-        | Job::Rank { base, .. }
-        | Job::Build { base, .. } => base,
-    }
-}
-
 /// The name of a job's input, in two parts.
 pub fn input_parts(job: &Job, input: Input) -> Option<(&str, &'static str)>
     ensures { option_map (λ parts. parts.0.now ++ parts.1.now) result ≡ input_name job.now input }
@@ -43,6 +30,9 @@ pub fn input_parts(job: &Job, input: Input) -> Option<(&str, &'static str)>
             base, input,
         ),
         Job::Build { arcs, .. } => list_parts(arcs, input),
+        Job::Recode { input: base, .. } | Job::Transpose { input: base, .. } => {
+            record_input(base, input)
+        }
     }
 }
 
@@ -85,7 +75,9 @@ pub fn output_parts(job: &Job, output: Output) -> Option<(&str, &'static str)>
 {
     match job {
         Job::Check { .. } | Job::Arcs { .. } | Job::Offsets { .. } | Job::Rank { .. } => None,
-        Job::Build { base, .. } => archive_parts(base, output),
+        Job::Build { base, .. }
+        | Job::Recode { output: base, .. }
+        | Job::Transpose { output: base, .. } => archive_parts(base, output),
     }
 }
 

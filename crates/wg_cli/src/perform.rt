@@ -11,6 +11,8 @@ use crate::check::check;
 use crate::ending::Ending;
 use crate::offsets::offsets;
 use crate::rank::{Asked, rank};
+use crate::recode::recode;
+use crate::transpose::transpose;
 use std::alloc::Global;
 use wg_io::{Depot, Sink};
 use wg_words::Job;
@@ -54,5 +56,15 @@ pub fn perform<D: Depot, O: Sink>(alloc: Global, job: &Job, depot: &mut D, out: 
             nodes,
             layout,
         } => ending_of(build(alloc, arcs, base, *nodes, layout, depot, out)),
+        Job::Recode {
+            input,
+            output,
+            layout,
+        } => ending_of(recode(alloc, input, output, layout, depot, out)),
+        Job::Transpose {
+            input,
+            output,
+            layout,
+        } => ending_of(transpose(alloc, input, output, layout, depot, out)),
     }
 }

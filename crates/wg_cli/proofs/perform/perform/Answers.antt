@@ -15,3 +15,9 @@ returns-in-Rank g c = performs_at _ _ _ _ _ _ _ _ _ _ c.in-Rank.is c.ending_of-i
 
 pub returns-in-Build : goal.returns-in-Build
 returns-in-Build g c = performs_at _ _ _ _ _ _ _ _ _ _ c.in-Build.is c.ending_of-in-Build.ensures.status c.ending_of-in-Build.ensures.arcs c.build.ensures
+
+pub returns-in-Recode : goal.returns-in-Recode
+returns-in-Recode g c = performs_at _ _ _ _ _ _ _ _ _ _ c.in-Recode.is c.ending_of-in-Recode.ensures.status c.ending_of-in-Recode.ensures.arcs c.recode.ensures
+
+pub returns-in-Transpose : goal.returns-in-Transpose
+returns-in-Transpose g c = performs_at _ _ _ _ _ _ _ _ _ _ c.in-Transpose.is c.ending_of-in-Transpose.ensures.status c.ending_of-in-Transpose.ensures.arcs c.transpose.ensures

@@ -7,16 +7,16 @@ use Rattle.wg_cli.specs.declared.status.Input.TheVariants as input
 use Rattle.wg_cli.proofs.rank.rank.Goals as goal
 
 pub returns-in_err-text : goal.returns-in_err-text
-returns-in_err-text g c = unread (file_of c.args.base.now) input.Properties _ _ _ _ _ _ _ refl refl refl refl (search rules) (search rules) (search rules) (search rules) (search rules) (search rules)
+returns-in_err-text g c = unread (file_of c.args.base.now) input.Properties _ _ _ _ _ _ _ refl refl refl (search rules) (search rules) (search rules) (search rules) (search rules) (search rules)
 
 pub returns-in_err-bytes : goal.returns-in_err-bytes
-returns-in_err-bytes g c = unread (file_of c.args.base.now) input.Graph _ _ _ _ _ _ _ refl refl refl refl (search rules) (search rules) (search rules) (search rules) (search rules) (search rules)
+returns-in_err-bytes g c = unread (file_of c.args.base.now) input.Graph _ _ _ _ _ _ _ refl refl refl (search rules) (search rules) (search rules) (search rules) (search rules) (search rules)
 
 pub returns-in_err-graph : goal.returns-in_err-graph
-returns-in_err-graph g c = stopped _ _ _ _ _ _ _ refl (search rules) refl (search rules) (search rules) (search rules) (search rules) (search rules) (search rules) (search rules)
+returns-in_err-graph g c = stopped _ _ _ _ _ _ _ (search rules) refl (search rules) (search rules) (search rules) (search rules) (search rules) (search rules) (search rules)
 
 pub returns-in_err-room : goal.returns-in_err-room
-returns-in_err-room g c = stopped _ _ _ _ _ _ _ refl (search rules) refl (search rules) (search rules) (search rules) (search rules) (search rules) (search rules) (search rules)
+returns-in_err-room g c = stopped _ _ _ _ _ _ _ (search rules) refl (search rules) (search rules) (search rules) (search rules) (search rules) (search rules) (search rules)
 
 pub returns : goal.returns
 returns g c =
