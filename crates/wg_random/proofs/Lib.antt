@@ -1,0 +1,4 @@
+pub mod Readings
+pub mod ArchiveLemmas
+pub mod ChainLemmas
+pub mod Matching

@@ -1,0 +1,18 @@
+-- What the opening of a page answers.
+use Rattle.std.specs.Prelude.{◌≡◌, ℕ, ◌<◌, ◌≤◌, length, Result, Ok, Err}
+use Rattle.wg_grammar.specs.Context.{Known}
+use Rattle.wg_iterators.specs.Coming.{Coming}
+use Rattle.wg_random.specs.declared.archive.TheConstants.{CHAIN_PAGES}
+use Rattle.wg_random.specs.declared.error.OpenError.{OpenError}
+use Rattle.wg_random.specs.declared.error.OpenError.TheVariants.{NoPage, Deep, Memory}
+
+-- all successors of the page are still to come
+abbrev pub all_of : Known → Coming
+all_of k = record { outdegree = length k.list; depth = k.depth; list = k.list }
+
+-- the page, which is x; or there is no such page; or it is too deep; or memory was wanting, for a page that refers to another
+abbrev pub Opens : ℕ → ℕ → Known → Result Coming OpenError → Type 0
+Opens nodes x k (Ok s) = (x < nodes) × (k.depth < CHAIN_PAGES) × (s ≡ all_of k)
+Opens nodes x k (Err NoPage) = nodes ≤ x
+Opens nodes x k (Err (Deep d)) = (x < nodes) × (d ≡ k.depth) × (CHAIN_PAGES ≤ d)
+Opens nodes x k (Err Memory) = (x < nodes) × (k.depth < CHAIN_PAGES) × (0 < k.depth)

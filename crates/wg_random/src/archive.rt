@@ -1,0 +1,200 @@
+//! Pages by their offsets.
+ghost use Rattle.std.specs.Prelude.{◌≡◌, ◌+◌, ◌<◌, ◌≤◌, ℕ, List, [], length, get_or, Ok, IfOk, IfErr, OnOk, OnErr};
+ghost use Rattle.wg_grammar.specs.Archive.{Accepted, ReadsGraph};
+ghost use Rattle.wg_iterators.specs.Below.{depth_on, listed, IsFresh};
+ghost use Rattle.wg_random.specs.Checking.{IsLengthFault};
+ghost use Rattle.wg_random.specs.Reading.{Reading, known_at, offset_at};
+ghost use Rattle.wg_random.specs.Chain.{StandsOn, Refers, Ended};
+ghost use Rattle.wg_random.specs.Answer.{all_of, Opens};
+ghost use Rattle.wg_random.specs.declared.archive.TheConstants.{CHAIN_PAGES};
+
+use crate::{OpenError, Records, Steps};
+use std::alloc::{AllocError, Global};
+use std::marker::Model;
+use std::sync::ledger::Ledger;
+use wg_bits::{Bits, Cursor};
+use wg_grammar::ArchiveFault;
+use wg_iterators::{Successors, reference};
+use wg_offsets::Offsets;
+use wg_params::Params;
+
+/// How many pages a chain of references may have if its first page is to be opened.
+pub const CHAIN_PAGES: usize = 256;
+
+/// The bits of an archive that stand for one graph, and the offsets of its records.
+///
+/// It is seen as its parameters, the bits, and the offsets. It holds no memory of its own.
+#[derive(Drop)]
+pub struct Archive<'a> {
+    bytes: &'a [u8],
+    params: Params,
+    offsets: &'a Offsets,
+}
+
+impl<'a> Model for Archive<'a> {
+    ghost use Rattle.std.specs.Prelude.{◌≡◌, ◌≤◌, ◌∷◌, map, length};
+    ghost use Rattle.wg_io.specs.declared.limits.TheConstants.{MOST_BYTES};
+    ghost use Rattle.wg_bits.specs.Bits.{bits_of};
+    ghost use Rattle.wg_random.specs.Held.{Held};
+    ghost use Rattle.wg_random.specs.Reading.{Reading};
+
+    ghost Value = { Held };
+
+    ghost view = { λ a. record { params = a.params; bits = bits_of a.bytes.now; offsets = a.offsets.now } };
+
+    ghost invariant = { λ a. (length a.bytes.now ≤ MOST_BYTES)
+        × ((r : Reading a.params (bits_of a.bytes.now)) × (a.offsets.now ≡ 0 ∷ map (λ w. w.end) r.records)) };
+}
+
+// Holds the offsets of a file against those of the records.
+fn compare(records: &Offsets, file: &Offsets) -> Result<(), ArchiveFault>
+    requires { length records.now ≡ length file.now }
+    ensures same { IfOk result (λ done. records.now ≡ file.now) }
+    ensures refused { IfErr result (IsLengthFault records.now file.now) }
+{
+    // tells that both are places
+    records.len();
+    file.len();
+    match records.first_mismatch(file) {
+        None => Ok(()),
+        Some((page, found, stored)) => Err(ArchiveFault::Length {
+            page,
+            found,
+            stored,
+        }),
+    }
+}
+
+impl<'a> Archive<'a> {
+    /// The archive of these records, if the offsets are those of the records; else the first record that has another
+    /// length by the offsets. It takes one pass over the offsets.
+    pub fn check(records: Records<'a>, offsets: &'a Offsets) -> Result<Archive<'a>, ArchiveFault>
+        requires { length offsets.now ≡ records.params.nodes + 1 }
+        ensures held { IfOk result (λ archive. archive ≡ records.entry) }
+        ensures refused { IfErr result (IsLengthFault records.entry.offsets offsets.now) }
+    {
+        let Records {
+            bytes,
+            params,
+            offsets: found,
+        } = records;
+        compare(&found, offsets)?;
+        Ok(Archive {
+            bytes,
+            params,
+            offsets,
+        })
+    }
+
+    // A cursor at the record of a page.
+    fn cursor(&self, page: u64) -> Cursor<'a>
+        requires { page < self.now.params.nodes }
+        ensures { (r : Reading self.now.params self.now.bits) → result ≡ record { bits = self.now.bits; at = offset_at r.records page } }
+    {
+        // tells the limits
+        self.params.nodes();
+        Cursor::new(Bits::of(self.bytes), self.offsets.place(page))
+    }
+
+    // How many pages back the record of a page refers.
+    fn reference(&self, page: u64) -> u64
+        requires { page < self.now.params.nodes }
+        ensures refers { (r : Reading self.now.params self.now.bits) → Refers self.now.params self.now.bits r.records page result }
+        ensures near { result ≤ page }
+    {
+        reference(&self.params, self.cursor(page))
+    }
+
+    // The page, where all of its successors are to come.
+    fn stand(&self, page: u64, below: Option<Box<Successors<'a>>>) -> Successors<'a>
+        requires page { page < self.now.params.nodes }
+        requires fresh { IsFresh below }
+        requires ready { (r : Reading self.now.params self.now.bits) → StandsOn self.now.params self.now.bits r.records page (listed below) }
+        ensures whole { (r : Reading self.now.params self.now.bits) → result ≡ record { outdegree = length (known_at r.records page).list; depth = depth_on below.entry; list = (known_at r.records page).list } }
+        ensures fresh { length result.list ≡ result.outdegree }
+        ensures depth { result.depth ≡ depth_on below.entry }
+    {
+        Successors::begin(&self.params, page, self.cursor(page), below)
+    }
+
+    // Follows the references from page `x`, keeps the first of these pages, and answers how many references there are.
+    fn descend<L: Ledger>(
+        &self,
+        x: u64,
+        chain: &mut [u64; CHAIN_PAGES],
+        steps: &mut Steps<L>,
+    ) -> u64
+        requires { x < self.now.params.nodes }
+        ensures chain { (r : Reading self.now.params self.now.bits) → Ended self.now.params self.now.bits r.records chain.new x result }
+        ensures pages { (i : ℕ) → i ≤ result → i < CHAIN_PAGES → get_or chain.new i 0 < self.now.params.nodes }
+        ensures ticks { steps.new ≡ steps.old + result + 1 }
+    {
+        let mut page = x;
+        let mut depth = 0;
+        chain[0] = x;
+        'down: loop {
+            steps.tick();
+            let back = self.reference(page);
+            if back == 0 {
+                return depth;
+            }
+            page -= back;
+            depth += 1;
+            if depth < CHAIN_PAGES as u64 {
+                chain[depth as usize] = page;
+            }
+        }
+    }
+
+    // Makes the pages of a chain that ends after `depth` references, from the last one up, each below the one before it.
+    fn ascend(
+        &self,
+        alloc: Global,
+        x: u64,
+        chain: &[u64; CHAIN_PAGES],
+        depth: u64,
+    ) -> Result<Successors<'a>, AllocError>
+        requires near { depth < CHAIN_PAGES }
+        requires pages { (i : ℕ) → i ≤ depth → i < CHAIN_PAGES → get_or chain.now i 0 < self.now.params.nodes }
+        requires chain { (r : Reading self.now.params self.now.bits) → Ended self.now.params self.now.bits r.records chain.now x depth }
+        ensures page { (r : Reading self.now.params self.now.bits) → IfOk result (λ s. s ≡ all_of (known_at r.records x)) }
+        ensures memory { OnErr result (0 < depth) }
+    {
+        let mut below: Option<Box<Successors<'a>>> = None;
+        let mut left = depth;
+        'up: while left > 0 {
+            let page = self.stand(chain[left as usize], below);
+            below = Some(Box::new(alloc, page)?);
+            left -= 1;
+        }
+        Ok(self.stand(chain[0], below))
+    }
+
+    /// The successors of page `x`, all of them still to come. Each record of its chain of references is opened once, with a tick;
+    /// a box is taken for each but the first.
+    pub fn open<L: Ledger>(
+        &self,
+        alloc: Global,
+        x: u64,
+        steps: &mut Steps<L>,
+    ) -> Result<Successors<'a>, OpenError>
+        ensures answer { (r : Reading self.now.params self.now.bits) → Opens self.now.params.nodes x (known_at r.records x) result }
+        ensures graph { (a : Accepted) → ReadsGraph self.now.params self.now.bits (Ok a) → IfOk result (λ s. s.list ≡ get_or a.graph x []) }
+        ensures ticks { (r : Reading self.now.params self.now.bits) → OnOk result (steps.new ≡ steps.old + (known_at r.records x).depth + 1) }
+        ensures most { (r : Reading self.now.params self.now.bits) → steps.new ≤ steps.old + (known_at r.records x).depth + 1 }
+        ensures none { self.now.params.nodes ≤ x → steps.new ≡ steps.old }
+    {
+        if x >= self.params.nodes() {
+            return Err(OpenError::NoPage);
+        }
+        let mut chain = [0; CHAIN_PAGES];
+        let depth = self.descend(x, &mut chain, steps);
+        if depth >= CHAIN_PAGES as u64 {
+            return Err(OpenError::Deep(depth));
+        }
+        match self.ascend(alloc, x, &chain, depth) {
+            Ok(page) => Ok(page),
+            Err(_) => Err(OpenError::Memory),
+        }
+    }
+}

@@ -1,0 +1,63 @@
+//! Records that were checked.
+ghost use Rattle.std.specs.Prelude.{◌≡◌, ◌≤◌, ℕ, List, IfOk, IfErr, Ok, Err, length};
+ghost use Rattle.wg_io.specs.declared.limits.TheConstants.{MOST_BYTES};
+ghost use Rattle.wg_bits.specs.Bits.{bits_of};
+ghost use Rattle.wg_grammar.specs.Archive.{ReadsGraph};
+ghost use Rattle.wg_random.specs.Checking.{OfArchive};
+
+use crate::CheckError;
+use std::alloc::Global;
+use std::marker::Model;
+use wg_bits::{Bits, Cursor};
+use wg_offsets::Offsets;
+use wg_params::Params;
+use wg_stream::{PagesError, read_offsets};
+
+/// The bits of a graph file that stand for one graph, and where their records are.
+///
+/// It is seen as its parameters, the bits, and the offsets. It holds 8 bytes a page.
+#[derive(Drop)]
+pub struct Records<'a> {
+    pub(crate) bytes: &'a [u8],
+    pub(crate) params: Params,
+    pub(crate) offsets: Offsets,
+}
+
+impl<'a> Model for Records<'a> {
+    ghost use Rattle.std.specs.Prelude.{◌≤◌, ℕ, List, length, Ok};
+    ghost use Rattle.wg_io.specs.declared.limits.TheConstants.{MOST_BYTES};
+    ghost use Rattle.wg_bits.specs.Bits.{bits_of};
+    ghost use Rattle.wg_grammar.specs.Archive.{ReadsGraph};
+    ghost use Rattle.wg_random.specs.Held.{Held};
+
+    ghost Value = { Held };
+
+    ghost view = { λ r. record { params = r.params; bits = bits_of r.bytes.now; offsets = r.offsets } };
+
+    ghost invariant = { λ r. (length r.bytes.now ≤ MOST_BYTES)
+        × ((graph : List (List ℕ)) × ReadsGraph r.params (bits_of r.bytes.now) (Ok (record { graph = graph; places = r.offsets }))) };
+}
+
+impl<'a> Records<'a> {
+    /// Judges the records of all pages, the tail and the number of arcs, and keeps where the records are. It takes one
+    /// pass over the bytes and the lists.
+    pub fn check(alloc: Global, bytes: &'a [u8], params: Params) -> Result<Records<'a>, CheckError>
+        requires { length bytes.now ≤ MOST_BYTES }
+        ensures params { IfOk result (λ r. r.params ≡ params) }
+        ensures bits { IfOk result (λ r. r.bits ≡ bits_of bytes.now) }
+        ensures graph { IfOk result (λ r. (graph : List (List ℕ))
+            × ReadsGraph params (bits_of bytes.now) (Ok (record { graph = graph; places = r.offsets }))) }
+        ensures refused { IfErr result (λ e. OfArchive e (λ f. ReadsGraph params (bits_of bytes.now) (Err f))) }
+    {
+        match read_offsets(alloc, params, &mut Cursor::new(Bits::of(bytes), 0)) {
+            Ok(offsets) => Ok(Records {
+                bytes,
+                params,
+                offsets,
+            }),
+            Err(PagesError::Fault(fault)) => Err(CheckError::Archive(fault)),
+            Err(PagesError::Memory) => Err(CheckError::Memory),
+            Err(PagesError::Refused(never)) => match never {},
+        }
+    }
+}
