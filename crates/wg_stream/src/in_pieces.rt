@@ -1,5 +1,5 @@
 // Archives and words that are read in pieces.
-ghost use Rattle.std.specs.Prelude.{◌<◌, ◌≤◌, ◌^◌, length};
+ghost use Rattle.std.specs.Prelude.{◌≤◌, ◌^◌, length};
 ghost use Rattle.wg_params.specs.Codes.{IsCode};
 
 use crate::tests::{Stopped, why_stopped};
@@ -24,12 +24,10 @@ fn lends<D: Depot>(reader: &mut Reader, depot: &mut D, list: Option<&[u64]>) -> 
 }
 
 // Reads all pages in pieces. The list and the end of each are to be those of the archive.
-fn is_read(rt: &impl Abort, alloc: Global, archive: &Archive, piece: u64) -> Result<(), Fail>
-    requires { 0 < piece }
-{
+fn is_read(rt: &impl Abort, alloc: Global, archive: &Archive, piece: u64) -> Result<(), Fail> {
     let name = archive.name;
     let bytes = bytes_of(alloc, archive.graph)?;
-    let mut depot = MemoryDepot::new(alloc, piece);
+    let mut depot = MemoryDepot::new(alloc, piece.max(1));
     depot.put_file("g.graph", &bytes)?;
     let params = archive.shape.params(archive.nodes, archive.arcs)?;
     let mut reader = Reader::new(alloc, params, "g.graph")?;
@@ -98,6 +96,23 @@ fn closes<D: Depot>(
     assert!(rt; false, "{what}");
 }
 
+// A file of these bytes is read up to this error, in pieces of so many bytes.
+fn closes_file(
+    rt: &impl Abort,
+    alloc: Global,
+    params: Params,
+    bytes: &[u8],
+    piece: u64,
+    first: First,
+    what: &str,
+) -> Result<(), Fail> {
+    let mut depot = MemoryDepot::new(alloc, piece.max(1));
+    depot.put_file("g.graph", bytes)?;
+    let mut reader = Reader::new(alloc, params, "g.graph")?;
+    closes(rt, &mut reader, &mut depot, params.nodes(), first, what);
+    Ok(())
+}
+
 #[test]
 fn faults_in_pieces(rt: HostRuntime) -> Result<(), Fail> {
     for refused in BAD_GRAPHS {
@@ -106,30 +121,24 @@ fn faults_in_pieces(rt: HostRuntime) -> Result<(), Fail> {
         assert!(rt; bytes.len() <= 1 << 46);
         let first = fault_in_memory(rt.alloc(), params, &bytes).ok_or("no fault")?;
         for piece in [1, 3, 4096] {
-            let mut depot = MemoryDepot::new(rt.alloc(), piece);
-            depot.put_file("g.graph", &bytes)?;
-            let mut reader = Reader::new(rt.alloc(), params, "g.graph")?;
-            closes(
-                &rt,
-                &mut reader,
-                &mut depot,
-                refused.nodes,
-                first,
-                refused.fault,
-            );
+            closes_file(&rt, rt.alloc(), params, &bytes, piece, first, refused.fault)?;
         }
     }
     Ok(())
 }
 
 #[test]
-fn errors_of_the_outside(rt: HostRuntime) -> Result<(), Fail> {
-    let params = usual(200, 0, 7, 3, 4)?;
+fn a_file_that_is_absent(rt: HostRuntime) -> Result<(), Fail> {
     let mut none = MemoryDepot::new(rt.alloc(), 1);
-    let mut reader = Reader::new(rt.alloc(), params, "g.graph")?;
+    let mut reader = Reader::new(rt.alloc(), usual(200, 0, 7, 3, 4)?, "g.graph")?;
     closes(&rt, &mut reader, &mut none, 200, First::Absent, "absent");
+    Ok(())
+}
+
+#[test]
+fn a_file_that_is_too_long(rt: HostRuntime) -> Result<(), Fail> {
     let mut endless = ZeroDepot::new("g.graph", MOST_BYTES + 1);
-    let mut reader = Reader::new(rt.alloc(), params, "g.graph")?;
+    let mut reader = Reader::new(rt.alloc(), usual(200, 0, 7, 3, 4)?, "g.graph")?;
     closes(
         &rt,
         &mut reader,
@@ -138,11 +147,16 @@ fn errors_of_the_outside(rt: HostRuntime) -> Result<(), Fail> {
         First::TooLong,
         "too long",
     );
-    // after the look at the limit and the first byte
+    Ok(())
+}
+
+// The third read is that of the second byte, after the look at the limit and the first byte.
+#[test]
+fn a_read_that_fails(rt: HostRuntime) -> Result<(), Fail> {
     let mut failing = MemoryDepot::new(rt.alloc(), 1);
     failing.put_file("g.graph", &[255; 25])?;
     failing.fail_read(3);
-    let mut reader = Reader::new(rt.alloc(), params, "g.graph")?;
+    let mut reader = Reader::new(rt.alloc(), usual(200, 0, 7, 3, 4)?, "g.graph")?;
     closes(&rt, &mut reader, &mut failing, 200, First::Failed, "failed");
     Ok(())
 }
