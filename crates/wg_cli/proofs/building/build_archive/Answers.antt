@@ -1,15 +1,9 @@
-use Rattle.std.proofs.Common.{rules, ◌≡◌, ◌∙◌, ℕ, length, ap, sym, subst}
-use Rattle.wg_params.specs.Parameters.{Parameters}
-use Rattle.wg_encoder.specs.Archive.{graph_bits}
+use Rattle.std.proofs.Common.{rules, sym, subst}
 use Rattle.wg_cli.specs.Answers.{HasOutput}
 use Rattle.wg_cli.specs.Causes.{HasCause}
-use Rattle.wg_cli.specs.Judged.{greedy_line, ok_line}
 use Rattle.wg_cli.specs.Names.{archive_named}
-use Rattle.wg_cli.specs.Performs.{Builds}
-use Rattle.wg_cli.specs.Written.{greedy_archive, params_for, FilesAfter, archive_at}
 use Rattle.wg_cli.specs.declared.status.Status.{Status}
-use Rattle.wg_cli.proofs.ExitLemmas.{output_put, unput_cause}
-use Rattle.wg_cli.proofs.BuildLemmas.{put_stopped, rose_since, ended_by, stopped_cause, stopped_output, put_stands}
+use Rattle.wg_cli.proofs.BuildLemmas.{ended_by, stopped_cause, stopped_output}
 use Rattle.wg_cli.proofs.building.build_archive.Goals as goal
 
 pub returns-in_err-bits : goal.returns-in_err-bits
