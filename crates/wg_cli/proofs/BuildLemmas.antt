@@ -142,5 +142,5 @@ written job td to before after files counts l g base r writes names is same late
       (subst (λ (a : Option Archive). HasFiles (archive_named base) a files after.files (status_in r)) (sym due) (h.files t)));
   same = λ none. absurd (let no : true ≡ false = sym writes ∙ none in cc);
   later = none_falls-trans before.counts counts after.counts later h.later;
-  promised = built_promised (held_by (input_name job) before.files) r h.only;
+  promised = λ t. built_promised (held_by (input_name job) before.files) r h.only;
 }
