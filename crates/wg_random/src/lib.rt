@@ -19,6 +19,8 @@ mod archive;
 mod error;
 mod records;
 mod steps;
+#[cfg(test)]
+mod tests;
 
 pub use archive::{Archive, CHAIN_PAGES};
 pub use error::{CheckError, OpenError};

@@ -1,0 +1,113 @@
+// Each page of an archive opened, and a chain of references that is too long for it.
+ghost use Rattle.std.specs.Prelude.{◌≡◌, ◌<◌, ◌≤◌, ◌^◌, length};
+
+use crate::{Archive, OpenError, Records, Steps};
+use std::alloc::Global;
+use std::marker::Brand;
+use std::process::Abort;
+use std::sync::ledger::{Blank, Ledger};
+use std::test::Fail;
+use wg_params::{BadParam, Code, Params};
+use wg_vectors::{ARCHIVES, LONGER, bytes_of};
+
+// What is wanted of a page: its list, or why it is not opened.
+type Case<'a> = (u64, Result<&'a [u64], OpenError>);
+
+// Opens pages of the archive whose graph file and offsets file have these bits.
+fn is_opened<L: Ledger>(
+    rt: &impl Abort,
+    alloc: Global,
+    params: Params,
+    files: [&str; 2],
+    cases: &[Case],
+    blank: Blank,
+) -> Result<(), Fail>
+    requires name { blank.name ≡ L.name }
+    requires parts { blank.parts ≡ L.parts }
+    requires some { 0 < blank.parts }
+{
+    let (book, share) = blank.open::<L>();
+    let mut steps = Steps::new(book, share);
+    let graph = bytes_of(alloc, files[0])?;
+    let offsets = bytes_of(alloc, files[1])?;
+    assert!(rt; graph.len() <= 1 << 46 && offsets.len() <= 1 << 46);
+    let offsets = wg_offsets::read(alloc, &offsets, params.nodes(), params.offsets())?;
+    let archive = Archive::check(Records::check(alloc, &graph, params)?, &offsets)?;
+    for (page, wanted) in cases {
+        match archive.open(alloc, *page, &mut steps) {
+            Ok(mut successors) => {
+                let list = (*wanted)?;
+                for number in list {
+                    assert_eq!(rt; successors.next(), Some(*number));
+                }
+                assert_eq!(rt; successors.next(), None);
+                assert_eq!(rt; successors.next(), None);
+            }
+            Err(error) => assert!(rt; wanted.err() == Some(error)),
+        }
+    }
+    Ok(())
+}
+
+#[test]
+fn each_page_of_an_archive(rt: HostRuntime) -> Result<(), Fail> {
+    for archive in ARCHIVES.iter().chain(LONGER.iter()) {
+        let params = archive.shape.params(archive.nodes, archive.arcs)?;
+        let files = [archive.graph, archive.offsets];
+        for (page, list) in archive.lists.iter().enumerate() {
+            let cases = [
+                (page as u64, Ok(*list)),
+                (archive.nodes, Err(OpenError::NoPage)),
+            ];
+            is_opened::<Brand>(&rt, rt.alloc(), params, files, &cases, Blank::new(1))?;
+        }
+    }
+    Ok(())
+}
+
+// Parameters in the usual codes, where references may lead on without end.
+fn endless(nodes: u64, arcs: u64) -> Result<Params, BadParam> {
+    let unary = Code::Unary;
+    let gamma = Code::Gamma;
+    Params::new(
+        nodes,
+        arcs,
+        7,
+        None,
+        4,
+        3,
+        gamma,
+        unary,
+        gamma,
+        gamma,
+        Code::Zeta(3),
+        gamma,
+    )
+}
+
+// Page 0 has the successors 0 and 1 as residuals, and each later page copies the page before it.
+const FIRST: [&str; 2] = ["011 1 1 100 100", "1 0001100"];
+
+const COPY: [&str; 2] = ["  011 01 1", " 00111"];
+
+#[test]
+fn a_chain_of_256_references(rt: HostRuntime) -> Result<(), Fail> {
+    let alloc = rt.alloc();
+    let mut graph = String::new(alloc);
+    let mut offsets = String::new(alloc);
+    graph.push_str(FIRST[0])?;
+    offsets.push_str(FIRST[1])?;
+    for _page in 1..257 {
+        graph.push_str(COPY[0])?;
+        offsets.push_str(COPY[1])?;
+    }
+    let params = endless(257, 514)?;
+    let files = [graph.as_str(), offsets.as_str()];
+    let cases = [
+        (0, Ok([0, 1].as_slice())),
+        (255, Ok([0, 1].as_slice())),
+        (256, Err(OpenError::Deep(256))),
+        (257, Err(OpenError::NoPage)),
+    ];
+    is_opened::<Brand>(&rt, alloc, params, files, &cases, Blank::new(1))
+}
