@@ -6,11 +6,11 @@ ghost use Rattle.wg_cli.specs.Answers.{status_in};
 ghost use Rattle.wg_cli.specs.Lines.{arcs_in};
 ghost use Rattle.wg_cli.specs.Performs.{Does};
 
+use crate::Input;
 use crate::archive::{graph_of_records, parameters};
 use crate::building::build_archive;
 use crate::ending::Ending;
 use crate::load::load;
-use crate::Input;
 use std::alloc::Global;
 use wg_io::{Depot, Sink};
 use wg_words::{Layout, Name};

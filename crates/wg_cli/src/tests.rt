@@ -7,6 +7,7 @@ use wg_words::Words;
 
 mod archives;
 mod built;
+mod conversions;
 mod lines;
 mod lists;
 mod outside;

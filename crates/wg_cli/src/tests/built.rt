@@ -1,15 +1,17 @@
 //! What `build` writes, and what stands where it is stopped.
 ghost use Rattle.std.specs.Prelude.{◌≤◌, ◌<◌, ◌^◌, ◌-◌};
 
+use super::conversions::{REVERSED, put_records};
 use super::lists::{
     BUILD_COPIED, BUILT, Built, COPIED_ARCS, COPIED_OK, COPIED_PROPERTIES, Held, NO_FILES, STOPPED,
     Stopped, UNBUILT,
 };
 use super::*;
 use wg_io::{LoadError, read_whole};
+use wg_vectors::COPIED;
 
-// Runs a line over a depot: its status, what is printed and what is reported.
-fn told<D: Depot>(
+/// Runs a line over a depot: its status, what is printed and what is reported.
+pub fn told<D: Depot>(
     alloc: Global,
     line: &str,
     depot: &mut D,
@@ -21,14 +23,19 @@ fn told<D: Depot>(
     Ok((status.code(), out, err))
 }
 
-// Whether a line ends with status 0 and prints this.
-fn prints<D: Depot>(alloc: Global, line: &str, depot: &mut D, text: &str) -> Result<bool, Fail> {
+/// Whether a line ends with status 0 and prints this.
+pub fn prints<D: Depot>(
+    alloc: Global,
+    line: &str,
+    depot: &mut D,
+    text: &str,
+) -> Result<bool, Fail> {
     let (code, out, _) = told(alloc, line, depot)?;
     Ok(code == 0 && out.bytes() == text.as_bytes())
 }
 
-// Whether a file holds these bytes, or is not there.
-fn holds<D: Depot>(
+/// Whether a file holds these bytes, or is not there.
+pub fn holds<D: Depot>(
     alloc: Global,
     depot: &mut D,
     name: &str,
@@ -41,8 +48,8 @@ fn holds<D: Depot>(
     }
 }
 
-// Whether a file holds the bits of this text, or is not there.
-fn holds_bits<D: Depot>(
+/// Whether a file holds the bits of this text, or is not there.
+pub fn holds_bits<D: Depot>(
     alloc: Global,
     depot: &mut D,
     name: &str,
@@ -118,21 +125,23 @@ fn lists_that_are_refused(rt: HostRuntime) -> Result<(), Fail> {
     Ok(())
 }
 
-// Whether a run that is stopped as the row says reports this, and leaves the files so.
-fn is_stopped(alloc: Global, stopped: &Stopped) -> Result<bool, Fail>
+// Whether a line that writes the archive with a copied list, and is stopped as the row says, reports this, and leaves the files so.
+fn is_stopped(alloc: Global, line: &str, stopped: &Stopped) -> Result<bool, Fail>
     requires piece { 1 ≤ stopped.now.piece }
     requires create { stopped.now.create < 2 ^ 64 - 1 }
     requires append { stopped.now.append < 2 ^ 64 - 1 }
 {
     let mut depot = MemoryDepot::new(alloc, stopped.piece);
     depot.put_file("a", COPIED_ARCS.as_bytes())?;
+    put_records(alloc, &mut depot, "i.properties", "i.graph", &COPIED)?;
+    put_records(alloc, &mut depot, "t.properties", "t.graph", &REVERSED)?;
     if stopped.create > 0 {
         depot.fail_create(stopped.create);
     }
     if stopped.append > 0 {
         depot.fail_append(stopped.append);
     }
-    let (code, out, err) = told(alloc, BUILD_COPIED, &mut depot)?;
+    let (code, out, err) = told(alloc, line, &mut depot)?;
     Ok(
         code == 5
             && out.bytes().is_empty()
@@ -145,12 +154,14 @@ fn is_stopped(alloc: Global, stopped: &Stopped) -> Result<bool, Fail>
 fn each_file_stops_once(rt: HostRuntime) -> Result<(), Fail> {
     for stopped in &STOPPED {
         assert!(rt; stopped.piece > 0 && stopped.create < 10 && stopped.append < 10);
-        assert!(rt;
-            is_stopped(rt.alloc(), stopped)?,
-            "create {}, append {}",
-            stopped.create,
-            stopped.append
-        );
+        for line in [BUILD_COPIED, "recode i g", "transpose t g"] {
+            assert!(rt;
+                is_stopped(rt.alloc(), line, stopped)?,
+                "{line}: create {}, append {}",
+                stopped.create,
+                stopped.append
+            );
+        }
     }
     Ok(())
 }

@@ -1,6 +1,6 @@
 //! Lines that ask for a job, and lines that do not.
 
-pub const JOBS: [&str; 15] = [
+pub const JOBS: [&str; 17] = [
     "check g",
     "arcs g",
     "offsets g",
@@ -16,6 +16,8 @@ pub const JOBS: [&str; 15] = [
     "rank g",
     "rank g --rounds 10000 --damping 999 --top 68719476735",
     "build a g --nodes 1",
+    "recode g h",
+    "transpose --chain none g h --offsets delta",
 ];
 
 pub const NO_JOBS: [&str; 19] = [

@@ -173,7 +173,7 @@ const WITH_BEGUN_PROPERTIES: Held = Held {
     ..WITH_OFFSETS
 };
 
-/// A build of the archive with a copied list, where so many bytes move at once and one call fails: the create or the
+/// A writing of the archive with a copied list, where so many bytes move at once and one call fails: the create or the
 /// append of this number, if it is not 0. The line of error, and what stands then.
 pub struct Stopped {
     pub piece: u64,

@@ -1,0 +1,195 @@
+//! What `recode` and `transpose` write, and archives that they refuse.
+ghost use Rattle.std.specs.Prelude.{◌≤◌};
+
+use super::built::{holds, holds_bits, prints, told};
+use super::*;
+use wg_vectors::{COPIED, COPIED_DELTA, COPIED_GRAPH, ONE_ARC, PLAIN_ARC};
+
+/// The archive with a copied list, with each arc the other way round.
+pub const REVERSED: Archive = Archive {
+    name: "a copied list, transposed",
+    graph: "1  011 1 1 1010 100  011 01 1",
+    offsets: "1 010 0001101 00111",
+    lists: &[&[], &[0, 1], &[0, 1]],
+    places: &[0, 1, 13, 19],
+    ..COPIED
+};
+
+// A line that makes an archive h of an archive g.
+struct Converted {
+    line: &'static str,
+    input: Archive,
+    output: Archive,
+}
+
+const CONVERTED: [Converted; 6] = [
+    Converted {
+        line: "recode g h --window 0 --interval 0 --residuals gamma",
+        input: ONE_ARC,
+        output: PLAIN_ARC,
+    },
+    Converted {
+        line: "recode g h",
+        input: PLAIN_ARC,
+        output: ONE_ARC,
+    },
+    Converted {
+        line: "recode g h --offsets delta",
+        input: COPIED,
+        output: COPIED_DELTA,
+    },
+    Converted {
+        line: "transpose g h",
+        input: COPIED,
+        output: REVERSED,
+    },
+    Converted {
+        line: "transpose g h",
+        input: REVERSED,
+        output: COPIED,
+    },
+    Converted {
+        line: "transpose g h",
+        input: COPIED_DELTA,
+        output: REVERSED,
+    },
+];
+
+// The properties text of an archive, as it is written.
+fn properties_of(alloc: Global, archive: &Archive) -> Result<String, Fail> {
+    let nodes = archive.nodes;
+    let arcs = archive.arcs;
+    let window = archive.shape.window;
+    let interval = archive.shape.interval;
+    let flags = archive.shape.flags;
+    let head = format!(in alloc; "#BVGraph properties\nversion=0\nnodes={nodes}\narcs={arcs}\n")?;
+    let limits = format!(in alloc;
+        "windowsize={window}\nmaxrefcount=3\nminintervallength={interval}\nzetak=3\n"
+    )?;
+    Ok(format!(in alloc;
+        "{head}{limits}compressionflags={flags}\ngraphclass=it.unimi.dsi.webgraph.BVGraph\n"
+    )?)
+}
+
+/// Puts the properties and the graph of an archive into a depot, but no offsets.
+pub fn put_records(
+    alloc: Global,
+    depot: &mut MemoryDepot,
+    properties: &str,
+    graph: &str,
+    archive: &Archive,
+) -> Result<(), Fail> {
+    depot.put_file(properties, properties_of(alloc, archive)?.as_bytes())?;
+    depot.put_file(graph, &bytes_of(alloc, archive.graph)?)?;
+    Ok(())
+}
+
+// Whether the line writes the archive that it should, which is accepted and has the arcs of its lists.
+fn is_converted(alloc: Global, converted: &Converted, piece: u64) -> Result<bool, Fail>
+    requires { 1 ≤ piece }
+{
+    let output = &converted.output;
+    let ok = ok_line(alloc, output)?;
+    let properties = properties_of(alloc, output)?;
+    let mut depot = MemoryDepot::new(alloc, piece);
+    put_records(
+        alloc,
+        &mut depot,
+        "g.properties",
+        "g.graph",
+        &converted.input,
+    )?;
+    Ok(
+        prints(alloc, converted.line, &mut depot, &ok)?
+            && holds(
+                alloc,
+                &mut depot,
+                "h.properties",
+                Some(properties.as_bytes()),
+            )?
+            && holds_bits(alloc, &mut depot, "h.graph", Some(output.graph))?
+            && holds_bits(alloc, &mut depot, "h.offsets", Some(output.offsets))?
+            && prints(alloc, "check h", &mut depot, &ok)?
+            && prints(alloc, "arcs h", &mut depot, &arc_lines(alloc, output)?)?
+            && holds_bits(alloc, &mut depot, "g.graph", Some(converted.input.graph))?
+            && holds(alloc, &mut depot, "g.offsets", None)?,
+    )
+}
+
+#[test]
+fn archives_of_archives(rt: HostRuntime) -> Result<(), Fail> {
+    for converted in &CONVERTED {
+        let line = converted.line;
+        assert!(rt; is_converted(rt.alloc(), converted, 1)?, "{line}");
+        assert!(rt; is_converted(rt.alloc(), converted, 4096)?, "{line}");
+    }
+    Ok(())
+}
+
+// A line over an archive g whose graph file holds these bits: the status and the line of error.
+struct Unconverted {
+    line: &'static str,
+    graph: &'static str,
+    code: u8,
+    report: &'static str,
+}
+
+const UNCONVERTED: [Unconverted; 5] = [
+    Unconverted {
+        line: "recode g g",
+        graph: COPIED_GRAPH,
+        code: 2,
+        report: "wg: bad command line\n",
+    },
+    Unconverted {
+        line: "recode h g",
+        graph: COPIED_GRAPH,
+        code: 6,
+        report: "wg: missing: h.properties\n",
+    },
+    Unconverted {
+        line: "recode g h",
+        graph: "",
+        code: 9,
+        report: "wg: g.graph: page 0 bit 0 outdegree cut\n",
+    },
+    Unconverted {
+        line: "transpose g h --window 65536",
+        graph: COPIED_GRAPH,
+        code: 2,
+        report: "wg: bad command line\n",
+    },
+    Unconverted {
+        line: "transpose g h",
+        graph: "1  1  1",
+        code: 9,
+        report: "wg: g.graph: arcs 0 of 4\n",
+    },
+];
+
+#[test]
+fn archives_that_are_refused(rt: HostRuntime) -> Result<(), Fail> {
+    for row in &UNCONVERTED {
+        let line = row.line;
+        let input = Archive {
+            graph: row.graph,
+            ..COPIED
+        };
+        let mut depot = MemoryDepot::new(rt.alloc(), 3);
+        put_records(rt.alloc(), &mut depot, "g.properties", "g.graph", &input)?;
+        let (code, out, err) = told(rt.alloc(), line, &mut depot)?;
+        assert!(rt;
+            code == row.code && err.bytes() == row.report.as_bytes(),
+            "{line}"
+        );
+        assert!(rt; out.bytes().is_empty(), "{line}");
+        for name in ["h.properties", "h.graph", "h.offsets", "g.offsets"] {
+            assert!(rt; holds(rt.alloc(), &mut depot, name, None)?, "{line}");
+        }
+        assert!(rt;
+            holds_bits(rt.alloc(), &mut depot, "g.graph", Some(row.graph))?,
+            "{line}"
+        );
+    }
+    Ok(())
+}
