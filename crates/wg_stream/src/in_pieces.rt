@@ -13,7 +13,7 @@ use wg_grammar::{ArchiveFault, Fault, Field, Kind};
 use wg_io::{Depot, MOST_BYTES, MemoryDepot, ZeroDepot, append_all};
 use wg_params::{Code, Params};
 use wg_source::Source;
-use wg_vectors::{ARCHIVES, Archive, BAD_GRAPHS, LONGER, bytes_of, usual};
+use wg_vectors::{ARCHIVES, Archive, BAD_GRAPHS, LONGER, Refused, bytes_of, usual};
 
 // Whether this list is lent next, or none.
 fn lends<D: Depot>(reader: &mut Reader, depot: &mut D, list: Option<&[u64]>) -> bool {
@@ -113,18 +113,23 @@ fn closes_file(
     Ok(())
 }
 
-#[test]
-fn faults_in_pieces(rt: HostRuntime) -> Result<(), Fail> {
-    for refused in BAD_GRAPHS {
+// Each file is read up to the fault that it has in memory.
+fn closes_each(rt: &impl Abort, alloc: Global, table: &[Refused]) -> Result<(), Fail> {
+    for refused in table {
         let params = refused.shape.params(refused.nodes, refused.arcs)?;
-        let bytes = bytes_of(rt.alloc(), refused.graph)?;
+        let bytes = bytes_of(alloc, refused.graph)?;
         assert!(rt; bytes.len() <= 1 << 46);
-        let first = fault_in_memory(rt.alloc(), params, &bytes).ok_or("no fault")?;
+        let first = fault_in_memory(alloc, params, &bytes).ok_or("no fault")?;
         for piece in [1, 3, 4096] {
-            closes_file(&rt, rt.alloc(), params, &bytes, piece, first, refused.fault)?;
+            closes_file(rt, alloc, params, &bytes, piece, first, refused.fault)?;
         }
     }
     Ok(())
+}
+
+#[test]
+fn faults_in_pieces(rt: HostRuntime) -> Result<(), Fail> {
+    closes_each(&rt, rt.alloc(), &BAD_GRAPHS)
 }
 
 #[test]
