@@ -70,7 +70,7 @@ module _ (r : Readings) (p : Parameters) (g : Digraph) (limits : IsWithinLimits 
       ∙ ap (λ (w : Result Parameters PropFault). unless_bad_properties w (λ q. with_file input.Graph (Some (graph_file p g.lists)) (λ bytes. next q bytes))) (read_again p limits)
       ∙ file_goes_on input.Graph (graph_file p g.lists) (omega (arith, is.short_graph)) (λ bytes. next p bytes)
 
-  lists_go_on : (next : Digraph → Judged) → with_records (holding (greedy_archive p g)) (λ q bytes. with_digraph r q bytes next) ≡ next g
+  pub lists_go_on : (next : Digraph → Judged) → with_records (holding (greedy_archive p g)) (λ q bytes. with_digraph r q bytes next) ≡ next g
   lists_go_on next =
       records_go_on (λ q bytes. with_digraph r q bytes next)
       ∙ goes_on r p limits (graph_file p g.lists) g.lists places is.graph (λ a. next (record { nodes = p.nodes; lists = a.graph }))
@@ -110,7 +110,7 @@ built_in (built a out) = Some (a, out)
 none_built : (status : Status) (a : Archive) (out : List ℕ) → refused status ≡ built a out → ⊥
 none_built status a out is = none-some (a, out) (ap built_in is)
 
-same_built : (a b : Archive) (out text : List ℕ) → built a out ≡ built b text → (a ≡ b) × (out ≡ text)
+pub same_built : (a b : Archive) (out text : List ℕ) → built a out ≡ built b text → (a ≡ b) × (out ≡ text)
 same_built a b out text is =
     let same : (a, out) ≡ (b, text) = same_Some (a, out) (b, text) (ap built_in is) in
     (λ i. (same i).0, λ i. (same i).1)

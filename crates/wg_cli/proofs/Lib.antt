@@ -3,6 +3,8 @@ pub mod PerformsLemmas
 pub mod WritingLemmas
 pub mod BuildLemmas
 pub mod BuiltLemmas
+pub mod ConversionLemmas
+pub mod HeldLemmas
 pub mod KeyNames
 pub mod LimitsLemmas
 pub mod NumberLemmas

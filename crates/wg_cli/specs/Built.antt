@@ -8,7 +8,7 @@ use Rattle.wg_num.specs.Lines.{lines_of}
 use Rattle.wg_arcs.specs.Reading.{arcs_in}
 use Rattle.wg_arcs.specs.Text.{text_of_arcs, text_of_graph}
 use Rattle.wg_words.specs.Layouts.{params_of}
-use Rattle.wg_words.specs.declared.jobs.Job.TheVariants.{Check, Arcs, Offsets, Rank, Build}
+use Rattle.wg_words.specs.declared.jobs.Job.TheVariants.{Check, Arcs, Offsets, Rank, Build, Recode, Transpose}
 use Rattle.wg_words.specs.declared.layout.Layout.{Layout}
 use Rattle.wg_cli.specs.Readings.{Readings}
 use Rattle.wg_cli.specs.Ranked.{ranking_text}
@@ -44,3 +44,20 @@ abbrev pub BuildsAreAccepted : Readings → Type 0
 BuildsAreAccepted r =
     (list_name base : List ℕ) (nodes : ℕ) (layout : Layout) (held : Input → Option (List ℕ)) (a : Archive) (out : List ℕ)
     → IsWithinLimits (params_of layout nodes 0) → judged r (Build list_name base nodes layout) held ≡ built a out → IsAcceptedBuild r held base a out
+
+-- What a recoding comes to is accepted with its line, and has the arcs of the archive that was read.
+pub record IsAcceptedRecoding (r : Readings) (held : Input → Option (List ℕ)) (input output : List ℕ) (a : Archive) (out : List ℕ) : Type 0 where
+  pub check : judged r (Check output) (holding a) ≡ accepted out
+  pub arcs : judged r (Arcs output) (holding a) ≡ judged r (Arcs input) held
+
+-- What a transposing comes to is accepted with its line, and to transpose it again is to recode the archive that was read.
+pub record IsAcceptedTransposing (r : Readings) (held : Input → Option (List ℕ)) (input output : List ℕ) (a : Archive) (out : List ℕ) : Type 0 where
+  pub check : judged r (Check output) (holding a) ≡ accepted out
+  pub back : (third : List ℕ) (layout : Layout) → judged r (Transpose output third layout) (holding a) ≡ judged r (Recode input third layout) held
+
+-- They do for each archive that is read and each layout within the limits.
+pub record ConversionsAreAccepted (r : Readings) : Type 0 where
+  pub recode : (input output : List ℕ) (layout : Layout) (held : Input → Option (List ℕ)) (a : Archive) (out : List ℕ)
+      → IsWithinLimits (params_of layout 0 0) → judged r (Recode input output layout) held ≡ built a out → IsAcceptedRecoding r held input output a out
+  pub transpose : (input output : List ℕ) (layout : Layout) (held : Input → Option (List ℕ)) (a : Archive) (out : List ℕ)
+      → IsWithinLimits (params_of layout 0 0) → judged r (Transpose input output layout) held ≡ built a out → IsAcceptedTransposing r held input output a out

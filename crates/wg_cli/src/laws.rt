@@ -1,6 +1,6 @@
 //! What the contract of [`run`](crate::run) rests on.
 ghost use Rattle.std.specs.Prelude.{ℕ};
-ghost use Rattle.wg_cli.specs.Built.{BuildsAreAccepted, BuiltAreAccepted};
+ghost use Rattle.wg_cli.specs.Built.{BuildsAreAccepted, BuiltAreAccepted, ConversionsAreAccepted};
 ghost use Rattle.wg_cli.specs.Readings.{Readings, ReadingsAreOne};
 ghost use Rattle.wg_cli.specs.Ranked.{RankingIsProven};
 
@@ -24,4 +24,11 @@ pub fn rankings()
 pub fn built_archives()
     ensures accepted { (r : Readings) → BuiltAreAccepted r }
     ensures builds { (r : Readings) → BuildsAreAccepted r }
+{}
+
+/// What is recoded or transposed is accepted, whatever archive was read, with a layout within the limits: `check` prints of the three files
+/// the very line that was printed. Of a recoded archive `arcs` prints what it prints of the one that was read, and to transpose an archive
+/// twice is to recode it.
+pub fn converted_archives()
+    ensures { (r : Readings) → ConversionsAreAccepted r }
 {}
