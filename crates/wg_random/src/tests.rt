@@ -8,7 +8,7 @@ use std::process::Abort;
 use std::sync::ledger::{Blank, Ledger};
 use std::test::Fail;
 use wg_params::{BadParam, Code, Params};
-use wg_vectors::{ARCHIVES, LONGER, bytes_of};
+use wg_vectors::{ARCHIVES, Archive as Worked, LONGER, bytes_of};
 
 // What is wanted of a page: its list, or why it is not opened.
 type Case<'a> = (u64, Result<&'a [u64], OpenError>);
@@ -49,17 +49,20 @@ fn is_opened<L: Ledger>(
     Ok(())
 }
 
+// Opens a page of a worked archive, and the page that it has not.
+fn page_is_opened(rt: &impl Abort, alloc: Global, archive: &Worked, page: u64) -> Result<(), Fail> {
+    let params = archive.shape.params(archive.nodes, archive.arcs)?;
+    let files = [archive.graph, archive.offsets];
+    let list = archive.lists.get(page as usize).ok_or("a list is missing")?;
+    let cases = [(page, Ok(*list)), (archive.nodes, Err(OpenError::NoPage))];
+    is_opened::<Brand>(rt, alloc, params, files, &cases, Blank::new(1))
+}
+
 #[test]
 fn each_page_of_an_archive(rt: HostRuntime) -> Result<(), Fail> {
     for archive in ARCHIVES.iter().chain(LONGER.iter()) {
-        let params = archive.shape.params(archive.nodes, archive.arcs)?;
-        let files = [archive.graph, archive.offsets];
-        for (page, list) in archive.lists.iter().enumerate() {
-            let cases = [
-                (page as u64, Ok(*list)),
-                (archive.nodes, Err(OpenError::NoPage)),
-            ];
-            is_opened::<Brand>(&rt, rt.alloc(), params, files, &cases, Blank::new(1))?;
+        for page in 0..archive.nodes {
+            page_is_opened(&rt, rt.alloc(), archive, page)?;
         }
     }
     Ok(())
