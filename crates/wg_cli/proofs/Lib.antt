@@ -1,5 +1,13 @@
 pub mod ExitLemmas
 pub mod PerformsLemmas
+pub mod PassLemmas
+pub mod PairingLemmas
+pub mod FirstRecords
+pub mod UnderWay
+pub mod PrintedPass
+pub mod JobPasses
+pub mod CheckLemmas
+pub mod PrintedLines
 pub mod WritingLemmas
 pub mod BuildLemmas
 pub mod BuiltLemmas

@@ -35,7 +35,7 @@ performs_at j k td to before after s t a b same is count h =
 written_none : (r : Readings) (job : Job) (held : Input → Option (List ℕ)) → writes_files job ≡ false → written_by r job held ≡ None
 written_none r job held none = ap (λ (b : Bool). if b then files_of (judged r job held) else None) none
 
-files_same : (job : Job) → writes_files job ≡ false → (before after : Outside) (s : Status) → after.files ≡ before.files → (r : Readings)
+pub files_same : (job : Job) → writes_files job ≡ false → (before after : Outside) (s : Status) → after.files ≡ before.files → (r : Readings)
     → HasFiles (output_name job) (written_by r job (held_by (input_name job) before.files)) before.files after.files s
 files_same job none before after s same r =
     subst (λ (a : Option Archive). HasFiles (output_name job) a before.files after.files s) (sym (written_none r job (held_by (input_name job) before.files) none)) same
@@ -162,13 +162,13 @@ printed job td to before after text r none is same later puts only cause =
 abbrev pub Names : Type 0
 Names = Input → Option (List ℕ)
 
-no_write : (i : Input) (s : Status) (o : Output) → IsOfInput i s → s ≡ WriteFault o → ⊥
+pub no_write : (i : Input) (s : Status) (o : Output) → IsOfInput i s → s ≡ WriteFault o → ⊥
 no_write i s o (inl want) is = let no : Memory ≡ WriteFault o = sym want ∙ is in cc
 no_write i s o (inr (inl fault)) is = let no : ReadFault i ≡ WriteFault o = sym fault ∙ is in cc
 no_write i s o (inr (inr (inl gone))) is = let no : Missing i ≡ WriteFault o = sym gone ∙ is in cc
 no_write i s o (inr (inr (inr long))) is = let no : OverLimit i ≡ WriteFault o = sym long ∙ is in cc
 
-own_read : (i j : Input) (s : Status) → IsOfInput i s → s ≡ ReadFault j → i ≡ j
+pub own_read : (i j : Input) (s : Status) → IsOfInput i s → s ≡ ReadFault j → i ≡ j
 own_read i j s (inl want) is = absurd (let no : Memory ≡ ReadFault j = sym want ∙ is in cc)
 own_read i j s (inr (inl fault)) is = let same : ReadFault i ≡ ReadFault j = sym fault ∙ is in cc
 own_read i j s (inr (inr (inl gone))) is = absurd (let no : Missing i ≡ ReadFault j = sym gone ∙ is in cc)
@@ -181,7 +181,7 @@ own_missing i j s (inr (inr (inl gone))) is = let same : Missing i ≡ Missing j
 own_missing i j s (inr (inr (inr long))) is = absurd (let no : OverLimit i ≡ Missing j = sym long ∙ is in cc)
 
 -- the cause of a reading, by another naming of the same input
-cause_named : (mine yours : Names) (outputs : Output → Option (List ℕ)) (i : Input) (old new : List ℕ → Counts) (faults faults' : ℕ) (s : Status) → IsOfInput i s → yours i ≡ mine i
+pub cause_named : (mine yours : Names) (outputs : Output → Option (List ℕ)) (i : Input) (old new : List ℕ → Counts) (faults faults' : ℕ) (s : Status) → IsOfInput i s → yours i ≡ mine i
     → HasCause mine no_outputs old new 0 0 s → HasCause yours outputs old new faults faults' s
 cause_named mine yours outputs i old new faults faults' s only same cause = record {
   read_fault = λ j is. subst (λ (k : Input). mine k ≡ yours k → IncreasedAt (λ c. c.read_faults) (yours k) old new) (own_read i j s only is)
@@ -198,7 +198,7 @@ unread_stop i s (inr (inl fault)) = subst IsStop (sym fault) tt
 unread_stop i s (inr (inr (inl gone))) = subst IsStop (sym gone) tt
 unread_stop i s (inr (inr (inr long))) = subst IsStop (sym long) tt
 
-unread_possible : (job : Job) (i : Input) (s : Status) → IsTrue (has_input job i) → IsOfInput i s → IsTrue (can_end job s)
+pub unread_possible : (job : Job) (i : Input) (s : Status) → IsTrue (has_input job i) → IsOfInput i s → IsTrue (can_end job s)
 unread_possible job i s has (inl want) = subst (λ (x : Status). IsTrue (can_end job x)) (sym want) refl
 unread_possible job i s has (inr (inl fault)) = subst (λ (x : Status). IsTrue (can_end job x)) (sym fault) has
 unread_possible job i s has (inr (inr (inl gone))) = subst (λ (x : Status). IsTrue (can_end job x)) (sym gone) has

@@ -10,3 +10,5 @@ pub mod Names
 pub mod Lines
 pub mod Built
 pub mod Performs
+pub mod Passes
+pub mod Pairing

@@ -1,19 +1,24 @@
 //! The command `arcs`: the arcs of the graph.
+ghost use Rattle.wg_arcs.specs.Text.{lines_from};
 ghost use Rattle.wg_words.specs.declared.jobs.Job.TheVariants.{Arcs};
 ghost use Rattle.wg_cli.specs.Answers.{status_in};
 ghost use Rattle.wg_cli.specs.Lines.{arcs_in};
+ghost use Rattle.wg_cli.specs.Passes.{PrintsAgain};
 ghost use Rattle.wg_cli.specs.Performs.{Does};
 
-use crate::archive::{graph_of_records, parameters};
+use crate::archive::parameters;
 use crate::ending::Ending;
+use crate::judge::judge_graph;
 use crate::load::load;
-use crate::print::print_graph;
+use crate::print::{print_page, print_rest};
+use crate::records::{end_records, next_record, open_graph};
 use crate::{Input, Status};
 use std::alloc::Global;
-use wg_io::{Depot, Sink};
+use wg_io::{Depot, Lines, Sink};
+use wg_params::Params;
 use wg_words::Name;
 
-/// Prints the arcs of a graph. It judges the whole graph before it prints; it holds the bytes of the graph, 8 bytes an arc and 8 a page, and
+/// Prints the arcs of a graph. It goes through the graph file twice: it judges the whole graph before it prints. It holds a piece of the file, and
 /// the lists that a reference may reach, with a few that wait to be used again.
 pub fn arcs<D: Depot, O: Sink>(
     alloc: Global,
@@ -25,7 +30,26 @@ pub fn arcs<D: Depot, O: Sink>(
 {
     let text = load(alloc, depot, base, Input::Properties)?;
     let params = parameters(text.as_slice())?;
-    let bytes = load(alloc, depot, base, Input::Graph)?;
-    let graph = graph_of_records(alloc, &params, bytes.as_slice())?;
-    print_graph(out, &graph)
+    judge_graph(alloc, &params, depot, base)?;
+    print_arcs(alloc, &params, depot, base, out)
+}
+
+// Reads the file again, and prints each list as it comes.
+fn print_arcs<D: Depot, O: Sink>(
+    alloc: Global,
+    params: &Params,
+    depot: &mut D,
+    base: &Name,
+    out: &mut O,
+) -> Result<(), Ending>
+    ensures { PrintsAgain ⟦<D as Depot>⟧ ⟦<O as Sink>⟧ base.now params.now (λ a. lines_from 0 a.graph) depot.old depot.new out.old out.new result }
+{
+    let mut reader = open_graph(alloc, params, base)?;
+    let mut lines = Lines::new();
+    for page in 0..params.nodes() {
+        next_record(&mut reader, depot, params)?;
+        print_page(&mut lines, out, page, reader.list())?;
+    }
+    end_records(&mut reader, depot, params)?;
+    print_rest(&mut lines, out)
 }

@@ -1,21 +1,32 @@
 //! The command `check`: whether an archive's files are in order.
+ghost use Rattle.std.specs.Prelude.{◌≡◌, ◌⊎◌, Ok, Err, OnOk, IfOk, IfErr, IsTrue};
+ghost use Rattle.wg_io.specs.Outside.{NonDecreasing};
+ghost use Rattle.wg_params.specs.Parameters.{IsWithinLimits};
+ghost use Rattle.wg_grammar.specs.Archive.{Accepted};
 ghost use Rattle.wg_words.specs.declared.jobs.Job.TheVariants.{Check};
-ghost use Rattle.wg_cli.specs.Answers.{status_in};
+ghost use Rattle.wg_cli.specs.Answers.{Steps, status_in};
+ghost use Rattle.wg_cli.specs.Causes.{HasCause};
 ghost use Rattle.wg_cli.specs.Lines.{arcs_in};
+ghost use Rattle.wg_cli.specs.Names.{file_of, held_by, no_outputs};
+ghost use Rattle.wg_cli.specs.Pairing.{files_then};
+ghost use Rattle.wg_cli.specs.Passes.{IsGraphFile, IsStopAt};
 ghost use Rattle.wg_cli.specs.Performs.{Does};
+ghost use Rattle.wg_cli.specs.Readings.{Readings};
 
-use crate::archive::{parameters, places_of_records, same_lengths, stored_places};
+use crate::archive::parameters;
 use crate::ending::Ending;
 use crate::load::load;
+use crate::pairing::{begin_pairing, end_pairing, open_offsets, pair_next};
 use crate::print::print_ok;
+use crate::records::{end_records, next_record, open_graph};
 use crate::{Input, Status};
 use std::alloc::Global;
 use wg_io::{Depot, Sink};
+use wg_params::Params;
 use wg_words::Name;
 
-/// Judges the three files of an archive, and prints the line of what they hold. It holds the bytes of the graph and of the offsets, 8 bytes a
-/// page for the places of each, and the lists that a reference may reach, with a few that wait to be used again; it costs a
-/// pass over each.
+/// Judges the three files of an archive, and prints the line of what they hold. It goes through the graph and the offsets once, beside each other,
+/// and holds a piece of each, and the lists that a reference may reach, with a few that wait to be used again.
 pub fn check<D: Depot, O: Sink>(
     alloc: Global,
     base: &Name,
@@ -26,10 +37,35 @@ pub fn check<D: Depot, O: Sink>(
 {
     let text = load(alloc, depot, base, Input::Properties)?;
     let params = parameters(text.as_slice())?;
-    let graph = load(alloc, depot, base, Input::Graph)?;
-    let places = places_of_records(alloc, &params, graph.as_slice())?;
-    let offsets = load(alloc, depot, base, Input::Offsets)?;
-    let stored = stored_places(alloc, &params, offsets.as_slice())?;
-    same_lengths(&params, &places, &stored)?;
-    print_ok(out, &params, places.end())
+    let bits = judge_files(alloc, &params, depot, base)?;
+    print_ok(out, &params, bits)
+}
+
+// Judges the graph and the offsets, and answers how many bits the records have. After an error of the offsets file that file is read no further, and
+// the error is told once the graph is judged to its end: a fault of the graph comes before it.
+fn judge_files<D: Depot>(
+    alloc: Global,
+    params: &Params,
+    depot: &mut D,
+    base: &Name,
+) -> Result<u64, Ending>
+    ensures limits { OnOk result (IsWithinLimits params.now) }
+    ensures steps { IsTrue D.told → (r : Readings) → Steps (files_then r params.now (held_by (file_of base.now) (D.files depot.old))) result }
+    ensures only { IfErr result (λ e. IsStopAt Input.Graph params.now.arcs e ⊎ (IsStopAt Input.Offsets params.now.arcs e × IsWithinLimits params.now
+        × (IsTrue D.told → (a : Accepted) × IsGraphFile (held_by (file_of base.now) (D.files depot.old) Input.Graph) params.now a))) }
+    ensures causes { HasCause (file_of base.now) no_outputs (D.counts depot.old) (D.counts depot.new) 0 0 (status_in result) }
+    ensures same { D.files depot.new ≡ D.files depot.old }
+    ensures later { NonDecreasing (D.counts depot.old) (D.counts depot.new) }
+{
+    let mut reader = open_graph(alloc, params, base)?;
+    let mut pairing = open_offsets(alloc, params, base)?;
+    let mut so_far = begin_pairing(&mut pairing, depot, params);
+    for _page in 0..params.nodes() {
+        next_record(&mut reader, depot, params)?;
+        so_far = pair_next(so_far, &mut pairing, depot, params, reader.at());
+    }
+    let bits = reader.at();
+    end_records(&mut reader, depot, params)?;
+    end_pairing(so_far, &mut pairing, depot, params)?;
+    Ok(bits)
 }

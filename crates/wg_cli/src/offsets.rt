@@ -1,20 +1,25 @@
-//! The command `offsets`: the places of the records.
+//! The command `offsets`: the offsets of the records.
 ghost use Rattle.wg_words.specs.declared.jobs.Job.TheVariants.{Offsets};
 ghost use Rattle.wg_cli.specs.Answers.{status_in};
+ghost use Rattle.wg_cli.specs.Judged.{number_lines};
 ghost use Rattle.wg_cli.specs.Lines.{arcs_in};
+ghost use Rattle.wg_cli.specs.Passes.{PrintsAgain};
 ghost use Rattle.wg_cli.specs.Performs.{Does};
 
-use crate::archive::{parameters, places_of_records};
+use crate::archive::parameters;
 use crate::ending::Ending;
+use crate::judge::judge_graph;
 use crate::load::load;
-use crate::print::print_places;
+use crate::print::{print_number, print_rest};
+use crate::records::{end_records, next_record, open_graph};
 use crate::{Input, Status};
 use std::alloc::Global;
-use wg_io::{Depot, Sink};
+use wg_io::{Depot, Lines, Sink};
+use wg_params::Params;
 use wg_words::Name;
 
-/// Prints the places of the records of a graph, and last the place after them. It judges the whole graph before it prints; it holds the bytes
-/// of the graph, 8 bytes a page, and the lists that a reference may reach, with a few that wait to be used again.
+/// Prints the offsets of the records of a graph, and last the offset after them. It goes through the graph file twice: it judges the whole graph
+/// before it prints. It holds a piece of the file, and the lists that a reference may reach, with a few that wait to be used again.
 pub fn offsets<D: Depot, O: Sink>(
     alloc: Global,
     base: &Name,
@@ -25,7 +30,27 @@ pub fn offsets<D: Depot, O: Sink>(
 {
     let text = load(alloc, depot, base, Input::Properties)?;
     let params = parameters(text.as_slice())?;
-    let graph = load(alloc, depot, base, Input::Graph)?;
-    let places = places_of_records(alloc, &params, graph.as_slice())?;
-    print_places(out, &places)
+    judge_graph(alloc, &params, depot, base)?;
+    print_offsets(alloc, &params, depot, base, out)
+}
+
+// Reads the file again, and prints each offset as it comes.
+fn print_offsets<D: Depot, O: Sink>(
+    alloc: Global,
+    params: &Params,
+    depot: &mut D,
+    base: &Name,
+    out: &mut O,
+) -> Result<(), Ending>
+    ensures { PrintsAgain ⟦<D as Depot>⟧ ⟦<O as Sink>⟧ base.now params.now (λ a. number_lines a.places) depot.old depot.new out.old out.new result }
+{
+    let mut reader = open_graph(alloc, params, base)?;
+    let mut lines = Lines::new();
+    print_number(&mut lines, out, 0)?;
+    for _page in 0..params.nodes() {
+        next_record(&mut reader, depot, params)?;
+        print_number(&mut lines, out, reader.at())?;
+    }
+    end_records(&mut reader, depot, params)?;
+    print_rest(&mut lines, out)
 }

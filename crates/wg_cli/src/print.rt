@@ -4,20 +4,18 @@ ghost use Rattle.wg_io.specs.Puts.{Puts};
 ghost use Rattle.wg_io.specs.Refusals.{SinkRefusals};
 ghost use Rattle.wg_cli.specs.Answers.{IsUnput, PrintRefusals};
 ghost use Rattle.wg_io.specs.Printing.{Prints};
-ghost use Rattle.wg_arcs.specs.Text.{text_of_graph};
+ghost use Rattle.wg_arcs.specs.Text.{page_lines};
 ghost use Rattle.wg_io.specs.declared.lines.TheConstants.{MOST_PIECE};
 ghost use Rattle.wg_cli.specs.Ranked.{rank_line, rank_lines};
-ghost use Rattle.wg_cli.specs.Judged.{number_line, number_lines, ok_line};
+ghost use Rattle.wg_cli.specs.Judged.{number_line, ok_line};
 ghost use Rattle.wg_io.specs.declared.output.Output.TheVariants.{Out};
 
 use crate::Status;
 use crate::ending::Ending;
 use crate::ranked::Ranked;
 use crate::text::Text;
-use wg_graph::Graph;
 use wg_io::{Lines, Output, Sink, WriteError, write_all};
 use wg_num::units_text;
-use wg_offsets::Offsets;
 use wg_params::Params;
 
 // A piece of the output.
@@ -64,41 +62,6 @@ pub fn print_ok<O: Sink>(out: &mut O, params: &Params, bits: u64) -> Result<(), 
     print(out, ok_line(params, bits).as_bytes())
 }
 
-/// Prints the arcs of a graph.
-pub fn print_graph<O: Sink>(out: &mut O, graph: &Graph) -> Result<(), Ending>
-    ensures puts { IsTrue O.told → Puts (text_of_graph graph.now) (O.taken out.old) (O.taken out.new) result }
-    ensures refusals { PrintRefusals ⟦<O as Sink>⟧ out.old out.new result }
-{
-    match wg_arcs::write(graph, out) {
-        Ok(()) => Ok(()),
-        Err(error) => Err(output_ending(error)),
-    }
-}
-
-/// Prints places, a line for each.
-pub fn print_places<O: Sink>(out: &mut O, places: &Offsets) -> Result<(), Ending>
-    ensures puts { IsTrue O.told → Puts (number_lines places.now) (O.taken out.old) (O.taken out.new) result }
-    ensures refusals { PrintRefusals ⟦<O as Sink>⟧ out.old out.new result }
-{
-    match write_places(out, places) {
-        Ok(()) => Ok(()),
-        Err(error) => Err(output_ending(error)),
-    }
-}
-
-// Writes places through a fixed buffer.
-fn write_places<S: Sink>(sink: &mut S, places: &Offsets) -> Result<(), WriteError>
-    ensures puts { IsTrue S.told → Puts (number_lines places.now) (S.taken sink.old) (S.taken sink.new) result }
-    ensures later { S.later sink.old sink.new }
-    ensures refusals { SinkRefusals ⟦<S as Sink>⟧ sink.old sink.new result }
-{
-    let mut lines = Lines::new();
-    for x in 0..places.len() {
-        write_line(&mut lines, sink, places.place(x))?;
-    }
-    lines.flush(sink)
-}
-
 // A line of one number.
 fn write_line<S: Sink>(lines: &mut Lines, sink: &mut S, number: u64) -> Result<(), WriteError>
     ensures prints { IsTrue S.told → Prints (number_line number) (S.taken sink.old) (S.taken sink.new) lines.old lines.new result }
@@ -107,6 +70,47 @@ fn write_line<S: Sink>(lines: &mut Lines, sink: &mut S, number: u64) -> Result<(
 {
     lines.number(sink, number)?;
     lines.byte(sink, b'\n')
+}
+
+/// Prints a line of one number.
+pub fn print_number<O: Sink>(lines: &mut Lines, out: &mut O, number: u64) -> Result<(), Ending>
+    ensures prints { IsTrue O.told → Prints (number_line number) (O.taken out.old) (O.taken out.new) lines.old lines.new result }
+    ensures later { O.later out.old out.new }
+    ensures refusals { PrintRefusals ⟦<O as Sink>⟧ out.old out.new result }
+{
+    match write_line(lines, out, number) {
+        Ok(()) => Ok(()),
+        Err(error) => Err(output_ending(error)),
+    }
+}
+
+/// Prints the lines of the arcs of a page.
+pub fn print_page<O: Sink>(
+    lines: &mut Lines,
+    out: &mut O,
+    page: u64,
+    list: &[u64],
+) -> Result<(), Ending>
+    ensures prints { IsTrue O.told → Prints (page_lines page list.now) (O.taken out.old) (O.taken out.new) lines.old lines.new result }
+    ensures later { O.later out.old out.new }
+    ensures refusals { PrintRefusals ⟦<O as Sink>⟧ out.old out.new result }
+{
+    match wg_arcs::print_list(lines, out, page, list) {
+        Ok(()) => Ok(()),
+        Err(error) => Err(output_ending(error)),
+    }
+}
+
+/// Sends out what waits to be printed.
+pub fn print_rest<O: Sink>(lines: &mut Lines, out: &mut O) -> Result<(), Ending>
+    ensures puts { IsTrue O.told → Puts lines.old (O.taken out.old) (O.taken out.new) result }
+    ensures later { O.later out.old out.new }
+    ensures refusals { PrintRefusals ⟦<O as Sink>⟧ out.old out.new result }
+{
+    match lines.flush(out) {
+        Ok(()) => Ok(()),
+        Err(error) => Err(output_ending(error)),
+    }
 }
 
 // The line of a page of the ranking.

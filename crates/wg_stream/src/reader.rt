@@ -74,8 +74,8 @@ impl Reader {
         self.at
     }
 
-    // The list that was read last.
-    fn list(&self) -> &[u64]
+    /// The list of the record that was read last.
+    pub fn list(&self) -> &[u64]
         ensures value { result.now ≡ self.now.pages.list }
         ensures ascends { Ascends 0 result.now }
         ensures below { Below self.now.pages.params.nodes result.now }
@@ -84,9 +84,9 @@ impl Reader {
         self.pages.list()
     }
 
-    // Reads the record that comes next, or judges the end, if there is none; from then on, and after an error, it reads
-    // nothing.
-    fn advance<D: Depot>(&mut self, depot: &mut D) -> Result<bool, StreamError>
+    /// Reads the record that comes next, or judges the end, if there is none; from then on, and after an error, it reads
+    /// nothing. The list is that of [`list`](Reader::list).
+    pub fn advance<D: Depot>(&mut self, depot: &mut D) -> Result<bool, StreamError>
         ensures done { self.old.state ≡ Done → (result ≡ Ok false) × (self.new ≡ self.old) × (depot.new ≡ depot.old) }
         ensures closed { (e : First) → self.old.state ≡ Closed e → (result ≡ Err (errors.Closed e)) × (self.new ≡ self.old) × (depot.new ≡ depot.old) }
         ensures err { self.old.state ≡ Open → IfErr result (λ e. (f : First) × (e ≡ of_first f) × (self.new.state ≡ Closed f)) }
