@@ -48,16 +48,16 @@ check_stops base text slice p td to before after files1 files e start silent sam
     answers : IsTrue td → (r : Readings) → Answers (judged_on r (Check base) before.files) e.status
     answers t r =
         subst (λ (j : Judged). Answers j e.status) (sym (goes t (λ q. files_then r q (held_by (input_name (Check base)) before.files) (λ n. accepted (ok_line q n)))))
-            (subst (λ (f : Files). Steps {B = ℕ} (files_then r p (held_by (file_of base) f)) (Err e)) (moved ∙ sym start) (told t r) (λ n. accepted (ok_line p n)))
+        (subst (λ (f : Files). Steps {B = ℕ} (files_then r p (held_by (file_of base) f)) (Err e)) (moved ∙ sym start) (told t r) (λ n. accepted (ok_line p n)))
 
     by_file : StopsAtFile td p (held_by (file_of base) files1 Graph) e → Performs (Check base) td to before after e.status e.arcs
     by_file (inl stop) =
-        unjudged base slice p (Check base) td to before refl Graph after e refl refl silent same later found gives stop cause answers
+        unjudged base slice p (Check base) td to before Graph after e refl refl silent same later found gives stop cause answers
         (λ t r. goes t (λ q. graph_then r q None (λ a. offsets_then r q (held_by (input_name (Check base)) before.files Offsets) (λ stored. with_lengths a.places stored (λ done. accepted (ok_line q (last_place a.places)))))))
     by_file (inr stop) =
-        unjudged base slice p (Check base) td to before refl Offsets after e refl refl silent same later found gives stop.0 cause answers
+        unjudged base slice p (Check base) td to before Offsets after e refl refl silent same later found gives stop.0 cause answers
         (λ t r.
-            let x = stop.2 t in
-            let g : IsGraphFile (held_by (file_of base) before.files Graph) p x.0 = subst (λ (f : Files). IsGraphFile (held_by (file_of base) f Graph) p x.0) (moved ∙ sym start) x.1 in
-            goes t (λ q. graph_then r q (held_by (input_name (Check base)) before.files Graph) (λ a. offsets_then r q None (λ stored. with_lengths a.places stored (λ done. accepted (ok_line q (last_place a.places))))))
-            ∙ graph_goes r p stop.1 (held_by (file_of base) before.files Graph) x.0 g (λ a. offsets_then r p None (λ stored. with_lengths a.places stored (λ done. accepted (ok_line p (last_place a.places))))))
+        let x = stop.2 t in
+        let g : IsGraphFile (held_by (file_of base) before.files Graph) p x.0 = subst (λ (f : Files). IsGraphFile (held_by (file_of base) f Graph) p x.0) (moved ∙ sym start) x.1 in
+        goes t (λ q. graph_then r q (held_by (input_name (Check base)) before.files Graph) (λ a. offsets_then r q None (λ stored. with_lengths a.places stored (λ done. accepted (ok_line q (last_place a.places))))))
+        ∙ graph_goes r p stop.1 (held_by (file_of base) before.files Graph) x.0 g (λ a. offsets_then r p None (λ stored. with_lengths a.places stored (λ done. accepted (ok_line p (last_place a.places))))))

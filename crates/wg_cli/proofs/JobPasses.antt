@@ -68,7 +68,7 @@ bad_unread : (i j : Input) (n : ℕ) (e : Ending) → IsBadFile i n e → e.stat
 bad_unread i j n e (inl want) is = let no : Memory ≡ ReadFault j = sym want ∙ is in cc
 bad_unread i j n e (inr fault) is = let no : BadArchive fault.0 ≡ ReadFault j = sym fault.2 ∙ is in cc
 
-module _ (base text : List ℕ) (p : Parameters) (job : Job) (td to : Bool) (before : Outside) (none : writes_files job ≡ false) where
+module _ (base text : List ℕ) (p : Parameters) (job : Job) (td to : Bool) (before : Outside) where
   -- the file was not read, or it is at fault
   pub unjudged : (i : Input) (after : Outside) (e : Ending) → IsTrue (has_input job i) → input_name job i ≡ file_of base i → after.taken ≡ before.taken → after.files ≡ before.files
       → NonDecreasing before.counts after.counts
@@ -79,10 +79,10 @@ module _ (base text : List ℕ) (p : Parameters) (job : Job) (td to : Bool) (bef
       → (IsTrue td → (r : Readings) → Reaches r job (held_by (input_name job) before.files) i)
       → Performs job td to before after e.status e.arcs
   unjudged i after e has named silent same later there gives (inl only) cause answers reached =
-      unread (file_of base) i job td to before after e.status e.arcs none has named silent only cause same later answers
+      unread (file_of base) i job td to before after e.status e.arcs has named silent only cause same later answers
       (λ t r j is. subst (λ (k : Input). Reaches r job (held_by (input_name job) before.files) k) (own_read i j e.status only is) (reached t r))
   unjudged i after e has named silent same later there gives (inr bad) cause answers reached =
-      stopped job td to before after e.status e.arcs none (bad_stop i p.arcs e bad) silent same answers (bad_possible job i p.arcs e has bad)
+      stopped job td to before after e.status e.arcs (bad_stop i p.arcs e bad) silent same answers (bad_possible job i p.arcs e has bad)
       (bad_caused (input_name job) (output_name job) before.counts after.counts before.faults after.faults i p.arcs e bad)
       (λ t r j is. absurd (bad_unread i j p.arcs e bad is)) later
       (λ t. arcs_promised (held_by (input_name job) before.files) text p (Err e) e refl i (there t) gives bad)
@@ -183,8 +183,8 @@ printed_again base p print job td to before mid after r none has named same late
   output = λ t o q.
       let a = stands t in
       subst (λ (due : List ℕ). HasOutput due before.taken after.taken (status_in r)) (sym (ap output_of (judges t a.0 a.1 q)))
-          (subst (λ (old : List ℕ). HasOutput (print a.0) old after.taken (status_in r)) silent
-              (output_up_to (print a.0) mid.taken after.taken r (h.hindered t a.0 a.1) (h.puts t o a.0 a.1)));
+      (subst (λ (old : List ℕ). HasOutput (print a.0) old after.taken (status_in r)) silent
+      (output_up_to (print a.0) mid.taken after.taken r (h.hindered t a.0 a.1) (h.puts t o a.0 a.1)));
   files = λ t q. files_same job none before after (status_in r) (h.same ∙ same) q;
   same = λ is. h.same ∙ same;
   later = none_falls-trans _ _ _ later h.later;

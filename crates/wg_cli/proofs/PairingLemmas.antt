@@ -52,7 +52,7 @@ load_caused told name files old new h load.Failed cause names named = record {
   read_fault = λ i is.
       let same : Offsets ≡ i = cc in
       subst (λ (j : Input). IncreasedAt (λ c. c.read_faults) (names j) old new) same
-          (subst (λ (m : Option (List ℕ)). IncreasedAt (λ c. c.read_faults) m old new) (sym named) (cause.failed refl));
+      (subst (λ (m : Option (List ℕ)). IncreasedAt (λ c. c.read_faults) m old new) (sym named) (cause.failed refl));
   missing = λ i is. absurd (let no : ReadFault Offsets ≡ Missing i = is in cc);
   write_fault = λ o other is. absurd (let no : ReadFault Offsets ≡ WriteFault o = is in cc);
   out_fault = λ is. absurd (let no : ReadFault Offsets ≡ WriteFault Out = is in cc);
@@ -62,7 +62,7 @@ load_caused told name files old new h load.Absent cause names named = record {
   missing = λ i is.
       let same : Offsets ≡ i = cc in
       subst (λ (j : Input). IncreasedAt (λ c. c.absences) (names j) old new) same
-          (subst (λ (m : Option (List ℕ)). IncreasedAt (λ c. c.absences) m old new) (sym named) (cause.absent refl));
+      (subst (λ (m : Option (List ℕ)). IncreasedAt (λ c. c.absences) m old new) (sym named) (cause.absent refl));
   write_fault = λ o other is. absurd (let no : Missing Offsets ≡ WriteFault o = is in cc);
   out_fault = λ is. absurd (let no : Missing Offsets ≡ WriteFault Out = is in cc);
 }

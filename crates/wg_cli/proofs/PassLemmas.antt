@@ -83,7 +83,7 @@ module _ (told : Bool) (name : List ℕ) (files : Files) (old new : List ℕ →
     read_fault = λ i is.
         let same : Graph ≡ i = cc in
         subst (λ (j : Input). IncreasedAt (λ c. c.read_faults) (names j) old new) same
-            (subst (λ (m : Option (List ℕ)). IncreasedAt (λ c. c.read_faults) m old new) (sym named) (cause.failed refl));
+        (subst (λ (m : Option (List ℕ)). IncreasedAt (λ c. c.read_faults) m old new) (sym named) (cause.failed refl));
     missing = λ i is. absurd (let no : ReadFault Graph ≡ Missing i = is in cc);
     write_fault = λ o other is. absurd (let no : ReadFault Graph ≡ WriteFault o = is in cc);
     out_fault = λ is. absurd (let no : ReadFault Graph ≡ WriteFault Out = is in cc);
@@ -93,7 +93,7 @@ module _ (told : Bool) (name : List ℕ) (files : Files) (old new : List ℕ →
     missing = λ i is.
         let same : Graph ≡ i = cc in
         subst (λ (j : Input). IncreasedAt (λ c. c.absences) (names j) old new) same
-            (subst (λ (m : Option (List ℕ)). IncreasedAt (λ c. c.absences) m old new) (sym named) (cause.absent refl));
+        (subst (λ (m : Option (List ℕ)). IncreasedAt (λ c. c.absences) m old new) (sym named) (cause.absent refl));
     write_fault = λ o other is. absurd (let no : Missing Graph ≡ WriteFault o = is in cc);
     out_fault = λ is. absurd (let no : Missing Graph ≡ WriteFault Out = is in cc);
   }

@@ -1,4 +1,4 @@
-//! The files of an archive, each judged as far as it goes by itself, and the offsets held against the records.
+//! The files of an archive that are held whole, each judged as far as it goes by itself.
 ghost use Rattle.std.specs.Prelude.{◌≡◌, ◌⊎◌, ◌≤◌, ℕ, ◌+◌, IfErr, IfOk, Ok, length};
 ghost use Rattle.wg_io.specs.declared.limits.TheConstants.{MOST_BYTES};
 ghost use Rattle.wg_params.specs.Parameters.{IsWithinLimits};
@@ -6,7 +6,7 @@ ghost use Rattle.wg_properties.specs.Judged.{properties_of};
 ghost use Rattle.wg_properties.specs.declared.fault.PropFault.{PropFault};
 ghost use Rattle.wg_grammar.specs.declared.fault.ArchiveFault.{ArchiveFault};
 ghost use Rattle.wg_cli.specs.Answers.{Steps};
-ghost use Rattle.wg_cli.specs.Judged.{with_parameters, with_digraph, with_places, with_offsets, with_lengths};
+ghost use Rattle.wg_cli.specs.Judged.{with_parameters, with_digraph};
 ghost use Rattle.wg_cli.specs.Lines.{IsBadFile};
 ghost use Rattle.wg_cli.specs.Readings.{Readings};
 
@@ -14,11 +14,9 @@ use crate::ending::Ending;
 use crate::{Input, Status};
 use std::alloc::Global;
 use wg_bits::{Bits, Cursor};
-use wg_grammar::ArchiveFault;
 use wg_graph::Graph;
-use wg_offsets::{Offsets, OffsetsError};
 use wg_params::Params;
-use wg_stream::{PagesError, read_graph, read_offsets};
+use wg_stream::{PagesError, read_graph};
 
 /// The parameters that a properties text gives.
 pub fn parameters(text: &[u8]) -> Result<Params, Ending>
@@ -29,24 +27,6 @@ pub fn parameters(text: &[u8]) -> Result<Params, Ending>
     match wg_properties::read(text) {
         Ok(params) => Ok(params),
         Err(fault) => Err(Ending::of(Status::BadProperties(fault))),
-    }
-}
-
-/// The places of the records of a graph file.
-pub fn places_of_records(alloc: Global, params: &Params, bytes: &[u8]) -> Result<Offsets, Ending>
-    requires { length bytes.now ≤ MOST_BYTES }
-    ensures steps { (r : Readings) → Steps (with_places r params.now bytes.now) result }
-    ensures only { IfErr result (λ e. IsBadFile Input.Graph params.now.arcs e) }
-    ensures count { IfOk result (λ places. length places ≡ params.now.nodes + 1) }
-{
-    match read_offsets(alloc, *params, &mut Cursor::new(Bits::of(bytes), 0)) {
-        Ok(places) => Ok(places),
-        Err(PagesError::Fault(fault)) => Err(Ending {
-            status: Status::BadArchive(fault),
-            arcs: params.arcs(),
-        }),
-        Err(PagesError::Memory) => Err(Ending::of(Status::Memory)),
-        Err(PagesError::Refused(never)) => match never {},
     }
 }
 
@@ -64,41 +44,5 @@ pub fn graph_of_records(alloc: Global, params: &Params, bytes: &[u8]) -> Result<
         }),
         Err(PagesError::Memory) => Err(Ending::of(Status::Memory)),
         Err(PagesError::Refused(never)) => match never {},
-    }
-}
-
-/// The places that an offsets file stores.
-pub fn stored_places(alloc: Global, params: &Params, bytes: &[u8]) -> Result<Offsets, Ending>
-    requires { length bytes.now ≤ MOST_BYTES }
-    ensures steps { (r : Readings) → Steps (with_offsets r params.now bytes.now) result }
-    ensures only { IfErr result (λ e. IsBadFile Input.Offsets params.now.arcs e) }
-    ensures count { IfOk result (λ places. length places ≡ params.now.nodes + 1) }
-{
-    match wg_offsets::read(alloc, bytes, params.nodes(), params.offsets()) {
-        Ok(stored) => Ok(stored),
-        Err(OffsetsError::Word(word)) => Err(Ending {
-            status: Status::BadArchive(ArchiveFault::Offsets(word)),
-            arcs: params.arcs(),
-        }),
-        Err(OffsetsError::Memory) => Err(Ending::of(Status::Memory)),
-    }
-}
-
-/// Holds the lengths of the records against those that are stored.
-pub fn same_lengths(params: &Params, found: &Offsets, stored: &Offsets) -> Result<(), Ending>
-    requires { length found.now ≡ length stored.now }
-    ensures steps { Steps (with_lengths found.now stored.now) result }
-    ensures only { IfErr result (λ e. IsBadFile Input.Offsets params.now.arcs e) }
-{
-    match found.first_mismatch(stored) {
-        None => Ok(()),
-        Some((page, length, stored)) => Err(Ending {
-            status: Status::BadArchive(ArchiveFault::Length {
-                page,
-                found: length,
-                stored,
-            }),
-            arcs: params.arcs(),
-        }),
     }
 }

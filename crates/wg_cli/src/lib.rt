@@ -11,7 +11,8 @@
 //! What a job promises is one set of facts over what was outside before and after (`Performs`). Each command has it as its one clause,
 //! by the word `Does`, and `run` spells it out. A command more is an equation of `judged`, the lists of its inputs and outputs, and a
 //! module beside `check` with that clause; `run` stays as it is. Its clause `files` says what stands of the three files of a written
-//! archive at each status. The inputs are held whole in memory.
+//! archive at each status. `check`, `arcs` and `offsets` read the graph and the offsets in pieces, so that an archive need not fit
+//! into memory; all other inputs are held whole.
 #![tactic(auto)]
 
 mod archive;

@@ -92,11 +92,7 @@ fn look<D: Depot>(pairing: &mut Pairing, depot: &mut D, params: &Params) -> Resu
 }
 
 // Reads the word that comes next.
-fn next_word<D: Depot>(
-    pairing: &mut Pairing,
-    depot: &mut D,
-    params: &Params,
-) -> Result<u64, Ending>
+fn next_word<D: Depot>(pairing: &mut Pairing, depot: &mut D, params: &Params) -> Result<u64, Ending>
     requires code { pairing.old.words.code ≡ params.now.offsets }
     requires pages { pairing.old.words.pages ≡ params.now.nodes }
     requires more { pairing.old.words.count ≤ params.now.nodes }

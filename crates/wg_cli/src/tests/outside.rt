@@ -198,13 +198,13 @@ const FAILING: [Failing; 5] = [
         read: 4,
         write: 0,
         code: 4,
-        report: "wg: read failed: g.graph\n",
+        report: "wg: read failed: g.offsets\n",
     },
     Failing {
         read: 7,
         write: 0,
         code: 4,
-        report: "wg: read failed: g.offsets\n",
+        report: "wg: read failed: g.graph\n",
     },
     Failing {
         read: 0,
@@ -220,13 +220,19 @@ const FAILING: [Failing; 5] = [
     },
 ];
 
+// The three files of an archive, of which each takes three reads: one at the limit, one of all its bytes, and one at its end.
+fn plain_depot(alloc: Global) -> Result<MemoryDepot, Fail> {
+    let mut depot = MemoryDepot::new(alloc, 4096);
+    depot.put_file("g.properties", PLAIN_PROPERTIES)?;
+    depot.put_file("g.graph", &bytes_of(alloc, PLAIN_ARC.graph)?)?;
+    depot.put_file("g.offsets", &bytes_of(alloc, PLAIN_ARC.offsets)?)?;
+    Ok(depot)
+}
+
 #[test]
 fn faults_of_the_outside(rt: HostRuntime) -> Result<(), Fail> {
     for row in &FAILING {
-        let mut depot = MemoryDepot::new(rt.alloc(), 4096);
-        depot.put_file("g.properties", PLAIN_PROPERTIES)?;
-        depot.put_file("g.graph", &bytes_of(rt.alloc(), PLAIN_ARC.graph)?)?;
-        depot.put_file("g.offsets", &bytes_of(rt.alloc(), PLAIN_ARC.offsets)?)?;
+        let mut depot = plain_depot(rt.alloc())?;
         let mut out = MemorySink::new(rt.alloc(), 4096);
         if row.read > 0 {
             depot.fail_read(row.read);
@@ -241,6 +247,29 @@ fn faults_of_the_outside(rt: HostRuntime) -> Result<(), Fail> {
             row.read,
             row.write
         );
+    }
+    Ok(())
+}
+
+// How `line` ends where read `k` fails, and whether the output is empty.
+fn code_at_read(alloc: Global, line: &str, k: u64) -> Result<(u8, bool), Fail>
+    requires { (0 < k) × (k < 2 ^ 64 - 1) }
+{
+    let mut depot = plain_depot(alloc)?;
+    depot.fail_read(k);
+    let mut out = SteadySink::new(alloc, 4096);
+    let (status, _) = report_of(alloc, line, &mut depot, &mut out)?;
+    Ok((status.code(), out.bytes().is_empty()))
+}
+
+// `check` reads three files once, the others two, and one of them twice.
+#[test]
+fn each_read_fails_once(rt: HostRuntime) -> Result<(), Fail> {
+    for line in ["check g", "arcs g", "offsets g"] {
+        for k in 1..11_u64 {
+            let wanted = if k < 10 { (4, true) } else { (0, false) };
+            assert!(rt; code_at_read(rt.alloc(), line, k)? == wanted, "{line}: {k}");
+        }
     }
     Ok(())
 }

@@ -18,7 +18,7 @@ use Rattle.wg_cli.proofs.UnderWay.{cause_later}
 use Rattle.wg_cli.proofs.check.check.Goals as goal
 
 pub returns-in_err-text : goal.returns-in_err-text
-returns-in_err-text g c = unread (file_of c.args.base.now) input.Properties _ _ _ _ _ _ _ refl refl refl refl (search rules) (search rules) (search rules) (search rules) (search rules) (search rules)
+returns-in_err-text g c = unread (file_of c.args.base.now) input.Properties _ _ _ _ _ _ _ refl refl refl (search rules) (search rules) (search rules) (search rules) (search rules) (search rules)
 
 pub returns-in_err-bits : goal.returns-in_err-bits
 returns-in_err-bits g c =
@@ -43,6 +43,6 @@ returns g c =
     let told : ℕ → Judged = λ n. accepted (ok_line p n) in
     printed job _ _ _ _ (ok_line p c.in_ok-bits.bits) c.print_ok.result refl
     (λ t r.
-        after_params held c.in_ok-text.text c.as_slice.result.now p (l.steps t) c.as_slice.ensures c.in_ok-params.ensures.steps (λ q. files_then r q held (λ n. accepted (ok_line q n)))
-        ∙ subst (λ (f : Files). Steps (files_then r p (held_by (file_of base) f)) (Ok c.in_ok-bits.bits)) l.same (e.steps t r) told)
+    after_params held c.in_ok-text.text c.as_slice.result.now p (l.steps t) c.as_slice.ensures c.in_ok-params.ensures.steps (λ q. files_then r q held (λ n. accepted (ok_line q n)))
+    ∙ subst (λ (f : Files). Steps (files_then r p (held_by (file_of base) f)) (Ok c.in_ok-bits.bits)) l.same (e.steps t r) told)
     (e.same ∙ l.same) (none_falls-trans _ _ _ l.later e.later) c.print_ok.ensures.puts c.print_ok.ensures.refusals.only c.print_ok.ensures.refusals.failed

@@ -45,7 +45,7 @@ returns-in_err-next_record-clause-steps g c = λ t r.
     let held = held_by (file_of c.args.base.now) (g.D.Depot.files c.args.depot.now) in
     rw (is_that_err c.from_residual-in_err-next_record.result _ c.from_residual-in_err-next_record.ensures.1)
     (λ next. ends_told _ _ _ _ _ _ _ _ _ _ _ _ _ c.loop-page.invariant.way _ c.in_err-next_record.ensures.advances t c.nodes-page-end.ensures.limits r
-        (λ a. offsets_then r p (held input.Offsets) (λ stored. with_lengths a.places stored (λ same. next (last_place a.places)))))
+    (λ a. offsets_then r p (held input.Offsets) (λ stored. with_lengths a.places stored (λ same. next (last_place a.places)))))
 
 pub returns-in_err-next_record-clause-only : goal.returns-in_err-next_record-clause-only
 returns-in_err-next_record-clause-only g c =
@@ -87,20 +87,20 @@ loop-page-preserved g c =
       way = way_later _ _ _ _ _ _ _ _ _ _ _ _ s.same s.later
           (goes_further _ _ _ _ _ _ _ _ _ _ _ _ _ h.way _ r.advances r.open r.page r.in_step
           (λ whole w count list end k. (
-              ap last_place (places_more w whole) ∙ last_more (places_of whole) w.end ∙ end,
-              λ t file is.
-                  subst (λ (places : List ℕ). ComesWith file c.pair_next-so_far.new.pairing places c.pair_next-so_far.result)
-                      (ap (λ (e : ℕ). places_of whole ++ e ∷ []) (c.at.ensures.value ∙ sym end) ∙ sym (places_more w whole))
-                      (s.reads t files same name h.name file is (places_of whole) (k.1 t file is)),
-            )));
+            ap last_place (places_more w whole) ∙ last_more (places_of whole) w.end ∙ end,
+            λ t file is.
+                subst (λ (places : List ℕ). ComesWith file c.pair_next-so_far.new.pairing places c.pair_next-so_far.result)
+                (ap (λ (e : ℕ). places_of whole ++ e ∷ []) (c.at.ensures.value ∙ sym end) ∙ sym (places_more w whole))
+                (s.reads t files same name h.name file is (places_of whole) (k.1 t file is)),
+          )));
       name = s.name ∙ h.name;
       come = come_at _ _ _ _ _ _ _ _ _ _ _ _ refl c.at.ensures.value
           (s.come files same _ (none_falls-trans _ _ _ h.way.later r.advances.later) name h.name _ _
           (come_until _ _ _ _ _ _ _ _ _ _ _ r.advances.later h.come)
           (λ t file is.
-              let f = r.advances.there t files h.way.same (h.way.found t) in
-              let k = h.way.follows t f.0 (ap (λ (n : List ℕ). map.get files n) (sym h.way.name) ∙ f.1) in
-              (places_of k.0, k.2.1 t file is)));
+          let f = r.advances.there t files h.way.same (h.way.found t) in
+          let k = h.way.follows t f.0 (ap (λ (n : List ℕ). map.get files n) (sym h.way.name) ∙ f.1) in
+          (places_of k.0, k.2.1 t file is)));
     }
 
 pub end_records-requires-clause-open : goal.end_records-requires-clause-open
@@ -118,7 +118,7 @@ returns-in_err-end_records-clause-steps g c = λ t r.
     let held = held_by (file_of c.args.base.now) (g.D.Depot.files c.args.depot.now) in
     rw (is_that_err c.from_residual-in_err-end_records.result _ c.from_residual-in_err-end_records.ensures.1)
     (λ next. ends_told _ _ _ _ _ _ _ _ _ _ _ _ _ c.loop-page.invariant.way _ c.in_err-end_records.ensures.advances t c.nodes-page-end.ensures.limits r
-        (λ a. offsets_then r p (held input.Offsets) (λ stored. with_lengths a.places stored (λ same. next (last_place a.places)))))
+    (λ a. offsets_then r p (held input.Offsets) (λ stored. with_lengths a.places stored (λ same. next (last_place a.places)))))
 
 pub returns-in_err-end_records-clause-only : goal.returns-in_err-end_records-clause-only
 returns-in_err-end_records-clause-only g c =
@@ -147,6 +147,7 @@ returns-in_err-end_pairing g c =
     let p = c.args.params.now in
     let base = c.args.base.now in
     let files = g.D.Depot.files c.args.depot.now in
+    let counts = g.D.Depot.counts c.args.depot.now in
     let held = held_by (file_of base) files in
     let name = base ++ OFFSETS.now in
     let h = c.loop-page.invariant in
@@ -155,14 +156,14 @@ returns-in_err-end_pairing g c =
     let s = c.in_err-end_pairing.ensures in
     let stands = judged_by _ _ _ _ _ _ _ _ _ _ _ _ _ h.way r.advances r.judged in
     let e = s.ends files (r.advances.same ∙ h.way.same) _ (none_falls-trans _ _ _ h.way.later r.advances.later) name h.name _ _ (come_until _ _ _ _ _ _ _ _ _ _ _ r.advances.later h.come)
-    (λ t file is. let x = stands t in let k = all_read _ _ _ _ _ _ _ _ _ _ _ _ _ h.way limits r.judged t x.0 x.1 in (places_of k.0, k.1.1 t file is)) in
+    (λ t file is. let x = stands t in let k = all_read _ _ _ _ _ _ files _ counts _ _ c.loop-page.reader _ h.way limits r.judged t x.0 x.1 in (places_of k.0, k.1.1 t file is)) in
     rw (is_that_err c.from_residual-in_err-end_pairing.result _ c.from_residual-in_err-end_pairing.ensures.1)
     (record {
       limits = tt;
       steps = λ t q.
           let x = stands t in
-          let k = all_read _ _ _ _ _ _ _ _ _ _ _ _ _ h.way limits r.judged t x.0 x.1 in
-          both_stop q p limits held x.0 x.1 k.0 k.2 _ (e.steps t limits (places_of k.0) (λ file is. k.1.1 t file is) q);
+          let k = all_read _ _ _ _ _ _ files _ counts _ _ c.loop-page.reader _ h.way limits r.judged t x.0 x.1 in
+          both_stop q p limits held x.0 x.1 k.0 k.2 c.in_err-end_pairing.field-0.0 (e.steps t limits (places_of k.0) (λ file is. k.1.1 t file is) q);
       only = inr (e.only, limits, stands);
       causes = e.causes (file_of base) refl;
       same = s.same ∙ r.advances.same ∙ h.way.same;
@@ -174,6 +175,7 @@ returns g c =
     let p = c.args.params.now in
     let base = c.args.base.now in
     let files = g.D.Depot.files c.args.depot.now in
+    let counts = g.D.Depot.counts c.args.depot.now in
     let held = held_by (file_of base) files in
     let name = base ++ OFFSETS.now in
     let h = c.loop-page.invariant in
@@ -182,12 +184,12 @@ returns g c =
     let s = c.in_ok-end_pairing.ensures in
     let stands = judged_by _ _ _ _ _ _ _ _ _ _ _ _ _ h.way r.advances r.judged in
     let e = s.ends files (r.advances.same ∙ h.way.same) _ (none_falls-trans _ _ _ h.way.later r.advances.later) name h.name _ _ (come_until _ _ _ _ _ _ _ _ _ _ _ r.advances.later h.come)
-    (λ t file is. let x = stands t in let k = all_read _ _ _ _ _ _ _ _ _ _ _ _ _ h.way limits r.judged t x.0 x.1 in (places_of k.0, k.1.1 t file is)) in
+    (λ t file is. let x = stands t in let k = all_read _ _ _ _ _ _ files _ counts _ _ c.loop-page.reader _ h.way limits r.judged t x.0 x.1 in (places_of k.0, k.1.1 t file is)) in
     record {
       limits = limits;
       steps = λ t q.
           let x = stands t in
-          let k = all_read _ _ _ _ _ _ _ _ _ _ _ _ _ h.way limits r.judged t x.0 x.1 in
+          let k = all_read _ _ _ _ _ _ files _ counts _ _ c.loop-page.reader _ h.way limits r.judged t x.0 x.1 in
           both_done q p limits held x.0 x.1 k.0 k.2 c.at-bits.result (k.1.0 ∙ sym c.at-bits.ensures.value) (e.steps t limits (places_of k.0) (λ file is. k.1.1 t file is) q);
       only = tt;
       causes = e.causes (file_of base) refl;

@@ -27,7 +27,7 @@ abbrev told : Accepted → Judged
 told a = accepted (printed a)
 
 pub returns-in_err-text : goal.returns-in_err-text
-returns-in_err-text g c = unread (file_of c.args.base.now) input.Properties _ _ _ _ _ _ _ refl refl refl refl (search rules) (search rules) (search rules) (search rules) (search rules) (search rules)
+returns-in_err-text g c = unread (file_of c.args.base.now) input.Properties _ _ _ _ _ _ _ refl refl refl (search rules) (search rules) (search rules) (search rules) (search rules) (search rules)
 
 pub returns-in_err-judge_graph : goal.returns-in_err-judge_graph
 returns-in_err-judge_graph g c =
@@ -39,11 +39,11 @@ returns-in_err-judge_graph g c =
     let l = c.in_ok-text.ensures in
     let e = c.in_err-judge_graph.ensures in
     performs_exit _ _ _ _ _ _ _ c.from_residual-in_err-judge_graph.ensures.1
-    (unjudged base c.as_slice.result.now p job _ _ _ refl input.Graph _ _ refl refl refl (e.same ∙ l.same) (none_falls-trans _ _ _ l.later e.later)
+    (unjudged base c.as_slice.result.now p job _ _ _ input.Graph _ _ refl refl refl (e.same ∙ l.same) (none_falls-trans _ _ _ l.later e.later)
     (λ t. l.held t ∙ cc) c.in_ok-params.ensures.value e.only (cause_later _ _ _ _ _ l.later e.causes)
     (λ t r. subst (λ (j : Judged). Answers j c.in_err-judge_graph.field-0.0.status)
-        (sym (after_params held c.in_ok-text.text c.as_slice.result.now p (l.steps t) c.as_slice.ensures c.in_ok-params.ensures.steps (λ q. graph_then r q (held input.Graph) told)))
-        (subst (λ (f : Files). Steps {B = Accepted} (graph_then r p (held_by (file_of base) f input.Graph)) (Err c.in_err-judge_graph.field-0.0)) l.same (e.refused t r) told))
+    (sym (after_params held c.in_ok-text.text c.as_slice.result.now p (l.steps t) c.as_slice.ensures c.in_ok-params.ensures.steps (λ q. graph_then r q (held input.Graph) told)))
+    (subst (λ (f : Files). Steps {B = Accepted} (graph_then r p (held_by (file_of base) f input.Graph)) (Err c.in_err-judge_graph.field-0.0)) l.same (e.refused t r) told))
     (λ t r. after_params (without input.Graph held) c.in_ok-text.text c.as_slice.result.now p (l.steps t) c.as_slice.ensures c.in_ok-params.ensures.steps (λ q. graph_then r q None told)))
 
 pub returns : goal.returns
@@ -58,7 +58,7 @@ returns g c =
     printed_again base p printed job _ _ _ _ _ c.print_offsets.result refl refl refl (e.same ∙ l.same) (none_falls-trans _ _ _ l.later e.later) refl refl
     (λ t. subst (λ (f : Files). (a : Accepted) × IsGraphFile (held_by (file_of base) f input.Graph) p a) (sym e.same) (e.accepted t))
     (λ t a h r.
-        after_params held c.in_ok-text.text c.as_slice.result.now p (l.steps t) c.as_slice.ensures c.in_ok-params.ensures.steps (λ q. graph_then r q (held input.Graph) told)
-        ∙ graph_goes r p e.limits (held_by (file_of base) files input.Graph) a (subst (λ (f : Files). IsGraphFile (held_by (file_of base) f input.Graph) p a) (e.same ∙ l.same) h) told)
+    after_params held c.in_ok-text.text c.as_slice.result.now p (l.steps t) c.as_slice.ensures c.in_ok-params.ensures.steps (λ q. graph_then r q (held input.Graph) told)
+    ∙ graph_goes r p e.limits (held_by (file_of base) files input.Graph) a (subst (λ (f : Files). IsGraphFile (held_by (file_of base) f input.Graph) p a) (e.same ∙ l.same) h) told)
     (λ t r. after_params (without input.Graph held) c.in_ok-text.text c.as_slice.result.now p (l.steps t) c.as_slice.ensures c.in_ok-params.ensures.steps (λ q. graph_then r q None told))
     c.print_offsets.ensures

@@ -39,8 +39,8 @@ returns-in_err-next_word-clause-come g c =
     (n.stopped (ap (λ (h : Held). h.looked) l.looked)
     (λ t. let f = l.there t in (f.0, still_named _ _ c.look.new.pairing.name a.name f.0 l.steps.same l.kept.0 f.1))
     (λ t file is.
-        let is' = still_named _ _ a.name c.look.new.pairing.name file (sym l.steps.same) (sym l.kept.0) is in
-        (l.steps.in_step t file is' (unread_held p a file c.requires), ([], looked_read p a c.look.new.pairing (bits_of file) c.requires l.kept.1 l.looked)))))
+    let is' = still_named _ _ a.name c.look.new.pairing.name file (sym l.steps.same) (sym l.kept.0) is in
+    (l.steps.in_step t file is' (unread_held p a file c.requires), ([], looked_read p a c.look.new.pairing (bits_of file) c.requires l.kept.1 l.looked)))))
 
 pub returns-clause-name : goal.returns-clause-name
 returns-clause-name g c = c.in_ok-next_word.ensures.kept.0 ∙ c.in_ok-look.ensures.kept.0

@@ -13,11 +13,11 @@ returns-in-Err-clause-stopped g c = λ looked found reads.
     stopped_at _ _ _ _ _ c.args.pairing.now.name c.args.pairing.now.name _ _ refl c.word_ending.ensures
     (word_stopped _ c.args.pairing.now.name _ _ _ c.args.pairing.now.held c.args.params.now c.in-Err.error (search rules) looked found
     (λ t file is.
-        let k = reads t file is in
-        let is' = ap (λ (n : List ℕ). map.get files n) c.as_str.ensures ∙ is in (
-          k.0,
-          word_by c.in-Err.error _ _ _ _ (bits_of file) c.requires.code c.requires.pages (c.in-Err.ensures.fault (bits_of file) k.1.0 (rw (d, h, n) (t, (file, is', k.0, refl))) (rw h k.1.1)),
-        )))
+    let k = reads t file is in
+    let is' = ap (λ (n : List ℕ). map.get files n) c.as_str.ensures ∙ is in (
+      k.0,
+      word_by c.in-Err.error _ _ _ _ (bits_of file) c.requires.code c.requires.pages (c.in-Err.ensures.fault (bits_of file) k.1.0 (rw (d, h, n) (t, (file, is', k.0, refl))) (rw h k.1.1)),
+    )))
 
 pub returns-in-Ok-clause-reads : goal.returns-in-Ok-clause-reads
 returns-in-Ok-clause-reads g c = λ t file is i places r.

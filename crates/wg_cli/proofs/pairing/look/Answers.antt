@@ -27,6 +27,6 @@ returns-in-Ok-clause-there g c = λ t.
     let files = g.D.Depot.files c.args.depot.now in
     found_after (map.get files c.args.pairing.now.name) false
     (λ none unlooked.
-        let a : done ≡ failed load.Absent = c.in-Ok.ensures.absent t (ap (λ (n : List ℕ). map.get files n) c.as_str.ensures ∙ none) (ap (λ (h : Held). h.looked) c.requires.held) in
-        absurd cc)
+    let a : done ≡ failed load.Absent = c.in-Ok.ensures.absent t (ap (λ (n : List ℕ). map.get files n) c.as_str.ensures ∙ none) (ap (λ (h : Held). h.looked) c.requires.held) in
+    absurd cc)
     (λ looked. absurd (cc looked))

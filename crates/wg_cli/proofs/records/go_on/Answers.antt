@@ -78,7 +78,7 @@ returns-in-Err-clause-advances g c =
           (absent_after (map.get held old.name) old.held.looked f
           (λ none unlooked. let a : failed c.in-Err.error ≡ failed errors.Absent = e.absent t (ap (λ (h : Files). map.get h old.name) same ∙ none) c.requires.open unlooked in cc) found)
           (λ file there.
-              let there' = ap (λ (h : Files). map.get h old.name) same ∙ there in
-              let k = follows file there in
-              error_of _ p _ _ _ old c.advance.new.self f file k.0 t c.requires.open closed.2 (e.params ∙ c.requires.params) cause there' k.1 (e.in_step t file there' k.0 k.1));
+          let there' = ap (λ (h : Files). map.get h old.name) same ∙ there in
+          let k = follows file there in
+          error_of _ p _ _ _ old c.advance.new.self f file k.0 t c.requires.open closed.2 (e.params ∙ c.requires.params) cause there' k.1 (e.in_step t file there' k.0 k.1));
     })
