@@ -1,5 +1,5 @@
 -- What a job that writes an archive leaves, by the archive's own names.
-use Rattle.std.proofs.Common.{◌≡◌, inl, inr, ℕ, ◌≤◌, Bool, true, false, if◌then◌else◌, List, ◌++◌, refl, sym, ap, subst, ◌∙◌, arith, Option, Some, None, is_some, Result, Ok, Err}
+use Rattle.std.proofs.Common.{◌≡◌, inl, inr, ℕ, ◌≤◌, Bool, true, false, if◌then◌else◌, List, refl, sym, ap, subst, ◌∙◌, arith, Option, Some, None, is_some, Result, Ok, Err}
 use Rattle.std.specs.Bool.{IsTrue}
 use Rattle.std.specs.Result.{IfErr, IsErrAnd}
 use Rattle.std.proofs.lemmas.List.{append-nil}
@@ -18,7 +18,7 @@ use Rattle.wg_cli.specs.Lines.{ArePromised, arcs_in}
 use Rattle.wg_cli.specs.Names.{archive_named, can_end, has_output, held_by, input_name, output_name, writes_files}
 use Rattle.wg_cli.specs.Performs.{BuildsArchive, Outside, Performs, judged_on, outside}
 use Rattle.wg_cli.specs.Readings.{Readings}
-use Rattle.wg_cli.specs.Written.{Archive, ArchiveFiles, archive_at, AreWhole, HasFiles, OthersStay, FilesAfter, IsStopped, greedy_archive, params_for}
+use Rattle.wg_cli.specs.Written.{Archive, ArchiveFiles, AreWhole, HasFiles, OthersStay, FilesAfter, IsStopped, greedy_archive, params_for}
 use Rattle.wg_cli.specs.declared.ending.Ending.{Ending}
 use Rattle.wg_cli.specs.declared.status.Input.{Input}
 use Rattle.wg_cli.specs.declared.status.Status.{Status}

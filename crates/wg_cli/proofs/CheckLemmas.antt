@@ -1,24 +1,22 @@
 -- How `check` stops at the graph or at the offsets.
-use Rattle.std.proofs.Common.{◌≡◌, ◌⊎◌, ◌∙◌, inl, inr, ℕ, Bool, List, Option, Some, None, Result, Ok, Err, refl, sym, ap, subst}
+use Rattle.std.proofs.Common.{◌≡◌, ◌⊎◌, ◌∙◌, inl, inr, ℕ, Bool, List, Option, Some, None, Ok, Err, refl, sym, ap, subst}
 use Rattle.std.specs.Bool.{IsTrue}
-use Rattle.wg_io.specs.Outside.{Files, Counts, NonDecreasing}
+use Rattle.wg_io.specs.Outside.{Files, NonDecreasing}
 use Rattle.wg_params.specs.Parameters.{Parameters, IsWithinLimits}
 use Rattle.wg_properties.specs.Judged.{properties_of}
 use Rattle.wg_grammar.specs.Archive.{Accepted}
 use Rattle.wg_offsets.specs.Places.{last_place}
 use Rattle.wg_words.specs.declared.jobs.Job.TheVariants.{Check}
-use Rattle.wg_cli.specs.Answers.{Answers, Reaches, Steps, without}
+use Rattle.wg_cli.specs.Answers.{Answers, Steps}
 use Rattle.wg_cli.specs.Causes.{HasCause}
-use Rattle.wg_cli.specs.Judged.{Judged, accepted, ok_line, refused, with_file, with_lengths, with_parameters}
+use Rattle.wg_cli.specs.Judged.{Judged, accepted, ok_line, with_file, with_lengths, with_parameters}
 use Rattle.wg_cli.specs.Names.{file_of, held_by, input_name, no_outputs}
 use Rattle.wg_cli.specs.Pairing.{files_then, offsets_then}
 use Rattle.wg_cli.specs.Passes.{IsGraphFile, IsStopAt, graph_then}
 use Rattle.wg_cli.specs.Performs.{Outside, Performs, judged_on}
 use Rattle.wg_cli.specs.Readings.{Readings}
 use Rattle.wg_cli.specs.declared.ending.Ending.{Ending}
-use Rattle.wg_cli.specs.declared.status.Input.{Input}
 use Rattle.wg_cli.specs.declared.status.Input.TheVariants.{Properties, Graph, Offsets}
-use Rattle.wg_cli.specs.declared.status.Status.TheVariants.{Missing}
 use Rattle.wg_cli.proofs.JobPasses.{after_params, unjudged}
 use Rattle.wg_cli.proofs.PassLemmas.{graph_goes}
 

@@ -1,11 +1,11 @@
 -- The graph that the files of an archive stand for, from a judgement that went on with it.
-use Rattle.std.proofs.Common.{◌≡◌, ◌≤◌, ℕ, List, ◌++◌, length, nat_lt, Option, Some, None, Result, Ok, Err, inl, inr, refl, sym, ◌∙◌, ap, subst}
+use Rattle.std.proofs.Common.{◌≡◌, ◌≤◌, ℕ, List, length, nat_lt, Option, Some, None, Result, Ok, Err, inl, inr, refl, sym, ◌∙◌, ap, subst}
 use Rattle.std.proofs.lemmas.Bool.{cases_Bool}
 use Rattle.wg_io.specs.declared.limits.TheConstants.{MOST_BYTES}
 use Rattle.wg_bits.specs.Bits.{bits_of}
 use Rattle.wg_params.specs.declared.key.Key.{Key}
 use Rattle.wg_params.specs.declared.key.Key.TheVariants as key
-use Rattle.wg_params.specs.declared.limits.TheConstants.{MOST_ARCS, MOST_DAMPING, MOST_INTERVAL, MOST_PAGES, MOST_ROUNDS, MOST_WINDOW}
+use Rattle.wg_params.specs.declared.limits.TheConstants.{MOST_ARCS, MOST_INTERVAL, MOST_PAGES, MOST_WINDOW}
 use Rattle.wg_params.specs.Parameters.{Parameters, IsWithinLimits}
 use Rattle.wg_num.specs.Lines.{lines_of}
 use Rattle.wg_properties.specs.Judged.{and_then, judged as judged_values, judged_chain, judged_class, judged_endianness, judged_flags, judged_number, judged_version, judged_zeta, properties_of, unless_continued}
@@ -18,17 +18,13 @@ use Rattle.wg_grammar.specs.Archive.{Accepted, ReadsGraph}
 use Rattle.wg_grammar.specs.Laws.{graph_of}
 use Rattle.wg_grammar.specs.declared.fault.ArchiveFault.{ArchiveFault}
 use Rattle.wg_grammar.proofs.ProperGraphs.{arcs_promised, graph_proper}
-use Rattle.wg_words.specs.declared.jobs.Job.TheVariants.{Rank}
-use Rattle.wg_cli.specs.Answers.{Answers}
-use Rattle.wg_cli.specs.Judged.{Judged, accepted, judged, output_of, status_of, unless_bad_graph, unless_bad_properties, with_digraph, with_file, with_parameters, with_records}
-use Rattle.wg_cli.specs.Ranked.{HoldGraph, PrintsProvenRanking, ranking_text}
+use Rattle.wg_cli.specs.Judged.{Judged, status_of, unless_bad_graph, unless_bad_properties, with_digraph, with_file, with_parameters, with_records}
+use Rattle.wg_cli.specs.Ranked.{HoldGraph}
 use Rattle.wg_cli.specs.Readings.{Readings}
 use Rattle.wg_cli.specs.declared.status.Input.{Input}
 use Rattle.wg_cli.specs.declared.status.Input.TheVariants as input
-use Rattle.wg_cli.specs.declared.status.Status.{Status}
 use Rattle.wg_cli.specs.declared.status.Status.TheVariants.{Done, Missing, OverLimit, BadArchive, BadProperties}
 use Rattle.wg_cli.proofs.LimitsLemmas.{within_limits}
-use Rattle.wg_cli.proofs.RankLemmas.{proven}
 
 -- ---- parameters that were read are within their limits
 

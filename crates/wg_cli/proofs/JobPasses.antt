@@ -2,25 +2,23 @@
 use Rattle.std.proofs.Common.{◌≡◌, ◌⊎◌, inl, inr, ℕ, Bool, false, List, ◌++◌, take, refl, sym, ◌∙◌, ap, subst, Option, Some, Result, Ok, Err}
 use Rattle.std.specs.Bool.{IsTrue}
 use Rattle.std.specs.Result.{IfErr, IsErrAnd}
-use Rattle.wg_io.specs.Outside.{Files, Counts, NonDecreasing}
+use Rattle.wg_io.specs.Outside.{Counts, NonDecreasing}
 use Rattle.wg_io.specs.declared.output.Output.{Output}
 use Rattle.wg_io.specs.declared.output.Output.TheVariants.{Out}
 use Rattle.wg_io.proofs.FilesLemmas.{none_falls-trans}
 use Rattle.wg_io.proofs.PutsLemmas.{is_that_err}
-use Rattle.wg_params.specs.Parameters.{Parameters, IsWithinLimits}
+use Rattle.wg_params.specs.Parameters.{Parameters}
 use Rattle.wg_properties.specs.Judged.{properties_of}
-use Rattle.wg_grammar.specs.declared.fault.ArchiveFault.{ArchiveFault}
 use Rattle.wg_grammar.specs.Archive.{Accepted}
 use Rattle.wg_words.specs.declared.jobs.Job.{Job}
 use Rattle.wg_cli.specs.Answers.{Answers, HasOutput, IsHindrance, IsUnput, Reaches, status_in}
-use Rattle.wg_cli.specs.Causes.{HasCause, IncreasedAt}
-use Rattle.wg_cli.specs.Judged.{Judged, accepted, judged, output_of, status_of, with_file, with_parameters}
+use Rattle.wg_cli.specs.Causes.{HasCause}
+use Rattle.wg_cli.specs.Judged.{Judged, accepted, output_of, status_of, with_file, with_parameters}
 use Rattle.wg_cli.specs.Lines.{ArePromised, IsBadFile, arcs_in}
-use Rattle.wg_cli.specs.Names.{IsOfInput, can_end, file_of, has_input, held_by, input_name, no_outputs, output_name, writes_files}
+use Rattle.wg_cli.specs.Names.{can_end, file_of, has_input, held_by, input_name, no_outputs, output_name, writes_files}
 use Rattle.wg_cli.specs.Passes.{IsGraphFile, IsStopAt, PrintsGraph, PutsUpTo}
 use Rattle.wg_cli.specs.Performs.{Outside, Performs, judged_on}
 use Rattle.wg_cli.specs.Readings.{Readings}
-use Rattle.wg_cli.specs.Written.{HasFiles}
 use Rattle.wg_cli.specs.declared.ending.Ending.{Ending}
 use Rattle.wg_cli.specs.declared.status.Input.{Input}
 use Rattle.wg_cli.specs.declared.status.Input.TheVariants.{Properties, Graph}

@@ -1,9 +1,8 @@
 -- An offsets file that is read in pieces, in a judgement.
-use Rattle.std.proofs.Common.{◌≡◌, ◌≢◌, ◌⊎◌, inl, inr, ℕ, ◌+◌, ◌<◌, ◌≤◌, Bool, true, false, List, [], ◌∷◌, ◌++◌, nat_lt, length, refl, sym, ◌∙◌, ap, subst, Option, Some, None, Result, Ok, Err, arith}
+use Rattle.std.proofs.Common.{◌≡◌, ◌≢◌, inl, inr, ℕ, ◌+◌, ◌<◌, ◌≤◌, Bool, true, List, [], ◌∷◌, length, refl, sym, ◌∙◌, ap, subst, Option, Some, None, Result, Ok, Err, arith}
 use Rattle.std.specs.Bool.{IsTrue}
 use Rattle.std.specs.Result.{OnOk, IfErr}
 use Rattle.std.specs.FinMap as map
-use Rattle.std.proofs.lemmas.Bool.{cond-false, cond-true, le-ltb, lt-ltb}
 use Rattle.wg_io.specs.declared.limits.TheConstants.{MOST_BYTES}
 use Rattle.wg_io.specs.Outside.{Files, Counts, NonDecreasing}
 use Rattle.wg_io.proofs.PutsLemmas.{rose_on}

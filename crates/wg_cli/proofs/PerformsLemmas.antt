@@ -9,7 +9,7 @@ use Rattle.wg_io.specs.Puts.{Puts}
 use Rattle.wg_io.specs.declared.output.Output.{Output}
 use Rattle.wg_io.specs.declared.output.Output.TheVariants.{Out, Properties, Graph, Offsets}
 use Rattle.wg_words.specs.declared.jobs.Job.{Job}
-use Rattle.wg_cli.specs.Answers.{Answers, HasOutput, IsHindrance, IsUnput, Reaches, status_in}
+use Rattle.wg_cli.specs.Answers.{Answers, HasOutput, IsUnput, Reaches, status_in}
 use Rattle.wg_cli.specs.Causes.{AreFaultless, HasCause, IncreasedAt}
 use Rattle.wg_cli.specs.Judged.{Judged, accepted, files_of, judged, output_of, status_of, written_by}
 use Rattle.wg_cli.specs.Lines.{ArePromised, arcs_in}

@@ -1,10 +1,9 @@
 -- The lines of offsets and of arcs, as records come.
-use Rattle.std.proofs.Common.{◌≡◌, ℕ, ◌+◌, List, [], ◌∷◌, ◌++◌, map, length, refl, sym, ap, subst, ◌∙◌, append_assoc, append-nil, arith}
-use Rattle.wg_io.specs.Puts.{joined}
+use Rattle.std.proofs.Common.{◌≡◌, ℕ, ◌+◌, List, [], ◌∷◌, ◌++◌, length, refl, sym, ap, subst, ◌∙◌, append_assoc, append-nil, arith}
 use Rattle.wg_io.specs.Printing.{HasPrinted, HasPrintedLess}
-use Rattle.wg_io.proofs.PrintLemmas.{none_printed, printed_more, less_after, less_before}
+use Rattle.wg_io.proofs.PrintLemmas.{none_printed, printed_more, less_after}
 use Rattle.wg_arcs.specs.Text.{lines_from, page_lines}
-use Rattle.wg_grammar.specs.Archive.{Accepted, lists_of, places_of}
+use Rattle.wg_grammar.specs.Archive.{lists_of, places_of}
 use Rattle.wg_grammar.specs.Record.{Whole}
 use Rattle.wg_stream.proofs.PrefixLemmas.{length-lists, lists_more, places_more}
 use Rattle.wg_cli.specs.Judged.{number_line, number_lines}

@@ -1,13 +1,12 @@
 -- A pass over a graph file that prints a text.
-use Rattle.std.proofs.Common.{◌≡◌, ◌⊎◌, inl, inr, ℕ, ◌+◌, ◌≤◌, Bool, true, List, [], ◌∷◌, ◌++◌, length, take, refl, sym, ◌∙◌, ap, subst, append_assoc, Option, Some, Result, Ok, Err, arith}
+use Rattle.std.proofs.Common.{◌≡◌, ◌⊎◌, inl, inr, ℕ, ◌≤◌, Bool, List, [], ◌∷◌, ◌++◌, length, take, refl, sym, ◌∙◌, ap, subst, append_assoc, Option, Some, Result, Ok, Err, arith}
 use Rattle.std.specs.Bool.{IsTrue}
 use Rattle.std.specs.FinMap as map
 use Rattle.std.specs.Result.{IfErr, IsErrAnd}
-use Rattle.std.proofs.lemmas.List.{append-nil, take-append-le, take_at}
-use Rattle.wg_io.specs.Outside.{Files, Counts, NonDecreasing, Increased}
+use Rattle.std.proofs.lemmas.List.{append-nil, take_at}
+use Rattle.wg_io.specs.Outside.{Files, Counts, Increased}
 use Rattle.wg_io.specs.Printing.{HasPrinted, HasPrintedLess}
 use Rattle.wg_io.specs.Puts.{Puts}
-use Rattle.wg_io.specs.declared.output.Output.{Output}
 use Rattle.wg_io.specs.declared.output.Output.TheVariants.{Out}
 use Rattle.wg_io.proofs.FilesLemmas.{none_falls-trans}
 use Rattle.wg_io.proofs.PrintLemmas.{puts_in_the_end}
@@ -16,15 +15,12 @@ use Rattle.wg_params.specs.Parameters.{Parameters, IsWithinLimits}
 use Rattle.wg_grammar.specs.Archive.{Accepted}
 use Rattle.wg_grammar.specs.Record.{Whole}
 use Rattle.wg_stream.specs.Reading.{Reading, IsInStep, IsJudged}
-use Rattle.wg_words.specs.declared.jobs.Job.{Job}
-use Rattle.wg_cli.specs.Answers.{Answers, HasOutput, IsHindrance, IsUnput, Reaches, Steps, status_in}
+use Rattle.wg_cli.specs.Answers.{Answers, IsHindrance, IsUnput, status_in}
 use Rattle.wg_cli.specs.Causes.{HasCause}
-use Rattle.wg_cli.specs.Judged.{Judged, accepted, output_of, status_of}
-use Rattle.wg_cli.specs.Lines.{ArePromised, IsBadFile, arcs_in}
-use Rattle.wg_cli.specs.Names.{IsOfInput, file_of, held_by, no_outputs}
-use Rattle.wg_cli.specs.Passes.{Advances, IsGraphFile, IsStopAt, PrintsGraph, PutsUpTo, accepted_of, graph_then}
+use Rattle.wg_cli.specs.Judged.{Judged, accepted}
+use Rattle.wg_cli.specs.Names.{file_of, held_by, no_outputs}
+use Rattle.wg_cli.specs.Passes.{Advances, IsStopAt, PrintsGraph, PutsUpTo, accepted_of, graph_then}
 use Rattle.wg_cli.specs.Performs.{Outside, outside}
-use Rattle.wg_cli.specs.Readings.{Readings}
 use Rattle.wg_cli.specs.declared.ending.Ending.{Ending}
 use Rattle.wg_cli.specs.declared.status.Input.{Input}
 use Rattle.wg_cli.specs.declared.status.Input.TheVariants.{Graph}

@@ -1,21 +1,20 @@
 -- A reading of a graph file that is under way.
-use Rattle.std.proofs.Common.{◌≡◌, inl, inr, ℕ, ◌+◌, ◌≤◌, Bool, true, List, [], ◌∷◌, ◌++◌, length, refl, sym, ◌∙◌, ap, subst, Option, Some, None, Result, Ok, Err, arith}
+use Rattle.std.proofs.Common.{◌≡◌, ℕ, ◌+◌, ◌≤◌, Bool, true, List, [], ◌∷◌, ◌++◌, length, refl, sym, ◌∙◌, ap, subst, Option, Some, None, Ok, Err, arith}
 use Rattle.std.specs.Bool.{IsTrue}
 use Rattle.std.specs.FinMap as map
-use Rattle.wg_io.specs.Outside.{Files, Counts, NonDecreasing, Increased}
-use Rattle.wg_io.specs.declared.output.Output.{Output}
+use Rattle.wg_io.specs.Outside.{Files, Counts, NonDecreasing}
 use Rattle.wg_io.specs.declared.suffixes.TheConstants.{GRAPH}
 use Rattle.wg_io.proofs.FilesLemmas.{none_falls-trans}
 use Rattle.wg_io.proofs.PutsLemmas.{rose_on}
 use Rattle.wg_params.specs.Parameters.{Parameters, IsWithinLimits}
 use Rattle.wg_bits.specs.Bits.{bits_of}
-use Rattle.wg_grammar.specs.Archive.{Accepted, lists_of, places_of}
+use Rattle.wg_grammar.specs.Archive.{Accepted}
 use Rattle.wg_grammar.proofs.OneGraph.{graph_one}
 use Rattle.wg_grammar.specs.Record.{Whole}
 use Rattle.wg_stream.specs.declared.state.State.TheVariants.{Open}
 use Rattle.wg_stream.specs.declared.state.State.{State}
 use Rattle.wg_stream.specs.Reading.{Reading, AgreesIn, IsInStep, IsJudged, StaysInStep}
-use Rattle.wg_cli.specs.Answers.{Steps, status_in}
+use Rattle.wg_cli.specs.Answers.{Steps}
 use Rattle.wg_cli.specs.Causes.{HasCause, IncreasedAt}
 use Rattle.wg_cli.specs.Names.{file_of, held_by, no_outputs}
 use Rattle.wg_cli.specs.Passes.{Advances, FollowsFile, IsFound, IsFresh, IsGraphFile, accepted_of, graph_then}

@@ -12,11 +12,11 @@ use Rattle.wg_offsets.specs.Places.{last_place}
 use Rattle.wg_offsets.specs.Stages.{AreRead}
 use Rattle.wg_offsets.specs.declared.error.WordError.{WordError}
 use Rattle.wg_offsets.specs.declared.error.WordError.TheVariants as words
-use Rattle.wg_stream.specs.Held.{Held, IsHeldOf}
+use Rattle.wg_stream.specs.Held.{IsHeldOf}
 use Rattle.wg_cli.specs.Answers.{Steps, status_in}
 use Rattle.wg_cli.specs.Causes.{HasCause}
 use Rattle.wg_cli.specs.Judged.{Judged, with_file, with_lengths, with_offsets}
-use Rattle.wg_cli.specs.Names.{file_of, no_outputs}
+use Rattle.wg_cli.specs.Names.{no_outputs}
 use Rattle.wg_cli.specs.Passes.{IsStopAt, graph_then}
 use Rattle.wg_cli.specs.Readings.{Readings}
 use Rattle.wg_cli.specs.declared.ending.Ending.{Ending}

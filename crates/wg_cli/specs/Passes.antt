@@ -25,7 +25,6 @@ use Rattle.wg_cli.specs.Readings.{Readings}
 use Rattle.wg_cli.specs.declared.ending.Ending.{Ending}
 use Rattle.wg_cli.specs.declared.status.Input.{Input}
 use Rattle.wg_cli.specs.declared.status.Input.TheVariants as input
-use Rattle.wg_cli.specs.declared.status.Status.{Status}
 use Rattle.wg_cli.specs.declared.status.Status.TheVariants.{Memory, ReadFault, Missing, BadArchive, OverLimit}
 
 -- goes on with the graph of what the graph file holds

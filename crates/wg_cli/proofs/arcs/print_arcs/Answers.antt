@@ -1,10 +1,5 @@
-use Rattle.std.proofs.Common.{◌≡◌, ◌∙◌, ◌≤◌, ℕ, ◌++◌, List, [], IsTrue, sym, ap, subst, arith}
-use Rattle.wg_io.specs.Printing.{HasPrinted, HasPrintedLess}
+use Rattle.std.proofs.Common.{◌∙◌, sym, arith}
 use Rattle.wg_io.proofs.PutsLemmas.{rose_on}
-use Rattle.wg_params.specs.Parameters.{Parameters}
-use Rattle.wg_grammar.specs.Archive.{Accepted, places_of}
-use Rattle.wg_grammar.specs.Record.{Whole}
-use Rattle.wg_cli.specs.Judged.{number_line, number_lines}
 use Rattle.wg_cli.proofs.UnderWay.{begins, goes_further}
 use Rattle.wg_cli.proofs.PrintedPass.{prints_all, prints_exit, prints_less, prints_none, prints_read}
 use Rattle.wg_cli.proofs.PrintedLines.{arcs_grow, none_printed_yet, page_less, page_printed}

@@ -1,14 +1,13 @@
-use Rattle.std.proofs.Common.{◌≡◌, ◌⊎◌, ◌∙◌, inl, inr, ℕ, List, Option, None, Ok, Err, rules, refl, sym, subst}
+use Rattle.std.proofs.Common.{◌∙◌, ℕ, List, Option, Ok, rules, refl, subst}
 use Rattle.wg_io.specs.Outside.{Files}
 use Rattle.wg_io.proofs.FilesLemmas.{none_falls-trans}
 use Rattle.wg_params.specs.Parameters.{Parameters}
 use Rattle.wg_words.specs.declared.jobs.Job.{Job}
 use Rattle.wg_words.specs.declared.jobs.Job.TheVariants.{Check}
-use Rattle.wg_cli.specs.Answers.{Answers, Steps}
+use Rattle.wg_cli.specs.Answers.{Steps}
 use Rattle.wg_cli.specs.Judged.{Judged, accepted, ok_line}
 use Rattle.wg_cli.specs.Names.{file_of, held_by, input_name}
 use Rattle.wg_cli.specs.Pairing.{files_then}
-use Rattle.wg_cli.specs.declared.ending.Ending.{Ending}
 use Rattle.wg_cli.specs.declared.status.Input.{Input}
 use Rattle.wg_cli.specs.declared.status.Input.TheVariants as input
 use Rattle.wg_cli.proofs.JobPasses.{after_params, performs_exit}

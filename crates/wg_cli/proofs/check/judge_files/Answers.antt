@@ -1,10 +1,9 @@
-use Rattle.std.proofs.Common.{◌≡◌, ◌∙◌, ◌≤◌, ℕ, ◌+◌, List, [], ◌∷◌, ◌++◌, Some, Result, Ok, Err, IsTrue, inl, inr, refl, sym, ap, subst, arith}
+use Rattle.std.proofs.Common.{◌∙◌, ℕ, List, [], ◌∷◌, ◌++◌, inl, inr, refl, sym, ap, subst, arith}
 use Rattle.std.specs.FinMap as map
 use Rattle.wg_io.specs.declared.suffixes.TheConstants.{OFFSETS}
 use Rattle.wg_io.proofs.FilesLemmas.{none_falls-trans}
 use Rattle.wg_io.proofs.PutsLemmas.{is_that_err}
-use Rattle.wg_grammar.specs.Archive.{Accepted, places_of}
-use Rattle.wg_grammar.specs.Record.{Whole}
+use Rattle.wg_grammar.specs.Archive.{places_of}
 use Rattle.wg_offsets.specs.Places.{last_place}
 use Rattle.wg_offsets.proofs.WordsLemmas.{last_more}
 use Rattle.wg_stream.proofs.PrefixLemmas.{places_more}
@@ -12,7 +11,6 @@ use Rattle.wg_cli.specs.Judged.{with_lengths}
 use Rattle.wg_cli.specs.Names.{file_of, held_by}
 use Rattle.wg_cli.specs.Pairing.{ComesWith, offsets_then}
 use Rattle.wg_cli.specs.declared.status.Input.TheVariants as input
-use Rattle.wg_cli.specs.declared.ending.Ending.{Ending}
 use Rattle.wg_cli.proofs.PairingLemmas.{both_done, both_stop, come_at, come_until, ready_done, ready_here, ready_more, ready_paired}
 use Rattle.wg_cli.proofs.UnderWay.{all_read, begins, ends_caused, ends_told, goes_further, judged_by, way_later}
 use Rattle.wg_cli.proofs.check.judge_files.Goals as goal

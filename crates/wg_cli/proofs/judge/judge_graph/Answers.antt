@@ -1,7 +1,6 @@
-use Rattle.std.proofs.Common.{◌≡◌, ◌∙◌, ◌+◌, ℕ, List, sym, ap, arith}
+use Rattle.std.proofs.Common.{◌∙◌, arith}
 use Rattle.wg_io.proofs.FilesLemmas.{none_falls-trans}
 use Rattle.wg_io.proofs.PutsLemmas.{is_that_err}
-use Rattle.wg_grammar.specs.Record.{Whole}
 use Rattle.wg_cli.proofs.UnderWay.{begins, ends_caused, ends_told, goes_further, judged_by}
 use Rattle.wg_cli.proofs.judge.judge_graph.Goals as goal
 

@@ -1,16 +1,14 @@
-use Rattle.std.proofs.Common.{◌≡◌, ◌∙◌, ℕ, List, Option, None, Ok, Err, rules, refl, sym, subst}
+use Rattle.std.proofs.Common.{◌∙◌, ℕ, List, Option, None, Err, rules, refl, sym, subst}
 use Rattle.wg_io.specs.Outside.{Files}
 use Rattle.wg_io.proofs.FilesLemmas.{none_falls-trans}
 use Rattle.wg_params.specs.Parameters.{Parameters}
 use Rattle.wg_grammar.specs.Archive.{Accepted}
 use Rattle.wg_words.specs.declared.jobs.Job.{Job}
 use Rattle.wg_words.specs.declared.jobs.Job.TheVariants.{Offsets}
-use Rattle.wg_cli.specs.Answers.{Answers, Reaches, Steps, without}
+use Rattle.wg_cli.specs.Answers.{Answers, Steps, without}
 use Rattle.wg_cli.specs.Judged.{Judged, accepted, number_lines}
 use Rattle.wg_cli.specs.Names.{file_of, held_by, input_name}
 use Rattle.wg_cli.specs.Passes.{IsGraphFile, graph_then}
-use Rattle.wg_cli.specs.Performs.{judged_on}
-use Rattle.wg_cli.specs.Readings.{Readings}
 use Rattle.wg_cli.specs.declared.status.Input.{Input}
 use Rattle.wg_cli.specs.declared.status.Input.TheVariants as input
 use Rattle.wg_cli.proofs.JobPasses.{after_params, performs_exit, printed_again, unjudged}

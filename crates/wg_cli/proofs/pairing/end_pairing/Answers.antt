@@ -1,5 +1,4 @@
-use Rattle.std.proofs.Common.{◌≡◌, ◌∙◌, ℕ, List, Some, refl, sym, ap, arith}
-use Rattle.std.specs.FinMap as map
+use Rattle.std.proofs.Common.{sym, arith}
 use Rattle.wg_io.proofs.PutsLemmas.{is_that_err}
 use Rattle.wg_cli.proofs.PairingLemmas.{ends_compared, ends_stopped, stopped_since, still_named}
 use Rattle.wg_cli.proofs.pairing.end_pairing.Goals as goal

@@ -1,4 +1,4 @@
-use Rattle.std.proofs.Common.{◌≡◌, ◌∙◌, ℕ, List, Some, Ok, Err, rules, refl, sym, ap}
+use Rattle.std.proofs.Common.{◌∙◌, ℕ, List, rules, refl, ap}
 use Rattle.std.specs.FinMap as map
 use Rattle.wg_bits.specs.Bits.{bits_of}
 use Rattle.wg_cli.proofs.PairingLemmas.{offsets_by, stopped_at, word_by, word_stopped}

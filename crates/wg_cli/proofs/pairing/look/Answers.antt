@@ -1,4 +1,4 @@
-use Rattle.std.proofs.Common.{◌≡◌, ◌∙◌, ℕ, false, List, Some, None, Result, Ok, Err, sym, ap}
+use Rattle.std.proofs.Common.{◌≡◌, ◌∙◌, ℕ, false, List, Result, Ok, Err, sym, ap}
 use Rattle.std.specs.FinMap as map
 use Rattle.wg_io.specs.declared.whole.LoadError.{LoadError}
 use Rattle.wg_io.specs.declared.whole.LoadError.TheVariants as load

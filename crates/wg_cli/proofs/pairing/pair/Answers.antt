@@ -1,5 +1,4 @@
-use Rattle.std.proofs.Common.{◌≡◌, ◌∙◌, ℕ, List, [], ◌∷◌, ◌++◌, Some, refl, sym, ap, subst, arith}
-use Rattle.std.specs.FinMap as map
+use Rattle.std.proofs.Common.{◌∙◌, ℕ, [], ◌∷◌, ◌++◌, refl, sym, ap, subst, arith}
 use Rattle.wg_io.proofs.PutsLemmas.{is_that_err}
 use Rattle.wg_offsets.specs.Comparing.{AreCompared, Compared}
 use Rattle.wg_cli.proofs.PairingLemmas.{next_paired}

@@ -1,7 +1,4 @@
-use Rattle.std.proofs.Common.{◌≡◌, ◌∙◌, ℕ, ◌+◌, List, [], ◌∷◌, ◌++◌, Some, Result, refl, sym, ap, subst}
-use Rattle.std.specs.FinMap as map
-use Rattle.wg_cli.specs.Pairing.{ComesWith, HasCome}
-use Rattle.wg_cli.specs.declared.ending.Ending.{Ending}
+use Rattle.std.proofs.Common.{[], ◌∷◌, ◌++◌, sym}
 use Rattle.wg_cli.proofs.PairingLemmas.{come_next, comes_next, still_named}
 use Rattle.wg_cli.proofs.pairing.pair_next.Goals as goal
 

@@ -2,10 +2,9 @@ use Rattle.std.proofs.Common.{◌∙◌, subst}
 use Rattle.wg_words.specs.Jobs.{job_of}
 use Rattle.wg_words.specs.declared.jobs.Job.TheVariants.{Rank}
 use Rattle.wg_cli.specs.Answers.{Answers, HasOutput}
-use Rattle.wg_cli.specs.Judged.{output_of, status_of}
+use Rattle.wg_cli.specs.Judged.{output_of}
 use Rattle.wg_cli.specs.Names.{held_for}
 use Rattle.wg_cli.specs.Performs.{judged_on}
-use Rattle.wg_cli.specs.declared.status.Status.{Status}
 use Rattle.wg_cli.proofs.ExitLemmas.{nothing_promised}
 use Rattle.wg_words.proofs.JobLemmas.{rank_within}
 use Rattle.wg_cli.proofs.PerformsLemmas.{unhindered}

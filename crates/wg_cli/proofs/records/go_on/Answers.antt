@@ -1,18 +1,15 @@
-use Rattle.std.proofs.Common.{◌≡◌, ◌∙◌, ℕ, Bool, false, List, Option, Some, None, Result, Ok, Err, sym, ap, subst, refl}
+use Rattle.std.proofs.Common.{◌≡◌, ◌∙◌, Bool, false, Result, Ok, Err, ap, subst}
 use Rattle.std.specs.FinMap as map
 use Rattle.wg_io.specs.Outside.{Files}
 use Rattle.wg_params.specs.Parameters.{Parameters}
 use Rattle.wg_grammar.specs.Archive.{lists_of, places_of}
 use Rattle.wg_stream.specs.declared.first.First.{First}
 use Rattle.wg_stream.specs.declared.state.State.{State}
-use Rattle.wg_stream.specs.declared.state.State.TheVariants.{Done}
 use Rattle.wg_stream.specs.declared.stream_error.StreamError.{StreamError}
 use Rattle.wg_stream.specs.declared.stream_error.StreamError.TheVariants as errors
 use Rattle.wg_stream.specs.FirstError.{of_first}
 use Rattle.wg_stream.specs.Reading.{AgreesIn, IsInStep, IsJudged, StaysInStep}
-use Rattle.wg_cli.specs.Names.{no_outputs}
-use Rattle.wg_cli.specs.Passes.{Advances, ending_at, first_in}
-use Rattle.wg_cli.specs.declared.ending.Ending.{Ending}
+use Rattle.wg_cli.specs.Passes.{ending_at, first_in}
 use Rattle.wg_cli.proofs.PassLemmas.{absent_after, advances_at, cause_at, done_caused, error_of, error_steps, first_again, found_after, only_at}
 use Rattle.wg_cli.proofs.records.go_on.Goals as goal
 

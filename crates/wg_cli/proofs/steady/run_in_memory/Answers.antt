@@ -1,7 +1,6 @@
 use Rattle.std.proofs.Common.{ℕ, List, refl}
 use Rattle.wg_io.specs.Memory.{steady_counts}
 use Rattle.wg_words.specs.Jobs.{job_of}
-use Rattle.wg_cli.specs.Causes.{AreFaultless}
 use Rattle.wg_cli.proofs.SteadyLemmas.{faultless, no_read_fault, no_write_fault}
 use Rattle.wg_cli.proofs.steady.run_in_memory.Goals as goal
 
