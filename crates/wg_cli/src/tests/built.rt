@@ -1,5 +1,5 @@
 //! What `build` writes, and what stands where it is stopped.
-ghost use Rattle.std.specs.Prelude.{◌≤◌, ◌<◌, ◌^◌, ◌-◌};
+ghost use Rattle.std.specs.Prelude.{◌≤◌};
 
 use super::conversions::{REVERSED, put_records};
 use super::lists::{
@@ -7,6 +7,7 @@ use super::lists::{
     Stopped, UNBUILT,
 };
 use super::*;
+use std::process::Abort;
 use wg_io::{LoadError, read_whole};
 use wg_vectors::COPIED;
 
@@ -126,11 +127,8 @@ fn lists_that_are_refused(rt: HostRuntime) -> Result<(), Fail> {
 }
 
 // Whether a line that writes the archive with a copied list, and is stopped as the row says, reports this, and leaves the files so.
-fn is_stopped(alloc: Global, line: &str, stopped: &Stopped) -> Result<bool, Fail>
-    requires piece { 1 ≤ stopped.now.piece }
-    requires create { stopped.now.create < 2 ^ 64 - 1 }
-    requires append { stopped.now.append < 2 ^ 64 - 1 }
-{
+fn is_stopped(rt: &impl Abort, alloc: Global, line: &str, stopped: &Stopped) -> Result<bool, Fail> {
+    assert!(rt; stopped.piece > 0 && stopped.create < 10 && stopped.append < 10);
     let mut depot = MemoryDepot::new(alloc, stopped.piece);
     depot.put_file("a", COPIED_ARCS.as_bytes())?;
     put_records(alloc, &mut depot, "i.properties", "i.graph", &COPIED)?;
@@ -153,10 +151,9 @@ fn is_stopped(alloc: Global, line: &str, stopped: &Stopped) -> Result<bool, Fail
 #[test]
 fn each_file_stops_once(rt: HostRuntime) -> Result<(), Fail> {
     for stopped in &STOPPED {
-        assert!(rt; stopped.piece > 0 && stopped.create < 10 && stopped.append < 10);
         for line in [BUILD_COPIED, "recode i g", "transpose t g"] {
             assert!(rt;
-                is_stopped(rt.alloc(), line, stopped)?,
+                is_stopped(&rt, rt.alloc(), line, stopped)?,
                 "{line}: create {}, append {}",
                 stopped.create,
                 stopped.append
