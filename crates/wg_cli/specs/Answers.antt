@@ -41,7 +41,7 @@ without i held j = if nat_eq (input_code i) (input_code j) then None else held j
 abbrev pub Reaches : Readings → Job → (Input → Option (List ℕ)) → Input → Type 0
 Reaches r job held i = judged r job (without i held) ≡ refused (Missing i)
 
--- all of the output at Done, a front of it where a hindrance came, and nothing at a refusal
+-- all of the output at Done, a prefix of it where a hindrance came, and nothing at a refusal
 abbrev pub HasOutput : List ℕ → List ℕ → List ℕ → Status → Type 0
 HasOutput due old new Done = new ≡ old ++ due
 HasOutput due old new Memory = (k : ℕ) × (new ≡ old ++ take k due)

@@ -25,6 +25,6 @@ pub record AreFaultless (old new : List ℕ → Counts) (faults faults' : ℕ) :
   pub writes : (name : List ℕ) → ¬ Increased (old name).write_faults (new name).write_faults
   pub output : ¬ Increased faults faults'
 
--- the line is there, or a front of it, and this only where the sink failed
+-- the line is there, or a prefix of it, and this only where the sink failed
 abbrev pub Reports : List ℕ → List ℕ → List ℕ → Type 0 → Type 0
 Reports line old new failed = (new ≡ old ++ line) ⊎ ((k : ℕ) × (k < length line) × (new ≡ old ++ take k line) × failed)

@@ -60,12 +60,12 @@ AreWhole a new = (new.properties ≡ Some a.properties) × (new.graph ≡ Some a
 abbrev pub StopAtProperties : Archive → ArchiveFiles → ArchiveFiles → Type 0
 StopAtProperties a old new = (new ≡ old) ⊎ ((new.graph ≡ Some a.graph) × (new.offsets ≡ Some a.offsets) × HoldsLess new.properties a.properties)
 
--- the properties are empty; the others are as before, or fronts of the archive's, and the graph file lacks something
+-- the properties are empty; the others are as before, or prefixes of the archive's, and the graph file lacks something
 abbrev pub StopAtGraph : Archive → ArchiveFiles → ArchiveFiles → Type 0
 StopAtGraph a old new =
     (new.properties ≡ Some []) × (((new.graph ≡ old.graph) × (new.offsets ≡ old.offsets)) ⊎ (HoldsLess new.graph a.graph × HoldsFront new.offsets a.offsets))
 
--- the properties are empty; the graph file is and the offsets are as before, or both are fronts of the archive's, and the offsets lack something
+-- the properties are empty; the graph file is and the offsets are as before, or both are prefixes of the archive's, and the offsets lack something
 abbrev pub StopAtOffsets : Archive → ArchiveFiles → ArchiveFiles → Type 0
 StopAtOffsets a old new =
     (new.properties ≡ Some []) × (((new.graph ≡ Some []) × (new.offsets ≡ old.offsets)) ⊎ (HoldsFront new.graph a.graph × HoldsLess new.offsets a.offsets))

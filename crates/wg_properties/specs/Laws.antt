@@ -8,9 +8,9 @@ use Rattle.wg_properties.specs.Text.{text_of}
 abbrev pub ReadsBack : Type 0
 ReadsBack = (p : Parameters) → IsWithinLimits p → properties_of (text_of p) ≡ Ok p
 
--- A front of the text that lacks more than its last byte, an LF, is refused.
-abbrev pub FrontsAreRefused : Type 0
-FrontsAreRefused = (p : Parameters) (n : ℕ) → IsWithinLimits p → n + 1 < length (text_of p) → IsErr (properties_of (take n (text_of p)))
+-- A prefix of the text that lacks more than its last byte, an LF, is refused.
+abbrev pub PrefixesAreRefused : Type 0
+PrefixesAreRefused = (p : Parameters) (n : ℕ) → IsWithinLimits p → n + 1 < length (text_of p) → IsErr (properties_of (take n (text_of p)))
 
 -- The text has fewer bytes than this.
 abbrev pub AreShort : Type 0

@@ -6,8 +6,8 @@ use Rattle.wg_properties.proofs.laws.written_texts.Goals as goal
 pub returns-clause-back : goal.returns-clause-back
 returns-clause-back c = read_again
 
-pub returns-clause-fronts : goal.returns-clause-fronts
-returns-clause-fronts c = front_refused
+pub returns-clause-prefixes : goal.returns-clause-prefixes
+returns-clause-prefixes c = front_refused
 
 pub returns-clause-short : goal.returns-clause-short
 returns-clause-short c = text_short
