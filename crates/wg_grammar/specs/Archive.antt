@@ -50,7 +50,8 @@ places_of behind = 0 ∷ reverse (map (λ w. w.end) behind)
 
 -- what the file is, where these records are behind and no more proper ones are taken
 abbrev pub EndsAs : Parameters → List Bool → List Whole → ℕ → Result Accepted ArchiveFault → Type 0
-EndsAs p bits behind at (Ok a) = (length behind ≡ p.nodes) × IsTail bits at × (arcs_of behind ≡ p.arcs) × (a.graph ≡ lists_of behind) × (a.places ≡ places_of behind)
+EndsAs p bits behind at (Ok a) =
+    (length behind ≡ p.nodes) × IsTail bits at × (arcs_of behind ≡ p.arcs) × (a.graph ≡ lists_of behind) × (a.places ≡ places_of behind)
 EndsAs p bits behind at (Err (faults.Record e)) = (length behind < p.nodes) × ReadsRecord p (context_of p behind) bits at (Err e)
 EndsAs p bits behind at (Err (faults.Tail offset)) = (length behind ≡ p.nodes) × IsTailFault bits at offset
 EndsAs p bits behind at (Err (faults.ArcsShort total)) = (length behind ≡ p.nodes) × IsTail bits at × (total ≡ arcs_of behind) × (total < p.arcs)

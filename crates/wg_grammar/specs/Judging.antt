@@ -15,7 +15,9 @@ use Rattle.wg_grammar.specs.Tally.{Tally, extra_of, missing_of}
 -- what is told of the page that a reference of v names: nothing where the reference is 0 or out of its range
 abbrev pub named : Parameters → Context → ℕ → Option Referenced
 named p c zero = None
-named p c (suc r) = if nat_le (suc r) (min p.window c.page) then Some (record { length = length (get_or c.behind r no_page).list; depth = (get_or c.behind r no_page).depth }) else None
+named p c (suc r) =
+    if nat_le (suc r) (min p.window c.page)
+    then Some (record { length = length (get_or c.behind r no_page).list; depth = (get_or c.behind r no_page).depth }) else None
 
 -- what is given with a value: with a reference, what it names
 abbrev pub Gives : Option Referenced → Parameters → Context → Field → ℕ → Type 0
@@ -45,14 +47,17 @@ residual_of t v = if t.residuals == 0 then unfolded_from t.page v else Some (t.l
 
 -- the first reason to refuse a value, if there is one
 unfoldable pub refusal_of : Tally → Option Referenced → Field → ℕ → Option Kind
-refusal_of t given field.Outdegree v = if nat_lt t.params.nodes v then Some kind.Range else if nat_lt t.params.arcs (t.arcs_before + v) then Some kind.Total else None
-refusal_of t given field.Reference v = if nat_lt (min t.params.window t.page) v then Some kind.Range else if passes t.params.chain (given_depth given) then Some kind.Chain else None
+refusal_of t given field.Outdegree v =
+    if nat_lt t.params.nodes v then Some kind.Range else if nat_lt t.params.arcs (t.arcs_before + v) then Some kind.Total else None
+refusal_of t given field.Reference v =
+    if nat_lt (min t.params.window t.page) v then Some kind.Range else if passes t.params.chain (given_depth given) then Some kind.Chain else None
 refusal_of t given field.BlockCount v = if nat_lt (t.source + 1) v then Some kind.Range else None
 refusal_of t given field.Block v = if nat_lt t.source (t.blocks_sum + block_of t v) then Some kind.Range else None
 refusal_of t given field.Copied v = if nat_lt (value_or_0 t.outdegree) t.copied then Some kind.Copied else None
 refusal_of t given field.IntervalCount v = if nat_lt (extra_of t) (v * t.params.interval) then Some kind.Range else None
 refusal_of t given field.Left v = if is_page t.params (left_of t v) then None else Some kind.Range
-refusal_of t given field.Length v = if nat_lt (missing_of t) (v + t.params.interval) || nat_lt t.params.nodes (t.last_left + v + t.params.interval) then Some kind.Range else None
+refusal_of t given field.Length v =
+    if nat_lt (missing_of t) (v + t.params.interval) || nat_lt t.params.nodes (t.last_left + v + t.params.interval) then Some kind.Range else None
 refusal_of t given field.Residual v = if is_page t.params (residual_of t v) then None else Some kind.Range
 refusal_of t given field.Record v = None
 
@@ -65,7 +70,8 @@ unfoldable pub after_of : Tally → Option Referenced → Field → ℕ → Tall
 after_of t given field.Outdegree v = record t { outdegree = Some v }
 after_of t given field.Reference v = record t { reference = Some v; source = given_length given; copied = given_length given }
 after_of t given field.BlockCount v = record t { block_count = Some v }
-after_of t given field.Block v = record t { blocks = t.blocks + 1; blocks_sum = t.blocks_sum + block_of t v; copied = copied_after t (t.blocks_sum + block_of t v) }
+after_of t given field.Block v =
+    record t { blocks = t.blocks + 1; blocks_sum = t.blocks_sum + block_of t v; copied = copied_after t (t.blocks_sum + block_of t v) }
 after_of t given field.Copied v = record t { checked = true }
 after_of t given field.IntervalCount v = record t { interval_count = Some v }
 after_of t given field.Left v = record t { lefts = t.lefts + 1; last_left = value_or_0 (left_of t v) }

@@ -15,19 +15,27 @@ use Rattle.wg_grammar.specs.Archive.{Accepted, ReadsGraph}
 
 -- Bits from an offset on are at most one record, or have at most one first fault, and never both.
 abbrev pub RecordIsOne : Type 0
-RecordIsOne = (p : Parameters) (c : Context) (bits : List Bool) (start : ℕ) (w x : Result Whole Fault) → IsWithinLimits p → ReadsRecord p c bits start w → ReadsRecord p c bits start x → w ≡ x
+RecordIsOne =
+    (p : Parameters) (c : Context) (bits : List Bool) (start : ℕ) (w x : Result Whole Fault) → IsWithinLimits p → ReadsRecord p c bits start w
+    → ReadsRecord p c bits start x → w ≡ x
 
 -- They are a record or have a fault.
 abbrev pub RecordIsSome : Type 0
-RecordIsSome = (p : Parameters) (c : Context) (bits : List Bool) (start : ℕ) → IsWithinLimits p → start ≤ length bits → (w : Result Whole Fault) × ReadsRecord p c bits start w
+RecordIsSome =
+    (p : Parameters) (c : Context) (bits : List Bool) (start : ℕ) → IsWithinLimits p → start ≤ length bits
+    → (w : Result Whole Fault) × ReadsRecord p c bits start w
 
 -- The list of a record ascends, and has pages of the graph alone.
 abbrev pub ListsAscend : Type 0
-ListsAscend = (p : Parameters) (c : Context) (bits : List Bool) (start : ℕ) (w : Whole) → ReadsRecord p c bits start (Ok w) → Ascends 0 w.known.list × Below p.nodes w.known.list
+ListsAscend =
+    (p : Parameters) (c : Context) (bits : List Bool) (start : ℕ) (w : Whole) → ReadsRecord p c bits start (Ok w)
+    → Ascends 0 w.known.list × Below p.nodes w.known.list
 
 -- A record of which all is read has never more successors than its outdegree, so that too few is the one fault there.
 abbrev pub NeverTooMany : Type 0
-NeverTooMany = (p : Parameters) (c : Context) (bits : List Bool) (start : ℕ) (vs : List ℕ) (s : SoFar) (at : ℕ) → Fields p c bits nothing_yet start vs s at → next p c s ≡ End → length (list_of p c s) ≤ value_or_0 s.outdegree
+NeverTooMany =
+    (p : Parameters) (c : Context) (bits : List Bool) (start : ℕ) (vs : List ℕ) (s : SoFar) (at : ℕ) → Fields p c bits nothing_yet start vs s at
+    → next p c s ≡ End → length (list_of p c s) ≤ value_or_0 s.outdegree
 
 -- Bits stand for at most one graph, or have at most one first fault, and never both.
 abbrev pub GraphIsOne : Type 0

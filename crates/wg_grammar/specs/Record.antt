@@ -19,7 +19,8 @@ use Rattle.wg_grammar.specs.Members.{list_of}
 -- Where this is needed, the value v stands at the bit at, up to end, and is allowed. The check has the value 0 and no
 -- bits.
 abbrev pub Stands : Need → Parameters → Context → List Bool → SoFar → ℕ → ℕ → ℕ → SoFar → Type 0
-Stands (need.Read f code) p c bits s at v end t = Reads (word code) (top code) (drop at bits) (reads.Value v) × (end ≡ at + length (word code v)) × (refusal p c s f v ≡ None) × (t ≡ after p c s f v)
+Stands (need.Read f code) p c bits s at v end t =
+    Reads (word code) (top code) (drop at bits) (reads.Value v) × (end ≡ at + length (word code v)) × (refusal p c s f v ≡ None) × (t ≡ after p c s f v)
 Stands need.Check p c bits s at v end t = (v ≡ 0) × (end ≡ at) × (refusal p c s field.Copied v ≡ None) × (t ≡ after p c s field.Copied v)
 Stands need.End p c bits s at v end t = ⊥
 
@@ -32,7 +33,8 @@ Fields p c bits s at (v ∷ vs) t end = (u : SoFar) × (mid : ℕ) × Stands (ne
 -- What is needed at the bit at is refused as the fault says. A record of which all is read is refused where it has too
 -- few successors.
 abbrev pub Refused : Need → Parameters → Context → List Bool → ℕ → SoFar → ℕ → Fault → Type 0
-Refused (need.Read f code) p c bits start s at e = (r : Read) × Reads (word code) (top code) (drop at bits) r × (judged p c s f r ≡ Some e.kind) × (e.field ≡ f) × (e.at ≡ at)
+Refused (need.Read f code) p c bits start s at e =
+    (r : Read) × Reads (word code) (top code) (drop at bits) r × (judged p c s f r ≡ Some e.kind) × (e.field ≡ f) × (e.at ≡ at)
 Refused need.Check p c bits start s at e = (refusal p c s field.Copied 0 ≡ Some e.kind) × (e.field ≡ field.Copied) × (e.at ≡ at)
 Refused need.End p c bits start s at e = (length (list_of p c s) < value_or_0 s.outdegree) × (e.kind ≡ kind.Twice) × (e.field ≡ field.Record) × (e.at ≡ start)
 
@@ -43,7 +45,9 @@ pub record Whole : Type 0 where
 
 -- what a record that begins at the bit start is, where s has been read up to the bit at and nothing more is allowed
 abbrev pub Stops : Parameters → Context → List Bool → ℕ → SoFar → ℕ → Result Whole Fault → Type 0
-Stops p c bits start s at (Ok w) = (next p c s ≡ need.End) × (length (list_of p c s) ≡ value_or_0 s.outdegree) × (w.known.list ≡ list_of p c s) × (w.known.depth ≡ depth_of c.behind (value_or_0 s.reference)) × (w.end ≡ at)
+Stops p c bits start s at (Ok w) =
+    (next p c s ≡ need.End) × (length (list_of p c s) ≡ value_or_0 s.outdegree) × (w.known.list ≡ list_of p c s)
+    × (w.known.depth ≡ depth_of c.behind (value_or_0 s.reference)) × (w.end ≡ at)
 Stops p c bits start s at (Err e) = Refused (next p c s) p c bits start s at e × (e.page ≡ c.page)
 
 -- From the bit start a proper record of this list and depth stands, or this is its first fault.

@@ -19,7 +19,17 @@ pub record SoFar : Type 0 where
   pub residuals : List ℕ
 
 abbrev pub nothing_yet : SoFar
-nothing_yet = record { outdegree = None; reference = None; block_count = None; blocks = []; checked = false; interval_count = None; lefts = []; lengths = []; residuals = [] }
+nothing_yet = record {
+  outdegree = None;
+  reference = None;
+  block_count = None;
+  blocks = [];
+  checked = false;
+  interval_count = None;
+  lefts = [];
+  lengths = [];
+  residuals = [];
+}
 
 abbrev pub value_or_0 : Option ℕ → ℕ
 value_or_0 o = unwrap_or o 0

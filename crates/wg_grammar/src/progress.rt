@@ -184,7 +184,8 @@ impl Progress {
         ensures refused { OnErr result (self.new ≡ self.old) }
         ensures params { (tally_of self.new).params ≡ (tally_of self.old).params }
         ensures page { (tally_of self.new).page ≡ (tally_of self.old).page }
-        ensures exact { (p : Parameters) (c : Context) (s : SoFar) (f : Field) (code : Code) → Follows self.old p c s → next p c s ≡ Need.Read f code → Gives referenced p c f value → Judges result (refusal p c s f value) × OnOk result (Follows self.new p c (after p c s f value)) }
+        ensures exact { (p : Parameters) (c : Context) (s : SoFar) (f : Field) (code : Code) → Follows self.old p c s → next p c s ≡ Need.Read f code
+            → Gives referenced p c f value → Judges result (refusal p c s f value) × OnOk result (Follows self.new p c (after p c s f value)) }
     {
         match self.next_field() {
             Need::Read(field, _) => match self.refusal(field, value, referenced) {
@@ -205,7 +206,8 @@ impl Progress {
         ensures refused { OnErr result (self.new ≡ self.old) }
         ensures params { (tally_of self.new).params ≡ (tally_of self.old).params }
         ensures page { (tally_of self.new).page ≡ (tally_of self.old).page }
-        ensures exact { (p : Parameters) (c : Context) (s : SoFar) → Follows self.old p c s → Judges result (refusal p c s Field.Copied 0) × OnOk result (Follows self.new p c (after p c s Field.Copied 0)) }
+        ensures exact { (p : Parameters) (c : Context) (s : SoFar) → Follows self.old p c s
+            → Judges result (refusal p c s Field.Copied 0) × OnOk result (Follows self.new p c (after p c s Field.Copied 0)) }
     {
         match self.refusal(Field::Copied, 0, None) {
             Some(kind) => Err(kind),

@@ -30,11 +30,50 @@ impl Model for Params {
 
     ghost Value = { Parameters };
 
-    ghost view = { λ p. record { nodes = p.nodes; arcs = p.arcs; window = p.window; chain = p.chain; interval = p.interval; zeta = p.zeta; outdegrees = p.outdegrees; references = p.references; block_counts = p.block_counts; blocks = p.blocks; residuals = p.residuals; offsets = p.offsets } };
+    ghost view = { λ p. record {
+      nodes = p.nodes;
+      arcs = p.arcs;
+      window = p.window;
+      chain = p.chain;
+      interval = p.interval;
+      zeta = p.zeta;
+      outdegrees = p.outdegrees;
+      references = p.references;
+      block_counts = p.block_counts;
+      blocks = p.blocks;
+      residuals = p.residuals;
+      offsets = p.offsets;
+    } };
 
-    ghost invariant = { λ p. IsWithinLimits (record { nodes = p.nodes; arcs = p.arcs; window = p.window; chain = p.chain; interval = p.interval; zeta = p.zeta; outdegrees = p.outdegrees; references = p.references; block_counts = p.block_counts; blocks = p.blocks; residuals = p.residuals; offsets = p.offsets }) };
+    ghost invariant = { λ p. IsWithinLimits (record {
+      nodes = p.nodes;
+      arcs = p.arcs;
+      window = p.window;
+      chain = p.chain;
+      interval = p.interval;
+      zeta = p.zeta;
+      outdegrees = p.outdegrees;
+      references = p.references;
+      block_counts = p.block_counts;
+      blocks = p.blocks;
+      residuals = p.residuals;
+      offsets = p.offsets;
+    }) };
 
-    ghost inverse = { λ p. record { nodes = p.nodes; arcs = p.arcs; window = p.window; chain = p.chain; interval = p.interval; zeta = p.zeta; outdegrees = p.outdegrees; references = p.references; block_counts = p.block_counts; blocks = p.blocks; residuals = p.residuals; offsets = p.offsets } };
+    ghost inverse = { λ p. record {
+      nodes = p.nodes;
+      arcs = p.arcs;
+      window = p.window;
+      chain = p.chain;
+      interval = p.interval;
+      zeta = p.zeta;
+      outdegrees = p.outdegrees;
+      references = p.references;
+      block_counts = p.block_counts;
+      blocks = p.blocks;
+      residuals = p.residuals;
+      offsets = p.offsets;
+    } };
 }
 
 fn is_gamma_or_delta(code: Code) -> bool
@@ -74,9 +113,12 @@ fn first_bad_number(
     interval: u64,
     zeta: u32,
 ) -> Option<Key>
-    ensures bad { (p : Parameters) → p.nodes ≡ nodes → p.arcs ≡ arcs → p.window ≡ window → p.chain ≡ chain → p.interval ≡ interval → p.zeta ≡ zeta → ForSome result (λ key. first_bad p ≡ Some key) }
-    ensures good { (p : Parameters) → p.nodes ≡ nodes → p.arcs ≡ arcs → p.window ≡ window → p.chain ≡ chain → p.interval ≡ interval → p.zeta ≡ zeta → result ≡ None → first_bad p ≡ (if has_its_codes p then None else Some Key.CompressionFlags) }
-    ensures within { result ≡ None → (nodes ≤ MOST_PAGES) × (arcs ≤ MOST_ARCS) × (window ≤ MOST_WINDOW) × (unwrap_or chain 0 ≤ MOST_CHAIN) × (interval ≤ MOST_INTERVAL) × (1 ≤ zeta) × (zeta ≤ MOST_ZETA) }
+    ensures bad { (p : Parameters) → p.nodes ≡ nodes → p.arcs ≡ arcs → p.window ≡ window → p.chain ≡ chain → p.interval ≡ interval → p.zeta ≡ zeta
+        → ForSome result (λ key. first_bad p ≡ Some key) }
+    ensures good { (p : Parameters) → p.nodes ≡ nodes → p.arcs ≡ arcs → p.window ≡ window → p.chain ≡ chain → p.interval ≡ interval → p.zeta ≡ zeta
+        → result ≡ None → first_bad p ≡ (if has_its_codes p then None else Some Key.CompressionFlags) }
+    ensures within { result ≡ None → (nodes ≤ MOST_PAGES) × (arcs ≤ MOST_ARCS) × (window ≤ MOST_WINDOW) × (unwrap_or chain 0 ≤ MOST_CHAIN)
+        × (interval ≤ MOST_INTERVAL) × (1 ≤ zeta) × (zeta ≤ MOST_ZETA) }
 {
     if nodes > MOST_PAGES {
         Some(Key::Nodes)
@@ -111,9 +153,35 @@ impl Params {
         residuals: Code,
         offsets: Code,
     ) -> Result<Params, BadParam>
-        ensures ok { IfOk result (λ p. p ≡ record { nodes = nodes; arcs = arcs; window = window; chain = chain; interval = interval; zeta = zeta; outdegrees = outdegrees; references = references; block_counts = block_counts; blocks = blocks; residuals = residuals; offsets = offsets }) }
+        ensures ok { IfOk result (λ p. p ≡ record {
+          nodes = nodes;
+          arcs = arcs;
+          window = window;
+          chain = chain;
+          interval = interval;
+          zeta = zeta;
+          outdegrees = outdegrees;
+          references = references;
+          block_counts = block_counts;
+          blocks = blocks;
+          residuals = residuals;
+          offsets = offsets;
+        }) }
         ensures within { IfOk result (λ p. first_bad p ≡ None) }
-        ensures bad { let given : Parameters = record { nodes = nodes; arcs = arcs; window = window; chain = chain; interval = interval; zeta = zeta; outdegrees = outdegrees; references = references; block_counts = block_counts; blocks = blocks; residuals = residuals; offsets = offsets } in IfErr result (λ e. first_bad given ≡ Some e.key) }
+        ensures bad { let given : Parameters = record {
+          nodes = nodes;
+          arcs = arcs;
+          window = window;
+          chain = chain;
+          interval = interval;
+          zeta = zeta;
+          outdegrees = outdegrees;
+          references = references;
+          block_counts = block_counts;
+          blocks = blocks;
+          residuals = residuals;
+          offsets = offsets;
+        } in IfErr result (λ e. first_bad given ≡ Some e.key) }
     {
         let bad = first_bad_number(nodes, arcs, window, chain, interval, zeta);
         if let Some(key) = bad {
