@@ -13,7 +13,7 @@ use Rattle.wg_graph.specs.Digraph.{Digraph, IsGraph}
 use Rattle.wg_graph.specs.Arcs.{arcs_of, arcs_from}
 use Rattle.wg_graph.specs.Growing.{ComesAfter, padded, with_arc}
 use Rattle.wg_graph.proofs.Arcs.{with_arc_arcs}
-use Rattle.wg_graph.proofs.Fronts.{length-padded, length-with_arc, with_arc_here}
+use Rattle.wg_graph.proofs.Prefixes.{length-padded, length-with_arc, with_arc_here}
 use Rattle.wg_graph.proofs.Sets.{ascends_push, below_push}
 use Rattle.wg_arcs.specs.declared.fault.ArcsKind.{ArcsKind}
 use Rattle.wg_arcs.specs.declared.fault.ArcsKind.TheVariants as kind

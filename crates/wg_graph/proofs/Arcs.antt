@@ -4,7 +4,7 @@ use Rattle.std.specs.List.{sum_by}
 use Rattle.std.proofs.lemmas.List.{take_all, take_more, length-take-le, take-append-drop, set_at, map-append, length-map}
 use Rattle.std.proofs.lemmas.List.Sums.{sum_by-cons}
 use Rattle.wg_graph.specs.Growing.{padded, with_arc}
-use Rattle.wg_graph.proofs.Fronts.{padded_at, length-padded}
+use Rattle.wg_graph.proofs.Prefixes.{padded_at, length-padded}
 use Rattle.wg_graph.specs.Arcs.{arcs_from}
 
 pub arcs_from-append : (u : ℕ) (xs ys : List (List ℕ)) → arcs_from u (xs ++ ys) ≡ arcs_from u xs ++ arcs_from (u + length xs) ys

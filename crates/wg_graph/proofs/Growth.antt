@@ -2,11 +2,11 @@
 use Rattle.std.proofs.Common.{◌≡◌, ◌↔◌, ℕ, suc, ◌+◌, ◌-◌, ◌<◌, ◌≤◌, Bool, false, IsTrue, List, [], ◌∷◌, ◌++◌, length, take, get_or, set, replicate, refl, sym, ap, subst, ◌∙◌, arith, length-append}
 use Rattle.std.proofs.lemmas.List.{take_all, take_at, get_or_read}
 use Rattle.wg_graph.specs.Ascending.{Ascends, Below}
-use Rattle.wg_graph.specs.Digraph.{IsGraph, IsFront, successors, arc_count}
+use Rattle.wg_graph.specs.Digraph.{IsGraph, IsGraphPrefix, successors, arc_count}
 use Rattle.wg_graph.specs.Growing.{ComesAfter, FollowsOn, padded, with_arc}
 use Rattle.wg_graph.specs.Pieces.{pieces, EndsAt, cut, IsCut}
 use Rattle.wg_graph.proofs.Ends.{pad_ends, pad_pieces, length-pieces, append_ends, append_pieces, grow_ends, grow_pieces, pieces_count}
-use Rattle.wg_graph.proofs.Fronts.{padded_at, front_with_arc, graph_of_front}
+use Rattle.wg_graph.proofs.Prefixes.{padded_at, prefix_with_arc, graph_of_prefix}
 
 pub pad_is : (es all ms : List ℕ) (n m : ℕ) → EndsAt 0 es (length all) → length es ≤ n → m ≡ length es → ms ≡ take n es ++ replicate (n - m) (length all) →
     EndsAt 0 ms (length all) × (pieces 0 ms all ≡ padded n (pieces 0 es all)) × (take (length es) ms ≡ es)
@@ -61,10 +61,10 @@ pub begun_count : (nodes : ℕ) (ends all : List ℕ) → length (cut nodes ends
 begun_count nodes ends all = length-pieces 0 ends all
 
 pub few_begun : (nodes : ℕ) (ends all : List ℕ) → IsCut nodes ends all → length ends ≤ nodes
-few_begun nodes ends all h = let few = h.front.begun in omega (arith, begun_count nodes ends all)
+few_begun nodes ends all h = let few = h.prefix.begun in omega (arith, begun_count nodes ends all)
 
 pub whole_is_graph : (ends all : List ℕ) → IsCut (length ends) ends all → IsGraph (cut (length ends) ends all)
-whole_is_graph ends all h = graph_of_front (cut (length ends) ends all) h.front (length-pieces 0 ends all)
+whole_is_graph ends all h = graph_of_prefix (cut (length ends) ends all) h.prefix (length-pieces 0 ends all)
 
 pub after_where : (nodes : ℕ) (ends all : List ℕ) (x v : ℕ) (list : List ℕ) (r : Bool) → length ends ≤ x + 1 → list ≡ successors (cut nodes ends all) x → (IsTrue r ↔ Below v list) →
     (IsTrue r ↔ ComesAfter (cut nodes ends all) x v)
@@ -79,5 +79,5 @@ pub cut_with_arc : (nodes : ℕ) (ends all ends1 all1 : List ℕ) (x v : ℕ) �
     FollowsOn (cut nodes ends all) x v → IsCut nodes ends1 all1
 cut_with_arc nodes ends all ends1 all1 x v h whole same follows = record {
   whole = whole;
-  front = subst (λ (ls : List (List ℕ)). IsFront (record { nodes = nodes; lists = ls })) (sym same) (front_with_arc (cut nodes ends all) x v h.front follows);
+  prefix = subst (λ (ls : List (List ℕ)). IsGraphPrefix (record { nodes = nodes; lists = ls })) (sym same) (prefix_with_arc (cut nodes ends all) x v h.prefix follows);
 }

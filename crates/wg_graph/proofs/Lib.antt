@@ -4,7 +4,7 @@ pub mod Merged
 pub mod Unions
 pub mod Counts
 pub mod Ends
-pub mod Fronts
+pub mod Prefixes
 pub mod Growth
 pub mod Arcs
 pub mod Asked

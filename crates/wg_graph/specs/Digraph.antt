@@ -26,8 +26,8 @@ pub record IsGraph (g : Digraph) : Type 0 where
   pub ascending : All (Ascends 0) g.lists
   pub below : All (Below g.nodes) g.lists
 
--- the front of a graph: the lists of its first pages, within the limits of an archive
-pub record IsFront (g : Digraph) : Type 0 where
+-- a prefix of a graph: the lists of its first pages, within the limits of an archive
+pub record IsGraphPrefix (g : Digraph) : Type 0 where
   pub begun : length g.lists ≤ g.nodes
   pub ascending : All (Ascends 0) g.lists
   pub below : All (Below g.nodes) g.lists

@@ -1,7 +1,7 @@
 ghost use Rattle.std.specs.Prelude.{◌≡◌, ◌↔◌, ◌+◌, ◌<◌, ◌≤◌, [], ◌∷◌, ◌++◌, length, IsTrue, IfOk, OnOk, OnErr};
 ghost use Rattle.wg_params.specs.declared.limits.TheConstants.{MOST_ARCS, MOST_PAGES};
 ghost use Rattle.wg_graph.specs.Ascending.{Ascends, Below};
-ghost use Rattle.wg_graph.specs.Digraph.{arc_count, successors, IsFront, IsGraph};
+ghost use Rattle.wg_graph.specs.Digraph.{arc_count, successors, IsGraphPrefix, IsGraph};
 ghost use Rattle.wg_graph.specs.Growing.{ComesAfter, FollowsOn, with_arc, padded};
 
 use crate::Graph;
@@ -82,7 +82,7 @@ impl GraphBuilder {
     pub fn is_after_all(&self, x: u64, v: u64) -> bool
         requires { x < self.now.nodes }
         ensures value { IsTrue result ↔ ComesAfter self.now x v }
-        ensures front { IsFront self.now }
+        ensures prefix { IsGraphPrefix self.now }
     {
         let begun = self.ends.len() as u64;
         if x + 1 < begun {

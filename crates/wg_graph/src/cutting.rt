@@ -41,7 +41,7 @@ pub fn pad(ends: &mut Vec<u64>, all: &[u64], n: usize) -> Result<(), AllocError>
     requires whole { EndsAt 0 ends.old.items (length all.now) }
     ensures whole { OnOk result (EndsAt 0 ends.new.items (length all.now)) }
     ensures ok { OnOk result (pieces 0 ends.new.items all.now ≡ padded n (pieces 0 ends.old.items all.now)) }
-    ensures front { OnOk result (take (length ends.old.items) ends.new.items ≡ ends.old.items) }
+    ensures prefix { OnOk result (take (length ends.old.items) ends.new.items ≡ ends.old.items) }
     ensures count { OnOk result (length ends.new.items ≡ n) }
     ensures err { OnErr result (ends.new.items ≡ ends.old.items) }
 {

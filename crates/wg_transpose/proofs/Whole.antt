@@ -4,7 +4,7 @@ use Rattle.std.specs.Prelude.{sum}
 use Rattle.std.proofs.lemmas.List.{length-take-le, get_or-take, get_or-drop, ext_get_or}
 use Rattle.std.proofs.lemmas.List.FromFn.{fill_by_all}
 use Rattle.wg_params.specs.declared.limits.TheConstants.{MOST_ARCS, MOST_PAGES}
-use Rattle.wg_graph.specs.Digraph.{Digraph, IsGraph, IsFront, arc_count}
+use Rattle.wg_graph.specs.Digraph.{Digraph, IsGraph, IsGraphPrefix, arc_count}
 use Rattle.wg_graph.specs.Pieces.{pieces, EndsAt, cut, IsCut}
 use Rattle.wg_graph.proofs.Ends.{length-pieces, piece_at}
 use Rattle.wg_transpose.specs.Transposed.{predecessors, transposed}
@@ -71,7 +71,7 @@ module _ (g : Digraph) (ok : IsGraph g) (ends all : List ℕ) (h : ArePlaced g (
       let end : s (0 + length ends) ≡ length all = ap s (omega (arith, h.pages)) ∙ total in
       record {
         whole = subst (EndsAt 0 ends) end (ends_are s (λ v. start_le (predecessors g) v (suc v) (omega arith)) 0 ends (λ v lt. reaches v (omega (arith, h.pages))));
-        front = subst IsFront (sym is_transposed) (record {
+        prefix = subst IsGraphPrefix (sym is_transposed) (record {
           begun = omega (arith, proper.counted);
           ascending = proper.ascending;
           below = proper.below;

@@ -19,4 +19,4 @@ overflow_add-index_mut c =
     omega (arith, end_le 0 (length c.as_slice.result.now) c.pad.new.ends.items c.args.x c.in_ok-pad.ensures.whole (omega arith))
 
 pub returns-in-Err-clause-err_ends : goal.returns-in-Err-clause-err_ends
-returns-in-Err-clause-err_ends c = let begun : c.len-begun.result ≡ length c.args.ends.now.items = omega arith in c.truncate.ensures.items ∙ rw begun c.in_ok-pad.ensures.front
+returns-in-Err-clause-err_ends c = let begun : c.len-begun.result ≡ length c.args.ends.now.items = omega arith in c.truncate.ensures.items ∙ rw begun c.in_ok-pad.ensures.prefix

@@ -8,5 +8,5 @@ returns-clause-whole c = (pad_is c.args.ends.now.items c.args.all.now c.resize.n
 pub returns-clause-ok : goal.returns-clause-ok
 returns-clause-ok c = (pad_is c.args.ends.now.items c.args.all.now c.resize.new.self.items c.args.n (vec_len c.args.ends.now) c.requires.whole c.requires.more (omega arith) c.in_ok-resize.ensures.items).1
 
-pub returns-clause-front : goal.returns-clause-front
-returns-clause-front c = (pad_is c.args.ends.now.items c.args.all.now c.resize.new.self.items c.args.n (vec_len c.args.ends.now) c.requires.whole c.requires.more (omega arith) c.in_ok-resize.ensures.items).2
+pub returns-clause-prefix : goal.returns-clause-prefix
+returns-clause-prefix c = (pad_is c.args.ends.now.items c.args.all.now c.resize.new.self.items c.args.n (vec_len c.args.ends.now) c.requires.whole c.requires.more (omega arith) c.in_ok-resize.ensures.items).2

@@ -13,4 +13,4 @@ returns-clause-value c =
     rw (← c.self.view_is) (after_where c.self.inside.nodes c.self.inside.ends.items c.self.inside.all.items c.args.x c.args.v c.list_so_far.result.now c.is_past.result (omega arith) list_is c.is_past.ensures)
 
 pub overflow_add-x : goal.overflow_add-x
-overflow_add-x c = let few = c.self.invariant.front.few_pages in let lt = rw (← c.self.view_is) at c.requires in omega (arith, few, lt)
+overflow_add-x c = let few = c.self.invariant.prefix.few_pages in let lt = rw (← c.self.view_is) at c.requires in omega (arith, few, lt)

@@ -6,7 +6,7 @@ use Rattle.std.proofs.lemmas.List.{length-replicate, get_or_past, get_or_append_
 use Rattle.std.proofs.lemmas.List.Elements.{All-get_or, All-set, All-append, All-replicate}
 use Rattle.std.proofs.lemmas.List.Sums.{sum_by-cons, sum_by-append, sum_by-set}
 use Rattle.wg_graph.specs.Ascending.{Ascends, Below}
-use Rattle.wg_graph.specs.Digraph.{Digraph, IsGraph, IsFront, successors}
+use Rattle.wg_graph.specs.Digraph.{Digraph, IsGraph, IsGraphPrefix, successors}
 use Rattle.wg_graph.specs.Growing.{FollowsOn, padded, with_arc}
 use Rattle.wg_graph.proofs.Sets.{ascends_push, below_push}
 
@@ -54,27 +54,27 @@ with_arc_count lists x v le =
     let here : length (get_or (padded (x + 1) lists) x []) ≡ length (get_or lists x []) = ap length (padded_at (x + 1) lists x) in
     omega (arith, padded_arcs (x + 1) lists, length-append (get_or lists x []) (v ∷ []))
 
--- ---- fronts
+-- ---- prefixes
 
-pub front_ascends : (g : Digraph) → IsFront g → (x : ℕ) → Ascends 0 (successors g x)
-front_ascends g h x =
+pub prefix_ascends : (g : Digraph) → IsGraphPrefix g → (x : ℕ) → Ascends 0 (successors g x)
+prefix_ascends g h x =
     elim (cases_lt x (length g.lists)) [
       | inl lt ↦ All-get_or (Ascends 0) g.lists x [] lt h.ascending
       | inr le ↦ subst (Ascends 0) (sym (get_or_past g.lists x [] le)) tt
     ]
 
-pub front_below : (g : Digraph) → IsFront g → (x : ℕ) → Below g.nodes (successors g x)
-front_below g h x =
+pub prefix_below : (g : Digraph) → IsGraphPrefix g → (x : ℕ) → Below g.nodes (successors g x)
+prefix_below g h x =
     elim (cases_lt x (length g.lists)) [
       | inl lt ↦ All-get_or (Below g.nodes) g.lists x [] lt h.below
       | inr le ↦ subst (Below g.nodes) (sym (get_or_past g.lists x [] le)) tt
     ]
 
-pub front_with_arc : (g : Digraph) (x v : ℕ) → IsFront g → FollowsOn g x v → IsFront (record { nodes = g.nodes; lists = with_arc g.lists x v })
-front_with_arc g x v h f =
+pub prefix_with_arc : (g : Digraph) (x v : ℕ) → IsGraphPrefix g → FollowsOn g x v → IsGraphPrefix (record { nodes = g.nodes; lists = with_arc g.lists x v })
+prefix_with_arc g x v h f =
     let k : ℕ = x + 1 - length g.lists in
-    let asc : Ascends 0 (successors g x ++ v ∷ []) = ascends_push 0 v (successors g x) (omega arith) (front_ascends g h x) f.above in
-    let low : Below g.nodes (successors g x ++ v ∷ []) = below_push g.nodes v (successors g x) f.target (front_below g h x) in
+    let asc : Ascends 0 (successors g x ++ v ∷ []) = ascends_push 0 v (successors g x) (omega arith) (prefix_ascends g h x) f.above in
+    let low : Below g.nodes (successors g x ++ v ∷ []) = below_push g.nodes v (successors g x) f.target (prefix_below g h x) in
     record {
       begun = let e = length-with_arc g.lists x v f.not_past in let lt = f.source in omega arith;
       ascending = All-set (Ascends 0) (padded (x + 1) g.lists) x (successors g x ++ v ∷ []) asc (All-append (Ascends 0) g.lists (replicate k []) h.ascending (All-replicate (Ascends 0) k [] tt));
@@ -83,5 +83,5 @@ front_with_arc g x v h f =
       few_arcs = let e = with_arc_count g.lists x v f.not_past in let room = f.room in omega arith;
     }
 
-pub graph_of_front : (g : Digraph) → IsFront g → length g.lists ≡ g.nodes → IsGraph g
-graph_of_front g h e = record { counted = e; ascending = h.ascending; below = h.below }
+pub graph_of_prefix : (g : Digraph) → IsGraphPrefix g → length g.lists ≡ g.nodes → IsGraph g
+graph_of_prefix g h e = record { counted = e; ascending = h.ascending; below = h.below }
