@@ -1,77 +1,89 @@
 // Archives and words that are read in pieces.
-ghost use Rattle.std.specs.Prelude.{◌≤◌, ◌^◌, length};
+ghost use Rattle.std.specs.Prelude.{◌<◌, ◌-◌, ◌^◌};
 ghost use Rattle.wg_params.specs.Codes.{IsCode};
 
-use crate::tests::{Stopped, why_stopped};
-use crate::{FileSource, First, Reader, StreamError, Stretch, read_offsets};
+use crate::{FileSource, First, Reader, StreamError, Stretch};
 use std::alloc::Global;
 use std::process::Abort;
 use std::test::Fail;
-use wg_bits::{Bits, Cursor};
 use wg_codes::Read;
-use wg_grammar::{ArchiveFault, Fault, Field, Kind};
-use wg_io::{Depot, MOST_BYTES, MemoryDepot, ZeroDepot, append_all};
-use wg_params::{Code, Params};
+use wg_grammar::{Fault, Field, Kind};
+use wg_io::{Depot, LoadError, MOST_BYTES, MemoryDepot, SteadyDepot, ZeroDepot, append_all};
+use wg_params::Code;
 use wg_source::Source;
-use wg_vectors::{ARCHIVES, Archive, BAD_GRAPHS, LONGER, Refused, bytes_of, usual};
+use wg_vectors::{
+    ARCHIVES, Archive, BAD_TAIL, LONGER, Refused, TOO_FEW_ARCS, TWICE, bytes_of, usual,
+};
 
-// Whether this list is lent next, or none.
-fn lends<D: Depot>(reader: &mut Reader, depot: &mut D, list: Option<&[u64]>) -> bool {
-    match reader.next(depot) {
+const FILE: &str = "g.graph";
+
+// This list is lent next, or none.
+fn lends<D: Depot>(
+    rt: &impl Abort,
+    reader: &mut Reader,
+    depot: &mut D,
+    list: Option<&[u64]>,
+    what: &str,
+) {
+    let is_lent = match reader.next(depot) {
         Ok(found) => found == list,
         Err(_) => false,
-    }
+    };
+    assert!(rt; is_lent, "{what}");
 }
 
-// Reads all pages in pieces. The list and the end of each are to be those of the archive.
-fn is_read(rt: &impl Abort, alloc: Global, archive: &Archive, piece: u64) -> Result<(), Fail> {
-    let name = archive.name;
-    let bytes = bytes_of(alloc, archive.graph)?;
-    let mut depot = MemoryDepot::new(alloc, piece.max(1));
-    depot.put_file("g.graph", &bytes)?;
-    let params = archive.shape.params(archive.nodes, archive.arcs)?;
-    let mut reader = Reader::new(alloc, params, "g.graph")?;
-    for page in 0..archive.nodes {
-        let list = archive.lists.get(page as usize).copied();
-        assert!(rt;
-            list.is_some() && lends(&mut reader, &mut depot, list),
-            "{name}: page {page}"
-        );
-        assert!(rt;
-            Some(&reader.at()) == archive.places.get(page as usize + 1),
-            "{name}: page {page}"
-        );
+// The lists of the archive are lent, up to its end, and then none.
+fn lends_all<D: Depot>(rt: &impl Abort, reader: &mut Reader, depot: &mut D, archive: &Archive) {
+    for list in archive.lists {
+        lends(rt, reader, depot, Some(list), archive.name);
     }
-    for _time in 0..2 {
-        assert!(rt; lends(&mut reader, &mut depot, None), "{name}");
+    lends(rt, reader, depot, None, archive.name);
+    lends(rt, reader, depot, None, archive.name);
+    assert!(rt;
+        archive.places.last() == Some(&reader.at()),
+        "{}",
+        archive.name
+    );
+}
+
+fn is_read(rt: &impl Abort, alloc: Global, archive: &Archive, piece: u64) -> Result<(), Fail>
+    requires { 0 < piece }
+{
+    let bytes = bytes_of(alloc, archive.graph)?;
+    let mut depot = SteadyDepot::new(alloc, piece);
+    depot.put_file(FILE, &bytes)?;
+    let params = archive.shape.params(archive.nodes, archive.arcs)?;
+    let mut reader = Reader::new(alloc, params, FILE)?;
+    lends_all(rt, &mut reader, &mut depot, archive);
+    Ok(())
+}
+
+fn are_read(rt: &impl Abort, alloc: Global, archives: &[Archive]) -> Result<(), Fail> {
+    for archive in archives {
+        is_read(rt, alloc, archive, 1)?;
+        is_read(rt, alloc, archive, 3)?;
+        is_read(rt, alloc, archive, 4096)?;
     }
     Ok(())
 }
 
 #[test]
 fn archives_in_pieces(rt: HostRuntime) -> Result<(), Fail> {
-    for archive in ARCHIVES.iter().chain(LONGER.iter()) {
-        for piece in [1, 3, 4096] {
-            is_read(&rt, rt.alloc(), archive, piece)?;
+    are_read(&rt, rt.alloc(), &ARCHIVES)?;
+    are_read(&rt, rt.alloc(), &LONGER)
+}
+
+// The error that ends a reading of a file, if there is one.
+fn first_error<D: Depot>(reader: &mut Reader, depot: &mut D, pages: u64) -> Option<StreamError> {
+    for _page in 0..=pages {
+        if let Err(error) = reader.next(depot) {
+            return Some(error);
         }
     }
-    Ok(())
+    None
 }
 
-// The first fault of an archive whose bytes are in memory.
-fn fault_in_memory(alloc: Global, params: Params, bytes: &[u8]) -> Option<First>
-    requires { length bytes.now ≤ 2 ^ 46 }
-{
-    let mut source = Cursor::new(Bits::of(bytes), 0);
-    match read_offsets(alloc, params, &mut source).map_err(why_stopped) {
-        Err(Stopped::Fault(ArchiveFault::Record(fault))) => Some(First::Fault(fault)),
-        Err(Stopped::Fault(ArchiveFault::Tail(at))) => Some(First::Tail(at)),
-        Err(Stopped::Fault(ArchiveFault::ArcsShort(total))) => Some(First::ArcsShort(total)),
-        _ => None,
-    }
-}
-
-// Reads on until an error comes, which is to be this one, and is to be named again.
+// The reading ends with this error, which is named from then on.
 fn closes<D: Depot>(
     rt: &impl Abort,
     reader: &mut Reader,
@@ -80,170 +92,173 @@ fn closes<D: Depot>(
     first: First,
     what: &str,
 ) {
-    for _page in 0..=pages {
-        if let Err(error) = reader.next(depot) {
-            assert!(rt; error == StreamError::from(first), "{what}: {error:?}");
-            let at = reader.at();
-            let again = reader.next(depot).err();
-            assert!(rt;
-                again == Some(StreamError::Closed(first)),
-                "{what}: {again:?}"
-            );
-            assert!(rt; reader.at() == at, "{what}");
-            return;
-        }
-    }
-    assert!(rt; false, "{what}");
+    let error = first_error(reader, depot, pages);
+    assert!(rt; error == Some(StreamError::from(first)), "{what}");
+    let again = first_error(reader, depot, 0);
+    assert!(rt; again == Some(StreamError::Closed(first)), "{what}");
 }
 
-// A file of these bytes is read up to this error, in pieces of so many bytes.
-fn closes_file(
+fn is_refused(
     rt: &impl Abort,
     alloc: Global,
-    params: Params,
-    bytes: &[u8],
+    refused: &Refused,
     piece: u64,
     first: First,
-    what: &str,
-) -> Result<(), Fail> {
-    let mut depot = MemoryDepot::new(alloc, piece.max(1));
-    depot.put_file("g.graph", bytes)?;
-    let mut reader = Reader::new(alloc, params, "g.graph")?;
-    closes(rt, &mut reader, &mut depot, params.nodes(), first, what);
+) -> Result<(), Fail>
+    requires { 0 < piece }
+{
+    let bytes = bytes_of(alloc, refused.graph)?;
+    let mut depot = SteadyDepot::new(alloc, piece);
+    depot.put_file(FILE, &bytes)?;
+    let params = refused.shape.params(refused.nodes, refused.arcs)?;
+    let mut reader = Reader::new(alloc, params, FILE)?;
+    closes(
+        rt,
+        &mut reader,
+        &mut depot,
+        refused.nodes,
+        first,
+        refused.fault,
+    );
     Ok(())
 }
 
-// Each file is read up to the fault that it has in memory.
-fn closes_each(rt: &impl Abort, alloc: Global, table: &[Refused]) -> Result<(), Fail> {
-    for refused in table {
-        let params = refused.shape.params(refused.nodes, refused.arcs)?;
-        let bytes = bytes_of(alloc, refused.graph)?;
-        assert!(rt; bytes.len() <= 1 << 46);
-        let first = fault_in_memory(alloc, params, &bytes).ok_or("no fault")?;
-        for piece in [1, 3, 4096] {
-            closes_file(rt, alloc, params, &bytes, piece, first, refused.fault)?;
-        }
-    }
-    Ok(())
-}
+const FAULTS: [(Refused, First); 3] = [
+    (
+        TWICE,
+        First::Fault(Fault {
+            page: 1,
+            at: 11,
+            field: Field::Record,
+            kind: Kind::Twice,
+        }),
+    ),
+    (BAD_TAIL, First::Tail(15)),
+    (TOO_FEW_ARCS, First::ArcsShort(1)),
+];
 
 #[test]
 fn faults_in_pieces(rt: HostRuntime) -> Result<(), Fail> {
-    closes_each(&rt, rt.alloc(), &BAD_GRAPHS)
-}
-
-#[test]
-fn a_file_that_is_absent(rt: HostRuntime) -> Result<(), Fail> {
-    let mut none = MemoryDepot::new(rt.alloc(), 1);
-    let mut reader = Reader::new(rt.alloc(), usual(200, 0, 7, 3, 4)?, "g.graph")?;
-    closes(&rt, &mut reader, &mut none, 200, First::Absent, "absent");
+    for (refused, first) in &FAULTS {
+        is_refused(&rt, rt.alloc(), refused, 1, *first)?;
+        is_refused(&rt, rt.alloc(), refused, 3, *first)?;
+        is_refused(&rt, rt.alloc(), refused, 4096, *first)?;
+    }
     Ok(())
 }
 
+// A reading of 200 pages without successors, of which each has one bit.
+fn empty_pages(alloc: Global) -> Result<Reader, Fail> {
+    Ok(Reader::new(alloc, usual(200, 0, 7, 3, 4)?, FILE)?)
+}
+
 #[test]
-fn a_file_that_is_too_long(rt: HostRuntime) -> Result<(), Fail> {
-    let mut endless = ZeroDepot::new("g.graph", MOST_BYTES + 1);
-    let mut reader = Reader::new(rt.alloc(), usual(200, 0, 7, 3, 4)?, "g.graph")?;
+fn files_that_are_absent_and_too_long(rt: HostRuntime) -> Result<(), Fail> {
+    let mut none = SteadyDepot::new(rt.alloc(), 1);
+    let mut reader = empty_pages(rt.alloc())?;
+    closes(&rt, &mut reader, &mut none, 0, First::Absent, "absent");
+    let mut endless = ZeroDepot::new(FILE, MOST_BYTES + 1);
+    let mut reader = empty_pages(rt.alloc())?;
     closes(
         &rt,
         &mut reader,
         &mut endless,
-        200,
+        0,
         First::TooLong,
         "too long",
     );
     Ok(())
 }
 
-// The third read is that of the second byte, after the look at the limit and the first byte.
-#[test]
-fn a_read_that_fails(rt: HostRuntime) -> Result<(), Fail> {
-    let mut failing = MemoryDepot::new(rt.alloc(), 1);
-    failing.put_file("g.graph", &[255; 25])?;
-    failing.fail_read(3);
-    let mut reader = Reader::new(rt.alloc(), usual(200, 0, 7, 3, 4)?, "g.graph")?;
-    closes(&rt, &mut reader, &mut failing, 200, First::Failed, "failed");
+fn fails_at(rt: &impl Abort, alloc: Global, k: u64) -> Result<(), Fail>
+    requires { (0 < k) × (k < 2 ^ 64 - 1) }
+{
+    let mut depot = MemoryDepot::new(alloc, 1);
+    depot.put_file(FILE, &[255; 25])?;
+    depot.fail_read(k);
+    let mut reader = empty_pages(alloc)?;
+    closes(rt, &mut reader, &mut depot, 200, First::Failed, "failed");
     Ok(())
 }
 
-// Each page without successors has one bit. Those of the 17 bytes that were held before are still read.
+// The first read looks at the limit, 25 move a byte, and the last finds the end.
+#[test]
+fn each_read_fails(rt: HostRuntime) -> Result<(), Fail> {
+    for k in 1..28_u64 {
+        fails_at(&rt, rt.alloc(), k)?;
+    }
+    Ok(())
+}
+
+// The pages of the 17 bytes that were held before are still read.
+const SHORTER: Fault = Fault {
+    page: 136,
+    at: 136,
+    field: Field::Outdegree,
+    kind: Kind::Cut,
+};
+
 #[test]
 fn a_file_that_shrinks_meanwhile(rt: HostRuntime) -> Result<(), Fail> {
-    let mut depot = MemoryDepot::new(rt.alloc(), 1);
-    depot.put_file("g.graph", &[255; 25])?;
-    let mut reader = Reader::new(rt.alloc(), usual(200, 0, 7, 3, 4)?, "g.graph")?;
-    assert!(rt; lends(&mut reader, &mut depot, Some(&[])));
-    depot.create("g.graph")?;
-    let cut = Fault {
-        page: 136,
-        at: 136,
-        field: Field::Outdegree,
-        kind: Kind::Cut,
-    };
-    closes(
-        &rt,
-        &mut reader,
-        &mut depot,
-        200,
-        First::Fault(cut),
-        "shorter",
-    );
+    let mut depot = SteadyDepot::new(rt.alloc(), 1);
+    depot.put_file(FILE, &[255; 25])?;
+    let mut reader = empty_pages(rt.alloc())?;
+    lends(&rt, &mut reader, &mut depot, Some(&[]), "the first page");
+    depot.create(FILE)?;
+    let first = First::Fault(SHORTER);
+    closes(&rt, &mut reader, &mut depot, 200, first, "shorter");
     Ok(())
 }
 
-// The value of the word that stands behind these bits in a file, of which they are the last in the first piece.
-fn value_behind(alloc: Global, ones: &str, code: Code, word: &str) -> Result<Option<u64>, Fail>
+// The value of the second word of a file.
+fn second_word<D: Depot>(depot: &mut D, code: Code) -> Result<Option<u64>, LoadError>
     requires { IsCode code }
 {
-    let text = format!(in alloc; "{ones}{word}")?;
-    let bytes = bytes_of(alloc, text.as_str())?;
-    let mut depot = MemoryDepot::new(alloc, 4096);
-    append_all(&mut depot, "words", &[255; 4095])?;
-    append_all(&mut depot, "words", &bytes)?;
     let mut held = Stretch::new();
-    let mut source = FileSource::new(&mut depot, "words", &mut held);
-    for _one in 0..8 * 4095 {
-        source.read(Code::Unary)?;
-    }
-    for _one in 0..ones.len() {
-        source.read(Code::Unary)?;
-    }
+    let mut source = FileSource::new(depot, FILE, &mut held);
+    source.read(Code::Unary)?;
     match source.read(code)? {
         Read::Value(value) => Ok(Some(value)),
         _ => Ok(None),
     }
 }
 
-#[test]
-fn words_that_a_piece_cuts(rt: HostRuntime) -> Result<(), Fail> {
-    let alloc = rt.alloc();
-    for ones in [
-        "1", "11", "111", "1111", "11111", "111111", "1111111", "11111111",
-    ] {
-        let values = [
-            value_behind(alloc, ones, Code::Unary, "00000001")?,
-            value_behind(alloc, ones, Code::Gamma, "0001000")?,
-            value_behind(alloc, ones, Code::Delta, "00100000")?,
-            value_behind(alloc, ones, Code::Zeta(3), "0100000")?,
-            value_behind(alloc, ones, Code::Nibble, "1111")?,
-        ];
-        assert!(rt; values == [Some(7); 5], "{ones}: {values:?}");
-    }
+// The value of the word behind a unary one that has the zeros of all bytes of two pieces but the last, and then these
+// bits.
+fn value_behind(alloc: Global, zeros: &str, code: Code, word: &str) -> Result<Option<u64>, Fail>
+    requires { IsCode code }
+{
+    let mut text = String::from_str(alloc, zeros)?;
+    text.push_str(word)?;
+    let bytes = bytes_of(alloc, text.as_str())?;
+    let mut depot = SteadyDepot::new(alloc, 4096);
+    append_all(&mut depot, FILE, &[0; 8191])?;
+    append_all(&mut depot, FILE, &bytes)?;
+    Ok(second_word(&mut depot, code)?)
+}
+
+// A word of each code that follows the unary one has the value 7.
+fn are_cut(rt: &impl Abort, alloc: Global, zeros: &str) -> Result<(), Fail> {
+    let values = [
+        value_behind(alloc, zeros, Code::Unary, "00000001")?,
+        value_behind(alloc, zeros, Code::Gamma, "0001000")?,
+        value_behind(alloc, zeros, Code::Delta, "00100000")?,
+        value_behind(alloc, zeros, Code::Zeta(3), "0100000")?,
+        value_behind(alloc, zeros, Code::Nibble, "1111")?,
+    ];
+    assert!(rt; values == [Some(7); 5], "{zeros}");
     Ok(())
 }
 
 #[test]
-fn zeros_through_many_pieces(rt: HostRuntime) -> Result<(), Fail> {
-    let mut depot = MemoryDepot::new(rt.alloc(), 4096);
-    for _piece in 0..5 {
-        append_all(&mut depot, "zeros", &[0; 4096])?;
+fn words_that_a_piece_cuts(rt: HostRuntime) -> Result<(), Fail> {
+    for zeros in ENDS {
+        are_cut(&rt, rt.alloc(), zeros)?;
     }
-    let mut held = Stretch::new();
-    let cut = FileSource::new(&mut depot, "zeros", &mut held).read(Code::Unary)?;
-    assert!(rt; cut == Read::Cut, "{cut:?}");
-    append_all(&mut depot, "zeros", &[1])?;
-    let mut held = Stretch::new();
-    let whole = FileSource::new(&mut depot, "zeros", &mut held).read(Code::Unary)?;
-    assert!(rt; whole == Read::Value(8 * 5 * 4096 + 7), "{whole:?}");
     Ok(())
 }
+
+// Where a word ends in the last byte of a piece.
+const ENDS: [&str; 8] = [
+    "1", "01", "001", "0001", "00001", "000001", "0000001", "00000001",
+];
