@@ -1,35 +1,56 @@
 use crate::{Job, JobError, Layout, Name, Words, job};
-use std::alloc::Global;
+use std::alloc::{AllocError, Global};
 use std::process::Abort;
 use std::test::Fail;
 
-// What the job of a line is, if it has one. The words of the line are parted by blanks.
-fn job_of_line(alloc: Global, line: &str) -> Result<Option<String>, Fail> {
+mod lines;
+
+use lines::{BUILDS, CONVERSIONS, JOBS, NO_BUILDS, NO_CONVERSIONS, NO_JOBS};
+
+// The words of a line, parted by blanks.
+fn words_of(alloc: Global, line: &str) -> Result<Words, AllocError> {
     let mut words = Words::new(alloc);
     for word in line.split(' ') {
         words.push(word)?;
     }
-    match job(alloc, &words) {
-        Ok(job) => Ok(Some(described(alloc, &job)?)),
-        Err(JobError::Usage) => Ok(None),
-        Err(JobError::Memory) => Err(Fail::from(JobError::Memory)),
-    }
+    Ok(words)
+}
+
+// What is asked, and the graph file of the archive.
+fn named(alloc: Global, asked: &str, base: &Name) -> Result<String, AllocError> {
+    let graph = base.with_suffix(alloc, ".graph")?;
+    let mut text = String::from_str(alloc, asked)?;
+    text.push_str(" ")?;
+    text.push_str(graph.as_str())?;
+    Ok(text)
+}
+
+fn with_layout(
+    alloc: Global,
+    asked: &str,
+    input: &Name,
+    layout: &Layout,
+    output: &Name,
+) -> Result<String, Fail> {
+    let input = input.as_str();
+    let text = format!(in alloc; "{asked} {input} {layout:?}")?;
+    Ok(named(alloc, text.as_str(), output)?)
 }
 
 // The command, what the options give, and the graph file of the archive: of the one that is written, if there are two.
 fn described(alloc: Global, job: &Job) -> Result<String, Fail> {
     match job {
-        Job::Check { base } => named(alloc, "check", base),
-        Job::Arcs { base } => named(alloc, "arcs", base),
-        Job::Offsets { base } => named(alloc, "offsets", base),
+        Job::Check { base } => Ok(named(alloc, "check", base)?),
+        Job::Arcs { base } => Ok(named(alloc, "arcs", base)?),
+        Job::Offsets { base } => Ok(named(alloc, "offsets", base)?),
         Job::Rank {
             base,
             rounds,
             damping,
             top,
         } => {
-            let command = format!(in alloc; "rank {rounds} {damping} {top}")?;
-            named(alloc, command.as_str(), base)
+            let text = format!(in alloc; "rank {rounds} {damping} {top}")?;
+            Ok(named(alloc, text.as_str(), base)?)
         }
         Job::Build {
             arcs,
@@ -37,189 +58,59 @@ fn described(alloc: Global, job: &Job) -> Result<String, Fail> {
             nodes,
             layout,
         } => {
-            let arcs = arcs.as_str();
-            let command = format!(in alloc; "build {arcs} {nodes} {layout:?}")?;
-            named(alloc, command.as_str(), base)
+            let text = format!(in alloc; "build {nodes}")?;
+            with_layout(alloc, text.as_str(), arcs, layout, base)
         }
         Job::Recode {
             input,
             output,
             layout,
-        } => converted(alloc, "recode", input, output, layout),
+        } => with_layout(alloc, "recode", input, layout, output),
         Job::Transpose {
             input,
             output,
             layout,
-        } => converted(alloc, "transpose", input, output, layout),
+        } => with_layout(alloc, "transpose", input, layout, output),
     }
 }
 
-fn converted(
-    alloc: Global,
-    command: &str,
-    input: &Name,
-    output: &Name,
-    layout: &Layout,
-) -> Result<String, Fail> {
-    let input = input.as_str();
-    let command = format!(in alloc; "{command} {input} {layout:?}")?;
-    named(alloc, command.as_str(), output)
+fn asks(rt: &impl Abort, alloc: Global, line: &str, asked: &str) -> Result<(), Fail> {
+    let job = job(alloc, &words_of(alloc, line)?)?;
+    let text = described(alloc, &job)?;
+    assert!(rt; text.as_str() == asked, "{line}");
+    Ok(())
 }
 
-fn named(alloc: Global, command: &str, base: &Name) -> Result<String, Fail> {
-    let graph = base.with_suffix(alloc, ".graph")?;
-    let graph = graph.as_str();
-    Ok(format!(in alloc; "{command} {graph}")?)
-}
-
-// Each line asks for the job beside it, or for none.
-fn assert_jobs(rt: &impl Abort, alloc: Global, lines: &[(&str, &str)]) -> Result<(), Fail> {
-    for (line, asked) in lines {
-        let found = job_of_line(alloc, line)?;
-        let named = found.as_ref().map_or("", |text| text.as_str());
-        assert!(rt; named == *asked, "{line}");
+fn each_asks(rt: &impl Abort, alloc: Global, table: &[(&str, &str)]) -> Result<(), Fail> {
+    for (line, asked) in table {
+        asks(rt, alloc, line, asked)?;
     }
     Ok(())
 }
 
 #[test]
-fn which_lines_are_jobs(rt: HostRuntime) -> Result<(), Fail> {
-    let lines = [
-        ("check g", "check g.graph"),
-        ("check data/a.b", "check data/a.b.graph"),
-        ("check -", "check -.graph"),
-        ("check -- -g", "check -g.graph"),
-        ("arcs g", "arcs g.graph"),
-        ("offsets -- g", "offsets g.graph"),
-        ("rank g", "rank 100 850 10 g.graph"),
-        ("rank g --rounds 0 --damping 999", "rank 0 999 10 g.graph"),
-        ("rank --top 3 g", "rank 100 850 3 g.graph"),
-        ("rank g --rounds=5", "rank 5 850 10 g.graph"),
-        (
-            "rank --top 68719476735 --rounds 10000 -- -g",
-            "rank 10000 850 68719476735 -g.graph",
-        ),
-        ("rank -", "rank 100 850 10 -.graph"),
-        ("check", ""),
-        ("arcs g h", ""),
-        ("offsets", ""),
-        ("rank", ""),
-        ("rank g --rounds", ""),
-        ("rank g --rounds 10001", ""),
-        ("rank g --damping 1000", ""),
-        ("rank g --top 68719476736", ""),
-        ("rank g --rounds 05", ""),
-        ("rank g --rounds x", ""),
-        ("rank g --rounds -", ""),
-        ("rank g --rounds=", ""),
-        ("rank g --top -1", ""),
-        ("rank g --rounds 1 --rounds 2", ""),
-        ("check g --rounds 5", ""),
-        ("check ", ""),
-        ("check -g", ""),
-        ("check g h", ""),
-        ("check --help", ""),
-        ("check g --bogus", ""),
-        ("-- check g", ""),
-        ("help", ""),
-        ("--help", ""),
-        ("chec g", ""),
-        ("g", ""),
-        ("", ""),
-    ];
-    assert_jobs(&rt, rt.alloc(), &lines)
+fn lines_that_ask_for_a_job(rt: HostRuntime) -> Result<(), Fail> {
+    each_asks(&rt, rt.alloc(), &JOBS)?;
+    each_asks(&rt, rt.alloc(), &BUILDS)?;
+    each_asks(&rt, rt.alloc(), &CONVERSIONS)
+}
+
+fn asks_for_none(rt: &impl Abort, alloc: Global, line: &str) -> Result<(), Fail> {
+    let error = job(alloc, &words_of(alloc, line)?).err();
+    assert!(rt; error == Some(JobError::Usage), "{line}");
+    Ok(())
+}
+
+fn none_asks(rt: &impl Abort, alloc: Global, table: &[&str]) -> Result<(), Fail> {
+    for line in table {
+        asks_for_none(rt, alloc, line)?;
+    }
+    Ok(())
 }
 
 #[test]
-fn which_builds_are_jobs(rt: HostRuntime) -> Result<(), Fail> {
-    let lines = [
-        (
-            "build g.arcs g --nodes 1",
-            "build g.arcs 1 Layout { window: 7, chain: Some(3), interval: 4, zeta: 3, outdegrees: Gamma, references: Unary, block_counts: Gamma, blocks: Gamma, residuals: Zeta(3), offsets: Gamma } g.graph",
-        ),
-        (
-            "build --window 0 --chain=0 --interval 2147483647 --zeta 31 --outdegrees delta --references gamma --blockcounts unary --blocks delta --residuals nibble --offsets delta --nodes=68719476735 a b",
-            "build a 68719476735 Layout { window: 0, chain: Some(0), interval: 2147483647, zeta: 31, outdegrees: Delta, references: Gamma, block_counts: Unary, blocks: Delta, residuals: Nibble, offsets: Delta } b.graph",
-        ),
-        (
-            "build a b --nodes 0 --chain none --zeta 5 --references delta --blockcounts delta",
-            "build a 0 Layout { window: 7, chain: None, interval: 4, zeta: 5, outdegrees: Gamma, references: Delta, block_counts: Delta, blocks: Gamma, residuals: Zeta(5), offsets: Gamma } b.graph",
-        ),
-        (
-            "build --residuals delta --nodes 3 --chain 2147483647 --window 65535 -- -a g",
-            "build -a 3 Layout { window: 65535, chain: Some(2147483647), interval: 4, zeta: 3, outdegrees: Gamma, references: Unary, block_counts: Gamma, blocks: Gamma, residuals: Delta, offsets: Gamma } g.graph",
-        ),
-        ("build a b", ""),
-        ("build a --nodes 1", ""),
-        ("build a b c --nodes 1", ""),
-        ("build a b --nodes x", ""),
-        ("build a b --nodes 68719476736", ""),
-        ("build a b --nodes 1 --nodes 1", ""),
-        ("build a b --nodes 1 --window 65536", ""),
-        ("build a b --nodes 1 --window none", ""),
-        ("build a b --nodes 1 --chain 2147483648", ""),
-        ("build a b --nodes 1 --interval 2147483648", ""),
-        ("build a b --nodes 1 --zeta 0", ""),
-        ("build a b --nodes 1 --zeta 32", ""),
-        ("build a b --nodes 1 --outdegrees unary", ""),
-        ("build a b --nodes 1 --references zeta", ""),
-        ("build a b --nodes 1 --blockcounts zeta", ""),
-        ("build a b --nodes 1 --residuals unary", ""),
-        ("build a b --nodes 1 --offsets nibble", ""),
-        ("build g.graph g --nodes 1", ""),
-        ("build g.properties g --nodes 1", ""),
-        ("build g.offsets g --nodes 1", ""),
-        ("build  b --nodes 1", ""),
-        ("build a  --nodes 1", ""),
-        ("check a --window 1", ""),
-    ];
-    assert_jobs(&rt, rt.alloc(), &lines)
-}
-
-#[test]
-fn which_conversions_are_jobs(rt: HostRuntime) -> Result<(), Fail> {
-    let lines = [
-        (
-            "recode g h",
-            "recode g Layout { window: 7, chain: Some(3), interval: 4, zeta: 3, outdegrees: Gamma, references: Unary, block_counts: Gamma, blocks: Gamma, residuals: Zeta(3), offsets: Gamma } h.graph",
-        ),
-        (
-            "transpose h g",
-            "transpose h Layout { window: 7, chain: Some(3), interval: 4, zeta: 3, outdegrees: Gamma, references: Unary, block_counts: Gamma, blocks: Gamma, residuals: Zeta(3), offsets: Gamma } g.graph",
-        ),
-        (
-            "recode --window 0 --chain=none --interval 0 --zeta 1 --outdegrees delta --references delta --blockcounts delta --blocks delta --residuals zeta --offsets delta -- -g -",
-            "recode -g Layout { window: 0, chain: None, interval: 0, zeta: 1, outdegrees: Delta, references: Delta, block_counts: Delta, blocks: Delta, residuals: Zeta(1), offsets: Delta } -.graph",
-        ),
-        (
-            "transpose a --residuals gamma a.b --window 65535",
-            "transpose a Layout { window: 65535, chain: Some(3), interval: 4, zeta: 3, outdegrees: Gamma, references: Unary, block_counts: Gamma, blocks: Gamma, residuals: Gamma, offsets: Gamma } a.b.graph",
-        ),
-        (
-            "recode g ./g",
-            "recode g Layout { window: 7, chain: Some(3), interval: 4, zeta: 3, outdegrees: Gamma, references: Unary, block_counts: Gamma, blocks: Gamma, residuals: Zeta(3), offsets: Gamma } ./g.graph",
-        ),
-        ("recode g g", ""),
-        ("transpose g g", ""),
-        ("recode --window 1 -- g g", ""),
-        ("recode", ""),
-        ("recode g", ""),
-        ("transpose g", ""),
-        ("recode g --window 1", ""),
-        ("recode g h i", ""),
-        ("transpose g h i", ""),
-        ("recode g h --nodes 1", ""),
-        ("transpose g h --nodes 1", ""),
-        ("recode g h --rounds 1", ""),
-        ("recode  h", ""),
-        ("recode g ", ""),
-        ("transpose  h", ""),
-        ("transpose g ", ""),
-        ("recode g h --window 65536", ""),
-        ("transpose g h --chain x", ""),
-        ("recode g h --residuals unary", ""),
-        ("transpose g h --offsets", ""),
-        ("transpose g h --window 1 --window 1", ""),
-    ];
-    assert_jobs(&rt, rt.alloc(), &lines)
+fn lines_that_ask_for_none(rt: HostRuntime) -> Result<(), Fail> {
+    none_asks(&rt, rt.alloc(), &NO_JOBS)?;
+    none_asks(&rt, rt.alloc(), &NO_BUILDS)?;
+    none_asks(&rt, rt.alloc(), &NO_CONVERSIONS)
 }

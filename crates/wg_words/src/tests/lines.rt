@@ -1,0 +1,143 @@
+//! Lines that ask for a job, with what it is, and lines that ask for none.
+
+// Of an archive that is read: the command, the numbers, and the graph file.
+pub const JOBS: [(&str, &str); 12] = [
+    ("check g", "check g.graph"),
+    ("check data/a.b", "check data/a.b.graph"),
+    ("check -", "check -.graph"),
+    ("check -- -g", "check -g.graph"),
+    ("arcs g", "arcs g.graph"),
+    ("offsets -- g", "offsets g.graph"),
+    ("rank g", "rank 100 850 10 g.graph"),
+    ("rank g --rounds 0 --damping 999", "rank 0 999 10 g.graph"),
+    ("rank --top 3 g", "rank 100 850 3 g.graph"),
+    ("rank g --rounds=5", "rank 5 850 10 g.graph"),
+    (
+        "rank --top 68719476735 --rounds 10000 -- -g",
+        "rank 10000 850 68719476735 -g.graph",
+    ),
+    ("rank -", "rank 100 850 10 -.graph"),
+];
+
+pub const NO_JOBS: [&str; 26] = [
+    "check",
+    "arcs g h",
+    "offsets",
+    "rank",
+    "rank g --rounds",
+    "rank g --rounds 10001",
+    "rank g --damping 1000",
+    "rank g --top 68719476736",
+    "rank g --rounds 05",
+    "rank g --rounds x",
+    "rank g --rounds -",
+    "rank g --rounds=",
+    "rank g --top -1",
+    "rank g --rounds 1 --rounds 2",
+    "check g --rounds 5",
+    "check ",
+    "check -g",
+    "check g h",
+    "check --help",
+    "check g --bogus",
+    "-- check g",
+    "help",
+    "--help",
+    "chec g",
+    "g",
+    "",
+];
+
+// Of an archive that is built: the file of arcs, the pages and the layout too.
+pub const BUILDS: [(&str, &str); 4] = [
+    (
+        "build g.arcs g --nodes 1",
+        "build 1 g.arcs Layout { window: 7, chain: Some(3), interval: 4, zeta: 3, outdegrees: Gamma, references: Unary, block_counts: Gamma, blocks: Gamma, residuals: Zeta(3), offsets: Gamma } g.graph",
+    ),
+    (
+        "build --window 0 --chain=0 --interval 2147483647 --zeta 31 --outdegrees delta --references gamma --blockcounts unary --blocks delta --residuals nibble --offsets delta --nodes=68719476735 a b",
+        "build 68719476735 a Layout { window: 0, chain: Some(0), interval: 2147483647, zeta: 31, outdegrees: Delta, references: Gamma, block_counts: Unary, blocks: Delta, residuals: Nibble, offsets: Delta } b.graph",
+    ),
+    (
+        "build a b --nodes 0 --chain none --zeta 5 --references delta --blockcounts delta",
+        "build 0 a Layout { window: 7, chain: None, interval: 4, zeta: 5, outdegrees: Gamma, references: Delta, block_counts: Delta, blocks: Gamma, residuals: Zeta(5), offsets: Gamma } b.graph",
+    ),
+    (
+        "build --residuals delta --nodes 3 --chain 2147483647 --window 65535 -- -a g",
+        "build 3 -a Layout { window: 65535, chain: Some(2147483647), interval: 4, zeta: 3, outdegrees: Gamma, references: Unary, block_counts: Gamma, blocks: Gamma, residuals: Delta, offsets: Gamma } g.graph",
+    ),
+];
+
+pub const NO_BUILDS: [&str; 23] = [
+    "build a b",
+    "build a --nodes 1",
+    "build a b c --nodes 1",
+    "build a b --nodes x",
+    "build a b --nodes 68719476736",
+    "build a b --nodes 1 --nodes 1",
+    "build a b --nodes 1 --window 65536",
+    "build a b --nodes 1 --window none",
+    "build a b --nodes 1 --chain 2147483648",
+    "build a b --nodes 1 --interval 2147483648",
+    "build a b --nodes 1 --zeta 0",
+    "build a b --nodes 1 --zeta 32",
+    "build a b --nodes 1 --outdegrees unary",
+    "build a b --nodes 1 --references zeta",
+    "build a b --nodes 1 --blockcounts zeta",
+    "build a b --nodes 1 --residuals unary",
+    "build a b --nodes 1 --offsets nibble",
+    "build g.graph g --nodes 1",
+    "build g.properties g --nodes 1",
+    "build g.offsets g --nodes 1",
+    "build  b --nodes 1",
+    "build a  --nodes 1",
+    "check a --window 1",
+];
+
+// Of an archive that is written again: the archive that is read and the layout too.
+pub const CONVERSIONS: [(&str, &str); 5] = [
+    (
+        "recode g h",
+        "recode g Layout { window: 7, chain: Some(3), interval: 4, zeta: 3, outdegrees: Gamma, references: Unary, block_counts: Gamma, blocks: Gamma, residuals: Zeta(3), offsets: Gamma } h.graph",
+    ),
+    (
+        "transpose h g",
+        "transpose h Layout { window: 7, chain: Some(3), interval: 4, zeta: 3, outdegrees: Gamma, references: Unary, block_counts: Gamma, blocks: Gamma, residuals: Zeta(3), offsets: Gamma } g.graph",
+    ),
+    (
+        "recode --window 0 --chain=none --interval 0 --zeta 1 --outdegrees delta --references delta --blockcounts delta --blocks delta --residuals zeta --offsets delta -- -g -",
+        "recode -g Layout { window: 0, chain: None, interval: 0, zeta: 1, outdegrees: Delta, references: Delta, block_counts: Delta, blocks: Delta, residuals: Zeta(1), offsets: Delta } -.graph",
+    ),
+    (
+        "transpose a --residuals gamma a.b --window 65535",
+        "transpose a Layout { window: 65535, chain: Some(3), interval: 4, zeta: 3, outdegrees: Gamma, references: Unary, block_counts: Gamma, blocks: Gamma, residuals: Gamma, offsets: Gamma } a.b.graph",
+    ),
+    (
+        "recode g ./g",
+        "recode g Layout { window: 7, chain: Some(3), interval: 4, zeta: 3, outdegrees: Gamma, references: Unary, block_counts: Gamma, blocks: Gamma, residuals: Zeta(3), offsets: Gamma } ./g.graph",
+    ),
+];
+
+pub const NO_CONVERSIONS: [&str; 21] = [
+    "recode g g",
+    "transpose g g",
+    "recode --window 1 -- g g",
+    "recode",
+    "recode g",
+    "transpose g",
+    "recode g --window 1",
+    "recode g h i",
+    "transpose g h i",
+    "recode g h --nodes 1",
+    "transpose g h --nodes 1",
+    "recode g h --rounds 1",
+    "recode  h",
+    "recode g ",
+    "transpose  h",
+    "transpose g ",
+    "recode g h --window 65536",
+    "transpose g h --chain x",
+    "recode g h --residuals unary",
+    "transpose g h --offsets",
+    "transpose g h --window 1 --window 1",
+];
