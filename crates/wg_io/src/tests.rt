@@ -1,3 +1,6 @@
+// Files and sinks, of the system and in memory.
+ghost use Rattle.std.specs.Prelude.{◌<◌};
+
 use crate::{
     Depot, FileSink, FolderDepot, Lines, LoadError, MOST_BYTES, MemoryDepot, MemorySink, Sink,
     StdSink, SteadyDepot, SteadySink, WriteError, ZeroDepot, append_all, read_whole, write_all,
@@ -6,6 +9,8 @@ use crate::{
 use std::alloc::Global;
 use std::fs;
 use std::io::{self, Write};
+use std::process::Abort;
+use std::test::Fail;
 
 const TEXT: &[u8] = b"pages and their successors";
 
@@ -21,37 +26,58 @@ fn load_error<D: Depot>(alloc: Global, depot: &mut D, name: &str) -> Option<Load
     read_whole(alloc, depot, name).err()
 }
 
-#[test]
-fn a_file_of_the_system_is_made_and_read_back(rt: HostRuntime) {
-    let name = "wg_io_made_and_read_back.tmp";
-    let mut depot = FolderDepot::new(&rt);
-    assert_eq!(rt;
-        load_error(rt.alloc(), &mut depot, name),
-        Some(LoadError::Absent)
-    );
-    assert_eq!(rt; depot.create(name), Ok(()));
-    assert_eq!(rt; append_all(&mut depot, name, b"pages and "), Ok(()));
-    assert_eq!(rt; append_all(&mut depot, name, b"their successors"), Ok(()));
-    assert!(rt; holds(rt.alloc(), &mut depot, name, TEXT));
-    assert!(rt; fs::remove_file(&rt, name).is_ok());
+// A file that is absent is made, added to and read back.
+fn keeps_text<D: Depot>(
+    rt: &impl Abort,
+    alloc: Global,
+    depot: &mut D,
+    name: &str,
+) -> Result<(), WriteError> {
+    assert!(rt; load_error(alloc, depot, name) == Some(LoadError::Absent));
+    depot.create(name)?;
+    append_all(depot, name, b"pages and ")?;
+    append_all(depot, name, b"their successors")?;
+    assert!(rt; holds(alloc, depot, name, TEXT));
+    Ok(())
+}
+
+// A file of the text is read at any place, and made anew.
+fn reads_anywhere<D: Depot>(rt: &impl Abort, depot: &mut D, name: &str) -> Result<(), Fail> {
+    let mut buffer = [0u8; 8];
+    assert!(rt; depot.read(name, 18, &mut buffer)? == 8);
+    assert!(rt; &buffer == b"ccessors");
+    assert!(rt; depot.read(name, 26, &mut buffer)? == 0);
+    assert!(rt; depot.read(name, MOST_BYTES, &mut buffer)? == 0);
+    depot.create(name)?;
+    assert!(rt; depot.read(name, 0, &mut buffer)? == 0);
+    Ok(())
 }
 
 #[test]
-fn a_file_of_the_system_is_read_at_any_place(rt: HostRuntime) {
-    let name = "wg_io_read_at_any_place.tmp";
+fn a_file_of_the_system(rt: HostRuntime) -> Result<(), Fail> {
+    let name = "wg_io_file_of_the_system.tmp";
     let mut depot = FolderDepot::new(&rt);
-    assert_eq!(rt; append_all(&mut depot, name, TEXT), Ok(()));
-    let mut buffer = [0u8; 8];
-    assert_eq!(rt; depot.read(name, 18, &mut buffer), Ok(8));
-    assert_eq!(rt; &buffer, b"ccessors");
-    for offset in [26, MOST_BYTES] {
-        assert_eq!(rt; depot.read(name, offset, &mut buffer), Ok(0), "at {offset}");
-    }
-    assert_eq!(rt; depot.append(name, b" more"), Ok(5));
-    assert_eq!(rt; depot.read(name, 27, &mut buffer), Ok(4));
-    assert_eq!(rt; depot.create(name), Ok(()));
-    assert_eq!(rt; depot.read(name, 0, &mut buffer), Ok(0));
-    assert!(rt; fs::remove_file(&rt, name).is_ok());
+    keeps_text(&rt, rt.alloc(), &mut depot, name)?;
+    reads_anywhere(&rt, &mut depot, name)?;
+    fs::remove_file(&rt, name)?;
+    Ok(())
+}
+
+fn is_kept_in_pieces(rt: &impl Abort, alloc: Global, piece: u64) -> Result<(), Fail>
+    requires { 0 < piece }
+{
+    let mut depot = SteadyDepot::new(alloc, piece);
+    keeps_text(rt, alloc, &mut depot, "a")?;
+    depot.put_file("a", b"pages")?;
+    assert!(rt; holds(alloc, &mut depot, "a", b"pages"));
+    Ok(())
+}
+
+#[test]
+fn files_in_memory_are_moved_in_pieces(rt: HostRuntime) -> Result<(), Fail> {
+    is_kept_in_pieces(&rt, rt.alloc(), 1)?;
+    is_kept_in_pieces(&rt, rt.alloc(), 3)?;
+    is_kept_in_pieces(&rt, rt.alloc(), 4096)
 }
 
 // A stream that takes nothing.
@@ -68,38 +94,32 @@ impl Write for Full {
     }
 }
 
-#[test]
-fn the_standard_output_takes_a_text_and_a_full_stream_none(rt: HostRuntime) {
-    let mut sink = StdSink::new(rt.stdout());
-    assert_eq!(rt; write_all(&mut sink, b"a text "), Ok(()));
-    assert_eq!(rt;
-        write_pieces(&mut sink, &[b"in", b"", b" pieces\n"]),
-        Ok(())
-    );
-    assert_eq!(rt; StdSink::new(Full).write(TEXT), Err(WriteError::Failed));
+fn put_text<S: Sink>(sink: &mut S) -> Result<(), WriteError> {
+    write_all(sink, b"pages ")?;
+    write_pieces(sink, &[b"and", b"", b" their successors"])
 }
 
 #[test]
-fn files_in_memory_are_moved_in_pieces(rt: HostRuntime) {
-    for piece in [1, 3, 4096] {
-        let mut depot = SteadyDepot::new(rt.alloc(), piece);
-        assert_eq!(rt; depot.create("a"), Ok(()));
-        assert!(rt; depot.put_file("a", b"pages").is_ok());
-        assert_eq!(rt;
-            append_all(&mut depot, "a", b" and their successors"),
-            Ok(())
-        );
-        assert!(rt; holds(rt.alloc(), &mut depot, "a", TEXT), "piece {piece}");
-    }
+fn a_stream_takes_a_text_and_a_full_one_none(rt: HostRuntime) -> Result<(), Fail> {
+    put_text(&mut StdSink::new(rt.stdout()))?;
+    assert!(rt; put_text(&mut StdSink::new(Full)) == Err(WriteError::Failed));
+    Ok(())
+}
+
+fn is_taken_in_pieces(rt: &impl Abort, alloc: Global, piece: u64) -> Result<(), Fail>
+    requires { 0 < piece }
+{
+    let mut sink = SteadySink::new(alloc, piece);
+    put_text(&mut sink)?;
+    assert!(rt; sink.bytes() == TEXT);
+    Ok(())
 }
 
 #[test]
-fn bytes_in_memory_are_taken_in_pieces(rt: HostRuntime) {
-    for piece in [1, 3, 4096] {
-        let mut sink = SteadySink::new(rt.alloc(), piece);
-        assert_eq!(rt; write_all(&mut sink, TEXT), Ok(()));
-        assert_eq!(rt; sink.bytes(), TEXT);
-    }
+fn bytes_in_memory_are_taken_in_pieces(rt: HostRuntime) -> Result<(), Fail> {
+    is_taken_in_pieces(&rt, rt.alloc(), 1)?;
+    is_taken_in_pieces(&rt, rt.alloc(), 3)?;
+    is_taken_in_pieces(&rt, rt.alloc(), 4096)
 }
 
 fn print_lines<S: Sink>(sink: &mut S) -> Result<(), WriteError> {
@@ -107,89 +127,95 @@ fn print_lines<S: Sink>(sink: &mut S) -> Result<(), WriteError> {
     lines.text(sink, b"pages ")?;
     lines.number(sink, 12)?;
     lines.byte(sink, b'\n')?;
-    for second in [345, u64::MAX] {
-        lines.pair(sink, 0, second)?;
-    }
+    lines.pair(sink, 0, 345)?;
+    lines.pair(sink, 0, u64::MAX)?;
     lines.flush(sink)
 }
 
-#[test]
-fn lines_go_into_a_file(rt: HostRuntime) {
-    let text: &[u8] = b"# pages 12\n0 345\n0 18446744073709551615\n";
-    for piece in [1, 4096] {
-        let mut depot = MemoryDepot::new(rt.alloc(), piece);
-        assert!(rt; depot.put_file("a", b"# ").is_ok());
-        assert!(rt; depot.put_file("b", TEXT).is_ok());
-        assert_eq!(rt; print_lines(&mut FileSink::new(&mut depot, "a")), Ok(()));
-        assert!(rt; holds(rt.alloc(), &mut depot, "a", text), "piece {piece}");
-        assert!(rt; holds(rt.alloc(), &mut depot, "b", TEXT));
-    }
+const LINES: &[u8] = b"# pages 12\n0 345\n0 18446744073709551615\n";
+
+// The lines go to the end of the named file, and to no other.
+fn are_printed<D: Depot>(rt: &impl Abort, alloc: Global, depot: &mut D) -> Result<(), Fail> {
+    append_all(depot, "a", b"# ")?;
+    append_all(depot, "b", TEXT)?;
+    print_lines(&mut FileSink::new(depot, "a"))?;
+    assert!(rt; holds(alloc, depot, "a", LINES));
+    assert!(rt; holds(alloc, depot, "b", TEXT));
+    Ok(())
 }
 
 #[test]
-fn the_named_read_fails_alone(rt: HostRuntime) {
+fn lines_go_into_a_file(rt: HostRuntime) -> Result<(), Fail> {
+    are_printed(&rt, rt.alloc(), &mut SteadyDepot::new(rt.alloc(), 1))?;
+    are_printed(&rt, rt.alloc(), &mut SteadyDepot::new(rt.alloc(), 4096))
+}
+
+// The second of three readings fails, and one of a file that is not there.
+fn fails_in_the_middle<D: Depot>(rt: &impl Abort, alloc: Global, depot: &mut D) {
+    assert!(rt; load_error(alloc, depot, "a") .is_none());
+    assert!(rt; load_error(alloc, depot, "a") == Some(LoadError::Failed));
+    assert!(rt; load_error(alloc, depot, "a") .is_none());
+    assert!(rt; load_error(alloc, depot, "b") == Some(LoadError::Absent));
+}
+
+// A whole file takes three reads: at the limit, of its bytes, and at its end.
+#[test]
+fn the_named_read_fails_alone(rt: HostRuntime) -> Result<(), Fail> {
     let mut depot = MemoryDepot::new(rt.alloc(), 4096);
-    assert!(rt; depot.put_file("a", TEXT).is_ok());
-    // A whole file takes three reads: at the limit, of its bytes, and at its end.
+    depot.put_file("a", TEXT)?;
     depot.fail_read(6);
-    for error in [None, Some(LoadError::Failed), None] {
-        assert_eq!(rt; load_error(rt.alloc(), &mut depot, "a"), error);
-    }
-    depot.fail_read(10);
-    assert_eq!(rt;
-        load_error(rt.alloc(), &mut depot, "b"),
-        Some(LoadError::Absent)
-    );
+    fails_in_the_middle(&rt, rt.alloc(), &mut depot);
+    Ok(())
+}
+
+// The second `create` fails, and the third call that adds to the file.
+fn fails_to_write<D: Depot>(rt: &impl Abort, alloc: Global, depot: &mut D) -> Result<(), Fail> {
+    depot.create("a")?;
+    assert!(rt; depot.create("a") == Err(WriteError::Failed));
+    append_all(depot, "a", b"pages")?;
+    assert!(rt; append_all(depot, "a", b" and") == Err(WriteError::Failed));
+    assert!(rt; holds(alloc, depot, "a", b"pages"));
+    depot.create("a")?;
+    Ok(())
 }
 
 #[test]
-fn the_named_create_and_append_fail_alone(rt: HostRuntime) {
+fn the_named_create_and_append_fail_alone(rt: HostRuntime) -> Result<(), Fail> {
     let mut depot = MemoryDepot::new(rt.alloc(), 3);
     depot.fail_create(2);
     depot.fail_append(3);
-    for answer in [Ok(()), Err(WriteError::Failed), Ok(())] {
-        assert_eq!(rt; depot.create("a"), answer);
-    }
-    assert_eq!(rt; append_all(&mut depot, "a", b"pages"), Ok(()));
-    assert_eq!(rt;
-        append_all(&mut depot, "a", b" and"),
-        Err(WriteError::Failed)
-    );
-    assert!(rt; holds(rt.alloc(), &mut depot, "a", b"pages"));
+    fails_to_write(&rt, rt.alloc(), &mut depot)
 }
 
 #[test]
-fn the_named_write_fails_alone(rt: HostRuntime) {
-    let mut sink = MemorySink::new(rt.alloc(), 3);
-    sink.fail_write(3);
-    assert_eq!(rt;
-        write_pieces(&mut sink, &[b"page", b"s"]),
-        Err(WriteError::Failed)
-    );
-    assert_eq!(rt; write_all(&mut sink, b"s"), Ok(()));
-    assert_eq!(rt; sink.bytes(), b"pages".as_slice());
+fn the_named_write_fails_alone(rt: HostRuntime) -> Result<(), Fail> {
+    let mut sink = MemorySink::new(rt.alloc(), 6);
+    sink.fail_write(2);
+    assert!(rt; put_text(&mut sink) == Err(WriteError::Failed));
+    write_all(&mut sink, b"!")?;
+    assert!(rt; sink.bytes() == b"pages !".as_slice());
+    Ok(())
 }
 
-#[test]
-fn zeros_are_read_and_not_written(rt: HostRuntime) {
-    let mut depot = ZeroDepot::new("zeros", 5);
-    assert!(rt; holds(rt.alloc(), &mut depot, "zeros", &[0u8; 5]));
-    assert_eq!(rt;
-        load_error(rt.alloc(), &mut depot, "other"),
-        Some(LoadError::Absent)
-    );
-    assert_eq!(rt; depot.create("zeros"), Err(WriteError::Failed));
-    assert_eq!(rt; depot.append("zeros", TEXT), Err(WriteError::Failed));
+// There is one file, to which nothing can be written.
+fn is_of_zeros<D: Depot>(rt: &impl Abort, alloc: Global, depot: &mut D) {
+    assert!(rt; holds(alloc, depot, "zeros", &[0u8; 5]));
+    assert!(rt; load_error(alloc, depot, "other") == Some(LoadError::Absent));
+    assert!(rt; depot.create("zeros") == Err(WriteError::Failed));
+    assert!(rt; depot.append("zeros", TEXT) == Err(WriteError::Failed));
 }
 
-#[test]
-fn a_byte_past_the_limit_is_too_long(rt: HostRuntime) {
-    let mut depot = ZeroDepot::new("zeros", MOST_BYTES + 1);
-    assert_eq!(rt;
-        load_error(rt.alloc(), &mut depot, "zeros"),
-        Some(LoadError::TooLong)
-    );
+fn is_too_long<D: Depot>(rt: &impl Abort, alloc: Global, depot: &mut D) -> Result<(), Fail> {
+    assert!(rt; load_error(alloc, depot, "zeros") == Some(LoadError::TooLong));
     let mut buffer = [7u8; 4];
-    assert_eq!(rt; depot.read("zeros", MOST_BYTES - 1, &mut buffer), Ok(2));
-    assert_eq!(rt; buffer, [0u8, 0, 7, 7]);
+    assert!(rt; depot.read("zeros", MOST_BYTES - 1, &mut buffer)? == 2);
+    assert!(rt; buffer == [0u8, 0, 7, 7]);
+    Ok(())
+}
+
+#[test]
+fn files_of_zeros(rt: HostRuntime) -> Result<(), Fail> {
+    is_of_zeros(&rt, rt.alloc(), &mut ZeroDepot::new("zeros", 5));
+    let mut longest = ZeroDepot::new("zeros", MOST_BYTES + 1);
+    is_too_long(&rt, rt.alloc(), &mut longest)
 }
