@@ -3,14 +3,14 @@ use Rattle.std.proofs.Common.{◌≡◌, ◌≤◌, ℕ, List, ◌++◌, Option,
 use Rattle.wg_params.specs.declared.limits.TheConstants.{MOST_DAMPING, MOST_ROUNDS}
 use Rattle.wg_graph.specs.Digraph.{Digraph}
 use Rattle.wg_words.specs.declared.jobs.Job.TheVariants.{Rank}
-use Rattle.wg_cli.specs.Answers.{Answers}
-use Rattle.wg_cli.specs.Judged.{Judged, accepted, judged, output_of, status_of}
-use Rattle.wg_cli.specs.Ranked.{PrintsProvenRanking, ranking_text}
-use Rattle.wg_cli.specs.Readings.{Readings}
-use Rattle.wg_cli.specs.declared.status.Input.{Input}
-use Rattle.wg_cli.specs.declared.status.Status.TheVariants.{Done}
-use Rattle.wg_cli.proofs.HeldLemmas.{graph_behind}
-use Rattle.wg_cli.proofs.RankLemmas.{proven}
+use Rattle.wg_jobs.specs.Answers.{Answers}
+use Rattle.wg_jobs.specs.Judged.{Judged, accepted, judged, output_of, status_of}
+use Rattle.wg_jobs.specs.Ranked.{PrintsProvenRanking, ranking_text}
+use Rattle.wg_jobs.specs.Readings.{Readings}
+use Rattle.wg_jobs.specs.declared.status.Input.{Input}
+use Rattle.wg_jobs.specs.declared.status.Status.TheVariants.{Done}
+use Rattle.wg_jobs.proofs.HeldLemmas.{graph_behind}
+use Rattle.wg_jobs.proofs.RankLemmas.{proven}
 
 -- Done is the status of the judgement itself
 pub when_done : (j : Judged) → Answers j Done → Done ≡ status_of j

@@ -1,14 +1,3 @@
-pub mod Codes
-pub mod Readings
-pub mod Ranked
-pub mod Written
-pub mod Judged
-pub mod Answers
-pub mod Causes
 pub mod Texts
-pub mod Names
 pub mod Lines
-pub mod Built
-pub mod Performs
-pub mod Passes
-pub mod Pairing
+pub mod Wanted

@@ -14,8 +14,6 @@ use Rattle.wg_grammar.specs.declared.fault.ArchiveFault.{ArchiveFault}
 use Rattle.wg_grammar.specs.declared.fault.ArchiveFault.TheVariants as archive
 use Rattle.wg_arcs.specs.declared.fault.ArcsKind.{ArcsKind}
 use Rattle.wg_arcs.specs.declared.fault.ArcsKind.TheVariants as arcs
-use Rattle.wg_cli.specs.declared.status.Input.{Input}
-use Rattle.wg_cli.specs.declared.status.Input.TheVariants as input
 
 abbrev pub text_of_field : Field → List ℕ
 text_of_field field.Outdegree = codes "outdegree"
@@ -74,14 +72,6 @@ text_of_archive promised (archive.Tail at) = codes "tail bit " ++ decimal at
 text_of_archive promised (archive.ArcsShort total) = codes "arcs " ++ decimal total ++ codes " of " ++ decimal promised
 text_of_archive promised (archive.Offsets w) = text_of_word w
 text_of_archive promised (archive.Length page found stored) = codes "page " ++ decimal page ++ codes " length " ++ decimal found ++ codes " stored " ++ decimal stored
-
--- the file in which a fault of an archive lies
-abbrev pub file_of_fault : ArchiveFault → Input
-file_of_fault (archive.Record f) = input.Graph
-file_of_fault (archive.Tail at) = input.Graph
-file_of_fault (archive.ArcsShort total) = input.Graph
-file_of_fault (archive.Offsets w) = input.Offsets
-file_of_fault (archive.Length page found stored) = input.Offsets
 
 -- the line about a page that the graph does not have
 abbrev pub no_page_line : ℕ → List ℕ

@@ -1,24 +1,10 @@
-ghost use Rattle.std.specs.Prelude.{◌≡◌, ◌++◌, IfOk, IfErr, option_map};
+ghost use Rattle.std.specs.Prelude.{◌≡◌, ◌++◌, option_map};
 ghost use Rattle.wg_io.specs.declared.suffixes.TheConstants.{PROPERTIES, GRAPH, OFFSETS};
-ghost use Rattle.wg_cli.specs.Names.{archive_files, archive_named, input_name, list_named, name_of_input, output_name, record_files, suffix_of};
+ghost use Rattle.wg_jobs.specs.Names.{archive_files, archive_named, input_name, list_named, name_of_input, output_name, record_files};
 
-use crate::ending::Ending;
-use crate::{Input, Status};
-use std::alloc::Global;
+use crate::Input;
 use wg_io::{GRAPH, OFFSETS, Output, PROPERTIES};
 use wg_words::{Job, Name};
-
-/// What the name of one of an archive's files ends in; an arc list is no such file.
-pub fn suffix(input: Input) -> Option<&'static str>
-    ensures { option_map (λ s. s.now) result ≡ suffix_of input }
-{
-    match input {
-        Input::Properties => Some(PROPERTIES),
-        Input::Graph => Some(GRAPH),
-        Input::Offsets => Some(OFFSETS),
-        Input::ArcList => None,
-    }
-}
 
 /// The name of a job's input, in two parts.
 pub fn input_parts(job: &Job, input: Input) -> Option<(&str, &'static str)>
@@ -89,16 +75,5 @@ fn archive_parts(base: &Name, output: Output) -> Option<(&str, &'static str)>
         Output::Graph => Some((base.as_str(), GRAPH)),
         Output::Offsets => Some((base.as_str(), OFFSETS)),
         Output::Out => None,
-    }
-}
-
-/// The name of one of an archive's files, by its suffix.
-pub fn file_name(alloc: Global, base: &Name, suffix: &str) -> Result<Name, Ending>
-    ensures name { IfOk result (λ name. name ≡ base.now ++ suffix.now) }
-    ensures only { IfErr result (λ e. e.status ≡ Status.Memory) }
-{
-    match base.with_suffix(alloc, suffix) {
-        Ok(name) => Ok(name),
-        Err(_) => Err(Ending::of(Status::Memory)),
     }
 }

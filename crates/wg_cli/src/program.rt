@@ -5,23 +5,23 @@ ghost use Rattle.wg_params.specs.declared.limits.TheConstants.{MOST_PAGES};
 ghost use Rattle.wg_graph.specs.Digraph.{Digraph, IsGraph};
 ghost use Rattle.wg_words.specs.Jobs.{job_of, IsWithin};
 ghost use Rattle.wg_words.specs.declared.jobs.Job.{Job};
-ghost use Rattle.wg_cli.specs.Answers.{Answers, HasOutput, Reaches};
-ghost use Rattle.wg_cli.specs.Causes.{AreFaultless, HasCause, Reports};
-ghost use Rattle.wg_cli.specs.Judged.{output_of, status_of, written_by};
-ghost use Rattle.wg_cli.specs.Lines.{line_of, ArePromisedBy};
-ghost use Rattle.wg_cli.specs.Names.{can_end, held_for, input_name, output_name, some_writes_files};
-ghost use Rattle.wg_cli.specs.Performs.{judged_on, Does};
-ghost use Rattle.wg_cli.specs.Ranked.{IsProvenRanking, PrintsProvenRanking};
-ghost use Rattle.wg_cli.specs.Readings.{Readings};
-ghost use Rattle.wg_cli.specs.Written.{HasFiles};
-ghost use Rattle.wg_cli.specs.declared.status.Input.{Input};
+ghost use Rattle.wg_jobs.specs.Answers.{Answers, HasOutput, Reaches};
+ghost use Rattle.wg_jobs.specs.Causes.{AreFaultless, HasCause};
+ghost use Rattle.wg_jobs.specs.Judged.{output_of, status_of, written_by};
+ghost use Rattle.wg_cli.specs.Lines.{line_of, Reports};
+ghost use Rattle.wg_cli.specs.Wanted.{some_writes_files, ArePromisedBy};
+ghost use Rattle.wg_jobs.specs.Names.{can_end, held_for, input_name, output_name};
+ghost use Rattle.wg_jobs.specs.Performs.{judged_on, Does};
+ghost use Rattle.wg_jobs.specs.Ranked.{IsProvenRanking, PrintsProvenRanking};
+ghost use Rattle.wg_jobs.specs.Readings.{Readings};
+ghost use Rattle.wg_jobs.specs.Written.{HasFiles};
+ghost use Rattle.wg_jobs.specs.declared.status.Input.{Input};
 
 use crate::Status;
-use crate::ending::Ending;
-use crate::perform::perform;
 use crate::report::report;
 use std::alloc::{AllocError, Global};
 use wg_io::{Depot, Sink};
+use wg_jobs::{Ending, perform};
 use wg_words::{Job, JobError, Words, job};
 
 /// Does what the words ask for: the output goes to `out`, and for every status but `Done` one line to `err`.

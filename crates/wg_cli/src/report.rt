@@ -2,14 +2,13 @@
 ghost use Rattle.std.specs.Prelude.{◌≡◌, ◌≢◌, ◌⊎◌, ◌≤◌, ◌∷◌, [], ◌++◌, IsTrue, IsErr, Some, None, option_map, codes};
 ghost use Rattle.wg_io.specs.Outside.{Increased};
 ghost use Rattle.wg_io.specs.Puts.{Puts};
-ghost use Rattle.wg_cli.specs.Causes.{Reports};
-ghost use Rattle.wg_cli.specs.Lines.{naming, name_in, output_in, line_of};
-ghost use Rattle.wg_cli.specs.Names.{input_name};
+ghost use Rattle.wg_cli.specs.Lines.{naming, name_in, output_in, line_of, Reports};
+ghost use Rattle.wg_jobs.specs.Names.{input_name};
 
 use crate::names::{input_parts, output_parts};
-use crate::text::Text;
 use crate::{Input, Status, texts};
 use wg_io::{Output, Sink, WriteError, write_all, write_pieces};
+use wg_jobs::Text;
 use wg_words::Job;
 
 // The name of a job's input, in two parts.

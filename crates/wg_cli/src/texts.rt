@@ -1,11 +1,12 @@
 //! What is said of each fault, as short texts without memory.
 ghost use Rattle.std.specs.Prelude.{◌≡◌, ◌≤◌, length};
-ghost use Rattle.wg_cli.specs.Texts.{text_of_field, text_of_kind, text_of_arcs, text_of_line, text_of_properties, text_of_record, text_of_word, text_of_archive, file_of_fault, no_page_line};
+ghost use Rattle.wg_cli.specs.Texts.{text_of_field, text_of_kind, text_of_arcs, text_of_line, text_of_properties, text_of_record, text_of_word, text_of_archive, no_page_line};
+ghost use Rattle.wg_jobs.specs.Names.{file_of_fault};
 
 use crate::Input;
-use crate::text::Text;
 use wg_arcs::ArcsKind;
 use wg_grammar::{ArchiveFault, Fault, Field, Kind, OffsetWord};
+use wg_jobs::Text;
 use wg_properties::{PropFault, key_name};
 
 fn field(field: Field) -> &'static str

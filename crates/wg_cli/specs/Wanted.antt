@@ -1,0 +1,17 @@
+-- What holds of the job that some words ask for, if they ask for one.
+use Rattle.std.specs.Prelude.{ℕ, Bool, false, Option, Some, None}
+use Rattle.wg_io.specs.Outside.{Files}
+use Rattle.wg_words.specs.declared.jobs.Job.{Job}
+use Rattle.wg_jobs.specs.Names.{held_by, input_name, writes_files}
+use Rattle.wg_jobs.specs.Promised.{ArePromised}
+use Rattle.wg_jobs.specs.declared.status.Status.{Status}
+
+-- whether it writes files
+abbrev pub some_writes_files : Option Job → Bool
+some_writes_files None = false
+some_writes_files (Some job) = writes_files job
+
+-- the arcs that its properties promise, where the line of the status names them
+abbrev pub ArePromisedBy : Option Job → Files → Status → ℕ → Type 0
+ArePromisedBy None files status promised = Unit {0}
+ArePromisedBy (Some job) files status promised = ArePromised (held_by (input_name job) files) status promised

@@ -1,0 +1,146 @@
+-- What a job that writes an archive leaves, by the archive's own names.
+use Rattle.std.proofs.Common.{◌≡◌, inl, inr, ℕ, ◌≤◌, Bool, true, false, if◌then◌else◌, List, refl, sym, ap, subst, ◌∙◌, arith, Option, Some, None, is_some, Result, Ok, Err}
+use Rattle.std.specs.Bool.{IsTrue}
+use Rattle.std.specs.Result.{IfErr, IsErrAnd}
+use Rattle.std.proofs.lemmas.List.{append-nil}
+use Rattle.wg_io.specs.Outside.{Files, Counts, NonDecreasing, Increased}
+use Rattle.wg_io.specs.declared.output.Output.{Output}
+use Rattle.wg_io.specs.declared.output.Output.TheVariants as output
+use Rattle.wg_io.proofs.FilesLemmas.{none_falls-trans}
+use Rattle.wg_io.proofs.PutsLemmas.{is_that_err}
+use Rattle.wg_jobs.specs.Answers.{Answers, HasOutput, IsUnput, Steps, status_in}
+use Rattle.wg_jobs.specs.Causes.{HasCause, IncreasedAt}
+use Rattle.wg_graph.specs.Digraph.{Digraph}
+use Rattle.wg_words.specs.declared.jobs.Job.{Job}
+use Rattle.wg_words.specs.declared.layout.Layout.{Layout}
+use Rattle.wg_jobs.specs.Judged.{Judged, built, builds, files_of, greedy_line, output_of, status_of, written_by}
+use Rattle.wg_jobs.specs.Promised.{ArePromised, arcs_in}
+use Rattle.wg_jobs.specs.Names.{archive_named, can_end, has_output, held_by, input_name, output_name, writes_files}
+use Rattle.wg_jobs.specs.Performs.{BuildsArchive, Outside, Performs, judged_on, outside}
+use Rattle.wg_jobs.specs.Readings.{Readings}
+use Rattle.wg_jobs.specs.Written.{Archive, ArchiveFiles, AreWhole, HasFiles, OthersStay, FilesAfter, IsStopped, greedy_archive, params_for}
+use Rattle.wg_jobs.specs.declared.ending.Ending.{Ending}
+use Rattle.wg_jobs.specs.declared.status.Input.{Input}
+use Rattle.wg_jobs.specs.declared.status.Status.{Status}
+use Rattle.wg_jobs.specs.declared.status.Status.TheVariants.{Done, Memory, ReadFault, WriteFault, Missing}
+
+-- ---- counts
+rose_from : (a b c : ℕ) → a ≤ b → Increased b c → Increased a c
+rose_from a b c le (inl more) = inl (omega (arith, le, more))
+rose_from a b c le (inr last) = inr last
+
+pub rose_since : (name : Option (List ℕ)) (old mid new : List ℕ → Counts) → NonDecreasing old mid → IncreasedAt (λ c. c.write_faults) name mid new → IncreasedAt (λ c. c.write_faults) name old new
+rose_since None old mid new falls rose = rose
+rose_since (Some name) old mid new falls rose = rose_from (old name).write_faults (mid name).write_faults (new name).write_faults (falls.write_faults name) rose
+
+pub others_twice : (names : Output → Option (List ℕ)) (f h k : Files) → OthersStay names f h → OthersStay names h k → OthersStay names f k
+others_twice names f h k one two q other = two q other ∙ one q other
+
+-- the status of what ended so
+pub ended_by : {B : Type 0} (r : Result B Ending) (e : Ending) → IsErrAnd r (λ x. x ≡ e) → status_in r ≡ e.status
+ended_by r e is = ap status_in (is_that_err r e is)
+
+-- ---- a writing that was stopped
+pub stopped_cause : (inputs : Input → Option (List ℕ)) (base : List ℕ) (old new : List ℕ → Counts) (faults faults' : ℕ) (s : Status) → IsStopped s
+    → ((o : Output) → s ≡ WriteFault o → IncreasedAt (λ c. c.write_faults) (archive_named base o) old new) → HasCause inputs (archive_named base) old new faults faults' s
+stopped_cause inputs base old new faults faults' s (inl fault) rose = record {
+  read_fault = λ i is. absurd (let no : WriteFault fault.0 ≡ ReadFault i = sym fault.1 ∙ is in cc);
+  missing = λ i is. absurd (let no : WriteFault fault.0 ≡ Missing i = sym fault.1 ∙ is in cc);
+  write_fault = λ o other is. rose o is;
+  out_fault = λ is. absurd (rose output.Out is);
+}
+stopped_cause inputs base old new faults faults' s (inr want) rose = record {
+  read_fault = λ i is. absurd (let no : Memory ≡ ReadFault i = sym want ∙ is in cc);
+  missing = λ i is. absurd (let no : Memory ≡ Missing i = sym want ∙ is in cc);
+  write_fault = λ o other is. rose o is;
+  out_fault = λ is. absurd (rose output.Out is);
+}
+
+pub stopped_output : (due old : List ℕ) (s : Status) → IsStopped s → HasOutput due old old s
+stopped_output due old s (inl fault) = subst (HasOutput due old old) (sym fault.1) (0, sym (append-nil old))
+stopped_output due old s (inr want) = subst (HasOutput due old old) (sym want) (0, sym (append-nil old))
+
+-- the files are whole before the output is asked for
+pub put_stands : (a : Archive) (old new : ArchiveFiles) (r : Result (Unit {0}) Ending) → IfErr r (λ e. IsUnput e.status) → AreWhole a new → FilesAfter a old new (status_in r)
+put_stands a old new (Ok done) only whole = whole
+put_stands a old new (Err e) (inl fault) whole = subst (FilesAfter a old new) (sym fault) whole
+put_stands a old new (Err e) (inr want) whole = subst (FilesAfter a old new) (sym want) (inr (inr (inr whole)))
+
+pub put_stopped : (r : Result (Unit {0}) Ending) → IfErr r (λ e. IsUnput e.status) → IfErr r (λ e. IsStopped e.status)
+put_stopped (Ok done) only = tt
+put_stopped (Err e) (inl fault) = inl (output.Out, fault)
+put_stopped (Err e) (inr want) = inr want
+
+-- ---- one step of a judgement after another
+pub steps_then : {C : Type 0} (first second : (C → Judged) → Judged) (r : Result C Ending) → ((next : C → Judged) → first next ≡ second next) → Steps second r → Steps first r
+steps_then first second (Ok c) same steps = λ next. same next ∙ steps next
+steps_then first second (Err e) same steps = λ next. subst (λ (j : Judged). Answers j e.status) (sym (same next)) (steps next)
+
+-- ---- a job whose last step writes an archive and prints its line
+no_read : (r : Result (Unit {0}) Ending) (i : Input) → IfErr r (λ e. IsStopped e.status) → status_in r ≡ ReadFault i → ⊥
+no_read (Ok done) i only is = let no : Done ≡ ReadFault i = is in cc
+no_read (Err e) i (inl fault) is = let no : WriteFault fault.0 ≡ ReadFault i = sym fault.1 ∙ is in cc
+no_read (Err e) i (inr want) is = let no : Memory ≡ ReadFault i = sym want ∙ is in cc
+
+no_missing : (r : Result (Unit {0}) Ending) (i : Input) → IfErr r (λ e. IsStopped e.status) → status_in r ≡ Missing i → ⊥
+no_missing (Ok done) i only is = let no : Done ≡ Missing i = is in cc
+no_missing (Err e) i (inl fault) is = let no : WriteFault fault.0 ≡ Missing i = sym fault.1 ∙ is in cc
+no_missing (Err e) i (inr want) is = let no : Memory ≡ Missing i = sym want ∙ is in cc
+
+built_answers : (j : Judged) (a : Archive) (out : List ℕ) (r : Result (Unit {0}) Ending) → j ≡ built a out → IfErr r (λ e. IsStopped e.status) → Answers j (status_in r)
+built_answers j a out (Ok done) is only = inl (sym (ap status_of is))
+built_answers j a out (Err e) is (inl fault) = subst (λ (s : Status). Answers j s) (sym fault.1) (inr tt)
+built_answers j a out (Err e) is (inr want) = subst (λ (s : Status). Answers j s) (sym want) (inr tt)
+
+has_each : (job : Job) (base : List ℕ) → archive_named base ≡ output_name job → (o : Output) → IsTrue (has_output job o)
+has_each job base names output.Out = refl
+has_each job base names output.Properties = ap (λ (n : Output → Option (List ℕ)). is_some (n output.Properties)) (sym names)
+has_each job base names output.Graph = ap (λ (n : Output → Option (List ℕ)). is_some (n output.Graph)) (sym names)
+has_each job base names output.Offsets = ap (λ (n : Output → Option (List ℕ)). is_some (n output.Offsets)) (sym names)
+
+built_possible : (job : Job) (r : Result (Unit {0}) Ending) → ((o : Output) → IsTrue (has_output job o)) → IfErr r (λ e. IsStopped e.status) → IsTrue (can_end job (status_in r))
+built_possible job (Ok done) has only = refl
+built_possible job (Err e) has (inl fault) = subst (λ (s : Status). IsTrue (can_end job s)) (sym fault.1) (has fault.0)
+built_possible job (Err e) has (inr want) = subst (λ (s : Status). IsTrue (can_end job s)) (sym want) refl
+
+built_promised : (held : Input → Option (List ℕ)) (r : Result (Unit {0}) Ending) → IfErr r (λ e. IsStopped e.status) → ArePromised held (status_in r) (arcs_in r)
+built_promised held (Ok done) only = tt
+built_promised held (Err e) (inl fault) = subst (λ (s : Status). ArePromised held s e.arcs) (sym fault.1) tt
+built_promised held (Err e) (inr want) = subst (λ (s : Status). ArePromised held s e.arcs) (sym want) tt
+
+cause_since : (inputs : Input → Option (List ℕ)) (base : List ℕ) (old mid new : List ℕ → Counts) (faults faults' : ℕ) (r : Result (Unit {0}) Ending) → IfErr r (λ e. IsStopped e.status)
+    → NonDecreasing old mid → HasCause inputs (archive_named base) mid new faults faults' (status_in r) → HasCause inputs (archive_named base) old new faults faults' (status_in r)
+cause_since inputs base old mid new faults faults' r only later cause = record {
+  read_fault = λ i is. absurd (no_read r i only is);
+  missing = λ i is. absurd (no_missing r i only is);
+  write_fault = λ o other is. rose_since (archive_named base o) old mid new later (cause.write_fault o other is);
+  out_fault = cause.out_fault;
+}
+
+-- all was judged, and the archive of this graph is written
+pub written : (job : Job) (td to : Bool) (before after : Outside) (files : Files) (counts : List ℕ → Counts) (l : Layout) (g : Digraph) (base : List ℕ) (r : Result (Unit {0}) Ending)
+    → writes_files job ≡ true
+    → archive_named base ≡ output_name job
+    → (IsTrue td → (q : Readings) → judged_on q job before.files ≡ builds l g)
+    → files ≡ before.files
+    → NonDecreasing before.counts counts
+    → BuildsArchive l g base td to (outside files counts before.taken before.faults) after r
+    → Performs job td to before after (status_in r) (arcs_in r)
+written job td to before after files counts l g base r writes names is same later h = record {
+  answers = λ t q. built_answers (judged_on q job before.files) (greedy_archive (params_for l g) g) (greedy_line (params_for l g) g) r (is t q) h.only;
+  possible = built_possible job r (has_each job base names) h.only;
+  causes = subst (λ (n : Output → Option (List ℕ)). HasCause (input_name job) n before.counts after.counts before.faults after.faults (status_in r)) names
+      (cause_since (input_name job) base before.counts counts after.counts before.faults after.faults r h.only later (h.causes (input_name job)));
+  reached = λ t q i fault. absurd (no_read r i h.only fault);
+  needed = λ t q o fault. ap status_of (is t q);
+  output = λ t o q. subst (λ (due : List ℕ). HasOutput due before.taken after.taken (status_in r)) (sym (ap output_of (is t q))) (h.output t o);
+  files = λ t q.
+      let due : written_by q job (held_by (input_name job) before.files) ≡ Some (greedy_archive (params_for l g) g) =
+      ap (λ (b : Bool). if b then files_of (judged_on q job before.files) else None) writes ∙ ap files_of (is t q) in
+      subst (λ (f : Files). HasFiles (output_name job) (written_by q job (held_by (input_name job) before.files)) f after.files (status_in r)) same
+      (subst (λ (n : Output → Option (List ℕ)). HasFiles n (written_by q job (held_by (input_name job) before.files)) files after.files (status_in r)) names
+      (subst (λ (a : Option Archive). HasFiles (archive_named base) a files after.files (status_in r)) (sym due) (h.files t)));
+  same = λ none. absurd (let no : true ≡ false = sym writes ∙ none in cc);
+  later = none_falls-trans before.counts counts after.counts later h.later;
+  promised = λ t. built_promised (held_by (input_name job) before.files) r h.only;
+}

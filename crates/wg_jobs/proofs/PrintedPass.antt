@@ -1,0 +1,183 @@
+-- A pass over a graph file that prints a text.
+use Rattle.std.proofs.Common.{◌≡◌, ◌⊎◌, inl, inr, ℕ, ◌≤◌, Bool, List, [], ◌∷◌, ◌++◌, length, take, refl, sym, ◌∙◌, ap, subst, append_assoc, Option, Some, Result, Ok, Err, arith}
+use Rattle.std.specs.Bool.{IsTrue}
+use Rattle.std.specs.FinMap as map
+use Rattle.std.specs.Result.{IfErr, IsErrAnd}
+use Rattle.std.proofs.lemmas.List.{append-nil, take_at}
+use Rattle.wg_io.specs.Outside.{Files, Counts, Increased}
+use Rattle.wg_io.specs.Printing.{HasPrinted, HasPrintedLess}
+use Rattle.wg_io.specs.Puts.{Puts}
+use Rattle.wg_io.specs.declared.output.Output.TheVariants.{Out}
+use Rattle.wg_io.proofs.FilesLemmas.{none_falls-trans}
+use Rattle.wg_io.proofs.PrintLemmas.{puts_in_the_end}
+use Rattle.wg_io.proofs.PutsLemmas.{is_that_err, not_rose}
+use Rattle.wg_params.specs.Parameters.{Parameters, IsWithinLimits}
+use Rattle.wg_grammar.specs.Archive.{Accepted}
+use Rattle.wg_grammar.specs.Record.{Whole}
+use Rattle.wg_stream.specs.Reading.{Reading, IsInStep, IsJudged}
+use Rattle.wg_jobs.specs.Answers.{Answers, IsHindrance, IsUnput, status_in}
+use Rattle.wg_jobs.specs.Causes.{HasCause}
+use Rattle.wg_jobs.specs.Judged.{Judged, accepted}
+use Rattle.wg_jobs.specs.Names.{file_of, held_by, no_outputs}
+use Rattle.wg_jobs.specs.Passes.{Advances, IsStopAt, PrintsGraph, PutsUpTo, accepted_of, graph_then}
+use Rattle.wg_jobs.specs.Performs.{Outside, outside}
+use Rattle.wg_jobs.specs.declared.ending.Ending.{Ending}
+use Rattle.wg_jobs.specs.declared.status.Input.{Input}
+use Rattle.wg_jobs.specs.declared.status.Input.TheVariants.{Graph}
+use Rattle.wg_jobs.specs.declared.status.Status.{Status}
+use Rattle.wg_jobs.specs.declared.status.Status.TheVariants.{Done, Memory, ReadFault, WriteFault, Missing, BadArchive, OverLimit}
+use Rattle.wg_jobs.proofs.PassLemmas.{graph_goes}
+use Rattle.wg_jobs.proofs.ReadingsLaws.{the_readings}
+use Rattle.wg_jobs.proofs.UnderWay.{IsUnderWay, all_read, ends_caused, ends_told, first_read}
+
+-- ---- texts that grow with the records
+
+-- each record adds something to the end of the text
+abbrev pub Grows : (Accepted → List ℕ) → Type 0
+Grows text = (w : Whole) (ws : List Whole) → (piece : List ℕ) × (text (accepted_of (w ∷ ws)) ≡ text (accepted_of ws) ++ piece)
+
+grows_on : (text : Accepted → List ℕ) → Grows text → (rest whole : List Whole) → (more : List ℕ) × (text (accepted_of (rest ++ whole)) ≡ text (accepted_of whole) ++ more)
+grows_on text grows [] whole = ([], sym (append-nil (text (accepted_of whole))))
+grows_on text grows (w ∷ rest) whole =
+    let k = grows_on text grows rest whole in
+    let s = grows w (rest ++ whole) in
+    (k.0 ++ s.0, s.1 ∙ ap (λ (l : List ℕ). l ++ s.0) k.1 ∙ append_assoc (text (accepted_of whole)) k.0 s.0)
+
+-- what went out is a prefix of a longer text
+prefix_out : (old new out left more due text : List ℕ) → new ≡ old ++ out → text ≡ out ++ left → due ≡ text ++ more → (k : ℕ) × (new ≡ old ++ take k due)
+prefix_out old new out left more due text taken bytes whole =
+    let all : due ≡ out ++ (left ++ more) = whole ∙ ap (λ (l : List ℕ). l ++ more) bytes ∙ append_assoc out left more in
+    (length out, taken ∙ ap (λ (l : List ℕ). old ++ l) (sym (ap (take (length out)) all ∙ take_at out (left ++ more) (length out) refl)))
+
+puts_some : (due old new : List ℕ) (r : Result (Unit {0}) Ending) → Puts due old new r → PutsUpTo due old new r
+puts_some due old new (Ok done) put = put
+puts_some due old new (Err e) put = (put.0, put.2)
+
+-- ---- why a pass ended
+
+any_faults : (names : Input → Option (List ℕ)) (old new : List ℕ → Counts) (f f' : ℕ) (s : Status) → HasCause names no_outputs old new 0 0 s → HasCause names no_outputs old new f f' s
+any_faults names old new f f' s h = record { read_fault = h.read_fault; missing = h.missing; write_fault = h.write_fault; out_fault = λ is. not_rose (h.out_fault is) }
+
+put_caused : (names : Input → Option (List ℕ)) (old new : List ℕ → Counts) (f f' : ℕ) (s : Status) → IsUnput s → (s ≡ WriteFault Out → Increased f f') → HasCause names no_outputs old new f f' s
+put_caused names old new f f' s (inl fault) rose = record {
+  read_fault = λ i is. absurd (let no : WriteFault Out ≡ ReadFault i = sym fault ∙ is in cc);
+  missing = λ i is. absurd (let no : WriteFault Out ≡ Missing i = sym fault ∙ is in cc);
+  write_fault = λ o other is. absurd (other (let same : WriteFault o ≡ WriteFault Out = sym is ∙ fault in cc));
+  out_fault = rose;
+}
+put_caused names old new f f' s (inr want) rose = record {
+  read_fault = λ i is. absurd (let no : Memory ≡ ReadFault i = sym want ∙ is in cc);
+  missing = λ i is. absurd (let no : Memory ≡ Missing i = sym want ∙ is in cc);
+  write_fault = λ o other is. absurd (let no : Memory ≡ WriteFault o = sym want ∙ is in cc);
+  out_fault = rose;
+}
+
+done_by : (names : Input → Option (List ℕ)) (old new : List ℕ → Counts) (f f' : ℕ) → HasCause names no_outputs old new f f' Done
+done_by names old new f f' = record {
+  read_fault = λ i is. absurd (let no : Done ≡ ReadFault i = is in cc);
+  missing = λ i is. absurd (let no : Done ≡ Missing i = is in cc);
+  write_fault = λ o other is. absurd (let no : Done ≡ WriteFault o = is in cc);
+  out_fault = λ is. absurd (let no : Done ≡ WriteFault Out = is in cc);
+}
+
+put_cause_in : (names : Input → Option (List ℕ)) (old new : List ℕ → Counts) (f f' : ℕ) (r : Result (Unit {0}) Ending) → IfErr r (λ e. IsUnput e.status) → (status_in r ≡ WriteFault Out → Increased f f')
+    → HasCause names no_outputs old new f f' (status_in r)
+put_cause_in names old new f f' (Ok done) only rose = done_by names old new f f'
+put_cause_in names old new f f' (Err e) only rose = put_caused names old new f f' e.status only rose
+
+unput_hinders : (s : Status) → IsUnput s → IsHindrance s
+unput_hinders s (inl fault) = subst IsHindrance (sym fault) tt
+unput_hinders s (inr want) = subst IsHindrance (sym want) tt
+
+hinders_in : (r : Result (Unit {0}) Ending) → IfErr r (λ e. IsUnput e.status) → IfErr r (λ e. IsHindrance e.status)
+hinders_in (Ok done) only = tt
+hinders_in (Err e) only = unput_hinders e.status only
+
+only_in : (n : ℕ) (r : Result (Unit {0}) Ending) → IfErr r (λ e. IsUnput e.status) → IfErr r (λ e. IsStopAt Graph n e ⊎ IsUnput e.status)
+only_in n (Ok done) only = tt
+only_in n (Err e) only = inr only
+
+-- a stop is not the end of a job that was done
+never_done : (i : Input) (n : ℕ) (e : Ending) → IsStopAt i n e → e.status ≡ Done → ⊥
+never_done i n e (inl (inl want)) is = let no : Memory ≡ Done = sym want ∙ is in cc
+never_done i n e (inl (inr (inl fault))) is = let no : ReadFault i ≡ Done = sym fault ∙ is in cc
+never_done i n e (inl (inr (inr (inl gone)))) is = let no : Missing i ≡ Done = sym gone ∙ is in cc
+never_done i n e (inl (inr (inr (inr long)))) is = let no : OverLimit i ≡ Done = sym long ∙ is in cc
+never_done i n e (inr (inl want)) is = let no : Memory ≡ Done = sym want ∙ is in cc
+never_done i n e (inr (inr fault)) is = let no : BadArchive fault.0 ≡ Done = sym fault.2 ∙ is in cc
+
+answers_hinder : (s : Status) (text : List ℕ) → Answers (accepted text) s → (s ≡ Done → ⊥) → IsHindrance s
+answers_hinder s text (inl is) never = absurd (never is)
+answers_hinder s text (inr hinders) never = hinders
+
+-- the exit of a `?`
+pub prints_exit : (base : List ℕ) (p : Parameters) (text : Accepted → List ℕ) (td to : Bool) (before after : Outside) (r : Result (Unit {0}) Ending) (e : Ending) → IsErrAnd r (λ x. x ≡ e)
+    → PrintsGraph base p text td to before after (Err e) → PrintsGraph base p text td to before after r
+prints_exit base p text td to before after r e is h = subst (λ (x : Result (Unit {0}) Ending). PrintsGraph base p text td to before after x) (sym (is_that_err r e is)) h
+
+module _ (base : List ℕ) (p : Parameters) (text : Accepted → List ℕ) (td to : Bool) (files : Files) (counts : List ℕ → Counts) (t0 : List ℕ) (f0 : ℕ) where
+  -- nothing was begun, since memory was out
+  pub prints_none : (e : Ending) → e.status ≡ Memory → PrintsGraph base p text td to (outside files counts t0 f0) (outside files counts t0 f0) (Err e)
+  prints_none e want = record {
+    same = refl;
+    later = record { read_faults = λ n. omega arith; write_faults = λ n. omega arith; absences = λ n. omega arith; wants = λ n. omega arith };
+    only = inr (inr want);
+    causes = put_caused (file_of base) counts counts f0 f0 e.status (inr want) (λ is. absurd (let no : Memory ≡ WriteFault Out = sym want ∙ is in cc));
+    hindered = λ t x g. unput_hinders e.status (inr want);
+    puts = λ t o x g. (0, sym (append-nil t0));
+  }
+
+  module _ (limits : IsWithinLimits p) (grows : Grows text) (files1 : Files) (counts1 : List ℕ → Counts) (n : ℕ) (a : Reading) (t1 : List ℕ) where
+    -- the reading stopped
+    pub prints_read : (waits : List ℕ) (h : IsUnderWay td base p files files1 counts counts1 n a (λ whole. IsTrue to → HasPrinted t0 t1 [] (text (accepted_of whole)) waits)) → n ≤ p.nodes
+        → (files2 : Files) (counts2 : List ℕ → Counts) (b : Reading) (f1 : ℕ) (e : Ending) → Advances {B = Unit {0}} td files1 files2 counts1 counts2 p a b (Err e)
+        → PrintsGraph base p text td to (outside files counts t0 f0) (outside files2 counts2 t1 f1) (Err e)
+    prints_read waits h few files2 counts2 b f1 e step = record {
+      same = step.same ∙ h.same;
+      later = none_falls-trans _ _ _ h.later step.later;
+      only = inl step.only;
+      causes = any_faults (file_of base) counts counts2 f0 f1 e.status (ends_caused td base p files counts files1 files2 counts1 counts2 n a b _ h e step);
+      hindered = λ t x g.
+          let told = ends_told td base p files counts files1 files2 counts1 counts2 n a b _ h e step t limits the_readings (λ y. accepted []) in
+          let is : graph_then the_readings p (held_by (file_of base) files Graph) (λ y. accepted []) ≡ accepted [] = graph_goes the_readings p limits (held_by (file_of base) files Graph) x g (λ y. accepted []) in
+          answers_hinder e.status [] (subst (λ (j : Judged). Answers j e.status) is told) (never_done Graph p.arcs e step.only);
+      puts = λ t o x g.
+          let k = first_read td base p files counts files1 files1 counts1 counts1 n a a _ h limits few t x g in
+          let m = grows_on text grows k.2 k.0 in
+          let q = k.1 o in
+          prefix_out t0 t1 q.out waits m.0 (text x) (text (accepted_of k.0)) q.taken q.bytes (ap text k.3 ∙ m.1);
+    }
+
+    -- the output stopped
+    pub prints_less : (h : IsUnderWay td base p files files1 counts counts1 n a (λ whole. IsTrue to → HasPrintedLess t0 t1 [] (text (accepted_of whole)))) → n ≤ p.nodes
+        → (f1 : ℕ) (e : Ending) → IsUnput e.status → (e.status ≡ WriteFault Out → Increased f0 f1)
+        → PrintsGraph base p text td to (outside files counts t0 f0) (outside files1 counts1 t1 f1) (Err e)
+    prints_less h few f1 e only rose = record {
+      same = h.same;
+      later = h.later;
+      only = inr only;
+      causes = put_caused (file_of base) counts counts1 f0 f1 e.status only rose;
+      hindered = λ t x g. unput_hinders e.status only;
+      puts = λ t o x g.
+          let k = first_read td base p files counts files1 files1 counts1 counts1 n a a _ h limits few t x g in
+          let m = grows_on text grows k.2 k.0 in
+          let q = k.1 o in
+          prefix_out t0 t1 q.out q.left m.0 (text x) (text (accepted_of k.0)) q.taken q.bytes (ap text k.3 ∙ m.1);
+    }
+
+    -- all was read, and what waits goes out
+    pub prints_all : (waits : List ℕ) (h : IsUnderWay td base p files files1 counts counts1 n a (λ whole. IsTrue to → HasPrinted t0 t1 [] (text (accepted_of whole)) waits))
+        → (files2 : Files) (counts2 : List ℕ → Counts) (b : Reading) → Advances {B = Unit {0}} td files1 files2 counts1 counts2 p a b (Ok tt)
+        → (IsTrue td → (held : Files) → files1 ≡ held → (file : List ℕ) → map.get held a.name ≡ Some file → (whole : List Whole) → IsInStep file a whole → IsJudged file p (Ok (accepted_of whole)))
+        → (t2 : List ℕ) (f1 : ℕ) (r : Result (Unit {0}) Ending) → (IsTrue to → Puts waits t1 t2 r) → IfErr r (λ e. IsUnput e.status) → (status_in r ≡ WriteFault Out → Increased f0 f1)
+        → PrintsGraph base p text td to (outside files counts t0 f0) (outside files2 counts2 t2 f1) r
+    prints_all waits h files2 counts2 b step judged t2 f1 r put only rose = record {
+      same = step.same ∙ h.same;
+      later = none_falls-trans _ _ _ h.later step.later;
+      only = only_in p.arcs r only;
+      causes = put_cause_in (file_of base) counts counts2 f0 f1 r only rose;
+      hindered = λ t x g. hinders_in r only;
+      puts = λ t o x g.
+          let k = all_read td base p files counts files1 files2 counts1 counts2 n a b _ h limits judged t x g in
+          subst (λ (y : List ℕ). PutsUpTo y t0 t2 r) (sym (ap text k.2)) (puts_some (text (accepted_of k.0)) t0 t2 r (puts_in_the_end t0 t1 t2 (text (accepted_of k.0)) waits r (k.1 o) (put o)));
+    }

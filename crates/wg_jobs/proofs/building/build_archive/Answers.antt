@@ -1,0 +1,29 @@
+use Rattle.std.proofs.Common.{rules, sym, subst}
+use Rattle.wg_jobs.specs.Answers.{HasOutput}
+use Rattle.wg_jobs.specs.Causes.{HasCause}
+use Rattle.wg_jobs.specs.Names.{archive_named}
+use Rattle.wg_jobs.specs.declared.status.Status.{Status}
+use Rattle.wg_jobs.proofs.BuildLemmas.{ended_by, stopped_cause, stopped_output}
+use Rattle.wg_jobs.proofs.building.build_archive.Goals as goal
+
+pub returns-in_err-bits : goal.returns-in_err-bits
+returns-in_err-bits g c =
+    let status = ended_by c.from_residual.result c.in_err-bits.field-0.0 c.from_residual.ensures.1 in
+    record {
+      only = search rules;
+      causes = λ inputs.
+          subst (λ (s : Status). HasCause inputs (archive_named c.args.base.now) (g.D.Depot.counts c.args.depot.now) (g.D.Depot.counts c.write_archive.new.depot) (g.O.Sink.faults c.args.out.now) (g.O.Sink.faults c.args.out.now) s) (sym status)
+          (stopped_cause inputs c.args.base.now _ _ _ _ c.in_err-bits.field-0.0.status c.in_err-bits.ensures.only c.in_err-bits.ensures.causes);
+      output = λ t o. subst (HasOutput _ (g.O.Sink.taken c.args.out.now) (g.O.Sink.taken c.args.out.now)) (sym status) (stopped_output _ (g.O.Sink.taken c.args.out.now) c.in_err-bits.field-0.0.status c.in_err-bits.ensures.only);
+      files = search rules;
+      later = search rules;
+    }
+
+pub returns : goal.returns
+returns g c = record {
+  only = search rules;
+  causes = search rules;
+  output = search rules;
+  files = search rules;
+  later = search rules;
+}

@@ -1,0 +1,23 @@
+use Rattle.wg_jobs.proofs.PerformsLemmas.{performs_at}
+use Rattle.wg_jobs.proofs.dispatch.perform.Goals as goal
+
+pub returns-in-Check : goal.returns-in-Check
+returns-in-Check g c = performs_at _ _ _ _ _ _ _ _ _ _ c.in-Check.is c.ending_of.ensures.status c.ending_of.ensures.arcs c.check.ensures
+
+pub returns-in-Arcs : goal.returns-in-Arcs
+returns-in-Arcs g c = performs_at _ _ _ _ _ _ _ _ _ _ c.in-Arcs.is c.ending_of-in-Arcs.ensures.status c.ending_of-in-Arcs.ensures.arcs c.arcs.ensures
+
+pub returns-in-Offsets : goal.returns-in-Offsets
+returns-in-Offsets g c = performs_at _ _ _ _ _ _ _ _ _ _ c.in-Offsets.is c.ending_of-in-Offsets.ensures.status c.ending_of-in-Offsets.ensures.arcs c.offsets.ensures
+
+pub returns-in-Rank : goal.returns-in-Rank
+returns-in-Rank g c = performs_at _ _ _ _ _ _ _ _ _ _ c.in-Rank.is c.ending_of-in-Rank.ensures.status c.ending_of-in-Rank.ensures.arcs c.rank.ensures
+
+pub returns-in-Build : goal.returns-in-Build
+returns-in-Build g c = performs_at _ _ _ _ _ _ _ _ _ _ c.in-Build.is c.ending_of-in-Build.ensures.status c.ending_of-in-Build.ensures.arcs c.build.ensures
+
+pub returns-in-Recode : goal.returns-in-Recode
+returns-in-Recode g c = performs_at _ _ _ _ _ _ _ _ _ _ c.in-Recode.is c.ending_of-in-Recode.ensures.status c.ending_of-in-Recode.ensures.arcs c.recode.ensures
+
+pub returns-in-Transpose : goal.returns-in-Transpose
+returns-in-Transpose g c = performs_at _ _ _ _ _ _ _ _ _ _ c.in-Transpose.is c.ending_of-in-Transpose.ensures.status c.ending_of-in-Transpose.ensures.arcs c.transpose.ensures

@@ -1,0 +1,14 @@
+use Rattle.std.proofs.Common.{[], IsTrue}
+use Rattle.wg_io.specs.Printing.{HasPrinted}
+use Rattle.wg_grammar.specs.Archive.{places_of}
+use Rattle.wg_jobs.specs.Judged.{number_lines}
+use Rattle.wg_jobs.proofs.UnderWay.{IsUnderWay}
+use Rattle.wg_jobs.proofs.offsets.print_offsets.Given as goal
+
+-- the offsets of the records so far are printed
+abbrev pub invariant-loop-page : goal.invariant-loop-page
+invariant-loop-page g l = let d = g.D.Depot in let o = g.O.Sink in record {
+  way : IsUnderWay d.told l.fn.base l.fn.params (d.files l.fn.depot) (d.files l.depot) (d.counts l.fn.depot) (d.counts l.depot) l._page l.reader
+      (λ whole. IsTrue o.told → HasPrinted (o.taken l.fn.out) (o.taken l.out) [] (number_lines (places_of whole)) l.lines);
+  later : o.later l.fn.out l.out;
+}

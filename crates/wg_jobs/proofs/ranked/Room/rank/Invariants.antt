@@ -1,0 +1,16 @@
+use Rattle.std.proofs.Common.{◌≡◌, length}
+use Rattle.wg_rank.specs.Intervals.{Holds}
+use Rattle.wg_jobs.specs.Ranked.{alike}
+use Rattle.wg_jobs.proofs.ranked.Room.rank.Given as goal
+
+-- the bounds are those of the graph after the rounds so far
+abbrev pub invariant-loop : goal.invariant-loop
+invariant-loop l = record {
+  same : l.lists.graph ≡ l.graph;
+  pages : length l.bounds.low ≡ l.graph.nodes;
+  ranked_pages : length l.ranking.low ≡ l.graph.nodes;
+  after : l.bounds.rounds ≡ l.counter;
+  damped : l.bounds.damping ≡ l.fn.self.bounds.damping;
+  weighed : l.bounds.weights ≡ alike l.graph;
+  holds : Holds l.bounds l.graph;
+}

@@ -1,0 +1,13 @@
+pub mod Codes
+pub mod Readings
+pub mod Ranked
+pub mod Written
+pub mod Judged
+pub mod Answers
+pub mod Causes
+pub mod Names
+pub mod Promised
+pub mod Built
+pub mod Performs
+pub mod Passes
+pub mod Pairing

@@ -1,0 +1,81 @@
+-- What stands where a job has ended.
+use Rattle.std.specs.Prelude.{◌≡◌, ℕ, Bool, false, List, Option, Some, Result, IsTrue, IfErr}
+use Rattle.wg_io.specs.Outside.{Files, Counts, NonDecreasing}
+use Rattle.wg_io.specs.declared.depot.Depot as depot
+use Rattle.wg_io.specs.declared.sink.Sink as sink
+use Rattle.wg_io.specs.declared.output.Output.{Output}
+use Rattle.wg_graph.specs.Digraph.{Digraph}
+use Rattle.wg_words.specs.declared.jobs.Job.{Job}
+use Rattle.wg_words.specs.declared.layout.Layout.{Layout}
+use Rattle.wg_jobs.specs.Answers.{Answers, HasOutput, Reaches, status_in}
+use Rattle.wg_jobs.specs.Causes.{HasCause}
+use Rattle.wg_jobs.specs.Judged.{Judged, greedy_line, judged, output_of, status_of, written_by}
+use Rattle.wg_jobs.specs.Promised.{ArePromised}
+use Rattle.wg_jobs.specs.Names.{archive_named, can_end, held_by, input_name, output_name, writes_files}
+use Rattle.wg_jobs.specs.Readings.{Readings}
+use Rattle.wg_jobs.specs.Written.{HasFiles, IsStopped, greedy_archive, params_for}
+use Rattle.wg_jobs.specs.declared.ending.Ending.{Ending}
+use Rattle.wg_jobs.specs.declared.status.Input.{Input}
+use Rattle.wg_jobs.specs.declared.status.Status.{Status}
+use Rattle.wg_jobs.specs.declared.status.Status.TheVariants.{Done, ReadFault, WriteFault}
+
+-- the outside of a job at one moment: the files of the depot and its counts, what the output has taken, and how often the output failed
+pub record Outside : Type 0 where
+  pub files : Files
+  pub counts : List ℕ → Counts
+  pub taken : List ℕ
+  pub faults : ℕ
+
+abbrev pub outside : Files → (List ℕ → Counts) → List ℕ → ℕ → Outside
+outside files counts taken faults = record { files = files; counts = counts; taken = taken; faults = faults }
+
+-- what a job comes to on these files
+abbrev pub judged_on : Readings → Job → Files → Judged
+judged_on r job files = judged r job (held_by (input_name job) files)
+
+-- The job was done or has ended with this status, where the properties promise so many arcs. What the files or the output hold is told only of a
+-- depot and an output whose ghosts are told.
+pub record Performs (job : Job) (told_files told_out : Bool) (before after : Outside) (status : Status) (arcs : ℕ) : Type 0 where
+  -- the status is the one that the job and its inputs lead to, or a fault of the outside or want of memory came in its place
+  pub answers : IsTrue told_files → (r : Readings) → Answers (judged_on r job before.files) status
+  -- it is one of those that this job can have at all
+  pub possible : IsTrue (can_end job status)
+  -- a fault or an absence is told only where the outside counted it
+  pub causes : HasCause (input_name job) (output_name job) before.counts after.counts before.faults after.faults status
+  -- a fault of an input is told only where the job had come so far
+  pub reached : IsTrue told_files → (r : Readings) (i : Input) → status ≡ ReadFault i → Reaches r job (held_by (input_name job) before.files) i
+  -- a fault of an output is told only where nothing was to be refused
+  pub needed : IsTrue told_files → (r : Readings) (o : Output) → status ≡ WriteFault o → status_of (judged_on r job before.files) ≡ Done
+  -- what stands on the output
+  pub output : IsTrue told_files → IsTrue told_out → (r : Readings) → HasOutput (output_of (judged_on r job before.files)) before.taken after.taken status
+  -- what stands in the files
+  pub files : IsTrue told_files → (r : Readings) → HasFiles (output_name job) (written_by r job (held_by (input_name job) before.files)) before.files after.files status
+  -- a job that writes no file leaves them all, told or not
+  pub same : writes_files job ≡ false → after.files ≡ before.files
+  -- no count of the depot falls
+  pub later : NonDecreasing before.counts after.counts
+  -- the arcs are those that the line of the status names
+  pub promised : IsTrue told_files → ArePromised (held_by (input_name job) before.files) status arcs
+
+-- the same, of a depot and an output that a function changes
+abbrev pub Does : {D O : Type 0} → depot.Ghosts D → sink.Ghosts O → Job → D → D → O → O → Status → ℕ → Type 0
+Does d o job before after out out' status arcs =
+    Performs job d.told o.told (outside (d.files before) (d.counts before) (o.taken out) (o.faults out)) (outside (d.files after) (d.counts after) (o.taken out') (o.faults out')) status arcs
+
+-- The greedy archive of a graph was written in a layout, and its line printed; or what was left where this stopped.
+pub record BuildsArchive (l : Layout) (g : Digraph) (base : List ℕ) (told_files told_out : Bool) (before after : Outside) (result : Result (Unit {0}) Ending) : Type 0 where
+  -- a file, the output or memory alone can stop it
+  pub only : IfErr result (λ e. IsStopped e.status)
+  -- a fault is told only where the outside counted it
+  pub causes : (inputs : Input → Option (List ℕ)) → HasCause inputs (archive_named base) before.counts after.counts before.faults after.faults (status_in result)
+  -- what stands on the output
+  pub output : IsTrue told_files → IsTrue told_out → HasOutput (greedy_line (params_for l g) g) before.taken after.taken (status_in result)
+  -- what stands in the files
+  pub files : IsTrue told_files → HasFiles (archive_named base) (Some (greedy_archive (params_for l g) g)) before.files after.files (status_in result)
+  -- no count of the depot falls
+  pub later : NonDecreasing before.counts after.counts
+
+-- the same, of a depot and an output that a function changes
+abbrev pub Builds : {D O : Type 0} → depot.Ghosts D → sink.Ghosts O → Layout → Digraph → List ℕ → D → D → O → O → Result (Unit {0}) Ending → Type 0
+Builds d o l g base before after out out' result =
+    BuildsArchive l g base d.told o.told (outside (d.files before) (d.counts before) (o.taken out) (o.faults out)) (outside (d.files after) (d.counts after) (o.taken out') (o.faults out')) result

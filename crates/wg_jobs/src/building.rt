@@ -1,0 +1,57 @@
+//! The archive of a graph, in the layout that the options give, and the line of what it holds.
+ghost use Rattle.std.specs.Prelude.{◌≡◌};
+ghost use Rattle.wg_params.specs.Parameters.{IsWithinLimits};
+ghost use Rattle.wg_words.specs.Layouts.{params_of};
+ghost use Rattle.wg_jobs.specs.Performs.{Builds};
+ghost use Rattle.wg_jobs.specs.Written.{params_for};
+
+use crate::ending::Ending;
+use crate::print::print_ok;
+use crate::writing::write_archive;
+use std::alloc::Global;
+use wg_graph::Graph;
+use wg_io::{Depot, Sink};
+use wg_params::Params;
+use wg_words::{Layout, Name};
+
+/// Writes the greedy archive of a graph, and prints the line of what it holds. Beside the graph it holds one record, and buffers of 8192 bytes.
+pub fn build_archive<D: Depot, O: Sink>(
+    alloc: Global,
+    layout: &Layout,
+    graph: &Graph,
+    base: &Name,
+    depot: &mut D,
+    out: &mut O,
+) -> Result<(), Ending>
+    requires { IsWithinLimits (params_of layout.now 0 0) }
+    ensures { Builds ⟦<D as Depot>⟧ ⟦<O as Sink>⟧ layout.now graph.now base.now depot.old depot.new out.old out.new result }
+{
+    let params = params_for(layout, graph);
+    let bits = write_archive(alloc, &params, graph, base, depot)?;
+    print_ok(out, &params, bits)
+}
+
+// The parameters of an archive of the graph in this layout.
+fn params_for(layout: &Layout, graph: &Graph) -> Params
+    requires { IsWithinLimits (params_of layout.now 0 0) }
+    ensures { result ≡ params_for layout.now graph.now }
+{
+    let made = Params::new(
+        graph.nodes(),
+        graph.arcs(),
+        layout.window,
+        layout.chain,
+        layout.interval,
+        layout.zeta,
+        layout.outdegrees,
+        layout.references,
+        layout.block_counts,
+        layout.blocks,
+        layout.residuals,
+        layout.offsets,
+    );
+    match made {
+        Ok(params) => params,
+        Err(_) => unreachable!(),
+    }
+}

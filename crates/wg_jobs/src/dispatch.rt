@@ -1,0 +1,70 @@
+ghost use Rattle.std.specs.Prelude.{◌≡◌};
+ghost use Rattle.wg_words.specs.Jobs.{IsWithin};
+ghost use Rattle.wg_jobs.specs.Answers.{status_in};
+ghost use Rattle.wg_jobs.specs.Promised.{arcs_in};
+ghost use Rattle.wg_jobs.specs.Performs.{Does};
+
+use crate::Status;
+use crate::arcs::arcs;
+use crate::build::build;
+use crate::check::check;
+use crate::ending::Ending;
+use crate::offsets::offsets;
+use crate::rank::{Asked, rank};
+use crate::recode::recode;
+use crate::transpose::transpose;
+use std::alloc::Global;
+use wg_io::{Depot, Sink};
+use wg_words::Job;
+
+// How what was done or has ended is reported.
+fn ending_of(done: Result<(), Ending>) -> Ending
+    ensures status { result.status ≡ status_in done }
+    ensures arcs { result.arcs ≡ arcs_in done }
+{
+    match done {
+        Ok(()) => Ending::of(Status::Done),
+        Err(ending) => ending,
+    }
+}
+
+/// Does the job, and says how it ended.
+pub fn perform<D: Depot, O: Sink>(alloc: Global, job: &Job, depot: &mut D, out: &mut O) -> Ending
+    requires { IsWithin job.now }
+    ensures { Does ⟦<D as Depot>⟧ ⟦<O as Sink>⟧ job.now depot.old depot.new out.old out.new result.status result.arcs }
+{
+    match job {
+        Job::Check { base } => ending_of(check(alloc, base, depot, out)),
+        Job::Arcs { base } => ending_of(arcs(alloc, base, depot, out)),
+        Job::Offsets { base } => ending_of(offsets(alloc, base, depot, out)),
+        Job::Rank {
+            base,
+            rounds,
+            damping,
+            top,
+        } => {
+            let asked = Asked {
+                rounds: *rounds,
+                damping: *damping,
+                top: *top,
+            };
+            ending_of(rank(alloc, base, asked, depot, out))
+        }
+        Job::Build {
+            arcs,
+            base,
+            nodes,
+            layout,
+        } => ending_of(build(alloc, arcs, base, *nodes, layout, depot, out)),
+        Job::Recode {
+            input,
+            output,
+            layout,
+        } => ending_of(recode(alloc, input, output, layout, depot, out)),
+        Job::Transpose {
+            input,
+            output,
+            layout,
+        } => ending_of(transpose(alloc, input, output, layout, depot, out)),
+    }
+}

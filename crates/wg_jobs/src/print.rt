@@ -1,0 +1,160 @@
+//! What goes to the output.
+ghost use Rattle.std.specs.Prelude.{◌≡◌, ◌≤◌, ◌<◌, true, length, take, IsTrue, IsErrOf, IfErr, Err};
+ghost use Rattle.wg_io.specs.Puts.{Puts};
+ghost use Rattle.wg_io.specs.Refusals.{SinkRefusals};
+ghost use Rattle.wg_jobs.specs.Answers.{IsUnput, PrintRefusals};
+ghost use Rattle.wg_io.specs.Printing.{Prints};
+ghost use Rattle.wg_arcs.specs.Text.{page_lines};
+ghost use Rattle.wg_io.specs.declared.lines.TheConstants.{MOST_PIECE};
+ghost use Rattle.wg_jobs.specs.Ranked.{rank_line, rank_lines};
+ghost use Rattle.wg_jobs.specs.Judged.{number_line, ok_line};
+ghost use Rattle.wg_io.specs.declared.output.Output.TheVariants.{Out};
+
+use crate::Status;
+use crate::ending::Ending;
+use crate::ranked::Ranked;
+use crate::text::Text;
+use wg_io::{Lines, Output, Sink, WriteError, write_all};
+use wg_num::units_text;
+use wg_params::Params;
+
+// A piece of the output.
+fn print<O: Sink>(out: &mut O, piece: &[u8]) -> Result<(), Ending>
+    ensures puts { IsTrue O.told → Puts piece.now (O.taken out.old) (O.taken out.new) result }
+    ensures refusals { PrintRefusals ⟦<O as Sink>⟧ out.old out.new result }
+{
+    match write_all(out, piece) {
+        Ok(()) => Ok(()),
+        Err(error) => Err(output_ending(error)),
+    }
+}
+
+// How a job ends whose output the sink does not take.
+fn output_ending(error: WriteError) -> Ending
+    ensures only { IsUnput result.status }
+    ensures fault { result.status ≡ Status.WriteFault Out → error ≡ WriteError.Failed }
+    ensures want { result.status ≡ Status.Memory → error ≡ WriteError.Memory }
+{
+    match error {
+        WriteError::Failed => Ending::of(Status::WriteFault(Output::Out)),
+        WriteError::Memory => Ending::of(Status::Memory),
+    }
+}
+
+fn ok_line(params: &Params, bits: u64) -> Text
+    ensures { result ≡ ok_line params.now bits }
+{
+    Text::new()
+        .with("ok nodes=")
+        .with_number(params.nodes())
+        .with(" arcs=")
+        .with_number(params.arcs())
+        .with(" bits=")
+        .with_number(bits)
+        .with("\n")
+}
+
+/// Prints the line of an accepted archive, in one call where the output takes it whole.
+pub fn print_ok<O: Sink>(out: &mut O, params: &Params, bits: u64) -> Result<(), Ending>
+    ensures puts { IsTrue O.told → Puts (ok_line params.now bits) (O.taken out.old) (O.taken out.new) result }
+    ensures refusals { PrintRefusals ⟦<O as Sink>⟧ out.old out.new result }
+{
+    print(out, ok_line(params, bits).as_bytes())
+}
+
+// A line of one number.
+fn write_line<S: Sink>(lines: &mut Lines, sink: &mut S, number: u64) -> Result<(), WriteError>
+    ensures prints { IsTrue S.told → Prints (number_line number) (S.taken sink.old) (S.taken sink.new) lines.old lines.new result }
+    ensures later { S.later sink.old sink.new }
+    ensures refusals { SinkRefusals ⟦<S as Sink>⟧ sink.old sink.new result }
+{
+    lines.number(sink, number)?;
+    lines.byte(sink, b'\n')
+}
+
+/// Prints a line of one number.
+pub fn print_number<O: Sink>(lines: &mut Lines, out: &mut O, number: u64) -> Result<(), Ending>
+    ensures prints { IsTrue O.told → Prints (number_line number) (O.taken out.old) (O.taken out.new) lines.old lines.new result }
+    ensures later { O.later out.old out.new }
+    ensures refusals { PrintRefusals ⟦<O as Sink>⟧ out.old out.new result }
+{
+    match write_line(lines, out, number) {
+        Ok(()) => Ok(()),
+        Err(error) => Err(output_ending(error)),
+    }
+}
+
+/// Prints the lines of the arcs of a page.
+pub fn print_page<O: Sink>(
+    lines: &mut Lines,
+    out: &mut O,
+    page: u64,
+    list: &[u64],
+) -> Result<(), Ending>
+    ensures prints { IsTrue O.told → Prints (page_lines page list.now) (O.taken out.old) (O.taken out.new) lines.old lines.new result }
+    ensures later { O.later out.old out.new }
+    ensures refusals { PrintRefusals ⟦<O as Sink>⟧ out.old out.new result }
+{
+    match wg_arcs::print_list(lines, out, page, list) {
+        Ok(()) => Ok(()),
+        Err(error) => Err(output_ending(error)),
+    }
+}
+
+/// Sends out what waits to be printed.
+pub fn print_rest<O: Sink>(lines: &mut Lines, out: &mut O) -> Result<(), Ending>
+    ensures puts { IsTrue O.told → Puts lines.old (O.taken out.old) (O.taken out.new) result }
+    ensures later { O.later out.old out.new }
+    ensures refusals { PrintRefusals ⟦<O as Sink>⟧ out.old out.new result }
+{
+    match lines.flush(out) {
+        Ok(()) => Ok(()),
+        Err(error) => Err(output_ending(error)),
+    }
+}
+
+// The line of a page of the ranking.
+fn rank_line(ranked: &Ranked, page: u64) -> Text
+    requires { page < length ranked.now.ranking.low }
+    ensures text { result ≡ rank_line ranked.now.ranking page }
+    ensures short { length result ≤ MOST_PIECE }
+{
+    Text::new()
+        .with_number(page)
+        .with(" ")
+        .with_bytes(units_text(ranked.bounds.low(page)).as_slice())
+        .with(" ")
+        .with_bytes(units_text(ranked.bounds.high(page)).as_slice())
+        .with(" ")
+        .with_number(ranked.ranking.best(page))
+        .with(" ")
+        .with_number(ranked.ranking.worst(page))
+        .with("\n")
+}
+
+// Writes the lines of the first pages of the ranking through a fixed buffer.
+fn write_ranking<S: Sink>(sink: &mut S, ranked: &Ranked, count: u64) -> Result<(), WriteError>
+    requires { count ≤ length ranked.now.ranking.low }
+    ensures puts { IsTrue S.told → Puts (rank_lines ranked.now.ranking (take count ranked.now.ranking.pages)) (S.taken sink.old) (S.taken sink.new) result }
+    ensures later { S.later sink.old sink.new }
+    ensures refusals { SinkRefusals ⟦<S as Sink>⟧ sink.old sink.new result }
+{
+    let mut lines = Lines::new();
+    for place in 0..count {
+        let line = rank_line(ranked, ranked.ranking.page(place));
+        lines.text(sink, line.as_bytes())?;
+    }
+    lines.flush(sink)
+}
+
+/// Prints the lines of the first pages of the ranking.
+pub fn print_ranking<O: Sink>(out: &mut O, ranked: &Ranked, count: u64) -> Result<(), Ending>
+    requires { count ≤ length ranked.now.ranking.low }
+    ensures puts { IsTrue O.told → Puts (rank_lines ranked.now.ranking (take count ranked.now.ranking.pages)) (O.taken out.old) (O.taken out.new) result }
+    ensures refusals { PrintRefusals ⟦<O as Sink>⟧ out.old out.new result }
+{
+    match write_ranking(out, ranked, count) {
+        Ok(()) => Ok(()),
+        Err(error) => Err(output_ending(error)),
+    }
+}
