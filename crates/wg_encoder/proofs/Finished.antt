@@ -1,9 +1,8 @@
 -- The end of the two files, once all pages are done.
-use Rattle.std.proofs.Common.{◌≡◌, ◌≢◌, ℕ, ◌+◌, ◌-◌, ◌*◌, ◌%◌, Bool, false, List, [], ◌++◌, length, length-append, take, replicate, sym, ap, subst, ◌∙◌, inl, inr, arith}
+use Rattle.std.proofs.Common.{◌≡◌, ◌≢◌, ℕ, ◌+◌, ◌-◌, ◌*◌, ◌%◌, Bool, false, List, [], ◌++◌, length, length-append, replicate, sym, ap, subst, ◌∙◌, inl, inr, arith}
 use Rattle.std.specs.Prelude.{Option}
-use Rattle.std.specs.List.{flat_map}
 use Rattle.std.specs.FinMap as fin
-use Rattle.std.proofs.lemmas.List.{append-nil, take_all}
+use Rattle.std.proofs.lemmas.List.{append-nil}
 use Rattle.wg_io.specs.Outside.{Files}
 use Rattle.wg_io.specs.Suffixes.{graph_name, offsets_name}
 use Rattle.wg_io.proofs.SuffixLemmas.{graph_offsets}
@@ -11,18 +10,15 @@ use Rattle.wg_io.specs.declared.output.Output.TheVariants as output
 use Rattle.wg_bits.specs.Bits.{bits_of}
 use Rattle.wg_bits.specs.Written.{HasPut, HasPutLess, padding}
 use Rattle.wg_bits.proofs.Words.{length-bits_of}
-use Rattle.wg_codes.specs.Words.{word}
 use Rattle.wg_params.specs.Parameters.{Parameters}
-use Rattle.wg_graph.specs.Digraph.{Digraph}
 use Rattle.wg_encoder.specs.declared.error.EncodeError.{EncodeError}
-use Rattle.wg_encoder.specs.Archive.{record_bits, graph_bits, offset_values, offsets_bits, filled, graph_file, offsets_file}
-use Rattle.wg_encoder.specs.Encoding.{Encoding, bits_before, IsGreedyUpTo}
-use Rattle.wg_encoder.specs.Gone.{HasSent, HasSentUpTo, IsWritten, HasStopped, HasFailedOn, HoldsFront, HoldsLess}
+use Rattle.wg_encoder.specs.Archive.{graph_bits, offsets_bits, filled, graph_file, offsets_file}
+use Rattle.wg_encoder.specs.Encoding.{Encoded, HasWritten}
+use Rattle.wg_encoder.specs.Gone.{HasSent, HasSentAll, IsWritten, HasStopped, HasFailedOn, HoldsFront, HoldsLess}
 use Rattle.wg_encoder.proofs.Bytes.{graph_again, offsets_again, graph_bytes, offsets_bytes}
 use Rattle.wg_encoder.proofs.Texts.{sent_front, sent_whole}
 use Rattle.wg_encoder.proofs.Sent.{sent_put, put_less, other_put, other_less, sent_along}
-use Rattle.wg_encoder.proofs.Pages.{many_bits, many_words}
-use Rattle.wg_encoder.proofs.Stopped.{next_word, offsets_more}
+use Rattle.wg_encoder.proofs.Stopped.{next_word, words_put}
 
 -- all that is missing to a whole byte
 abbrev fill : List Bool → List Bool
@@ -42,33 +38,19 @@ pub record HasAll (files : Files) (base : List ℕ) (p : Parameters) (lists : Li
   pub records : HasSent (fin.get files (graph_name base)) w (graph_bits p lists)
   pub words : HasSent (fin.get files (offsets_name base)) v (offsets_bits p lists)
 
-all_bits : (p : Parameters) (g : Digraph) (page : ℕ) → page ≡ length g.lists → bits_before p g page ≡ graph_bits p g.lists
-all_bits p g page done = ap (flat_map (λ bits. bits)) (take_all page (record_bits p g.lists) (omega (arith, many_bits p g.lists, done)))
-
-gone_there : (a b : Files) (base : List ℕ) (e : Encoding) (v : List Bool) → e.page ≡ length e.graph.lists → HasPut a b (offsets_name base) e.offsets_waits (next_word e) v → HasSentUpTo a base e → HasAll b base e.params e.graph.lists e.graph_waits v
-gone_there a b base e v done offset h =
-    let p : Parameters = e.params in
-    let lists : List (List ℕ) = e.graph.lists in
-    let words : flat_map (word p.offsets) (take (e.page + 1) (offset_values p lists)) ≡ offsets_bits p lists = ap (flat_map (word p.offsets)) (take_all (e.page + 1) (offset_values p lists) (omega (arith, many_words p lists, done))) in
-    record {
-      records = subst (HasSent (fin.get b (graph_name base)) e.graph_waits) (all_bits p e.graph e.page done)
-          (sent_along a b (graph_name base) e.graph_waits _ (other_put a b (offsets_name base) (graph_name base) _ _ _ offset (graph_offsets base)) h.records);
-      words = subst (HasSent (fin.get b (offsets_name base)) v) (sym (offsets_more e (omega (arith, done))) ∙ words) (sent_put a b (offsets_name base) e.offsets_waits (next_word e) v _ offset h.words);
-    }
-
-pub all_gone : (a b : Files) (base : List ℕ) (e begun view : Encoding) → e.page ≡ length e.graph.lists → begun ≡ record e { offsets_waits = begun.offsets_waits } → view ≡ begun
-    → HasPut a b (offsets_name base) e.offsets_waits (next_word e) begun.offsets_waits → HasSentUpTo a base e → HasAll b base e.params e.graph.lists view.graph_waits view.offsets_waits
-all_gone a b base e begun view done first same offset h =
-    subst (λ (x : Encoding). HasAll b base e.params e.graph.lists x.graph_waits x.offsets_waits) (sym (same ∙ first)) (gone_there a b base e begun.offsets_waits done offset h)
+pub all_gone : (a b : Files) (base : List ℕ) (e begun view : Encoded) (lists : List (List ℕ)) → begun ≡ record e { offsets_waits = begun.offsets_waits } → view ≡ begun
+    → HasPut a b (offsets_name base) e.offsets_waits (next_word e) begun.offsets_waits → HasWritten e lists → HasSentAll a base e lists → HasAll b base e.params lists view.graph_waits view.offsets_waits
+all_gone a b base e begun view lists first same offset written h =
+    let v : List Bool = begun.offsets_waits in
+    subst (λ (x : Encoded). HasAll b base e.params lists x.graph_waits x.offsets_waits) (sym (same ∙ first))
+    (record {
+      records = sent_along a b (graph_name base) e.graph_waits _ (other_put a b (offsets_name base) (graph_name base) _ _ _ offset (graph_offsets base)) h.records;
+      words = words_put a b base e lists v written offset h.words;
+    })
 
 -- a file that is filled up
 filled_up : (a b : Files) (n : List ℕ) (w bits : List Bool) → HasPut a b n w (fill w) [] → HasSent (fin.get a n) w bits → HasSent (fin.get b n) [] (filled bits)
 filled_up a b n w bits h s = subst (HasSent (fin.get b n) []) (ap (λ z. bits ++ z) (same_fill (fin.get a n) w bits s)) (sent_put a b n w (fill w) [] bits h s)
-
--- the bits of all records
-pub all_counted : (e v : Encoding) (depths : List ℕ) (last total : ℕ) → v ≡ e → e.page ≡ length e.graph.lists → IsGreedyUpTo v.params v.graph v.page depths last total → total ≡ length (graph_bits e.params e.graph.lists)
-all_counted e v depths last total same done greedy =
-    greedy.is_total ∙ ap (λ (x : Encoding). length (bits_before x.params x.graph x.page)) same ∙ ap (λ bits. length bits) (all_bits e.params e.graph e.page done)
 
 -- what a file lacks that is not filled up
 less_filled : (a b : Files) (n : List ℕ) (w bits : List Bool) (text : List ℕ) → HasPutLess a b n w (fill w) → HasSent (fin.get a n) w bits → bits_of text ≡ filled bits → bits_of text ≡ (bits ++ fill w) ++ []
@@ -84,8 +66,8 @@ module _ (base : List ℕ) (p : Parameters) (lists : List (List ℕ)) (w v : Lis
   apart : o ≢ g
   apart same = graph_offsets base (sym same)
 
-  pub written : (b c d : Files) → HasPut b c g w (fill w) [] → HasPut c d o v (fill v) [] → HasAll b base p lists w v → IsWritten d base p lists
-  written b c d graph offsets h = (
+  pub finished : (b c d : Files) → HasPut b c g w (fill w) [] → HasPut c d o v (fill v) [] → HasAll b base p lists w v → IsWritten d base p lists
+  finished b c d graph offsets h = (
     sent_whole (fin.get d g) (filled (graph_bits p lists)) (graph_file p lists)
         (sent_along c d g [] _ (other_put c d o g _ _ _ offsets (graph_offsets base)) (filled_up b c g w (graph_bits p lists) graph h.records)) (graph_bytes p lists) (graph_again p lists),
     sent_whole (fin.get d o) (filled (offsets_bits p lists)) (offsets_file p lists)

@@ -12,6 +12,7 @@ pub mod NoReference
 pub mod Short
 pub mod Choosing
 pub mod Going
+pub mod OfGraph
 pub mod Puts
 pub mod Adding
 pub mod Low

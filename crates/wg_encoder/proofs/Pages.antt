@@ -1,49 +1,26 @@
--- The record of a page among those of all pages, and the words of the offsets.
-use Rattle.std.proofs.Common.{◌≡◌, ℕ, zero, suc, ◌+◌, ◌-◌, ◌<◌, ◌≤◌, Bool, false, List, [], ◌∷◌, ◌++◌, length, length-append, append_assoc, take, drop, get_or, replicate, refl, sym, ap, ◌∙◌, arith}
+-- The record of a list after those before it, and the words of the offsets.
+use Rattle.std.proofs.Common.{◌≡◌, ℕ, zero, suc, ◌+◌, ◌-◌, ◌<◌, Bool, false, List, [], ◌∷◌, ◌++◌, length, length-append, append_assoc, map, take, get_or, replicate, refl, sym, ap, ◌∙◌, arith}
 use Rattle.std.specs.List.{flat_map, sum_by}
-use Rattle.std.proofs.lemmas.List.{append-nil, take_more, take-append-drop, drop_more, length-map, length-take, get_or-map}
-use Rattle.std.proofs.lemmas.List.Sums.{sum_by-cons}
+use Rattle.std.proofs.lemmas.List.{append-nil, map-append, take_more, take_all, take-take, take-append-le, length-map, get_or-append_right}
+use Rattle.std.proofs.lemmas.List.Sums.{sum_by-cons, sum_by-append}
 use Rattle.std.proofs.lemmas.List.Concat.{flat_map-append}
 use Rattle.wg_bits.specs.Bits.{bits_of}
 use Rattle.wg_bits.specs.Written.{padding}
 use Rattle.wg_codes.specs.Words.{word}
-use Rattle.wg_codes.proofs.CodeLaws.{word_some}
 use Rattle.wg_params.specs.Parameters.{Parameters}
-use Rattle.wg_graph.specs.Digraph.{Digraph}
-use Rattle.wg_grammar.specs.Context.{Known, Context, no_page}
-use Rattle.wg_encoder.specs.Fields.{Written, bits_of_fields}
+use Rattle.wg_grammar.specs.Context.{Known, Context}
+use Rattle.wg_encoder.specs.Fields.{bits_of_fields}
 use Rattle.wg_encoder.specs.Greedy.{context_after, canonical, chosen, known_of, known_after, records_of}
 use Rattle.wg_encoder.specs.Archive.{record_bits, graph_bits, offset_values, offsets_bits, graph_file, offsets_file}
-use Rattle.wg_encoder.specs.Encoding.{context_at}
+use Rattle.wg_encoder.specs.Encoding.{next_context, context_on, due_offset, words_before}
 use Rattle.wg_encoder.proofs.Bytes.{graph_again, offsets_again}
 
--- where the record of a page stands, after these lists
-abbrev pub before : Parameters → List Known → List (List ℕ) → ℕ → Context
-before p behind lists page = context_after p (known_after p behind (take page lists))
+-- ---- where a record stands
 
-record_at : (p : Parameters) (behind : List Known) (lists : List (List ℕ)) (page : ℕ) (d : List Written) → page < length lists
-    → get_or (records_of p behind lists) page d ≡ canonical p (before p behind lists page) (get_or lists page []) (chosen p (before p behind lists page) (get_or lists page []))
-record_at p behind [] page d lt = absurd (omega arith)
-record_at p behind (l ∷ ls) zero d lt = refl
-record_at p behind (l ∷ ls) (suc n) d lt = record_at p (known_of p (context_after p behind) l ∷ behind) ls n d (omega arith)
-
-known_more : (p : Parameters) (behind : List Known) (lists : List (List ℕ)) (page : ℕ) → page < length lists
-    → known_after p behind (take (suc page) lists) ≡ known_of p (before p behind lists page) (get_or lists page []) ∷ known_after p behind (take page lists)
-known_more p behind [] page lt = absurd (omega arith)
-known_more p behind (l ∷ ls) zero lt = refl
-known_more p behind (l ∷ ls) (suc n) lt = known_more p (known_of p (context_after p behind) l ∷ behind) ls n (omega arith)
-
-pub known_on : (p : Parameters) (lists : List (List ℕ)) (page : ℕ) → page < length lists
-    → known_after p [] (take (page + 1) lists) ≡ known_of p (before p [] lists page) (get_or lists page []) ∷ known_after p [] (take page lists)
-known_on p lists page lt = ap (λ n. known_after p [] (take n lists)) (let e : page + 1 ≡ suc page = omega arith in e) ∙ known_more p [] lists page lt
-
--- the successors of a page before, the nearest first
-pub list_back : (p : Parameters) (lists : List (List ℕ)) (page i : ℕ) → i < page → page ≤ length lists → (get_or (known_after p [] (take page lists)) i no_page).list ≡ get_or lists (page - suc i) []
-list_back p lists zero i some le = absurd (omega arith)
-list_back p lists (suc n) zero some le = ap (λ ks. (get_or ks 0 no_page).list) (known_more p [] lists n (omega arith)) ∙ ap (λ k. get_or lists k []) (let e : n ≡ suc n - 1 = omega arith in e)
-list_back p lists (suc n) (suc i) some le =
-    ap (λ ks. (get_or ks (suc i) no_page).list) (known_more p [] lists n (omega arith)) ∙ list_back p lists n i (omega arith) (omega arith)
-    ∙ ap (λ k. get_or lists k []) (let e : n - suc i ≡ suc n - suc (suc i) = omega arith in e)
+known_more : (p : Parameters) (behind : List Known) (lists : List (List ℕ)) (list : List ℕ)
+    → known_after p behind (lists ++ list ∷ []) ≡ known_of p (context_after p (known_after p behind lists)) list ∷ known_after p behind lists
+known_more p behind [] list = refl
+known_more p behind (l ∷ ls) list = known_more p (known_of p (context_after p behind) l ∷ behind) ls list
 
 many_known : (p : Parameters) (behind : List Known) (lists : List (List ℕ)) → length (known_after p behind lists) ≡ length behind + length lists
 many_known p behind [] = omega arith
@@ -55,66 +32,131 @@ arcs_known p behind (l ∷ ls) =
     let k : Known = known_of p (context_after p behind) l in
     omega (arith, arcs_known p (k ∷ behind) ls, sum_by-cons (λ (x : Known). length x.list) k behind, sum_by-cons (λ (list : List ℕ). length list) l ls)
 
--- a page stands after the lists of the pages before it
-pub same_context : (p : Parameters) (g : Digraph) (page : ℕ) → page ≤ length g.lists → context_at p g page ≡ before p [] g.lists page
-same_context p g page le =
-    let many : page ≡ length (known_after p [] (take page g.lists)) = omega (arith, many_known p [] (take page g.lists), length-take page g.lists) in
-    let arcs : sum_by (λ (list : List ℕ). length list) (take page g.lists) ≡ sum_by (λ (k : Known). length k.list) (known_after p [] (take page g.lists)) = omega (arith, arcs_known p [] (take page g.lists)) in
-    λ i. record { page = many i; arcs_before = arcs i; behind = take p.window (known_after p [] (take page g.lists)) }
+-- a record stands after the lists that are known
+same_context : (p : Parameters) (lists : List (List ℕ)) → next_context p lists ≡ context_after p (known_after p [] lists)
+same_context p lists =
+    let many : length lists ≡ length (known_after p [] lists) = omega (arith, many_known p [] lists) in
+    let arcs : sum_by (λ (list : List ℕ). length list) lists ≡ sum_by (λ (k : Known). length k.list) (known_after p [] lists) = omega (arith, arcs_known p [] lists) in
+    λ i. record { page = many i; arcs_before = arcs i; behind = take p.window (known_after p [] lists) }
+
+take_less : {X : Type 0} (w : ℕ) (x : X) (xs : List X) → take w (x ∷ take w xs) ≡ take w (x ∷ xs)
+take_less zero x xs = refl
+take_less (suc w) x xs = ap (λ ys. x ∷ ys) (take-take w (suc w) xs (omega arith))
+
+pub context_more : (p : Parameters) (lists : List (List ℕ)) (list : List ℕ) → context_on p (next_context p lists) list ≡ next_context p (lists ++ list ∷ [])
+context_more p lists list =
+    let known : List Known = known_after p [] lists in
+    let page : length lists + 1 ≡ length (lists ++ list ∷ []) = omega (arith, length-append lists (list ∷ [])) in
+    let arcs : sum_by (λ (l : List ℕ). length l) lists + length list ≡ sum_by (λ (l : List ℕ). length l) (lists ++ list ∷ []) =
+    omega (arith, sum_by-append (λ (l : List ℕ). length l) lists (list ∷ []), sum_by-cons (λ (l : List ℕ). length l) list []) in
+    let behind : take p.window (known_of p (next_context p lists) list ∷ take p.window known) ≡ take p.window (known_after p [] (lists ++ list ∷ [])) =
+    take_less p.window (known_of p (next_context p lists) list) known
+    ∙ ap (λ (c : Context). take p.window (known_of p c list ∷ known)) (same_context p lists)
+    ∙ ap (take p.window) (sym (known_more p [] lists list)) in
+    λ i. record { page = page i; arcs_before = arcs i; behind = behind i }
+
+-- ---- the records of lists that follow
+
+records_more : (p : Parameters) (behind : List Known) (lists more : List (List ℕ)) → records_of p behind (lists ++ more) ≡ records_of p behind lists ++ records_of p (known_after p behind lists) more
+records_more p behind [] more = refl
+records_more p behind (l ∷ ls) more =
+    ap (λ rs. canonical p (context_after p behind) l (chosen p (context_after p behind) l) ∷ rs) (records_more p (known_of p (context_after p behind) l ∷ behind) ls more)
+
+-- the bits of each of the records that follow
+abbrev bits_later : Parameters → List (List ℕ) → List (List ℕ) → List (List Bool)
+bits_later p lists more = map bits_of_fields (records_of p (known_after p [] lists) more)
+
+bits_more : (p : Parameters) (lists more : List (List ℕ)) → record_bits p (lists ++ more) ≡ record_bits p lists ++ bits_later p lists more
+bits_more p lists more = ap (map bits_of_fields) (records_more p [] lists more) ∙ map-append bits_of_fields (records_of p [] lists) (records_of p (known_after p [] lists) more)
+
+-- the record by which a list is written
+abbrev pub chosen_bits : Parameters → Context → List ℕ → List Bool
+chosen_bits p c list = bits_of_fields (canonical p c list (chosen p c list))
+
+one_later : (p : Parameters) (lists : List (List ℕ)) (list : List ℕ) → bits_later p lists (list ∷ []) ≡ chosen_bits p (next_context p lists) list ∷ []
+one_later p lists list = ap (λ (c : Context). chosen_bits p c list ∷ []) (sym (same_context p lists))
+
+pub graph_more : (p : Parameters) (lists : List (List ℕ)) (list : List ℕ) → graph_bits p (lists ++ list ∷ []) ≡ graph_bits p lists ++ chosen_bits p (next_context p lists) list
+graph_more p lists list =
+    ap (flat_map (λ bits. bits)) (bits_more p lists (list ∷ []) ∙ ap (λ bs. record_bits p lists ++ bs) (one_later p lists list))
+    ∙ flat_map-append (λ (bits : List Bool). bits) (record_bits p lists) (chosen_bits p (next_context p lists) list ∷ [])
+    ∙ ap (λ z. graph_bits p lists ++ z) (append-nil (chosen_bits p (next_context p lists) list))
+
+-- ---- the words of the offsets
 
 many_records : (p : Parameters) (behind : List Known) (lists : List (List ℕ)) → length (records_of p behind lists) ≡ length lists
 many_records p behind [] = refl
 many_records p behind (l ∷ ls) = ap suc (many_records p (known_of p (context_after p behind) l ∷ behind) ls)
 
-pub many_bits : (p : Parameters) (lists : List (List ℕ)) → length (record_bits p lists) ≡ length lists
+many_bits : (p : Parameters) (lists : List (List ℕ)) → length (record_bits p lists) ≡ length lists
 many_bits p lists = length-map (records_of p [] lists) bits_of_fields ∙ many_records p [] lists
 
-pub many_words : (p : Parameters) (lists : List (List ℕ)) → length (offset_values p lists) ≡ suc (length lists)
+many_words : (p : Parameters) (lists : List (List ℕ)) → length (offset_values p lists) ≡ suc (length lists)
 many_words p lists = ap suc (length-map (record_bits p lists) (λ (bits : List Bool). length bits) ∙ many_bits p lists)
 
--- the bits of the record of a page
-pub bits_at : (p : Parameters) (lists : List (List ℕ)) (page : ℕ) → page < length lists
-    → get_or (record_bits p lists) page [] ≡ bits_of_fields (canonical p (before p [] lists page) (get_or lists page []) (chosen p (before p [] lists page) (get_or lists page [])))
-bits_at p lists page lt =
-    get_or-map bits_of_fields (records_of p [] lists) page [] [] (omega (arith, many_records p [] lists)) ∙ ap bits_of_fields (record_at p [] lists page [] lt)
+-- the numbers of the lists that follow
+abbrev values_later : Parameters → List (List ℕ) → List (List ℕ) → List ℕ
+values_later p lists more = map (λ bits. length bits) (bits_later p lists more)
+
+values_more : (p : Parameters) (lists more : List (List ℕ)) → offset_values p (lists ++ more) ≡ offset_values p lists ++ values_later p lists more
+values_more p lists more =
+    ap (λ bs. 0 ∷ map (λ (bits : List Bool). length bits) bs) (bits_more p lists more)
+    ∙ ap (λ ns. 0 ∷ ns) (map-append (λ (bits : List Bool). length bits) (record_bits p lists) (bits_later p lists more))
 
 -- the next offset is the length of this record
-pub next_offset : (p : Parameters) (lists : List (List ℕ)) (page : ℕ) → page < length lists → get_or (offset_values p lists) (page + 1) 0 ≡ length (get_or (record_bits p lists) page [])
-next_offset p lists page lt =
-    ap (λ n. get_or (offset_values p lists) n 0) (let e : page + 1 ≡ suc page = omega arith in e)
-    ∙ get_or-map (λ (bits : List Bool). length bits) (record_bits p lists) page [] 0 (omega (arith, many_bits p lists))
+pub due_more : (p : Parameters) (lists : List (List ℕ)) (list : List ℕ) → due_offset p (lists ++ list ∷ []) ≡ length (chosen_bits p (next_context p lists) list)
+due_more p lists list =
+    let n : ℕ = length (lists ++ list ∷ []) in
+    let size : ℕ = length (chosen_bits p (next_context p lists) list) in
+    let last : n ≡ suc (length lists) = omega (arith, length-append lists (list ∷ [])) in
+    ap (λ vs. get_or vs n 0) (values_more p lists (list ∷ []) ∙ ap (λ bs. offset_values p lists ++ map (λ (bits : List Bool). length bits) bs) (one_later p lists list))
+    ∙ get_or-append_right (offset_values p lists) (size ∷ []) (suc (length lists)) n 0 (many_words p lists) (omega (arith, last))
+    ∙ ap (λ k. get_or (size ∷ []) k 0) (let e : n - suc (length lists) ≡ 0 = omega (arith, last) in e)
 
--- ---- bits of one after the other
-
-pub flat_more : {X : Type 0} (f : X → List Bool) (xs : List X) (i : ℕ) (d : X) → i < length xs → flat_map f (take (i + 1) xs) ≡ flat_map f (take i xs) ++ f (get_or xs i d)
+flat_more : {X : Type 0} (f : X → List Bool) (xs : List X) (i : ℕ) (d : X) → i < length xs → flat_map f (take (i + 1) xs) ≡ flat_map f (take i xs) ++ f (get_or xs i d)
 flat_more f xs i d lt =
     ap (flat_map f) (take_more xs i d lt) ∙ flat_map-append f (take i xs) (get_or xs i d ∷ []) ∙ ap (λ z. flat_map f (take i xs) ++ z) (append-nil (f (get_or xs i d)))
 
-flat_split : {X : Type 0} (f : X → List Bool) (xs : List X) (i : ℕ) (pad : List Bool) → flat_map f xs ++ pad ≡ flat_map f (take i xs) ++ (flat_map f (drop i xs) ++ pad)
-flat_split f xs i pad =
-    ap (λ ys. flat_map f ys ++ pad) (sym (take-append-drop i xs)) ∙ ap (λ z. z ++ pad) (flat_map-append f (take i xs) (drop i xs)) ∙ append_assoc (flat_map f (take i xs)) (flat_map f (drop i xs)) pad
+-- with the word that is due they are all
+pub words_whole : (p : Parameters) (lists : List (List ℕ)) → offsets_bits p lists ≡ words_before p lists ++ word p.offsets (due_offset p lists)
+words_whole p lists =
+    let vs : List ℕ = offset_values p lists in
+    ap (flat_map (word p.offsets)) (sym (take_all (length lists + 1) vs (omega (arith, many_words p lists))))
+    ∙ flat_more (word p.offsets) vs (length lists) 0 (omega (arith, many_words p lists))
+
+pub words_more : (p : Parameters) (lists : List (List ℕ)) (list : List ℕ) → words_before p (lists ++ list ∷ []) ≡ offsets_bits p lists
+words_more p lists list =
+    let n : ℕ = length (lists ++ list ∷ []) in
+    let vs : List ℕ = offset_values p lists in
+    let last : n ≡ suc (length lists) = omega (arith, length-append lists (list ∷ [])) in
+    ap (λ ns. flat_map (word p.offsets) (take n ns)) (values_more p lists (list ∷ []))
+    ∙ ap (flat_map (word p.offsets)) (take-append-le n vs (values_later p lists (list ∷ [])) (omega (arith, last, many_words p lists)) ∙ take_all n vs (omega (arith, last, many_words p lists)))
+
+-- ---- what stands in the files behind these records and words
 
 abbrev pad_of : List Bool → List Bool
 pad_of bits = replicate (padding (length bits)) false
 
--- what stands in the files behind the first records and words
-abbrev pub graph_rest : Parameters → List (List ℕ) → ℕ → List Bool
-graph_rest p lists i = flat_map (λ bits. bits) (drop i (record_bits p lists)) ++ pad_of (graph_bits p lists)
+abbrev pub graph_rest : Parameters → List (List ℕ) → List (List ℕ) → List Bool
+graph_rest p lists more = flat_map (λ bits. bits) (bits_later p lists more) ++ pad_of (graph_bits p (lists ++ more))
 
-abbrev pub offsets_rest : Parameters → List (List ℕ) → ℕ → List Bool
-offsets_rest p lists i = flat_map (word p.offsets) (drop i (offset_values p lists)) ++ pad_of (offsets_bits p lists)
+abbrev pub offsets_rest : Parameters → List (List ℕ) → List (List ℕ) → List Bool
+offsets_rest p lists more = flat_map (word p.offsets) (values_later p lists more) ++ pad_of (offsets_bits p (lists ++ more))
 
-pub graph_from : (p : Parameters) (lists : List (List ℕ)) (i : ℕ) → bits_of (graph_file p lists) ≡ flat_map (λ bits. bits) (take i (record_bits p lists)) ++ graph_rest p lists i
-graph_from p lists i = graph_again p lists ∙ flat_split (λ bits. bits) (record_bits p lists) i (pad_of (graph_bits p lists))
+pub graph_from : (p : Parameters) (lists more : List (List ℕ)) → bits_of (graph_file p (lists ++ more)) ≡ graph_bits p lists ++ graph_rest p lists more
+graph_from p lists more =
+    let pad : List Bool = pad_of (graph_bits p (lists ++ more)) in
+    let later : List (List Bool) = bits_later p lists more in
+    graph_again p (lists ++ more)
+    ∙ ap (λ bs. flat_map (λ bits. bits) bs ++ pad) (bits_more p lists more)
+    ∙ ap (λ z. z ++ pad) (flat_map-append (λ (bits : List Bool). bits) (record_bits p lists) later)
+    ∙ append_assoc (graph_bits p lists) (flat_map (λ bits. bits) later) pad
 
-pub offsets_from : (p : Parameters) (lists : List (List ℕ)) (i : ℕ) → bits_of (offsets_file p lists) ≡ flat_map (word p.offsets) (take i (offset_values p lists)) ++ offsets_rest p lists i
-offsets_from p lists i = offsets_again p lists ∙ flat_split (word p.offsets) (offset_values p lists) i (pad_of (offsets_bits p lists))
-
--- the last word is missing before all pages are done
-pub offsets_left : (p : Parameters) (lists : List (List ℕ)) (i : ℕ) → i ≤ length lists → 0 < length (offsets_rest p lists i)
-offsets_left p lists i le =
-    let vs : List ℕ = offset_values p lists in
-    let first : List Bool = word p.offsets (get_or vs i 0) in
-    let later : List Bool = flat_map (word p.offsets) (drop (i + 1) vs) in
-    let e = ap (λ ys. length (flat_map (word p.offsets) ys)) (drop_more vs i 0 (omega (arith, many_words p lists))) in
-    omega (arith, e, word_some p.offsets (get_or vs i 0), length-append first later, length-append (flat_map (word p.offsets) (drop i vs)) (pad_of (offsets_bits p lists)))
+pub offsets_from : (p : Parameters) (lists more : List (List ℕ)) → bits_of (offsets_file p (lists ++ more)) ≡ offsets_bits p lists ++ offsets_rest p lists more
+offsets_from p lists more =
+    let pad : List Bool = pad_of (offsets_bits p (lists ++ more)) in
+    let later : List ℕ = values_later p lists more in
+    offsets_again p (lists ++ more)
+    ∙ ap (λ vs. flat_map (word p.offsets) vs ++ pad) (values_more p lists more)
+    ∙ ap (λ z. z ++ pad) (flat_map-append (word p.offsets) (offset_values p lists) later)
+    ∙ append_assoc (offsets_bits p lists) (flat_map (word p.offsets) later) pad

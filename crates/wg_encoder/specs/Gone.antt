@@ -1,6 +1,5 @@
 -- What has gone out of an archive, and what stands of its files if the writing stopped.
 use Rattle.std.specs.Prelude.{◌≡◌, ◌≢◌, ◌⊎◌, ℕ, ◌<◌, ◌^◌, Bool, List, ◌++◌, length, take, All, Option, Some, Result, IsTrue, IfOk, IfErr, OnErr}
-use Rattle.std.specs.List.{flat_map}
 use Rattle.std.specs.FinMap as fin
 use Rattle.wg_io.specs.Outside.{Files, Counts, Increased, NonDecreasing}
 use Rattle.wg_io.specs.Suffixes.{graph_name, offsets_name}
@@ -9,10 +8,9 @@ use Rattle.wg_io.specs.declared.output.Output.TheVariants as output
 use Rattle.wg_io.specs.declared.depot.Depot as depot
 use Rattle.wg_bits.specs.Bits.{bits_of}
 use Rattle.wg_bits.specs.Written.{HasPut, HasPutLess}
-use Rattle.wg_codes.specs.Words.{word}
 use Rattle.wg_params.specs.Parameters.{Parameters}
-use Rattle.wg_encoder.specs.Archive.{offset_values, graph_file, offsets_file}
-use Rattle.wg_encoder.specs.Encoding.{Encoding, bits_before}
+use Rattle.wg_encoder.specs.Archive.{graph_bits, graph_file, offsets_file}
+use Rattle.wg_encoder.specs.Encoding.{Encoded, Encoding, lists_before, words_before}
 use Rattle.wg_encoder.specs.declared.error.EncodeError.{EncodeError}
 use Rattle.wg_encoder.specs.declared.error.EncodeError.TheVariants as error
 
@@ -39,10 +37,18 @@ HoldsLess file text = (k : ℕ) × (k < length text) × (file ≡ Some (take k t
 abbrev pub OnlyTwo : List ℕ → Files → Files → Type 0
 OnlyTwo base old new = (name : List ℕ) → name ≢ graph_name base → name ≢ offsets_name base → fin.get new name ≡ fin.get old name
 
--- The files with what waits have the records of the pages before this one, and as many words of offsets.
-pub record HasSentUpTo (files : Files) (base : List ℕ) (e : Encoding) : Type 0 where
-  pub records : HasSent (fin.get files (graph_name base)) e.graph_waits (bits_before e.params e.graph e.page)
-  pub words : HasSent (fin.get files (offsets_name base)) e.offsets_waits (flat_map (word e.params.offsets) (take e.page (offset_values e.params e.graph.lists)))
+-- The files with what waits have the records of these lists, and the words of the offsets but the one that is due.
+pub record HasSentLists (files : Files) (base : List ℕ) (p : Parameters) (lists : List (List ℕ)) (graph_waits offsets_waits : List Bool) : Type 0 where
+  pub records : HasSent (fin.get files (graph_name base)) graph_waits (graph_bits p lists)
+  pub words : HasSent (fin.get files (offsets_name base)) offsets_waits (words_before p lists)
+
+-- the same of an encoder of lists
+abbrev pub HasSentAll : Files → List ℕ → Encoded → List (List ℕ) → Type 0
+HasSentAll files base e lists = HasSentLists files base e.params lists e.graph_waits e.offsets_waits
+
+-- and of an encoder of a graph, where the lists are those of the pages before this one
+abbrev pub HasSentUpTo : Files → List ℕ → Encoding → Type 0
+HasSentUpTo files base e = HasSentLists files base e.params (lists_before e) e.graph_waits e.offsets_waits
 
 -- the files of the greedy archive
 abbrev pub IsWritten : Files → List ℕ → Parameters → List (List ℕ) → Type 0

@@ -1,6 +1,8 @@
-ghost use Rattle.std.specs.Prelude.{◌≡◌, ◌+◌};
+ghost use Rattle.std.specs.Prelude.{◌≡◌, ℕ, ◌+◌, List};
+ghost use Rattle.wg_params.specs.Parameters.{Parameters};
+ghost use Rattle.wg_grammar.specs.Context.{Context};
 ghost use Rattle.wg_encoder.specs.Cost.{IsFewer};
-ghost use Rattle.wg_encoder.specs.Encoding.{Encoding, offer_of, IsBest};
+ghost use Rattle.wg_encoder.specs.Encoding.{offer_of, IsBest};
 
 /// A reference, and how many bits the record takes by it.
 #[derive(Clone, Copy)]
@@ -13,7 +15,7 @@ impl Choice {
     /// This choice, or the reference that comes next where that one is offered with fewer bits; an offer of more is not
     /// asked for.
     pub(crate) fn or(self, reference: u64, offered: Option<u64>) -> Choice
-        ensures { (e : Encoding) → IsBest e reference self → IsFewer self.bits (offer_of e reference) offered → IsBest e (reference + 1) result }
+        ensures { (p : Parameters) (c : Context) (list : List ℕ) → IsBest p c list reference self → IsFewer self.bits (offer_of p c list reference) offered → IsBest p c list (reference + 1) result }
     {
         match offered {
             Some(bits) => {

@@ -6,19 +6,21 @@
 //! bits, and of several the one with the smallest reference. The references that were chosen before bear on it by their
 //! depths alone, where the archive limits chains.
 //!
-//! [`record_cost`] counts the bits of a canonical record from the two lists, without making it. An [`Encoder`] stands
-//! at a page of a graph, where each page before it was written by the reference that is chosen, and knows the depths of
-//! the pages that a reference may name, 8 bytes for each: it tells the candidates, what each of them takes, and which
-//! one is written. No record has 2 ^ 64 bits or more.
+//! [`record_cost`] counts the bits of a canonical record from the two lists, without making it. A [`ListEncoder`] takes
+//! the lists of pages 0, 1 and so on, each once, and keeps a copy of those that a reference may name, with their depths:
+//! at most as many as the archive's window, each with room for at most twice its numbers, and 32 bytes beside it. For a
+//! list that comes next it tells the candidates, what each of them takes, and which one is written. An [`Encoder`] does
+//! the same for the pages of a graph, and stands on it; a copy of each list is what it costs. No record has 2 ^ 64 bits
+//! or more.
 //!
 //! [`make_record`] makes a canonical record from the two lists as a [`HeldRecord`], 24 bytes for each field, and
 //! [`HeldRecord::write`] puts its words through a writer, where each value has one.
 //!
-//! [`Encoder::next`] writes a page, and [`Encoder::finish`] ends the two files once all pages are written; [`encode`]
-//! does both for a whole graph. All three take the archive's name, and write the files of its suffixes. The words of the
-//! offsets file are 0 and the length of each record. An encoder has a writer of 4096 bytes for each of the files. If a
-//! call of the depot fails, the [`EncodeError`] names the file, and both files are prefixes of those that were to be
-//! written.
+//! [`ListEncoder::next`] and [`Encoder::next`] write a list, and `finish` ends the two files once all are written;
+//! [`encode`] does both for a whole graph. All take the archive's name, and write the files of its suffixes. The words
+//! of the offsets file are 0 and the length of each record. An encoder has a writer of 4096 bytes for each of the files.
+//! If a call of the depot fails, the [`EncodeError`] names the file, and both files are prefixes of those that were to
+//! be written.
 //!
 //! The definitions give the fields of a record with their codes and stored values, the reference that is chosen, and
 //! the bytes of the two files. The functions of [`laws`] state that no candidate's record is shorter than the one that
@@ -35,7 +37,9 @@ mod extras;
 mod gap;
 mod held;
 mod intervals;
+mod kept;
 pub mod laws;
+mod list_encoder;
 mod lists;
 mod making;
 mod names;
@@ -50,5 +54,6 @@ pub use archive::encode;
 pub use encoder::Encoder;
 pub use error::EncodeError;
 pub use held::HeldRecord;
+pub use list_encoder::ListEncoder;
 pub use making::make_record;
 pub use record::record_cost;

@@ -1,19 +1,19 @@
-// From page to page: what goes to the two files.
-ghost use Rattle.std.specs.Prelude.{◌≡◌, ◌+◌, ◌<◌, ◌≤◌, true, false, [], length, replicate, IfOk, IfErr, OnOk, OnErr, IsTrue};
+//! From list to list: what goes to the two files.
+ghost use Rattle.std.specs.Prelude.{◌≡◌, ℕ, ◌+◌, ◌<◌, ◌≤◌, true, false, List as ListOf, [], ◌∷◌, ◌++◌, length, replicate, IfOk, IfErr, OnOk, OnErr, IsTrue};
 ghost use Rattle.wg_io.specs.Outside.{NonDecreasing};
 ghost use Rattle.wg_bits.specs.Written.{padding};
 ghost use Rattle.wg_codes.specs.Words.{word};
 ghost use Rattle.wg_encoder.specs.Fields.{bits_of_fields, all_have_words};
 ghost use Rattle.wg_encoder.specs.Greedy.{canonical};
-ghost use Rattle.wg_encoder.specs.Archive.{graph_bits};
-ghost use Rattle.wg_encoder.specs.Encoding.{context_of, list_of, offset_value, IsChosen};
-ghost use Rattle.wg_encoder.specs.Gone.{HasSentUpTo, IsWritten, HasStopped, HasFailed, SendsTo, OnlyTwo};
+ghost use Rattle.wg_encoder.specs.Laws.{IsList};
+ghost use Rattle.wg_encoder.specs.Encoding.{encoded_on, HasWritten, IsChosen};
+ghost use Rattle.wg_encoder.specs.Gone.{HasSentAll, IsWritten, HasStopped, HasFailed, SendsTo, OnlyTwo};
 ghost use Rattle.wg_encoder.specs.declared.error.EncodeError.TheVariants as errors;
 
 use crate::choice::Choice;
-use crate::encoder::Encoder;
 use crate::error::EncodeError;
 use crate::held::HeldRecord;
+use crate::list_encoder::ListEncoder;
 use crate::making::Draft;
 use crate::names::FileNames;
 use std::alloc::AllocError;
@@ -32,7 +32,7 @@ fn failed_on(output: Output, error: WriteError) -> EncodeError
     }
 }
 
-impl<'a> Encoder<'a> {
+impl ListEncoder {
     // The memory of the record before, or some that is new.
     fn take_draft(&mut self) -> Result<Box<Draft>, AllocError>
         ensures { self.new ≡ self.old }
@@ -56,23 +56,23 @@ impl<'a> Encoder<'a> {
         Ok(Box::new(self.alloc, FileNames::of(self.alloc, base)?)?)
     }
 
-    // Makes the record of the page that comes next.
-    fn make(&self, draft: &mut Draft, choice: Choice) -> Result<(), AllocError>
-        requires page { self.now.page < self.now.graph.nodes }
-        requires chosen { IsChosen self.now choice }
-        ensures record_is { OnOk result (draft.new ≡ canonical self.now.params (context_of self.now) (list_of self.now) choice.reference) }
+    // Makes the record of a list that comes next.
+    fn make(&self, list: &[u64], draft: &mut Draft, choice: Choice) -> Result<(), AllocError>
+        requires page { self.now.next.page < self.now.params.nodes }
+        requires list { IsList self.now.params list.now }
+        requires chosen { IsChosen self.now.params self.now.next list.now choice }
+        ensures record_is { OnOk result (draft.new ≡ canonical self.now.params self.now.next list.now choice.reference) }
         ensures words { OnOk result (all_have_words draft.new ≡ true) }
     {
         self.limits();
-        let list = self.graph.list(self.page);
         let referenced = self.referenced_list(choice.reference);
         draft.fill(&self.params, self.page, choice.reference, referenced, list)
     }
 
-    // Puts the word of the offsets file for this page: 0 for page 0, else the length of the record before.
-    fn put_offset<D: Depot>(mut self, depot: &mut D, name: &str) -> Result<Encoder<'a>, EncodeError>
-        ensures sends { SendsTo Output.Offsets ⟦<D as Depot>⟧ depot.old depot.new name.now self.entry.offsets_waits (word self.entry.params.offsets (offset_value self.entry.params self.entry.graph self.entry.page)) (λ e. e.offsets_waits) result }
-        ensures on { IfOk result (λ e. e ≡ record self.entry { offsets_waits = e.offsets_waits }) }
+    // Puts the word of the offsets file that is due: 0 for page 0, else the length of the record before.
+    fn put_offset<D: Depot>(mut self, depot: &mut D, name: &str) -> Result<ListEncoder, EncodeError>
+        ensures sends { SendsTo Output.Offsets ⟦<D as Depot>⟧ depot.old depot.new name.now self.offsets_waits (word self.params.offsets self.last) (λ e. e.offsets_waits) result }
+        ensures on { IfOk result (λ e. e ≡ record self { offsets_waits = e.offsets_waits }) }
     {
         self.limits();
         match write(
@@ -87,16 +87,16 @@ impl<'a> Encoder<'a> {
         }
     }
 
-    // Puts the record of this page.
+    // Puts the record of the list that comes next.
     fn put_record<D: Depot>(
         mut self,
         made: &HeldRecord,
         depot: &mut D,
         name: &str,
-    ) -> Result<Encoder<'a>, EncodeError>
+    ) -> Result<ListEncoder, EncodeError>
         requires { all_have_words made.now ≡ true }
-        ensures sends { SendsTo Output.Graph ⟦<D as Depot>⟧ depot.old depot.new name.now self.entry.graph_waits (bits_of_fields made.now) (λ e. e.graph_waits) result }
-        ensures on { IfOk result (λ e. e ≡ record self.entry { graph_waits = e.graph_waits }) }
+        ensures sends { SendsTo Output.Graph ⟦<D as Depot>⟧ depot.old depot.new name.now self.graph_waits (bits_of_fields made.now) (λ e. e.graph_waits) result }
+        ensures on { IfOk result (λ e. e ≡ record self { graph_waits = e.graph_waits }) }
     {
         match made.write(&mut *self.graph_writer, depot, name) {
             Ok(()) => Ok(self),
@@ -104,24 +104,26 @@ impl<'a> Encoder<'a> {
         }
     }
 
-    // Goes on to the next page, where this one is written by this choice. The draft and the names are kept for the page
-    // after it.
+    // Goes on to the next page, where the list of this one is written by this choice. The draft and the names are kept
+    // for the page after it.
     fn go_on(
         mut self,
+        list: &[u64],
         draft: Box<Draft>,
         names: Box<FileNames>,
         choice: Choice,
-    ) -> Result<Encoder<'a>, AllocError>
-        requires page { self.page < self.graph.nodes }
-        requires chosen { IsChosen self choice }
-        ensures { IfOk result (λ e. e ≡ record self.entry { page = self.entry.page + 1 }) }
+    ) -> Result<ListEncoder, AllocError>
+        requires page { self.next.page < self.params.nodes }
+        requires list { IsList self.params list.now }
+        requires arcs { self.next.arcs_before + length list.now ≤ self.params.arcs }
+        requires chosen { IsChosen self.params self.next list.now choice }
+        ensures { IfOk result (λ e. e ≡ encoded_on self list.now self.graph_waits self.offsets_waits) }
     {
         self.limits();
-        let window = self.params.window() as usize;
         let depth = self.depth(choice.reference);
-        self.depths.push_front(depth)?;
-        self.depths.truncate(window);
+        self.kept.keep(list, depth)?;
         self.page += 1;
+        self.arcs += list.len() as u64;
         self.last = choice.bits;
         self.total += choice.bits;
         self.spare = Some(draft);
@@ -130,41 +132,52 @@ impl<'a> Encoder<'a> {
     }
 }
 
-impl<'a> Encoder<'a> {
-    /// Writes the page that comes next, and goes on to the one after it. Its record is made in memory before anything
-    /// is put. The words of the offsets file come one page later: 0 first, then the length of the record before. The
+impl ListEncoder {
+    /// Writes the list that comes next, and goes on to the one after it. Its record is made in memory before anything
+    /// is put. The words of the offsets file come one list later: 0 first, then the length of the record before. The
     /// names of the two files are made when a name of an archive first comes, or another one, and then held.
-    pub fn next<D: Depot>(mut self, depot: &mut D, base: &str) -> Result<Encoder<'a>, EncodeError>
-        requires more { self.page < self.graph.nodes }
-        ensures on { IfOk result (λ e. e ≡ record self.entry { page = self.entry.page + 1; graph_waits = e.graph_waits; offsets_waits = e.offsets_waits }) }
-        ensures ok { IsTrue D.told → HasSentUpTo (D.files depot.old) base.now self.entry → IfOk result (λ e. HasSentUpTo (D.files depot.new) base.now e) }
-        ensures err { IsTrue D.told → HasSentUpTo (D.files depot.old) base.now self.entry → IfErr result (HasStopped (D.files depot.new) base.now self.entry.params self.entry.graph.lists) }
+    pub fn next<D: Depot>(
+        mut self,
+        list: &[u64],
+        depot: &mut D,
+        base: &str,
+    ) -> Result<ListEncoder, EncodeError>
+        requires page { self.next.page < self.params.nodes }
+        requires list { IsList self.params list.now }
+        requires arcs { self.next.arcs_before + length list.now ≤ self.params.arcs }
+        ensures on { IfOk result (λ e. e ≡ encoded_on self list.now e.graph_waits e.offsets_waits) }
+        ensures written { (lists : ListOf (ListOf ℕ)) → HasWritten self lists → IfOk result (λ e. HasWritten e (lists ++ list.now ∷ [])) }
+        ensures ok { (lists : ListOf (ListOf ℕ)) → HasWritten self lists → IsTrue D.told → HasSentAll (D.files depot.old) base.now self lists
+            → IfOk result (λ e. HasSentAll (D.files depot.new) base.now e (lists ++ list.now ∷ [])) }
+        ensures err { (lists more : ListOf (ListOf ℕ)) → HasWritten self lists → IsTrue D.told → HasSentAll (D.files depot.old) base.now self lists
+            → IfErr result (HasStopped (D.files depot.new) base.now self.params (lists ++ list.now ∷ more)) }
         ensures only_two { IsTrue D.told → OnlyTwo base.now (D.files depot.old) (D.files depot.new) }
         ensures fault { IfErr result (HasFailed base.now (D.counts depot.old) (D.counts depot.new)) }
         ensures later { NonDecreasing (D.counts depot.old) (D.counts depot.new) }
     {
-        self.limits();
-        let choice = self.choose();
+        let choice = self.choose(list);
         let mut draft = self.take_draft()?;
-        self.make(&mut *draft, choice)?;
+        self.make(list, &mut *draft, choice)?;
         let names = self.take_names(base)?;
         let begun = self.put_offset(depot, names.offsets())?;
         let put = begun.put_record(draft.record(), depot, names.graph())?;
-        Ok(put.go_on(draft, names, choice)?)
+        Ok(put.go_on(list, draft, names, choice)?)
     }
 
     /// Puts the last word of the offsets, the length of the last record, and fills up both files to whole bytes. It
     /// answers how many bits the records have.
     pub fn finish<D: Depot>(mut self, depot: &mut D, base: &str) -> Result<u64, EncodeError>
-        requires done { self.page ≡ self.graph.nodes }
-        ensures bits { IfOk result (λ bits. bits ≡ length (graph_bits self.entry.params self.entry.graph.lists)) }
-        ensures ok { IsTrue D.told → HasSentUpTo (D.files depot.old) base.now self.entry → OnOk result (IsWritten (D.files depot.new) base.now self.entry.params self.entry.graph.lists) }
-        ensures err { IsTrue D.told → HasSentUpTo (D.files depot.old) base.now self.entry → IfErr result (HasStopped (D.files depot.new) base.now self.entry.params self.entry.graph.lists) }
+        requires pages { self.next.page ≡ self.params.nodes }
+        requires arcs { self.next.arcs_before ≡ self.params.arcs }
+        ensures bits { IfOk result (λ bits. bits ≡ self.total) }
+        ensures ok { (lists : ListOf (ListOf ℕ)) → HasWritten self lists → IsTrue D.told → HasSentAll (D.files depot.old) base.now self lists
+            → OnOk result (IsWritten (D.files depot.new) base.now self.params lists) }
+        ensures err { (lists : ListOf (ListOf ℕ)) → HasWritten self lists → IsTrue D.told → HasSentAll (D.files depot.old) base.now self lists
+            → IfErr result (HasStopped (D.files depot.new) base.now self.params lists) }
         ensures only_two { IsTrue D.told → OnlyTwo base.now (D.files depot.old) (D.files depot.new) }
         ensures fault { IfErr result (HasFailed base.now (D.counts depot.old) (D.counts depot.new)) }
         ensures later { NonDecreasing (D.counts depot.old) (D.counts depot.new) }
     {
-        self.limits();
         let bits = self.total;
         let names = self.take_names(base)?;
         let put = self.put_offset(depot, names.offsets())?;

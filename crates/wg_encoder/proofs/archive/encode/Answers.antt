@@ -1,15 +1,14 @@
-use Rattle.std.proofs.Common.{[], refl, ap, arith}
+use Rattle.std.proofs.Common.{[], refl, ap}
 use Rattle.std.proofs.lemmas.Result.{err_from_is_err_and}
 use Rattle.wg_io.proofs.FilesLemmas.{none_falls-refl}
 use Rattle.wg_encoder.specs.Encoding.{Encoding}
-use Rattle.wg_encoder.proofs.Stopped.{if_err, begun, stopped_by_memory}
+use Rattle.wg_encoder.proofs.Stopped.{if_err, begun, stopped_there}
 use Rattle.wg_encoder.proofs.archive.encode.Goals as goal
 
 pub returns-in_err-encoder-clause-err : goal.returns-in_err-encoder-clause-err
 returns-in_err-encoder-clause-err g c t graph offsets =
     let e = err_from_is_err_and c.from_residual.result c.from_residual.ensures.1 in
-    if_err c.from_residual.result _ e.0 e.1
-    (stopped_by_memory _ c.args.base.now (record { params = c.args.params; graph = c.args.graph.now; page = 0; graph_waits = []; offsets_waits = [] }) e.0 (omega arith) (begun c.args.params c.args.graph.now _ c.args.base.now graph offsets) e.2)
+    if_err c.from_residual.result _ e.0 e.1 (stopped_there _ c.args.base.now c.args.params [] c.args.graph.now.lists [] [] e.0 (begun c.args.params _ c.args.base.now [] [] refl refl graph offsets) e.2)
 
 pub loop-encoder-init : goal.loop-encoder-init
 loop-encoder-init g c = record {

@@ -1,89 +1,52 @@
-use Rattle.std.proofs.Common.{◌≡◌, ◌∙◌, Err, ap, arith}
+use Rattle.std.proofs.Common.{◌+◌, ◌<◌, ◌∙◌, drop, Err, sym, ap, subst, arith}
 use Rattle.std.proofs.lemmas.Result.{err_from_is_err_and}
-use Rattle.wg_io.specs.Suffixes.{graph_name, offsets_name}
-use Rattle.wg_encoder.proofs.Chosen.{Stands}
-use Rattle.wg_encoder.proofs.Sent.{other_put, other_less}
-use Rattle.wg_encoder.proofs.Stopped.{IsMade, word_put, word_less, if_err, next_gone, stopped_by_memory, stopped_on_offsets, next_stopped_on_graph, next_stopped_by_memory}
+use Rattle.wg_graph.specs.Digraph.{IsGraph, successors}
+use Rattle.wg_encoder.specs.Encoding.{Encoded, Encoding, HasWritten}
+use Rattle.wg_encoder.specs.Gone.{HasSentAll, HasSentUpTo}
+use Rattle.wg_encoder.proofs.Stopped.{if_err}
+use Rattle.wg_encoder.proofs.OfGraph.{front, front_on, stopped, arcs_fit}
 use Rattle.wg_encoder.proofs.encoder.Encoder.next.Goals as goal
 
-pub returns-in_err-draft-clause-err : goal.returns-in_err-draft-clause-err
-returns-in_err-draft-clause-err g c t h =
+pub next-requires-clause-arcs : goal.next-requires-clause-arcs
+next-requires-clause-arcs g c =
+    let is = subst (λ (e : Encoding). IsGraph e.graph) (sym c.self.view_is) c.limits.ensures in
+    let here = subst (λ (e : Encoding). e.page < e.graph.nodes) (sym c.self.view_is) c.requires.more in
+    let list = c.list-list.ensures.value ∙ ap (successors c.self.inside.graph.now) c.page.ensures.value in
+    arcs_fit c.self.inside.lists c.self.inside.graph.now c.list-list.result.now is here list c.self.invariant.2 c.self.invariant.3
+
+pub returns-in_err-lists-clause-err : goal.returns-in_err-lists-clause-err
+returns-in_err-lists-clause-err g c t h =
     let e = err_from_is_err_and c.from_residual.result c.from_residual.ensures.1 in
-    if_err _ _ e.0 e.1 (stopped_by_memory _ _ c.args.self e.0 (omega (arith, c.limits.ensures.proper.counted, c.requires.more)) h e.2)
+    let is = subst (λ (e : Encoding). IsGraph e.graph) (sym c.self.view_is) c.limits.ensures in
+    let here = subst (λ (e : Encoding). e.page < e.graph.nodes) (sym c.self.view_is) c.requires.more in
+    let list = c.list-list.ensures.value ∙ ap (successors c.self.inside.graph.now) c.page.ensures.value in
+    let page = c.self.inside.lists.next.page in
+    let sent = subst (HasSentUpTo (g.D.Depot.files c.args.depot.now) c.args.base.now) (sym c.self.view_is) h in
+    if_err _ _ c.in_err-lists.field-0.0 (e.1 ∙ ap Err e.2)
+    (stopped _ c.args.base.now c.args.self _ c.list-list.result.now c.in_err-lists.field-0.0 c.self.view_is is here list
+    (c.in_err-lists.ensures.err (front c.self.inside.graph.now page) (drop (page + 1) c.self.inside.graph.now.lists) c.self.invariant.3 t sent))
 
-pub returns-in_err-make-clause-err : goal.returns-in_err-make-clause-err
-returns-in_err-make-clause-err g c t h =
-    let e = err_from_is_err_and c.from_residual-in_err-make.result c.from_residual-in_err-make.ensures.1 in
-    if_err _ _ e.0 e.1 (stopped_by_memory _ _ c.args.self e.0 (omega (arith, c.limits.ensures.proper.counted, c.requires.more)) h e.2)
-
-pub returns-in_err-names-clause-err : goal.returns-in_err-names-clause-err
-returns-in_err-names-clause-err g c t h =
-    let e = err_from_is_err_and c.from_residual-in_err-names.result c.from_residual-in_err-names.ensures.1 in
-    if_err _ _ e.0 e.1 (stopped_by_memory _ _ c.args.self e.0 (omega (arith, c.limits.ensures.proper.counted, c.requires.more)) h e.2)
-
-pub returns-in_err-begun-clause-err : goal.returns-in_err-begun-clause-err
-returns-in_err-begun-clause-err g c t h =
-    let e = err_from_is_err_and c.from_residual-in_err-begun.result c.from_residual-in_err-begun.ensures.1 in
-    let here = c.limits.ensures.proper.counted in
-    let offsets : c.offsets.result.now ≡ offsets_name c.args.base.now = c.offsets.ensures ∙ ap offsets_name (c.deref.ensures ∙ c.in_ok-names.ensures.names) in
-    let less = word_less _ _ c.args.base.now _ c.args.self _ (c.take_names.ensures.same ∙ c.take_draft.ensures) offsets (c.in_err-begun.ensures.sends.err t) in
-    if_err _ _ c.in_err-begun.field-0.0 (e.1 ∙ ap Err e.2)
-    (stopped_on_offsets _ _ c.args.base.now c.args.self _ _ _ (omega (arith, here, c.requires.more)) less c.in_err-begun.ensures.sends.fault h)
-
-pub returns-in_err-begun-clause-only_two : goal.returns-in_err-begun-clause-only_two
-returns-in_err-begun-clause-only_two g c t name graph offsets =
-    let is : c.offsets.result.now ≡ offsets_name c.args.base.now = c.offsets.ensures ∙ ap offsets_name (c.deref.ensures ∙ c.in_ok-names.ensures.names) in
-    other_less _ _ _ name _ _ (rw is at c.in_err-begun.ensures.sends.err t) offsets
-
-pub returns-in_err-put-clause-err : goal.returns-in_err-put-clause-err
-returns-in_err-put-clause-err g c t h =
-    let e = err_from_is_err_and c.from_residual-in_err-put.result c.from_residual-in_err-put.ensures.1 in
-    let s : Stands c.args.self = record { limits = c.limits.ensures.within; nodes = c.limits.ensures.nodes; arcs = c.limits.ensures.arcs; proper = c.limits.ensures.proper; here = c.requires.more } in
-    let offsets : c.offsets.result.now ≡ offsets_name c.args.base.now = c.offsets.ensures ∙ ap offsets_name (c.deref.ensures ∙ c.in_ok-names.ensures.names) in
-    let graph : c.graph.result.now ≡ graph_name c.args.base.now = c.graph.ensures ∙ ap graph_name (c.deref-3.ensures ∙ c.in_ok-names.ensures.names) in
-    let same = c.take_names.ensures.same ∙ c.take_draft.ensures in
-    let made : IsMade c.args.self c.choose-choice.result c.record.result.now = c.record.ensures ∙ c.deref-2.ensures ∙ rw c.take_draft.ensures at c.in_ok-make.ensures.record_is in
-    let put = word_put _ _ c.args.base.now _ c.args.self _ _ (c.take_names.ensures.same ∙ c.take_draft.ensures) offsets (c.in_ok-begun.ensures.sends.ok t) in
-    if_err _ _ c.in_err-put.field-0.0 (e.1 ∙ ap Err e.2)
-    (next_stopped_on_graph _ _ _ c.args.base.now c.args.self c.in_ok-begun.begun c.choose-choice.result c.record.result.now _ _ _ s c.choose-choice.ensures made (rw same at c.in_ok-begun.ensures.on) put (rw graph at c.in_err-put.ensures.sends.err t) c.in_err-put.ensures.sends.fault h)
-
-pub returns-in_err-put-clause-only_two : goal.returns-in_err-put-clause-only_two
-returns-in_err-put-clause-only_two g c t name graph offsets =
-    let first : c.offsets.result.now ≡ offsets_name c.args.base.now = c.offsets.ensures ∙ ap offsets_name (c.deref.ensures ∙ c.in_ok-names.ensures.names) in
-    let second : c.graph.result.now ≡ graph_name c.args.base.now = c.graph.ensures ∙ ap graph_name (c.deref-3.ensures ∙ c.in_ok-names.ensures.names) in
-    other_less _ _ _ name _ _ (rw second at c.in_err-put.ensures.sends.err t) graph ∙ other_put _ _ _ name _ _ _ (rw first at c.in_ok-begun.ensures.sends.ok t) offsets
-
-pub returns-in_err-go_on-clause-err : goal.returns-in_err-go_on-clause-err
-returns-in_err-go_on-clause-err g c t h =
-    let e = err_from_is_err_and c.from_residual-in_err-go_on.result c.from_residual-in_err-go_on.ensures.1 in
-    let s : Stands c.args.self = record { limits = c.limits.ensures.within; nodes = c.limits.ensures.nodes; arcs = c.limits.ensures.arcs; proper = c.limits.ensures.proper; here = c.requires.more } in
-    let offsets : c.offsets.result.now ≡ offsets_name c.args.base.now = c.offsets.ensures ∙ ap offsets_name (c.deref.ensures ∙ c.in_ok-names.ensures.names) in
-    let graph : c.graph.result.now ≡ graph_name c.args.base.now = c.graph.ensures ∙ ap graph_name (c.deref-3.ensures ∙ c.in_ok-names.ensures.names) in
-    let same = c.take_names.ensures.same ∙ c.take_draft.ensures in
-    let made : IsMade c.args.self c.choose-choice.result c.record.result.now = c.record.ensures ∙ c.deref-2.ensures ∙ rw c.take_draft.ensures at c.in_ok-make.ensures.record_is in
-    let put = word_put _ _ c.args.base.now _ c.args.self _ _ (c.take_names.ensures.same ∙ c.take_draft.ensures) offsets (c.in_ok-begun.ensures.sends.ok t) in
-    if_err _ _ e.0 e.1 (next_stopped_by_memory _ _ _ c.args.base.now c.args.self c.in_ok-begun.begun c.in_ok-put.put c.choose-choice.result c.record.result.now e.0 s c.choose-choice.ensures made (rw same at c.in_ok-begun.ensures.on) c.in_ok-put.ensures.on
-    put (rw graph at c.in_ok-put.ensures.sends.ok t) h e.2)
-
-pub returns-in_err-go_on-clause-only_two : goal.returns-in_err-go_on-clause-only_two
-returns-in_err-go_on-clause-only_two g c t name graph offsets =
-    let first : c.offsets.result.now ≡ offsets_name c.args.base.now = c.offsets.ensures ∙ ap offsets_name (c.deref.ensures ∙ c.in_ok-names.ensures.names) in
-    let second : c.graph.result.now ≡ graph_name c.args.base.now = c.graph.ensures ∙ ap graph_name (c.deref-3.ensures ∙ c.in_ok-names.ensures.names) in
-    other_put _ _ _ name _ _ _ (rw second at c.in_ok-put.ensures.sends.ok t) graph ∙ other_put _ _ _ name _ _ _ (rw first at c.in_ok-begun.ensures.sends.ok t) offsets
+pub invariant_of-result : goal.invariant_of-result
+invariant_of-result g c =
+    let is = subst (λ (e : Encoding). IsGraph e.graph) (sym c.self.view_is) c.limits.ensures in
+    let here = subst (λ (e : Encoding). e.page < e.graph.nodes) (sym c.self.view_is) c.requires.more in
+    let list = c.list-list.ensures.value ∙ ap (successors c.self.inside.graph.now) c.page.ensures.value in
+    let page = c.self.inside.lists.next.page in
+    let on = ap (λ (k : Encoded). k.next.page) c.in_ok-lists.ensures.on in (
+      omega (arith, on, here),
+      ap (λ (k : Encoded). k.params.nodes) c.in_ok-lists.ensures.on ∙ c.self.invariant.1,
+      ap (λ (k : Encoded). k.params.arcs) c.in_ok-lists.ensures.on ∙ c.self.invariant.2,
+      subst (HasWritten c.in_ok-lists.lists) (front_on c.self.inside.graph.now page c.in_ok-lists.lists.next.page c.list-list.result.now is here list on)
+          (c.in_ok-lists.ensures.written (front c.self.inside.graph.now page) c.self.invariant.3),
+    )
 
 pub returns-clause-ok : goal.returns-clause-ok
 returns-clause-ok g c t h =
-    let s : Stands c.args.self = record { limits = c.limits.ensures.within; nodes = c.limits.ensures.nodes; arcs = c.limits.ensures.arcs; proper = c.limits.ensures.proper; here = c.requires.more } in
-    let offsets : c.offsets.result.now ≡ offsets_name c.args.base.now = c.offsets.ensures ∙ ap offsets_name (c.deref.ensures ∙ c.in_ok-names.ensures.names) in
-    let graph : c.graph.result.now ≡ graph_name c.args.base.now = c.graph.ensures ∙ ap graph_name (c.deref-3.ensures ∙ c.in_ok-names.ensures.names) in
-    let same = c.take_names.ensures.same ∙ c.take_draft.ensures in
-    let made : IsMade c.args.self c.choose-choice.result c.record.result.now = c.record.ensures ∙ c.deref-2.ensures ∙ rw c.take_draft.ensures at c.in_ok-make.ensures.record_is in
-    let put = word_put _ _ c.args.base.now _ c.args.self _ _ (c.take_names.ensures.same ∙ c.take_draft.ensures) offsets (c.in_ok-begun.ensures.sends.ok t) in
-    next_gone _ _ _ c.args.base.now c.args.self c.in_ok-begun.begun c.in_ok-put.put c.in_ok-go_on.field-0 c.choose-choice.result c.record.result.now s c.choose-choice.ensures made (rw same at c.in_ok-begun.ensures.on) c.in_ok-put.ensures.on c.in_ok-go_on.ensures
-    put (rw graph at c.in_ok-put.ensures.sends.ok t) h
-
-pub returns-clause-only_two : goal.returns-clause-only_two
-returns-clause-only_two g c t name graph offsets =
-    let first : c.offsets.result.now ≡ offsets_name c.args.base.now = c.offsets.ensures ∙ ap offsets_name (c.deref.ensures ∙ c.in_ok-names.ensures.names) in
-    let second : c.graph.result.now ≡ graph_name c.args.base.now = c.graph.ensures ∙ ap graph_name (c.deref-3.ensures ∙ c.in_ok-names.ensures.names) in
-    other_put _ _ _ name _ _ _ (rw second at c.in_ok-put.ensures.sends.ok t) graph ∙ other_put _ _ _ name _ _ _ (rw first at c.in_ok-begun.ensures.sends.ok t) offsets
+    let is = subst (λ (e : Encoding). IsGraph e.graph) (sym c.self.view_is) c.limits.ensures in
+    let here = subst (λ (e : Encoding). e.page < e.graph.nodes) (sym c.self.view_is) c.requires.more in
+    let list = c.list-list.ensures.value ∙ ap (successors c.self.inside.graph.now) c.page.ensures.value in
+    let page = c.self.inside.lists.next.page in
+    let on = ap (λ (k : Encoded). k.next.page) c.in_ok-lists.ensures.on in
+    let sent = subst (HasSentUpTo (g.D.Depot.files c.args.depot.now) c.args.base.now) (sym c.self.view_is) h in
+    subst (HasSentAll (g.D.Depot.files c.next.new.depot) c.args.base.now c.in_ok-lists.lists) (front_on c.self.inside.graph.now page c.in_ok-lists.lists.next.page c.list-list.result.now is here list on)
+    (c.in_ok-lists.ensures.ok (front c.self.inside.graph.now page) c.self.invariant.3 t sent)

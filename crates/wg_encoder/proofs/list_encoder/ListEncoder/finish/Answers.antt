@@ -1,24 +1,23 @@
-use Rattle.std.proofs.Common.{◌≡◌, ◌∙◌, length, Err, sym, ap, arith}
+use Rattle.std.proofs.Common.{◌≡◌, ◌∙◌, Err, ap}
 use Rattle.std.proofs.lemmas.Result.{err_from_is_err_and}
 use Rattle.wg_io.specs.Suffixes.{graph_name, offsets_name}
 use Rattle.wg_encoder.proofs.Sent.{other_put, other_less}
-use Rattle.wg_encoder.proofs.Stopped.{word_put, word_less, if_err, stopped_by_memory, stopped_on_offsets}
-use Rattle.wg_encoder.proofs.Finished.{all_gone, all_counted, written, stopped_at_graph, stopped_at_offsets}
-use Rattle.wg_encoder.proofs.encoder.Encoder.finish.Goals as goal
+use Rattle.wg_encoder.proofs.Stopped.{word_put, word_less, if_err, all_stopped_by_memory, all_stopped_on_offsets}
+use Rattle.wg_encoder.proofs.Finished.{all_gone, finished, stopped_at_graph, stopped_at_offsets}
+use Rattle.wg_encoder.proofs.list_encoder.ListEncoder.finish.Goals as goal
 
 pub returns-in_err-names-clause-err : goal.returns-in_err-names-clause-err
-returns-in_err-names-clause-err g c t h =
+returns-in_err-names-clause-err g c lists written t h =
     let e = err_from_is_err_and c.from_residual.result c.from_residual.ensures.1 in
-    if_err _ _ e.0 e.1 (stopped_by_memory _ _ c.args.self e.0 (omega (arith, c.limits.ensures.proper.counted, c.requires.done)) h e.2)
+    if_err _ _ e.0 e.1 (all_stopped_by_memory _ _ c.args.self lists e.0 h e.2)
 
 pub returns-in_err-put-clause-err : goal.returns-in_err-put-clause-err
-returns-in_err-put-clause-err g c t h =
+returns-in_err-put-clause-err g c lists written t h =
     let e = err_from_is_err_and c.from_residual-in_err-put.result c.from_residual-in_err-put.ensures.1 in
-    let here = c.limits.ensures.proper.counted in
     let offsets : c.offsets.result.now ≡ offsets_name c.args.base.now = c.offsets.ensures ∙ ap offsets_name (c.deref.ensures ∙ c.in_ok-names.ensures.names) in
     let less = word_less _ _ c.args.base.now _ c.args.self _ (c.take_names.ensures.same) offsets (c.in_err-put.ensures.sends.err t) in
     if_err _ _ c.in_err-put.field-0.0 (e.1 ∙ ap Err e.2)
-    (stopped_on_offsets _ _ c.args.base.now c.args.self _ _ _ (omega (arith, here, c.requires.done)) less c.in_err-put.ensures.sends.fault h)
+    (all_stopped_on_offsets _ _ c.args.base.now c.args.self lists _ _ _ less c.in_err-put.ensures.sends.fault written h)
 
 pub returns-in_err-put-clause-only_two : goal.returns-in_err-put-clause-only_two
 returns-in_err-put-clause-only_two g c t name graph offsets =
@@ -26,15 +25,14 @@ returns-in_err-put-clause-only_two g c t name graph offsets =
     other_less _ _ _ name _ _ (rw is at c.in_err-put.ensures.sends.err t) offsets
 
 pub returns-in_err-close-clause-err : goal.returns-in_err-close-clause-err
-returns-in_err-close-clause-err g c t h =
+returns-in_err-close-clause-err g c lists written t h =
     let e = err_from_is_err_and c.from_residual-in_err-close.result c.from_residual-in_err-close.ensures.1 in
-    let done : c.args.self.page ≡ length c.args.self.graph.lists = c.requires.done ∙ sym c.limits.ensures.proper.counted in
     let offsets : c.offsets.result.now ≡ offsets_name c.args.base.now = c.offsets.ensures ∙ ap offsets_name (c.deref.ensures ∙ c.in_ok-names.ensures.names) in
     let graph : c.graph.result.now ≡ graph_name c.args.base.now = c.graph.ensures ∙ ap graph_name (c.deref-2.ensures ∙ c.in_ok-names.ensures.names) in
     let put = word_put _ _ c.args.base.now _ c.args.self _ _ (c.take_names.ensures.same) offsets (c.in_ok-put.ensures.sends.ok t) in
-    let all = all_gone _ _ c.args.base.now c.args.self c.in_ok-put.put _ done (rw c.take_names.ensures.same at c.in_ok-put.ensures.on) c.put.view_is put h in
+    let all = all_gone _ _ c.args.base.now c.args.self c.in_ok-put.put _ lists (rw c.take_names.ensures.same at c.in_ok-put.ensures.on) c.put.view_is put written h in
     if_err _ _ c.in_err-close.field-0.0 (e.1 ∙ ap Err e.2)
-    (stopped_at_graph c.args.base.now c.args.self.params c.args.self.graph.lists _ _ _ _ _ _ _ (rw graph at c.in_err-close.ensures.err t) c.in_err-close.ensures.fault all)
+    (stopped_at_graph c.args.base.now c.args.self.params lists _ _ _ _ _ _ _ (rw graph at c.in_err-close.ensures.err t) c.in_err-close.ensures.fault all)
 
 pub returns-in_err-close-clause-only_two : goal.returns-in_err-close-clause-only_two
 returns-in_err-close-clause-only_two g c t name graph offsets =
@@ -43,16 +41,15 @@ returns-in_err-close-clause-only_two g c t name graph offsets =
     other_less _ _ _ name _ _ (rw second at c.in_err-close.ensures.err t) graph ∙ other_put _ _ _ name _ _ _ (rw first at c.in_ok-put.ensures.sends.ok t) offsets
 
 pub returns-in_err-close-2-clause-err : goal.returns-in_err-close-2-clause-err
-returns-in_err-close-2-clause-err g c t h =
+returns-in_err-close-2-clause-err g c lists written t h =
     let e = err_from_is_err_and c.from_residual-in_err-close-2.result c.from_residual-in_err-close-2.ensures.1 in
-    let done : c.args.self.page ≡ length c.args.self.graph.lists = c.requires.done ∙ sym c.limits.ensures.proper.counted in
     let offsets : c.offsets.result.now ≡ offsets_name c.args.base.now = c.offsets.ensures ∙ ap offsets_name (c.deref.ensures ∙ c.in_ok-names.ensures.names) in
     let graph : c.graph.result.now ≡ graph_name c.args.base.now = c.graph.ensures ∙ ap graph_name (c.deref-2.ensures ∙ c.in_ok-names.ensures.names) in
     let last : c.offsets-2.result.now ≡ offsets_name c.args.base.now = c.offsets-2.ensures ∙ ap offsets_name (c.deref-3.ensures ∙ c.in_ok-names.ensures.names) in
     let put = word_put _ _ c.args.base.now _ c.args.self _ _ (c.take_names.ensures.same) offsets (c.in_ok-put.ensures.sends.ok t) in
-    let all = all_gone _ _ c.args.base.now c.args.self c.in_ok-put.put _ done (rw c.take_names.ensures.same at c.in_ok-put.ensures.on) c.put.view_is put h in
+    let all = all_gone _ _ c.args.base.now c.args.self c.in_ok-put.put _ lists (rw c.take_names.ensures.same at c.in_ok-put.ensures.on) c.put.view_is put written h in
     if_err _ _ c.in_err-close-2.field-0.0 (e.1 ∙ ap Err e.2)
-    (stopped_at_offsets c.args.base.now c.args.self.params c.args.self.graph.lists _ _ _ _ _ _ _ _ (rw graph at c.in_ok-close.ensures.ok t) (rw last at c.in_err-close-2.ensures.err t) c.in_err-close-2.ensures.fault all)
+    (stopped_at_offsets c.args.base.now c.args.self.params lists _ _ _ _ _ _ _ _ (rw graph at c.in_ok-close.ensures.ok t) (rw last at c.in_err-close-2.ensures.err t) c.in_err-close-2.ensures.fault all)
 
 pub returns-in_err-close-2-clause-only_two : goal.returns-in_err-close-2-clause-only_two
 returns-in_err-close-2-clause-only_two g c t name graph offsets =
@@ -61,19 +58,14 @@ returns-in_err-close-2-clause-only_two g c t name graph offsets =
     let last : c.offsets-2.result.now ≡ offsets_name c.args.base.now = c.offsets-2.ensures ∙ ap offsets_name (c.deref-3.ensures ∙ c.in_ok-names.ensures.names) in
     other_less _ _ _ name _ _ (rw last at c.in_err-close-2.ensures.err t) offsets ∙ other_put _ _ _ name _ _ _ (rw second at c.in_ok-close.ensures.ok t) graph ∙ other_put _ _ _ name _ _ _ (rw first at c.in_ok-put.ensures.sends.ok t) offsets
 
-pub returns-clause-bits : goal.returns-clause-bits
-returns-clause-bits g c =
-    all_counted c.args.self _ c.self.inside.depths.items c.self.inside.last c.self.inside.total c.self.view_is (c.requires.done ∙ sym c.limits.ensures.proper.counted) c.self.invariant.9
-
 pub returns-clause-ok : goal.returns-clause-ok
-returns-clause-ok g c t h =
-    let done : c.args.self.page ≡ length c.args.self.graph.lists = c.requires.done ∙ sym c.limits.ensures.proper.counted in
+returns-clause-ok g c lists written t h =
     let offsets : c.offsets.result.now ≡ offsets_name c.args.base.now = c.offsets.ensures ∙ ap offsets_name (c.deref.ensures ∙ c.in_ok-names.ensures.names) in
     let graph : c.graph.result.now ≡ graph_name c.args.base.now = c.graph.ensures ∙ ap graph_name (c.deref-2.ensures ∙ c.in_ok-names.ensures.names) in
     let last : c.offsets-2.result.now ≡ offsets_name c.args.base.now = c.offsets-2.ensures ∙ ap offsets_name (c.deref-3.ensures ∙ c.in_ok-names.ensures.names) in
     let put = word_put _ _ c.args.base.now _ c.args.self _ _ (c.take_names.ensures.same) offsets (c.in_ok-put.ensures.sends.ok t) in
-    let all = all_gone _ _ c.args.base.now c.args.self c.in_ok-put.put _ done (rw c.take_names.ensures.same at c.in_ok-put.ensures.on) c.put.view_is put h in
-    written c.args.base.now c.args.self.params c.args.self.graph.lists _ _ _ _ _ (rw graph at c.in_ok-close.ensures.ok t) (rw last at c.in_ok-close-2.ensures.ok t) all
+    let all = all_gone _ _ c.args.base.now c.args.self c.in_ok-put.put _ lists (rw c.take_names.ensures.same at c.in_ok-put.ensures.on) c.put.view_is put written h in
+    finished c.args.base.now c.args.self.params lists _ _ _ _ _ (rw graph at c.in_ok-close.ensures.ok t) (rw last at c.in_ok-close-2.ensures.ok t) all
 
 pub returns-clause-only_two : goal.returns-clause-only_two
 returns-clause-only_two g c t name graph offsets =
