@@ -1,7 +1,8 @@
 -- Lists of numbers that are given one by one.
 use Rattle.std.specs.Prelude.{ℕ, nat_lt, ◌==◌, if◌then◌else◌, List, [], ◌∷◌, Option, Some, None}
 
--- a page whose successors are given one by one: how many there are, how many references lead on from it, and which are still to come
+-- A page whose successors are given one by one: how many there are, how many pages are read below it, and which
+-- successors are still to come.
 pub record Coming : Type 0 where
   pub outdegree : ℕ
   pub depth : ℕ

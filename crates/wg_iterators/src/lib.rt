@@ -22,6 +22,7 @@
 //! record's own words, however many pages are below.
 #![tactic(auto)]
 
+mod below;
 mod fields;
 mod front;
 mod head;
@@ -30,6 +31,7 @@ mod residuals;
 mod successors;
 mod value;
 
+pub use below::CHAIN_PAGES;
 pub use fields::{Fronts, find_fronts};
 pub use head::reference;
 pub use residuals::Residuals;

@@ -1,13 +1,14 @@
 //! The successors of one page.
-ghost use Rattle.std.specs.Prelude.{◌≡◌, ℕ, ◌<◌, List, length};
+ghost use Rattle.std.specs.Prelude.{◌≡◌, ℕ, ◌<◌, List, length, option_copied};
 ghost use Rattle.wg_graph.specs.Ascending.{Ascends};
 ghost use Rattle.wg_intervals.specs.Coming.{Gives};
 ghost use Rattle.wg_iterators.specs.Fronts.{copied_of, IsOfBlocks};
 ghost use Rattle.wg_iterators.specs.Laid.{list_or_none, length_of};
 ghost use Rattle.wg_iterators.specs.Proper.{IsRecord};
-ghost use Rattle.wg_iterators.specs.Below.{depth_on, list_on, listed, IsFresh};
+ghost use Rattle.wg_iterators.specs.Below.{depth_on, list_on, list_below, depth_of, listed, IsFresh};
 ghost use Rattle.wg_iterators.specs.Ahead.{ahead, head_of};
 
+use crate::below::{Below, Lent};
 use crate::fields::find_fronts;
 use crate::front::{Front, Head, least};
 use crate::residuals::Residuals;
@@ -19,9 +20,11 @@ use wg_params::Params;
 
 /// The successors of a page, given one by one.
 ///
-/// It is seen as the page's outdegree, how many references lead on from it, and the list of the successors that are
-/// still to come. It holds cursors over the bits and one number of each front, and the page that its record refers to.
+/// It is seen as the page's outdegree, how many pages are read below it, and the list of the successors that are still
+/// to come. It holds cursors over the bits and one number of each front, and the page that its record refers to; or, of
+/// that page, only the list, which is lent.
 #[derive(Drop)]
+#[cycle(below)]
 pub struct Successors<'a> {
     outdegree: u64,
     // the next number of each front, if it was read
@@ -29,7 +32,7 @@ pub struct Successors<'a> {
     inside: Head,
     residual: Head,
     mask: Mask<'a>,
-    below: Option<Box<Successors<'a>>>,
+    below: Below<'a>,
     intervals: IntervalWalk<'a>,
     residuals: Residuals<'a>,
 }
@@ -63,47 +66,26 @@ impl<'a> Model for Successors<'a> {
     ghost size_decreases = { λ a h. Prim.grind (arith) };
 }
 
-// How many members the referenced list has; none if there is no reference.
-fn source_of(below: &Option<Box<Successors<'_>>>) -> Option<u64>
-    requires { IsFresh below.now }
-    ensures length { result ≡ length_of (listed below.now) }
-    ensures ascends { Ascends 0 (list_or_none (listed below.now)) }
-{
-    match below {
-        None => None,
-        Some(page) => Some(page.outdegree()),
-    }
-}
-
-// The next member of the page below that the mask copies.
+// The next member below that the mask copies.
 #[cycle(next)]
-fn next_copied<'a>(below: &mut Option<Box<Successors<'a>>>, mask: &mut Mask<'a>) -> Option<u64>
+fn next_copied<'a>(below: &mut Below<'a>, mask: &mut Mask<'a>) -> Option<u64>
     requires { IsOfBlocks mask.old }
     ensures gives { Gives (copied_of mask.old (list_on below.old)) result
         (copied_of mask.new (list_on below.new)) }
     ensures depth { depth_on below.new ≡ depth_on below.old }
     ensures mask { IsOfBlocks mask.new }
 {
-    match below {
-        None => None,
-        Some(page) => {
-            'members: while let Some(member) = page.next() {
-                if mask.step() {
-                    return Some(member);
-                }
-            }
-            None
+    'members: while let Some(member) = below.next() {
+        if mask.step() {
+            return Some(member);
         }
     }
+    None
 }
 
 // The next copied member, which is read if it was not.
 #[cycle(next)]
-fn look_copied<'a>(
-    head: &mut Head,
-    below: &mut Option<Box<Successors<'a>>>,
-    mask: &mut Mask<'a>,
-) -> Option<u64>
+fn look_copied<'a>(head: &mut Head, below: &mut Below<'a>, mask: &mut Mask<'a>) -> Option<u64>
     requires { IsOfBlocks mask.old }
     ensures same { ahead head.new (copied_of mask.new (list_on below.new))
         ≡ ahead head.old (copied_of mask.old (list_on below.old)) }
@@ -155,6 +137,35 @@ fn look_residual(head: &mut Head, residuals: &mut Residuals<'_>) -> Option<u64>
 }
 
 impl<'a> Successors<'a> {
+    // The successors of `page`, whose record stands at the cursor, before the first. `source` is the length of the list
+    // below, from which members are copied.
+    fn on(
+        params: &Params,
+        page: u64,
+        cursor: Cursor<'a>,
+        source: Option<u64>,
+        below: Below<'a>,
+    ) -> Successors<'a>
+        requires page { page < params.now.nodes }
+        requires source { source ≡ length_of (list_below below) }
+        requires ascends { Ascends 0 (list_or_none (list_below below)) }
+        requires proper { (list : List ℕ) × IsRecord params.now page (list_below below) cursor list }
+        ensures { (list : List ℕ) → IsRecord params.now page (list_below below.entry) cursor.entry list
+            → result ≡ record { outdegree = length list; depth = depth_on below.entry; list = list } }
+    {
+        let fronts = find_fronts(params, page, cursor, source);
+        Successors {
+            outdegree: fronts.outdegree,
+            copied: Head::Unread,
+            inside: Head::Unread,
+            residual: Head::Unread,
+            mask: fronts.mask,
+            below,
+            intervals: fronts.intervals,
+            residuals: fronts.residuals,
+        }
+    }
+
     /// The successors of `page`, whose record stands at the cursor, before the first. `below` is the page that the record
     /// refers to, if it has a reference, and has given nothing yet.
     pub fn begin(
@@ -167,19 +178,40 @@ impl<'a> Successors<'a> {
         requires fresh { IsFresh below }
         requires proper { (list : List ℕ) × IsRecord params.now page (listed below) cursor list }
         ensures { (list : List ℕ) → IsRecord params.now page (listed below.entry) cursor.entry list
-            → result ≡ record { outdegree = length list; depth = depth_on below.entry; list = list } }
+            → result ≡ record { outdegree = length list; depth = depth_of below.entry; list = list } }
     {
-        let source = source_of(&below);
-        let fronts = find_fronts(params, page, cursor, source);
-        Successors {
-            outdegree: fronts.outdegree,
-            copied: Head::Unread,
-            inside: Head::Unread,
-            residual: Head::Unread,
-            mask: fronts.mask,
-            below,
-            intervals: fronts.intervals,
-            residuals: fronts.residuals,
+        match below {
+            None => Successors::on(params, page, cursor, None, Below::Nothing),
+            Some(referenced) => {
+                let source = referenced.outdegree();
+                Successors::on(params, page, cursor, Some(source), Below::Page(referenced))
+            }
+        }
+    }
+
+    /// The same over a list: `below` is that of the page that the record refers to, if it has a reference. So no other
+    /// page is read, however many references lead on from it.
+    pub fn begin_on(
+        params: &Params,
+        page: u64,
+        cursor: Cursor<'a>,
+        below: Option<&'a [u64]>,
+    ) -> Successors<'a>
+        requires page { page < params.now.nodes }
+        requires ascends { Ascends 0 (list_or_none (option_copied below)) }
+        requires proper { (list : List ℕ) × IsRecord params.now page (option_copied below) cursor list }
+        ensures { (list : List ℕ) → IsRecord params.now page (option_copied below.entry) cursor.entry list
+            → result ≡ record { outdegree = length list; depth = 0; list = list } }
+    {
+        match below {
+            None => Successors::on(params, page, cursor, None, Below::Nothing),
+            Some(list) => Successors::on(
+                params,
+                page,
+                cursor,
+                Some(list.len() as u64),
+                Below::Lent(Lent::new(list)),
+            ),
         }
     }
 

@@ -1,13 +1,12 @@
 -- A chain of references that is followed.
-use Rattle.std.proofs.Common.{◌≡◌, ℕ, zero, suc, ◌+◌, ◌-◌, ◌<◌, ◌≤◌, Bool, inl, inr, List, length, Some, None, sym, ap, subst, ◌∙◌, arith}
+use Rattle.std.proofs.Common.{◌≡◌, ℕ, zero, suc, ◌+◌, ◌-◌, ◌<◌, ◌≤◌, Bool, inl, inr, List, [], ◌∷◌, ◌++◌, length, Some, None, refl, sym, ap, subst, ◌∙◌, arith}
 use Rattle.std.specs.Prelude.{get_or, set}
 use Rattle.std.proofs.lemmas.Bool.{cases_lt}
-use Rattle.std.proofs.lemmas.List.{get_or-set_same, get_or-set_other}
+use Rattle.std.proofs.lemmas.List.{length-set, length-append, get_or-set_same, get_or-set_other, get_or_append_left, get_or-append_right}
 use Rattle.wg_params.specs.Parameters.{Parameters}
 use Rattle.wg_grammar.specs.Record.{Whole}
-use Rattle.wg_random.specs.declared.archive.TheConstants.{CHAIN_PAGES}
 use Rattle.wg_random.specs.Reading.{known_at}
-use Rattle.wg_random.specs.Chain.{StandsOn, Refers, Link, Going, Ended}
+use Rattle.wg_random.specs.Chain.{ArePages, StandsOn, Refers, Link, Going, Ended}
 
 pub ended_of : (p : Parameters) (bits : List Bool) (ws : List Whole) (chain : List ℕ) (x page depth back : ℕ) → back ≡ 0 → Refers p bits ws page back → Going p bits ws chain x page depth → Ended p bits ws chain x depth
 ended_of p bits ws chain x page depth back none h g =
@@ -23,20 +22,25 @@ link_of : (p : Parameters) (bits : List Bool) (ws : List Whole) (page back : ℕ
 link_of p bits ws page zero some h = absurd (omega (arith, some))
 link_of p bits ws page (suc b) some h = record { proper = h.proper; depth = h.depth }
 
--- one reference more; the chain keeps the page where it has room
-pub going_on : (p : Parameters) (bits : List Bool) (ws : List Whole) (chain new : List ℕ) (x page depth back : ℕ) → 0 < back → ((i : ℕ) → i ≤ depth → get_or new i 0 ≡ get_or chain i 0) → (depth + 1 < CHAIN_PAGES → get_or new (depth + 1) 0 ≡ page - back)
-    → Refers p bits ws page back → Going p bits ws chain x page depth → Going p bits ws new x (page - back) (depth + 1)
-going_on p bits ws chain new x page depth back some same put h g =
+-- one reference more; the chain keeps the page if it has room
+going_on : (p : Parameters) (bits : List Bool) (ws : List Whole) (chain new : List ℕ) (x page depth back : ℕ) → 0 < back
+    → ((i : ℕ) → i ≤ depth → i < length new → i < length chain)
+    → ((i : ℕ) → i ≤ depth → i < length new → get_or new i 0 ≡ get_or chain i 0)
+    → (depth + 1 < length new → get_or new (depth + 1) 0 ≡ page - back)
+    → Refers p bits ws page back → Going p bits ws chain x page depth → 0 < length new → Going p bits ws new x (page - back) (depth + 1)
+going_on p bits ws chain new x page depth back some keeps same put h g there =
     let link : Link p bits ws page (page - back) = link_of p bits ws page back some h in
     record {
-      first = same 0 (omega arith) ∙ g.first;
+      first = same 0 (omega arith) there ∙ g.first;
       links = λ i lt near. elim (cases_lt i depth) [
         | inl less ↦
-            let l : Link p bits ws (get_or chain i 0) (get_or chain (suc i) 0) = g.links i less near in
-            subst (λ (k : ℕ). Link p bits ws k (get_or new (suc i) 0)) (sym (same i (omega (arith, less)))) (subst (λ (k : ℕ). Link p bits ws (get_or chain i 0) k) (sym (same (suc i) (omega (arith, less)))) l)
+            let l : Link p bits ws (get_or chain i 0) (get_or chain (suc i) 0) = g.links i less (keeps (suc i) (omega (arith, less)) near) in
+            let one = subst (λ (k : ℕ). Link p bits ws (get_or chain i 0) k) (sym (same (suc i) (omega (arith, less)) near)) l in
+            subst (λ (k : ℕ). Link p bits ws k (get_or new (suc i) 0)) (sym (same i (omega (arith, less)) (omega (arith, near)))) one
         | inr ge ↦
             let e : i ≡ depth = omega (arith, lt, ge) in
-            let here : get_or new i 0 ≡ page = same i (omega (arith, e)) ∙ ap (λ (k : ℕ). get_or chain k 0) e ∙ g.here (omega (arith, near, e)) in
+            let kept : depth < length chain = keeps depth (omega arith) (omega (arith, near, e)) in
+            let here : get_or new i 0 ≡ page = same i (omega (arith, e)) (omega (arith, near)) ∙ ap (λ (k : ℕ). get_or chain k 0) e ∙ g.here kept in
             let place : suc i ≡ depth + 1 = omega (arith, e) in
             let next : get_or new (suc i) 0 ≡ page - back = ap (λ (k : ℕ). get_or new k 0) place ∙ put (omega (arith, near, e)) in
             subst (λ (k : ℕ). Link p bits ws k (get_or new (suc i) 0)) (sym here) (subst (λ (k : ℕ). Link p bits ws page k) (sym next) link)
@@ -46,11 +50,15 @@ going_on p bits ws chain new x page depth back some same put h g =
     }
 
 -- the next page up
-pub next_up : (p : Parameters) (bits : List Bool) (ws : List Whole) (chain list : List ℕ) (x depth left : ℕ) → 0 < left → left ≤ depth → depth < CHAIN_PAGES → list ≡ (known_at ws (get_or chain left 0)).list → Ended p bits ws chain x depth → StandsOn p bits ws (get_or chain (left - 1) 0) (Some list)
+pub next_up : (p : Parameters) (bits : List Bool) (ws : List Whole) (chain list : List ℕ) (x depth left : ℕ) → 0 < left → left ≤ depth → depth < length chain
+    → list ≡ (known_at ws (get_or chain left 0)).list → Ended p bits ws chain x depth → StandsOn p bits ws (get_or chain (left - 1) 0) (Some list)
 next_up p bits ws chain list x depth left some le near is h =
     let place : suc (left - 1) ≡ left = omega (arith, some) in
     let l : Link p bits ws (get_or chain (left - 1) 0) (get_or chain (suc (left - 1)) 0) = h.links (left - 1) (omega (arith, some, le)) (omega (arith, le, near, place)) in
-    subst (λ (xs : List ℕ). StandsOn p bits ws (get_or chain (left - 1) 0) (Some xs)) (ap (λ (k : ℕ). (known_at ws (get_or chain k 0)).list) place ∙ sym is) l.proper
+    let same : (known_at ws (get_or chain (suc (left - 1)) 0)).list ≡ list = ap (λ (k : ℕ). (known_at ws (get_or chain k 0)).list) place ∙ sym is in
+    subst (λ (xs : List ℕ). StandsOn p bits ws (get_or chain (left - 1) 0) (Some xs)) same l.proper
+
+-- ---- a chain of a fixed length
 
 pub set_before : (chain : List ℕ) (depth v i : ℕ) → i ≤ depth → get_or (set chain (depth + 1) v) i 0 ≡ get_or chain i 0
 set_before chain depth v i le = get_or-set_other chain (depth + 1) i v 0 (λ e. omega (arith, e, le))
@@ -58,9 +66,67 @@ set_before chain depth v i le = get_or-set_other chain (depth + 1) i v 0 (λ e. 
 pub set_here : (chain : List ℕ) (depth v : ℕ) → depth + 1 < length chain → get_or (set chain (depth + 1) v) (depth + 1) 0 ≡ v
 set_here chain depth v lt = get_or-set_same chain (depth + 1) v 0 lt
 
-pub set_pages : (chain : List ℕ) (n depth v : ℕ) → depth + 1 < length chain → v < n → ((i : ℕ) → i ≤ depth → i < CHAIN_PAGES → get_or chain i 0 < n) → (i : ℕ) → i ≤ depth + 1 → i < CHAIN_PAGES → get_or (set chain (depth + 1) v) i 0 < n
+pub set_pages : (chain : List ℕ) (n depth v : ℕ) → depth + 1 < length chain → v < n → ArePages n chain depth → ArePages n (set chain (depth + 1) v) (depth + 1)
 set_pages chain n depth v lt low pages i le near =
     elim (cases_lt depth i) [
       | inl past ↦ let e : depth + 1 ≡ i = omega (arith, past, le) in subst (λ (k : ℕ). get_or (set chain (depth + 1) v) k 0 < n) e (omega (arith, set_here chain depth v lt, low))
-      | inr before ↦ omega (arith, set_before chain depth v i before, pages i before near)
+      | inr before ↦ omega (arith, set_before chain depth v i before, pages i before (omega (arith, near, length-set chain (depth + 1) v)))
     ]
+
+pub set_going : (p : Parameters) (bits : List Bool) (ws : List Whole) (chain : List ℕ) (x page depth back : ℕ) → 0 < back → depth + 1 < length chain
+    → Refers p bits ws page back → Going p bits ws chain x page depth → Going p bits ws (set chain (depth + 1) (page - back)) x (page - back) (depth + 1)
+set_going p bits ws chain x page depth back some lt h g =
+    let len : length (set chain (depth + 1) (page - back)) ≡ length chain = length-set chain (depth + 1) (page - back) in
+    going_on p bits ws chain (set chain (depth + 1) (page - back)) x page depth back some
+    (λ i le near. omega (arith, near, len))
+    (λ i le near. set_before chain depth (page - back) i le)
+    (λ near. set_here chain depth (page - back) lt)
+    h g (omega (arith, lt, len))
+
+-- where it has no room, it stays
+pub full_going : (p : Parameters) (bits : List Bool) (ws : List Whole) (chain : List ℕ) (x page depth back : ℕ) → 0 < back → length chain ≤ depth + 1 → 0 < length chain
+    → Refers p bits ws page back → Going p bits ws chain x page depth → Going p bits ws chain x (page - back) (depth + 1)
+full_going p bits ws chain x page depth back some full there h g =
+    going_on p bits ws chain chain x page depth back some (λ i le near. near) (λ i le near. refl) (λ near. absurd (omega (arith, near, full))) h g there
+
+-- ---- a chain that grows
+
+-- what a list is that one number was added to
+pub pushed_length : (chain new : List ℕ) (v : ℕ) → new ≡ chain ++ v ∷ [] → length new ≡ length chain + 1
+pushed_length chain new v is = omega (arith, ap (λ (l : List ℕ). length l) is, length-append chain (v ∷ []))
+
+push_before : (chain : List ℕ) (v i : ℕ) → i < length chain → get_or (chain ++ v ∷ []) i 0 ≡ get_or chain i 0
+push_before chain v i lt = get_or_append_left chain (v ∷ []) 0 i lt
+
+push_here : (chain : List ℕ) (depth v : ℕ) → length chain ≡ depth → get_or (chain ++ v ∷ []) depth 0 ≡ v
+push_here chain depth v len =
+    let none : depth - depth ≡ 0 = omega arith in
+    get_or-append_right chain (v ∷ []) depth depth 0 len (omega arith) ∙ ap (λ (k : ℕ). get_or (v ∷ []) k 0) none
+
+pub pushed_pages : (chain new : List ℕ) (n v : ℕ) → new ≡ chain ++ v ∷ [] → 0 < length chain → v < n → ArePages n chain (length chain - 1) → ArePages n new (length new - 1)
+pushed_pages chain new n v is some low pages i le near =
+    let len : length new ≡ length chain + 1 = pushed_length chain new v is in
+    let same : get_or new i 0 ≡ get_or (chain ++ v ∷ []) i 0 = ap (λ (l : List ℕ). get_or l i 0) is in
+    elim (cases_lt i (length chain)) [
+      | inl before ↦ omega (arith, same, push_before chain v i before, pages i (omega (arith, before)) before)
+      | inr past ↦ let e : length chain ≡ i = omega (arith, past, near, len) in omega (arith, same, push_here chain i v e, low)
+    ]
+
+pub pushed_going : (p : Parameters) (bits : List Bool) (ws : List Whole) (chain new : List ℕ) (x page back : ℕ) → new ≡ chain ++ (page - back) ∷ [] → 0 < length chain → 0 < back
+    → Refers p bits ws page back → Going p bits ws chain x page (length chain - 1) → Going p bits ws new x (page - back) (length new - 1)
+pushed_going p bits ws chain new x page back is there some h g =
+    let len : length new ≡ length chain + 1 = pushed_length chain new (page - back) is in
+    let depth : length chain - 1 + 1 ≡ length new - 1 = omega (arith, len, there) in
+    let place : length chain - 1 + 1 ≡ length chain = omega (arith, there) in
+    let put : get_or new (length chain - 1 + 1) 0 ≡ page - back =
+    ap (λ (k : ℕ). get_or new k 0) place ∙ ap (λ (l : List ℕ). get_or l (length chain) 0) is ∙ push_here chain (length chain) (page - back) refl in
+    subst (λ (k : ℕ). Going p bits ws new x (page - back) k) depth
+    (going_on p bits ws chain new x page (length chain - 1) back some
+    (λ i le near. omega (arith, le, there))
+    (λ i le near. ap (λ (l : List ℕ). get_or l i 0) is ∙ push_before chain (page - back) i (omega (arith, le, there)))
+    (λ near. put)
+    h g (omega (arith, len)))
+
+-- the same chain, lent
+pub ended_as : (p : Parameters) (bits : List Bool) (ws : List Whole) (chain lent : List ℕ) (x : ℕ) → lent ≡ chain → Ended p bits ws chain x (length chain - 1) → Ended p bits ws lent x (length lent - 1)
+ended_as p bits ws chain lent x is h = subst (λ (l : List ℕ). Ended p bits ws l x (length l - 1)) (sym is) h

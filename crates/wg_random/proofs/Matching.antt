@@ -8,8 +8,6 @@ use Rattle.wg_grammar.specs.Archive.{Pages, Accepted, ReadsGraph}
 use Rattle.wg_offsets.specs.Places.{ArePlaces, AgreeInLengths}
 use Rattle.wg_random.specs.Held.{Held}
 use Rattle.wg_random.specs.Reading.{Reading, known_at}
-use Rattle.wg_random.specs.Answer.{all_of}
-use Rattle.wg_iterators.specs.Coming.{Coming}
 
 -- the parts of the records behind, in the order of the pages
 module _ {X : Type 0} (part : Whole → X) (p : Parameters) (bits : List Bool) where
@@ -53,8 +51,9 @@ list_at [] x = refl
 list_at (w ∷ ws) zero = refl
 list_at (w ∷ ws) (suc x) = list_at ws x
 
--- the page that was opened has the list of the graph
-pub graph_list : (v : Held) (x : ℕ) (s : Coming) → ((r : Reading v.params v.bits) → s ≡ all_of (known_at r.records x)) → (a : Accepted) → ReadsGraph v.params v.bits (Ok a) → s.list ≡ get_or a.graph x []
-graph_list v x s is a h =
+-- a list that is the page's in each reading is the list of the graph
+pub graph_list : (v : Held) (x : ℕ) (list : List ℕ) → ((r : Reading v.params v.bits) → list ≡ (known_at r.records x).list) → (a : Accepted) → ReadsGraph v.params v.bits (Ok a)
+    → list ≡ get_or a.graph x []
+graph_list v x list is a h =
     let g = read_of v.params v.bits a h in
-    ap (λ (c : Coming). c.list) (is g.reading) ∙ sym (list_at g.reading.records x) ∙ ap (λ (ls : List (List ℕ)). get_or ls x []) (sym g.graph)
+    is g.reading ∙ sym (list_at g.reading.records x) ∙ ap (λ (ls : List (List ℕ)). get_or ls x []) (sym g.graph)

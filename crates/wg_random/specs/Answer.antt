@@ -1,8 +1,10 @@
--- What the opening of a page answers.
-use Rattle.std.specs.Prelude.{◌≡◌, ℕ, ◌<◌, ◌≤◌, length, Result, Ok, Err}
+-- What a page's opening and its list answer.
+use Rattle.std.specs.Prelude.{◌≡◌, ℕ, ◌<◌, ◌≤◌, List, length, Result, Ok, Err}
 use Rattle.wg_grammar.specs.Context.{Known}
 use Rattle.wg_iterators.specs.Coming.{Coming}
-use Rattle.wg_random.specs.declared.archive.TheConstants.{CHAIN_PAGES}
+use Rattle.wg_iterators.specs.declared.below.TheConstants.{CHAIN_PAGES}
+use Rattle.wg_random.specs.declared.error.ListError.{ListError}
+use Rattle.wg_random.specs.declared.error.ListError.TheVariants as lists
 use Rattle.wg_random.specs.declared.error.OpenError.{OpenError}
 use Rattle.wg_random.specs.declared.error.OpenError.TheVariants.{NoPage, Deep, Memory}
 
@@ -16,3 +18,9 @@ Opens nodes x k (Ok s) = (x < nodes) × (k.depth < CHAIN_PAGES) × (s ≡ all_of
 Opens nodes x k (Err NoPage) = nodes ≤ x
 Opens nodes x k (Err (Deep d)) = (x < nodes) × (d ≡ k.depth) × (CHAIN_PAGES ≤ d)
 Opens nodes x k (Err Memory) = (x < nodes) × (k.depth < CHAIN_PAGES) × (0 < k.depth)
+
+-- the list of the page, which is x; or there is no such page; or memory was wanting
+abbrev pub Lists : ℕ → ℕ → Known → Result (List ℕ) ListError → Type 0
+Lists nodes x k (Ok list) = (x < nodes) × (list ≡ k.list)
+Lists nodes x k (Err lists.NoPage) = nodes ≤ x
+Lists nodes x k (Err lists.Memory) = x < nodes

@@ -1,9 +1,8 @@
 -- The pages that references lead to, one from the other.
-use Rattle.std.specs.Prelude.{◌≡◌, ℕ, zero, suc, ◌+◌, ◌-◌, ◌<◌, ◌≤◌, Bool, List, Option, Some, None, get_or}
+use Rattle.std.specs.Prelude.{◌≡◌, ℕ, zero, suc, ◌+◌, ◌-◌, ◌<◌, ◌≤◌, Bool, List, Option, Some, None, length, get_or}
 use Rattle.wg_params.specs.Parameters.{Parameters}
 use Rattle.wg_grammar.specs.Record.{Whole}
 use Rattle.wg_iterators.specs.Proper.{IsRecord}
-use Rattle.wg_random.specs.declared.archive.TheConstants.{CHAIN_PAGES}
 use Rattle.wg_random.specs.Reading.{known_at, offset_at}
 
 -- The record of page x is proper against the list below.
@@ -30,16 +29,20 @@ pub record Link (p : Parameters) (bits : List Bool) (records : List Whole) (x y 
   pub proper : StandsOn p bits records x (Some (known_at records y).list)
   pub depth : (known_at records x).depth ≡ suc (known_at records y).depth
 
--- From page x the references have been followed over depth pages, to this page. The first CHAIN_PAGES of them are kept.
+-- the numbers of the chain up to this index are pages
+abbrev pub ArePages : ℕ → List ℕ → ℕ → Type 0
+ArePages nodes chain depth = (i : ℕ) → i ≤ depth → i < length chain → get_or chain i 0 < nodes
+
+-- From page x the references have been followed over depth pages, to this page. The chain keeps as many of them as it has room for.
 pub record Going (p : Parameters) (bits : List Bool) (records : List Whole) (chain : List ℕ) (x page depth : ℕ) : Type 0 where
   pub first : get_or chain 0 0 ≡ x
-  pub links : (i : ℕ) → i < depth → suc i < CHAIN_PAGES → Link p bits records (get_or chain i 0) (get_or chain (suc i) 0)
-  pub here : depth < CHAIN_PAGES → get_or chain depth 0 ≡ page
+  pub links : (i : ℕ) → i < depth → suc i < length chain → Link p bits records (get_or chain i 0) (get_or chain (suc i) 0)
+  pub here : depth < length chain → get_or chain depth 0 ≡ page
   pub deep : (known_at records x).depth ≡ depth + (known_at records page).depth
 
 -- They end after depth pages.
 pub record Ended (p : Parameters) (bits : List Bool) (records : List Whole) (chain : List ℕ) (x depth : ℕ) : Type 0 where
   pub first : get_or chain 0 0 ≡ x
-  pub links : (i : ℕ) → i < depth → suc i < CHAIN_PAGES → Link p bits records (get_or chain i 0) (get_or chain (suc i) 0)
-  pub bottom : depth < CHAIN_PAGES → StandsOn p bits records (get_or chain depth 0) None
+  pub links : (i : ℕ) → i < depth → suc i < length chain → Link p bits records (get_or chain i 0) (get_or chain (suc i) 0)
+  pub bottom : depth < length chain → StandsOn p bits records (get_or chain depth 0) None
   pub deep : (known_at records x).depth ≡ depth

@@ -1,12 +1,14 @@
 //! Pages by their offsets.
-ghost use Rattle.std.specs.Prelude.{◌≡◌, ◌+◌, ◌<◌, ◌≤◌, ℕ, List, [], length, get_or, Ok, IfOk, IfErr, OnOk, OnErr};
+ghost use Rattle.std.specs.Prelude.{◌≡◌, ◌+◌, ◌<◌, ◌≤◌, ℕ, List, [], length, get_or, Ok, IfOk, IfErr, OnOk, OnErr, option_copied};
+ghost use Rattle.wg_graph.specs.Ascending.{Ascends};
 ghost use Rattle.wg_grammar.specs.Archive.{Accepted, ReadsGraph};
-ghost use Rattle.wg_iterators.specs.Below.{depth_on, listed, IsFresh};
+ghost use Rattle.wg_iterators.specs.declared.below.TheConstants.{CHAIN_PAGES};
+ghost use Rattle.wg_iterators.specs.Below.{depth_of, listed, IsFresh};
+ghost use Rattle.wg_iterators.specs.Laid.{list_or_none};
 ghost use Rattle.wg_random.specs.Checking.{IsLengthFault};
 ghost use Rattle.wg_random.specs.Reading.{Reading, known_at, offset_at};
-ghost use Rattle.wg_random.specs.Chain.{StandsOn, Refers, Ended};
+ghost use Rattle.wg_random.specs.Chain.{ArePages, StandsOn, Refers, Ended};
 ghost use Rattle.wg_random.specs.Answer.{all_of, Opens};
-ghost use Rattle.wg_random.specs.declared.archive.TheConstants.{CHAIN_PAGES};
 
 use crate::{OpenError, Records, Steps};
 use std::alloc::{AllocError, Global};
@@ -14,12 +16,9 @@ use std::marker::Model;
 use std::sync::ledger::Ledger;
 use wg_bits::{Bits, Cursor};
 use wg_grammar::ArchiveFault;
-use wg_iterators::{Successors, reference};
+use wg_iterators::{CHAIN_PAGES, Successors, reference};
 use wg_offsets::Offsets;
 use wg_params::Params;
-
-/// How many pages a chain of references may have if its first page is to be opened.
-pub const CHAIN_PAGES: usize = 256;
 
 /// The bits of an archive that stand for one graph, and the offsets of its records.
 ///
@@ -27,7 +26,7 @@ pub const CHAIN_PAGES: usize = 256;
 #[derive(Drop)]
 pub struct Archive<'a> {
     bytes: &'a [u8],
-    params: Params,
+    pub(crate) params: Params,
     offsets: &'a Offsets,
 }
 
@@ -89,7 +88,8 @@ impl<'a> Archive<'a> {
     // A cursor at the record of a page.
     fn cursor(&self, page: u64) -> Cursor<'a>
         requires { page < self.now.params.nodes }
-        ensures { (r : Reading self.now.params self.now.bits) → result ≡ record { bits = self.now.bits; at = offset_at r.records page } }
+        ensures { (r : Reading self.now.params self.now.bits)
+            → result ≡ record { bits = self.now.bits; at = offset_at r.records page } }
     {
         // tells the limits
         self.params.nodes();
@@ -97,9 +97,10 @@ impl<'a> Archive<'a> {
     }
 
     // How many pages back the record of a page refers.
-    fn reference(&self, page: u64) -> u64
+    pub(crate) fn reference(&self, page: u64) -> u64
         requires { page < self.now.params.nodes }
-        ensures refers { (r : Reading self.now.params self.now.bits) → Refers self.now.params self.now.bits r.records page result }
+        ensures refers { (r : Reading self.now.params self.now.bits)
+            → Refers self.now.params self.now.bits r.records page result }
         ensures near { result ≤ page }
     {
         reference(&self.params, self.cursor(page))
@@ -109,12 +110,27 @@ impl<'a> Archive<'a> {
     fn stand(&self, page: u64, below: Option<Box<Successors<'a>>>) -> Successors<'a>
         requires page { page < self.now.params.nodes }
         requires fresh { IsFresh below }
-        requires ready { (r : Reading self.now.params self.now.bits) → StandsOn self.now.params self.now.bits r.records page (listed below) }
-        ensures whole { (r : Reading self.now.params self.now.bits) → result ≡ record { outdegree = length (known_at r.records page).list; depth = depth_on below.entry; list = (known_at r.records page).list } }
+        requires ready { (r : Reading self.now.params self.now.bits)
+            → StandsOn self.now.params self.now.bits r.records page (listed below) }
+        ensures whole { (r : Reading self.now.params self.now.bits) → let list : List ℕ = (known_at r.records page).list in
+            result ≡ record { outdegree = length list; depth = depth_of below.entry; list = list } }
         ensures fresh { length result.list ≡ result.outdegree }
-        ensures depth { result.depth ≡ depth_on below.entry }
+        ensures depth { result.depth ≡ depth_of below.entry }
     {
         Successors::begin(&self.params, page, self.cursor(page), below)
+    }
+
+    // The page, where all of its successors are to come. The list of the page that it refers to is lent.
+    pub(crate) fn stand_on<'b>(&self, page: u64, below: Option<&'b [u64]>) -> Successors<'b>
+    where
+        'a: 'b,
+        requires page { page < self.now.params.nodes }
+        requires ascends { Ascends 0 (list_or_none (option_copied below)) }
+        requires ready { (r : Reading self.now.params self.now.bits)
+            → StandsOn self.now.params self.now.bits r.records page (option_copied below) }
+        ensures { (r : Reading self.now.params self.now.bits) → result.list ≡ (known_at r.records page).list }
+    {
+        Successors::begin_on(&self.params, page, self.cursor(page), below)
     }
 
     // Follows the references from page `x`, keeps the first of these pages, and answers how many references there are.
@@ -125,8 +141,9 @@ impl<'a> Archive<'a> {
         steps: &mut Steps<L>,
     ) -> u64
         requires { x < self.now.params.nodes }
-        ensures chain { (r : Reading self.now.params self.now.bits) → Ended self.now.params self.now.bits r.records chain.new x result }
-        ensures pages { (i : ℕ) → i ≤ result → i < CHAIN_PAGES → get_or chain.new i 0 < self.now.params.nodes }
+        ensures chain { (r : Reading self.now.params self.now.bits)
+            → Ended self.now.params self.now.bits r.records chain.new x result }
+        ensures pages { ArePages self.now.params.nodes chain.new result }
         ensures ticks { steps.new ≡ steps.old + result + 1 }
     {
         let mut page = x;
@@ -155,9 +172,11 @@ impl<'a> Archive<'a> {
         depth: u64,
     ) -> Result<Successors<'a>, AllocError>
         requires near { depth < CHAIN_PAGES }
-        requires pages { (i : ℕ) → i ≤ depth → i < CHAIN_PAGES → get_or chain.now i 0 < self.now.params.nodes }
-        requires chain { (r : Reading self.now.params self.now.bits) → Ended self.now.params self.now.bits r.records chain.now x depth }
-        ensures page { (r : Reading self.now.params self.now.bits) → IfOk result (λ s. s ≡ all_of (known_at r.records x)) }
+        requires pages { ArePages self.now.params.nodes chain.now depth }
+        requires chain { (r : Reading self.now.params self.now.bits)
+            → Ended self.now.params self.now.bits r.records chain.now x depth }
+        ensures page { (r : Reading self.now.params self.now.bits)
+            → IfOk result (λ s. s ≡ all_of (known_at r.records x)) }
         ensures memory { OnErr result (0 < depth) }
     {
         let mut below: Option<Box<Successors<'a>>> = None;
@@ -178,10 +197,14 @@ impl<'a> Archive<'a> {
         x: u64,
         steps: &mut Steps<L>,
     ) -> Result<Successors<'a>, OpenError>
-        ensures answer { (r : Reading self.now.params self.now.bits) → Opens self.now.params.nodes x (known_at r.records x) result }
-        ensures graph { (a : Accepted) → ReadsGraph self.now.params self.now.bits (Ok a) → IfOk result (λ s. s.list ≡ get_or a.graph x []) }
-        ensures ticks { (r : Reading self.now.params self.now.bits) → OnOk result (steps.new ≡ steps.old + (known_at r.records x).depth + 1) }
-        ensures most { (r : Reading self.now.params self.now.bits) → steps.new ≤ steps.old + (known_at r.records x).depth + 1 }
+        ensures answer { (r : Reading self.now.params self.now.bits)
+            → Opens self.now.params.nodes x (known_at r.records x) result }
+        ensures graph { (a : Accepted) → ReadsGraph self.now.params self.now.bits (Ok a)
+            → IfOk result (λ s. s.list ≡ get_or a.graph x []) }
+        ensures ticks { (r : Reading self.now.params self.now.bits)
+            → OnOk result (steps.new ≡ steps.old + (known_at r.records x).depth + 1) }
+        ensures most { (r : Reading self.now.params self.now.bits)
+            → steps.new ≤ steps.old + (known_at r.records x).depth + 1 }
         ensures none { self.now.params.nodes ≤ x → steps.new ≡ steps.old }
     {
         if x >= self.params.nodes() {

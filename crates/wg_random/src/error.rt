@@ -1,5 +1,6 @@
-//! Why an archive is refused, and why a page is not opened.
+//! Why an archive is refused, and why a page is not opened or its list not made.
 ghost use Rattle.std.specs.Prelude.{◌≡◌};
+ghost use Rattle.wg_random.specs.declared.error.ListError.TheVariants as lists;
 
 use std::alloc::AllocError;
 use thiserror::Error;
@@ -24,4 +25,21 @@ pub enum OpenError {
     Deep(u64),
     #[error("out of memory")]
     Memory,
+}
+
+/// Why the list of a page was not made.
+#[derive(Clone, Copy, Debug, PartialEq, Eq, Error)]
+pub enum ListError {
+    #[error("no such page")]
+    NoPage,
+    #[error("out of memory")]
+    Memory,
+}
+
+impl From<AllocError> for ListError {
+    ghost from_gives = { λ _ e. e ≡ lists.Memory };
+
+    fn from(_error: AllocError) -> Self {
+        ListError::Memory
+    }
 }

@@ -17,12 +17,13 @@
 
 mod archive;
 mod error;
+mod listing;
 mod records;
 mod steps;
 #[cfg(test)]
 mod tests;
 
-pub use archive::{Archive, CHAIN_PAGES};
-pub use error::{CheckError, OpenError};
+pub use archive::Archive;
+pub use error::{CheckError, ListError, OpenError};
 pub use records::Records;
 pub use steps::Steps;

@@ -1,20 +1,84 @@
-// Each page of an archive opened, and a chain of references that is too long for it.
+// Each page of an archive opened and listed, and a chain of references that is too long to be opened.
 ghost use Rattle.std.specs.Prelude.{◌≡◌, ◌<◌, ◌≤◌, ◌^◌, length};
 
-use crate::{Archive, OpenError, Records, Steps};
+use crate::{Archive, ListError, OpenError, Records, Steps};
 use std::alloc::Global;
 use std::marker::Brand;
 use std::process::Abort;
 use std::sync::ledger::{Blank, Ledger};
 use std::test::Fail;
+use wg_iterators::Successors;
 use wg_params::{BadParam, Code, Params};
 use wg_vectors::{ARCHIVES, Archive as Worked, LONGER, bytes_of};
 
-// What is wanted of a page: its list, or why it is not opened.
-type Case<'a> = (u64, Result<&'a [u64], OpenError>);
+// What is wanted of a page: its list, if there is one, and why it is not opened, if it is not.
+#[derive(Drop)]
+struct Case<'a> {
+    page: u64,
+    list: Result<&'a [u64], ListError>,
+    refused: Option<OpenError>,
+}
 
-// Opens pages of the archive whose graph file and offsets file have these bits.
-fn is_opened<L: Ledger>(
+// A page with this list.
+fn given(page: u64, list: &[u64]) -> Case<'_> {
+    Case {
+        page,
+        list: Ok(list),
+        refused: None,
+    }
+}
+
+// A page with this list, from which too many references lead on, namely so many.
+fn deep(page: u64, list: &[u64], depth: u64) -> Case<'_> {
+    Case {
+        page,
+        list: Ok(list),
+        refused: Some(OpenError::Deep(depth)),
+    }
+}
+
+// A page that the archive has not.
+fn absent(page: u64) -> Case<'static> {
+    Case {
+        page,
+        list: Err(ListError::NoPage),
+        refused: Some(OpenError::NoPage),
+    }
+}
+
+// The successors of an opened page, one by one.
+fn gives(rt: &impl Abort, mut successors: Successors, list: &[u64]) {
+    for number in list {
+        assert_eq!(rt; successors.next(), Some(*number));
+    }
+    assert_eq!(rt; successors.next(), None);
+    assert_eq!(rt; successors.next(), None);
+}
+
+// Opens a page, and makes its list.
+fn is_read<L: Ledger>(
+    rt: &impl Abort,
+    alloc: Global,
+    archive: &Archive,
+    case: &Case,
+    steps: &mut Steps<L>,
+) -> Result<(), Fail> {
+    match archive.open(alloc, case.page, steps) {
+        Ok(successors) => {
+            assert!(rt; case.refused.is_none());
+            gives(rt, successors, case.list?);
+        }
+        Err(error) => assert!(rt; case.refused == Some(error)),
+    }
+    match archive.list(alloc, case.page, steps) {
+        Ok(list) => assert_eq!(rt; list.as_slice(), case.list?),
+        Err(error) => assert!(rt; case.list.err() == Some(error)),
+    }
+    Ok(())
+}
+
+// Reads pages of the archive whose graph file and offsets file have these bits.
+fn are_read<L: Ledger>(
     rt: &impl Abort,
     alloc: Global,
     params: Params,
@@ -33,36 +97,26 @@ fn is_opened<L: Ledger>(
     assert!(rt; graph.len() <= 1 << 46 && offsets.len() <= 1 << 46);
     let offsets = wg_offsets::read(alloc, &offsets, params.nodes(), params.offsets())?;
     let archive = Archive::check(Records::check(alloc, &graph, params)?, &offsets)?;
-    for (page, wanted) in cases {
-        match archive.open(alloc, *page, &mut steps) {
-            Ok(mut successors) => {
-                let list = (*wanted)?;
-                for number in list {
-                    assert_eq!(rt; successors.next(), Some(*number));
-                }
-                assert_eq!(rt; successors.next(), None);
-                assert_eq!(rt; successors.next(), None);
-            }
-            Err(error) => assert!(rt; wanted.err() == Some(error)),
-        }
+    for case in cases {
+        is_read(rt, alloc, &archive, case, &mut steps)?;
     }
     Ok(())
 }
 
-// Opens a page of a worked archive, and the page that it has not.
-fn page_is_opened(rt: &impl Abort, alloc: Global, archive: &Worked, page: u64) -> Result<(), Fail> {
+// Reads a page of a worked archive, and the page that it has not.
+fn page_is_read(rt: &impl Abort, alloc: Global, archive: &Worked, page: u64) -> Result<(), Fail> {
     let params = archive.shape.params(archive.nodes, archive.arcs)?;
     let files = [archive.graph, archive.offsets];
     let list = archive.lists.get(page as usize).ok_or("a list is missing")?;
-    let cases = [(page, Ok(*list)), (archive.nodes, Err(OpenError::NoPage))];
-    is_opened::<Brand>(rt, alloc, params, files, &cases, Blank::new(1))
+    let cases = [given(page, *list), absent(archive.nodes)];
+    are_read::<Brand>(rt, alloc, params, files, &cases, Blank::new(1))
 }
 
 #[test]
 fn each_page_of_an_archive(rt: HostRuntime) -> Result<(), Fail> {
     for archive in ARCHIVES.iter().chain(LONGER.iter()) {
         for page in 0..archive.nodes {
-            page_is_opened(&rt, rt.alloc(), archive, page)?;
+            page_is_read(&rt, rt.alloc(), archive, page)?;
         }
     }
     Ok(())
@@ -107,10 +161,10 @@ fn a_chain_of_256_references(rt: HostRuntime) -> Result<(), Fail> {
     let params = endless(257, 514)?;
     let files = [graph.as_str(), offsets.as_str()];
     let cases = [
-        (0, Ok([0, 1].as_slice())),
-        (255, Ok([0, 1].as_slice())),
-        (256, Err(OpenError::Deep(256))),
-        (257, Err(OpenError::NoPage)),
+        given(0, &[0, 1]),
+        given(255, &[0, 1]),
+        deep(256, &[0, 1], 256),
+        absent(257),
     ];
-    is_opened::<Brand>(&rt, alloc, params, files, &cases, Blank::new(1))
+    are_read::<Brand>(&rt, alloc, params, files, &cases, Blank::new(1))
 }

@@ -1,5 +1,5 @@
 use Rattle.std.proofs.Common.{rules, ◌-◌, refl, arith}
-use Rattle.wg_random.proofs.ChainLemmas.{ended_of, going_on, set_before, set_here, set_pages}
+use Rattle.wg_random.proofs.ChainLemmas.{ended_of, set_going, full_going, set_pages}
 use Rattle.wg_random.proofs.archive.Archive.descend.Goals as goal
 
 pub returns-then-back-eq0-clause-chain : goal.returns-then-back-eq0-clause-chain
@@ -16,7 +16,7 @@ down-preserved-then-depth g c =
       long = search rules;
       pages = set_pages c.down.chain c.args.self.now.params.nodes c.down.depth page (omega (arith, h.long)) (omega (arith, h.low)) h.pages;
       ticks = search rules;
-      going = λ r. going_on c.args.self.now.params c.args.self.now.bits r.records c.down.chain _ c.args.x c.down.page c.down.depth c.reference-back.result (omega arith) (λ i le. set_before c.down.chain c.down.depth page i le) (λ lt. set_here c.down.chain c.down.depth page (omega (arith, h.long))) (c.reference-back.ensures.refers r) (h.going r);
+      going = λ r. set_going c.args.self.now.params c.args.self.now.bits r.records c.down.chain c.args.x c.down.page c.down.depth c.reference-back.result (omega arith) (omega (arith, h.long)) (c.reference-back.ensures.refers r) (h.going r);
     }
 
 pub down-preserved : goal.down-preserved
@@ -28,5 +28,5 @@ down-preserved g c =
       long = h.long;
       pages = λ i le near. h.pages i (omega (arith, near)) near;
       ticks = search rules;
-      going = λ r. going_on c.args.self.now.params c.args.self.now.bits r.records c.down.chain c.down.chain c.args.x c.down.page c.down.depth c.reference-back.result (omega arith) (λ i le. refl) (λ lt. absurd (omega (arith, lt))) (c.reference-back.ensures.refers r) (h.going r);
+      going = λ r. full_going c.args.self.now.params c.args.self.now.bits r.records c.down.chain c.args.x c.down.page c.down.depth c.reference-back.result (omega arith) (omega (arith, h.long)) (omega (arith, h.long)) (c.reference-back.ensures.refers r) (h.going r);
     }

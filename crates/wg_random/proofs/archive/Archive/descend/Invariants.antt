@@ -1,8 +1,7 @@
-use Rattle.std.proofs.Common.{◌≡◌, ◌+◌, ◌<◌, ◌≤◌, ℕ, length}
-use Rattle.std.specs.Prelude.{get_or}
-use Rattle.wg_random.specs.declared.archive.TheConstants.{CHAIN_PAGES}
+use Rattle.std.proofs.Common.{◌≡◌, ◌+◌, ◌<◌, ◌≤◌, length}
+use Rattle.wg_iterators.specs.declared.below.TheConstants.{CHAIN_PAGES}
 use Rattle.wg_random.specs.Reading.{Reading}
-use Rattle.wg_random.specs.Chain.{Going}
+use Rattle.wg_random.specs.Chain.{ArePages, Going}
 use Rattle.wg_random.proofs.archive.Archive.descend.Given as goal
 
 abbrev pub invariant-down : goal.invariant-down
@@ -10,7 +9,7 @@ invariant-down g l = record {
   low : l.page < l.self.params.nodes;
   few : l.depth + l.page ≤ l.x;
   long : length l.chain ≡ CHAIN_PAGES;
-  pages : (i : ℕ) → i ≤ l.depth → i < CHAIN_PAGES → get_or l.chain i 0 < l.self.params.nodes;
+  pages : ArePages l.self.params.nodes l.chain l.depth;
   ticks : l.steps ≡ l.fn.steps + l.depth;
   going : (r : Reading l.self.params l.self.bits) → Going l.self.params l.self.bits r.records l.chain l.x l.page l.depth;
 }

@@ -1,0 +1,12 @@
+use Rattle.std.proofs.Common.{rules}
+use Rattle.wg_random.proofs.ChainLemmas.{ended_as}
+use Rattle.wg_random.proofs.Matching.{graph_list}
+use Rattle.wg_random.proofs.archive.Archive.list.Goals as goal
+
+pub climb-requires-clause-chain : goal.climb-requires-clause-chain
+climb-requires-clause-chain g c r = (c.args.x, ended_as c.args.self.now.params c.args.self.now.bits r.records c.in_ok-chain.chain c.as_slice.result.now c.args.x (search rules) (c.in_ok-chain.ensures.chain r))
+
+pub returns-clause-graph : goal.returns-clause-graph
+returns-clause-graph g c =
+    graph_list c.args.self.now c.args.x c.in_ok-climb.field-0
+    (λ r. c.in_ok-climb.ensures r c.args.x (ended_as c.args.self.now.params c.args.self.now.bits r.records c.in_ok-chain.chain c.as_slice.result.now c.args.x (search rules) (c.in_ok-chain.ensures.chain r)))
