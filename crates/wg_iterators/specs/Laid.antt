@@ -26,7 +26,8 @@ abbrev pub IntervalsTo : ℕ → ℕ → Option ℕ → List ℕ → List ℕ �
 IntervalsTo page least past [] [] z behind = behind ≡ z
 IntervalsTo page least past [] (n ∷ ns) z behind = ⊥
 IntervalsTo page least past (l ∷ ls) [] z behind = ⊥
-IntervalsTo page least past (l ∷ ls) (n ∷ ns) z behind = (mid : List Bool) × IsInterval page least past l n z mid × IntervalsTo page least (Some (l + n)) ls ns mid behind
+IntervalsTo page least past (l ∷ ls) (n ∷ ns) z behind =
+    (mid : List Bool) × IsInterval page least past l n z mid × IntervalsTo page least (Some (l + n)) ls ns mid behind
 
 -- a residual's word, which means the page y
 pub record IsResidual (c : Code) (page : ℕ) (last : Option ℕ) (y : ℕ) (z behind : List Bool) : Type 0 where

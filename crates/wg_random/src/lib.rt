@@ -1,18 +1,36 @@
 //! Pages of an archive by their offsets.
 //!
 //! [`Records`] are the bits of a graph file that were checked and stand for one graph, with the offset of each record.
-//! An [`Archive`] is made of them and of an offsets file that agrees. [`Archive::open`] gives the successors of a page
-//! one by one: it follows the references down, with a tick of [`Steps`] for each record, and then makes an iterator for
-//! each page from the deepest up, each in the box of the next.
+//! An [`Archive`] is made of them and of an offsets file that agrees. A page is read in two ways. Both follow the
+//! references down, with a tick of [`Steps`] for each record of the chain, and then go up the same chain again.
+//!
+//! [`Archive::open`] gives the successors of a page one by one. It makes an iterator for each page of the chain, each in
+//! the box of the next, and no list.
 //!
 //! ```text
 //! page x --reference--> page --reference--> ... --> page without a reference     down: the pages stand in an array
 //! Successors <--in a box-- Successors <--in a box-- ... <-- Successors           up: a box for each page but x
 //! ```
 //!
-//! To open a page takes the time of the records of its chain, and not of their lists; the lists are never held. Memory
-//! is a box for each reference of the chain. A chain of more than [`CHAIN_PAGES`] pages is refused as too deep, since a call
-//! of `next` goes down through all of them.
+//! [`Archive::list`] makes the whole list, and the lists of all other pages of the chain before it. It serves a chain of
+//! any length; one of more than [`CHAIN_PAGES`](wg_iterators::CHAIN_PAGES) pages is not opened, since a call of `next`
+//! would go down through all of them.
+//!
+//! ```text
+//! page x --reference--> page --reference--> ... --> page without a reference     down: the pages stand in a list
+//! list of x <--copied-- list <--copied-- ... <-- list                            up: two lists, used in turn
+//! ```
+//!
+//! | call | memory | time |
+//! |---|---|---|
+//! | [`Records::check`] | an offset, 8 bytes, for each page; while it runs, the lists of a window | that of all bits and lists |
+//! | [`Archive::check`] | none | that of the offsets |
+//! | [`Archive::open`] | a box for each reference of the chain | that of the words of the chain's records |
+//! | [`Archive::list`] | a number for each page of the chain, and two of its lists | that of the words and the lists of the chain's records |
+//!
+//! A page that does not exist, a chain that is too long to be opened, and want of memory are answered by
+//! [`OpenError`] and [`ListError`]; there is no other reason, since the archive was checked. Why a file is no archive is
+//! told by [`CheckError`] and [`ArchiveFault`](wg_grammar::ArchiveFault).
 #![tactic(auto)]
 
 mod archive;
