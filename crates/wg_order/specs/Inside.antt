@@ -1,5 +1,5 @@
 -- What is true of the fields of all rankings.
-use Rattle.std.specs.Prelude.{ℕ, ◌≡◌, ◌≤◌, Bool, true, List, length}
+use Rattle.std.specs.Prelude.{ℕ, ◌≡◌, ◌*◌, ◌≤◌, Bool, true, List, length, take, drop}
 use Rattle.std.specs.List.{range_with_len}
 use Rattle.std.specs.List.Sorted.{IsPermutation, IsNonDecreasingBy}
 use Rattle.wg_params.specs.declared.limits.TheConstants.{MOST_PAGES}
@@ -8,20 +8,20 @@ use Rattle.wg_order.specs.Order.{Positions, IsRanking}
 use Rattle.wg_order.specs.declared.ranking.Ranking.TheInside.{Inside}
 
 abbrev pub positions_of : Inside → Positions
-positions_of r = record { filled = r.filled; low = r.low.items; high = r.high.items; pages = r.order.items }
+positions_of r = record { filled = r.filled; low = r.low.items; high = r.high.items; pages = take (length r.low.items) r.sorted.items }
 
 -- all pages, by upper bounds rising
 pub record IsRising (high pages : List ℕ) : Type 0 where
   pub all : IsPermutation (range_with_len 0 (length high)) pages
   pub rises : IsNonDecreasingBy (by_page high) pages
 
-pub record AreKept (filled : Bool) (low high order rising : List ℕ) : Type 0 where
+-- sorted has all pages as they are ranked, and then by upper bounds rising
+pub record AreKept (filled : Bool) (low high sorted : List ℕ) : Type 0 where
   pub few : length low ≤ MOST_PAGES
   pub high_pages : length high ≡ length low
-  pub order_pages : length order ≡ length low
-  pub rising_pages : length rising ≡ length low
-  pub ranked : filled ≡ true → IsRanking low high order
-  pub risen : filled ≡ true → IsRising high rising
+  pub sorted_pages : length sorted ≡ 2 * length low
+  pub ranked : filled ≡ true → IsRanking low high (take (length low) sorted)
+  pub risen : filled ≡ true → IsRising high (drop (length low) sorted)
 
 abbrev pub IsKept : Inside → Type 0
-IsKept r = AreKept r.filled r.low.items r.high.items r.order.items r.rising.items
+IsKept r = AreKept r.filled r.low.items r.high.items r.sorted.items

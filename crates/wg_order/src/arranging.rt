@@ -1,61 +1,31 @@
-// Filling a ranking, over its fields as slices.
+// The pages in both orders, over slices.
 
-ghost use Rattle.std.specs.Prelude.{◌≡◌, length};
+ghost use Rattle.std.specs.Prelude.{◌≡◌, ◌*◌, length, take, drop};
 ghost use Rattle.std.specs.List.{range_with_len};
-ghost use Rattle.wg_rank.specs.Intervals.{AreBounds};
 ghost use Rattle.wg_order.specs.Order.{IsRanking};
 ghost use Rattle.wg_order.specs.Inside.{IsRising};
 
 use crate::sorting::{raise, rank};
-use wg_rank::Bounds;
 
-// Copies the bounds, and puts the pages in both lists by their numbers.
-fn enter(
-    bounds: &Bounds,
-    low: &mut [u128],
-    high: &mut [u128],
-    order: &mut [u64],
-    rising: &mut [u64],
-)
-    requires low_pages { length low.old ≡ length bounds.now.low }
-    requires high_pages { length high.old ≡ length bounds.now.low }
-    requires order_pages { length order.old ≡ length bounds.now.low }
-    requires rising_pages { length rising.old ≡ length bounds.now.low }
-    ensures proper { AreBounds bounds.now }
-    ensures low { low.new ≡ bounds.now.low }
-    ensures high { high.new ≡ bounds.now.high }
-    ensures order { order.new ≡ range_with_len 0 (length bounds.now.low) }
-    ensures rising { rising.new ≡ range_with_len 0 (length bounds.now.low) }
+// Lists the pages by their numbers.
+fn number(pages: &mut [u128])
+    ensures { pages.new ≡ range_with_len 0 (length pages.old) }
 {
-    // Asked for what all bounds are, which its contract says.
-    let _rounds = bounds.rounds();
-    for v in 0..low.len() {
-        low[v] = bounds.low(v as u64);
-        high[v] = bounds.high(v as u64);
-        order[v] = v as u64;
-        rising[v] = v as u64;
+    for v in 0..pages.len() {
+        pages[v] = v as u128;
     }
 }
 
-// Leaves the bounds in `low` and `high`, and all pages in both lists, each in its order.
-pub(crate) fn arrange(
-    bounds: &Bounds,
-    low: &mut [u128],
-    high: &mut [u128],
-    order: &mut [u64],
-    rising: &mut [u64],
-)
-    requires low_pages { length low.old ≡ length bounds.now.low }
-    requires high_pages { length high.old ≡ length bounds.now.low }
-    requires order_pages { length order.old ≡ length bounds.now.low }
-    requires rising_pages { length rising.old ≡ length bounds.now.low }
-    ensures proper { AreBounds bounds.now }
-    ensures low { low.new ≡ bounds.now.low }
-    ensures high { high.new ≡ bounds.now.high }
-    ensures ranking { IsRanking low.new high.new order.new }
-    ensures rising { IsRising high.new rising.new }
+// Leaves all pages twice in `sorted`, each time in its order.
+pub(crate) fn arrange(low: &[u128], high: &[u128], sorted: &mut [u128])
+    requires high_pages { length high.now ≡ length low.now }
+    requires sorted_pages { length sorted.old ≡ 2 * length low.now }
+    ensures ranking { IsRanking low.now high.now (take (length low.now) sorted.new) }
+    ensures rising { IsRising high.now (drop (length low.now) sorted.new) }
 {
-    enter(bounds, low, high, order, rising);
-    rank(order, low, high);
+    let (ranked, rising) = sorted.split_at_mut(low.len());
+    number(ranked);
+    number(rising);
+    rank(ranked, low, high);
     raise(rising, high);
 }

@@ -2,6 +2,7 @@ ghost use Rattle.std.specs.Prelude.{◌≡◌, ℕ, ◌<◌, ◌≤◌, ◌↔�
 ghost use Rattle.wg_params.specs.declared.limits.TheConstants.{MOST_PAGES};
 ghost use Rattle.wg_graph.specs.Digraph.{Digraph, IsGraph};
 ghost use Rattle.wg_rank.specs.Intervals.{Holds, by_page};
+ghost use Rattle.wg_order.specs.Inside.{IsRising};
 ghost use Rattle.wg_order.specs.Order.{best, worst, IsRanking};
 ghost use Rattle.wg_order.specs.Surely.{IsSurely};
 
@@ -11,16 +12,14 @@ use std::alloc::{AllocError, Global};
 use std::marker::Model;
 use wg_rank::Bounds;
 
-/// Pages ranked by bounds. It holds 48 bytes for each page.
+/// Pages ranked by bounds. It holds 64 bytes for each page; those of a ranking that took bounds over are the bounds' own.
 #[derive(Drop)]
 pub struct Ranking {
     filled: bool,
     low: Vec<u128>,
     high: Vec<u128>,
-    // The pages as they are ranked.
-    order: Vec<u64>,
-    // The pages by upper bounds rising.
-    rising: Vec<u64>,
+    // All pages twice: first as they are ranked, then by upper bounds rising.
+    sorted: Vec<u128>,
 }
 
 impl Model for Ranking {
@@ -46,9 +45,27 @@ impl Ranking {
             filled: false,
             low: vec![in alloc; 0; n]?,
             high: vec![in alloc; 0; n]?,
-            order: vec![in alloc; 0; n]?,
-            rising: vec![in alloc; 0; n]?,
+            sorted: vec![in alloc; 0; 2 * n]?,
         })
+    }
+
+    /// The ranking of the pages by these bounds, which it takes over. It takes no memory, as the pages are sorted where rounds
+    /// added up what flows to them, and time for two sorts.
+    pub fn of(bounds: Bounds) -> Ranking
+        ensures filled { result.filled ≡ true }
+        ensures low { result.low ≡ bounds.low }
+        ensures high { result.high ≡ bounds.high }
+        ensures ranking { IsRanking result.low result.high result.pages }
+        ensures surely { (g : Digraph) → IsGraph g → Holds bounds g → IsSurely result bounds g }
+    {
+        let (low, high, mut sorted) = bounds.into_parts();
+        arrange(&low, &high, &mut sorted);
+        Ranking {
+            filled: true,
+            low,
+            high,
+            sorted,
+        }
     }
 
     /// Whether it was filled.
@@ -65,7 +82,23 @@ impl Ranking {
         ensures value { result ≡ slice_index self.now.pages i }
         ensures within { result < length self.now.low }
     {
-        self.order[i as usize]
+        self.ranked()[i as usize] as u64
+    }
+
+    /// The lower bound of page `v`, in units of 10^-24.
+    pub fn low(&self, v: u64) -> u128
+        requires { v < length self.now.low }
+        ensures { result ≡ slice_index self.now.low v }
+    {
+        self.low[v as usize]
+    }
+
+    /// The upper bound of page `v`, in units of 10^-24.
+    pub fn high(&self, v: u64) -> u128
+        requires { v < length self.now.low }
+        ensures { result ≡ slice_index self.now.high v }
+    {
+        self.high[v as usize]
     }
 
     /// The first position, counted from 1, that the bounds leave to page `v`. It takes time in the logarithm of the pages.
@@ -74,7 +107,7 @@ impl Ranking {
         requires filled { self.now.filled ≡ true }
         ensures { result ≡ best self.now v }
     {
-        1 + count_above(&self.order, &self.low, self.high[v as usize]) as u64
+        1 + count_above(self.ranked(), &self.low, self.high[v as usize]) as u64
     }
 
     /// The last position, counted from 1, that the bounds leave to page `v`. It takes time in the logarithm of the pages.
@@ -83,7 +116,7 @@ impl Ranking {
         requires filled { self.now.filled ≡ true }
         ensures { result ≡ worst self.now v }
     {
-        (self.low.len() - count_below(&self.rising, &self.high, self.low[v as usize])) as u64
+        (self.low.len() - count_below(self.rising(), &self.high, self.low[v as usize])) as u64
     }
 
     /// Whether the bounds alone say that page `u` has a greater share than page `v`.
@@ -96,7 +129,7 @@ impl Ranking {
         self.low[u as usize] > self.high[v as usize]
     }
 
-    /// Ranks the pages by these bounds, of as many pages. It takes no memory, and time for two sorts.
+    /// Ranks the pages by these bounds, of as many pages, which it copies. It takes no memory, and time for two sorts.
     pub fn fill(&mut self, bounds: &Bounds)
         requires pages { length bounds.now.low ≡ length self.old.low }
         ensures filled { self.new.filled ≡ true }
@@ -105,13 +138,28 @@ impl Ranking {
         ensures ranking { IsRanking self.new.low self.new.high self.new.pages }
         ensures surely { (g : Digraph) → IsGraph g → Holds bounds.now g → IsSurely self.new bounds.now g }
     {
-        arrange(
-            bounds,
-            &mut self.low,
-            &mut self.high,
-            &mut self.order,
-            &mut self.rising,
-        );
+        self.low.copy_from_slice(bounds.lower());
+        self.high.copy_from_slice(bounds.upper());
+        arrange(&self.low, &self.high, &mut self.sorted);
         self.filled = true;
+    }
+
+    // All pages as they are ranked.
+    fn ranked(&self) -> &[u128]
+        ensures value { result.now ≡ self.now.pages }
+        ensures count { length result.now ≡ length self.now.low }
+        ensures few { length self.now.low ≤ MOST_PAGES }
+        ensures ranking { self.now.filled ≡ true → IsRanking self.now.low self.now.high result.now }
+    {
+        &self.sorted[..self.low.len()]
+    }
+
+    // All pages by upper bounds rising.
+    fn rising(&self) -> &[u128]
+        requires { self.now.filled ≡ true }
+        ensures count { length result.now ≡ length self.now.low }
+        ensures rising { IsRising self.now.high result.now }
+    {
+        &self.sorted[self.low.len()..]
     }
 }

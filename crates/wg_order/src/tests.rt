@@ -52,6 +52,16 @@ fn one_arc(rt: HostRuntime) -> Result<(), Fail> {
     assert_eq!(rt; positions(&ranking, 0), (2, 2));
     assert!(rt; ranking.surely_above(1, 0));
     assert!(rt; !ranking.surely_above(0, 1));
+
+    let taken = Ranking::of(halved);
+    assert!(rt; taken.filled());
+    assert_eq!(rt; (taken.page(0), taken.page(1)), (1, 0));
+    assert_eq!(rt; positions(&taken, 1), (1, 1));
+    assert_eq!(rt;
+        (taken.low(1), taken.high(1)),
+        (ranking.low(1), ranking.high(1))
+    );
+    assert!(rt; taken.low(1) > taken.high(0));
     Ok(())
 }
 

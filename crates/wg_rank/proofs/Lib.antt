@@ -4,7 +4,7 @@ pub mod Steps
 pub mod Iterates
 pub mod Pageranks
 pub mod Spread
-pub mod Inflows
+pub mod SideBySide
 pub mod Flow
 pub mod Room
 pub mod Rounds

@@ -1,5 +1,5 @@
 -- What is true of the fields of all bounds.
-use Rattle.std.specs.Prelude.{◌≡◌, ◌≤◌, All, length, replicate}
+use Rattle.std.specs.Prelude.{◌≡◌, ◌*◌, ◌≤◌, All, length, replicate}
 use Rattle.wg_params.specs.declared.limits.TheConstants.{MOST_PAGES, MOST_DAMPING, MOST_ROUNDS}
 use Rattle.wg_rank.specs.Sum.{sum_below}
 use Rattle.wg_rank.specs.Intervals.{Intervals, by_page}
@@ -21,7 +21,7 @@ pub record AreKept (b : Inside) : Type 0 where
   pub damped : b.damping ≤ MOST_DAMPING
   pub counted : b.rounds ≤ MOST_ROUNDS
   pub high_pages : length b.high.items ≡ length b.low.items
-  pub inflow_pages : length b.inflows.items ≡ length b.low.items
+  pub inflow_pages : length b.inflows.items ≡ 2 * length b.low.items
   -- so that no sum passes 128 bits
   pub low_total : sum_below (length b.low.items) (by_page b.low.items) ≤ UNITS
   pub high_units : All (λ x. x ≤ UNITS) b.high.items

@@ -1,9 +1,14 @@
--- What flows to the pages, as a list for each bound.
-use Rattle.std.specs.Prelude.{ℕ, List, map}
-use Rattle.wg_rank.specs.declared.inflow.Inflow.{Inflow}
+-- What flows to the pages: two numbers for each page, side by side.
+use Rattle.std.specs.Prelude.{ℕ, List, [], ◌∷◌}
 
-abbrev pub low_flows : List Inflow → List ℕ
-low_flows inflows = map (λ f. f.low) inflows
+-- the first numbers are sums of lower bounds
+abbrev pub low_flows : List ℕ → List ℕ
+low_flows [] = []
+low_flows (low ∷ []) = []
+low_flows (low ∷ high ∷ rest) = low ∷ low_flows rest
 
-abbrev pub high_flows : List Inflow → List ℕ
-high_flows inflows = map (λ f. f.high) inflows
+-- and the second ones are sums of upper bounds
+abbrev pub high_flows : List ℕ → List ℕ
+high_flows [] = []
+high_flows (low ∷ []) = []
+high_flows (low ∷ high ∷ rest) = high ∷ high_flows rest

@@ -1,6 +1,6 @@
 // One round, over the bounds as slices.
 
-ghost use Rattle.std.specs.Prelude.{◌≡◌, ℕ, ◌≤◌, ◌<◌, length, slice_index, All};
+ghost use Rattle.std.specs.Prelude.{◌≡◌, ℕ, ◌*◌, ◌≤◌, ◌<◌, length, slice_index, All};
 ghost use Rattle.wg_params.specs.declared.limits.TheConstants.{MOST_PAGES, MOST_DAMPING};
 ghost use Rattle.wg_graph.specs.Digraph.{IsGraph};
 ghost use Rattle.wg_rank.specs.Sum.{sum_below};
@@ -10,7 +10,6 @@ ghost use Rattle.wg_rank.specs.declared.limits.TheConstants.{UNITS};
 
 use crate::UNITS;
 use crate::gathering::gather;
-use crate::inflow::Inflow;
 use crate::settling::{settle_high, settle_low, total};
 use wg_graph::Lists;
 
@@ -20,13 +19,13 @@ pub(crate) fn advance<L: Lists>(
     damping: u64,
     low: &mut [u128],
     high: &mut [u128],
-    inflows: &mut [Inflow],
+    inflows: &mut [u128],
 )
     requires pages { (L.graph lists.old).nodes ≡ length low.old }
     requires few { length low.old ≤ MOST_PAGES }
     requires damped { damping ≤ MOST_DAMPING }
     requires high_pages { length high.old ≡ length low.old }
-    requires inflow_pages { length inflows.old ≡ length low.old }
+    requires inflow_pages { length inflows.old ≡ 2 * length low.old }
     requires low_total { sum_below (length low.old) (by_page low.old) ≤ UNITS }
     requires high_units { All (λ x. x ≤ UNITS) high.old }
     ensures graph { L.graph lists.new ≡ L.graph lists.old }
@@ -38,7 +37,7 @@ pub(crate) fn advance<L: Lists>(
     ensures low_total { sum_below (length low.old) (by_page low.new) ≤ UNITS }
     ensures high_units { All (λ x. x ≤ UNITS) high.new }
 {
-    inflows.fill(Inflow::NONE);
+    inflows.fill(0);
     let (dangling, high_dangling) = gather(lists, low, high, inflows);
     settle_low(low, inflows, damping, dangling);
     let gap = UNITS - total(low);

@@ -1,6 +1,7 @@
-ghost use Rattle.std.specs.Prelude.{◌≡◌, ℕ, ◌+◌, ◌*◌, ◌<◌, ◌≤◌, length, replicate, slice_index, IfOk};
+ghost use Rattle.std.specs.Prelude.{◌≡◌, ℕ, ◌+◌, ◌*◌, ◌<◌, ◌≤◌, length, replicate, slice_index, vec_len, IfOk};
 ghost use Rattle.wg_params.specs.declared.limits.TheConstants.{MOST_PAGES, MOST_DAMPING, MOST_ROUNDS};
 ghost use Rattle.wg_graph.specs.Digraph.{Digraph, arc_count};
+ghost use Rattle.wg_rank.specs.Sum.{sum_below};
 ghost use Rattle.wg_rank.specs.Rank.{gap};
 ghost use Rattle.wg_rank.specs.Intervals.{AreBounds, IsTable, Holds, next_low, next_high, by_page};
 ghost use Rattle.wg_rank.specs.Certified.{IsCertified};
@@ -8,7 +9,6 @@ ghost use Rattle.wg_rank.specs.declared.limits.TheConstants.{UNITS};
 
 use crate::UNITS;
 use crate::advancing::advance;
-use crate::inflow::Inflow;
 use std::alloc::{AllocError, Global};
 use std::marker::Model;
 use wg_graph::Lists;
@@ -21,8 +21,9 @@ pub struct Bounds {
     rounds: u64,
     low: Vec<u128>,
     high: Vec<u128>,
-    // What flows to each page in a round; what it holds between rounds is never read.
-    inflows: Vec<Inflow>,
+    // What flows to each page in a round, below and above, side by side, so that an arc reaches one place in memory. What it
+    // holds between rounds is never read.
+    inflows: Vec<u128>,
 }
 
 impl Model for Bounds {
@@ -54,7 +55,7 @@ impl Bounds {
             rounds: 0,
             low: vec![in alloc; 0; n]?,
             high: vec![in alloc; UNITS; n]?,
-            inflows: vec![in alloc; Inflow::NONE; n]?,
+            inflows: vec![in alloc; 0; 2 * n]?,
         })
     }
 
@@ -64,6 +65,22 @@ impl Bounds {
         ensures proper { AreBounds self.now }
     {
         self.rounds
+    }
+
+    /// The lower bounds of all pages, in units. They add up to at most 1.
+    pub fn lower(&self) -> &[u128]
+        ensures value { result.now ≡ self.now.low }
+        ensures within { sum_below (length self.now.low) (by_page self.now.low) ≤ UNITS }
+        ensures proper { AreBounds self.now }
+    {
+        &self.low
+    }
+
+    /// The upper bounds of all pages, in units.
+    pub fn upper(&self) -> &[u128]
+        ensures { result.now ≡ self.now.high }
+    {
+        &self.high
     }
 
     /// The lower bound of page `v`, in units.
@@ -82,6 +99,17 @@ impl Bounds {
         ensures within { result ≤ UNITS }
     {
         self.high[v as usize]
+    }
+
+    /// Gives up the bounds: the lower ones, the upper ones, and room for two numbers for each page, in which rounds added up what
+    /// flows to it. Whoever takes them needs no memory of its own to go on.
+    pub fn into_parts(self) -> (Vec<u128>, Vec<u128>, Vec<u128>)
+        ensures low { result.0.items ≡ self.low }
+        ensures high { result.1.items ≡ self.high }
+        ensures room { vec_len result.2 ≡ 2 * length self.low }
+        ensures proper { AreBounds self }
+    {
+        (self.low, self.high, self.inflows)
     }
 
     /// Does one round, in one pass along the lists of a graph with as many pages. Each page's bounds are divided by its

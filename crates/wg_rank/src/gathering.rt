@@ -9,7 +9,6 @@ ghost use Rattle.wg_rank.specs.Rank.{low_flow, high_flow, sum_dangling};
 ghost use Rattle.wg_rank.specs.declared.limits.TheConstants.{UNITS};
 
 use crate::dividing::{quotient, quotient_up};
-use crate::inflow::Inflow;
 use crate::spreading::spread;
 use wg_graph::Lists;
 
@@ -19,23 +18,23 @@ pub(crate) fn gather<L: Lists>(
     lists: &mut L,
     low: &[u128],
     high: &[u128],
-    inflows: &mut [Inflow],
+    inflows: &mut [u128],
 ) -> (u128, u128)
     requires few { length low.now ≤ MOST_PAGES }
     requires pages { (L.graph lists.old).nodes ≡ length low.now }
     requires high_pages { length high.now ≡ length low.now }
-    requires inflow_pages { length inflows.old ≡ length low.now }
+    requires inflow_pages { length inflows.old ≡ 2 * length low.now }
     requires low_units { All (λ x. x ≤ UNITS) low.now }
     requires high_units { All (λ x. x ≤ UNITS) high.now }
-    requires empty { All (λ x. x ≡ Inflow.NONE) inflows.old }
+    requires empty { All (λ x. x ≡ 0) inflows.old }
     ensures graph { L.graph lists.new ≡ L.graph lists.old }
     ensures proper { IsGraph (L.graph lists.old) }
     ensures low_flow { (v : ℕ) → v < length low.now → slice_index (low_flows inflows.new) v ≡ low_flow (L.graph lists.old) (by_page low.now) v }
     ensures high_flow { (v : ℕ) → v < length low.now → slice_index (high_flows inflows.new) v ≡ high_flow (L.graph lists.old) (by_page high.now) v }
     ensures low_dangling { result.0 ≡ sum_dangling (L.graph lists.old) (by_page low.now) }
     ensures high_dangling { result.1 ≡ sum_dangling (L.graph lists.old) (by_page high.now) }
-    ensures low_room { All (λ f. f.low ≤ MOST_PAGES * UNITS) inflows.new }
-    ensures high_room { All (λ f. f.high ≤ MOST_PAGES * UNITS) inflows.new }
+    ensures low_room { All (λ x. x ≤ MOST_PAGES * UNITS) (low_flows inflows.new) }
+    ensures high_room { All (λ x. x ≤ MOST_PAGES * UNITS) (high_flows inflows.new) }
     ensures low_dangling_room { result.0 ≤ MOST_PAGES * UNITS }
     ensures high_dangling_room { result.1 ≤ MOST_PAGES * UNITS }
 {

@@ -15,17 +15,18 @@
 //!               new low, high <-- settle: the damping's part, and teleport's <-+
 //! ```
 //!
-//! Memory is taken by [`Bounds::new`] alone: four numbers of 16 bytes for each page. A round divides each page's two bounds
-//! by its outdegree, once and not for each arc, and what flows in by 1000; for an arc it adds twice. No sum passes 128 bits:
-//! what flows to a page is at most one whole for each page, so below 2^36 * 10^24, and the damping multiplies it by less
-//! than 2^10.
+//! Memory is taken by [`Bounds::new`] alone: four numbers of 16 bytes for each page. The two sums of what flows to a page lie
+//! side by side, so that an arc reaches one place in memory. Between rounds they say nothing, and [`Bounds::into_parts`] hands
+//! them on as room. A round divides each page's two bounds by its outdegree, once and not for each arc, and what flows in by
+//! 1000; for an arc it adds twice. No sum passes 128 bits: what flows to a page is at most one whole for each page, so below
+//! 2^36 * 10^24, and the damping multiplies it by less than 2^10.
 #![tactic(auto)]
 
 mod advancing;
 mod bounds;
 mod dividing;
 mod gathering;
-mod inflow;
+mod inflows;
 pub mod laws;
 mod limits;
 mod settling;

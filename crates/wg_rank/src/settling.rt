@@ -10,15 +10,15 @@ ghost use Rattle.wg_rank.specs.declared.limits.TheConstants.{UNITS};
 
 use crate::UNITS;
 use crate::dividing::{quotient, quotient_up};
-use crate::inflow::Inflow;
+use crate::inflows::{high_flow, low_flow};
 
 // Puts the lower bounds in place of the old ones; the dangling pages hold so much.
 #[tactic(auto, using(crate::proofs::Room::damped_room))]
-pub(crate) fn settle_low(low: &mut [u128], inflows: &[Inflow], damping: u64, dangling: u128)
+pub(crate) fn settle_low(low: &mut [u128], inflows: &[u128], damping: u64, dangling: u128)
     requires damped { damping ≤ MOST_DAMPING }
     requires few { length low.old ≤ MOST_PAGES }
-    requires inflow_pages { length inflows.now ≡ length low.old }
-    requires room { All (λ f. f.low ≤ MOST_PAGES * UNITS) inflows.now }
+    requires inflow_pages { length (low_flows inflows.now) ≡ length low.old }
+    requires room { All (λ x. x ≤ MOST_PAGES * UNITS) (low_flows inflows.now) }
     requires dangling_room { dangling ≤ MOST_PAGES * UNITS }
     ensures each { (v : ℕ) → v < length low.old → slice_index low.new v
         ≡ settled_low damping (low_rest (length low.old) damping dangling) (low_flows inflows.now) v }
@@ -30,7 +30,7 @@ pub(crate) fn settle_low(low: &mut [u128], inflows: &[Inflow], damping: u64, dan
     let teleport = (1000 - damping as u128) * UNITS;
     let rest = damping as u128 * dangling / parts + teleport / parts;
     for v in 0..low.len() {
-        low[v] = quotient(damping as u128 * inflows[v].low, 1000) + rest;
+        low[v] = quotient(damping as u128 * low_flow(inflows, v), 1000) + rest;
     }
 }
 
@@ -47,10 +47,10 @@ pub(crate) fn total(low: &[u128]) -> u128
 }
 
 // Puts the upper bounds in place of the old ones; `low` are the new lower bounds, which leave `gap`.
-#[tactic(auto, using(crate::proofs::Room::damped_room, crate::proofs::Flow::div_ceil_le))]
+#[tactic(auto, using(crate::proofs::Room::damped_room, crate::proofs::Flow::div_ceil_le, crate::proofs::SideBySide::high_count))]
 pub(crate) fn settle_high(
     high: &mut [u128],
-    inflows: &[Inflow],
+    inflows: &[u128],
     low: &[u128],
     damping: u64,
     dangling: u128,
@@ -58,9 +58,9 @@ pub(crate) fn settle_high(
 )
     requires damped { damping ≤ MOST_DAMPING }
     requires few { length high.old ≤ MOST_PAGES }
-    requires inflow_pages { length inflows.now ≡ length high.old }
+    requires inflow_pages { length (high_flows inflows.now) ≡ length high.old }
     requires low_pages { length low.now ≡ length high.old }
-    requires room { All (λ f. f.high ≤ MOST_PAGES * UNITS) inflows.now }
+    requires room { All (λ x. x ≤ MOST_PAGES * UNITS) (high_flows inflows.now) }
     requires dangling_room { dangling ≤ MOST_PAGES * UNITS }
     requires low_room { All (λ x. x ≤ UNITS) low.now }
     requires gap_room { gap ≤ UNITS }
@@ -74,7 +74,7 @@ pub(crate) fn settle_high(
     let teleport = (1000 - damping as u128) * UNITS;
     let rest = (damping as u128 * dangling).div_ceil(parts) + teleport.div_ceil(parts);
     for v in 0..high.len() {
-        let above = quotient_up(damping as u128 * inflows[v].high, 1000) + rest;
+        let above = quotient_up(damping as u128 * high_flow(inflows, v), 1000) + rest;
         high[v] = high[v].min(above).min(low[v] + gap);
     }
 }

@@ -2,6 +2,7 @@ use Rattle.std.proofs.Common.{arith, ◌≡◌, length, refl, ◌∙◌}
 use Rattle.wg_rank.specs.Intervals.{by_page}
 use Rattle.wg_rank.specs.declared.limits.TheConstants.{UNITS}
 use Rattle.wg_rank.specs.Inflows.{low_flows, high_flows}
+use Rattle.wg_rank.proofs.SideBySide.{low_count, high_count}
 use Rattle.wg_rank.proofs.Rounds.{all_within_total, settled_table, clipped_from, table_total, least_within}
 use Rattle.wg_rank.proofs.advancing.advance.Goals as goal
 
@@ -60,3 +61,10 @@ returns-clause-low_total g c =
 pub returns-clause-high_units : goal.returns-clause-high_units
 returns-clause-high_units g c =
     least_within c.args.high.now c.settle_high.new.high _ _ UNITS (omega arith) c.requires.high_units c.settle_high.ensures.each
+
+pub settle_low-requires-clause-inflow_pages : goal.settle_low-requires-clause-inflow_pages
+settle_low-requires-clause-inflow_pages g c = low_count _ c.gather-dangling.new.inflows (omega arith)
+
+pub settle_high-requires-clause-inflow_pages : goal.settle_high-requires-clause-inflow_pages
+settle_high-requires-clause-inflow_pages g c =
+    omega (arith, high_count c.gather-dangling.new.inflows, low_count (length c.args.low.now) c.gather-dangling.new.inflows (omega arith))

@@ -2,10 +2,11 @@ use Rattle.std.proofs.Common.{ℕ, ◌≡◌, ◌≢◌, ◌+◌, ◌/◌, ◌�
 use Rattle.std.proofs.Math.Nat.{div-le_self}
 use Rattle.wg_graph.specs.Digraph.{outdegree}
 use Rattle.std.specs.Int.{div_ceil}
+use Rattle.wg_rank.specs.Inflows.{low_flows}
 use Rattle.wg_rank.specs.declared.limits.TheConstants.{UNITS}
-use Rattle.std.proofs.lemmas.List.{length-map}
-use Rattle.wg_rank.proofs.Inflows.{within_by, none_by}
+use Rattle.wg_rank.proofs.SideBySide.{low_count, high_count, low_none, high_none}
 use Rattle.wg_rank.proofs.Flow.{gathered_none, gathered_room, dangling_room, gathered_within, dangling_within, gathered_more, gathered_same, dangling_more, dangling_same, div_ceil_le}
+use Rattle.wg_rank.proofs.Arcs.{list_below}
 use Rattle.wg_rank.proofs.gathering.gather.Goals as goal
 use Rattle.wg_rank.proofs.gathering.gather.Goals.{in-Some+then-degree-eq0, in-Some+else-degree-eq0, in_default}
 
@@ -31,14 +32,14 @@ le_both x y z h k = omega arith
 pub spread-requires-clause-low_room : goal.spread-requires-clause-low_room
 spread-requires-clause-low_room g c =
     gathered_room _ (length c.args.low.now) c.loop-u.u (λ u. get_or c.args.low.now u 0 / outdegree (g.L.Lists.graph c.args.lists.now) u) _ c.quotient-below.result (omega arith)
-    (omega (arith, length-map c.loop-u.inflows (λ f. f.low)))
+    (low_count _ c.loop-u.inflows (omega arith))
     (λ w i. le_both _ _ UNITS (div-le_self _ _) (c.requires.low_units w 0 (omega arith)))
     (omega (arith, c.quotient-below.ensures, div-le_self (get_or c.args.low.now c.loop-u.u 0) (length c.in-Some.list.now), c.requires.low_units c.loop-u.u 0 (omega arith))) c.loop-u.invariant.low
 
 pub spread-requires-clause-high_room : goal.spread-requires-clause-high_room
 spread-requires-clause-high_room g c =
     gathered_room _ (length c.args.low.now) c.loop-u.u (λ u. div_ceil (get_or c.args.high.now u 0) (outdegree (g.L.Lists.graph c.args.lists.now) u)) _ c.quotient_up-above.result (omega arith)
-    (omega (arith, length-map c.loop-u.inflows (λ f. f.high)))
+    (high_count c.loop-u.inflows ∙ low_count _ c.loop-u.inflows (omega arith))
     (λ w i. le_both _ _ UNITS (div_ceil_le _ _) (c.requires.high_units w 0 (omega arith)))
     (omega (arith, c.quotient_up-above.ensures, div_ceil_le (get_or c.args.high.now c.loop-u.u 0) (length c.in-Some.list.now), c.requires.high_units c.loop-u.u 0 (omega arith))) c.loop-u.invariant.high
 
@@ -46,8 +47,8 @@ pub loop-u-init : goal.loop-u-init
 loop-u-init g c = record {
   same = c.begin.ensures.graph;
   place = c.begin.ensures.place;
-  low = gathered_none _ _ _ _ (none_by (λ f. f.low) c.args.inflows.now refl c.requires.empty) (omega (arith, length-map c.args.inflows.now (λ f. f.low)));
-  high = gathered_none _ _ _ _ (none_by (λ f. f.high) c.args.inflows.now refl c.requires.empty) (omega (arith, length-map c.args.inflows.now (λ f. f.high)));
+  low = gathered_none _ _ _ _ (low_none c.args.inflows.now c.requires.empty) (low_count _ c.args.inflows.now (omega arith));
+  high = gathered_none _ _ _ _ (high_none c.args.inflows.now c.requires.empty) (high_count c.args.inflows.now ∙ low_count _ c.args.inflows.now (omega arith));
   low_rest = record { total = refl };
   high_rest = record { total = refl };
 }
@@ -59,7 +60,7 @@ loop-u-preserved g c =
     let graph = g.L.Lists.graph c.args.lists.now in
     let n : ℕ = length c.args.low.now in
     let u : ℕ = c.loop-u.u in
-    let pages : length c.loop-u.inflows ≡ n = omega arith in
+    let pages : length (low_flows c.loop-u.inflows) ≡ n = low_count n c.loop-u.inflows (omega arith) in
     let low : ℕ → ℕ = λ u. get_or c.args.low.now u 0 in
     let high : ℕ → ℕ = λ u. get_or c.args.high.now u 0 in
     let low_share : ℕ → ℕ = λ u. low u / outdegree graph u in
@@ -87,8 +88,8 @@ loop-u-preserved g c =
           record {
             same = rw w.lists-is (p.0 ∙ i.same);
             place = rw w.lists-is (p.1 ∙ ap (λ k. k + 1) i.place);
-            low = rw w.inflows-is (gathered_more graph n u low_share _ _ (length-map c.loop-u.inflows (λ f. f.low) ∙ pages) i.low (λ v k. s1 v (omega (arith, length-map c.loop-u.inflows (λ f. f.low)))));
-            high = rw w.inflows-is (gathered_more graph n u high_share _ _ (length-map c.loop-u.inflows (λ f. f.high) ∙ pages) i.high (λ v k. s2 v (omega (arith, length-map c.loop-u.inflows (λ f. f.high)))));
+            low = rw w.inflows-is (gathered_more graph n u low_share _ _ pages i.low s1);
+            high = rw w.inflows-is (gathered_more graph n u high_share _ _ (high_count c.loop-u.inflows ∙ pages) i.high (λ v k. s2 v (omega (arith, high_count c.loop-u.inflows))));
             low_rest = rw w.low_dangling-is (dangling_same graph u low _ e i.low_rest);
             high_rest = rw w.high_dangling-is (dangling_same graph u high _ e i.high_rest);
           }
@@ -105,17 +106,15 @@ returns-clause-high_flow g c =
 
 pub returns-clause-low_room : goal.returns-clause-low_room
 returns-clause-low_room g c =
-    within_by (λ f. f.low) _ c.loop-u.inflows
-    (gathered_within (g.L.Lists.graph c.args.lists.now) (length c.args.low.now) c.loop-u.u (λ u. get_or c.args.low.now u 0 / outdegree (g.L.Lists.graph c.args.lists.now) u) _ (omega arith)
-    (omega (arith, length-map c.loop-u.inflows (λ f. f.low)))
-    (λ w i. le_both _ _ UNITS (div-le_self _ _) (c.requires.low_units w 0 (omega arith))) c.loop-u.invariant.low)
+    gathered_within (g.L.Lists.graph c.args.lists.now) (length c.args.low.now) c.loop-u.u (λ u. get_or c.args.low.now u 0 / outdegree (g.L.Lists.graph c.args.lists.now) u) _ (omega arith)
+    (low_count _ c.loop-u.inflows (omega arith))
+    (λ w i. le_both _ _ UNITS (div-le_self _ _) (c.requires.low_units w 0 (omega arith))) c.loop-u.invariant.low
 
 pub returns-clause-high_room : goal.returns-clause-high_room
 returns-clause-high_room g c =
-    within_by (λ f. f.high) _ c.loop-u.inflows
-    (gathered_within (g.L.Lists.graph c.args.lists.now) (length c.args.low.now) c.loop-u.u (λ u. div_ceil (get_or c.args.high.now u 0) (outdegree (g.L.Lists.graph c.args.lists.now) u)) _ (omega arith)
-    (omega (arith, length-map c.loop-u.inflows (λ f. f.high)))
-    (λ w i. le_both _ _ UNITS (div_ceil_le _ _) (c.requires.high_units w 0 (omega arith))) c.loop-u.invariant.high)
+    gathered_within (g.L.Lists.graph c.args.lists.now) (length c.args.low.now) c.loop-u.u (λ u. div_ceil (get_or c.args.high.now u 0) (outdegree (g.L.Lists.graph c.args.lists.now) u)) _ (omega arith)
+    (high_count c.loop-u.inflows ∙ low_count _ c.loop-u.inflows (omega arith))
+    (λ w i. le_both _ _ UNITS (div_ceil_le _ _) (c.requires.high_units w 0 (omega arith))) c.loop-u.invariant.high
 
 pub returns-clause-low_dangling_room : goal.returns-clause-low_dangling_room
 returns-clause-low_dangling_room g c =
@@ -126,3 +125,9 @@ pub returns-clause-high_dangling_room : goal.returns-clause-high_dangling_room
 returns-clause-high_dangling_room g c =
     dangling_within (g.L.Lists.graph c.args.lists.now) c.loop-u.u (λ u. get_or c.args.high.now u 0) _ (omega arith)
     (λ w i. c.requires.high_units w 0 (omega arith)) c.loop-u.invariant.high_rest
+
+pub spread-requires-clause-below : goal.spread-requires-clause-below
+spread-requires-clause-below g c =
+    let l = rw (c.loop-u.invariant.same, c.loop-u.invariant.place) at c.in-Some.ensures.lent in
+    let below = list_below (g.L.Lists.graph c.args.lists.now) c.nodes-pages.ensures.proper c.loop-u.u (omega arith) in
+    rw (low_count (length c.args.low.now) c.loop-u.inflows (omega arith), l.1, ← c.requires.pages) below
