@@ -1,6 +1,5 @@
 -- What bounds certify that hold of a graph.
-use Rattle.std.proofs.Common.{ℕ, ◌≡◌, ◌+◌, ◌-◌, ◌*◌, ◌<◌, ◌≤◌, List, length, replicate, arith, ap, sym, ◌∙◌, subst}
-use Rattle.std.proofs.lemmas.List.{length-replicate, get_or-replicate}
+use Rattle.std.proofs.Common.{ℕ, ◌≡◌, ◌+◌, ◌-◌, ◌*◌, ◌<◌, ◌≤◌, List, length, arith, ap, sym, ◌∙◌, subst}
 use Rattle.std.proofs.lemmas.List.FromFn.{fill_by_all}
 use Rattle.wg_graph.specs.Digraph.{Digraph, IsGraph, arc_count}
 use Rattle.wg_params.specs.declared.limits.TheConstants.{MOST_PAGES, MOST_DAMPING, MOST_ROUNDS}
@@ -8,28 +7,21 @@ use Rattle.wg_rank.specs.Sum.{sum_below}
 use Rattle.wg_rank.specs.Rank.{total, gap, low, high}
 use Rattle.wg_rank.specs.Intervals.{Intervals, AreBounds, IsTable, Holds, by_page}
 use Rattle.wg_rank.specs.Certified.{IsCertified}
+use Rattle.wg_rank.specs.Weights.{AreWeights}
 use Rattle.wg_rank.specs.declared.limits.TheConstants.{UNITS}
-use Rattle.wg_rank.proofs.Sums.{sum_same, sum_const}
+use Rattle.wg_rank.proofs.Sums.{sum_same}
 use Rattle.wg_rank.proofs.Pageranks.{numerators_total, gap_shrinks, encloses_iterates, encloses_stationary, low_le_high, within_gap, width_is, low_rises, high_falls}
 
--- ---- where each page has the weight 1
-
-pub one_each : (n v : ℕ) → v < n → by_page (replicate n 1) v ≡ 1
-one_each n v h = get_or-replicate n v 1 0 h
-
-pub weighty : (n : ℕ) → 0 < n → 0 < sum_below n (by_page (replicate n 1))
-weighty n h = omega (arith, sum_same n (by_page (replicate n 1)) (λ _. 1) (one_each n), sum_const n 1)
-
--- bounds within the limits, where each page has the weight 1
+-- bounds within the limits
 pub are_bounds : (b : Intervals) → length b.low ≤ MOST_PAGES → b.damping ≤ MOST_DAMPING → b.rounds ≤ MOST_ROUNDS → length b.high ≡ length b.low
-    → b.weights ≡ replicate (length b.low) 1 → AreBounds b
-are_bounds b few damped counted high same = record {
+    → AreWeights (length b.low) b.weights → AreBounds b
+are_bounds b few damped counted high weighed = record {
   few = few;
   damped = damped;
   counted = counted;
   high_pages = high;
-  weight_pages = ap length same ∙ length-replicate (length b.low) 1;
-  some_weight = λ h. rw same (weighty (length b.low) h);
+  weight_pages = weighed.pages;
+  some_weight = weighed.some;
 }
 
 -- ---- what they certify

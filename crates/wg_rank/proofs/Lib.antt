@@ -7,6 +7,8 @@ pub mod Spread
 pub mod SideBySide
 pub mod Flow
 pub mod Room
+pub mod Weighing
+pub mod Settled
 pub mod Rounds
 pub mod Quotients
 pub mod Certificates

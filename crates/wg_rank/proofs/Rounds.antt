@@ -1,21 +1,28 @@
 -- What a round leaves, from what was gathered.
 use Rattle.std.specs.Int.{div_ceil}
-use Rattle.std.proofs.Common.{ℕ, ◌≡◌, ◌+◌, ◌-◌, ◌*◌, ◌/◌, ◌<◌, ◌≤◌, ◌==◌, List, All, length, get_or, cond, refl, ap, arith, ◌∙◌, add-one, inl, inr}
+use Rattle.std.proofs.Common.{ℕ, ◌≡◌, ◌+◌, ◌-◌, ◌*◌, ◌/◌, ◌<◌, ◌≤◌, ◌==◌, List, All, length, get_or, cond, refl, ap, arith, ◌∙◌, subst, add-one, inl, inr}
 use Rattle.std.proofs.lemmas.Bool.{cases_lt}
 use Rattle.std.proofs.lemmas.List.Elements.{All-from_get_or}
+use Rattle.wg_params.specs.declared.limits.TheConstants.{MOST_PAGES}
 use Rattle.wg_graph.specs.Arcs.{has_arc}
 use Rattle.wg_graph.specs.Digraph.{Digraph, IsGraph, outdegree}
 use Rattle.wg_rank.specs.Sum.{sum_below}
 use Rattle.wg_rank.specs.Rank.{total, sum_in, sum_dangling, low_flow, high_flow, lower, upper, gap, clipped, low, high}
-use Rattle.wg_rank.specs.Settling.{low_rest, high_rest, settled_low, settled_high, least}
+use Rattle.wg_rank.specs.Settling.{settled_low, settled_high, least}
 use Rattle.wg_rank.specs.Intervals.{Intervals, IsTable, Holds, next_low, next_high, by_page}
+use Rattle.wg_rank.specs.Weights.{AreWeights, weights_or_ones}
 use Rattle.wg_rank.specs.declared.limits.TheConstants.{UNITS}
-use Rattle.wg_rank.proofs.Sums.{sum_same, sum_const, term_le_sum}
+use Rattle.wg_rank.proofs.Sums.{sum_same, sum_le, sum_const, term_le_sum}
 use Rattle.wg_rank.proofs.Pageranks.{lower_total}
 
 pub all_within_total : (m : ℕ) (xs : List ℕ) → sum_below (length xs) (by_page xs) ≤ m → All (λ x. x ≤ m) xs
 all_within_total m xs h =
     All-from_get_or (λ x. x ≤ m) xs 0 (λ i w. omega (arith, h, term_le_sum (length xs) (by_page xs) i w))
+
+-- some of the bounds add up to no more than 1 for each page
+pub units_room : (k : ℕ) (xs : List ℕ) → length xs ≤ MOST_PAGES → All (λ x. x ≤ UNITS) xs → k ≤ length xs → sum_below k (by_page xs) ≤ MOST_PAGES * UNITS
+units_room k xs few h le =
+    omega (arith, sum_le k (by_page xs) (λ _. UNITS) (λ v i. h v 0 (omega arith)), sum_const k UNITS)
 
 -- ---- a round depends on the bounds of pages alone
 
@@ -63,25 +70,16 @@ holds_more b c g d e k l h o = record {
   };
 }
 
--- ---- where each page has the weight 1
+-- ---- what was gathered makes the new bounds
 
-pub weights_total : (g : Digraph) (w : ℕ → ℕ) → ((v : ℕ) → v < g.nodes → w v ≡ 1) → total g w ≡ g.nodes
-weights_total g w one = sum_same g.nodes w (λ _. 1) one ∙ sum_const g.nodes 1 ∙ omega arith
-
--- what flows in and what is dangling make the lower bounds
-lower_from : (g : Digraph) (a : ℕ) (w : ℕ → ℕ) → ((v : ℕ) → v < g.nodes → w v ≡ 1) → (l : ℕ → ℕ) (sums : List ℕ) (d n : ℕ) → n ≡ g.nodes
+pub settled_table : (g : Digraph) (a k : ℕ) (ws : List ℕ) (l : ℕ → ℕ) (sums xs : List ℕ) (d : ℕ) → k ≡ g.nodes → length xs ≡ g.nodes
     → ((v : ℕ) → v < g.nodes → get_or sums v 0 ≡ low_flow g l v) → d ≡ sum_dangling g l
-    → (v : ℕ) → v < g.nodes → settled_low a (low_rest n a d) sums v ≡ lower g a w l v
-lower_from g a w one l sums d n m flows rest v i =
-    let e : (1000 - a) * UNITS * 1 ≡ (1000 - a) * UNITS = omega arith in
-    rw (flows v i, rest, m, weights_total g w one, one v i, e) refl
-
-pub settled_table : (g : Digraph) (a : ℕ) (w : ℕ → ℕ) → ((v : ℕ) → v < g.nodes → w v ≡ 1) → (l : ℕ → ℕ) (sums xs : List ℕ) (d n : ℕ) → n ≡ g.nodes
-    → length xs ≡ g.nodes → ((v : ℕ) → v < g.nodes → get_or sums v 0 ≡ low_flow g l v) → d ≡ sum_dangling g l
-    → ((v : ℕ) → v < n → get_or xs v 0 ≡ settled_low a (low_rest n a d) sums v) → IsTable xs g.nodes (lower g a w l)
-settled_table g a w one l sums xs d n e m flows rest each = record {
+    → ((v : ℕ) → v < k → get_or xs v 0
+    ≡ settled_low a k d (sum_below k (by_page (weights_or_ones k ws))) (by_page (weights_or_ones k ws) v) (get_or sums v 0))
+    → IsTable xs g.nodes (lower g a (by_page (weights_or_ones k ws)) l)
+settled_table g a k ws l sums xs d e m flows rest each = record {
   counted = m;
-  each = λ v i. each v (omega arith) ∙ lower_from g a w one l sums d n e flows rest v i;
+  each = λ v i. each v (omega arith) ∙ rw (flows v i, rest, e) refl;
 }
 
 -- upper bounds never rise
@@ -93,13 +91,13 @@ least_within old new f k m e h each =
 least_same : (h x y p q s t : ℕ) → x ≡ y → p ≡ q → s ≡ t → least h x (p + s) ≡ least h y (q + t)
 least_same h x y p q s t e f k = rw (e, f, k) refl
 
-module _ (g : Digraph) (a : ℕ) (w : ℕ → ℕ) (one : (v : ℕ) → v < g.nodes → w v ≡ 1) where
+module _ (g : Digraph) (a : ℕ) (w : ℕ → ℕ) where
   -- new lower bounds add up to at most 1
-  pub table_total : (l : ℕ → ℕ) (xs : List ℕ) → IsGraph g → a ≤ 1000 → total g l ≤ UNITS → IsTable xs g.nodes (lower g a w l)
+  pub table_total : (l : ℕ → ℕ) (xs : List ℕ) → IsGraph g → a ≤ 1000 → (0 < g.nodes → 0 < total g w) → total g l ≤ UNITS → IsTable xs g.nodes (lower g a w l)
       → sum_below (length xs) (by_page xs) ≤ UNITS
-  table_total l xs ok da t e =
+  table_total l xs ok da heavy t e =
       rw e.counted (elim (cases_lt 0 g.nodes) [
-        | inl p ↦ omega (arith, sum_same g.nodes (by_page xs) (lower g a w l) e.each, lower_total g a w ok da p (omega (arith, weights_total g w one)) l t)
+        | inl p ↦ omega (arith, sum_same g.nodes (by_page xs) (lower g a w l) e.each, lower_total g a w ok da p (heavy p) l t)
         | inr z ↦ let q : g.nodes ≡ 0 = omega arith in rw q (omega arith)
       ])
 
@@ -109,28 +107,34 @@ module _ (g : Digraph) (a : ℕ) (w : ℕ → ℕ) (one : (v : ℕ) → v < g.no
 
   upper_from : (h : ℕ → ℕ) (sums : List ℕ) (d n : ℕ) → n ≡ g.nodes
       → ((v : ℕ) → v < g.nodes → get_or sums v 0 ≡ high_flow g h v) → d ≡ sum_dangling g h
-      → (v : ℕ) → v < g.nodes → settled_high a (high_rest n a d) sums v ≡ upper g a w h v
-  upper_from h sums d n m flows rest v i =
-      let e : (1000 - a) * UNITS * 1 ≡ (1000 - a) * UNITS = omega arith in
-      rw (flows v i, rest, m, weights_total g w one, one v i, e) refl
+      → (v : ℕ) → v < g.nodes → settled_high a n d (sum_below n w) (w v) (get_or sums v 0) ≡ upper g a w h v
+  upper_from h sums d n m flows rest v i = rw (flows v i, rest, m) refl
 
   -- what flows in, what is dangling and what the lower bounds leave make the upper bounds
   pub clipped_from : (l h : ℕ → ℕ) (xs ups : List ℕ) (d n : ℕ) → n ≡ g.nodes → IsTable xs g.nodes (lower g a w l)
       → ((v : ℕ) → v < g.nodes → get_or ups v 0 ≡ high_flow g h v) → d ≡ sum_dangling g h
       → (v : ℕ) → v < g.nodes
-      → least (h v) (settled_high a (high_rest n a d) ups v) (get_or xs v 0 + (UNITS - sum_below (length xs) (by_page xs)))
+      → least (h v) (settled_high a n d (sum_below n w) (w v) (get_or ups v 0)) (get_or xs v 0 + (UNITS - sum_below (length xs) (by_page xs)))
       ≡ clipped g a w l h v
   clipped_from l h xs ups d n m low_is flows rest v i =
       least_same (h v) _ (upper g a w h v) _ (lower g a w l v) _ (gap g (lower g a w l))
       (upper_from h ups d n m flows rest v i) (low_is.each v i) (gap_from l xs low_is)
 
+-- the new lower bounds add up to at most 1
+pub settled_total : (g : Digraph) (a k : ℕ) (ws : List ℕ) (l : ℕ → ℕ) (xs : List ℕ) → IsGraph g → a ≤ 1000 → AreWeights k (weights_or_ones k ws) → k ≡ g.nodes
+    → sum_below k l ≤ UNITS → IsTable xs g.nodes (lower g a (by_page (weights_or_ones k ws)) l) → sum_below (length xs) (by_page xs) ≤ UNITS
+settled_total g a k ws l xs ok da h e t table =
+    table_total g a (by_page (weights_or_ones k ws)) l xs ok da
+    (λ p. subst (λ n. 0 < sum_below n (by_page (weights_or_ones k ws))) e (h.some (omega arith))) (rw (← e) t) table
+
 -- ---- tables of lists that are the same
 
-pub lower_table : (g : Digraph) (a : ℕ) (w xs ys l k : List ℕ) → xs ≡ ys → k ≡ l
-    → IsTable ys g.nodes (lower g a (by_page w) (by_page k)) → IsTable xs g.nodes (lower g a (by_page w) (by_page l))
-lower_table g a w xs ys l k e f t = rw (e, ← f) t
+pub lower_table : (g : Digraph) (a : ℕ) (xs ys l k ws vs : List ℕ) → xs ≡ ys → k ≡ l → vs ≡ ws
+    → IsTable ys g.nodes (lower g a (by_page (weights_or_ones (length k) vs)) (by_page k))
+    → IsTable xs g.nodes (lower g a (by_page (weights_or_ones (length l) ws)) (by_page l))
+lower_table g a xs ys l k ws vs e f h t = rw (e, ← f, ← h) t
 
-pub clipped_table : (g : Digraph) (a : ℕ) (w xs ys l k h j : List ℕ) → xs ≡ ys → k ≡ l → j ≡ h
-    → IsTable ys g.nodes (clipped g a (by_page w) (by_page k) (by_page j))
-    → IsTable xs g.nodes (clipped g a (by_page w) (by_page l) (by_page h))
-clipped_table g a w xs ys l k h j e f i t = rw (e, ← f, ← i) t
+pub clipped_table : (g : Digraph) (a : ℕ) (xs ys l k h j ws vs : List ℕ) → xs ≡ ys → k ≡ l → j ≡ h → vs ≡ ws
+    → IsTable ys g.nodes (clipped g a (by_page (weights_or_ones (length k) vs)) (by_page k) (by_page j))
+    → IsTable xs g.nodes (clipped g a (by_page (weights_or_ones (length l) ws)) (by_page l) (by_page h))
+clipped_table g a xs ys l k h j ws vs e f i q t = rw (e, ← f, ← i, ← q) t

@@ -6,3 +6,4 @@ pub mod Laws
 pub mod Rank
 pub mod Settling
 pub mod Sum
+pub mod Weights

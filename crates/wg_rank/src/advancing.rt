@@ -6,6 +6,7 @@ ghost use Rattle.wg_graph.specs.Digraph.{IsGraph};
 ghost use Rattle.wg_rank.specs.Sum.{sum_below};
 ghost use Rattle.wg_rank.specs.Rank.{lower, clipped};
 ghost use Rattle.wg_rank.specs.Intervals.{IsTable, by_page};
+ghost use Rattle.wg_rank.specs.Weights.{AreWeights, weights_or_ones};
 ghost use Rattle.wg_rank.specs.declared.limits.TheConstants.{UNITS};
 
 use crate::UNITS;
@@ -13,33 +14,36 @@ use crate::gathering::gather;
 use crate::settling::{settle_high, settle_low, total};
 use wg_graph::Lists;
 
-// Puts the new bounds in place of the old ones, where each page has the weight 1. What `inflows` held before is lost.
+// Puts the new bounds in place of the old ones. Where no weights are given, each page has the weight 1. What `inflows` held
+// before is lost.
 pub(crate) fn advance<L: Lists>(
     lists: &mut L,
     damping: u64,
     low: &mut [u128],
     high: &mut [u128],
     inflows: &mut [u128],
+    weights: &[u64],
 )
     requires pages { (L.graph lists.old).nodes ≡ length low.old }
     requires few { length low.old ≤ MOST_PAGES }
     requires damped { damping ≤ MOST_DAMPING }
     requires high_pages { length high.old ≡ length low.old }
     requires inflow_pages { length inflows.old ≡ 2 * length low.old }
+    requires weights { AreWeights (length low.old) (weights_or_ones (length low.old) weights.now) }
     requires low_total { sum_below (length low.old) (by_page low.old) ≤ UNITS }
     requires high_units { All (λ x. x ≤ UNITS) high.old }
     ensures graph { L.graph lists.new ≡ L.graph lists.old }
     ensures proper { IsGraph (L.graph lists.old) }
-    ensures low { (w : ℕ → ℕ) → ((v : ℕ) → v < length low.old → w v ≡ 1)
-        → IsTable low.new (L.graph lists.old).nodes (lower (L.graph lists.old) damping w (by_page low.old)) }
-    ensures high { (w : ℕ → ℕ) → ((v : ℕ) → v < length low.old → w v ≡ 1)
-        → IsTable high.new (L.graph lists.old).nodes (clipped (L.graph lists.old) damping w (by_page low.old) (by_page high.old)) }
+    ensures low { IsTable low.new (L.graph lists.old).nodes
+        (lower (L.graph lists.old) damping (by_page (weights_or_ones (length low.old) weights.now)) (by_page low.old)) }
+    ensures high { IsTable high.new (L.graph lists.old).nodes
+        (clipped (L.graph lists.old) damping (by_page (weights_or_ones (length low.old) weights.now)) (by_page low.old) (by_page high.old)) }
     ensures low_total { sum_below (length low.old) (by_page low.new) ≤ UNITS }
     ensures high_units { All (λ x. x ≤ UNITS) high.new }
 {
     inflows.fill(0);
     let (dangling, high_dangling) = gather(lists, low, high, inflows);
-    settle_low(low, inflows, damping, dangling);
+    settle_low(low, inflows, damping, dangling, weights);
     let gap = UNITS - total(low);
-    settle_high(high, inflows, low, damping, high_dangling, gap);
+    settle_high(high, inflows, low, damping, high_dangling, weights, gap);
 }

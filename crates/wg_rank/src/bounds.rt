@@ -5,20 +5,23 @@ ghost use Rattle.wg_rank.specs.Sum.{sum_below};
 ghost use Rattle.wg_rank.specs.Rank.{gap};
 ghost use Rattle.wg_rank.specs.Intervals.{AreBounds, IsTable, Holds, next_low, next_high, by_page};
 ghost use Rattle.wg_rank.specs.Certified.{IsCertified};
+ghost use Rattle.wg_rank.specs.Weights.{AreWeights, weights_or_ones};
 ghost use Rattle.wg_rank.specs.declared.limits.TheConstants.{UNITS};
 
 use crate::UNITS;
 use crate::advancing::advance;
 use std::alloc::{AllocError, Global};
 use std::marker::Model;
-use wg_graph::Lists;
+use wg_graph::{List, Lists};
 
-/// Bounds of the PageRank of each page, in units of 10^-24. They hold 64 bytes for each page.
+/// Bounds of the PageRank of each page, in units of 10^-24. They hold 64 bytes for each page, and 8 more if weights are given.
 #[derive(Drop)]
 pub struct Bounds {
     // In thousandths.
     damping: u64,
     rounds: u64,
+    // None if each page has the weight 1.
+    weights: List,
     low: Vec<u128>,
     high: Vec<u128>,
     // What flows to each page in a round, below and above, side by side, so that an arc reaches one place in memory. What it
@@ -49,10 +52,46 @@ impl Bounds {
         ensures rounds { IfOk result (λ b. b.rounds ≡ 0) }
         ensures holds { IfOk result (λ b. (g : Digraph) → g.nodes ≡ n → Holds b g) }
     {
+        Bounds::begin(alloc, n, damping, List::new(alloc))
+    }
+
+    /// The same, where teleport goes to the pages by their weights, of which they keep a copy.
+    pub fn weighted(
+        alloc: Global,
+        n: u64,
+        damping: u64,
+        weights: &List,
+    ) -> Result<Bounds, AllocError>
+        requires pages { n ≤ MOST_PAGES }
+        requires damping { damping ≤ MOST_DAMPING }
+        requires weights { AreWeights n weights.now }
+        ensures damping { IfOk result (λ b. b.damping ≡ damping) }
+        ensures weights { IfOk result (λ b. b.weights ≡ weights.now) }
+        ensures pages { IfOk result (λ b. length b.low ≡ n) }
+        ensures rounds { IfOk result (λ b. b.rounds ≡ 0) }
+        ensures holds { IfOk result (λ b. (g : Digraph) → g.nodes ≡ n → Holds b g) }
+    {
+        let mut held = List::new(alloc);
+        held.extend(weights.as_slice())?;
+        Bounds::begin(alloc, n, damping, held)
+    }
+
+    // The bounds before the first round, by these weights, or by the weight 1 where none are given.
+    fn begin(alloc: Global, n: u64, damping: u64, weights: List) -> Result<Bounds, AllocError>
+        requires pages { n ≤ MOST_PAGES }
+        requires damping { damping ≤ MOST_DAMPING }
+        requires weights { AreWeights n (weights_or_ones n weights) }
+        ensures damping { IfOk result (λ b. b.damping ≡ damping) }
+        ensures weights { IfOk result (λ b. b.weights ≡ weights_or_ones n weights) }
+        ensures pages { IfOk result (λ b. length b.low ≡ n) }
+        ensures rounds { IfOk result (λ b. b.rounds ≡ 0) }
+        ensures holds { IfOk result (λ b. (g : Digraph) → g.nodes ≡ n → Holds b g) }
+    {
         let n = n as usize;
         Ok(Bounds {
             damping,
             rounds: 0,
+            weights,
             low: vec![in alloc; 0; n]?,
             high: vec![in alloc; UNITS; n]?,
             inflows: vec![in alloc; 0; 2 * n]?,
@@ -137,6 +176,7 @@ impl Bounds {
             &mut self.low,
             &mut self.high,
             &mut self.inflows,
+            self.weights.as_slice(),
         );
     }
 }

@@ -15,11 +15,14 @@
 //!               new low, high <-- settle: the damping's part, and teleport's <-+
 //! ```
 //!
-//! Memory is taken by [`Bounds::new`] alone: four numbers of 16 bytes for each page. The two sums of what flows to a page lie
-//! side by side, so that an arc reaches one place in memory. Between rounds they say nothing, and [`Bounds::into_parts`] hands
-//! them on as room. A round divides each page's two bounds by its outdegree, once and not for each arc, and what flows in by
-//! 1000; for an arc it adds twice. No sum passes 128 bits: what flows to a page is at most one whole for each page, so below
-//! 2^36 * 10^24, and the damping multiplies it by less than 2^10.
+//! Memory is taken by [`Bounds::new`] alone: four numbers of 16 bytes for each page; [`Bounds::weighted`], by which teleport
+//! goes to the pages by weights, takes 8 bytes more. The two sums of what flows to a page lie side by side, so that an arc
+//! reaches one place in memory. Between rounds they say nothing, and [`Bounds::into_parts`] hands them on as room.
+//!
+//! A round divides each page's two bounds by its outdegree, once and not for each arc, and what flows in by 1000; by weights it
+//! also divides teleport's two parts for each page, and if each weight is 1 once for all. For an arc it adds twice. No sum
+//! passes 128 bits: what flows to a page is at most one whole for each page, so below 2^36 * 10^24, and the damping multiplies
+//! it by less than 2^10; a weight is below 2^32, and teleport's part of 1 is at most 1000 * 10^24 before it is divided.
 #![tactic(auto)]
 
 mod advancing;
@@ -33,7 +36,7 @@ mod settling;
 mod spreading;
 
 pub use bounds::Bounds;
-pub use limits::UNITS;
+pub use limits::{MOST_WEIGHT, UNITS};
 
 #[cfg(test)]
 mod tests;

@@ -1,42 +1,106 @@
-// New bounds from what flows in, where each page has the weight 1.
+// New bounds from what flows in.
 
-ghost use Rattle.std.specs.Prelude.{◌≡◌, ℕ, ◌+◌, ◌*◌, ◌<◌, ◌≤◌, length, slice_index, All};
+ghost use Rattle.std.specs.Prelude.{◌≡◌, ℕ, ◌+◌, ◌*◌, ◌/◌, ◌<◌, ◌≤◌, length, slice_index, All};
+ghost use Rattle.std.specs.Int.{div_ceil};
 ghost use Rattle.wg_params.specs.declared.limits.TheConstants.{MOST_PAGES, MOST_DAMPING};
 ghost use Rattle.wg_rank.specs.Sum.{sum_below};
 ghost use Rattle.wg_rank.specs.Intervals.{by_page};
 ghost use Rattle.wg_rank.specs.Inflows.{low_flows, high_flows};
-ghost use Rattle.wg_rank.specs.Settling.{low_rest, high_rest, settled_low, settled_high, least};
-ghost use Rattle.wg_rank.specs.declared.limits.TheConstants.{UNITS};
+ghost use Rattle.wg_rank.specs.Settling.{settled_low, settled_high, least};
+ghost use Rattle.wg_rank.specs.Weights.{AreWeights, weights_or_ones};
+ghost use Rattle.wg_rank.specs.declared.limits.TheConstants.{UNITS, MOST_WEIGHT};
 
 use crate::UNITS;
 use crate::dividing::{quotient, quotient_up};
 use crate::inflows::{high_flow, low_flow};
 
-// Puts the lower bounds in place of the old ones; the dangling pages hold so much.
+// The sum of the weights of `n` pages; where none are given, each is 1.
+fn total_weight(weights: &[u64], n: usize) -> u128
+    requires few { n ≤ MOST_PAGES }
+    requires weights { AreWeights n (weights_or_ones n weights.now) }
+    ensures value { result ≡ sum_below n (by_page (weights_or_ones n weights.now)) }
+    ensures room { result ≤ MOST_PAGES * MOST_WEIGHT }
+{
+    if weights.is_empty() {
+        return n as u128;
+    }
+    let mut sum = 0;
+    for weight in weights {
+        sum += u128::from(*weight);
+    }
+    sum
+}
+
+// What page `v` gets of what teleport shares out, rounded down. A weight of 1 gets `even`, one of `parts`.
+#[inline(always)]
+fn part_below(shared: u128, parts: u128, even: u128, weights: &[u64], v: usize) -> u128
+    requires few { shared ≤ 1000 * UNITS }
+    requires some { 0 < parts }
+    requires even { even ≡ shared / parts }
+    requires small { All (λ w. w ≤ MOST_WEIGHT) weights.now }
+    requires page { 0 < length weights.now → v < length weights.now }
+    ensures value { (n : ℕ) → v < n → result ≡ shared * by_page (weights_or_ones n weights.now) v / parts }
+    ensures room { result ≤ 1000 * UNITS * MOST_WEIGHT }
+{
+    if weights.is_empty() {
+        return even;
+    }
+    shared * u128::from(weights[v]) / parts
+}
+
+// The same, rounded up.
+#[inline(always)]
+fn part_above(shared: u128, parts: u128, even: u128, weights: &[u64], v: usize) -> u128
+    requires few { shared ≤ 1000 * UNITS }
+    requires some { 0 < parts }
+    requires even { even ≡ div_ceil shared parts }
+    requires small { All (λ w. w ≤ MOST_WEIGHT) weights.now }
+    requires page { 0 < length weights.now → v < length weights.now }
+    ensures value { (n : ℕ) → v < n → result ≡ div_ceil (shared * by_page (weights_or_ones n weights.now) v) parts }
+    ensures room { result ≤ 1000 * UNITS * MOST_WEIGHT }
+{
+    if weights.is_empty() {
+        return even;
+    }
+    (shared * u128::from(weights[v])).div_ceil(parts)
+}
+
+// Puts the lower bounds in place of the old ones; the dangling pages hold so much. Where each page has the weight 1, teleport's
+// part is divided out once.
 #[tactic(auto, using(crate::proofs::Room::damped_room))]
-pub(crate) fn settle_low(low: &mut [u128], inflows: &[u128], damping: u64, dangling: u128)
+pub(crate) fn settle_low(
+    low: &mut [u128],
+    inflows: &[u128],
+    damping: u64,
+    dangling: u128,
+    weights: &[u64],
+)
     requires damped { damping ≤ MOST_DAMPING }
     requires few { length low.old ≤ MOST_PAGES }
     requires inflow_pages { length (low_flows inflows.now) ≡ length low.old }
     requires room { All (λ x. x ≤ MOST_PAGES * UNITS) (low_flows inflows.now) }
     requires dangling_room { dangling ≤ MOST_PAGES * UNITS }
-    ensures each { (v : ℕ) → v < length low.old → slice_index low.new v
-        ≡ settled_low damping (low_rest (length low.old) damping dangling) (low_flows inflows.now) v }
+    requires weights { AreWeights (length low.old) (weights_or_ones (length low.old) weights.now) }
+    ensures each { let w = by_page (weights_or_ones (length low.old) weights.now) in (v : ℕ) → v < length low.old → slice_index low.new v
+        ≡ settled_low damping (length low.old) dangling (sum_below (length low.old) w) (w v) (slice_index (low_flows inflows.now) v) }
 {
     if low.is_empty() {
         return;
     }
-    let parts = 1000 * low.len() as u128;
-    let teleport = (1000 - damping as u128) * UNITS;
-    let rest = damping as u128 * dangling / parts + teleport / parts;
+    let rest = damping as u128 * dangling / (1000 * low.len() as u128);
+    let shared = (1000 - damping as u128) * UNITS;
+    let parts = 1000 * total_weight(weights, low.len());
+    let even = shared / parts;
     for v in 0..low.len() {
-        low[v] = quotient(damping as u128 * low_flow(inflows, v), 1000) + rest;
+        let part = part_below(shared, parts, even, weights, v);
+        low[v] = quotient(damping as u128 * low_flow(inflows, v), 1000) + (rest + part);
     }
 }
 
 // The sum of lower bounds.
 pub(crate) fn total(low: &[u128]) -> u128
-    requires { sum_below (length low.now) (by_page low.now) ≤ UNITS }
+    requires few { length low.now ≤ MOST_PAGES }
+    requires units { All (λ x. x ≤ UNITS) low.now }
     ensures { result ≡ sum_below (length low.now) (by_page low.now) }
 {
     let mut sum = 0;
@@ -47,13 +111,14 @@ pub(crate) fn total(low: &[u128]) -> u128
 }
 
 // Puts the upper bounds in place of the old ones; `low` are the new lower bounds, which leave `gap`.
-#[tactic(auto, using(crate::proofs::Room::damped_room, crate::proofs::Flow::div_ceil_le, crate::proofs::SideBySide::high_count))]
+#[tactic(auto, using(crate::proofs::Room::damped_room, crate::proofs::Flow::div_ceil_le))]
 pub(crate) fn settle_high(
     high: &mut [u128],
     inflows: &[u128],
     low: &[u128],
     damping: u64,
     dangling: u128,
+    weights: &[u64],
     gap: u128,
 )
     requires damped { damping ≤ MOST_DAMPING }
@@ -63,18 +128,23 @@ pub(crate) fn settle_high(
     requires room { All (λ x. x ≤ MOST_PAGES * UNITS) (high_flows inflows.now) }
     requires dangling_room { dangling ≤ MOST_PAGES * UNITS }
     requires low_room { All (λ x. x ≤ UNITS) low.now }
+    requires weights { AreWeights (length high.old) (weights_or_ones (length high.old) weights.now) }
     requires gap_room { gap ≤ UNITS }
-    ensures each { (v : ℕ) → v < length high.old → slice_index high.new v
-        ≡ least (by_page high.old v) (settled_high damping (high_rest (length high.old) damping dangling) (high_flows inflows.now) v) (by_page low.now v + gap) }
+    ensures each { let w = by_page (weights_or_ones (length high.old) weights.now) in (v : ℕ) → v < length high.old → slice_index high.new v
+        ≡ least (slice_index high.old v)
+        (settled_high damping (length high.old) dangling (sum_below (length high.old) w) (w v) (slice_index (high_flows inflows.now) v))
+        (slice_index low.now v + gap) }
 {
     if high.is_empty() {
         return;
     }
-    let parts = 1000 * high.len() as u128;
-    let teleport = (1000 - damping as u128) * UNITS;
-    let rest = (damping as u128 * dangling).div_ceil(parts) + teleport.div_ceil(parts);
+    let rest = (damping as u128 * dangling).div_ceil(1000 * high.len() as u128);
+    let shared = (1000 - damping as u128) * UNITS;
+    let parts = 1000 * total_weight(weights, high.len());
+    let even = shared.div_ceil(parts);
     for v in 0..high.len() {
-        let above = quotient_up(damping as u128 * high_flow(inflows, v), 1000) + rest;
+        let part = part_above(shared, parts, even, weights, v);
+        let above = quotient_up(damping as u128 * high_flow(inflows, v), 1000) + (rest + part);
         high[v] = high[v].min(above).min(low[v] + gap);
     }
 }

@@ -1,16 +1,17 @@
-ghost use Rattle.std.specs.Prelude.{◌≡◌, ◌+◌, ◌*◌, ◌≤◌, [], ◌∷◌, length, replicate, IfOk};
+ghost use Rattle.std.specs.Prelude.{◌≡◌, ◌+◌, ◌*◌, ◌≤◌, ◌<◌, [], ◌∷◌, length, replicate, IfOk};
 ghost use Rattle.wg_params.specs.declared.limits.TheConstants.{MOST_PAGES, MOST_DAMPING, MOST_ROUNDS};
 ghost use Rattle.wg_graph.specs.Digraph.{Digraph};
 ghost use Rattle.wg_rank.specs.Intervals.{Holds};
 ghost use Rattle.wg_rank.specs.Certified.{IsCertified};
 ghost use Rattle.wg_rank.specs.Rank.{numerator, denominator, exact_step};
-ghost use Rattle.wg_rank.specs.declared.limits.TheConstants.{UNITS};
+ghost use Rattle.wg_rank.specs.Weights.{AreWeights};
+ghost use Rattle.wg_rank.specs.declared.limits.TheConstants.{UNITS, MOST_WEIGHT};
 
-use crate::{Bounds, UNITS, laws};
+use crate::{Bounds, MOST_WEIGHT, UNITS, laws};
 use std::alloc::{AllocError, Global};
 use std::process::Abort;
 use std::test::Fail;
-use wg_graph::{Graph, GraphBuilder, GraphLists, Lists};
+use wg_graph::{Graph, GraphBuilder, GraphLists, List, Lists};
 
 // So many pages and the one arc from page 0 to page 1.
 fn with_one_arc(rt: &impl Abort, alloc: Global, n: u64) -> Result<Graph, AllocError>
@@ -157,5 +158,41 @@ fn one_page_or_none(rt: HostRuntime) -> Result<(), Fail> {
     let mut empty = Bounds::new(rt.alloc(), 0, 850)?;
     empty.round(&mut GraphLists::new(&none));
     assert_eq!(rt; empty.rounds(), 1);
+    Ok(())
+}
+
+// The weights of two pages.
+fn two_weights(alloc: Global, first: u64, second: u64) -> Result<List, AllocError>
+    requires some { 0 < first }
+    requires first { first ≤ MOST_WEIGHT }
+    requires second { second ≤ MOST_WEIGHT }
+    ensures { IfOk result (λ ws. AreWeights 2 ws) }
+{
+    let mut weights = List::new(alloc);
+    weights.extend(&[first, second])?;
+    Ok(weights)
+}
+
+#[test]
+fn weights_share_out_teleport(rt: HostRuntime) -> Result<(), Fail> {
+    let graph = with_one_arc(&rt, rt.alloc(), 2)?;
+    let weights = two_weights(rt.alloc(), 3, 1)?;
+    let mut bounds = Bounds::weighted(rt.alloc(), 2, 850, &weights)?;
+    bounds.round(&mut GraphLists::new(&graph));
+    assert_eq!(rt;
+        (bounds.low(0), bounds.high(0)),
+        (millionths(112_500), millionths(537_500))
+    );
+    assert_eq!(rt;
+        (bounds.low(1), bounds.high(1)),
+        (millionths(37_500), millionths(887_500))
+    );
+    let greatest = two_weights(rt.alloc(), MOST_WEIGHT, MOST_WEIGHT)?;
+    let mut even = Bounds::weighted(rt.alloc(), 2, 0, &greatest)?;
+    even.round(&mut GraphLists::new(&graph));
+    assert_eq!(rt;
+        (even.low(0), even.high(1)),
+        (millionths(500_000), millionths(500_000))
+    );
     Ok(())
 }

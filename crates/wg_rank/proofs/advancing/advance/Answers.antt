@@ -1,52 +1,56 @@
-use Rattle.std.proofs.Common.{arith, ◌≡◌, length, refl, ◌∙◌}
+use Rattle.std.proofs.Common.{arith, ◌≡◌, length, ◌∙◌}
 use Rattle.wg_rank.specs.Intervals.{by_page}
+use Rattle.wg_rank.specs.Weights.{weights_or_ones}
 use Rattle.wg_rank.specs.declared.limits.TheConstants.{UNITS}
+use Rattle.wg_rank.proofs.Rounds.{all_within_total, settled_table, settled_total, clipped_from, least_within}
 use Rattle.wg_rank.specs.Inflows.{low_flows, high_flows}
 use Rattle.wg_rank.proofs.SideBySide.{low_count, high_count}
-use Rattle.wg_rank.proofs.Rounds.{all_within_total, settled_table, clipped_from, table_total, least_within}
 use Rattle.wg_rank.proofs.advancing.advance.Goals as goal
 
 pub gather-dangling-requires-clause-low_units : goal.gather-dangling-requires-clause-low_units
 gather-dangling-requires-clause-low_units g c = all_within_total UNITS _ c.requires.low_total
 
-pub total-gap-requires : goal.total-gap-requires
-total-gap-requires g c =
-    table_total (g.L.Lists.graph c.args.lists.now) c.args.damping (λ _. 1) (λ v i. refl) (by_page c.args.low.now) c.settle_low.new.low
-    c.gather-dangling.ensures.proper (omega arith) (rw c.requires.pages c.requires.low_total)
-    (settled_table (g.L.Lists.graph c.args.lists.now) c.args.damping (λ _. 1) (λ v i. refl) (by_page c.args.low.now) (low_flows c.gather-dangling.new.inflows) c.settle_low.new.low c.gather-dangling.result.0 (length c.args.low.now)
-    (omega arith) (omega arith) (λ v i. c.gather-dangling.ensures.low_flow v (omega arith)) c.gather-dangling.ensures.low_dangling c.settle_low.ensures.each)
+pub total-gap-requires-clause-units : goal.total-gap-requires-clause-units
+total-gap-requires-clause-units g c = all_within_total UNITS c.settle_low.new.low
+    (settled_total (g.L.Lists.graph c.args.lists.now) c.args.damping (length c.args.low.now) c.args.weights.now (by_page c.args.low.now) c.settle_low.new.low
+    c.gather-dangling.ensures.proper (omega arith) c.requires.weights (omega arith) c.requires.low_total
+    (settled_table (g.L.Lists.graph c.args.lists.now) c.args.damping (length c.args.low.now) c.args.weights.now (by_page c.args.low.now)
+    (low_flows c.gather-dangling.new.inflows) c.settle_low.new.low c.gather-dangling.result.0 (omega arith) (omega arith)
+    (λ v i. c.gather-dangling.ensures.low_flow v (omega arith)) c.gather-dangling.ensures.low_dangling c.settle_low.ensures.each))
 
 pub overflow_sub-gap : goal.overflow_sub-gap
-overflow_sub-gap g c =
-    omega (
-      arith,
-      c.total-gap.ensures,
-      table_total (g.L.Lists.graph c.args.lists.now) c.args.damping (λ _. 1) (λ v i. refl) (by_page c.args.low.now) c.settle_low.new.low
-          c.gather-dangling.ensures.proper (omega arith) (rw c.requires.pages c.requires.low_total)
-          (settled_table (g.L.Lists.graph c.args.lists.now) c.args.damping (λ _. 1) (λ v i. refl) (by_page c.args.low.now) (low_flows c.gather-dangling.new.inflows) c.settle_low.new.low c.gather-dangling.result.0 (length c.args.low.now)
-          (omega arith) (omega arith) (λ v i. c.gather-dangling.ensures.low_flow v (omega arith)) c.gather-dangling.ensures.low_dangling c.settle_low.ensures.each),
-    )
+overflow_sub-gap g c = omega (
+  arith,
+  c.total-gap.ensures,
+  settled_total (g.L.Lists.graph c.args.lists.now) c.args.damping (length c.args.low.now) c.args.weights.now (by_page c.args.low.now) c.settle_low.new.low
+      c.gather-dangling.ensures.proper (omega arith) c.requires.weights (omega arith) c.requires.low_total
+      (settled_table (g.L.Lists.graph c.args.lists.now) c.args.damping (length c.args.low.now) c.args.weights.now (by_page c.args.low.now)
+      (low_flows c.gather-dangling.new.inflows) c.settle_low.new.low c.gather-dangling.result.0 (omega arith) (omega arith)
+      (λ v i. c.gather-dangling.ensures.low_flow v (omega arith)) c.gather-dangling.ensures.low_dangling c.settle_low.ensures.each),
+)
 
 pub settle_high-requires-clause-low_room : goal.settle_high-requires-clause-low_room
-settle_high-requires-clause-low_room g c =
-    all_within_total UNITS c.settle_low.new.low
-    (table_total (g.L.Lists.graph c.args.lists.now) c.args.damping (λ _. 1) (λ v i. refl) (by_page c.args.low.now) c.settle_low.new.low
-    c.gather-dangling.ensures.proper (omega arith) (rw c.requires.pages c.requires.low_total)
-    (settled_table (g.L.Lists.graph c.args.lists.now) c.args.damping (λ _. 1) (λ v i. refl) (by_page c.args.low.now) (low_flows c.gather-dangling.new.inflows) c.settle_low.new.low c.gather-dangling.result.0 (length c.args.low.now)
-    (omega arith) (omega arith) (λ v i. c.gather-dangling.ensures.low_flow v (omega arith)) c.gather-dangling.ensures.low_dangling c.settle_low.ensures.each))
+settle_high-requires-clause-low_room g c = all_within_total UNITS c.settle_low.new.low
+    (settled_total (g.L.Lists.graph c.args.lists.now) c.args.damping (length c.args.low.now) c.args.weights.now (by_page c.args.low.now) c.settle_low.new.low
+    c.gather-dangling.ensures.proper (omega arith) c.requires.weights (omega arith) c.requires.low_total
+    (settled_table (g.L.Lists.graph c.args.lists.now) c.args.damping (length c.args.low.now) c.args.weights.now (by_page c.args.low.now)
+    (low_flows c.gather-dangling.new.inflows) c.settle_low.new.low c.gather-dangling.result.0 (omega arith) (omega arith)
+    (λ v i. c.gather-dangling.ensures.low_flow v (omega arith)) c.gather-dangling.ensures.low_dangling c.settle_low.ensures.each))
 
 pub returns-clause-low : goal.returns-clause-low
-returns-clause-low g c = λ w one.
-    settled_table (g.L.Lists.graph c.args.lists.now) c.args.damping w (λ v i. one v (omega arith)) (by_page c.args.low.now) (low_flows c.gather-dangling.new.inflows) c.settle_low.new.low c.gather-dangling.result.0 (length c.args.low.now)
-    (omega arith) (omega arith) (λ v i. c.gather-dangling.ensures.low_flow v (omega arith)) c.gather-dangling.ensures.low_dangling c.settle_low.ensures.each
+returns-clause-low g c =
+    settled_table (g.L.Lists.graph c.args.lists.now) c.args.damping (length c.args.low.now) c.args.weights.now (by_page c.args.low.now)
+    (low_flows c.gather-dangling.new.inflows) c.settle_low.new.low c.gather-dangling.result.0 (omega arith) (omega arith)
+    (λ v i. c.gather-dangling.ensures.low_flow v (omega arith)) c.gather-dangling.ensures.low_dangling c.settle_low.ensures.each
 
 pub returns-clause-high : goal.returns-clause-high
-returns-clause-high g c = λ w one. record {
+returns-clause-high g c = record {
   counted = omega arith;
   each = λ v i.
-      let e = rw c.total-gap.ensures at (c.settle_high.ensures.each v (omega arith)) in
-      e ∙ clipped_from (g.L.Lists.graph c.args.lists.now) c.args.damping w (λ v i. one v (omega arith)) (by_page c.args.low.now) (by_page c.args.high.now)
-      c.settle_low.new.low (high_flows c.gather-dangling.new.inflows) c.gather-dangling.result.1 (length c.args.high.now) (omega arith) (returns-clause-low g c w one)
+      let same : length c.args.high.now ≡ length c.args.low.now = omega arith in
+      let e = rw (c.total-gap.ensures, same) at (c.settle_high.ensures.each v (omega arith)) in
+      e ∙ clipped_from (g.L.Lists.graph c.args.lists.now) c.args.damping (by_page (weights_or_ones (length c.args.low.now) c.args.weights.now)) (by_page c.args.low.now) (by_page c.args.high.now)
+      c.settle_low.new.low (high_flows c.gather-dangling.new.inflows) c.gather-dangling.result.1 (length c.args.low.now) (omega arith) (returns-clause-low g c)
       (λ v i. c.gather-dangling.ensures.high_flow v (omega arith)) c.gather-dangling.ensures.high_dangling v i;
 }
 
@@ -54,9 +58,8 @@ pub returns-clause-low_total : goal.returns-clause-low_total
 returns-clause-low_total g c =
     let e : length c.settle_low.new.low ≡ length c.args.low.now = omega arith in
     rw (← e)
-    (table_total (g.L.Lists.graph c.args.lists.now) c.args.damping (λ _. 1) (λ v i. refl) (by_page c.args.low.now) c.settle_low.new.low
-    c.gather-dangling.ensures.proper (omega arith) (rw c.requires.pages c.requires.low_total)
-    (returns-clause-low g c (λ _. 1) (λ v i. refl)))
+    (settled_total (g.L.Lists.graph c.args.lists.now) c.args.damping (length c.args.low.now) c.args.weights.now (by_page c.args.low.now) c.settle_low.new.low
+    c.gather-dangling.ensures.proper (omega arith) c.requires.weights (omega arith) c.requires.low_total (returns-clause-low g c))
 
 pub returns-clause-high_units : goal.returns-clause-high_units
 returns-clause-high_units g c =
