@@ -8,16 +8,23 @@ use Rattle.wg_params.specs.declared.limits.TheConstants.{MOST_PAGES, MOST_DAMPIN
 use Rattle.wg_words.specs.Commands.{parsed}
 use Rattle.wg_words.specs.Files.{is_file_of, IsNoFileOf, ShareNoFile}
 use Rattle.wg_words.specs.Layouts.{params_of}
-use Rattle.wg_words.specs.Values.{name_in, number_up_to}
-use Rattle.wg_words.specs.Jobs.{rank_on, build_from, build_on, conversion_from, conversion_of, conversion_in, recoding, transposing, job_on, job_on_base, job_from, job_of, IsConversion, IsWithin}
+use Rattle.wg_words.specs.Values.{name_in, number_up_to, numbers_in}
+use Rattle.wg_words.specs.Jobs.{show_on, rank_on, build_from, build_on, conversion_from, conversion_of, conversion_in, recoding, transposing, job_on, job_on_base, job_from, job_of, IsConversion, IsWithin}
 use Rattle.wg_words.specs.declared.conversion.Conversion.{Conversion}
 use Rattle.wg_words.specs.declared.defaults.TheConstants.{DEFAULT_DAMPING, DEFAULT_ROUNDS, DEFAULT_TOP}
 use Rattle.wg_words.specs.declared.jobs.Job.{Job}
-use Rattle.wg_words.specs.declared.jobs.Job.TheVariants.{Check, Arcs, Offsets, Rank, Build, Recode, Transpose}
+use Rattle.wg_words.specs.declared.jobs.Job.TheVariants.{Check, Arcs, Offsets, Show, Rank, Build, Recode, Transpose}
 use Rattle.wg_words.specs.declared.layout.Layout.{Layout}
 use Rattle.wg_words.proofs.FileLemmas.{no_file, no_file_shared_unless}
 use Rattle.wg_words.proofs.LayoutLemmas.{layout_in_within}
 use Rattle.wg_words.proofs.ValueLemmas.{up_to_within, number_within, some_unless}
+
+show_on_within : (rows : List Row) (base : Text) (job : Job) → show_on rows base ≡ Some job → IsWithin job
+show_on_within rows base job = made (numbers_in rows (codes "page"))
+  where
+    made : (o : Option (List ℕ)) → option_map (Show base) o ≡ Some job → IsWithin job
+    made None is = absurd (none-some job is)
+    made (Some pages) is = subst IsWithin (same_Some (Show base pages) job is) tt
 
 rank_on_within : (rows : List Row) (base : Text) (job : Job) → rank_on rows base ≡ Some job → IsWithin job
 rank_on_within rows base job is =
@@ -79,8 +86,9 @@ job_on_within command rows base job =
     chosen_within (bytes_eq command (codes "check")) _ _ job (λ is. subst IsWithin (same_Some (Check base) job is) tt)
     (chosen_within (bytes_eq command (codes "arcs")) _ _ job (λ is. subst IsWithin (same_Some (Arcs base) job is) tt)
     (chosen_within (bytes_eq command (codes "offsets")) _ _ job (λ is. subst IsWithin (same_Some (Offsets base) job is) tt)
+    (chosen_within (bytes_eq command (codes "show")) _ _ job (show_on_within rows base job)
     (chosen_within (bytes_eq command (codes "rank")) _ _ job (rank_on_within rows base job)
-    (chosen_within (bytes_eq command (codes "build")) _ _ job (build_on_within rows base job) (λ is. absurd (none-some job is))))))
+    (chosen_within (bytes_eq command (codes "build")) _ _ job (build_on_within rows base job) (λ is. absurd (none-some job is)))))))
 
 job_on_base_within : (command : Text) (rows : List Row) (job : Job) → job_on_base command rows ≡ Some job → IsWithin job
 job_on_base_within command rows job is =

@@ -1,4 +1,5 @@
 -- The command line as clap reads it: the commands with what each takes, and what their matches are.
+use Rattle.clap.specs.Lexer.{usize_max}
 use Rattle.clap.specs.declared.builder.command.Command.{Command}
 use Rattle.clap.specs.declared.builder.command.Command.TheViews.{out-Command}
 use Rattle.std.specs.Prelude.{◌≡◌, true, false, List, [], ◌∷◌, Option, Some, None, codes}
@@ -7,6 +8,10 @@ use Rattle.clap.specs.Words.{app_of, App, Row, Rule, Text, Kinds, new_app, new_r
 -- a word that must be there
 abbrev pub positional_rule : Text → Rule
 positional_rule name = record (new_rule name) { required = true }
+
+-- one word or more, in their order
+abbrev pub several_rule : Text → Rule
+several_rule name = record (positional_rule name) { range = Some (record { start_inclusive = 1; end_inclusive = usize_max }) }
 
 -- the archive of a command
 abbrev pub base_rule : Rule
@@ -23,6 +28,10 @@ option_rule name = record (new_rule name) { long = Some name }
 -- --NAME VALUE, which must be there
 abbrev pub required_rule : Text → Rule
 required_rule name = record (option_rule name) { required = true }
+
+-- show BASE PAGE...
+abbrev pub show_app : App
+show_app = with_rule (archive_app (codes "show")) (several_rule (codes "page"))
 
 -- rank BASE, with the options --rounds, --damping and --top
 abbrev pub rank_app : App
@@ -76,7 +85,7 @@ with_command line command = with_subcommand line command.top
 
 -- the command line of the program
 abbrev pub command_app : App
-command_app = with_command (with_command (with_command (with_command plain_app rank_app) build_app) (conversion_app (codes "recode"))) (conversion_app (codes "transpose"))
+command_app = with_command (with_command (with_command (with_command (with_command plain_app show_app) rank_app) build_app) (conversion_app (codes "recode"))) (conversion_app (codes "transpose"))
 
 -- nothing where the words are refused
 abbrev pub where_empty : {X : Type 0} → Kinds → Option X → Option X

@@ -1,6 +1,6 @@
 -- What a positional or an option gives: a name or a number.
-use Rattle.std.specs.Prelude.{ℕ, nat_le, List, [], ◌∷◌, Option, Some, None, option_and_then, unwrap_or, if◌then◌else◌}
-use Rattle.clap.specs.Words.{Row, Text, first_of}
+use Rattle.std.specs.Prelude.{ℕ, nat_le, List, [], ◌∷◌, Option, Some, None, option_and_then, option_map, unwrap_or, if◌then◌else◌}
+use Rattle.clap.specs.Words.{Row, Text, all_of, first_of}
 use Rattle.wg_num.specs.Decimal.{number_of}
 
 -- a name is not empty
@@ -32,6 +32,15 @@ number_in rows id default most = number_or default most (first_of id rows)
 -- the number that an option without a default gives
 abbrev pub required_in : List Row → Text → ℕ → Option ℕ
 required_in rows id most = option_and_then (number_up_to most) (first_of id rows)
+
+-- the numbers whose decimals the texts are, where each text is a decimal
+abbrev pub numbers_of : List Text → Option (List ℕ)
+numbers_of [] = Some []
+numbers_of (text ∷ texts) = option_and_then (λ n. option_map (λ ns. n ∷ ns) (numbers_of texts)) (number_of text)
+
+-- the numbers that an argument of several values gives
+abbrev pub numbers_in : List Row → Text → Option (List ℕ)
+numbers_in rows id = option_and_then numbers_of (all_of id rows)
 
 -- the word that an option gives
 abbrev pub word_in : List Row → Text → Text → Text

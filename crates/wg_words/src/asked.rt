@@ -1,13 +1,13 @@
 ghost use Rattle.std.specs.Prelude.{◌≡◌, Some, None, IfOk, IfErr, option_and_then, map, string_bytes};
 ghost use Rattle.clap.specs.Words.{subcommand_rows_of, rows_of, found_of};
 ghost use Rattle.wg_words.specs.Commands.{parsed};
-ghost use Rattle.wg_words.specs.Jobs.{job_of, job_from, job_on_base, job_on, rank_on, build_on, build_from, recoding, transposing, IsWithin};
+ghost use Rattle.wg_words.specs.Jobs.{job_of, job_from, job_on_base, job_on, show_on, rank_on, build_on, build_from, recoding, transposing, IsWithin};
 
 use crate::commands::command;
 use crate::conversion::{Conversion, conversion_at};
 use crate::files::is_file_of;
 use crate::options::layout_at;
-use crate::values::{name_at, number_at, required_at};
+use crate::values::{name_at, number_at, numbers_at, required_at};
 use crate::{DEFAULT_DAMPING, DEFAULT_ROUNDS, DEFAULT_TOP, Job, JobError, Name, Words};
 use clap::ArgMatches;
 use clap::error::ErrorKind;
@@ -110,10 +110,21 @@ fn job_on(
         "check" => Ok(Some(Job::Check { base })),
         "arcs" => Ok(Some(Job::Arcs { base })),
         "offsets" => Ok(Some(Job::Offsets { base })),
+        "show" => show_on(alloc, found, base),
         "rank" => Ok(rank_on(found, base)),
         "build" => build_on(alloc, found, base),
         _ => Ok(None),
     }
+}
+
+// The successors of the pages that the words name.
+fn show_on(alloc: Global, found: &ArgMatches<'_>, base: Name) -> Result<Option<Job>, AllocError>
+    ensures { IfOk result (λ job. job ≡ show_on (rows_of (found_of found.now)) base) }
+{
+    let Some(pages) = numbers_at(alloc, found, "page")? else {
+        return Ok(None);
+    };
+    Ok(Some(Job::Show { base, pages }))
 }
 
 // The ranking of an archive, with the numbers that the options give.

@@ -1,7 +1,7 @@
 //! The commands of the program with their options and positionals: a function each, as the definitions have an `App` each.
 ghost use Rattle.std.specs.Prelude.{◌≡◌, IfOk, false};
 ghost use Rattle.clap.specs.Words.{App, rule_of};
-ghost use Rattle.wg_words.specs.Commands.{IsApp, positional_rule, base_rule, archive_app, option_rule, required_rule, rank_app, with_option, with_limits, with_codes, with_layout, plain_build_app, build_app, two_archives_app, conversion_app, program_app, plain_app, with_command, command_app};
+ghost use Rattle.wg_words.specs.Commands.{IsApp, positional_rule, several_rule, base_rule, archive_app, option_rule, required_rule, show_app, rank_app, with_option, with_limits, with_codes, with_layout, plain_build_app, build_app, two_archives_app, conversion_app, program_app, plain_app, with_command, command_app};
 
 use clap::{Arg, Command};
 use std::alloc::{AllocError, Global};
@@ -12,6 +12,14 @@ fn positional<'a>(alloc: Global, name: &'a str) -> Arg<'a>
     ensures local { result.global ≡ false }
 {
     Arg::new(alloc, name).required(true)
+}
+
+// One word or more.
+fn several<'a>(alloc: Global, name: &'a str) -> Arg<'a>
+    ensures rule { rule_of result ≡ several_rule name.now }
+    ensures local { result.global ≡ false }
+{
+    positional(alloc, name).num_args(1..)
 }
 
 // The archive of a command.
@@ -43,6 +51,12 @@ fn required<'a>(alloc: Global, name: &'a str) -> Arg<'a>
     ensures local { result.global ≡ false }
 {
     option(alloc, name).required(true)
+}
+
+fn show<'a>(alloc: Global) -> Result<Command<'a>, AllocError>
+    ensures { IfOk result (IsApp show_app) }
+{
+    on_archive(alloc, "show")?.arg(several(alloc, "page"))
 }
 
 fn rank<'a>(alloc: Global) -> Result<Command<'a>, AllocError>
@@ -162,6 +176,8 @@ pub fn command<'a>(alloc: Global) -> Result<Command<'a>, AllocError>
     ensures { IfOk result (IsApp command_app) }
 {
     let line = plain(alloc)?;
+    let show = show(alloc)?;
+    let line = with_command(line, show)?;
     let rank = rank(alloc)?;
     let line = with_command(line, rank)?;
     let build = build(alloc)?;

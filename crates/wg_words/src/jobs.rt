@@ -1,5 +1,6 @@
 use crate::{Layout, Name};
 use thiserror::Error;
+use wg_graph::List;
 
 /// What the words ask for.
 #[derive(Drop)]
@@ -15,6 +16,12 @@ pub enum Job {
     /// `offsets BASE`: the places of the records.
     Offsets {
         base: Name,
+    },
+    /// `show BASE PAGE...`: the successors of these pages, in the order of the words. A page is any number below 2^64, also one
+    /// that the archive does not have.
+    Show {
+        base: Name,
+        pages: List,
     },
     /// `rank BASE`: bounds of each page's PageRank after so many rounds at a damping in thousandths, and the order of the `top`
     /// best pages. The numbers are at most `wg_params::MOST_ROUNDS`, `wg_params::MOST_DAMPING` and `wg_params::MOST_PAGES`.

@@ -10,7 +10,8 @@
 //! and `transpose` take is one `Conversion`, which becomes the job of either.
 //!
 //! A number is read from the text of its option by [`wg_num::read_decimal`], and by none of `clap`'s parsers: digits alone, no 0
-//! before others, at most its limit. An option that is absent gives its default.
+//! before others, at most its limit. An option that is absent gives its default. The pages of `show` are a list of such numbers,
+//! of which each below 2^64 will do: which pages there are is known only when the archive has been read.
 //!
 //! A command more is a variant of `Job`, a function in `commands` with its twin in the definitions, and an arm of `asked`.
 #![tactic(auto)]

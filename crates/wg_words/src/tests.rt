@@ -43,6 +43,11 @@ fn described(alloc: Global, job: &Job) -> Result<String, Fail> {
         Job::Check { base } => Ok(named(alloc, "check", base)?),
         Job::Arcs { base } => Ok(named(alloc, "arcs", base)?),
         Job::Offsets { base } => Ok(named(alloc, "offsets", base)?),
+        Job::Show { base, pages } => {
+            let pages = pages.as_slice();
+            let text = format!(in alloc; "show {pages:?}")?;
+            Ok(named(alloc, text.as_str(), base)?)
+        }
         Job::Rank {
             base,
             rounds,

@@ -1,10 +1,11 @@
-ghost use Rattle.std.specs.Prelude.{◌≡◌, IfOk, option_map};
-ghost use Rattle.clap.specs.Words.{rows_of, found_of, first_of};
-ghost use Rattle.wg_words.specs.Values.{nonempty_of, name_in, limited, number_up_to, number_or, number_in, required_in, word_in};
+ghost use Rattle.std.specs.Prelude.{◌≡◌, IfOk, map, option_map};
+ghost use Rattle.clap.specs.Words.{rows_of, found_of, all_of, first_of};
+ghost use Rattle.wg_words.specs.Values.{nonempty_of, name_in, limited, number_up_to, number_or, number_in, numbers_of, numbers_in, required_in, word_in};
 
 use crate::Name;
 use clap::ArgMatches;
 use std::alloc::{AllocError, Global};
+use wg_graph::List;
 use wg_num::read_decimal;
 
 /// The text of an argument.
@@ -71,6 +72,41 @@ pub fn required_at(found: &ArgMatches<'_>, id: &str, most: u64) -> Option<u64>
     ensures { result ≡ required_in (rows_of (found_of found.now)) id.now most }
 {
     number_up_to(text_at(found, id)?, most)
+}
+
+// The texts of an argument, in the order of the words.
+fn texts_at<'a, 'b>(found: &'b ArgMatches<'a>, id: &str) -> Option<&'b [&'a str]>
+    ensures { option_map (λ texts. map (λ s. s.now) texts.now) result ≡ all_of id.now (rows_of (found_of found.now)) }
+{
+    found.get_strs(id)
+}
+
+/// The numbers that an argument of several values gives: none where it is absent, or where one of its texts is no number. They
+/// take 8 bytes each.
+pub fn numbers_at(
+    alloc: Global,
+    found: &ArgMatches<'_>,
+    id: &str,
+) -> Result<Option<List>, AllocError>
+    ensures { IfOk result (λ numbers. numbers ≡ numbers_in (rows_of (found_of found.now)) id.now) }
+{
+    match texts_at(found, id) {
+        None => Ok(None),
+        Some(texts) => numbers_of(alloc, texts),
+    }
+}
+
+fn numbers_of(alloc: Global, texts: &[&str]) -> Result<Option<List>, AllocError>
+    ensures { IfOk result (λ numbers. numbers ≡ numbers_of (map (λ s. s.now) texts.now)) }
+{
+    let mut numbers = List::new(alloc);
+    for text in texts {
+        let Some(number) = read_decimal(text.as_bytes()) else {
+            return Ok(None);
+        };
+        numbers.push(number)?;
+    }
+    Ok(Some(numbers))
 }
 
 /// The word that an option gives: its default where the option is absent.

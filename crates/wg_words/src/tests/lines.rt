@@ -1,13 +1,20 @@
 //! Lines that ask for a job, with what it is, and lines that ask for none.
 
 // Of an archive that is read: the command, the numbers, and the graph file.
-pub const JOBS: [(&str, &str); 12] = [
+pub const JOBS: [(&str, &str); 16] = [
     ("check g", "check g.graph"),
     ("check data/a.b", "check data/a.b.graph"),
     ("check -", "check -.graph"),
     ("check -- -g", "check -g.graph"),
     ("arcs g", "arcs g.graph"),
     ("offsets -- g", "offsets g.graph"),
+    ("show g 1", "show [1] g.graph"),
+    ("show g 2 0 2", "show [2, 0, 2] g.graph"),
+    ("show g 1 -- 2", "show [1, 2] g.graph"),
+    (
+        "show -- -g 18446744073709551615",
+        "show [18446744073709551615] -g.graph",
+    ),
     ("rank g", "rank 100 850 10 g.graph"),
     ("rank g --rounds 0 --damping 999", "rank 0 999 10 g.graph"),
     ("rank --top 3 g", "rank 100 850 3 g.graph"),
@@ -19,10 +26,20 @@ pub const JOBS: [(&str, &str); 12] = [
     ("rank -", "rank 100 850 10 -.graph"),
 ];
 
-pub const NO_JOBS: [&str; 26] = [
+pub const NO_JOBS: [&str; 36] = [
     "check",
     "arcs g h",
     "offsets",
+    "show",
+    "show g",
+    "show g --",
+    "show g x",
+    "show g 1 02",
+    "show g 1 -1",
+    "show g -",
+    "show g 1 18446744073709551616",
+    "show  1",
+    "show g --page 1",
     "rank",
     "rank g --rounds",
     "rank g --rounds 10001",
