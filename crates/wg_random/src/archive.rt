@@ -70,6 +70,7 @@ impl<'a> Archive<'a> {
     pub fn check(records: Records<'a>, offsets: &'a Offsets) -> Result<Archive<'a>, ArchiveFault>
         requires { length offsets.now ≡ records.params.nodes + 1 }
         ensures held { IfOk result (λ archive. archive ≡ records.entry) }
+        ensures same { OnOk result (offsets.now ≡ records.entry.offsets) }
         ensures refused { IfErr result (IsLengthFault records.entry.offsets offsets.now) }
     {
         let Records {
