@@ -152,9 +152,9 @@ fn lines_go_into_a_file(rt: HostRuntime) -> Result<(), Fail> {
 
 // The second of three readings fails, and one of a file that is not there.
 fn fails_in_the_middle<D: Depot>(rt: &impl Abort, alloc: Global, depot: &mut D) {
-    assert!(rt; load_error(alloc, depot, "a") .is_none());
+    assert!(rt; load_error(alloc, depot, "a").is_none());
     assert!(rt; load_error(alloc, depot, "a") == Some(LoadError::Failed));
-    assert!(rt; load_error(alloc, depot, "a") .is_none());
+    assert!(rt; load_error(alloc, depot, "a").is_none());
     assert!(rt; load_error(alloc, depot, "b") == Some(LoadError::Absent));
 }
 
