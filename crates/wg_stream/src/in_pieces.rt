@@ -12,7 +12,7 @@ use wg_io::{Depot, LoadError, MOST_BYTES, MemoryDepot, SteadyDepot, ZeroDepot, a
 use wg_params::Code;
 use wg_source::Source;
 use wg_vectors::{
-    ARCHIVES, Archive, BAD_TAIL, LONGER, Refused, TOO_FEW_ARCS, TWICE, bytes_of, usual,
+    Archive, BAD_TAIL, BLOCKS, CHAIN, INTERVALS, Refused, TOO_FEW_ARCS, TWICE, bytes_of, usual,
 };
 
 const FILE: &str = "g.graph";
@@ -58,19 +58,17 @@ fn is_read(rt: &impl Abort, alloc: Global, archive: &Archive, piece: u64) -> Res
     Ok(())
 }
 
-fn are_read(rt: &impl Abort, alloc: Global, archives: &[Archive]) -> Result<(), Fail> {
-    for archive in archives {
-        is_read(rt, alloc, archive, 1)?;
-        is_read(rt, alloc, archive, 3)?;
-        is_read(rt, alloc, archive, 4096)?;
-    }
-    Ok(())
+fn is_read_in_pieces(rt: &impl Abort, alloc: Global, archive: &Archive) -> Result<(), Fail> {
+    is_read(rt, alloc, archive, 1)?;
+    is_read(rt, alloc, archive, 3)?;
+    is_read(rt, alloc, archive, 4096)
 }
 
 #[test]
 fn archives_in_pieces(rt: HostRuntime) -> Result<(), Fail> {
-    are_read(&rt, rt.alloc(), &ARCHIVES)?;
-    are_read(&rt, rt.alloc(), &LONGER)
+    is_read_in_pieces(&rt, rt.alloc(), &INTERVALS)?;
+    is_read_in_pieces(&rt, rt.alloc(), &CHAIN)?;
+    is_read_in_pieces(&rt, rt.alloc(), &BLOCKS)
 }
 
 // The error that ends a reading of a file, if there is one.
