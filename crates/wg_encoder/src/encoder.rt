@@ -36,9 +36,16 @@ impl<'a> Model for Encoder<'a> {
 
     ghost Value = { Encoding };
 
-    ghost view = { λ e. record { params = e.lists.params; graph = e.graph.now; page = e.lists.next.page; graph_waits = e.lists.graph_waits; offsets_waits = e.lists.offsets_waits } };
+    ghost view = { λ e. record {
+      params = e.lists.params;
+      graph = e.graph.now;
+      page = e.lists.next.page;
+      graph_waits = e.lists.graph_waits;
+      offsets_waits = e.lists.offsets_waits;
+    } };
 
-    ghost invariant = { λ e. (e.lists.next.page ≤ e.graph.now.nodes) × (e.lists.params.nodes ≡ e.graph.now.nodes) × (e.lists.params.arcs ≡ arc_count e.graph.now) × HasWritten e.lists (take e.lists.next.page e.graph.now.lists) };
+    ghost invariant = { λ e. (e.lists.next.page ≤ e.graph.now.nodes) × (e.lists.params.nodes ≡ e.graph.now.nodes)
+        × (e.lists.params.arcs ≡ arc_count e.graph.now) × HasWritten e.lists (take e.lists.next.page e.graph.now.lists) };
 }
 
 impl<'a> Encoder<'a> {
@@ -47,7 +54,8 @@ impl<'a> Encoder<'a> {
         requires nodes { params.nodes ≡ graph.now.nodes }
         requires arcs { params.arcs ≡ arc_count graph.now }
         ensures fresh { IfOk result (λ e. e ≡ record { params = params; graph = graph.now; page = 0; graph_waits = []; offsets_waits = [] }) }
-        ensures begun { IfOk result (λ e. (files : Files) (base : List ℕ) → fin.get files (graph_name base) ≡ Some [] → fin.get files (offsets_name base) ≡ Some [] → HasSentUpTo files base e) }
+        ensures begun { IfOk result (λ e. (files : Files) (base : List ℕ) → fin.get files (graph_name base) ≡ Some []
+            → fin.get files (offsets_name base) ≡ Some [] → HasSentUpTo files base e) }
     {
         let lists = ListEncoder::new(alloc, params)?;
         Ok(Encoder { graph, lists })

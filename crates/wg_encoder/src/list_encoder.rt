@@ -61,9 +61,19 @@ impl Model for ListEncoder {
 
     ghost Value = { Encoded };
 
-    ghost view = { λ e. record { params = e.params; next = record { page = e.page; arcs_before = e.arcs; behind = e.kept.value.behind }; last = e.last; total = e.total; graph_waits = e.graph_writer.value.bits; offsets_waits = e.offsets_writer.value.bits } };
+    ghost view = { λ e. record {
+      params = e.params;
+      next = record { page = e.page; arcs_before = e.arcs; behind = e.kept.value.behind };
+      last = e.last;
+      total = e.total;
+      graph_waits = e.graph_writer.value.bits;
+      offsets_waits = e.offsets_writer.value.bits;
+    } };
 
-    ghost invariant = { λ e. (e.kept.value.window ≡ e.params.window) × (e.page ≤ e.params.nodes) × (e.arcs ≤ e.params.arcs) × Serves e.params e.page e.kept.value.behind × (e.graph_writer.value.failed ≡ false) × (e.offsets_writer.value.failed ≡ false) × (e.last < 2 ^ 62) × (e.total ≤ enough_bits e.page e.arcs) };
+    ghost invariant = { λ e. (e.kept.value.window ≡ e.params.window) × (e.page ≤ e.params.nodes)
+        × (e.arcs ≤ e.params.arcs) × Serves e.params e.page e.kept.value.behind
+        × (e.graph_writer.value.failed ≡ false) × (e.offsets_writer.value.failed ≡ false)
+        × (e.last < 2 ^ 62) × (e.total ≤ enough_bits e.page e.arcs) };
 }
 
 impl ListEncoder {
@@ -71,7 +81,8 @@ impl ListEncoder {
     pub fn new(alloc: Global, params: Params) -> Result<ListEncoder, AllocError>
         ensures params { IfOk result (λ e. e.params ≡ params) }
         ensures written { IfOk result (λ e. HasWritten e []) }
-        ensures begun { IfOk result (λ e. (files : Files) (base : List ℕ) → fin.get files (graph_name base) ≡ Some [] → fin.get files (offsets_name base) ≡ Some [] → HasSentAll files base e []) }
+        ensures begun { IfOk result (λ e. (files : Files) (base : List ℕ) → fin.get files (graph_name base) ≡ Some []
+            → fin.get files (offsets_name base) ≡ Some [] → HasSentAll files base e []) }
         ensures waits { IfOk result (λ e. (e.graph_waits ≡ []) × (e.offsets_waits ≡ [])) }
     {
         let kept = Box::new(alloc, Kept::new(alloc, &params))?;
