@@ -1,4 +1,4 @@
-use Rattle.std.proofs.Common.{rules, ◌≡◌, ◌+◌, ◌-◌, ◌++◌, ◌∷◌, [], length, arith}
+use Rattle.std.proofs.Common.{rules, ◌≡◌, ◌-◌, ◌++◌, ◌∷◌, [], arith}
 use Rattle.wg_random.proofs.ChainLemmas.{ended_of, pushed_length, pushed_pages, pushed_going}
 use Rattle.wg_random.proofs.archive.Archive.chain.Goals as goal
 

@@ -1,4 +1,4 @@
-use Rattle.std.proofs.Common.{◌≡◌, ◌+◌, ◌-◌, ◌<◌, ◌≤◌, length}
+use Rattle.std.proofs.Common.{◌≡◌, ◌+◌, ◌-◌, ◌<◌, length}
 use Rattle.wg_random.specs.Reading.{Reading}
 use Rattle.wg_random.specs.Chain.{ArePages, Going}
 use Rattle.wg_random.proofs.archive.Archive.chain.Given as goal

@@ -1,4 +1,4 @@
-use Rattle.std.proofs.Common.{rules, ◌-◌, refl, arith}
+use Rattle.std.proofs.Common.{rules, ◌-◌, arith}
 use Rattle.wg_random.proofs.ChainLemmas.{ended_of, set_going, full_going, set_pages}
 use Rattle.wg_random.proofs.archive.Archive.descend.Goals as goal
 
