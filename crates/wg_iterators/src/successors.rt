@@ -167,7 +167,7 @@ impl<'a> Successors<'a> {
     }
 
     /// The successors of `page`, whose record stands at the cursor, before the first. `below` is the page that the record
-    /// refers to, if it has a reference, and has given nothing yet.
+    /// refers to, if it has a reference, and has given nothing yet. It takes the time of the record's own words.
     pub fn begin(
         params: &Params,
         page: u64,
@@ -190,7 +190,7 @@ impl<'a> Successors<'a> {
     }
 
     /// The same over a list: `below` is that of the page that the record refers to, if it has a reference. So no other
-    /// page is read, however many references lead on from it.
+    /// record is read, however many references lead on from it.
     pub fn begin_on(
         params: &Params,
         page: u64,
@@ -223,7 +223,8 @@ impl<'a> Successors<'a> {
         self.outdegree
     }
 
-    /// The next successor, ascending; none if all were given, again and again.
+    /// The next successor, ascending; none if all were given, again and again. A member that is copied is asked of the
+    /// page below, and so on down; members that the mask skips are passed over.
     #[cycle(next)]
     pub fn next(&mut self) -> Option<u64>
         ensures gives { Gives self.old.list result self.new.list }
