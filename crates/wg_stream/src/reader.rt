@@ -95,7 +95,7 @@ impl Reader {
         ensures onward { self.old.at ≤ self.new.at }
         ensures more { result ≡ Ok true → (self.new.state ≡ Open) × (self.new.held.looked ≡ true) × (self.new.pages.page ≡ self.old.pages.page + 1)
             × (self.new.pages.page ≤ self.new.pages.params.nodes) × (self.new.pages.arcs ≡ self.old.pages.arcs + length self.new.pages.list) }
-        ensures end { result ≡ Ok false → (self.new.state ≡ Done) × (self.new.pages.page ≡ self.old.pages.page)
+        ensures end { result ≡ Ok false → (self.new.state ≡ Done) × (self.new.pages ≡ self.old.pages)
             × (self.new.pages.page ≡ self.new.pages.params.nodes) × (self.new.pages.arcs ≡ self.new.pages.params.arcs) }
         ensures absent { IsTrue D.told → map.get (D.files depot.old) self.old.name ≡ None → self.old.state ≡ Open → self.old.held.looked ≡ false → result ≡ Err errors.Absent }
         ensures cause { self.old.state ≡ Open → (f : First) → result ≡ Err (of_first f) → OfOutside f (HasCause D.told self.old.name (D.files depot.old) (D.counts depot.old) (D.counts depot.new) self.old.held) }
