@@ -141,7 +141,7 @@ next_stopped_on_graph a b c base e begun lists more list choice made old new why
 -- ---- where the writing stops
 
 -- the word that is due is missing
-stands : (files : Files) (base : List ℕ) (p : Parameters) (lists more : List (List ℕ)) (w v : List Bool) → HasSentLists files base p lists w v
+pub stands : (files : Files) (base : List ℕ) (p : Parameters) (lists more : List (List ℕ)) (w v : List Bool) → HasSentLists files base p lists w v
     → HoldsFront (fin.get files (graph_name base)) (graph_file p (lists ++ more)) × HoldsLess (fin.get files (offsets_name base)) (offsets_file p (lists ++ more))
 stands files base p lists more w v h =
     let due : List Bool = word p.offsets (due_offset p lists) in
