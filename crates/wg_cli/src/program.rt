@@ -10,7 +10,7 @@ ghost use Rattle.wg_jobs.specs.Causes.{AreFaultless, HasCause};
 ghost use Rattle.wg_jobs.specs.Judged.{output_of, status_of, written_by};
 ghost use Rattle.wg_cli.specs.Lines.{line_of, Reports};
 ghost use Rattle.wg_cli.specs.Wanted.{some_writes_files, ArePromisedBy};
-ghost use Rattle.wg_jobs.specs.Names.{can_end, held_for, input_name, output_name};
+ghost use Rattle.wg_jobs.specs.Names.{can_end, held_for, input_name, output_name, reads_again};
 ghost use Rattle.wg_jobs.specs.Performs.{judged_on, Does};
 ghost use Rattle.wg_jobs.specs.Ranked.{IsProvenRanking, PrintsProvenRanking};
 ghost use Rattle.wg_jobs.specs.Readings.{Readings};
@@ -66,7 +66,7 @@ pub fn run<D: Depot, O: Sink, E: Sink>(
     ensures output { IsTrue D.told → IsTrue O.told → (r : Readings) (job : Job) → job_of words.now ≡ Some job
         → HasOutput (output_of (judged_on r job (D.files depot.old))) (O.taken out.old) (O.taken out.new) result }
     ensures files { IsTrue D.told → (r : Readings) (job : Job) → job_of words.now ≡ Some job
-        → HasFiles (output_name job) (written_by r job (held_for job (D.files depot.old))) (D.files depot.old) (D.files depot.new) result }
+        → HasFiles (output_name job) (reads_again job) (written_by r job (held_for job (D.files depot.old))) (D.files depot.old) (D.files depot.new) result }
     ensures same { some_writes_files (job_of words.now) ≡ false → D.files depot.new ≡ D.files depot.old }
     ensures line { IsTrue E.told
         → (promised : ℕ) × (IsTrue D.told → ArePromisedBy (job_of words.now) (D.files depot.old) result promised)

@@ -12,6 +12,7 @@ mod lines;
 mod lists;
 mod outside;
 mod rankings;
+mod recodings;
 
 // The words of a line, parted by blanks; an empty line has none.
 fn words_of(alloc: Global, line: &str) -> Result<Words, Fail> {

@@ -15,14 +15,15 @@ use Rattle.wg_words.specs.declared.jobs.Job.{Job}
 use Rattle.wg_words.specs.declared.layout.Layout.{Layout}
 use Rattle.wg_jobs.specs.Judged.{Judged, built, builds, files_of, greedy_line, output_of, status_of, written_by}
 use Rattle.wg_jobs.specs.Promised.{ArePromised, arcs_in}
-use Rattle.wg_jobs.specs.Names.{archive_named, can_end, has_output, held_by, input_name, output_name, writes_files}
+use Rattle.wg_jobs.specs.Names.{archive_named, can_end, has_output, held_by, input_name, output_name, reads_again, writes_files}
 use Rattle.wg_jobs.specs.Performs.{BuildsArchive, Outside, Performs, judged_on, outside}
 use Rattle.wg_jobs.specs.Readings.{Readings}
-use Rattle.wg_jobs.specs.Written.{Archive, ArchiveFiles, AreWhole, HasFiles, OthersStay, FilesAfter, IsStopped, greedy_archive, params_for}
+use Rattle.wg_jobs.specs.Written.{Archive, ArchiveFiles, AreWhole, HasFiles, OthersStay, FilesAfter, IsStopped, archive_at, greedy_archive, params_for}
 use Rattle.wg_jobs.specs.declared.ending.Ending.{Ending}
 use Rattle.wg_jobs.specs.declared.status.Input.{Input}
 use Rattle.wg_jobs.specs.declared.status.Status.{Status}
 use Rattle.wg_jobs.specs.declared.status.Status.TheVariants.{Done, Memory, ReadFault, WriteFault, Missing}
+use Rattle.wg_jobs.proofs.PerformsLemmas.{left_by}
 
 -- ---- counts
 rose_from : (a b c : ℕ) → a ≤ b → Increased b c → Increased a c
@@ -77,7 +78,7 @@ steps_then first second (Ok c) same steps = λ next. same next ∙ steps next
 steps_then first second (Err e) same steps = λ next. subst (λ (j : Judged). Answers j e.status) (sym (same next)) (steps next)
 
 -- ---- a job whose last step writes an archive and prints its line
-no_read : (r : Result (Unit {0}) Ending) (i : Input) → IfErr r (λ e. IsStopped e.status) → status_in r ≡ ReadFault i → ⊥
+pub no_read : (r : Result (Unit {0}) Ending) (i : Input) → IfErr r (λ e. IsStopped e.status) → status_in r ≡ ReadFault i → ⊥
 no_read (Ok done) i only is = let no : Done ≡ ReadFault i = is in cc
 no_read (Err e) i (inl fault) is = let no : WriteFault fault.0 ≡ ReadFault i = sym fault.1 ∙ is in cc
 no_read (Err e) i (inr want) is = let no : Memory ≡ ReadFault i = sym want ∙ is in cc
@@ -92,13 +93,13 @@ built_answers j a out (Ok done) is only = inl (sym (ap status_of is))
 built_answers j a out (Err e) is (inl fault) = subst (λ (s : Status). Answers j s) (sym fault.1) (inr tt)
 built_answers j a out (Err e) is (inr want) = subst (λ (s : Status). Answers j s) (sym want) (inr tt)
 
-has_each : (job : Job) (base : List ℕ) → archive_named base ≡ output_name job → (o : Output) → IsTrue (has_output job o)
+pub has_each : (job : Job) (base : List ℕ) → archive_named base ≡ output_name job → (o : Output) → IsTrue (has_output job o)
 has_each job base names output.Out = refl
 has_each job base names output.Properties = ap (λ (n : Output → Option (List ℕ)). is_some (n output.Properties)) (sym names)
 has_each job base names output.Graph = ap (λ (n : Output → Option (List ℕ)). is_some (n output.Graph)) (sym names)
 has_each job base names output.Offsets = ap (λ (n : Output → Option (List ℕ)). is_some (n output.Offsets)) (sym names)
 
-built_possible : (job : Job) (r : Result (Unit {0}) Ending) → ((o : Output) → IsTrue (has_output job o)) → IfErr r (λ e. IsStopped e.status) → IsTrue (can_end job (status_in r))
+pub built_possible : (job : Job) (r : Result (Unit {0}) Ending) → ((o : Output) → IsTrue (has_output job o)) → IfErr r (λ e. IsStopped e.status) → IsTrue (can_end job (status_in r))
 built_possible job (Ok done) has only = refl
 built_possible job (Err e) has (inl fault) = subst (λ (s : Status). IsTrue (can_end job s)) (sym fault.1) (has fault.0)
 built_possible job (Err e) has (inr want) = subst (λ (s : Status). IsTrue (can_end job s)) (sym want) refl
@@ -116,6 +117,10 @@ cause_since inputs base old mid new faults faults' r only later cause = record {
   write_fault = λ o other is. rose_since (archive_named base o) old mid new later (cause.write_fault o other is);
   out_fault = cause.out_fault;
 }
+
+-- what holds of a job that reads once holds of one that may read again
+files_again : (names : Output → Option (List ℕ)) (again : Bool) (a : Archive) (old new : Files) (s : Status) → HasFiles names false (Some a) old new s → HasFiles names again (Some a) old new s
+files_again names again a old new s h = (h.0, left_by again a (archive_at names old) (archive_at names new) s h.1)
 
 -- all was judged, and the archive of this graph is written
 pub written : (job : Job) (td to : Bool) (before after : Outside) (files : Files) (counts : List ℕ → Counts) (l : Layout) (g : Digraph) (base : List ℕ) (r : Result (Unit {0}) Ending)
@@ -137,9 +142,9 @@ written job td to before after files counts l g base r writes names is same late
   files = λ t q.
       let due : written_by q job (held_by (input_name job) before.files) ≡ Some (greedy_archive (params_for l g) g) =
       ap (λ (b : Bool). if b then files_of (judged_on q job before.files) else None) writes ∙ ap files_of (is t q) in
-      subst (λ (f : Files). HasFiles (output_name job) (written_by q job (held_by (input_name job) before.files)) f after.files (status_in r)) same
-      (subst (λ (n : Output → Option (List ℕ)). HasFiles n (written_by q job (held_by (input_name job) before.files)) files after.files (status_in r)) names
-      (subst (λ (a : Option Archive). HasFiles (archive_named base) a files after.files (status_in r)) (sym due) (h.files t)));
+      subst (λ (f : Files). HasFiles (output_name job) (reads_again job) (written_by q job (held_by (input_name job) before.files)) f after.files (status_in r)) same
+      (subst (λ (n : Output → Option (List ℕ)). HasFiles n (reads_again job) (written_by q job (held_by (input_name job) before.files)) files after.files (status_in r)) names
+      (subst (λ (a : Option Archive). HasFiles (archive_named base) (reads_again job) a files after.files (status_in r)) (sym due) (files_again (archive_named base) (reads_again job) _ files after.files (status_in r) (h.files t))));
   same = λ none. absurd (let no : true ≡ false = sym writes ∙ none in cc);
   later = none_falls-trans before.counts counts after.counts later h.later;
   promised = λ t. built_promised (held_by (input_name job) before.files) r h.only;

@@ -1,8 +1,8 @@
 -- What stands where a job ends.
-use Rattle.std.proofs.Common.{◌≡◌, inl, inr, ℕ, List, ◌++◌, take, refl, sym, ◌∙◌, ap, subst, Option, Some, None, Result, Ok, Err}
+use Rattle.std.proofs.Common.{◌≡◌, inl, inr, ℕ, List, ◌++◌, take, refl, sym, ◌∙◌, ap, subst, Option, Some, Result, Ok, Err}
 use Rattle.std.specs.Result.{IsErrAnd, IfErr}
 use Rattle.std.proofs.lemmas.List.{append-nil}
-use Rattle.wg_io.specs.Outside.{Files, Counts, Increased}
+use Rattle.wg_io.specs.Outside.{Counts, Increased}
 use Rattle.wg_io.specs.declared.output.Output.{Output}
 use Rattle.wg_io.specs.declared.output.Output.TheVariants.{Out}
 use Rattle.wg_jobs.specs.Causes.{HasCause}
@@ -13,7 +13,6 @@ use Rattle.wg_properties.specs.Judged.{properties_of}
 use Rattle.wg_properties.specs.declared.fault.PropFault.{PropFault}
 use Rattle.wg_grammar.specs.declared.fault.ArchiveFault.{ArchiveFault}
 use Rattle.wg_grammar.specs.declared.fault.ArchiveFault.TheVariants as archive
-use Rattle.wg_words.specs.declared.jobs.Job.{Job}
 use Rattle.wg_jobs.specs.Answers.{HasOutput, IsUnput, status_in}
 use Rattle.wg_jobs.specs.Promised.{ArePromised, IsBadFile, arcs_in}
 use Rattle.wg_jobs.specs.declared.ending.Ending.{Ending}

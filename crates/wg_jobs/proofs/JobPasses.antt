@@ -88,7 +88,7 @@ module _ (base text : List ℕ) (p : Parameters) (job : Job) (td to : Bool) (bef
 -- ---- a job that prints while it reads a file again
 
 -- what was put out where something hindered
-hindered_output : (due old new : List ℕ) (s : Status) → IsHindrance s → (k : ℕ) × (new ≡ old ++ take k due) → HasOutput due old new s
+pub hindered_output : (due old new : List ℕ) (s : Status) → IsHindrance s → (k : ℕ) × (new ≡ old ++ take k due) → HasOutput due old new s
 hindered_output due old new Memory h put = put
 hindered_output due old new (ReadFault i) h put = put
 hindered_output due old new (WriteFault o) h put = put
@@ -105,7 +105,7 @@ output_up_to : (due old new : List ℕ) (r : Result (Unit {0}) Ending) → IfErr
 output_up_to due old new (Ok done) hindered put = put
 output_up_to due old new (Err e) hindered put = hindered_output due old new e.status hindered put
 
-hindered_promised : (held : Input → Option (List ℕ)) (s : Status) (n : ℕ) → IsHindrance s → ArePromised held s n
+pub hindered_promised : (held : Input → Option (List ℕ)) (s : Status) (n : ℕ) → IsHindrance s → ArePromised held s n
 hindered_promised held Memory n h = tt
 hindered_promised held (ReadFault i) n h = tt
 hindered_promised held (WriteFault o) n h = tt
@@ -130,7 +130,7 @@ answers_in j text (Err e) is h = inr h
 abbrev StopsOrUnput : ℕ → Ending → Type 0
 StopsOrUnput n e = IsStopAt Graph n e ⊎ IsUnput e.status
 
-pass_possible : (job : Job) (n : ℕ) (r : Result (Unit {0}) Ending) → IsTrue (has_input job Graph) → IfErr r (StopsOrUnput n) → IsTrue (can_end job (status_in r))
+pub pass_possible : (job : Job) (n : ℕ) (r : Result (Unit {0}) Ending) → IsTrue (has_input job Graph) → IfErr r (StopsOrUnput n) → IsTrue (can_end job (status_in r))
 pass_possible job n (Ok done) has only = refl
 pass_possible job n (Err e) has (inl (inl only)) = unread_possible job Graph e.status has only
 pass_possible job n (Err e) has (inl (inr bad)) = bad_possible job Graph n e has bad
@@ -141,7 +141,7 @@ unput_unread : (s : Status) (j : Input) → IsUnput s → s ≡ ReadFault j → 
 unput_unread s j (inl fault) is = let no : WriteFault Out ≡ ReadFault j = sym fault ∙ is in cc
 unput_unread s j (inr want) is = let no : Memory ≡ ReadFault j = sym want ∙ is in cc
 
-pass_read : (n : ℕ) (r : Result (Unit {0}) Ending) (j : Input) → IfErr r (StopsOrUnput n) → status_in r ≡ ReadFault j → Graph ≡ j
+pub pass_read : (n : ℕ) (r : Result (Unit {0}) Ending) (j : Input) → IfErr r (StopsOrUnput n) → status_in r ≡ ReadFault j → Graph ≡ j
 pass_read n (Ok done) j only is = absurd (let no : Done ≡ ReadFault j = is in cc)
 pass_read n (Err e) j (inl (inl only)) is = own_read Graph j e.status only is
 pass_read n (Err e) j (inl (inr bad)) is = absurd (bad_unread Graph j n e bad is)

@@ -18,3 +18,5 @@ pub mod NumberLemmas
 pub mod RankLemmas
 pub mod ReadingsLaws
 pub mod ReadingsLemmas
+pub mod CopyingLemmas
+pub mod RewrittenLemmas

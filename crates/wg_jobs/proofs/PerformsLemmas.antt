@@ -1,5 +1,5 @@
 -- How a job is shown to have been done, or to have ended.
-use Rattle.std.proofs.Common.{◌≡◌, ◌⊎◌, inl, inr, ℕ, Bool, false, if◌then◌else◌, List, refl, sym, ◌∙◌, ap, subst, Option, Some, None, Result, Ok, Err}
+use Rattle.std.proofs.Common.{◌≡◌, ◌⊎◌, inl, inr, ℕ, Bool, true, false, if◌then◌else◌, List, refl, sym, ◌∙◌, ap, subst, Option, Some, None, Result, Ok, Err}
 use Rattle.std.specs.Bool.{IsTrue}
 use Rattle.std.specs.Result.{IfErr}
 use Rattle.std.proofs.lemmas.List.{append-nil}
@@ -13,12 +13,13 @@ use Rattle.wg_jobs.specs.Answers.{Answers, HasOutput, IsUnput, Reaches, status_i
 use Rattle.wg_jobs.specs.Causes.{AreFaultless, HasCause, IncreasedAt}
 use Rattle.wg_jobs.specs.Judged.{Judged, accepted, files_of, judged, output_of, status_of, written_by}
 use Rattle.wg_jobs.specs.Promised.{ArePromised, arcs_in}
-use Rattle.wg_jobs.specs.Names.{can_end, has_input, held_by, input_name, output_name, no_outputs, writes_files, IsOfInput}
+use Rattle.wg_jobs.specs.Names.{can_end, has_input, held_by, input_name, output_name, no_outputs, reads_again, writes_files, IsOfInput}
 use Rattle.wg_jobs.specs.Performs.{Outside, Performs, judged_on}
 use Rattle.wg_jobs.specs.Readings.{Readings}
-use Rattle.wg_jobs.specs.Written.{Archive, ArchiveFiles, FilesAfter, HasFiles, archive_at}
+use Rattle.wg_jobs.specs.Written.{Archive, ArchiveFiles, FilesAfter, FilesLeft, HasFiles, archive_at}
 use Rattle.wg_jobs.specs.declared.ending.Ending.{Ending}
 use Rattle.wg_jobs.specs.declared.status.Input.{Input}
+use Rattle.wg_jobs.specs.declared.status.Input.TheVariants as input
 use Rattle.wg_jobs.specs.declared.status.Status.{Status}
 use Rattle.wg_jobs.specs.declared.status.Status.TheVariants.{Done, Usage, Memory, ReadFault, WriteFault, Missing, BadArcs, BadProperties, BadArchive, NoPage, OverLimit}
 use Rattle.wg_jobs.proofs.ExitLemmas.{output_put, unput_cause}
@@ -36,9 +37,9 @@ written_none : (r : Readings) (job : Job) (held : Input → Option (List ℕ)) �
 written_none r job held none = ap (λ (b : Bool). if b then files_of (judged r job held) else None) none
 
 pub files_same : (job : Job) → writes_files job ≡ false → (before after : Outside) (s : Status) → after.files ≡ before.files → (r : Readings)
-    → HasFiles (output_name job) (written_by r job (held_by (input_name job) before.files)) before.files after.files s
+    → HasFiles (output_name job) (reads_again job) (written_by r job (held_by (input_name job) before.files)) before.files after.files s
 files_same job none before after s same r =
-    subst (λ (a : Option Archive). HasFiles (output_name job) a before.files after.files s) (sym (written_none r job (held_by (input_name job) before.files) none)) same
+    subst (λ (a : Option Archive). HasFiles (output_name job) (reads_again job) a before.files after.files s) (sym (written_none r job (held_by (input_name job) before.files) none)) same
 
 -- a status before any output
 abbrev pub IsStop : Status → Type 0
@@ -73,9 +74,27 @@ kept_after a old new (BadArchive f) stop same = same
 kept_after a old new (NoPage page) stop same = same
 kept_after a old new (OverLimit i) stop same = same
 
-files_kept : (names : Output → Option (List ℕ)) (a : Option Archive) (old new : Files) (s : Status) → IsStop s → new ≡ old → HasFiles names a old new s
-files_kept names None old new s stop same = same
-files_kept names (Some a) old new s stop same = (λ name other. ap (λ (f : Files). map.get f name) same, kept_after a _ _ s stop (ap (archive_at names) same))
+-- what stands at an end that is not a read fault while the archive was written
+pub left_by : (again : Bool) (a : Archive) (old new : ArchiveFiles) (s : Status) → FilesAfter a old new s → FilesLeft again a old new s
+left_by false a old new s h = h
+left_by true a old new (ReadFault input.Graph) h = inl h
+left_by true a old new (ReadFault input.Properties) h = h
+left_by true a old new (ReadFault input.Offsets) h = h
+left_by true a old new (ReadFault input.ArcList) h = h
+left_by true a old new Done h = h
+left_by true a old new Usage h = h
+left_by true a old new Memory h = h
+left_by true a old new (WriteFault o) h = h
+left_by true a old new (Missing i) h = h
+left_by true a old new (BadArcs line kind) h = h
+left_by true a old new (BadProperties f) h = h
+left_by true a old new (BadArchive f) h = h
+left_by true a old new (NoPage page) h = h
+left_by true a old new (OverLimit i) h = h
+
+files_kept : (names : Output → Option (List ℕ)) (again : Bool) (a : Option Archive) (old new : Files) (s : Status) → IsStop s → new ≡ old → HasFiles names again a old new s
+files_kept names again None old new s stop same = same
+files_kept names again (Some a) old new s stop same = (λ name other. ap (λ (f : Files). map.get f name) same, left_by again a _ _ s (kept_after a _ _ s stop (ap (archive_at names) same)))
 
 no_fault : (s : Status) (o : Output) → IsStop s → s ≡ WriteFault o → ⊥
 no_fault s o stop is = subst IsStop is stop
@@ -97,7 +116,7 @@ stopped job td to before after s a stop silent same answers possible causes reac
   reached = reached;
   needed = λ t r o is. absurd (no_fault s o stop is);
   output = λ t o r. stop_output _ before.taken after.taken s stop silent;
-  files = λ t r. files_kept (output_name job) _ before.files after.files s stop same;
+  files = λ t r. files_kept (output_name job) (reads_again job) _ before.files after.files s stop same;
   same = λ is. same;
   later = later;
   promised = promised;

@@ -19,7 +19,7 @@ use Rattle.wg_jobs.specs.Answers.{Answers, IsHindrance, IsUnput, status_in}
 use Rattle.wg_jobs.specs.Causes.{HasCause}
 use Rattle.wg_jobs.specs.Judged.{Judged, accepted}
 use Rattle.wg_jobs.specs.Names.{file_of, held_by, no_outputs}
-use Rattle.wg_jobs.specs.Passes.{Advances, IsStopAt, PrintsGraph, PutsUpTo, accepted_of, graph_then}
+use Rattle.wg_jobs.specs.Passes.{Advances, IsGraphFile, IsStopAt, PrintsGraph, PutsUpTo, accepted_of, graph_then}
 use Rattle.wg_jobs.specs.Performs.{Outside, outside}
 use Rattle.wg_jobs.specs.declared.ending.Ending.{Ending}
 use Rattle.wg_jobs.specs.declared.status.Input.{Input}
@@ -110,6 +110,15 @@ answers_hinder : (s : Status) (text : List ℕ) → Answers (accepted text) s �
 answers_hinder s text (inl is) never = absurd (never is)
 answers_hinder s text (inr hinders) never = hinders
 
+-- what stopped the reading of a file that stands for a graph is no fault of it
+pub read_hindered : (base : List ℕ) (p : Parameters) (td : Bool) (files : Files) (counts : List ℕ → Counts) → IsWithinLimits p → (files1 files2 : Files) (counts1 counts2 : List ℕ → Counts) (n : ℕ) (a b : Reading) (P : List Whole → Type 0)
+    → IsUnderWay td base p files files1 counts counts1 n a P → (e : Ending) → Advances {B = Unit {0}} td files1 files2 counts1 counts2 p a b (Err e)
+    → IsTrue td → (x : Accepted) → IsGraphFile (held_by (file_of base) files Graph) p x → IsHindrance e.status
+read_hindered base p td files counts limits files1 files2 counts1 counts2 n a b P h e step t x g =
+    let told = ends_told td base p files counts files1 files2 counts1 counts2 n a b _ h e step t limits the_readings (λ y. accepted []) in
+    let is : graph_then the_readings p (held_by (file_of base) files Graph) (λ y. accepted []) ≡ accepted [] = graph_goes the_readings p limits (held_by (file_of base) files Graph) x g (λ y. accepted []) in
+    answers_hinder e.status [] (subst (λ (j : Judged). Answers j e.status) is told) (never_done Graph p.arcs e step.only)
+
 -- the exit of a `?`
 pub prints_exit : (base : List ℕ) (p : Parameters) (text : Accepted → List ℕ) (td to : Bool) (before after : Outside) (r : Result (Unit {0}) Ending) (e : Ending) → IsErrAnd r (λ x. x ≡ e)
     → PrintsGraph base p text td to before after (Err e) → PrintsGraph base p text td to before after r
@@ -137,10 +146,7 @@ module _ (base : List ℕ) (p : Parameters) (text : Accepted → List ℕ) (td t
       later = none_falls-trans _ _ _ h.later step.later;
       only = inl step.only;
       causes = any_faults (file_of base) counts counts2 f0 f1 e.status (ends_caused td base p files counts files1 files2 counts1 counts2 n a b _ h e step);
-      hindered = λ t x g.
-          let told = ends_told td base p files counts files1 files2 counts1 counts2 n a b _ h e step t limits the_readings (λ y. accepted []) in
-          let is : graph_then the_readings p (held_by (file_of base) files Graph) (λ y. accepted []) ≡ accepted [] = graph_goes the_readings p limits (held_by (file_of base) files Graph) x g (λ y. accepted []) in
-          answers_hinder e.status [] (subst (λ (j : Judged). Answers j e.status) is told) (never_done Graph p.arcs e step.only);
+      hindered = λ t x g. read_hindered base p td files counts limits files1 files2 counts1 counts2 n a b _ h e step t x g;
       puts = λ t o x g.
           let k = first_read td base p files counts files1 files1 counts1 counts1 n a a _ h limits few t x g in
           let m = grows_on text grows k.2 k.0 in

@@ -62,10 +62,10 @@ flip : {x y : List ℕ} → x ≢ y → y ≢ x
 flip other = λ same. other (sym same)
 
 -- no two of an archive's names are one
-properties_graph : (base : List ℕ) → properties_name base ≢ graph_name base
+pub properties_graph : (base : List ℕ) → properties_name base ≢ graph_name base
 properties_graph base same = let e : 11 ≡ 6 = ap (λ (s : List ℕ). length s) (append_cancel_left base PROPERTIES.now GRAPH.now same) in absurd (omega (arith, e))
 
-properties_offsets : (base : List ℕ) → properties_name base ≢ offsets_name base
+pub properties_offsets : (base : List ℕ) → properties_name base ≢ offsets_name base
 properties_offsets base same = let e : 11 ≡ 8 = ap (λ (s : List ℕ). length s) (append_cancel_left base PROPERTIES.now OFFSETS.now same) in absurd (omega (arith, e))
 
 module _ (base : List ℕ) where

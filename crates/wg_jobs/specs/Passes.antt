@@ -73,6 +73,7 @@ pub record IsFresh (base : List ℕ) (p : Parameters) (r : Reading) : Type 0 whe
   pub name : r.name ≡ base ++ GRAPH.now
   pub state : r.state ≡ Open
   pub page : r.pages.page ≡ 0
+  pub arcs : r.pages.arcs ≡ 0
   pub at : r.at ≡ 0
   pub looked : r.held.looked ≡ true → ⊥
   pub in_step : (file : List ℕ) → IsInStep file r []

@@ -11,7 +11,7 @@ use Rattle.wg_jobs.specs.Answers.{Answers, HasOutput, Reaches, status_in}
 use Rattle.wg_jobs.specs.Causes.{HasCause}
 use Rattle.wg_jobs.specs.Judged.{Judged, greedy_line, judged, output_of, status_of, written_by}
 use Rattle.wg_jobs.specs.Promised.{ArePromised}
-use Rattle.wg_jobs.specs.Names.{archive_named, can_end, held_by, input_name, output_name, writes_files}
+use Rattle.wg_jobs.specs.Names.{archive_named, can_end, held_by, input_name, output_name, reads_again, writes_files}
 use Rattle.wg_jobs.specs.Readings.{Readings}
 use Rattle.wg_jobs.specs.Written.{HasFiles, IsStopped, greedy_archive, params_for}
 use Rattle.wg_jobs.specs.declared.ending.Ending.{Ending}
@@ -49,7 +49,7 @@ pub record Performs (job : Job) (told_files told_out : Bool) (before after : Out
   -- what stands on the output
   pub output : IsTrue told_files → IsTrue told_out → (r : Readings) → HasOutput (output_of (judged_on r job before.files)) before.taken after.taken status
   -- what stands in the files
-  pub files : IsTrue told_files → (r : Readings) → HasFiles (output_name job) (written_by r job (held_by (input_name job) before.files)) before.files after.files status
+  pub files : IsTrue told_files → (r : Readings) → HasFiles (output_name job) (reads_again job) (written_by r job (held_by (input_name job) before.files)) before.files after.files status
   -- a job that writes no file leaves them all, told or not
   pub same : writes_files job ≡ false → after.files ≡ before.files
   -- no count of the depot falls
@@ -71,7 +71,7 @@ pub record BuildsArchive (l : Layout) (g : Digraph) (base : List ℕ) (told_file
   -- what stands on the output
   pub output : IsTrue told_files → IsTrue told_out → HasOutput (greedy_line (params_for l g) g) before.taken after.taken (status_in result)
   -- what stands in the files
-  pub files : IsTrue told_files → HasFiles (archive_named base) (Some (greedy_archive (params_for l g) g)) before.files after.files (status_in result)
+  pub files : IsTrue told_files → HasFiles (archive_named base) false (Some (greedy_archive (params_for l g) g)) before.files after.files (status_in result)
   -- no count of the depot falls
   pub later : NonDecreasing before.counts after.counts
 

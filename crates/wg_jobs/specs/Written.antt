@@ -1,5 +1,5 @@
 -- What stands of the files of a job that writes an archive.
-use Rattle.std.specs.Prelude.{◌≡◌, ◌≢◌, ◌⊎◌, ℕ, List, [], Option, Some, None}
+use Rattle.std.specs.Prelude.{◌≡◌, ◌≢◌, ◌⊎◌, ℕ, Bool, true, List, [], Option, Some, None}
 use Rattle.std.specs.FinMap as map
 use Rattle.wg_io.specs.Outside.{Files}
 use Rattle.wg_io.specs.declared.output.Output.{Output}
@@ -13,8 +13,9 @@ use Rattle.wg_encoder.specs.declared.error.EncodeError.{EncodeError}
 use Rattle.wg_encoder.specs.declared.error.EncodeError.TheVariants as error
 use Rattle.wg_words.specs.Layouts.{params_of}
 use Rattle.wg_words.specs.declared.layout.Layout.{Layout}
+use Rattle.wg_jobs.specs.declared.status.Input.TheVariants as input
 use Rattle.wg_jobs.specs.declared.status.Status.{Status}
-use Rattle.wg_jobs.specs.declared.status.Status.TheVariants.{Done, Memory, WriteFault}
+use Rattle.wg_jobs.specs.declared.status.Status.TheVariants.{Done, Memory, ReadFault, WriteFault}
 
 -- the bytes of an archive's three files
 pub record Archive : Type 0 where
@@ -70,6 +71,10 @@ abbrev pub StopAtOffsets : Archive → ArchiveFiles → ArchiveFiles → Type 0
 StopAtOffsets a old new =
     (new.properties ≡ Some []) × (((new.graph ≡ Some []) × (new.offsets ≡ old.offsets)) ⊎ (HoldsFront new.graph a.graph × HoldsLess new.offsets a.offsets))
 
+-- the properties are empty, both others are prefixes of the archive's, and the offsets lack something
+abbrev pub StopAtInput : Archive → ArchiveFiles → Type 0
+StopAtInput a new = (new.properties ≡ Some []) × HoldsFront new.graph a.graph × HoldsLess new.offsets a.offsets
+
 -- the three files are there, and empty
 abbrev pub emptied : ArchiveFiles
 emptied = record { properties = Some []; graph = Some []; offsets = Some [] }
@@ -102,7 +107,12 @@ FilesAfter a old new (WriteFault output.Offsets) = StopAtOffsets a old new
 FilesAfter a old new Memory = StopAtProperties a old new ⊎ StopAtGraph a old new ⊎ StopAtOffsets a old new ⊎ AreWhole a new
 FilesAfter a old new _ = new ≡ old
 
+-- The same of a job that may go through its graph file again while it writes: a read fault may come then.
+abbrev pub FilesLeft : Bool → Archive → ArchiveFiles → ArchiveFiles → Status → Type 0
+FilesLeft true a old new (ReadFault input.Graph) = (new ≡ old) ⊎ StopAtInput a new
+FilesLeft again a old new status = FilesAfter a old new status
+
 -- The files of a job of these names that writes this archive, or none.
-abbrev pub HasFiles : (Output → Option (List ℕ)) → Option Archive → Files → Files → Status → Type 0
-HasFiles names None old new status = new ≡ old
-HasFiles names (Some a) old new status = OthersStay names old new × FilesAfter a (archive_at names old) (archive_at names new) status
+abbrev pub HasFiles : (Output → Option (List ℕ)) → Bool → Option Archive → Files → Files → Status → Type 0
+HasFiles names again None old new status = new ≡ old
+HasFiles names again (Some a) old new status = OthersStay names old new × FilesLeft again a (archive_at names old) (archive_at names new) status

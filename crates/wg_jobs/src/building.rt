@@ -1,9 +1,9 @@
 //! The archive of a graph, in the layout that the options give, and the line of what it holds.
-ghost use Rattle.std.specs.Prelude.{◌≡◌};
+ghost use Rattle.std.specs.Prelude.{◌≡◌, ◌≤◌};
 ghost use Rattle.wg_params.specs.Parameters.{IsWithinLimits};
+ghost use Rattle.wg_params.specs.declared.limits.TheConstants.{MOST_ARCS, MOST_PAGES};
 ghost use Rattle.wg_words.specs.Layouts.{params_of};
 ghost use Rattle.wg_jobs.specs.Performs.{Builds};
-ghost use Rattle.wg_jobs.specs.Written.{params_for};
 
 use crate::ending::Ending;
 use crate::print::print_ok;
@@ -26,19 +26,21 @@ pub fn build_archive<D: Depot, O: Sink>(
     requires { IsWithinLimits (params_of layout.now 0 0) }
     ensures { Builds ⟦<D as Depot>⟧ ⟦<O as Sink>⟧ layout.now graph.now base.now depot.old depot.new out.old out.new result }
 {
-    let params = params_for(layout, graph);
+    let params = params_of(layout, graph.nodes(), graph.arcs());
     let bits = write_archive(alloc, &params, graph, base, depot)?;
     print_ok(out, &params, bits)
 }
 
-// The parameters of an archive of the graph in this layout.
-fn params_for(layout: &Layout, graph: &Graph) -> Params
-    requires { IsWithinLimits (params_of layout.now 0 0) }
-    ensures { result ≡ params_for layout.now graph.now }
+/// The parameters of an archive of so many pages and arcs in this layout.
+pub fn params_of(layout: &Layout, nodes: u64, arcs: u64) -> Params
+    requires layout { IsWithinLimits (params_of layout.now 0 0) }
+    requires nodes { nodes ≤ MOST_PAGES }
+    requires arcs { arcs ≤ MOST_ARCS }
+    ensures { result ≡ params_of layout.now nodes arcs }
 {
     let made = Params::new(
-        graph.nodes(),
-        graph.arcs(),
+        nodes,
+        arcs,
         layout.window,
         layout.chain,
         layout.interval,

@@ -10,8 +10,8 @@
 //! `judged` takes the graph of a file from a function that reads all graph files; [`laws`] states that the grammar leaves
 //! exactly one such function, and that an archive that was built is accepted.
 //!
-//! `check`, `arcs` and `offsets` read the graph and the offsets in pieces, so that an archive need not fit into memory; all other
-//! inputs are held whole.
+//! `check`, `arcs`, `offsets` and `recode` read the graph and the offsets in pieces, so that an archive need not fit into memory; all
+//! other inputs are held whole.
 #![tactic(auto)]
 
 mod archive;
@@ -19,6 +19,7 @@ mod arcs;
 mod build;
 mod building;
 mod check;
+mod copying;
 mod dispatch;
 mod ending;
 mod judge;

@@ -1,22 +1,39 @@
 //! The command `recode`: an archive of the same graph in another layout.
+ghost use Rattle.std.specs.Prelude.{◌≡◌, true, IsTrue, IfOk, IfErr, length};
+ghost use Rattle.wg_io.specs.Suffixes.{graph_name};
 ghost use Rattle.wg_params.specs.Parameters.{IsWithinLimits};
+ghost use Rattle.wg_encoder.specs.Archive.{graph_bits};
+ghost use Rattle.wg_grammar.specs.Archive.{Accepted};
+ghost use Rattle.wg_grammar.specs.Laws.{graph_of};
+ghost use Rattle.wg_words.specs.Files.{IsNoFileOf, ShareNoFile};
 ghost use Rattle.wg_words.specs.Layouts.{params_of};
 ghost use Rattle.wg_words.specs.declared.jobs.Job.TheVariants.{Recode};
 ghost use Rattle.wg_jobs.specs.Answers.{status_in};
+ghost use Rattle.wg_jobs.specs.Copying.{Copies};
+ghost use Rattle.wg_jobs.specs.Names.{archive_named, file_of, held_by};
+ghost use Rattle.wg_jobs.specs.Passes.{IsGraphFile};
 ghost use Rattle.wg_jobs.specs.Promised.{arcs_in};
 ghost use Rattle.wg_jobs.specs.Performs.{Does};
+ghost use Rattle.wg_jobs.specs.Written.{greedy_archive, archive_at, AreWhole, OthersStay, FilesLeft};
 
 use crate::Input;
-use crate::archive::{graph_of_records, parameters};
-use crate::building::build_archive;
+use crate::archive::parameters;
+use crate::building::params_of;
+use crate::copying::copy_records;
 use crate::ending::Ending;
+use crate::judge::judge_graph;
 use crate::load::load;
+use crate::names::file_name;
+use crate::print::print_ok;
+use crate::writing::{create_files, properties_text, write_properties};
 use std::alloc::Global;
-use wg_io::{Depot, Sink};
+use wg_io::{Depot, PROPERTIES, Sink};
+use wg_params::Params;
 use wg_words::{Layout, Name};
 
-/// Writes the greedy archive of an archive's graph, in the layout that is given, and prints the line of what it holds. It judges the whole graph
-/// before it touches a file; it holds the bytes of the graph, 8 bytes an arc and 8 a page for the graph, one record, and buffers of 8192 bytes.
+/// Writes the greedy archive of an archive's graph, in the layout that is given, and prints the line of what it holds. It goes through the graph file
+/// twice: it judges the whole graph before it touches a file. It holds a piece of the file, and twice the lists that a reference may reach, with a
+/// few that wait to be used again; one record, and buffers of 8192 bytes.
 pub fn recode<D: Depot, O: Sink>(
     alloc: Global,
     input: &Name,
@@ -25,12 +42,41 @@ pub fn recode<D: Depot, O: Sink>(
     depot: &mut D,
     out: &mut O,
 ) -> Result<(), Ending>
-    requires { IsWithinLimits (params_of layout.now 0 0) }
+    requires layout { IsWithinLimits (params_of layout.now 0 0) }
+    requires apart { ShareNoFile input.now output.now }
     ensures { Does ⟦<D as Depot>⟧ ⟦<O as Sink>⟧ (Recode input.now output.now layout.now) depot.old depot.new out.old out.new (status_in result) (arcs_in result) }
 {
     let text = load(alloc, depot, input, Input::Properties)?;
     let params = parameters(text.as_slice())?;
-    let bytes = load(alloc, depot, input, Input::Graph)?;
-    let graph = graph_of_records(alloc, &params, bytes.as_slice())?;
-    build_archive(alloc, layout, &graph, output, depot, out)
+    judge_graph(alloc, &params, depot, input)?;
+    let made = params_of(layout, params.nodes(), params.arcs());
+    let bits = rewrite(alloc, &params, &made, input, output, depot)?;
+    print_ok(out, &made, bits)
+}
+
+// Reads the file again, and writes each list as it comes. It answers how many bits the records have.
+fn rewrite<D: Depot>(
+    alloc: Global,
+    params: &Params,
+    made: &Params,
+    input: &Name,
+    output: &Name,
+    depot: &mut D,
+) -> Result<u64, Ending>
+    requires nodes { made.now.nodes ≡ params.now.nodes }
+    requires arcs { made.now.arcs ≡ params.now.arcs }
+    requires apart { IsNoFileOf output.now (graph_name input.now) }
+    ensures copies { Copies D.told input.now output.now params.now (D.files depot.old) (D.counts depot.old) (D.counts depot.new) result }
+    ensures ok { IsTrue D.told → (a : Accepted) → IsGraphFile (held_by (file_of input.now) (D.files depot.old) Input.Graph) params.now a
+        → IfOk result (λ bits. AreWhole (greedy_archive made.now (graph_of params.now a)) (archive_at (archive_named output.now) (D.files depot.new)) × (bits ≡ length (graph_bits made.now a.graph))) }
+    ensures err { IsTrue D.told → (a : Accepted) → IsGraphFile (held_by (file_of input.now) (D.files depot.old) Input.Graph) params.now a
+        → IfErr result (λ e. FilesLeft true (greedy_archive made.now (graph_of params.now a)) (archive_at (archive_named output.now) (D.files depot.old)) (archive_at (archive_named output.now) (D.files depot.new)) e.status) }
+    ensures others { IsTrue D.told → OthersStay (archive_named output.now) (D.files depot.old) (D.files depot.new) }
+{
+    let name = file_name(alloc, output, PROPERTIES)?;
+    let text = properties_text(alloc, made)?;
+    create_files(alloc, depot, output)?;
+    let bits = copy_records(alloc, params, made, input, output, depot)?;
+    write_properties(text.as_slice(), output, &name, depot)?;
+    Ok(bits)
 }

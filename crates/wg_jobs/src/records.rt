@@ -77,8 +77,8 @@ fn go_on<D: Depot>(reader: &mut Reader, depot: &mut D, params: &Params) -> Resul
     requires open { reader.old.state ≡ Open }
     requires params { reader.old.pages.params ≡ params.now }
     ensures advances { Advances D.told (D.files depot.old) (D.files depot.new) (D.counts depot.old) (D.counts depot.new) params.now reader.old reader.new result }
-    ensures more { result ≡ Ok true → (reader.new.state ≡ Open) × (reader.new.pages.page ≡ reader.old.pages.page + 1) }
-    ensures end { result ≡ Ok false → reader.old.pages.page ≡ params.now.nodes }
+    ensures more { result ≡ Ok true → (reader.new.state ≡ Open) × (reader.new.pages.page ≡ reader.old.pages.page + 1) × (reader.new.pages.arcs ≡ reader.old.pages.arcs + length reader.new.pages.list) }
+    ensures end { result ≡ Ok false → (reader.old.pages.page ≡ params.now.nodes) × (reader.old.pages.arcs ≡ params.now.arcs) }
     ensures few { result ≡ Ok true → reader.old.pages.page < params.now.nodes }
     ensures in_step { IsTrue D.told → (held : Files) → D.files depot.old ≡ held → (file : ListOf ℕ) → map.get held reader.old.name ≡ Some file
         → (whole : ListOf Whole) → IsInStep file reader.old whole → IfOk result (λ more. StaysInStep file reader.new whole (Ok more)) }
@@ -104,6 +104,7 @@ pub fn next_record<D: Depot>(
     ensures advances { Advances D.told (D.files depot.old) (D.files depot.new) (D.counts depot.old) (D.counts depot.new) params.now reader.old reader.new result }
     ensures open { OnOk result (reader.new.state ≡ Open) }
     ensures page { OnOk result (reader.new.pages.page ≡ reader.old.pages.page + 1) }
+    ensures arcs { OnOk result (reader.new.pages.arcs ≡ reader.old.pages.arcs + length reader.new.pages.list) }
     ensures in_step { IsTrue D.told → (held : Files) → D.files depot.old ≡ held → (file : ListOf ℕ) → map.get held reader.old.name ≡ Some file
         → (whole : ListOf Whole) → IsInStep file reader.old whole → OnOk result (StaysInStep file reader.new whole (Ok true)) }
 {
@@ -122,6 +123,7 @@ pub fn end_records<D: Depot>(
     requires open { reader.old.state ≡ Open }
     requires params { reader.old.pages.params ≡ params.now }
     requires done { reader.old.pages.page ≡ params.now.nodes }
+    ensures total { OnOk result (reader.old.pages.arcs ≡ params.now.arcs) }
     ensures advances { Advances D.told (D.files depot.old) (D.files depot.new) (D.counts depot.old) (D.counts depot.new) params.now reader.old reader.new result }
     ensures judged { IsTrue D.told → (held : Files) → D.files depot.old ≡ held → (file : ListOf ℕ) → map.get held reader.old.name ≡ Some file
         → (whole : ListOf Whole) → IsInStep file reader.old whole

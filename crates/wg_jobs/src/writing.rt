@@ -57,8 +57,8 @@ fn create<D: Depot>(
     }
 }
 
-// Leaves the three files empty, the properties first.
-fn create_files<D: Depot>(alloc: Global, depot: &mut D, base: &Name) -> Result<(), Ending>
+/// Leaves the three files empty, the properties first.
+pub fn create_files<D: Depot>(alloc: Global, depot: &mut D, base: &Name) -> Result<(), Ending>
     ensures ok { IsTrue D.told → OnOk result (archive_at (archive_named base.now) (D.files depot.new) ≡ emptied) }
     ensures err { IsTrue D.told → (a : Archive) → IfErr result (λ e. FilesAfter a (archive_at (archive_named base.now) (D.files depot.old)) (archive_at (archive_named base.now) (D.files depot.new)) e.status) }
     ensures others { IsTrue D.told → OthersStay (archive_named base.now) (D.files depot.old) (D.files depot.new) }
@@ -71,8 +71,8 @@ fn create_files<D: Depot>(alloc: Global, depot: &mut D, base: &Name) -> Result<(
     create(alloc, depot, base, OFFSETS, Output::Offsets)
 }
 
-// How a job ends whose records or offsets were not written whole.
-fn encoding_ending(error: EncodeError) -> Ending
+/// How a job ends whose records or offsets were not written whole.
+pub fn encoding_ending(error: EncodeError) -> Ending
     ensures { result.status ≡ status_of_error error }
 {
     match error {
@@ -105,8 +105,8 @@ fn write_records<D: Depot>(
     }
 }
 
-// Writes the properties text, once the other files are whole.
-fn write_properties<D: Depot>(
+/// Writes the properties text, once the other files are whole.
+pub fn write_properties<D: Depot>(
     text: &[u8],
     base: &Name,
     name: &Name,
@@ -126,8 +126,8 @@ fn write_properties<D: Depot>(
     }
 }
 
-// The properties text, before a file is touched.
-fn properties_text(alloc: Global, params: &Params) -> Result<List8, Ending>
+/// The properties text, before a file is touched.
+pub fn properties_text(alloc: Global, params: &Params) -> Result<List8, Ending>
     ensures text { IfOk result (λ text. text ≡ text_of params.now) }
     ensures only { IfErr result (λ e. e.status ≡ Status.Memory) }
 {

@@ -55,8 +55,8 @@ const CONVERTED: [Converted; 6] = [
     },
 ];
 
-// The properties text of an archive, as it is written.
-fn properties_of(alloc: Global, archive: &Archive) -> Result<String, Fail> {
+/// The properties text of an archive, as it is written.
+pub fn properties_of(alloc: Global, archive: &Archive) -> Result<String, Fail> {
     let nodes = archive.nodes;
     let arcs = archive.arcs;
     let window = archive.shape.window;
