@@ -11,7 +11,7 @@ pub fn input_parts(job: &Job, input: Input) -> Option<(&str, &'static str)>
     ensures { option_map (λ parts. parts.0.now ++ parts.1.now) result ≡ input_name job.now input }
 {
     match job {
-        Job::Check { base } => archive_input(base, input),
+        Job::Check { base } | Job::Show { base, .. } => archive_input(base, input),
         Job::Arcs { base } | Job::Offsets { base } | Job::Rank { base, .. } => record_input(
             base, input,
         ),
@@ -60,7 +60,11 @@ pub fn output_parts(job: &Job, output: Output) -> Option<(&str, &'static str)>
     ensures { option_map (λ parts. parts.0.now ++ parts.1.now) result ≡ output_name job.now output }
 {
     match job {
-        Job::Check { .. } | Job::Arcs { .. } | Job::Offsets { .. } | Job::Rank { .. } => None,
+        Job::Check { .. }
+        | Job::Arcs { .. }
+        | Job::Offsets { .. }
+        | Job::Show { .. }
+        | Job::Rank { .. } => None,
         Job::Build { base, .. }
         | Job::Recode { output: base, .. }
         | Job::Transpose { output: base, .. } => archive_parts(base, output),

@@ -15,6 +15,7 @@ use Rattle.wg_graph.proofs.Copies.{sum_cons}
 use Rattle.wg_offsets.specs.Places.{last_place}
 use Rattle.wg_offsets.specs.Words.{places_of}
 use Rattle.wg_offsets.proofs.WordsLemmas.{length_ends}
+use Rattle.wg_grammar.specs.Archive.{Accepted}
 use Rattle.wg_encoder.specs.Archive.{graph_bits, graph_file, offset_values, offsets_file, record_bits}
 use Rattle.wg_encoder.specs.Laws.{IsAcceptedArchive}
 use Rattle.wg_encoder.proofs.Accepted.{greedy_accepted}
@@ -29,7 +30,7 @@ use Rattle.wg_params.specs.declared.limits.TheConstants.{MOST_PAGES}
 use Rattle.wg_words.proofs.LayoutLemmas.{layout_for_any}
 use Rattle.wg_words.specs.declared.jobs.Job.TheVariants.{Check, Arcs}
 use Rattle.wg_jobs.specs.Built.{holding, IsAcceptedAs, BuiltAreAccepted, BuildsAreAccepted}
-use Rattle.wg_jobs.specs.Judged.{Judged, refused, accepted, built, builds, judged, number_lines, ok_line, unless_bad_list, unless_bad_properties, with_digraph, with_file, with_lengths, with_list, with_offsets, with_parameters, with_places, with_records}
+use Rattle.wg_jobs.specs.Judged.{Judged, refused, accepted, built, builds, judged, number_lines, ok_line, successors_lines, unless_bad_list, unless_bad_properties, with_archive, with_digraph, with_file, with_graph, with_lengths, with_list, with_offsets, with_pages, with_parameters, with_places, with_records}
 use Rattle.wg_jobs.specs.Ranked.{ranking_text}
 use Rattle.wg_jobs.specs.Readings.{Readings}
 use Rattle.wg_jobs.specs.Written.{Archive, greedy_archive, params_for}
@@ -81,18 +82,23 @@ module _ (r : Readings) (p : Parameters) (g : Digraph) (limits : IsWithinLimits 
       file_goes_on input.Offsets (offsets_file p g.lists) (omega (arith, is.short_offsets)) (λ more. with_offsets r p more next)
       ∙ goes_on_from r p limits (offsets_file p g.lists) places is.offsets next
 
+  archive_goes_on : (next : Parameters → Accepted → Judged) → with_archive r (holding (greedy_archive p g)) next ≡ next p (record { graph = g.lists; places = places })
+  archive_goes_on next =
+      records_go_on (λ q bytes. with_graph r q bytes (λ a. with_file input.Offsets (Some (offsets_file p g.lists)) (λ more. with_offsets r q more (λ stored. with_lengths a.places stored (λ same. next q a)))))
+      ∙ goes_on r p limits (graph_file p g.lists) g.lists places is.graph (λ a. with_file input.Offsets (Some (offsets_file p g.lists)) (λ more. with_offsets r p more (λ stored. with_lengths a.places stored (λ same. next p a))))
+      ∙ offsets_go_on (λ stored. with_lengths places stored (λ same. next p (record { graph = g.lists; places = places })))
+      ∙ all_agree places places (λ x lt. refl) (λ same. next p (record { graph = g.lists; places = places }))
+
   accepted_as : (base : List ℕ) → IsAcceptedAs r p g base
   accepted_as base = record {
-    check =
-        records_go_on (λ q bytes. with_places r q bytes (λ found. with_file input.Offsets (Some (offsets_file p g.lists)) (λ more. with_offsets r q more (λ stored. with_lengths found stored (λ same. accepted (ok_line q (last_place found)))))))
-        ∙ goes_on r p limits (graph_file p g.lists) g.lists places is.graph (λ a. with_file input.Offsets (Some (offsets_file p g.lists)) (λ more. with_offsets r p more (λ stored. with_lengths a.places stored (λ same. accepted (ok_line p (last_place a.places))))))
-        ∙ offsets_go_on (λ stored. with_lengths places stored (λ same. accepted (ok_line p (last_place places))))
-        ∙ all_agree places places (λ x lt. refl) (λ same. accepted (ok_line p (last_place places)))
-        ∙ ap (λ (n : ℕ). accepted (ok_line p n)) (last_bit p g.lists);
+    check = archive_goes_on (λ q a. accepted (ok_line q (last_place a.places))) ∙ ap (λ (n : ℕ). accepted (ok_line p n)) (last_bit p g.lists);
     arcs = lists_go_on (λ h. accepted (text_of_graph h));
     offsets =
         records_go_on (λ q bytes. with_places r q bytes (λ found. accepted (number_lines found)))
         ∙ goes_on r p limits (graph_file p g.lists) g.lists places is.graph (λ a. accepted (number_lines a.places));
+    show = λ pages.
+        archive_goes_on (λ q a. with_pages q.nodes pages (λ all. accepted (successors_lines a.graph pages)))
+        ∙ ap (λ (n : ℕ). with_pages n pages (λ all. accepted (successors_lines g.lists pages))) nodes;
     rank = λ rounds damping top. lists_go_on (λ h. accepted (ranking_text r h rounds damping top));
   }
 

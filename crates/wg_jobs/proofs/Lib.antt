@@ -8,6 +8,7 @@ pub mod PrintedPass
 pub mod JobPasses
 pub mod CheckLemmas
 pub mod PrintedLines
+pub mod ShownLemmas
 pub mod WritingLemmas
 pub mod BuildLemmas
 pub mod BuiltLemmas

@@ -1,5 +1,5 @@
 -- Files that were read, in a judgement.
-use Rattle.std.proofs.Common.{◌≡◌, ℕ, Bool, refl, List, ap, Ok, Err, Result}
+use Rattle.std.proofs.Common.{◌≡◌, ℕ, Bool, refl, List, ap, sym, Ok, Err, Result}
 use Rattle.wg_bits.specs.Bits.{bits_of}
 use Rattle.wg_params.specs.Parameters.{Parameters, IsWithinLimits}
 use Rattle.wg_grammar.specs.declared.fault.ArchiveFault.{ArchiveFault}
@@ -7,9 +7,10 @@ use Rattle.wg_grammar.specs.declared.fault.ArchiveFault.TheVariants as archive
 use Rattle.wg_grammar.specs.declared.fault.OffsetWord.{OffsetWord}
 use Rattle.wg_grammar.specs.Archive.{Accepted, ReadsGraph}
 use Rattle.wg_grammar.proofs.OneGraph.{graph_one}
-use Rattle.wg_offsets.specs.Places.{AgreeInLengths, IsFirstMismatch}
+use Rattle.wg_offsets.specs.Places.{AgreeInLengths, IsFirstMismatch, record_length}
 use Rattle.wg_offsets.specs.Words.{ReadsOffsets}
 use Rattle.wg_offsets.proofs.OneFile.{offsets_one}
+use Rattle.wg_random.specs.Checking.{IsLengthFault}
 use Rattle.wg_offsets.proofs.Differences.{none_differ, first_differs}
 use Rattle.wg_num.specs.Lines.{lines_of}
 use Rattle.wg_graph.specs.Digraph.{Digraph}
@@ -17,14 +18,14 @@ use Rattle.wg_arcs.specs.declared.fault.ArcsKind.{ArcsKind}
 use Rattle.wg_arcs.specs.Reading.{AreArcs, IsFirstFault, IsListed}
 use Rattle.wg_arcs.proofs.Unique.{listed_one}
 use Rattle.wg_jobs.specs.Names.{file_of_fault}
-use Rattle.wg_jobs.specs.declared.status.Input.TheVariants.{Graph}
+use Rattle.wg_jobs.specs.declared.status.Input.TheVariants as input
 use Rattle.wg_jobs.specs.Readings.{Readings}
 use Rattle.wg_jobs.specs.Judged.{Judged, refused, with_graph, with_offsets, with_lengths, with_list, unless_bad_graph, unless_bad_offsets, unless_bad_list, unless_some_differ}
 use Rattle.wg_jobs.specs.declared.status.Status.TheVariants.{BadArcs, BadArchive}
 use Rattle.wg_jobs.proofs.LimitsLemmas.{coded}
 
 -- a fault of a graph file lies there
-pub of_graph : (p : Parameters) (bits : List Bool) (f : ArchiveFault) → ReadsGraph p bits (Err f) → file_of_fault f ≡ Graph
+pub of_graph : (p : Parameters) (bits : List Bool) (f : ArchiveFault) → ReadsGraph p bits (Err f) → file_of_fault f ≡ input.Graph
 of_graph p bits (archive.Record e) read = refl
 of_graph p bits (archive.Tail at) read = refl
 of_graph p bits (archive.ArcsShort total) read = refl
@@ -72,3 +73,21 @@ pub one_differs : (found stored : List ℕ) (page here there : ℕ) → IsFirstM
 one_differs found stored page here there h next =
     let first = first_differs found stored page here there h in
     rw (h.here_is, h.there_is) (ap (λ (l : List ℕ). unless_some_differ l found stored next) first.1)
+
+pub length_refused : (found stored : List ℕ) (f : ArchiveFault) → IsLengthFault found stored f → (next : Unit {0} → Judged) → with_lengths found stored next ≡ refused (BadArchive f)
+length_refused found stored (archive.Length page here there) h next = one_differs found stored page here there h next
+length_refused found stored (archive.Record e) h next = absurd h
+length_refused found stored (archive.Tail at) h next = absurd h
+length_refused found stored (archive.ArcsShort total) h next = absurd h
+length_refused found stored (archive.Offsets w) h next = absurd h
+
+pub of_length : (found stored : List ℕ) (f : ArchiveFault) → IsLengthFault found stored f → file_of_fault f ≡ input.Offsets
+of_length found stored (archive.Length page here there) h = refl
+of_length found stored (archive.Record e) h = absurd h
+of_length found stored (archive.Tail at) h = absurd h
+of_length found stored (archive.ArcsShort total) h = absurd h
+of_length found stored (archive.Offsets w) h = absurd h
+
+-- the same offsets tell the same lengths
+pub same_agree : (found stored : List ℕ) → stored ≡ found → (next : Unit {0} → Judged) → with_lengths found stored next ≡ next tt
+same_agree found stored same next = all_agree found stored (λ x inside. ap (λ (l : List ℕ). record_length l x) (sym same)) next

@@ -8,12 +8,12 @@ use Rattle.wg_num.specs.Lines.{lines_of}
 use Rattle.wg_arcs.specs.Reading.{arcs_in}
 use Rattle.wg_arcs.specs.Text.{text_of_arcs, text_of_graph}
 use Rattle.wg_words.specs.Layouts.{params_of}
-use Rattle.wg_words.specs.declared.jobs.Job.TheVariants.{Check, Arcs, Offsets, Rank, Build, Recode, Transpose}
+use Rattle.wg_words.specs.declared.jobs.Job.TheVariants.{Check, Arcs, Offsets, Show, Rank, Build, Recode, Transpose}
 use Rattle.wg_words.specs.declared.layout.Layout.{Layout}
 use Rattle.wg_jobs.specs.Readings.{Readings}
 use Rattle.wg_jobs.specs.Ranked.{ranking_text}
 use Rattle.wg_jobs.specs.Written.{Archive, greedy_archive}
-use Rattle.wg_jobs.specs.Judged.{judged, accepted, built, number_lines, ok_line}
+use Rattle.wg_jobs.specs.Judged.{judged, accepted, built, number_lines, ok_line, successors_lines, with_pages}
 use Rattle.wg_jobs.specs.declared.status.Input.{Input}
 use Rattle.wg_jobs.specs.declared.status.Input.TheVariants as input
 
@@ -29,6 +29,7 @@ pub record IsAcceptedAs (r : Readings) (p : Parameters) (g : Digraph) (base : Li
   pub check : judged r (Check base) (holding (greedy_archive p g)) ≡ accepted (ok_line p (length (graph_bits p g.lists)))
   pub arcs : judged r (Arcs base) (holding (greedy_archive p g)) ≡ accepted (text_of_graph g)
   pub offsets : judged r (Offsets base) (holding (greedy_archive p g)) ≡ accepted (number_lines (places_of (offset_values p g.lists)))
+  pub show : (pages : List ℕ) → judged r (Show base pages) (holding (greedy_archive p g)) ≡ with_pages g.nodes pages (λ all. accepted (successors_lines g.lists pages))
   pub rank : (rounds damping top : ℕ) → judged r (Rank base rounds damping top) (holding (greedy_archive p g)) ≡ accepted (ranking_text r g rounds damping top)
 
 abbrev pub BuiltAreAccepted : Readings → Type 0

@@ -1,5 +1,5 @@
 -- What a job comes to, by what its inputs hold.
-use Rattle.std.specs.Prelude.{ℕ, List, [], ◌∷◌, ◌++◌, length, map, nat_lt, if◌then◌else◌, codes, decimal, Option, Some, None, Result, Ok, Err}
+use Rattle.std.specs.Prelude.{ℕ, List, [], ◌∷◌, ◌++◌, length, map, find, get_or, nat_le, nat_lt, if◌then◌else◌, codes, decimal, Option, Some, None, Result, Ok, Err}
 use Rattle.wg_io.specs.Puts.{joined}
 use Rattle.wg_io.specs.declared.limits.TheConstants.{MOST_BYTES}
 use Rattle.wg_params.specs.Parameters.{Parameters}
@@ -16,7 +16,7 @@ use Rattle.wg_transpose.specs.Transposed.{transposed}
 use Rattle.wg_arcs.specs.Text.{text_of_graph}
 use Rattle.wg_offsets.specs.Places.{last_place, record_length, pages_that_differ}
 use Rattle.wg_words.specs.declared.jobs.Job.{Job}
-use Rattle.wg_words.specs.declared.jobs.Job.TheVariants.{Check, Arcs, Offsets, Rank, Build, Recode, Transpose}
+use Rattle.wg_words.specs.declared.jobs.Job.TheVariants.{Check, Arcs, Offsets, Show, Rank, Build, Recode, Transpose}
 use Rattle.wg_words.specs.declared.layout.Layout.{Layout}
 use Rattle.wg_jobs.specs.Names.{writes_files}
 use Rattle.wg_jobs.specs.Readings.{Readings}
@@ -25,7 +25,7 @@ use Rattle.wg_jobs.specs.Written.{Archive, greedy_archive, params_for}
 use Rattle.wg_jobs.specs.declared.status.Input.{Input}
 use Rattle.wg_jobs.specs.declared.status.Input.TheVariants as input
 use Rattle.wg_jobs.specs.declared.status.Status.{Status}
-use Rattle.wg_jobs.specs.declared.status.Status.TheVariants.{Done, Missing, BadArcs, BadProperties, BadArchive, OverLimit}
+use Rattle.wg_jobs.specs.declared.status.Status.TheVariants.{Done, Missing, BadArcs, BadProperties, BadArchive, NoPage, OverLimit}
 
 -- a job is refused with a status; or it is done, with this on the output; or it is done with these files besides
 pub data Judged : Type 0 where
@@ -93,6 +93,28 @@ unless_some_differ (x ∷ rest) found stored next = refused (BadArchive (archive
 abbrev pub with_lengths : List ℕ → List ℕ → (Unit {0} → Judged) → Judged
 with_lengths found stored next = unless_some_differ (pages_that_differ found stored) found stored next
 
+abbrev pub unless_no_page : Option ℕ → (Unit {0} → Judged) → Judged
+unless_no_page None next = next tt
+unless_no_page (Some page) next = refused (NoPage page)
+
+-- goes on where a graph of so many pages has all of these; else the first that it does not have is refused
+abbrev pub with_pages : ℕ → List ℕ → (Unit {0} → Judged) → Judged
+with_pages n pages next = unless_no_page (find (λ page. nat_le n page) pages) next
+
+-- the line of a page: its number, and then its successors
+abbrev pub spaced : ℕ → List ℕ
+spaced v = codes " " ++ decimal v
+
+abbrev pub successors_line : ℕ → List ℕ → List ℕ
+successors_line page list = decimal page ++ joined (map spaced list) ++ codes "\n"
+
+-- the lines of some pages of a graph, in their order
+abbrev pub line_in : List (List ℕ) → ℕ → List ℕ
+line_in graph page = successors_line page (get_or graph page [])
+
+abbrev pub successors_lines : List (List ℕ) → List ℕ → List ℕ
+successors_lines graph pages = joined (map (line_in graph) pages)
+
 -- the line of an accepted archive: its pages, its arcs, and the bits of its records
 abbrev pub ok_line : Parameters → ℕ → List ℕ
 ok_line p bits = codes "ok nodes=" ++ decimal p.nodes ++ codes " arcs=" ++ decimal p.arcs ++ codes " bits=" ++ decimal bits ++ codes "\n"
@@ -130,16 +152,23 @@ with_records held next =
     with_file input.Properties (held input.Properties) (λ text. with_parameters text (λ p.
     with_file input.Graph (held input.Graph) (λ bytes. next p bytes)))
 
+-- goes on with the graph of an archive, and the places of its records, where its offsets file stores the same lengths
+abbrev pub with_archive : Readings → (Input → Option (List ℕ)) → (Parameters → Accepted → Judged) → Judged
+with_archive r held next =
+    with_records held (λ p bytes. with_graph r p bytes (λ a.
+    with_file input.Offsets (held input.Offsets) (λ more. with_offsets r p more (λ stored.
+    with_lengths a.places stored (λ same. next p a)))))
+
 -- Each command: its inputs in their order, and its output.
 abbrev pub judged : Readings → Job → (Input → Option (List ℕ)) → Judged
 judged r (Check base) held =
-    with_records held (λ p bytes. with_places r p bytes (λ places.
-    with_file input.Offsets (held input.Offsets) (λ more. with_offsets r p more (λ stored.
-    with_lengths places stored (λ same. accepted (ok_line p (last_place places)))))))
+    with_archive r held (λ p a. accepted (ok_line p (last_place a.places)))
 judged r (Arcs base) held =
     with_records held (λ p bytes. with_digraph r p bytes (λ g. accepted (text_of_graph g)))
 judged r (Offsets base) held =
     with_records held (λ p bytes. with_places r p bytes (λ places. accepted (number_lines places)))
+judged r (Show base pages) held =
+    with_archive r held (λ p a. with_pages p.nodes pages (λ all. accepted (successors_lines a.graph pages)))
 judged r (Rank base rounds damping top) held =
     with_records held (λ p bytes. with_digraph r p bytes (λ g. accepted (ranking_text r g rounds damping top)))
 judged r (Build arcs base nodes layout) held =

@@ -11,4 +11,5 @@ pub mod Performs
 pub mod Promised
 pub mod Ranked
 pub mod Readings
+pub mod Showing
 pub mod Written

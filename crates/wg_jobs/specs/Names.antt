@@ -6,7 +6,7 @@ use Rattle.wg_io.specs.declared.output.Output.{Output}
 use Rattle.wg_io.specs.declared.output.Output.TheVariants as output
 use Rattle.wg_io.specs.declared.suffixes.TheConstants.{PROPERTIES, GRAPH, OFFSETS}
 use Rattle.wg_words.specs.declared.jobs.Job.{Job}
-use Rattle.wg_words.specs.declared.jobs.Job.TheVariants.{Check, Arcs, Offsets, Rank, Build, Recode, Transpose}
+use Rattle.wg_words.specs.declared.jobs.Job.TheVariants.{Check, Arcs, Offsets, Show, Rank, Build, Recode, Transpose}
 use Rattle.wg_grammar.specs.declared.fault.ArchiveFault.{ArchiveFault}
 use Rattle.wg_grammar.specs.declared.fault.ArchiveFault.TheVariants as archive
 use Rattle.wg_jobs.specs.declared.status.Input.{Input}
@@ -66,6 +66,7 @@ abbrev pub inputs_of : Job → List (Input × List ℕ)
 inputs_of (Check base) = archive_files base
 inputs_of (Arcs base) = record_files base
 inputs_of (Offsets base) = record_files base
+inputs_of (Show base pages) = archive_files base
 inputs_of (Rank base rounds damping top) = record_files base
 inputs_of (Build arcs base nodes layout) = list_file arcs
 inputs_of (Recode base to layout) = record_files base
@@ -124,7 +125,8 @@ has_output job o = is_some (output_name job o)
 
 -- whether a job asks for pages by their numbers
 abbrev pub names_pages : Job → Bool
-names_pages job = false
+names_pages (Show base pages) = true
+names_pages _ = false
 
 -- the file in which a fault of an archive lies
 abbrev pub file_of_fault : ArchiveFault → Input

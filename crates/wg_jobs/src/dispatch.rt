@@ -12,6 +12,7 @@ use crate::ending::Ending;
 use crate::offsets::offsets;
 use crate::rank::{Asked, rank};
 use crate::recode::recode;
+use crate::show::show;
 use crate::transpose::transpose;
 use std::alloc::Global;
 use wg_io::{Depot, Sink};
@@ -37,6 +38,7 @@ pub fn perform<D: Depot, O: Sink>(alloc: Global, job: &Job, depot: &mut D, out: 
         Job::Check { base } => ending_of(check(alloc, base, depot, out)),
         Job::Arcs { base } => ending_of(arcs(alloc, base, depot, out)),
         Job::Offsets { base } => ending_of(offsets(alloc, base, depot, out)),
+        Job::Show { base, pages } => ending_of(show(alloc, base, pages, depot, out)),
         Job::Rank {
             base,
             rounds,

@@ -18,7 +18,8 @@ pub fn rankings()
 {}
 
 /// What is built is accepted. Of the archive of any graph within the limits, `check` prints the pages, the arcs and the bits of the
-/// records, `arcs` the arcs of the graph, `offsets` the places of the records that were written, and `rank` the ranking of the graph.
+/// records, `arcs` the arcs of the graph, `offsets` the places of the records that were written, `show` the successors that pages have
+/// in the graph, and `rank` the ranking of the graph.
 /// And whatever arc list `build` took, with pages and a layout within the limits, `check` accepts the three files that it wrote, and
 /// prints the very line that it printed.
 pub fn built_archives()

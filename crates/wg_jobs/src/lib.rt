@@ -11,7 +11,7 @@
 //! exactly one such function, and that an archive that was built is accepted.
 //!
 //! `check`, `arcs`, `offsets` and `recode` read the graph and the offsets in pieces, so that an archive need not fit into memory; all
-//! other inputs are held whole.
+//! other inputs are held whole. `show` opens pages by their offsets, and prints their successors as they come.
 #![tactic(auto)]
 
 mod archive;
@@ -34,6 +34,8 @@ mod rank;
 mod ranked;
 mod recode;
 mod records;
+mod show;
+mod shown;
 mod status;
 mod text;
 mod transpose;

@@ -29,8 +29,8 @@ fn print<O: Sink>(out: &mut O, piece: &[u8]) -> Result<(), Ending>
     }
 }
 
-// How a job ends whose output the sink does not take.
-fn output_ending(error: WriteError) -> Ending
+/// How a job ends whose output the sink does not take.
+pub fn output_ending(error: WriteError) -> Ending
     ensures only { IsUnput result.status }
     ensures fault { result.status ≡ Status.WriteFault Out → error ≡ WriteError.Failed }
     ensures want { result.status ≡ Status.Memory → error ≡ WriteError.Memory }

@@ -1,8 +1,8 @@
-//! What `check`, `arcs` and `offsets` say of archives, and `rank` of some.
+//! What `check`, `arcs`, `offsets` and `show` say of archives, and `rank` of some.
 use super::rankings::RANKINGS;
 use super::*;
 use std::process::Abort;
-use wg_vectors::{ARCHIVES, BAD_GRAPHS, BAD_OFFSETS, LONGER, PLAIN, Refused, Shape};
+use wg_vectors::{ARCHIVES, BAD_GRAPHS, BAD_OFFSETS, COPIED, LONGER, PLAIN, Refused, Shape};
 
 // The three files of an archive.
 #[derive(Drop)]
@@ -100,6 +100,38 @@ fn place_lines(alloc: Global, archive: &Archive) -> Result<String, Fail> {
     Ok(text)
 }
 
+// The line that asks for all pages.
+fn line_of_pages(alloc: Global, archive: &Archive) -> Result<String, Fail> {
+    let mut line = String::from_str(alloc, "show g")?;
+    for page in 0..archive.nodes {
+        line.push_str(format!(in alloc; " {page}")?.as_str())?;
+    }
+    Ok(line)
+}
+
+// A line for each page: its number, and then its successors.
+fn page_lines(alloc: Global, archive: &Archive) -> Result<String, Fail> {
+    let mut text = String::new(alloc);
+    for (page, list) in archive.lists.iter().enumerate() {
+        text.push_str(format!(in alloc; "{page}")?.as_str())?;
+        for successor in list.iter() {
+            text.push_str(format!(in alloc; " {successor}")?.as_str())?;
+        }
+        text.push_str("\n")?;
+    }
+    Ok(text)
+}
+
+// Whether all pages are shown as they are, if there is one.
+fn shows_all(alloc: Global, archive: &Archive, files: &Files) -> Result<bool, Fail> {
+    if archive.nodes == 0 {
+        return Ok(true);
+    }
+    let line = line_of_pages(alloc, archive)?;
+    let pages = page_lines(alloc, archive)?;
+    does_say(alloc, &line, files, 0, &pages, "")
+}
+
 #[test]
 fn accepted_archives(rt: HostRuntime) -> Result<(), Fail> {
     let alloc = rt.alloc();
@@ -115,16 +147,86 @@ fn accepted_archives(rt: HostRuntime) -> Result<(), Fail> {
             does_say(alloc, "offsets g", &files, 0, &places, "")?,
             "{name}"
         );
+        assert!(rt; shows_all(alloc, archive, &files)?, "{name}");
     }
     Ok(())
 }
 
-// Whether `check` says of a file what the row says, and nothing else.
+// A line about an archive with pages 0 to 2: its status, what is printed, and what is said on standard error.
+struct Shown {
+    line: &'static str,
+    code: u8,
+    printed: &'static str,
+    told: &'static str,
+}
+
+const SHOWN: [Shown; 7] = [
+    Shown {
+        line: "show g 1 2",
+        code: 0,
+        printed: "1 1 2\n2\n",
+        told: "",
+    },
+    Shown {
+        line: "show g 2 0 -- 0",
+        code: 0,
+        printed: "2\n0 1 2\n0 1 2\n",
+        told: "",
+    },
+    Shown {
+        line: "show g 1 5",
+        code: 10,
+        printed: "",
+        told: "wg: no page 5\n",
+    },
+    Shown {
+        line: "show g 3 0 5",
+        code: 10,
+        printed: "",
+        told: "wg: no page 3\n",
+    },
+    Shown {
+        line: "show g 18446744073709551615",
+        code: 10,
+        printed: "",
+        told: "wg: no page 18446744073709551615\n",
+    },
+    Shown {
+        line: "show g 18446744073709551616",
+        code: 2,
+        printed: "",
+        told: "wg: bad command line\n",
+    },
+    Shown {
+        line: "show h 5",
+        code: 6,
+        printed: "",
+        told: "wg: missing: h.properties\n",
+    },
+];
+
+#[test]
+fn shown_pages(rt: HostRuntime) -> Result<(), Fail> {
+    let files = files_of_archive(rt.alloc(), &COPIED)?;
+    for row in &SHOWN {
+        let line = row.line;
+        assert!(rt;
+            does_say(rt.alloc(), line, &files, row.code, row.printed, row.told)?,
+            "{line}"
+        );
+    }
+    Ok(())
+}
+
+// Whether `check` and `show` say of a file what the row says, and nothing else: the page is not looked for.
 fn is_refused(alloc: Global, x: &Refused, file: &str) -> Result<bool, Fail> {
     let fault = x.fault;
     let told = format!(in alloc; "wg: {file}: {fault}\n")?;
     let files = files_of(alloc, x.nodes, x.arcs, &x.shape, x.graph, x.offsets)?;
-    does_say(alloc, "check g", &files, 9, "", &told)
+    Ok(
+        does_say(alloc, "check g", &files, 9, "", &told)?
+            && does_say(alloc, "show g 68719476736", &files, 9, "", &told)?,
+    )
 }
 
 // Each row of a table is to be refused as it says, for this file.
@@ -191,5 +293,14 @@ fn a_chain_of_references(rt: HostRuntime) -> Result<(), Fail> {
             "{chain:?}"
         );
     }
+    Ok(())
+}
+
+// The last page is too deep to be opened, and is listed.
+#[test]
+fn pages_of_a_long_chain(rt: HostRuntime) -> Result<(), Fail> {
+    let files = chain_of_257_pages(rt.alloc(), None)?;
+    let pages = "0 0 1\n256 0 1\n255 0 1\n";
+    assert!(rt; does_say(rt.alloc(), "show g 0 256 255", &files, 0, pages, "")?);
     Ok(())
 }

@@ -1,6 +1,6 @@
 //! Lines that ask for a job, and lines that do not.
 
-pub const JOBS: [&str; 17] = [
+pub const JOBS: [&str; 18] = [
     "check g",
     "arcs g",
     "offsets g",
@@ -13,6 +13,7 @@ pub const JOBS: [&str; 17] = [
     "arcs -- --help",
     "check g.graph",
     "check check",
+    "show g 0 18446744073709551615",
     "rank g",
     "rank g --rounds 10000 --damping 999 --top 68719476735",
     "build a g --nodes 1",
@@ -20,7 +21,8 @@ pub const JOBS: [&str; 17] = [
     "transpose --chain none g h --offsets delta",
 ];
 
-pub const NO_JOBS: [&str; 19] = [
+pub const NO_JOBS: [&str; 20] = [
+    "show g",
     "rank g --damping 1000",
     "rank g --rounds 1 --rounds 2",
     "",

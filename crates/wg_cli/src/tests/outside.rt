@@ -262,10 +262,10 @@ fn code_at_read(alloc: Global, line: &str, k: u64) -> Result<(u8, bool), Fail>
     Ok((status.code(), out.bytes().is_empty()))
 }
 
-// `check` reads three files once, the others two, and one of them twice.
+// `check` and `show` read three files once, the others two, and one of them twice.
 #[test]
 fn each_read_fails_once(rt: HostRuntime) -> Result<(), Fail> {
-    for line in ["check g", "arcs g", "offsets g"] {
+    for line in ["check g", "arcs g", "offsets g", "show g 0"] {
         for k in 1..11_u64 {
             let wanted = if k < 10 { (4, true) } else { (0, false) };
             assert!(rt; code_at_read(rt.alloc(), line, k)? == wanted, "{line}: {k}");

@@ -10,6 +10,9 @@ returns-in-Arcs g c = performs_at _ _ _ _ _ _ _ _ _ _ c.in-Arcs.is c.ending_of-i
 pub returns-in-Offsets : goal.returns-in-Offsets
 returns-in-Offsets g c = performs_at _ _ _ _ _ _ _ _ _ _ c.in-Offsets.is c.ending_of-in-Offsets.ensures.status c.ending_of-in-Offsets.ensures.arcs c.offsets.ensures
 
+pub returns-in-Show : goal.returns-in-Show
+returns-in-Show g c = performs_at _ _ _ _ _ _ _ _ _ _ c.in-Show.is c.ending_of-in-Show.ensures.status c.ending_of-in-Show.ensures.arcs c.show.ensures
+
 pub returns-in-Rank : goal.returns-in-Rank
 returns-in-Rank g c = performs_at _ _ _ _ _ _ _ _ _ _ c.in-Rank.is c.ending_of-in-Rank.ensures.status c.ending_of-in-Rank.ensures.arcs c.rank.ensures
 
