@@ -1,5 +1,6 @@
-use crate::{Status, run};
+use crate::run;
 use std::alloc::Global;
+use std::process::Abort;
 use std::test::Fail;
 use wg_io::{Depot, MemoryDepot, MemorySink, Sink, SteadyDepot, SteadySink, ZeroDepot};
 use wg_vectors::{Archive, bytes_of};
@@ -23,6 +24,53 @@ fn words_of(alloc: Global, line: &str) -> Result<Words, Fail> {
         }
     }
     Ok(words)
+}
+
+// Runs a line over an outside: the exit status and what is reported.
+fn report_of<D: Depot, O: Sink>(
+    alloc: Global,
+    line: &str,
+    depot: &mut D,
+    out: &mut O,
+) -> Result<(u8, SteadySink), Fail> {
+    let words = words_of(alloc, line)?;
+    let mut err = SteadySink::new(alloc, 4096);
+    let status = run(alloc, &words, depot, out, &mut err);
+    Ok((status.code(), err))
+}
+
+// The same, and what is printed between them.
+fn told<D: Depot>(
+    alloc: Global,
+    line: &str,
+    depot: &mut D,
+) -> Result<(u8, SteadySink, SteadySink), Fail> {
+    let mut out = SteadySink::new(alloc, 4096);
+    let (code, err) = report_of(alloc, line, depot, &mut out)?;
+    Ok((code, out, err))
+}
+
+// Whether a line ends with this status and reports this, and prints nothing.
+fn refuses<D: Depot>(
+    alloc: Global,
+    line: &str,
+    depot: &mut D,
+    code: u8,
+    report: &str,
+) -> Result<bool, Fail> {
+    let (found, out, err) = told(alloc, line, depot)?;
+    Ok(found == code && out.bytes().is_empty() && err.bytes() == report.as_bytes())
+}
+
+// Puts a file into a depot. A caller need not know what the depot then holds.
+fn put(depot: &mut MemoryDepot, name: &str, bytes: &[u8]) -> Result<(), Fail> {
+    depot.put_file(name, bytes)?;
+    Ok(())
+}
+
+fn put_steady(depot: &mut SteadyDepot, name: &str, bytes: &[u8]) -> Result<(), Fail> {
+    depot.put_file(name, bytes)?;
+    Ok(())
 }
 
 // What `check` prints of an archive that is in order.

@@ -1,7 +1,6 @@
 //! What `check`, `arcs`, `offsets` and `show` say of archives, and `rank` of some.
-use super::rankings::RANKINGS;
+use super::rankings::{RANKINGS, Ranking};
 use super::*;
-use std::process::Abort;
 use wg_vectors::{ARCHIVES, BAD_GRAPHS, BAD_OFFSETS, COPIED, LONGER, PLAIN, Refused, Shape};
 
 // The three files of an archive.
@@ -48,29 +47,27 @@ fn files_of_archive(alloc: Global, x: &Archive) -> Result<Files, Fail> {
     files_of(alloc, x.nodes, x.arcs, &x.shape, x.graph, x.offsets)
 }
 
-// The status that a line ends with, what it prints, and what it says on standard error.
-#[derive(Drop)]
-struct Said {
+// Whether a line ends with this status and says this of an archive, where at most `piece` bytes move at once.
+fn says(
+    alloc: Global,
+    line: &str,
+    piece: u64,
+    files: &Files,
     code: u8,
-    out: SteadySink,
-    err: SteadySink,
-}
-
-// What a line says of an archive, whose depot and sinks move at most `piece` bytes at once.
-fn says(alloc: Global, line: &str, piece: u64, files: &Files) -> Result<Said, Fail> {
+    printed: &str,
+    told: &str,
+) -> Result<bool, Fail> {
     let piece = piece.max(1);
     let mut depot = SteadyDepot::new(alloc, piece);
-    depot.put_file("g.properties", files.properties.as_bytes())?;
-    depot.put_file("g.graph", &files.graph)?;
-    depot.put_file("g.offsets", &files.offsets)?;
+    put_steady(&mut depot, "g.properties", files.properties.as_bytes())?;
+    put_steady(&mut depot, "g.graph", &files.graph)?;
+    put_steady(&mut depot, "g.offsets", &files.offsets)?;
     let mut out = SteadySink::new(alloc, piece);
-    let mut err = SteadySink::new(alloc, piece);
-    let words = words_of(alloc, line)?;
-    let code = run(alloc, &words, &mut depot, &mut out, &mut err).code();
-    Ok(Said { code, out, err })
+    let (found, err) = report_of(alloc, line, &mut depot, &mut out)?;
+    Ok(found == code && out.bytes() == printed.as_bytes() && err.bytes() == told.as_bytes())
 }
 
-// Whether a line ends with this status and says this, however much moves at once.
+// The same, however much moves at once.
 fn does_say(
     alloc: Global,
     line: &str,
@@ -80,11 +77,7 @@ fn does_say(
     told: &str,
 ) -> Result<bool, Fail> {
     for piece in [1, 3, 4096] {
-        let said = says(alloc, line, piece, files)?;
-        if said.code != code
-            || said.out.bytes() != printed.as_bytes()
-            || said.err.bytes() != told.as_bytes()
-        {
+        if !says(alloc, line, piece, files, code, printed, told)? {
             return Ok(false);
         }
     }
@@ -132,24 +125,31 @@ fn shows_all(alloc: Global, archive: &Archive, files: &Files) -> Result<bool, Fa
     does_say(alloc, &line, files, 0, &pages, "")
 }
 
-#[test]
-fn accepted_archives(rt: HostRuntime) -> Result<(), Fail> {
-    let alloc = rt.alloc();
-    for archive in ARCHIVES.iter().chain(LONGER.iter()) {
-        let files = files_of_archive(alloc, archive)?;
-        let ok = ok_line(alloc, archive)?;
-        let arcs = arc_lines(alloc, archive)?;
-        let places = place_lines(alloc, archive)?;
-        let name = archive.name;
-        assert!(rt; does_say(alloc, "check g", &files, 0, &ok, "")?, "{name}");
-        assert!(rt; does_say(alloc, "arcs g", &files, 0, &arcs, "")?, "{name}");
-        assert!(rt;
-            does_say(alloc, "offsets g", &files, 0, &places, "")?,
-            "{name}"
-        );
-        assert!(rt; shows_all(alloc, archive, &files)?, "{name}");
+// Whether `check` accepts an archive, and `arcs`, `offsets` and `show` print what it has.
+fn is_accepted(alloc: Global, archive: &Archive) -> Result<bool, Fail> {
+    let files = files_of_archive(alloc, archive)?;
+    let ok = ok_line(alloc, archive)?;
+    let arcs = arc_lines(alloc, archive)?;
+    let places = place_lines(alloc, archive)?;
+    Ok(
+        does_say(alloc, "check g", &files, 0, &ok, "")?
+            && does_say(alloc, "arcs g", &files, 0, &arcs, "")?
+            && does_say(alloc, "offsets g", &files, 0, &places, "")?
+            && shows_all(alloc, archive, &files)?,
+    )
+}
+
+fn are_accepted(rt: &impl Abort, alloc: Global, table: &[Archive]) -> Result<(), Fail> {
+    for archive in table {
+        assert!(rt; is_accepted(alloc, archive)?, "{}", archive.name);
     }
     Ok(())
+}
+
+#[test]
+fn accepted_archives(rt: HostRuntime) -> Result<(), Fail> {
+    are_accepted(&rt, rt.alloc(), &ARCHIVES)?;
+    are_accepted(&rt, rt.alloc(), &LONGER)
 }
 
 // A line about an archive with pages 0 to 2: its status, what is printed, and what is said on standard error.
@@ -205,17 +205,21 @@ const SHOWN: [Shown; 7] = [
     },
 ];
 
-#[test]
-fn shown_pages(rt: HostRuntime) -> Result<(), Fail> {
-    let files = files_of_archive(rt.alloc(), &COPIED)?;
-    for row in &SHOWN {
-        let line = row.line;
-        assert!(rt;
-            does_say(rt.alloc(), line, &files, row.code, row.printed, row.told)?,
-            "{line}"
-        );
+fn is_shown(alloc: Global, files: &Files, row: &Shown) -> Result<bool, Fail> {
+    does_say(alloc, row.line, files, row.code, row.printed, row.told)
+}
+
+fn are_shown(rt: &impl Abort, alloc: Global, table: &[Shown]) -> Result<(), Fail> {
+    let files = files_of_archive(alloc, &COPIED)?;
+    for row in table {
+        assert!(rt; is_shown(alloc, &files, row)?, "{}", row.line);
     }
     Ok(())
+}
+
+#[test]
+fn shown_pages(rt: HostRuntime) -> Result<(), Fail> {
+    are_shown(&rt, rt.alloc(), &SHOWN)
 }
 
 // Whether `check` and `show` say of a file what the row says, and nothing else: the page is not looked for.
@@ -247,17 +251,21 @@ fn refused_archives(rt: HostRuntime) -> Result<(), Fail> {
     are_refused(&rt, rt.alloc(), &BAD_OFFSETS, "g.offsets")
 }
 
-#[test]
-fn printed_rankings(rt: HostRuntime) -> Result<(), Fail> {
-    for ranking in &RANKINGS {
-        let files = files_of_archive(rt.alloc(), &ranking.archive)?;
-        let line = ranking.line;
-        assert!(rt;
-            does_say(rt.alloc(), line, &files, 0, ranking.text, "")?,
-            "{line}"
-        );
+fn is_printed(alloc: Global, ranking: &Ranking) -> Result<bool, Fail> {
+    let files = files_of_archive(alloc, &ranking.archive)?;
+    does_say(alloc, ranking.line, &files, 0, ranking.text, "")
+}
+
+fn are_printed(rt: &impl Abort, alloc: Global, table: &[Ranking]) -> Result<(), Fail> {
+    for ranking in table {
+        assert!(rt; is_printed(alloc, ranking)?, "{}", ranking.line);
     }
     Ok(())
+}
+
+#[test]
+fn printed_rankings(rt: HostRuntime) -> Result<(), Fail> {
+    are_printed(&rt, rt.alloc(), &RANKINGS)
 }
 
 // Page 0 has the successors 0 and 1, and each later page refers to the one before and copies both. Each record has 6
@@ -277,22 +285,23 @@ fn chain_of_257_pages(alloc: Global, chain: Option<u64>) -> Result<Files, Fail> 
     files_of(alloc, 257, 514, &shape, &graph, &offsets)
 }
 
+fn is_accepted_chain(alloc: Global, chain: Option<u64>) -> Result<bool, Fail> {
+    let files = chain_of_257_pages(alloc, chain)?;
+    let ok = "ok nodes=257 arcs=514 bits=1542\n";
+    does_say(alloc, "check g", &files, 0, ok, "")
+}
+
+fn is_refused_chain(alloc: Global, chain: Option<u64>) -> Result<bool, Fail> {
+    let files = chain_of_257_pages(alloc, chain)?;
+    let fault = "wg: g.graph: page 256 bit 1539 reference chain\n";
+    does_say(alloc, "check g", &files, 9, "", fault)
+}
+
 #[test]
 fn a_chain_of_references(rt: HostRuntime) -> Result<(), Fail> {
-    let alloc = rt.alloc();
-    let ok = "ok nodes=257 arcs=514 bits=1542\n";
-    let fault = "wg: g.graph: page 256 bit 1539 reference chain\n";
-    for (chain, code, printed, told) in [
-        (None, 0, ok, ""),
-        (Some(256), 0, ok, ""),
-        (Some(255), 9, "", fault),
-    ] {
-        let files = chain_of_257_pages(alloc, chain)?;
-        assert!(rt;
-            does_say(alloc, "check g", &files, code, printed, told)?,
-            "{chain:?}"
-        );
-    }
+    assert!(rt; is_accepted_chain(rt.alloc(), None)?);
+    assert!(rt; is_accepted_chain(rt.alloc(), Some(256))?);
+    assert!(rt; is_refused_chain(rt.alloc(), Some(255))?);
     Ok(())
 }
 

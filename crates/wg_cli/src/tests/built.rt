@@ -4,25 +4,11 @@ ghost use Rattle.std.specs.Prelude.{◌≤◌};
 use super::conversions::{REVERSED, put_records};
 use super::lists::{
     BUILD_COPIED, BUILT, Built, COPIED_ARCS, COPIED_OK, COPIED_PROPERTIES, Held, NO_FILES, STOPPED,
-    Stopped, UNBUILT,
+    Stopped, UNBUILT, Unbuilt,
 };
 use super::*;
-use std::process::Abort;
 use wg_io::{LoadError, read_whole};
 use wg_vectors::COPIED;
-
-/// Runs a line over a depot: its status, what is printed and what is reported.
-pub fn told<D: Depot>(
-    alloc: Global,
-    line: &str,
-    depot: &mut D,
-) -> Result<(u8, SteadySink, SteadySink), Fail> {
-    let words = words_of(alloc, line)?;
-    let mut out = SteadySink::new(alloc, 4096);
-    let mut err = SteadySink::new(alloc, 4096);
-    let status = run(alloc, &words, depot, &mut out, &mut err);
-    Ok((status.code(), out, err))
-}
 
 /// Whether a line ends with status 0 and prints this.
 pub fn prints<D: Depot>(
@@ -79,7 +65,7 @@ fn is_built(alloc: Global, built: &Built, piece: u64) -> Result<bool, Fail>
     let list = arc_lines(alloc, archive)?;
     let ok = ok_line(alloc, archive)?;
     let mut depot = SteadyDepot::new(alloc, piece);
-    depot.put_file("a", list.as_bytes())?;
+    put_steady(&mut depot, "a", list.as_bytes())?;
     Ok(
         prints(alloc, built.line, &mut depot, &ok)?
             && holds_bits(alloc, &mut depot, "g.graph", Some(archive.graph))?
@@ -89,48 +75,64 @@ fn is_built(alloc: Global, built: &Built, piece: u64) -> Result<bool, Fail>
     )
 }
 
+fn are_built(rt: &impl Abort, alloc: Global, table: &[Built]) -> Result<(), Fail> {
+    for built in table {
+        assert!(rt; is_built(alloc, built, 1)?, "{}", built.line);
+        assert!(rt; is_built(alloc, built, 4096)?, "{}", built.line);
+    }
+    Ok(())
+}
+
+// Whether the properties of the archive with a copied list are written as they should be.
+fn has_copied_properties(alloc: Global) -> Result<bool, Fail> {
+    let mut depot = SteadyDepot::new(alloc, 3);
+    put_steady(&mut depot, "a", COPIED_ARCS.as_bytes())?;
+    let properties = COPIED_PROPERTIES.as_bytes();
+    Ok(
+        prints(alloc, BUILD_COPIED, &mut depot, COPIED_OK)?
+            && holds(alloc, &mut depot, "g.properties", Some(properties))?,
+    )
+}
+
 #[test]
 fn archives_of_small_lists(rt: HostRuntime) -> Result<(), Fail> {
-    for built in &BUILT {
-        assert!(rt; is_built(rt.alloc(), built, 1)?, "{}", built.line);
-        assert!(rt; is_built(rt.alloc(), built, 4096)?, "{}", built.line);
-    }
-    let mut depot = SteadyDepot::new(rt.alloc(), 3);
-    depot.put_file("a", COPIED_ARCS.as_bytes())?;
-    assert!(rt; prints(rt.alloc(), BUILD_COPIED, &mut depot, COPIED_OK)?);
-    assert!(rt;
-        holds(
-            rt.alloc(),
+    are_built(&rt, rt.alloc(), &BUILT)?;
+    assert!(rt; has_copied_properties(rt.alloc())?);
+    Ok(())
+}
+
+// Whether a list is refused as its row says, and no file is written.
+fn is_unbuilt(alloc: Global, unbuilt: &Unbuilt) -> Result<bool, Fail> {
+    let mut depot = SteadyDepot::new(alloc, 3);
+    put_steady(&mut depot, "a", unbuilt.list.as_bytes())?;
+    Ok(
+        refuses(
+            alloc,
+            unbuilt.line,
             &mut depot,
-            "g.properties",
-            Some(COPIED_PROPERTIES.as_bytes())
-        )?
-    );
+            unbuilt.code,
+            unbuilt.report,
+        )? && hold(alloc, &mut depot, &NO_FILES)?,
+    )
+}
+
+fn are_unbuilt(rt: &impl Abort, alloc: Global, table: &[Unbuilt]) -> Result<(), Fail> {
+    for unbuilt in table {
+        assert!(rt; is_unbuilt(alloc, unbuilt)?, "{}", unbuilt.line);
+    }
     Ok(())
 }
 
 #[test]
 fn lists_that_are_refused(rt: HostRuntime) -> Result<(), Fail> {
-    for unbuilt in &UNBUILT {
-        let line = unbuilt.line;
-        let mut depot = SteadyDepot::new(rt.alloc(), 3);
-        depot.put_file("a", unbuilt.list.as_bytes())?;
-        let (code, out, err) = told(rt.alloc(), line, &mut depot)?;
-        assert!(rt;
-            code == unbuilt.code && err.bytes() == unbuilt.report.as_bytes(),
-            "{line}"
-        );
-        assert!(rt; out.bytes().is_empty(), "{line}");
-        assert!(rt; hold(rt.alloc(), &mut depot, &NO_FILES)?, "{line}");
-    }
-    Ok(())
+    are_unbuilt(&rt, rt.alloc(), &UNBUILT)
 }
 
 // Whether a line that writes the archive with a copied list, and is stopped as the row says, reports this, and leaves the files so.
 fn is_stopped(rt: &impl Abort, alloc: Global, line: &str, stopped: &Stopped) -> Result<bool, Fail> {
     assert!(rt; stopped.piece > 0 && stopped.create < 10 && stopped.append < 10);
     let mut depot = MemoryDepot::new(alloc, stopped.piece);
-    depot.put_file("a", COPIED_ARCS.as_bytes())?;
+    put(&mut depot, "a", COPIED_ARCS.as_bytes())?;
     put_records(alloc, &mut depot, "i.properties", "i.graph", &COPIED)?;
     put_records(alloc, &mut depot, "t.properties", "t.graph", &REVERSED)?;
     if stopped.create > 0 {
@@ -139,28 +141,29 @@ fn is_stopped(rt: &impl Abort, alloc: Global, line: &str, stopped: &Stopped) -> 
     if stopped.append > 0 {
         depot.fail_append(stopped.append);
     }
-    let (code, out, err) = told(alloc, line, &mut depot)?;
     Ok(
-        code == 5
-            && out.bytes().is_empty()
-            && err.bytes() == stopped.report.as_bytes()
+        refuses(alloc, line, &mut depot, 5, stopped.report)?
             && hold(alloc, &mut depot, &stopped.held)?,
     )
 }
 
-#[test]
-fn each_file_stops_once(rt: HostRuntime) -> Result<(), Fail> {
-    for stopped in &STOPPED {
-        for line in [BUILD_COPIED, "recode i g", "transpose t g"] {
-            assert!(rt;
-                is_stopped(&rt, rt.alloc(), line, stopped)?,
-                "{line}: create {}, append {}",
-                stopped.create,
-                stopped.append
-            );
-        }
+fn each_stops(rt: &impl Abort, alloc: Global, line: &str, table: &[Stopped]) -> Result<(), Fail> {
+    for stopped in table {
+        assert!(rt;
+            is_stopped(rt, alloc, line, stopped)?,
+            "{line}: create {}, append {}",
+            stopped.create,
+            stopped.append
+        );
     }
     Ok(())
+}
+
+#[test]
+fn each_file_stops_once(rt: HostRuntime) -> Result<(), Fail> {
+    each_stops(&rt, rt.alloc(), BUILD_COPIED, &STOPPED)?;
+    each_stops(&rt, rt.alloc(), "recode i g", &STOPPED)?;
+    each_stops(&rt, rt.alloc(), "transpose t g", &STOPPED)
 }
 
 #[test]
@@ -179,12 +182,10 @@ fn a_stopped_archive_is_refused(rt: HostRuntime) -> Result<(), Fail> {
 fn the_output_fails_after_the_files(rt: HostRuntime) -> Result<(), Fail> {
     let mut depot = SteadyDepot::new(rt.alloc(), 4096);
     depot.put_file("a", COPIED_ARCS.as_bytes())?;
-    let words = words_of(rt.alloc(), BUILD_COPIED)?;
     let mut out = MemorySink::new(rt.alloc(), 4096);
     out.fail_write(1);
-    let mut err = SteadySink::new(rt.alloc(), 4096);
-    let status = run(rt.alloc(), &words, &mut depot, &mut out, &mut err);
-    assert!(rt; status.code() == 5);
+    let (code, _) = report_of(rt.alloc(), BUILD_COPIED, &mut depot, &mut out)?;
+    assert!(rt; code == 5);
     assert!(rt; prints(rt.alloc(), "check g", &mut depot, COPIED_OK)?);
     Ok(())
 }

@@ -1,7 +1,7 @@
 //! What `recode` and `transpose` write, and archives that they refuse.
 ghost use Rattle.std.specs.Prelude.{◌≤◌};
 
-use super::built::{holds, holds_bits, prints, told};
+use super::built::{holds, holds_bits, prints};
 use super::*;
 use wg_vectors::{COPIED, COPIED_DELTA, COPIED_GRAPH, ONE_ARC, PLAIN_ARC};
 
@@ -79,18 +79,14 @@ pub fn put_records(
     graph: &str,
     archive: &Archive,
 ) -> Result<(), Fail> {
-    depot.put_file(properties, properties_of(alloc, archive)?.as_bytes())?;
-    depot.put_file(graph, &bytes_of(alloc, archive.graph)?)?;
-    Ok(())
+    put(depot, properties, properties_of(alloc, archive)?.as_bytes())?;
+    put(depot, graph, &bytes_of(alloc, archive.graph)?)
 }
 
-// Whether the line writes the archive that it should, which is accepted and has the arcs of its lists.
+// Whether the line writes the archive that it should, which is accepted and has the arcs of its lists; the input is as before.
 fn is_converted(alloc: Global, converted: &Converted, piece: u64) -> Result<bool, Fail>
     requires { 1 ≤ piece }
 {
-    let output = &converted.output;
-    let ok = ok_line(alloc, output)?;
-    let properties = properties_of(alloc, output)?;
     let mut depot = MemoryDepot::new(alloc, piece);
     put_records(
         alloc,
@@ -100,30 +96,50 @@ fn is_converted(alloc: Global, converted: &Converted, piece: u64) -> Result<bool
         &converted.input,
     )?;
     Ok(
-        prints(alloc, converted.line, &mut depot, &ok)?
-            && holds(
-                alloc,
-                &mut depot,
-                "h.properties",
-                Some(properties.as_bytes()),
-            )?
-            && holds_bits(alloc, &mut depot, "h.graph", Some(output.graph))?
-            && holds_bits(alloc, &mut depot, "h.offsets", Some(output.offsets))?
-            && prints(alloc, "check h", &mut depot, &ok)?
-            && prints(alloc, "arcs h", &mut depot, &arc_lines(alloc, output)?)?
+        writes(alloc, converted.line, &mut depot, &converted.output)?
             && holds_bits(alloc, &mut depot, "g.graph", Some(converted.input.graph))?
             && holds(alloc, &mut depot, "g.offsets", None)?,
     )
 }
 
-#[test]
-fn archives_of_archives(rt: HostRuntime) -> Result<(), Fail> {
-    for converted in &CONVERTED {
+// Whether the line writes this archive into the files of h, which are accepted and have the arcs of its lists.
+fn writes(
+    alloc: Global,
+    line: &str,
+    depot: &mut MemoryDepot,
+    archive: &Archive,
+) -> Result<bool, Fail> {
+    let ok = ok_line(alloc, archive)?;
+    let arcs = arc_lines(alloc, archive)?;
+    Ok(
+        prints(alloc, line, depot, &ok)?
+            && has_files(alloc, depot, archive)?
+            && prints(alloc, "check h", depot, &ok)?
+            && prints(alloc, "arcs h", depot, &arcs)?,
+    )
+}
+
+fn has_files(alloc: Global, depot: &mut MemoryDepot, archive: &Archive) -> Result<bool, Fail> {
+    let properties = properties_of(alloc, archive)?;
+    Ok(
+        holds(alloc, depot, "h.properties", Some(properties.as_bytes()))?
+            && holds_bits(alloc, depot, "h.graph", Some(archive.graph))?
+            && holds_bits(alloc, depot, "h.offsets", Some(archive.offsets))?,
+    )
+}
+
+fn are_converted(rt: &impl Abort, alloc: Global, table: &[Converted]) -> Result<(), Fail> {
+    for converted in table {
         let line = converted.line;
-        assert!(rt; is_converted(rt.alloc(), converted, 1)?, "{line}");
-        assert!(rt; is_converted(rt.alloc(), converted, 4096)?, "{line}");
+        assert!(rt; is_converted(alloc, converted, 1)?, "{line}");
+        assert!(rt; is_converted(alloc, converted, 4096)?, "{line}");
     }
     Ok(())
+}
+
+#[test]
+fn archives_of_archives(rt: HostRuntime) -> Result<(), Fail> {
+    are_converted(&rt, rt.alloc(), &CONVERTED)
 }
 
 // A line over an archive g whose graph file holds these bits: the status and the line of error.
@@ -167,29 +183,39 @@ const UNCONVERTED: [Unconverted; 5] = [
     },
 ];
 
-#[test]
-fn archives_that_are_refused(rt: HostRuntime) -> Result<(), Fail> {
-    for row in &UNCONVERTED {
-        let line = row.line;
-        let input = Archive {
-            graph: row.graph,
-            ..COPIED
-        };
-        let mut depot = MemoryDepot::new(rt.alloc(), 3);
-        put_records(rt.alloc(), &mut depot, "g.properties", "g.graph", &input)?;
-        let (code, out, err) = told(rt.alloc(), line, &mut depot)?;
-        assert!(rt;
-            code == row.code && err.bytes() == row.report.as_bytes(),
-            "{line}"
-        );
-        assert!(rt; out.bytes().is_empty(), "{line}");
-        for name in ["h.properties", "h.graph", "h.offsets", "g.offsets"] {
-            assert!(rt; holds(rt.alloc(), &mut depot, name, None)?, "{line}");
+// Whether the line ends as its row says, and no file has changed.
+fn is_unconverted(alloc: Global, row: &Unconverted) -> Result<bool, Fail> {
+    let input = Archive {
+        graph: row.graph,
+        ..COPIED
+    };
+    let mut depot = MemoryDepot::new(alloc, 3);
+    put_records(alloc, &mut depot, "g.properties", "g.graph", &input)?;
+    Ok(
+        refuses(alloc, row.line, &mut depot, row.code, row.report)?
+            && are_absent(alloc, &mut depot)?
+            && holds_bits(alloc, &mut depot, "g.graph", Some(row.graph))?,
+    )
+}
+
+// Whether nothing was written.
+fn are_absent(alloc: Global, depot: &mut MemoryDepot) -> Result<bool, Fail> {
+    for name in ["h.properties", "h.graph", "h.offsets", "g.offsets"] {
+        if !holds(alloc, depot, name, None)? {
+            return Ok(false);
         }
-        assert!(rt;
-            holds_bits(rt.alloc(), &mut depot, "g.graph", Some(row.graph))?,
-            "{line}"
-        );
+    }
+    Ok(true)
+}
+
+fn are_unconverted(rt: &impl Abort, alloc: Global, table: &[Unconverted]) -> Result<(), Fail> {
+    for row in table {
+        assert!(rt; is_unconverted(alloc, row)?, "{}", row.line);
     }
     Ok(())
+}
+
+#[test]
+fn archives_that_are_refused(rt: HostRuntime) -> Result<(), Fail> {
+    are_unconverted(&rt, rt.alloc(), &UNCONVERTED)
 }

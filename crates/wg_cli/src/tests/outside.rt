@@ -19,36 +19,25 @@ const TOO_MANY_PAGES: &[u8] =
 const NO_CODE: &[u8] =
     b"graphclass=it.unimi.dsi.webgraph.BVGraph\nversion=0\nnodes=2\narcs=1\nwindowsize=0\nmaxrefcount=3\nminintervallength=0\ncompressionflags=RESIDUALS_GOLOMB\n";
 
-// Runs a line over an outside: the status and what was reported.
-fn report_of<D: Depot, O: Sink>(
-    alloc: Global,
-    line: &str,
-    depot: &mut D,
-    out: &mut O,
-) -> Result<(Status, SteadySink), Fail> {
-    let words = words_of(alloc, line)?;
-    let mut err = SteadySink::new(alloc, 4096);
-    let status = run(alloc, &words, depot, out, &mut err);
-    Ok((status, err))
-}
-
 // How a line ends where there are no files.
 fn code_without_files(alloc: Global, line: &str) -> Result<u8, Fail> {
     let mut depot = SteadyDepot::new(alloc, 4096);
     let mut out = SteadySink::new(alloc, 4096);
-    let (status, _) = report_of(alloc, line, &mut depot, &mut out)?;
-    Ok(status.code())
+    let (code, _) = report_of(alloc, line, &mut depot, &mut out)?;
+    Ok(code)
+}
+
+fn all_end_with(rt: &impl Abort, alloc: Global, lines: &[&str], code: u8) -> Result<(), Fail> {
+    for line in lines {
+        assert!(rt; code_without_files(alloc, line)? == code, "{line}");
+    }
+    Ok(())
 }
 
 #[test]
 fn which_lines_are_jobs(rt: HostRuntime) -> Result<(), Fail> {
-    for line in JOBS {
-        assert!(rt; code_without_files(rt.alloc(), line)? == 6, "{line}");
-    }
-    for line in NO_JOBS {
-        assert!(rt; code_without_files(rt.alloc(), line)? == 2, "{line}");
-    }
-    Ok(())
+    all_end_with(&rt, rt.alloc(), &JOBS, 6)?;
+    all_end_with(&rt, rt.alloc(), &NO_JOBS, 2)
 }
 
 // How `line` ends over a graph whose arcs are 16 bytes of text, where the sink takes a byte at once and call `k` fails;
@@ -57,12 +46,12 @@ fn cut_at(alloc: Global, line: &str, k: u64) -> Result<(u8, usize), Fail>
     requires { (1 ≤ k) × (k < 2 ^ 64 - 1) }
 {
     let mut depot = SteadyDepot::new(alloc, 4096);
-    depot.put_file("g.properties", COPIED_PROPERTIES)?;
-    depot.put_file("g.graph", &bytes_of(alloc, COPIED.graph)?)?;
+    put_steady(&mut depot, "g.properties", COPIED_PROPERTIES)?;
+    put_steady(&mut depot, "g.graph", &bytes_of(alloc, COPIED.graph)?)?;
     let mut out = MemorySink::new(alloc, 1);
     out.fail_write(k);
-    let (status, _) = report_of(alloc, line, &mut depot, &mut out)?;
-    Ok((status.code(), out.bytes().len()))
+    let (code, _) = report_of(alloc, line, &mut depot, &mut out)?;
+    Ok((code, out.bytes().len()))
 }
 
 #[test]
@@ -159,24 +148,26 @@ const UNANSWERED: [Unanswered; 9] = [
     },
 ];
 
-#[test]
-fn lines_without_an_archive(rt: HostRuntime) -> Result<(), Fail> {
-    for row in &UNANSWERED {
-        let line = row.line;
-        let mut depot = SteadyDepot::new(rt.alloc(), 3);
-        depot.put_file("g.properties", row.properties)?;
-        if row.has_graph {
-            depot.put_file("g.graph", &bytes_of(rt.alloc(), PLAIN_ARC.graph)?)?;
-        }
-        let mut out = SteadySink::new(rt.alloc(), 3);
-        let (status, err) = report_of(rt.alloc(), line, &mut depot, &mut out)?;
-        assert!(rt;
-            status.code() == row.code && err.bytes() == row.report.as_bytes(),
-            "{line}"
-        );
-        assert!(rt; out.bytes().is_empty(), "{line}");
+// Whether a line ends as its row says, and prints nothing.
+fn is_unanswered(alloc: Global, row: &Unanswered) -> Result<bool, Fail> {
+    let mut depot = SteadyDepot::new(alloc, 3);
+    put_steady(&mut depot, "g.properties", row.properties)?;
+    if row.has_graph {
+        put_steady(&mut depot, "g.graph", &bytes_of(alloc, PLAIN_ARC.graph)?)?;
+    }
+    refuses(alloc, row.line, &mut depot, row.code, row.report)
+}
+
+fn are_unanswered(rt: &impl Abort, alloc: Global, table: &[Unanswered]) -> Result<(), Fail> {
+    for row in table {
+        assert!(rt; is_unanswered(alloc, row)?, "{}", row.line);
     }
     Ok(())
+}
+
+#[test]
+fn lines_without_an_archive(rt: HostRuntime) -> Result<(), Fail> {
+    are_unanswered(&rt, rt.alloc(), &UNANSWERED)
 }
 
 // A `check` where the read or the write of this number fails, if it is not 0: the status and the line of error.
@@ -223,32 +214,49 @@ const FAILING: [Failing; 5] = [
 // The three files of an archive, of which each takes three reads: one at the limit, one of all its bytes, and one at its end.
 fn plain_depot(alloc: Global) -> Result<MemoryDepot, Fail> {
     let mut depot = MemoryDepot::new(alloc, 4096);
-    depot.put_file("g.properties", PLAIN_PROPERTIES)?;
-    depot.put_file("g.graph", &bytes_of(alloc, PLAIN_ARC.graph)?)?;
-    depot.put_file("g.offsets", &bytes_of(alloc, PLAIN_ARC.offsets)?)?;
+    put(&mut depot, "g.properties", PLAIN_PROPERTIES)?;
+    put(&mut depot, "g.graph", &bytes_of(alloc, PLAIN_ARC.graph)?)?;
+    put(
+        &mut depot,
+        "g.offsets",
+        &bytes_of(alloc, PLAIN_ARC.offsets)?,
+    )?;
     Ok(depot)
 }
 
-#[test]
-fn faults_of_the_outside(rt: HostRuntime) -> Result<(), Fail> {
-    for row in &FAILING {
-        let mut depot = plain_depot(rt.alloc())?;
-        let mut out = MemorySink::new(rt.alloc(), 4096);
-        if row.read > 0 {
-            depot.fail_read(row.read);
-        }
-        if row.write > 0 {
-            out.fail_write(row.write);
-        }
-        let (status, err) = report_of(rt.alloc(), "check g", &mut depot, &mut out)?;
+// Whether `check` ends as the row says.
+fn fails_so(alloc: Global, row: &Failing) -> Result<bool, Fail>
+    requires read { row.now.read < 2 ^ 64 - 1 }
+    requires write { row.now.write < 2 ^ 64 - 1 }
+{
+    let mut depot = plain_depot(alloc)?;
+    let mut out = MemorySink::new(alloc, 4096);
+    if row.read > 0 {
+        depot.fail_read(row.read);
+    }
+    if row.write > 0 {
+        out.fail_write(row.write);
+    }
+    let (code, err) = report_of(alloc, "check g", &mut depot, &mut out)?;
+    Ok(code == row.code && err.bytes() == row.report.as_bytes())
+}
+
+fn all_fail_so(rt: &impl Abort, alloc: Global, table: &[Failing]) -> Result<(), Fail> {
+    for row in table {
+        assert!(rt; row.read < 10 && row.write < 10);
         assert!(rt;
-            status.code() == row.code && err.bytes() == row.report.as_bytes(),
+            fails_so(alloc, row)?,
             "read {}, write {}",
             row.read,
             row.write
         );
     }
     Ok(())
+}
+
+#[test]
+fn faults_of_the_outside(rt: HostRuntime) -> Result<(), Fail> {
+    all_fail_so(&rt, rt.alloc(), &FAILING)
 }
 
 // How `line` ends where read `k` fails, and whether the output is empty.
@@ -258,28 +266,34 @@ fn code_at_read(alloc: Global, line: &str, k: u64) -> Result<(u8, bool), Fail>
     let mut depot = plain_depot(alloc)?;
     depot.fail_read(k);
     let mut out = SteadySink::new(alloc, 4096);
-    let (status, _) = report_of(alloc, line, &mut depot, &mut out)?;
-    Ok((status.code(), out.bytes().is_empty()))
+    let (code, _) = report_of(alloc, line, &mut depot, &mut out)?;
+    Ok((code, out.bytes().is_empty()))
+}
+
+// Each of the first nine reads fails the line, and there is no tenth.
+fn nine_reads_fail(rt: &impl Abort, alloc: Global, line: &str) -> Result<(), Fail> {
+    for k in 1..10_u64 {
+        assert!(rt; code_at_read(alloc, line, k)? == (4, true), "{line}: {k}");
+    }
+    assert!(rt; code_at_read(alloc, line, 10)? == (0, false), "{line}");
+    Ok(())
 }
 
 // `check` and `show` read three files once, the others two, and one of them twice.
 #[test]
 fn each_read_fails_once(rt: HostRuntime) -> Result<(), Fail> {
-    for line in ["check g", "arcs g", "offsets g", "show g 0"] {
-        for k in 1..11_u64 {
-            let wanted = if k < 10 { (4, true) } else { (0, false) };
-            assert!(rt; code_at_read(rt.alloc(), line, k)? == wanted, "{line}: {k}");
-        }
-    }
-    Ok(())
+    nine_reads_fail(&rt, rt.alloc(), "check g")?;
+    nine_reads_fail(&rt, rt.alloc(), "arcs g")?;
+    nine_reads_fail(&rt, rt.alloc(), "offsets g")?;
+    nine_reads_fail(&rt, rt.alloc(), "show g 0")
 }
 
 #[test]
 fn a_file_that_is_too_long(rt: HostRuntime) -> Result<(), Fail> {
     let mut depot = ZeroDepot::new("g.properties", 70_368_744_177_665);
     let mut out = SteadySink::new(rt.alloc(), 1);
-    let (status, err) = report_of(rt.alloc(), "check g", &mut depot, &mut out)?;
-    assert!(rt; status.code() == 11);
+    let (code, err) = report_of(rt.alloc(), "check g", &mut depot, &mut out)?;
+    assert!(rt; code == 11);
     assert!(rt; err.bytes() == b"wg: too long: g.properties\n".as_slice());
     Ok(())
 }
