@@ -14,6 +14,7 @@ mod lists;
 mod outside;
 mod rankings;
 mod recodings;
+mod shrinking;
 
 // The words of a line, parted by blanks; an empty line has none.
 fn words_of(alloc: Global, line: &str) -> Result<Words, Fail> {
