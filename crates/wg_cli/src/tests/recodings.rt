@@ -1,7 +1,7 @@
 //! What stands where an archive can't be read again while it is recoded.
 ghost use Rattle.std.specs.Prelude.{◌<◌, ◌^◌, ◌-◌};
 
-use super::built::{holds, told};
+use super::built::holds;
 use super::conversions::{properties_of, put_records};
 use super::*;
 use wg_io::{ReadError, WriteError};
