@@ -2,6 +2,7 @@ ghost use Rattle.std.specs.Prelude.{◌≡◌, ℕ, ◌<◌, ◌≤◌, ◌↔�
 ghost use Rattle.wg_params.specs.declared.limits.TheConstants.{MOST_PAGES};
 ghost use Rattle.wg_graph.specs.Digraph.{Digraph, IsGraph};
 ghost use Rattle.wg_rank.specs.Intervals.{Holds, by_page};
+ghost use Rattle.wg_rank.specs.declared.limits.TheConstants.{UNITS};
 ghost use Rattle.wg_order.specs.Inside.{IsRising};
 ghost use Rattle.wg_order.specs.Order.{best, worst, IsRanking};
 ghost use Rattle.wg_order.specs.Surely.{IsSurely};
@@ -55,6 +56,7 @@ impl Ranking {
         ensures filled { result.filled ≡ true }
         ensures low { result.low ≡ bounds.low }
         ensures high { result.high ≡ bounds.high }
+        ensures within { (v : ℕ) → v < length result.low → (by_page result.low v ≤ UNITS) × (by_page result.high v ≤ UNITS) }
         ensures ranking { IsRanking result.low result.high result.pages }
         ensures surely { (g : Digraph) → IsGraph g → Holds bounds g → IsSurely result bounds g }
     {

@@ -146,6 +146,7 @@ impl Bounds {
         ensures low { result.0.items ≡ self.low }
         ensures high { result.1.items ≡ self.high }
         ensures room { vec_len result.2 ≡ 2 * length self.low }
+        ensures within { (v : ℕ) → v < length self.low → (by_page self.low v ≤ UNITS) × (by_page self.high v ≤ UNITS) }
         ensures proper { AreBounds self }
     {
         (self.low, self.high, self.inflows)
