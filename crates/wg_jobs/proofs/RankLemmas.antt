@@ -20,29 +20,30 @@ pub counted : (low high pages : List ℕ) → IsRanking low high pages → lengt
 counted low high pages is = length_permutation _ _ is.all ∙ length-range_with_len 0 (length low)
 
 module _ (g : Digraph) (rounds damping : ℕ) where
-  -- ---- what was made
+  -- ---- the bounds that were ranked
 
-  module _ (b : Intervals) (s : Positions) (h : Ranks g rounds damping b s) where
-    low_is : b.low ≡ (bounds_after g damping rounds).low
-    low_is =
-        let t : IsTable b.low g.nodes (low g damping (by_page (alike g)) rounds) = rw (← h.after, ← h.damped, ← h.weighed) h.holds.low_is in
+  module _ (b : Intervals) (holds : Holds b g) (after : b.rounds ≡ rounds) (damped : b.damping ≡ damping) (weighed : b.weights ≡ alike g) where
+    pub low_after : b.low ≡ (bounds_after g damping rounds).low
+    low_after =
+        let t : IsTable b.low g.nodes (low g damping (by_page (alike g)) rounds) = rw (← after, ← damped, ← weighed) holds.low_is in
         fill_by_all (low g damping (by_page (alike g)) rounds) b.low g.nodes 0 t.counted t.each
 
-    high_is : b.high ≡ (bounds_after g damping rounds).high
-    high_is =
-        let t : IsTable b.high g.nodes (high g damping (by_page (alike g)) rounds) = rw (← h.after, ← h.damped, ← h.weighed) h.holds.high_is in
+    pub high_after : b.high ≡ (bounds_after g damping rounds).high
+    high_after =
+        let t : IsTable b.high g.nodes (high g damping (by_page (alike g)) rounds) = rw (← after, ← damped, ← weighed) holds.high_is in
         fill_by_all (high g damping (by_page (alike g)) rounds) b.high g.nodes 0 t.counted t.each
 
+  -- ---- what was made
+
+  module _ (s : Positions) (h : Ranks g rounds damping s) where
     pub positions_are : (r : Readings) → s ≡ positions_of r (bounds_after g damping rounds)
     positions_are r =
-        let l : s.low ≡ (bounds_after g damping rounds).low = h.same_low ∙ low_is in
-        let u : s.high ≡ (bounds_after g damping rounds).high = h.same_high ∙ high_is in
         let pages : s.pages ≡ r.ranking.value s.low s.high = ranking_one s.low s.high s.pages (r.ranking.value s.low s.high) h.ranked (r.ranking.reads s.low s.high) in
-        let same : r.ranking.value s.low s.high ≡ r.ranking.value (bounds_after g damping rounds).low (bounds_after g damping rounds).high = λ i. r.ranking.value (l i) (u i) in
-        λ i. record { filled = h.filled i; low = l i; high = u i; pages = (pages ∙ same) i }
+        let same : r.ranking.value s.low s.high ≡ r.ranking.value (bounds_after g damping rounds).low (bounds_after g damping rounds).high = λ i. r.ranking.value (h.low_is i) (h.high_is i) in
+        λ i. record { filled = h.filled i; low = h.low_is i; high = h.high_is i; pages = (pages ∙ same) i }
 
     pub length_low : length s.low ≡ g.nodes
-    length_low = ap length h.same_low ∙ h.holds.low_is.counted
+    length_low = ap length h.low_is ∙ length-map-range_with_len (low g damping (by_page (alike g)) rounds) 0 g.nodes
 
     -- the first of as many pages as are asked for, or of all
     pub text_is : (r : Readings) (top : ℕ) → rank_lines s (take (min top g.nodes) s.pages) ≡ ranking_text r g rounds damping top

@@ -56,23 +56,18 @@ rank_lines s pages = joined (map (rank_line s) pages)
 abbrev pub ranking_text : Readings → Digraph → ℕ → ℕ → ℕ → List ℕ
 ranking_text r g rounds damping top = let s = positions_of r (bounds_after g damping rounds) in rank_lines s (take top s.pages)
 
--- bounds of the graph before the first round, and room to rank its pages
-pub record AreReady (g : Digraph) (b : Intervals) (s : Positions) : Type 0 where
+-- bounds of the graph before the first round
+pub record AreReady (g : Digraph) (b : Intervals) : Type 0 where
   pub holds : Holds b g
   pub before : b.rounds ≡ 0
   pub weighed : b.weights ≡ alike g
   pub bounded : length b.low ≡ g.nodes
-  pub roomy : length s.low ≡ g.nodes
 
--- the bounds of the graph after so many rounds, and their ranking
-pub record Ranks (g : Digraph) (rounds damping : ℕ) (b : Intervals) (s : Positions) : Type 0 where
-  pub holds : Holds b g
-  pub after : b.rounds ≡ rounds
-  pub damped : b.damping ≡ damping
-  pub weighed : b.weights ≡ alike g
+-- the ranking by the bounds of the graph after so many rounds
+pub record Ranks (g : Digraph) (rounds damping : ℕ) (s : Positions) : Type 0 where
   pub filled : s.filled ≡ true
-  pub same_low : s.low ≡ b.low
-  pub same_high : s.high ≡ b.high
+  pub low_is : s.low ≡ (bounds_after g damping rounds).low
+  pub high_is : s.high ≡ (bounds_after g damping rounds).high
   pub ranked : IsRanking s.low s.high s.pages
 
 -- What the bounds and positions that are printed say: they enclose every exact iterate from these rounds on and every stationary

@@ -29,7 +29,7 @@ pub struct Asked {
 }
 
 /// Prints the first pages of the ranking, with their bounds and positions. It judges the whole graph before it prints, and takes all its memory
-/// before the first round: the bytes of the graph, 8 bytes an arc and 8 a page for the graph, and 112 bytes a page for bounds and ranking.
+/// before the first round: the bytes of the graph, 8 bytes an arc and 8 a page for the graph, and 64 bytes a page for bounds and ranking.
 pub fn rank<D: Depot, O: Sink>(
     alloc: Global,
     base: &Name,
@@ -52,7 +52,7 @@ pub fn rank<D: Depot, O: Sink>(
 // All memory that the rounds and the ranking take.
 fn room_for(alloc: Global, graph: &Graph, damping: u64) -> Result<Room, Ending>
     requires { damping ≤ MOST_DAMPING }
-    ensures ready { IfOk result (λ r. AreReady graph.now r.bounds r.ranking) }
+    ensures ready { IfOk result (λ r. AreReady graph.now r.bounds) }
     ensures damping { IfOk result (λ r. r.bounds.damping ≡ damping) }
     ensures only { IfErr result (λ e. e.status ≡ Status.Memory) }
 {
@@ -65,7 +65,7 @@ fn room_for(alloc: Global, graph: &Graph, damping: u64) -> Result<Room, Ending>
 // Does the rounds, and prints the first pages of the ranking. It takes no memory, so that the output alone can stop it.
 fn print_ranks<O: Sink>(out: &mut O, graph: &Graph, room: Room, asked: Asked) -> Result<(), Ending>
     requires rounds { asked.rounds ≤ MOST_ROUNDS }
-    requires ready { AreReady graph.now room.bounds room.ranking }
+    requires ready { AreReady graph.now room.bounds }
     requires damping { room.bounds.damping ≡ asked.damping }
     ensures puts { IsTrue O.told → (r : Readings)
         → Puts (ranking_text r graph.now asked.rounds asked.damping asked.top) (O.taken out.old) (O.taken out.new) result }

@@ -6,7 +6,7 @@ use Rattle.wg_jobs.proofs.rank.print_ranks.Goals as goal
 
 pub print_ranking-requires : goal.print_ranking-requires
 print_ranking-requires g c =
-    let low = length_low c.args.graph.now c.args.asked.rounds c.args.room.bounds.damping _ _ c.rank-ranked.ensures in
+    let low = length_low c.args.graph.now c.args.asked.rounds c.args.room.bounds.damping _ c.rank-ranked.ensures in
     omega (arith, low, c.min.ensures, c.nodes.ensures.value)
 
 pub returns-clause-puts : goal.returns-clause-puts
@@ -14,8 +14,7 @@ returns-clause-puts g c = λ o r.
     let asked = c.args.asked in
     let graph = c.args.graph.now in
     let s = c.rank-ranked.result.ranking in
-    let ranks : Ranks graph asked.rounds asked.damping c.rank-ranked.result.bounds s =
-    subst (λ (d : ℕ). Ranks graph asked.rounds d c.rank-ranked.result.bounds s) c.requires.damping c.rank-ranked.ensures in
+    let ranks : Ranks graph asked.rounds asked.damping s = subst (λ (d : ℕ). Ranks graph asked.rounds d s) c.requires.damping c.rank-ranked.ensures in
     let count : c.min.result ≡ min asked.top graph.nodes = omega (arith, c.min.ensures, c.nodes.ensures.value) in
-    let text = ap (λ (k : ℕ). rank_lines s (take k s.pages)) count ∙ text_is graph asked.rounds asked.damping c.rank-ranked.result.bounds s ranks r asked.top in
+    let text = ap (λ (k : ℕ). rank_lines s (take k s.pages)) count ∙ text_is graph asked.rounds asked.damping s ranks r asked.top in
     subst (λ (t : List ℕ). Puts t (g.O.Sink.taken c.args.out.now) (g.O.Sink.taken c.print_ranking.new.out) c.print_ranking.result) text (c.print_ranking.ensures.puts o)

@@ -9,5 +9,4 @@ returns-clause-ready c =
       before = c.in_ok-bounds.ensures.rounds;
       weighed = c.in_ok-bounds.ensures.weights ∙ ap (λ (n : ℕ). replicate n 1) count;
       bounded = c.in_ok-bounds.ensures.pages ∙ count;
-      roomy = c.in_ok-ranking.ensures.pages ∙ c.nodes-2.ensures.value;
     }

@@ -1,5 +1,5 @@
-use Rattle.std.proofs.Common.{rules}
-use Rattle.wg_jobs.proofs.RankLemmas.{counted}
+use Rattle.std.proofs.Common.{◌≡◌, ◌∙◌, rules}
+use Rattle.wg_jobs.proofs.RankLemmas.{counted, low_after, high_after}
 use Rattle.wg_jobs.proofs.ranked.Room.rank.Goals as goal
 
 pub loop-init : goal.loop-init
@@ -8,7 +8,6 @@ loop-init c =
     record {
       same = c.new-lists.ensures.graph;
       pages = ready.bounded;
-      ranked_pages = ready.roomy;
       after = ready.before;
       damped = search rules;
       weighed = ready.weighed;
@@ -16,4 +15,17 @@ loop-init c =
     }
 
 pub invariant_of-result-clause-counted : goal.invariant_of-result-clause-counted
-invariant_of-result-clause-counted c = counted _ _ _ c.fill.ensures.ranking
+invariant_of-result-clause-counted c = counted _ _ _ c.of.ensures.ranking
+
+pub returns : goal.returns
+returns c =
+    let l = c.loop.invariant in
+    let graph = c.args.graph.now in
+    let made = c.loop.bounds in
+    let after : made.rounds ≡ c.args.rounds = search rules in
+    record {
+      filled = c.of.ensures.filled;
+      low_is = c.of.ensures.low ∙ low_after graph c.args.rounds c.args.self.bounds.damping made l.holds after l.damped l.weighed;
+      high_is = c.of.ensures.high ∙ high_after graph c.args.rounds c.args.self.bounds.damping made l.holds after l.damped l.weighed;
+      ranked = c.of.ensures.ranking;
+    }

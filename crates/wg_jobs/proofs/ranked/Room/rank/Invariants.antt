@@ -8,7 +8,6 @@ abbrev pub invariant-loop : goal.invariant-loop
 invariant-loop l = record {
   same : l.lists.graph ≡ l.graph;
   pages : length l.bounds.low ≡ l.graph.nodes;
-  ranked_pages : length l.ranking.low ≡ l.graph.nodes;
   after : l.bounds.rounds ≡ l.counter;
   damped : l.bounds.damping ≡ l.fn.self.bounds.damping;
   weighed : l.bounds.weights ≡ alike l.graph;
