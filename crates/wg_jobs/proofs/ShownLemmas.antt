@@ -3,7 +3,6 @@ use Rattle.std.proofs.Common.{◌≡◌, ◌∙◌, ◌<◌, ◌≤◌, inr, get
 use Rattle.wg_params.specs.Parameters.{Parameters}
 use Rattle.wg_grammar.specs.Archive.{Accepted, ReadsGraph}
 use Rattle.wg_grammar.specs.Context.{Known}
-use Rattle.wg_iterators.specs.Coming.{Coming}
 use Rattle.wg_random.specs.Answer.{Lists, Opens}
 use Rattle.wg_random.specs.Held.{Held}
 use Rattle.wg_random.specs.Reading.{Reading}

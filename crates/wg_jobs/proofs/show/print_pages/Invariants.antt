@@ -1,4 +1,4 @@
-use Rattle.std.proofs.Common.{◌≡◌, ◌++◌, [], ℕ, List, Ok, map, take, IsTrue}
+use Rattle.std.proofs.Common.{[], Ok, map, take, IsTrue}
 use Rattle.wg_io.specs.Printing.{HasPrinted}
 use Rattle.wg_io.specs.Puts.{joined}
 use Rattle.wg_grammar.specs.Archive.{Accepted, ReadsGraph}

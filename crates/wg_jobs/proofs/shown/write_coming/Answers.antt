@@ -1,4 +1,4 @@
-use Rattle.std.proofs.Common.{◌≡◌, ◌∙◌, ◌++◌, ◌∷◌, [], ℕ, List, ap, sym, append_assoc}
+use Rattle.std.proofs.Common.{◌∙◌, ◌++◌, ◌∷◌, [], ℕ, List, ap, sym, append_assoc}
 use Rattle.wg_io.proofs.PutsLemmas.{is_that_err}
 use Rattle.wg_jobs.specs.Judged.{spaced}
 use Rattle.wg_jobs.proofs.NumberLemmas.{next_printed, next_less}

@@ -1,4 +1,3 @@
-use Rattle.std.proofs.Common.{arith, subst, List, ℕ}
 use Rattle.wg_io.proofs.PutsLemmas.{is_that_err}
 use Rattle.wg_jobs.specs.Judged.{spaced}
 use Rattle.wg_jobs.proofs.NumberLemmas.{line_printed, line_less}
