@@ -8,3 +8,4 @@ pub mod Memory
 pub mod Later
 pub mod Held
 pub mod Suffixes
+pub mod ReadFiles

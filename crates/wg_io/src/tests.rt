@@ -63,6 +63,19 @@ fn a_file_of_the_system(rt: HostRuntime) -> Result<(), Fail> {
     Ok(())
 }
 
+#[test]
+fn a_file_that_was_read_is_not_emptied_under_another_name(rt: HostRuntime) -> Result<(), Fail> {
+    let (name, other) = ("wg_io_two_names.tmp", "./wg_io_two_names.tmp");
+    let mut depot = FolderDepot::new(&rt);
+    keeps_text(&rt, rt.alloc(), &mut depot, name)?;
+    assert!(rt; depot.create(other) == Err(WriteError::Failed));
+    assert!(rt; holds(rt.alloc(), &mut depot, other, TEXT));
+    assert!(rt; depot.create(name) == Err(WriteError::Failed));
+    assert!(rt; holds(rt.alloc(), &mut depot, name, TEXT));
+    fs::remove_file(&rt, name)?;
+    Ok(())
+}
+
 fn is_kept_in_pieces(rt: &impl Abort, alloc: Global, piece: u64) -> Result<(), Fail>
     requires { 0 < piece }
 {
