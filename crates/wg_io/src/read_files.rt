@@ -1,10 +1,9 @@
 // Which files of the system were read, so that none of them is emptied under another name.
-ghost use Rattle.std.specs.Prelude.{◌≡◌, IsTrue, OnOk, take, length};
+ghost use Rattle.std.specs.Prelude.{◌≡◌, [], IsTrue, OnOk, take, length};
 ghost use Rattle.wg_io.specs.ReadFiles.{has_name, has_other_name};
 
-use std::alloc::Global;
+use std::alloc::{AllocError, Global};
 use std::fs::Metadata;
-use std::io;
 use std::os::unix::fs::MetadataExt;
 
 /// Which file of the system it is, whatever its names: the device, and the file's number there.
@@ -37,14 +36,16 @@ pub struct ReadFiles {
 }
 
 impl ReadFiles {
-    pub fn new(alloc: Global) -> ReadFiles {
+    pub fn new(alloc: Global) -> ReadFiles
+        ensures { result.files.items ≡ [] }
+    {
         ReadFiles {
             files: Vec::new(alloc),
         }
     }
 
     /// Remembers that this file was read by this name.
-    pub fn remember(&mut self, alloc: Global, name: &str, id: FileId) -> io::Result<()>
+    pub fn remember(&mut self, alloc: Global, name: &str, id: FileId) -> Result<(), AllocError>
         ensures ok { OnOk result (IsTrue (has_name self.new.files.items name.now id)) }
         ensures kept { take (length self.old.files.items) self.new.files.items ≡ self.old.files.items }
     {
