@@ -1,3 +1,6 @@
 pub mod Cuts
+pub mod Leading
 pub mod Numbers
+pub mod Plain
 pub mod UnitsLemmas
+pub mod UnitsRead

@@ -10,7 +10,7 @@ pub record AreWritten (v rest index : ℕ) (bytes : List ℕ) : Type 0 where
   pub left : (k : ℕ) → index + k ≡ 26 → rest ≡ v / 10 ^ k
   pub digits : (k : ℕ) → index + k ≡ 26 → drop index bytes ≡ last_digits k v
 
-div_next : (v k : ℕ) → v / 10 ^ k / 10 ≡ v / 10 ^ suc k
+pub div_next : (v k : ℕ) → v / 10 ^ k / 10 ≡ v / 10 ^ suc k
 div_next v k = div-div-eq-div-mul v (10 ^ k) 10 ∙ ap (λ p. v / p) (sym (pow-suc 10 k))
 
 pub written_next : (v rest index : ℕ) (bytes : List ℕ) → index < length bytes → index < 26 → AreWritten v rest (index + 1) bytes

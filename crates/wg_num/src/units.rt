@@ -1,7 +1,10 @@
-ghost use Rattle.std.specs.Prelude.{◌≡◌, ℕ, ◌≤◌, ◌^◌};
-ghost use Rattle.wg_num.specs.Units.{text_of_units};
+ghost use Rattle.std.specs.Prelude.{◌≡◌, ℕ, ◌≤◌, ◌^◌, IfSome, Some, length};
+ghost use Rattle.wg_num.specs.Units.{text_of_units, units_of};
 
 use std::marker::Model;
+
+/// So many units of 10^-24 make 1.
+pub const UNITS: u128 = 1_000_000_000_000_000_000_000_000;
 
 /// The text of a part of 1 in units of 10^-24: `0` or `1`, a point, 24 digits. It holds its 26 bytes itself.
 #[derive(Drop)]
@@ -42,6 +45,39 @@ pub fn units_text(value: u128) -> UnitsText
     UnitsText { bytes }
 }
 
+// What the first byte and those after the second write, if they are digits.
+fn digits_of(text: &[u8]) -> u128
+    requires { length text.now ≡ 26 }
+    ensures text { (v : ℕ) → v ≤ 10 ^ 24 → text.now ≡ text_of_units v → result ≡ v }
+    ensures room { result ≤ 10 ^ 36 }
+{
+    let mut value = u128::from(text[0].saturating_sub(b'0'));
+    for index in 2..26 {
+        value = value * 10 + u128::from(text[index].saturating_sub(b'0'));
+    }
+    value
+}
+
+/// The units of 10^-24, at most 1 whole, whose text this is, if it is one.
+pub fn read_units(text: &[u8]) -> Option<u128>
+    ensures value { result ≡ units_of text.now }
+    ensures read { IfSome result (λ v. text.now ≡ text_of_units v) }
+    ensures within { IfSome result (λ v. v ≤ 10 ^ 24) }
+    ensures exact { (v : ℕ) → v ≤ 10 ^ 24 → text.now ≡ text_of_units v → result ≡ Some v }
+{
+    if text.len() != 26 {
+        return None;
+    }
+    let value = digits_of(text);
+    if value > UNITS {
+        return None;
+    }
+    if units_text(value).as_slice() != text {
+        return None;
+    }
+    Some(value)
+}
+
 #[cfg(test)]
 mod tests {
     use super::*;
@@ -62,6 +98,20 @@ mod tests {
         ];
         for (value, text) in table {
             assert_eq!(rt; units_text(value).as_slice(), text);
+            assert_eq!(rt; read_units(text), Some(value));
+        }
+        let others: [&[u8]; 8] = [
+            b"",
+            b"0",
+            b"1.000000000000000000000001",
+            b"2.000000000000000000000000",
+            b"0,000000000000000000000001",
+            b"0.00000000000000000000000a",
+            b"0.0000000000000000000000001",
+            b" .000000000000000000000001",
+        ];
+        for text in others {
+            assert_eq!(rt; read_units(text), None);
         }
     }
 }

@@ -1,0 +1,58 @@
+-- Lines of bytes that are no control characters: digits, letters and what stands between them.
+use Rattle.std.proofs.Common.{ℕ, zero, suc, ◌≡◌, ◌+◌, ◌-◌, ◌<◌, ◌≤◌, ◌^◌, ◌/◌, ◌%◌, leb, eqb, Bool, true, false, cond, List, [], ◌∷◌, ◌++◌, length, get_or, take, ap, ◌∙◌, subst, arith, inl, inr, leb-true}
+use Rattle.std.specs.Fmt.{decimal}
+use Rattle.std.specs.List.{All, list_all}
+use Rattle.std.specs.Str.Lines.{strip_carriage_return}
+use Rattle.std.proofs.lemmas.Bool.{cases_lt, ne_eqb, and_parts}
+use Rattle.std.proofs.lemmas.Fmt.{decimal_is_IsNumeral}
+use Rattle.std.proofs.lemmas.List.{get_or_past, get_or_default}
+use Rattle.std.proofs.lemmas.List.Elements.{All-cons, All-weaker}
+use Rattle.std.proofs.lemmas.Str.Parse.{digit_at}
+use Rattle.wg_num.specs.Lines.{lines_of}
+use Rattle.wg_num.specs.Units.{last_digits, text_of_units}
+use Rattle.wg_num.proofs.Cuts.{line_with_end}
+
+abbrev pub IsPlain : List ℕ → Type 0
+IsPlain text = All (λ b. 32 ≤ b) text
+
+-- such a line has no CR at its end, and no LF in it
+pub unstripped : (line : List ℕ) → IsPlain line → strip_carriage_return line ≡ line
+unstripped line plain =
+    let k : ℕ = length line - 1 in
+    let other : get_or line k 0 ≡ 13 → ⊥ = λ e.
+    elim (cases_lt k (length line)) [
+      | inl lt ↦ (let h = plain k 0 lt in omega arith)
+      | inr le ↦ (let h = get_or_past line k 0 le in omega arith)
+    ] in
+    ap (λ (t : Bool). cond t (take k line) line) (ne_eqb (get_or line k 0) 13 other)
+
+pub line_read : (line rest : List ℕ) → IsPlain line → lines_of (line ++ 10 ∷ rest) ≡ line ∷ lines_of rest
+line_read line rest plain =
+    line_with_end line rest (All-weaker (λ b. 32 ≤ b) (λ b. eqb b 10 ≡ false) (λ b le. ne_eqb b 10 (λ e. omega arith)) line plain)
+    ∙ ap (λ (l : List ℕ). l ∷ lines_of rest) (unstripped line plain)
+
+-- ---- what is such a text
+
+pub word_plain : (word : List ℕ) → list_all (λ b. leb 32 b) word ≡ true → IsPlain word
+word_plain [] e = λ i d lt. absurd (omega arith)
+word_plain (b ∷ bs) e =
+    let p = and_parts (leb 32 b) (list_all (λ b. leb 32 b) bs) e in
+    All-cons (λ b. 32 ≤ b) b bs (leb-true 32 b p.0) (word_plain bs p.1)
+
+pub digits_high : (n : ℕ) → n < 2 ^ 64 → All (λ b. 48 ≤ b) (decimal n)
+digits_high n small i d lt =
+    let at = digit_at (decimal n) i (decimal_is_IsNumeral n small).0.1 lt in
+    subst (λ (b : ℕ). 48 ≤ b) (get_or_default (decimal n) i 0 d lt) at.0
+
+pub decimal_plain : (n : ℕ) → n < 2 ^ 64 → IsPlain (decimal n)
+decimal_plain n small = All-weaker (λ b. 48 ≤ b) (λ b. 32 ≤ b) (λ b h. omega arith) (decimal n) (digits_high n small)
+
+last_plain : (k v : ℕ) → IsPlain (last_digits k v)
+last_plain zero v = λ i d lt. absurd (omega arith)
+last_plain (suc k) v = All-cons (λ b. 32 ≤ b) (48 + v / 10 ^ k % 10) (last_digits k v) (omega arith) (last_plain k v)
+
+pub units_plain : (v : ℕ) → IsPlain (text_of_units v)
+unfolding text_of_units
+units_plain v =
+    All-cons (λ b. 32 ≤ b) (48 + v / 10 ^ 24) (46 ∷ last_digits 24 v) (omega arith)
+    (All-cons (λ b. 32 ≤ b) 46 (last_digits 24 v) (omega arith) (last_plain 24 v))
