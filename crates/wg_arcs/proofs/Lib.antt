@@ -3,6 +3,7 @@ pub mod FewArcs
 pub mod Order
 pub mod Parted
 pub mod ReadBack
+pub mod ReadNumbers
 pub mod SomeGraph
 pub mod Soundness
 pub mod Texts

@@ -1,16 +1,15 @@
 -- The text of a graph is read back.
-use Rattle.std.proofs.Common.{◌≡◌, ℕ, ◌-◌, ◌^◌, ◌<◌, ◌≤◌, Bool, false, cond, eqb, List, [], ◌∷◌, ◌++◌, map, length, take, get_or, decimal, Some, None, zero, suc, refl, sym, ap, subst, ◌∙◌, arith, inl, inr, append_assoc}
+use Rattle.std.proofs.Common.{◌≡◌, ℕ, ◌^◌, ◌<◌, ◌≤◌, Bool, false, cond, eqb, List, [], ◌∷◌, ◌++◌, map, length, take, get_or, decimal, Some, None, zero, suc, refl, sym, ap, subst, ◌∙◌, arith, append_assoc}
 use Rattle.std.specs.List.{All, slice_split}
-use Rattle.std.specs.Str.Lines.{strip_carriage_return}
-use Rattle.std.proofs.lemmas.Bool.{cases_lt, ne_eqb}
-use Rattle.std.proofs.lemmas.Fmt.{decimal_is_IsNumeral, decimal_nonempty}
-use Rattle.std.proofs.lemmas.Str.Parse.{digit_at}
-use Rattle.std.proofs.lemmas.List.{get_or_default, get_or_past, take-map, get_or-map, length-map, length-take-le}
+use Rattle.std.proofs.lemmas.Bool.{ne_eqb}
+use Rattle.std.proofs.lemmas.Fmt.{decimal_nonempty}
+use Rattle.std.proofs.lemmas.List.{take-map, get_or-map, length-map, length-take-le}
 use Rattle.std.proofs.lemmas.List.Elements.{All-append, All-cons, All-weaker}
 use Rattle.std.proofs.lemmas.List.Splits.{slice_split_at, slice_split_none}
 use Rattle.wg_params.specs.declared.limits.TheConstants.{MOST_ARCS}
 use Rattle.wg_num.specs.Lines.{lines_of, is_blank}
-use Rattle.wg_num.proofs.Cuts.{line_with_end, no_lines}
+use Rattle.wg_num.proofs.Cuts.{no_lines}
+use Rattle.wg_num.proofs.Plain.{line_read, digits_high, decimal_plain}
 use Rattle.wg_num.proofs.Numbers.{number_of-decimal}
 use Rattle.wg_graph.specs.Digraph.{arc_count}
 use Rattle.wg_graph.specs.Arcs.{arcs_of}
@@ -32,21 +31,10 @@ with_end : (a : Arc) (rest : List ℕ) → arc_line a ++ rest ≡ bare a ++ 10 �
 with_end a rest =
     ap (λ (l : List ℕ). l ++ 10 ∷ [] ++ rest) (append_assoc (decimal a.0) (32 ∷ []) (decimal a.1)) ∙ append_assoc (bare a) (10 ∷ []) rest
 
-digits_high : (n : ℕ) → n < 2 ^ 64 → All (λ b. 48 ≤ b) (decimal n)
-digits_high n small i d lt =
-    let at = digit_at (decimal n) i (decimal_is_IsNumeral n small).0.1 lt in
-    subst (λ (b : ℕ). 48 ≤ b) (get_or_default (decimal n) i 0 d lt) at.0
-
 bare_high : (a : Arc) → a.0 < 2 ^ 64 → a.1 < 2 ^ 64 → All (λ b. 32 ≤ b) (bare a)
 bare_high a s t =
-    All-append (λ b. 32 ≤ b) (decimal a.0) (32 ∷ decimal a.1) (All-weaker (λ b. 48 ≤ b) (λ b. 32 ≤ b) (λ b h. omega arith) (decimal a.0) (digits_high a.0 s))
-    (All-cons (λ b. 32 ≤ b) 32 (decimal a.1) (omega arith) (All-weaker (λ b. 48 ≤ b) (λ b. 32 ≤ b) (λ b h. omega arith) (decimal a.1) (digits_high a.1 t)))
-
-unstripped : (text : List ℕ) → All (λ b. 32 ≤ b) text → strip_carriage_return text ≡ text
-unstripped text high =
-    let k : ℕ = length text - 1 in
-    let other : get_or text k 0 ≡ 13 → ⊥ = λ e. elim (cases_lt k (length text)) [ inl lt ↦ (let h = high k 0 lt in omega arith) | inr le ↦ (let h = get_or_past text k 0 le in omega arith) ] in
-    ap (λ (t : Bool). cond t (take k text) text) (ne_eqb (get_or text k 0) 13 other)
+    All-append (λ b. 32 ≤ b) (decimal a.0) (32 ∷ decimal a.1) (decimal_plain a.0 s)
+    (All-cons (λ b. 32 ≤ b) 32 (decimal a.1) (omega arith) (decimal_plain a.1 t))
 
 not_blank : (b : ℕ) → 48 ≤ b → is_blank b ≡ false
 not_blank b h = rw (ne_eqb b 32 (λ e. omega arith), ne_eqb b 9 (λ e. omega arith)) refl
@@ -74,9 +62,7 @@ arc_at_bare a s t = rw (not_skipped a s t, arc_in_bare a s t) refl
 -- the first line of a text, in its plain form
 pub plain_line : (a : Arc) (rest : List ℕ) → a.0 < 2 ^ 64 → a.1 < 2 ^ 64 → lines_of (arc_line a ++ rest) ≡ bare a ∷ lines_of rest
 plain_line a rest s t =
-    let high = bare_high a s t in
-    let ends : All (λ b. eqb b 10 ≡ false) (bare a) = All-weaker (λ b. 32 ≤ b) (λ b. eqb b 10 ≡ false) (λ b le. ne_eqb b 10 (λ e. omega arith)) (bare a) high in
-    ap lines_of (with_end a rest) ∙ line_with_end (bare a) rest ends ∙ ap (λ (l : List ℕ). l ∷ lines_of rest) (unstripped (bare a) high)
+    ap lines_of (with_end a rest) ∙ line_read (bare a) rest (bare_high a s t)
 
 pub plain_fault : (n : ℕ) (before : List Arc) (a : Arc) → a.0 < 2 ^ 64 → a.1 < 2 ^ 64 → fault_of n before (bare a) ≡ refusal_of n before (Some a)
 plain_fault n before a s t = rw (not_skipped a s t, arc_in_bare a s t) refl
@@ -88,10 +74,7 @@ lines_back m n [] ml nl h = no_lines [] refl
 lines_back m n (a ∷ arcs) ml nl h =
     let s : a.0 < 2 ^ 64 = omega (arith, h.0) in
     let t : a.1 < 2 ^ 64 = omega (arith, h.1) in
-    let high = bare_high a s t in
-    let rest = text_of_arcs arcs in
-    let ends : All (λ b. eqb b 10 ≡ false) (bare a) = All-weaker (λ b. 32 ≤ b) (λ b. eqb b 10 ≡ false) (λ b le. ne_eqb b 10 (λ e. omega arith)) (bare a) high in
-    ap lines_of (with_end a rest) ∙ line_with_end (bare a) rest ends ∙ ap (λ (l : List ℕ). l ∷ lines_of rest) (unstripped (bare a) high) ∙ ap (λ (ls : List (List ℕ)). bare a ∷ ls) (lines_back m n arcs ml nl h.2)
+    plain_line a (text_of_arcs arcs) s t ∙ ap (λ (ls : List (List ℕ)). bare a ∷ ls) (lines_back m n arcs ml nl h.2)
 
 arcs_back : (m n : ℕ) (arcs : List Arc) → m ≤ 2 ^ 64 → n ≤ 2 ^ 64 → Within m n arcs → arcs_in (map bare arcs) ≡ arcs
 arcs_back m n [] ml nl h = refl

@@ -1,4 +1,4 @@
-//! Graphs as texts: a line for each arc, its two pages in decimal digits, parted by a space.
+//! Graphs as texts, a line for each arc, its two pages in decimal digits, parted by a space; and lists of numbers as texts.
 //!
 //! [`write`] puts the text of a graph to a sink, arc by arc, ascending, and [`write_list`] the lines of one page. Both print
 //! through a fixed buffer, so that a sink is called once for some hundred lines; [`print_list`] prints the lines of a page
@@ -8,18 +8,26 @@
 //! between the numbers and round them, lines without words, comments that begin with `#`, and a CR before the end of a line.
 //! The arcs must ascend, and no page may be as large as the number of pages, which is given.
 //!
+//! [`read_numbers`] reads a text of as many numbers as are wanted, each below a limit and on a line of its own, or names its
+//! first fault, a [`NumbersFault`]: the first faulty line, or, where no line is faulty, that numbers are missing. Blanks, lines
+//! without words, comments and a CR are as in the text of a graph.
+//!
 //! Writing takes no memory, and time in proportion to the pages, and to the digits of the arcs. Reading goes over the text
-//! once; it holds the graph, and takes memory as the arcs come.
+//! once; it holds the graph or the numbers, 8 bytes each, and takes memory as they come.
 #![tactic(auto)]
 
 mod fault;
 pub mod laws;
+mod numbers;
+mod numbers_fault;
 mod plain;
 mod reading;
 mod words;
 mod writing;
 
 pub use fault::{ArcsError, ArcsKind};
+pub use numbers::read_numbers;
+pub use numbers_fault::{NumbersError, NumbersFault, NumbersKind};
 pub use reading::read;
 pub use writing::{print_list, write, write_list};
 

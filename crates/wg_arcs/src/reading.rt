@@ -5,7 +5,7 @@ ghost use Rattle.wg_arcs.specs.Reading.{arc_at, refusal_of, fault_of, IsRead};
 ghost use Rattle.wg_arcs.specs.Growing.{EndsInArc, IsRefusedLine, HasRead, HasRefused};
 
 use crate::plain::plain_arc;
-use crate::words::{arc, first_word};
+use crate::words::{arc, entry};
 use crate::{ArcsError, ArcsKind};
 use std::alloc::Global;
 use wg_graph::{Graph, GraphBuilder};
@@ -54,13 +54,10 @@ fn read_line(builder: &mut GraphBuilder, line: u64, text: &[u8]) -> Result<(), A
     ensures arcs { OnOk result (arcs_of builder.new ≡ arcs_of builder.old ++ option_to_list (arc_at text.now)) }
     ensures err { IfErr result (λ e. IsRefusedLine line (fault_of builder.old.nodes (arcs_of builder.old) text.now) e) }
 {
-    let (first, rest) = first_word(text);
-    if first.is_empty() {
-        return Ok(());
-    }
-    if first[0] == b'#' {
-        return Ok(());
-    }
+    let (first, rest) = match entry(text) {
+        Some(words) => words,
+        None => return Ok(()),
+    };
     match arc(first, rest) {
         Some((u, v)) => add(builder, line, u, v),
         None => Err(ArcsError::Line {

@@ -1,4 +1,7 @@
-use crate::{ArcsError, ArcsKind, read, write, write_list};
+use crate::{
+    ArcsError, ArcsKind, NumbersError, NumbersFault, NumbersKind, read, read_numbers, write,
+    write_list,
+};
 use std::test::Fail;
 use wg_graph::GraphBuilder;
 use wg_io::SteadySink;
@@ -59,5 +62,36 @@ fn what_is_read_is_written(rt: HostRuntime) -> Result<(), Fail> {
     let mut sink = SteadySink::new(rt.alloc(), 4096);
     write(&graph, &mut sink)?;
     assert_eq!(rt; sink.bytes(), b"1 0\n1 11\n7 7\n".as_slice());
+    Ok(())
+}
+
+// The fault of a line.
+fn on_line(line: u64, kind: NumbersKind) -> Result<&'static [u64], NumbersFault> {
+    Err(NumbersFault::Line { line, kind })
+}
+
+#[test]
+fn two_numbers_are_read_or_refused(rt: HostRuntime) -> Result<(), Fail> {
+    let table: [(&[u8], Result<&[u64], NumbersFault>); 12] = [
+        (b"3\n1\n", Ok(&[3, 1])),
+        (b"# weights\r\n\n \t3 \r\n#\n1", Ok(&[3, 1])),
+        (b"0\n4294967295\n", Ok(&[0, 4_294_967_295])),
+        (b"0\n4294967296\n", on_line(2, NumbersKind::Range)),
+        (b"1 2\n", on_line(1, NumbersKind::Shape)),
+        (b"#1\n1\n+2\n", on_line(3, NumbersKind::Shape)),
+        (b"1\n18446744073709551616\n", on_line(2, NumbersKind::Shape)),
+        (b"1\n2\n\n3\n", on_line(4, NumbersKind::TooMany)),
+        (b"1\n2\nx", on_line(3, NumbersKind::Shape)),
+        (b"1\n2\n4294967296", on_line(3, NumbersKind::Range)),
+        (b"# none\n", Err(NumbersFault::Count(0))),
+        (b"1", Err(NumbersFault::Count(1))),
+    ];
+    for (text, expected) in table {
+        match read_numbers(rt.alloc(), text, 2, 1 << 32) {
+            Ok(numbers) => assert_eq!(rt; Ok(numbers.as_slice()), expected),
+            Err(NumbersError::Fault(fault)) => assert_eq!(rt; Err(fault), expected),
+            Err(NumbersError::Memory) => return Err(Fail::from(NumbersError::Memory)),
+        }
+    }
     Ok(())
 }

@@ -1,0 +1,25 @@
+use Rattle.std.proofs.Common.{rules, ◌≡◌, ◌+◌, length, ap, arith}
+use Rattle.wg_num.specs.Lines.{lines_of}
+use Rattle.wg_num.proofs.Cuts.{no_lines}
+use Rattle.wg_arcs.proofs.ReadNumbers.{begun, ended, too_few}
+use Rattle.wg_arcs.proofs.numbers.read_numbers.Goals as goal
+
+pub lines-init : goal.lines-init
+lines-init c = record {
+  so_far = rw c.new-numbers.ensures (begun c.args.n c.args.limit c.args.bytes.now);
+  few = rw c.new-numbers.ensures (omega arith);
+  below = rw c.new-numbers.ensures (λ k d h. absurd (omega (arith, h)));
+  short = omega arith;
+}
+
+pub returns-then-found-n-clause-read : goal.returns-then-found-n-clause-read
+returns-then-found-n-clause-read c =
+    let none : length c.lines.rest.now ≡ 0 = search rules in
+    let found : length c.as_slice.result.now ≡ length c.lines.numbers = ap length c.as_slice.ensures in
+    rw found (too_few c.args.n c.args.limit (c.lines.line + 1) _ c.lines.numbers (lines_of c.lines.rest.now) (no_lines c.lines.rest.now none) (omega (arith, found)) c.lines.invariant.so_far)
+
+pub returns-clause-read : goal.returns-clause-read
+returns-clause-read c =
+    let none : length c.lines.rest.now ≡ 0 = search rules in
+    let found : length c.as_slice.result.now ≡ length c.lines.numbers = ap length c.as_slice.ensures in
+    ended c.args.n c.args.limit (c.lines.line + 1) _ c.lines.numbers (lines_of c.lines.rest.now) (no_lines c.lines.rest.now none) (omega (arith, found)) c.lines.invariant.so_far
