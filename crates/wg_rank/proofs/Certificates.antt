@@ -1,16 +1,19 @@
 -- What bounds certify that hold of a graph.
-use Rattle.std.proofs.Common.{ℕ, ◌≡◌, ◌+◌, ◌-◌, ◌*◌, ◌<◌, ◌≤◌, List, length, arith, ap, sym, ◌∙◌, subst}
+use Rattle.std.proofs.Common.{ℕ, ◌≡◌, ◌+◌, ◌-◌, ◌*◌, ◌<◌, ◌≤◌, List, length, arith, ap, sym, ◌∙◌, subst, add-one, inl, inr}
 use Rattle.std.proofs.lemmas.List.FromFn.{fill_by_all}
 use Rattle.wg_graph.specs.Digraph.{Digraph, IsGraph, arc_count}
 use Rattle.wg_params.specs.declared.limits.TheConstants.{MOST_PAGES, MOST_DAMPING, MOST_ROUNDS}
 use Rattle.wg_rank.specs.Sum.{sum_below}
-use Rattle.wg_rank.specs.Rank.{total, gap, low, high}
+use Rattle.wg_rank.specs.Rank.{total, gap, low, high, IsStationary, Encloses}
 use Rattle.wg_rank.specs.Intervals.{Intervals, AreBounds, IsTable, Holds, by_page}
 use Rattle.wg_rank.specs.Certified.{IsCertified}
 use Rattle.wg_rank.specs.Weights.{AreWeights}
 use Rattle.wg_rank.specs.declared.limits.TheConstants.{UNITS}
 use Rattle.wg_rank.proofs.Sums.{sum_same}
-use Rattle.wg_rank.proofs.Pageranks.{numerators_total, gap_shrinks, encloses_iterates, encloses_stationary, low_le_high, within_gap, width_is, low_rises, high_falls}
+use Rattle.wg_rank.proofs.Pageranks.{numerators_total, gap_shrinks, encloses_iterates, encloses_stationary, low_le_high, within_gap, width_is, low_rises, high_falls, low_total, rising_encloses}
+use Rattle.wg_rank.proofs.Rounds.{lower_same}
+use Rattle.wg_rank.specs.Claims.{Rises}
+use Rattle.std.proofs.lemmas.Bool.{cases_lt}
 
 -- bounds within the limits
 pub are_bounds : (b : Intervals) → length b.low ≤ MOST_PAGES → b.damping ≤ MOST_DAMPING → b.rounds ≤ MOST_ROUNDS → length b.high ≡ length b.low
@@ -76,4 +79,28 @@ one_only b c g o q d e k =
     let h = rw (d, e, k) at q.high_is in (
       tables_same c.low b.low g.nodes (low g b.damping (by_page b.weights) b.rounds) l o.low_is,
       tables_same c.high b.high g.nodes (high g b.damping (by_page b.weights) b.rounds) h o.high_is,
+    )
+
+-- ---- lower bounds that a round does not lower
+
+pub enclosing : (g : Digraph) (a : ℕ) (w l : ℕ → ℕ) → IsGraph g → a ≤ MOST_DAMPING → (0 < g.nodes → 0 < total g w) → Rises g a w l
+    → (p : ℕ → ℕ) (d : ℕ) → total g p ≡ d → IsStationary g a w p d → Encloses g l (λ v. l v + gap g l) p d
+enclosing g a w l ok da heavy rises p d t fixed v i =
+    let so : 0 < g.nodes = omega arith in
+    rising_encloses g a w ok (omega (arith, da)) so (heavy so) (omega (arith, da)) l p d rises t fixed v i
+
+pub complete : (b : Intervals) (g : Digraph) → IsGraph g → AreBounds b → Holds b g
+    → Rises g b.damping (by_page b.weights) (by_page b.low) × (total g (by_page b.low) ≤ UNITS)
+complete b g ok p o =
+    let w : ℕ → ℕ = by_page b.weights in
+    let l : ℕ → ℕ = low g b.damping w b.rounds in
+    let da : b.damping ≤ 1000 = omega (arith, p.damped) in (
+      λ v i.
+          let e = lower_same g b.damping w (by_page b.low) l v o.low_is.each in
+          let r = rw add-one at (low_rises g b.damping w ok da (omega arith) (some_weight b g p o (omega arith)) b.rounds v) in
+          rw (e, o.low_is.each v i) r,
+      elim (cases_lt 0 g.nodes) [
+        | inl so ↦ omega (arith, sum_same g.nodes (by_page b.low) l o.low_is.each, low_total g b.damping w ok da so (some_weight b g p o so) b.rounds)
+        | inr z ↦ let e : g.nodes ≡ 0 = omega arith in rw e (omega arith)
+      ],
     )

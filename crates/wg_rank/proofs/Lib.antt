@@ -2,6 +2,7 @@ pub mod Sums
 pub mod Arcs
 pub mod Steps
 pub mod Iterates
+pub mod Rising
 pub mod Pageranks
 pub mod Spread
 pub mod SideBySide
@@ -12,3 +13,7 @@ pub mod Settled
 pub mod Rounds
 pub mod Quotients
 pub mod Certificates
+pub mod Judgements
+pub mod ReadBounds
+pub mod WrittenBack
+pub mod Printed

@@ -5,13 +5,15 @@ use Rattle.std.specs.Int.{div_ceil}
 use Rattle.wg_graph.specs.Arcs.{has_arc}
 use Rattle.wg_graph.specs.Digraph.{Digraph, IsGraph, outdegree, successors, arc_count}
 use Rattle.wg_rank.specs.Sum.{sum_below}
-use Rattle.wg_rank.specs.Rank.{total, degrees_product, gap, lower, clipped, low, high, exact_step, numerator, denominator, Encloses}
+use Rattle.wg_rank.specs.Rank.{total, degrees_product, gap, lower, clipped, low, high, exact_step, numerator, denominator, IsStationary, Encloses}
 use Rattle.wg_rank.specs.declared.limits.TheConstants.{UNITS}
 use Rattle.wg_rank.proofs.Sums.{sum_const, sum_scale, sum_same, sum_add, sum_le}
 use Rattle.wg_rank.proofs.Steps.{Setting, div_mono, part_above}
 use Rattle.wg_rank.proofs.Arcs.{members_count, list_ascends, list_below, lengths_total, product_pos, factor_back}
 use Rattle.wg_rank.proofs.Iterates as laws
 use Rattle.wg_rank.proofs.Steps as steps
+use Rattle.wg_rank.proofs.Rising.{rising_below}
+use Rattle.wg_rank.specs.Claims.{Rises}
 
 floor_weighted : (a r n z s w x : ℕ)
     → (a * x / (1000 * n) + r * s * w / (1000 * z)) * (1000 * (n * z)) ≤ a * z * x + r * n * w * s
@@ -150,3 +152,11 @@ module _ (g : Digraph) (a : ℕ) (wt : ℕ → ℕ) (ok : IsGraph g) (damped : a
   -- lower bounds that add up to at most 1 still do after a round, whatever they are
   pub lower_total : (l : ℕ → ℕ) → total g l ≤ UNITS → total g (lower g a wt l) ≤ UNITS
   lower_total l h = steps.lower_total (setting g a wt ok damped some heavy) l h
+
+  -- lower bounds that a round does not lower, whatever they are
+  pub rising_encloses : a < 1000 → (l p : ℕ → ℕ) (z : ℕ) → Rises g a wt l → total g p ≡ z → IsStationary g a wt p z
+      → Encloses g l (λ v. l v + gap g l) p z
+  rising_encloses shrinks l p z rises t fixed =
+      let c : Setting = setting g a wt ok damped some heavy in
+      let under = rising_below c shrinks (omega arith) l p z t (λ v w. sym (c.step_is p z v) ∙ fixed v w ∙ omega arith) rises in
+      λ v w. (under v w, steps.gap_encloses g.nodes UNITS l p z t under v w)

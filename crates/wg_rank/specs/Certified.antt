@@ -1,7 +1,7 @@
 -- What bounds say of the exact shares.
 use Rattle.std.specs.Prelude.{ℕ, ◌≡◌, ◌+◌, ◌-◌, ◌*◌, ◌^◌, ◌<◌, ◌≤◌}
 use Rattle.wg_graph.specs.Digraph.{Digraph, arc_count}
-use Rattle.wg_rank.specs.Rank.{total, gap, numerator, denominator, exact_step, degrees_product, Encloses}
+use Rattle.wg_rank.specs.Rank.{total, gap, numerator, denominator, IsStationary, Encloses}
 use Rattle.wg_rank.specs.Intervals.{Intervals, by_page}
 use Rattle.wg_rank.specs.declared.limits.TheConstants.{UNITS}
 
@@ -12,17 +12,11 @@ numerator_of b g j = numerator g b.damping (by_page b.weights) j
 abbrev pub denominator_of : Intervals → Digraph → ℕ → ℕ
 denominator_of b g j = denominator g (by_page b.weights) j
 
--- a step leaves the shares p / d as they are
-abbrev pub IsStationary : Intervals → Digraph → (ℕ → ℕ) → ℕ → Type 0
-IsStationary b g p d =
-    (v : ℕ) → v < g.nodes
-    → exact_step g b.damping (by_page b.weights) p d v ≡ p v * 1000 * g.nodes * degrees_product g * total g (by_page b.weights)
-
 pub record IsCertified (b : Intervals) (g : Digraph) : Type 0 where
   -- each iterate from this round on lies within the bounds
   pub iterates : (j : ℕ) → b.rounds ≤ j → Encloses g (by_page b.low) (by_page b.high) (numerator_of b g j) (denominator_of b g j)
   -- and so does each stationary vector
-  pub stationary : (p : ℕ → ℕ) (d : ℕ) → total g p ≡ d → IsStationary b g p d → Encloses g (by_page b.low) (by_page b.high) p d
+  pub stationary : (p : ℕ → ℕ) (d : ℕ) → total g p ≡ d → IsStationary g b.damping (by_page b.weights) p d → Encloses g (by_page b.low) (by_page b.high) p d
   -- the shares of an iterate add up to 1
   pub sums : 0 < g.nodes → (j : ℕ) → (total g (numerator_of b g j) ≡ denominator_of b g j) × (0 < denominator_of b g j)
   pub ordered : (v : ℕ) → v < g.nodes → by_page b.low v ≤ by_page b.high v

@@ -1,10 +1,13 @@
 -- What holds of exact iterates and of bounds, for every graph.
-use Rattle.std.specs.Prelude.{ℕ, ◌≡◌, ◌<◌, ◌≤◌}
+use Rattle.std.specs.Prelude.{ℕ, ◌≡◌, ◌<◌, ◌≤◌, length, Ok}
 use Rattle.wg_graph.specs.Digraph.{Digraph, IsGraph}
-use Rattle.wg_rank.specs.Rank.{total, numerator, denominator}
-use Rattle.wg_rank.specs.Intervals.{Intervals, AreBounds, Holds}
+use Rattle.wg_rank.specs.Rank.{total, gap, numerator, denominator, EnclosesStationary}
+use Rattle.wg_rank.specs.Intervals.{Intervals, AreBounds, Holds, by_page}
+use Rattle.wg_rank.specs.Claims.{Claim, IsClaim, Rises}
+use Rattle.wg_rank.specs.CertificateText.{text_of_claim, claim_of}
 use Rattle.wg_rank.specs.Certified.{IsCertified}
 use Rattle.wg_params.specs.declared.limits.TheConstants.{MOST_DAMPING}
+use Rattle.wg_rank.specs.declared.limits.TheConstants.{UNITS}
 
 -- The shares of an iterate add up to 1: their numerators to the denominator, which is not 0.
 abbrev pub SharesAddUp : Type 0
@@ -21,3 +24,19 @@ abbrev pub BoundsAreOne : Type 0
 BoundsAreOne =
     (b c : Intervals) (g : Digraph) → Holds b g → Holds c g → c.damping ≡ b.damping → c.weights ≡ b.weights → c.rounds ≡ b.rounds
     → (c.low ≡ b.low) × (c.high ≡ b.high)
+
+-- Lower bounds that a round does not lower enclose each stationary vector, with what they leave of 1.
+abbrev pub RisingBoundsEnclose : Type 0
+RisingBoundsEnclose =
+    (g : Digraph) (a : ℕ) (w l : ℕ → ℕ) → IsGraph g → a ≤ MOST_DAMPING → (0 < g.nodes → 0 < total g w) → Rises g a w l
+    → EnclosesStationary g a w l (gap g l)
+
+-- The lower bounds after any number of rounds are such, and add up to at most 1.
+abbrev pub LowerBoundsRise : Type 0
+LowerBoundsRise =
+    (b : Intervals) (g : Digraph) → IsGraph g → AreBounds b → Holds b g
+    → Rises g b.damping (by_page b.weights) (by_page b.low) × (total g (by_page b.low) ≤ UNITS)
+
+-- The text of a claim stands for the claim.
+abbrev pub ClaimsReadBack : Type 0
+ClaimsReadBack = (c : Claim) → IsClaim c → claim_of (length c.low) (text_of_claim c) ≡ Ok c

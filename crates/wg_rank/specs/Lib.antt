@@ -1,5 +1,8 @@
 pub mod BoundsInside
 pub mod Certified
+pub mod CertificateText
+pub mod Claims
+pub mod ClaimsInside
 pub mod Inflows
 pub mod Intervals
 pub mod Laws

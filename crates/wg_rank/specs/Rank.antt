@@ -1,5 +1,5 @@
 -- PageRank after Page and Brin, with damping a / 1000 and a teleport by weights w: its exact iterates, and bounds of them in whole units.
-use Rattle.std.specs.Prelude.{ℕ, zero, suc, ◌+◌, ◌-◌, ◌*◌, ◌/◌, ◌<◌, ◌≤◌, ◌==◌, cond, min, max}
+use Rattle.std.specs.Prelude.{ℕ, ◌≡◌, zero, suc, ◌+◌, ◌-◌, ◌*◌, ◌/◌, ◌<◌, ◌≤◌, ◌==◌, cond, min, max}
 use Rattle.std.specs.Int.{div_ceil}
 use Rattle.wg_graph.specs.Arcs.{has_arc}
 use Rattle.wg_graph.specs.Digraph.{Digraph, outdegree}
@@ -77,6 +77,16 @@ abbrev pub numerator : Digraph → ℕ → (ℕ → ℕ) → ℕ → ℕ → ℕ
 numerator g a w zero v = 1
 numerator g a w (suc t) v = exact_step g a w (numerator g a w t) (denominator g w t) v
 
+-- a step leaves the shares p / d as they are
+abbrev pub IsStationary : Digraph → ℕ → (ℕ → ℕ) → (ℕ → ℕ) → ℕ → Type 0
+IsStationary g a w p d =
+    (v : ℕ) → v < g.nodes → exact_step g a w p d v ≡ p v * 1000 * g.nodes * degrees_product g * total g w
+
 -- the share p / d of each page lies within its bounds
 abbrev pub Encloses : Digraph → (ℕ → ℕ) → (ℕ → ℕ) → (ℕ → ℕ) → ℕ → Type 0
 Encloses g l h p d = (v : ℕ) → v < g.nodes → (l v * d ≤ UNITS * p v) × (UNITS * p v ≤ h v * d)
+
+-- each stationary vector lies between lower bounds and those with so much more
+abbrev pub EnclosesStationary : Digraph → ℕ → (ℕ → ℕ) → (ℕ → ℕ) → ℕ → Type 0
+EnclosesStationary g a w l left =
+    (p : ℕ → ℕ) (d : ℕ) → total g p ≡ d → IsStationary g a w p d → Encloses g l (λ v. l v + left) p d

@@ -98,6 +98,14 @@ impl Bounds {
         })
     }
 
+    /// The damping, in thousandths.
+    pub fn damping(&self) -> u64
+        ensures value { result ≡ self.now.damping }
+        ensures proper { AreBounds self.now }
+    {
+        self.damping
+    }
+
     /// How many rounds are done.
     pub fn rounds(&self) -> u64
         ensures value { result ≡ self.now.rounds }

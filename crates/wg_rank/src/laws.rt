@@ -1,4 +1,4 @@
-ghost use Rattle.wg_rank.specs.Laws.{SharesAddUp, BoundsAreCertified, BoundsAreOne};
+ghost use Rattle.wg_rank.specs.Laws.{SharesAddUp, BoundsAreCertified, BoundsAreOne, RisingBoundsEnclose, LowerBoundsRise, ClaimsReadBack};
 
 /// The shares of each exact iterate add up to 1.
 pub fn iterates()
@@ -10,4 +10,12 @@ pub fn iterates()
 pub fn bounds()
     ensures certified { BoundsAreCertified }
     ensures one { BoundsAreOne }
+{}
+
+/// Lower bounds that a round does not lower enclose every stationary vector, with what they leave of 1, and those that rounds
+/// find are such bounds. The text of a certificate is read as this certificate.
+pub fn certificates()
+    ensures enclose { RisingBoundsEnclose }
+    ensures complete { LowerBoundsRise }
+    ensures read_back { ClaimsReadBack }
 {}

@@ -15,9 +15,26 @@
 //!               new low, high <-- settle: the damping's part, and teleport's <-+
 //! ```
 //!
-//! Memory is taken by [`Bounds::new`] alone: four numbers of 16 bytes for each page; [`Bounds::weighted`], by which teleport
+//! A [`Certificate`] is what others can check without the rounds: a damping and the lower bounds alone. [`write_certificate`]
+//! adds its text to a file, and [`read_certificate`] reads it or names its first fault, a [`CertFault`]. [`judge`] does one round
+//! on the lower bounds, over any graph with as many pages: if it lowers none of them, they enclose every stationary vector, with
+//! what they leave of 1, whoever made them; else it names the first page whose bound falls. The bounds that rounds find never
+//! fall.
+//!
+//! ```text
+//! damping 850                      in thousandths
+//! pages 2                          decimal, and a line for each of them:
+//! 0.075000000000000000000000       its lower bound, with all 24 digits
+//! 0.075000000000000000000000
+//! ```
+//!
+//! Each line ends in LF, which the last may lack, and before which one CR is no part of the line. No line may be empty or come
+//! after the last bound, and the bounds add up to at most 1.
+//!
+//! Bounds take memory by [`Bounds::new`] alone: four numbers of 16 bytes for each page; [`Bounds::weighted`], by which teleport
 //! goes to the pages by weights, takes 8 bytes more. The two sums of what flows to a page lie side by side, so that an arc
-//! reaches one place in memory. Between rounds they say nothing, and [`Bounds::into_parts`] hands them on as room.
+//! reaches one place in memory. Between rounds they say nothing, and [`Bounds::into_parts`] hands them on as room. Writing takes
+//! none. A certificate holds 16 bytes for each page, taken as its lines come, and judging takes 48 more.
 //!
 //! A round divides each page's two bounds by its outdegree, once and not for each arc, and what flows in by 1000; by weights it
 //! also divides teleport's two parts for each page, and if each weight is 1 once for all. For an arc it adds twice. No sum
@@ -27,16 +44,26 @@
 
 mod advancing;
 mod bounds;
+mod certificate;
 mod dividing;
+mod fault;
 mod gathering;
 mod inflows;
+mod judging;
 pub mod laws;
 mod limits;
+mod reading;
 mod settling;
 mod spreading;
+mod writing;
 
 pub use bounds::Bounds;
+pub use certificate::Certificate;
+pub use fault::{CertError, CertFault, CertKind, JudgeError};
+pub use judging::judge;
 pub use limits::{MOST_WEIGHT, UNITS};
+pub use reading::read_certificate;
+pub use writing::write_certificate;
 
 #[cfg(test)]
 mod tests;

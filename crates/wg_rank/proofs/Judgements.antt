@@ -1,0 +1,42 @@
+-- What a judged certificate says of stationary vectors, and of bounds that rounds have found.
+use Rattle.std.proofs.Common.{ℕ, ◌≡◌, ◌<◌, ◌≤◌, List, length, Option, Some, None, MatchOption, Result, Ok, Err, IfOk, sym, subst, arith}
+use Rattle.wg_graph.specs.Digraph.{Digraph, IsGraph}
+use Rattle.wg_rank.specs.Sum.{sum_below}
+use Rattle.wg_rank.specs.Rank.{lower, EnclosesStationary}
+use Rattle.wg_rank.specs.Intervals.{Intervals, AreBounds, IsTable, Holds, by_page}
+use Rattle.wg_rank.specs.Weights.{AreWeights, weights_or_ones}
+use Rattle.wg_rank.specs.Claims.{Claim, IsClaim, claim_of_bounds, Rises, FallsFirst, IsJudged}
+use Rattle.wg_rank.specs.declared.fault.JudgeError.{JudgeError}
+use Rattle.wg_rank.specs.declared.fault.JudgeError.TheVariants as errors
+use Rattle.wg_rank.proofs.Certificates.{enclosing, complete}
+
+pub judged_same : (g : Digraph) (c : Claim) (a : ℕ) (l ws vs : List ℕ) (r : Result ℕ JudgeError) → a ≡ c.damping → l ≡ c.low
+    → weights_or_ones (length l) vs ≡ ws → IsJudged g (record { damping = a; low = l }) (by_page (weights_or_ones (length l) vs)) r → IsJudged g c (by_page ws) r
+judged_same g c a l ws vs r e f h t =
+    let same : ◌≡◌ {A = Claim} (record { damping = a; low = l }) c = λ i. record { damping = e i; low = f i } in
+    rw (← same, ← h) t
+
+pub judged_encloses : (g : Digraph) (c : Claim) (ws : List ℕ) (r : Result ℕ JudgeError) → IsGraph g → IsClaim c → g.nodes ≡ length c.low
+    → AreWeights (length c.low) ws → IsJudged g c (by_page ws) r
+    → IfOk r (EnclosesStationary g c.damping (by_page ws) (by_page c.low))
+judged_encloses g c ws (Ok left) ok claim n heavy h = λ p d t fixed. rw h.1
+    (enclosing g c.damping (by_page ws) (by_page c.low) ok claim.damped (λ so. subst (λ k. 0 < sum_below k (by_page ws)) (sym n) (heavy.some (omega arith))) h.0 p d t fixed)
+judged_encloses g c ws (Err e) ok claim n heavy h = tt
+
+pub judged_complete : (g : Digraph) (c : Claim) (ws : List ℕ) (r : Result ℕ JudgeError) → IsGraph g → IsJudged g c (by_page ws) r
+    → (b : Intervals) → AreBounds b → Holds b g → claim_of_bounds b ≡ c → b.weights ≡ ws → (page : ℕ) → r ≡ Err (errors.Falls page) → ⊥
+judged_complete g c ws r ok h b p o d e page is =
+    let f = rw (is, ← d, ← e) at h in
+    omega (arith, f.falls, (complete b g ok p o).0 page f.there)
+
+-- the first page that is smaller in the next bounds falls
+pub first_of_table : (g : Digraph) (a n : ℕ) (w : ℕ → ℕ) (low next : List ℕ) (r : Option ℕ) → g.nodes ≡ n → IsTable next g.nodes (lower g a w (by_page low))
+    → MatchOption r ((v : ℕ) → v < n → by_page low v ≤ by_page next v)
+    (λ x. (x < n) × (by_page next x < by_page low x) × ((v : ℕ) → v < x → by_page low v ≤ by_page next v))
+    → MatchOption r (Rises g a w (by_page low)) (FallsFirst g a w (by_page low))
+first_of_table g a n w low next None e t h = λ v i. omega (arith, h v (omega arith), t.each v i)
+first_of_table g a n w low next (Some x) e t h = record {
+  there = omega (arith, h.0);
+  falls = omega (arith, h.1, t.each x (omega (arith, h.0)));
+  before = λ v i. omega (arith, h.2 v i, t.each v (omega (arith, h.0, i)));
+}
