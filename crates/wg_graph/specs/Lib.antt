@@ -2,6 +2,7 @@ pub mod Arcs
 pub mod Ascending
 pub mod Copied
 pub mod Digraph
+pub mod Filled
 pub mod Growing
 pub mod Joined
 pub mod Listing

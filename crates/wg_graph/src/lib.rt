@@ -4,7 +4,8 @@
 //! [`GraphBuilder`], which takes arcs in ascending order, or whole lists, page by page. [`Lists`] is a graph whose
 //! lists are read in order, wherever they come from; [`GraphLists`] reads those of a [`Graph`].
 //!
-//! [`List`] holds numbers in order, as the successors of one page. [`join`] joins to an ascending list the numbers of
+//! [`List`] holds numbers in order, as the successors of one page; a [`Row`] does so in memory that is taken once, and
+//! never wants more. [`join`] joins to an ascending list the numbers of
 //! another that come one after the other. [`Members`] tells of one number after the other whether it stands in an
 //! ascending list, and gives the members below a number one by one. The definitions say what a graph is, which lists
 //! ascend, which ascending list a set of numbers has, and which members of a referenced list its copy blocks copy; the
@@ -22,6 +23,7 @@ mod joining;
 mod list;
 mod lists;
 mod members;
+mod row;
 
 pub use builder::GraphBuilder;
 pub use graph::Graph;
@@ -29,6 +31,7 @@ pub use joining::join;
 pub use list::List;
 pub use lists::{GraphLists, Lists};
 pub use members::Members;
+pub use row::Row;
 
 #[cfg(test)]
 mod tests;

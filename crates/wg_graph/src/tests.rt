@@ -1,4 +1,4 @@
-use crate::{Graph, GraphBuilder, GraphLists, Lists};
+use crate::{Graph, GraphBuilder, GraphLists, Lists, Row};
 use std::alloc::{AllocError, Global};
 use std::process::Abort;
 use std::test::Fail;
@@ -49,5 +49,18 @@ fn lists_come_in_order_and_again(rt: HostRuntime) -> Result<(), Fail> {
         assert_eq!(rt; lists.next_list().ok_or("page 2")?, [].as_slice());
         assert!(rt; lists.next_list().is_none());
     }
+    Ok(())
+}
+
+#[test]
+fn a_row_is_filled_again(rt: HostRuntime) -> Result<(), Fail> {
+    let mut row = Row::new(rt.alloc(), 2)?;
+    row.push(4);
+    row.push(9);
+    assert_eq!(rt; row.as_slice(), [4, 9].as_slice());
+    row.clear();
+    assert_eq!(rt; row.as_slice(), [].as_slice());
+    row.push(7);
+    assert_eq!(rt; row.as_slice(), [7].as_slice());
     Ok(())
 }
