@@ -17,6 +17,7 @@ use wg_source::Source;
 
 /// The record that comes next from a source, of a page with `arcs_before` arcs before it. The source moves over the
 /// record, and may stand anywhere in it where it is refused, memory is wanting or a word was refused.
+#[inline(always)]
 pub fn decode_from<S: Source>(
     params: &Params,
     page: u64,
