@@ -4,3 +4,4 @@ pub mod Parts
 pub mod Laws
 pub mod Fold
 pub mod Standing
+pub mod Windows

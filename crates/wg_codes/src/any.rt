@@ -1,12 +1,13 @@
 //! A code that is chosen while the program runs.
-ghost use Rattle.std.specs.Prelude.{◌≡◌, ◌≤◌, false, length, is_err, IsTrue, ◌↔◌};
+ghost use Rattle.std.specs.Prelude.{◌≡◌, ◌≤◌, false, length, is_err, IsTrue, IfSome, ◌↔◌};
 ghost use Rattle.wg_params.specs.Codes.{IsCode};
 ghost use Rattle.wg_bits.specs.Bits.{rest};
 ghost use Rattle.wg_bits.specs.Written.{Sends};
 ghost use Rattle.wg_codes.specs.Words.{word, top};
 ghost use Rattle.wg_codes.specs.Reading.{Reads, Passes, after};
+ghost use Rattle.wg_codes.specs.Windows.{Tells};
 
-use crate::{Read, delta, gamma, nibble, unary, zeta};
+use crate::{Read, Word, delta, gamma, nibble, unary, zeta};
 use wg_bits::{Cursor, Writer};
 use wg_io::{Depot, WriteError};
 use wg_params::Code;
@@ -25,6 +26,22 @@ pub fn read(code: Code, cursor: &mut Cursor<'_>) -> Read
         Code::Delta => delta::read(cursor),
         Code::Zeta(k) => zeta::read(cursor, k),
         Code::Nibble => nibble::read(cursor),
+    }
+}
+
+/// The word that 64 bits begin with, the first of them the number's highest. It is told of unary, gamma and zeta, where
+/// it lies within the 64 bits with some room; of other words there is none.
+#[inline(always)]
+pub fn word_in(code: Code, window: u64) -> Option<Word>
+    requires { IsCode code }
+    ensures { IfSome result (Tells (word code) (top code) window) }
+{
+    match code {
+        Code::Unary => unary::word_in(window, (1 << 32) - 1),
+        Code::Gamma => gamma::word_in(window, 62),
+        Code::Zeta(k) => zeta::word_in(window, k),
+        Code::Delta => None,
+        Code::Nibble => None,
     }
 }
 

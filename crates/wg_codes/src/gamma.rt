@@ -8,14 +8,15 @@
 //! | 2 | `011` |
 //! | 3 | `00100` |
 //! | 7 | `0001000` |
-ghost use Rattle.std.specs.Prelude.{◌≡◌, ◌+◌, ◌-◌, ◌*◌, ◌^◌, ◌<◌, ◌≤◌, false, length, is_err};
+ghost use Rattle.std.specs.Prelude.{◌≡◌, ◌+◌, ◌-◌, ◌*◌, ◌^◌, ◌<◌, ◌≤◌, false, length, is_err, IfSome};
 ghost use Rattle.wg_bits.specs.Bits.{rest};
 ghost use Rattle.wg_bits.specs.Written.{Sends};
 ghost use Rattle.wg_codes.specs.Words.{gamma};
 ghost use Rattle.wg_codes.specs.Reading.{Reads, after};
+ghost use Rattle.wg_codes.specs.Windows.{Tells};
 
 use crate::headed::{highest_one, number, put_headed};
-use crate::{Read, unary};
+use crate::{Read, Word, unary};
 use wg_bits::{Cursor, Writer};
 use wg_io::{Depot, WriteError};
 
@@ -26,13 +27,29 @@ pub fn read(cursor: &mut Cursor<'_>, most: u64) -> Read
     ensures found { Reads gamma (2 ^ (most + 1) - 2) (rest cursor.old) result }
     ensures moves { cursor.new ≡ after gamma cursor.old result }
 {
-    let word = cursor.peek();
-    let index = word.leading_zeros();
-    if index < 32 && index as u64 <= most && 2 * index as u64 + 1 <= cursor.remaining() {
-        cursor.advance(2 * index as u64 + 1);
-        return Read::Value((word >> (63 - 2 * index)) - 1);
+    if let Some(word) = word_in(cursor.peek(), most) {
+        if word.bits <= cursor.remaining() {
+            cursor.advance(word.bits);
+            return Read::Value(word.value);
+        }
     }
     read_in_steps(cursor, most)
+}
+
+// The word that 64 bits begin with, if all of it lies within them.
+#[inline(always)]
+pub fn word_in(window: u64, most: u64) -> Option<Word>
+    requires { most ≤ 62 }
+    ensures { IfSome result (Tells gamma (2 ^ (most + 1) - 2) window) }
+{
+    let index = window.leading_zeros();
+    if index >= 32 || index as u64 > most {
+        return None;
+    }
+    Some(Word {
+        value: (window >> (63 - 2 * index)) - 1,
+        bits: 2 * index as u64 + 1,
+    })
 }
 
 // The same for any word: the unary word first, and then the low bits.

@@ -1,5 +1,12 @@
 //! What a reader says.
 
+/// A word, by its value and its length in bits.
+#[derive(Clone, Copy, Debug)]
+pub struct Word {
+    pub value: u64,
+    pub bits: u64,
+}
+
 /// What stands at some bits. For every code and all bits it is exactly one of these.
 #[derive(Clone, Copy, Debug, PartialEq, Eq)]
 pub enum Read {

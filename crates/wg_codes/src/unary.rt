@@ -7,14 +7,15 @@
 //! | 2 | `001` |
 //! | 3 | `0001` |
 //! | 7 | `00000001` |
-ghost use Rattle.std.specs.Prelude.{◌≡◌, ◌+◌, ◌^◌, ◌<◌, false, length, is_err};
+ghost use Rattle.std.specs.Prelude.{◌≡◌, ◌+◌, ◌^◌, ◌<◌, false, length, is_err, IfSome};
 ghost use Rattle.wg_bits.specs.Bits.{rest};
 ghost use Rattle.wg_bits.specs.Written.{Sends};
 ghost use Rattle.wg_codes.specs.Words.{unary};
 ghost use Rattle.wg_codes.specs.Reading.{Reads, after};
+ghost use Rattle.wg_codes.specs.Windows.{Tells};
 
-use crate::Read;
 use crate::headed::put_headed;
+use crate::{Read, Word};
 use wg_bits::{Cursor, Writer};
 use wg_io::{Depot, WriteError};
 
@@ -25,12 +26,29 @@ pub fn read(cursor: &mut Cursor<'_>, most: u64) -> Read
     ensures found { Reads unary most (rest cursor.old) result }
     ensures moves { cursor.new ≡ after unary cursor.old result }
 {
-    let zeros = cursor.peek().leading_zeros() as u64;
-    if zeros < 64 && zeros <= most && zeros < cursor.remaining() {
-        cursor.advance(zeros + 1);
-        return Read::Value(zeros);
+    if let Some(word) = word_in(cursor.peek(), most) {
+        if word.bits <= cursor.remaining() {
+            cursor.advance(word.bits);
+            return Read::Value(word.value);
+        }
     }
     read_in_steps(cursor, most)
+}
+
+// The word that 64 bits begin with, if all of it lies within them.
+#[inline(always)]
+pub fn word_in(window: u64, most: u64) -> Option<Word>
+    requires { most < 2 ^ 32 }
+    ensures { IfSome result (Tells unary most window) }
+{
+    let zeros = window.leading_zeros() as u64;
+    if zeros >= 64 || zeros > most {
+        return None;
+    }
+    Some(Word {
+        value: zeros,
+        bits: zeros + 1,
+    })
 }
 
 // The same for any word: the zeros first, and then the one.

@@ -14,10 +14,11 @@ ghost use Rattle.wg_bits.specs.Bits.{rest, moved};
 ghost use Rattle.wg_bits.specs.Written.{Sends};
 ghost use Rattle.wg_codes.specs.Words.{zeta, shortened};
 ghost use Rattle.wg_codes.specs.Reading.{Reads, after};
+ghost use Rattle.wg_codes.specs.Windows.{Tells};
 ghost use Rattle.wg_codes.specs.Parts.{IsShortenedAt, IsCutAt};
 
 use crate::headed::{highest_one, put_headed};
-use crate::{Read, unary};
+use crate::{Read, Word, unary};
 use wg_bits::{Cursor, Writer};
 use wg_io::{Depot, WriteError};
 
@@ -28,24 +29,39 @@ pub fn read(cursor: &mut Cursor<'_>, k: u32) -> Read
     ensures found { Reads (zeta k) (2 ^ (k * (63 / k)) - 2) (rest cursor.old) result }
     ensures moves { cursor.new ≡ after (zeta k) cursor.old result }
 {
-    let word = cursor.peek();
-    let head = word.leading_zeros();
-    let width = head * k + k;
-    if head + 1 + width <= 64 {
-        let least = 1u64 << (head * k);
-        let one = 1u64 << (width - 1);
-        let low = (word >> (64 - head - width)) - one;
-        if low < least {
-            if (head + width) as u64 <= cursor.remaining() {
-                cursor.advance((head + width) as u64);
-                return Read::Value(least + low - 1);
-            }
-        } else if (head + width + 1) as u64 <= cursor.remaining() {
-            cursor.advance((head + width + 1) as u64);
-            return Read::Value((word >> (63 - head - width)) - 2 * one - 1);
+    if let Some(word) = word_in(cursor.peek(), k) {
+        if word.bits <= cursor.remaining() {
+            cursor.advance(word.bits);
+            return Read::Value(word.value);
         }
     }
     read_in_steps(cursor, k)
+}
+
+// The word that 64 bits begin with, if with its head the long form lies within them.
+#[inline(always)]
+pub fn word_in(window: u64, k: u32) -> Option<Word>
+    requires { (1 ≤ k) × (k ≤ 31) }
+    ensures { IfSome result (Tells (zeta k) (2 ^ (k * (63 / k)) - 2) window) }
+{
+    let head = window.leading_zeros();
+    let width = head * k + k;
+    if head + 1 + width > 64 {
+        return None;
+    }
+    let least = 1u64 << (head * k);
+    let one = 1u64 << (width - 1);
+    let low = (window >> (64 - head - width)) - one;
+    if low < least {
+        return Some(Word {
+            value: least + low - 1,
+            bits: (head + width) as u64,
+        });
+    }
+    Some(Word {
+        value: (window >> (63 - head - width)) - 2 * one - 1,
+        bits: (head + width + 1) as u64,
+    })
 }
 
 // The same for any word: the unary word of the head first, and then the shortened form.

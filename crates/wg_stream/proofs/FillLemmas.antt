@@ -1,13 +1,12 @@
 -- Words of the bytes that are held, and of the file.
-use Rattle.std.proofs.Common.{◌≡◌, ◌⊎◌, ℕ, ◌+◌, ◌-◌, ◌*◌, ◌/◌, ◌<◌, ◌≤◌, Bool, true, false, List, [], ◌∷◌, ◌++◌, length, drop, Option, Some, refl, sym, ◌∙◌, ap, subst, ⊎_elim, inl, inr, arith, append_assoc, length-append}
+use Rattle.std.proofs.Common.{◌≡◌, ◌⊎◌, ℕ, ◌+◌, ◌-◌, ◌/◌, ◌<◌, ◌≤◌, Bool, true, false, List, [], ◌∷◌, ◌++◌, length, drop, refl, sym, ◌∙◌, ap, subst, ⊎_elim, inl, inr, arith, append_assoc, length-append}
 use Rattle.std.proofs.Math.ListN.{replicate}
-use Rattle.std.proofs.lemmas.List.{append-nil, replicate-append-replicate, length-replicate}
+use Rattle.std.proofs.lemmas.List.{replicate-append-replicate, length-replicate}
 use Rattle.wg_bits.specs.Bits.{bits_of, BeginsWithNoZero}
 use Rattle.wg_codes.specs.Words.{unary}
-use Rattle.wg_codes.specs.declared.outcome.Read.TheVariants.{Value, Cut, NoWord}
-use Rattle.wg_codes.proofs.UnaryWords.{unary_none, unary_cut, unary_value, length-unary}
+use Rattle.wg_codes.specs.declared.outcome.Read.TheVariants.{Value, Cut}
+use Rattle.wg_codes.proofs.UnaryWords.{unary_cut, unary_value, length-unary}
 use Rattle.wg_params.specs.declared.code.Code.TheVariants.{Unary}
-use Rattle.wg_source.specs.Standing.{IsReadAt, StopsAt}
 use Rattle.wg_codes.proofs.PrefixReads.{prefix_reads, prefix_tells}
 use Rattle.wg_params.specs.Codes.{IsCode}
 use Rattle.wg_params.specs.declared.code.Code.{Code}

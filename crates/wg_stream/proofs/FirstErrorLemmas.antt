@@ -1,5 +1,5 @@
 -- What an error of the parts says of the whole.
-use Rattle.std.proofs.Common.{◌≡◌, sym, subst}
+use Rattle.std.proofs.Common.{sym, subst}
 use Rattle.wg_io.specs.declared.whole.LoadError.{LoadError}
 use Rattle.wg_io.specs.declared.whole.LoadError.TheVariants as load
 use Rattle.wg_grammar.specs.declared.fault.ArchiveFault.{ArchiveFault}

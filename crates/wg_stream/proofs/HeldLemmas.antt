@@ -1,5 +1,5 @@
 -- A part of a file that is held.
-use Rattle.std.proofs.Common.{◌≡◌, ◌⊎◌, ℕ, suc, ◌+◌, ◌-◌, ◌*◌, ◌/◌, ◌<◌, ◌≤◌, Bool, true, List, [], ◌++◌, length, take, drop, Option, Some, Ok, refl, sym, ◌∙◌, ap, subst, arith, append_assoc, length-append, length-drop}
+use Rattle.std.proofs.Common.{◌≡◌, ℕ, ◌+◌, ◌-◌, ◌*◌, ◌≤◌, true, List, ◌++◌, length, take, drop, Option, Some, Ok, sym, ◌∙◌, ap, subst, arith, append_assoc, length-append, length-drop}
 use Rattle.std.proofs.Math.Seq.{drop-append-add, drop-append_seam}
 use Rattle.std.proofs.lemmas.List.{drop-append-le, take-append-drop, drop-take, length-take-le, nil_from_length}
 use Rattle.std.proofs.lemmas.List.Edits.{take-paste}
@@ -9,7 +9,7 @@ use Rattle.wg_bits.specs.Bits.{bits_of, Position, rest, moved}
 use Rattle.wg_io.specs.Reads.{Reads, IsPieceOf}
 use Rattle.wg_bits.proofs.Words.{length-bits_of}
 use Rattle.wg_bits.proofs.Writes.{bits_of-append}
-use Rattle.wg_stream.specs.Held.{Held, IsHeldOf, IsInside, ahead, HoldsNext}
+use Rattle.wg_stream.specs.Held.{Held, IsHeldOf, IsInside, ahead}
 
 -- the bits of the file from the next one on
 pub rest_of_file : (file : List ℕ) (h : Held) (i : IsHeldOf file h) → IsInside h → drop h.at (bits_of file) ≡ ahead h ++ bits_of i.behind

@@ -1,6 +1,7 @@
 pub mod PrefixLemmas
 pub mod ErrorLemmas
 pub mod HeldLemmas
+pub mod NearLemmas
 pub mod FillLemmas
 pub mod TailLemmas
 pub mod FirstErrorLemmas

@@ -1,6 +1,6 @@
 -- What follows the last record, by the bytes that are held.
-use Rattle.std.proofs.Common.{◌≡◌, ◌⊎◌, ℕ, ◌+◌, ◌-◌, ◌*◌, ◌/◌, ◌<◌, ◌≤◌, Bool, true, false, List, [], ◌++◌, length, get_or, Option, Some, None, IfSome, IfNone, refl, sym, ◌∙◌, ap, subst, ⊎_elim, inl, inr, arith, length-append}
-use Rattle.std.proofs.lemmas.List.{get_or_append_left, get_or-append-add, append-nil}
+use Rattle.std.proofs.Common.{◌≡◌, ℕ, ◌+◌, ◌-◌, ◌*◌, ◌/◌, ◌<◌, ◌≤◌, true, false, List, ◌++◌, length, get_or, Option, Some, None, IfSome, IfNone, ◌∙◌, ap, ⊎_elim, inl, inr, arith, length-append}
+use Rattle.std.proofs.lemmas.List.{get_or_append_left, get_or-append-add}
 use Rattle.wg_bits.specs.Bits.{bits_of}
 use Rattle.wg_bits.proofs.Words.{length-bits_of}
 use Rattle.wg_bits.proofs.Writes.{bits_of-append}

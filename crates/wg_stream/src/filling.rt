@@ -48,13 +48,9 @@ pub fn next_word<D: Depot>(
     ensures cause { IfErr result (HasCause D.told name.now (D.files depot.old) (D.counts depot.old) (D.counts depot.new) held.old) }
     ensures found { IsTrue D.told → (file : List ℕ) → map.get (D.files depot.old) name.now ≡ Some file → IsHeldOf file held.old → IfOk result (λ r. IsReadAt code (bits_of file) held.old.at r held.new.at) }
 {
-    if !held.is_ready() {
-        return word_in_pieces(held, depot, name, code);
-    }
-    match held.read(code) {
-        Read::Value(value) => Ok(Read::Value(value)),
-        Read::NoWord => Ok(Read::NoWord),
-        Read::Cut => word_in_pieces(held, depot, name, code),
+    match held.near_word(code) {
+        Some(value) => Ok(Read::Value(value)),
+        None => word_in_pieces(held, depot, name, code),
     }
 }
 

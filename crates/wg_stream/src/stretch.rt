@@ -7,7 +7,7 @@ ghost use Rattle.wg_params.specs.Codes.{IsCode};
 ghost use Rattle.wg_bits.specs.Bits.{bits_of, BeginsWithNoZero};
 ghost use Rattle.wg_codes.specs.Words.{word, top};
 ghost use Rattle.wg_codes.specs.Reading.{Reads};
-ghost use Rattle.wg_codes.specs.declared.outcome.Read.TheVariants.{Cut};
+ghost use Rattle.wg_codes.specs.declared.outcome.Read.TheVariants.{Cut, Value};
 ghost use Rattle.wg_grammar.specs.Archive.{IsTail, IsTailFault};
 ghost use Rattle.wg_source.specs.Standing.{StopsAt};
 ghost use Rattle.wg_stream.specs.Held.{HoldsNext, IsInside, ahead};
@@ -215,7 +215,6 @@ impl Stretch {
     }
 
     /// Reads what stands in the bits that are held, and moves over a whole word.
-    #[inline(always)]
     pub(crate) fn read(&mut self, code: Code) -> Read
         requires { IsCode code }
         ensures found { Reads (word code) (top code) (ahead self.old) result }
@@ -230,6 +229,28 @@ impl Stretch {
         let here = cursor.at();
         self.here = here;
         read
+    }
+
+    /// The value of the word that comes next, which it moves over: if it is told by 64 bits, and so many bytes are held as
+    /// any word has, so that no load needs a test.
+    #[inline(always)]
+    pub(crate) fn near_word(&mut self, code: Code) -> Option<u64>
+        requires { IsCode code }
+        ensures found { IfSome result (λ v. Reads (word code) (top code) (ahead self.old) (Value v)) }
+        ensures stops { IfSome result (λ v. self.new.at ≡ self.old.at + length (word code v)) }
+        ensures moved { self.new ≡ record self.old { at = self.new.at } }
+        ensures still { IfNone result (self.new ≡ self.old) }
+        ensures onward { self.old.at ≤ self.new.at }
+        ensures inside { IsInside self.old }
+    {
+        let from = (self.here / 8) as usize;
+        if self.length < WORD || from > self.length - WORD {
+            return None;
+        }
+        let near = Cursor::new(Bits::of(&self.bytes[from..from + WORD]), self.here % 8);
+        let found = wg_codes::word_in(code, near.peek())?;
+        self.here += found.bits;
+        Some(found.value)
     }
 
     /// Moves over the zero bits that come next and are held, but at most `limit` of them, and counts them.

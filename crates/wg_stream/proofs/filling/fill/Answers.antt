@@ -1,5 +1,4 @@
 use Rattle.std.proofs.Common.{◌∙◌, ◌/◌, sym, ap, refl, arith}
-use Rattle.wg_io.proofs.FilesLemmas.{none_falls-trans}
 use Rattle.wg_stream.specs.Held.{Held}
 use Rattle.wg_stream.specs.StepLaws.{no_step}
 use Rattle.wg_stream.proofs.FillLemmas.{fewer_waits, passed_dropped}

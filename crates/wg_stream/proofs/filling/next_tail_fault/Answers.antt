@@ -1,4 +1,4 @@
-use Rattle.std.proofs.Common.{ℕ, Option, subst}
+use Rattle.std.proofs.Common.{ℕ, subst}
 use Rattle.wg_bits.specs.Bits.{bits_of}
 use Rattle.wg_source.specs.Standing.{IsTailAt}
 use Rattle.wg_stream.proofs.TailLemmas.{judged_of_file}

@@ -1,4 +1,4 @@
-use Rattle.std.proofs.Common.{◌≡◌, ◌∙◌, ap, subst, ℕ, arith}
+use Rattle.std.proofs.Common.{subst, ℕ, arith}
 use Rattle.wg_source.specs.Standing.{StopsAt}
 use Rattle.wg_stream.specs.StepLaws.{then_moved}
 use Rattle.wg_stream.proofs.FillLemmas.{read_of_file}

@@ -6,7 +6,7 @@ use Rattle.wg_grammar.specs.Archive.{lists_of, places_of}
 use Rattle.wg_stream.specs.declared.state.State.{State}
 use Rattle.wg_stream.specs.FirstError.{OfGraph}
 use Rattle.wg_stream.specs.Prefix.{PagesRead, AreBehind}
-use Rattle.wg_stream.specs.Reading.{Reading, AgreesIn, IsInStep, IsJudged, Stands}
+use Rattle.wg_stream.specs.Reading.{Reading, AgreesIn, IsInStep, IsJudged}
 use Rattle.wg_stream.proofs.ReadingLemmas.{reads_of}
 use Rattle.wg_stream.proofs.reader.Reader.advance.Goals as goal
 

@@ -1,7 +1,6 @@
-use Rattle.std.proofs.Common.{ap, sym, ◌∙◌, ◌<◌, length, arith}
+use Rattle.std.proofs.Common.{ap, ◌<◌, length, arith}
 use Rattle.std.proofs.lemmas.Bool.{ltb-true}
 use Rattle.wg_bits.specs.Bits.{Position, rest}
-use Rattle.wg_stream.specs.Held.{ahead}
 use Rattle.wg_stream.proofs.HeldLemmas.{length-ahead}
 use Rattle.wg_stream.proofs.stretch.Stretch.holds_bit.Goals as goal
 

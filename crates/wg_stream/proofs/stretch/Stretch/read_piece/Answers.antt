@@ -1,6 +1,5 @@
-use Rattle.std.proofs.Common.{◌≡◌, ◌≢◌, ◌∙◌, ◌+◌, ◌≤◌, true, false, ℕ, List, Option, Some, Ok, length, take, ap, sym, subst, arith}
-use Rattle.std.specs.FinMap as map
-use Rattle.wg_io.specs.Reads.{Reads, IsPieceOf}
+use Rattle.std.proofs.Common.{◌∙◌, ℕ, ap, subst, arith}
+use Rattle.wg_io.specs.Reads.{IsPieceOf}
 use Rattle.wg_stream.specs.Held.{Held}
 use Rattle.wg_stream.proofs.HeldLemmas.{added, at_end, piece_at}
 use Rattle.wg_stream.proofs.stretch.Stretch.read_piece.Goals as goal

@@ -1,8 +1,8 @@
-use Rattle.std.proofs.Common.{◌≡◌, ◌∙◌, ◌-◌, ◌+◌, ◌*◌, ◌≤◌, ap, sym, subst, length, List, Bool, false, ◌++◌, arith}
+use Rattle.std.proofs.Common.{◌≡◌, ◌∙◌, ◌+◌, ◌*◌, ◌≤◌, ap, sym, subst, length, List, Bool, false, ◌++◌, arith}
 use Rattle.std.proofs.Math.ListN.{replicate}
 use Rattle.wg_bits.specs.Bits.{Position, rest, BeginsWithNoZero}
 use Rattle.wg_bits.proofs.Words.{length-bits_of}
-use Rattle.wg_stream.specs.Held.{Held, IsInside, ahead}
+use Rattle.wg_stream.specs.Held.{IsInside, ahead}
 use Rattle.wg_stream.proofs.HeldLemmas.{ahead_moved}
 use Rattle.wg_stream.proofs.stretch.Stretch.zeros.Goals as goal
 
