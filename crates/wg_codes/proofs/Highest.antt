@@ -1,4 +1,4 @@
-use Rattle.std.proofs.Common.{◌≡◌, ℕ, suc, ◌+◌, ◌-◌, ◌*◌, ◌/◌, ◌^◌, ◌<◌, ◌≤◌, Bool, List, ◌++◌, length, take, refl, sym, ap, ◌∙◌, subst, ⊎_elim, arith, length-append, suc-le-suc}
+use Rattle.std.proofs.Common.{◌≡◌, ℕ, suc, ◌+◌, ◌-◌, ◌*◌, ◌/◌, ◌^◌, ◌<◌, ◌≤◌, max, Bool, List, ◌++◌, length, take, refl, sym, ap, ◌∙◌, subst, ⊎_elim, arith, length-append, suc-le-suc}
 use Rattle.std.specs.Int.Count.{count_leading_zeros}
 use Rattle.std.proofs.Math.Nat.{pow-suc}
 use Rattle.std.proofs.Math.Numerals.{add-one}
@@ -28,6 +28,14 @@ highest_bounds y pos l =
 pub highest_zero : highest 0 ≡ 0
 unfolding highest count_leading_zeros
 highest_zero = refl
+
+-- 0 has the index of 1
+pub highest_of_max : (y m : ℕ) → m ≡ max y 1 → 63 - count_leading_zeros 64 m ≡ highest y
+unfolding highest count_leading_zeros
+highest_of_max y m e = ⊎_elim
+    (λ (none : y < 1). let z : y ≡ 0 = omega arith in let o : m ≡ 1 = omega arith in ap (λ k. 63 - count_leading_zeros 64 k) o ∙ sym (ap highest z))
+    (λ (some : 1 ≤ y). let o : m ≡ y = omega arith in ap (λ k. 63 - count_leading_zeros 64 k) o)
+    (cases_lt y 1)
 
 pub between_powers : (y i j : ℕ) → 2 ^ i ≤ y → y < 2 ^ suc j → i ≤ j
 between_powers y i j l h = ⊎_elim

@@ -14,7 +14,7 @@ pub fn highest_one(y: u64) -> u32
     ensures index { result ≡ highest y }
     ensures small { result ≤ 63 }
 {
-    63u32.saturating_sub(y.leading_zeros())
+    63 - y.max(1).leading_zeros()
 }
 
 // One less than the number whose highest one stands at `index`, of which the lower bits come next.

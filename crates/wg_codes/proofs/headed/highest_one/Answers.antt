@@ -1,5 +1,5 @@
-use Rattle.wg_codes.proofs.Lengths.{highest_value}
+use Rattle.wg_codes.proofs.Highest.{highest_of_max}
 use Rattle.wg_codes.proofs.headed.highest_one.Goals as goal
 
 pub returns-clause-index : goal.returns-clause-index
-returns-clause-index c = highest_value c.args.y _ c.saturating_sub.ensures
+returns-clause-index c = highest_of_max c.args.y c.max.result c.max.ensures
