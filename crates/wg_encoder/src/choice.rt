@@ -14,6 +14,7 @@ pub(crate) struct Choice {
 impl Choice {
     /// This choice, or the reference that comes next where that one is offered with fewer bits; an offer of more is not
     /// asked for.
+    #[inline(always)]
     pub(crate) fn or(self, reference: u64, offered: Option<u64>) -> Choice
         ensures { (p : Parameters) (c : Context) (list : List ℕ) → IsBest p c list reference self
             → IsFewer self.bits (offer_of p c list reference) offered → IsBest p c list (reference + 1) result }

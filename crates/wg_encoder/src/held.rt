@@ -49,6 +49,7 @@ impl HeldRecord {
     }
 
     // Drops all fields, and keeps the memory for others.
+    #[inline(always)]
     pub(crate) fn clear(&mut self)
         ensures { self.new ≡ [] }
     {
@@ -66,6 +67,7 @@ impl HeldRecord {
 
     /// Puts the words of the fields, one after the other. After an error the writer has failed, and the file's bits are
     /// a prefix of what it would have got.
+    #[inline(always)]
     pub fn write<D: Depot>(
         &self,
         writer: &mut Writer,

@@ -45,6 +45,7 @@ impl Kept {
     }
 
     /// The list that a reference names, empty for 0.
+    #[inline(always)]
     pub(crate) fn list(&self, r: u64) -> &[u64]
         requires { r ≤ length self.now.behind }
         ensures { result.now ≡ referenced self.now.behind r }
@@ -59,6 +60,7 @@ impl Kept {
     }
 
     /// The depth of the page that a reference names.
+    #[inline(always)]
     pub(crate) fn depth(&self, r: u64) -> u64
         requires some { 0 < r }
         requires there { r ≤ length self.now.behind }
@@ -71,6 +73,7 @@ impl Kept {
     }
 
     // A copy to be kept; it takes no memory for no numbers.
+    #[inline(always)]
     fn copy_of(&mut self, list: &[u64]) -> Result<List, AllocError>
         ensures copy { IfOk result (λ copy. copy ≡ list.now) }
         ensures same { self.new ≡ self.old }
@@ -82,6 +85,7 @@ impl Kept {
     }
 
     // Keeps the memory of a list for the next copy, where it has some.
+    #[inline(always)]
     fn take_furthest(&mut self, furthest: Option<Decoded>)
         ensures { self.new ≡ self.old }
     {
@@ -93,6 +97,7 @@ impl Kept {
     }
 
     /// Keeps the list of the page that comes next, and lets the furthest one go where there is one too many.
+    #[inline(always)]
     pub(crate) fn keep(&mut self, list: &[u64], depth: u64) -> Result<(), AllocError>
         ensures window { self.new.window ≡ self.old.window }
         ensures behind { OnOk result (self.new.behind ≡ take self.old.window (record { list = list.now; depth = depth } ∷ self.old.behind)) }

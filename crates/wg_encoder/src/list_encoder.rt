@@ -120,6 +120,7 @@ impl ListEncoder {
     }
 
     // The parameters are within their limits, and what is kept serves the page that comes next.
+    #[inline(always)]
     pub(crate) fn limits(&self)
         ensures within { IsWithinLimits self.now.params }
         ensures serves { Serves self.now.params self.now.next.page self.now.next.behind }
@@ -128,6 +129,7 @@ impl ListEncoder {
     }
 
     // How far back a reference may reach.
+    #[inline(always)]
     fn reach(&self) -> u64
         ensures value { result ≡ min self.now.params.window self.now.next.page }
         ensures within { result ≤ MOST_WINDOW }
@@ -136,6 +138,7 @@ impl ListEncoder {
     }
 
     // The list that a reference names, empty for 0.
+    #[inline(always)]
     pub(crate) fn referenced_list(&self, r: u64) -> &[u64]
         requires { r ≤ min self.now.params.window self.now.next.page }
         ensures value { result.now ≡ referenced self.now.next.behind r }
@@ -147,6 +150,7 @@ impl ListEncoder {
     }
 
     // The depth of the page by this reference.
+    #[inline(always)]
     pub(crate) fn depth(&self, r: u64) -> u64
         requires { r ≤ min self.now.params.window self.now.next.page }
         ensures value { result ≡ depth_of self.now.next.behind r }
@@ -160,6 +164,7 @@ impl ListEncoder {
     }
 
     // Whether a reference names a page with successors, and makes no chain that is too long.
+    #[inline(always)]
     fn may_refer(&self, r: u64) -> bool
         requires { r ≤ min self.now.params.window self.now.next.page }
         ensures { result ≡ (nat_lt 0 (length (referenced self.now.next.behind r)) && not (passes self.now.params.chain (depth_of self.now.next.behind r))) }
@@ -223,6 +228,7 @@ impl ListEncoder {
     }
 
     // The same of a reference but 0, where it is wanted only below `most`.
+    #[inline(always)]
     fn offer_below(&self, list: &[u64], r: u64, most: u64) -> Option<u64>
         requires page { self.now.next.page < self.now.params.nodes }
         requires list { IsList self.now.params list.now }
@@ -261,6 +267,7 @@ impl ListEncoder {
     }
 
     // The reference by which a list that comes next is written, and the bits of its record.
+    #[inline(always)]
     pub(crate) fn choose(&self, list: &[u64]) -> Choice
         requires page { self.now.next.page < self.now.params.nodes }
         requires list { IsList self.now.params list.now }
@@ -297,6 +304,7 @@ fn writer(alloc: Global) -> Result<Box<Writer>, AllocError>
 }
 
 // Whether a depth passes the limit, where there is one.
+#[inline(always)]
 fn passes(limit: Option<u64>, depth: u64) -> bool
     ensures { result ≡ passes limit depth }
 {

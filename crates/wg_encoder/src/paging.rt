@@ -34,6 +34,7 @@ fn failed_on(output: Output, error: WriteError) -> EncodeError
 
 impl ListEncoder {
     // The memory of the record before, or some that is new.
+    #[inline(always)]
     fn take_draft(&mut self) -> Result<Box<Draft>, AllocError>
         ensures { self.new ≡ self.old }
     {
@@ -44,6 +45,7 @@ impl ListEncoder {
     }
 
     // The names of the archive's files: those of the call before, or some that are new.
+    #[inline(always)]
     fn take_names(&mut self, base: &str) -> Result<Box<FileNames>, AllocError>
         ensures names { IfOk result (λ names. names.value ≡ base.now) }
         ensures same { self.new ≡ self.old }
@@ -57,6 +59,7 @@ impl ListEncoder {
     }
 
     // Makes the record of a list that comes next.
+    #[inline(always)]
     fn make(&self, list: &[u64], draft: &mut Draft, choice: Choice) -> Result<(), AllocError>
         requires page { self.now.next.page < self.now.params.nodes }
         requires list { IsList self.now.params list.now }
@@ -70,6 +73,7 @@ impl ListEncoder {
     }
 
     // Puts the word of the offsets file that is due: 0 for page 0, else the length of the record before.
+    #[inline(always)]
     fn put_offset<D: Depot>(mut self, depot: &mut D, name: &str) -> Result<ListEncoder, EncodeError>
         ensures sends { SendsTo Output.Offsets ⟦<D as Depot>⟧ depot.old depot.new name.now self.offsets_waits (word self.params.offsets self.last) (λ e. e.offsets_waits) result }
         ensures on { IfOk result (λ e. e ≡ record self { offsets_waits = e.offsets_waits }) }
@@ -88,6 +92,7 @@ impl ListEncoder {
     }
 
     // Puts the record of the list that comes next.
+    #[inline(always)]
     fn put_record<D: Depot>(
         mut self,
         made: &HeldRecord,
@@ -106,6 +111,7 @@ impl ListEncoder {
 
     // Goes on to the next page, where the list of this one is written by this choice. The draft and the names are kept
     // for the page after it.
+    #[inline(always)]
     fn go_on(
         mut self,
         list: &[u64],
@@ -136,6 +142,7 @@ impl ListEncoder {
     /// Writes the list that comes next, and goes on to the one after it. Its record is made in memory before anything
     /// is put. The words of the offsets file come one list later: 0 first, then the length of the record before. The
     /// names of the two files are made when a name of an archive first comes, or another one, and then held.
+    #[inline(always)]
     pub fn next<D: Depot>(
         mut self,
         list: &[u64],
