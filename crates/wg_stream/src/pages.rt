@@ -48,6 +48,7 @@ impl Model for Pages {
 }
 
 // Keeps a copy of the list in the window. The list that leaves it serves for the next copy.
+#[inline(always)]
 fn keep(window: &mut Window, spares: &mut Spares, decoded: &Decoded) -> Result<(), AllocError>
     ensures window { window.new.window ≡ window.old.window }
     ensures ok { OnOk result (window.new.behind ≡ take window.old.window (known_of decoded.now ∷ window.old.behind)) }
