@@ -15,7 +15,7 @@ use Rattle.wg_codes.specs.Standing.{IsWord}
 use Rattle.wg_iterators.specs.Laid.{MaybeWord}
 use Rattle.wg_iterators.specs.Fronts.{copied_of}
 use Rattle.wg_iterators.specs.Apart.{AreApart}
-use Rattle.wg_iterators.specs.Laid.{WordsTo, IntervalsTo, ResidualsAt, list_or_none, length_of, Laid}
+use Rattle.wg_iterators.specs.Laid.{WordsTo, IntervalsTo, ResidualsTo, list_or_none, length_of, Laid}
 use Rattle.wg_iterators.proofs.PassLemmas.{Takes}
 use Rattle.wg_iterators.proofs.CopyLemmas.{copied_is}
 use Rattle.wg_iterators.proofs.Counting.{blocks_stand, intervals_stand, Parts, parts_of, copied_ascend}
@@ -148,14 +148,14 @@ covered_fits p page below z list d copied covered l d_is is covered_is = omega (
 -- ---- the residuals
 
 pub residual_words : (p : Parameters) (page : ℕ) (below : Option (List ℕ)) (z : List Bool) (list : List ℕ) (z6 : List Bool) (d copied covered : ℕ) (code : Code) → code ≡ p.residuals → (l : Laid p page below z list) → l.outdegree ≡ d → length l.copied ≡ copied → (sum l.lengths ≡ covered) × (l.after_intervals ≡ z6)
-    → (ys : List ℕ) × (length ys ≡ d - copied - covered) × ResidualsAt code page None ys z6
+    → (ys : List ℕ) × (behind : List Bool) × (length ys ≡ d - copied - covered) × ResidualsTo code page None ys z6 behind
 residual_words p page below z list z6 d copied covered code is l d_is copied_is e =
-    (l.residuals, omega (arith, l.residuals_fill, d_is, copied_is, e.0), subst (λ (x : List Bool). ResidualsAt code page None l.residuals x) e.1 (subst (λ (c : Code). ResidualsAt c page None l.residuals l.after_intervals) (sym is) l.residuals_stand))
+    (l.residuals, l.behind, omega (arith, l.residuals_fill, d_is, copied_is, e.0), subst (λ (x : List Bool). ResidualsTo code page None l.residuals x l.behind) e.1 (subst (λ (c : Code). ResidualsTo c page None l.residuals l.after_intervals l.behind) (sym is) l.residuals_stand))
 
 pub residuals_given : (p : Parameters) (page : ℕ) (below : Option (List ℕ)) (z : List Bool) (list : List ℕ) (z6 : List Bool) (d copied covered : ℕ) (code : Code) → code ≡ p.residuals → (l : Laid p page below z list) → l.outdegree ≡ d → length l.copied ≡ copied → (sum l.lengths ≡ covered) × (l.after_intervals ≡ z6)
-    → (length l.residuals ≡ d - copied - covered) × ResidualsAt code page None l.residuals z6
+    → (length l.residuals ≡ d - copied - covered) × ResidualsTo code page None l.residuals z6 l.behind
 residuals_given p page below z list z6 d copied covered code is l d_is copied_is e =
-    (omega (arith, l.residuals_fill, d_is, copied_is, e.0), subst (λ (x : List Bool). ResidualsAt code page None l.residuals x) e.1 (subst (λ (c : Code). ResidualsAt c page None l.residuals l.after_intervals) (sym is) l.residuals_stand))
+    (omega (arith, l.residuals_fill, d_is, copied_is, e.0), subst (λ (x : List Bool). ResidualsTo code page None l.residuals x l.behind) e.1 (subst (λ (c : Code). ResidualsTo c page None l.residuals l.after_intervals l.behind) (sym is) l.residuals_stand))
 
 -- ---- the fronts
 
@@ -178,7 +178,7 @@ copied_front p page below z list mask is l f =
 pub laid_parts : (p : Parameters) (page : ℕ) (below : Option (List ℕ)) (z : List Bool) (list : List ℕ) → Ascends 0 (list_or_none below) → (l : Laid p page below z list) → Parts l.copied (numbers_inside l.lefts l.lengths) l.residuals list
 laid_parts p page below z list up l =
     let up_copied : Ascends 0 l.copied = subst (Ascends 0) (sym l.copied_is) (copied_ascend (blocks_of l.values) (list_or_none below) up) in
-    parts_of page p.interval l.outdegree p.nodes l.copied l.lefts l.lengths l.residuals list p.residuals l.after_interval_count l.after_intervals up_copied l.intervals_stand l.residuals_stand l.copied_fit l.inside_fit l.residuals_fill l.members l.all
+    parts_of page p.interval l.outdegree p.nodes l.copied l.lefts l.lengths l.residuals list p.residuals l.after_interval_count l.after_intervals l.behind up_copied l.intervals_stand l.residuals_stand l.copied_fit l.inside_fit l.residuals_fill l.members l.all
 
 pub apart_fronts : (a b c xs ys zs list : List ℕ) → a ≡ xs → b ≡ ys → c ≡ zs → Parts xs ys zs list → AreApart a b c
 apart_fronts a b c xs ys zs list ea eb ec h = rw (ea, eb, ec) h.apart

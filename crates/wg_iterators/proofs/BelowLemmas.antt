@@ -10,13 +10,13 @@ use Rattle.wg_iterators.specs.Fields.{AreFronts}
 use Rattle.wg_iterators.specs.Below.{list_on, list_below}
 
 pub apart_on : (below : Below) (f : Fronts) (list : List ℕ) → AreFronts f (list_below below) list
-    → AreApart (copied_of f.mask (list_on below)) f.intervals f.residuals
+    → AreApart (copied_of f.mask (list_on below)) f.intervals f.residuals.list
 apart_on Nothing f list h = h.apart
 apart_on (Page b) f list h = h.apart
 apart_on (Lent xs) f list h = h.apart
 
 pub union_on : (below : Below) (f : Fronts) (list : List ℕ) → AreFronts f (list_below below) list
-    → union_of (copied_of f.mask (list_on below)) (union_of f.intervals f.residuals) ≡ list
+    → union_of (copied_of f.mask (list_on below)) (union_of f.intervals f.residuals.list) ≡ list
 union_on Nothing f list h = h.union
 union_on (Page b) f list h = h.union
 union_on (Lent xs) f list h = h.union

@@ -61,6 +61,10 @@ pub stop_of : (p : Parameters) (c : Context) (bits : List Bool) (s : SoFar) (at 
 stop_of p c bits s at t end due ([], h) = h.0
 stop_of p c bits s at t end due (v ∷ vs, h) = absurd (subst (λ (m : Need). Stands m p c bits s at v h.1 h.0) due h.2)
 
+pub end_of : (p : Parameters) (c : Context) (bits : List Bool) (s : SoFar) (at : ℕ) (t : SoFar) (end : ℕ) → next p c s ≡ need.End → Leads p c bits s at t end → end ≡ at
+end_of p c bits s at t end due ([], h) = h.1
+end_of p c bits s at t end due (v ∷ vs, h) = absurd (subst (λ (m : Need). Stands m p c bits s at v h.1 h.0) due h.2)
+
 -- ---- the states of a record
 
 abbrev pub state : ℕ → Option ℕ → Option ℕ → List ℕ → Bool → Option ℕ → List ℕ → List ℕ → List ℕ → SoFar

@@ -16,7 +16,7 @@ use Rattle.wg_graph.proofs.Copies.{sum_push}
 use Rattle.wg_codes.specs.Standing.{IsWord}
 use Rattle.wg_iterators.specs.Laid.{MaybeWord}
 use Rattle.wg_iterators.specs.Passing.{blocks_after}
-use Rattle.wg_iterators.specs.Laid.{WordsTo, IntervalsTo, ResidualsAt, list_or_none}
+use Rattle.wg_iterators.specs.Laid.{WordsTo, IntervalsTo, ResidualsTo, list_or_none}
 use Rattle.wg_iterators.specs.Proper.{behind_of}
 use Rattle.wg_iterators.proofs.PassLemmas.{block_first, no_blocks}
 use Rattle.wg_iterators.proofs.Going.{Leads, step_of, state, copy, HasHead, Settled, NoCount, Filled, next_block, next_interval_count, one_reason}
@@ -71,7 +71,7 @@ blocks_go (suc count) p c bits d r n bs at t end h refers ends total fits on =
 
 -- ---- what comes after the blocks
 
-pub record Tail (p : Parameters) (c : Context) (bits : List Bool) (d : ℕ) (r n : Option ℕ) (bs : List ℕ) (k : Bool) (at : ℕ) (t : SoFar) : Type 0 where
+pub record Tail (p : Parameters) (c : Context) (bits : List Bool) (d : ℕ) (r n : Option ℕ) (bs : List ℕ) (k : Bool) (at : ℕ) (t : SoFar) (end : ℕ) : Type 0 where
   pub lefts : List ℕ
   pub lengths : List ℕ
   pub mid : ℕ
@@ -80,7 +80,7 @@ pub record Tail (p : Parameters) (c : Context) (bits : List Bool) (d : ℕ) (r n
   pub intervals_stand : IntervalsTo c.page p.interval None lefts lengths (drop mid bits) (drop last bits)
   pub inside_fit : sum lengths ≤ d - length (copy c r bs)
   pub residuals : List ℕ
-  pub residuals_stand : ResidualsAt p.residuals c.page None residuals (drop last bits)
+  pub residuals_stand : ResidualsTo p.residuals c.page None residuals (drop last bits) (drop end bits)
   pub residuals_fill : length residuals ≡ d - length (copy c r bs) - sum lengths
   pub i : Option ℕ
   pub whole : t ≡ state d r n bs k i lefts lengths residuals
@@ -93,7 +93,7 @@ maybe_false : (b : Bool) (z : List Bool) → b ≡ false → MaybeWord b Gamma 0
 maybe_false true z e = absurd cc
 maybe_false false z e = (refl, refl)
 
-pub tail_of : (p : Parameters) (c : Context) (bits : List Bool) (d : ℕ) (r n : Option ℕ) (bs : List ℕ) (k : Bool) (at : ℕ) (t : SoFar) (end : ℕ) → Settled p d r n bs k → p.nodes ≤ 2 ^ 62 → next p c t ≡ need.End → Leads p c bits (state d r n bs k None [] [] []) at t end → Tail p c bits d r n bs k at t
+pub tail_of : (p : Parameters) (c : Context) (bits : List Bool) (d : ℕ) (r n : Option ℕ) (bs : List ℕ) (k : Bool) (at : ℕ) (t : SoFar) (end : ℕ) → Settled p d r n bs k → p.nodes ≤ 2 ^ 62 → next p c t ≡ need.End → Leads p c bits (state d r n bs k None [] [] []) at t end → Tail p c bits d r n bs k at t end
 unfolding after
 tail_of p c bits d r n bs k at t end h few ends on =
     elim (cases_Bool (ltb 0 (d - length (copy c r bs)) && ltb 0 p.interval)) [

@@ -20,7 +20,7 @@ use Rattle.wg_iterators.specs.Laid.{MaybeWord}
 use Rattle.wg_iterators.specs.Laid.{WordsTo, list_or_none, Laid}
 use Rattle.wg_iterators.specs.Proper.{unlimited, context_on, IsRecord}
 use Rattle.wg_iterators.proofs.PassLemmas.{all_copied}
-use Rattle.wg_iterators.proofs.Going.{Leads, step_of, check_of, stop_of, state, copy, HasHead, Settled, next_block_count, next_check, one_reason}
+use Rattle.wg_iterators.proofs.Going.{Leads, step_of, check_of, stop_of, end_of, state, copy, HasHead, Settled, next_block_count, next_check, one_reason}
 use Rattle.wg_iterators.proofs.Heads.{blocks_go, Tail, tail_of, source_is, Head, head_of}
 
 yes_word : (b : Bool) (code : Code) (v : ℕ) (z y : List Bool) → b ≡ true → IsWord code v z y → MaybeWord b code v z y
@@ -32,7 +32,7 @@ no_word true code z e = absurd cc
 no_word false code z e = (refl, refl)
 
 -- what has been read of the blocks, from the bit last to the bit mid
-record Middle (p : Parameters) (page : ℕ) (below : Option (List ℕ)) (bits : List Bool) (d : ℕ) (r : Option ℕ) (last : ℕ) (t : SoFar) : Type 0 where
+record Middle (p : Parameters) (page : ℕ) (below : Option (List ℕ)) (bits : List Bool) (d : ℕ) (r : Option ℕ) (last : ℕ) (t : SoFar) (stop : ℕ) : Type 0 where
   n : Option ℕ
   bs : List ℕ
   k : Bool
@@ -44,10 +44,10 @@ record Middle (p : Parameters) (page : ℕ) (below : Option (List ℕ)) (bits : 
   blocks_are : bs ≡ blocks_of values
   within : sum bs ≤ length (referenced (context_on p page below).behind (value_or_0 r))
   copied_fit : length (copy (context_on p page below) r bs) ≤ d
-  tail : Tail (unlimited p) (context_on p page below) bits d r n bs k end t
+  tail : Tail (unlimited p) (context_on p page below) bits d r n bs k end t stop
 
-whole_reference : (p : Parameters) (c : Context) (bits : List Bool) (d : ℕ) (r n : Option ℕ) (bs : List ℕ) (k : Bool) (at : ℕ) (t : SoFar) (below : Option (List ℕ)) → ltb 0 (value_or_0 t.reference) ≡ is_some below → Tail p c bits d r n bs k at t → ltb 0 (value_or_0 r) ≡ is_some below
-whole_reference p c bits d r n bs k at t below is h = ap (λ (s : SoFar). ltb 0 (value_or_0 s.reference)) (sym h.whole) ∙ is
+whole_reference : (p : Parameters) (c : Context) (bits : List Bool) (d : ℕ) (r n : Option ℕ) (bs : List ℕ) (k : Bool) (at : ℕ) (t : SoFar) (end : ℕ) (below : Option (List ℕ)) → ltb 0 (value_or_0 t.reference) ≡ is_some below → Tail p c bits d r n bs k at t end → ltb 0 (value_or_0 r) ≡ is_some below
+whole_reference p c bits d r n bs k at t end below is h = ap (λ (s : SoFar). ltb 0 (value_or_0 s.reference)) (sym h.whole) ∙ is
 
 -- nothing is copied without a reference
 copied_none : (c : Context) (r : Option ℕ) → value_or_0 r ≡ 0 → copy c r [] ≡ []
@@ -58,13 +58,13 @@ unfolding next
 ends_empty p c d r empty = rw empty refl
 
 middle_empty : (p : Parameters) (page : ℕ) (below : Option (List ℕ)) (bits : List Bool) (d : ℕ) (r : Option ℕ) (last : ℕ) (t : SoFar) (end : ℕ) → eqb d 0 ≡ true → r ≡ None → ltb 0 (value_or_0 t.reference) ≡ is_some below
-    → Leads (unlimited p) (context_on p page below) bits (state d r None [] false None [] [] []) last t end → Middle p page below bits d r last t
+    → Leads (unlimited p) (context_on p page below) bits (state d r None [] false None [] [] []) last t end → Middle p page below bits d r last t end
 middle_empty p page below bits d r last t end empty none refers on =
     let zero_d : d ≡ 0 = eqb-true d 0 empty in
     let whole : t ≡ state d r None [] false None [] [] [] = stop_of (unlimited p) (context_on p page below) bits (state d r None [] false None [] [] []) last t end (ends_empty (unlimited p) (context_on p page below) d r empty) on in
     let nothing : copy (context_on p page below) r [] ≡ [] = copied_none (context_on p page below) r (ap value_or_0 none) in
     let left : d - length (copy (context_on p page below) r []) ≡ 0 = omega (arith, zero_d) in
-    let tail : Tail (unlimited p) (context_on p page below) bits d r None [] false last t = record {
+    let tail : Tail (unlimited p) (context_on p page below) bits d r None [] false last t end = record {
       lefts = [];
       lengths = [];
       mid = last;
@@ -73,12 +73,12 @@ middle_empty p page below bits d r last t end empty none refers on =
       intervals_stand = refl;
       inside_fit = omega arith;
       residuals = [];
-      residuals_stand = tt;
+      residuals_stand = ap (λ (j : ℕ). drop j bits) (end_of (unlimited p) (context_on p page below) bits (state d r None [] false None [] [] []) last t end (ends_empty (unlimited p) (context_on p page below) d r empty) on);
       residuals_fill = omega (arith, left);
       i = None;
       whole = whole;
     } in
-    let no_below : is_some below ≡ false = sym (whole_reference (unlimited p) (context_on p page below) bits d r None [] false last t below refers tail) ∙ ap (λ (o : Option ℕ). ltb 0 (value_or_0 o)) none in
+    let no_below : is_some below ≡ false = sym (whole_reference (unlimited p) (context_on p page below) bits d r None [] false last t end below refers tail) ∙ ap (λ (o : Option ℕ). ltb 0 (value_or_0 o)) none in
     record {
       n = None;
       bs = [];
@@ -95,11 +95,11 @@ middle_empty p page below bits d r last t end empty none refers on =
     }
 
 middle_plain : (p : Parameters) (page : ℕ) (below : Option (List ℕ)) (bits : List Bool) (d : ℕ) (r : Option ℕ) (last : ℕ) (t : SoFar) (end : ℕ) → HasHead (unlimited p) d r → ltb 0 (value_or_0 r) ≡ false → p.nodes ≤ 2 ^ 62 → next (unlimited p) (context_on p page below) t ≡ need.End
-    → ltb 0 (value_or_0 t.reference) ≡ is_some below → Leads (unlimited p) (context_on p page below) bits (state d r None [] false None [] [] []) last t end → Middle p page below bits d r last t
+    → ltb 0 (value_or_0 t.reference) ≡ is_some below → Leads (unlimited p) (context_on p page below) bits (state d r None [] false None [] [] []) last t end → Middle p page below bits d r last t end
 middle_plain p page below bits d r last t end h none few ends refers on =
     let settled : Settled (unlimited p) d r None [] false = record { some = h.some; reference = h.reference; count = rw none refl; blocks = refl; checked = rw none refl } in
     let tail = tail_of (unlimited p) (context_on p page below) bits d r None [] false last t end settled few ends on in
-    let no_below : is_some below ≡ false = sym (whole_reference (unlimited p) (context_on p page below) bits d r None [] false last t below refers tail) ∙ none in
+    let no_below : is_some below ≡ false = sym (whole_reference (unlimited p) (context_on p page below) bits d r None [] false last t end below refers tail) ∙ none in
     let zero_r : value_or_0 r ≡ 0 = (let e : value_or_0 r ≤ 0 = ltb-false 0 (value_or_0 r) none in omega (arith, e)) in
     let nothing : copy (context_on p page below) r [] ≡ [] = copied_none (context_on p page below) r zero_r in
     record {
@@ -118,7 +118,7 @@ middle_plain p page below bits d r last t end h none few ends refers on =
     }
 
 middle_referring : (p : Parameters) (page : ℕ) (below : Option (List ℕ)) (bits : List Bool) (d : ℕ) (r : Option ℕ) (last : ℕ) (t : SoFar) (end : ℕ) → HasHead (unlimited p) d r → ltb 0 (value_or_0 r) ≡ true → p.nodes ≤ 2 ^ 62 → next (unlimited p) (context_on p page below) t ≡ need.End
-    → ltb 0 (value_or_0 t.reference) ≡ is_some below → Leads (unlimited p) (context_on p page below) bits (state d r None [] false None [] [] []) last t end → Middle p page below bits d r last t
+    → ltb 0 (value_or_0 t.reference) ≡ is_some below → Leads (unlimited p) (context_on p page below) bits (state d r None [] false None [] [] []) last t end → Middle p page below bits d r last t end
 unfolding after refusal
 middle_referring p page below bits d r last t end h some few ends refers on =
     let c = context_on p page below in
@@ -129,7 +129,7 @@ middle_referring p page below bits d r last t end h some few ends refers on =
     let e = check_of (unlimited p) c bits (state d r (Some f.v) bs false None [] [] []) g.mid t end (next_check (unlimited p) c d r f.v bs h some no_more) ends g.on in
     let settled : Settled (unlimited p) d r (Some f.v) bs true = record { some = h.some; reference = h.reference; count = rw some refl; blocks = no_more; checked = rw some refl } in
     let tail = tail_of (unlimited p) c bits d r (Some f.v) bs true g.mid t end settled few ends e.1 in
-    let yes_below : is_some below ≡ true = sym (whole_reference (unlimited p) c bits d r (Some f.v) bs true g.mid t below refers tail) ∙ some in
+    let yes_below : is_some below ≡ true = sym (whole_reference (unlimited p) c bits d r (Some f.v) bs true g.mid t end below refers tail) ∙ some in
     record {
       n = Some f.v;
       bs = bs;
@@ -153,12 +153,12 @@ middle_referring p page below bits d r last t end h some few ends refers on =
     same_length [] = refl
     same_length (v ∷ vs) = ap (λ (k : ℕ). suc k) (same_later vs)
 
-laid_by : (p : Parameters) (page : ℕ) (below : Option (List ℕ)) (position : Position) (list : List ℕ) → (h : IsRecord p page below position list) → (g : Head (unlimited p) (context_on p page below) position.bits position.at h.whole h.end) → Middle p page below position.bits g.d g.r g.last h.whole
+laid_by : (p : Parameters) (page : ℕ) (below : Option (List ℕ)) (position : Position) (list : List ℕ) → (h : IsRecord p page below position list) → (g : Head (unlimited p) (context_on p page below) position.bits position.at h.whole h.end) → Middle p page below position.bits g.d g.r g.last h.whole h.end
     → Laid p page below (rest position) list
 unfolding list_of
 laid_by p page below position list h g m =
     let c = context_on p page below in
-    let refers = whole_reference (unlimited p) c position.bits g.d g.r m.n m.bs m.k m.end h.whole below h.refers m.tail in
+    let refers = whole_reference (unlimited p) c position.bits g.d g.r m.n m.bs m.k m.end h.whole h.end below h.refers m.tail in
     let source : referenced c.behind (value_or_0 g.r) ≡ list_or_none below = source_is p below (value_or_0 g.r) (omega (arith, g.near, g.r_is)) refers in
     record {
       outdegree = g.d;
@@ -184,21 +184,23 @@ laid_by p page below position list h g m =
       intervals_stand = m.tail.intervals_stand;
       inside_fit = m.tail.inside_fit;
       residuals = m.tail.residuals;
+      behind = drop h.end position.bits;
       residuals_stand = m.tail.residuals_stand;
       residuals_fill = m.tail.residuals_fill;
       members = h.list_is ∙ ap (list_of (unlimited p) c) m.tail.whole;
       all = h.outdegree ∙ ap (λ (s : SoFar). value_or_0 s.outdegree) m.tail.whole;
     }
 
--- the words, and what the reference among them is
+-- the words, what the reference among them is, and what stands behind them
 pub record WithReference (p : Parameters) (page : ℕ) (below : Option (List ℕ)) (position : Position) (list : List ℕ) (h : IsRecord p page below position list) : Type 0 where
   pub laid : Laid p page below (rest position) list
   pub reference : laid.reference ≡ value_or_0 h.whole.reference
+  pub behind : laid.behind ≡ drop h.end position.bits
 
-with_reference : (p : Parameters) (page : ℕ) (below : Option (List ℕ)) (position : Position) (list : List ℕ) → (h : IsRecord p page below position list) → (g : Head (unlimited p) (context_on p page below) position.bits position.at h.whole h.end) → Middle p page below position.bits g.d g.r g.last h.whole
+with_reference : (p : Parameters) (page : ℕ) (below : Option (List ℕ)) (position : Position) (list : List ℕ) → (h : IsRecord p page below position list) → (g : Head (unlimited p) (context_on p page below) position.bits position.at h.whole h.end) → Middle p page below position.bits g.d g.r g.last h.whole h.end
     → WithReference p page below position list h
 unfolding laid_by
-with_reference p page below position list h g m = record { laid = laid_by p page below position list h g m; reference = sym g.r_is ∙ ap (λ (s : SoFar). value_or_0 s.reference) (sym m.tail.whole) }
+with_reference p page below position list h g m = record { laid = laid_by p page below position list h g m; reference = sym g.r_is ∙ ap (λ (s : SoFar). value_or_0 s.reference) (sym m.tail.whole); behind = refl }
 
 pub laid_with : (p : Parameters) (page : ℕ) (below : Option (List ℕ)) (position : Position) (list : List ℕ) → p.nodes ≤ 2 ^ 62 → (h : IsRecord p page below position list) → WithReference p page below position list h
 laid_with p page below position list few h =

@@ -6,6 +6,8 @@ pub mod PassLemmas
 pub mod Going
 pub mod Tails
 pub mod Heads
+pub mod Merging
+pub mod Ending
 pub mod LaidOut
 pub mod Counting
 pub mod Beginning

@@ -16,8 +16,8 @@ use Rattle.wg_grammar.proofs.Tallies.{last_push}
 use Rattle.wg_graph.proofs.Copies.{sum_push}
 use Rattle.wg_intervals.specs.Stored.{left_of, IsInterval}
 use Rattle.wg_iterators.specs.Fronts.{residual_of}
-use Rattle.wg_iterators.specs.Laid.{ResidualsAt, IntervalsTo}
-use Rattle.wg_iterators.proofs.Going.{Leads, step_of, stop_of, state, copy, Settled, NoCount, Filled, next_length, next_left, next_residual, page_of, one_reason}
+use Rattle.wg_iterators.specs.Laid.{ResidualsTo, IntervalsTo}
+use Rattle.wg_iterators.proofs.Going.{Leads, step_of, stop_of, end_of, state, copy, Settled, NoCount, Filled, next_length, next_left, next_residual, page_of, one_reason}
 
 -- ---- residuals
 
@@ -34,19 +34,19 @@ own_is : (c : Context) (d : ℕ) (r n : Option ℕ) (bs : List ℕ) (k : Bool) (
 own_is c d r n bs k i ls ns [] v = refl
 own_is c d r n bs k i ls ns (x ∷ xs) v = rw (ne_eqb (length (x ∷ xs)) 0 (λ e. omega (arith, e))) refl
 
--- these residuals stand from the bit at on, and then nothing
-pub record Rest (p : Parameters) (c : Context) (bits : List Bool) (d : ℕ) (r n : Option ℕ) (bs : List ℕ) (k : Bool) (i : Option ℕ) (ls ns xs : List ℕ) (at count : ℕ) (t : SoFar) : Type 0 where
+-- these residuals stand from the bit at to the bit end, and then nothing
+pub record Rest (p : Parameters) (c : Context) (bits : List Bool) (d : ℕ) (r n : Option ℕ) (bs : List ℕ) (k : Bool) (i : Option ℕ) (ls ns xs : List ℕ) (at count : ℕ) (t : SoFar) (end : ℕ) : Type 0 where
   pub ys : List ℕ
   pub all : length ys ≡ count
-  pub stand : ResidualsAt p.residuals c.page (last_one xs) ys (drop at bits)
+  pub stand : ResidualsTo p.residuals c.page (last_one xs) ys (drop at bits) (drop end bits)
   pub whole : t ≡ state d r n bs k i ls ns (xs ++ ys)
 
 pub residuals_go : (count : ℕ) (p : Parameters) (c : Context) (bits : List Bool) (d : ℕ) (r n : Option ℕ) (bs : List ℕ) (k : Bool) (i : Option ℕ) (ls ns xs : List ℕ) (at : ℕ) (t : SoFar) (end : ℕ) → Filled p c d r n bs k i ls ns → p.nodes ≤ 2 ^ 62 → next p c t ≡ need.End
-    → d - length (copy c r bs) - (sum ns + length xs) ≡ count → Leads p c bits (state d r n bs k i ls ns xs) at t end → Rest p c bits d r n bs k i ls ns xs at count t
+    → d - length (copy c r bs) - (sum ns + length xs) ≡ count → Leads p c bits (state d r n bs k i ls ns xs) at t end → Rest p c bits d r n bs k i ls ns xs at count t end
 unfolding after refusal
 residuals_go zero p c bits d r n bs k i ls ns xs at t end h few ends left on =
     let done : next p c (state d r n bs k i ls ns xs) ≡ need.End = next_residual p c d r n bs k i ls ns xs h false (ap (λ (j : ℕ). ltb 0 j) left) in
-    record { ys = []; all = refl; stand = tt; whole = stop_of p c bits (state d r n bs k i ls ns xs) at t end done on ∙ ap (λ (l : List ℕ). state d r n bs k i ls ns l) (sym (append-nil xs)) }
+    record { ys = []; all = refl; stand = ap (λ (j : ℕ). drop j bits) (end_of p c bits (state d r n bs k i ls ns xs) at t end done on); whole = stop_of p c bits (state d r n bs k i ls ns xs) at t end done on ∙ ap (λ (l : List ℕ). state d r n bs k i ls ns l) (sym (append-nil xs)) }
 residuals_go (suc count) p c bits d r n bs k i ls ns xs at t end h few ends left on =
     let due : next p c (state d r n bs k i ls ns xs) ≡ need.Read field.Residual p.residuals = next_residual p c d r n bs k i ls ns xs h true (lt-ltb 0 _ (omega (arith, left))) in
     let f = step_of p c bits (state d r n bs k i ls ns xs) at field.Residual p.residuals t end due ends on in
@@ -59,7 +59,7 @@ residuals_go (suc count) p c bits d r n bs k i ls ns xs at t end h few ends left
     record {
       ys = y ∷ g.ys;
       all = ap (λ (j : ℕ). suc j) g.all;
-      stand = (drop f.mid bits, record { v = f.v; word = f.stands; means = sym (own_is c d r n bs k i ls ns xs f.v) ∙ own.1; low = omega (arith, low, few) }, subst (λ (o : Option ℕ). ResidualsAt p.residuals c.page o g.ys (drop f.mid bits)) (last_one_push xs y) g.stand);
+      stand = (drop f.mid bits, record { v = f.v; word = f.stands; means = sym (own_is c d r n bs k i ls ns xs f.v) ∙ own.1; low = omega (arith, low, few) }, subst (λ (o : Option ℕ). ResidualsTo p.residuals c.page o g.ys (drop f.mid bits) (drop end bits)) (last_one_push xs y) g.stand);
       whole = g.whole ∙ ap (λ (l : List ℕ). state d r n bs k i ls ns l) (append_assoc xs (y ∷ []) g.ys);
     }
 

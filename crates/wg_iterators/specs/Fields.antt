@@ -11,5 +11,5 @@ use Rattle.wg_iterators.specs.Laid.{list_or_none}
 pub record AreFronts (f : Fronts) (below : Option (List ℕ)) (list : List ℕ) : Type 0 where
   pub outdegree : f.outdegree ≡ length list
   pub blocks : IsOfBlocks f.mask
-  pub apart : AreApart (copied_of f.mask (list_or_none below)) f.intervals f.residuals
-  pub union : union_of (copied_of f.mask (list_or_none below)) (union_of f.intervals f.residuals) ≡ list
+  pub apart : AreApart (copied_of f.mask (list_or_none below)) f.intervals f.residuals.list
+  pub union : union_of (copied_of f.mask (list_or_none below)) (union_of f.intervals f.residuals.list) ≡ list

@@ -37,9 +37,9 @@ pub record IsResidual (c : Code) (page : ℕ) (last : Option ℕ) (y : ℕ) (z b
   pub low : y < 2 ^ 62
 
 -- these residuals
-abbrev pub ResidualsAt : Code → ℕ → Option ℕ → List ℕ → List Bool → Type 0
-ResidualsAt c page last [] z = Unit {0}
-ResidualsAt c page last (y ∷ ys) z = (behind : List Bool) × IsResidual c page last y z behind × ResidualsAt c page (Some y) ys behind
+abbrev pub ResidualsTo : Code → ℕ → Option ℕ → List ℕ → List Bool → List Bool → Type 0
+ResidualsTo c page last [] z behind = behind ≡ z
+ResidualsTo c page last (y ∷ ys) z behind = (mid : List Bool) × IsResidual c page last y z mid × ResidualsTo c page (Some y) ys mid behind
 
 -- the list of the page below, empty if there is none
 abbrev pub list_or_none : Option (List ℕ) → List ℕ
@@ -76,7 +76,8 @@ pub record Laid (p : Parameters) (page : ℕ) (below : Option (List ℕ)) (z : L
   pub intervals_stand : IntervalsTo page p.interval None lefts lengths after_interval_count after_intervals
   pub inside_fit : sum lengths ≤ outdegree - length copied
   pub residuals : List ℕ
-  pub residuals_stand : ResidualsAt p.residuals page None residuals after_intervals
+  pub behind : List Bool
+  pub residuals_stand : ResidualsTo p.residuals page None residuals after_intervals behind
   pub residuals_fill : length residuals ≡ outdegree - length copied - sum lengths
   pub members : list ≡ numbers_where (λ y. is_in y copied || is_covered lefts lengths y || is_in y residuals) 0 p.nodes
   pub all : length list ≡ outdegree

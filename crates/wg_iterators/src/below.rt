@@ -33,7 +33,7 @@ impl<'a> Lent<'a> {
     }
 
     // The next member; none if none is left, again and again.
-    fn next(&mut self) -> Option<u64>
+    pub(crate) fn next(&mut self) -> Option<u64>
         ensures { Gives self.old result self.new }
     {
         match self.left.split_first() {

@@ -1,5 +1,5 @@
 //! The fields of a record, passed once to find where its three fronts begin.
-ghost use Rattle.std.specs.Prelude.{◌≡◌, ◌<◌, ℕ, List, Option};
+ghost use Rattle.std.specs.Prelude.{◌≡◌, ◌<◌, ℕ, List, Option, drop};
 ghost use Rattle.wg_graph.specs.Ascending.{Ascends};
 ghost use Rattle.wg_iterators.specs.Laid.{list_or_none, length_of};
 ghost use Rattle.wg_iterators.specs.Proper.{IsRecord};
@@ -34,8 +34,10 @@ pub fn find_fronts<'a>(
     requires page { page < params.now.nodes }
     requires proper { (below : Option (List ℕ)) × (list : List ℕ) × IsRecord params.now page below cursor list
         × (source ≡ length_of below) }
-    ensures { (below : Option (List ℕ)) (list : List ℕ) → IsRecord params.now page below cursor.entry list
+    ensures fronts { (below : Option (List ℕ)) (list : List ℕ) → IsRecord params.now page below cursor.entry list
         → source ≡ length_of below → Ascends 0 (list_or_none below) → AreFronts result below list }
+    ensures behind { (below : Option (List ℕ)) (list : List ℕ) (h : IsRecord params.now page below cursor.entry list)
+        → source ≡ length_of below → result.residuals.behind ≡ drop h.end cursor.entry.bits }
 {
     // tells the limits
     params.nodes();

@@ -16,6 +16,10 @@
 //! what is below. So the words of blocks and intervals are read twice, and no others. Whoever walks down to the
 //! referenced page first asks [`reference`], which reads the two words at the head of a record.
 //!
+//! [`decode_into`] puts the whole list of a record into a [`Row`](wg_graph::Row) at once, from the same three fronts over
+//! a lent list, and moves the cursor over the record. So whoever reads all records in order needs no offsets, and takes
+//! no memory while it reads.
+//!
 //! **Memory** is that of the values themselves: an iterator holds three cursors and three numbers, no list, and one box
 //! for each page below, which the caller makes. No call takes memory.
 //!
@@ -29,6 +33,7 @@
 #![tactic(auto)]
 
 mod below;
+mod decoding;
 mod fields;
 mod front;
 mod head;
@@ -38,6 +43,7 @@ mod successors;
 mod value;
 
 pub use below::CHAIN_PAGES;
+pub use decoding::decode_into;
 pub use fields::{Fronts, find_fronts};
 pub use head::reference;
 pub use residuals::Residuals;

@@ -1,10 +1,10 @@
 //! The residuals of a record, one after the other.
-ghost use Rattle.std.specs.Prelude.{◌≡◌, ℕ, ◌^◌, ◌<◌, List, length, None, Some};
+ghost use Rattle.std.specs.Prelude.{◌≡◌, ℕ, ◌^◌, ◌<◌, List, [], Bool, length, None, Some};
 ghost use Rattle.wg_params.specs.Codes.{IsCode};
 ghost use Rattle.wg_bits.specs.Bits.{rest};
 ghost use Rattle.wg_intervals.specs.Coming.{Gives};
 ghost use Rattle.wg_iterators.specs.Fronts.{residual_of};
-ghost use Rattle.wg_iterators.specs.Laid.{ResidualsAt};
+ghost use Rattle.wg_iterators.specs.Laid.{ResidualsTo};
 
 use crate::value::value;
 use std::marker::Model;
@@ -12,7 +12,8 @@ use wg_bits::Cursor;
 use wg_codes::unfold_from;
 use wg_params::Code;
 
-/// Gives the residuals of a record, ascending. Contracts see it as the list of those to come.
+/// Gives the residuals of a record, ascending. Contracts see it as the list of those to come, and the bits behind the
+/// last.
 #[derive(Drop)]
 pub struct Residuals<'a> {
     // stands behind the residuals that were read
@@ -26,18 +27,22 @@ pub struct Residuals<'a> {
 }
 
 impl<'a> Model for Residuals<'a> {
-    ghost use Rattle.std.specs.Prelude.{◌≡◌, ℕ, List, ◌^◌, ◌<◌, length};
+    ghost use Rattle.std.specs.Prelude.{◌≡◌, ℕ, List, Bool, ◌^◌, ◌<◌, length};
     ghost use Rattle.wg_params.specs.Codes.{IsCode};
     ghost use Rattle.wg_bits.specs.Bits.{rest};
-    ghost use Rattle.wg_iterators.specs.Fronts.{residuals_at};
-    ghost use Rattle.wg_iterators.specs.Laid.{ResidualsAt};
+    ghost use Rattle.wg_iterators.specs.Fronts.{Remaining, residuals_at, behind_values};
+    ghost use Rattle.wg_iterators.specs.Laid.{ResidualsTo};
 
-    ghost Value = { List ℕ };
+    ghost Value = { Remaining };
 
-    ghost view = { λ r. residuals_at r.code r.page r.last r.unread (rest r.cursor) };
+    ghost view = { λ r. record {
+      list = residuals_at r.code r.page r.last r.unread (rest r.cursor);
+      behind = behind_values r.code r.unread (rest r.cursor);
+    } };
 
     ghost invariant = { λ r. IsCode r.code × (r.page < 2 ^ 62)
-        × ((ys : List ℕ) × (length ys ≡ r.unread) × ResidualsAt r.code r.page r.last ys (rest r.cursor)) };
+        × ((ys : List ℕ) × (behind : List Bool) × (length ys ≡ r.unread)
+        × ResidualsTo r.code r.page r.last ys (rest r.cursor) behind) };
 }
 
 // The page that is stored as this value.
@@ -60,9 +65,12 @@ impl<'a> Residuals<'a> {
     pub(crate) fn new(cursor: Cursor<'a>, code: Code, page: u64, count: u64) -> Residuals<'a>
         requires code { IsCode code }
         requires page { page < 2 ^ 62 }
-        requires stand { (ys : List ℕ) × (length ys ≡ count) × ResidualsAt code page None ys (rest cursor) }
-        ensures { (ys : List ℕ) → length ys ≡ count → ResidualsAt code page None ys (rest cursor.entry)
-            → result ≡ ys }
+        requires stand { (ys : List ℕ) × (behind : List Bool) × (length ys ≡ count)
+            × ResidualsTo code page None ys (rest cursor) behind }
+        ensures list { (ys : List ℕ) (behind : List Bool) → length ys ≡ count
+            → ResidualsTo code page None ys (rest cursor.entry) behind → result.list ≡ ys }
+        ensures behind { (ys : List ℕ) (behind : List Bool) → length ys ≡ count
+            → ResidualsTo code page None ys (rest cursor.entry) behind → result.behind ≡ behind }
     {
         Residuals {
             cursor,
@@ -75,7 +83,8 @@ impl<'a> Residuals<'a> {
 
     /// The next residual; none if none is left, again and again.
     pub fn next(&mut self) -> Option<u64>
-        ensures { Gives self.old result self.new }
+        ensures gives { Gives self.old.list result self.new.list }
+        ensures behind { self.new.behind ≡ self.old.behind }
     {
         if self.unread == 0 {
             return None;
@@ -84,5 +93,13 @@ impl<'a> Residuals<'a> {
         self.last = Some(number);
         self.unread -= 1;
         Some(number)
+    }
+
+    // How many bits stand behind the last residual, if all were given.
+    pub(crate) fn left_behind(&self) -> u64
+        requires { self.now.list ≡ [] }
+        ensures { result ≡ length self.now.behind }
+    {
+        self.cursor.remaining()
     }
 }

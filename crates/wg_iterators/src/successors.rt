@@ -52,12 +52,12 @@ impl<'a> Model for Successors<'a> {
       outdegree = m.outdegree;
       depth = depth_on m.below;
       list = union_of (ahead m.copied (copied_of m.mask (list_on m.below)))
-          (union_of (ahead m.inside m.intervals) (ahead m.residual m.residuals));
+          (union_of (ahead m.inside m.intervals) (ahead m.residual m.residuals.list));
     } };
 
     ghost invariant = { λ m. IsOfBlocks m.mask
         × AreApart (ahead m.copied (copied_of m.mask (list_on m.below)))
-        (ahead m.inside m.intervals) (ahead m.residual m.residuals) };
+        (ahead m.inside m.intervals) (ahead m.residual m.residuals.list) };
 
     ghost size = { λ v. v.depth };
 
@@ -122,7 +122,7 @@ fn look_inside(head: &mut Head, intervals: &mut IntervalWalk<'_>) -> Option<u64>
 
 // The next residual, which is read if it was not.
 fn look_residual(head: &mut Head, residuals: &mut Residuals<'_>) -> Option<u64>
-    ensures same { ahead head.new residuals.new ≡ ahead head.old residuals.old }
+    ensures same { ahead head.new residuals.new.list ≡ ahead head.old residuals.old.list }
     ensures head { head.new ≡ head_of result }
 {
     match *head {

@@ -4,7 +4,7 @@ use Rattle.wg_params.specs.Codes.{IsCode}
 use Rattle.wg_bits.specs.Bits.{rest}
 use Rattle.wg_blocks.specs.Stored.{blocks_of}
 use Rattle.wg_intervals.specs.Stored.{numbers_inside}
-use Rattle.wg_iterators.proofs.LaidOut.{laid_of}
+use Rattle.wg_iterators.proofs.LaidOut.{laid_of, laid_with}
 use Rattle.wg_iterators.proofs.Counting.{blocks_stand, intervals_stand}
 use Rattle.wg_iterators.proofs.Beginning.{outdegree_word, outdegree_read, reference_word, reference_read, count_word, count_read, mask_words, pass_words, blocks_passed, copied_fits, interval_count_word, interval_count_read, walk_words, cover_words, intervals_passed, covered_fits, residual_words, some_source, source_long, copied_front, laid_parts, apart_fronts, union_fronts, blocks_words, intervals_words, residuals_given}
 use Rattle.wg_iterators.proofs.fields.find_fronts.Goals as goal
@@ -114,8 +114,8 @@ new-residuals-requires-clause-stand c =
     let e6 = intervals_passed c.args.params.now c.args.page c.requires.proper.0 (rest c.args.cursor) c.requires.proper.1 (rest c.value_where-count-2.new.cursor) (rest c.pass_intervals-covered.new.cursor) c.interval-3.result c.value_where-count-2.result c.pass_intervals-covered.result c.interval-3.ensures.value (c.pass_intervals-covered.ensures.covered, c.pass_intervals-covered.ensures.behind) l e5 in
     residual_words c.args.params.now c.args.page c.requires.proper.0 (rest c.args.cursor) c.requires.proper.1 (rest c.pass_intervals-covered.new.cursor) c.value-outdegree.result c.pass_blocks-copied.result c.pass_intervals-covered.result c.residuals.result c.residuals.ensures.value l e1.0 e4.0 e6
 
-pub returns : goal.returns
-returns c below list proper is up =
+pub returns-clause-fronts : goal.returns-clause-fronts
+returns-clause-fronts c below list proper is up =
     let few : c.args.params.now.nodes ≤ 2 ^ 62 = omega (arith, c.nodes.ensures.within) in
     let l = laid_of c.args.params.now c.args.page below c.args.cursor list few proper in
     let e1 = outdegree_read c.args.params.now c.args.page below (rest c.args.cursor) list c.outdegrees.result (rest c.value-outdegree.new.cursor) c.value-outdegree.result c.outdegrees.ensures.value c.value-outdegree.ensures.exact l in
@@ -129,7 +129,7 @@ returns c below list proper is up =
     let front_copied = copied_front c.args.params.now c.args.page below (rest c.args.cursor) list c.new-mask.result coded l follows in
     let front_inside = c.new-intervals.ensures.coming l.lefts l.lengths e5.0 (rw c.again-2.ensures (intervals_stand c.args.page c.interval-2.result _ l.lefts l.lengths (rest c.value_where-count-2.new.cursor) l.after_intervals (intervals_words c.args.params.now c.args.page below (rest c.args.cursor) list (rest c.value_where-count-2.new.cursor) c.interval-2.result c.interval-2.ensures.value l e5.1))) in
     let left = residuals_given c.args.params.now c.args.page below (rest c.args.cursor) list (rest c.pass_intervals-covered.new.cursor) c.value-outdegree.result c.pass_blocks-copied.result c.pass_intervals-covered.result c.residuals.result c.residuals.ensures.value l e1.0 e4.0 e6 in
-    let front_residual = c.new-residuals.ensures l.residuals left.0 left.1 in
+    let front_residual = c.new-residuals.ensures.list l.residuals l.behind left.0 left.1 in
     let parts = laid_parts c.args.params.now c.args.page below (rest c.args.cursor) list up l in
     record {
       outdegree = sym e1.0 ∙ sym l.all;
@@ -137,3 +137,17 @@ returns c below list proper is up =
       apart = apart_fronts _ _ _ l.copied (numbers_inside l.lefts l.lengths) l.residuals list front_copied front_inside front_residual parts;
       union = union_fronts _ _ _ l.copied (numbers_inside l.lefts l.lengths) l.residuals list front_copied front_inside front_residual parts;
     }
+
+pub returns-clause-behind : goal.returns-clause-behind
+returns-clause-behind c below list proper is =
+    let few : c.args.params.now.nodes ≤ 2 ^ 62 = omega (arith, c.nodes.ensures.within) in
+    let g = laid_with c.args.params.now c.args.page below c.args.cursor list few proper in
+    let l = g.laid in
+    let e1 = outdegree_read c.args.params.now c.args.page below (rest c.args.cursor) list c.outdegrees.result (rest c.value-outdegree.new.cursor) c.value-outdegree.result c.outdegrees.ensures.value c.value-outdegree.ensures.exact l in
+    let e2 = reference_read c.args.params.now c.args.page below (rest c.args.cursor) list (rest c.value-outdegree.new.cursor) (rest c.value_where.new.cursor) c.value-outdegree.result c.window.result c.value_where.result _ c.references.result refl c.window.ensures.value c.references.ensures.value c.value_where.ensures.exact l e1 in
+    let e3 = count_read c.args.params.now c.args.page below (rest c.args.cursor) list (rest c.value_where.new.cursor) (rest c.value_where-count.new.cursor) c.value_where-count.result c.is_some.result c.block_counts.result (c.is_some.ensures ∙ some_source c.args.source below is) c.block_counts.ensures.value c.value_where-count.ensures.exact l e2 in
+    let e4 = blocks_passed c.args.params.now c.args.page below (rest c.args.cursor) list (rest c.value_where-count.new.cursor) (rest c.pass_blocks-copied.new.cursor) c.value_where-count.result c.unwrap_or.result c.pass_blocks-copied.result c.blocks-3.result c.blocks-3.ensures.value (c.unwrap_or.ensures ∙ source_long c.args.source below is) (c.pass_blocks-copied.ensures.copied, c.pass_blocks-copied.ensures.behind) l e3 in
+    let e5 = interval_count_read c.args.params.now c.args.page below (rest c.args.cursor) list (rest c.pass_blocks-copied.new.cursor) (rest c.value_where-count-2.new.cursor) c.value-outdegree.result c.pass_blocks-copied.result c.interval.result c.value_where-count-2.result _ refl c.interval.ensures.value c.value_where-count-2.ensures.exact l e1.0 e4 in
+    let e6 = intervals_passed c.args.params.now c.args.page below (rest c.args.cursor) list (rest c.value_where-count-2.new.cursor) (rest c.pass_intervals-covered.new.cursor) c.interval-3.result c.value_where-count-2.result c.pass_intervals-covered.result c.interval-3.ensures.value (c.pass_intervals-covered.ensures.covered, c.pass_intervals-covered.ensures.behind) l e5 in
+    let left = residuals_given c.args.params.now c.args.page below (rest c.args.cursor) list (rest c.pass_intervals-covered.new.cursor) c.value-outdegree.result c.pass_blocks-copied.result c.pass_intervals-covered.result c.residuals.result c.residuals.ensures.value l e1.0 e4.0 e6 in
+    c.new-residuals.ensures.behind l.residuals l.behind left.0 left.1 ∙ g.behind
