@@ -2,3 +2,4 @@ pub mod Readings
 pub mod ArchiveLemmas
 pub mod ChainLemmas
 pub mod Matching
+pub mod SweepLemmas

@@ -11,7 +11,7 @@ use Rattle.wg_random.specs.Reading.{Reading, known_at}
 
 -- the parts of the records behind, in the order of the pages
 module _ {X : Type 0} (part : Whole → X) (p : Parameters) (bits : List Bool) where
-  parts_on : (first : List Whole) (at : ℕ) (ws last : List Whole) (end : ℕ) → Pages p bits first at ws last end → reverse (map part last) ≡ reverse (map part first) ++ map part ws
+  pub parts_on : (first : List Whole) (at : ℕ) (ws last : List Whole) (end : ℕ) → Pages p bits first at ws last end → reverse (map part last) ≡ reverse (map part first) ++ map part ws
   parts_on first at [] last end h = ap (λ (l : List Whole). reverse (map part l)) h.0 ∙ sym (append-nil (reverse (map part first)))
   parts_on first at (w ∷ ws) last end h =
       parts_on (w ∷ first) w.end ws last end h.2 ∙ ap (λ (l : List X). l ++ map part ws) (reverse-append (part w ∷ []) (map part first)) ∙ append_assoc (reverse (map part first)) (part w ∷ []) (map part ws)
@@ -46,7 +46,7 @@ same_places here there h k len agree = ext_get_or 0 here there len (place_same h
 
 -- ---- the list of a page in the graph
 
-list_at : (ws : List Whole) (x : ℕ) → get_or (map (λ w. w.known.list) ws) x [] ≡ (known_at ws x).list
+pub list_at : (ws : List Whole) (x : ℕ) → get_or (map (λ w. w.known.list) ws) x [] ≡ (known_at ws x).list
 list_at [] x = refl
 list_at (w ∷ ws) zero = refl
 list_at (w ∷ ws) (suc x) = list_at ws x

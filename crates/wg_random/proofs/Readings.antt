@@ -44,12 +44,12 @@ one_reading p bits limits r s = one_pages p limits bits r.records s.records [] r
 -- ---- the record of a page
 
 -- the records before x, the nearest first, behind these
-earlier : ℕ → List Whole → List Whole → List Whole
+pub earlier : ℕ → List Whole → List Whole → List Whole
 earlier zero ws first = first
 earlier (suc x) [] first = first
 earlier (suc x) (w ∷ ws) first = earlier x ws (w ∷ first)
 
-start_at : ℕ → List Whole → ℕ → ℕ
+pub start_at : ℕ → List Whole → ℕ → ℕ
 start_at at ws zero = at
 start_at at ws (suc x) = (get_or ws x no_record).end
 
@@ -58,7 +58,7 @@ unfolding start_at
 next_start at w ws zero = refl
 next_start at w ws (suc x) = refl
 
-record_at : (p : Parameters) (bits : List Bool) (first : List Whole) (at : ℕ) (ws last : List Whole) (end x : ℕ) → Pages p bits first at ws last end → x < length ws → ReadsRecord p (context_of p (earlier x ws first)) bits (start_at at ws x) (Ok (get_or ws x no_record))
+pub record_at : (p : Parameters) (bits : List Bool) (first : List Whole) (at : ℕ) (ws last : List Whole) (end x : ℕ) → Pages p bits first at ws last end → x < length ws → ReadsRecord p (context_of p (earlier x ws first)) bits (start_at at ws x) (Ok (get_or ws x no_record))
 unfolding earlier start_at
 record_at p bits first at [] last end x h lt = absurd (omega (arith, lt))
 record_at p bits first at (w ∷ ws) last end zero h lt = h.1
@@ -151,14 +151,16 @@ depth_same : (p : Parameters) (ws : List Whole) (x r : ℕ) → r ≤ x → r �
 depth_same p ws x zero near reach le = refl
 depth_same p ws x (suc r) near reach le = ap (λ (k : Known). suc k.depth) (behind_get p ws x r near reach le)
 
-abbrev WithReference : Parameters → ℕ → Option (List ℕ) → List Bool → ℕ → List ℕ → ℕ → Type 0
-WithReference p page below bits at list r = (h : IsRecord p page below (record { bits = bits; at = at }) list) × (value_or_0 h.whole.reference ≡ r)
+abbrev WithReference : Parameters → ℕ → Option (List ℕ) → List Bool → ℕ → List ℕ → ℕ → ℕ → Type 0
+WithReference p page below bits at list r end = (h : IsRecord p page below (record { bits = bits; at = at }) list) × (value_or_0 h.whole.reference ≡ r) × (h.end ≡ end)
 
--- how far back the record of a page refers
+-- how far back the record of a page refers, and where it ends
 pub record Found (p : Parameters) (bits : List Bool) (records : List Whole) (x : ℕ) : Type 0 where
   pub r : ℕ
+  pub reach : r ≤ p.window
   pub refers : Refers p bits records x r
   pub reference : value_or_0 refers.proper.whole.reference ≡ r
+  pub end : refers.proper.end ≡ offset_at records (suc x)
 
 found_on : (p : Parameters) (bits : List Bool) (ws : List Whole) (x at : ℕ) → x < length ws → at ≡ offset_at ws x → Judged p (context_of p (earlier x ws [])) bits at (get_or ws x no_record) → Found p bits ws x
 found_on p bits ws x at lt place j =
@@ -166,14 +168,16 @@ found_on p bits ws x at lt place j =
     let near : j.r ≤ x = omega (arith, j.near, page) in
     let reach : j.r ≤ p.window = omega (arith, j.near) in
     let le : x ≤ length ws = omega (arith, lt) in
-    let one : WithReference p (length (earlier x ws [])) (below_of (context_of p (earlier x ws [])) j.r) bits at (known_at ws x).list j.r = (j.proper, j.reference) in
-    let two = subst (λ (k : ℕ). WithReference p k (below_of (context_of p (earlier x ws [])) j.r) bits at (known_at ws x).list j.r) page one in
-    let three = subst (λ (b : Option (List ℕ)). WithReference p x b bits at (known_at ws x).list j.r) (below_same p ws x j.r near reach le) two in
-    let four = subst (λ (k : ℕ). WithReference p x (below_at ws x j.r) bits k (known_at ws x).list j.r) place three in
+    let one : WithReference p (length (earlier x ws [])) (below_of (context_of p (earlier x ws [])) j.r) bits at (known_at ws x).list j.r (offset_at ws (suc x)) = (j.proper, j.reference, j.end) in
+    let two = subst (λ (k : ℕ). WithReference p k (below_of (context_of p (earlier x ws [])) j.r) bits at (known_at ws x).list j.r (offset_at ws (suc x))) page one in
+    let three = subst (λ (b : Option (List ℕ)). WithReference p x b bits at (known_at ws x).list j.r (offset_at ws (suc x))) (below_same p ws x j.r near reach le) two in
+    let four = subst (λ (k : ℕ). WithReference p x (below_at ws x j.r) bits k (known_at ws x).list j.r (offset_at ws (suc x))) place three in
     record {
       r = j.r;
+      reach = reach;
       refers = record { near = near; proper = four.0; depth = j.depth ∙ depth_same p ws x j.r near reach le };
       reference = four.1;
+      end = four.2;
     }
 
 pub found_of : (p : Parameters) (bits : List Bool) (r : Reading p bits) (x : ℕ) → x < p.nodes → Found p bits r.records x

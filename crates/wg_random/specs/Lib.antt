@@ -3,3 +3,5 @@ pub mod Reading
 pub mod Chain
 pub mod Answer
 pub mod Checking
+pub mod Sweeping
+pub mod OneStands

@@ -1,4 +1,4 @@
-//! Pages of an archive by their offsets.
+//! Pages of an archive by their offsets, and all of them in order.
 //!
 //! [`Records`] are the bits of a graph file that were checked and stand for one graph, with the offset of each record.
 //! An [`Archive`] is made of them and of an offsets file that agrees. A page is read in two ways. Both follow the
@@ -21,12 +21,23 @@
 //! list of x <--copied-- list <--copied-- ... <-- list                            up: two lists, used in turn
 //! ```
 //!
+//! [`Records::sweep`] needs no offsets: a [`Sweep`] goes over all pages in order, as often as one likes, and decodes each
+//! list from the bits again. It takes all its memory when it is made, so that no list can be wanting later.
+//!
+//! ```text
+//! record of page x --decode_into--> row --lent--> list of x        then the row is kept in the place of that of x - W - 1
+//!                                    ^
+//! rows of the W pages before --------+  the list that the record refers to
+//! ```
+//!
 //! | call | memory | time |
 //! |---|---|---|
 //! | [`Records::check`] | an offset, 8 bytes, for each page; while it runs, the lists of a window | that of all bits and lists |
 //! | [`Archive::check`] | none | that of the offsets |
 //! | [`Archive::open`] | a box for each reference of the chain | that of the words of the chain's records |
 //! | [`Archive::list`] | a number for each page of the chain, and two of its lists | that of the words and the lists of the chain's records |
+//! | [`Records::sweep`] | a row for each page that a reference reaches, and one; while it runs, the lists of a window | that of all bits and lists |
+//! | a list of a [`Sweep`] | none | that of the words of its record and of the lists that it has and refers to |
 //!
 //! A page that does not exist, a chain that is too long to be opened, and want of memory are answered by
 //! [`OpenError`] and [`ListError`]; there is no other reason, since the archive was checked. Why a file is no archive is
@@ -35,9 +46,12 @@
 
 mod archive;
 mod error;
+mod greatest;
 mod listing;
 mod records;
+mod standing;
 mod steps;
+mod sweep;
 #[cfg(test)]
 mod tests;
 
@@ -45,3 +59,4 @@ pub use archive::Archive;
 pub use error::{CheckError, ListError, OpenError};
 pub use records::Records;
 pub use steps::Steps;
+pub use sweep::Sweep;

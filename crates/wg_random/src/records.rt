@@ -2,11 +2,12 @@
 ghost use Rattle.std.specs.Prelude.{◌≡◌, ◌≤◌, ℕ, List, IfOk, IfErr, Ok, Err, length};
 ghost use Rattle.wg_io.specs.declared.limits.TheConstants.{MOST_BYTES};
 ghost use Rattle.wg_bits.specs.Bits.{bits_of};
-ghost use Rattle.wg_grammar.specs.Archive.{ReadsGraph};
+ghost use Rattle.wg_grammar.specs.Archive.{Accepted, ReadsGraph};
+ghost use Rattle.wg_grammar.specs.Laws.{graph_of};
 ghost use Rattle.wg_random.specs.Checking.{OfArchive};
 
-use crate::CheckError;
-use std::alloc::Global;
+use crate::{CheckError, Sweep};
+use std::alloc::{AllocError, Global};
 use std::marker::Model;
 use wg_bits::{Bits, Cursor};
 use wg_offsets::Offsets;
@@ -59,5 +60,15 @@ impl<'a> Records<'a> {
             Err(PagesError::Memory) => Err(CheckError::Memory),
             Err(PagesError::Refused(never)) => match never {},
         }
+    }
+
+    /// The lists of the graph in the order of the pages, as often as one likes. All memory is taken now, as by
+    /// [`Sweep::new`].
+    pub fn sweep(&self, alloc: Global) -> Result<Sweep<'a>, AllocError>
+        ensures graph { (a : Accepted) → ReadsGraph self.now.params self.now.bits (Ok a)
+            → IfOk result (λ s. s.graph ≡ graph_of self.now.params a) }
+        ensures place { IfOk result (λ s. s.place ≡ 0) }
+    {
+        Sweep::new(alloc, self.bytes, self.params)
     }
 }

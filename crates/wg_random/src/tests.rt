@@ -1,12 +1,13 @@
 // Each page of an archive opened and listed, and a chain of references that is too long to be opened.
 ghost use Rattle.std.specs.Prelude.{◌≡◌, ◌<◌, ◌≤◌, ◌^◌, length};
 
-use crate::{Archive, ListError, OpenError, Records, Steps};
+use crate::{Archive, ListError, OpenError, Records, Steps, Sweep};
 use std::alloc::Global;
 use std::marker::Brand;
 use std::process::Abort;
 use std::sync::ledger::{Blank, Ledger};
 use std::test::Fail;
+use wg_graph::Lists;
 use wg_iterators::Successors;
 use wg_params::{BadParam, Code, Params};
 use wg_vectors::{ARCHIVES, Archive as Worked, LONGER, bytes_of};
@@ -167,4 +168,45 @@ fn a_chain_of_256_references(rt: HostRuntime) -> Result<(), Fail> {
         absent(257),
     ];
     are_read::<Brand>(&rt, alloc, params, files, &cases, Blank::new(1))
+}
+
+// Goes over all lists, which are these.
+fn gives_lists(rt: &impl Abort, sweep: &mut Sweep, lists: &[&[u64]]) -> Result<(), Fail> {
+    sweep.begin();
+    for list in lists {
+        assert_eq!(rt; sweep.next_list().ok_or("a list is missing")?, *list);
+    }
+    assert!(rt; sweep.next_list().is_none());
+    Ok(())
+}
+
+// Goes over the lists of a graph file of these bits, twice.
+fn are_swept(
+    rt: &impl Abort,
+    alloc: Global,
+    params: Params,
+    graph: &str,
+    lists: &[&[u64]],
+) -> Result<(), Fail> {
+    let bytes = bytes_of(alloc, graph)?;
+    assert!(rt; bytes.len() <= 1 << 46);
+    let records = Records::check(alloc, &bytes, params)?;
+    let mut sweep = records.sweep(alloc)?;
+    gives_lists(rt, &mut sweep, lists)?;
+    gives_lists(rt, &mut sweep, lists)
+}
+
+#[test]
+fn all_lists_of_an_archive_and_again(rt: HostRuntime) -> Result<(), Fail> {
+    for archive in ARCHIVES.iter().chain(LONGER.iter()) {
+        let params = archive.shape.params(archive.nodes, archive.arcs)?;
+        are_swept(&rt, rt.alloc(), params, archive.graph, archive.lists)?;
+    }
+    Ok(())
+}
+
+#[test]
+fn pages_with_all_pages_as_successors(rt: HostRuntime) -> Result<(), Fail> {
+    let graph = "011 1 1 100 100  011 01 1";
+    are_swept(&rt, rt.alloc(), endless(2, 4)?, graph, &[&[0, 1], &[0, 1]])
 }

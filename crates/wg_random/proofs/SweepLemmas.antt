@@ -1,0 +1,198 @@
+-- The rows of a sweep.
+use Rattle.std.proofs.Common.{◌≡◌, ℕ, zero, suc, ◌+◌, ◌-◌, ◌*◌, ◌/◌, ◌%◌, ◌<◌, ◌≤◌, Bool, inl, inr, List, [], ◌∷◌, ◌++◌, length, take, drop, map, Option, Some, None, Ok, Err, Result, refl, sym, ap, subst, ◌∙◌, arith}
+use Rattle.std.specs.Prelude.{get_or, set, max, All}
+use Rattle.std.proofs.Math.Logic.{∥∥₁_elim}
+use Rattle.std.proofs.Math.Nat.{div-add-mod, mod-lt, mul-le-mul_left}
+use Rattle.std.proofs.lemmas.Bool.{cases_lt, cases_eq}
+use Rattle.std.proofs.lemmas.List.{length-set, get_or-set_same, get_or-set_other, length-map}
+use Rattle.std.proofs.lemmas.List.Elements.{All-get_or, All-nil, All-push, All-weaker}
+use Rattle.wg_params.specs.Parameters.{Parameters, IsWithinLimits}
+use Rattle.wg_bits.specs.Bits.{Position, bits_of}
+use Rattle.wg_graph.specs.Ascending.{Ascends}
+use Rattle.wg_graph.specs.Filled.{Filled}
+use Rattle.wg_grammar.specs.declared.fault.ArchiveFault.{ArchiveFault}
+use Rattle.wg_grammar.specs.SoFar.{value_or_0}
+use Rattle.wg_grammar.specs.Record.{Whole}
+use Rattle.wg_grammar.specs.Archive.{Accepted, ReadsGraph, Pages, lists_of}
+use Rattle.wg_grammar.proofs.OneGraph.{graph_one, lists_ascend}
+use Rattle.wg_iterators.specs.Laid.{list_or_none}
+use Rattle.wg_iterators.specs.Proper.{IsRecord}
+use Rattle.wg_stream.specs.Prefix.{PagesRead, AreBehind, IsOneMore}
+use Rattle.wg_stream.proofs.PrefixLemmas.{lists_more}
+use Rattle.wg_random.specs.Reading.{Reading, no_record, known_at, offset_at}
+use Rattle.wg_random.specs.Chain.{below_at}
+use Rattle.wg_random.specs.Sweeping.{StandFor, HaveGraph, no_row, AreKept, IsNext}
+use Rattle.wg_random.specs.OneStands.{one_set, stand_one}
+use Rattle.wg_random.proofs.Readings.{all_records, one_reading, record_at, found_of}
+use Rattle.wg_random.proofs.ArchiveLemmas.{ReadsReference}
+use Rattle.wg_random.proofs.Matching.{read_of, parts_on, list_at}
+
+-- ---- the graph
+
+-- the graph that they have is the one that they stand for
+graph_is_one : (p : Parameters) (bits : List Bool) (g : List (List ℕ)) → StandFor p bits g → (h : HaveGraph p bits) → h.0 ≡ g
+graph_is_one p bits g b h = ∥∥₁_elim h.1 (one_set h.0 g) (λ a. stand_one p bits h.0 g a b)
+
+-- the same by other names
+pub graph_there : (p q : Parameters) (xs ys : List ℕ) (g : List (List ℕ)) → q ≡ p → ys ≡ xs → StandFor p (bits_of xs) g → (h : HaveGraph q (bits_of ys)) → h.0 ≡ g
+graph_there p q xs ys g same is b =
+    subst (λ (r : Parameters). (h : HaveGraph r (bits_of ys)) → h.0 ≡ g) (sym same) (subst (λ (l : List ℕ). (h : HaveGraph p (bits_of l)) → h.0 ≡ g) (sym is) (graph_is_one p (bits_of xs) g b))
+
+-- ---- rows in turn
+
+-- numbers that are less than n apart differ modulo n
+mod_apart : (x y n : ℕ) → y < x → x < y + n → x % n ≡ y % n → ⊥
+mod_apart x y n lt near same =
+    let ex : n * (x / n) + x % n ≡ x = div-add-mod x n in
+    let ey : n * (y / n) + y % n ≡ y = div-add-mod y n in
+    elim (cases_lt (y / n) (x / n)) [
+      | inl less ↦
+          let step : n * suc (y / n) ≤ n * (x / n) = mul-le-mul_left n less in
+          let more : n * suc (y / n) ≡ n * (y / n) + n = grind arith in
+          omega (arith, ex, ey, same, near, step, more)
+      | inr ge ↦
+          let step : n * (x / n) ≤ n * (y / n) = mul-le-mul_left n ge in
+          omega (arith, ex, ey, same, lt, step)
+    ]
+
+-- the list of the page before takes the place of one that is out of reach
+pub kept_more : (records : List Whole) (page : ℕ) (rows : List Filled) (list : Filled) → 0 < page → 0 < length rows → AreKept records (page - 1) rows → list.list ≡ (known_at records (page - 1)).list → AreKept records page (set rows ((page - 1) % length rows) list)
+kept_more records page rows list some there kept is y lt near =
+    let n : ℕ = length rows in
+    let slot : ℕ = (page - 1) % n in
+    let len : length (set rows slot list) ≡ n = length-set rows slot list in
+    let within : slot < n = mod-lt (page - 1) there in
+    elim (cases_eq y (page - 1)) [
+      | inl e ↦
+          let here : y % length (set rows slot list) ≡ slot = ap (λ (k : ℕ). y % k) len ∙ ap (λ (k : ℕ). k % n) e in
+          ap (λ (k : ℕ). (get_or (set rows slot list) k no_row).list) here ∙ ap (λ (f : Filled). f.list) (get_or-set_same rows slot list no_row within) ∙ is ∙ ap (λ (k : ℕ). (known_at records k).list) (sym e)
+      | inr ne ↦
+          let before : y < page - 1 = omega (arith, lt, ne) in
+          let close : page ≤ y + n = omega (arith, near, len) in
+          let other : y % n ≡ slot → ⊥ = λ e. mod_apart (page - 1) y n before (omega (arith, close, some)) (sym e) in
+          ap (λ (k : ℕ). (get_or (set rows slot list) (y % k) no_row).list) len ∙ ap (λ (f : Filled). f.list) (get_or-set_other rows slot (y % n) list no_row other) ∙ kept y before (omega (arith, close))
+    ]
+
+-- there is none to keep before the first page, or where there are no rows
+pub kept_none : (records : List Whole) (page : ℕ) (rows : List Filled) → page ≡ 0 → AreKept records page rows
+kept_none records page rows none y lt near = absurd (omega (arith, none, lt))
+
+pub kept_nowhere : (records : List Whole) (page : ℕ) (rows : List Filled) → length rows ≡ 0 → AreKept records page rows
+kept_nowhere records page rows none y lt near = absurd (omega (arith, none, lt, near))
+
+-- the row of a page that a reference reaches
+pub list_there : (records : List Whole) (page back : ℕ) (rows : List Filled) (row : Filled) (result : Option (List ℕ)) → 0 < back → back ≤ page → back ≤ length rows → row ≡ get_or rows ((page - back) % length rows) no_row → result ≡ Some row.list
+    → AreKept records page rows → result ≡ below_at records page back
+list_there records page zero rows row result some near reach is gives kept = absurd (omega (arith, some))
+list_there records page (suc r) rows row result some near reach is gives kept =
+    gives ∙ ap (λ (l : List ℕ). Some l) (ap (λ (f : Filled). f.list) is ∙ kept (page - suc r) (omega (arith, near)) (omega (arith, near, reach)))
+
+pub list_none : (records : List Whole) (page back : ℕ) → back ≡ 0 → None ≡ below_at records page back
+list_none records page zero none = refl
+list_none records page (suc r) none = absurd (omega (arith, none))
+
+-- ---- the greatest outdegree
+
+-- bits that stand for a graph have no fault
+pub no_fault : (p : Parameters) (bits : List Bool) (a : Accepted) (f : ArchiveFault) → IsWithinLimits p → ReadsGraph p bits (Ok a) → ReadsGraph p bits (Err f) → ⊥
+no_fault p bits a f limits h k = let e : (let x : Result Accepted ArchiveFault = Ok a in x) ≡ Err f = graph_one p limits bits (Ok a) (Err f) h k in cc
+
+-- all pages were read: their lists are the graph
+pub lists_are : (p : Parameters) (bits : List Bool) (r : PagesRead) (at : ℕ) (behind : List Whole) (a : Accepted) → IsWithinLimits p → r.params ≡ p → r.page ≡ p.nodes → AreBehind bits r at behind → ReadsGraph p bits (Ok a) → lists_of behind ≡ a.graph
+lists_are p bits r at behind a limits same all h reads =
+    let g = read_of p bits a reads in
+    let pages : Pages p bits [] 0 h.stood behind at = subst (λ (q : Parameters). Pages q bits [] 0 h.stood behind at) same h.records in
+    let reading : Reading p bits = record { records = h.stood; behind = behind; end = at; pages = pages; all = h.count ∙ all } in
+    parts_on (λ (w : Whole). w.known.list) p bits [] 0 h.stood behind at pages ∙ ap (λ (ws : List Whole). map (λ (w : Whole). w.known.list) ws) (one_reading p bits limits reading g.reading) ∙ sym g.graph
+
+-- ---- the record that comes next
+
+-- it stands at the position q
+pub record NextRecord (p : Parameters) (bits : List Bool) (r : Reading p bits) (page : ℕ) (q : Position) : Type 0 where
+  pub back : ℕ
+  pub near : back ≤ page
+  pub reach : back ≤ p.window
+  pub proper : IsRecord p page (below_at r.records page back) q (known_at r.records page).list
+  pub reference : value_or_0 proper.whole.reference ≡ back
+  pub end : proper.end ≡ offset_at r.records (suc page)
+
+pub next_record : (p : Parameters) (bits : List Bool) (r : Reading p bits) (page at : ℕ) (kept : List Filled) (q : Position) → page < p.nodes → q ≡ (let x : Position = record { bits = bits; at = at } in x) → IsNext p bits r page at kept → NextRecord p bits r page q
+next_record p bits r page at kept q lt is n =
+    let f = found_of p bits r page lt in
+    let there : q ≡ (let x : Position = record { bits = bits; at = offset_at r.records page } in x) = is ∙ ap (λ (k : ℕ). record { bits = bits; at = k }) n.begins in
+    subst (λ (x : Position). NextRecord p bits r page x) (sym there) (record { back = f.r; near = f.refers.near; reach = f.reach; proper = f.refers.proper; reference = f.reference; end = f.end })
+
+-- so far back it refers
+pub back_is : (p : Parameters) (bits : List Bool) (r : Reading p bits) (page : ℕ) (q : Position) (result : ℕ) → ReadsReference p q result → (n : NextRecord p bits r page q) → result ≡ n.back
+back_is p bits r page q result reads n = reads page (below_at r.records page n.back) (known_at r.records page).list n.proper ∙ n.reference
+
+pub back_near : (p : Parameters) (bits : List Bool) (r : Reading p bits) (page : ℕ) (q : Position) (result : ℕ) → ReadsReference p q result → NextRecord p bits r page q → result ≤ page
+back_near p bits r page q result reads n = omega (arith, n.near, back_is p bits r page q result reads n)
+
+pub back_reach : (p : Parameters) (bits : List Bool) (r : Reading p bits) (page at : ℕ) (kept : List Filled) (q : Position) (result : ℕ) → page < p.nodes → ReadsReference p q result → IsNext p bits r page at kept → NextRecord p bits r page q → result ≤ length kept
+back_reach p bits r page at kept q result lt reads next n = omega (arith, lt, n.near, n.reach, next.enough, back_is p bits r page q result reads n)
+
+-- ---- lists ascend
+
+past_end : (ws : List Whole) (x : ℕ) → length ws ≤ x → get_or ws x no_record ≡ no_record
+past_end [] x le = refl
+past_end (w ∷ ws) zero le = absurd (omega (arith, le))
+past_end (w ∷ ws) (suc x) le = past_end ws x (omega (arith, le))
+
+known_ascends : (p : Parameters) (bits : List Bool) (r : Reading p bits) (x : ℕ) → Ascends 0 (known_at r.records x).list
+known_ascends p bits r x =
+    elim (cases_lt x (length r.records)) [
+      | inl lt ↦ (lists_ascend p _ bits _ _ (record_at p bits [] 0 r.records r.behind r.end x r.pages lt)).0
+      | inr ge ↦ subst (λ (w : Whole). Ascends 0 w.known.list) (sym (past_end r.records x ge)) tt
+    ]
+
+pub below_ascends : (p : Parameters) (bits : List Bool) (r : Reading p bits) (page back : ℕ) → Ascends 0 (list_or_none (below_at r.records page back))
+below_ascends p bits r page zero = tt
+below_ascends p bits r page (suc k) = known_ascends p bits r (page - suc k)
+
+-- ---- what stands at the cursor, against the list that was found
+
+-- the list below is the one that the record refers to
+pub record Below (p : Parameters) (bits : List Bool) (r : Reading p bits) (page : ℕ) (q : Position) (below : Option (List ℕ)) : Type 0 where
+  pub ascends : Ascends 0 (list_or_none below)
+  pub proper : IsRecord p page below q (known_at r.records page).list
+  pub end : proper.end ≡ offset_at r.records (suc page)
+
+pub found_below : (p : Parameters) (bits : List Bool) (r : Reading p bits) (page at : ℕ) (kept : List Filled) (q again : Position) (back : ℕ) (below : Option (List ℕ)) → page < p.nodes → q ≡ (let x : Position = record { bits = bits; at = at } in x) → again ≡ q
+    → ReadsReference p again back → IsNext p bits r page at kept → below ≡ below_at r.records page back → Below p bits r page q below
+found_below p bits r page at kept q again back below lt is same reads next e =
+    let n = next_record p bits r page at kept q lt is next in
+    let back_same : n.back ≡ back = sym (back_is p bits r page q back (subst (λ (x : Position). ReadsReference p x back) same reads) n) in
+    subst (Below p bits r page q) (sym (e ∙ ap (below_at r.records page) (sym back_same)))
+    (record { ascends = below_ascends p bits r page n.back; proper = n.proper; end = n.end })
+
+-- ---- the greatest list fits
+
+pub fits_room : (p : Parameters) (bits : List Bool) (r : Reading p bits) (graph : List (List ℕ)) (room page : ℕ) → graph ≡ map (λ w. w.known.list) r.records → page < p.nodes → All (λ s. length s ≤ room) graph → length (known_at r.records page).list ≤ room
+fits_room p bits r graph room page is lt all =
+    let long : page < length graph = omega (arith, lt, all_records p bits r, ap (λ (l : List (List ℕ)). length l) is, length-map r.records (λ (w : Whole). w.known.list)) in
+    let here : get_or graph page [] ≡ (known_at r.records page).list = ap (λ (l : List (List ℕ)). get_or l page []) is ∙ list_at r.records page in
+    subst (λ (l : List ℕ). length l ≤ room) here (All-get_or (λ s. length s ≤ room) graph page [] long all)
+
+-- one list more, and the greatest so far
+pub none_greater : (g : ℕ) → All (λ s. length s ≤ g) (lists_of [])
+none_greater g = All-nil (λ s. length s ≤ g)
+
+pub one_greater : (behind : List Whole) (w : Whole) (g m n : ℕ) (list lent : List ℕ) → w.known.list ≡ list → lent ≡ list → n ≡ length lent → m ≡ max g n → All (λ s. length s ≤ g) (lists_of behind) → All (λ s. length s ≤ m) (lists_of (w ∷ behind))
+one_greater behind w g m n list lent is lent_is len most all =
+    subst (All (λ s. length s ≤ m)) (sym (lists_more w behind))
+    (All-push (λ s. length s ≤ m) (lists_of behind) w.known.list (All-weaker (λ s. length s ≤ g) (λ s. length s ≤ m) (λ s h. omega (arith, h, most)) (lists_of behind) all)
+    (omega (arith, most, len, ap (λ (l : List ℕ). length l) is, ap (λ (l : List ℕ). length l) lent_is)))
+
+-- the same of the bits by another name
+pub one_on : (a b : List Bool) (r new : PagesRead) (at end : ℕ) → a ≡ b → ((behind : List Whole) → AreBehind a r at behind → IsOneMore a new end behind) → (behind : List Whole) → AreBehind b r at behind → IsOneMore b new end behind
+one_on a b r new at end e = subst (λ (x : List Bool). (behind : List Whole) → AreBehind x r at behind → IsOneMore x new end behind) e
+
+-- ---- a vector that was written through a slice of it
+
+pub written : (n : ℕ) (xs ys : List Filled) → length xs ≡ length ys → n ≡ length ys → take n (xs ++ drop (length xs) ys) ≡ xs
+written zero [] ys same long = refl
+written zero (x ∷ xs) ys same long = absurd (omega (arith, same, long))
+written (suc n) [] ys same long = absurd (omega (arith, same, long))
+written (suc n) (x ∷ xs) [] same long = absurd (omega (arith, same))
+written (suc n) (x ∷ xs) (y ∷ ys) same long = ap (λ (l : List Filled). x ∷ l) (written n xs ys (omega (arith, same)) (omega (arith, long)))

@@ -1,0 +1,52 @@
+use Rattle.std.proofs.Common.{rules, ◌≡◌, ◌+◌, ◌-◌, ◌<◌, ◌≤◌, ℕ, List, length, sym, ap, subst, ◌∙◌, arith}
+use Rattle.std.specs.Prelude.{All}
+use Rattle.wg_graph.specs.Filled.{Filled}
+use Rattle.wg_random.specs.Reading.{known_at}
+use Rattle.wg_random.specs.Sweeping.{AreKept, IsNext}
+use Rattle.wg_random.proofs.SweepLemmas.{written, fits_room}
+use Rattle.wg_random.proofs.sweep.Sweep.advance.Goals as goal
+
+pub decode_page-self-inside-requires-clause-next : goal.decode_page-self-inside-requires-clause-next
+decode_page-self-inside-requires-clause-next c =
+    let h = c.self.invariant in
+    let lists = c.as_mut_slice.ensures.value in
+    let rows : c.as_slice.result.now ≡ c.keep.new.kept =
+    c.as_slice.ensures.value ∙ written _ c.keep.new.kept _ (c.keep.ensures.count ∙ ap (λ (l : List Filled). length l) lists) (sym c.as_mut_slice.ensures.len ∙ ap (λ (l : List Filled). length l) lists) in
+    let lt : c.self.inside.page < c.self.inside.archive.params.nodes = search rules in (
+      h.reading,
+      record {
+        begins = h.begins;
+        enough = omega (arith, h.count, c.keep.ensures.count, ap (λ (l : List Filled). length l) rows, ap (λ (l : List Filled). length l) lists);
+        before = subst (AreKept h.reading.records c.self.inside.page) (sym rows) (c.keep.ensures.kept h.reading.records (subst (AreKept h.reading.records (c.self.inside.page - 1)) (sym lists) h.before) h.last);
+      },
+      omega (arith, fits_room _ _ h.reading _ _ c.self.inside.page h.graph_is lt h.room, c.keep.ensures.room),
+    )
+
+pub invariant_of-self : goal.invariant_of-self
+invariant_of-self c =
+    let h = c.self.invariant in
+    let lists = c.as_mut_slice.ensures.value in
+    let rows = written c.self.inside.kept.len c.keep.new.kept c.self.inside.kept.items (c.keep.ensures.count ∙ ap (λ (l : List Filled). length l) lists) (sym c.as_mut_slice.ensures.len ∙ ap (λ (l : List Filled). length l) lists) in
+    let lent : c.as_slice.result.now ≡ c.keep.new.kept = c.as_slice.ensures.value ∙ rows in
+    let lt : c.self.inside.page < c.self.inside.archive.params.nodes = search rules in
+    let kept : AreKept h.reading.records c.self.inside.page c.keep.new.kept = c.keep.ensures.kept h.reading.records (subst (AreKept h.reading.records (c.self.inside.page - 1)) (sym lists) h.before) h.last in
+    let next : IsNext _ _ h.reading c.self.inside.page c.self.inside.at c.as_slice.result.now = record {
+      begins = h.begins;
+      enough = omega (arith, h.count, c.keep.ensures.count, ap (λ (l : List Filled). length l) lent, ap (λ (l : List Filled). length l) lists);
+      before = subst (AreKept h.reading.records c.self.inside.page) (sym lent) kept;
+    } in
+    let same : c.decode_page-self-inside.new.list.room ≡ c.self.inside.list.room = c.decode_page-self-inside.ensures.room ∙ c.keep.ensures.room in
+    let page : c.self.inside.page ≡ c.self.inside.page + 1 - 1 = omega arith in
+    record {
+      short = h.short;
+      reading = h.reading;
+      graph_is = h.graph_is;
+      proper = h.proper;
+      few = omega (arith, lt);
+      begins = c.decode_page-self-inside.ensures.end h.reading next;
+      count = ap (λ (l : List Filled). length l) rows ∙ c.keep.ensures.count ∙ ap (λ (l : List Filled). length l) lists ∙ h.count;
+      room = subst (λ (k : ℕ). All (λ s. length s ≤ k) c.self.inside.archive.graph.0) (sym same) h.room;
+      rooms = subst (λ (l : List Filled). All (λ r. r.room ≡ c.decode_page-self-inside.new.list.room) l) (sym rows) (subst (λ (k : ℕ). All (λ r. r.room ≡ k) c.keep.new.kept) (sym same) c.keep.ensures.rooms);
+      last = λ _. c.decode_page-self-inside.ensures.list h.reading next ∙ ap (λ (k : ℕ). (known_at h.reading.records k).list) page;
+      before = subst (AreKept h.reading.records (c.self.inside.page + 1 - 1)) (sym rows) (subst (λ (k : ℕ). AreKept h.reading.records k c.keep.new.kept) page kept);
+    }

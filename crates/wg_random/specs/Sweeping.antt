@@ -1,0 +1,50 @@
+-- The lists of an archive that are decoded in order, page after page.
+use Rattle.std.specs.Prelude.{◌≡◌, ℕ, ◌+◌, ◌-◌, ◌%◌, ◌<◌, ◌≤◌, min, Bool, List, [], length, get_or, map, All, Ok}
+use Rattle.wg_io.specs.declared.limits.TheConstants.{MOST_BYTES}
+use Rattle.wg_params.specs.Parameters.{Parameters, IsWithinLimits}
+use Rattle.wg_bits.specs.Bits.{bits_of}
+use Rattle.wg_graph.specs.Digraph.{IsGraph}
+use Rattle.wg_graph.specs.Filled.{Filled}
+use Rattle.wg_grammar.specs.Record.{Whole}
+use Rattle.wg_grammar.specs.Archive.{ReadsGraph}
+use Rattle.wg_random.specs.Reading.{Reading, known_at, offset_at}
+
+-- the bits stand for this graph
+pub record StandFor (p : Parameters) (bits : List Bool) (graph : List (List ℕ)) : Type 0 where
+  pub limits : IsWithinLimits p
+  pub places : List ℕ
+  pub reads : ReadsGraph p bits (Ok (record { graph = graph; places = places }))
+
+-- they stand for a graph; there is one at most
+abbrev pub HaveGraph : Parameters → List Bool → Type 0
+HaveGraph p bits = (graph : List (List ℕ)) × ∥ StandFor p bits graph ∥₁
+
+abbrev pub no_row : Filled
+no_row = record { list = []; room = 0 }
+
+-- The rows have the lists of the pages before this one, of as many as there are rows: that of page y stands in row y
+-- modulo their number.
+abbrev pub AreKept : List Whole → ℕ → List Filled → Type 0
+AreKept records page rows =
+    (y : ℕ) → y < page → page ≤ y + length rows → (get_or rows (y % length rows) no_row).list ≡ (known_at records y).list
+
+-- The sweep stands before this page, whose record begins at the bit at. One row has the list of the page before it, and
+-- the rows that are kept have those of the pages before that one.
+pub record Sweeping (p : Parameters) (bytes : List ℕ) (graph : List (List ℕ)) (page at : ℕ) (kept : List Filled) (list : Filled) : Type 0 where
+  pub short : length bytes ≤ MOST_BYTES
+  pub reading : Reading p (bits_of bytes)
+  pub graph_is : graph ≡ map (λ w. w.known.list) reading.records
+  pub proper : IsGraph (record { nodes = p.nodes; lists = graph })
+  pub few : page ≤ p.nodes
+  pub begins : at ≡ offset_at reading.records page
+  pub count : length kept ≡ min p.window p.nodes
+  pub room : All (λ s. length s ≤ list.room) graph
+  pub rooms : All (λ r. r.room ≡ list.room) kept
+  pub last : 0 < page → list.list ≡ (known_at reading.records (page - 1)).list
+  pub before : AreKept reading.records (page - 1) kept
+
+-- What the record of the page is decoded from: it begins at the bit at, and the rows have the lists that it may refer to.
+pub record IsNext (p : Parameters) (bits : List Bool) (r : Reading p bits) (page at : ℕ) (kept : List Filled) : Type 0 where
+  pub begins : at ≡ offset_at r.records page
+  pub enough : min p.window p.nodes ≤ length kept
+  pub before : AreKept r.records page kept
