@@ -25,9 +25,9 @@ use wg_params::Params;
 /// It is seen as its parameters, the bits, and the offsets. It holds no memory of its own.
 #[derive(Drop)]
 pub struct Archive<'a> {
-    bytes: &'a [u8],
+    pub(crate) bytes: &'a [u8],
     pub(crate) params: Params,
-    offsets: &'a Offsets,
+    pub(crate) offsets: &'a Offsets,
 }
 
 impl<'a> Model for Archive<'a> {

@@ -1,8 +1,9 @@
 //! Pages of an archive by their offsets, and all of them in order.
 //!
 //! [`Records`] are the bits of a graph file that were checked and stand for one graph, with the offset of each record.
-//! An [`Archive`] is made of them and of an offsets file that agrees. A page is read in two ways. Both follow the
-//! references down, with a tick of [`Steps`] for each record of the chain, and then go up the same chain again.
+//! An [`Archive`] is made of them, by their own offsets or by those of an offsets file that agrees. A page is read in two
+//! ways. Both follow the references down, with a tick of [`Steps`] for each record of the chain, and then go up the same
+//! chain again.
 //!
 //! [`Archive::open`] gives the successors of a page one by one. It makes an iterator for each page of the chain, each in
 //! the box of the next, and no list.
@@ -34,6 +35,7 @@
 //! |---|---|---|
 //! | [`Records::check`] | an offset, 8 bytes, for each page; while it runs, the lists of a window | that of all bits and lists |
 //! | [`Archive::check`] | none | that of the offsets |
+//! | [`Records::archive`] | none | constant |
 //! | [`Archive::open`] | a box for each reference of the chain | that of the words of the chain's records |
 //! | [`Archive::list`] | a number for each page of the chain, and two of its lists | that of the words and the lists of the chain's records |
 //! | [`Records::sweep`] | a row for each page that a reference reaches, and one; while it runs, the lists of a window | that of all bits and lists |

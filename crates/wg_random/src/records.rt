@@ -1,12 +1,13 @@
 //! Records that were checked.
-ghost use Rattle.std.specs.Prelude.{◌≡◌, ◌≤◌, ℕ, List, IfOk, IfErr, Ok, Err, length};
+ghost use Rattle.std.specs.Prelude.{◌≡◌, ◌+◌, ◌≤◌, ℕ, List, IfOk, IfErr, Ok, Err, get_or, length};
 ghost use Rattle.wg_io.specs.declared.limits.TheConstants.{MOST_BYTES};
 ghost use Rattle.wg_bits.specs.Bits.{bits_of};
 ghost use Rattle.wg_grammar.specs.Archive.{Accepted, ReadsGraph};
 ghost use Rattle.wg_grammar.specs.Laws.{graph_of};
+ghost use Rattle.wg_offsets.specs.Places.{ArePlaces};
 ghost use Rattle.wg_random.specs.Checking.{OfArchive};
 
-use crate::{CheckError, Sweep};
+use crate::{Archive, CheckError, Sweep};
 use std::alloc::{AllocError, Global};
 use std::marker::Model;
 use wg_bits::{Bits, Cursor};
@@ -70,5 +71,30 @@ impl<'a> Records<'a> {
         ensures place { IfOk result (λ s. s.place ≡ 0) }
     {
         Sweep::new(alloc, self.bytes, self.params)
+    }
+
+    /// The bit where the record of a page begins; and of the number of pages, the bit after the last record.
+    pub fn offset(&self, page: u64) -> u64
+        requires { page ≤ self.now.params.nodes }
+        ensures value { result ≡ get_or self.now.offsets page 0 }
+        ensures count { length self.now.offsets ≡ self.now.params.nodes + 1 }
+        ensures places { ArePlaces self.now.offsets }
+    {
+        // tells that they are places
+        self.offsets.len();
+        self.offsets.place(page)
+    }
+
+    /// The archive whose pages are found by these records. It takes no memory, and no offsets file.
+    pub fn archive<'b>(&'b self) -> Archive<'b>
+    where
+        'a: 'b,
+        ensures { result ≡ self.now }
+    {
+        Archive {
+            bytes: self.bytes,
+            params: self.params,
+            offsets: &self.offsets,
+        }
     }
 }

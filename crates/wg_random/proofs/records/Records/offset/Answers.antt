@@ -1,0 +1,16 @@
+use Rattle.std.proofs.Common.{length, ap, arith}
+use Rattle.wg_bits.specs.Bits.{bits_of}
+use Rattle.wg_random.specs.Held.{Held}
+use Rattle.wg_random.proofs.Matching.{read_of}
+use Rattle.wg_random.proofs.Readings.{offsets_count}
+use Rattle.wg_random.proofs.records.Records.offset.Goals as goal
+
+pub place-requires : goal.place-requires
+place-requires c =
+    let g = read_of c.self.inside.params (bits_of c.self.inside.bytes.now) _ c.self.invariant.1.1 in
+    omega (arith, c.requires, ap (λ (h : Held). h.params.nodes) c.self.view_is, offsets_count c.self.inside.params (bits_of c.self.inside.bytes.now) g.reading _ g.places)
+
+pub returns-clause-count : goal.returns-clause-count
+returns-clause-count c =
+    let g = read_of c.self.inside.params (bits_of c.self.inside.bytes.now) _ c.self.invariant.1.1 in
+    omega (arith, ap (λ (h : Held). h.params.nodes) c.self.view_is, ap (λ (h : Held). length h.offsets) c.self.view_is, offsets_count c.self.inside.params (bits_of c.self.inside.bytes.now) g.reading _ g.places)
