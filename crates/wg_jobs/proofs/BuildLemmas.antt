@@ -1,5 +1,5 @@
 -- What a job that writes an archive leaves, by the archive's own names.
-use Rattle.std.proofs.Common.{◌≡◌, inl, inr, ℕ, ◌≤◌, Bool, true, false, if◌then◌else◌, List, refl, sym, ap, subst, ◌∙◌, arith, Option, Some, None, is_some, Result, Ok, Err}
+use Rattle.std.proofs.Common.{◌≡◌, ◌⊎◌, inl, inr, ℕ, ◌≤◌, Bool, true, false, if◌then◌else◌, List, refl, sym, ap, subst, ◌∙◌, arith, Option, Some, None, is_some, Result, Ok, Err}
 use Rattle.std.specs.Bool.{IsTrue}
 use Rattle.std.specs.Result.{IfErr, IsErrAnd}
 use Rattle.std.proofs.lemmas.List.{append-nil}
@@ -8,22 +8,27 @@ use Rattle.wg_io.specs.declared.output.Output.{Output}
 use Rattle.wg_io.specs.declared.output.Output.TheVariants as output
 use Rattle.wg_io.proofs.FilesLemmas.{none_falls-trans}
 use Rattle.wg_io.proofs.PutsLemmas.{is_that_err}
-use Rattle.wg_jobs.specs.Answers.{Answers, HasOutput, IsUnput, Steps, status_in}
+use Rattle.wg_jobs.specs.Answers.{Answers, HasOutput, IsUnput, Reaches, status_in}
 use Rattle.wg_jobs.specs.Causes.{HasCause, IncreasedAt}
 use Rattle.wg_graph.specs.Digraph.{Digraph}
 use Rattle.wg_words.specs.declared.jobs.Job.{Job}
+use Rattle.wg_words.specs.declared.jobs.Job.TheVariants.{Build}
+use Rattle.wg_arcs.specs.declared.fault.ArcsKind.{ArcsKind}
 use Rattle.wg_words.specs.declared.layout.Layout.{Layout}
 use Rattle.wg_jobs.specs.Judged.{Judged, built, builds, files_of, greedy_line, output_of, status_of, written_by}
+use Rattle.wg_jobs.specs.Loading.{LoadsList}
 use Rattle.wg_jobs.specs.Promised.{ArePromised, arcs_in}
-use Rattle.wg_jobs.specs.Names.{archive_named, can_end, has_output, held_by, input_name, output_name, reads_again, writes_files}
+use Rattle.wg_jobs.specs.Names.{IsOfInput, archive_named, can_end, has_output, held_by, input_name, list_named, output_name, reads_again, writes_files}
 use Rattle.wg_jobs.specs.Performs.{BuildsArchive, Outside, Performs, judged_on, outside}
 use Rattle.wg_jobs.specs.Readings.{Readings}
 use Rattle.wg_jobs.specs.Written.{Archive, ArchiveFiles, AreWhole, HasFiles, OthersStay, FilesAfter, IsStopped, archive_at, greedy_archive, params_for}
 use Rattle.wg_jobs.specs.declared.ending.Ending.{Ending}
 use Rattle.wg_jobs.specs.declared.status.Input.{Input}
+use Rattle.wg_jobs.specs.declared.status.Input.TheVariants as input
 use Rattle.wg_jobs.specs.declared.status.Status.{Status}
-use Rattle.wg_jobs.specs.declared.status.Status.TheVariants.{Done, Memory, ReadFault, WriteFault, Missing}
-use Rattle.wg_jobs.proofs.PerformsLemmas.{left_by}
+use Rattle.wg_jobs.specs.declared.status.Status.TheVariants.{Done, Memory, ReadFault, WriteFault, Missing, BadArcs}
+use Rattle.wg_jobs.proofs.PerformsLemmas.{IsStop, left_by, stopped, unread}
+use Rattle.wg_jobs.proofs.Statuses.{IsOwn, fault_caused, own_caused, own_read}
 
 -- ---- counts
 rose_from : (a b c : ℕ) → a ≤ b → Increased b c → Increased a c
@@ -44,18 +49,8 @@ ended_by r e is = ap status_in (is_that_err r e is)
 -- ---- a writing that was stopped
 pub stopped_cause : (inputs : Input → Option (List ℕ)) (base : List ℕ) (old new : List ℕ → Counts) (faults faults' : ℕ) (s : Status) → IsStopped s
     → ((o : Output) → s ≡ WriteFault o → IncreasedAt (λ c. c.write_faults) (archive_named base o) old new) → HasCause inputs (archive_named base) old new faults faults' s
-stopped_cause inputs base old new faults faults' s (inl fault) rose = record {
-  read_fault = λ i is. absurd (let no : WriteFault fault.0 ≡ ReadFault i = sym fault.1 ∙ is in cc);
-  missing = λ i is. absurd (let no : WriteFault fault.0 ≡ Missing i = sym fault.1 ∙ is in cc);
-  write_fault = λ o other is. rose o is;
-  out_fault = λ is. absurd (rose output.Out is);
-}
-stopped_cause inputs base old new faults faults' s (inr want) rose = record {
-  read_fault = λ i is. absurd (let no : Memory ≡ ReadFault i = sym want ∙ is in cc);
-  missing = λ i is. absurd (let no : Memory ≡ Missing i = sym want ∙ is in cc);
-  write_fault = λ o other is. rose o is;
-  out_fault = λ is. absurd (rose output.Out is);
-}
+stopped_cause inputs base old new faults faults' s (inl fault) rose = fault_caused _ _ _ _ _ _ s fault.0 fault.1 (λ o other is. rose o is) (λ is. absurd (rose output.Out is))
+stopped_cause inputs base old new faults faults' s (inr want) rose = own_caused _ _ _ _ _ _ s (subst IsOwn (sym want) tt)
 
 pub stopped_output : (due old : List ℕ) (s : Status) → IsStopped s → HasOutput due old old s
 stopped_output due old s (inl fault) = subst (HasOutput due old old) (sym fault.1) (0, sym (append-nil old))
@@ -71,11 +66,6 @@ pub put_stopped : (r : Result (Unit {0}) Ending) → IfErr r (λ e. IsUnput e.st
 put_stopped (Ok done) only = tt
 put_stopped (Err e) (inl fault) = inl (output.Out, fault)
 put_stopped (Err e) (inr want) = inr want
-
--- ---- one step of a judgement after another
-pub steps_then : {C : Type 0} (first second : (C → Judged) → Judged) (r : Result C Ending) → ((next : C → Judged) → first next ≡ second next) → Steps second r → Steps first r
-steps_then first second (Ok c) same steps = λ next. same next ∙ steps next
-steps_then first second (Err e) same steps = λ next. subst (λ (j : Judged). Answers j e.status) (sym (same next)) (steps next)
 
 -- ---- a job whose last step writes an archive and prints its line
 pub no_read : (r : Result (Unit {0}) Ending) (i : Input) → IfErr r (λ e. IsStopped e.status) → status_in r ≡ ReadFault i → ⊥
@@ -149,3 +139,21 @@ written job td to before after files counts l g base r writes names is same late
   later = none_falls-trans before.counts counts after.counts later h.later;
   promised = λ t. built_promised (held_by (input_name job) before.files) r h.only;
 }
+
+-- ---- an arc list that was not read
+pub list_unread : (arcs base : List ℕ) (n : ℕ) (l : Layout) (td to : Bool) (before after : Outside) (e : Ending) → after.taken ≡ before.taken → LoadsList arcs n td before.files after.files before.counts after.counts (Err e)
+    → Performs (Build arcs base n l) td to before after e.status e.arcs
+list_unread arcs base n l td to before after e silent h = by_only h.only
+  where
+    answers : IsTrue td → (r : Readings) → Answers (judged_on r (Build arcs base n l) before.files) e.status
+    answers t r = h.steps t r (λ g. builds l g)
+
+    by_only : (IsOfInput input.ArcList e.status ⊎ ((line : ℕ) × (kind : ArcsKind) × (e.status ≡ BadArcs line kind))) → Performs (Build arcs base n l) td to before after e.status e.arcs
+    by_only (inl only) =
+        unread (list_named arcs) input.ArcList (Build arcs base n l) td to before after e.status e.arcs refl refl silent only h.causes h.same h.later answers
+        (λ t r i is. subst (λ (k : Input). Reaches r (Build arcs base n l) (held_by (input_name (Build arcs base n l)) before.files) k) (own_read input.ArcList e.status i only is) refl)
+    by_only (inr fault) =
+        let own : IsOwn e.status = subst IsOwn (sym fault.2) tt in
+        stopped (Build arcs base n l) td to before after e.status e.arcs (subst IsStop (sym fault.2) tt) silent h.same answers
+        (subst (λ (s : Status). IsTrue (can_end (Build arcs base n l) s)) (sym fault.2) refl) (own_caused _ _ _ _ _ _ e.status own)
+        (λ t r i is. absurd (subst IsOwn is own)) h.later (λ t. subst (λ (s : Status). ArePromised (held_by (input_name (Build arcs base n l)) before.files) s e.arcs) (sym fault.2) tt)

@@ -1,61 +1,81 @@
--- How `check` stops at the graph or at the offsets.
-use Rattle.std.proofs.Common.{◌≡◌, ◌⊎◌, ◌∙◌, inl, inr, ℕ, Bool, List, Option, Some, None, Ok, Err, refl, sym, ap, subst}
+-- How `check` goes on from the parameters, or stops at the graph or at the offsets.
+use Rattle.std.proofs.Common.{◌≡◌, ◌⊎◌, ◌∙◌, inl, inr, ℕ, Bool, List, [], ◌∷◌, Option, None, Ok, Err, refl, sym, ap}
 use Rattle.std.specs.Bool.{IsTrue}
-use Rattle.wg_io.specs.Outside.{Files, NonDecreasing}
+use Rattle.wg_io.specs.Outside.{Files, Counts}
+use Rattle.wg_io.proofs.FilesLemmas.{none_falls-trans}
 use Rattle.wg_params.specs.Parameters.{Parameters, IsWithinLimits}
-use Rattle.wg_properties.specs.Judged.{properties_of}
 use Rattle.wg_grammar.specs.Archive.{Accepted}
 use Rattle.wg_offsets.specs.Places.{last_place}
 use Rattle.wg_words.specs.declared.jobs.Job.TheVariants.{Check}
-use Rattle.wg_jobs.specs.Answers.{Answers, Steps}
-use Rattle.wg_jobs.specs.Causes.{HasCause}
-use Rattle.wg_jobs.specs.Judged.{Judged, accepted, ok_line, with_file, with_lengths, with_parameters}
-use Rattle.wg_jobs.specs.Names.{file_of, held_by, input_name, no_outputs}
+use Rattle.wg_jobs.specs.Judged.{Judged, accepted, ok_line, with_lengths}
+use Rattle.wg_jobs.specs.Loading.{JudgesFiles}
+use Rattle.wg_jobs.specs.Names.{file_of, held_by}
 use Rattle.wg_jobs.specs.Pairing.{files_then, offsets_then}
 use Rattle.wg_jobs.specs.Passes.{IsGraphFile, IsStopAt, graph_then}
-use Rattle.wg_jobs.specs.Performs.{Outside, Performs, judged_on}
+use Rattle.wg_jobs.specs.Performs.{Outside, Performs}
 use Rattle.wg_jobs.specs.Readings.{Readings}
 use Rattle.wg_jobs.specs.declared.ending.Ending.{Ending}
+use Rattle.wg_jobs.specs.declared.status.Input.{Input}
 use Rattle.wg_jobs.specs.declared.status.Input.TheVariants.{Properties, Graph, Offsets}
-use Rattle.wg_jobs.proofs.JobPasses.{after_params, unjudged}
+use Rattle.wg_jobs.proofs.JobSteps.{ComesTo, ends}
 use Rattle.wg_jobs.proofs.PassLemmas.{graph_goes}
 
--- the graph is at fault; or the offsets are, and the graph is in order
-abbrev StopsAtFile : Bool → Parameters → Option (List ℕ) → Ending → Type 0
-StopsAtFile told p held e = IsStopAt Graph p.arcs e ⊎ (IsStopAt Offsets p.arcs e × IsWithinLimits p × (IsTrue told → (a : Accepted) × IsGraphFile held p a))
+-- what comes behind the parameters
+abbrev pub checks : Parameters → Readings → (Input → Option (List ℕ)) → Judged
+checks p r h = files_then r p h (λ n. accepted (ok_line p n))
 
-pub check_stops : (base text slice : List ℕ) (p : Parameters) (td to : Bool) (before after : Outside) (files1 files : Files) (e : Ending) → before.files ≡ files → after.taken ≡ before.taken → after.files ≡ before.files
-    → NonDecreasing before.counts after.counts → files1 ≡ files
-    → (IsTrue td → held_by (file_of base) files Properties ≡ Some text) → slice ≡ text → properties_of slice ≡ Ok p
-    → (IsTrue td → (next : List ℕ → Judged) → with_file Properties (held_by (file_of base) files Properties) next ≡ next text) → ((next : Parameters → Judged) → with_parameters slice next ≡ next p)
-    → StopsAtFile td p (held_by (file_of base) files1 Graph) e
-    → HasCause (file_of base) no_outputs before.counts after.counts 0 0 e.status
-    → (IsTrue td → (r : Readings) → Steps {B = ℕ} (files_then r p (held_by (file_of base) files1)) (Err e))
-    → Performs (Check base) td to before after e.status e.arcs
-check_stops base text slice p td to before after files1 files e start silent same later moved there slices gives reads steps only cause told =
-    by_file only
-  where
-    found : IsTrue td → held_by (input_name (Check base)) before.files Properties ≡ Some slice
-    found t = ap (λ (f : Files). held_by (file_of base) f Properties) start ∙ there t ∙ ap Some (sym slices)
+module _ (base : List ℕ) (p : Parameters) (td to : Bool) (before : Outside) (files : Files) (counts : List ℕ → Counts) (k : ComesTo (Check base) p td before files counts (Properties ∷ []) (checks p)) where
+  -- what is done of a graph file and an offsets file that hold this
+  abbrev both : Readings → Option (List ℕ) → Option (List ℕ) → (ℕ → Judged) → Judged
+  both r graph offsets next = graph_then r p graph (λ a. offsets_then r p offsets (λ stored. with_lengths a.places stored (λ same. next (last_place a.places))))
 
-    goes : IsTrue td → (next : Parameters → Judged) → with_file Properties (held_by (input_name (Check base)) before.files Properties) (λ x. with_parameters x next) ≡ next p
-    goes t next =
-        ap (λ (f : Files). with_file Properties (held_by (file_of base) f Properties) (λ x. with_parameters x next)) start
-        ∙ after_params (held_by (file_of base) files) text slice p (reads t) slices steps next
+  abbrev line : ℕ → Judged
+  line n = accepted (ok_line p n)
 
-    answers : IsTrue td → (r : Readings) → Answers (judged_on r (Check base) before.files) e.status
-    answers t r =
-        subst (λ (j : Judged). Answers j e.status) (sym (goes t (λ q. files_then r q (held_by (input_name (Check base)) before.files) (λ n. accepted (ok_line q n)))))
-        (subst (λ (f : Files). Steps {B = ℕ} (files_then r p (held_by (file_of base) f)) (Err e)) (moved ∙ sym start) (told t r) (λ n. accepted (ok_line p n)))
+  -- the files hold now what they held
+  here : (i : Input) → held_by (file_of base) before.files i ≡ held_by (file_of base) files i
+  here i = ap (λ (f : Files). held_by (file_of base) f i) (sym k.same)
 
-    by_file : StopsAtFile td p (held_by (file_of base) files1 Graph) e → Performs (Check base) td to before after e.status e.arcs
-    by_file (inl stop) =
-        unjudged base slice p (Check base) td to before Graph after e refl refl silent same later found gives stop cause answers
-        (λ t r. goes t (λ q. graph_then r q None (λ a. offsets_then r q (held_by (input_name (Check base)) before.files Offsets) (λ stored. with_lengths a.places stored (λ done. accepted (ok_line q (last_place a.places)))))))
-    by_file (inr stop) =
-        unjudged base slice p (Check base) td to before Offsets after e refl refl silent same later found gives stop.0 cause answers
-        (λ t r.
-        let x = stop.2 t in
-        let g : IsGraphFile (held_by (file_of base) before.files Graph) p x.0 = subst (λ (f : Files). IsGraphFile (held_by (file_of base) f Graph) p x.0) (moved ∙ sym start) x.1 in
-        goes t (λ q. graph_then r q (held_by (input_name (Check base)) before.files Graph) (λ a. offsets_then r q None (λ stored. with_lengths a.places stored (λ done. accepted (ok_line q (last_place a.places))))))
-        ∙ graph_goes r p stop.1 (held_by (file_of base) before.files Graph) x.0 g (λ a. offsets_then r p None (λ stored. with_lengths a.places stored (λ done. accepted (ok_line p (last_place a.places))))))
+  -- both files are in order
+  pub check_goes : (files' : Files) (counts' : List ℕ → Counts) (n : ℕ) → JudgesFiles base p td files files' counts counts' (Ok n)
+      → ComesTo (Check base) p td before files' counts' (Offsets ∷ Graph ∷ Properties ∷ []) (λ r h. accepted (ok_line p n))
+  check_goes files' counts' n j = record {
+    goes = λ t r h holds.
+        k.goes t r h holds.1.1
+        ∙ ap (λ (o : Option (List ℕ)). both r o (h Offsets) line) (holds.1.0 ∙ here Graph)
+        ∙ ap (λ (o : Option (List ℕ)). both r (held_by (file_of base) files Graph) o line) (holds.0 ∙ here Offsets)
+        ∙ j.steps t r line;
+    given = k.given;
+    same = j.same ∙ k.same;
+    later = none_falls-trans _ _ _ k.later j.later;
+  }
+
+  -- the judgement as a step at one file, where the other holds what it does
+  by_graph : ComesTo (Check base) p td before files counts (Offsets ∷ Properties ∷ []) (λ r h. both r (h Graph) (held_by (file_of base) files Offsets) line)
+  by_graph = record {
+    goes = λ t r h holds. k.goes t r h holds.1 ∙ ap (λ (o : Option (List ℕ)). both r (h Graph) o line) (holds.0 ∙ here Offsets);
+    given = k.given;
+    same = k.same;
+    later = k.later;
+  }
+
+  by_offsets : ComesTo (Check base) p td before files counts (Graph ∷ Properties ∷ []) (λ r h. both r (held_by (file_of base) files Graph) (h Offsets) line)
+  by_offsets = record {
+    goes = λ t r h holds. k.goes t r h holds.1 ∙ ap (λ (o : Option (List ℕ)). both r o (h Offsets) line) (holds.0 ∙ here Graph);
+    given = k.given;
+    same = k.same;
+    later = k.later;
+  }
+
+  -- one of them is not
+  pub check_stops : (after : Outside) (e : Ending) → after.taken ≡ before.taken → JudgesFiles base p td files after.files counts after.counts (Err e) → Performs (Check base) td to before after e.status e.arcs
+  check_stops after e silent j = by_file j.only
+    where
+      by_file : (IsStopAt Graph p.arcs e ⊎ (IsStopAt Offsets p.arcs e × IsWithinLimits p × (IsTrue td → (a : Accepted) × IsGraphFile (held_by (file_of base) files Graph) p a))) → Performs (Check base) td to before after e.status e.arcs
+      by_file (inl stop) =
+          ends (Check base) base td to before p files counts _ {B = ℕ} Graph refl (λ r o next. both r o (held_by (file_of base) files Offsets) next) (λ n r h. line n) by_graph (λ h holds. holds) (λ t r n. refl)
+          refl after e silent j.same j.later (record { only = stop; causes = j.causes; refused = j.steps })
+      by_file (inr stop) =
+          ends (Check base) base td to before p files counts _ {B = ℕ} Offsets refl (λ r o next. both r (held_by (file_of base) files Graph) o next) (λ n r h. line n) by_offsets (λ h holds. holds)
+          (λ t r n. let a = stop.2 t in graph_goes r p stop.1 (held_by (file_of base) files Graph) a.0 a.1 (λ a. offsets_then r p None (λ stored. with_lengths a.places stored (λ same. n (last_place a.places)))))
+          refl after e silent j.same j.later (record { only = stop.0; causes = j.causes; refused = j.steps })

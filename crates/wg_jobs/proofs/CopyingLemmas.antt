@@ -1,5 +1,5 @@
 -- The records of a graph file, on their way into an archive of another name.
-use Rattle.std.proofs.Common.{◌≡◌, inl, inr, ℕ, ◌+◌, ◌≤◌, Bool, true, List, [], ◌∷◌, ◌++◌, length, refl, sym, ◌∙◌, ap, subst, append_assoc, append-nil, Option, Some, Result, Ok, Err}
+use Rattle.std.proofs.Common.{◌≡◌, inl, inr, ℕ, ◌+◌, ◌≤◌, Bool, true, List, [], ◌∷◌, ◌++◌, length, refl, sym, ◌∙◌, ap, subst, append_assoc, append-nil, Some, Result, Ok, Err}
 use Rattle.std.specs.Bool.{IsTrue}
 use Rattle.std.specs.FinMap as map
 use Rattle.std.specs.Result.{IfErr, IfOk, IsErrAnd}
@@ -25,20 +25,19 @@ use Rattle.wg_encoder.specs.declared.error.EncodeError.{EncodeError}
 use Rattle.wg_encoder.specs.declared.error.EncodeError.TheVariants as error
 use Rattle.wg_encoder.proofs.Stopped.{begun, stands}
 use Rattle.wg_jobs.specs.Answers.{IsHindrance, status_in}
-use Rattle.wg_jobs.specs.Causes.{HasCause, IncreasedAt}
+use Rattle.wg_jobs.specs.Causes.{IncreasedAt}
 use Rattle.wg_jobs.specs.Copying.{Copies, IsOneOn, SendsOneOn, IsStoppedBy}
-use Rattle.wg_jobs.specs.Names.{archive_named, file_of, held_by, no_outputs}
+use Rattle.wg_jobs.specs.Names.{archive_named, file_of, held_by}
 use Rattle.wg_jobs.specs.Passes.{Advances, IsGraphFile, IsStopAt, accepted_of}
 use Rattle.wg_jobs.specs.Written.{ArchiveFiles, FilesLeft, IsStopped, OthersStay, StopAtInput, Archive, archive_at, emptied, greedy_archive, status_of_error, unnamed}
 use Rattle.wg_jobs.specs.declared.ending.Ending.{Ending}
-use Rattle.wg_jobs.specs.declared.status.Input.{Input}
 use Rattle.wg_jobs.specs.declared.status.Input.TheVariants.{Graph}
 use Rattle.wg_jobs.specs.declared.status.Status.{Status}
 use Rattle.wg_jobs.specs.declared.status.Status.TheVariants.{Done, Memory, WriteFault}
 use Rattle.wg_jobs.proofs.BuildLemmas.{stopped_cause}
-use Rattle.wg_jobs.proofs.PassLemmas.{none_caused}
 use Rattle.wg_jobs.proofs.PerformsLemmas.{left_by}
 use Rattle.wg_jobs.proofs.PrintedPass.{read_hindered}
+use Rattle.wg_jobs.proofs.Statuses.{any_outputs, own_caused}
 use Rattle.wg_jobs.proofs.UnderWay.{IsUnderWay, all_read, cause_on, first_read, goes_further, way_kept}
 use Rattle.wg_jobs.proofs.WritingLemmas.{others_at, properties_graph, properties_offsets, records_gone, stop_records}
 
@@ -62,10 +61,6 @@ error_stops error.Memory s is = inr is
 stops_hinder : (s : Status) → IsStopped s → IsHindrance s
 stops_hinder s (inl fault) = subst IsHindrance (sym fault.1) tt
 stops_hinder s (inr want) = subst IsHindrance (sym want) tt
-
--- the outputs are none of what a reading is at fault for
-any_outputs : (names : Input → Option (List ℕ)) (outputs : Output → Option (List ℕ)) (old new : List ℕ → Counts) (s : Status) → HasCause names no_outputs old new 0 0 s → HasCause names outputs old new 0 0 s
-any_outputs names outputs old new s h = record { read_fault = h.read_fault; missing = h.missing; write_fault = λ o other is. absurd (h.write_fault o other is); out_fault = h.out_fault }
 
 two_more : (base : List ℕ) (a b c : Files) → OnlyTwo base a b → OnlyTwo base b c → OnlyTwo base a c
 two_more base a b c one two q g o = two q g o ∙ one q g o
@@ -139,7 +134,7 @@ copies_want told input output p files counts e want =
 pub copies_done : {A : Type 0} (told : Bool) (input output : List ℕ) (p : Parameters) (files : Files) (counts counts' : List ℕ → Counts) (a : A) → NonDecreasing counts counts' → Copies told input output p files counts counts' (Ok a)
 copies_done told input output p files counts counts' a later = record {
   only = tt;
-  causes = λ names named. any_outputs names (archive_named output) counts counts' Done (none_caused names counts counts' Done (λ i is. cc) (λ i is. cc) (λ o is. cc));
+  causes = λ names named. own_caused _ _ _ _ _ _ Done tt;
   hindered = λ t x g. tt;
   later = later;
 }

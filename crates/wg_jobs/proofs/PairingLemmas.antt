@@ -9,7 +9,6 @@ use Rattle.wg_io.proofs.PutsLemmas.{rose_on}
 use Rattle.wg_params.specs.declared.code.Code.{Code}
 use Rattle.wg_offsets.specs.Comparing.{AreCompared, Compared}
 use Rattle.wg_offsets.specs.Stages.{AreRead, WordsRead}
-use Rattle.wg_io.specs.declared.output.Output.TheVariants.{Out}
 use Rattle.wg_io.specs.declared.whole.LoadError.{LoadError}
 use Rattle.wg_io.specs.declared.whole.LoadError.TheVariants as load
 use Rattle.wg_bits.specs.Bits.{bits_of}
@@ -37,34 +36,19 @@ use Rattle.wg_jobs.specs.Passes.{IsGraphFile, IsStopAt, accepted_of}
 use Rattle.wg_jobs.specs.Readings.{Readings}
 use Rattle.wg_jobs.specs.declared.status.Input.{Input}
 use Rattle.wg_jobs.specs.declared.status.Input.TheVariants.{Graph, Offsets}
-use Rattle.wg_jobs.specs.declared.status.Status.TheVariants.{Memory, ReadFault, WriteFault, Missing, BadArchive, OverLimit}
-use Rattle.wg_jobs.proofs.PassLemmas.{done_caused, file_goes, file_long, graph_goes, none_caused}
+use Rattle.wg_jobs.specs.declared.status.Status.TheVariants.{Done, Memory, BadArchive, OverLimit}
+use Rattle.wg_jobs.proofs.PassLemmas.{file_goes, file_long, graph_goes}
+use Rattle.wg_jobs.proofs.Statuses.{absent_caused, bad_own, failed_caused, own_caused}
 use Rattle.wg_jobs.proofs.UnderWay.{cause_later}
 use Rattle.wg_jobs.proofs.ReadingsLemmas.{goes_on_from, offsets_refused}
 
 -- ---- causes
 load_caused : (told : Bool) (name : List ℕ) (files : Files) (old new : List ℕ → Counts) (h : Held) (e : LoadError) → HasReadCause told name files old new h e
     → (names : Input → Option (List ℕ)) → names Offsets ≡ Some name → HasCause names no_outputs old new 0 0 (load_ending e).status
-load_caused told name files old new h load.TooLong cause names named = none_caused names old new (OverLimit Offsets) (λ i is. cc) (λ i is. cc) (λ o is. cc)
-load_caused told name files old new h load.Memory cause names named = none_caused names old new Memory (λ i is. cc) (λ i is. cc) (λ o is. cc)
-load_caused told name files old new h load.Failed cause names named = record {
-  read_fault = λ i is.
-      let same : Offsets ≡ i = cc in
-      subst (λ (j : Input). IncreasedAt (λ c. c.read_faults) (names j) old new) same
-      (subst (λ (m : Option (List ℕ)). IncreasedAt (λ c. c.read_faults) m old new) (sym named) (cause.failed refl));
-  missing = λ i is. absurd (let no : ReadFault Offsets ≡ Missing i = is in cc);
-  write_fault = λ o other is. absurd (let no : ReadFault Offsets ≡ WriteFault o = is in cc);
-  out_fault = λ is. absurd (let no : ReadFault Offsets ≡ WriteFault Out = is in cc);
-}
-load_caused told name files old new h load.Absent cause names named = record {
-  read_fault = λ i is. absurd (let no : Missing Offsets ≡ ReadFault i = is in cc);
-  missing = λ i is.
-      let same : Offsets ≡ i = cc in
-      subst (λ (j : Input). IncreasedAt (λ c. c.absences) (names j) old new) same
-      (subst (λ (m : Option (List ℕ)). IncreasedAt (λ c. c.absences) m old new) (sym named) (cause.absent refl));
-  write_fault = λ o other is. absurd (let no : Missing Offsets ≡ WriteFault o = is in cc);
-  out_fault = λ is. absurd (let no : Missing Offsets ≡ WriteFault Out = is in cc);
-}
+load_caused told name files old new h load.TooLong cause names named = own_caused _ _ _ _ _ _ (OverLimit Offsets) tt
+load_caused told name files old new h load.Memory cause names named = own_caused _ _ _ _ _ _ Memory tt
+load_caused told name files old new h load.Failed cause names named = failed_caused _ _ _ _ _ _ Offsets name named (cause.failed refl)
+load_caused told name files old new h load.Absent cause names named = absent_caused _ _ _ _ _ _ Offsets name named (cause.absent refl)
 
 -- ---- what an error leads to
 module _ (r : Readings) (p : Parameters) where
@@ -114,7 +98,7 @@ module _ (told : Bool) (name : List ℕ) (files : Files) (old new : List ℕ →
       load_stopped e cause (λ t none. let f = found t in absurd (let no : None ≡ Some f.0 = sym none ∙ f.1 in cc)) (λ t file is. (reads t file is).0)
   word_stopped (words.Word w) cause looked found reads = record {
     only = inr (inr (archive.Offsets w, refl, refl, refl));
-    causes = λ names named. none_caused names old new (BadArchive (archive.Offsets w)) (λ i is. cc) (λ i is. cc) (λ o is. cc);
+    causes = λ names named. own_caused _ _ _ _ _ _ (BadArchive (archive.Offsets w)) tt;
     refused = λ t limits r next.
         let f = found t in
         let k = reads t f.0 f.1 in
@@ -245,18 +229,13 @@ ends_stopped told files c0 c1 p name b so_far e s = record {
   steps = λ t limits places follows r next. s.refused t limits r (λ stored. with_lengths places stored next);
 }
 
-bad_status : (names : Input → Option (List ℕ)) (old new : List ℕ → Counts) (i : Input) (n : ℕ) (e : Ending) → IsBadFile i n e → HasCause names no_outputs old new 0 0 e.status
-bad_status names old new i n e (inl want) = none_caused names old new e.status (λ j is. let no : Memory ≡ ReadFault j = sym want ∙ is in cc) (λ j is. let no : Memory ≡ Missing j = sym want ∙ is in cc) (λ o is. let no : Memory ≡ WriteFault o = sym want ∙ is in cc)
-bad_status names old new i n e (inr fault) =
-    none_caused names old new e.status (λ j is. let no : BadArchive fault.0 ≡ ReadFault j = sym fault.2 ∙ is in cc) (λ j is. let no : BadArchive fault.0 ≡ Missing j = sym fault.2 ∙ is in cc) (λ o is. let no : BadArchive fault.0 ≡ WriteFault o = sym fault.2 ∙ is in cc)
-
 only_by : (n : ℕ) (r : Result (Unit {0}) Ending) → IfErr r (IsBadFile Offsets n) → IfErr r (IsStopAt Offsets n)
 only_by n (Ok done) h = tt
 only_by n (Err e) h = inr h
 
 caused_by : (names : Input → Option (List ℕ)) (old new : List ℕ → Counts) (n : ℕ) (r : Result (Unit {0}) Ending) → IfErr r (IsBadFile Offsets n) → HasCause names no_outputs old new 0 0 (status_in r)
-caused_by names old new n (Ok done) h = done_caused names old new
-caused_by names old new n (Err e) h = bad_status names old new Offsets n e h
+caused_by names old new n (Ok done) h = own_caused _ _ _ _ _ _ Done tt
+caused_by names old new n (Err e) h = own_caused _ _ _ _ _ _ e.status (bad_own Offsets n e h)
 
 steps_by : (r : Readings) (p : Parameters) (held : Option (List ℕ)) (places stored : List ℕ) (x : Result (Unit {0}) Ending) → ((next : List ℕ → Judged) → offsets_then r p held next ≡ next stored) → Steps (with_lengths places stored) x
     → Steps (λ next. offsets_then r p held (λ s. with_lengths places s next)) x

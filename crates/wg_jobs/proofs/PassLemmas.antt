@@ -5,8 +5,6 @@ use Rattle.std.specs.FinMap as map
 use Rattle.std.proofs.lemmas.Bool.{cond-false, cond-true, le-ltb, lt-ltb}
 use Rattle.wg_io.specs.declared.limits.TheConstants.{MOST_BYTES}
 use Rattle.wg_io.specs.Outside.{Files, Counts}
-use Rattle.wg_io.specs.declared.output.Output.{Output}
-use Rattle.wg_io.specs.declared.output.Output.TheVariants.{Out}
 use Rattle.wg_params.specs.Parameters.{Parameters, IsWithinLimits}
 use Rattle.wg_grammar.specs.declared.fault.ArchiveFault.{ArchiveFault}
 use Rattle.wg_grammar.specs.declared.fault.ArchiveFault.TheVariants as archive
@@ -22,7 +20,7 @@ use Rattle.wg_stream.specs.declared.stream_error.StreamError.TheVariants as erro
 use Rattle.wg_stream.specs.Reading.{Reading, AgreesIn, IsInStep, IsJudged}
 use Rattle.wg_stream.specs.Stepping.{HasCause as HasReadCause}
 use Rattle.wg_jobs.specs.Answers.{Answers}
-use Rattle.wg_jobs.specs.Causes.{HasCause, IncreasedAt}
+use Rattle.wg_jobs.specs.Causes.{HasCause}
 use Rattle.wg_jobs.specs.Judged.{Judged, refused, status_of, with_file, with_graph}
 use Rattle.wg_jobs.specs.Names.{no_outputs}
 use Rattle.wg_jobs.specs.Passes.{Advances, IsGraphFile, IsStopAt, ending_at, first_in, graph_then}
@@ -30,9 +28,9 @@ use Rattle.wg_jobs.specs.Readings.{Readings}
 use Rattle.wg_jobs.specs.declared.ending.Ending.{Ending}
 use Rattle.wg_jobs.specs.declared.status.Input.{Input}
 use Rattle.wg_jobs.specs.declared.status.Input.TheVariants.{Graph}
-use Rattle.wg_jobs.specs.declared.status.Status.{Status}
-use Rattle.wg_jobs.specs.declared.status.Status.TheVariants.{Done, Memory, ReadFault, WriteFault, Missing, BadArchive, OverLimit}
+use Rattle.wg_jobs.specs.declared.status.Status.TheVariants.{Memory, BadArchive, OverLimit}
 use Rattle.wg_jobs.proofs.ReadingsLemmas.{goes_on, is_refused}
+use Rattle.wg_jobs.proofs.Statuses.{absent_caused, failed_caused, own_caused}
 
 pub first_again : (f : First) → first_in (of_first f) ≡ f
 first_again (first.Fault f) = refl
@@ -54,47 +52,15 @@ only_at n first.Absent = inl (inr (inr (inl refl)))
 only_at n first.TooLong = inl (inr (inr (inr refl)))
 only_at n first.Memory = inl (inl refl)
 
--- no fault of the outside
-pub none_caused : (names : Input → Option (List ℕ)) (old new : List ℕ → Counts) (s : Status)
-    → ((i : Input) → s ≡ ReadFault i → ⊥) → ((i : Input) → s ≡ Missing i → ⊥) → ((o : Output) → s ≡ WriteFault o → ⊥) → HasCause names no_outputs old new 0 0 s
-none_caused names old new s read missing write = record {
-  read_fault = λ i is. absurd (read i is);
-  missing = λ i is. absurd (missing i is);
-  write_fault = λ o other is. absurd (write o is);
-  out_fault = λ is. absurd (write Out is);
-}
-
-pub done_caused : (names : Input → Option (List ℕ)) (old new : List ℕ → Counts) → HasCause names no_outputs old new 0 0 Done
-done_caused names old new = none_caused names old new Done (λ i is. cc) (λ i is. cc) (λ o is. cc)
-
-pub want_caused : (names : Input → Option (List ℕ)) (old new : List ℕ → Counts) → HasCause names no_outputs old new 0 0 Memory
-want_caused names old new = none_caused names old new Memory (λ i is. cc) (λ i is. cc) (λ o is. cc)
-
 module _ (told : Bool) (name : List ℕ) (files : Files) (old new : List ℕ → Counts) (h : Held) (names : Input → Option (List ℕ)) (named : names Graph ≡ Some name) where
   pub cause_at : (n : ℕ) (f : First) → OfOutside f (HasReadCause told name files old new h) → HasCause names no_outputs old new 0 0 (ending_at n f).status
-  cause_at n (first.Fault f) cause = none_caused names old new (BadArchive (archive.Record f)) (λ i is. cc) (λ i is. cc) (λ o is. cc)
-  cause_at n (first.Tail offset) cause = none_caused names old new (BadArchive (archive.Tail offset)) (λ i is. cc) (λ i is. cc) (λ o is. cc)
-  cause_at n (first.ArcsShort total) cause = none_caused names old new (BadArchive (archive.ArcsShort total)) (λ i is. cc) (λ i is. cc) (λ o is. cc)
-  cause_at n first.TooLong cause = none_caused names old new (OverLimit Graph) (λ i is. cc) (λ i is. cc) (λ o is. cc)
-  cause_at n first.Memory cause = none_caused names old new Memory (λ i is. cc) (λ i is. cc) (λ o is. cc)
-  cause_at n first.Failed cause = record {
-    read_fault = λ i is.
-        let same : Graph ≡ i = cc in
-        subst (λ (j : Input). IncreasedAt (λ c. c.read_faults) (names j) old new) same
-        (subst (λ (m : Option (List ℕ)). IncreasedAt (λ c. c.read_faults) m old new) (sym named) (cause.failed refl));
-    missing = λ i is. absurd (let no : ReadFault Graph ≡ Missing i = is in cc);
-    write_fault = λ o other is. absurd (let no : ReadFault Graph ≡ WriteFault o = is in cc);
-    out_fault = λ is. absurd (let no : ReadFault Graph ≡ WriteFault Out = is in cc);
-  }
-  cause_at n first.Absent cause = record {
-    read_fault = λ i is. absurd (let no : Missing Graph ≡ ReadFault i = is in cc);
-    missing = λ i is.
-        let same : Graph ≡ i = cc in
-        subst (λ (j : Input). IncreasedAt (λ c. c.absences) (names j) old new) same
-        (subst (λ (m : Option (List ℕ)). IncreasedAt (λ c. c.absences) m old new) (sym named) (cause.absent refl));
-    write_fault = λ o other is. absurd (let no : Missing Graph ≡ WriteFault o = is in cc);
-    out_fault = λ is. absurd (let no : Missing Graph ≡ WriteFault Out = is in cc);
-  }
+  cause_at n (first.Fault f) cause = own_caused _ _ _ _ _ _ (BadArchive (archive.Record f)) tt
+  cause_at n (first.Tail offset) cause = own_caused _ _ _ _ _ _ (BadArchive (archive.Tail offset)) tt
+  cause_at n (first.ArcsShort total) cause = own_caused _ _ _ _ _ _ (BadArchive (archive.ArcsShort total)) tt
+  cause_at n first.TooLong cause = own_caused _ _ _ _ _ _ (OverLimit Graph) tt
+  cause_at n first.Memory cause = own_caused _ _ _ _ _ _ Memory tt
+  cause_at n first.Failed cause = failed_caused _ _ _ _ _ _ Graph name named (cause.failed refl)
+  cause_at n first.Absent cause = absent_caused _ _ _ _ _ _ Graph name named (cause.absent refl)
 
 -- ---- what it tells of a file that is told
 

@@ -1,5 +1,5 @@
 -- How a job is shown to have been done, or to have ended.
-use Rattle.std.proofs.Common.{◌≡◌, ◌⊎◌, inl, inr, ℕ, Bool, true, false, if◌then◌else◌, List, refl, sym, ◌∙◌, ap, subst, Option, Some, None, Result, Ok, Err}
+use Rattle.std.proofs.Common.{◌≡◌, ◌⊎◌, inl, inr, ℕ, Bool, true, false, if◌then◌else◌, List, ◌++◌, take, refl, sym, ◌∙◌, ap, subst, Option, Some, None, Result, Ok, Err}
 use Rattle.std.specs.Bool.{IsTrue}
 use Rattle.std.specs.Result.{IfErr}
 use Rattle.std.proofs.lemmas.List.{append-nil}
@@ -22,7 +22,7 @@ use Rattle.wg_jobs.specs.declared.status.Input.{Input}
 use Rattle.wg_jobs.specs.declared.status.Input.TheVariants as input
 use Rattle.wg_jobs.specs.declared.status.Status.{Status}
 use Rattle.wg_jobs.specs.declared.status.Status.TheVariants.{Done, Usage, Memory, ReadFault, WriteFault, Missing, BadArcs, BadProperties, BadArchive, NoPage, OverLimit}
-use Rattle.wg_jobs.proofs.ExitLemmas.{output_put, unput_cause}
+use Rattle.wg_jobs.proofs.Statuses.{cause_named, unput_cause}
 
 -- ---- what is said of a job is said of an equal one
 pub performs_at : (j k : Job) (td to : Bool) (before after : Outside) (s t : Status) (a b : ℕ) → j ≡ k → s ≡ t → a ≡ b
@@ -123,6 +123,13 @@ stopped job td to before after s a stop silent same answers possible causes reac
 }
 
 -- ---- a job whose last step is its output
+
+-- the output of a job whose last step puts all of what is due
+pub output_put : (due text old new : List ℕ) (r : Result (Unit {0}) Ending) → text ≡ due → Puts text old new r → IfErr r (λ e. IsUnput e.status) → HasOutput due old new (status_in r)
+output_put due text old new (Ok done) is put only = put ∙ ap (λ (l : List ℕ). old ++ l) is
+output_put due text old new (Err e) is put (inl fault) = subst (λ (s : Status). HasOutput due old new s) (sym fault) (put.0, put.2 ∙ ap (λ (l : List ℕ). old ++ take put.0 l) is)
+output_put due text old new (Err e) is put (inr want) = subst (λ (s : Status). HasOutput due old new s) (sym want) (put.0, put.2 ∙ ap (λ (l : List ℕ). old ++ take put.0 l) is)
+
 put_possible : (job : Job) (r : Result (Unit {0}) Ending) → IfErr r (λ e. IsUnput e.status) → IsTrue (can_end job (status_in r))
 put_possible job (Ok done) only = refl
 put_possible job (Err e) (inl fault) = subst (λ (s : Status). IsTrue (can_end job s)) (sym fault) refl
@@ -181,36 +188,6 @@ printed job td to before after text r none is same later puts only cause =
 abbrev pub Names : Type 0
 Names = Input → Option (List ℕ)
 
-pub no_write : (i : Input) (s : Status) (o : Output) → IsOfInput i s → s ≡ WriteFault o → ⊥
-no_write i s o (inl want) is = let no : Memory ≡ WriteFault o = sym want ∙ is in cc
-no_write i s o (inr (inl fault)) is = let no : ReadFault i ≡ WriteFault o = sym fault ∙ is in cc
-no_write i s o (inr (inr (inl gone))) is = let no : Missing i ≡ WriteFault o = sym gone ∙ is in cc
-no_write i s o (inr (inr (inr long))) is = let no : OverLimit i ≡ WriteFault o = sym long ∙ is in cc
-
-pub own_read : (i j : Input) (s : Status) → IsOfInput i s → s ≡ ReadFault j → i ≡ j
-own_read i j s (inl want) is = absurd (let no : Memory ≡ ReadFault j = sym want ∙ is in cc)
-own_read i j s (inr (inl fault)) is = let same : ReadFault i ≡ ReadFault j = sym fault ∙ is in cc
-own_read i j s (inr (inr (inl gone))) is = absurd (let no : Missing i ≡ ReadFault j = sym gone ∙ is in cc)
-own_read i j s (inr (inr (inr long))) is = absurd (let no : OverLimit i ≡ ReadFault j = sym long ∙ is in cc)
-
-own_missing : (i j : Input) (s : Status) → IsOfInput i s → s ≡ Missing j → i ≡ j
-own_missing i j s (inl want) is = absurd (let no : Memory ≡ Missing j = sym want ∙ is in cc)
-own_missing i j s (inr (inl fault)) is = absurd (let no : ReadFault i ≡ Missing j = sym fault ∙ is in cc)
-own_missing i j s (inr (inr (inl gone))) is = let same : Missing i ≡ Missing j = sym gone ∙ is in cc
-own_missing i j s (inr (inr (inr long))) is = absurd (let no : OverLimit i ≡ Missing j = sym long ∙ is in cc)
-
--- the cause of a reading, by another naming of the same input
-pub cause_named : (mine yours : Names) (outputs : Output → Option (List ℕ)) (i : Input) (old new : List ℕ → Counts) (faults faults' : ℕ) (s : Status) → IsOfInput i s → yours i ≡ mine i
-    → HasCause mine no_outputs old new 0 0 s → HasCause yours outputs old new faults faults' s
-cause_named mine yours outputs i old new faults faults' s only same cause = record {
-  read_fault = λ j is. subst (λ (k : Input). mine k ≡ yours k → IncreasedAt (λ c. c.read_faults) (yours k) old new) (own_read i j s only is)
-      (λ e. subst (λ (n : Option (List ℕ)). IncreasedAt (λ c. c.read_faults) n old new) e (cause.read_fault i (is ∙ ap ReadFault (sym (own_read i j s only is))))) (subst (λ (k : Input). mine k ≡ yours k) (own_read i j s only is) (sym same));
-  missing = λ j is. subst (λ (k : Input). mine k ≡ yours k → IncreasedAt (λ c. c.absences) (yours k) old new) (own_missing i j s only is)
-      (λ e. subst (λ (n : Option (List ℕ)). IncreasedAt (λ c. c.absences) n old new) e (cause.missing i (is ∙ ap Missing (sym (own_missing i j s only is))))) (subst (λ (k : Input). mine k ≡ yours k) (own_missing i j s only is) (sym same));
-  write_fault = λ o other is. absurd (no_write i s o only is);
-  out_fault = λ is. absurd (no_write i s Out only is);
-}
-
 unread_stop : (i : Input) (s : Status) → IsOfInput i s → IsStop s
 unread_stop i s (inl want) = subst IsStop (sym want) tt
 unread_stop i s (inr (inl fault)) = subst IsStop (sym fault) tt
@@ -241,7 +218,7 @@ pub unread : (names : Names) (i : Input) (job : Job) (td to : Bool) (before afte
     → Performs job td to before after s a
 unread names i job td to before after s a has named silent only cause same later answers reached =
     stopped job td to before after s a (unread_stop i s only) silent same answers (unread_possible job i s has only)
-    (cause_named names (input_name job) (output_name job) i before.counts after.counts before.faults after.faults s only named cause)
+    (cause_named i s names (input_name job) (output_name job) before.counts after.counts before.faults after.faults only named cause)
     reached later (λ t. unread_promised (held_by (input_name job) before.files) i s a only)
 
 -- ---- a job that nothing outside hinders

@@ -1,12 +1,22 @@
--- The lines of offsets and of arcs, as records come.
-use Rattle.std.proofs.Common.{◌≡◌, ℕ, ◌+◌, List, [], ◌∷◌, ◌++◌, length, refl, sym, ap, subst, ◌∙◌, append_assoc, append-nil, arith}
+-- The text of each record, as records come.
+use Rattle.std.proofs.Common.{◌≡◌, ℕ, ◌+◌, false, Option, List, [], ◌∷◌, ◌++◌, length, refl, sym, ap, subst, ◌∙◌, append_assoc, append-nil, arith}
 use Rattle.wg_io.specs.Printing.{HasPrinted, HasPrintedLess}
-use Rattle.wg_io.proofs.PrintLemmas.{none_printed, printed_more, less_after}
+use Rattle.wg_io.proofs.PrintLemmas.{printed_more, less_after}
 use Rattle.wg_arcs.specs.Text.{lines_from, page_lines}
 use Rattle.wg_grammar.specs.Archive.{lists_of, places_of}
 use Rattle.wg_grammar.specs.Record.{Whole}
 use Rattle.wg_stream.proofs.PrefixLemmas.{length-lists, lists_more, places_more}
-use Rattle.wg_jobs.specs.Judged.{number_line, number_lines}
+use Rattle.wg_jobs.specs.Judged.{Judged, accepted, judged, number_line, number_lines}
+use Rattle.wg_jobs.specs.Loading.{params_then}
+use Rattle.wg_jobs.specs.Names.{file_of, input_name, writes_files}
+use Rattle.wg_jobs.specs.Readings.{Readings}
+use Rattle.wg_jobs.specs.declared.status.Input.{Input}
+use Rattle.wg_jobs.specs.declared.status.Input.TheVariants as input
+use Rattle.wg_params.specs.Parameters.{Parameters}
+use Rattle.wg_jobs.specs.Passes.{accepted_of, graph_then}
+use Rattle.wg_jobs.specs.Printed.{head_of, job_of, listed, piece_of}
+use Rattle.wg_jobs.specs.declared.printing.Listing.{Listing}
+use Rattle.wg_jobs.specs.declared.printing.Listing.TheVariants.{Arcs, Offsets}
 use Rattle.wg_jobs.proofs.PrintedPass.{Grows}
 
 -- ---- offsets
@@ -19,34 +29,6 @@ offsets_more : (w : Whole) (ws : List Whole) → number_lines (places_of (w ∷ 
 offsets_more w ws =
     ap number_lines (places_more w ws) ∙ numbers-append (places_of ws) (w.end ∷ [])
     ∙ ap (λ (l : List ℕ). number_lines (places_of ws) ++ l) (append-nil (number_line w.end))
-
-pub offsets_grow : Grows (λ a. number_lines a.places)
-offsets_grow w ws = (number_line w.end, offsets_more w ws)
-
--- the offset of the first record
-zero_line : number_lines (places_of []) ≡ number_line 0
-zero_line = append-nil (number_line 0)
-
-pub zero_printed : (a b waited waits : List ℕ) → waited ≡ [] → HasPrinted a b waited (number_line 0) waits → HasPrinted a b [] (number_lines (places_of [])) waits
-zero_printed a b waited waits none h =
-    subst (λ (t : List ℕ). HasPrinted a b [] t waits) (sym zero_line) (subst (λ (w : List ℕ). HasPrinted a b w (number_line 0) waits) none h)
-
-pub zero_less : (a b waited : List ℕ) → waited ≡ [] → HasPrintedLess a b waited (number_line 0) → HasPrintedLess a b [] (number_lines (places_of []))
-zero_less a b waited none h =
-    subst (λ (t : List ℕ). HasPrintedLess a b [] t) (sym zero_line) (subst (λ (w : List ℕ). HasPrintedLess a b w (number_line 0)) none h)
-
--- one offset more
-pub offset_printed : (a b c mid waits : List ℕ) (n : ℕ) (w : Whole) (ws : List Whole) → n ≡ w.end → HasPrinted a b [] (number_lines (places_of ws)) mid → HasPrinted b c mid (number_line n) waits
-    → HasPrinted a c [] (number_lines (places_of (w ∷ ws))) waits
-offset_printed a b c mid waits n w ws is h k =
-    subst (λ (t : List ℕ). HasPrinted a c [] t waits) (sym (offsets_more w ws))
-    (printed_more a b c [] mid waits (number_lines (places_of ws)) (number_line w.end) h (subst (λ (m : ℕ). HasPrinted b c mid (number_line m) waits) is k))
-
-pub offset_less : (a b c mid : List ℕ) (n : ℕ) (w : Whole) (ws : List Whole) → n ≡ w.end → HasPrinted a b [] (number_lines (places_of ws)) mid → HasPrintedLess b c mid (number_line n)
-    → HasPrintedLess a c [] (number_lines (places_of (w ∷ ws)))
-offset_less a b c mid n w ws is h k =
-    subst (λ (t : List ℕ). HasPrintedLess a c [] t) (sym (offsets_more w ws))
-    (less_after a b c [] mid (number_lines (places_of ws)) (number_line w.end) h (subst (λ (m : ℕ). HasPrintedLess b c mid (number_line m)) is k))
 
 -- ---- arcs
 
@@ -65,24 +47,61 @@ arcs_more w ws =
     ap (lines_from 0) (lists_more w ws) ∙ last_lines 0 (lists_of ws) w.known.list
     ∙ ap (λ (k : ℕ). lines_from 0 (lists_of ws) ++ page_lines k w.known.list) count
 
-pub arcs_grow : Grows (λ a. lines_from 0 a.graph)
-arcs_grow w ws = (page_lines (length ws) w.known.list, arcs_more w ws)
+-- ---- either
 
--- the page of this number is printed
-pub page_printed : (a b c mid waits : List ℕ) (n : ℕ) (list : List ℕ) (w : Whole) (ws : List Whole) → length ws ≡ n → w.known.list ≡ list → HasPrinted a b [] (lines_from 0 (lists_of ws)) mid
-    → HasPrinted b c mid (page_lines n list) waits → HasPrinted a c [] (lines_from 0 (lists_of (w ∷ ws))) waits
-page_printed a b c mid waits n list w ws count is h k =
-    subst (λ (t : List ℕ). HasPrinted a c [] t waits) (sym (arcs_more w ws))
-    (printed_more a b c [] mid waits (lines_from 0 (lists_of ws)) (page_lines (length ws) w.known.list) h
-    (subst (λ (m : ℕ). HasPrinted b c mid (page_lines m w.known.list) waits) (sym count) (subst (λ (l : List ℕ). HasPrinted b c mid (page_lines n l) waits) (sym is) k)))
+pieces_more : (listing : Listing) (w : Whole) (ws : List Whole) → listed listing (accepted_of (w ∷ ws)) ≡ listed listing (accepted_of ws) ++ piece_of listing (length ws) w.known.list w.end
+pieces_more Arcs w ws = arcs_more w ws
+pieces_more Offsets w ws = offsets_more w ws
 
-pub page_less : (a b c mid : List ℕ) (n : ℕ) (list : List ℕ) (w : Whole) (ws : List Whole) → length ws ≡ n → w.known.list ≡ list → HasPrinted a b [] (lines_from 0 (lists_of ws)) mid
-    → HasPrintedLess b c mid (page_lines n list) → HasPrintedLess a c [] (lines_from 0 (lists_of (w ∷ ws)))
-page_less a b c mid n list w ws count is h k =
-    subst (λ (t : List ℕ). HasPrintedLess a c [] t) (sym (arcs_more w ws))
-    (less_after a b c [] mid (lines_from 0 (lists_of ws)) (page_lines (length ws) w.known.list) h
-    (subst (λ (m : ℕ). HasPrintedLess b c mid (page_lines m w.known.list)) (sym count) (subst (λ (l : List ℕ). HasPrintedLess b c mid (page_lines n l)) (sym is) k)))
+pub listed_grow : (listing : Listing) → Grows (listed listing)
+listed_grow listing w ws = (piece_of listing (length ws) w.known.list w.end, pieces_more listing w ws)
 
--- before the first page nothing is printed
-pub none_printed_yet : (a lines : List ℕ) → lines ≡ [] → HasPrinted a a [] (lines_from 0 (lists_of [])) lines
-none_printed_yet a lines none = subst (λ (w : List ℕ). HasPrinted a a [] [] w) (sym none) (none_printed a)
+-- before the first record
+head_is : (listing : Listing) → listed listing (accepted_of []) ≡ head_of listing
+head_is Arcs = refl
+head_is Offsets = append-nil (number_line 0)
+
+pub head_printed : (listing : Listing) (a b waited waits : List ℕ) → waited ≡ [] → HasPrinted a b waited (head_of listing) waits → HasPrinted a b [] (listed listing (accepted_of [])) waits
+head_printed listing a b waited waits none h =
+    subst (λ (t : List ℕ). HasPrinted a b [] t waits) (sym (head_is listing)) (subst (λ (w : List ℕ). HasPrinted a b w (head_of listing) waits) none h)
+
+pub head_less : (listing : Listing) (a b waited : List ℕ) → waited ≡ [] → HasPrintedLess a b waited (head_of listing) → HasPrintedLess a b [] (listed listing (accepted_of []))
+head_less listing a b waited none h =
+    subst (λ (t : List ℕ). HasPrintedLess a b [] t) (sym (head_is listing)) (subst (λ (w : List ℕ). HasPrintedLess a b w (head_of listing)) none h)
+
+-- one record more, which is that of this page
+module _ (listing : Listing) (a b c mid : List ℕ) (n : ℕ) (list : List ℕ) (end : ℕ) (w : Whole) (ws : List Whole) (count : length ws ≡ n) (list_is : w.known.list ≡ list) (end_is : w.end ≡ end)
+    (h : HasPrinted a b [] (listed listing (accepted_of ws)) mid) where
+  piece_is : piece_of listing n list end ≡ piece_of listing (length ws) w.known.list w.end
+  piece_is = λ i. piece_of listing (sym count i) (sym list_is i) (sym end_is i)
+
+  pub piece_printed : (waits : List ℕ) → HasPrinted b c mid (piece_of listing n list end) waits → HasPrinted a c [] (listed listing (accepted_of (w ∷ ws))) waits
+  piece_printed waits k =
+      subst (λ (t : List ℕ). HasPrinted a c [] t waits) (sym (pieces_more listing w ws))
+      (printed_more a b c [] mid waits (listed listing (accepted_of ws)) (piece_of listing (length ws) w.known.list w.end) h (subst (λ (t : List ℕ). HasPrinted b c mid t waits) piece_is k))
+
+  pub piece_less : HasPrintedLess b c mid (piece_of listing n list end) → HasPrintedLess a c [] (listed listing (accepted_of (w ∷ ws)))
+  piece_less k =
+      subst (λ (t : List ℕ). HasPrintedLess a c [] t) (sym (pieces_more listing w ws))
+      (less_after a b c [] mid (listed listing (accepted_of ws)) (piece_of listing (length ws) w.known.list w.end) h (subst (λ (t : List ℕ). HasPrintedLess b c mid t) piece_is k))
+
+-- ---- the jobs
+
+abbrev pub told : Listing → Parameters → Readings → (Input → Option (List ℕ)) → Judged
+told listing p r h = graph_then r p (h input.Graph) (λ a. accepted (listed listing a))
+
+pub judges : (listing : Listing) (base : List ℕ) (r : Readings) (h : Input → Option (List ℕ)) → judged r (job_of listing base) h ≡ params_then (h input.Properties) (λ p. told listing p r h)
+judges Arcs base r h = refl
+judges Offsets base r h = refl
+
+pub named_properties : (listing : Listing) (base : List ℕ) → input_name (job_of listing base) input.Properties ≡ file_of base input.Properties
+named_properties Arcs base = refl
+named_properties Offsets base = refl
+
+pub named_graph : (listing : Listing) (base : List ℕ) → input_name (job_of listing base) input.Graph ≡ file_of base input.Graph
+named_graph Arcs base = refl
+named_graph Offsets base = refl
+
+pub none_written : (listing : Listing) (base : List ℕ) → writes_files (job_of listing base) ≡ false
+none_written Arcs base = refl
+none_written Offsets base = refl

@@ -1,5 +1,5 @@
 -- A pass over a graph file that prints a text.
-use Rattle.std.proofs.Common.{◌≡◌, ◌⊎◌, inl, inr, ℕ, ◌≤◌, Bool, List, [], ◌∷◌, ◌++◌, length, take, refl, sym, ◌∙◌, ap, subst, append_assoc, Option, Some, Result, Ok, Err, arith}
+use Rattle.std.proofs.Common.{◌≡◌, ◌⊎◌, inl, inr, ℕ, ◌≤◌, Bool, List, [], ◌∷◌, ◌++◌, length, take, refl, sym, ◌∙◌, ap, subst, append_assoc, Some, Result, Ok, Err, arith}
 use Rattle.std.specs.Bool.{IsTrue}
 use Rattle.std.specs.FinMap as map
 use Rattle.std.specs.Result.{IfErr, IsErrAnd}
@@ -10,24 +10,24 @@ use Rattle.wg_io.specs.Puts.{Puts}
 use Rattle.wg_io.specs.declared.output.Output.TheVariants.{Out}
 use Rattle.wg_io.proofs.FilesLemmas.{none_falls-trans}
 use Rattle.wg_io.proofs.PrintLemmas.{puts_in_the_end}
-use Rattle.wg_io.proofs.PutsLemmas.{is_that_err, not_rose}
+use Rattle.wg_io.proofs.PutsLemmas.{is_that_err}
 use Rattle.wg_params.specs.Parameters.{Parameters, IsWithinLimits}
 use Rattle.wg_grammar.specs.Archive.{Accepted}
 use Rattle.wg_grammar.specs.Record.{Whole}
 use Rattle.wg_stream.specs.Reading.{Reading, IsInStep, IsJudged}
 use Rattle.wg_jobs.specs.Answers.{Answers, IsHindrance, IsUnput, status_in}
-use Rattle.wg_jobs.specs.Causes.{HasCause}
 use Rattle.wg_jobs.specs.Judged.{Judged, accepted}
 use Rattle.wg_jobs.specs.Names.{file_of, held_by, no_outputs}
-use Rattle.wg_jobs.specs.Passes.{Advances, IsGraphFile, IsStopAt, PrintsGraph, PutsUpTo, accepted_of, graph_then}
+use Rattle.wg_jobs.specs.Passes.{Advances, IsGraphFile, IsStopAt, accepted_of, graph_then}
 use Rattle.wg_jobs.specs.Performs.{Outside, outside}
+use Rattle.wg_jobs.specs.Printed.{PrintsGraph, PutsUpTo}
 use Rattle.wg_jobs.specs.declared.ending.Ending.{Ending}
-use Rattle.wg_jobs.specs.declared.status.Input.{Input}
 use Rattle.wg_jobs.specs.declared.status.Input.TheVariants.{Graph}
 use Rattle.wg_jobs.specs.declared.status.Status.{Status}
-use Rattle.wg_jobs.specs.declared.status.Status.TheVariants.{Done, Memory, ReadFault, WriteFault, Missing, BadArchive, OverLimit}
+use Rattle.wg_jobs.specs.declared.status.Status.TheVariants.{Done, Memory, WriteFault}
 use Rattle.wg_jobs.proofs.PassLemmas.{graph_goes}
 use Rattle.wg_jobs.proofs.ReadingsLaws.{the_readings}
+use Rattle.wg_jobs.proofs.Statuses.{IsOwn, any_faults, never_done, own_caused, unput_cause, unput_hinders}
 use Rattle.wg_jobs.proofs.UnderWay.{IsUnderWay, all_read, ends_caused, ends_told, first_read}
 
 -- ---- texts that grow with the records
@@ -55,40 +55,6 @@ puts_some due old new (Err e) put = (put.0, put.2)
 
 -- ---- why a pass ended
 
-any_faults : (names : Input → Option (List ℕ)) (old new : List ℕ → Counts) (f f' : ℕ) (s : Status) → HasCause names no_outputs old new 0 0 s → HasCause names no_outputs old new f f' s
-any_faults names old new f f' s h = record { read_fault = h.read_fault; missing = h.missing; write_fault = h.write_fault; out_fault = λ is. not_rose (h.out_fault is) }
-
-put_caused : (names : Input → Option (List ℕ)) (old new : List ℕ → Counts) (f f' : ℕ) (s : Status) → IsUnput s → (s ≡ WriteFault Out → Increased f f') → HasCause names no_outputs old new f f' s
-put_caused names old new f f' s (inl fault) rose = record {
-  read_fault = λ i is. absurd (let no : WriteFault Out ≡ ReadFault i = sym fault ∙ is in cc);
-  missing = λ i is. absurd (let no : WriteFault Out ≡ Missing i = sym fault ∙ is in cc);
-  write_fault = λ o other is. absurd (other (let same : WriteFault o ≡ WriteFault Out = sym is ∙ fault in cc));
-  out_fault = rose;
-}
-put_caused names old new f f' s (inr want) rose = record {
-  read_fault = λ i is. absurd (let no : Memory ≡ ReadFault i = sym want ∙ is in cc);
-  missing = λ i is. absurd (let no : Memory ≡ Missing i = sym want ∙ is in cc);
-  write_fault = λ o other is. absurd (let no : Memory ≡ WriteFault o = sym want ∙ is in cc);
-  out_fault = rose;
-}
-
-done_by : (names : Input → Option (List ℕ)) (old new : List ℕ → Counts) (f f' : ℕ) → HasCause names no_outputs old new f f' Done
-done_by names old new f f' = record {
-  read_fault = λ i is. absurd (let no : Done ≡ ReadFault i = is in cc);
-  missing = λ i is. absurd (let no : Done ≡ Missing i = is in cc);
-  write_fault = λ o other is. absurd (let no : Done ≡ WriteFault o = is in cc);
-  out_fault = λ is. absurd (let no : Done ≡ WriteFault Out = is in cc);
-}
-
-put_cause_in : (names : Input → Option (List ℕ)) (old new : List ℕ → Counts) (f f' : ℕ) (r : Result (Unit {0}) Ending) → IfErr r (λ e. IsUnput e.status) → (status_in r ≡ WriteFault Out → Increased f f')
-    → HasCause names no_outputs old new f f' (status_in r)
-put_cause_in names old new f f' (Ok done) only rose = done_by names old new f f'
-put_cause_in names old new f f' (Err e) only rose = put_caused names old new f f' e.status only rose
-
-unput_hinders : (s : Status) → IsUnput s → IsHindrance s
-unput_hinders s (inl fault) = subst IsHindrance (sym fault) tt
-unput_hinders s (inr want) = subst IsHindrance (sym want) tt
-
 hinders_in : (r : Result (Unit {0}) Ending) → IfErr r (λ e. IsUnput e.status) → IfErr r (λ e. IsHindrance e.status)
 hinders_in (Ok done) only = tt
 hinders_in (Err e) only = unput_hinders e.status only
@@ -96,15 +62,6 @@ hinders_in (Err e) only = unput_hinders e.status only
 only_in : (n : ℕ) (r : Result (Unit {0}) Ending) → IfErr r (λ e. IsUnput e.status) → IfErr r (λ e. IsStopAt Graph n e ⊎ IsUnput e.status)
 only_in n (Ok done) only = tt
 only_in n (Err e) only = inr only
-
--- a stop is not the end of a job that was done
-never_done : (i : Input) (n : ℕ) (e : Ending) → IsStopAt i n e → e.status ≡ Done → ⊥
-never_done i n e (inl (inl want)) is = let no : Memory ≡ Done = sym want ∙ is in cc
-never_done i n e (inl (inr (inl fault))) is = let no : ReadFault i ≡ Done = sym fault ∙ is in cc
-never_done i n e (inl (inr (inr (inl gone)))) is = let no : Missing i ≡ Done = sym gone ∙ is in cc
-never_done i n e (inl (inr (inr (inr long)))) is = let no : OverLimit i ≡ Done = sym long ∙ is in cc
-never_done i n e (inr (inl want)) is = let no : Memory ≡ Done = sym want ∙ is in cc
-never_done i n e (inr (inr fault)) is = let no : BadArchive fault.0 ≡ Done = sym fault.2 ∙ is in cc
 
 answers_hinder : (s : Status) (text : List ℕ) → Answers (accepted text) s → (s ≡ Done → ⊥) → IsHindrance s
 answers_hinder s text (inl is) never = absurd (never is)
@@ -131,7 +88,7 @@ module _ (base : List ℕ) (p : Parameters) (text : Accepted → List ℕ) (td t
     same = refl;
     later = record { read_faults = λ n. omega arith; write_faults = λ n. omega arith; absences = λ n. omega arith; wants = λ n. omega arith };
     only = inr (inr want);
-    causes = put_caused (file_of base) counts counts f0 f0 e.status (inr want) (λ is. absurd (let no : Memory ≡ WriteFault Out = sym want ∙ is in cc));
+    causes = own_caused _ _ _ _ _ _ e.status (subst IsOwn (sym want) tt);
     hindered = λ t x g. unput_hinders e.status (inr want);
     puts = λ t o x g. (0, sym (append-nil t0));
   }
@@ -145,7 +102,7 @@ module _ (base : List ℕ) (p : Parameters) (text : Accepted → List ℕ) (td t
       same = step.same ∙ h.same;
       later = none_falls-trans _ _ _ h.later step.later;
       only = inl step.only;
-      causes = any_faults (file_of base) counts counts2 f0 f1 e.status (ends_caused td base p files counts files1 files2 counts1 counts2 n a b _ h e step);
+      causes = any_faults (file_of base) no_outputs counts counts2 f0 f1 e.status (ends_caused td base p files counts files1 files2 counts1 counts2 n a b _ h e step);
       hindered = λ t x g. read_hindered base p td files counts limits files1 files2 counts1 counts2 n a b _ h e step t x g;
       puts = λ t o x g.
           let k = first_read td base p files counts files1 files1 counts1 counts1 n a a _ h limits few t x g in
@@ -162,7 +119,7 @@ module _ (base : List ℕ) (p : Parameters) (text : Accepted → List ℕ) (td t
       same = h.same;
       later = h.later;
       only = inr only;
-      causes = put_caused (file_of base) counts counts1 f0 f1 e.status only rose;
+      causes = unput_cause (file_of base) no_outputs counts counts1 f0 f1 (Err e) only rose;
       hindered = λ t x g. unput_hinders e.status only;
       puts = λ t o x g.
           let k = first_read td base p files counts files1 files1 counts1 counts1 n a a _ h limits few t x g in
@@ -181,7 +138,7 @@ module _ (base : List ℕ) (p : Parameters) (text : Accepted → List ℕ) (td t
       same = step.same ∙ h.same;
       later = none_falls-trans _ _ _ h.later step.later;
       only = only_in p.arcs r only;
-      causes = put_cause_in (file_of base) counts counts2 f0 f1 r only rose;
+      causes = unput_cause (file_of base) no_outputs counts counts2 f0 f1 r only rose;
       hindered = λ t x g. hinders_in r only;
       puts = λ t o x g.
           let k = all_read td base p files counts files1 files2 counts1 counts2 n a b _ h limits judged t x g in

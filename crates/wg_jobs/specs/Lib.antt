@@ -4,10 +4,12 @@ pub mod Causes
 pub mod Codes
 pub mod Copying
 pub mod Judged
+pub mod Loading
 pub mod Names
 pub mod Pairing
 pub mod Passes
 pub mod Performs
+pub mod Printed
 pub mod Promised
 pub mod Ranked
 pub mod Readings

@@ -1,9 +1,7 @@
 -- The files of an archive, as they are read in pieces.
-use Rattle.std.specs.Prelude.{◌≡◌, ◌⊎◌, ℕ, ◌≤◌, ◌++◌, Bool, true, List, [], take, Option, Some, Result, Ok, Err, IsTrue, OnOk, IfErr}
+use Rattle.std.specs.Prelude.{◌≡◌, ◌⊎◌, ℕ, ◌≤◌, ◌++◌, Bool, true, List, [], Option, Some, Result, Ok, Err, IsTrue, OnOk, IfErr}
 use Rattle.std.specs.FinMap as map
 use Rattle.wg_io.specs.Outside.{Files, Counts, NonDecreasing}
-use Rattle.wg_io.specs.declared.depot.Depot as depot
-use Rattle.wg_io.specs.declared.sink.Sink as sink
 use Rattle.wg_io.specs.declared.suffixes.TheConstants.{GRAPH}
 use Rattle.wg_params.specs.Parameters.{Parameters, IsWithinLimits}
 use Rattle.wg_grammar.specs.declared.fault.ArchiveFault.TheVariants as archive
@@ -15,12 +13,11 @@ use Rattle.wg_stream.specs.declared.state.State.TheVariants.{Open}
 use Rattle.wg_stream.specs.declared.stream_error.StreamError.{StreamError}
 use Rattle.wg_stream.specs.declared.stream_error.StreamError.TheVariants as errors
 use Rattle.wg_stream.specs.Reading.{Reading, IsInStep, IsJudged}
-use Rattle.wg_jobs.specs.Answers.{IsHindrance, IsUnput, Steps, status_in}
+use Rattle.wg_jobs.specs.Answers.{Steps, status_in}
 use Rattle.wg_jobs.specs.Causes.{HasCause}
 use Rattle.wg_jobs.specs.Judged.{Judged, with_file, with_graph}
 use Rattle.wg_jobs.specs.Promised.{IsBadFile}
-use Rattle.wg_jobs.specs.Names.{IsOfInput, file_of, held_by, no_outputs}
-use Rattle.wg_jobs.specs.Performs.{Outside, outside}
+use Rattle.wg_jobs.specs.Names.{IsOfInput, no_outputs}
 use Rattle.wg_jobs.specs.Readings.{Readings}
 use Rattle.wg_jobs.specs.declared.ending.Ending.{Ending}
 use Rattle.wg_jobs.specs.declared.status.Input.{Input}
@@ -98,23 +95,3 @@ pub record Advances {B : Type 0} (told : Bool) (files files' : Files) (counts co
   pub there : IsTrue told → (held : Files) → files ≡ held → IsFound held old → OnOk result ((file : List ℕ) × (map.get held old.name ≡ Some file))
   pub refused : IsTrue told → IsWithinLimits p → (held : Files) → files ≡ held → IsFound held old → FollowsFile held old
       → (r : Readings) → IfErr result (λ e. Steps {B = Accepted} (graph_then r p (map.get held old.name)) (Err e))
-
--- all of the text at Ok, and else a prefix of it
-abbrev pub PutsUpTo : List ℕ → List ℕ → List ℕ → Result (Unit {0}) Ending → Type 0
-PutsUpTo due old new (Ok done) = new ≡ old ++ due
-PutsUpTo due old new (Err e) = (k : ℕ) × (new ≡ old ++ take k due)
-
--- A pass over a graph file that prints a text of its graph. If the file stands for a graph, all of the text is put out, or a prefix of it and
--- then something hindered the pass.
-pub record PrintsGraph (base : List ℕ) (p : Parameters) (text : Accepted → List ℕ) (told_files told_out : Bool) (before after : Outside) (result : Result (Unit {0}) Ending) : Type 0 where
-  pub same : after.files ≡ before.files
-  pub later : NonDecreasing before.counts after.counts
-  pub only : IfErr result (λ e. IsStopAt input.Graph p.arcs e ⊎ IsUnput e.status)
-  pub causes : HasCause (file_of base) no_outputs before.counts after.counts before.faults after.faults (status_in result)
-  pub hindered : IsTrue told_files → (a : Accepted) → IsGraphFile (held_by (file_of base) before.files input.Graph) p a → IfErr result (λ e. IsHindrance e.status)
-  pub puts : IsTrue told_files → IsTrue told_out → (a : Accepted) → IsGraphFile (held_by (file_of base) before.files input.Graph) p a → PutsUpTo (text a) before.taken after.taken result
-
--- the same, of a depot and an output that a function changes
-abbrev pub PrintsAgain : {D O : Type 0} → depot.Ghosts D → sink.Ghosts O → List ℕ → Parameters → (Accepted → List ℕ) → D → D → O → O → Result (Unit {0}) Ending → Type 0
-PrintsAgain d o base p text before after out out' result =
-    PrintsGraph base p text d.told o.told (outside (d.files before) (d.counts before) (o.taken out) (o.faults out)) (outside (d.files after) (d.counts after) (o.taken out') (o.faults out')) result

@@ -10,7 +10,7 @@ use Rattle.wg_words.specs.declared.layout.Layout.{Layout}
 use Rattle.wg_jobs.specs.Answers.{Answers, HasOutput, Reaches, status_in}
 use Rattle.wg_jobs.specs.Causes.{HasCause}
 use Rattle.wg_jobs.specs.Judged.{Judged, greedy_line, judged, output_of, status_of, written_by}
-use Rattle.wg_jobs.specs.Promised.{ArePromised}
+use Rattle.wg_jobs.specs.Promised.{ArePromised, arcs_in}
 use Rattle.wg_jobs.specs.Names.{archive_named, can_end, held_by, input_name, output_name, reads_again, writes_files}
 use Rattle.wg_jobs.specs.Readings.{Readings}
 use Rattle.wg_jobs.specs.Written.{HasFiles, IsStopped, greedy_archive, params_for}
@@ -61,6 +61,10 @@ pub record Performs (job : Job) (told_files told_out : Bool) (before after : Out
 abbrev pub Does : {D O : Type 0} → depot.Ghosts D → sink.Ghosts O → Job → D → D → O → O → Status → ℕ → Type 0
 Does d o job before after out out' status arcs =
     Performs job d.told o.told (outside (d.files before) (d.counts before) (o.taken out) (o.faults out)) (outside (d.files after) (d.counts after) (o.taken out') (o.faults out')) status arcs
+
+-- the same of a command, which was done or has ended
+abbrev pub DoesOrEnds : {D O : Type 0} → depot.Ghosts D → sink.Ghosts O → Job → D → D → O → O → Result (Unit {0}) Ending → Type 0
+DoesOrEnds d o job before after out out' result = Does d o job before after out out' (status_in result) (arcs_in result)
 
 -- The greedy archive of a graph was written in a layout, and its line printed; or what was left where this stopped.
 pub record BuildsArchive (l : Layout) (g : Digraph) (base : List ℕ) (told_files told_out : Bool) (before after : Outside) (result : Result (Unit {0}) Ending) : Type 0 where

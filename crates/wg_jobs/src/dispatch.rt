@@ -5,11 +5,10 @@ ghost use Rattle.wg_jobs.specs.Promised.{arcs_in};
 ghost use Rattle.wg_jobs.specs.Performs.{Does};
 
 use crate::Status;
-use crate::arcs::arcs;
 use crate::build::build;
 use crate::check::check;
 use crate::ending::Ending;
-use crate::offsets::offsets;
+use crate::printing::{Listing, print_records};
 use crate::rank::{Asked, rank};
 use crate::recode::recode;
 use crate::show::show;
@@ -36,8 +35,14 @@ pub fn perform<D: Depot, O: Sink>(alloc: Global, job: &Job, depot: &mut D, out: 
 {
     match job {
         Job::Check { base } => ending_of(check(alloc, base, depot, out)),
-        Job::Arcs { base } => ending_of(arcs(alloc, base, depot, out)),
-        Job::Offsets { base } => ending_of(offsets(alloc, base, depot, out)),
+        Job::Arcs { base } => ending_of(print_records(alloc, base, Listing::Arcs, depot, out)),
+        Job::Offsets { base } => ending_of(print_records(
+            alloc,
+            base,
+            Listing::Offsets,
+            depot,
+            out,
+        )),
         Job::Show { base, pages } => ending_of(show(alloc, base, pages, depot, out)),
         Job::Rank {
             base,

@@ -15,7 +15,6 @@
 #![tactic(auto)]
 
 mod archive;
-mod arcs;
 mod build;
 mod building;
 mod check;
@@ -27,9 +26,9 @@ pub mod laws;
 mod listed;
 mod load;
 mod names;
-mod offsets;
 mod pairing;
 mod print;
+mod printing;
 mod rank;
 mod ranked;
 mod recode;
@@ -44,4 +43,4 @@ mod writing;
 pub use dispatch::perform;
 pub use ending::Ending;
 pub use status::{Input, Status};
-pub use text::{MOST_TEXT, Text};
+pub use text::Text;

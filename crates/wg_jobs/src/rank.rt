@@ -3,18 +3,16 @@ ghost use Rattle.std.specs.Prelude.{◌≡◌, ◌≤◌, IsTrue, IfOk, IfErr};
 ghost use Rattle.wg_io.specs.Puts.{Puts};
 ghost use Rattle.wg_params.specs.declared.limits.TheConstants.{MOST_DAMPING, MOST_ROUNDS};
 ghost use Rattle.wg_words.specs.declared.jobs.Job.TheVariants.{Rank};
-ghost use Rattle.wg_jobs.specs.Answers.{PrintRefusals, status_in};
-ghost use Rattle.wg_jobs.specs.Promised.{arcs_in};
-ghost use Rattle.wg_jobs.specs.Performs.{Does};
+ghost use Rattle.wg_jobs.specs.Answers.{PrintRefusals};
+ghost use Rattle.wg_jobs.specs.Performs.{DoesOrEnds};
 ghost use Rattle.wg_jobs.specs.Ranked.{AreReady, ranking_text};
 ghost use Rattle.wg_jobs.specs.Readings.{Readings};
 
-use crate::archive::{graph_of_records, parameters};
+use crate::Status;
 use crate::ending::Ending;
-use crate::load::load;
+use crate::load::{load_graph, load_params};
 use crate::print::print_ranking;
 use crate::ranked::Room;
-use crate::{Input, Status};
 use std::alloc::Global;
 use wg_graph::Graph;
 use wg_io::{Depot, Sink};
@@ -29,7 +27,8 @@ pub struct Asked {
 }
 
 /// Prints the first pages of the ranking, with their bounds and positions. It judges the whole graph before it prints, and takes all its memory
-/// before the first round: the bytes of the graph, 8 bytes an arc and 8 a page for the graph, and 64 bytes a page for bounds and ranking.
+/// before the first round: 8 bytes an arc and 8 a page for the graph, and until it is read the bytes of its file; and then 64 bytes a page for bounds
+/// and ranking.
 pub fn rank<D: Depot, O: Sink>(
     alloc: Global,
     base: &Name,
@@ -39,12 +38,11 @@ pub fn rank<D: Depot, O: Sink>(
 ) -> Result<(), Ending>
     requires rounds { asked.rounds ≤ MOST_ROUNDS }
     requires damping { asked.damping ≤ MOST_DAMPING }
-    ensures { Does ⟦<D as Depot>⟧ ⟦<O as Sink>⟧ (Rank base.now asked.rounds asked.damping asked.top) depot.old depot.new out.old out.new (status_in result) (arcs_in result) }
+    ensures { DoesOrEnds ⟦<D as Depot>⟧ ⟦<O as Sink>⟧ (Rank base.now asked.rounds asked.damping asked.top)
+        depot.old depot.new out.old out.new result }
 {
-    let text = load(alloc, depot, base, Input::Properties)?;
-    let params = parameters(text.as_slice())?;
-    let bytes = load(alloc, depot, base, Input::Graph)?;
-    let graph = graph_of_records(alloc, &params, bytes.as_slice())?;
+    let params = load_params(alloc, depot, base)?;
+    let graph = load_graph(alloc, &params, depot, base)?;
     let room = room_for(alloc, &graph, asked.damping)?;
     print_ranks(out, &graph, room, asked)
 }

@@ -8,21 +8,18 @@ ghost use Rattle.wg_grammar.specs.Laws.{graph_of};
 ghost use Rattle.wg_words.specs.Files.{IsNoFileOf, ShareNoFile};
 ghost use Rattle.wg_words.specs.Layouts.{params_of};
 ghost use Rattle.wg_words.specs.declared.jobs.Job.TheVariants.{Recode};
-ghost use Rattle.wg_jobs.specs.Answers.{status_in};
 ghost use Rattle.wg_jobs.specs.Copying.{Copies};
 ghost use Rattle.wg_jobs.specs.Names.{archive_named, file_of, held_by};
 ghost use Rattle.wg_jobs.specs.Passes.{IsGraphFile};
-ghost use Rattle.wg_jobs.specs.Promised.{arcs_in};
-ghost use Rattle.wg_jobs.specs.Performs.{Does};
+ghost use Rattle.wg_jobs.specs.Performs.{DoesOrEnds};
+ghost use Rattle.wg_jobs.specs.declared.status.Input.{Input};
 ghost use Rattle.wg_jobs.specs.Written.{greedy_archive, archive_at, AreWhole, OthersStay, FilesLeft};
 
-use crate::Input;
-use crate::archive::parameters;
 use crate::building::params_of;
 use crate::copying::copy_records;
 use crate::ending::Ending;
 use crate::judge::judge_graph;
-use crate::load::load;
+use crate::load::load_params;
 use crate::names::file_name;
 use crate::print::print_ok;
 use crate::writing::{create_files, properties_text, write_properties};
@@ -44,10 +41,10 @@ pub fn recode<D: Depot, O: Sink>(
 ) -> Result<(), Ending>
     requires layout { IsWithinLimits (params_of layout.now 0 0) }
     requires apart { ShareNoFile input.now output.now }
-    ensures { Does ⟦<D as Depot>⟧ ⟦<O as Sink>⟧ (Recode input.now output.now layout.now) depot.old depot.new out.old out.new (status_in result) (arcs_in result) }
+    ensures { DoesOrEnds ⟦<D as Depot>⟧ ⟦<O as Sink>⟧ (Recode input.now output.now layout.now)
+        depot.old depot.new out.old out.new result }
 {
-    let text = load(alloc, depot, input, Input::Properties)?;
-    let params = parameters(text.as_slice())?;
+    let params = load_params(alloc, depot, input)?;
     judge_graph(alloc, &params, depot, input)?;
     let made = params_of(layout, params.nodes(), params.arcs());
     let bits = rewrite(alloc, &params, &made, input, output, depot)?;

@@ -7,13 +7,12 @@ ghost use Rattle.wg_grammar.specs.Archive.{Accepted, ReadsGraph};
 ghost use Rattle.wg_words.specs.declared.jobs.Job.TheVariants.{Show};
 ghost use Rattle.wg_jobs.specs.Answers.{IsUnput, status_in};
 ghost use Rattle.wg_jobs.specs.Judged.{successors_lines};
-ghost use Rattle.wg_jobs.specs.Performs.{Does};
-ghost use Rattle.wg_jobs.specs.Promised.{arcs_in};
+ghost use Rattle.wg_jobs.specs.Performs.{DoesOrEnds};
 ghost use Rattle.wg_jobs.specs.Showing.{PrintsLine};
 
-use crate::archive::{archive_of, find_pages, parameters, records_of_graph, stored_offsets};
+use crate::archive::{archive_of, find_pages, records_of_graph};
 use crate::ending::Ending;
-use crate::load::load;
+use crate::load::{load, load_offsets, load_params};
 use crate::print::print_rest;
 use crate::shown::{print_list, print_page};
 use crate::{Input, Status};
@@ -36,16 +35,12 @@ pub fn show<D: Depot, O: Sink>(
     depot: &mut D,
     out: &mut O,
 ) -> Result<(), Ending>
-    ensures { Does ⟦<D as Depot>⟧ ⟦<O as Sink>⟧ (Show base.now pages.now) depot.old depot.new out.old out.new (status_in result) (arcs_in result) }
+    ensures { DoesOrEnds ⟦<D as Depot>⟧ ⟦<O as Sink>⟧ (Show base.now pages.now) depot.old depot.new out.old out.new result }
 {
-    let text = load(alloc, depot, base, Input::Properties)?;
-    let params = parameters(text.as_slice())?;
+    let params = load_params(alloc, depot, base)?;
     let bytes = load(alloc, depot, base, Input::Graph)?;
     let records = records_of_graph(alloc, &params, bytes.as_slice())?;
-    let stored = {
-        let file = load(alloc, depot, base, Input::Offsets)?;
-        stored_offsets(alloc, &params, file.as_slice())?
-    };
+    let stored = load_offsets(alloc, &params, depot, base)?;
     let archive = archive_of(&params, records, &stored)?;
     find_pages(&params, pages.as_slice())?;
     print_pages::<Brand, O>(alloc, &archive, pages.as_slice(), out, Blank::new(1))

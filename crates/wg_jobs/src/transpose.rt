@@ -4,23 +4,20 @@ ghost use Rattle.wg_params.specs.Parameters.{IsWithinLimits};
 ghost use Rattle.wg_transpose.specs.Transposed.{transposed};
 ghost use Rattle.wg_words.specs.Layouts.{params_of};
 ghost use Rattle.wg_words.specs.declared.jobs.Job.TheVariants.{Transpose};
-ghost use Rattle.wg_jobs.specs.Answers.{status_in};
-ghost use Rattle.wg_jobs.specs.Promised.{arcs_in};
-ghost use Rattle.wg_jobs.specs.Performs.{Does};
+ghost use Rattle.wg_jobs.specs.Performs.{DoesOrEnds};
 
-use crate::archive::{graph_of_records, parameters};
+use crate::Status;
 use crate::building::build_archive;
 use crate::ending::Ending;
-use crate::load::load;
-use crate::{Input, Status};
+use crate::load::{load_graph, load_params};
 use std::alloc::Global;
 use wg_graph::Graph;
 use wg_io::{Depot, Sink};
 use wg_words::{Layout, Name};
 
 /// Writes the greedy archive of an archive's graph with each arc the other way round, in the layout that is given, and prints the line of what it
-/// holds. It judges the whole graph before it touches a file; it holds the bytes of the graph, 16 bytes an arc and 16 a page for the graph and the
-/// transposed one, one record, and buffers of 8192 bytes.
+/// holds. It judges the whole graph before it touches a file; it holds 16 bytes an arc and 16 a page for the graph and the transposed one, and until
+/// the graph is read the bytes of its file; one record, and buffers of 8192 bytes.
 pub fn transpose<D: Depot, O: Sink>(
     alloc: Global,
     input: &Name,
@@ -30,12 +27,11 @@ pub fn transpose<D: Depot, O: Sink>(
     out: &mut O,
 ) -> Result<(), Ending>
     requires { IsWithinLimits (params_of layout.now 0 0) }
-    ensures { Does ⟦<D as Depot>⟧ ⟦<O as Sink>⟧ (Transpose input.now output.now layout.now) depot.old depot.new out.old out.new (status_in result) (arcs_in result) }
+    ensures { DoesOrEnds ⟦<D as Depot>⟧ ⟦<O as Sink>⟧ (Transpose input.now output.now layout.now)
+        depot.old depot.new out.old out.new result }
 {
-    let text = load(alloc, depot, input, Input::Properties)?;
-    let params = parameters(text.as_slice())?;
-    let bytes = load(alloc, depot, input, Input::Graph)?;
-    let graph = graph_of_records(alloc, &params, bytes.as_slice())?;
+    let params = load_params(alloc, depot, input)?;
+    let graph = load_graph(alloc, &params, depot, input)?;
     let reversed = transposed(alloc, &graph)?;
     build_archive(alloc, layout, &reversed, output, depot, out)
 }

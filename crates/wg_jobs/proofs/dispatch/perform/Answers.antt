@@ -5,10 +5,10 @@ pub returns-in-Check : goal.returns-in-Check
 returns-in-Check g c = performs_at _ _ _ _ _ _ _ _ _ _ c.in-Check.is c.ending_of.ensures.status c.ending_of.ensures.arcs c.check.ensures
 
 pub returns-in-Arcs : goal.returns-in-Arcs
-returns-in-Arcs g c = performs_at _ _ _ _ _ _ _ _ _ _ c.in-Arcs.is c.ending_of-in-Arcs.ensures.status c.ending_of-in-Arcs.ensures.arcs c.arcs.ensures
+returns-in-Arcs g c = performs_at _ _ _ _ _ _ _ _ _ _ c.in-Arcs.is c.ending_of-in-Arcs.ensures.status c.ending_of-in-Arcs.ensures.arcs c.print_records.ensures
 
 pub returns-in-Offsets : goal.returns-in-Offsets
-returns-in-Offsets g c = performs_at _ _ _ _ _ _ _ _ _ _ c.in-Offsets.is c.ending_of-in-Offsets.ensures.status c.ending_of-in-Offsets.ensures.arcs c.offsets.ensures
+returns-in-Offsets g c = performs_at _ _ _ _ _ _ _ _ _ _ c.in-Offsets.is c.ending_of-in-Offsets.ensures.status c.ending_of-in-Offsets.ensures.arcs c.print_records-in-Offsets.ensures
 
 pub returns-in-Show : goal.returns-in-Show
 returns-in-Show g c = performs_at _ _ _ _ _ _ _ _ _ _ c.in-Show.is c.ending_of-in-Show.ensures.status c.ending_of-in-Show.ensures.arcs c.show.ensures

@@ -10,7 +10,9 @@ use Rattle.wg_stream.specs.declared.stream_error.StreamError.TheVariants as erro
 use Rattle.wg_stream.specs.FirstError.{of_first}
 use Rattle.wg_stream.specs.Reading.{AgreesIn, IsInStep, IsJudged, StaysInStep}
 use Rattle.wg_jobs.specs.Passes.{ending_at, first_in}
-use Rattle.wg_jobs.proofs.PassLemmas.{absent_after, advances_at, cause_at, done_caused, error_of, error_steps, first_again, found_after, only_at}
+use Rattle.wg_jobs.proofs.Statuses.{own_caused}
+use Rattle.wg_jobs.specs.declared.status.Status.TheVariants.{Done}
+use Rattle.wg_jobs.proofs.PassLemmas.{absent_after, advances_at, cause_at, error_of, error_steps, first_again, found_after, only_at}
 use Rattle.wg_jobs.proofs.records.go_on.Goals as goal
 
 abbrev lent : Bool → Result Bool StreamError
@@ -29,7 +31,7 @@ returns-in-Ok-clause-advances g c =
       same = e.same;
       later = e.later;
       only = tt;
-      causes = λ names named. done_caused names _ _;
+      causes = λ names named. own_caused _ _ _ _ _ _ Done tt;
       there = λ t held is found.
           found_after _ _ (λ none unlooked. cc (e.absent t (ap (λ (f : Files). map.get f c.args.reader.now.name) is ∙ none) c.requires.open unlooked)) found;
       refused = λ t limits held is found follows r. tt;

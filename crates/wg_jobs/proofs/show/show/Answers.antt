@@ -1,97 +1,67 @@
-use Rattle.std.proofs.Common.{◌≡◌, ℕ, List, Ok, rules, refl, subst}
+use Rattle.std.proofs.Common.{ℕ, List, Ok, refl, subst}
 use Rattle.wg_bits.specs.Bits.{bits_of}
 use Rattle.wg_params.specs.Parameters.{Parameters}
 use Rattle.wg_grammar.specs.Archive.{Accepted, ReadsGraph}
 use Rattle.wg_io.specs.Puts.{Puts}
-use Rattle.wg_jobs.specs.Judged.{Judged, successors_lines, with_graph, with_lengths}
-use Rattle.wg_jobs.specs.Names.{file_of}
-use Rattle.wg_jobs.proofs.PerformsLemmas.{printed, stopped, unread}
-use Rattle.wg_jobs.proofs.ReadingsLemmas.{goes_on, same_agree}
+use Rattle.wg_jobs.specs.Judged.{successors_lines}
+use Rattle.wg_jobs.proofs.JobSteps.{performs_exit}
+use Rattle.wg_jobs.proofs.ShowJobs.{no_bytes, no_offsets, no_page, no_params, no_records, other_lengths, shows}
 use Rattle.wg_jobs.proofs.ShownLemmas.{archive_reads}
-use Rattle.wg_jobs.specs.declared.status.Input.TheVariants as input
 use Rattle.wg_jobs.proofs.show.show.Goals as goal
 
-pub returns-in_err-text : goal.returns-in_err-text
-returns-in_err-text g c = unread (file_of c.args.base.now) input.Properties _ _ _ _ _ _ _ refl refl refl (search rules) (search rules) (search rules) (search rules) (search rules) (search rules)
+pub returns-in_err-params : goal.returns-in_err-params
+returns-in_err-params g c = performs_exit _ _ _ _ _ _ _ c.from_residual.ensures.1 (no_params c.args.base.now c.args.pages.now _ _ _ _ _ refl c.in_err-params.ensures)
 
 pub returns-in_err-bytes : goal.returns-in_err-bytes
-returns-in_err-bytes g c = unread (file_of c.args.base.now) input.Graph _ _ _ _ _ _ _ refl refl refl (search rules) (search rules) (search rules) (search rules) (search rules) (search rules)
+returns-in_err-bytes g c =
+    performs_exit _ _ _ _ _ _ _ c.from_residual-in_err-bytes.ensures.1
+    (no_bytes c.args.base.now c.args.pages.now _ _ _ c.in_ok-params.params _ _ c.in_ok-params.ensures _ _ refl c.in_err-bytes.ensures)
 
 pub returns-in_err-records : goal.returns-in_err-records
-returns-in_err-records g c = stopped _ _ _ _ _ _ _ (search rules) refl (search rules) (search rules) (search rules) (search rules) (search rules) (search rules) (search rules)
-
-pub returns-in_err-file : goal.returns-in_err-file
-returns-in_err-file g c =
-    let p : Parameters = c.in_ok-params.params in
-    let bytes : List ℕ = c.as_slice-2.result.now in
-    let graph = c.in_ok-records.ensures.accepted.0 in
-    let places : List ℕ = c.in_ok-records.records.offsets in
-    unread (file_of c.args.base.now) input.Offsets _ _ _ _ _ _ _ refl refl refl (search rules) (search rules) (search rules) (search rules)
-    (λ t r.
-    let goes : (next : Accepted → Judged) → with_graph r p bytes next ≡ next (record { graph = graph; places = places }) = goes_on r p c.in_ok-records.ensures.limits bytes graph places c.in_ok-records.ensures.accepted.1 in
-    search rules)
-    (λ t r.
-    let goes : (next : Accepted → Judged) → with_graph r p bytes next ≡ next (record { graph = graph; places = places }) = goes_on r p c.in_ok-records.ensures.limits bytes graph places c.in_ok-records.ensures.accepted.1 in
-    search rules)
+returns-in_err-records g c =
+    let r = c.in_err-records.ensures in
+    performs_exit _ _ _ _ _ _ _ c.from_residual-in_err-records.ensures.1
+    (no_records c.args.base.now c.args.pages.now _ _ _ c.in_ok-params.params _ _ c.in_ok-params.ensures _ _ c.in_ok-bytes.bytes c.in_ok-bytes.ensures _ c.as_slice.ensures
+    _ _ _ refl r.only r.refused)
 
 pub returns-in_err-stored : goal.returns-in_err-stored
 returns-in_err-stored g c =
-    let p : Parameters = c.in_ok-params.params in
-    let bytes : List ℕ = c.as_slice-2.result.now in
-    let graph = c.in_ok-records.ensures.accepted.0 in
-    let places : List ℕ = c.in_ok-records.records.offsets in
-    stopped _ _ _ _ _ _ _ (search rules) refl (search rules)
-    (λ t r.
-    let goes : (next : Accepted → Judged) → with_graph r p bytes next ≡ next (record { graph = graph; places = places }) = goes_on r p c.in_ok-records.ensures.limits bytes graph places c.in_ok-records.ensures.accepted.1 in
-    search rules)
-    (search rules) (search rules) (search rules) (search rules) (search rules)
+    let r = c.in_ok-records.ensures in
+    performs_exit _ _ _ _ _ _ _ c.from_residual-in_err-stored.ensures.1
+    (no_offsets c.args.base.now c.args.pages.now _ _ _ c.in_ok-params.params _ _ c.in_ok-params.ensures _ _ c.in_ok-bytes.bytes c.in_ok-bytes.ensures _ c.as_slice.ensures
+    r.limits (record { graph = r.accepted.0; places = c.in_ok-records.records.offsets }) r.accepted.1 _ _ refl c.in_err-stored.ensures)
 
 pub returns-in_err-archive : goal.returns-in_err-archive
 returns-in_err-archive g c =
-    let p : Parameters = c.in_ok-params.params in
-    let bytes : List ℕ = c.as_slice-2.result.now in
-    let graph = c.in_ok-records.ensures.accepted.0 in
-    let places : List ℕ = c.in_ok-records.records.offsets in
-    stopped _ _ _ _ _ _ _ (search rules) refl (search rules)
-    (λ t r.
-    let goes : (next : Accepted → Judged) → with_graph r p bytes next ≡ next (record { graph = graph; places = places }) = goes_on r p c.in_ok-records.ensures.limits bytes graph places c.in_ok-records.ensures.accepted.1 in
-    search rules)
-    (search rules) (search rules) (search rules) (search rules) (search rules)
+    let r = c.in_ok-records.ensures in
+    let e = c.in_err-archive.ensures in
+    performs_exit _ _ _ _ _ _ _ c.from_residual-in_err-archive.ensures.1
+    (other_lengths c.args.base.now c.args.pages.now _ _ _ c.in_ok-params.params _ _ c.in_ok-params.ensures _ _ c.in_ok-bytes.bytes c.in_ok-bytes.ensures _ c.as_slice.ensures
+    r.limits (record { graph = r.accepted.0; places = c.in_ok-records.records.offsets }) r.accepted.1 _ _ c.in_ok-stored.stored c.in_ok-stored.ensures _ _ _ refl e.only e.refused)
 
 pub returns-in_err-find_pages : goal.returns-in_err-find_pages
 returns-in_err-find_pages g c =
-    let p : Parameters = c.in_ok-params.params in
-    let bytes : List ℕ = c.as_slice-2.result.now in
-    let graph = c.in_ok-records.ensures.accepted.0 in
-    let places : List ℕ = c.in_ok-records.records.offsets in
-    stopped _ _ _ _ _ _ _ (search rules) refl (search rules)
-    (λ t r.
-    let goes : (next : Accepted → Judged) → with_graph r p bytes next ≡ next (record { graph = graph; places = places }) = goes_on r p c.in_ok-records.ensures.limits bytes graph places c.in_ok-records.ensures.accepted.1 in
-    let alike : (next : Unit {0} → Judged) → with_lengths places c.in_ok-stored.stored next ≡ next tt = same_agree places c.in_ok-stored.stored c.in_ok-archive.ensures.same in
-    search rules)
-    (search rules) (search rules) (search rules) (search rules) (search rules)
+    let r = c.in_ok-records.ensures in
+    let e = c.in_err-find_pages.ensures in
+    performs_exit _ _ _ _ _ _ _ c.from_residual-in_err-find_pages.ensures.1
+    (no_page c.args.base.now c.args.pages.now _ _ _ c.in_ok-params.params _ _ c.in_ok-params.ensures _ _ c.in_ok-bytes.bytes c.in_ok-bytes.ensures _ c.as_slice.ensures
+    r.limits (record { graph = r.accepted.0; places = c.in_ok-records.records.offsets }) r.accepted.1 _ _ c.in_ok-stored.stored c.in_ok-stored.ensures c.in_ok-archive.ensures.same
+    _ c.as_slice-2.ensures _ _ _ refl e.only e.steps)
 
 pub print_pages-requires-clause-stands : goal.print_pages-requires-clause-stands
 print_pages-requires-clause-stands g c =
     let read = c.in_ok-records.ensures in
     let a : Accepted = record { graph = read.accepted.0; places = c.in_ok-records.records.offsets } in
-    (a, archive_reads c.in_ok-archive.archive c.in_ok-records.records c.in_ok-params.params (bits_of c.as_slice-2.result.now) a c.in_ok-archive.ensures.held read.params read.bits read.accepted.1)
+    (a, archive_reads c.in_ok-archive.archive c.in_ok-records.records c.in_ok-params.params (bits_of c.as_slice.result.now) a c.in_ok-archive.ensures.held read.params read.bits read.accepted.1)
 
 pub returns : goal.returns
 returns g c =
     let p : Parameters = c.in_ok-params.params in
-    let bytes : List ℕ = c.as_slice-2.result.now in
-    let graph = c.in_ok-records.ensures.accepted.0 in
-    let places : List ℕ = c.in_ok-records.records.offsets in
-    let pages : List ℕ = c.args.pages.now in
     let read = c.in_ok-records.ensures in
-    let a : Accepted = record { graph = graph; places = places } in
-    let stands : ReadsGraph c.in_ok-archive.archive.params c.in_ok-archive.archive.bits (Ok a) = archive_reads c.in_ok-archive.archive c.in_ok-records.records p (bits_of bytes) a c.in_ok-archive.ensures.held read.params read.bits read.accepted.1 in
-    printed _ _ _ _ _ (successors_lines graph pages) c.print_pages.result refl
-    (λ t r.
-    let goes : (next : Accepted → Judged) → with_graph r p bytes next ≡ next (record { graph = graph; places = places }) = goes_on r p c.in_ok-records.ensures.limits bytes graph places c.in_ok-records.ensures.accepted.1 in
-    let alike : (next : Unit {0} → Judged) → with_lengths places c.in_ok-stored.stored next ≡ next tt = same_agree places c.in_ok-stored.stored c.in_ok-archive.ensures.same in
-    search rules)
-    (search rules) (search rules)
-    (λ o. subst (λ (ps : List ℕ). Puts (successors_lines graph ps) (g.O.Sink.taken c.args.out.now) (g.O.Sink.taken c.print_pages.new.out) c.print_pages.result) c.as_slice-5.ensures (c.print_pages.ensures.puts o a stands))
+    let a : Accepted = record { graph = read.accepted.0; places = c.in_ok-records.records.offsets } in
+    let stands : ReadsGraph c.in_ok-archive.archive.params c.in_ok-archive.archive.bits (Ok a) = archive_reads c.in_ok-archive.archive c.in_ok-records.records p (bits_of c.as_slice.result.now) a c.in_ok-archive.ensures.held read.params read.bits read.accepted.1 in
+    shows c.args.base.now c.args.pages.now _ _ _ p _ _ c.in_ok-params.ensures _ _ c.in_ok-bytes.bytes c.in_ok-bytes.ensures _ c.as_slice.ensures
+    read.limits a read.accepted.1 _ _ c.in_ok-stored.stored c.in_ok-stored.ensures c.in_ok-archive.ensures.same
+    _ c.as_slice-2.ensures c.in_ok-find_pages.ensures.steps _ _ c.print_pages.result
+    (λ o. subst (λ (ps : List ℕ). Puts (successors_lines a.graph ps) (g.O.Sink.taken c.args.out.now) (g.O.Sink.taken c.print_pages.new.out) c.print_pages.result) c.as_slice-3.ensures (c.print_pages.ensures.puts o a stands))
     c.print_pages.ensures.only c.print_pages.ensures.failed

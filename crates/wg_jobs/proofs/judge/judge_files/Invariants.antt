@@ -5,7 +5,7 @@ use Rattle.wg_grammar.specs.Archive.{places_of}
 use Rattle.wg_offsets.specs.Places.{last_place}
 use Rattle.wg_jobs.specs.Pairing.{ComesWith, HasCome}
 use Rattle.wg_jobs.proofs.UnderWay.{IsUnderWay}
-use Rattle.wg_jobs.proofs.check.judge_files.Given as goal
+use Rattle.wg_jobs.proofs.judge.judge_files.Given as goal
 
 -- the words of the offsets file, as far as they were read, are those beside the records so far
 abbrev pub invariant-loop-page : goal.invariant-loop-page

@@ -1,14 +1,14 @@
 use Rattle.std.proofs.Common.{[], IsTrue}
 use Rattle.wg_io.specs.Printing.{HasPrinted}
-use Rattle.wg_arcs.specs.Text.{lines_from}
-use Rattle.wg_grammar.specs.Archive.{lists_of}
+use Rattle.wg_jobs.specs.Passes.{accepted_of}
+use Rattle.wg_jobs.specs.Printed.{listed}
 use Rattle.wg_jobs.proofs.UnderWay.{IsUnderWay}
-use Rattle.wg_jobs.proofs.arcs.print_arcs.Given as goal
+use Rattle.wg_jobs.proofs.printing.print_again.Given as goal
 
--- the lists of the records so far are printed
+-- the text of the records so far is printed
 abbrev pub invariant-loop-page : goal.invariant-loop-page
 invariant-loop-page g l = let d = g.D.Depot in let o = g.O.Sink in record {
   way : IsUnderWay d.told l.fn.base l.fn.params (d.files l.fn.depot) (d.files l.depot) (d.counts l.fn.depot) (d.counts l.depot) l.page l.reader
-      (λ whole. IsTrue o.told → HasPrinted (o.taken l.fn.out) (o.taken l.out) [] (lines_from 0 (lists_of whole)) l.lines);
+      (λ whole. IsTrue o.told → HasPrinted (o.taken l.fn.out) (o.taken l.out) [] (listed l.fn.listing (accepted_of whole)) l.lines);
   later : o.later l.fn.out l.out;
 }

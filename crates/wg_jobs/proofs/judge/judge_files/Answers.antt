@@ -1,19 +1,17 @@
-use Rattle.std.proofs.Common.{◌∙◌, ℕ, List, [], ◌∷◌, ◌++◌, inl, inr, refl, sym, ap, subst, arith}
+use Rattle.std.proofs.Common.{◌∙◌, ℕ, List, [], ◌∷◌, ◌++◌, inr, refl, sym, ap, subst, arith}
 use Rattle.std.specs.FinMap as map
 use Rattle.wg_io.specs.declared.suffixes.TheConstants.{OFFSETS}
 use Rattle.wg_io.proofs.FilesLemmas.{none_falls-trans}
-use Rattle.wg_io.proofs.PutsLemmas.{is_that_err}
 use Rattle.wg_grammar.specs.Archive.{places_of}
 use Rattle.wg_offsets.specs.Places.{last_place}
 use Rattle.wg_offsets.proofs.WordsLemmas.{last_more}
 use Rattle.wg_stream.proofs.PrefixLemmas.{places_more}
-use Rattle.wg_jobs.specs.Judged.{with_lengths}
 use Rattle.wg_jobs.specs.Names.{file_of, held_by}
-use Rattle.wg_jobs.specs.Pairing.{ComesWith, offsets_then}
-use Rattle.wg_jobs.specs.declared.status.Input.TheVariants as input
+use Rattle.wg_jobs.specs.Pairing.{ComesWith}
 use Rattle.wg_jobs.proofs.PairingLemmas.{both_done, both_stop, come_at, come_until, ready_done, ready_here, ready_more, ready_paired}
-use Rattle.wg_jobs.proofs.UnderWay.{all_read, begins, ends_caused, ends_told, goes_further, judged_by, way_later}
-use Rattle.wg_jobs.proofs.check.judge_files.Goals as goal
+use Rattle.wg_jobs.proofs.UnderWay.{all_read, begins, goes_further, judged_by, way_later}
+use Rattle.wg_jobs.proofs.JudgeLemmas.{files_exit, files_stop, files_unread}
+use Rattle.wg_jobs.proofs.judge.judge_files.Goals as goal
 
 pub loop-page-init : goal.loop-page-init
 loop-page-init g c =
@@ -37,28 +35,10 @@ next_record-requires-clause-params g c = c.loop-page.invariant.way.params
 pub next_record-requires-clause-more : goal.next_record-requires-clause-more
 next_record-requires-clause-more g c = omega (arith, c.loop-page.invariant.way.page, c.loop-page-test.true, c.nodes-page-end.ensures.value)
 
-pub returns-in_err-next_record-clause-steps : goal.returns-in_err-next_record-clause-steps
-returns-in_err-next_record-clause-steps g c = λ t r.
-    let p = c.args.params.now in
-    let held = held_by (file_of c.args.base.now) (g.D.Depot.files c.args.depot.now) in
-    rw (is_that_err c.from_residual-in_err-next_record.result _ c.from_residual-in_err-next_record.ensures.1)
-    (λ next. ends_told _ _ _ _ _ _ _ _ _ _ _ _ _ c.loop-page.invariant.way _ c.in_err-next_record.ensures.advances t c.nodes-page-end.ensures.limits r
-    (λ a. offsets_then r p (held input.Offsets) (λ stored. with_lengths a.places stored (λ same. next (last_place a.places)))))
-
-pub returns-in_err-next_record-clause-only : goal.returns-in_err-next_record-clause-only
-returns-in_err-next_record-clause-only g c =
-    rw (is_that_err c.from_residual-in_err-next_record.result _ c.from_residual-in_err-next_record.ensures.1) (inl c.in_err-next_record.ensures.advances.only)
-
-pub returns-in_err-next_record-clause-causes : goal.returns-in_err-next_record-clause-causes
-returns-in_err-next_record-clause-causes g c =
-    rw (is_that_err c.from_residual-in_err-next_record.result _ c.from_residual-in_err-next_record.ensures.1)
-    (ends_caused _ _ _ _ _ _ _ _ _ _ _ _ _ c.loop-page.invariant.way _ c.in_err-next_record.ensures.advances)
-
-pub returns-in_err-next_record-clause-same : goal.returns-in_err-next_record-clause-same
-returns-in_err-next_record-clause-same g c = c.in_err-next_record.ensures.advances.same ∙ c.loop-page.invariant.way.same
-
-pub returns-in_err-next_record-clause-later : goal.returns-in_err-next_record-clause-later
-returns-in_err-next_record-clause-later g c = none_falls-trans _ _ _ c.loop-page.invariant.way.later c.in_err-next_record.ensures.advances.later
+pub returns-in_err-next_record : goal.returns-in_err-next_record
+returns-in_err-next_record g c =
+    files_exit _ _ _ _ _ _ _ _ _ c.from_residual-in_err-next_record.ensures.1
+    (files_stop _ _ _ _ _ _ _ _ _ _ _ _ _ c.loop-page.invariant.way c.nodes-page-end.ensures.limits _ c.in_err-next_record.ensures.advances)
 
 pub pair_next-so_far-requires-clause-limits : goal.pair_next-so_far-requires-clause-limits
 pair_next-so_far-requires-clause-limits g c = c.nodes-page-end.ensures.limits
@@ -110,28 +90,16 @@ end_records-requires-clause-params g c = c.loop-page.invariant.way.params
 pub end_records-requires-clause-done : goal.end_records-requires-clause-done
 end_records-requires-clause-done g c = omega (arith, c.loop-page.invariant.way.page, c.loop-page-test.false, c.nodes-page-end.ensures.value, c.loop-page.auto._page-end)
 
-pub returns-in_err-end_records-clause-steps : goal.returns-in_err-end_records-clause-steps
-returns-in_err-end_records-clause-steps g c = λ t r.
-    let p = c.args.params.now in
-    let held = held_by (file_of c.args.base.now) (g.D.Depot.files c.args.depot.now) in
-    rw (is_that_err c.from_residual-in_err-end_records.result _ c.from_residual-in_err-end_records.ensures.1)
-    (λ next. ends_told _ _ _ _ _ _ _ _ _ _ _ _ _ c.loop-page.invariant.way _ c.in_err-end_records.ensures.advances t c.nodes-page-end.ensures.limits r
-    (λ a. offsets_then r p (held input.Offsets) (λ stored. with_lengths a.places stored (λ same. next (last_place a.places)))))
+pub returns-in_err-end_records : goal.returns-in_err-end_records
+returns-in_err-end_records g c =
+    files_exit _ _ _ _ _ _ _ _ _ c.from_residual-in_err-end_records.ensures.1
+    (files_stop _ _ _ _ _ _ _ _ _ _ _ _ _ c.loop-page.invariant.way c.nodes-page-end.ensures.limits _ c.in_err-end_records.ensures.advances)
 
-pub returns-in_err-end_records-clause-only : goal.returns-in_err-end_records-clause-only
-returns-in_err-end_records-clause-only g c =
-    rw (is_that_err c.from_residual-in_err-end_records.result _ c.from_residual-in_err-end_records.ensures.1) (inl c.in_err-end_records.ensures.advances.only)
+pub returns-in_err-reader : goal.returns-in_err-reader
+returns-in_err-reader g c = files_exit _ _ _ _ _ _ _ _ _ c.from_residual.ensures.1 (files_unread _ _ _ _ _ _ c.in_err-reader.ensures.only)
 
-pub returns-in_err-end_records-clause-causes : goal.returns-in_err-end_records-clause-causes
-returns-in_err-end_records-clause-causes g c =
-    rw (is_that_err c.from_residual-in_err-end_records.result _ c.from_residual-in_err-end_records.ensures.1)
-    (ends_caused _ _ _ _ _ _ _ _ _ _ _ _ _ c.loop-page.invariant.way _ c.in_err-end_records.ensures.advances)
-
-pub returns-in_err-end_records-clause-same : goal.returns-in_err-end_records-clause-same
-returns-in_err-end_records-clause-same g c = c.in_err-end_records.ensures.advances.same ∙ c.loop-page.invariant.way.same
-
-pub returns-in_err-end_records-clause-later : goal.returns-in_err-end_records-clause-later
-returns-in_err-end_records-clause-later g c = none_falls-trans _ _ _ c.loop-page.invariant.way.later c.in_err-end_records.ensures.advances.later
+pub returns-in_err-pairing : goal.returns-in_err-pairing
+returns-in_err-pairing g c = files_exit _ _ _ _ _ _ _ _ _ c.from_residual-in_err-pairing.ensures.1 (files_unread _ _ _ _ _ _ c.in_err-pairing.ensures.only)
 
 pub end_pairing-requires-clause-paired : goal.end_pairing-requires-clause-paired
 end_pairing-requires-clause-paired g c = ready_paired _ _ _ _ _ _ _ _ _ _ c.loop-page.invariant.come
@@ -155,7 +123,7 @@ returns-in_err-end_pairing g c =
     let stands = judged_by _ _ _ _ _ _ _ _ _ _ _ _ _ h.way r.advances r.judged in
     let e = s.ends files (r.advances.same ∙ h.way.same) _ (none_falls-trans _ _ _ h.way.later r.advances.later) name h.name _ _ (come_until _ _ _ _ _ _ _ _ _ _ _ r.advances.later h.come)
     (λ t file is. let x = stands t in let k = all_read _ _ _ _ _ _ files _ counts _ _ c.loop-page.reader _ h.way limits r.judged t x.0 x.1 in (places_of k.0, k.1.1 t file is)) in
-    rw (is_that_err c.from_residual-in_err-end_pairing.result _ c.from_residual-in_err-end_pairing.ensures.1)
+    files_exit _ _ _ _ _ _ _ _ _ c.from_residual-in_err-end_pairing.ensures.1
     (record {
       limits = tt;
       steps = λ t q.

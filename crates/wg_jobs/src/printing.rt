@@ -1,0 +1,94 @@
+//! The commands `arcs` and `offsets`: a text of each record of a graph, one after the other.
+ghost use Rattle.std.specs.Prelude.{IsTrue};
+ghost use Rattle.wg_io.specs.Printing.{Prints};
+ghost use Rattle.wg_jobs.specs.Answers.{PrintRefusals};
+ghost use Rattle.wg_jobs.specs.Performs.{DoesOrEnds};
+ghost use Rattle.wg_jobs.specs.Printed.{PrintsAgain, head_of, job_of, listed, piece_of};
+
+use crate::ending::Ending;
+use crate::judge::judge_graph;
+use crate::load::load_params;
+use crate::print::{print_number, print_page, print_rest};
+use crate::records::{end_records, next_record, open_graph};
+use std::alloc::Global;
+use wg_io::{Depot, Lines, Sink};
+use wg_params::Params;
+use wg_stream::Reader;
+use wg_words::Name;
+
+/// What is printed of each record: the lines of its arcs, or the line of the offset after it.
+#[derive(Clone, Copy)]
+pub enum Listing {
+    Arcs,
+    Offsets,
+}
+
+/// Prints a text of each record of a graph. It goes through the graph file twice: it judges the whole graph before it prints. It holds a piece of
+/// the file, and the lists that a reference may reach, with a few that wait to be used again.
+pub fn print_records<D: Depot, O: Sink>(
+    alloc: Global,
+    base: &Name,
+    listing: Listing,
+    depot: &mut D,
+    out: &mut O,
+) -> Result<(), Ending>
+    ensures { DoesOrEnds ⟦<D as Depot>⟧ ⟦<O as Sink>⟧ (job_of listing base.now) depot.old depot.new out.old out.new result }
+{
+    let params = load_params(alloc, depot, base)?;
+    judge_graph(alloc, &params, depot, base)?;
+    print_again(alloc, &params, listing, depot, base, out)
+}
+
+// Reads the file again, and prints the text of each record as it comes.
+fn print_again<D: Depot, O: Sink>(
+    alloc: Global,
+    params: &Params,
+    listing: Listing,
+    depot: &mut D,
+    base: &Name,
+    out: &mut O,
+) -> Result<(), Ending>
+    ensures { PrintsAgain ⟦<D as Depot>⟧ ⟦<O as Sink>⟧ base.now params.now (listed listing)
+        depot.old depot.new out.old out.new result }
+{
+    let mut reader = open_graph(alloc, params, base)?;
+    let mut lines = Lines::new();
+    print_head(&mut lines, out, listing)?;
+    for page in 0..params.nodes() {
+        next_record(&mut reader, depot, params)?;
+        print_piece(&mut lines, out, listing, page, &reader)?;
+    }
+    end_records(&mut reader, depot, params)?;
+    print_rest(&mut lines, out)
+}
+
+// What comes before the first record: of the offsets it is 0, where this record begins.
+fn print_head<O: Sink>(lines: &mut Lines, out: &mut O, listing: Listing) -> Result<(), Ending>
+    ensures prints { IsTrue O.told → Prints (head_of listing) (O.taken out.old) (O.taken out.new) lines.old lines.new result }
+    ensures later { O.later out.old out.new }
+    ensures refusals { PrintRefusals ⟦<O as Sink>⟧ out.old out.new result }
+{
+    match listing {
+        Listing::Arcs => Ok(()),
+        Listing::Offsets => print_number(lines, out, 0),
+    }
+}
+
+// The text of the record of this page, which was just read.
+fn print_piece<O: Sink>(
+    lines: &mut Lines,
+    out: &mut O,
+    listing: Listing,
+    page: u64,
+    reader: &Reader,
+) -> Result<(), Ending>
+    ensures prints { IsTrue O.told → Prints (piece_of listing page reader.now.pages.list reader.now.at)
+        (O.taken out.old) (O.taken out.new) lines.old lines.new result }
+    ensures later { O.later out.old out.new }
+    ensures refusals { PrintRefusals ⟦<O as Sink>⟧ out.old out.new result }
+{
+    match listing {
+        Listing::Arcs => print_page(lines, out, page, reader.list()),
+        Listing::Offsets => print_number(lines, out, reader.at()),
+    }
+}
