@@ -3,12 +3,13 @@ use Rattle.std.proofs.Common.{◌≡◌, ◌≤◌, ℕ, List, ◌++◌, Option,
 use Rattle.wg_params.specs.declared.limits.TheConstants.{MOST_DAMPING, MOST_ROUNDS}
 use Rattle.wg_graph.specs.Digraph.{Digraph}
 use Rattle.wg_words.specs.declared.jobs.Job.TheVariants.{Rank}
-use Rattle.wg_jobs.specs.Answers.{Answers}
-use Rattle.wg_jobs.specs.Judged.{Judged, accepted, judged, output_of, status_of}
+use Rattle.wg_readings.specs.Answers.{Answers}
+use Rattle.wg_jobs.specs.Judged.{judged}
+use Rattle.wg_readings.specs.Judged.{Judged, accepted, output_of, status_of}
 use Rattle.wg_jobs.specs.Ranked.{PrintsProvenRanking, ranking_text}
-use Rattle.wg_jobs.specs.Readings.{Readings}
-use Rattle.wg_jobs.specs.declared.status.Input.{Input}
-use Rattle.wg_jobs.specs.declared.status.Status.TheVariants.{Done}
+use Rattle.wg_readings.specs.Readings.{Readings}
+use Rattle.wg_readings.specs.declared.status.Input.{Input}
+use Rattle.wg_readings.specs.declared.status.Status.TheVariants.{Done}
 use Rattle.wg_jobs.proofs.HeldLemmas.{graph_behind}
 use Rattle.wg_jobs.proofs.RankLemmas.{proven}
 

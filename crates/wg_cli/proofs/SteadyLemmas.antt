@@ -3,11 +3,11 @@ use Rattle.std.proofs.Common.{◌≡◌, ◌≢◌, ◌⊎◌, inl, inr, ℕ, Li
 use Rattle.wg_io.specs.Outside.{Counts, Increased}
 use Rattle.wg_io.specs.declared.output.Output.{Output}
 use Rattle.wg_words.specs.declared.jobs.Job.{Job}
-use Rattle.wg_jobs.specs.Causes.{AreFaultless, HasCause}
+use Rattle.wg_readings.specs.Causes.{AreFaultless, HasCause}
 use Rattle.wg_jobs.specs.Names.{input_name, output_name}
-use Rattle.wg_jobs.specs.declared.status.Input.{Input}
-use Rattle.wg_jobs.specs.declared.status.Status.{Status}
-use Rattle.wg_jobs.specs.declared.status.Status.TheVariants.{Usage, Memory, ReadFault, WriteFault}
+use Rattle.wg_readings.specs.declared.status.Input.{Input}
+use Rattle.wg_readings.specs.declared.status.Status.{Status}
+use Rattle.wg_readings.specs.declared.status.Status.TheVariants.{Usage, Memory, ReadFault, WriteFault}
 use Rattle.wg_jobs.proofs.PerformsLemmas.{not_at, no_fault_in}
 
 -- a count that stays 0

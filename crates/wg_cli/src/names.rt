@@ -1,6 +1,7 @@
 ghost use Rattle.std.specs.Prelude.{◌≡◌, ◌++◌, option_map};
 ghost use Rattle.wg_io.specs.declared.suffixes.TheConstants.{PROPERTIES, GRAPH, OFFSETS};
-ghost use Rattle.wg_jobs.specs.Names.{archive_files, archive_named, input_name, list_named, name_of_input, output_name, record_files};
+ghost use Rattle.wg_jobs.specs.Names.{input_name, output_name};
+ghost use Rattle.wg_readings.specs.Names.{archive_files, archive_named, list_named, name_of_input, record_files};
 
 use crate::Input;
 use wg_io::{GRAPH, OFFSETS, Output, PROPERTIES};

@@ -5,17 +5,19 @@ ghost use Rattle.wg_params.specs.declared.limits.TheConstants.{MOST_PAGES};
 ghost use Rattle.wg_graph.specs.Digraph.{Digraph, IsGraph};
 ghost use Rattle.wg_words.specs.Jobs.{job_of, IsWithin};
 ghost use Rattle.wg_words.specs.declared.jobs.Job.{Job};
-ghost use Rattle.wg_jobs.specs.Answers.{Answers, HasOutput, Reaches};
-ghost use Rattle.wg_jobs.specs.Causes.{AreFaultless, HasCause};
-ghost use Rattle.wg_jobs.specs.Judged.{output_of, status_of, written_by};
+ghost use Rattle.wg_jobs.specs.Reached.{Reaches};
+ghost use Rattle.wg_readings.specs.Answers.{Answers, HasOutput};
+ghost use Rattle.wg_readings.specs.Causes.{AreFaultless, HasCause};
+ghost use Rattle.wg_jobs.specs.Judged.{written_by};
+ghost use Rattle.wg_readings.specs.Judged.{output_of, status_of};
 ghost use Rattle.wg_cli.specs.Lines.{line_of, Reports};
 ghost use Rattle.wg_cli.specs.Wanted.{some_writes_files, ArePromisedBy};
 ghost use Rattle.wg_jobs.specs.Names.{can_end, held_for, input_name, output_name, reads_again};
 ghost use Rattle.wg_jobs.specs.Performs.{judged_on, Does};
 ghost use Rattle.wg_jobs.specs.Ranked.{IsProvenRanking, PrintsProvenRanking};
-ghost use Rattle.wg_jobs.specs.Readings.{Readings};
+ghost use Rattle.wg_readings.specs.Readings.{Readings};
 ghost use Rattle.wg_jobs.specs.Written.{HasFiles};
-ghost use Rattle.wg_jobs.specs.declared.status.Input.{Input};
+ghost use Rattle.wg_readings.specs.declared.status.Input.{Input};
 
 use crate::Status;
 use crate::report::report;
@@ -37,8 +39,8 @@ pub fn run<D: Depot, O: Sink, E: Sink>(
     ensures no_job { job_of words.now ≡ None → (result ≡ Status.Usage) ⊎ (result ≡ Status.Memory) }
     ensures no_output { job_of words.now ≡ None → O.taken out.new ≡ O.taken out.old }
 
-    // The status is the one that the job and its inputs lead to, or a fault of the outside or out of memory came in its place;
-    // if nothing outside was at fault, memory alone can.
+    // The status is the one that the job and its inputs lead to, or a fault of the outside or out of memory came in
+    // its place; if nothing outside was at fault, memory alone can.
     ensures answers { IsTrue D.told → (r : Readings) (job : Job) → job_of words.now ≡ Some job
         → Answers (judged_on r job (D.files depot.old)) result }
     ensures possible { (job : Job) → job_of words.now ≡ Some job → IsTrue (can_end job result) }
@@ -48,16 +50,20 @@ pub fn run<D: Depot, O: Sink, E: Sink>(
 
     // A fault or an absence is told only if the outside counted it, and only if the job had come so far.
     ensures causes { (job : Job) → job_of words.now ≡ Some job
-        → HasCause (input_name job) (output_name job) (D.counts depot.old) (D.counts depot.new) (O.faults out.old) (O.faults out.new) result }
+        → HasCause (input_name job) (output_name job) (D.counts depot.old) (D.counts depot.new)
+        (O.faults out.old) (O.faults out.new) result }
     ensures reached { IsTrue D.told → (r : Readings) (job : Job) → job_of words.now ≡ Some job
         → (i : Input) → result ≡ Status.ReadFault i → Reaches r job (held_for job (D.files depot.old)) i }
     ensures needed { IsTrue D.told → (r : Readings) (job : Job) → job_of words.now ≡ Some job
-        → (o : Output) → result ≡ Status.WriteFault o → status_of (judged_on r job (D.files depot.old)) ≡ Status.Done }
+        → (o : Output) → result ≡ Status.WriteFault o
+        → status_of (judged_on r job (D.files depot.old)) ≡ Status.Done }
 
-    // What is printed of a ranking: intervals that enclose each exact iterate from the last round on, within the stated width.
+    // What is printed of a ranking: intervals that enclose each exact iterate from the last round on, within the
+    // stated width.
     ensures certified { IsTrue D.told → IsTrue O.told → (r : Readings) (base : List ℕ) (rounds damping top : ℕ)
         → job_of words.now ≡ Some (Job.Rank base rounds damping top) → result ≡ Status.Done
-        → PrintsProvenRanking r (held_for (Job.Rank base rounds damping top) (D.files depot.old)) rounds damping top (O.taken out.old) (O.taken out.new) }
+        → PrintsProvenRanking r (held_for (Job.Rank base rounds damping top)
+        (D.files depot.old)) rounds damping top (O.taken out.old) (O.taken out.new) }
     ensures enclosing { (r : Readings) (base : List ℕ) (rounds damping top : ℕ)
         → job_of words.now ≡ Some (Job.Rank base rounds damping top) → result ≡ Status.Done
         → (g : Digraph) → IsGraph g → g.nodes ≤ MOST_PAGES → IsProvenRanking r rounds damping g }
@@ -66,7 +72,8 @@ pub fn run<D: Depot, O: Sink, E: Sink>(
     ensures output { IsTrue D.told → IsTrue O.told → (r : Readings) (job : Job) → job_of words.now ≡ Some job
         → HasOutput (output_of (judged_on r job (D.files depot.old))) (O.taken out.old) (O.taken out.new) result }
     ensures files { IsTrue D.told → (r : Readings) (job : Job) → job_of words.now ≡ Some job
-        → HasFiles (output_name job) (reads_again job) (written_by r job (held_for job (D.files depot.old))) (D.files depot.old) (D.files depot.new) result }
+        → HasFiles (output_name job) (reads_again job) (written_by r job (held_for job (D.files depot.old)))
+        (D.files depot.old) (D.files depot.new) result }
     ensures same { some_writes_files (job_of words.now) ≡ false → D.files depot.new ≡ D.files depot.old }
     ensures line { IsTrue E.told
         → (promised : ℕ) × (IsTrue D.told → ArePromisedBy (job_of words.now) (D.files depot.old) result promised)

@@ -29,8 +29,10 @@ fn naming<S: Sink>(
     suffix: &str,
     after: &[u8],
 ) -> Result<(), WriteError>
-    ensures puts { IsTrue S.told → Puts (naming before.now (Some (stem.now ++ suffix.now)) after.now) (S.taken sink.old) (S.taken sink.new) result }
-    ensures cause { IsErr result → Increased (S.faults sink.old) (S.faults sink.new) ⊎ Increased (S.wants sink.old) (S.wants sink.new) }
+    ensures puts { IsTrue S.told → Puts (naming before.now (Some (stem.now ++ suffix.now)) after.now)
+        (S.taken sink.old) (S.taken sink.new) result }
+    ensures cause { IsErr result → Increased (S.faults sink.old) (S.faults sink.new)
+        ⊎ Increased (S.wants sink.old) (S.wants sink.new) }
 {
     write_five(
         sink,
@@ -51,8 +53,10 @@ fn write_five<'x, S: Sink>(
     d: &'x [u8],
     e: &'x [u8],
 ) -> Result<(), WriteError>
-    ensures puts { IsTrue S.told → Puts (a.now ++ (b.now ++ c.now) ++ d.now ++ e.now) (S.taken sink.old) (S.taken sink.new) result }
-    ensures cause { IsErr result → Increased (S.faults sink.old) (S.faults sink.new) ⊎ Increased (S.wants sink.old) (S.wants sink.new) }
+    ensures puts { IsTrue S.told → Puts (a.now ++ (b.now ++ c.now) ++ d.now ++ e.now) (S.taken sink.old)
+        (S.taken sink.new) result }
+    ensures cause { IsErr result → Increased (S.faults sink.old) (S.faults sink.new)
+        ⊎ Increased (S.wants sink.old) (S.wants sink.new) }
 {
     write_pieces(sink, &[a, b, c, d, e])
 }
@@ -65,8 +69,10 @@ fn about<S: Sink>(
     input: Input,
     after: &[u8],
 ) -> Result<(), WriteError>
-    ensures puts { IsTrue S.told → Puts (naming before.now (name_in job.now input) after.now) (S.taken sink.old) (S.taken sink.new) result }
-    ensures cause { IsErr result → Increased (S.faults sink.old) (S.faults sink.new) ⊎ Increased (S.wants sink.old) (S.wants sink.new) }
+    ensures puts { IsTrue S.told → Puts (naming before.now (name_in job.now input) after.now) (S.taken sink.old)
+        (S.taken sink.new) result }
+    ensures cause { IsErr result → Increased (S.faults sink.old) (S.faults sink.new)
+        ⊎ Increased (S.wants sink.old) (S.wants sink.new) }
 {
     match parts_of_input(job, input) {
         None => Ok(()),
@@ -76,8 +82,10 @@ fn about<S: Sink>(
 
 // A line about an output of the job.
 fn about_output<S: Sink>(sink: &mut S, job: &Option<Job>, output: Output) -> Result<(), WriteError>
-    ensures puts { IsTrue S.told → Puts (naming (codes "wg: write failed: ") (output_in job.now output) []) (S.taken sink.old) (S.taken sink.new) result }
-    ensures cause { IsErr result → Increased (S.faults sink.old) (S.faults sink.new) ⊎ Increased (S.wants sink.old) (S.wants sink.new) }
+    ensures puts { IsTrue S.told → Puts (naming (codes "wg: write failed: ") (output_in job.now output) [])
+        (S.taken sink.old) (S.taken sink.new) result }
+    ensures cause { IsErr result → Increased (S.faults sink.old) (S.faults sink.new)
+        ⊎ Increased (S.wants sink.old) (S.wants sink.new) }
 {
     match parts_of_output(job, output) {
         None => Ok(()),
@@ -112,8 +120,10 @@ fn write_line<S: Sink>(
     promised: u64,
     status: Status,
 ) -> Result<(), WriteError>
-    ensures puts { IsTrue S.told → Puts (line_of job.now promised status) (S.taken sink.old) (S.taken sink.new) result }
-    ensures cause { IsErr result → Increased (S.faults sink.old) (S.faults sink.new) ⊎ Increased (S.wants sink.old) (S.wants sink.new) }
+    ensures puts { IsTrue S.told → Puts (line_of job.now promised status) (S.taken sink.old)
+        (S.taken sink.new) result }
+    ensures cause { IsErr result → Increased (S.faults sink.old) (S.faults sink.new)
+        ⊎ Increased (S.wants sink.old) (S.wants sink.new) }
 {
     match status {
         Status::Done => Ok(()),
@@ -144,8 +154,10 @@ fn fault_in<S: Sink>(
     input: Input,
     text: &Text,
 ) -> Result<(), WriteError>
-    ensures puts { IsTrue S.told → Puts (naming (codes "wg: ") (name_in job.now input) (codes ": " ++ text.now)) (S.taken sink.old) (S.taken sink.new) result }
-    ensures cause { IsErr result → Increased (S.faults sink.old) (S.faults sink.new) ⊎ Increased (S.wants sink.old) (S.wants sink.new) }
+    ensures puts { IsTrue S.told → Puts (naming (codes "wg: ") (name_in job.now input) (codes ": " ++ text.now))
+        (S.taken sink.old) (S.taken sink.new) result }
+    ensures cause { IsErr result → Increased (S.faults sink.old) (S.faults sink.new)
+        ⊎ Increased (S.wants sink.old) (S.wants sink.new) }
 {
     match parts_of_input(job, input) {
         None => Ok(()),
@@ -169,15 +181,18 @@ fn write_six<'x, S: Sink>(
     d: &'x [u8],
     e: &'x [u8],
 ) -> Result<(), WriteError>
-    ensures puts { IsTrue S.told → Puts (a.now ++ (b.now ++ c.now) ++ (d.now ++ e.now) ++ codes "\n") (S.taken sink.old) (S.taken sink.new) result }
-    ensures cause { IsErr result → Increased (S.faults sink.old) (S.faults sink.new) ⊎ Increased (S.wants sink.old) (S.wants sink.new) }
+    ensures puts { IsTrue S.told → Puts (a.now ++ (b.now ++ c.now) ++ (d.now ++ e.now) ++ codes "\n")
+        (S.taken sink.old) (S.taken sink.new) result }
+    ensures cause { IsErr result → Increased (S.faults sink.old) (S.faults sink.new)
+        ⊎ Increased (S.wants sink.old) (S.wants sink.new) }
 {
     write_pieces(sink, &[a, b, c, d, e, b"\n"])
 }
 
 /// Writes the line of a status, as far as the sink takes it.
 pub fn report<S: Sink>(sink: &mut S, job: &Option<Job>, promised: u64, status: Status)
-    ensures { IsTrue S.told → Reports (line_of job.now promised status) (S.taken sink.old) (S.taken sink.new) (Increased (S.faults sink.old) (S.faults sink.new) ⊎ Increased (S.wants sink.old) (S.wants sink.new)) }
+    ensures { IsTrue S.told → Reports (line_of job.now promised status) (S.taken sink.old) (S.taken sink.new)
+        (Increased (S.faults sink.old) (S.faults sink.new) ⊎ Increased (S.wants sink.old) (S.wants sink.new)) }
 {
     let _ = write_line(sink, job, promised, status);
 }

@@ -2,18 +2,18 @@ ghost use Rattle.std.specs.Prelude.{◌≡◌, ◌≢◌, ◌⊎◌, Some};
 ghost use Rattle.wg_io.specs.declared.output.Output.{Output};
 ghost use Rattle.wg_words.specs.Jobs.{job_of};
 ghost use Rattle.wg_words.specs.declared.jobs.Job.{Job};
-ghost use Rattle.wg_jobs.specs.Judged.{status_of};
+ghost use Rattle.wg_readings.specs.Judged.{status_of};
 ghost use Rattle.wg_jobs.specs.Performs.{judged_on};
-ghost use Rattle.wg_jobs.specs.Readings.{Readings};
-ghost use Rattle.wg_jobs.specs.declared.status.Input.{Input};
+ghost use Rattle.wg_readings.specs.Readings.{Readings};
+ghost use Rattle.wg_readings.specs.declared.status.Input.{Input};
 
 use crate::{Status, run};
 use std::alloc::Global;
 use wg_io::{SteadyDepot, SteadySink};
 use wg_words::Words;
 
-/// Does what the words ask for over files and outputs in memory, of which none is ever at fault: the status is the one that the job
-/// and its files lead to, or memory was out.
+/// Does what the words ask for over files and outputs in memory, of which none is ever at fault: the status is the
+/// one that the job and its files lead to, or memory was out.
 pub fn run_in_memory(
     alloc: Global,
     words: &Words,

@@ -1,7 +1,8 @@
 //! What is said of each fault, as short texts without memory.
 ghost use Rattle.std.specs.Prelude.{◌≡◌, ◌≤◌, length};
-ghost use Rattle.wg_cli.specs.Texts.{text_of_field, text_of_kind, text_of_arcs, text_of_line, text_of_properties, text_of_record, text_of_word, text_of_archive, no_page_line};
-ghost use Rattle.wg_jobs.specs.Names.{file_of_fault};
+ghost use Rattle.wg_cli.specs.Texts.{text_of_field, text_of_kind, text_of_arcs, text_of_line, text_of_properties};
+ghost use Rattle.wg_cli.specs.Texts.{text_of_record, text_of_word, text_of_archive, no_page_line};
+ghost use Rattle.wg_readings.specs.Names.{file_of_fault};
 
 use crate::Input;
 use wg_arcs::ArcsKind;

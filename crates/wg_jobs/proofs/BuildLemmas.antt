@@ -8,27 +8,31 @@ use Rattle.wg_io.specs.declared.output.Output.{Output}
 use Rattle.wg_io.specs.declared.output.Output.TheVariants as output
 use Rattle.wg_io.proofs.FilesLemmas.{none_falls-trans}
 use Rattle.wg_io.proofs.PutsLemmas.{is_that_err}
-use Rattle.wg_jobs.specs.Answers.{Answers, HasOutput, IsUnput, Reaches, status_in}
-use Rattle.wg_jobs.specs.Causes.{HasCause, IncreasedAt}
+use Rattle.wg_jobs.specs.Reached.{Reaches}
+use Rattle.wg_readings.specs.Answers.{Answers, HasOutput, IsUnput, status_in}
+use Rattle.wg_readings.specs.Causes.{HasCause, IncreasedAt}
 use Rattle.wg_graph.specs.Digraph.{Digraph}
 use Rattle.wg_words.specs.declared.jobs.Job.{Job}
 use Rattle.wg_words.specs.declared.jobs.Job.TheVariants.{Build}
 use Rattle.wg_arcs.specs.declared.fault.ArcsKind.{ArcsKind}
 use Rattle.wg_words.specs.declared.layout.Layout.{Layout}
-use Rattle.wg_jobs.specs.Judged.{Judged, built, builds, files_of, greedy_line, output_of, status_of, written_by}
-use Rattle.wg_jobs.specs.Loading.{LoadsList}
-use Rattle.wg_jobs.specs.Promised.{ArePromised, arcs_in}
-use Rattle.wg_jobs.specs.Names.{IsOfInput, archive_named, can_end, has_output, held_by, input_name, list_named, output_name, reads_again, writes_files}
+use Rattle.wg_jobs.specs.Judged.{builds, greedy_line, written_by}
+use Rattle.wg_readings.specs.Judged.{Judged, built, files_of, output_of, status_of}
+use Rattle.wg_readings.specs.Loading.{LoadsList}
+use Rattle.wg_readings.specs.Promised.{ArePromised, arcs_in}
+use Rattle.wg_jobs.specs.Names.{can_end, has_output, input_name, output_name, reads_again, writes_files}
+use Rattle.wg_readings.specs.Names.{IsOfInput, archive_named, held_by, list_named}
 use Rattle.wg_jobs.specs.Performs.{BuildsArchive, Outside, Performs, judged_on, outside}
-use Rattle.wg_jobs.specs.Readings.{Readings}
-use Rattle.wg_jobs.specs.Written.{Archive, ArchiveFiles, AreWhole, HasFiles, OthersStay, FilesAfter, IsStopped, archive_at, greedy_archive, params_for}
-use Rattle.wg_jobs.specs.declared.ending.Ending.{Ending}
-use Rattle.wg_jobs.specs.declared.status.Input.{Input}
-use Rattle.wg_jobs.specs.declared.status.Input.TheVariants as input
-use Rattle.wg_jobs.specs.declared.status.Status.{Status}
-use Rattle.wg_jobs.specs.declared.status.Status.TheVariants.{Done, Memory, ReadFault, WriteFault, Missing, BadArcs}
+use Rattle.wg_readings.specs.Readings.{Readings}
+use Rattle.wg_jobs.specs.Written.{ArchiveFiles, AreWhole, HasFiles, OthersStay, FilesAfter, IsStopped, archive_at, greedy_archive, params_for}
+use Rattle.wg_readings.specs.Judged.{Archive}
+use Rattle.wg_readings.specs.declared.ending.Ending.{Ending}
+use Rattle.wg_readings.specs.declared.status.Input.{Input}
+use Rattle.wg_readings.specs.declared.status.Input.TheVariants as input
+use Rattle.wg_readings.specs.declared.status.Status.{Status}
+use Rattle.wg_readings.specs.declared.status.Status.TheVariants.{Done, Memory, ReadFault, WriteFault, Missing, BadArcs}
 use Rattle.wg_jobs.proofs.PerformsLemmas.{IsStop, left_by, stopped, unread}
-use Rattle.wg_jobs.proofs.Statuses.{IsOwn, fault_caused, own_caused, own_read}
+use Rattle.wg_readings.proofs.Statuses.{IsOwn, fault_caused, own_caused, own_read}
 
 -- ---- counts
 rose_from : (a b c : ℕ) → a ≤ b → Increased b c → Increased a c

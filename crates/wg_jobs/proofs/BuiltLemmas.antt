@@ -30,15 +30,17 @@ use Rattle.wg_params.specs.declared.limits.TheConstants.{MOST_PAGES}
 use Rattle.wg_words.proofs.LayoutLemmas.{layout_for_any}
 use Rattle.wg_words.specs.declared.jobs.Job.TheVariants.{Check, Arcs}
 use Rattle.wg_jobs.specs.Built.{holding, IsAcceptedAs, BuiltAreAccepted, BuildsAreAccepted}
-use Rattle.wg_jobs.specs.Judged.{Judged, refused, accepted, built, builds, judged, number_lines, ok_line, successors_lines, unless_bad_list, unless_bad_properties, with_archive, with_digraph, with_file, with_graph, with_lengths, with_list, with_offsets, with_pages, with_parameters, with_places, with_records}
+use Rattle.wg_jobs.specs.Judged.{builds, judged, number_lines, ok_line, successors_lines}
+use Rattle.wg_readings.specs.Judged.{Judged, refused, accepted, built, unless_bad_list, unless_bad_properties, with_archive, with_digraph, with_file, with_graph, with_lengths, with_list, with_offsets, with_pages, with_parameters, with_places, with_records}
 use Rattle.wg_jobs.specs.Ranked.{ranking_text}
-use Rattle.wg_jobs.specs.Readings.{Readings}
-use Rattle.wg_jobs.specs.Written.{Archive, greedy_archive, params_for}
-use Rattle.wg_jobs.specs.declared.status.Input.{Input}
-use Rattle.wg_jobs.specs.declared.status.Input.TheVariants as input
-use Rattle.wg_jobs.specs.declared.status.Status.{Status}
-use Rattle.wg_jobs.specs.declared.status.Status.TheVariants.{BadArcs, Missing, OverLimit}
-use Rattle.wg_jobs.proofs.ReadingsLemmas.{all_agree, goes_on, goes_on_from}
+use Rattle.wg_readings.specs.Readings.{Readings}
+use Rattle.wg_jobs.specs.Written.{greedy_archive, params_for}
+use Rattle.wg_readings.specs.Judged.{Archive}
+use Rattle.wg_readings.specs.declared.status.Input.{Input}
+use Rattle.wg_readings.specs.declared.status.Input.TheVariants as input
+use Rattle.wg_readings.specs.declared.status.Status.{Status}
+use Rattle.wg_readings.specs.declared.status.Status.TheVariants.{BadArcs, Missing, OverLimit}
+use Rattle.wg_readings.proofs.ReadingsLemmas.{all_agree, goes_on, goes_on_from}
 
 -- ---- places
 

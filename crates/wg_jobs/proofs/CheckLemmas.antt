@@ -7,18 +7,19 @@ use Rattle.wg_params.specs.Parameters.{Parameters, IsWithinLimits}
 use Rattle.wg_grammar.specs.Archive.{Accepted}
 use Rattle.wg_offsets.specs.Places.{last_place}
 use Rattle.wg_words.specs.declared.jobs.Job.TheVariants.{Check}
-use Rattle.wg_jobs.specs.Judged.{Judged, accepted, ok_line, with_lengths}
-use Rattle.wg_jobs.specs.Loading.{JudgesFiles}
-use Rattle.wg_jobs.specs.Names.{file_of, held_by}
-use Rattle.wg_jobs.specs.Pairing.{files_then, offsets_then}
-use Rattle.wg_jobs.specs.Passes.{IsGraphFile, IsStopAt, graph_then}
+use Rattle.wg_jobs.specs.Judged.{ok_line}
+use Rattle.wg_readings.specs.Judged.{Judged, accepted, with_lengths}
+use Rattle.wg_readings.specs.Loading.{JudgesFiles}
+use Rattle.wg_readings.specs.Names.{file_of, held_by}
+use Rattle.wg_readings.specs.Pairing.{files_then, offsets_then}
+use Rattle.wg_readings.specs.Passes.{IsGraphFile, IsStopAt, graph_then}
 use Rattle.wg_jobs.specs.Performs.{Outside, Performs}
-use Rattle.wg_jobs.specs.Readings.{Readings}
-use Rattle.wg_jobs.specs.declared.ending.Ending.{Ending}
-use Rattle.wg_jobs.specs.declared.status.Input.{Input}
-use Rattle.wg_jobs.specs.declared.status.Input.TheVariants.{Properties, Graph, Offsets}
+use Rattle.wg_readings.specs.Readings.{Readings}
+use Rattle.wg_readings.specs.declared.ending.Ending.{Ending}
+use Rattle.wg_readings.specs.declared.status.Input.{Input}
+use Rattle.wg_readings.specs.declared.status.Input.TheVariants.{Properties, Graph, Offsets}
 use Rattle.wg_jobs.proofs.JobSteps.{ComesTo, ends}
-use Rattle.wg_jobs.proofs.PassLemmas.{graph_goes}
+use Rattle.wg_readings.proofs.PassLemmas.{graph_goes}
 
 -- what comes behind the parameters
 abbrev pub checks : Parameters → Readings → (Input → Option (List ℕ)) → Judged

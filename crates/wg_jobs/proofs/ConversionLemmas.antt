@@ -14,9 +14,11 @@ use Rattle.wg_words.specs.declared.jobs.Job.TheVariants.{Check}
 use Rattle.wg_words.specs.declared.layout.Layout.{Layout}
 use Rattle.wg_words.proofs.LayoutLemmas.{layout_for_any}
 use Rattle.wg_jobs.specs.Built.{holding, ConversionsAreAccepted}
-use Rattle.wg_jobs.specs.Judged.{Judged, accepted, built, builds, greedy_line, judged, status_of, with_digraph, with_records}
-use Rattle.wg_jobs.specs.Readings.{Readings}
-use Rattle.wg_jobs.specs.Written.{Archive, greedy_archive, params_for}
+use Rattle.wg_jobs.specs.Judged.{builds, greedy_line, judged}
+use Rattle.wg_readings.specs.Judged.{Judged, accepted, built, status_of, with_digraph, with_records}
+use Rattle.wg_readings.specs.Readings.{Readings}
+use Rattle.wg_jobs.specs.Written.{greedy_archive, params_for}
+use Rattle.wg_readings.specs.Judged.{Archive}
 use Rattle.wg_jobs.proofs.BuiltLemmas.{built_accepted, lists_go_on, same_built}
 use Rattle.wg_jobs.proofs.HeldLemmas.{graph_behind}
 

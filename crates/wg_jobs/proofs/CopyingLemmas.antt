@@ -24,21 +24,22 @@ use Rattle.wg_encoder.specs.Gone.{HasSentAll, HasStopped, IsWritten, OnlyTwo}
 use Rattle.wg_encoder.specs.declared.error.EncodeError.{EncodeError}
 use Rattle.wg_encoder.specs.declared.error.EncodeError.TheVariants as error
 use Rattle.wg_encoder.proofs.Stopped.{begun, stands}
-use Rattle.wg_jobs.specs.Answers.{IsHindrance, status_in}
-use Rattle.wg_jobs.specs.Causes.{IncreasedAt}
+use Rattle.wg_readings.specs.Answers.{IsHindrance, status_in}
+use Rattle.wg_readings.specs.Causes.{IncreasedAt}
 use Rattle.wg_jobs.specs.Copying.{Copies, IsOneOn, SendsOneOn, IsStoppedBy}
-use Rattle.wg_jobs.specs.Names.{archive_named, file_of, held_by}
-use Rattle.wg_jobs.specs.Passes.{Advances, IsGraphFile, IsStopAt, accepted_of}
-use Rattle.wg_jobs.specs.Written.{ArchiveFiles, FilesLeft, IsStopped, OthersStay, StopAtInput, Archive, archive_at, emptied, greedy_archive, status_of_error, unnamed}
-use Rattle.wg_jobs.specs.declared.ending.Ending.{Ending}
-use Rattle.wg_jobs.specs.declared.status.Input.TheVariants.{Graph}
-use Rattle.wg_jobs.specs.declared.status.Status.{Status}
-use Rattle.wg_jobs.specs.declared.status.Status.TheVariants.{Done, Memory, WriteFault}
+use Rattle.wg_readings.specs.Names.{archive_named, file_of, held_by}
+use Rattle.wg_readings.specs.Passes.{Advances, IsGraphFile, IsStopAt, accepted_of}
+use Rattle.wg_jobs.specs.Written.{ArchiveFiles, FilesLeft, IsStopped, OthersStay, StopAtInput, archive_at, emptied, greedy_archive, status_of_error, unnamed}
+use Rattle.wg_readings.specs.Judged.{Archive}
+use Rattle.wg_readings.specs.declared.ending.Ending.{Ending}
+use Rattle.wg_readings.specs.declared.status.Input.TheVariants.{Graph}
+use Rattle.wg_readings.specs.declared.status.Status.{Status}
+use Rattle.wg_readings.specs.declared.status.Status.TheVariants.{Done, Memory, WriteFault}
 use Rattle.wg_jobs.proofs.BuildLemmas.{stopped_cause}
 use Rattle.wg_jobs.proofs.PerformsLemmas.{left_by}
-use Rattle.wg_jobs.proofs.PrintedPass.{read_hindered}
-use Rattle.wg_jobs.proofs.Statuses.{any_outputs, own_caused}
-use Rattle.wg_jobs.proofs.UnderWay.{IsUnderWay, all_read, cause_on, first_read, goes_further, way_kept}
+use Rattle.wg_readings.proofs.JudgeLemmas.{read_hindered}
+use Rattle.wg_readings.proofs.Statuses.{any_outputs, own_caused}
+use Rattle.wg_readings.proofs.UnderWay.{IsUnderWay, all_read, cause_on, first_read, goes_further, way_kept}
 use Rattle.wg_jobs.proofs.WritingLemmas.{others_at, properties_graph, properties_offsets, records_gone, stop_records}
 
 -- ---- lists

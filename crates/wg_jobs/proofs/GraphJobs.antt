@@ -4,14 +4,16 @@ use Rattle.wg_io.specs.Outside.{Files, Counts}
 use Rattle.wg_params.specs.Parameters.{Parameters}
 use Rattle.wg_graph.specs.Digraph.{Digraph}
 use Rattle.wg_words.specs.declared.jobs.Job.{Job}
-use Rattle.wg_jobs.specs.Judged.{Judged, judged}
-use Rattle.wg_jobs.specs.Loading.{LoadsGraph, LoadsParams, digraph_then, params_then}
-use Rattle.wg_jobs.specs.Names.{file_of, input_name}
+use Rattle.wg_jobs.specs.Judged.{judged}
+use Rattle.wg_readings.specs.Judged.{Judged}
+use Rattle.wg_readings.specs.Loading.{LoadsGraph, LoadsParams, digraph_then, params_then}
+use Rattle.wg_jobs.specs.Names.{input_name}
+use Rattle.wg_readings.specs.Names.{file_of}
 use Rattle.wg_jobs.specs.Performs.{Outside, Performs}
-use Rattle.wg_jobs.specs.Readings.{Readings}
-use Rattle.wg_jobs.specs.declared.ending.Ending.{Ending}
-use Rattle.wg_jobs.specs.declared.status.Input.{Input}
-use Rattle.wg_jobs.specs.declared.status.Input.TheVariants.{Properties, Graph}
+use Rattle.wg_readings.specs.Readings.{Readings}
+use Rattle.wg_readings.specs.declared.ending.Ending.{Ending}
+use Rattle.wg_readings.specs.declared.status.Input.{Input}
+use Rattle.wg_readings.specs.declared.status.Input.TheVariants.{Properties, Graph}
 use Rattle.wg_jobs.proofs.JobSteps.{ComesTo, comes_on, ends_reading, loaded, unloaded}
 
 module _ (job : Job) (base : List ℕ) (td to : Bool) (before : Outside) (text_named : input_name job Properties ≡ file_of base Properties) (graph_named : input_name job Graph ≡ file_of base Graph)

@@ -18,13 +18,13 @@ use Rattle.wg_grammar.specs.Archive.{Accepted, ReadsGraph}
 use Rattle.wg_grammar.specs.Laws.{graph_of}
 use Rattle.wg_grammar.specs.declared.fault.ArchiveFault.{ArchiveFault}
 use Rattle.wg_grammar.proofs.ProperGraphs.{arcs_promised, graph_proper}
-use Rattle.wg_jobs.specs.Judged.{Judged, status_of, unless_bad_graph, unless_bad_properties, with_digraph, with_file, with_parameters, with_records}
+use Rattle.wg_readings.specs.Judged.{Judged, status_of, unless_bad_graph, unless_bad_properties, with_digraph, with_file, with_parameters, with_records}
 use Rattle.wg_jobs.specs.Ranked.{HoldGraph}
-use Rattle.wg_jobs.specs.Readings.{Readings}
-use Rattle.wg_jobs.specs.declared.status.Input.{Input}
-use Rattle.wg_jobs.specs.declared.status.Input.TheVariants as input
-use Rattle.wg_jobs.specs.declared.status.Status.TheVariants.{Done, Missing, OverLimit, BadArchive, BadProperties}
-use Rattle.wg_jobs.proofs.LimitsLemmas.{within_limits}
+use Rattle.wg_readings.specs.Readings.{Readings}
+use Rattle.wg_readings.specs.declared.status.Input.{Input}
+use Rattle.wg_readings.specs.declared.status.Input.TheVariants as input
+use Rattle.wg_readings.specs.declared.status.Status.TheVariants.{Done, Missing, OverLimit, BadArchive, BadProperties}
+use Rattle.wg_readings.proofs.LimitsLemmas.{within_limits}
 
 -- ---- parameters that were read are within their limits
 

@@ -9,26 +9,28 @@ use Rattle.wg_io.proofs.FilesLemmas.{none_falls-trans}
 use Rattle.wg_params.specs.Parameters.{Parameters}
 use Rattle.wg_grammar.specs.Archive.{Accepted}
 use Rattle.wg_words.specs.declared.jobs.Job.{Job}
-use Rattle.wg_jobs.specs.Answers.{Answers, HasOutput, IsHindrance, IsUnput, Reaches, status_in, without}
-use Rattle.wg_jobs.specs.Causes.{HasCause}
-use Rattle.wg_jobs.specs.Judged.{Judged, accepted, output_of, status_of}
-use Rattle.wg_jobs.specs.Loading.{JudgesGraph}
-use Rattle.wg_jobs.specs.Promised.{ArePromised, arcs_in}
-use Rattle.wg_jobs.specs.Names.{can_end, file_of, has_input, held_by, input_name, no_outputs, output_name, writes_files}
-use Rattle.wg_jobs.specs.Passes.{IsGraphFile, IsStopAt, graph_then}
+use Rattle.wg_jobs.specs.Reached.{Reaches}
+use Rattle.wg_readings.specs.Answers.{Answers, HasOutput, IsHindrance, IsUnput, status_in, without}
+use Rattle.wg_readings.specs.Causes.{HasCause}
+use Rattle.wg_readings.specs.Judged.{Judged, accepted, output_of, status_of}
+use Rattle.wg_readings.specs.Loading.{JudgesGraph}
+use Rattle.wg_readings.specs.Promised.{ArePromised, arcs_in}
+use Rattle.wg_jobs.specs.Names.{can_end, has_input, input_name, output_name, writes_files}
+use Rattle.wg_readings.specs.Names.{file_of, held_by, no_outputs}
+use Rattle.wg_readings.specs.Passes.{IsGraphFile, IsStopAt, graph_then}
 use Rattle.wg_jobs.specs.Performs.{Outside, Performs, judged_on}
 use Rattle.wg_jobs.specs.Printed.{PrintsGraph, PutsUpTo}
-use Rattle.wg_jobs.specs.Readings.{Readings}
-use Rattle.wg_jobs.specs.declared.ending.Ending.{Ending}
-use Rattle.wg_jobs.specs.declared.status.Input.{Input}
-use Rattle.wg_jobs.specs.declared.status.Input.TheVariants.{Graph}
-use Rattle.wg_jobs.specs.declared.status.Status.{Status}
-use Rattle.wg_jobs.specs.declared.status.Status.TheVariants.{Done, Usage, Memory, ReadFault, WriteFault, Missing, BadArcs, BadProperties, BadArchive, NoPage, OverLimit}
+use Rattle.wg_readings.specs.Readings.{Readings}
+use Rattle.wg_readings.specs.declared.ending.Ending.{Ending}
+use Rattle.wg_readings.specs.declared.status.Input.{Input}
+use Rattle.wg_readings.specs.declared.status.Input.TheVariants.{Graph}
+use Rattle.wg_readings.specs.declared.status.Status.{Status}
+use Rattle.wg_readings.specs.declared.status.Status.TheVariants.{Done, Usage, Memory, ReadFault, WriteFault, Missing, BadArcs, BadProperties, BadArchive, NoPage, OverLimit}
 use Rattle.wg_jobs.proofs.JobSteps.{ComesTo, Hold, bad_possible, judges_here, reaches}
-use Rattle.wg_jobs.proofs.PassLemmas.{graph_goes}
+use Rattle.wg_readings.proofs.PassLemmas.{graph_goes}
 use Rattle.wg_jobs.proofs.PerformsLemmas.{files_same, unread_possible}
-use Rattle.wg_jobs.proofs.Statuses.{bad_own, bad_unread, cause_named, no_write, own_caused, own_read, unput_cause}
-use Rattle.wg_jobs.proofs.UnderWay.{cause_later}
+use Rattle.wg_readings.proofs.Statuses.{bad_own, bad_unread, cause_named, no_write, own_caused, own_read, unput_cause}
+use Rattle.wg_readings.proofs.UnderWay.{cause_later}
 
 -- what was put out where something hindered
 pub hindered_output : (due old new : List ℕ) (s : Status) → IsHindrance s → (k : ℕ) × (new ≡ old ++ take k due) → HasOutput due old new s

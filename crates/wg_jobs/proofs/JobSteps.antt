@@ -16,23 +16,26 @@ use Rattle.wg_grammar.specs.declared.fault.ArchiveFault.{ArchiveFault}
 use Rattle.wg_grammar.specs.declared.fault.ArchiveFault.TheVariants as archive
 use Rattle.wg_words.specs.declared.jobs.Job.{Job}
 use Rattle.wg_words.specs.declared.layout.Layout.{Layout}
-use Rattle.wg_jobs.specs.Answers.{Answers, IsHindrance, IsUnput, Reaches, Steps, status_in, without}
-use Rattle.wg_jobs.specs.Judged.{Judged, accepted, builds, judged, refused}
-use Rattle.wg_jobs.specs.Loading.{EndsAt, IsPropertiesFile, LoadsParams, Reads, params_then}
-use Rattle.wg_jobs.specs.Names.{archive_named, can_end, file_of, has_input, held_by, input_name, names_pages, output_name, writes_files, IsOfInput}
-use Rattle.wg_jobs.specs.Passes.{IsStopAt}
+use Rattle.wg_jobs.specs.Reached.{Reaches}
+use Rattle.wg_readings.specs.Answers.{Answers, IsHindrance, IsUnput, Steps, status_in, without}
+use Rattle.wg_jobs.specs.Judged.{builds, judged}
+use Rattle.wg_readings.specs.Judged.{Judged, accepted, refused}
+use Rattle.wg_readings.specs.Loading.{EndsAt, IsPropertiesFile, LoadsParams, Reads, params_then}
+use Rattle.wg_jobs.specs.Names.{can_end, has_input, input_name, names_pages, output_name, writes_files}
+use Rattle.wg_readings.specs.Names.{archive_named, file_of, held_by, IsOfInput}
+use Rattle.wg_readings.specs.Passes.{IsStopAt}
 use Rattle.wg_jobs.specs.Performs.{BuildsArchive, Outside, Performs, judged_on, outside}
-use Rattle.wg_jobs.specs.Promised.{ArePromised, IsBadFile, arcs_in}
-use Rattle.wg_jobs.specs.Readings.{Readings}
-use Rattle.wg_jobs.specs.declared.ending.Ending.{Ending}
-use Rattle.wg_jobs.specs.declared.status.Input.{Input}
-use Rattle.wg_jobs.specs.declared.status.Input.TheVariants as input
-use Rattle.wg_jobs.specs.declared.status.Status.{Status}
-use Rattle.wg_jobs.specs.declared.status.Status.TheVariants.{Memory, WriteFault, Missing, BadArchive, BadProperties, NoPage}
+use Rattle.wg_readings.specs.Promised.{ArePromised, IsBadFile, arcs_in}
+use Rattle.wg_readings.specs.Readings.{Readings}
+use Rattle.wg_readings.specs.declared.ending.Ending.{Ending}
+use Rattle.wg_readings.specs.declared.status.Input.{Input}
+use Rattle.wg_readings.specs.declared.status.Input.TheVariants as input
+use Rattle.wg_readings.specs.declared.status.Status.{Status}
+use Rattle.wg_readings.specs.declared.status.Status.TheVariants.{Memory, WriteFault, Missing, BadArchive, BadProperties, NoPage}
 use Rattle.wg_jobs.proofs.BuildLemmas.{written}
 use Rattle.wg_jobs.proofs.PerformsLemmas.{IsStop, printed_by, stopped, unread}
-use Rattle.wg_jobs.proofs.Statuses.{IsOwn, bad_own, bad_unread, own_caused, own_read}
-use Rattle.wg_jobs.proofs.UnderWay.{cause_later}
+use Rattle.wg_readings.proofs.Statuses.{IsOwn, bad_own, bad_unread, own_caused, own_read}
+use Rattle.wg_readings.proofs.UnderWay.{cause_later}
 
 -- the exit of a `?`
 pub performs_exit : {B : Type 0} (job : Job) (td to : Bool) (before after : Outside) (r : Result B Ending) (e : Ending) → IsErrAnd r (λ x. x ≡ e)

@@ -1,11 +1,4 @@
-pub mod Statuses
 pub mod PerformsLemmas
-pub mod PassLemmas
-pub mod LoadLemmas
-pub mod PairingLemmas
-pub mod FirstRecords
-pub mod UnderWay
-pub mod JudgeLemmas
 pub mod PrintedPass
 pub mod JobPasses
 pub mod GraphJobs
@@ -19,10 +12,7 @@ pub mod BuildLemmas
 pub mod BuiltLemmas
 pub mod ConversionLemmas
 pub mod HeldLemmas
-pub mod LimitsLemmas
 pub mod NumberLemmas
 pub mod RankLemmas
-pub mod ReadingsLaws
-pub mod ReadingsLemmas
 pub mod CopyingLemmas
 pub mod RewrittenLemmas

@@ -9,20 +9,24 @@ use Rattle.wg_io.specs.Puts.{Puts}
 use Rattle.wg_io.specs.declared.output.Output.{Output}
 use Rattle.wg_io.specs.declared.output.Output.TheVariants.{Out, Properties, Graph, Offsets}
 use Rattle.wg_words.specs.declared.jobs.Job.{Job}
-use Rattle.wg_jobs.specs.Answers.{Answers, HasOutput, IsUnput, Reaches, status_in}
-use Rattle.wg_jobs.specs.Causes.{AreFaultless, HasCause, IncreasedAt}
-use Rattle.wg_jobs.specs.Judged.{Judged, accepted, files_of, judged, output_of, status_of, written_by}
-use Rattle.wg_jobs.specs.Promised.{ArePromised, arcs_in}
-use Rattle.wg_jobs.specs.Names.{can_end, has_input, held_by, input_name, output_name, no_outputs, reads_again, writes_files, IsOfInput}
+use Rattle.wg_jobs.specs.Reached.{Reaches}
+use Rattle.wg_readings.specs.Answers.{Answers, HasOutput, IsUnput, status_in}
+use Rattle.wg_readings.specs.Causes.{AreFaultless, HasCause, IncreasedAt}
+use Rattle.wg_jobs.specs.Judged.{judged, written_by}
+use Rattle.wg_readings.specs.Judged.{Judged, accepted, files_of, output_of, status_of}
+use Rattle.wg_readings.specs.Promised.{ArePromised, arcs_in}
+use Rattle.wg_jobs.specs.Names.{can_end, has_input, input_name, output_name, reads_again, writes_files}
+use Rattle.wg_readings.specs.Names.{held_by, no_outputs, IsOfInput}
 use Rattle.wg_jobs.specs.Performs.{Outside, Performs, judged_on}
-use Rattle.wg_jobs.specs.Readings.{Readings}
-use Rattle.wg_jobs.specs.Written.{Archive, ArchiveFiles, FilesAfter, FilesLeft, HasFiles, archive_at}
-use Rattle.wg_jobs.specs.declared.ending.Ending.{Ending}
-use Rattle.wg_jobs.specs.declared.status.Input.{Input}
-use Rattle.wg_jobs.specs.declared.status.Input.TheVariants as input
-use Rattle.wg_jobs.specs.declared.status.Status.{Status}
-use Rattle.wg_jobs.specs.declared.status.Status.TheVariants.{Done, Usage, Memory, ReadFault, WriteFault, Missing, BadArcs, BadProperties, BadArchive, NoPage, OverLimit}
-use Rattle.wg_jobs.proofs.Statuses.{cause_named, unput_cause}
+use Rattle.wg_readings.specs.Readings.{Readings}
+use Rattle.wg_jobs.specs.Written.{ArchiveFiles, FilesAfter, FilesLeft, HasFiles, archive_at}
+use Rattle.wg_readings.specs.Judged.{Archive}
+use Rattle.wg_readings.specs.declared.ending.Ending.{Ending}
+use Rattle.wg_readings.specs.declared.status.Input.{Input}
+use Rattle.wg_readings.specs.declared.status.Input.TheVariants as input
+use Rattle.wg_readings.specs.declared.status.Status.{Status}
+use Rattle.wg_readings.specs.declared.status.Status.TheVariants.{Done, Usage, Memory, ReadFault, WriteFault, Missing, BadArcs, BadProperties, BadArchive, NoPage, OverLimit}
+use Rattle.wg_readings.proofs.Statuses.{cause_named, unput_cause}
 
 -- ---- what is said of a job is said of an equal one
 pub performs_at : (j k : Job) (td to : Bool) (before after : Outside) (s t : Status) (a b : ℕ) → j ≡ k → s ≡ t → a ≡ b

@@ -6,14 +6,16 @@ use Rattle.wg_arcs.specs.Text.{lines_from, page_lines}
 use Rattle.wg_grammar.specs.Archive.{lists_of, places_of}
 use Rattle.wg_grammar.specs.Record.{Whole}
 use Rattle.wg_stream.proofs.PrefixLemmas.{length-lists, lists_more, places_more}
-use Rattle.wg_jobs.specs.Judged.{Judged, accepted, judged, number_line, number_lines}
-use Rattle.wg_jobs.specs.Loading.{params_then}
-use Rattle.wg_jobs.specs.Names.{file_of, input_name, writes_files}
-use Rattle.wg_jobs.specs.Readings.{Readings}
-use Rattle.wg_jobs.specs.declared.status.Input.{Input}
-use Rattle.wg_jobs.specs.declared.status.Input.TheVariants as input
+use Rattle.wg_jobs.specs.Judged.{judged, number_line, number_lines}
+use Rattle.wg_readings.specs.Judged.{Judged, accepted}
+use Rattle.wg_readings.specs.Loading.{params_then}
+use Rattle.wg_jobs.specs.Names.{input_name, writes_files}
+use Rattle.wg_readings.specs.Names.{file_of}
+use Rattle.wg_readings.specs.Readings.{Readings}
+use Rattle.wg_readings.specs.declared.status.Input.{Input}
+use Rattle.wg_readings.specs.declared.status.Input.TheVariants as input
 use Rattle.wg_params.specs.Parameters.{Parameters}
-use Rattle.wg_jobs.specs.Passes.{accepted_of, graph_then}
+use Rattle.wg_readings.specs.Passes.{accepted_of, graph_then}
 use Rattle.wg_jobs.specs.Printed.{head_of, job_of, listed, piece_of}
 use Rattle.wg_jobs.specs.declared.printing.Listing.{Listing}
 use Rattle.wg_jobs.specs.declared.printing.Listing.TheVariants.{Arcs, Offsets}

@@ -15,20 +15,21 @@ use Rattle.wg_params.specs.Parameters.{Parameters, IsWithinLimits}
 use Rattle.wg_grammar.specs.Archive.{Accepted}
 use Rattle.wg_grammar.specs.Record.{Whole}
 use Rattle.wg_stream.specs.Reading.{Reading, IsInStep, IsJudged}
-use Rattle.wg_jobs.specs.Answers.{Answers, IsHindrance, IsUnput, status_in}
-use Rattle.wg_jobs.specs.Judged.{Judged, accepted}
-use Rattle.wg_jobs.specs.Names.{file_of, held_by, no_outputs}
-use Rattle.wg_jobs.specs.Passes.{Advances, IsGraphFile, IsStopAt, accepted_of, graph_then}
+use Rattle.wg_readings.specs.Answers.{Answers, IsHindrance, IsUnput, status_in}
+use Rattle.wg_readings.specs.Judged.{Judged, accepted}
+use Rattle.wg_readings.specs.Names.{file_of, held_by, no_outputs}
+use Rattle.wg_readings.specs.Passes.{Advances, IsGraphFile, IsStopAt, accepted_of, graph_then}
 use Rattle.wg_jobs.specs.Performs.{Outside, outside}
 use Rattle.wg_jobs.specs.Printed.{PrintsGraph, PutsUpTo}
-use Rattle.wg_jobs.specs.declared.ending.Ending.{Ending}
-use Rattle.wg_jobs.specs.declared.status.Input.TheVariants.{Graph}
-use Rattle.wg_jobs.specs.declared.status.Status.{Status}
-use Rattle.wg_jobs.specs.declared.status.Status.TheVariants.{Done, Memory, WriteFault}
-use Rattle.wg_jobs.proofs.PassLemmas.{graph_goes}
-use Rattle.wg_jobs.proofs.ReadingsLaws.{the_readings}
-use Rattle.wg_jobs.proofs.Statuses.{IsOwn, any_faults, never_done, own_caused, unput_cause, unput_hinders}
-use Rattle.wg_jobs.proofs.UnderWay.{IsUnderWay, all_read, ends_caused, ends_told, first_read}
+use Rattle.wg_readings.specs.declared.ending.Ending.{Ending}
+use Rattle.wg_readings.specs.declared.status.Input.TheVariants.{Graph}
+use Rattle.wg_readings.specs.declared.status.Status.{Status}
+use Rattle.wg_readings.specs.declared.status.Status.TheVariants.{Done, Memory, WriteFault}
+use Rattle.wg_readings.proofs.JudgeLemmas.{read_hindered}
+use Rattle.wg_readings.proofs.PassLemmas.{graph_goes}
+use Rattle.wg_readings.proofs.ReadingsLaws.{the_readings}
+use Rattle.wg_readings.proofs.Statuses.{IsOwn, any_faults, never_done, own_caused, unput_cause, unput_hinders}
+use Rattle.wg_readings.proofs.UnderWay.{IsUnderWay, all_read, ends_caused, ends_told, first_read}
 
 -- ---- texts that grow with the records
 
@@ -62,19 +63,6 @@ hinders_in (Err e) only = unput_hinders e.status only
 only_in : (n : ℕ) (r : Result (Unit {0}) Ending) → IfErr r (λ e. IsUnput e.status) → IfErr r (λ e. IsStopAt Graph n e ⊎ IsUnput e.status)
 only_in n (Ok done) only = tt
 only_in n (Err e) only = inr only
-
-answers_hinder : (s : Status) (text : List ℕ) → Answers (accepted text) s → (s ≡ Done → ⊥) → IsHindrance s
-answers_hinder s text (inl is) never = absurd (never is)
-answers_hinder s text (inr hinders) never = hinders
-
--- what stopped the reading of a file that stands for a graph is no fault of it
-pub read_hindered : (base : List ℕ) (p : Parameters) (td : Bool) (files : Files) (counts : List ℕ → Counts) → IsWithinLimits p → (files1 files2 : Files) (counts1 counts2 : List ℕ → Counts) (n : ℕ) (a b : Reading) (P : List Whole → Type 0)
-    → IsUnderWay td base p files files1 counts counts1 n a P → (e : Ending) → Advances {B = Unit {0}} td files1 files2 counts1 counts2 p a b (Err e)
-    → IsTrue td → (x : Accepted) → IsGraphFile (held_by (file_of base) files Graph) p x → IsHindrance e.status
-read_hindered base p td files counts limits files1 files2 counts1 counts2 n a b P h e step t x g =
-    let told = ends_told td base p files counts files1 files2 counts1 counts2 n a b _ h e step t limits the_readings (λ y. accepted []) in
-    let is : graph_then the_readings p (held_by (file_of base) files Graph) (λ y. accepted []) ≡ accepted [] = graph_goes the_readings p limits (held_by (file_of base) files Graph) x g (λ y. accepted []) in
-    answers_hinder e.status [] (subst (λ (j : Judged). Answers j e.status) is told) (never_done Graph p.arcs e step.only)
 
 -- the exit of a `?`
 pub prints_exit : (base : List ℕ) (p : Parameters) (text : Accepted → List ℕ) (td to : Bool) (before after : Outside) (r : Result (Unit {0}) Ending) (e : Ending) → IsErrAnd r (λ x. x ≡ e)

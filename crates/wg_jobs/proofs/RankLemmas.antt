@@ -12,7 +12,7 @@ use Rattle.wg_rank.proofs.Certificates.{certified}
 use Rattle.wg_order.specs.Order.{IsRanking, Positions}
 use Rattle.wg_order.proofs.OneRanking.{ranking_one}
 use Rattle.wg_order.proofs.Surely.{surely_from}
-use Rattle.wg_jobs.specs.Readings.{Readings}
+use Rattle.wg_readings.specs.Readings.{Readings}
 use Rattle.wg_jobs.specs.Ranked.{Ranks, RankingIsProven, alike, bounds_after, of_pages, positions_of, rank_lines, ranking_text}
 
 -- a ranking has each page once

@@ -18,26 +18,30 @@ use Rattle.wg_words.specs.Layouts.{params_of}
 use Rattle.wg_words.specs.declared.jobs.Job.{Job}
 use Rattle.wg_words.specs.declared.jobs.Job.TheVariants.{Recode}
 use Rattle.wg_words.specs.declared.layout.Layout.{Layout}
-use Rattle.wg_jobs.specs.Answers.{IsUnput, Reaches, status_in}
+use Rattle.wg_jobs.specs.Reached.{Reaches}
+use Rattle.wg_readings.specs.Answers.{IsUnput, status_in}
 use Rattle.wg_jobs.specs.Copying.{Copies}
-use Rattle.wg_jobs.specs.Judged.{Judged, builds, files_of, greedy_line, ok_line, status_of, written_by}
-use Rattle.wg_jobs.specs.Loading.{JudgesGraph}
-use Rattle.wg_jobs.specs.Names.{archive_named, can_end, file_of, has_output, held_by, input_name}
-use Rattle.wg_jobs.specs.Passes.{IsGraphFile, IsStopAt, graph_then}
+use Rattle.wg_jobs.specs.Judged.{builds, greedy_line, ok_line, written_by}
+use Rattle.wg_readings.specs.Judged.{Judged, files_of, status_of}
+use Rattle.wg_readings.specs.Loading.{JudgesGraph}
+use Rattle.wg_jobs.specs.Names.{can_end, has_output, input_name}
+use Rattle.wg_readings.specs.Names.{archive_named, file_of, held_by}
+use Rattle.wg_readings.specs.Passes.{IsGraphFile, IsStopAt, graph_then}
 use Rattle.wg_jobs.specs.Performs.{BuildsArchive, Outside, Performs, judged_on, outside}
-use Rattle.wg_jobs.specs.Promised.{arcs_in}
-use Rattle.wg_jobs.specs.Readings.{Readings}
-use Rattle.wg_jobs.specs.Written.{Archive, AreWhole, FilesLeft, HasFiles, IsStopped, OthersStay, archive_at, greedy_archive, params_for}
-use Rattle.wg_jobs.specs.declared.ending.Ending.{Ending}
-use Rattle.wg_jobs.specs.declared.status.Input.{Input}
-use Rattle.wg_jobs.specs.declared.status.Input.TheVariants.{Properties, Graph}
-use Rattle.wg_jobs.specs.declared.status.Status.TheVariants.{ReadFault, WriteFault}
+use Rattle.wg_readings.specs.Promised.{arcs_in}
+use Rattle.wg_readings.specs.Readings.{Readings}
+use Rattle.wg_jobs.specs.Written.{AreWhole, FilesLeft, HasFiles, IsStopped, OthersStay, archive_at, greedy_archive, params_for}
+use Rattle.wg_readings.specs.Judged.{Archive}
+use Rattle.wg_readings.specs.declared.ending.Ending.{Ending}
+use Rattle.wg_readings.specs.declared.status.Input.{Input}
+use Rattle.wg_readings.specs.declared.status.Input.TheVariants.{Properties, Graph}
+use Rattle.wg_readings.specs.declared.status.Status.TheVariants.{ReadFault, WriteFault}
 use Rattle.wg_jobs.proofs.BuildLemmas.{built_possible, has_each, no_read, put_stands, put_stopped, written}
 use Rattle.wg_jobs.proofs.JobPasses.{graph_known, hindered_output, hindered_promised, pass_possible, pass_read}
 use Rattle.wg_jobs.proofs.JobSteps.{ComesTo, reaches}
 use Rattle.wg_jobs.proofs.PerformsLemmas.{output_put}
-use Rattle.wg_jobs.proofs.Statuses.{any_faults, unput_cause}
-use Rattle.wg_jobs.proofs.UnderWay.{cause_on}
+use Rattle.wg_readings.proofs.Statuses.{any_faults, unput_cause}
+use Rattle.wg_readings.proofs.UnderWay.{cause_on}
 
 -- the parameters of the archive that is written are those of the graph
 pub made_for : (l : Layout) (held : Option (List ℕ)) (p : Parameters) (a : Accepted) → IsGraphFile held p a → params_of l p.nodes p.arcs ≡ params_for l (graph_of p a)

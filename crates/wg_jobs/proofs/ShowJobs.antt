@@ -10,20 +10,21 @@ use Rattle.wg_params.specs.Parameters.{Parameters, IsWithinLimits}
 use Rattle.wg_grammar.specs.Archive.{Accepted, ReadsGraph}
 use Rattle.wg_words.specs.declared.jobs.Job.{Job}
 use Rattle.wg_words.specs.declared.jobs.Job.TheVariants.{Show}
-use Rattle.wg_jobs.specs.Answers.{Answers, IsUnput, Steps, status_in}
-use Rattle.wg_jobs.specs.Judged.{Judged, accepted, successors_lines, with_file, with_graph, with_lengths, with_pages}
-use Rattle.wg_jobs.specs.Loading.{Loads, LoadsOffsets, LoadsParams}
-use Rattle.wg_jobs.specs.Names.{file_of}
-use Rattle.wg_jobs.specs.Pairing.{offsets_then}
+use Rattle.wg_readings.specs.Answers.{Answers, IsUnput, Steps, status_in}
+use Rattle.wg_jobs.specs.Judged.{successors_lines}
+use Rattle.wg_readings.specs.Judged.{Judged, accepted, with_file, with_graph, with_lengths, with_pages}
+use Rattle.wg_readings.specs.Loading.{Loads, LoadsOffsets, LoadsParams}
+use Rattle.wg_readings.specs.Names.{file_of}
+use Rattle.wg_readings.specs.Pairing.{offsets_then}
 use Rattle.wg_jobs.specs.Performs.{Outside, Performs, outside}
-use Rattle.wg_jobs.specs.Promised.{IsBadFile, arcs_in}
-use Rattle.wg_jobs.specs.Readings.{Readings}
-use Rattle.wg_jobs.specs.declared.ending.Ending.{Ending}
-use Rattle.wg_jobs.specs.declared.status.Input.{Input}
-use Rattle.wg_jobs.specs.declared.status.Input.TheVariants.{Properties, Graph, Offsets}
-use Rattle.wg_jobs.specs.declared.status.Status.TheVariants.{NoPage, WriteFault}
+use Rattle.wg_readings.specs.Promised.{IsBadFile, arcs_in}
+use Rattle.wg_readings.specs.Readings.{Readings}
+use Rattle.wg_readings.specs.declared.ending.Ending.{Ending}
+use Rattle.wg_readings.specs.declared.status.Input.{Input}
+use Rattle.wg_readings.specs.declared.status.Input.TheVariants.{Properties, Graph, Offsets}
+use Rattle.wg_readings.specs.declared.status.Status.TheVariants.{NoPage, WriteFault}
 use Rattle.wg_jobs.proofs.JobSteps.{ComesTo, comes_on, ends, ends_reading, loaded, prints, refuses, refuses_page, unloaded}
-use Rattle.wg_jobs.proofs.ReadingsLemmas.{goes_on, same_agree}
+use Rattle.wg_readings.proofs.ReadingsLemmas.{goes_on, same_agree}
 
 module _ (base pages : List ℕ) (td to : Bool) (before : Outside) where
   abbrev job : Job

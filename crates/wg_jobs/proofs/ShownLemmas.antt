@@ -16,11 +16,11 @@ use Rattle.wg_io.proofs.PrintLemmas.{printed_more, less_after, less_before}
 use Rattle.std.specs.Bool.{IsTrue}
 use Rattle.wg_io.specs.declared.output.Output.TheVariants.{Out}
 use Rattle.wg_io.specs.declared.sink.Sink as sink
-use Rattle.wg_jobs.specs.Answers.{PrintRefusals}
+use Rattle.wg_readings.specs.Answers.{PrintRefusals}
 use Rattle.wg_jobs.specs.Judged.{spaced, successors_line}
 use Rattle.wg_jobs.specs.Showing.{PrintsLine}
-use Rattle.wg_jobs.specs.declared.ending.Ending.{Ending}
-use Rattle.wg_jobs.specs.declared.status.Status.TheVariants.{Memory, WriteFault}
+use Rattle.wg_readings.specs.declared.ending.Ending.{Ending}
+use Rattle.wg_readings.specs.declared.status.Status.TheVariants.{Memory, WriteFault}
 
 -- a text is printed, and then another one is
 pub prints_after : {E : Type 0} (a b c waited mid waits t u : List ℕ) (r : Result (Unit {0}) E) → HasPrinted a b waited t mid → Prints u b c mid waits r → Prints (t ++ u) a c waited waits r

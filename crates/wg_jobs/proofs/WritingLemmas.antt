@@ -16,10 +16,11 @@ use Rattle.wg_encoder.specs.Gone.{HasStopped, OnlyTwo}
 use Rattle.wg_encoder.specs.declared.error.EncodeError.{EncodeError}
 use Rattle.wg_encoder.specs.declared.error.EncodeError.TheVariants as error
 use Rattle.wg_encoder.proofs.Sent.{get_more, get_other}
-use Rattle.wg_jobs.specs.Names.{archive_named}
-use Rattle.wg_jobs.specs.Written.{Archive, greedy_archive, ArchiveFiles, archive_at, emptied, unnamed, AreWhole, OthersStay, FilesAfter, IsStoppedAt, StopAtProperties, StopAtGraph, StopAtOffsets, status_of_error}
-use Rattle.wg_jobs.specs.declared.status.Status.{Status}
-use Rattle.wg_jobs.specs.declared.status.Status.TheVariants.{Memory, WriteFault}
+use Rattle.wg_readings.specs.Names.{archive_named}
+use Rattle.wg_jobs.specs.Written.{greedy_archive, ArchiveFiles, archive_at, emptied, unnamed, AreWhole, OthersStay, FilesAfter, IsStoppedAt, StopAtProperties, StopAtGraph, StopAtOffsets, status_of_error}
+use Rattle.wg_readings.specs.Judged.{Archive}
+use Rattle.wg_readings.specs.declared.status.Status.{Status}
+use Rattle.wg_readings.specs.declared.status.Status.TheVariants.{Memory, WriteFault}
 
 -- ---- results
 pub if_that_err : {A E : Type 0} (P : E → Type 0) (r : Result A E) (e : E) → IsErrAnd r (λ x. x ≡ e) → P e → IfErr r P

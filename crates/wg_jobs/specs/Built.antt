@@ -10,12 +10,14 @@ use Rattle.wg_arcs.specs.Text.{text_of_arcs, text_of_graph}
 use Rattle.wg_words.specs.Layouts.{params_of}
 use Rattle.wg_words.specs.declared.jobs.Job.TheVariants.{Check, Arcs, Offsets, Show, Rank, Build, Recode, Transpose}
 use Rattle.wg_words.specs.declared.layout.Layout.{Layout}
-use Rattle.wg_jobs.specs.Readings.{Readings}
+use Rattle.wg_readings.specs.Readings.{Readings}
 use Rattle.wg_jobs.specs.Ranked.{ranking_text}
-use Rattle.wg_jobs.specs.Written.{Archive, greedy_archive}
-use Rattle.wg_jobs.specs.Judged.{judged, accepted, built, number_lines, ok_line, successors_lines, with_pages}
-use Rattle.wg_jobs.specs.declared.status.Input.{Input}
-use Rattle.wg_jobs.specs.declared.status.Input.TheVariants as input
+use Rattle.wg_jobs.specs.Written.{greedy_archive}
+use Rattle.wg_readings.specs.Judged.{Archive}
+use Rattle.wg_jobs.specs.Judged.{judged, number_lines, ok_line, successors_lines}
+use Rattle.wg_readings.specs.Judged.{accepted, built, with_pages}
+use Rattle.wg_readings.specs.declared.status.Input.{Input}
+use Rattle.wg_readings.specs.declared.status.Input.TheVariants as input
 
 -- what the inputs of an archive hold
 abbrev pub holding : Archive → Input → Option (List ℕ)

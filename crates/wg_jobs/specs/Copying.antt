@@ -1,5 +1,5 @@
 -- The records of a graph file, on their way into an archive of another name.
-use Rattle.std.specs.Prelude.{◌≡◌, ◌⊎◌, ◌++◌, ℕ, ◌+◌, Bool, List, [], ◌∷◌, length, Option, Some, Result, IsTrue, IfErr}
+use Rattle.std.specs.Prelude.{◌≡◌, ◌⊎◌, ◌++◌, ℕ, ◌+◌, Bool, true, List, [], ◌∷◌, length, Option, Some, Result, IsTrue, IfErr}
 use Rattle.wg_io.specs.Outside.{Files, Counts, NonDecreasing}
 use Rattle.wg_io.specs.Suffixes.{graph_name}
 use Rattle.wg_params.specs.Parameters.{Parameters}
@@ -7,14 +7,29 @@ use Rattle.wg_grammar.specs.Archive.{Accepted}
 use Rattle.wg_encoder.specs.Encoding.{Encoded, HasWritten}
 use Rattle.wg_encoder.specs.Gone.{HasSentAll, HasStopped}
 use Rattle.wg_encoder.specs.declared.error.EncodeError.{EncodeError}
-use Rattle.wg_jobs.specs.Answers.{IsHindrance, status_in}
-use Rattle.wg_jobs.specs.Causes.{HasCause}
-use Rattle.wg_jobs.specs.Names.{archive_named, file_of, held_by}
-use Rattle.wg_jobs.specs.Passes.{IsGraphFile, IsStopAt}
-use Rattle.wg_jobs.specs.Written.{IsStopped, status_of_error}
-use Rattle.wg_jobs.specs.declared.ending.Ending.{Ending}
-use Rattle.wg_jobs.specs.declared.status.Input.{Input}
-use Rattle.wg_jobs.specs.declared.status.Input.TheVariants as input
+use Rattle.wg_readings.specs.Answers.{IsHindrance, status_in}
+use Rattle.wg_readings.specs.Causes.{HasCause}
+use Rattle.wg_readings.specs.Names.{archive_named, file_of, held_by}
+use Rattle.wg_readings.specs.Passes.{IsGraphFile, IsStopAt}
+use Rattle.wg_grammar.specs.Laws.{graph_of}
+use Rattle.wg_readings.specs.Judged.{Archive}
+use Rattle.wg_jobs.specs.Written.{FilesLeft, IsStopped, archive_in, greedy_archive, status_of_error}
+use Rattle.wg_readings.specs.declared.ending.Ending.{Ending}
+use Rattle.wg_readings.specs.declared.status.Input.{Input}
+use Rattle.wg_readings.specs.declared.status.Status.{Status}
+use Rattle.wg_readings.specs.declared.status.Input.TheVariants as input
+
+-- the graph file of an archive of this name stands for this graph
+abbrev pub IsGraphIn : List ℕ → Files → Parameters → Accepted → Type 0
+IsGraphIn base files p a = IsGraphFile (held_by (file_of base) files input.Graph) p a
+
+-- the greedy archive of a graph that was read, in other parameters
+abbrev pub copy_of : Parameters → Parameters → Accepted → Archive
+copy_of made p a = greedy_archive made (graph_of p a)
+
+-- what is left of its files, by the status, if the graph file is read again while it is written
+abbrev pub LeavesCopy : Archive → List ℕ → Files → Files → Status → Type 0
+LeavesCopy a base old new status = FilesLeft true a (archive_in base old) (archive_in base new) status
 
 -- A graph file was read again, and its records written as those of an archive, or something stopped this.
 pub record Copies {A : Type 0} (told : Bool) (base output : List ℕ) (p : Parameters) (files : Files) (counts counts' : List ℕ → Counts) (result : Result A Ending) : Type 0 where

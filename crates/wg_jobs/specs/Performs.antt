@@ -7,17 +7,20 @@ use Rattle.wg_io.specs.declared.output.Output.{Output}
 use Rattle.wg_graph.specs.Digraph.{Digraph}
 use Rattle.wg_words.specs.declared.jobs.Job.{Job}
 use Rattle.wg_words.specs.declared.layout.Layout.{Layout}
-use Rattle.wg_jobs.specs.Answers.{Answers, HasOutput, Reaches, status_in}
-use Rattle.wg_jobs.specs.Causes.{HasCause}
-use Rattle.wg_jobs.specs.Judged.{Judged, greedy_line, judged, output_of, status_of, written_by}
-use Rattle.wg_jobs.specs.Promised.{ArePromised, arcs_in}
-use Rattle.wg_jobs.specs.Names.{archive_named, can_end, held_by, input_name, output_name, reads_again, writes_files}
-use Rattle.wg_jobs.specs.Readings.{Readings}
+use Rattle.wg_jobs.specs.Reached.{Reaches}
+use Rattle.wg_readings.specs.Answers.{Answers, HasOutput, status_in}
+use Rattle.wg_readings.specs.Causes.{HasCause}
+use Rattle.wg_jobs.specs.Judged.{greedy_line, judged, written_by}
+use Rattle.wg_readings.specs.Judged.{Judged, output_of, status_of}
+use Rattle.wg_readings.specs.Promised.{ArePromised, arcs_in}
+use Rattle.wg_jobs.specs.Names.{can_end, input_name, output_name, reads_again, writes_files}
+use Rattle.wg_readings.specs.Names.{archive_named, held_by}
+use Rattle.wg_readings.specs.Readings.{Readings}
 use Rattle.wg_jobs.specs.Written.{HasFiles, IsStopped, greedy_archive, params_for}
-use Rattle.wg_jobs.specs.declared.ending.Ending.{Ending}
-use Rattle.wg_jobs.specs.declared.status.Input.{Input}
-use Rattle.wg_jobs.specs.declared.status.Status.{Status}
-use Rattle.wg_jobs.specs.declared.status.Status.TheVariants.{Done, ReadFault, WriteFault}
+use Rattle.wg_readings.specs.declared.ending.Ending.{Ending}
+use Rattle.wg_readings.specs.declared.status.Input.{Input}
+use Rattle.wg_readings.specs.declared.status.Status.{Status}
+use Rattle.wg_readings.specs.declared.status.Status.TheVariants.{Done, ReadFault, WriteFault}
 
 -- the outside of a job at one moment: the files of the depot and its counts, what the output has taken, and how often the output failed
 pub record Outside : Type 0 where

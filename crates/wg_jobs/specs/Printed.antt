@@ -8,16 +8,16 @@ use Rattle.wg_grammar.specs.Archive.{Accepted}
 use Rattle.wg_arcs.specs.Text.{lines_from, page_lines}
 use Rattle.wg_words.specs.declared.jobs.Job.{Job}
 use Rattle.wg_words.specs.declared.jobs.Job.TheVariants as job
-use Rattle.wg_jobs.specs.Answers.{IsHindrance, IsUnput, status_in}
-use Rattle.wg_jobs.specs.Causes.{HasCause}
+use Rattle.wg_readings.specs.Answers.{IsHindrance, IsUnput, status_in}
+use Rattle.wg_readings.specs.Causes.{HasCause}
 use Rattle.wg_jobs.specs.Judged.{number_line, number_lines}
-use Rattle.wg_jobs.specs.Names.{file_of, held_by, no_outputs}
-use Rattle.wg_jobs.specs.Passes.{IsGraphFile, IsStopAt}
+use Rattle.wg_readings.specs.Names.{file_of, held_by, no_outputs}
+use Rattle.wg_readings.specs.Passes.{IsGraphFile, IsStopAt}
 use Rattle.wg_jobs.specs.Performs.{Outside, outside}
-use Rattle.wg_jobs.specs.declared.ending.Ending.{Ending}
+use Rattle.wg_readings.specs.declared.ending.Ending.{Ending}
 use Rattle.wg_jobs.specs.declared.printing.Listing.{Listing}
 use Rattle.wg_jobs.specs.declared.printing.Listing.TheVariants.{Arcs, Offsets}
-use Rattle.wg_jobs.specs.declared.status.Input.TheVariants as input
+use Rattle.wg_readings.specs.declared.status.Input.TheVariants as input
 
 -- the job that prints it
 abbrev pub job_of : Listing → List ℕ → Job

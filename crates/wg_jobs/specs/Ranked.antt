@@ -14,9 +14,9 @@ use Rattle.wg_rank.specs.Intervals.{Intervals, Holds, by_page}
 use Rattle.wg_rank.specs.Certified.{IsCertified}
 use Rattle.wg_order.specs.Order.{Positions, IsRanking, best, worst}
 use Rattle.wg_order.specs.Surely.{IsSurely}
-use Rattle.wg_jobs.specs.Readings.{Readings}
-use Rattle.wg_jobs.specs.declared.status.Input.{Input}
-use Rattle.wg_jobs.specs.declared.status.Input.TheVariants as input
+use Rattle.wg_readings.specs.Readings.{Readings}
+use Rattle.wg_readings.specs.declared.status.Input.{Input}
+use Rattle.wg_readings.specs.declared.status.Input.TheVariants as input
 
 -- f of each page
 abbrev pub of_pages : Digraph → (ℕ → ℕ) → List ℕ

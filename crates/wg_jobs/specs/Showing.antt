@@ -6,10 +6,10 @@ use Rattle.wg_io.specs.declared.output.Output.TheVariants.{Out}
 use Rattle.wg_io.specs.declared.sink.Sink as sink
 use Rattle.wg_grammar.specs.Archive.{Accepted, ReadsGraph}
 use Rattle.wg_random.specs.Held.{Held}
-use Rattle.wg_jobs.specs.Answers.{IsUnput, status_in}
+use Rattle.wg_readings.specs.Answers.{IsUnput, status_in}
 use Rattle.wg_jobs.specs.Judged.{line_in}
-use Rattle.wg_jobs.specs.declared.ending.Ending.{Ending}
-use Rattle.wg_jobs.specs.declared.status.Status.TheVariants.{WriteFault}
+use Rattle.wg_readings.specs.declared.ending.Ending.{Ending}
+use Rattle.wg_readings.specs.declared.status.Status.TheVariants.{WriteFault}
 
 -- the line of a page of the archive is printed, or a prefix of it and then memory or the output was wanting
 pub record PrintsLine {S : Type 0} (s : sink.Ghosts S) (archive : Held) (page : ℕ) (before after : S) (waited waits : List ℕ) (result : Result (Unit {0}) Ending) : Type 0 where

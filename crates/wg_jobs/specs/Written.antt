@@ -1,7 +1,7 @@
 -- What stands of the files of a job that writes an archive.
 use Rattle.std.specs.Prelude.{◌≡◌, ◌≢◌, ◌⊎◌, ℕ, Bool, true, List, [], Option, Some, None}
 use Rattle.std.specs.FinMap as map
-use Rattle.wg_io.specs.Outside.{Files}
+use Rattle.wg_io.specs.Outside.{Files, Counts}
 use Rattle.wg_io.specs.declared.output.Output.{Output}
 use Rattle.wg_io.specs.declared.output.Output.TheVariants as output
 use Rattle.wg_params.specs.Parameters.{Parameters}
@@ -13,15 +13,12 @@ use Rattle.wg_encoder.specs.declared.error.EncodeError.{EncodeError}
 use Rattle.wg_encoder.specs.declared.error.EncodeError.TheVariants as error
 use Rattle.wg_words.specs.Layouts.{params_of}
 use Rattle.wg_words.specs.declared.layout.Layout.{Layout}
-use Rattle.wg_jobs.specs.declared.status.Input.TheVariants as input
-use Rattle.wg_jobs.specs.declared.status.Status.{Status}
-use Rattle.wg_jobs.specs.declared.status.Status.TheVariants.{Done, Memory, ReadFault, WriteFault}
-
--- the bytes of an archive's three files
-pub record Archive : Type 0 where
-  pub properties : List ℕ
-  pub graph : List ℕ
-  pub offsets : List ℕ
+use Rattle.wg_readings.specs.Causes.{IncreasedAt}
+use Rattle.wg_readings.specs.Judged.{Archive}
+use Rattle.wg_readings.specs.Names.{archive_named}
+use Rattle.wg_readings.specs.declared.status.Input.TheVariants as input
+use Rattle.wg_readings.specs.declared.status.Status.{Status}
+use Rattle.wg_readings.specs.declared.status.Status.TheVariants.{Done, Memory, ReadFault, WriteFault}
 
 -- the parameters of an archive of a graph in this layout
 abbrev pub params_for : Layout → Digraph → Parameters
@@ -48,6 +45,10 @@ archive_at names files = record {
   graph = content_of files (names output.Graph);
   offsets = content_of files (names output.Offsets);
 }
+
+-- what the three files of an archive of this name hold
+abbrev pub archive_in : List ℕ → Files → ArchiveFiles
+archive_in base files = archive_at (archive_named base) files
 
 -- no other file has changed
 abbrev pub OthersStay : (Output → Option (List ℕ)) → Files → Files → Type 0
@@ -106,6 +107,14 @@ FilesAfter a old new (WriteFault output.Graph) = StopAtGraph a old new
 FilesAfter a old new (WriteFault output.Offsets) = StopAtOffsets a old new
 FilesAfter a old new Memory = StopAtProperties a old new ⊎ StopAtGraph a old new ⊎ StopAtOffsets a old new ⊎ AreWhole a new
 FilesAfter a old new _ = new ≡ old
+
+-- the same of the files of an archive of this name
+abbrev pub LeavesAfter : Archive → List ℕ → Files → Files → Status → Type 0
+LeavesAfter a base old new status = FilesAfter a (archive_in base old) (archive_in base new) status
+
+-- a fault of one of these files is told only where the count of that file rose
+abbrev pub FaultsRose : List ℕ → (List ℕ → Counts) → (List ℕ → Counts) → Status → Type 0
+FaultsRose base old new status = (o : Output) → status ≡ WriteFault o → IncreasedAt (λ c. c.write_faults) (archive_named base o) old new
 
 -- The same of a job that may go through its graph file again while it writes: a read fault may come then.
 abbrev pub FilesLeft : Bool → Archive → ArchiveFiles → ArchiveFiles → Status → Type 0

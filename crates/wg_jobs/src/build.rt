@@ -7,14 +7,14 @@ ghost use Rattle.wg_words.specs.declared.jobs.Job.TheVariants.{Build};
 ghost use Rattle.wg_jobs.specs.Performs.{DoesOrEnds};
 
 use crate::building::build_archive;
-use crate::ending::Ending;
-use crate::load::load_list;
 use std::alloc::Global;
 use wg_io::{Depot, Sink};
 use wg_words::{Layout, Name};
+use wg_readings::{Ending, load_list};
 
-/// Writes the greedy archive of a graph that is listed arc by arc, and prints the line of what it holds. It judges the whole list before it touches
-/// a file, and holds its bytes until then; then it holds 8 bytes an arc and 8 a page for the graph, one record, and buffers of 8192 bytes.
+/// Writes the greedy archive of a graph that is listed arc by arc, and prints the line of what it holds. It judges
+/// the whole list before it touches a file, and holds its bytes until then; then it holds 8 bytes an arc and 8 a
+/// page for the graph, one record, and buffers of 8192 bytes.
 pub fn build<D: Depot, O: Sink>(
     alloc: Global,
     arcs: &Name,

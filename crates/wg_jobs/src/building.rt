@@ -5,7 +5,6 @@ ghost use Rattle.wg_params.specs.declared.limits.TheConstants.{MOST_ARCS, MOST_P
 ghost use Rattle.wg_words.specs.Layouts.{params_of};
 ghost use Rattle.wg_jobs.specs.Performs.{Builds};
 
-use crate::ending::Ending;
 use crate::print::print_ok;
 use crate::writing::write_archive;
 use std::alloc::Global;
@@ -13,8 +12,10 @@ use wg_graph::Graph;
 use wg_io::{Depot, Sink};
 use wg_params::Params;
 use wg_words::{Layout, Name};
+use wg_readings::Ending;
 
-/// Writes the greedy archive of a graph, and prints the line of what it holds. Beside the graph it holds one record, and buffers of 8192 bytes.
+/// Writes the greedy archive of a graph, and prints the line of what it holds. Beside the graph it holds one record,
+/// and buffers of 8192 bytes.
 pub fn build_archive<D: Depot, O: Sink>(
     alloc: Global,
     layout: &Layout,
@@ -24,7 +25,8 @@ pub fn build_archive<D: Depot, O: Sink>(
     out: &mut O,
 ) -> Result<(), Ending>
     requires { IsWithinLimits (params_of layout.now 0 0) }
-    ensures { Builds ⟦<D as Depot>⟧ ⟦<O as Sink>⟧ layout.now graph.now base.now depot.old depot.new out.old out.new result }
+    ensures { Builds ⟦<D as Depot>⟧
+        ⟦<O as Sink>⟧ layout.now graph.now base.now depot.old depot.new out.old out.new result }
 {
     let params = params_of(layout, graph.nodes(), graph.arcs());
     let bits = write_archive(alloc, &params, graph, base, depot)?;

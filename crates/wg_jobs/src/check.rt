@@ -2,16 +2,15 @@
 ghost use Rattle.wg_words.specs.declared.jobs.Job.TheVariants.{Check};
 ghost use Rattle.wg_jobs.specs.Performs.{DoesOrEnds};
 
-use crate::ending::Ending;
-use crate::judge::judge_files;
-use crate::load::load_params;
 use crate::print::print_ok;
 use std::alloc::Global;
 use wg_io::{Depot, Sink};
 use wg_words::Name;
+use wg_readings::{Ending, judge_files, load_params};
 
-/// Judges the three files of an archive, and prints the line of what they hold. It goes through the graph and the offsets once, beside each other,
-/// and holds a piece of each, and the lists that a reference may reach, with a few that wait to be used again.
+/// Judges the three files of an archive, and prints the line of what they hold. It goes through the graph and the
+/// offsets once, beside each other, and holds a piece of each, and the lists that a reference may reach, with a few
+/// that wait to be used again.
 pub fn check<D: Depot, O: Sink>(
     alloc: Global,
     base: &Name,

@@ -1,5 +1,6 @@
 //! The records of a graph file on their way into an archive of another name.
-ghost use Rattle.std.specs.Prelude.{◌≡◌, ◌++◌, ◌∷◌, ℕ, ◌+◌, ◌<◌, ◌≤◌, true, List as ListOf, [], length, Some, IsTrue, IfOk, IfErr};
+ghost use Rattle.std.specs.Prelude.{◌≡◌, ◌++◌, ◌∷◌, ℕ, ◌+◌, ◌<◌, ◌≤◌, true, List as ListOf, [], length, Some};
+ghost use Rattle.std.specs.Prelude.{IsTrue, IfOk, IfErr};
 ghost use Rattle.std.specs.FinMap as map;
 ghost use Rattle.wg_io.specs.Outside.{Files, NonDecreasing};
 ghost use Rattle.wg_io.specs.Suffixes.{graph_name, offsets_name};
@@ -9,29 +10,25 @@ ghost use Rattle.wg_encoder.specs.Laws.{IsList};
 ghost use Rattle.wg_encoder.specs.Gone.{HasSentAll, IsWritten, OnlyTwo};
 ghost use Rattle.wg_encoder.specs.Encoding.{HasWritten};
 ghost use Rattle.wg_grammar.specs.Archive.{Accepted};
-ghost use Rattle.wg_grammar.specs.Laws.{graph_of};
-ghost use Rattle.wg_jobs.specs.Answers.{status_in};
-ghost use Rattle.wg_jobs.specs.Causes.{IncreasedAt};
-ghost use Rattle.wg_jobs.specs.Copying.{Copies, IsOneOn, SendsOneOn, IsStoppedBy};
-ghost use Rattle.wg_jobs.specs.Names.{archive_named, file_of, held_by};
-ghost use Rattle.wg_jobs.specs.Passes.{IsGraphFile};
-ghost use Rattle.wg_jobs.specs.Written.{greedy_archive, archive_at, ArchiveFiles, emptied, unnamed, FilesLeft};
+ghost use Rattle.wg_readings.specs.Answers.{status_in};
+ghost use Rattle.wg_jobs.specs.Copying.{Copies, IsGraphIn, IsOneOn, SendsOneOn, IsStoppedBy, copy_of};
+ghost use Rattle.wg_jobs.specs.Written.{archive_in, ArchiveFiles, emptied, unnamed, FaultsRose, FilesLeft};
 
-use crate::ending::Ending;
-use crate::records::{end_records, next_record, open_graph};
 use crate::writing::encoding_ending;
-use crate::{Input, Status};
 use std::alloc::Global;
 use wg_encoder::ListEncoder;
-use wg_io::{Depot, Output};
+use wg_io::Depot;
 use wg_params::Params;
 use wg_words::Name;
+use wg_readings::{Ending, Status, end_records, next_record, open_graph};
 
 // What writes lists into an archive, before the first.
 fn begin_lists(alloc: Global, made: &Params) -> Result<ListEncoder, Ending>
     ensures params { IfOk result (λ e. e.params ≡ made.now) }
     ensures written { IfOk result (λ e. HasWritten e []) }
-    ensures begun { IfOk result (λ e. (files : Files) (base : ListOf ℕ) → map.get files (graph_name base) ≡ Some [] → map.get files (offsets_name base) ≡ Some [] → HasSentAll files base e []) }
+    ensures begun { IfOk result (λ e. (files : Files) (base : ListOf ℕ)
+        → map.get files (graph_name base) ≡ Some [] → map.get files (offsets_name base) ≡ Some []
+        → HasSentAll files base e []) }
     ensures only { IfErr result (λ e. e.status ≡ Status.Memory) }
 {
     match ListEncoder::new(alloc, *made) {
@@ -51,9 +48,11 @@ fn write_list<D: Depot>(
     requires list { IsList encoder.params list.now }
     requires arcs { encoder.next.arcs_before + length list.now ≤ encoder.params.arcs }
     ensures on { IfOk result (λ e. IsOneOn encoder e list.now) }
-    ensures sends { IfOk result (λ e. SendsOneOn D.told base.now (D.files depot.old) (D.files depot.new) encoder e list.now) }
-    ensures err { IfErr result (λ e. IsStoppedBy D.told base.now (D.files depot.old) (D.files depot.new) encoder e (λ lists more. lists ++ list.now ∷ more)) }
-    ensures causes { (o : Output) → status_in result ≡ Status.WriteFault o → IncreasedAt (λ c. c.write_faults) (archive_named base.now o) (D.counts depot.old) (D.counts depot.new) }
+    ensures sends { IfOk result (λ e. SendsOneOn D.told base.now (D.files depot.old)
+        (D.files depot.new) encoder e list.now) }
+    ensures err { IfErr result (λ e. IsStoppedBy D.told base.now (D.files depot.old)
+        (D.files depot.new) encoder e (λ lists more. lists ++ list.now ∷ more)) }
+    ensures causes { FaultsRose base.now (D.counts depot.old) (D.counts depot.new) (status_in result) }
     ensures only_two { IsTrue D.told → OnlyTwo base.now (D.files depot.old) (D.files depot.new) }
     ensures later { NonDecreasing (D.counts depot.old) (D.counts depot.new) }
 {
@@ -68,9 +67,12 @@ fn finish_lists<D: Depot>(encoder: ListEncoder, base: &Name, depot: &mut D) -> R
     requires pages { encoder.next.page ≡ encoder.params.nodes }
     requires arcs { encoder.next.arcs_before ≡ encoder.params.arcs }
     ensures bits { IfOk result (λ bits. bits ≡ encoder.total) }
-    ensures ok { IfOk result (λ bits. IsTrue D.told → (lists : ListOf (ListOf ℕ)) → HasWritten encoder lists → HasSentAll (D.files depot.old) base.now encoder lists → IsWritten (D.files depot.new) base.now encoder.params lists) }
-    ensures err { IfErr result (λ e. IsStoppedBy D.told base.now (D.files depot.old) (D.files depot.new) encoder e (λ lists more. lists)) }
-    ensures causes { (o : Output) → status_in result ≡ Status.WriteFault o → IncreasedAt (λ c. c.write_faults) (archive_named base.now o) (D.counts depot.old) (D.counts depot.new) }
+    ensures ok { IfOk result (λ bits. IsTrue D.told → (lists : ListOf (ListOf ℕ)) → HasWritten encoder lists
+        → HasSentAll (D.files depot.old) base.now encoder lists
+        → IsWritten (D.files depot.new) base.now encoder.params lists) }
+    ensures err { IfErr result (λ e. IsStoppedBy D.told base.now (D.files depot.old)
+        (D.files depot.new) encoder e (λ lists more. lists)) }
+    ensures causes { FaultsRose base.now (D.counts depot.old) (D.counts depot.new) (status_in result) }
     ensures only_two { IsTrue D.told → OnlyTwo base.now (D.files depot.old) (D.files depot.new) }
     ensures later { NonDecreasing (D.counts depot.old) (D.counts depot.new) }
 {
@@ -80,8 +82,9 @@ fn finish_lists<D: Depot>(encoder: ListEncoder, base: &Name, depot: &mut D) -> R
     }
 }
 
-/// Reads the graph file of an archive from its begin, and writes its lists into the graph file and the offsets file of another, which are empty. It
-/// answers how many bits the records have. It holds what a `Reader` and a `ListEncoder` hold.
+/// Reads the graph file of an archive from its begin, and writes its lists into the graph file and the offsets file
+/// of another, which are empty. It answers how many bits the records have. It holds what a `Reader` and a
+/// `ListEncoder` hold.
 pub fn copy_records<D: Depot>(
     alloc: Global,
     params: &Params,
@@ -93,11 +96,16 @@ pub fn copy_records<D: Depot>(
     requires nodes { made.now.nodes ≡ params.now.nodes }
     requires arcs { made.now.arcs ≡ params.now.arcs }
     requires apart { IsNoFileOf output.now (graph_name input.now) }
-    ensures copies { Copies D.told input.now output.now params.now (D.files depot.old) (D.counts depot.old) (D.counts depot.new) result }
-    ensures ok { IsTrue D.told → (a : Accepted) → IsGraphFile (held_by (file_of input.now) (D.files depot.old) Input.Graph) params.now a → archive_at (archive_named output.now) (D.files depot.old) ≡ emptied
-        → IfOk result (λ bits. (archive_at (archive_named output.now) (D.files depot.new) ≡ unnamed (greedy_archive made.now (graph_of params.now a))) × (bits ≡ length (graph_bits made.now a.graph))) }
-    ensures err { IsTrue D.told → (a : Accepted) → IsGraphFile (held_by (file_of input.now) (D.files depot.old) Input.Graph) params.now a → archive_at (archive_named output.now) (D.files depot.old) ≡ emptied
-        → (before : ArchiveFiles) → IfErr result (λ e. FilesLeft true (greedy_archive made.now (graph_of params.now a)) before (archive_at (archive_named output.now) (D.files depot.new)) e.status) }
+    ensures copies { Copies D.told input.now output.now params.now (D.files depot.old) (D.counts depot.old)
+        (D.counts depot.new) result }
+    ensures ok { IsTrue D.told → (a : Accepted) → IsGraphIn input.now (D.files depot.old) params.now a
+        → archive_in output.now (D.files depot.old) ≡ emptied
+        → IfOk result (λ bits. (archive_in output.now (D.files depot.new) ≡ unnamed
+        (copy_of made.now params.now a)) × (bits ≡ length (graph_bits made.now a.graph))) }
+    ensures err { IsTrue D.told → (a : Accepted) → IsGraphIn input.now (D.files depot.old) params.now a
+        → archive_in output.now (D.files depot.old) ≡ emptied
+        → (before : ArchiveFiles) → IfErr result (λ e. FilesLeft true (copy_of made.now params.now a) before
+        (archive_in output.now (D.files depot.new)) e.status) }
     ensures only_two { IsTrue D.told → OnlyTwo output.now (D.files depot.old) (D.files depot.new) }
 {
     let mut reader = open_graph(alloc, params, input)?;

@@ -1,13 +1,11 @@
 ghost use Rattle.std.specs.Prelude.{◌≡◌};
 ghost use Rattle.wg_words.specs.Jobs.{IsWithin};
-ghost use Rattle.wg_jobs.specs.Answers.{status_in};
-ghost use Rattle.wg_jobs.specs.Promised.{arcs_in};
+ghost use Rattle.wg_readings.specs.Answers.{status_in};
+ghost use Rattle.wg_readings.specs.Promised.{arcs_in};
 ghost use Rattle.wg_jobs.specs.Performs.{Does};
 
-use crate::Status;
 use crate::build::build;
 use crate::check::check;
-use crate::ending::Ending;
 use crate::printing::{Listing, print_records};
 use crate::rank::{Asked, rank};
 use crate::recode::recode;
@@ -16,6 +14,7 @@ use crate::transpose::transpose;
 use std::alloc::Global;
 use wg_io::{Depot, Sink};
 use wg_words::Job;
+use wg_readings::{Ending, Status};
 
 // How what was done or has ended is reported.
 fn ending_of(done: Result<(), Ending>) -> Ending

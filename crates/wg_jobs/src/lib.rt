@@ -1,46 +1,41 @@
 //! Jobs over any outside: what the words asked for is done over a depot of files, and its output goes to a sink.
 //!
-//! [`perform`] is the one call. It reads the job's inputs in their order, each judged to its end before the next is asked for, prints,
-//! and says by an [`Ending`] how the job ended. What it promises is one set of facts over what was outside before and after
-//! (`Performs`): the status is the one that the job and its inputs lead to (`judged`), or running out of memory or a fault of the
-//! outside came in its place; faults are told only where their counts rose; and at each status it says what stands on the output and
-//! in the three files of a written archive. Each command has this as its one clause, by the word `Does`. A command more is an equation
-//! of `judged`, the lists of its inputs and outputs, and a module beside `check` with that clause.
+//! [`perform`] is the one call. It reads the job's inputs in their order, each judged to its end before the next is
+//! asked for, prints, and says by an [`Ending`] how the job ended. What it promises is one set of facts over what
+//! was outside before and after (`Performs`): the status is the one that the job and its inputs lead to (`judged`),
+//! or running out of memory or a fault of the outside came in its place; faults are told only where their counts
+//! rose; and at each status it says what stands on the output and in the three files of a written archive. Each
+//! command has this as its one clause, by the word `DoesOrEnds`.
+//!
+//! A command is a chain of steps: those of `wg_readings`, which read the files of an archive and judge them, and last one
+//! that prints or writes. A command more is an equation of `judged`, the lists of its inputs and outputs, and a module
+//! beside `check` with that clause; its proof is a line for each exit, by the lemmas of `JobSteps`.
 //!
 //! `judged` takes the graph of a file from a function that reads all graph files; [`laws`] states that the grammar leaves
 //! exactly one such function, and that an archive that was built is accepted.
 //!
-//! `check`, `arcs`, `offsets` and `recode` read the graph and the offsets in pieces, so that an archive need not fit into memory; all
-//! other inputs are held whole. `show` opens pages by their offsets, and prints their successors as they come.
+//! `check`, `arcs`, `offsets` and `recode` read the graph and the offsets in pieces, so that an archive need not fit into
+//! memory; all other inputs are held whole until they are read. `show` opens pages by their offsets, and prints their
+//! successors as they come.
 #![tactic(auto)]
 
-mod archive;
 mod build;
 mod building;
 mod check;
 mod copying;
 mod dispatch;
-mod ending;
-mod judge;
 pub mod laws;
-mod listed;
-mod load;
-mod names;
-mod pairing;
 mod print;
 mod printing;
 mod rank;
 mod ranked;
 mod recode;
-mod records;
 mod show;
 mod shown;
-mod status;
 mod text;
 mod transpose;
 mod writing;
 
 pub use dispatch::perform;
-pub use ending::Ending;
-pub use status::{Input, Status};
 pub use text::Text;
+pub use wg_readings::{Ending, Input, Status};

@@ -2,7 +2,7 @@
 ghost use Rattle.std.specs.Prelude.{◌≡◌, ◌≤◌, ◌<◌, true, length, take, IsTrue, IsErrOf, IfErr, Err};
 ghost use Rattle.wg_io.specs.Puts.{Puts};
 ghost use Rattle.wg_io.specs.Refusals.{SinkRefusals};
-ghost use Rattle.wg_jobs.specs.Answers.{IsUnput, PrintRefusals};
+ghost use Rattle.wg_readings.specs.Answers.{IsUnput, PrintRefusals};
 ghost use Rattle.wg_io.specs.Printing.{Prints};
 ghost use Rattle.wg_arcs.specs.Text.{page_lines};
 ghost use Rattle.wg_io.specs.declared.lines.TheConstants.{MOST_PIECE};
@@ -10,13 +10,12 @@ ghost use Rattle.wg_jobs.specs.Ranked.{rank_line, rank_lines};
 ghost use Rattle.wg_jobs.specs.Judged.{number_line, ok_line};
 ghost use Rattle.wg_io.specs.declared.output.Output.TheVariants.{Out};
 
-use crate::Status;
-use crate::ending::Ending;
 use crate::ranked::Ranked;
 use crate::text::Text;
 use wg_io::{Lines, Output, Sink, WriteError, write_all};
 use wg_num::units_text;
 use wg_params::Params;
+use wg_readings::{Ending, Status};
 
 // A piece of the output.
 fn print<O: Sink>(out: &mut O, piece: &[u8]) -> Result<(), Ending>
@@ -64,7 +63,8 @@ pub fn print_ok<O: Sink>(out: &mut O, params: &Params, bits: u64) -> Result<(), 
 
 // A line of one number.
 fn write_line<S: Sink>(lines: &mut Lines, sink: &mut S, number: u64) -> Result<(), WriteError>
-    ensures prints { IsTrue S.told → Prints (number_line number) (S.taken sink.old) (S.taken sink.new) lines.old lines.new result }
+    ensures prints { IsTrue S.told → Prints (number_line number) (S.taken sink.old)
+        (S.taken sink.new) lines.old lines.new result }
     ensures later { S.later sink.old sink.new }
     ensures refusals { SinkRefusals ⟦<S as Sink>⟧ sink.old sink.new result }
 {
@@ -74,7 +74,8 @@ fn write_line<S: Sink>(lines: &mut Lines, sink: &mut S, number: u64) -> Result<(
 
 /// Prints a line of one number.
 pub fn print_number<O: Sink>(lines: &mut Lines, out: &mut O, number: u64) -> Result<(), Ending>
-    ensures prints { IsTrue O.told → Prints (number_line number) (O.taken out.old) (O.taken out.new) lines.old lines.new result }
+    ensures prints { IsTrue O.told → Prints (number_line number) (O.taken out.old)
+        (O.taken out.new) lines.old lines.new result }
     ensures later { O.later out.old out.new }
     ensures refusals { PrintRefusals ⟦<O as Sink>⟧ out.old out.new result }
 {
@@ -91,7 +92,8 @@ pub fn print_page<O: Sink>(
     page: u64,
     list: &[u64],
 ) -> Result<(), Ending>
-    ensures prints { IsTrue O.told → Prints (page_lines page list.now) (O.taken out.old) (O.taken out.new) lines.old lines.new result }
+    ensures prints { IsTrue O.told → Prints (page_lines page list.now) (O.taken out.old)
+        (O.taken out.new) lines.old lines.new result }
     ensures later { O.later out.old out.new }
     ensures refusals { PrintRefusals ⟦<O as Sink>⟧ out.old out.new result }
 {
@@ -135,7 +137,8 @@ fn rank_line(ranked: &Ranked, page: u64) -> Text
 // Writes the lines of the first pages of the ranking through a fixed buffer.
 fn write_ranking<S: Sink>(sink: &mut S, ranked: &Ranked, count: u64) -> Result<(), WriteError>
     requires { count ≤ length ranked.now.ranking.low }
-    ensures puts { IsTrue S.told → Puts (rank_lines ranked.now.ranking (take count ranked.now.ranking.pages)) (S.taken sink.old) (S.taken sink.new) result }
+    ensures puts { IsTrue S.told → Puts (rank_lines ranked.now.ranking (take count ranked.now.ranking.pages))
+        (S.taken sink.old) (S.taken sink.new) result }
     ensures later { S.later sink.old sink.new }
     ensures refusals { SinkRefusals ⟦<S as Sink>⟧ sink.old sink.new result }
 {
@@ -150,7 +153,8 @@ fn write_ranking<S: Sink>(sink: &mut S, ranked: &Ranked, count: u64) -> Result<(
 /// Prints the lines of the first pages of the ranking.
 pub fn print_ranking<O: Sink>(out: &mut O, ranked: &Ranked, count: u64) -> Result<(), Ending>
     requires { count ≤ length ranked.now.ranking.low }
-    ensures puts { IsTrue O.told → Puts (rank_lines ranked.now.ranking (take count ranked.now.ranking.pages)) (O.taken out.old) (O.taken out.new) result }
+    ensures puts { IsTrue O.told → Puts (rank_lines ranked.now.ranking (take count ranked.now.ranking.pages))
+        (O.taken out.old) (O.taken out.new) result }
     ensures refusals { PrintRefusals ⟦<O as Sink>⟧ out.old out.new result }
 {
     match write_ranking(out, ranked, count) {

@@ -1,20 +1,17 @@
 //! The commands `arcs` and `offsets`: a text of each record of a graph, one after the other.
 ghost use Rattle.std.specs.Prelude.{IsTrue};
 ghost use Rattle.wg_io.specs.Printing.{Prints};
-ghost use Rattle.wg_jobs.specs.Answers.{PrintRefusals};
+ghost use Rattle.wg_readings.specs.Answers.{PrintRefusals};
 ghost use Rattle.wg_jobs.specs.Performs.{DoesOrEnds};
 ghost use Rattle.wg_jobs.specs.Printed.{PrintsAgain, head_of, job_of, listed, piece_of};
 
-use crate::ending::Ending;
-use crate::judge::judge_graph;
-use crate::load::load_params;
 use crate::print::{print_number, print_page, print_rest};
-use crate::records::{end_records, next_record, open_graph};
 use std::alloc::Global;
 use wg_io::{Depot, Lines, Sink};
 use wg_params::Params;
 use wg_stream::Reader;
 use wg_words::Name;
+use wg_readings::{Ending, end_records, judge_graph, load_params, next_record, open_graph};
 
 /// What is printed of each record: the lines of its arcs, or the line of the offset after it.
 #[derive(Clone, Copy)]
@@ -23,8 +20,9 @@ pub enum Listing {
     Offsets,
 }
 
-/// Prints a text of each record of a graph. It goes through the graph file twice: it judges the whole graph before it prints. It holds a piece of
-/// the file, and the lists that a reference may reach, with a few that wait to be used again.
+/// Prints a text of each record of a graph. It goes through the graph file twice: it judges the whole graph before
+/// it prints. It holds a piece of the file, and the lists that a reference may reach, with a few that wait to be
+/// used again.
 pub fn print_records<D: Depot, O: Sink>(
     alloc: Global,
     base: &Name,
@@ -32,7 +30,8 @@ pub fn print_records<D: Depot, O: Sink>(
     depot: &mut D,
     out: &mut O,
 ) -> Result<(), Ending>
-    ensures { DoesOrEnds ⟦<D as Depot>⟧ ⟦<O as Sink>⟧ (job_of listing base.now) depot.old depot.new out.old out.new result }
+    ensures { DoesOrEnds ⟦<D as Depot>⟧ ⟦<O as Sink>⟧
+        (job_of listing base.now) depot.old depot.new out.old out.new result }
 {
     let params = load_params(alloc, depot, base)?;
     judge_graph(alloc, &params, depot, base)?;
@@ -64,7 +63,8 @@ fn print_again<D: Depot, O: Sink>(
 
 // What comes before the first record: of the offsets it is 0, where this record begins.
 fn print_head<O: Sink>(lines: &mut Lines, out: &mut O, listing: Listing) -> Result<(), Ending>
-    ensures prints { IsTrue O.told → Prints (head_of listing) (O.taken out.old) (O.taken out.new) lines.old lines.new result }
+    ensures prints { IsTrue O.told → Prints (head_of listing) (O.taken out.old)
+        (O.taken out.new) lines.old lines.new result }
     ensures later { O.later out.old out.new }
     ensures refusals { PrintRefusals ⟦<O as Sink>⟧ out.old out.new result }
 {

@@ -3,20 +3,18 @@ ghost use Rattle.std.specs.Prelude.{◌≡◌, ◌≤◌, IsTrue, IfOk, IfErr};
 ghost use Rattle.wg_io.specs.Puts.{Puts};
 ghost use Rattle.wg_params.specs.declared.limits.TheConstants.{MOST_DAMPING, MOST_ROUNDS};
 ghost use Rattle.wg_words.specs.declared.jobs.Job.TheVariants.{Rank};
-ghost use Rattle.wg_jobs.specs.Answers.{PrintRefusals};
+ghost use Rattle.wg_readings.specs.Answers.{PrintRefusals};
 ghost use Rattle.wg_jobs.specs.Performs.{DoesOrEnds};
 ghost use Rattle.wg_jobs.specs.Ranked.{AreReady, ranking_text};
-ghost use Rattle.wg_jobs.specs.Readings.{Readings};
+ghost use Rattle.wg_readings.specs.Readings.{Readings};
 
-use crate::Status;
-use crate::ending::Ending;
-use crate::load::{load_graph, load_params};
 use crate::print::print_ranking;
 use crate::ranked::Room;
 use std::alloc::Global;
 use wg_graph::Graph;
 use wg_io::{Depot, Sink};
 use wg_words::Name;
+use wg_readings::{Ending, Status, load_graph, load_params};
 
 /// How many rounds are done, at which damping in thousandths, and how many pages are printed.
 #[derive(Clone, Copy, Debug)]
@@ -26,9 +24,9 @@ pub struct Asked {
     pub top: u64,
 }
 
-/// Prints the first pages of the ranking, with their bounds and positions. It judges the whole graph before it prints, and takes all its memory
-/// before the first round: 8 bytes an arc and 8 a page for the graph, and until it is read the bytes of its file; and then 64 bytes a page for bounds
-/// and ranking.
+/// Prints the first pages of the ranking, with their bounds and positions. It judges the whole graph before it
+/// prints, and takes all its memory before the first round: 8 bytes an arc and 8 a page for the graph, and until it
+/// is read the bytes of its file; and then 64 bytes a page for bounds and ranking.
 pub fn rank<D: Depot, O: Sink>(
     alloc: Global,
     base: &Name,
@@ -66,7 +64,8 @@ fn print_ranks<O: Sink>(out: &mut O, graph: &Graph, room: Room, asked: Asked) ->
     requires ready { AreReady graph.now room.bounds }
     requires damping { room.bounds.damping ≡ asked.damping }
     ensures puts { IsTrue O.told → (r : Readings)
-        → Puts (ranking_text r graph.now asked.rounds asked.damping asked.top) (O.taken out.old) (O.taken out.new) result }
+        → Puts (ranking_text r graph.now asked.rounds asked.damping asked.top) (O.taken out.old)
+        (O.taken out.new) result }
     ensures refusals { PrintRefusals ⟦<O as Sink>⟧ out.old out.new result }
 {
     let ranked = room.rank(graph, asked.rounds);

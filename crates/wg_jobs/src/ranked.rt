@@ -36,7 +36,8 @@ impl Room {
         Ok(Room { bounds })
     }
 
-    /// The ranking after so many rounds. It takes no memory. Each round is one pass along the arcs, and the ranking takes two sorts.
+    /// The ranking after so many rounds. It takes no memory. Each round is one pass along the arcs, and the ranking
+    /// takes two sorts.
     pub fn rank(self, graph: &Graph, rounds: u64) -> Ranked
         requires rounds { rounds ≤ MOST_ROUNDS }
         requires ready { AreReady graph.now self.bounds }

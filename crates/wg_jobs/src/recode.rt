@@ -1,36 +1,31 @@
 //! The command `recode`: an archive of the same graph in another layout.
-ghost use Rattle.std.specs.Prelude.{◌≡◌, true, IsTrue, IfOk, IfErr, length};
+ghost use Rattle.std.specs.Prelude.{◌≡◌, IsTrue, IfOk, IfErr, length};
 ghost use Rattle.wg_io.specs.Suffixes.{graph_name};
 ghost use Rattle.wg_params.specs.Parameters.{IsWithinLimits};
 ghost use Rattle.wg_encoder.specs.Archive.{graph_bits};
 ghost use Rattle.wg_grammar.specs.Archive.{Accepted};
-ghost use Rattle.wg_grammar.specs.Laws.{graph_of};
 ghost use Rattle.wg_words.specs.Files.{IsNoFileOf, ShareNoFile};
 ghost use Rattle.wg_words.specs.Layouts.{params_of};
 ghost use Rattle.wg_words.specs.declared.jobs.Job.TheVariants.{Recode};
-ghost use Rattle.wg_jobs.specs.Copying.{Copies};
-ghost use Rattle.wg_jobs.specs.Names.{archive_named, file_of, held_by};
-ghost use Rattle.wg_jobs.specs.Passes.{IsGraphFile};
+ghost use Rattle.wg_jobs.specs.Copying.{Copies, IsGraphIn, LeavesCopy, copy_of};
+ghost use Rattle.wg_readings.specs.Names.{archive_named};
 ghost use Rattle.wg_jobs.specs.Performs.{DoesOrEnds};
-ghost use Rattle.wg_jobs.specs.declared.status.Input.{Input};
-ghost use Rattle.wg_jobs.specs.Written.{greedy_archive, archive_at, AreWhole, OthersStay, FilesLeft};
+ghost use Rattle.wg_jobs.specs.Written.{archive_in, AreWhole, OthersStay};
 
 use crate::building::params_of;
 use crate::copying::copy_records;
-use crate::ending::Ending;
-use crate::judge::judge_graph;
-use crate::load::load_params;
-use crate::names::file_name;
 use crate::print::print_ok;
 use crate::writing::{create_files, properties_text, write_properties};
 use std::alloc::Global;
 use wg_io::{Depot, PROPERTIES, Sink};
 use wg_params::Params;
 use wg_words::{Layout, Name};
+use wg_readings::{Ending, file_name, judge_graph, load_params};
 
-/// Writes the greedy archive of an archive's graph, in the layout that is given, and prints the line of what it holds. It goes through the graph file
-/// twice: it judges the whole graph before it touches a file. It holds a piece of the file, and twice the lists that a reference may reach, with a
-/// few that wait to be used again; one record, and buffers of 8192 bytes.
+/// Writes the greedy archive of an archive's graph, in the layout that is given, and prints the line of what it
+/// holds. It goes through the graph file twice: it judges the whole graph before it touches a file. It holds a piece
+/// of the file, and twice the lists that a reference may reach, with a few that wait to be used again; one record,
+/// and buffers of 8192 bytes.
 pub fn recode<D: Depot, O: Sink>(
     alloc: Global,
     input: &Name,
@@ -63,11 +58,14 @@ fn rewrite<D: Depot>(
     requires nodes { made.now.nodes ≡ params.now.nodes }
     requires arcs { made.now.arcs ≡ params.now.arcs }
     requires apart { IsNoFileOf output.now (graph_name input.now) }
-    ensures copies { Copies D.told input.now output.now params.now (D.files depot.old) (D.counts depot.old) (D.counts depot.new) result }
-    ensures ok { IsTrue D.told → (a : Accepted) → IsGraphFile (held_by (file_of input.now) (D.files depot.old) Input.Graph) params.now a
-        → IfOk result (λ bits. AreWhole (greedy_archive made.now (graph_of params.now a)) (archive_at (archive_named output.now) (D.files depot.new)) × (bits ≡ length (graph_bits made.now a.graph))) }
-    ensures err { IsTrue D.told → (a : Accepted) → IsGraphFile (held_by (file_of input.now) (D.files depot.old) Input.Graph) params.now a
-        → IfErr result (λ e. FilesLeft true (greedy_archive made.now (graph_of params.now a)) (archive_at (archive_named output.now) (D.files depot.old)) (archive_at (archive_named output.now) (D.files depot.new)) e.status) }
+    ensures copies { Copies D.told input.now output.now params.now (D.files depot.old) (D.counts depot.old)
+        (D.counts depot.new) result }
+    ensures ok { IsTrue D.told → (a : Accepted) → IsGraphIn input.now (D.files depot.old) params.now a
+        → IfOk result (λ bits. AreWhole (copy_of made.now params.now a)
+        (archive_in output.now (D.files depot.new)) × (bits ≡ length (graph_bits made.now a.graph))) }
+    ensures err { IsTrue D.told → (a : Accepted) → IsGraphIn input.now (D.files depot.old) params.now a
+        → IfErr result (λ e. LeavesCopy (copy_of made.now params.now a) output.now (D.files depot.old)
+        (D.files depot.new) e.status) }
     ensures others { IsTrue D.told → OthersStay (archive_named output.now) (D.files depot.old) (D.files depot.new) }
 {
     let name = file_name(alloc, output, PROPERTIES)?;

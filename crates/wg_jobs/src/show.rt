@@ -5,17 +5,13 @@ ghost use Rattle.wg_io.specs.Puts.{Puts};
 ghost use Rattle.wg_io.specs.declared.output.Output.TheVariants.{Out};
 ghost use Rattle.wg_grammar.specs.Archive.{Accepted, ReadsGraph};
 ghost use Rattle.wg_words.specs.declared.jobs.Job.TheVariants.{Show};
-ghost use Rattle.wg_jobs.specs.Answers.{IsUnput, status_in};
+ghost use Rattle.wg_readings.specs.Answers.{IsUnput, status_in};
 ghost use Rattle.wg_jobs.specs.Judged.{successors_lines};
 ghost use Rattle.wg_jobs.specs.Performs.{DoesOrEnds};
 ghost use Rattle.wg_jobs.specs.Showing.{PrintsLine};
 
-use crate::archive::{archive_of, find_pages, records_of_graph};
-use crate::ending::Ending;
-use crate::load::{load, load_offsets, load_params};
 use crate::print::print_rest;
 use crate::shown::{print_list, print_page};
-use crate::{Input, Status};
 use std::alloc::Global;
 use std::marker::Brand;
 use std::sync::ledger::{Blank, Ledger};
@@ -23,11 +19,12 @@ use wg_graph::List;
 use wg_io::{Depot, Lines, Sink};
 use wg_random::{Archive, ListError, OpenError, Steps};
 use wg_words::Name;
+use wg_readings::{Ending, Input, Status, archive_of, find_pages, load, load_offsets, load_params, records_of_graph};
 
-/// Prints the successors of pages, a line for each. It judges the three files before it prints, and looks whether all pages are there
-/// that it is asked for. It holds the bytes of the graph file and 8 bytes a page for the offsets, and until these have been compared
-/// 8 bytes more. A page then takes the time of its chain of references, and a box for each of them; its successors are printed as they
-/// come.
+/// Prints the successors of pages, a line for each. It judges the three files before it prints, and looks whether
+/// all pages are there that it is asked for. It holds the bytes of the graph file and 8 bytes a page for the
+/// offsets, and until these have been compared 8 bytes more. A page then takes the time of its chain of references,
+/// and a box for each of them; its successors are printed as they come.
 pub fn show<D: Depot, O: Sink>(
     alloc: Global,
     base: &Name,
@@ -35,7 +32,8 @@ pub fn show<D: Depot, O: Sink>(
     depot: &mut D,
     out: &mut O,
 ) -> Result<(), Ending>
-    ensures { DoesOrEnds ⟦<D as Depot>⟧ ⟦<O as Sink>⟧ (Show base.now pages.now) depot.old depot.new out.old out.new result }
+    ensures { DoesOrEnds ⟦<D as Depot>⟧ ⟦<O as Sink>⟧
+        (Show base.now pages.now) depot.old depot.new out.old out.new result }
 {
     let params = load_params(alloc, depot, base)?;
     let bytes = load(alloc, depot, base, Input::Graph)?;
@@ -46,7 +44,8 @@ pub fn show<D: Depot, O: Sink>(
     print_pages::<Brand, O>(alloc, &archive, pages.as_slice(), out, Blank::new(1))
 }
 
-// Prints the line of a page, whose successors come one by one, or are listed if its chain of references is too long for that.
+// Prints the line of a page, whose successors come one by one, or are listed if its chain of references is too long
+// for that.
 fn show_page<L: Ledger, O: Sink>(
     alloc: Global,
     archive: &Archive<'_>,

@@ -3,17 +3,18 @@ ghost use Rattle.std.specs.Prelude.{◌≡◌, map, IsTrue};
 ghost use Rattle.wg_io.specs.Printing.{Prints};
 ghost use Rattle.wg_io.specs.Puts.{joined};
 ghost use Rattle.wg_io.specs.Refusals.{SinkRefusals};
-ghost use Rattle.wg_jobs.specs.Answers.{PrintRefusals};
+ghost use Rattle.wg_readings.specs.Answers.{PrintRefusals};
 ghost use Rattle.wg_jobs.specs.Judged.{spaced, successors_line};
 
-use crate::ending::Ending;
 use crate::print::output_ending;
 use wg_io::{Lines, Sink, WriteError};
 use wg_iterators::Successors;
+use wg_readings::Ending;
 
 // A number behind a space.
 fn write_spaced<S: Sink>(lines: &mut Lines, sink: &mut S, number: u64) -> Result<(), WriteError>
-    ensures prints { IsTrue S.told → Prints (spaced number) (S.taken sink.old) (S.taken sink.new) lines.old lines.new result }
+    ensures prints { IsTrue S.told → Prints (spaced number) (S.taken sink.old)
+        (S.taken sink.new) lines.old lines.new result }
     ensures later { S.later sink.old sink.new }
     ensures refusals { SinkRefusals ⟦<S as Sink>⟧ sink.old sink.new result }
 {
@@ -27,7 +28,8 @@ fn write_coming<S: Sink>(
     sink: &mut S,
     successors: &mut Successors<'_>,
 ) -> Result<(), WriteError>
-    ensures prints { IsTrue S.told → Prints (joined (map spaced successors.old.list)) (S.taken sink.old) (S.taken sink.new) lines.old lines.new result }
+    ensures prints { IsTrue S.told → Prints (joined (map spaced successors.old.list)) (S.taken sink.old)
+        (S.taken sink.new) lines.old lines.new result }
     ensures later { S.later sink.old sink.new }
     ensures refusals { SinkRefusals ⟦<S as Sink>⟧ sink.old sink.new result }
 {
@@ -44,7 +46,8 @@ fn write_page<S: Sink>(
     page: u64,
     successors: &mut Successors<'_>,
 ) -> Result<(), WriteError>
-    ensures prints { IsTrue S.told → Prints (successors_line page successors.old.list) (S.taken sink.old) (S.taken sink.new) lines.old lines.new result }
+    ensures prints { IsTrue S.told → Prints (successors_line page successors.old.list) (S.taken sink.old)
+        (S.taken sink.new) lines.old lines.new result }
     ensures later { S.later sink.old sink.new }
     ensures refusals { SinkRefusals ⟦<S as Sink>⟧ sink.old sink.new result }
 {
@@ -60,7 +63,8 @@ pub fn print_page<O: Sink>(
     page: u64,
     successors: &mut Successors<'_>,
 ) -> Result<(), Ending>
-    ensures prints { IsTrue O.told → Prints (successors_line page successors.old.list) (O.taken out.old) (O.taken out.new) lines.old lines.new result }
+    ensures prints { IsTrue O.told → Prints (successors_line page successors.old.list) (O.taken out.old)
+        (O.taken out.new) lines.old lines.new result }
     ensures later { O.later out.old out.new }
     ensures refusals { PrintRefusals ⟦<O as Sink>⟧ out.old out.new result }
 {
@@ -72,7 +76,8 @@ pub fn print_page<O: Sink>(
 
 // The successors of a list.
 fn write_listed<S: Sink>(lines: &mut Lines, sink: &mut S, list: &[u64]) -> Result<(), WriteError>
-    ensures prints { IsTrue S.told → Prints (joined (map spaced list.now)) (S.taken sink.old) (S.taken sink.new) lines.old lines.new result }
+    ensures prints { IsTrue S.told → Prints (joined (map spaced list.now)) (S.taken sink.old)
+        (S.taken sink.new) lines.old lines.new result }
     ensures later { S.later sink.old sink.new }
     ensures refusals { SinkRefusals ⟦<S as Sink>⟧ sink.old sink.new result }
 {
@@ -89,7 +94,8 @@ fn write_list<S: Sink>(
     page: u64,
     list: &[u64],
 ) -> Result<(), WriteError>
-    ensures prints { IsTrue S.told → Prints (successors_line page list.now) (S.taken sink.old) (S.taken sink.new) lines.old lines.new result }
+    ensures prints { IsTrue S.told → Prints (successors_line page list.now) (S.taken sink.old)
+        (S.taken sink.new) lines.old lines.new result }
     ensures later { S.later sink.old sink.new }
     ensures refusals { SinkRefusals ⟦<S as Sink>⟧ sink.old sink.new result }
 {
@@ -105,7 +111,8 @@ pub fn print_list<O: Sink>(
     page: u64,
     list: &[u64],
 ) -> Result<(), Ending>
-    ensures prints { IsTrue O.told → Prints (successors_line page list.now) (O.taken out.old) (O.taken out.new) lines.old lines.new result }
+    ensures prints { IsTrue O.told → Prints (successors_line page list.now) (O.taken out.old)
+        (O.taken out.new) lines.old lines.new result }
     ensures later { O.later out.old out.new }
     ensures refusals { PrintRefusals ⟦<O as Sink>⟧ out.old out.new result }
 {

@@ -6,18 +6,17 @@ ghost use Rattle.wg_words.specs.Layouts.{params_of};
 ghost use Rattle.wg_words.specs.declared.jobs.Job.TheVariants.{Transpose};
 ghost use Rattle.wg_jobs.specs.Performs.{DoesOrEnds};
 
-use crate::Status;
 use crate::building::build_archive;
-use crate::ending::Ending;
-use crate::load::{load_graph, load_params};
 use std::alloc::Global;
 use wg_graph::Graph;
 use wg_io::{Depot, Sink};
 use wg_words::{Layout, Name};
+use wg_readings::{Ending, Status, load_graph, load_params};
 
-/// Writes the greedy archive of an archive's graph with each arc the other way round, in the layout that is given, and prints the line of what it
-/// holds. It judges the whole graph before it touches a file; it holds 16 bytes an arc and 16 a page for the graph and the transposed one, and until
-/// the graph is read the bytes of its file; one record, and buffers of 8192 bytes.
+/// Writes the greedy archive of an archive's graph with each arc the other way round, in the layout that is given,
+/// and prints the line of what it holds. It judges the whole graph before it touches a file; it holds 16 bytes an
+/// arc and 16 a page for the graph and the transposed one, and until the graph is read the bytes of its file; one
+/// record, and buffers of 8192 bytes.
 pub fn transpose<D: Depot, O: Sink>(
     alloc: Global,
     input: &Name,

@@ -1,4 +1,5 @@
-//! An archive on its way into its three files. The properties come last: until they are whole, no one takes the files for an archive.
+//! An archive on its way into its three files. The properties come last: until they are whole, no one takes the
+//! files for an archive.
 ghost use Rattle.std.specs.Prelude.{◌≡◌, ◌≢◌, ◌++◌, ℕ, List, [], length, IsTrue, OnOk, IfOk, IfErr, Some};
 ghost use Rattle.std.specs.FinMap as map;
 ghost use Rattle.wg_io.specs.Outside.{NonDecreasing, created, appended};
@@ -6,20 +7,21 @@ ghost use Rattle.wg_io.specs.Suffixes.{properties_name};
 ghost use Rattle.wg_graph.specs.Digraph.{arc_count};
 ghost use Rattle.wg_properties.specs.Text.{text_of};
 ghost use Rattle.wg_encoder.specs.Archive.{graph_bits, graph_file, offsets_file};
-ghost use Rattle.wg_jobs.specs.Answers.{status_in};
-ghost use Rattle.wg_jobs.specs.Causes.{IncreasedAt};
-ghost use Rattle.wg_jobs.specs.Names.{archive_named};
-ghost use Rattle.wg_jobs.specs.Written.{Archive, greedy_archive, archive_at, ArchiveFiles, emptied, unnamed, status_of_error, AreWhole, OthersStay, FilesAfter, IsStoppedAt, IsStopped};
+ghost use Rattle.wg_readings.specs.Answers.{status_in};
+ghost use Rattle.wg_readings.specs.Causes.{IncreasedAt};
+ghost use Rattle.wg_readings.specs.Names.{archive_named};
+ghost use Rattle.wg_jobs.specs.Written.{greedy_archive, archive_in, ArchiveFiles, emptied, unnamed, status_of_error};
+ghost use Rattle.wg_jobs.specs.Written.{AreWhole, OthersStay, FilesAfter, FaultsRose};
+ghost use Rattle.wg_jobs.specs.Written.{IsStoppedAt, IsStopped, LeavesAfter};
+ghost use Rattle.wg_readings.specs.Judged.{Archive};
 
-use crate::Status;
-use crate::ending::Ending;
-use crate::names::file_name;
 use std::alloc::Global;
 use wg_encoder::{EncodeError, encode};
 use wg_graph::Graph;
 use wg_io::{Depot, GRAPH, List8, OFFSETS, Output, PROPERTIES, WriteError, append_all};
 use wg_params::Params;
 use wg_words::Name;
+use wg_readings::{Ending, Status, file_name};
 
 // How a job ends that a call on one of its files stopped.
 fn writing_ending(output: Output, error: WriteError) -> Ending
@@ -41,13 +43,15 @@ fn create<D: Depot>(
     suffix: &str,
     output: Output,
 ) -> Result<(), Ending>
-    ensures ok { IsTrue D.told → OnOk result (D.files depot.new ≡ created (D.files depot.old) (base.now ++ suffix.now)) }
+    ensures ok { IsTrue D.told → OnOk result (D.files depot.new ≡ created (D.files depot.old)
+        (base.now ++ suffix.now)) }
     ensures err { IfErr result (λ e. D.files depot.new ≡ D.files depot.old) }
     ensures others { IsTrue D.told → (q : List ℕ) → q ≢ base.now ++ suffix.now
         → map.get (D.files depot.new) q ≡ map.get (D.files depot.old) q }
     ensures only { IfErr result (λ e. IsStoppedAt output e.status) }
     ensures cause { status_in result ≡ Status.WriteFault output
-        → IncreasedAt (λ c. c.write_faults) (Some (base.now ++ suffix.now)) (D.counts depot.old) (D.counts depot.new) }
+        → IncreasedAt (λ c. c.write_faults) (Some (base.now ++ suffix.now)) (D.counts depot.old)
+        (D.counts depot.new) }
     ensures later { NonDecreasing (D.counts depot.old) (D.counts depot.new) }
 {
     let name = file_name(alloc, base, suffix)?;
@@ -59,11 +63,12 @@ fn create<D: Depot>(
 
 /// Leaves the three files empty, the properties first.
 pub fn create_files<D: Depot>(alloc: Global, depot: &mut D, base: &Name) -> Result<(), Ending>
-    ensures ok { IsTrue D.told → OnOk result (archive_at (archive_named base.now) (D.files depot.new) ≡ emptied) }
-    ensures err { IsTrue D.told → (a : Archive) → IfErr result (λ e. FilesAfter a (archive_at (archive_named base.now) (D.files depot.old)) (archive_at (archive_named base.now) (D.files depot.new)) e.status) }
+    ensures ok { IsTrue D.told → OnOk result (archive_in base.now (D.files depot.new) ≡ emptied) }
+    ensures err { IsTrue D.told → (a : Archive) → IfErr result (λ e. LeavesAfter a base.now (D.files depot.old)
+        (D.files depot.new) e.status) }
     ensures others { IsTrue D.told → OthersStay (archive_named base.now) (D.files depot.old) (D.files depot.new) }
     ensures only { IfErr result (λ e. IsStopped e.status) }
-    ensures causes { (o : Output) → status_in result ≡ Status.WriteFault o → IncreasedAt (λ c. c.write_faults) (archive_named base.now o) (D.counts depot.old) (D.counts depot.new) }
+    ensures causes { FaultsRose base.now (D.counts depot.old) (D.counts depot.new) (status_in result) }
     ensures later { NonDecreasing (D.counts depot.old) (D.counts depot.new) }
 {
     create(alloc, depot, base, PROPERTIES, Output::Properties)?;
@@ -91,12 +96,16 @@ fn write_records<D: Depot>(
 ) -> Result<u64, Ending>
     requires nodes { params.now.nodes ≡ graph.now.nodes }
     requires arcs { params.now.arcs ≡ arc_count graph.now }
-    ensures ok { IsTrue D.told → archive_at (archive_named base.now) (D.files depot.old) ≡ emptied → OnOk result (archive_at (archive_named base.now) (D.files depot.new) ≡ unnamed (greedy_archive params.now graph.now)) }
-    ensures bits { IsTrue D.told → archive_at (archive_named base.now) (D.files depot.old) ≡ emptied → IfOk result (λ bits. bits ≡ length (graph_bits params.now graph.now.lists)) }
-    ensures err { IsTrue D.told → archive_at (archive_named base.now) (D.files depot.old) ≡ emptied → (before : ArchiveFiles) → IfErr result (λ e. FilesAfter (greedy_archive params.now graph.now) before (archive_at (archive_named base.now) (D.files depot.new)) e.status) }
+    ensures ok { IsTrue D.told → archive_in base.now (D.files depot.old) ≡ emptied
+        → OnOk result (archive_in base.now (D.files depot.new) ≡ unnamed (greedy_archive params.now graph.now)) }
+    ensures bits { IsTrue D.told → archive_in base.now (D.files depot.old) ≡ emptied
+        → IfOk result (λ bits. bits ≡ length (graph_bits params.now graph.now.lists)) }
+    ensures err { IsTrue D.told → archive_in base.now (D.files depot.old) ≡ emptied → (before : ArchiveFiles)
+        → IfErr result (λ e. FilesAfter (greedy_archive params.now graph.now) before
+        (archive_in base.now (D.files depot.new)) e.status) }
     ensures others { IsTrue D.told → OthersStay (archive_named base.now) (D.files depot.old) (D.files depot.new) }
     ensures only { IfErr result (λ e. IsStopped e.status) }
-    ensures causes { (o : Output) → status_in result ≡ Status.WriteFault o → IncreasedAt (λ c. c.write_faults) (archive_named base.now o) (D.counts depot.old) (D.counts depot.new) }
+    ensures causes { FaultsRose base.now (D.counts depot.old) (D.counts depot.new) (status_in result) }
     ensures later { NonDecreasing (D.counts depot.old) (D.counts depot.new) }
 {
     match encode(alloc, *params, graph, depot, base.as_str()) {
@@ -113,11 +122,15 @@ pub fn write_properties<D: Depot>(
     depot: &mut D,
 ) -> Result<(), Ending>
     requires { name.now ≡ properties_name base.now }
-    ensures ok { IsTrue D.told → (a : Archive) → a.properties ≡ text.now → archive_at (archive_named base.now) (D.files depot.old) ≡ unnamed a → OnOk result (AreWhole a (archive_at (archive_named base.now) (D.files depot.new))) }
-    ensures err { IsTrue D.told → (a : Archive) → a.properties ≡ text.now → archive_at (archive_named base.now) (D.files depot.old) ≡ unnamed a → (before : ArchiveFiles) → IfErr result (λ e. FilesAfter a before (archive_at (archive_named base.now) (D.files depot.new)) e.status) }
+    ensures ok { IsTrue D.told → (a : Archive) → a.properties ≡ text.now
+        → archive_in base.now (D.files depot.old) ≡ unnamed a
+        → OnOk result (AreWhole a (archive_in base.now (D.files depot.new))) }
+    ensures err { IsTrue D.told → (a : Archive) → a.properties ≡ text.now
+        → archive_in base.now (D.files depot.old) ≡ unnamed a → (before : ArchiveFiles)
+        → IfErr result (λ e. FilesAfter a before (archive_in base.now (D.files depot.new)) e.status) }
     ensures others { IsTrue D.told → OthersStay (archive_named base.now) (D.files depot.old) (D.files depot.new) }
     ensures only { IfErr result (λ e. IsStopped e.status) }
-    ensures causes { (o : Output) → status_in result ≡ Status.WriteFault o → IncreasedAt (λ c. c.write_faults) (archive_named base.now o) (D.counts depot.old) (D.counts depot.new) }
+    ensures causes { FaultsRose base.now (D.counts depot.old) (D.counts depot.new) (status_in result) }
     ensures later { NonDecreasing (D.counts depot.old) (D.counts depot.new) }
 {
     match append_all(depot, name.as_str(), text) {
@@ -137,8 +150,9 @@ pub fn properties_text(alloc: Global, params: &Params) -> Result<List8, Ending>
     }
 }
 
-/// Writes the greedy archive of a graph: creates the three files, appends the records and the offsets, and the properties last. It answers
-/// how many bits the records have. Beside the graph it holds what an `Encoder` holds and the properties text.
+/// Writes the greedy archive of a graph: creates the three files, appends the records and the offsets, and the
+/// properties last. It answers how many bits the records have. Beside the graph it holds what an `Encoder` holds and
+/// the properties text.
 pub fn write_archive<D: Depot>(
     alloc: Global,
     params: &Params,
@@ -148,11 +162,13 @@ pub fn write_archive<D: Depot>(
 ) -> Result<u64, Ending>
     requires nodes { params.now.nodes ≡ graph.now.nodes }
     requires arcs { params.now.arcs ≡ arc_count graph.now }
-    ensures ok { IsTrue D.told → IfOk result (λ bits. AreWhole (greedy_archive params.now graph.now) (archive_at (archive_named base.now) (D.files depot.new)) × (bits ≡ length (graph_bits params.now graph.now.lists))) }
-    ensures err { IsTrue D.told → IfErr result (λ e. FilesAfter (greedy_archive params.now graph.now) (archive_at (archive_named base.now) (D.files depot.old)) (archive_at (archive_named base.now) (D.files depot.new)) e.status) }
+    ensures ok { IsTrue D.told → IfOk result (λ bits. AreWhole (greedy_archive params.now graph.now)
+        (archive_in base.now (D.files depot.new)) × (bits ≡ length (graph_bits params.now graph.now.lists))) }
+    ensures err { IsTrue D.told → IfErr result (λ e. LeavesAfter (greedy_archive params.now graph.now) base.now
+        (D.files depot.old) (D.files depot.new) e.status) }
     ensures others { IsTrue D.told → OthersStay (archive_named base.now) (D.files depot.old) (D.files depot.new) }
     ensures only { IfErr result (λ e. IsStopped e.status) }
-    ensures causes { (o : Output) → status_in result ≡ Status.WriteFault o → IncreasedAt (λ c. c.write_faults) (archive_named base.now o) (D.counts depot.old) (D.counts depot.new) }
+    ensures causes { FaultsRose base.now (D.counts depot.old) (D.counts depot.new) (status_in result) }
     ensures later { NonDecreasing (D.counts depot.old) (D.counts depot.new) }
 {
     let name = file_name(alloc, base, PROPERTIES)?;

@@ -1,8 +1,8 @@
 use Rattle.std.proofs.Common.{◌∙◌, subst}
 use Rattle.wg_words.specs.Jobs.{job_of}
 use Rattle.wg_words.specs.declared.jobs.Job.TheVariants.{Rank}
-use Rattle.wg_jobs.specs.Answers.{Answers, HasOutput}
-use Rattle.wg_jobs.specs.Judged.{output_of}
+use Rattle.wg_readings.specs.Answers.{Answers, HasOutput}
+use Rattle.wg_readings.specs.Judged.{output_of}
 use Rattle.wg_jobs.specs.Names.{held_for}
 use Rattle.wg_jobs.specs.Performs.{judged_on}
 use Rattle.wg_cli.proofs.LineLemmas.{nothing_promised}

@@ -1,8 +1,8 @@
 use Rattle.std.proofs.Common.{rules, sym, subst}
-use Rattle.wg_jobs.specs.Answers.{HasOutput}
-use Rattle.wg_jobs.specs.Causes.{HasCause}
-use Rattle.wg_jobs.specs.Names.{archive_named}
-use Rattle.wg_jobs.specs.declared.status.Status.{Status}
+use Rattle.wg_readings.specs.Answers.{HasOutput}
+use Rattle.wg_readings.specs.Causes.{HasCause}
+use Rattle.wg_readings.specs.Names.{archive_named}
+use Rattle.wg_readings.specs.declared.status.Status.{Status}
 use Rattle.wg_jobs.proofs.BuildLemmas.{ended_by, stopped_cause, stopped_output}
 use Rattle.wg_jobs.proofs.building.build_archive.Goals as goal
 

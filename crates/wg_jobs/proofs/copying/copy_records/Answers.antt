@@ -5,7 +5,7 @@ use Rattle.wg_params.specs.Parameters.{Parameters}
 use Rattle.wg_graph.specs.Ascending.{Below}
 use Rattle.wg_grammar.specs.Laws.{graph_of}
 use Rattle.wg_jobs.proofs.CopyingLemmas.{begun_left, copied_on, copies_exit, copies_want, end_copies, end_left, end_whole, list_copies, list_left, only_end, only_on, read_copies, read_left}
-use Rattle.wg_jobs.proofs.UnderWay.{begins}
+use Rattle.wg_readings.proofs.UnderWay.{begins}
 use Rattle.wg_jobs.proofs.WritingLemmas.{if_that_err}
 use Rattle.wg_jobs.proofs.copying.copy_records.Goals as goal
 

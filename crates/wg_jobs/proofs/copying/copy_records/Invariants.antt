@@ -1,7 +1,7 @@
 use Rattle.std.proofs.Common.{◌≡◌, IsTrue}
 use Rattle.wg_encoder.specs.Gone.{OnlyTwo}
 use Rattle.wg_jobs.proofs.CopyingLemmas.{HasCopied}
-use Rattle.wg_jobs.proofs.UnderWay.{IsUnderWay}
+use Rattle.wg_readings.proofs.UnderWay.{IsUnderWay}
 use Rattle.wg_jobs.proofs.copying.copy_records.Given as goal
 
 -- the lists of the records so far are written

@@ -1,4 +1,4 @@
-use Rattle.wg_jobs.proofs.ReadingsLaws.{the_readings, readings_one}
+use Rattle.wg_readings.proofs.ReadingsLaws.{the_readings, readings_one}
 use Rattle.wg_jobs.proofs.laws.readings.Goals as goal
 
 pub returns-clause-some : goal.returns-clause-some

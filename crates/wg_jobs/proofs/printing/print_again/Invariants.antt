@@ -1,8 +1,8 @@
 use Rattle.std.proofs.Common.{[], IsTrue}
 use Rattle.wg_io.specs.Printing.{HasPrinted}
-use Rattle.wg_jobs.specs.Passes.{accepted_of}
+use Rattle.wg_readings.specs.Passes.{accepted_of}
 use Rattle.wg_jobs.specs.Printed.{listed}
-use Rattle.wg_jobs.proofs.UnderWay.{IsUnderWay}
+use Rattle.wg_readings.proofs.UnderWay.{IsUnderWay}
 use Rattle.wg_jobs.proofs.printing.print_again.Given as goal
 
 -- the text of the records so far is printed

@@ -1,10 +1,10 @@
 use Rattle.std.proofs.Common.{refl}
 use Rattle.wg_params.specs.Parameters.{Parameters}
-use Rattle.wg_jobs.specs.Judged.{accepted}
-use Rattle.wg_jobs.specs.Passes.{graph_then}
+use Rattle.wg_readings.specs.Judged.{accepted}
+use Rattle.wg_readings.specs.Passes.{graph_then}
 use Rattle.wg_jobs.specs.Performs.{Outside, outside}
 use Rattle.wg_jobs.specs.Printed.{job_of, listed}
-use Rattle.wg_jobs.specs.declared.status.Input.TheVariants as input
+use Rattle.wg_readings.specs.declared.status.Input.TheVariants as input
 use Rattle.wg_jobs.proofs.JobPasses.{printed_again}
 use Rattle.wg_jobs.proofs.JobSteps.{ends_reading, loaded, performs_exit, unloaded}
 use Rattle.wg_jobs.proofs.PrintedLines.{judges, named_graph, named_properties, none_written, told}

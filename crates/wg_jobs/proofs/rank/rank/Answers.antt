@@ -1,7 +1,7 @@
 use Rattle.std.proofs.Common.{refl}
 use Rattle.wg_words.specs.declared.jobs.Job.TheVariants.{Rank}
-use Rattle.wg_jobs.specs.Judged.{accepted}
-use Rattle.wg_jobs.specs.Readings.{Readings}
+use Rattle.wg_readings.specs.Judged.{accepted}
+use Rattle.wg_readings.specs.Readings.{Readings}
 use Rattle.wg_jobs.specs.Ranked.{ranking_text}
 use Rattle.wg_jobs.proofs.GraphJobs.{has_graph, no_graph, no_params}
 use Rattle.wg_jobs.proofs.JobSteps.{ends_without, performs_exit, prints}

@@ -2,8 +2,8 @@ use Rattle.std.proofs.Common.{refl, rules}
 use Rattle.wg_words.specs.declared.jobs.Job.TheVariants.{Recode}
 use Rattle.wg_grammar.specs.Laws.{graph_of}
 use Rattle.wg_jobs.specs.Judged.{builds}
-use Rattle.wg_jobs.specs.Passes.{graph_then}
-use Rattle.wg_jobs.specs.declared.status.Input.TheVariants as input
+use Rattle.wg_readings.specs.Passes.{graph_then}
+use Rattle.wg_readings.specs.declared.status.Input.TheVariants as input
 use Rattle.wg_jobs.proofs.JobSteps.{ends_reading, loaded, performs_exit, unloaded}
 use Rattle.wg_jobs.proofs.RewrittenLemmas.{recodes, rewriting_stopped, rewritten}
 use Rattle.wg_jobs.proofs.recode.recode.Goals as goal

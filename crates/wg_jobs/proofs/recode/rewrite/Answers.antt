@@ -1,7 +1,7 @@
 use Rattle.std.proofs.Common.{◌∙◌, sym, true}
 use Rattle.wg_io.proofs.FilesLemmas.{none_falls-trans}
 use Rattle.wg_grammar.specs.Laws.{graph_of}
-use Rattle.wg_jobs.specs.Names.{archive_named}
+use Rattle.wg_readings.specs.Names.{archive_named}
 use Rattle.wg_jobs.specs.Written.{greedy_archive, archive_at}
 use Rattle.wg_jobs.proofs.BuildLemmas.{others_twice}
 use Rattle.wg_jobs.proofs.CopyingLemmas.{copies_done, copies_exit, copies_later, copies_stop, copies_want, graph_there, kept_left, stays, two_of}

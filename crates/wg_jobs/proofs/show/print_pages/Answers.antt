@@ -5,7 +5,7 @@ use Rattle.wg_io.specs.Printing.{HasPrinted}
 use Rattle.wg_io.proofs.PutsLemmas.{is_that_err}
 use Rattle.wg_io.proofs.PrintLemmas.{puts_of_less, puts_in_the_end}
 use Rattle.wg_jobs.specs.Judged.{line_in, successors_lines}
-use Rattle.wg_jobs.specs.declared.ending.Ending.{Ending}
+use Rattle.wg_readings.specs.declared.ending.Ending.{Ending}
 use Rattle.wg_jobs.proofs.NumberLemmas.{line_printed, line_less}
 use Rattle.wg_jobs.proofs.show.print_pages.Goals as goal
 

@@ -1,5 +1,5 @@
 use Rattle.std.proofs.Common.{◌∙◌, sym}
-use Rattle.wg_jobs.specs.Names.{archive_named}
+use Rattle.wg_readings.specs.Names.{archive_named}
 use Rattle.wg_jobs.specs.Written.{greedy_archive, archive_at}
 use Rattle.wg_jobs.proofs.WritingLemmas.{if_that_err}
 use Rattle.wg_jobs.proofs.BuildLemmas.{rose_since, others_twice, ended_by}

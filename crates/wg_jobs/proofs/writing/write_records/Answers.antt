@@ -2,9 +2,9 @@ use Rattle.std.proofs.Common.{◌≡◌, ◌∙◌, ℕ, List, [], ap, sym, subs
 use Rattle.std.specs.FinMap as map
 use Rattle.wg_io.specs.Suffixes.{graph_name, offsets_name}
 use Rattle.wg_encoder.specs.Gone.{HasStopped, IsWritten, OnlyTwo}
-use Rattle.wg_jobs.specs.Names.{archive_named}
+use Rattle.wg_readings.specs.Names.{archive_named}
 use Rattle.wg_jobs.specs.Written.{greedy_archive, archive_at, ArchiveFiles, FilesAfter}
-use Rattle.wg_jobs.specs.declared.status.Status.{Status}
+use Rattle.wg_readings.specs.declared.status.Status.{Status}
 use Rattle.wg_jobs.proofs.WritingLemmas.{others_at, records_gone, stop_records}
 use Rattle.wg_jobs.proofs.writing.write_records.Goals as goal
 

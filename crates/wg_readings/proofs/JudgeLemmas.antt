@@ -1,0 +1,111 @@
+-- How the judging of an archive's files ends.
+use Rattle.wg_readings.proofs.PassLemmas.{graph_goes}
+use Rattle.wg_readings.proofs.ReadingsLaws.{the_readings}
+use Rattle.wg_readings.proofs.Statuses.{never_done}
+use Rattle.wg_readings.specs.Answers.{Answers}
+use Rattle.wg_readings.specs.Judged.{Judged, accepted}
+use Rattle.wg_readings.specs.Passes.{IsGraphFile, graph_then}
+use Rattle.wg_readings.specs.declared.status.Status.{Status}
+use Rattle.wg_readings.specs.declared.status.Status.TheVariants.{Done}
+use Rattle.wg_grammar.specs.Archive.{Accepted}
+use Rattle.std.proofs.Common.{◌≡◌, ◌∙◌, inl, inr, ℕ, Bool, List, Result, Err, refl, sym, subst, []}
+use Rattle.std.specs.Bool.{IsTrue}
+use Rattle.std.specs.Result.{IsErrAnd}
+use Rattle.wg_io.specs.Outside.{Files, Counts}
+use Rattle.wg_io.proofs.FilesLemmas.{none_falls-refl, none_falls-trans}
+use Rattle.wg_io.proofs.PutsLemmas.{is_that_err}
+use Rattle.wg_params.specs.Parameters.{Parameters, IsWithinLimits}
+use Rattle.wg_grammar.specs.Record.{Whole}
+use Rattle.wg_offsets.specs.Places.{last_place}
+use Rattle.wg_stream.specs.Reading.{Reading}
+use Rattle.wg_readings.specs.Answers.{IsHindrance}
+use Rattle.wg_readings.specs.Judged.{with_lengths}
+use Rattle.wg_readings.specs.Loading.{JudgesFiles, JudgesGraph}
+use Rattle.wg_readings.specs.Names.{file_of, held_by}
+use Rattle.wg_readings.specs.Pairing.{offsets_then}
+use Rattle.wg_readings.specs.Passes.{Advances}
+use Rattle.wg_readings.specs.declared.ending.Ending.{Ending}
+use Rattle.wg_readings.specs.declared.status.Input.TheVariants as input
+use Rattle.wg_readings.specs.declared.status.Status.TheVariants.{Memory}
+use Rattle.wg_readings.proofs.Statuses.{IsOwn, own_caused}
+use Rattle.wg_readings.proofs.UnderWay.{IsUnderWay, ends_caused, ends_told}
+
+-- ---- the exit of a `?`
+pub judge_exit : (base : List ℕ) (p : Parameters) (td : Bool) (files files' : Files) (counts counts' : List ℕ → Counts) (r : Result (Unit {0}) Ending) (e : Ending) → IsErrAnd r (λ x. x ≡ e)
+    → JudgesGraph base p td files files' counts counts' (Err e) → JudgesGraph base p td files files' counts counts' r
+judge_exit base p td files files' counts counts' r e is h = subst (λ (x : Result (Unit {0}) Ending). JudgesGraph base p td files files' counts counts' x) (sym (is_that_err r e is)) h
+
+pub files_exit : (base : List ℕ) (p : Parameters) (td : Bool) (files files' : Files) (counts counts' : List ℕ → Counts) (r : Result ℕ Ending) (e : Ending) → IsErrAnd r (λ x. x ≡ e)
+    → JudgesFiles base p td files files' counts counts' (Err e) → JudgesFiles base p td files files' counts counts' r
+files_exit base p td files files' counts counts' r e is h = subst (λ (x : Result ℕ Ending). JudgesFiles base p td files files' counts counts' x) (sym (is_that_err r e is)) h
+
+-- ---- memory was out before anything was read
+module _ (base : List ℕ) (p : Parameters) (td : Bool) (files : Files) (counts : List ℕ → Counts) (e : Ending) (want : e.status ≡ Memory) where
+  pub graph_unread : JudgesGraph base p td files files counts counts (Err e)
+  graph_unread = record {
+    reads = record {
+      ends = record {
+        only = inr (inl want);
+        causes = own_caused _ _ _ _ _ _ e.status (subst IsOwn (sym want) tt);
+        refused = λ t r next. inr (subst IsHindrance (sym want) tt);
+      };
+      same = refl;
+      later = none_falls-refl counts;
+    };
+    limits = tt;
+    accepted = λ t. tt;
+  }
+
+  pub files_unread : JudgesFiles base p td files files counts counts (Err e)
+  files_unread = record {
+    steps = λ t r next. inr (subst IsHindrance (sym want) tt);
+    limits = tt;
+    only = inl (inr (inl want));
+    causes = own_caused _ _ _ _ _ _ e.status (subst IsOwn (sym want) tt);
+    same = refl;
+    later = none_falls-refl counts;
+  }
+
+-- ---- the reading of the graph file stopped
+module _ (told : Bool) (base : List ℕ) (p : Parameters) (files : Files) (counts : List ℕ → Counts) (files1 files2 : Files) (counts1 counts2 : List ℕ → Counts) (n : ℕ) (a b : Reading) (P : List Whole → Type 0)
+    (h : IsUnderWay told base p files files1 counts counts1 n a P) (limits : IsWithinLimits p) (e : Ending) (step : Advances {B = Unit {0}} told files1 files2 counts1 counts2 p a b (Err e)) where
+  pub graph_stops : JudgesGraph base p told files files2 counts counts2 (Err e)
+  graph_stops = record {
+    reads = record {
+      ends = record {
+        only = step.only;
+        causes = ends_caused told base p files counts files1 files2 counts1 counts2 n a b P h e step;
+        refused = λ t r. ends_told told base p files counts files1 files2 counts1 counts2 n a b P h e step t limits r;
+      };
+      same = step.same ∙ h.same;
+      later = none_falls-trans _ _ _ h.later step.later;
+    };
+    limits = tt;
+    accepted = λ t. tt;
+  }
+
+  pub files_stop : JudgesFiles base p told files files2 counts counts2 (Err e)
+  files_stop = record {
+    steps = λ t r next.
+        ends_told told base p files counts files1 files2 counts1 counts2 n a b P h e step t limits r
+        (λ a. offsets_then r p (held_by (file_of base) files input.Offsets) (λ stored. with_lengths a.places stored (λ same. next (last_place a.places))));
+    limits = tt;
+    only = inl step.only;
+    causes = ends_caused told base p files counts files1 files2 counts1 counts2 n a b P h e step;
+    same = step.same ∙ h.same;
+    later = none_falls-trans _ _ _ h.later step.later;
+  }
+
+-- ---- a file that stands for a graph
+answers_hinder : (s : Status) (text : List ℕ) → Answers (accepted text) s → (s ≡ Done → ⊥) → IsHindrance s
+answers_hinder s text (inl is) never = absurd (never is)
+answers_hinder s text (inr hinders) never = hinders
+
+-- what stopped the reading of a file that stands for a graph is no fault of it
+pub read_hindered : (base : List ℕ) (p : Parameters) (td : Bool) (files : Files) (counts : List ℕ → Counts) → IsWithinLimits p → (files1 files2 : Files) (counts1 counts2 : List ℕ → Counts) (n : ℕ) (a b : Reading) (P : List Whole → Type 0)
+    → IsUnderWay td base p files files1 counts counts1 n a P → (e : Ending) → Advances {B = Unit {0}} td files1 files2 counts1 counts2 p a b (Err e)
+    → IsTrue td → (x : Accepted) → IsGraphFile (held_by (file_of base) files input.Graph) p x → IsHindrance e.status
+read_hindered base p td files counts limits files1 files2 counts1 counts2 n a b P h e step t x g =
+    let told = ends_told td base p files counts files1 files2 counts1 counts2 n a b _ h e step t limits the_readings (λ y. accepted []) in
+    let is : graph_then the_readings p (held_by (file_of base) files input.Graph) (λ y. accepted []) ≡ accepted [] = graph_goes the_readings p limits (held_by (file_of base) files input.Graph) x g (λ y. accepted []) in
+    answers_hinder e.status [] (subst (λ (j : Judged). Answers j e.status) is told) (never_done input.Graph p.arcs e step.only)

@@ -1,0 +1,10 @@
+pub mod Statuses
+pub mod PassLemmas
+pub mod LoadLemmas
+pub mod PairingLemmas
+pub mod FirstRecords
+pub mod UnderWay
+pub mod JudgeLemmas
+pub mod LimitsLemmas
+pub mod ReadingsLaws
+pub mod ReadingsLemmas

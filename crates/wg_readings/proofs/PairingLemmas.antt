@@ -1,0 +1,293 @@
+-- An offsets file that is read in pieces, in a judgement.
+use Rattle.std.proofs.Common.{◌≡◌, ◌≢◌, inl, inr, ℕ, ◌+◌, ◌<◌, ◌≤◌, Bool, true, List, [], ◌∷◌, length, refl, sym, ◌∙◌, ap, subst, Option, Some, None, Result, Ok, Err, arith}
+use Rattle.std.specs.Bool.{IsTrue}
+use Rattle.std.specs.Result.{OnOk, IfErr}
+use Rattle.std.specs.FinMap as map
+use Rattle.wg_io.specs.declared.limits.TheConstants.{MOST_BYTES}
+use Rattle.wg_io.specs.Outside.{Files, Counts, NonDecreasing}
+use Rattle.wg_io.proofs.PutsLemmas.{rose_on}
+use Rattle.wg_params.specs.declared.code.Code.{Code}
+use Rattle.wg_offsets.specs.Comparing.{AreCompared, Compared}
+use Rattle.wg_offsets.specs.Stages.{AreRead, WordsRead}
+use Rattle.wg_io.specs.declared.whole.LoadError.{LoadError}
+use Rattle.wg_io.specs.declared.whole.LoadError.TheVariants as load
+use Rattle.wg_bits.specs.Bits.{bits_of}
+use Rattle.wg_params.specs.Parameters.{Parameters, IsWithinLimits}
+use Rattle.wg_grammar.specs.declared.fault.ArchiveFault.TheVariants as archive
+use Rattle.wg_grammar.specs.Archive.{Accepted, places_of}
+use Rattle.wg_grammar.specs.Record.{Whole}
+use Rattle.wg_offsets.specs.Places.{last_place}
+use Rattle.wg_grammar.specs.declared.fault.OffsetWord.{OffsetWord}
+use Rattle.wg_offsets.specs.Errors.{OfRefusal, OfWord}
+use Rattle.wg_offsets.specs.Words.{ReadsOffsets}
+use Rattle.wg_offsets.specs.declared.error.WordError.{WordError}
+use Rattle.wg_offsets.specs.declared.error.WordError.TheVariants as words
+use Rattle.wg_stream.specs.Held.{Held, IsHeldOf}
+use Rattle.wg_stream.specs.Stepping.{HasCause as HasReadCause}
+use Rattle.wg_readings.specs.Answers.{Answers, Steps, status_in}
+use Rattle.wg_readings.specs.Causes.{HasCause, IncreasedAt}
+use Rattle.wg_readings.specs.Judged.{Judged, status_of, with_lengths, with_offsets}
+use Rattle.wg_readings.specs.Promised.{IsBadFile}
+use Rattle.wg_readings.specs.Names.{no_outputs}
+use Rattle.wg_readings.specs.Pairing.{ComesWith, EndsPairing, HasCome, IsPaired, IsPairedWith, IsStopped, IsUnread, files_then, load_ending, offsets_then, word_ending}
+use Rattle.wg_readings.specs.declared.ending.Ending.{Ending}
+use Rattle.wg_readings.specs.declared.pairing.Pairing.{Pairing}
+use Rattle.wg_readings.specs.Passes.{IsGraphFile, IsStopAt, accepted_of}
+use Rattle.wg_readings.specs.Readings.{Readings}
+use Rattle.wg_readings.specs.declared.status.Input.{Input}
+use Rattle.wg_readings.specs.declared.status.Input.TheVariants.{Graph, Offsets}
+use Rattle.wg_readings.specs.declared.status.Status.TheVariants.{Done, Memory, BadArchive, OverLimit}
+use Rattle.wg_readings.proofs.PassLemmas.{file_goes, file_long, graph_goes}
+use Rattle.wg_readings.proofs.Statuses.{absent_caused, bad_own, failed_caused, own_caused}
+use Rattle.wg_readings.proofs.UnderWay.{cause_later}
+use Rattle.wg_readings.proofs.ReadingsLemmas.{goes_on_from, offsets_refused}
+
+-- ---- causes
+load_caused : (told : Bool) (name : List ℕ) (files : Files) (old new : List ℕ → Counts) (h : Held) (e : LoadError) → HasReadCause told name files old new h e
+    → (names : Input → Option (List ℕ)) → names Offsets ≡ Some name → HasCause names no_outputs old new 0 0 (load_ending e).status
+load_caused told name files old new h load.TooLong cause names named = own_caused _ _ _ _ _ _ (OverLimit Offsets) tt
+load_caused told name files old new h load.Memory cause names named = own_caused _ _ _ _ _ _ Memory tt
+load_caused told name files old new h load.Failed cause names named = failed_caused _ _ _ _ _ _ Offsets name named (cause.failed refl)
+load_caused told name files old new h load.Absent cause names named = absent_caused _ _ _ _ _ _ Offsets name named (cause.absent refl)
+
+-- ---- what an error leads to
+module _ (r : Readings) (p : Parameters) where
+  by_file : (e : LoadError) (file : List ℕ) → e ≢ load.Absent → (e ≡ load.TooLong → MOST_BYTES < length file) → (next : List ℕ → Judged) → Answers (offsets_then r p (Some file) next) (load_ending e).status
+  by_file load.Absent file there long next = absurd (there refl)
+  by_file load.Failed file there long next = inr tt
+  by_file load.Memory file there long next = inr tt
+  by_file load.TooLong file there long next = inl (sym (ap status_of (file_long Offsets file (long refl) (λ more. with_offsets r p more next))))
+
+  load_steps : (e : LoadError) (held : Option (List ℕ)) → (held ≡ None → e ≡ load.Absent) → ((file : List ℕ) → held ≡ Some file → (e ≢ load.Absent) × (e ≡ load.TooLong → MOST_BYTES < length file))
+      → (next : List ℕ → Judged) → Answers (offsets_then r p held next) (load_ending e).status
+  load_steps e None none some next = inl (ap (λ (x : LoadError). (load_ending x).status) (none refl))
+  load_steps e (Some file) none some next = let k = some file refl in by_file e file k.0 k.1 next
+
+  word_steps : IsWithinLimits p → (w : OffsetWord) (file : List ℕ) → length file ≤ MOST_BYTES → ReadsOffsets p.offsets p.nodes (bits_of file) (Err w) → (next : List ℕ → Judged)
+      → Answers (offsets_then r p (Some file) next) (BadArchive (archive.Offsets w))
+  word_steps limits w file short reads next =
+      inl (sym (ap status_of (file_goes Offsets file short (λ more. with_offsets r p more next) ∙ offsets_refused r p limits file w reads next)))
+
+  -- a file that was read to its end
+  pub places_go : IsWithinLimits p → (held : Option (List ℕ)) (file : List ℕ) → held ≡ Some file → length file ≤ MOST_BYTES → (places : List ℕ) → ReadsOffsets p.offsets p.nodes (bits_of file) (Ok places)
+      → (next : List ℕ → Judged) → offsets_then r p held next ≡ next places
+  places_go limits held file is short places reads next =
+      ap (λ (o : Option (List ℕ)). offsets_then r p o next) is
+      ∙ file_goes Offsets file short (λ more. with_offsets r p more next) ∙ goes_on_from r p limits file places reads next
+
+module _ (told : Bool) (name : List ℕ) (files : Files) (old new : List ℕ → Counts) (h : Held) (p : Parameters) where
+  pub load_stopped : (e : LoadError) → HasReadCause told name files old new h e → (IsTrue told → map.get files name ≡ None → e ≡ load.Absent)
+      → (IsTrue told → (file : List ℕ) → map.get files name ≡ Some file → IsHeldOf file h) → IsStopped told files old new p name (load_ending e)
+  load_stopped e cause none some = record {
+    only = by_error e;
+    causes = load_caused told name files old new h e cause;
+    refused = λ t limits r next.
+        load_steps r p e (map.get files name) (none t) (λ file is. (cause.there t file is, cause.long t file is (some t file is))) next;
+  }
+    where
+      by_error : (e : LoadError) → IsStopAt Offsets p.arcs (load_ending e)
+      by_error load.Failed = inl (inr (inl refl))
+      by_error load.Absent = inl (inr (inr (inl refl)))
+      by_error load.TooLong = inl (inr (inr (inr refl)))
+      by_error load.Memory = inl (inl refl)
+
+  pub word_stopped : (e : WordError LoadError) → OfRefusal e (HasReadCause told name files old new h) → h.looked ≡ true → (IsTrue told → (file : List ℕ) × (map.get files name ≡ Some file))
+      → (IsTrue told → (file : List ℕ) → map.get files name ≡ Some file → IsHeldOf file h × OfWord e (λ w. ReadsOffsets p.offsets p.nodes (bits_of file) (Err w)))
+      → IsStopped told files old new p name (word_ending p.arcs e)
+  word_stopped (words.Refused e) cause looked found reads =
+      load_stopped e cause (λ t none. let f = found t in absurd (let no : None ≡ Some f.0 = sym none ∙ f.1 in cc)) (λ t file is. (reads t file is).0)
+  word_stopped (words.Word w) cause looked found reads = record {
+    only = inr (inr (archive.Offsets w, refl, refl, refl));
+    causes = λ names named. own_caused _ _ _ _ _ _ (BadArchive (archive.Offsets w)) tt;
+    refused = λ t limits r next.
+        let f = found t in
+        let k = reads t f.0 f.1 in
+        subst (λ (o : Option (List ℕ)). Answers (offsets_then r p o next) (BadArchive (archive.Offsets w))) (sym f.1) (word_steps r p limits w f.0 (k.0.short looked) k.1 next);
+  }
+
+-- ---- the same of equal names, files and endings
+pub stopped_at : (told : Bool) (files : Files) (old new : List ℕ → Counts) (p : Parameters) (m n : List ℕ) (x e : Ending) → m ≡ n → x ≡ e → IsStopped told files old new p m e → IsStopped told files old new p n x
+stopped_at told files old new p m n x e same is s =
+    subst (λ (k : List ℕ). IsStopped told files old new p k x) same (subst (λ (y : Ending). IsStopped told files old new p m y) (sym is) s)
+
+pub word_by : (e : WordError LoadError) (c d : Code) (m n : ℕ) (bits : List Bool) → c ≡ d → m ≡ n → OfWord e (λ w. ReadsOffsets c m bits (Err w)) → OfWord e (λ w. ReadsOffsets d n bits (Err w))
+word_by e c d m n bits a b h = subst (λ (k : ℕ). OfWord e (λ w. ReadsOffsets d k bits (Err w))) b (subst (λ (x : Code). OfWord e (λ w. ReadsOffsets x m bits (Err w))) a h)
+
+pub offsets_by : (c d : Code) (m n : ℕ) (bits : List Bool) (places : List ℕ) → c ≡ d → m ≡ n → ReadsOffsets c m bits (Ok places) → ReadsOffsets d n bits (Ok places)
+offsets_by c d m n bits places a b h = subst (λ (k : ℕ). ReadsOffsets d k bits (Ok places)) b (subst (λ (x : Code). ReadsOffsets x m bits (Ok places)) a h)
+
+pub read_at : (bits : List Bool) (w : WordsRead) (a b : ℕ) (places : List ℕ) → a ≡ b → AreRead bits w a places → AreRead bits w b places
+read_at bits w a b places same h = subst (λ (n : ℕ). AreRead bits w n places) same h
+
+-- an earlier moment
+pub stopped_since : (told : Bool) (files files' : Files) (c0 c1 c2 : List ℕ → Counts) (p : Parameters) (m n : List ℕ) (e : Ending) → files' ≡ files → NonDecreasing c0 c1 → m ≡ n
+    → IsStopped told files' c1 c2 p m e → IsStopped told files c0 c2 p n e
+stopped_since told files files' c0 c1 c2 p m n e same later named s =
+    subst (λ (k : List ℕ). IsStopped told files c0 c2 p k e) named
+    (subst (λ (f : Files). IsStopped told f c0 c2 p m e) same
+    (record { only = s.only; causes = λ names is. cause_later names c0 c1 c2 e.status later (s.causes names is); refused = s.refused }))
+
+rose_until : (count : Counts → ℕ) (name : Option (List ℕ)) (a b c : List ℕ → Counts) → ((n : List ℕ) → count (b n) ≤ count (c n)) → IncreasedAt count name a b → IncreasedAt count name a c
+rose_until count None a b c on h = h
+rose_until count (Some n) a b c on h = rose_on _ _ _ _ (omega arith) h (on n)
+
+-- a later moment
+stopped_until : (told : Bool) (files : Files) (c0 c1 c2 : List ℕ → Counts) (p : Parameters) (n : List ℕ) (e : Ending) → NonDecreasing c1 c2
+    → IsStopped told files c0 c1 p n e → IsStopped told files c0 c2 p n e
+stopped_until told files c0 c1 c2 p n e later s = record {
+  only = s.only;
+  causes = λ names is.
+      let h = s.causes names is in
+      record {
+        read_fault = λ i at. rose_until (λ k. k.read_faults) (names i) c0 c1 c2 later.read_faults (h.read_fault i at);
+        missing = λ i at. rose_until (λ k. k.absences) (names i) c0 c1 c2 later.absences (h.missing i at);
+        write_fault = λ o other at. h.write_fault o other at;
+        out_fault = h.out_fault;
+      };
+  refused = s.refused;
+}
+
+pub come_until : (told : Bool) (files : Files) (c0 c1 c2 : List ℕ → Counts) (p : Parameters) (name : List ℕ) (n at : ℕ) (b : Pairing) (r : Result (Unit {0}) Ending) → NonDecreasing c1 c2
+    → HasCome told files c0 c1 p name n at b r → HasCome told files c0 c2 p name n at b r
+come_until told files c0 c1 c2 p name n at b (Ok done) later h = h
+come_until told files c0 c1 c2 p name n at b (Err e) later h = stopped_until told files c0 c1 c2 p name e later h
+
+pub still_named : (files files' : Files) (m n : List ℕ) (file : List ℕ) → files' ≡ files → m ≡ n → map.get files n ≡ Some file → map.get files' m ≡ Some file
+still_named files files' m n file same named is = ap (λ (k : List ℕ). map.get files' k) named ∙ ap (λ (f : Files). map.get f n) same ∙ is
+
+-- ---- the first word
+pub unread_held : (p : Parameters) (b : Pairing) (file : List ℕ) → IsUnread p b → IsHeldOf file b.held
+unread_held p b file u =
+    subst (IsHeldOf file) (sym u.held) (record { before = []; behind = file; whole = refl; offset = refl; ended = λ e. absurd (cc e); short = λ e. absurd (cc e) })
+
+pub looked_read : (p : Parameters) (a b : Pairing) (bits : List Bool) → IsUnread p a → b.words ≡ a.words → b.held ≡ record a.held { looked = true } → AreRead bits b.words b.held.at []
+looked_read p a b bits u same is =
+    let at : b.held.at ≡ 0 = ap (λ (h : Held). h.at) is ∙ ap (λ (h : Held). h.at) u.held in
+    subst (λ (w : WordsRead). AreRead bits w b.held.at []) (sym same) (subst (λ (n : ℕ). AreRead bits a.words n []) (sym at) (u.none bits))
+
+pub first_paired : (p : Parameters) (a m b : Pairing) → IsUnread p a → m.words ≡ a.words → m.lengths ≡ a.lengths → b.lengths ≡ m.lengths → b.words.code ≡ m.words.code → b.words.pages ≡ m.words.pages
+    → b.words.count ≡ m.words.count + 1 → (m.words.count ≡ 0 → m.words.offset ≡ 0 → b.words.offset ≡ 0) → b.held.looked ≡ true → IsPaired p b × (b.lengths.page ≡ 0) × (b.lengths.here ≡ 0) × (b.words.offset ≡ 0)
+first_paired p a m b u words lengths lengths' code pages count first looked =
+    let w : m.words ≡ record { code = p.offsets; pages = p.nodes; count = 0; offset = 0 } = words ∙ u.words in
+    let l : b.lengths ≡ a.lengths = lengths' ∙ lengths in
+    let page : b.lengths.page ≡ 0 = ap (λ (x : Compared). x.page) l ∙ u.page in
+    let here : b.lengths.here ≡ 0 = ap (λ (x : Compared). x.here) l ∙ u.here in
+    let there : b.lengths.there ≡ 0 = ap (λ (x : Compared). x.there) l ∙ u.there in
+    let none : m.words.count ≡ 0 = ap (λ (x : WordsRead). x.count) w in
+    let offset : b.words.offset ≡ 0 = first none (ap (λ (x : WordsRead). x.offset) w) in (
+      record {
+        code = code ∙ ap (λ (x : WordsRead). x.code) w;
+        pages = pages ∙ ap (λ (x : WordsRead). x.pages) w;
+        count = omega (arith, count, none, page);
+        there = there ∙ sym offset;
+        looked = looked;
+      },
+      page,
+      here,
+      offset,
+    )
+
+pub first_compared : (p : Parameters) (a m b : Pairing) → IsUnread p a → m.lengths ≡ a.lengths → b.lengths ≡ m.lengths → AreCompared b.lengths (0 ∷ []) (0 ∷ [])
+first_compared p a m b u lengths lengths' = subst (λ (x : Compared). AreCompared x (0 ∷ []) (0 ∷ [])) (sym (lengths' ∙ lengths)) u.compared
+
+pub first_read_zero : (bits : List Bool) (b : Pairing) → b.words.offset ≡ 0 → AreRead bits b.words b.held.at (b.words.offset ∷ []) → AreRead bits b.words b.held.at (0 ∷ [])
+first_read_zero bits b zero h = subst (λ (n : ℕ). AreRead bits b.words b.held.at (n ∷ [])) zero h
+
+-- ---- one word more
+pub next_paired : (p : Parameters) (a m b : Pairing) (n here : ℕ) → IsPaired p a → a.lengths.page ≡ n → m.lengths ≡ a.lengths → m.words.code ≡ a.words.code → m.words.pages ≡ a.words.pages
+    → m.words.count ≡ a.words.count + 1 → m.held.looked ≡ true → b.words ≡ m.words → b.held ≡ m.held → b.lengths.page ≡ m.lengths.page + 1 → b.lengths.there ≡ m.words.offset
+    → IsPaired p b × (b.lengths.page ≡ n + 1)
+next_paired p a m b n here h page lengths code pages count looked words held more there =
+    let before : m.lengths.page ≡ a.lengths.page = ap (λ (x : Compared). x.page) lengths in (
+      record {
+        code = ap (λ (x : WordsRead). x.code) words ∙ code ∙ h.code;
+        pages = ap (λ (x : WordsRead). x.pages) words ∙ pages ∙ h.pages;
+        count = omega (arith, ap (λ (x : WordsRead). x.count) words, count, h.count, more, before);
+        there = there ∙ sym (ap (λ (x : WordsRead). x.offset) words);
+        looked = ap (λ (x : Held). x.looked) held ∙ looked;
+      },
+      omega (arith, more, before, page),
+    )
+
+-- ---- what comes after what
+pub come_next : (told : Bool) (files files' : Files) (c0 c1 c2 : List ℕ → Counts) (p : Parameters) (m name : List ℕ) (n here old : ℕ) (b : Pairing) (r : Result (Unit {0}) Ending) → files' ≡ files → NonDecreasing c0 c1
+    → m ≡ name → old ≡ n → (IsTrue told → (file : List ℕ) × (map.get files name ≡ Some file)) → OnOk r (IsPaired p b × (b.lengths.page ≡ old + 1) × (b.lengths.here ≡ here)) → IfErr r (IsStopped told files' c1 c2 p m)
+    → HasCome told files c0 c2 p name (n + 1) here b r
+come_next told files files' c0 c1 c2 p m name n here old b (Ok done) same later named page found ok err = (ok.0, ok.1 ∙ ap (λ (k : ℕ). k + 1) page, ok.2, found)
+come_next told files files' c0 c1 c2 p m name n here old b (Err e) same later named page found ok err = stopped_since told files files' c0 c1 c2 p m name e same later named err
+
+pub comes_next : (file : List ℕ) (b : Pairing) (places : List ℕ) (r : Result (Unit {0}) Ending) → OnOk r ((more : List ℕ) × IsPairedWith file b places more) → ComesWith file b places r
+comes_next file b places (Ok done) h = h
+comes_next file b places (Err e) h = tt
+
+-- a pairing that stopped before
+pub ends_stopped : (told : Bool) (files : Files) (c0 c1 : List ℕ → Counts) (p : Parameters) (name : List ℕ) (b : Pairing) (so_far : Result (Unit {0}) Ending) (e : Ending) → IsStopped told files c0 c1 p name e
+    → EndsPairing told files c0 c1 p name b so_far (Err e)
+ends_stopped told files c0 c1 p name b so_far e s = record {
+  only = s.only;
+  causes = s.causes;
+  steps = λ t limits places follows r next. s.refused t limits r (λ stored. with_lengths places stored next);
+}
+
+only_by : (n : ℕ) (r : Result (Unit {0}) Ending) → IfErr r (IsBadFile Offsets n) → IfErr r (IsStopAt Offsets n)
+only_by n (Ok done) h = tt
+only_by n (Err e) h = inr h
+
+caused_by : (names : Input → Option (List ℕ)) (old new : List ℕ → Counts) (n : ℕ) (r : Result (Unit {0}) Ending) → IfErr r (IsBadFile Offsets n) → HasCause names no_outputs old new 0 0 (status_in r)
+caused_by names old new n (Ok done) h = own_caused _ _ _ _ _ _ Done tt
+caused_by names old new n (Err e) h = own_caused _ _ _ _ _ _ e.status (bad_own Offsets n e h)
+
+steps_by : (r : Readings) (p : Parameters) (held : Option (List ℕ)) (places stored : List ℕ) (x : Result (Unit {0}) Ending) → ((next : List ℕ → Judged) → offsets_then r p held next ≡ next stored) → Steps (with_lengths places stored) x
+    → Steps (λ next. offsets_then r p held (λ s. with_lengths places s next)) x
+steps_by r p held places stored (Ok done) go h = λ next. go (λ s. with_lengths places s next) ∙ h next
+steps_by r p held places stored (Err e) go h = λ next. subst (λ (j : Judged). Answers j e.status) (sym (go (λ s. with_lengths places s next))) (h next)
+
+-- all words were read, and then the lengths are compared
+pub ends_compared : (told : Bool) (files : Files) (c0 c1 : List ℕ → Counts) (p : Parameters) (name : List ℕ) (x : Result (Unit {0}) Ending) (a b : Pairing) → (IsTrue told → (file : List ℕ) × (map.get files name ≡ Some file))
+    → a.held.looked ≡ true → b.lengths ≡ a.lengths
+    → (IsTrue told → (file : List ℕ) → map.get files name ≡ Some file → (stored : List ℕ) → IsHeldOf file a.held → AreRead (bits_of file) a.words a.held.at stored → ReadsOffsets p.offsets p.nodes (bits_of file) (Ok stored))
+    → IfErr x (IsBadFile Offsets p.arcs) → ((here there : List ℕ) → AreCompared b.lengths here there → Steps (with_lengths here there) x) → EndsPairing told files c0 c1 p name a (Ok tt) x
+ends_compared told files c0 c1 p name x a b found looked same reads only steps = record {
+  only = only_by p.arcs x only;
+  causes = λ names named. caused_by names c0 c1 p.arcs x only;
+  steps = λ t limits places with_file r.
+      let f = found t in
+      let k = with_file f.0 f.1 in
+      steps_by r p (map.get files name) places k.0 x (λ next. places_go r p limits (map.get files name) f.0 f.1 (k.1.held.short looked) k.0 (reads t f.0 f.1 k.0 k.1.held k.1.read) next)
+      (steps places k.0 (subst (λ (c : Compared). AreCompared c places k.0) (sym same) k.1.compared));
+}
+
+-- ---- what a pairing that came so far allows
+pub ready_paired : (told : Bool) (files : Files) (c0 c1 : List ℕ → Counts) (p : Parameters) (name : List ℕ) (n at : ℕ) (b : Pairing) (r : Result (Unit {0}) Ending) → HasCome told files c0 c1 p name n at b r → OnOk r (IsPaired p b)
+ready_paired told files c0 c1 p name n at b (Ok done) h = h.0
+ready_paired told files c0 c1 p name n at b (Err e) h = tt
+
+pub ready_more : (told : Bool) (files : Files) (c0 c1 : List ℕ → Counts) (p : Parameters) (name : List ℕ) (n at : ℕ) (b : Pairing) (r : Result (Unit {0}) Ending) → n < p.nodes → HasCome told files c0 c1 p name n at b r → OnOk r (b.lengths.page < p.nodes)
+ready_more told files c0 c1 p name n at b (Ok done) lt h = omega (arith, lt, h.1)
+ready_more told files c0 c1 p name n at b (Err e) lt h = tt
+
+pub ready_here : (told : Bool) (files : Files) (c0 c1 : List ℕ → Counts) (p : Parameters) (name : List ℕ) (n at here : ℕ) (b : Pairing) (r : Result (Unit {0}) Ending) → at ≤ here → HasCome told files c0 c1 p name n at b r → OnOk r (b.lengths.here ≤ here)
+ready_here told files c0 c1 p name n at here b (Ok done) le h = omega (arith, le, h.2)
+ready_here told files c0 c1 p name n at here b (Err e) le h = tt
+
+pub ready_done : (told : Bool) (files : Files) (c0 c1 : List ℕ → Counts) (p : Parameters) (name : List ℕ) (n at : ℕ) (b : Pairing) (r : Result (Unit {0}) Ending) → n ≡ p.nodes → HasCome told files c0 c1 p name n at b r → OnOk r (b.lengths.page ≡ p.nodes)
+ready_done told files c0 c1 p name n at b (Ok done) all h = h.1 ∙ all
+ready_done told files c0 c1 p name n at b (Err e) all h = tt
+
+pub come_at : (told : Bool) (files : Files) (c0 c1 : List ℕ → Counts) (p : Parameters) (m name : List ℕ) (n at here : ℕ) (b : Pairing) (r : Result (Unit {0}) Ending) → m ≡ name → at ≡ here → HasCome told files c0 c1 p m n at b r
+    → HasCome told files c0 c1 p name n here b r
+come_at told files c0 c1 p m name n at here b r named same h =
+    subst (λ (k : ℕ). HasCome told files c0 c1 p name n k b r) same (subst (λ (x : List ℕ). HasCome told files c0 c1 p x n at b r) named h)
+
+-- ---- both files
+module _ (r : Readings) (p : Parameters) (limits : IsWithinLimits p) (held : Input → Option (List ℕ)) (x : Accepted) (g : IsGraphFile (held Graph) p x) (whole : List Whole) (same : x ≡ accepted_of whole) where
+  both_go : (next : ℕ → Judged) → files_then r p held next ≡ offsets_then r p (held Offsets) (λ stored. with_lengths (places_of whole) stored (λ done. next (last_place (places_of whole))))
+  both_go next =
+      graph_goes r p limits (held Graph) x g (λ a. offsets_then r p (held Offsets) (λ stored. with_lengths a.places stored (λ done. next (last_place a.places))))
+      ∙ ap (λ (a : Accepted). offsets_then r p (held Offsets) (λ stored. with_lengths a.places stored (λ done. next (last_place a.places)))) same
+
+  pub both_stop : (e : Ending) → Steps {B = Unit {0}} (λ next. offsets_then r p (held Offsets) (λ stored. with_lengths (places_of whole) stored next)) (Err e) → Steps {B = ℕ} (files_then r p held) (Err e)
+  both_stop e steps next = subst (λ (j : Judged). Answers j e.status) (sym (both_go next)) (steps (λ done. next (last_place (places_of whole))))
+
+  pub both_done : (n : ℕ) → last_place (places_of whole) ≡ n → Steps {B = Unit {0}} (λ next. offsets_then r p (held Offsets) (λ stored. with_lengths (places_of whole) stored next)) (Ok tt) → Steps {B = ℕ} (files_then r p held) (Ok n)
+  both_done n last steps next = both_go next ∙ steps (λ done. next (last_place (places_of whole))) ∙ ap next last

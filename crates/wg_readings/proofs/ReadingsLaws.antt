@@ -1,0 +1,64 @@
+-- There is one function that reads all graph files, one that reads all offsets files, one that ranks all bounds, and one that reads all arc lists.
+use Rattle.std.proofs.Common.{◌≡◌, ℕ, List, Option, Some, None, Result, Err, refl, sym, ◌∙◌}
+use Rattle.wg_bits.specs.Bits.{bits_of}
+use Rattle.wg_params.specs.declared.key.Key.{Key}
+use Rattle.wg_params.specs.Parameters.{Parameters, IsWithinLimits, first_bad}
+use Rattle.wg_grammar.specs.declared.fault.ArchiveFault.{ArchiveFault}
+use Rattle.wg_grammar.specs.declared.fault.ArchiveFault.TheVariants.{Tail}
+use Rattle.wg_grammar.specs.Archive.{Accepted, ReadsGraph}
+use Rattle.wg_grammar.proofs.OneGraph.{graph_one, graph_some}
+use Rattle.wg_grammar.specs.declared.fault.OffsetWord.{OffsetWord}
+use Rattle.wg_grammar.specs.declared.fault.OffsetWord.TheVariants.{First}
+use Rattle.wg_offsets.specs.Words.{ReadsOffsets}
+use Rattle.wg_offsets.proofs.OneFile.{offsets_one, offsets_some}
+use Rattle.wg_properties.proofs.Limits.{none_bad}
+use Rattle.wg_arcs.proofs.SomeGraph.{texts_are_some}
+use Rattle.wg_arcs.proofs.Unique.{listed_one}
+use Rattle.wg_readings.specs.Readings.{Readings, ReadingsAreOne}
+use Rattle.wg_order.proofs.OneRanking.{ranking_some, ranking_one}
+use Rattle.wg_readings.proofs.LimitsLemmas.{within_limits, coded}
+
+-- what the bytes stand for, where no key is bad
+abbrev read_where : (p : Parameters) (bad : Option Key) → first_bad p ≡ bad → List ℕ → Result Accepted ArchiveFault
+read_where p None none bytes = (graph_some p (within_limits p none) (bits_of bytes)).0
+read_where p (Some key) none bytes = Err (Tail 0)
+
+read_right : (p : Parameters) → IsWithinLimits p → (bytes : List ℕ) (bad : Option Key) (is : first_bad p ≡ bad) → ReadsGraph p (bits_of bytes) (read_where p bad is bytes)
+read_right p limits bytes None none = (graph_some p (within_limits p none) (bits_of bytes)).1
+read_right p limits bytes (Some key) none = let never : None ≡ Some key = sym (none_bad p limits) ∙ none in absurd cc
+
+-- the places of an offsets file, where no key is bad
+abbrev places_where : (p : Parameters) (bad : Option Key) → first_bad p ≡ bad → List ℕ → Result (List ℕ) OffsetWord
+places_where p None none bytes = (offsets_some p.offsets (coded p (within_limits p none)) p.nodes (bits_of bytes)).0
+places_where p (Some key) none bytes = Err First
+
+places_right : (p : Parameters) → IsWithinLimits p → (bytes : List ℕ) (bad : Option Key) (is : first_bad p ≡ bad) → ReadsOffsets p.offsets p.nodes (bits_of bytes) (places_where p bad is bytes)
+places_right p limits bytes None none = (offsets_some p.offsets (coded p (within_limits p none)) p.nodes (bits_of bytes)).1
+places_right p limits bytes (Some key) none = let never : None ≡ Some key = sym (none_bad p limits) ∙ none in absurd cc
+
+pub the_readings : Readings
+the_readings = record {
+  graph = record {
+    value = λ p bytes. read_where p (first_bad p) refl bytes;
+    reads = λ p limits bytes. read_right p limits bytes (first_bad p) refl;
+  };
+  offsets = record {
+    value = λ p bytes. places_where p (first_bad p) refl bytes;
+    reads = λ p limits bytes. places_right p limits bytes (first_bad p) refl;
+  };
+  ranking = record { value = λ low high. (ranking_some low high).0; reads = λ low high. (ranking_some low high).1 };
+  arc_list = record { value = λ n bytes. (texts_are_some n bytes).0; reads = λ n bytes. (texts_are_some n bytes).1 };
+}
+
+pub readings_one : ReadingsAreOne
+readings_one r q = record {
+  graph = λ p limits bytes.
+      graph_one p limits (bits_of bytes) (r.graph.value p bytes) (q.graph.value p bytes) (r.graph.reads p limits bytes) (q.graph.reads p limits bytes);
+  offsets = λ p limits bytes.
+      offsets_one p.offsets (coded p limits) p.nodes (bits_of bytes) (r.offsets.value p bytes) (q.offsets.value p bytes)
+      (r.offsets.reads p limits bytes) (q.offsets.reads p limits bytes);
+  ranking = λ low high.
+      ranking_one low high (r.ranking.value low high) (q.ranking.value low high) (r.ranking.reads low high) (q.ranking.reads low high);
+  arc_list = λ n bytes.
+      listed_one n bytes (r.arc_list.value n bytes) (q.arc_list.value n bytes) (r.arc_list.reads n bytes) (q.arc_list.reads n bytes);
+}

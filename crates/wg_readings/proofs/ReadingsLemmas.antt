@@ -1,0 +1,93 @@
+-- Files that were read, in a judgement.
+use Rattle.std.proofs.Common.{◌≡◌, ℕ, Bool, refl, List, ap, sym, Ok, Err, Result}
+use Rattle.wg_bits.specs.Bits.{bits_of}
+use Rattle.wg_params.specs.Parameters.{Parameters, IsWithinLimits}
+use Rattle.wg_grammar.specs.declared.fault.ArchiveFault.{ArchiveFault}
+use Rattle.wg_grammar.specs.declared.fault.ArchiveFault.TheVariants as archive
+use Rattle.wg_grammar.specs.declared.fault.OffsetWord.{OffsetWord}
+use Rattle.wg_grammar.specs.Archive.{Accepted, ReadsGraph}
+use Rattle.wg_grammar.proofs.OneGraph.{graph_one}
+use Rattle.wg_offsets.specs.Places.{AgreeInLengths, IsFirstMismatch, record_length}
+use Rattle.wg_offsets.specs.Words.{ReadsOffsets}
+use Rattle.wg_offsets.proofs.OneFile.{offsets_one}
+use Rattle.wg_random.specs.Checking.{IsLengthFault}
+use Rattle.wg_offsets.proofs.Differences.{none_differ, first_differs}
+use Rattle.wg_num.specs.Lines.{lines_of}
+use Rattle.wg_graph.specs.Digraph.{Digraph}
+use Rattle.wg_arcs.specs.declared.fault.ArcsKind.{ArcsKind}
+use Rattle.wg_arcs.specs.Reading.{AreArcs, IsFirstFault, IsListed}
+use Rattle.wg_arcs.proofs.Unique.{listed_one}
+use Rattle.wg_readings.specs.Names.{file_of_fault}
+use Rattle.wg_readings.specs.declared.status.Input.TheVariants as input
+use Rattle.wg_readings.specs.Readings.{Readings}
+use Rattle.wg_readings.specs.Judged.{Judged, refused, with_graph, with_offsets, with_lengths, with_list, unless_bad_graph, unless_bad_offsets, unless_bad_list, unless_some_differ}
+use Rattle.wg_readings.specs.declared.status.Status.TheVariants.{BadArcs, BadArchive}
+use Rattle.wg_readings.proofs.LimitsLemmas.{coded}
+
+-- a fault of a graph file lies there
+pub of_graph : (p : Parameters) (bits : List Bool) (f : ArchiveFault) → ReadsGraph p bits (Err f) → file_of_fault f ≡ input.Graph
+of_graph p bits (archive.Record e) read = refl
+of_graph p bits (archive.Tail at) read = refl
+of_graph p bits (archive.ArcsShort total) read = refl
+of_graph p bits (archive.Offsets e) read = absurd read.4
+of_graph p bits (archive.Length page found stored) read = absurd read.4
+
+module _ (r : Readings) (p : Parameters) (limits : IsWithinLimits p) (bytes : List ℕ) where
+  -- the bits stand for one thing alone
+  reads_as : (w : Result Accepted ArchiveFault) → ReadsGraph p (bits_of bytes) w → r.graph.value p bytes ≡ w
+  reads_as w reads = graph_one p limits (bits_of bytes) (r.graph.value p bytes) w (r.graph.reads p limits bytes) reads
+
+  pub goes_on : (graph : List (List ℕ)) (places : List ℕ) → ReadsGraph p (bits_of bytes) (Ok (record { graph = graph; places = places })) → (next : Accepted → Judged)
+      → with_graph r p bytes next ≡ next (record { graph = graph; places = places })
+  goes_on graph places read next = ap (λ (w : Result Accepted ArchiveFault). unless_bad_graph w next) (reads_as (Ok (record { graph = graph; places = places })) read)
+
+  pub is_refused : (f : ArchiveFault) → ReadsGraph p (bits_of bytes) (Err f) → (next : Accepted → Judged) → with_graph r p bytes next ≡ refused (BadArchive f)
+  is_refused f read next = ap (λ (w : Result Accepted ArchiveFault). unless_bad_graph w next) (reads_as (Err f) read)
+
+  stores : (w : Result (List ℕ) OffsetWord) → ReadsOffsets p.offsets p.nodes (bits_of bytes) w → r.offsets.value p bytes ≡ w
+  stores w reads = offsets_one p.offsets (coded p limits) p.nodes (bits_of bytes) (r.offsets.value p bytes) w (r.offsets.reads p limits bytes) reads
+
+  pub goes_on_from : (places : List ℕ) → ReadsOffsets p.offsets p.nodes (bits_of bytes) (Ok places) → (next : List ℕ → Judged) → with_offsets r p bytes next ≡ next places
+  goes_on_from places read next = ap (λ (w : Result (List ℕ) OffsetWord). unless_bad_offsets w next) (stores (Ok places) read)
+
+  pub offsets_refused : (f : OffsetWord) → ReadsOffsets p.offsets p.nodes (bits_of bytes) (Err f) → (next : List ℕ → Judged) → with_offsets r p bytes next ≡ refused (BadArchive (archive.Offsets f))
+  offsets_refused f read next = ap (λ (w : Result (List ℕ) OffsetWord). unless_bad_offsets w next) (stores (Err f) read)
+
+-- an arc list that was read
+module _ (r : Readings) (n : ℕ) (bytes : List ℕ) where
+  lists_as : (w : Result Digraph (ℕ × ArcsKind)) → IsListed n bytes w → r.arc_list.value n bytes ≡ w
+  lists_as w reads = listed_one n bytes (r.arc_list.value n bytes) w (r.arc_list.reads n bytes) reads
+
+  pub list_goes_on : (g : Digraph) → AreArcs n (lines_of bytes) g → (next : Digraph → Judged) → with_list r n bytes next ≡ next g
+  list_goes_on g reads next = ap (λ (w : Result Digraph (ℕ × ArcsKind)). unless_bad_list w next) (lists_as (Ok g) reads)
+
+  pub list_refused : (line : ℕ) (kind : ArcsKind) → IsFirstFault n (lines_of bytes) line kind → (next : Digraph → Judged) → with_list r n bytes next ≡ refused (BadArcs line kind)
+  list_refused line kind reads next = ap (λ (w : Result Digraph (ℕ × ArcsKind)). unless_bad_list w next) (lists_as (Err (line, kind)) reads)
+
+-- records that were held against what is stored
+pub all_agree : (found stored : List ℕ) → AgreeInLengths found stored → (next : Unit {0} → Judged) → with_lengths found stored next ≡ next tt
+all_agree found stored agree next = ap (λ (l : List ℕ). unless_some_differ l found stored next) (none_differ found stored agree)
+
+pub one_differs : (found stored : List ℕ) (page here there : ℕ) → IsFirstMismatch found stored page here there → (next : Unit {0} → Judged)
+    → with_lengths found stored next ≡ refused (BadArchive (archive.Length page here there))
+one_differs found stored page here there h next =
+    let first = first_differs found stored page here there h in
+    rw (h.here_is, h.there_is) (ap (λ (l : List ℕ). unless_some_differ l found stored next) first.1)
+
+pub length_refused : (found stored : List ℕ) (f : ArchiveFault) → IsLengthFault found stored f → (next : Unit {0} → Judged) → with_lengths found stored next ≡ refused (BadArchive f)
+length_refused found stored (archive.Length page here there) h next = one_differs found stored page here there h next
+length_refused found stored (archive.Record e) h next = absurd h
+length_refused found stored (archive.Tail at) h next = absurd h
+length_refused found stored (archive.ArcsShort total) h next = absurd h
+length_refused found stored (archive.Offsets w) h next = absurd h
+
+pub of_length : (found stored : List ℕ) (f : ArchiveFault) → IsLengthFault found stored f → file_of_fault f ≡ input.Offsets
+of_length found stored (archive.Length page here there) h = refl
+of_length found stored (archive.Record e) h = absurd h
+of_length found stored (archive.Tail at) h = absurd h
+of_length found stored (archive.ArcsShort total) h = absurd h
+of_length found stored (archive.Offsets w) h = absurd h
+
+-- the same offsets tell the same lengths
+pub same_agree : (found stored : List ℕ) → stored ≡ found → (next : Unit {0} → Judged) → with_lengths found stored next ≡ next tt
+same_agree found stored same next = all_agree found stored (λ x inside. ap (λ (l : List ℕ). record_length l x) (sym same)) next

@@ -1,0 +1,167 @@
+-- A reading of a graph file that is under way.
+use Rattle.std.proofs.Common.{◌≡◌, ℕ, ◌+◌, ◌≤◌, Bool, true, List, [], ◌∷◌, ◌++◌, length, refl, sym, ◌∙◌, ap, subst, Option, Some, None, Ok, Err, arith}
+use Rattle.std.specs.Bool.{IsTrue}
+use Rattle.std.specs.FinMap as map
+use Rattle.wg_io.specs.Outside.{Files, Counts, NonDecreasing}
+use Rattle.wg_io.specs.declared.output.Output.{Output}
+use Rattle.wg_io.specs.declared.suffixes.TheConstants.{GRAPH}
+use Rattle.wg_io.proofs.FilesLemmas.{none_falls-trans}
+use Rattle.wg_io.proofs.PutsLemmas.{rose_on}
+use Rattle.wg_params.specs.Parameters.{Parameters, IsWithinLimits}
+use Rattle.wg_bits.specs.Bits.{bits_of}
+use Rattle.wg_grammar.specs.Archive.{Accepted}
+use Rattle.wg_grammar.proofs.OneGraph.{graph_one}
+use Rattle.wg_grammar.specs.Record.{Whole}
+use Rattle.wg_stream.specs.declared.state.State.TheVariants.{Open}
+use Rattle.wg_stream.specs.declared.state.State.{State}
+use Rattle.wg_stream.specs.Reading.{Reading, AgreesIn, IsInStep, IsJudged, StaysInStep}
+use Rattle.wg_readings.specs.Answers.{Steps}
+use Rattle.wg_readings.specs.Causes.{HasCause, IncreasedAt}
+use Rattle.wg_readings.specs.Names.{file_of, held_by, no_outputs}
+use Rattle.wg_readings.specs.Passes.{Advances, FollowsFile, IsFound, IsFresh, IsGraphFile, accepted_of, graph_then}
+use Rattle.wg_readings.specs.Readings.{Readings}
+use Rattle.wg_readings.specs.declared.ending.Ending.{Ending}
+use Rattle.wg_readings.specs.declared.status.Input.{Input}
+use Rattle.wg_readings.specs.declared.status.Input.TheVariants.{Graph}
+use Rattle.wg_readings.specs.declared.status.Status.{Status}
+use Rattle.wg_readings.proofs.FirstRecords.{first_of, ok_accepted}
+
+-- So many records were read, of which this holds; no file has changed.
+pub record IsUnderWay (told : Bool) (base : List ℕ) (p : Parameters) (files files' : Files) (counts counts' : List ℕ → Counts) (n : ℕ) (r : Reading) (P : List Whole → Type 0) : Type 0 where
+  pub state : r.state ≡ Open
+  pub params : r.pages.params ≡ p
+  pub name : r.name ≡ base ++ GRAPH.now
+  pub page : r.pages.page ≡ n
+  pub same : files' ≡ files
+  pub later : NonDecreasing counts counts'
+  pub found : IsTrue told → IsFound files r
+  pub follows : IsTrue told → (file : List ℕ) → map.get files (base ++ GRAPH.now) ≡ Some file → (whole : List Whole) × IsInStep file r whole × P whole
+
+-- ---- causes of later moments
+rose_late : (count : Counts → ℕ) (name : Option (List ℕ)) (a b c : List ℕ → Counts) → ((n : List ℕ) → count (a n) ≤ count (b n)) → IncreasedAt count name b c → IncreasedAt count name a c
+rose_late count None a b c on h = h
+rose_late count (Some n) a b c on h = rose_on _ _ _ _ (on n) h (omega arith)
+
+pub cause_on : (names : Input → Option (List ℕ)) (outputs : Output → Option (List ℕ)) (a b c : List ℕ → Counts) (f f' : ℕ) (s : Status) → NonDecreasing a b → HasCause names outputs b c f f' s → HasCause names outputs a c f f' s
+cause_on names outputs a b c f f' s on h = record {
+  read_fault = λ i is. rose_late (λ k. k.read_faults) (names i) a b c on.read_faults (h.read_fault i is);
+  missing = λ i is. rose_late (λ k. k.absences) (names i) a b c on.absences (h.missing i is);
+  write_fault = λ o other is. rose_late (λ k. k.write_faults) (outputs o) a b c on.write_faults (h.write_fault o other is);
+  out_fault = h.out_fault;
+}
+
+pub cause_later : (names : Input → Option (List ℕ)) (a b c : List ℕ → Counts) (s : Status) → NonDecreasing a b → HasCause names no_outputs b c 0 0 s → HasCause names no_outputs a c 0 0 s
+cause_later names a b c s on h = cause_on names no_outputs a b c 0 0 s on h
+
+pub no_fall : (c : List ℕ → Counts) → NonDecreasing c c
+no_fall c = record { read_faults = λ n. omega arith; write_faults = λ n. omega arith; absences = λ n. omega arith; wants = λ n. omega arith }
+
+module _ (told : Bool) (base : List ℕ) (p : Parameters) (files : Files) (counts : List ℕ → Counts) where
+  pub begins : (r : Reading) (P : List Whole → Type 0) → IsFresh base p r → P [] → IsUnderWay told base p files files counts counts 0 r P
+  begins r P fresh none = record {
+    state = fresh.state;
+    params = fresh.params;
+    name = fresh.name;
+    page = fresh.page;
+    same = refl;
+    later = no_fall counts;
+    found = λ t looked. absurd (fresh.looked looked);
+    follows = λ t file is. ([], fresh.in_step file, none);
+  }
+
+  module _ (files1 files2 : Files) (counts1 counts2 : List ℕ → Counts) (n : ℕ) (a b : Reading) (P : List Whole → Type 0) (h : IsUnderWay told base p files files1 counts counts1 n a P) where
+    there_by : IsTrue told → (file : List ℕ) → map.get files a.name ≡ Some file → (whole : List Whole) × IsInStep file a whole × P whole
+    there_by t file is = h.follows t file (ap (λ (n : List ℕ). map.get files n) (sym h.name) ∙ is)
+
+    pub on_file : IsTrue told → FollowsFile files a
+    on_file t file is = let k = there_by t file is in (k.0, k.1)
+
+    pub goes_further : (Q : List Whole → Type 0) → Advances {B = Unit {0}} told files1 files2 counts1 counts2 p a b (Ok tt) → b.state ≡ Open → b.pages.page ≡ a.pages.page + 1
+        → (IsTrue told → (held : Files) → files1 ≡ held → (file : List ℕ) → map.get held a.name ≡ Some file → (whole : List Whole) → IsInStep file a whole → StaysInStep file b whole (Ok true))
+        → ((whole : List Whole) (w : Whole) → length whole ≡ n → w.known.list ≡ b.pages.list → w.end ≡ b.at → P whole → Q (w ∷ whole))
+        → IsUnderWay told base p files files2 counts counts2 (n + 1) b Q
+    goes_further Q step going more in_step on = record {
+      state = going;
+      params = step.params ∙ h.params;
+      name = step.name ∙ h.name;
+      page = more ∙ ap (λ (k : ℕ). k + 1) h.page;
+      same = step.same ∙ h.same;
+      later = none_falls-trans _ _ _ h.later step.later;
+      found = λ t looked.
+          let f = step.there t files h.same (h.found t) in
+          (f.0, ap (λ (n : List ℕ). map.get files n) step.name ∙ f.1);
+      follows = λ t file is.
+          let there : map.get files a.name ≡ Some file = ap (λ (n : List ℕ). map.get files n) h.name ∙ is in
+          let k = h.follows t file is in
+          let s = in_step t files h.same file there k.0 k.1 in
+          let read : AgreesIn Open file a k.0 = subst (λ (x : State). AgreesIn x file a k.0) h.state k.1 in
+          (s.0 ∷ k.0, s.3, on k.0 s.0 (read.records.count ∙ h.page) s.1 s.2 k.2);
+    }
+
+    module _ {B : Type 0} (e : Ending) (step : Advances {B = B} told files1 files2 counts1 counts2 p a b (Err e)) where
+      pub ends_told : IsTrue told → IsWithinLimits p → (r : Readings) → Steps {B = Accepted} (graph_then r p (held_by (file_of base) files Graph)) (Err e)
+      ends_told t limits r =
+          subst (λ (n : List ℕ). Steps {B = Accepted} (graph_then r p (map.get files n)) (Err e)) h.name
+          (step.refused t limits files h.same (h.found t) (on_file t) r)
+
+      pub ends_caused : HasCause (file_of base) no_outputs counts counts2 0 0 e.status
+      ends_caused = cause_later (file_of base) counts counts1 counts2 e.status h.later (step.causes (file_of base) (ap Some (sym h.name)))
+
+    -- what was judged to its end
+    pub judged_by : Advances {B = Unit {0}} told files1 files2 counts1 counts2 p a b (Ok tt)
+        → (IsTrue told → (held : Files) → files1 ≡ held → (file : List ℕ) → map.get held a.name ≡ Some file → (whole : List Whole) → IsInStep file a whole → IsJudged file p (Ok (accepted_of whole)))
+        → IsTrue told → (x : Accepted) × IsGraphFile (held_by (file_of base) files Graph) p x
+    judged_by step judged t =
+        let f = step.there t files h.same (h.found t) in
+        let k = there_by t f.0 f.1 in
+        (accepted_of k.0, record { file = f.0; is = ap (λ (n : List ℕ). map.get files n) (sym h.name) ∙ f.1; judged = judged t files h.same f.0 f.1 k.0 k.1 })
+
+    -- the same, of a file that stands for a graph: the records that were read are all of its records
+    pub all_read : IsWithinLimits p
+        → (IsTrue told → (held : Files) → files1 ≡ held → (file : List ℕ) → map.get held a.name ≡ Some file → (whole : List Whole) → IsInStep file a whole → IsJudged file p (Ok (accepted_of whole)))
+        → IsTrue told → (x : Accepted) → IsGraphFile (held_by (file_of base) files Graph) p x → (whole : List Whole) × P whole × (x ≡ accepted_of whole)
+    all_read limits judged t x g =
+        let there : map.get files a.name ≡ Some g.file = ap (λ (n : List ℕ). map.get files n) h.name ∙ g.is in
+        let k = there_by t g.file there in
+        let j = judged t files h.same g.file there k.0 k.1 in
+        (k.0, k.2, ok_accepted x (accepted_of k.0) (graph_one p limits (bits_of g.file) (Ok x) (Ok (accepted_of k.0)) g.judged.reads j.reads))
+
+    -- and before the end they are the first of its records
+    pub first_read : IsWithinLimits p → n ≤ p.nodes → IsTrue told → (x : Accepted) → IsGraphFile (held_by (file_of base) files Graph) p x
+        → (whole : List Whole) × P whole × (rest : List Whole) × (x ≡ accepted_of (rest ++ whole))
+    first_read limits few t x g =
+        let there : map.get files a.name ≡ Some g.file = ap (λ (n : List ℕ). map.get files n) h.name ∙ g.is in
+        let k = there_by t g.file there in
+        let read : AgreesIn Open g.file a k.0 = subst (λ (s : State). AgreesIn s g.file a k.0) h.state k.1 in
+        let r = first_of p limits (bits_of g.file) x k.0 a.pages a.at h.params (omega (arith, h.page, few)) read.records g.judged.reads in
+        (k.0, k.2, r.0, r.1)
+
+-- at a later moment
+pub way_later : (told : Bool) (base : List ℕ) (p : Parameters) (files files1 files2 : Files) (counts counts1 counts2 : List ℕ → Counts) (n : ℕ) (r : Reading) (P : List Whole → Type 0) → files2 ≡ files1 → NonDecreasing counts1 counts2
+    → IsUnderWay told base p files files1 counts counts1 n r P → IsUnderWay told base p files files2 counts counts2 n r P
+way_later told base p files files1 files2 counts counts1 counts2 n r P same later h = record {
+  state = h.state;
+  params = h.params;
+  name = h.name;
+  page = h.page;
+  same = same ∙ h.same;
+  later = none_falls-trans _ _ _ h.later later;
+  found = h.found;
+  follows = h.follows;
+}
+
+-- at a later moment, when other files have changed
+pub way_kept : (told : Bool) (base : List ℕ) (p : Parameters) (files files1 now : Files) (counts counts1 counts2 : List ℕ → Counts) (n : ℕ) (r : Reading) (P : List Whole → Type 0)
+    → (IsTrue told → map.get now (base ++ GRAPH.now) ≡ map.get files (base ++ GRAPH.now)) → NonDecreasing counts1 counts2 → IsUnderWay told base p files files1 counts counts1 n r P → IsUnderWay told base p now now counts counts2 n r P
+way_kept told base p files files1 now counts counts1 counts2 n r P kept later h = record {
+  state = h.state;
+  params = h.params;
+  name = h.name;
+  page = h.page;
+  same = refl;
+  later = none_falls-trans _ _ _ h.later later;
+  found = λ t looked.
+      let f = h.found t looked in
+      (f.0, ap (λ (m : List ℕ). map.get now m) h.name ∙ kept t ∙ ap (λ (m : List ℕ). map.get files m) (sym h.name) ∙ f.1);
+  follows = λ t file is. h.follows t file (sym (kept t) ∙ is);
+}

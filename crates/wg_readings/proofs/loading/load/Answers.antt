@@ -1,0 +1,12 @@
+use Rattle.std.proofs.Common.{rules, ◌≡◌, Some}
+use Rattle.wg_readings.specs.Names.{file_of}
+use Rattle.wg_readings.proofs.LoadLemmas.{loads_none}
+use Rattle.wg_readings.proofs.loading.load.Goals as goal
+
+pub returns-in_err-name : goal.returns-in_err-name
+returns-in_err-name g c = loads_none _ _ _ _ _ _ _ c.from_residual.ensures.1 c.in_err-name.ensures.only
+
+pub returns : goal.returns
+returns g c =
+    let named : file_of c.args.base.now c.args.input ≡ Some c.as_str.result.now = search rules in
+    c.load_file.ensures (file_of c.args.base.now) named

@@ -1,0 +1,83 @@
+use Rattle.std.proofs.Common.{◌≡◌, ◌∙◌, Bool, false, Result, Ok, Err, ap, subst}
+use Rattle.std.specs.FinMap as map
+use Rattle.wg_io.specs.Outside.{Files}
+use Rattle.wg_params.specs.Parameters.{Parameters}
+use Rattle.wg_grammar.specs.Archive.{lists_of, places_of}
+use Rattle.wg_stream.specs.declared.first.First.{First}
+use Rattle.wg_stream.specs.declared.state.State.{State}
+use Rattle.wg_stream.specs.declared.stream_error.StreamError.{StreamError}
+use Rattle.wg_stream.specs.declared.stream_error.StreamError.TheVariants as errors
+use Rattle.wg_stream.specs.FirstError.{of_first}
+use Rattle.wg_stream.specs.Reading.{AgreesIn, IsInStep, IsJudged, StaysInStep}
+use Rattle.wg_readings.specs.Passes.{ending_at, first_in}
+use Rattle.wg_readings.proofs.Statuses.{own_caused}
+use Rattle.wg_readings.specs.declared.status.Status.TheVariants.{Done}
+use Rattle.wg_readings.proofs.PassLemmas.{absent_after, advances_at, cause_at, error_of, error_steps, first_again, found_after, only_at}
+use Rattle.wg_readings.proofs.records.go_on.Goals as goal
+
+abbrev lent : Bool → Result Bool StreamError
+lent more = Ok more
+
+abbrev failed : StreamError → Result Bool StreamError
+failed e = Err e
+
+pub returns-in-Ok-clause-advances : goal.returns-in-Ok-clause-advances
+returns-in-Ok-clause-advances g c =
+    let e = c.in-Ok.ensures in
+    record {
+      params = e.params;
+      name = e.name;
+      onward = e.onward;
+      same = e.same;
+      later = e.later;
+      only = tt;
+      causes = λ names named. own_caused _ _ _ _ _ _ Done tt;
+      there = λ t held is found.
+          found_after _ _ (λ none unlooked. cc (e.absent t (ap (λ (f : Files). map.get f c.args.reader.now.name) is ∙ none) c.requires.open unlooked)) found;
+      refused = λ t limits held is found follows r. tt;
+    }
+
+pub returns-in-Ok-clause-in_step : goal.returns-in-Ok-clause-in_step
+returns-in-Ok-clause-in_step g c = λ t held same file is whole s.
+    c.in-Ok.ensures.in_step t file (ap (λ (f : Files). map.get f c.args.reader.now.name) same ∙ is) whole s
+
+pub returns-in-Ok-clause-judged : goal.returns-in-Ok-clause-judged
+returns-in-Ok-clause-judged g c = λ t held same file is whole s end.
+    let e = c.in-Ok.ensures in
+    let none : c.in-Ok.more ≡ false = cc in
+    let after : StaysInStep file c.advance.new.self whole (lent c.in-Ok.more) = e.in_step t file (ap (λ (f : Files). map.get f c.args.reader.now.name) same ∙ is) whole s in
+    let now : IsInStep file c.advance.new.self whole = subst (λ (b : Bool). StaysInStep file c.advance.new.self whole (lent b)) none after in
+    let done = (e.end (ap Ok none)).0 in
+    subst (λ (q : Parameters). IsJudged file q (Ok (record { graph = lists_of whole; places = places_of whole }))) (e.params ∙ c.requires.params)
+    (subst (λ (x : State). AgreesIn x file c.advance.new.self whole) done now).1
+
+pub returns-in-Err-clause-advances : goal.returns-in-Err-clause-advances
+returns-in-Err-clause-advances g c =
+    let e = c.in-Err.ensures in
+    let p = c.args.params.now in
+    let old = c.args.reader.now in
+    let closed = e.err c.requires.open in
+    let f : First = closed.0 in
+    let is : c.in-Err.error ≡ of_first f = closed.1 in
+    let first : c.first_in.result ≡ f = c.first_in.ensures ∙ ap first_in is ∙ first_again f in
+    let ending : c.ending_at.result ≡ ending_at p.arcs f = c.ending_at.ensures ∙ ap (ending_at p.arcs) first in
+    let cause = e.cause c.requires.open f (ap failed is) in
+    advances_at {B = Bool} _ _ _ _ _ p old c.advance.new.self c.ending_at.result (ending_at p.arcs f) ending
+    (record {
+      params = e.params;
+      name = e.name;
+      onward = e.onward;
+      same = e.same;
+      later = e.later;
+      only = only_at p.arcs f;
+      causes = λ names named. cause_at _ _ _ _ _ _ names named p.arcs f cause;
+      there = λ t held same found. tt;
+      refused = λ t limits held same found follows r.
+          error_steps r p limits p.arcs (map.get held old.name) f
+          (absent_after (map.get held old.name) old.held.looked f
+          (λ none unlooked. let a : failed c.in-Err.error ≡ failed errors.Absent = e.absent t (ap (λ (h : Files). map.get h old.name) same ∙ none) c.requires.open unlooked in cc) found)
+          (λ file there.
+          let there' = ap (λ (h : Files). map.get h old.name) same ∙ there in
+          let k = follows file there in
+          error_of _ p _ _ _ old c.advance.new.self f file k.0 t c.requires.open closed.2 (e.params ∙ c.requires.params) cause there' k.1 (e.in_step t file there' k.0 k.1));
+    })

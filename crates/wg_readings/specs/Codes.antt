@@ -1,0 +1,17 @@
+-- The exit status of the program.
+use Rattle.std.specs.Prelude.{ℕ}
+use Rattle.wg_readings.specs.declared.status.Status.{Status}
+use Rattle.wg_readings.specs.declared.status.Status.TheVariants.{Done, Usage, Memory, ReadFault, WriteFault, Missing, BadArcs, BadProperties, BadArchive, NoPage, OverLimit}
+
+abbrev pub code_of : Status → ℕ
+code_of Done = 0
+code_of Usage = 2
+code_of Memory = 3
+code_of (ReadFault i) = 4
+code_of (WriteFault o) = 5
+code_of (Missing i) = 6
+code_of (BadArcs line kind) = 7
+code_of (BadProperties f) = 8
+code_of (BadArchive f) = 9
+code_of (NoPage page) = 10
+code_of (OverLimit i) = 11

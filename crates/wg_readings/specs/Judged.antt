@@ -1,0 +1,125 @@
+-- What a job comes to, by what its inputs hold.
+use Rattle.std.specs.Prelude.{ℕ, List, [], ◌∷◌, ◌++◌, length, map, find, get_or, nat_le, nat_lt, if◌then◌else◌, codes, decimal, Option, Some, None, Result, Ok, Err}
+use Rattle.wg_io.specs.Puts.{joined}
+use Rattle.wg_io.specs.declared.limits.TheConstants.{MOST_BYTES}
+use Rattle.wg_params.specs.Parameters.{Parameters}
+use Rattle.wg_properties.specs.Judged.{properties_of}
+use Rattle.wg_properties.specs.declared.fault.PropFault.{PropFault}
+use Rattle.wg_grammar.specs.declared.fault.ArchiveFault.{ArchiveFault}
+use Rattle.wg_grammar.specs.declared.fault.ArchiveFault.TheVariants as archive
+use Rattle.wg_grammar.specs.declared.fault.OffsetWord.{OffsetWord}
+use Rattle.wg_grammar.specs.Archive.{Accepted}
+use Rattle.wg_graph.specs.Digraph.{Digraph}
+use Rattle.wg_arcs.specs.declared.fault.ArcsKind.{ArcsKind}
+use Rattle.wg_arcs.specs.Text.{text_of_graph}
+use Rattle.wg_offsets.specs.Places.{last_place, record_length, pages_that_differ}
+use Rattle.wg_readings.specs.Readings.{Readings}
+use Rattle.wg_readings.specs.declared.status.Input.{Input}
+use Rattle.wg_readings.specs.declared.status.Input.TheVariants as input
+use Rattle.wg_readings.specs.declared.status.Status.{Status}
+use Rattle.wg_readings.specs.declared.status.Status.TheVariants.{Done, Missing, BadArcs, BadProperties, BadArchive, NoPage, OverLimit}
+
+-- the bytes of an archive's three files
+pub record Archive : Type 0 where
+  pub properties : List ℕ
+  pub graph : List ℕ
+  pub offsets : List ℕ
+
+-- a job is refused with a status; or it is done, with this on the output; or it is done with these files besides
+pub data Judged : Type 0 where
+  refused : Status → Judged
+  accepted : List ℕ → Judged
+  built : Archive → List ℕ → Judged
+
+abbrev pub status_of : Judged → Status
+status_of (refused status) = status
+status_of (accepted out) = Done
+status_of (built files out) = Done
+
+abbrev pub output_of : Judged → List ℕ
+output_of (refused status) = []
+output_of (accepted out) = out
+output_of (built files out) = out
+
+abbrev pub files_of : Judged → Option Archive
+files_of (refused status) = None
+files_of (accepted out) = None
+files_of (built files out) = Some files
+
+-- goes on with the bytes of an input, where it is held and not too long
+abbrev pub with_file : Input → Option (List ℕ) → (List ℕ → Judged) → Judged
+with_file i None next = refused (Missing i)
+with_file i (Some bytes) next = if nat_lt MOST_BYTES (length bytes) then refused (OverLimit i) else next bytes
+
+abbrev pub unless_bad_properties : Result Parameters PropFault → (Parameters → Judged) → Judged
+unless_bad_properties (Ok p) next = next p
+unless_bad_properties (Err f) next = refused (BadProperties f)
+
+-- goes on with the parameters that the properties text gives
+abbrev pub with_parameters : List ℕ → (Parameters → Judged) → Judged
+with_parameters text next = unless_bad_properties (properties_of text) next
+
+abbrev pub unless_bad_graph : Result Accepted ArchiveFault → (Accepted → Judged) → Judged
+unless_bad_graph (Ok a) next = next a
+unless_bad_graph (Err f) next = refused (BadArchive f)
+
+-- goes on with the graph that the bytes stand for
+abbrev pub with_graph : Readings → Parameters → List ℕ → (Accepted → Judged) → Judged
+with_graph r p bytes next = unless_bad_graph (r.graph.value p bytes) next
+
+-- goes on with its pages and their lists
+abbrev pub with_digraph : Readings → Parameters → List ℕ → (Digraph → Judged) → Judged
+with_digraph r p bytes next = with_graph r p bytes (λ a. next (record { nodes = p.nodes; lists = a.graph }))
+
+-- goes on with the places of its records
+abbrev pub with_places : Readings → Parameters → List ℕ → (List ℕ → Judged) → Judged
+with_places r p bytes next = with_graph r p bytes (λ a. next a.places)
+
+abbrev pub unless_bad_offsets : Result (List ℕ) OffsetWord → (List ℕ → Judged) → Judged
+unless_bad_offsets (Ok places) next = next places
+unless_bad_offsets (Err w) next = refused (BadArchive (archive.Offsets w))
+
+-- goes on with the places that the offsets file stores
+abbrev pub with_offsets : Readings → Parameters → List ℕ → (List ℕ → Judged) → Judged
+with_offsets r p bytes next = unless_bad_offsets (r.offsets.value p bytes) next
+
+abbrev pub unless_some_differ : List ℕ → List ℕ → List ℕ → (Unit {0} → Judged) → Judged
+unless_some_differ [] found stored next = next tt
+unless_some_differ (x ∷ rest) found stored next = refused (BadArchive (archive.Length x (record_length found x) (record_length stored x)))
+
+-- goes on where each record has the length that is stored
+abbrev pub with_lengths : List ℕ → List ℕ → (Unit {0} → Judged) → Judged
+with_lengths found stored next = unless_some_differ (pages_that_differ found stored) found stored next
+
+abbrev pub unless_no_page : Option ℕ → (Unit {0} → Judged) → Judged
+unless_no_page None next = next tt
+unless_no_page (Some page) next = refused (NoPage page)
+
+-- goes on where a graph of so many pages has all of these; else the first that it does not have is refused
+abbrev pub with_pages : ℕ → List ℕ → (Unit {0} → Judged) → Judged
+with_pages n pages next = unless_no_page (find (λ page. nat_le n page) pages) next
+
+abbrev pub unless_bad_list : Result Digraph (ℕ × ArcsKind) → (Digraph → Judged) → Judged
+unless_bad_list (Ok g) next = next g
+unless_bad_list (Err fault) next = refused (BadArcs fault.0 fault.1)
+
+-- goes on with the graph of so many pages that the arc list stands for
+abbrev pub with_list : Readings → ℕ → List ℕ → (Digraph → Judged) → Judged
+with_list r n bytes next = unless_bad_list (r.arc_list.value n bytes) next
+
+-- goes on with the graph of so many pages that the arc list holds
+abbrev pub with_arcs : Readings → ℕ → (Input → Option (List ℕ)) → (Digraph → Judged) → Judged
+with_arcs r n held next = with_file input.ArcList (held input.ArcList) (λ bytes. with_list r n bytes next)
+
+-- goes on with the parameters, and the bytes of the graph file
+abbrev pub with_records : (Input → Option (List ℕ)) → (Parameters → List ℕ → Judged) → Judged
+with_records held next =
+    with_file input.Properties (held input.Properties) (λ text. with_parameters text (λ p.
+    with_file input.Graph (held input.Graph) (λ bytes. next p bytes)))
+
+-- goes on with the graph of an archive, and the places of its records, where its offsets file stores the same lengths
+abbrev pub with_archive : Readings → (Input → Option (List ℕ)) → (Parameters → Accepted → Judged) → Judged
+with_archive r held next =
+    with_records held (λ p bytes. with_graph r p bytes (λ a.
+    with_file input.Offsets (held input.Offsets) (λ more. with_offsets r p more (λ stored.
+    with_lengths a.places stored (λ same. next p a)))))

@@ -1,0 +1,10 @@
+pub mod Answers
+pub mod Causes
+pub mod Codes
+pub mod Judged
+pub mod Loading
+pub mod Names
+pub mod Pairing
+pub mod Passes
+pub mod Promised
+pub mod Readings

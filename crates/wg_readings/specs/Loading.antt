@@ -1,0 +1,140 @@
+-- Steps of a job that read the files of an archive, and print nothing.
+use Rattle.std.specs.Prelude.{◌≡◌, ◌⊎◌, ℕ, ◌+◌, ◌≤◌, Bool, List, length, Option, Some, Result, Ok, Err, IsTrue, OnOk, IfOk, IfErr}
+use Rattle.wg_io.specs.Outside.{Files, Counts, NonDecreasing}
+use Rattle.wg_io.specs.declared.depot.Depot as depot
+use Rattle.wg_io.specs.declared.limits.TheConstants.{MOST_BYTES}
+use Rattle.wg_params.specs.Parameters.{Parameters, IsWithinLimits}
+use Rattle.wg_properties.specs.Judged.{properties_of}
+use Rattle.wg_properties.specs.declared.fault.PropFault.{PropFault}
+use Rattle.wg_graph.specs.Digraph.{Digraph}
+use Rattle.wg_grammar.specs.Archive.{Accepted}
+use Rattle.wg_arcs.specs.declared.fault.ArcsKind.{ArcsKind}
+use Rattle.wg_readings.specs.Answers.{Steps, status_in}
+use Rattle.wg_readings.specs.Causes.{HasCause}
+use Rattle.wg_readings.specs.Judged.{Judged, with_arcs, with_digraph, with_file, with_parameters}
+use Rattle.wg_readings.specs.Names.{IsOfInput, file_of, held_by, list_named, no_outputs}
+use Rattle.wg_readings.specs.Pairing.{files_then, offsets_then}
+use Rattle.wg_readings.specs.Passes.{IsGraphFile, IsStopAt, graph_then}
+use Rattle.wg_readings.specs.Readings.{Readings}
+use Rattle.wg_readings.specs.declared.ending.Ending.{Ending}
+use Rattle.wg_readings.specs.declared.status.Input.{Input}
+use Rattle.wg_readings.specs.declared.status.Input.TheVariants as input
+use Rattle.wg_readings.specs.declared.status.Status.TheVariants.{BadArcs, BadProperties}
+
+-- A file of this name was read whole, as this input.
+pub record Loads (names : Input → Option (List ℕ)) (i : Input) (told : Bool) (files files' : Files) (counts counts' : List ℕ → Counts) (result : Result (List ℕ) Ending) : Type 0 where
+  -- it goes on with the bytes, or ends at the input
+  pub steps : IsTrue told → Steps (with_file i (held_by names files i)) result
+  pub held : IsTrue told → IfOk result (λ bytes. held_by names files i ≡ Some bytes)
+  -- an absence or a fault is told only where the outside counted it
+  pub causes : HasCause names no_outputs counts counts' 0 0 (status_in result)
+  pub mine : IfErr result (λ e. IsOfInput i e.status)
+  -- no file has changed, and no count of the depot falls
+  pub same : files' ≡ files
+  pub later : NonDecreasing counts counts'
+  pub short : IfOk result (λ bytes. length bytes ≤ MOST_BYTES)
+
+-- goes on with the parameters that the properties file gives
+abbrev pub params_then : Option (List ℕ) → (Parameters → Judged) → Judged
+params_then held next = with_file input.Properties held (λ text. with_parameters text next)
+
+-- the properties file is there, and gives these parameters
+pub record IsPropertiesFile (held : Option (List ℕ)) (p : Parameters) : Type 0 where
+  pub text : List ℕ
+  pub is : held ≡ Some text
+  pub gives : properties_of text ≡ Ok p
+
+-- The parameters of an archive were read.
+pub record LoadsParams (base : List ℕ) (told : Bool) (files files' : Files) (counts counts' : List ℕ → Counts) (result : Result Parameters Ending) : Type 0 where
+  -- it goes on with the parameters, or ends at the properties file
+  pub steps : IsTrue told → Steps (params_then (held_by (file_of base) files input.Properties)) result
+  pub given : IsTrue told → IfOk result (IsPropertiesFile (held_by (file_of base) files input.Properties))
+  pub only : IfErr result (λ e. IsOfInput input.Properties e.status ⊎ ((f : PropFault) × (e.status ≡ BadProperties f)))
+  -- an absence or a fault is told only where the outside counted it
+  pub causes : HasCause (file_of base) no_outputs counts counts' 0 0 (status_in result)
+  -- no file has changed, and no count of the depot falls
+  pub same : files' ≡ files
+  pub later : NonDecreasing counts counts'
+
+-- A step of a judgement that looks at one file of an archive ended the job, whatever would have come next. The properties promise so many arcs.
+pub record EndsAt {B : Type 0} (base : List ℕ) (i : Input) (promised : ℕ) (step : Readings → Option (List ℕ) → (B → Judged) → Judged) (told : Bool) (files : Files) (counts counts' : List ℕ → Counts) (e : Ending) : Type 0 where
+  -- the file was not read, or is at fault
+  pub only : IsStopAt i promised e
+  -- an absence or a fault is told only where the outside counted it
+  pub causes : HasCause (file_of base) no_outputs counts counts' 0 0 e.status
+  -- the step ends like this, or something came in its place
+  pub refused : IsTrue told → (r : Readings) → Steps {B = B} (step r (held_by (file_of base) files i)) (Err e)
+
+-- A step of a judgement that looks at one file of an archive was done, or ended the job.
+pub record Reads {A B : Type 0} (base : List ℕ) (i : Input) (promised : ℕ) (step : Readings → Option (List ℕ) → (B → Judged) → Judged) (told : Bool) (files files' : Files) (counts counts' : List ℕ → Counts) (result : Result A Ending) : Type 0 where
+  pub ends : IfErr result (EndsAt base i promised step told files counts counts')
+  -- no file has changed, and no count of the depot falls
+  pub same : files' ≡ files
+  pub later : NonDecreasing counts counts'
+
+-- goes on with the pages of what the graph file holds, and their lists
+abbrev pub digraph_then : Readings → Parameters → Option (List ℕ) → (Digraph → Judged) → Judged
+digraph_then r p held next = with_file input.Graph held (λ bytes. with_digraph r p bytes next)
+
+-- The graph file of an archive was judged: it stands for a graph, or the job ends at it.
+pub record JudgesGraph (base : List ℕ) (p : Parameters) (told : Bool) (files files' : Files) (counts counts' : List ℕ → Counts) (result : Result (Unit {0}) Ending) : Type 0 where
+  pub reads : Reads base input.Graph p.arcs (λ r. graph_then r p) told files files' counts counts' result
+  pub limits : OnOk result (IsWithinLimits p)
+  pub accepted : IsTrue told → OnOk result ((a : Accepted) × IsGraphFile (held_by (file_of base) files input.Graph) p a)
+
+-- The graph of an archive was read whole, or the job ends at its file.
+pub record LoadsGraph (base : List ℕ) (p : Parameters) (told : Bool) (files files' : Files) (counts counts' : List ℕ → Counts) (result : Result Digraph Ending) : Type 0 where
+  pub reads : Reads base input.Graph p.arcs (λ r. digraph_then r p) told files files' counts counts' result
+  pub goes : IsTrue told → (r : Readings) → Steps (digraph_then r p (held_by (file_of base) files input.Graph)) result
+
+-- The places that the offsets file of an archive stores were read, or the job ends at this file.
+pub record LoadsOffsets (base : List ℕ) (p : Parameters) (told : Bool) (files files' : Files) (counts counts' : List ℕ → Counts) (result : Result (List ℕ) Ending) : Type 0 where
+  pub reads : Reads base input.Offsets p.arcs (λ r. offsets_then r p) told files files' counts counts' result
+  pub goes : IsTrue told → (r : Readings) → Steps (offsets_then r p (held_by (file_of base) files input.Offsets)) result
+  pub count : IfOk result (λ stored. length stored ≡ p.nodes + 1)
+
+-- The graph of so many pages that an arc list holds was read whole, or the job ends at the list.
+pub record LoadsList (name : List ℕ) (n : ℕ) (told : Bool) (files files' : Files) (counts counts' : List ℕ → Counts) (result : Result Digraph Ending) : Type 0 where
+  pub steps : IsTrue told → (r : Readings) → Steps (with_arcs r n (held_by (list_named name) files)) result
+  pub only : IfErr result (λ e. IsOfInput input.ArcList e.status ⊎ ((line : ℕ) × (kind : ArcsKind) × (e.status ≡ BadArcs line kind)))
+  pub nodes : IfOk result (λ g. g.nodes ≡ n)
+  -- an absence or a fault is told only where the outside counted it
+  pub causes : HasCause (list_named name) no_outputs counts counts' 0 0 (status_in result)
+  -- no file has changed, and no count of the depot falls
+  pub same : files' ≡ files
+  pub later : NonDecreasing counts counts'
+
+-- The graph file and the offsets file of an archive were judged beside each other, or the job ends at one of them: at the offsets file only if the
+-- graph is in order.
+pub record JudgesFiles (base : List ℕ) (p : Parameters) (told : Bool) (files files' : Files) (counts counts' : List ℕ → Counts) (result : Result ℕ Ending) : Type 0 where
+  pub steps : IsTrue told → (r : Readings) → Steps (files_then r p (held_by (file_of base) files)) result
+  pub limits : OnOk result (IsWithinLimits p)
+  pub only : IfErr result (λ e. IsStopAt input.Graph p.arcs e ⊎ (IsStopAt input.Offsets p.arcs e × IsWithinLimits p
+      × (IsTrue told → (a : Accepted) × IsGraphFile (held_by (file_of base) files input.Graph) p a)))
+  -- an absence or a fault is told only where the outside counted it
+  pub causes : HasCause (file_of base) no_outputs counts counts' 0 0 (status_in result)
+  -- no file has changed, and no count of the depot falls
+  pub same : files' ≡ files
+  pub later : NonDecreasing counts counts'
+
+-- The same relations, of a depot that a function changes.
+abbrev pub LoadsBy : {D : Type 0} → depot.Ghosts D → (Input → Option (List ℕ)) → Input → D → D → Result (List ℕ) Ending → Type 0
+LoadsBy d names i before after result = Loads names i d.told (d.files before) (d.files after) (d.counts before) (d.counts after) result
+
+abbrev pub LoadsParamsBy : {D : Type 0} → depot.Ghosts D → List ℕ → D → D → Result Parameters Ending → Type 0
+LoadsParamsBy d base before after result = LoadsParams base d.told (d.files before) (d.files after) (d.counts before) (d.counts after) result
+
+abbrev pub LoadsGraphBy : {D : Type 0} → depot.Ghosts D → List ℕ → Parameters → D → D → Result Digraph Ending → Type 0
+LoadsGraphBy d base p before after result = LoadsGraph base p d.told (d.files before) (d.files after) (d.counts before) (d.counts after) result
+
+abbrev pub LoadsOffsetsBy : {D : Type 0} → depot.Ghosts D → List ℕ → Parameters → D → D → Result (List ℕ) Ending → Type 0
+LoadsOffsetsBy d base p before after result = LoadsOffsets base p d.told (d.files before) (d.files after) (d.counts before) (d.counts after) result
+
+abbrev pub LoadsListBy : {D : Type 0} → depot.Ghosts D → List ℕ → ℕ → D → D → Result Digraph Ending → Type 0
+LoadsListBy d name n before after result = LoadsList name n d.told (d.files before) (d.files after) (d.counts before) (d.counts after) result
+
+abbrev pub JudgesGraphBy : {D : Type 0} → depot.Ghosts D → List ℕ → Parameters → D → D → Result (Unit {0}) Ending → Type 0
+JudgesGraphBy d base p before after result = JudgesGraph base p d.told (d.files before) (d.files after) (d.counts before) (d.counts after) result
+
+abbrev pub JudgesFilesBy : {D : Type 0} → depot.Ghosts D → List ℕ → Parameters → D → D → Result ℕ Ending → Type 0
+JudgesFilesBy d base p before after result = JudgesFiles base p d.told (d.files before) (d.files after) (d.counts before) (d.counts after) result

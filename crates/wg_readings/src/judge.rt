@@ -1,0 +1,51 @@
+//! The files of an archive, judged as they are read in pieces.
+ghost use Rattle.wg_readings.specs.Loading.{JudgesFilesBy, JudgesGraphBy};
+
+use crate::ending::Ending;
+use crate::pairing::{begin_pairing, end_pairing, open_offsets, pair_next};
+use crate::records::{end_records, next_record, open_graph};
+use std::alloc::Global;
+use wg_io::Depot;
+use wg_params::Params;
+use wg_words::Name;
+
+/// Judges the records of a graph file, and what follows them.
+pub fn judge_graph<D: Depot>(
+    alloc: Global,
+    params: &Params,
+    depot: &mut D,
+    base: &Name,
+) -> Result<(), Ending>
+    ensures { JudgesGraphBy ⟦<D as Depot>⟧ base.now params.now depot.old depot.new result }
+{
+    let mut reader = open_graph(alloc, params, base)?;
+    for _page in 0..params.nodes() {
+        next_record(&mut reader, depot, params)?;
+    }
+    end_records(&mut reader, depot, params)?;
+    Ok(())
+}
+
+/// Judges the graph and the offsets, and answers how many bits the records have. After an error of the offsets file
+/// that file is read no further, and the error is told once the graph is judged to its end: a fault of the graph
+/// comes before it.
+pub fn judge_files<D: Depot>(
+    alloc: Global,
+    params: &Params,
+    depot: &mut D,
+    base: &Name,
+) -> Result<u64, Ending>
+    ensures { JudgesFilesBy ⟦<D as Depot>⟧ base.now params.now depot.old depot.new result }
+{
+    let mut reader = open_graph(alloc, params, base)?;
+    let mut pairing = open_offsets(alloc, params, base)?;
+    let mut so_far = begin_pairing(&mut pairing, depot, params);
+    for _page in 0..params.nodes() {
+        next_record(&mut reader, depot, params)?;
+        so_far = pair_next(so_far, &mut pairing, depot, params, reader.at());
+    }
+    let bits = reader.at();
+    end_records(&mut reader, depot, params)?;
+    end_pairing(so_far, &mut pairing, depot, params)?;
+    Ok(bits)
+}

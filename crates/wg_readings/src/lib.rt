@@ -1,0 +1,33 @@
+//! The files of an archive, and arc lists, as a job reads them: each is read and judged, and the job goes on with
+//! what it holds, or ends.
+//!
+//! [`load_params`], [`load_graph`], [`load_offsets`] and [`load_list`] read a file whole; [`judge_graph`] and
+//! [`judge_files`] go through the files in pieces, and so do [`open_graph`], [`next_record`] and [`end_records`],
+//! record by record. Each promises that it is a step of a judgement (`Judged`): it goes on with a value whatever
+//! comes next, or it ends with a [`Status`] whatever would have come next, unless running out of memory or a fault
+//! of the outside came in its place (`Steps`). A fault or an absence is told only where its count rose, and no file
+//! changes. Which steps a job takes, and what it prints and writes, is said above, in `wg_jobs`.
+//!
+//! A judgement takes the graph of a file from a function that reads all graph files (`Readings`); the grammar leaves
+//! exactly one such function.
+//!
+//! Public for `wg_jobs` alone are all items but [`Ending`], [`Input`] and [`Status`], which it hands on.
+#![tactic(auto)]
+
+mod archive;
+mod ending;
+mod judge;
+mod listed;
+mod loading;
+mod names;
+mod pairing;
+mod records;
+mod status;
+
+pub use archive::{archive_of, find_pages, records_of_graph};
+pub use ending::Ending;
+pub use judge::{judge_files, judge_graph};
+pub use loading::{load, load_graph, load_list, load_offsets, load_params};
+pub use names::file_name;
+pub use records::{end_records, next_record, open_graph};
+pub use status::{Input, Status};

@@ -1,0 +1,103 @@
+//! The files of an archive, each read whole and judged, and an arc list.
+ghost use Rattle.std.specs.Prelude.{◌≡◌, ◌≤◌, ℕ, List, Option, IsSome, Some};
+ghost use Rattle.wg_params.specs.declared.limits.TheConstants.{MOST_PAGES};
+ghost use Rattle.wg_readings.specs.Loading.{LoadsBy, LoadsGraphBy, LoadsListBy, LoadsOffsetsBy, LoadsParamsBy};
+ghost use Rattle.wg_readings.specs.Names.{file_of, suffix_of};
+ghost use Rattle.wg_readings.specs.declared.status.Input.{Input};
+
+use crate::archive::{graph_of_records, parameters, stored_offsets};
+use crate::ending::Ending;
+use crate::listed::graph_of_list;
+use crate::names::{file_name, suffix};
+use crate::{Input, Status};
+use std::alloc::Global;
+use wg_graph::Graph;
+use wg_io::{Depot, List8, LoadError, read_whole};
+use wg_offsets::Offsets;
+use wg_params::Params;
+use wg_words::Name;
+
+/// Reads a file of this name whole, which is an input of a job.
+pub fn load_file<D: Depot>(
+    alloc: Global,
+    depot: &mut D,
+    name: &str,
+    input: Input,
+) -> Result<List8, Ending>
+    ensures { (names : Input → Option (List ℕ)) → names input ≡ Some name.now
+        → LoadsBy ⟦<D as Depot>⟧ names input depot.old depot.new result }
+{
+    match read_whole(alloc, depot, name) {
+        Ok(bytes) => Ok(bytes),
+        Err(LoadError::Absent) => Err(Ending::of(Status::Missing(input))),
+        Err(LoadError::Failed) => Err(Ending::of(Status::ReadFault(input))),
+        Err(LoadError::TooLong) => Err(Ending::of(Status::OverLimit(input))),
+        Err(LoadError::Memory) => Err(Ending::of(Status::Memory)),
+    }
+}
+
+/// Reads one of an archive's files whole.
+pub fn load<D: Depot>(
+    alloc: Global,
+    depot: &mut D,
+    base: &Name,
+    input: Input,
+) -> Result<List8, Ending>
+    requires { IsSome (suffix_of input) }
+    ensures { LoadsBy ⟦<D as Depot>⟧ (file_of base.now) input depot.old depot.new result }
+{
+    let Some(suffix) = suffix(input) else {
+        unreachable!()
+    };
+    let name = file_name(alloc, base, suffix)?;
+    load_file(alloc, depot, name.as_str(), input)
+}
+
+/// Reads the parameters of an archive.
+pub fn load_params<D: Depot>(alloc: Global, depot: &mut D, base: &Name) -> Result<Params, Ending>
+    ensures { LoadsParamsBy ⟦<D as Depot>⟧ base.now depot.old depot.new result }
+{
+    let text = load(alloc, depot, base, Input::Properties)?;
+    parameters(text.as_slice())
+}
+
+/// Reads the graph of an archive. Beside the graph it holds the bytes of its file, until it is read.
+pub fn load_graph<D: Depot>(
+    alloc: Global,
+    params: &Params,
+    depot: &mut D,
+    base: &Name,
+) -> Result<Graph, Ending>
+    ensures { LoadsGraphBy ⟦<D as Depot>⟧ base.now params.now depot.old depot.new result }
+{
+    let bytes = load(alloc, depot, base, Input::Graph)?;
+    graph_of_records(alloc, params, bytes.as_slice())
+}
+
+/// Reads the offsets that an archive stores. Beside them it holds the bytes of their file, until they are read.
+pub fn load_offsets<D: Depot>(
+    alloc: Global,
+    params: &Params,
+    depot: &mut D,
+    base: &Name,
+) -> Result<Offsets, Ending>
+    ensures { LoadsOffsetsBy ⟦<D as Depot>⟧ base.now params.now depot.old depot.new result }
+{
+    let bytes = load(alloc, depot, base, Input::Offsets)?;
+    stored_offsets(alloc, params, bytes.as_slice())
+}
+
+/// Reads the graph of so many pages that an arc list holds. Beside the graph it holds the bytes of the list, until
+/// it is read.
+pub fn load_list<D: Depot>(
+    alloc: Global,
+    nodes: u64,
+    depot: &mut D,
+    name: &Name,
+) -> Result<Graph, Ending>
+    requires { nodes ≤ MOST_PAGES }
+    ensures { LoadsListBy ⟦<D as Depot>⟧ name.now nodes depot.old depot.new result }
+{
+    let bytes = load_file(alloc, depot, name.as_str(), Input::ArcList)?;
+    graph_of_list(alloc, bytes.as_slice(), nodes)
+}

@@ -1,0 +1,149 @@
+//! The records of a graph file, read in pieces.
+ghost use Rattle.std.specs.Prelude.{◌≡◌, ◌+◌, ◌<◌, ℕ, true, false, List as ListOf, Ok, Err, Some, OnOk, IfOk};
+ghost use Rattle.std.specs.Prelude.{IfErr, IsTrue, length};
+ghost use Rattle.std.specs.FinMap as map;
+ghost use Rattle.wg_io.specs.Outside.{Files};
+ghost use Rattle.wg_params.specs.Parameters.{IsWithinLimits};
+ghost use Rattle.wg_grammar.specs.Archive.{lists_of, places_of};
+ghost use Rattle.wg_grammar.specs.Record.{Whole};
+ghost use Rattle.wg_stream.specs.declared.state.State.TheVariants.{Open};
+ghost use Rattle.wg_stream.specs.Reading.{IsInStep, IsJudged, StaysInStep};
+ghost use Rattle.wg_readings.specs.Passes.{Advances, IsFresh, ending_at, first_in};
+
+use crate::ending::Ending;
+use crate::{Input, Status};
+use std::alloc::Global;
+use wg_grammar::ArchiveFault;
+use wg_io::{Depot, GRAPH};
+use wg_params::Params;
+use wg_stream::{First, Reader, StreamError};
+use wg_words::Name;
+
+// The first error of a reading, which each later one names.
+fn first_in(error: StreamError) -> First
+    ensures { result ≡ first_in error }
+{
+    match error {
+        StreamError::Fault(fault) => First::Fault(fault),
+        StreamError::Tail(at) => First::Tail(at),
+        StreamError::ArcsShort(total) => First::ArcsShort(total),
+        StreamError::Failed => First::Failed,
+        StreamError::Absent => First::Absent,
+        StreamError::TooLong => First::TooLong,
+        StreamError::Memory => First::Memory,
+        StreamError::Closed(first) => first,
+    }
+}
+
+// How a job ends at an error of its graph file.
+fn ending_at(first: First, params: &Params) -> Ending
+    ensures { result ≡ ending_at params.now.arcs first }
+{
+    match first {
+        First::Fault(fault) => bad_graph(ArchiveFault::Record(fault), params),
+        First::Tail(at) => bad_graph(ArchiveFault::Tail(at), params),
+        First::ArcsShort(total) => bad_graph(ArchiveFault::ArcsShort(total), params),
+        First::Failed => Ending::of(Status::ReadFault(Input::Graph)),
+        First::Absent => Ending::of(Status::Missing(Input::Graph)),
+        First::TooLong => Ending::of(Status::OverLimit(Input::Graph)),
+        First::Memory => Ending::of(Status::Memory),
+    }
+}
+
+fn bad_graph(fault: ArchiveFault, params: &Params) -> Ending
+    ensures { result ≡ record { status = Status.BadArchive fault; arcs = params.now.arcs } }
+{
+    Ending {
+        status: Status::BadArchive(fault),
+        arcs: params.arcs(),
+    }
+}
+
+/// Begins to read the graph file of an archive.
+pub fn open_graph(alloc: Global, params: &Params, base: &Name) -> Result<Reader, Ending>
+    ensures fresh { IfOk result (IsFresh base.now params.now) }
+    ensures only { IfErr result (λ e. e.status ≡ Status.Memory) }
+{
+    let Ok(name) = base.with_suffix(alloc, GRAPH) else {
+        return Err(Ending::of(Status::Memory));
+    };
+    match Reader::new(alloc, *params, name.as_str()) {
+        Ok(reader) => Ok(reader),
+        Err(_) => Err(Ending::of(Status::Memory)),
+    }
+}
+
+// Reads the record that comes next, or judges the end, if there is none.
+fn go_on<D: Depot>(reader: &mut Reader, depot: &mut D, params: &Params) -> Result<bool, Ending>
+    requires open { reader.old.state ≡ Open }
+    requires params { reader.old.pages.params ≡ params.now }
+    ensures advances { Advances D.told (D.files depot.old) (D.files depot.new) (D.counts depot.old)
+        (D.counts depot.new) params.now reader.old reader.new result }
+    ensures more { result ≡ Ok true → (reader.new.state ≡ Open)
+        × (reader.new.pages.page ≡ reader.old.pages.page + 1)
+        × (reader.new.pages.arcs ≡ reader.old.pages.arcs + length reader.new.pages.list) }
+    ensures end { result ≡ Ok false → (reader.old.pages.page ≡ params.now.nodes)
+        × (reader.old.pages.arcs ≡ params.now.arcs) }
+    ensures few { result ≡ Ok true → reader.old.pages.page < params.now.nodes }
+    ensures in_step { IsTrue D.told → (held : Files) → D.files depot.old ≡ held → (file : ListOf ℕ)
+        → map.get held reader.old.name ≡ Some file
+        → (whole : ListOf Whole) → IsInStep file reader.old whole
+        → IfOk result (λ more. StaysInStep file reader.new whole (Ok more)) }
+    ensures judged { IsTrue D.told → (held : Files) → D.files depot.old ≡ held → (file : ListOf ℕ)
+        → map.get held reader.old.name ≡ Some file
+        → (whole : ListOf Whole) → IsInStep file reader.old whole → result ≡ Ok false
+        → IsJudged file params.now (Ok (record { graph = lists_of whole; places = places_of whole })) }
+{
+    match reader.advance(depot) {
+        Ok(more) => Ok(more),
+        Err(error) => Err(ending_at(first_in(error), params)),
+    }
+}
+
+/// Reads the record of the page that comes next.
+pub fn next_record<D: Depot>(
+    reader: &mut Reader,
+    depot: &mut D,
+    params: &Params,
+) -> Result<(), Ending>
+    requires open { reader.old.state ≡ Open }
+    requires params { reader.old.pages.params ≡ params.now }
+    requires more { reader.old.pages.page < params.now.nodes }
+    ensures advances { Advances D.told (D.files depot.old) (D.files depot.new) (D.counts depot.old)
+        (D.counts depot.new) params.now reader.old reader.new result }
+    ensures open { OnOk result (reader.new.state ≡ Open) }
+    ensures page { OnOk result (reader.new.pages.page ≡ reader.old.pages.page + 1) }
+    ensures arcs { OnOk result (reader.new.pages.arcs ≡ reader.old.pages.arcs + length reader.new.pages.list) }
+    ensures in_step { IsTrue D.told → (held : Files) → D.files depot.old ≡ held → (file : ListOf ℕ)
+        → map.get held reader.old.name ≡ Some file
+        → (whole : ListOf Whole) → IsInStep file reader.old whole
+        → OnOk result (StaysInStep file reader.new whole (Ok true)) }
+{
+    if go_on(reader, depot, params)? {
+        return Ok(());
+    }
+    unreachable!()
+}
+
+/// Judges what follows the records.
+pub fn end_records<D: Depot>(
+    reader: &mut Reader,
+    depot: &mut D,
+    params: &Params,
+) -> Result<(), Ending>
+    requires open { reader.old.state ≡ Open }
+    requires params { reader.old.pages.params ≡ params.now }
+    requires done { reader.old.pages.page ≡ params.now.nodes }
+    ensures total { OnOk result (reader.old.pages.arcs ≡ params.now.arcs) }
+    ensures advances { Advances D.told (D.files depot.old) (D.files depot.new) (D.counts depot.old)
+        (D.counts depot.new) params.now reader.old reader.new result }
+    ensures judged { IsTrue D.told → (held : Files) → D.files depot.old ≡ held → (file : ListOf ℕ)
+        → map.get held reader.old.name ≡ Some file
+        → (whole : ListOf Whole) → IsInStep file reader.old whole
+        → OnOk result (IsJudged file params.now (Ok (record { graph = lists_of whole; places = places_of whole }))) }
+{
+    if go_on(reader, depot, params)? {
+        unreachable!()
+    }
+    Ok(())
+}

@@ -1,0 +1,58 @@
+ghost use Rattle.std.specs.Prelude.{◌≡◌};
+ghost use Rattle.wg_readings.specs.Codes.{code_of};
+
+use wg_arcs::ArcsKind;
+use wg_grammar::ArchiveFault;
+use wg_io::Output;
+use wg_properties::PropFault;
+
+/// A file that a job reads.
+#[derive(Clone, Copy, Debug, PartialEq, Eq)]
+pub enum Input {
+    Properties,
+    Graph,
+    Offsets,
+    ArcList,
+}
+
+/// How a run ended.
+#[derive(Clone, Copy, Debug, PartialEq, Eq)]
+pub enum Status {
+    /// The job was done, and all that it reads was judged to its end.
+    Done,
+    /// The words ask for no job.
+    Usage,
+    Memory,
+    ReadFault(Input),
+    WriteFault(Output),
+    Missing(Input),
+    /// The arc list's first faulty line, counted from 1.
+    BadArcs { line: u64, kind: ArcsKind },
+    BadProperties(PropFault),
+    BadArchive(ArchiveFault),
+    /// The first page asked for that the graph does not have.
+    NoPage(u64),
+    /// The file is longer than a file may be.
+    OverLimit(Input),
+}
+
+impl Status {
+    /// The exit status of the program.
+    pub fn code(self) -> u8
+        ensures { result ≡ code_of self }
+    {
+        match self {
+            Status::Done => 0,
+            Status::Usage => 2,
+            Status::Memory => 3,
+            Status::ReadFault(_) => 4,
+            Status::WriteFault(_) => 5,
+            Status::Missing(_) => 6,
+            Status::BadArcs { .. } => 7,
+            Status::BadProperties(_) => 8,
+            Status::BadArchive(_) => 9,
+            Status::NoPage(_) => 10,
+            Status::OverLimit(_) => 11,
+        }
+    }
+}
