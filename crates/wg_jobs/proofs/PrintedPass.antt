@@ -15,21 +15,17 @@ use Rattle.wg_params.specs.Parameters.{Parameters, IsWithinLimits}
 use Rattle.wg_grammar.specs.Archive.{Accepted}
 use Rattle.wg_grammar.specs.Record.{Whole}
 use Rattle.wg_stream.specs.Reading.{Reading, IsInStep, IsJudged}
-use Rattle.wg_readings.specs.Answers.{Answers, IsHindrance, IsUnput, status_in}
-use Rattle.wg_readings.specs.Judged.{Judged, accepted}
-use Rattle.wg_readings.specs.Names.{file_of, held_by, no_outputs}
-use Rattle.wg_readings.specs.Passes.{Advances, IsGraphFile, IsStopAt, accepted_of, graph_then}
+use Rattle.wg_readings.specs.Answers.{IsHindrance, IsUnput, status_in}
+use Rattle.wg_readings.specs.Names.{file_of, no_outputs}
+use Rattle.wg_readings.specs.Passes.{Advances, IsStopAt, accepted_of}
 use Rattle.wg_jobs.specs.Performs.{Outside, outside}
 use Rattle.wg_jobs.specs.Printed.{PrintsGraph, PutsUpTo}
 use Rattle.wg_readings.specs.declared.ending.Ending.{Ending}
 use Rattle.wg_readings.specs.declared.status.Input.TheVariants.{Graph}
-use Rattle.wg_readings.specs.declared.status.Status.{Status}
-use Rattle.wg_readings.specs.declared.status.Status.TheVariants.{Done, Memory, WriteFault}
+use Rattle.wg_readings.specs.declared.status.Status.TheVariants.{Memory, WriteFault}
 use Rattle.wg_readings.proofs.JudgeLemmas.{read_hindered}
-use Rattle.wg_readings.proofs.PassLemmas.{graph_goes}
-use Rattle.wg_readings.proofs.ReadingsLaws.{the_readings}
-use Rattle.wg_readings.proofs.Statuses.{IsOwn, any_faults, never_done, own_caused, unput_cause, unput_hinders}
-use Rattle.wg_readings.proofs.UnderWay.{IsUnderWay, all_read, ends_caused, ends_told, first_read}
+use Rattle.wg_readings.proofs.Statuses.{IsOwn, any_faults, own_caused, unput_cause, unput_hinders}
+use Rattle.wg_readings.proofs.UnderWay.{IsUnderWay, all_read, ends_caused, first_read}
 
 -- ---- texts that grow with the records
 

@@ -1,21 +1,13 @@
 -- What each job comes to, by what its inputs hold, and the texts that are printed.
 use Rattle.wg_readings.specs.Judged.{Judged, accepted, built, files_of, with_archive, with_arcs, with_digraph, with_pages, with_places, with_records}
-use Rattle.std.specs.Prelude.{ℕ, List, [], ◌∷◌, ◌++◌, length, map, find, get_or, nat_le, nat_lt, if◌then◌else◌, codes, decimal, Option, Some, None, Result, Ok, Err}
+use Rattle.std.specs.Prelude.{ℕ, List, [], ◌++◌, length, map, get_or, if◌then◌else◌, codes, decimal, Option, None}
 use Rattle.wg_io.specs.Puts.{joined}
-use Rattle.wg_io.specs.declared.limits.TheConstants.{MOST_BYTES}
 use Rattle.wg_params.specs.Parameters.{Parameters}
-use Rattle.wg_properties.specs.Judged.{properties_of}
-use Rattle.wg_properties.specs.declared.fault.PropFault.{PropFault}
-use Rattle.wg_grammar.specs.declared.fault.ArchiveFault.{ArchiveFault}
-use Rattle.wg_grammar.specs.declared.fault.ArchiveFault.TheVariants as archive
-use Rattle.wg_grammar.specs.declared.fault.OffsetWord.{OffsetWord}
-use Rattle.wg_grammar.specs.Archive.{Accepted}
 use Rattle.wg_graph.specs.Digraph.{Digraph}
-use Rattle.wg_arcs.specs.declared.fault.ArcsKind.{ArcsKind}
 use Rattle.wg_encoder.specs.Archive.{graph_bits}
 use Rattle.wg_transpose.specs.Transposed.{transposed}
 use Rattle.wg_arcs.specs.Text.{text_of_graph}
-use Rattle.wg_offsets.specs.Places.{last_place, record_length, pages_that_differ}
+use Rattle.wg_offsets.specs.Places.{last_place}
 use Rattle.wg_words.specs.declared.jobs.Job.{Job}
 use Rattle.wg_words.specs.declared.jobs.Job.TheVariants.{Check, Arcs, Offsets, Show, Rank, Build, Recode, Transpose}
 use Rattle.wg_words.specs.declared.layout.Layout.{Layout}
@@ -25,9 +17,6 @@ use Rattle.wg_jobs.specs.Ranked.{ranking_text}
 use Rattle.wg_jobs.specs.Written.{greedy_archive, params_for}
 use Rattle.wg_readings.specs.Judged.{Archive}
 use Rattle.wg_readings.specs.declared.status.Input.{Input}
-use Rattle.wg_readings.specs.declared.status.Input.TheVariants as input
-use Rattle.wg_readings.specs.declared.status.Status.{Status}
-use Rattle.wg_readings.specs.declared.status.Status.TheVariants.{Done, Missing, BadArcs, BadProperties, BadArchive, NoPage, OverLimit}
 
 -- the line of a page: its number, and then its successors
 abbrev pub spaced : ℕ → List ℕ

@@ -9,8 +9,8 @@ ghost use Rattle.wg_jobs.specs.Performs.{DoesOrEnds};
 use crate::building::build_archive;
 use std::alloc::Global;
 use wg_io::{Depot, Sink};
-use wg_words::{Layout, Name};
 use wg_readings::{Ending, load_list};
+use wg_words::{Layout, Name};
 
 /// Writes the greedy archive of a graph that is listed arc by arc, and prints the line of what it holds. It judges
 /// the whole list before it touches a file, and holds its bytes until then; then it holds 8 bytes an arc and 8 a

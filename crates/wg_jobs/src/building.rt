@@ -11,8 +11,8 @@ use std::alloc::Global;
 use wg_graph::Graph;
 use wg_io::{Depot, Sink};
 use wg_params::Params;
-use wg_words::{Layout, Name};
 use wg_readings::Ending;
+use wg_words::{Layout, Name};
 
 /// Writes the greedy archive of a graph, and prints the line of what it holds. Beside the graph it holds one record,
 /// and buffers of 8192 bytes.

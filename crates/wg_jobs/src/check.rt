@@ -5,8 +5,8 @@ ghost use Rattle.wg_jobs.specs.Performs.{DoesOrEnds};
 use crate::print::print_ok;
 use std::alloc::Global;
 use wg_io::{Depot, Sink};
-use wg_words::Name;
 use wg_readings::{Ending, judge_files, load_params};
+use wg_words::Name;
 
 /// Judges the three files of an archive, and prints the line of what they hold. It goes through the graph and the
 /// offsets once, beside each other, and holds a piece of each, and the lists that a reference may reach, with a few

@@ -19,8 +19,8 @@ use std::alloc::Global;
 use wg_encoder::ListEncoder;
 use wg_io::Depot;
 use wg_params::Params;
-use wg_words::Name;
 use wg_readings::{Ending, Status, end_records, next_record, open_graph};
+use wg_words::Name;
 
 // What writes lists into an archive, before the first.
 fn begin_lists(alloc: Global, made: &Params) -> Result<ListEncoder, Ending>

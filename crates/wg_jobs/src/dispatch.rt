@@ -13,8 +13,8 @@ use crate::show::show;
 use crate::transpose::transpose;
 use std::alloc::Global;
 use wg_io::{Depot, Sink};
-use wg_words::Job;
 use wg_readings::{Ending, Status};
+use wg_words::Job;
 
 // How what was done or has ended is reported.
 fn ending_of(done: Result<(), Ending>) -> Ending

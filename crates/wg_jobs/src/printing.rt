@@ -9,9 +9,9 @@ use crate::print::{print_number, print_page, print_rest};
 use std::alloc::Global;
 use wg_io::{Depot, Lines, Sink};
 use wg_params::Params;
+use wg_readings::{Ending, end_records, judge_graph, load_params, next_record, open_graph};
 use wg_stream::Reader;
 use wg_words::Name;
-use wg_readings::{Ending, end_records, judge_graph, load_params, next_record, open_graph};
 
 /// What is printed of each record: the lines of its arcs, or the line of the offset after it.
 #[derive(Clone, Copy)]

@@ -13,8 +13,8 @@ use crate::ranked::Room;
 use std::alloc::Global;
 use wg_graph::Graph;
 use wg_io::{Depot, Sink};
-use wg_words::Name;
 use wg_readings::{Ending, Status, load_graph, load_params};
+use wg_words::Name;
 
 /// How many rounds are done, at which damping in thousandths, and how many pages are printed.
 #[derive(Clone, Copy, Debug)]

@@ -19,8 +19,8 @@ use crate::writing::{create_files, properties_text, write_properties};
 use std::alloc::Global;
 use wg_io::{Depot, PROPERTIES, Sink};
 use wg_params::Params;
-use wg_words::{Layout, Name};
 use wg_readings::{Ending, file_name, judge_graph, load_params};
+use wg_words::{Layout, Name};
 
 /// Writes the greedy archive of an archive's graph, in the layout that is given, and prints the line of what it
 /// holds. It goes through the graph file twice: it judges the whole graph before it touches a file. It holds a piece

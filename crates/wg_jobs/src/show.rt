@@ -18,8 +18,11 @@ use std::sync::ledger::{Blank, Ledger};
 use wg_graph::List;
 use wg_io::{Depot, Lines, Sink};
 use wg_random::{Archive, ListError, OpenError, Steps};
+use wg_readings::{
+    Ending, Input, Status, archive_of, find_pages, load, load_offsets, load_params,
+    records_of_graph,
+};
 use wg_words::Name;
-use wg_readings::{Ending, Input, Status, archive_of, find_pages, load, load_offsets, load_params, records_of_graph};
 
 /// Prints the successors of pages, a line for each. It judges the three files before it prints, and looks whether
 /// all pages are there that it is asked for. It holds the bytes of the graph file and 8 bytes a page for the

@@ -10,8 +10,8 @@ use crate::building::build_archive;
 use std::alloc::Global;
 use wg_graph::Graph;
 use wg_io::{Depot, Sink};
-use wg_words::{Layout, Name};
 use wg_readings::{Ending, Status, load_graph, load_params};
+use wg_words::{Layout, Name};
 
 /// Writes the greedy archive of an archive's graph with each arc the other way round, in the layout that is given,
 /// and prints the line of what it holds. It judges the whole graph before it touches a file; it holds 16 bytes an

@@ -20,8 +20,8 @@ use wg_encoder::{EncodeError, encode};
 use wg_graph::Graph;
 use wg_io::{Depot, GRAPH, List8, OFFSETS, Output, PROPERTIES, WriteError, append_all};
 use wg_params::Params;
-use wg_words::Name;
 use wg_readings::{Ending, Status, file_name};
+use wg_words::Name;
 
 // How a job ends that a call on one of its files stopped.
 fn writing_ending(output: Output, error: WriteError) -> Ending
