@@ -48,7 +48,8 @@ impl<'a> Model for Sweep<'a> {
       place = s.page;
     } };
 
-    ghost invariant = { λ s. Sweeping s.archive.params s.archive.bytes.now s.archive.graph.0 s.page s.at s.kept.items s.list };
+    ghost invariant = { λ s. Sweeping s.archive.params s.archive.bytes.now s.archive.graph.0 s.page s.at
+        s.kept.items s.list };
 }
 
 // So many rows, each with this room.
@@ -83,7 +84,8 @@ fn keep(kept: &mut [Row], list: &mut Row, page: u64)
 fn list_back(kept: &[Row], page: u64, back: u64) -> Option<&[u64]>
     requires near { back ≤ page }
     requires reach { back ≤ length kept.now }
-    ensures { (records : ListOf Whole) → AreKept records page kept.now → option_copied result ≡ below_at records page back }
+    ensures { (records : ListOf Whole) → AreKept records page kept.now
+        → option_copied result ≡ below_at records page back }
 {
     if back == 0 {
         return None;
@@ -103,12 +105,13 @@ fn decode_page<'b>(
 ) -> u64
     requires short { length bytes.now ≤ MOST_BYTES }
     requires page { page < params.now.nodes }
-    requires next { (r : Reading params.now (bits_of bytes.now)) × IsNext params.now (bits_of bytes.now) r page at kept.now
+    requires next { (r : Reading params.now (bits_of bytes.now))
+        × IsNext params.now (bits_of bytes.now) r page at kept.now
         × (length (known_at r.records page).list ≤ list.old.room) }
-    ensures list { (r : Reading params.now (bits_of bytes.now)) → IsNext params.now (bits_of bytes.now) r page at kept.now
-        → list.new.list ≡ (known_at r.records page).list }
-    ensures end { (r : Reading params.now (bits_of bytes.now)) → IsNext params.now (bits_of bytes.now) r page at kept.now
-        → result ≡ offset_at r.records (page + 1) }
+    ensures list { (r : Reading params.now (bits_of bytes.now))
+        → IsNext params.now (bits_of bytes.now) r page at kept.now → list.new.list ≡ (known_at r.records page).list }
+    ensures end { (r : Reading params.now (bits_of bytes.now))
+        → IsNext params.now (bits_of bytes.now) r page at kept.now → result ≡ offset_at r.records (page + 1) }
     ensures room { list.new.room ≡ list.old.room }
 {
     // tells the limits
