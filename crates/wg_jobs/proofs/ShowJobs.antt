@@ -13,7 +13,7 @@ use Rattle.wg_words.specs.declared.jobs.Job.TheVariants.{Show}
 use Rattle.wg_readings.specs.Answers.{Answers, IsUnput, Steps, status_in}
 use Rattle.wg_jobs.specs.Judged.{successors_lines}
 use Rattle.wg_readings.specs.Judged.{Judged, accepted, with_file, with_graph, with_lengths, with_pages}
-use Rattle.wg_readings.specs.Loading.{Loads, LoadsOffsets, LoadsParams}
+use Rattle.wg_readings.specs.Loading.{JudgesOffsets, Loads, LoadsParams, lengths_then}
 use Rattle.wg_readings.specs.Names.{file_of}
 use Rattle.wg_readings.specs.Pairing.{offsets_then}
 use Rattle.wg_jobs.specs.Performs.{Outside, Performs, outside}
@@ -24,7 +24,7 @@ use Rattle.wg_readings.specs.declared.status.Input.{Input}
 use Rattle.wg_readings.specs.declared.status.Input.TheVariants.{Properties, Graph, Offsets}
 use Rattle.wg_readings.specs.declared.status.Status.TheVariants.{NoPage, WriteFault}
 use Rattle.wg_jobs.proofs.JobSteps.{ComesTo, comes_on, ends, ends_reading, loaded, prints, refuses, refuses_page, unloaded}
-use Rattle.wg_readings.proofs.ReadingsLemmas.{goes_on, same_agree}
+use Rattle.wg_readings.proofs.ReadingsLemmas.{goes_on}
 
 module _ (base pages : List ℕ) (td to : Bool) (before : Outside) where
   abbrev job : Job
@@ -77,41 +77,27 @@ module _ (base pages : List ℕ) (td to : Bool) (before : Outside) where
           later = k2.later;
         }
 
-        abbrev next3 : List ℕ → Readings → (Input → Option (List ℕ)) → Judged
-        next3 stored r h = with_lengths a.places stored (λ same. behind_lengths p a)
-
-        pub no_offsets : (after : Outside) (e : Ending) → after.taken ≡ before.taken → LoadsOffsets base p td files1 after.files counts1 after.counts (Err e) → Performs job td to before after e.status e.arcs
+        pub no_offsets : (after : Outside) (e : Ending) → after.taken ≡ before.taken → JudgesOffsets base p a.places td files1 after.files counts1 after.counts (Err e) → Performs job td to before after e.status e.arcs
         no_offsets after e silent o =
-            ends_reading job base td to before p files1 counts1 (Graph ∷ Properties ∷ []) Offsets refl (λ r. offsets_then r p) next3 k3 (λ h holds. holds) (λ t r n. refl)
-            refl after e silent o.reads
+            ends_reading job base td to before p files1 counts1 (Graph ∷ Properties ∷ []) Offsets refl (λ r. lengths_then r p a.places) (λ same r h. behind_lengths p a) k3
+            (λ h holds. holds) (λ t r n. refl) refl after e silent o.reads
 
-        module _ (files2 : Files) (counts2 : List ℕ → Counts) (stored : List ℕ) (o : LoadsOffsets base p td files1 files2 counts1 counts2 (Ok stored)) where
-          k4 : ComesTo job p td before files2 counts2 (Offsets ∷ Graph ∷ Properties ∷ []) (next3 stored)
-          k4 = comes_on job base td to before p files1 counts1 (Graph ∷ Properties ∷ []) Offsets refl (λ r. offsets_then r p) next3 k3 files2 counts2 stored o.goes o.reads.same o.reads.later
+        module _ (files2 : Files) (counts2 : List ℕ → Counts) (o : JudgesOffsets base p a.places td files1 files2 counts1 counts2 (Ok tt)) where
+          k4 : ComesTo job p td before files2 counts2 (Offsets ∷ Graph ∷ Properties ∷ []) (λ r h. behind_lengths p a)
+          k4 =
+              comes_on job base td to before p files1 counts1 (Graph ∷ Properties ∷ []) Offsets refl (λ r. lengths_then r p a.places) (λ same r h. behind_lengths p a) k3
+              files2 counts2 tt o.goes o.reads.same o.reads.later
 
-          pub other_lengths : (taken : List ℕ) (faults : ℕ) (e : Ending) → taken ≡ before.taken → IsBadFile Offsets p.arcs e → Steps {B = Unit {0}} (with_lengths a.places stored) (Err e)
-              → Performs job td to before (outside files2 counts2 taken faults) e.status e.arcs
-          other_lengths taken faults e silent bad steps =
-              refuses job base td to before p files2 counts2 (Offsets ∷ Graph ∷ Properties ∷ []) (next3 stored) k4 Offsets refl taken faults e silent bad (λ t r. steps _)
-
-          module _ (alike : stored ≡ a.places) (asked : List ℕ) (asked_is : asked ≡ pages) where
-            k5 : ComesTo job p td before files2 counts2 (Offsets ∷ Graph ∷ Properties ∷ []) (λ r h. behind_lengths p a)
-            k5 = record {
-              goes = λ t r h holds. k4.goes t r h holds ∙ same_agree a.places stored alike (λ same. behind_lengths p a);
-              given = k4.given;
-              same = k4.same;
-              later = k4.later;
-            }
-
+          module _ (asked : List ℕ) (asked_is : asked ≡ pages) where
             pub no_page : (taken : List ℕ) (faults : ℕ) (e : Ending) → taken ≡ before.taken → ((page : ℕ) × (e.status ≡ NoPage page)) → Steps {B = Unit {0}} (with_pages p.nodes asked) (Err e)
                 → Performs job td to before (outside files2 counts2 taken faults) e.status e.arcs
             no_page taken faults e silent bad steps =
-                refuses_page job base td to before p files2 counts2 (Offsets ∷ Graph ∷ Properties ∷ []) (λ r h. behind_lengths p a) k5 refl taken faults e silent bad
+                refuses_page job base td to before p files2 counts2 (Offsets ∷ Graph ∷ Properties ∷ []) (λ r h. behind_lengths p a) k4 refl taken faults e silent bad
                 (λ t r. subst (λ (x : List ℕ). Answers (with_pages p.nodes x (λ all. lines a)) e.status) asked_is (steps (λ all. lines a)))
 
             pub shows : Steps (with_pages p.nodes asked) (Ok tt) → (taken : List ℕ) (faults : ℕ) (r : Result (Unit {0}) Ending) → (IsTrue to → Puts (successors_lines a.graph pages) before.taken taken r)
                 → IfErr r (λ e. IsUnput e.status) → (status_in r ≡ WriteFault Out → Increased before.faults faults) → Performs job td to before (outside files2 counts2 taken faults) (status_in r) (arcs_in r)
             shows all taken faults r puts only rose =
-                prints job base td to before p files2 counts2 (Offsets ∷ Graph ∷ Properties ∷ []) (λ r h. behind_lengths p a) k5 (λ q. successors_lines a.graph pages)
+                prints job base td to before p files2 counts2 (Offsets ∷ Graph ∷ Properties ∷ []) (λ r h. behind_lengths p a) k4 (λ q. successors_lines a.graph pages)
                 (λ q. subst (λ (x : List ℕ). with_pages p.nodes x (λ every. lines a) ≡ lines a) asked_is (all (λ every. lines a)))
                 refl taken faults r (λ t q. puts t) only rose

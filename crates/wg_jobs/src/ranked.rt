@@ -1,12 +1,12 @@
 //! The ranking of a graph's pages by bounds of their PageRank.
 ghost use Rattle.std.specs.Prelude.{◌≡◌, ℕ, ◌<◌, ◌≤◌, true, length, IfOk};
-ghost use Rattle.wg_params.specs.declared.limits.TheConstants.{MOST_DAMPING, MOST_ROUNDS};
+ghost use Rattle.wg_params.specs.declared.limits.TheConstants.{MOST_DAMPING, MOST_PAGES, MOST_ROUNDS};
 ghost use Rattle.wg_rank.specs.Intervals.{by_page};
 ghost use Rattle.wg_rank.specs.declared.limits.TheConstants.{UNITS};
 ghost use Rattle.wg_jobs.specs.Ranked.{AreReady, Ranks};
 
 use std::alloc::{AllocError, Global};
-use wg_graph::{Graph, GraphLists};
+use wg_graph::Lists;
 use wg_order::Ranking;
 use wg_rank::Bounds;
 
@@ -27,26 +27,26 @@ pub struct Ranked {
 
 impl Room {
     /// Takes the memory: 64 bytes a page.
-    pub fn new(alloc: Global, graph: &Graph, damping: u64) -> Result<Room, AllocError>
-        requires { damping ≤ MOST_DAMPING }
-        ensures ready { IfOk result (λ r. AreReady graph.now r.bounds) }
+    pub fn new<L: Lists>(alloc: Global, lists: &L, damping: u64) -> Result<Room, AllocError>
+        requires pages { (L.graph lists.now).nodes ≤ MOST_PAGES }
+        requires damping { damping ≤ MOST_DAMPING }
+        ensures ready { IfOk result (λ r. AreReady (L.graph lists.now) r.bounds) }
         ensures damping { IfOk result (λ r. r.bounds.damping ≡ damping) }
     {
-        let bounds = Bounds::new(alloc, graph.nodes(), damping)?;
+        let bounds = Bounds::new(alloc, lists.nodes(), damping)?;
         Ok(Room { bounds })
     }
 
-    /// The ranking after so many rounds. It takes no memory. Each round is one pass along the arcs, and the ranking
-    /// takes two sorts.
-    pub fn rank(self, graph: &Graph, rounds: u64) -> Ranked
+    /// The ranking after so many rounds. It takes no memory. Each round is one pass along the lists, and the ranking takes
+    /// two sorts.
+    pub fn rank<L: Lists>(self, lists: &mut L, rounds: u64) -> Ranked
         requires rounds { rounds ≤ MOST_ROUNDS }
-        requires ready { AreReady graph.now self.bounds }
-        ensures { Ranks graph.now rounds self.bounds.damping result.ranking }
+        requires ready { AreReady (L.graph lists.old) self.bounds }
+        ensures { Ranks (L.graph lists.old) rounds self.bounds.damping result.ranking }
     {
         let Room { mut bounds } = self;
-        let mut lists = GraphLists::new(graph);
         for _ in 0..rounds {
-            bounds.round(&mut lists);
+            bounds.round(lists);
         }
         Ranked {
             ranking: Ranking::of(bounds),

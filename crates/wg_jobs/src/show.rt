@@ -19,15 +19,14 @@ use wg_graph::List;
 use wg_io::{Depot, Lines, Sink};
 use wg_random::{Archive, ListError, OpenError, Steps};
 use wg_readings::{
-    Ending, Input, Status, archive_of, find_pages, load, load_offsets, load_params,
-    records_of_graph,
+    Ending, Input, Status, find_pages, judge_offsets, load, load_params, records_of_graph,
 };
 use wg_words::Name;
 
-/// Prints the successors of pages, a line for each. It judges the three files before it prints, and looks whether
-/// all pages are there that it is asked for. It holds the bytes of the graph file and 8 bytes a page for the
-/// offsets, and until these have been compared 8 bytes more. A page then takes the time of its chain of references,
-/// and a box for each of them; its successors are printed as they come.
+/// Prints the successors of pages, a line for each. It judges the three files before it prints, and looks whether all
+/// pages are there that it is asked for. It holds the bytes of the graph file and 8 bytes a page for the offsets; the
+/// offsets file is read in pieces. A page then takes the time of its chain of references, and a box for each of them; its
+/// successors are printed as they come.
 pub fn show<D: Depot, O: Sink>(
     alloc: Global,
     base: &Name,
@@ -41,10 +40,15 @@ pub fn show<D: Depot, O: Sink>(
     let params = load_params(alloc, depot, base)?;
     let bytes = load(alloc, depot, base, Input::Graph)?;
     let records = records_of_graph(alloc, &params, bytes.as_slice())?;
-    let stored = load_offsets(alloc, &params, depot, base)?;
-    let archive = archive_of(&params, records, &stored)?;
+    judge_offsets(alloc, &params, &records, depot, base)?;
     find_pages(&params, pages.as_slice())?;
-    print_pages::<Brand, O>(alloc, &archive, pages.as_slice(), out, Blank::new(1))
+    print_pages::<Brand, O>(
+        alloc,
+        &records.archive(),
+        pages.as_slice(),
+        out,
+        Blank::new(1),
+    )
 }
 
 // Prints the line of a page, whose successors come one by one, or are listed if its chain of references is too long

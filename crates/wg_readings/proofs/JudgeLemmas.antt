@@ -2,28 +2,28 @@
 use Rattle.wg_readings.proofs.PassLemmas.{graph_goes}
 use Rattle.wg_readings.proofs.ReadingsLaws.{the_readings}
 use Rattle.wg_readings.proofs.Statuses.{never_done}
-use Rattle.wg_readings.specs.Answers.{Answers}
 use Rattle.wg_readings.specs.Judged.{Judged, accepted}
-use Rattle.wg_readings.specs.Passes.{IsGraphFile, graph_then}
 use Rattle.wg_readings.specs.declared.status.Status.{Status}
 use Rattle.wg_readings.specs.declared.status.Status.TheVariants.{Done}
 use Rattle.wg_grammar.specs.Archive.{Accepted}
-use Rattle.std.proofs.Common.{◌≡◌, ◌∙◌, inl, inr, ℕ, Bool, List, Result, Err, refl, sym, subst, []}
+use Rattle.std.proofs.Common.{◌≡◌, ◌∙◌, inl, inr, ℕ, Bool, List, Result, Ok, Err, refl, sym, subst, []}
 use Rattle.std.specs.Bool.{IsTrue}
-use Rattle.std.specs.Result.{IsErrAnd}
-use Rattle.wg_io.specs.Outside.{Files, Counts}
+use Rattle.std.specs.Result.{IfErr, IsErrAnd}
+use Rattle.wg_io.specs.Outside.{Files, Counts, NonDecreasing}
 use Rattle.wg_io.proofs.FilesLemmas.{none_falls-refl, none_falls-trans}
 use Rattle.wg_io.proofs.PutsLemmas.{is_that_err}
 use Rattle.wg_params.specs.Parameters.{Parameters, IsWithinLimits}
 use Rattle.wg_grammar.specs.Record.{Whole}
 use Rattle.wg_offsets.specs.Places.{last_place}
 use Rattle.wg_stream.specs.Reading.{Reading}
-use Rattle.wg_readings.specs.Answers.{IsHindrance}
+use Rattle.wg_readings.specs.Answers.{Answers, IsHindrance, Steps, status_in}
 use Rattle.wg_readings.specs.Judged.{with_lengths}
-use Rattle.wg_readings.specs.Loading.{JudgesFiles, JudgesGraph}
-use Rattle.wg_readings.specs.Names.{file_of, held_by}
+use Rattle.wg_readings.specs.Causes.{HasCause}
+use Rattle.wg_readings.specs.Loading.{JudgesFiles, JudgesGraph, JudgesOffsets, lengths_then}
+use Rattle.wg_readings.specs.Names.{file_of, held_by, no_outputs}
 use Rattle.wg_readings.specs.Pairing.{offsets_then}
-use Rattle.wg_readings.specs.Passes.{Advances}
+use Rattle.wg_readings.specs.Passes.{Advances, IsGraphFile, IsStopAt, graph_then}
+use Rattle.wg_readings.specs.Readings.{Readings}
 use Rattle.wg_readings.specs.declared.ending.Ending.{Ending}
 use Rattle.wg_readings.specs.declared.status.Input.TheVariants as input
 use Rattle.wg_readings.specs.declared.status.Status.TheVariants.{Memory}
@@ -38,6 +38,19 @@ judge_exit base p td files files' counts counts' r e is h = subst (λ (x : Resul
 pub files_exit : (base : List ℕ) (p : Parameters) (td : Bool) (files files' : Files) (counts counts' : List ℕ → Counts) (r : Result ℕ Ending) (e : Ending) → IsErrAnd r (λ x. x ≡ e)
     → JudgesFiles base p td files files' counts counts' (Err e) → JudgesFiles base p td files files' counts counts' r
 files_exit base p td files files' counts counts' r e is h = subst (λ (x : Result ℕ Ending). JudgesFiles base p td files files' counts counts' x) (sym (is_that_err r e is)) h
+
+pub offsets_exit : (base : List ℕ) (p : Parameters) (places : List ℕ) (td : Bool) (files files' : Files) (counts counts' : List ℕ → Counts) (r : Result (Unit {0}) Ending) (e : Ending) → IsErrAnd r (λ x. x ≡ e)
+    → JudgesOffsets base p places td files files' counts counts' (Err e) → JudgesOffsets base p places td files files' counts counts' r
+offsets_exit base p places td files files' counts counts' r e is h = subst (λ (x : Result (Unit {0}) Ending). JudgesOffsets base p places td files files' counts counts' x) (sym (is_that_err r e is)) h
+
+-- ---- the end of the offsets file
+pub offsets_judged : (base : List ℕ) (p : Parameters) (places : List ℕ) (td : Bool) (files files' : Files) (counts counts' : List ℕ → Counts) (r : Result (Unit {0}) Ending)
+    → IfErr r (IsStopAt input.Offsets p.arcs) → HasCause (file_of base) no_outputs counts counts' 0 0 (status_in r)
+    → (IsTrue td → (q : Readings) → Steps {B = Unit {0}} (lengths_then q p places (held_by (file_of base) files input.Offsets)) r)
+    → files' ≡ files → NonDecreasing counts counts' → JudgesOffsets base p places td files files' counts counts' r
+offsets_judged base p places td files files' counts counts' (Ok done) only cause steps same later = record { reads = record { ends = tt; same = same; later = later }; goes = steps }
+offsets_judged base p places td files files' counts counts' (Err e) only cause steps same later =
+    record { reads = record { ends = record { only = only; causes = cause; refused = steps }; same = same; later = later }; goes = steps }
 
 -- ---- memory was out before anything was read
 module _ (base : List ℕ) (p : Parameters) (td : Bool) (files : Files) (counts : List ℕ → Counts) (e : Ending) (want : e.status ≡ Memory) where
@@ -54,6 +67,20 @@ module _ (base : List ℕ) (p : Parameters) (td : Bool) (files : Files) (counts 
     };
     limits = tt;
     accepted = λ t. tt;
+  }
+
+  pub offsets_unread : (places : List ℕ) → JudgesOffsets base p places td files files counts counts (Err e)
+  offsets_unread places = record {
+    reads = record {
+      ends = record {
+        only = inr (inl want);
+        causes = own_caused _ _ _ _ _ _ e.status (subst IsOwn (sym want) tt);
+        refused = λ t r next. inr (subst IsHindrance (sym want) tt);
+      };
+      same = refl;
+      later = none_falls-refl counts;
+    };
+    goes = λ t r next. inr (subst IsHindrance (sym want) tt);
   }
 
   pub files_unread : JudgesFiles base p td files files counts counts (Err e)

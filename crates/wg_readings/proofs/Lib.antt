@@ -8,3 +8,4 @@ pub mod JudgeLemmas
 pub mod LimitsLemmas
 pub mod ReadingsLaws
 pub mod ReadingsLemmas
+pub mod ListsLemmas

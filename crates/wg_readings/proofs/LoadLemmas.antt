@@ -11,14 +11,14 @@ use Rattle.wg_arcs.specs.declared.fault.ArcsKind.{ArcsKind}
 use Rattle.wg_properties.specs.Judged.{properties_of}
 use Rattle.wg_properties.specs.declared.fault.PropFault.{PropFault}
 use Rattle.wg_readings.specs.Answers.{Answers, IsHindrance, Steps}
-use Rattle.wg_readings.specs.Judged.{Judged, with_file, with_list, with_parameters}
-use Rattle.wg_readings.specs.Loading.{Loads, LoadsList, LoadsParams, Reads}
+use Rattle.wg_readings.specs.Judged.{Judged, with_digraph, with_file, with_list, with_parameters}
+use Rattle.wg_readings.specs.Loading.{Loads, LoadsGraph, LoadsList, LoadsParams, Reads}
 use Rattle.wg_readings.specs.Names.{IsOfInput, file_of, held_by, list_named}
 use Rattle.wg_readings.specs.Promised.{IsBadFile}
 use Rattle.wg_readings.specs.Readings.{Readings}
 use Rattle.wg_readings.specs.declared.ending.Ending.{Ending}
 use Rattle.wg_readings.specs.declared.status.Input.{Input}
-use Rattle.wg_readings.specs.declared.status.Input.TheVariants.{Properties, ArcList}
+use Rattle.wg_readings.specs.declared.status.Input.TheVariants.{Properties, Graph, ArcList}
 use Rattle.wg_readings.specs.declared.status.Status.TheVariants.{Memory, BadArcs, BadProperties}
 use Rattle.wg_readings.proofs.Statuses.{IsOwn, bad_own, own_caused}
 
@@ -149,6 +149,15 @@ module _ (base : List ℕ) (td : Bool) (files files' : Files) (counts counts' : 
           refused t q next =
               subst (λ (j : Judged). Answers j e.status) (sym (l.steps t (λ bytes. inner q bytes next) ∙ ap (λ (x : List ℕ). inner q x next) (sym is))) (steps q next)
 
--- nothing is said of what was not read
-pub none_counted : {B : Type 0} (P : B → Type 0) (r : Result B Ending) (e : Ending) → IsErrAnd r (λ x. x ≡ e) → IfOk r P
-none_counted {B} P r e is = subst (λ (x : Result B Ending). IfOk x P) (sym (is_that_err r e is)) tt
+-- ---- a graph file that stays held while its lists are read
+module _ (base : List ℕ) (p : Parameters) (td : Bool) (files files' : Files) (counts counts' : List ℕ → Counts) where
+  pub graph_unloaded : (e : Ending) → Loads (file_of base) Graph td files files' counts counts' (Err e) → LoadsGraph base p td files files' counts counts' (Err e)
+  graph_unloaded e l =
+      let k = read_unloaded base td files files' counts counts' Graph p.arcs (λ r. with_digraph r p) (Err e) e refl l in
+      record { reads = k.reads; goes = k.goes }
+
+  pub graph_loaded : (bytes slice : List ℕ) → slice ≡ bytes → Loads (file_of base) Graph td files files' counts counts' (Ok bytes)
+      → (r : Result Digraph Ending) → ((q : Readings) → Steps (with_digraph q p slice) r) → IfErr r (IsBadFile Graph p.arcs) → LoadsGraph base p td files files' counts counts' r
+  graph_loaded bytes slice is l r steps bad =
+      let k = read_loaded base td files files' counts counts' Graph p.arcs (λ q. with_digraph q p) bytes slice is l r steps bad in
+      record { reads = k.reads; goes = k.goes }

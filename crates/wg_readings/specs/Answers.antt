@@ -3,13 +3,12 @@ use Rattle.std.specs.Prelude.{◌≡◌, ◌⊎◌, ℕ, nat_eq, if◌then◌els
 use Rattle.wg_io.specs.Outside.{Increased}
 use Rattle.wg_io.specs.declared.sink.Sink as sink
 use Rattle.wg_io.specs.declared.output.Output.TheVariants.{Out}
-use Rattle.wg_readings.specs.Readings.{Readings}
-use Rattle.wg_readings.specs.Judged.{Judged, refused, status_of}
+use Rattle.wg_readings.specs.Judged.{Judged, status_of}
 use Rattle.wg_readings.specs.Names.{input_code}
 use Rattle.wg_readings.specs.declared.ending.Ending.{Ending}
 use Rattle.wg_readings.specs.declared.status.Input.{Input}
 use Rattle.wg_readings.specs.declared.status.Status.{Status}
-use Rattle.wg_readings.specs.declared.status.Status.TheVariants.{Done, Memory, ReadFault, WriteFault, Missing}
+use Rattle.wg_readings.specs.declared.status.Status.TheVariants.{Done, Memory, ReadFault, WriteFault}
 
 -- what may come in place of the judgement: want of memory, or a fault of the outside
 abbrev pub IsHindrance : Status → Type 0

@@ -1,6 +1,5 @@
 -- What a job comes to, by what its inputs hold.
-use Rattle.std.specs.Prelude.{ℕ, List, [], ◌∷◌, ◌++◌, length, map, find, get_or, nat_le, nat_lt, if◌then◌else◌, codes, decimal, Option, Some, None, Result, Ok, Err}
-use Rattle.wg_io.specs.Puts.{joined}
+use Rattle.std.specs.Prelude.{ℕ, List, [], ◌∷◌, length, find, nat_le, nat_lt, if◌then◌else◌, Option, Some, None, Result, Ok, Err}
 use Rattle.wg_io.specs.declared.limits.TheConstants.{MOST_BYTES}
 use Rattle.wg_params.specs.Parameters.{Parameters}
 use Rattle.wg_properties.specs.Judged.{properties_of}
@@ -11,8 +10,7 @@ use Rattle.wg_grammar.specs.declared.fault.OffsetWord.{OffsetWord}
 use Rattle.wg_grammar.specs.Archive.{Accepted}
 use Rattle.wg_graph.specs.Digraph.{Digraph}
 use Rattle.wg_arcs.specs.declared.fault.ArcsKind.{ArcsKind}
-use Rattle.wg_arcs.specs.Text.{text_of_graph}
-use Rattle.wg_offsets.specs.Places.{last_place, record_length, pages_that_differ}
+use Rattle.wg_offsets.specs.Places.{record_length, pages_that_differ}
 use Rattle.wg_readings.specs.Readings.{Readings}
 use Rattle.wg_readings.specs.declared.status.Input.{Input}
 use Rattle.wg_readings.specs.declared.status.Input.TheVariants as input

@@ -1,5 +1,5 @@
 -- Steps of a job that read the files of an archive, and print nothing.
-use Rattle.std.specs.Prelude.{◌≡◌, ◌⊎◌, ℕ, ◌+◌, ◌≤◌, Bool, List, length, Option, Some, Result, Ok, Err, IsTrue, OnOk, IfOk, IfErr}
+use Rattle.std.specs.Prelude.{◌≡◌, ◌⊎◌, ℕ, ◌≤◌, Bool, List, length, Option, Some, Result, Ok, Err, IsTrue, OnOk, IfOk, IfErr}
 use Rattle.wg_io.specs.Outside.{Files, Counts, NonDecreasing}
 use Rattle.wg_io.specs.declared.depot.Depot as depot
 use Rattle.wg_io.specs.declared.limits.TheConstants.{MOST_BYTES}
@@ -11,7 +11,7 @@ use Rattle.wg_grammar.specs.Archive.{Accepted}
 use Rattle.wg_arcs.specs.declared.fault.ArcsKind.{ArcsKind}
 use Rattle.wg_readings.specs.Answers.{Steps, status_in}
 use Rattle.wg_readings.specs.Causes.{HasCause}
-use Rattle.wg_readings.specs.Judged.{Judged, with_arcs, with_digraph, with_file, with_parameters}
+use Rattle.wg_readings.specs.Judged.{Judged, with_arcs, with_digraph, with_file, with_lengths, with_parameters}
 use Rattle.wg_readings.specs.Names.{IsOfInput, file_of, held_by, list_named, no_outputs}
 use Rattle.wg_readings.specs.Pairing.{files_then, offsets_then}
 use Rattle.wg_readings.specs.Passes.{IsGraphFile, IsStopAt, graph_then}
@@ -87,11 +87,14 @@ pub record LoadsGraph (base : List ℕ) (p : Parameters) (told : Bool) (files fi
   pub reads : Reads base input.Graph p.arcs (λ r. digraph_then r p) told files files' counts counts' result
   pub goes : IsTrue told → (r : Readings) → Steps (digraph_then r p (held_by (file_of base) files input.Graph)) result
 
--- The places that the offsets file of an archive stores were read, or the job ends at this file.
-pub record LoadsOffsets (base : List ℕ) (p : Parameters) (told : Bool) (files files' : Files) (counts counts' : List ℕ → Counts) (result : Result (List ℕ) Ending) : Type 0 where
-  pub reads : Reads base input.Offsets p.arcs (λ r. offsets_then r p) told files files' counts counts' result
-  pub goes : IsTrue told → (r : Readings) → Steps (offsets_then r p (held_by (file_of base) files input.Offsets)) result
-  pub count : IfOk result (λ stored. length stored ≡ p.nodes + 1)
+-- goes on if the offsets file stores the lengths of the records with these places
+abbrev pub lengths_then : Readings → Parameters → List ℕ → Option (List ℕ) → (Unit {0} → Judged) → Judged
+lengths_then r p places held next = offsets_then r p held (λ stored. with_lengths places stored next)
+
+-- The offsets file of an archive was judged: it stores the lengths of the records with these places, or the job ends at this file.
+pub record JudgesOffsets (base : List ℕ) (p : Parameters) (places : List ℕ) (told : Bool) (files files' : Files) (counts counts' : List ℕ → Counts) (result : Result (Unit {0}) Ending) : Type 0 where
+  pub reads : Reads base input.Offsets p.arcs (λ r. lengths_then r p places) told files files' counts counts' result
+  pub goes : IsTrue told → (r : Readings) → Steps (lengths_then r p places (held_by (file_of base) files input.Offsets)) result
 
 -- The graph of so many pages that an arc list holds was read whole, or the job ends at the list.
 pub record LoadsList (name : List ℕ) (n : ℕ) (told : Bool) (files files' : Files) (counts counts' : List ℕ → Counts) (result : Result Digraph Ending) : Type 0 where
@@ -127,8 +130,9 @@ LoadsParamsBy d base before after result = LoadsParams base d.told (d.files befo
 abbrev pub LoadsGraphBy : {D : Type 0} → depot.Ghosts D → List ℕ → Parameters → D → D → Result Digraph Ending → Type 0
 LoadsGraphBy d base p before after result = LoadsGraph base p d.told (d.files before) (d.files after) (d.counts before) (d.counts after) result
 
-abbrev pub LoadsOffsetsBy : {D : Type 0} → depot.Ghosts D → List ℕ → Parameters → D → D → Result (List ℕ) Ending → Type 0
-LoadsOffsetsBy d base p before after result = LoadsOffsets base p d.told (d.files before) (d.files after) (d.counts before) (d.counts after) result
+abbrev pub JudgesOffsetsBy : {D : Type 0} → depot.Ghosts D → List ℕ → Parameters → List ℕ → D → D → Result (Unit {0}) Ending → Type 0
+JudgesOffsetsBy d base p places before after result =
+    JudgesOffsets base p places d.told (d.files before) (d.files after) (d.counts before) (d.counts after) result
 
 abbrev pub LoadsListBy : {D : Type 0} → depot.Ghosts D → List ℕ → ℕ → D → D → Result Digraph Ending → Type 0
 LoadsListBy d name n before after result = LoadsList name n d.told (d.files before) (d.files after) (d.counts before) (d.counts after) result

@@ -1,5 +1,5 @@
 -- The files of a job.
-use Rattle.std.specs.Prelude.{◌≡◌, ◌⊎◌, ℕ, Bool, true, false, if◌then◌else◌, nat_eq, nat_lt, List, [], ◌∷◌, ◌++◌, length, Option, Some, None, is_some, option_map, option_and_then}
+use Rattle.std.specs.Prelude.{◌≡◌, ◌⊎◌, ℕ, if◌then◌else◌, nat_eq, List, [], ◌∷◌, ◌++◌, Option, Some, None, option_map, option_and_then}
 use Rattle.std.specs.FinMap as map
 use Rattle.wg_io.specs.Outside.{Files}
 use Rattle.wg_io.specs.declared.output.Output.{Output}
@@ -10,7 +10,7 @@ use Rattle.wg_grammar.specs.declared.fault.ArchiveFault.TheVariants as archive
 use Rattle.wg_readings.specs.declared.status.Input.{Input}
 use Rattle.wg_readings.specs.declared.status.Input.TheVariants as input
 use Rattle.wg_readings.specs.declared.status.Status.{Status}
-use Rattle.wg_readings.specs.declared.status.Status.TheVariants.{Done, Usage, Memory, ReadFault, WriteFault, Missing, BadArcs, BadProperties, BadArchive, NoPage, OverLimit}
+use Rattle.wg_readings.specs.declared.status.Status.TheVariants.{Memory, ReadFault, Missing, OverLimit}
 
 -- an archive is the files of these suffixes; an arc list is none of them
 abbrev pub suffix_of : Input → Option (List ℕ)

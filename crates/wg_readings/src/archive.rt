@@ -1,16 +1,16 @@
 //! The files of an archive that are held whole, each judged as far as it goes by itself.
-ghost use Rattle.std.specs.Prelude.{◌≡◌, ◌⊎◌, ◌<◌, ◌≤◌, ℕ, ◌+◌, All, List as ListOf, IfErr, IfOk, OnOk, Ok, Err};
-ghost use Rattle.std.specs.Prelude.{length};
+ghost use Rattle.std.specs.Prelude.{◌≡◌, ◌⊎◌, ◌<◌, ◌≤◌, ℕ, All, List as ListOf, IfErr, IfOk, OnOk, Ok, Err, length};
 ghost use Rattle.wg_io.specs.declared.limits.TheConstants.{MOST_BYTES};
 ghost use Rattle.wg_bits.specs.Bits.{bits_of};
 ghost use Rattle.wg_params.specs.Parameters.{IsWithinLimits};
+ghost use Rattle.wg_params.specs.declared.limits.TheConstants.{MOST_PAGES};
 ghost use Rattle.wg_properties.specs.Judged.{properties_of};
 ghost use Rattle.wg_properties.specs.declared.fault.PropFault.{PropFault};
 ghost use Rattle.wg_grammar.specs.Archive.{Accepted, ReadsGraph};
+ghost use Rattle.wg_graph.specs.Digraph.{Digraph};
 ghost use Rattle.wg_grammar.specs.declared.fault.ArchiveFault.{ArchiveFault};
 ghost use Rattle.wg_readings.specs.Answers.{Steps};
-ghost use Rattle.wg_readings.specs.Judged.{with_parameters, with_digraph, with_graph, with_lengths, with_offsets};
-ghost use Rattle.wg_readings.specs.Judged.{with_pages};
+ghost use Rattle.wg_readings.specs.Judged.{with_parameters, with_digraph, with_graph, with_pages};
 ghost use Rattle.wg_readings.specs.Promised.{IsBadFile};
 ghost use Rattle.wg_readings.specs.Readings.{Readings};
 
@@ -20,9 +20,8 @@ use std::alloc::Global;
 use wg_bits::{Bits, Cursor};
 use wg_grammar::ArchiveFault;
 use wg_graph::Graph;
-use wg_offsets::{Offsets, OffsetsError};
 use wg_params::Params;
-use wg_random::{Archive, CheckError, Records};
+use wg_random::{CheckError, Records, Sweep};
 use wg_stream::{PagesError, read_graph};
 
 /// The parameters that a properties text gives.
@@ -89,36 +88,24 @@ pub fn records_of_graph<'a>(
     }
 }
 
-/// The offsets that an offsets file stores.
-pub fn stored_offsets(alloc: Global, params: &Params, bytes: &[u8]) -> Result<Offsets, Ending>
-    requires { length bytes.now ≤ MOST_BYTES }
-    ensures steps { (r : Readings) → Steps (with_offsets r params.now bytes.now) result }
-    ensures only { IfErr result (λ e. IsBadFile Input.Offsets params.now.arcs e) }
-    ensures count { IfOk result (λ offsets. length offsets ≡ params.now.nodes + 1) }
-{
-    match wg_offsets::read(alloc, bytes, params.nodes(), params.offsets()) {
-        Ok(stored) => Ok(stored),
-        Err(OffsetsError::Word(word)) => Err(bad_archive(ArchiveFault::Offsets(word), params)),
-        Err(OffsetsError::Memory) => Err(Ending::of(Status::Memory)),
-    }
-}
-
-/// The archive of these records, where the offsets file stores the same lengths.
-pub fn archive_of<'a>(
+/// The lists of the graph of a graph file, from its bits, as often as one likes. Beside them it holds where the records
+/// are, until all have been judged.
+pub fn lists_of_records<'a>(
+    alloc: Global,
     params: &Params,
-    records: Records<'a>,
-    stored: &'a Offsets,
-) -> Result<Archive<'a>, Ending>
-    requires { length stored.now ≡ records.params.nodes + 1 }
-    ensures held { IfOk result (λ archive. archive ≡ records.entry) }
-    ensures same { OnOk result (stored.now ≡ records.entry.offsets) }
-    ensures refused { IfErr result (λ e. Steps {B = Unit {0}} (with_lengths records.entry.offsets stored.now)
-        (Err e)) }
-    ensures only { IfErr result (λ e. IsBadFile Input.Offsets params.now.arcs e) }
+    bytes: &'a [u8],
+) -> Result<Sweep<'a>, Ending>
+    requires { length bytes.now ≤ MOST_BYTES }
+    ensures few { IfOk result (λ s. s.graph.nodes ≤ MOST_PAGES) }
+    ensures goes { (r : Readings) → IfOk result (λ s. Steps (with_digraph r params.now bytes.now) (Ok s.graph)) }
+    ensures refused { (r : Readings) → IfErr result (λ e. Steps {B = Digraph}
+        (with_digraph r params.now bytes.now) (Err e)) }
+    ensures only { IfErr result (λ e. IsBadFile Input.Graph params.now.arcs e) }
 {
-    match Archive::check(records, stored) {
-        Ok(archive) => Ok(archive),
-        Err(fault) => Err(bad_archive(fault, params)),
+    let records = records_of_graph(alloc, params, bytes)?;
+    match records.sweep(alloc) {
+        Ok(sweep) => Ok(sweep),
+        Err(_) => Err(Ending::of(Status::Memory)),
     }
 }
 

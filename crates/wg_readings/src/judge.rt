@@ -1,5 +1,6 @@
 //! The files of an archive, judged as they are read in pieces.
-ghost use Rattle.wg_readings.specs.Loading.{JudgesFilesBy, JudgesGraphBy};
+ghost use Rattle.std.specs.Prelude.{◌≡◌};
+ghost use Rattle.wg_readings.specs.Loading.{JudgesFilesBy, JudgesGraphBy, JudgesOffsetsBy};
 
 use crate::ending::Ending;
 use crate::pairing::{begin_pairing, end_pairing, open_offsets, pair_next};
@@ -7,6 +8,7 @@ use crate::records::{end_records, next_record, open_graph};
 use std::alloc::Global;
 use wg_io::Depot;
 use wg_params::Params;
+use wg_random::Records;
 use wg_words::Name;
 
 /// Judges the records of a graph file, and what follows them.
@@ -48,4 +50,27 @@ pub fn judge_files<D: Depot>(
     end_records(&mut reader, depot, params)?;
     end_pairing(so_far, &mut pairing, depot, params)?;
     Ok(bits)
+}
+
+/// Judges the offsets file of an archive, and whether it stores the lengths of these records. It goes through the file
+/// once, and holds a piece of it.
+pub fn judge_offsets<D: Depot>(
+    alloc: Global,
+    params: &Params,
+    records: &Records<'_>,
+    depot: &mut D,
+    base: &Name,
+) -> Result<(), Ending>
+    requires { records.now.params ≡ params.now }
+    ensures { JudgesOffsetsBy ⟦<D as Depot>⟧ base.now params.now records.now.offsets depot.old depot.new result }
+{
+    let mut pairing = open_offsets(alloc, params, base)?;
+    // tells that they begin at 0 and never fall
+    records.offset(0);
+    let mut so_far = begin_pairing(&mut pairing, depot, params);
+    for page in 0..params.nodes() {
+        let here = records.offset(page + 1);
+        so_far = pair_next(so_far, &mut pairing, depot, params, here);
+    }
+    end_pairing(so_far, &mut pairing, depot, params)
 }

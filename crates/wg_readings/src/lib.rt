@@ -1,8 +1,8 @@
 //! The files of an archive, and arc lists, as a job reads them: each is read and judged, and the job goes on with
 //! what it holds, or ends.
 //!
-//! [`load_params`], [`load_graph`], [`load_offsets`] and [`load_list`] read a file whole; [`judge_graph`] and
-//! [`judge_files`] go through the files in pieces, and so do [`open_graph`], [`next_record`] and [`end_records`],
+//! [`load_params`], [`load_graph`] and [`load_list`] read a file whole; [`judge_graph`], [`judge_files`] and
+//! [`judge_offsets`] go through the files in pieces, and so do [`open_graph`], [`next_record`] and [`end_records`],
 //! record by record. Each promises that it is a step of a judgement (`Judged`): it goes on with a value whatever
 //! comes next, or it ends with a [`Status`] whatever would have come next, unless running out of memory or a fault
 //! of the outside came in its place (`Steps`). A fault or an absence is told only where its count rose, and no file
@@ -24,10 +24,10 @@ mod pairing;
 mod records;
 mod status;
 
-pub use archive::{archive_of, find_pages, records_of_graph};
+pub use archive::{find_pages, lists_of_records, records_of_graph};
 pub use ending::Ending;
-pub use judge::{judge_files, judge_graph};
-pub use loading::{load, load_graph, load_list, load_offsets, load_params};
+pub use judge::{judge_files, judge_graph, judge_offsets};
+pub use loading::{load, load_graph, load_list, load_params};
 pub use names::file_name;
 pub use records::{end_records, next_record, open_graph};
 pub use status::{Input, Status};

@@ -1,11 +1,11 @@
 //! The files of an archive, each read whole and judged, and an arc list.
 ghost use Rattle.std.specs.Prelude.{◌≡◌, ◌≤◌, ℕ, List, Option, IsSome, Some};
 ghost use Rattle.wg_params.specs.declared.limits.TheConstants.{MOST_PAGES};
-ghost use Rattle.wg_readings.specs.Loading.{LoadsBy, LoadsGraphBy, LoadsListBy, LoadsOffsetsBy, LoadsParamsBy};
+ghost use Rattle.wg_readings.specs.Loading.{LoadsBy, LoadsGraphBy, LoadsListBy, LoadsParamsBy};
 ghost use Rattle.wg_readings.specs.Names.{file_of, suffix_of};
 ghost use Rattle.wg_readings.specs.declared.status.Input.{Input};
 
-use crate::archive::{graph_of_records, parameters, stored_offsets};
+use crate::archive::{graph_of_records, parameters};
 use crate::ending::Ending;
 use crate::listed::graph_of_list;
 use crate::names::{file_name, suffix};
@@ -13,7 +13,6 @@ use crate::{Input, Status};
 use std::alloc::Global;
 use wg_graph::Graph;
 use wg_io::{Depot, List8, LoadError, read_whole};
-use wg_offsets::Offsets;
 use wg_params::Params;
 use wg_words::Name;
 
@@ -72,19 +71,6 @@ pub fn load_graph<D: Depot>(
 {
     let bytes = load(alloc, depot, base, Input::Graph)?;
     graph_of_records(alloc, params, bytes.as_slice())
-}
-
-/// Reads the offsets that an archive stores. Beside them it holds the bytes of their file, until they are read.
-pub fn load_offsets<D: Depot>(
-    alloc: Global,
-    params: &Params,
-    depot: &mut D,
-    base: &Name,
-) -> Result<Offsets, Ending>
-    ensures { LoadsOffsetsBy ⟦<D as Depot>⟧ base.now params.now depot.old depot.new result }
-{
-    let bytes = load(alloc, depot, base, Input::Offsets)?;
-    stored_offsets(alloc, params, bytes.as_slice())
 }
 
 /// Reads the graph of so many pages that an arc list holds. Beside the graph it holds the bytes of the list, until

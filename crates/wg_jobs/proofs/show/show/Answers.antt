@@ -5,7 +5,7 @@ use Rattle.wg_grammar.specs.Archive.{Accepted, ReadsGraph}
 use Rattle.wg_io.specs.Puts.{Puts}
 use Rattle.wg_jobs.specs.Judged.{successors_lines}
 use Rattle.wg_jobs.proofs.JobSteps.{performs_exit}
-use Rattle.wg_jobs.proofs.ShowJobs.{no_bytes, no_offsets, no_page, no_params, no_records, other_lengths, shows}
+use Rattle.wg_jobs.proofs.ShowJobs.{no_bytes, no_offsets, no_page, no_params, no_records, shows}
 use Rattle.wg_jobs.proofs.ShownLemmas.{archive_reads}
 use Rattle.wg_jobs.proofs.show.show.Goals as goal
 
@@ -24,20 +24,12 @@ returns-in_err-records g c =
     (no_records c.args.base.now c.args.pages.now _ _ _ c.in_ok-params.params _ _ c.in_ok-params.ensures _ _ c.in_ok-bytes.bytes c.in_ok-bytes.ensures _ c.as_slice.ensures
     _ _ _ refl r.only r.refused)
 
-pub returns-in_err-stored : goal.returns-in_err-stored
-returns-in_err-stored g c =
+pub returns-in_err-judge_offsets : goal.returns-in_err-judge_offsets
+returns-in_err-judge_offsets g c =
     let r = c.in_ok-records.ensures in
-    performs_exit _ _ _ _ _ _ _ c.from_residual-in_err-stored.ensures.1
+    performs_exit _ _ _ _ _ _ _ c.from_residual-in_err-judge_offsets.ensures.1
     (no_offsets c.args.base.now c.args.pages.now _ _ _ c.in_ok-params.params _ _ c.in_ok-params.ensures _ _ c.in_ok-bytes.bytes c.in_ok-bytes.ensures _ c.as_slice.ensures
-    r.limits (record { graph = r.accepted.0; places = c.in_ok-records.records.offsets }) r.accepted.1 _ _ refl c.in_err-stored.ensures)
-
-pub returns-in_err-archive : goal.returns-in_err-archive
-returns-in_err-archive g c =
-    let r = c.in_ok-records.ensures in
-    let e = c.in_err-archive.ensures in
-    performs_exit _ _ _ _ _ _ _ c.from_residual-in_err-archive.ensures.1
-    (other_lengths c.args.base.now c.args.pages.now _ _ _ c.in_ok-params.params _ _ c.in_ok-params.ensures _ _ c.in_ok-bytes.bytes c.in_ok-bytes.ensures _ c.as_slice.ensures
-    r.limits (record { graph = r.accepted.0; places = c.in_ok-records.records.offsets }) r.accepted.1 _ _ c.in_ok-stored.stored c.in_ok-stored.ensures _ _ _ refl e.only e.refused)
+    r.limits (record { graph = r.accepted.0; places = c.in_ok-records.records.offsets }) r.accepted.1 _ _ refl c.in_err-judge_offsets.ensures)
 
 pub returns-in_err-find_pages : goal.returns-in_err-find_pages
 returns-in_err-find_pages g c =
@@ -45,23 +37,23 @@ returns-in_err-find_pages g c =
     let e = c.in_err-find_pages.ensures in
     performs_exit _ _ _ _ _ _ _ c.from_residual-in_err-find_pages.ensures.1
     (no_page c.args.base.now c.args.pages.now _ _ _ c.in_ok-params.params _ _ c.in_ok-params.ensures _ _ c.in_ok-bytes.bytes c.in_ok-bytes.ensures _ c.as_slice.ensures
-    r.limits (record { graph = r.accepted.0; places = c.in_ok-records.records.offsets }) r.accepted.1 _ _ c.in_ok-stored.stored c.in_ok-stored.ensures c.in_ok-archive.ensures.same
+    r.limits (record { graph = r.accepted.0; places = c.in_ok-records.records.offsets }) r.accepted.1 _ _ c.in_ok-judge_offsets.ensures
     _ c.as_slice-2.ensures _ _ _ refl e.only e.steps)
 
 pub print_pages-requires-clause-stands : goal.print_pages-requires-clause-stands
 print_pages-requires-clause-stands g c =
     let read = c.in_ok-records.ensures in
     let a : Accepted = record { graph = read.accepted.0; places = c.in_ok-records.records.offsets } in
-    (a, archive_reads c.in_ok-archive.archive c.in_ok-records.records c.in_ok-params.params (bits_of c.as_slice.result.now) a c.in_ok-archive.ensures.held read.params read.bits read.accepted.1)
+    (a, archive_reads c.archive.result c.in_ok-records.records c.in_ok-params.params (bits_of c.as_slice.result.now) a c.archive.ensures read.params read.bits read.accepted.1)
 
 pub returns : goal.returns
 returns g c =
     let p : Parameters = c.in_ok-params.params in
     let read = c.in_ok-records.ensures in
     let a : Accepted = record { graph = read.accepted.0; places = c.in_ok-records.records.offsets } in
-    let stands : ReadsGraph c.in_ok-archive.archive.params c.in_ok-archive.archive.bits (Ok a) = archive_reads c.in_ok-archive.archive c.in_ok-records.records p (bits_of c.as_slice.result.now) a c.in_ok-archive.ensures.held read.params read.bits read.accepted.1 in
+    let stands : ReadsGraph c.archive.result.params c.archive.result.bits (Ok a) = archive_reads c.archive.result c.in_ok-records.records p (bits_of c.as_slice.result.now) a c.archive.ensures read.params read.bits read.accepted.1 in
     shows c.args.base.now c.args.pages.now _ _ _ p _ _ c.in_ok-params.ensures _ _ c.in_ok-bytes.bytes c.in_ok-bytes.ensures _ c.as_slice.ensures
-    read.limits a read.accepted.1 _ _ c.in_ok-stored.stored c.in_ok-stored.ensures c.in_ok-archive.ensures.same
+    read.limits a read.accepted.1 _ _ c.in_ok-judge_offsets.ensures
     _ c.as_slice-2.ensures c.in_ok-find_pages.ensures.steps _ _ c.print_pages.result
     (λ o. subst (λ (ps : List ℕ). Puts (successors_lines a.graph ps) (g.O.Sink.taken c.args.out.now) (g.O.Sink.taken c.print_pages.new.out) c.print_pages.result) c.as_slice-3.ensures (c.print_pages.ensures.puts o a stands))
     c.print_pages.ensures.only c.print_pages.ensures.failed

@@ -1,12 +1,12 @@
-use Rattle.std.proofs.Common.{◌≡◌, ◌∙◌, rules}
+use Rattle.std.proofs.Common.{◌≡◌, ◌∙◌, rules, refl}
 use Rattle.wg_jobs.proofs.RankLemmas.{counted, low_after, high_after}
 use Rattle.wg_jobs.proofs.ranked.Room.rank.Goals as goal
 
 pub loop-init : goal.loop-init
-loop-init c =
+loop-init g c =
     let ready = c.requires.ready in
     record {
-      same = c.new-lists.ensures.graph;
+      same = refl;
       pages = ready.bounded;
       after = ready.before;
       damped = search rules;
@@ -15,12 +15,12 @@ loop-init c =
     }
 
 pub invariant_of-result-clause-counted : goal.invariant_of-result-clause-counted
-invariant_of-result-clause-counted c = counted _ _ _ c.of.ensures.ranking
+invariant_of-result-clause-counted g c = counted _ _ _ c.of.ensures.ranking
 
 pub returns : goal.returns
-returns c =
+returns g c =
     let l = c.loop.invariant in
-    let graph = c.args.graph.now in
+    let graph = g.L.Lists.graph c.args.lists.now in
     let made = c.loop.bounds in
     let after : made.rounds ≡ c.args.rounds = search rules in
     record {

@@ -5,11 +5,11 @@ use Rattle.wg_jobs.proofs.ranked.Room.rank.Given as goal
 
 -- the bounds are those of the graph after the rounds so far
 abbrev pub invariant-loop : goal.invariant-loop
-invariant-loop l = record {
-  same : l.lists.graph ≡ l.graph;
-  pages : length l.bounds.low ≡ l.graph.nodes;
+invariant-loop g l = let graph = g.L.Lists.graph l.fn.lists in record {
+  same : g.L.Lists.graph l.lists ≡ graph;
+  pages : length l.bounds.low ≡ graph.nodes;
   after : l.bounds.rounds ≡ l.counter;
   damped : l.bounds.damping ≡ l.fn.self.bounds.damping;
-  weighed : l.bounds.weights ≡ alike l.graph;
-  holds : Holds l.bounds l.graph;
+  weighed : l.bounds.weights ≡ alike graph;
+  holds : Holds l.bounds graph;
 }

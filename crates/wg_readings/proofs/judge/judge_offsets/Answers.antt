@@ -1,0 +1,104 @@
+use Rattle.std.proofs.Common.{◌≡◌, ◌∙◌, ℕ, suc, ◌<◌, ◌≤◌, List, [], ◌∷◌, ◌++◌, ◌+◌, length, take, refl, sym, ap, subst, arith}
+use Rattle.std.specs.Prelude.{get_or}
+use Rattle.std.specs.FinMap as map
+use Rattle.std.proofs.Math.Seq.{take-suc}
+use Rattle.std.proofs.lemmas.List.{take_all}
+use Rattle.wg_io.specs.declared.suffixes.TheConstants.{OFFSETS}
+use Rattle.wg_io.proofs.FilesLemmas.{none_falls-trans}
+use Rattle.wg_params.specs.Parameters.{Parameters}
+use Rattle.wg_readings.specs.Answers.{Steps}
+use Rattle.wg_readings.specs.Loading.{lengths_then}
+use Rattle.wg_readings.specs.Names.{file_of}
+use Rattle.wg_readings.specs.Pairing.{ComesWith}
+use Rattle.wg_readings.proofs.PairingLemmas.{come_at, ready_done, ready_here, ready_more, ready_paired}
+use Rattle.wg_readings.proofs.JudgeLemmas.{offsets_exit, offsets_judged, offsets_unread}
+use Rattle.wg_readings.proofs.judge.judge_offsets.Goals as goal
+
+-- one place more
+taken : (l : List ℕ) (j : ℕ) → j + 1 < length l → take (j + 1) l ++ get_or l (j + 1) 0 ∷ [] ≡ take (j + 1 + 1) l
+taken l j lt = let next : suc (j + 1) ≡ j + 1 + 1 = omega arith in sym (take-suc l (j + 1) 0 lt) ∙ ap (λ (k : ℕ). take k l) next
+
+pub loop-page-init : goal.loop-page-init
+loop-page-init g c =
+    let files = g.D.Depot.files c.args.depot.now in
+    let found : List ℕ = c.args.records.now.offsets in
+    let named = c.in_ok-pairing.ensures.name in
+    let b = c.begin_pairing-so_far.ensures in
+    let first = c.offset.ensures.places.first in
+    let some : 0 < length found = omega (arith, c.offset.ensures.count) in
+    record {
+      name = b.name ∙ named;
+      same = b.same;
+      later = b.later;
+      come = come_at _ _ _ _ _ _ _ _ _ _ _ _ named (sym first) b.come;
+      reads = λ t file is.
+          subst (λ (places : List ℕ). ComesWith file c.begin_pairing-so_far.new.pairing places c.begin_pairing-so_far.result)
+          (ap (λ (v : ℕ). v ∷ []) (sym first) ∙ sym (take-suc found 0 0 some))
+          (b.reads t file (ap (λ (n : List ℕ). map.get files n) named ∙ is));
+    }
+
+pub pair_next-so_far-requires-clause-paired : goal.pair_next-so_far-requires-clause-paired
+pair_next-so_far-requires-clause-paired g c = ready_paired _ _ _ _ _ _ _ _ _ _ c.loop-page.invariant.come
+
+pub pair_next-so_far-requires-clause-more : goal.pair_next-so_far-requires-clause-more
+pair_next-so_far-requires-clause-more g c = ready_more _ _ _ _ _ _ _ _ _ _ (omega (arith, c.loop-page-test.true, c.nodes-page-end.ensures.value)) c.loop-page.invariant.come
+
+pub pair_next-so_far-requires-clause-here : goal.pair_next-so_far-requires-clause-here
+pair_next-so_far-requires-clause-here g c =
+    let o = c.offset-here.ensures in
+    let page = c.loop-page.page in
+    let within : page + 1 < length c.args.records.now.offsets = omega (arith, o.count, ap (λ (q : Parameters). q.nodes) c.requires, c.loop-page-test.true, c.nodes-page-end.ensures.value) in
+    ready_here _ _ _ _ _ _ _ _ _ _ _ (omega (arith, o.value, o.places.never_fall page (page + 1) 0 (omega arith) within)) c.loop-page.invariant.come
+
+pub loop-page-preserved : goal.loop-page-preserved
+loop-page-preserved g c =
+    let files = g.D.Depot.files c.args.depot.now in
+    let found : List ℕ = c.args.records.now.offsets in
+    let name = c.args.base.now ++ OFFSETS.now in
+    let page = c.loop-page.page in
+    let h = c.loop-page.invariant in
+    let o = c.offset-here.ensures in
+    let s = c.pair_next-so_far.ensures in
+    let within : page + 1 < length found = omega (arith, o.count, ap (λ (q : Parameters). q.nodes) c.requires, c.loop-page-test.true, c.nodes-page-end.ensures.value) in
+    record {
+      name = s.name ∙ h.name;
+      same = s.same ∙ h.same;
+      later = none_falls-trans _ _ _ h.later s.later;
+      come = come_at _ _ _ _ _ _ _ _ _ _ _ _ refl o.value
+          (s.come files h.same _ h.later name h.name _ _ h.come (λ t file is. (take (page + 1) found, h.reads t file is)));
+      reads = λ t file is.
+          subst (λ (places : List ℕ). ComesWith file c.pair_next-so_far.new.pairing places c.pair_next-so_far.result)
+          (ap (λ (v : ℕ). take (page + 1) found ++ v ∷ []) o.value ∙ taken found page within)
+          (s.reads t files h.same name h.name file is (take (page + 1) found) (h.reads t file is));
+    }
+
+pub end_pairing-requires-clause-paired : goal.end_pairing-requires-clause-paired
+end_pairing-requires-clause-paired g c = ready_paired _ _ _ _ _ _ _ _ _ _ c.loop-page.invariant.come
+
+pub end_pairing-requires-clause-done : goal.end_pairing-requires-clause-done
+end_pairing-requires-clause-done g c =
+    ready_done _ _ _ _ _ _ _ _ _ _ (omega (arith, c.loop-page-test.false, c.nodes-page-end.ensures.value, c.loop-page.auto.page-end)) c.loop-page.invariant.come
+
+pub returns-in_err-pairing : goal.returns-in_err-pairing
+returns-in_err-pairing g c =
+    offsets_exit _ _ _ _ _ _ _ _ _ _ c.from_residual.ensures.1 (offsets_unread _ _ _ _ _ _ c.in_err-pairing.ensures.only c.args.records.now.offsets)
+
+pub returns : goal.returns
+returns g c =
+    let files = g.D.Depot.files c.args.depot.now in
+    let base = c.args.base.now in
+    let p = c.args.params.now in
+    let found : List ℕ = c.args.records.now.offsets in
+    let name = base ++ OFFSETS.now in
+    let page = c.loop-page.page in
+    let h = c.loop-page.invariant in
+    let s = c.end_pairing.ensures in
+    let all : length found ≤ page + 1 =
+    omega (arith, c.offset.ensures.count, ap (λ (q : Parameters). q.nodes) c.requires, c.loop-page-test.false, c.nodes-page-end.ensures.value, c.loop-page.auto.page-end)
+    in
+    let e = s.ends files h.same _ h.later name h.name _ _ h.come (λ t file is. (take (page + 1) found, h.reads t file is)) in
+    offsets_judged base p found _ files _ _ _ c.end_pairing.result e.only (e.causes (file_of base) refl)
+    (λ t r.
+    subst (λ (l : List ℕ). Steps {B = Unit {0}} (lengths_then r p l (map.get files name)) c.end_pairing.result) (take_all (page + 1) found all)
+    (e.steps t c.nodes-page-end.ensures.limits (take (page + 1) found) (λ file is. h.reads t file is) r))
+    (s.same ∙ h.same) (none_falls-trans _ _ _ h.later s.later)
