@@ -10,6 +10,8 @@ pub mod Dues
 pub mod Both
 pub mod NoReference
 pub mod Short
+pub mod Shared
+pub mod Disjoint
 pub mod Choosing
 pub mod Going
 pub mod OfGraph

@@ -3,6 +3,7 @@ pub mod Greedy
 pub mod Archive
 pub mod Cost
 pub mod Dues
+pub mod Sharing
 pub mod Laws
 pub mod Encoding
 pub mod InMemory

@@ -47,6 +47,7 @@ mod paging;
 mod parts;
 mod record;
 mod residuals;
+mod sharing;
 #[cfg(test)]
 mod tests;
 

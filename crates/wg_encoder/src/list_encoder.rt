@@ -15,12 +15,14 @@ ghost use Rattle.wg_encoder.specs.Cost.{cost_of, IsFewer};
 ghost use Rattle.wg_encoder.specs.Laws.{IsList};
 ghost use Rattle.wg_encoder.specs.Encoding.{offer_of, IsChosen, HasWritten};
 ghost use Rattle.wg_encoder.specs.Gone.{HasSentAll};
+ghost use Rattle.wg_encoder.specs.Sharing.{shares};
 
 use crate::choice::Choice;
 use crate::kept::Kept;
 use crate::making::Draft;
 use crate::names::FileNames;
 use crate::record::record_cost;
+use crate::sharing::shares;
 use std::alloc::{AllocError, Global};
 use std::marker::Model;
 use wg_bits::Writer;
@@ -172,6 +174,16 @@ impl ListEncoder {
         !self.referenced_list(r).is_empty() && !passes(self.params.chain(), self.depth(r))
     }
 
+    // Whether a list that comes next has a successor of the page that a reference names.
+    #[inline(always)]
+    fn may_copy(&self, list: &[u64], r: u64) -> bool
+        requires list { IsList self.now.params list.now }
+        requires reach { r ≤ min self.now.params.window self.now.next.page }
+        ensures { result ≡ shares list.now (referenced self.now.next.behind r) }
+    {
+        shares(list, self.referenced_list(r))
+    }
+
     // What the record takes by a reference, where that is wanted only below `most` and each value has a word. It is
     // less than 2 ^ 63 bits: a word but that of the reference and of the block count has at most 2 ^ 8.
     fn size_below(&self, list: &[u64], r: u64, most: u64) -> Option<u64>
@@ -227,15 +239,23 @@ impl ListEncoder {
         self.size(list, r)
     }
 
-    // The same of a reference but 0, where it is wanted only below `most`.
+    // The same of a reference but 0, where it is wanted only below `most`, which is no more than what the record takes
+    // without a reference. So a page that has no successor of the list is not looked at any further: nothing is copied,
+    // and no reference has a shorter word than 0.
     #[inline(always)]
     fn offer_below(&self, list: &[u64], r: u64, most: u64) -> Option<u64>
         requires page { self.now.next.page < self.now.params.nodes }
         requires list { IsList self.now.params list.now }
         requires some { 0 < r }
+        requires reach { r ≤ min self.now.params.window self.now.next.page }
+        requires low { most ≤ size_of self.now.params self.now.next list.now 0 }
         ensures { IsFewer most (offer_of self.now.params self.now.next list.now r) result }
     {
-        if self.reach() < r || !self.may_refer(r) {
+        self.limits();
+        if !self.may_copy(list, r) {
+            return None;
+        }
+        if !self.may_refer(r) {
             return None;
         }
         self.size_below(list, r, most)
@@ -284,8 +304,8 @@ impl ListEncoder {
     }
 
     /// The reference by which a list that comes next is written: of the candidates with the shortest record the
-    /// smallest. It takes no memory, and counts the bits of each candidate's record, until there are as many as the
-    /// best so far has.
+    /// smallest. It takes no memory, and counts the bits of the record by each candidate that has a successor of the
+    /// list, until there are as many as the best so far has.
     pub fn chosen(&self, list: &[u64]) -> u64
         requires page { self.now.next.page < self.now.params.nodes }
         requires list { IsList self.now.params list.now }
