@@ -1,0 +1,10 @@
+pub mod Pages
+pub mod Parted
+pub mod ReadBack
+pub mod Shorter
+pub mod Some
+pub mod Successors
+pub mod Texts
+pub mod Unique
+pub mod Whole
+pub mod Written

@@ -1,0 +1,76 @@
+-- A graph that is read line by line.
+use Rattle.std.specs.Prelude.{◌≡◌, ◌≢◌, ℕ, ◌+◌, ◌<◌, ◌≤◌, List, [], ◌∷◌, ◌++◌, length, map, drop, get_or, decimal, Option, Some, None}
+use Rattle.wg_params.specs.declared.limits.TheConstants.{MOST_ARCS}
+use Rattle.wg_graph.specs.Ascending.{Ascends, Below}
+use Rattle.wg_graph.specs.Digraph.{Digraph, IsGraphPrefix, arc_count, successors}
+use Rattle.wg_ascii.specs.Words.{words_of}
+use Rattle.wg_ascii.specs.Reading.{fault_of_words, fault_after}
+use Rattle.wg_ascii.specs.declared.fault.AsciiKind.{AsciiKind}
+use Rattle.wg_ascii.specs.declared.fault.AsciiKind.TheVariants as kind
+use Rattle.wg_ascii.specs.declared.fault.AsciiError.{AsciiError}
+use Rattle.wg_ascii.specs.declared.fault.AsciiError.TheVariants as error
+
+-- the line is named with this fault, or memory ran out
+abbrev pub IsRefused : ℕ → Option AsciiKind → AsciiError → Type 0
+IsRefused line fault (error.Line l k) = (l ≡ line) × (fault ≡ Some k)
+IsRefused line fault error.Memory = Unit {0}
+
+-- the word writes the number, which may come next: `least` is one more than the number before it, and so many arcs come
+-- before it
+pub record IsNumber (n least arcs : ℕ) (word : List ℕ) (v : ℕ) : Type 0 where
+  pub text : word ≡ decimal v
+  pub low : least ≤ v
+  pub page : v < n
+  pub room : arcs < MOST_ARCS
+
+-- the words write the successors of one of n pages, and so many arcs come before these
+pub record IsList (n arcs : ℕ) (words : List (List ℕ)) (list : List ℕ) : Type 0 where
+  pub text : words ≡ map decimal list
+  pub ascends : Ascends 0 list
+  pub below : Below n list
+  pub room : arcs + length list ≤ MOST_ARCS
+
+-- the first of these lines lists the successors of a page, and others come after it
+abbrev pub HasList : ℕ → ℕ → List (List ℕ) → List (List ℕ) → List ℕ → Type 0
+HasList n arcs lines after list = (text : List ℕ) × (lines ≡ text ∷ after) × IsList n arcs (words_of text) list
+
+-- what is wrong with the first of these lines, as that of a page
+abbrev pub fault_of_line : ℕ → ℕ → List (List ℕ) → Option AsciiKind
+fault_of_line n arcs [] = Some kind.Missing
+fault_of_line n arcs (text ∷ after) = fault_of_words n 0 arcs (words_of text)
+
+abbrev pub HasNoList : ℕ → ℕ → ℕ → List (List ℕ) → AsciiError → Type 0
+HasNoList line n arcs lines e = IsRefused line (fault_of_line n arcs lines) e
+
+-- the first of these lines lists the successors of the next page, which was added, and others come after it
+abbrev pub HasPage : List (List ℕ) → List (List ℕ) → Digraph → Digraph → Type 0
+HasPage lines after old new =
+    (list : List ℕ) × HasList old.nodes (arc_count old) lines after list × (new.lists ≡ old.lists ++ list ∷ [])
+
+-- the first of these lines, as that of the next page, has a fault
+abbrev pub HasNoPage : ℕ → List (List ℕ) → Digraph → AsciiError → Type 0
+HasNoPage line lines old e = HasNoList line old.nodes (arc_count old) lines e
+
+-- the first of these lines list the successors of the pages so far, and the others come after them
+pub record HasLists (lines after : List (List ℕ)) (g : Digraph) : Type 0 where
+  pub there : length g.lists ≤ length lines
+  pub split : drop (length g.lists) lines ≡ after
+  pub words : (x : ℕ) → x < length g.lists → words_of (get_or lines x []) ≡ map decimal (successors g x)
+  pub prefix : IsGraphPrefix g
+
+-- the first fault of the lines after the first one, of which each counts two more than its index
+abbrev pub IsFirstAfter : ℕ → List (List ℕ) → AsciiError → Type 0
+IsFirstAfter n lines (error.Line line k) =
+    (x : ℕ) × (line ≡ x + 2) × (fault_after n lines x ≡ Some k) × ((y : ℕ) → y < x → fault_after n lines y ≡ None)
+IsFirstAfter n lines error.Memory = Unit {0}
+
+-- no line has a word
+abbrev pub AreBlank : List (List ℕ) → Type 0
+AreBlank lines = (x : ℕ) → words_of (get_or lines x []) ≡ []
+
+-- the first of these lines that has a word is named as one too many; the first of all has this number
+abbrev pub IsFirstExtra : ℕ → List (List ℕ) → AsciiError → Type 0
+IsFirstExtra first lines (error.Line line k) =
+    (x : ℕ) × (line ≡ first + x) × (k ≡ kind.Extra) × (words_of (get_or lines x []) ≢ [])
+    × ((y : ℕ) → y < x → words_of (get_or lines y []) ≡ [])
+IsFirstExtra first lines error.Memory = ⊥

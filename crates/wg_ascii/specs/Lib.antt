@@ -1,0 +1,5 @@
+pub mod Growing
+pub mod Laws
+pub mod Reading
+pub mod Text
+pub mod Words

@@ -1,0 +1,41 @@
+ghost use Rattle.std.specs.Prelude.{◌≡◌};
+ghost use Rattle.wg_ascii.specs.declared.fault.AsciiError.TheVariants as errors;
+
+use std::alloc::AllocError;
+use thiserror::Error;
+
+/// Why a line of a plain text is refused.
+#[derive(Clone, Copy, Debug, PartialEq, Eq)]
+pub enum AsciiKind {
+    /// A word is no decimal number, or the first line is not one word.
+    Shape,
+    /// There are more pages than an archive may have, or a number is no page.
+    Range,
+    /// The number is not above the one before it.
+    Order,
+    /// There are more arcs than an archive may have.
+    TooMany,
+    /// A word stands after the lines of all pages.
+    Extra,
+    /// The text ends before this line.
+    Missing,
+}
+
+/// Why a plain text was not read.
+#[derive(Clone, Copy, Debug, PartialEq, Eq, Error)]
+pub enum AsciiError {
+    /// The first faulty line, counted from 1.
+    #[error("line {line}: {kind:?}")]
+    Line { line: u64, kind: AsciiKind },
+    /// There was no memory for the graph.
+    #[error("out of memory")]
+    Memory,
+}
+
+impl From<AllocError> for AsciiError {
+    ghost from_gives = { λ _ e. e ≡ errors.Memory };
+
+    fn from(_error: AllocError) -> Self {
+        AsciiError::Memory
+    }
+}

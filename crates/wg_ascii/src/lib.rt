@@ -1,0 +1,40 @@
+//! Graphs as plain texts, as WebGraph's `ASCIIGraph` has them in files `.graph-txt`: the number of pages on the first
+//! line, and then a line for each page, with its successors in decimal digits.
+//!
+//! [`write`] puts the text of a graph to a sink: the words of a line are parted by one space, and each line is ended by
+//! LF. [`print_nodes`] and [`print_list`] print one line of it through a buffer, for a graph whose lists come one after
+//! the other.
+//!
+//! [`read`] reads such a text into a graph, or names its first faulty line, an [`AsciiError::Line`]. It also takes
+//! other blanks between the words and round them, a CR before the end of a line, a last line that is not ended, and
+//! lines of blanks after those of the pages. No line is skipped: a line without words is a page without successors.
+//! There are no comments. The successors of a page ascend, and are below the number of pages; the pages and the arcs are within
+//! the limits of an archive. Line by line, and on a line word by word, the first fault is named:
+//!
+//! - `Shape`: the first line is not one word, or a word is not the decimal text of a number below 2^64;
+//! - `Range`: the first line tells more pages than an archive may have, or a successor is no page;
+//! - `Order`: a successor is not above the one before it;
+//! - `TooMany`: a successor is one arc more than an archive may have;
+//! - `Extra`: a word stands on a line after those of the pages, whatever the word is;
+//! - `Missing`: the text ends before this line, which is the first or that of a page.
+//!
+//! Writing takes no memory, and time in proportion to the pages and to the digits of the arcs. Reading goes over the
+//! text once, and over a line that is not as it is written a few times. It holds the graph and the list of one page, 8
+//! bytes for each arc and each page, and takes memory as the lines come, and none by the number of pages that the first
+//! line tells.
+#![tactic(auto)]
+
+mod fault;
+pub mod laws;
+mod lists;
+mod plain;
+mod reading;
+mod words;
+mod writing;
+
+pub use fault::{AsciiError, AsciiKind};
+pub use reading::read;
+pub use writing::{print_list, print_nodes, write};
+
+#[cfg(test)]
+mod tests;

@@ -1,0 +1,167 @@
+// The lists of the pages, line by line.
+
+ghost use Rattle.std.specs.Prelude.{◌≡◌, ◌+◌, ◌<◌, ◌≤◌, [], ◌∷◌, ◌++◌, Some, None, length, OnOk, IfOk, IfErr};
+ghost use Rattle.wg_params.specs.declared.limits.TheConstants.{MOST_ARCS, MOST_PAGES};
+ghost use Rattle.wg_num.specs.Decimal.{number_of};
+ghost use Rattle.wg_num.specs.Lines.{lines_of};
+ghost use Rattle.wg_ascii.specs.Words.{words_of};
+ghost use Rattle.wg_ascii.specs.Reading.{refusal_of, fault_of_words};
+ghost use Rattle.wg_ascii.specs.Growing.{IsRefused, IsFirstAfter, IsNumber, IsList, HasList, HasNoList, HasPage, HasNoPage, HasLists};
+
+use crate::plain::plain_list;
+use crate::words::first_word;
+use crate::{AsciiError, AsciiKind};
+use std::alloc::Global;
+use wg_graph::{GraphBuilder, List};
+use wg_num::{first_line, read_decimal};
+use wg_params::MOST_ARCS;
+
+// The number that a word writes, if it may come next on the line of a page, or why it is refused: `least` is one more than
+// the number before it on the line, or 0, and so many arcs come before it.
+#[inline(always)]
+fn judge(word: &[u8], n: u64, least: u64, arcs: u64) -> Result<u64, AsciiKind>
+    ensures number { IfOk result (λ v. IsNumber n least arcs word.now v) }
+    ensures err { IfErr result (λ kind. refusal_of n least arcs (number_of word.now) ≡ Some kind) }
+{
+    let Some(number) = read_decimal(word) else {
+        return Err(AsciiKind::Shape);
+    };
+    if number >= n {
+        return Err(AsciiKind::Range);
+    }
+    if number < least {
+        return Err(AsciiKind::Order);
+    }
+    if arcs >= MOST_ARCS {
+        return Err(AsciiKind::TooMany);
+    }
+    Ok(number)
+}
+
+// Adds the number that a word of this line writes, and answers it.
+#[inline(always)]
+fn add(
+    list: &mut List,
+    line: u64,
+    word: &[u8],
+    n: u64,
+    least: u64,
+    arcs: u64,
+) -> Result<u64, AsciiError>
+    ensures number { IfOk result (λ v. IsNumber n least arcs word.now v) }
+    ensures list { IfOk result (λ v. list.new ≡ list.old ++ v ∷ []) }
+    ensures err { IfErr result (IsRefused line (refusal_of n least arcs (number_of word.now))) }
+{
+    match judge(word, n, least, arcs) {
+        Ok(number) => {
+            list.push(number)?;
+            Ok(number)
+        }
+        Err(kind) => Err(AsciiError::Line { line, kind }),
+    }
+}
+
+// Reads the successors of a page from its line; so many arcs come before them.
+fn read_list(list: &mut List, line: u64, text: &[u8], n: u64, arcs: u64) -> Result<(), AsciiError>
+    requires pages { n ≤ MOST_PAGES }
+    requires arcs { arcs ≤ MOST_ARCS }
+    ensures list { OnOk result (IsList n arcs (words_of text.now) list.new) }
+    ensures err { IfErr result (IsRefused line (fault_of_words n 0 arcs (words_of text.now))) }
+{
+    list.clear();
+    let mut least = 0;
+    let mut count = arcs;
+    let mut rest = text;
+    'words: while let Some((word, after)) = first_word(rest) {
+        least = add(list, line, word, n, least, count)? + 1;
+        count += 1;
+        rest = after;
+    }
+    Ok(())
+}
+
+// Reads the successors of a page from the first line, in any form, and answers the text after it.
+#[cold]
+#[inline(never)]
+fn read_any<'a>(
+    list: &mut List,
+    line: u64,
+    bytes: &'a [u8],
+    n: u64,
+    arcs: u64,
+) -> Result<&'a [u8], AsciiError>
+    requires some { 0 < length bytes.now }
+    requires pages { n ≤ MOST_PAGES }
+    requires arcs { arcs ≤ MOST_ARCS }
+    ensures list { IfOk result (λ after. HasList n arcs (lines_of bytes.now) (lines_of after.now) list.new) }
+    ensures err { IfErr result (HasNoList line n arcs (lines_of bytes.now)) }
+{
+    let (text, after) = first_line(bytes);
+    read_list(list, line, text, n, arcs)?;
+    Ok(after)
+}
+
+// The same; a line in the form in which it is written is read by one pass.
+#[inline(always)]
+fn read_first<'a>(
+    list: &mut List,
+    line: u64,
+    bytes: &'a [u8],
+    n: u64,
+    arcs: u64,
+) -> Result<&'a [u8], AsciiError>
+    requires some { 0 < length bytes.now }
+    requires pages { n ≤ MOST_PAGES }
+    requires arcs { arcs ≤ MOST_ARCS }
+    ensures list { IfOk result (λ after. HasList n arcs (lines_of bytes.now) (lines_of after.now) list.new) }
+    ensures err { IfErr result (HasNoList line n arcs (lines_of bytes.now)) }
+{
+    match plain_list(list, bytes, n, arcs) {
+        Some(after) => Ok(after),
+        None => read_any(list, line, bytes, n, arcs),
+    }
+}
+
+// Reads the first line, as that of the next page, and answers the text after it.
+fn read_page<'a>(
+    builder: &mut GraphBuilder,
+    list: &mut List,
+    line: u64,
+    bytes: &'a [u8],
+) -> Result<&'a [u8], AsciiError>
+    requires { length builder.old.lists < builder.old.nodes }
+    ensures nodes { OnOk result (builder.new.nodes ≡ builder.old.nodes) }
+    ensures page { IfOk result (λ after. HasPage (lines_of bytes.now) (lines_of after.now) builder.old builder.new) }
+    ensures err { IfErr result (HasNoPage line (lines_of bytes.now) builder.old) }
+{
+    if bytes.is_empty() {
+        return Err(AsciiError::Line {
+            line,
+            kind: AsciiKind::Missing,
+        });
+    }
+    let after = read_first(list, line, bytes, builder.nodes(), builder.arcs())?;
+    builder.push_list(list.as_slice())?;
+    Ok(after)
+}
+
+/// Reads the lines of all pages, which come after the first line of a text, and answers the text after them.
+pub fn read_lists<'a>(
+    alloc: Global,
+    builder: &mut GraphBuilder,
+    bytes: &'a [u8],
+) -> Result<&'a [u8], AsciiError>
+    requires pages { builder.old.nodes ≤ MOST_PAGES }
+    requires none { builder.old.lists ≡ [] }
+    ensures nodes { OnOk result (builder.new.nodes ≡ builder.old.nodes) }
+    ensures all { OnOk result (length builder.new.lists ≡ builder.new.nodes) }
+    ensures read { IfOk result (λ after. HasLists (lines_of bytes.now) (lines_of after.now) builder.new) }
+    ensures err { IfErr result (IsFirstAfter builder.old.nodes (lines_of bytes.now)) }
+{
+    let mut list = List::new(alloc);
+    let mut rest = bytes;
+    for page in 0..builder.nodes() {
+        rest = read_page(builder, &mut list, page + 2, rest)?;
+    }
+    Ok(rest)
+}
