@@ -11,6 +11,7 @@ use wg_codes::{Read, read, unfold_from};
 use wg_params::Code;
 
 // Reads a value whose word stands at the cursor.
+#[inline(always)]
 fn value(cursor: &mut Cursor<'_>) -> u64
     requires { (v : ℕ) × (behind : List Bool) × IsWord Gamma v (rest cursor.old) behind }
     ensures { (v : ℕ) (behind : List Bool) → IsWord Gamma v (rest cursor.old) behind
@@ -24,6 +25,7 @@ fn value(cursor: &mut Cursor<'_>) -> u64
 }
 
 // The left end that is stored as this value.
+#[inline(always)]
 fn left_end(page: u64, past: Option<u64>, value: u64) -> u64
     requires page { page ≤ 2 ^ 62 }
     requires left { (left : ℕ) × (left ≤ 2 ^ 62) × (left_of page past value ≡ Some left) }
@@ -39,6 +41,7 @@ fn left_end(page: u64, past: Option<u64>, value: u64) -> u64
 }
 
 // Reads an interval that stands at the cursor.
+#[inline(always)]
 pub(crate) fn interval_at(cursor: &mut Cursor<'_>, page: u64, least: u64, past: Option<u64>) -> Run
     requires page { page ≤ 2 ^ 62 }
     requires stands { (left : ℕ) × (len : ℕ) × (behind : List Bool)

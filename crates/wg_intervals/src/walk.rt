@@ -64,6 +64,7 @@ impl<'a> IntervalWalk<'a> {
     }
 
     /// The next number; none if nothing is left, again and again.
+    #[inline(always)]
     pub fn next(&mut self) -> Option<u64>
         ensures { Gives self.old result self.new }
     {

@@ -18,6 +18,7 @@ use wg_graph::Row;
 use wg_params::Params;
 
 // The next member below that the mask copies.
+#[inline(always)]
 fn next_member(members: &mut Lent<'_>, mask: &mut Mask<'_>) -> Option<u64>
     requires { IsOfBlocks mask.old }
     ensures gives { Gives (copied_of mask.old members.old) result (copied_of mask.new members.new) }
@@ -32,6 +33,7 @@ fn next_member(members: &mut Lent<'_>, mask: &mut Mask<'_>) -> Option<u64>
 }
 
 // Adds the numbers of the three fronts, ascending, and tells how many bits stand behind the record.
+#[inline(always)]
 fn merge<'a>(fronts: Fronts<'a>, mut members: Lent<'a>, row: &mut Row) -> u64
     requires blocks { IsOfBlocks fronts.mask }
     requires apart { AreApart (copied_of fronts.mask members) fronts.intervals fronts.residuals.list }

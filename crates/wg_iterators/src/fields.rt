@@ -25,6 +25,7 @@ pub struct Fronts<'a> {
 
 /// The fronts of the record of `page`, which stands at the cursor. `source` is the length of the list that the record
 /// refers to; none, if it has no reference. The words before the residuals are read, each once.
+#[inline(always)]
 pub fn find_fronts<'a>(
     params: &Params,
     page: u64,

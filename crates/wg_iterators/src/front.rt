@@ -32,6 +32,7 @@ pub(crate) enum Front {
 }
 
 // The lesser of the next numbers that are not copied.
+#[inline(always)]
 fn lesser(inside: Option<u64>, residual: Option<u64>) -> Option<Front>
     ensures { IsLeast None inside residual result }
 {
@@ -54,6 +55,7 @@ fn lesser(inside: Option<u64>, residual: Option<u64>) -> Option<Front>
 }
 
 // The front whose next number is the least of the three.
+#[inline(always)]
 pub(crate) fn least(
     copied: Option<u64>,
     inside: Option<u64>,

@@ -8,6 +8,7 @@ use wg_bits::Cursor;
 use wg_params::Params;
 
 /// How many pages back the record at the cursor refers; 0, if it has no reference. It reads two words at most.
+#[inline(always)]
 pub fn reference(params: &Params, mut cursor: Cursor<'_>) -> u64
     requires { (page : ℕ) × (below : Option (List ℕ)) × (list : List ℕ)
         × IsRecord params.now page below cursor list }

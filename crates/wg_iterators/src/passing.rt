@@ -11,6 +11,7 @@ use wg_bits::Cursor;
 use wg_params::Code;
 
 // A block's length: the first is stored as it is, later ones less 1.
+#[inline(always)]
 fn block_of(index: u64, stored: u64) -> u64
     requires { stored < 2 ^ 63 }
     ensures { result ≡ (if index == 0 then stored else stored + 1) }
@@ -19,6 +20,7 @@ fn block_of(index: u64, stored: u64) -> u64
 }
 
 // The number copied, when `left` members past a block change from copied to skipped, or the other way round.
+#[inline(always)]
 fn turned(index: u64, copied: u64, left: u64) -> u64
     requires less { index % 2 ≡ 0 → left ≤ copied }
     requires more { index % 2 ≡ 1 → copied + left < 2 ^ 64 }
@@ -32,6 +34,7 @@ fn turned(index: u64, copied: u64, left: u64) -> u64
 }
 
 // Passes so many blocks of a list with `source` members, and counts the members that they copy.
+#[inline(always)]
 pub(crate) fn pass_blocks(code: Code, count: u64, source: u64, cursor: &mut Cursor<'_>) -> u64
     requires code { IsCode code }
     requires stand { (values : List ℕ) × (behind : List Bool) × (length values ≡ count)
@@ -53,6 +56,7 @@ pub(crate) fn pass_blocks(code: Code, count: u64, source: u64, cursor: &mut Curs
 }
 
 // Passes so many intervals, and counts the numbers inside them.
+#[inline(always)]
 pub(crate) fn pass_intervals(least: u64, count: u64, cursor: &mut Cursor<'_>) -> u64
     requires { (page : ℕ) × (past : Option ℕ) × (lefts : List ℕ) × (lengths : List ℕ) × (behind : List Bool)
         × (length lefts ≡ count) × (sum lengths < 2 ^ 63)

@@ -46,6 +46,7 @@ impl<'a> Model for Residuals<'a> {
 }
 
 // The page that is stored as this value.
+#[inline(always)]
 fn page_of(page: u64, last: Option<u64>, value: u64) -> u64
     requires page { page < 2 ^ 62 }
     requires means { (y : ℕ) × (y < 2 ^ 62) × (residual_of page last value ≡ Some y) }
@@ -82,6 +83,7 @@ impl<'a> Residuals<'a> {
     }
 
     /// The next residual; none if none is left, again and again.
+    #[inline(always)]
     pub fn next(&mut self) -> Option<u64>
         ensures gives { Gives self.old.list result self.new.list }
         ensures behind { self.new.behind ≡ self.old.behind }

@@ -10,6 +10,7 @@ use wg_codes::{Read, read};
 use wg_params::Code;
 
 // Reads a value whose word stands at the cursor.
+#[inline(always)]
 pub(crate) fn value(code: Code, cursor: &mut Cursor<'_>) -> u64
     requires code { IsCode code }
     requires stands { (v : ℕ) × (behind : List Bool) × IsWord code v (rest cursor.old) behind }
@@ -25,6 +26,7 @@ pub(crate) fn value(code: Code, cursor: &mut Cursor<'_>) -> u64
 }
 
 // Reads a value if its word is there; else it is 0.
+#[inline(always)]
 pub(crate) fn value_where(there: bool, code: Code, cursor: &mut Cursor<'_>) -> u64
     requires code { IsCode code }
     requires stands { (v : ℕ) × (behind : List Bool) × MaybeWord there code v (rest cursor.old) behind }

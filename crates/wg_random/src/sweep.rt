@@ -65,6 +65,7 @@ fn rows(alloc: Global, count: u64, room: usize) -> Result<Vec<Row>, AllocError>
 }
 
 // Keeps the list of the page before this one, in place of one that no reference reaches any more.
+#[inline(always)]
 fn keep(kept: &mut [Row], list: &mut Row, page: u64)
     requires rooms { All (λ r. r.room ≡ list.old.room) kept.old }
     ensures count { length kept.new ≡ length kept.old }
@@ -81,6 +82,7 @@ fn keep(kept: &mut [Row], list: &mut Row, page: u64)
 }
 
 // The list of the page so many pages before this one; none for 0.
+#[inline(always)]
 fn list_back(kept: &[Row], page: u64, back: u64) -> Option<&[u64]>
     requires near { back ≤ page }
     requires reach { back ≤ length kept.now }
@@ -95,6 +97,7 @@ fn list_back(kept: &[Row], page: u64, back: u64) -> Option<&[u64]>
 }
 
 // Decodes the record of a page, which begins at the bit `at`, into the row, and tells where it ends.
+#[inline(always)]
 fn decode_page<'b>(
     params: &Params,
     bytes: &'b [u8],
@@ -146,6 +149,7 @@ impl<'a> Sweep<'a> {
     }
 
     // Decodes the list of the page that comes next.
+    #[inline(always)]
     fn advance(&mut self)
         requires { self.old.place < self.old.graph.nodes }
         ensures graph { self.new.graph ≡ self.old.graph }
@@ -165,6 +169,7 @@ impl<'a> Sweep<'a> {
     }
 
     // The list of the page that was decoded last.
+    #[inline(always)]
     fn last(&self) -> &[u64]
         requires { 0 < self.now.place }
         ensures { result.now ≡ successors self.now.graph (self.now.place - 1) }
