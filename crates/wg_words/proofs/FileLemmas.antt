@@ -1,11 +1,12 @@
 -- The names of an archive's files.
-use Rattle.std.proofs.Common.{◌≡◌, ◌≢◌, ◌<◌, ℕ, arith, length, get_or, reverse, Bool, true, false, ◌||◌, List, ◌++◌, Decides, refl, sym, ◌∙◌, ap}
+use Rattle.std.proofs.Common.{◌≡◌, ◌≢◌, ◌<◌, ℕ, arith, length, get_or, reverse, Bool, true, false, ◌||◌, List, ◌++◌, Option, Some, None, Decides, refl, sym, ◌∙◌, ap}
 use Rattle.std.specs.Str.{bytes_eq}
 use Rattle.std.proofs.lemmas.Bool.{false≢true}
 use Rattle.std.proofs.lemmas.Bool.Decides.{same_from_decides}
+use Rattle.std.proofs.lemmas.Option.{none-some, same_Some}
 use Rattle.std.proofs.lemmas.List.{append_cancel_left, append_cancel_right, reverse-append, get_or_append_left}
 use Rattle.std.proofs.lemmas.Slice.Eq.{bytes_eq-Decides}
-use Rattle.wg_words.specs.Files.{is_file_of, IsNoFileOf, ShareNoFile}
+use Rattle.wg_words.specs.Files.{is_file_of, is_given, overwrites, IsNoFileOf, KeepsInputs, ShareNoFile}
 use Rattle.wg_io.specs.declared.suffixes.TheConstants.{PROPERTIES, GRAPH, OFFSETS}
 
 -- after the first part, the name is the whole where its rest is the second part
@@ -39,6 +40,18 @@ no_file base name is =
       graph = not_whole name (base ++ GRAPH.now) second.1;
       offsets = not_whole name (base ++ OFFSETS.now) first.1;
     }
+
+-- a name that the test finds to be none is none
+not_given : (name : List ℕ) (given : Option (List ℕ)) → is_given name given ≡ false → given ≢ Some name
+not_given name None is = λ e. absurd (none-some name e)
+not_given name (Some given) is = λ e. absurd (not_whole name given is (sym (same_Some given name e)))
+
+-- a certificate that the test lets pass is none of the files that are read
+pub keeps_inputs : (base : List ℕ) (weights certificate : Option (List ℕ)) → overwrites base weights certificate ≡ false → KeepsInputs base weights certificate
+keeps_inputs base weights None is = tt
+keeps_inputs base weights (Some certificate) is =
+    let apart = either_false _ _ is in
+    (no_file base certificate apart.0, not_given certificate weights apart.1)
 
 -- counted from the end, a byte of the last part of a text is a byte of the text
 from_end : (first last : List ℕ) (k : ℕ) → k < length (reverse last) → get_or (reverse (first ++ last)) k 0 ≡ get_or (reverse last) k 0

@@ -1,21 +1,21 @@
 -- A job is within its limits.
-use Rattle.std.proofs.Common.{◌≡◌, ℕ, ◌≤◌, Bool, true, false, List, Option, Some, None, refl, option_map, cond, arith, subst, codes}
+use Rattle.std.proofs.Common.{◌≡◌, ℕ, ◌≤◌, Bool, true, false, List, Option, Some, None, refl, option_and_then, option_map, cond, arith, subst, codes}
 use Rattle.std.specs.Str.{bytes_eq}
 use Rattle.std.proofs.lemmas.Option.{none-some, same_Some, option_and_then_some}
 use Rattle.clap.specs.Words.{Row, Text, first_of}
 use Rattle.wg_params.specs.Parameters.{IsWithinLimits}
 use Rattle.wg_params.specs.declared.limits.TheConstants.{MOST_PAGES, MOST_DAMPING, MOST_ROUNDS}
 use Rattle.wg_words.specs.Commands.{parsed}
-use Rattle.wg_words.specs.Files.{is_file_of, IsNoFileOf, ShareNoFile}
+use Rattle.wg_words.specs.Files.{is_file_of, overwrites, IsNoFileOf, KeepsInputs, ShareNoFile}
 use Rattle.wg_words.specs.Layouts.{params_of}
-use Rattle.wg_words.specs.Values.{name_in, number_up_to, numbers_in}
-use Rattle.wg_words.specs.Jobs.{show_on, rank_on, build_from, build_on, conversion_from, conversion_of, conversion_in, recoding, transposing, job_on, job_on_base, job_from, job_of, IsConversion, IsWithin}
+use Rattle.wg_words.specs.Values.{name_in, number_up_to, numbers_in, optional_name_in}
+use Rattle.wg_words.specs.Jobs.{show_on, rank_from, rank_with, rank_on, verify_on, build_from, build_on, conversion_from, conversion_of, conversion_in, recoding, transposing, job_on, job_on_base, job_from, job_of, IsConversion, IsWithin}
 use Rattle.wg_words.specs.declared.conversion.Conversion.{Conversion}
 use Rattle.wg_words.specs.declared.defaults.TheConstants.{DEFAULT_DAMPING, DEFAULT_ROUNDS, DEFAULT_TOP}
 use Rattle.wg_words.specs.declared.jobs.Job.{Job}
-use Rattle.wg_words.specs.declared.jobs.Job.TheVariants.{Check, Arcs, Offsets, Show, Rank, Build, Recode, Transpose}
+use Rattle.wg_words.specs.declared.jobs.Job.TheVariants.{Check, Arcs, Offsets, Show, Rank, Verify, Build, Recode, Transpose}
 use Rattle.wg_words.specs.declared.layout.Layout.{Layout}
-use Rattle.wg_words.proofs.FileLemmas.{no_file, no_file_shared_unless}
+use Rattle.wg_words.proofs.FileLemmas.{no_file, keeps_inputs, no_file_shared_unless}
 use Rattle.wg_words.proofs.LayoutLemmas.{layout_in_within}
 use Rattle.wg_words.proofs.ValueLemmas.{up_to_within, number_within, some_unless}
 
@@ -26,19 +26,38 @@ show_on_within rows base job = made (numbers_in rows (codes "page"))
     made None is = absurd (none-some job is)
     made (Some pages) is = subst IsWithin (same_Some (Show base pages) job is) tt
 
-rank_on_within : (rows : List Row) (base : Text) (job : Job) → rank_on rows base ≡ Some job → IsWithin job
-rank_on_within rows base job is =
+rank_from_within : (rows : List Row) (base : Text) (weights certificate : Option Text) (job : Job) → KeepsInputs base weights certificate → rank_from rows base weights certificate ≡ Some job → IsWithin job
+rank_from_within rows base weights certificate job apart is =
     let least : DEFAULT_ROUNDS ≤ MOST_ROUNDS = omega arith in
     let weakest : DEFAULT_DAMPING ≤ MOST_DAMPING = omega arith in
     let fewest : DEFAULT_TOP ≤ MOST_PAGES = omega arith in
     option_and_then_some _ _ job is (λ rounds is_rounds then_rounds.
     option_and_then_some _ _ job then_rounds (λ damping is_damping then_damping.
     option_and_then_some _ _ job then_damping (λ top is_top job_is.
-    subst IsWithin (same_Some (Rank base rounds damping top) job job_is) (
+    subst IsWithin (same_Some (Rank base rounds damping top weights certificate) job job_is) (
       number_within DEFAULT_ROUNDS MOST_ROUNDS (first_of (codes "rounds") rows) rounds least is_rounds,
       number_within DEFAULT_DAMPING MOST_DAMPING (first_of (codes "damping") rows) damping weakest is_damping,
       number_within DEFAULT_TOP MOST_PAGES (first_of (codes "top") rows) top fewest is_top,
+      apart,
     ))))
+
+rank_on_within : (rows : List Row) (base : Text) (job : Job) → rank_on rows base ≡ Some job → IsWithin job
+rank_on_within rows base job is =
+    let certificates = optional_name_in rows (codes "certificate") in
+    let then_certificates : Option Text → Option Job = λ weights. option_and_then (rank_with rows base weights) certificates in
+    option_and_then_some then_certificates (optional_name_in rows (codes "weights")) job is (λ weights _ then_certificate.
+    option_and_then_some (rank_with rows base weights) certificates job then_certificate (λ certificate _ unless_input.
+    some_unless IsWithin (overwrites base weights certificate) (rank_from rows base weights certificate) job
+    (λ other. rank_from_within rows base weights certificate job (keeps_inputs base weights certificate other)) unless_input))
+
+verify_on_within : (rows : List Row) (base : Text) (job : Job) → verify_on rows base ≡ Some job → IsWithin job
+verify_on_within rows base job is =
+    let given = optional_name_in rows (codes "weights") in
+    option_and_then_some (λ (certificate : Text). option_map (Verify base certificate) given) (name_in rows (codes "certificate")) job is (λ certificate _ then_weights. made certificate given then_weights)
+  where
+    made : (certificate : Text) (o : Option (Option Text)) → option_map (Verify base certificate) o ≡ Some job → IsWithin job
+    made certificate None none = absurd (none-some job none)
+    made certificate (Some weights) some = subst IsWithin (same_Some (Verify base certificate weights) job some) tt
 
 build_from_within : (rows : List Row) (base arcs : Text) (job : Job) → IsNoFileOf base arcs → build_from rows base arcs ≡ Some job → IsWithin job
 build_from_within rows base arcs job apart is =
@@ -88,7 +107,8 @@ job_on_within command rows base job =
     (chosen_within (bytes_eq command (codes "offsets")) _ _ job (λ is. subst IsWithin (same_Some (Offsets base) job is) tt)
     (chosen_within (bytes_eq command (codes "show")) _ _ job (show_on_within rows base job)
     (chosen_within (bytes_eq command (codes "rank")) _ _ job (rank_on_within rows base job)
-    (chosen_within (bytes_eq command (codes "build")) _ _ job (build_on_within rows base job) (λ is. absurd (none-some job is)))))))
+    (chosen_within (bytes_eq command (codes "verify")) _ _ job (verify_on_within rows base job)
+    (chosen_within (bytes_eq command (codes "build")) _ _ job (build_on_within rows base job) (λ is. absurd (none-some job is))))))))
 
 job_on_base_within : (command : Text) (rows : List Row) (job : Job) → job_on_base command rows ≡ Some job → IsWithin job
 job_on_base_within command rows job is =
@@ -104,9 +124,9 @@ pub job_within : (words : List Text) (job : Job) → job_of words ≡ Some job �
 job_within words job is =
     option_and_then_some job_from (parsed words) job is (λ found _ from. job_from_within found.0 found.1 job from)
 
--- what a caller knows of the numbers of a ranking
-pub rank_within : (words : List Text) (base : Text) (rounds damping top : ℕ) → job_of words ≡ Some (Rank base rounds damping top) → (rounds ≤ MOST_ROUNDS) × (damping ≤ MOST_DAMPING) × (top ≤ MOST_PAGES)
-rank_within words base rounds damping top is = job_within words (Rank base rounds damping top) is
+-- what a caller knows of the numbers and the files of a ranking
+pub rank_within : (words : List Text) (base : Text) (rounds damping top : ℕ) (weights certificate : Option Text) → job_of words ≡ Some (Rank base rounds damping top weights certificate) → (rounds ≤ MOST_ROUNDS) × (damping ≤ MOST_DAMPING) × (top ≤ MOST_PAGES) × KeepsInputs base weights certificate
+rank_within words base rounds damping top weights certificate is = job_within words (Rank base rounds damping top weights certificate) is
 
 -- what a caller knows of the building of an archive
 pub build_within : (words : List Text) (arcs base : Text) (nodes : ℕ) (layout : Layout) → job_of words ≡ Some (Build arcs base nodes layout) → (nodes ≤ MOST_PAGES) × IsWithinLimits (params_of layout nodes 0) × IsNoFileOf base arcs

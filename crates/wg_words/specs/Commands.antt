@@ -33,13 +33,21 @@ required_rule name = record (option_rule name) { required = true }
 abbrev pub show_app : App
 show_app = with_rule (archive_app (codes "show")) (several_rule (codes "page"))
 
--- rank BASE, with the options --rounds, --damping and --top
-abbrev pub rank_app : App
-rank_app = with_rule (with_rule (with_rule (archive_app (codes "rank")) (option_rule (codes "rounds"))) (option_rule (codes "damping"))) (option_rule (codes "top"))
-
 -- a command with one option more
 abbrev pub with_option : App → Text → App
 with_option a name = with_rule a (option_rule name)
+
+-- rank BASE, with the options --rounds, --damping and --top
+abbrev pub plain_rank_app : App
+plain_rank_app = with_option (with_option (with_option (archive_app (codes "rank")) (codes "rounds")) (codes "damping")) (codes "top")
+
+-- the same with the options --weights and --certificate
+abbrev pub rank_app : App
+rank_app = with_option (with_option plain_rank_app (codes "weights")) (codes "certificate")
+
+-- verify BASE FILE, with the option --weights
+abbrev pub verify_app : App
+verify_app = with_option (with_rule (archive_app (codes "verify")) (positional_rule (codes "certificate"))) (codes "weights")
 
 -- the options --window, --chain, --interval and --zeta
 abbrev pub with_limits : App → App
@@ -85,7 +93,9 @@ with_command line command = with_subcommand line command.top
 
 -- the command line of the program
 abbrev pub command_app : App
-command_app = with_command (with_command (with_command (with_command (with_command plain_app show_app) rank_app) build_app) (conversion_app (codes "recode"))) (conversion_app (codes "transpose"))
+command_app =
+    with_command (with_command (with_command (with_command (with_command (with_command plain_app show_app) rank_app) verify_app) build_app)
+    (conversion_app (codes "recode"))) (conversion_app (codes "transpose"))
 
 -- nothing where the words are refused
 abbrev pub where_empty : {X : Type 0} → Kinds → Option X → Option X

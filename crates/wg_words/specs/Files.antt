@@ -1,5 +1,5 @@
--- The names of an archive's files.
-use Rattle.std.specs.Prelude.{ℕ, ◌≢◌, Bool, ◌||◌, List, ◌++◌}
+-- The names of an archive's files, and of a certificate beside them.
+use Rattle.std.specs.Prelude.{ℕ, ◌≢◌, ⊤, Bool, false, ◌||◌, List, ◌++◌, Option, Some, None}
 use Rattle.std.specs.Str.{bytes_eq}
 use Rattle.wg_io.specs.declared.suffixes.TheConstants.{PROPERTIES, GRAPH, OFFSETS}
 
@@ -18,3 +18,18 @@ pub record ShareNoFile (input output : List ℕ) : Type 0 where
   pub properties : IsNoFileOf output (input ++ PROPERTIES.now)
   pub graph : IsNoFileOf output (input ++ GRAPH.now)
   pub offsets : IsNoFileOf output (input ++ OFFSETS.now)
+
+-- the name is the one that is given, if one is
+abbrev pub is_given : List ℕ → Option (List ℕ) → Bool
+is_given name None = false
+is_given name (Some given) = bytes_eq name given
+
+-- whether a certificate would be written over a file of the archive or over the weights
+abbrev pub overwrites : List ℕ → Option (List ℕ) → Option (List ℕ) → Bool
+overwrites base weights None = false
+overwrites base weights (Some certificate) = is_file_of base certificate || is_given certificate weights
+
+-- a certificate that is written is none of these files
+abbrev pub KeepsInputs : List ℕ → Option (List ℕ) → Option (List ℕ) → Type 0
+KeepsInputs base weights None = ⊤
+KeepsInputs base weights (Some certificate) = IsNoFileOf base certificate × (weights ≢ Some certificate)

@@ -5,13 +5,13 @@ use Rattle.clap.specs.Words.{Row, Text}
 use Rattle.wg_params.specs.Parameters.{IsWithinLimits}
 use Rattle.wg_params.specs.declared.limits.TheConstants.{MOST_PAGES, MOST_DAMPING, MOST_ROUNDS}
 use Rattle.wg_words.specs.Commands.{parsed}
-use Rattle.wg_words.specs.Files.{is_file_of, IsNoFileOf, ShareNoFile}
+use Rattle.wg_words.specs.Files.{is_file_of, overwrites, IsNoFileOf, KeepsInputs, ShareNoFile}
 use Rattle.wg_words.specs.Layouts.{params_of, layout_in}
-use Rattle.wg_words.specs.Values.{name_in, number_in, numbers_in, required_in}
+use Rattle.wg_words.specs.Values.{name_in, number_in, numbers_in, optional_name_in, required_in}
 use Rattle.wg_words.specs.declared.conversion.Conversion.{Conversion}
 use Rattle.wg_words.specs.declared.defaults.TheConstants.{DEFAULT_DAMPING, DEFAULT_ROUNDS, DEFAULT_TOP}
 use Rattle.wg_words.specs.declared.jobs.Job.{Job}
-use Rattle.wg_words.specs.declared.jobs.Job.TheVariants.{Check, Arcs, Offsets, Show, Rank, Build, Recode, Transpose}
+use Rattle.wg_words.specs.declared.jobs.Job.TheVariants.{Check, Arcs, Offsets, Show, Rank, Verify, Build, Recode, Transpose}
 use Rattle.wg_words.specs.declared.layout.Layout.{Layout}
 
 -- the successors of the pages of an archive that the words name, in their order
@@ -19,14 +19,30 @@ abbrev pub show_on : List Row → Text → Option Job
 show_on rows base = option_map (Show base) (numbers_in rows (codes "page"))
 
 -- the ranking of an archive, with the numbers that the options give
-abbrev pub rank_on : List Row → Text → Option Job
-rank_on rows base =
+abbrev pub rank_from : List Row → Text → Option Text → Option Text → Option Job
+rank_from rows base weights certificate =
     option_and_then (λ rounds.
     option_and_then (λ damping.
-    option_and_then (λ top. Some (Rank base rounds damping top))
+    option_and_then (λ top. Some (Rank base rounds damping top weights certificate))
     (number_in rows (codes "top") DEFAULT_TOP MOST_PAGES))
     (number_in rows (codes "damping") DEFAULT_DAMPING MOST_DAMPING))
     (number_in rows (codes "rounds") DEFAULT_ROUNDS MOST_ROUNDS)
+
+-- the same, unless the certificate would be written over a file that is read
+abbrev pub rank_with : List Row → Text → Option Text → Option Text → Option Job
+rank_with rows base weights certificate = if overwrites base weights certificate then None else rank_from rows base weights certificate
+
+-- the same, with the weights and the certificate that the options name, if they do
+abbrev pub rank_on : List Row → Text → Option Job
+rank_on rows base =
+    option_and_then (λ weights. option_and_then (rank_with rows base weights) (optional_name_in rows (codes "certificate")))
+    (optional_name_in rows (codes "weights"))
+
+-- the judging of a certificate against an archive, with weights if the option names them
+abbrev pub verify_on : List Row → Text → Option Job
+verify_on rows base =
+    option_and_then (λ certificate. option_map (Verify base certificate) (optional_name_in rows (codes "weights")))
+    (name_in rows (codes "certificate"))
 
 -- the building of an archive from a file, with the pages and the layout that the options give
 abbrev pub build_from : List Row → Text → Text → Option Job
@@ -71,6 +87,7 @@ job_on command rows base =
     else if bytes_eq command (codes "offsets") then Some (Offsets base)
     else if bytes_eq command (codes "show") then show_on rows base
     else if bytes_eq command (codes "rank") then rank_on rows base
+    else if bytes_eq command (codes "verify") then verify_on rows base
     else if bytes_eq command (codes "build") then build_on rows base
     else None
 
@@ -95,7 +112,8 @@ IsConversion input output layout = IsWithinLimits (params_of layout 0 0) × Shar
 
 -- the numbers and the codes of a job are within their limits, and no job reads a file that it writes
 abbrev pub IsWithin : Job → Type 0
-IsWithin (Rank base rounds damping top) = (rounds ≤ MOST_ROUNDS) × (damping ≤ MOST_DAMPING) × (top ≤ MOST_PAGES)
+IsWithin (Rank base rounds damping top weights certificate) =
+    (rounds ≤ MOST_ROUNDS) × (damping ≤ MOST_DAMPING) × (top ≤ MOST_PAGES) × KeepsInputs base weights certificate
 IsWithin (Build arcs base nodes layout) = (nodes ≤ MOST_PAGES) × IsWithinLimits (params_of layout nodes 0) × IsNoFileOf base arcs
 IsWithin (Recode input output layout) = IsConversion input output layout
 IsWithin (Transpose input output layout) = IsConversion input output layout

@@ -12,6 +12,15 @@ nonempty_of (b ∷ bs) = Some (b ∷ bs)
 abbrev pub name_in : List Row → Text → Option Text
 name_in rows id = option_and_then nonempty_of (first_of id rows)
 
+-- the name that is given, if one is; it is not empty
+abbrev pub name_or_none : Option Text → Option (Option Text)
+name_or_none None = Some None
+name_or_none (Some text) = option_map Some (nonempty_of text)
+
+-- the name that an option gives, if it is there
+abbrev pub optional_name_in : List Row → Text → Option (Option Text)
+optional_name_in rows id = name_or_none (first_of id rows)
+
 -- a number is at most its limit
 abbrev pub limited : ℕ → ℕ → Option ℕ
 limited most n = if nat_le n most then Some n else None

@@ -1,13 +1,13 @@
 ghost use Rattle.std.specs.Prelude.{◌≡◌, Some, None, IfOk, IfErr, option_and_then, map, string_bytes};
 ghost use Rattle.clap.specs.Words.{subcommand_rows_of, rows_of, found_of};
 ghost use Rattle.wg_words.specs.Commands.{parsed};
-ghost use Rattle.wg_words.specs.Jobs.{job_of, job_from, job_on_base, job_on, show_on, rank_on, build_on, build_from, recoding, transposing, IsWithin};
+ghost use Rattle.wg_words.specs.Jobs.{job_of, job_from, job_on_base, job_on, show_on, rank_from, rank_on, verify_on, build_on, build_from, recoding, transposing, IsWithin};
 
 use crate::commands::command;
 use crate::conversion::{Conversion, conversion_at};
-use crate::files::is_file_of;
+use crate::files::{is_file_of, overwrites};
 use crate::options::layout_at;
-use crate::values::{name_at, number_at, numbers_at, required_at};
+use crate::values::{name_at, number_at, numbers_at, optional_name_at, required_at};
 use crate::{DEFAULT_DAMPING, DEFAULT_ROUNDS, DEFAULT_TOP, Job, JobError, Name, Words};
 use clap::ArgMatches;
 use clap::error::ErrorKind;
@@ -111,7 +111,8 @@ fn job_on(
         "arcs" => Ok(Some(Job::Arcs { base })),
         "offsets" => Ok(Some(Job::Offsets { base })),
         "show" => show_on(alloc, found, base),
-        "rank" => Ok(rank_on(found, base)),
+        "rank" => rank_on(alloc, found, base),
+        "verify" => verify_on(alloc, found, base),
         "build" => build_on(alloc, found, base),
         _ => Ok(None),
     }
@@ -127,9 +128,31 @@ fn show_on(alloc: Global, found: &ArgMatches<'_>, base: Name) -> Result<Option<J
     Ok(Some(Job::Show { base, pages }))
 }
 
+// The ranking of an archive, with weights and a certificate if the options name them: the certificate is none of the files that
+// are read.
+fn rank_on(alloc: Global, found: &ArgMatches<'_>, base: Name) -> Result<Option<Job>, AllocError>
+    ensures { IfOk result (λ job. job ≡ rank_on (rows_of (found_of found.now)) base) }
+{
+    let Some(weights) = optional_name_at(alloc, found, "weights")? else {
+        return Ok(None);
+    };
+    let Some(certificate) = optional_name_at(alloc, found, "certificate")? else {
+        return Ok(None);
+    };
+    if overwrites(&base, weights.as_ref(), certificate.as_ref()) {
+        return Ok(None);
+    }
+    Ok(rank_from(found, base, weights, certificate))
+}
+
 // The ranking of an archive, with the numbers that the options give.
-fn rank_on(found: &ArgMatches<'_>, base: Name) -> Option<Job>
-    ensures { result ≡ rank_on (rows_of (found_of found.now)) base }
+fn rank_from(
+    found: &ArgMatches<'_>,
+    base: Name,
+    weights: Option<Name>,
+    certificate: Option<Name>,
+) -> Option<Job>
+    ensures { result ≡ rank_from (rows_of (found_of found.now)) base weights certificate }
 {
     let rounds = number_at(found, "rounds", DEFAULT_ROUNDS, MOST_ROUNDS)?;
     let damping = number_at(found, "damping", DEFAULT_DAMPING, MOST_DAMPING)?;
@@ -139,7 +162,26 @@ fn rank_on(found: &ArgMatches<'_>, base: Name) -> Option<Job>
         rounds,
         damping,
         top,
+        weights,
+        certificate,
     })
+}
+
+// The judging of a certificate against an archive, with weights if the option names them.
+fn verify_on(alloc: Global, found: &ArgMatches<'_>, base: Name) -> Result<Option<Job>, AllocError>
+    ensures { IfOk result (λ job. job ≡ verify_on (rows_of (found_of found.now)) base) }
+{
+    let Some(certificate) = name_at(alloc, found, "certificate")? else {
+        return Ok(None);
+    };
+    let Some(weights) = optional_name_at(alloc, found, "weights")? else {
+        return Ok(None);
+    };
+    Ok(Some(Job::Verify {
+        base,
+        certificate,
+        weights,
+    }))
 }
 
 // The building of an archive from an arc list that is none of its files.

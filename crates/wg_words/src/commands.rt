@@ -1,7 +1,7 @@
 //! The commands of the program with their options and positionals: a function each, as the definitions have an `App` each.
 ghost use Rattle.std.specs.Prelude.{◌≡◌, IfOk, false};
 ghost use Rattle.clap.specs.Words.{App, rule_of};
-ghost use Rattle.wg_words.specs.Commands.{IsApp, positional_rule, several_rule, base_rule, archive_app, option_rule, required_rule, show_app, rank_app, with_option, with_limits, with_codes, with_layout, plain_build_app, build_app, two_archives_app, conversion_app, program_app, plain_app, with_command, command_app};
+ghost use Rattle.wg_words.specs.Commands.{IsApp, positional_rule, several_rule, base_rule, archive_app, option_rule, required_rule, show_app, plain_rank_app, rank_app, verify_app, with_option, with_limits, with_codes, with_layout, plain_build_app, build_app, two_archives_app, conversion_app, program_app, plain_app, with_command, command_app};
 
 use clap::{Arg, Command};
 use std::alloc::{AllocError, Global};
@@ -59,13 +59,30 @@ fn show<'a>(alloc: Global) -> Result<Command<'a>, AllocError>
     on_archive(alloc, "show")?.arg(several(alloc, "page"))
 }
 
-fn rank<'a>(alloc: Global) -> Result<Command<'a>, AllocError>
-    ensures { IfOk result (IsApp rank_app) }
+// `rank` without the options that name files.
+fn plain_rank<'a>(alloc: Global) -> Result<Command<'a>, AllocError>
+    ensures { IfOk result (IsApp plain_rank_app) }
 {
     on_archive(alloc, "rank")?
         .arg(option(alloc, "rounds"))?
         .arg(option(alloc, "damping"))?
         .arg(option(alloc, "top"))
+}
+
+fn rank<'a>(alloc: Global) -> Result<Command<'a>, AllocError>
+    ensures { IfOk result (IsApp rank_app) }
+{
+    let command = plain_rank(alloc)?;
+    let command = with_option(alloc, command, "weights")?;
+    with_option(alloc, command, "certificate")
+}
+
+fn verify<'a>(alloc: Global) -> Result<Command<'a>, AllocError>
+    ensures { IfOk result (IsApp verify_app) }
+{
+    on_archive(alloc, "verify")?
+        .arg(positional(alloc, "certificate"))?
+        .arg(option(alloc, "weights"))
 }
 
 // The command with one option more.
@@ -180,6 +197,8 @@ pub fn command<'a>(alloc: Global) -> Result<Command<'a>, AllocError>
     let line = with_command(line, show)?;
     let rank = rank(alloc)?;
     let line = with_command(line, rank)?;
+    let verify = verify(alloc)?;
+    let line = with_command(line, verify)?;
     let build = build(alloc)?;
     let line = with_command(line, build)?;
     let recode = conversion(alloc, "recode")?;

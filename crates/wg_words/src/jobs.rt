@@ -25,11 +25,22 @@ pub enum Job {
     },
     /// `rank BASE`: bounds of each page's PageRank after so many rounds at a damping in thousandths, and the order of the `top`
     /// best pages. The numbers are at most `wg_params::MOST_ROUNDS`, `wg_params::MOST_DAMPING` and `wg_params::MOST_PAGES`.
+    /// Teleport goes to each page alike, or by the file of weights. The lower bounds may be written to a certificate, which is
+    /// none of the files that are read.
     Rank {
         base: Name,
         rounds: u64,
         damping: u64,
         top: u64,
+        weights: Option<Name>,
+        certificate: Option<Name>,
+    },
+    /// `verify BASE FILE`: whether the certificate in FILE bounds each page's PageRank from below, with teleport to each page
+    /// alike or by the file of weights. No file is written, so that any names may be the same.
+    Verify {
+        base: Name,
+        certificate: Name,
+        weights: Option<Name>,
     },
     /// `build ARCS BASE --nodes N`: the archive BASE of the graph with so many pages whose arcs the file ARCS lists. The pages
     /// are at most `wg_params::MOST_PAGES`, the layout is within the limits of `wg_params`, and ARCS is none of the files of BASE.

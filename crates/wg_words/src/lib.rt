@@ -9,6 +9,9 @@
 //! archive's parameters, all but the numbers of pages and arcs. No such job reads one of the files that it writes. What `recode`
 //! and `transpose` take is one `Conversion`, which becomes the job of either.
 //!
+//! `rank` and `verify` may name a file of weights. The certificate that `rank` writes is none of the files that it reads, which
+//! the definitions say by `KeepsInputs`.
+//!
 //! A number is read from the text of its option by [`wg_num::read_decimal`], and by none of `clap`'s parsers: digits alone, no 0
 //! before others, at most its limit. An option that is absent gives its default. The pages of `show` are a list of such numbers,
 //! of which each below 2^64 will do: which pages there are is known only when the archive has been read.

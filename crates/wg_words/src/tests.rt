@@ -25,6 +25,13 @@ fn named(alloc: Global, asked: &str, base: &Name) -> Result<String, AllocError> 
     Ok(text)
 }
 
+fn name_or_none(name: Option<&Name>) -> &str {
+    match name {
+        Some(name) => name.as_str(),
+        None => "none",
+    }
+}
+
 fn with_layout(
     alloc: Global,
     asked: &str,
@@ -53,8 +60,22 @@ fn described(alloc: Global, job: &Job) -> Result<String, Fail> {
             rounds,
             damping,
             top,
+            weights,
+            certificate,
         } => {
-            let text = format!(in alloc; "rank {rounds} {damping} {top}")?;
+            let weights = name_or_none(weights.as_ref());
+            let certificate = name_or_none(certificate.as_ref());
+            let text = format!(in alloc; "rank {rounds} {damping} {top} {weights} {certificate}")?;
+            Ok(named(alloc, text.as_str(), base)?)
+        }
+        Job::Verify {
+            base,
+            certificate,
+            weights,
+        } => {
+            let certificate = certificate.as_str();
+            let weights = name_or_none(weights.as_ref());
+            let text = format!(in alloc; "verify {certificate} {weights}")?;
             Ok(named(alloc, text.as_str(), base)?)
         }
         Job::Build {

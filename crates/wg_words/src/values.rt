@@ -1,6 +1,6 @@
 ghost use Rattle.std.specs.Prelude.{◌≡◌, IfOk, map, option_map};
 ghost use Rattle.clap.specs.Words.{rows_of, found_of, all_of, first_of};
-ghost use Rattle.wg_words.specs.Values.{nonempty_of, name_in, limited, number_up_to, number_or, number_in, numbers_of, numbers_in, required_in, word_in};
+ghost use Rattle.wg_words.specs.Values.{nonempty_of, name_in, name_or_none, optional_name_in, limited, number_up_to, number_or, number_in, numbers_of, numbers_in, required_in, word_in};
 
 use crate::Name;
 use clap::ArgMatches;
@@ -32,6 +32,26 @@ fn nonempty(alloc: Global, text: &str) -> Result<Option<Name>, AllocError>
         return Ok(None);
     }
     Ok(Some(Name::new(alloc, text)?))
+}
+
+/// The name that an option gives, if it is there: outside, none where the name is empty.
+pub fn optional_name_at(
+    alloc: Global,
+    found: &ArgMatches<'_>,
+    id: &str,
+) -> Result<Option<Option<Name>>, AllocError>
+    ensures { IfOk result (λ name. name ≡ optional_name_in (rows_of (found_of found.now)) id.now) }
+{
+    name_or_none(alloc, text_at(found, id))
+}
+
+fn name_or_none(alloc: Global, text: Option<&str>) -> Result<Option<Option<Name>>, AllocError>
+    ensures { IfOk result (λ name. name ≡ name_or_none (option_map (λ s. s.now) text.entry)) }
+{
+    match text {
+        None => Ok(Some(None)),
+        Some(text) => Ok(nonempty(alloc, text)?.map(Some)),
+    }
 }
 
 /// The number that an option gives: its default where the option is absent.

@@ -1,7 +1,7 @@
 //! Lines that ask for a job, with what it is, and lines that ask for none.
 
 // Of an archive that is read: the command, the numbers, and the graph file.
-pub const JOBS: [(&str, &str); 16] = [
+pub const JOBS: [(&str, &str); 20] = [
     ("check g", "check g.graph"),
     ("check data/a.b", "check data/a.b.graph"),
     ("check -", "check -.graph"),
@@ -15,18 +15,31 @@ pub const JOBS: [(&str, &str); 16] = [
         "show -- -g 18446744073709551615",
         "show [18446744073709551615] -g.graph",
     ),
-    ("rank g", "rank 100 850 10 g.graph"),
-    ("rank g --rounds 0 --damping 999", "rank 0 999 10 g.graph"),
-    ("rank --top 3 g", "rank 100 850 3 g.graph"),
-    ("rank g --rounds=5", "rank 5 850 10 g.graph"),
+    ("rank g", "rank 100 850 10 none none g.graph"),
+    (
+        "rank g --rounds 0 --damping 999",
+        "rank 0 999 10 none none g.graph",
+    ),
+    ("rank --top 3 g", "rank 100 850 3 none none g.graph"),
+    ("rank g --rounds=5", "rank 5 850 10 none none g.graph"),
     (
         "rank --top 68719476735 --rounds 10000 -- -g",
-        "rank 10000 850 68719476735 -g.graph",
+        "rank 10000 850 68719476735 none none -g.graph",
     ),
-    ("rank -", "rank 100 850 10 -.graph"),
+    ("rank -", "rank 100 850 10 none none -.graph"),
+    (
+        "rank g --weights w --certificate c --top 3",
+        "rank 100 850 3 w c g.graph",
+    ),
+    (
+        "rank g --weights g.graph --certificate g",
+        "rank 100 850 10 g.graph g g.graph",
+    ),
+    ("verify g c", "verify c none g.graph"),
+    ("verify --weights c g.graph c", "verify c c g.graph.graph"),
 ];
 
-pub const NO_JOBS: [&str; 36] = [
+pub const NO_JOBS: [&str; 47] = [
     "check",
     "arcs g h",
     "offsets",
@@ -51,6 +64,17 @@ pub const NO_JOBS: [&str; 36] = [
     "rank g --rounds=",
     "rank g --top -1",
     "rank g --rounds 1 --rounds 2",
+    "rank g --weights=",
+    "rank g --certificate=",
+    "rank g --certificate g.properties",
+    "rank g --certificate g.graph",
+    "rank g --certificate g.offsets",
+    "rank g --weights w --certificate w",
+    "verify g",
+    "verify g ",
+    "verify g c d",
+    "verify g c --weights=",
+    "verify g c --certificate d",
     "check g --rounds 5",
     "check ",
     "check -g",
