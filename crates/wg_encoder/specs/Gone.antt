@@ -65,6 +65,7 @@ HasStopped files base p lists error.Memory =
     (HoldsLess (fin.get files (graph_name base)) (graph_file p lists) × HoldsFront (fin.get files (offsets_name base)) (offsets_file p lists))
     ⊎ (HoldsFront (fin.get files (graph_name base)) (graph_file p lists) × HoldsLess (fin.get files (offsets_name base)) (offsets_file p lists))
 HasStopped files base p lists (error.Failed output.Properties) = ⊥
+HasStopped files base p lists (error.Failed output.Certificate) = ⊥
 HasStopped files base p lists (error.Failed output.Out) = ⊥
 
 -- A call failed on one of the two files alone, and only if the count of its failures increased.
@@ -73,6 +74,7 @@ HasFailed base old new (error.Failed output.Graph) = Increased (old (graph_name 
 HasFailed base old new (error.Failed output.Offsets) = Increased (old (offsets_name base)).write_faults (new (offsets_name base)).write_faults
 HasFailed base old new error.Memory = Unit {0}
 HasFailed base old new (error.Failed output.Properties) = ⊥
+HasFailed base old new (error.Failed output.Certificate) = ⊥
 HasFailed base old new (error.Failed output.Out) = ⊥
 
 -- the same of a call on one file

@@ -1,6 +1,7 @@
 pub mod Statuses
 pub mod PassLemmas
 pub mod LoadLemmas
+pub mod NamedLemmas
 pub mod PairingLemmas
 pub mod FirstRecords
 pub mod UnderWay

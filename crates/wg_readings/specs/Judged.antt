@@ -1,5 +1,5 @@
 -- What a job comes to, by what its inputs hold.
-use Rattle.std.specs.Prelude.{ℕ, List, [], ◌∷◌, length, find, nat_le, nat_lt, if◌then◌else◌, Option, Some, None, Result, Ok, Err}
+use Rattle.std.specs.Prelude.{ℕ, ◌+◌, List, [], ◌∷◌, length, find, nat_eq, nat_le, nat_lt, ◌&&◌, if◌then◌else◌, Option, Some, None, Result, Ok, Err}
 use Rattle.wg_io.specs.declared.limits.TheConstants.{MOST_BYTES}
 use Rattle.wg_params.specs.Parameters.{Parameters}
 use Rattle.wg_properties.specs.Judged.{properties_of}
@@ -10,12 +10,22 @@ use Rattle.wg_grammar.specs.declared.fault.OffsetWord.{OffsetWord}
 use Rattle.wg_grammar.specs.Archive.{Accepted}
 use Rattle.wg_graph.specs.Digraph.{Digraph}
 use Rattle.wg_arcs.specs.declared.fault.ArcsKind.{ArcsKind}
+use Rattle.wg_arcs.specs.declared.numbers_fault.NumbersFault.{NumbersFault}
+use Rattle.wg_arcs.specs.Numbers.{numbers_of}
 use Rattle.wg_offsets.specs.Places.{record_length, pages_that_differ}
+use Rattle.wg_rank.specs.Sum.{sum_below}
+use Rattle.wg_rank.specs.Intervals.{by_page}
+use Rattle.wg_rank.specs.Claims.{Claim}
+use Rattle.wg_rank.specs.CertificateText.{claim_of}
+use Rattle.wg_rank.specs.declared.fault.CertFault.{CertFault}
+use Rattle.wg_rank.specs.declared.limits.TheConstants.{MOST_WEIGHT}
 use Rattle.wg_readings.specs.Readings.{Readings}
 use Rattle.wg_readings.specs.declared.status.Input.{Input}
 use Rattle.wg_readings.specs.declared.status.Input.TheVariants as input
 use Rattle.wg_readings.specs.declared.status.Status.{Status}
-use Rattle.wg_readings.specs.declared.status.Status.TheVariants.{Done, Missing, BadArcs, BadProperties, BadArchive, NoPage, OverLimit}
+use Rattle.wg_readings.specs.declared.status.Status.TheVariants.{Done, Missing, BadArcs, BadProperties, BadArchive, NoPage, OverLimit, BadWeights, BadCertificate}
+use Rattle.wg_readings.specs.declared.status.WeightsFault.{WeightsFault}
+use Rattle.wg_readings.specs.declared.status.WeightsFault.TheVariants as weights
 
 -- the bytes of an archive's three files
 pub record Archive : Type 0 where
@@ -121,3 +131,37 @@ with_archive r held next =
     with_records held (λ p bytes. with_graph r p bytes (λ a.
     with_file input.Offsets (held input.Offsets) (λ more. with_offsets r p more (λ stored.
     with_lengths a.places stored (λ same. next p a)))))
+
+-- weights of n pages, which may not add up to 0 where there are pages
+abbrev pub unless_zero : ℕ → Result (List ℕ) NumbersFault → Result (List ℕ) WeightsFault
+unless_zero n (Ok ws) = if nat_lt 0 n && nat_eq (sum_below n (by_page ws)) 0 then Err weights.Zero else Ok ws
+unless_zero n (Err f) = Err (weights.Numbers f)
+
+-- the weights of n pages that a text gives, or what is wrong with them
+abbrev pub weights_in : ℕ → List ℕ → Result (List ℕ) WeightsFault
+weights_in n bytes = unless_zero n (numbers_of n (MOST_WEIGHT + 1) bytes)
+
+abbrev pub unless_bad_weights : Result (List ℕ) WeightsFault → (List ℕ → Judged) → Judged
+unless_bad_weights (Ok ws) next = next ws
+unless_bad_weights (Err f) next = refused (BadWeights f)
+
+-- goes on with the weights of so many pages that a text gives
+abbrev pub with_weights : ℕ → List ℕ → (List ℕ → Judged) → Judged
+with_weights n bytes next = unless_bad_weights (weights_in n bytes) next
+
+-- goes on with the weights of so many pages, where a file of them is named, and else without weights
+abbrev pub weights_then : Option (List ℕ) → ℕ → Option (List ℕ) → (Option (List ℕ) → Judged) → Judged
+weights_then None n held next = next None
+weights_then (Some name) n held next = with_file input.Weights held (λ bytes. with_weights n bytes (λ ws. next (Some ws)))
+
+abbrev pub unless_bad_claim : Result Claim CertFault → (Claim → Judged) → Judged
+unless_bad_claim (Ok c) next = next c
+unless_bad_claim (Err f) next = refused (BadCertificate f)
+
+-- goes on with what a certificate's text claims of so many pages
+abbrev pub with_claim : ℕ → List ℕ → (Claim → Judged) → Judged
+with_claim n bytes next = unless_bad_claim (claim_of n bytes) next
+
+-- goes on with what a certificate claims of so many pages
+abbrev pub claim_then : ℕ → Option (List ℕ) → (Claim → Judged) → Judged
+claim_then n held next = with_file input.Certificate held (λ bytes. with_claim n bytes next)

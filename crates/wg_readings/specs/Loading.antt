@@ -1,5 +1,5 @@
--- Steps of a job that read the files of an archive, and print nothing.
-use Rattle.std.specs.Prelude.{◌≡◌, ◌⊎◌, ℕ, ◌≤◌, Bool, List, length, Option, Some, Result, Ok, Err, IsTrue, OnOk, IfOk, IfErr}
+-- Steps of a job that read files, and print nothing.
+use Rattle.std.specs.Prelude.{◌≡◌, ◌⊎◌, ℕ, ◌≤◌, Bool, List, length, Option, Some, Result, Ok, Err, IsTrue, IsSome, OnOk, IfOk, IfErr}
 use Rattle.wg_io.specs.Outside.{Files, Counts, NonDecreasing}
 use Rattle.wg_io.specs.declared.depot.Depot as depot
 use Rattle.wg_io.specs.declared.limits.TheConstants.{MOST_BYTES}
@@ -9,17 +9,22 @@ use Rattle.wg_properties.specs.declared.fault.PropFault.{PropFault}
 use Rattle.wg_graph.specs.Digraph.{Digraph}
 use Rattle.wg_grammar.specs.Archive.{Accepted}
 use Rattle.wg_arcs.specs.declared.fault.ArcsKind.{ArcsKind}
+use Rattle.wg_rank.specs.Weights.{AreWeights, weights_of}
+use Rattle.wg_rank.specs.Claims.{Claim}
+use Rattle.wg_rank.specs.declared.fault.CertFault.{CertFault}
 use Rattle.wg_readings.specs.Answers.{Steps, status_in}
 use Rattle.wg_readings.specs.Causes.{HasCause}
-use Rattle.wg_readings.specs.Judged.{Judged, with_arcs, with_digraph, with_file, with_lengths, with_parameters}
-use Rattle.wg_readings.specs.Names.{IsOfInput, file_of, held_by, list_named, no_outputs}
+use Rattle.wg_readings.specs.Judged.{Judged, claim_then, weights_then, with_arcs, with_digraph, with_file, with_lengths, with_parameters}
+use Rattle.wg_readings.specs.Names.{IsOfInput, certificate_named, file_of, held_by, list_named, no_outputs, weights_named}
 use Rattle.wg_readings.specs.Pairing.{files_then, offsets_then}
 use Rattle.wg_readings.specs.Passes.{IsGraphFile, IsStopAt, graph_then}
 use Rattle.wg_readings.specs.Readings.{Readings}
 use Rattle.wg_readings.specs.declared.ending.Ending.{Ending}
 use Rattle.wg_readings.specs.declared.status.Input.{Input}
 use Rattle.wg_readings.specs.declared.status.Input.TheVariants as input
-use Rattle.wg_readings.specs.declared.status.Status.TheVariants.{BadArcs, BadProperties}
+use Rattle.wg_readings.specs.declared.status.Status.{Status}
+use Rattle.wg_readings.specs.declared.status.Status.TheVariants.{BadArcs, BadCertificate, BadProperties, BadWeights}
+use Rattle.wg_readings.specs.declared.status.WeightsFault.{WeightsFault}
 
 -- A file of this name was read whole, as this input.
 pub record Loads (names : Input → Option (List ℕ)) (i : Input) (told : Bool) (files files' : Files) (counts counts' : List ℕ → Counts) (result : Result (List ℕ) Ending) : Type 0 where
@@ -107,6 +112,34 @@ pub record LoadsList (name : List ℕ) (n : ℕ) (told : Bool) (files files' : F
   pub same : files' ≡ files
   pub later : NonDecreasing counts counts'
 
+-- A file that is no archive's was read whole and judged, as this input, or the job ends at it, at last with a fault of what it holds.
+pub record ReadsNamed {B : Type 0} (i : Input) (names : Input → Option (List ℕ)) (IsFault : Status → Type 0) (step : Option (List ℕ) → (B → Judged) → Judged) (told : Bool) (files files' : Files) (counts counts' : List ℕ → Counts) (result : Result B Ending) : Type 0 where
+  pub steps : IsTrue told → Steps (step (held_by names files i)) result
+  pub only : IfErr result (λ e. IsOfInput i e.status ⊎ IsFault e.status)
+  -- an absence or a fault is told only where the outside counted it
+  pub causes : HasCause names no_outputs counts counts' 0 0 (status_in result)
+  -- no file has changed, and no count of the depot falls
+  pub same : files' ≡ files
+  pub later : NonDecreasing counts counts'
+
+abbrev pub IsBadWeights : Status → Type 0
+IsBadWeights status = (f : WeightsFault) × (status ≡ BadWeights f)
+
+abbrev pub IsBadCertificate : Status → Type 0
+IsBadCertificate status = (f : CertFault) × (status ≡ BadCertificate f)
+
+-- The weights of so many pages were read, where a file of them is named; or the job ends at this file.
+pub record LoadsWeights (given : Option (List ℕ)) (n : ℕ) (told : Bool) (files files' : Files) (counts counts' : List ℕ → Counts) (result : Result (Option (List ℕ)) Ending) : Type 0 where
+  pub reads : ReadsNamed input.Weights (weights_named given) IsBadWeights (weights_then given n) told files files' counts counts' result
+  pub some : IfErr result (λ e. IsSome given)
+  -- by the weights, or by 1 for each page, teleport can be shared out
+  pub weights : IfOk result (λ ws. AreWeights n (weights_of n ws))
+
+-- What a certificate claims of so many pages was read, or the job ends at its file.
+pub record LoadsCertificate (name : List ℕ) (n : ℕ) (told : Bool) (files files' : Files) (counts counts' : List ℕ → Counts) (result : Result Claim Ending) : Type 0 where
+  pub reads : ReadsNamed input.Certificate (certificate_named name) IsBadCertificate (claim_then n) told files files' counts counts' result
+  pub pages : IfOk result (λ c. length c.low ≡ n)
+
 -- The graph file and the offsets file of an archive were judged beside each other, or the job ends at one of them: at the offsets file only if the
 -- graph is in order.
 pub record JudgesFiles (base : List ℕ) (p : Parameters) (told : Bool) (files files' : Files) (counts counts' : List ℕ → Counts) (result : Result ℕ Ending) : Type 0 where
@@ -136,6 +169,12 @@ JudgesOffsetsBy d base p places before after result =
 
 abbrev pub LoadsListBy : {D : Type 0} → depot.Ghosts D → List ℕ → ℕ → D → D → Result Digraph Ending → Type 0
 LoadsListBy d name n before after result = LoadsList name n d.told (d.files before) (d.files after) (d.counts before) (d.counts after) result
+
+abbrev pub LoadsWeightsBy : {D : Type 0} → depot.Ghosts D → Option (List ℕ) → ℕ → D → D → Result (Option (List ℕ)) Ending → Type 0
+LoadsWeightsBy d given n before after result = LoadsWeights given n d.told (d.files before) (d.files after) (d.counts before) (d.counts after) result
+
+abbrev pub LoadsCertificateBy : {D : Type 0} → depot.Ghosts D → List ℕ → ℕ → D → D → Result Claim Ending → Type 0
+LoadsCertificateBy d name n before after result = LoadsCertificate name n d.told (d.files before) (d.files after) (d.counts before) (d.counts after) result
 
 abbrev pub JudgesGraphBy : {D : Type 0} → depot.Ghosts D → List ℕ → Parameters → D → D → Result (Unit {0}) Ending → Type 0
 JudgesGraphBy d base p before after result = JudgesGraph base p d.told (d.files before) (d.files after) (d.counts before) (d.counts after) result

@@ -12,12 +12,14 @@ use Rattle.wg_readings.specs.declared.status.Input.TheVariants as input
 use Rattle.wg_readings.specs.declared.status.Status.{Status}
 use Rattle.wg_readings.specs.declared.status.Status.TheVariants.{Memory, ReadFault, Missing, OverLimit}
 
--- an archive is the files of these suffixes; an arc list is none of them
+-- an archive is the files of these suffixes; the other inputs are none of them
 abbrev pub suffix_of : Input → Option (List ℕ)
 suffix_of input.Properties = Some PROPERTIES.now
 suffix_of input.Graph = Some GRAPH.now
 suffix_of input.Offsets = Some OFFSETS.now
 suffix_of input.ArcList = None
+suffix_of input.Weights = None
+suffix_of input.Certificate = None
 
 -- the name of one of an archive's files
 abbrev pub file_of : List ℕ → Input → Option (List ℕ)
@@ -29,12 +31,15 @@ input_code input.Properties = 0
 input_code input.Graph = 1
 input_code input.Offsets = 2
 input_code input.ArcList = 3
+input_code input.Weights = 4
+input_code input.Certificate = 5
 
 abbrev pub output_code : Output → ℕ
 output_code output.Properties = 0
 output_code output.Graph = 1
 output_code output.Offsets = 2
-output_code output.Out = 3
+output_code output.Certificate = 3
+output_code output.Out = 4
 
 -- the name of an input, or of an output, in a list of them with their names
 abbrev pub name_of_input : List (Input × List ℕ) → Input → Option (List ℕ)
@@ -45,7 +50,7 @@ abbrev pub name_of_output : List (Output × List ℕ) → Output → Option (Lis
 name_of_output [] o = None
 name_of_output (entry ∷ rest) o = if nat_eq (output_code entry.0) (output_code o) then Some entry.1 else name_of_output rest o
 
--- the files of an archive's records, all files of an archive, and an arc list
+-- the files of an archive's records, all files of an archive, an arc list, weights if they are asked for, and a certificate
 abbrev pub record_files : List ℕ → List (Input × List ℕ)
 record_files base = (input.Properties, base ++ PROPERTIES.now) ∷ (input.Graph, base ++ GRAPH.now) ∷ []
 
@@ -55,6 +60,13 @@ archive_files base = (input.Properties, base ++ PROPERTIES.now) ∷ (input.Graph
 abbrev pub list_file : List ℕ → List (Input × List ℕ)
 list_file name = (input.ArcList, name) ∷ []
 
+abbrev pub weights_file : Option (List ℕ) → List (Input × List ℕ)
+weights_file None = []
+weights_file (Some name) = (input.Weights, name) ∷ []
+
+abbrev pub certificate_file : List ℕ → List (Input × List ℕ)
+certificate_file name = (input.Certificate, name) ∷ []
+
 -- the files of an archive that is written
 abbrev pub archive_outputs : List ℕ → List (Output × List ℕ)
 archive_outputs base = (output.Properties, base ++ PROPERTIES.now) ∷ (output.Graph, base ++ GRAPH.now) ∷ (output.Offsets, base ++ OFFSETS.now) ∷ []
@@ -62,6 +74,12 @@ archive_outputs base = (output.Properties, base ++ PROPERTIES.now) ∷ (output.G
 -- the name of a job's input
 abbrev pub list_named : List ℕ → Input → Option (List ℕ)
 list_named name i = name_of_input (list_file name) i
+
+abbrev pub weights_named : Option (List ℕ) → Input → Option (List ℕ)
+weights_named given i = name_of_input (weights_file given) i
+
+abbrev pub certificate_named : List ℕ → Input → Option (List ℕ)
+certificate_named name i = name_of_input (certificate_file name) i
 
 -- the outputs of what writes no file
 abbrev pub no_outputs : Output → Option (List ℕ)

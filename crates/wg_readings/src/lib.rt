@@ -1,7 +1,7 @@
-//! The files of an archive, and arc lists, as a job reads them: each is read and judged, and the job goes on with
-//! what it holds, or ends.
+//! The files of an archive, arc lists, weights and certificates, as a job reads them: each is read and judged, and the job
+//! goes on with what it holds, or ends.
 //!
-//! [`load_params`], [`load_graph`] and [`load_list`] read a file whole; [`judge_graph`], [`judge_files`] and
+//! [`load_params`], [`load_graph`], [`load_list`], [`load_weights`] and [`load_certificate`] read a file whole; [`judge_graph`], [`judge_files`] and
 //! [`judge_offsets`] go through the files in pieces, and so do [`open_graph`], [`next_record`] and [`end_records`],
 //! record by record. Each promises that it is a step of a judgement (`Judged`): it goes on with a value whatever
 //! comes next, or it ends with a [`Status`] whatever would have come next, unless running out of memory or a fault
@@ -11,10 +11,11 @@
 //! A judgement takes the graph of a file from a function that reads all graph files (`Readings`); the grammar leaves
 //! exactly one such function.
 //!
-//! Public for `wg_jobs` alone are all items but [`Ending`], [`Input`] and [`Status`], which it hands on.
+//! Public for `wg_jobs` alone are all items but [`Ending`], [`Input`], [`Status`] and [`WeightsFault`], which it hands on.
 #![tactic(auto)]
 
 mod archive;
+mod claims;
 mod ending;
 mod judge;
 mod listed;
@@ -23,11 +24,12 @@ mod names;
 mod pairing;
 mod records;
 mod status;
+mod weights;
 
 pub use archive::{find_pages, lists_of_records, records_of_graph};
 pub use ending::Ending;
 pub use judge::{judge_files, judge_graph, judge_offsets};
-pub use loading::{load, load_graph, load_list, load_params};
+pub use loading::{load, load_certificate, load_graph, load_list, load_params, load_weights};
 pub use names::file_name;
 pub use records::{end_records, next_record, open_graph};
-pub use status::{Input, Status};
+pub use status::{Input, Status, WeightsFault};

@@ -1,19 +1,23 @@
-//! The files of an archive, each read whole and judged, and an arc list.
+//! Files that are read whole and judged: those of an archive, arc lists, weights and certificates.
 ghost use Rattle.std.specs.Prelude.{◌≡◌, ◌≤◌, ℕ, List, Option, IsSome, Some};
 ghost use Rattle.wg_params.specs.declared.limits.TheConstants.{MOST_PAGES};
-ghost use Rattle.wg_readings.specs.Loading.{LoadsBy, LoadsGraphBy, LoadsListBy, LoadsParamsBy};
+ghost use Rattle.wg_readings.specs.Loading.{LoadsBy, LoadsCertificateBy, LoadsGraphBy, LoadsListBy, LoadsParamsBy};
+ghost use Rattle.wg_readings.specs.Loading.{LoadsWeightsBy};
 ghost use Rattle.wg_readings.specs.Names.{file_of, suffix_of};
 ghost use Rattle.wg_readings.specs.declared.status.Input.{Input};
 
 use crate::archive::{graph_of_records, parameters};
+use crate::claims::claim_of_text;
 use crate::ending::Ending;
 use crate::listed::graph_of_list;
 use crate::names::{file_name, suffix};
+use crate::weights::weights_of_text;
 use crate::{Input, Status};
 use std::alloc::Global;
-use wg_graph::Graph;
+use wg_graph::{Graph, List as Numbers};
 use wg_io::{Depot, List8, LoadError, read_whole};
 use wg_params::Params;
+use wg_rank::Certificate;
 use wg_words::Name;
 
 /// Reads a file of this name whole, which is an input of a job.
@@ -86,4 +90,37 @@ pub fn load_list<D: Depot>(
 {
     let bytes = load_file(alloc, depot, name.as_str(), Input::ArcList)?;
     graph_of_list(alloc, bytes.as_slice(), nodes)
+}
+
+/// Reads the weights of so many pages, where a file of them is named; without one, each page weighs the same. Beside the
+/// weights, 8 bytes each, it holds the bytes of the file, until it is read.
+pub fn load_weights<D: Depot>(
+    alloc: Global,
+    nodes: u64,
+    depot: &mut D,
+    name: &Option<Name>,
+) -> Result<Option<Numbers>, Ending>
+    ensures { LoadsWeightsBy ⟦<D as Depot>⟧ name.now nodes depot.old depot.new result }
+{
+    let Some(name) = name else {
+        return Ok(None);
+    };
+    let bytes = load_file(alloc, depot, name.as_str(), Input::Weights)?;
+    let weights = weights_of_text(alloc, bytes.as_slice(), nodes)?;
+    Ok(Some(weights))
+}
+
+/// Reads what a certificate claims of so many pages. Beside its bounds, 16 bytes each, it holds the bytes of the file,
+/// until it is read.
+pub fn load_certificate<D: Depot>(
+    alloc: Global,
+    nodes: u64,
+    depot: &mut D,
+    name: &Name,
+) -> Result<Certificate, Ending>
+    requires { nodes ≤ MOST_PAGES }
+    ensures { LoadsCertificateBy ⟦<D as Depot>⟧ name.now nodes depot.old depot.new result }
+{
+    let bytes = load_file(alloc, depot, name.as_str(), Input::Certificate)?;
+    claim_of_text(alloc, bytes.as_slice(), nodes)
 }

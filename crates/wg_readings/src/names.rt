@@ -8,7 +8,7 @@ use std::alloc::Global;
 use wg_io::{GRAPH, OFFSETS, PROPERTIES};
 use wg_words::Name;
 
-/// What the name of one of an archive's files ends in; an arc list is no such file.
+/// What the name of one of an archive's files ends in; other inputs are no such file.
 pub fn suffix(input: Input) -> Option<&'static str>
     ensures { option_map (λ s. s.now) result ≡ suffix_of input }
 {
@@ -16,7 +16,7 @@ pub fn suffix(input: Input) -> Option<&'static str>
         Input::Properties => Some(PROPERTIES),
         Input::Graph => Some(GRAPH),
         Input::Offsets => Some(OFFSETS),
-        Input::ArcList => None,
+        Input::ArcList | Input::Weights | Input::Certificate => None,
     }
 }
 

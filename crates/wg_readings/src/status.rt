@@ -1,10 +1,11 @@
 ghost use Rattle.std.specs.Prelude.{◌≡◌};
 ghost use Rattle.wg_readings.specs.Codes.{code_of};
 
-use wg_arcs::ArcsKind;
+use wg_arcs::{ArcsKind, NumbersFault};
 use wg_grammar::ArchiveFault;
 use wg_io::Output;
 use wg_properties::PropFault;
+use wg_rank::CertFault;
 
 /// A file that a job reads.
 #[derive(Clone, Copy, Debug, PartialEq, Eq)]
@@ -13,6 +14,18 @@ pub enum Input {
     Graph,
     Offsets,
     ArcList,
+    /// A weight of teleport for each page.
+    Weights,
+    Certificate,
+}
+
+/// What is wrong with the weights of pages.
+#[derive(Clone, Copy, Debug, PartialEq, Eq)]
+pub enum WeightsFault {
+    /// They are not one number for each page, each within the limit.
+    Numbers(NumbersFault),
+    /// There are pages, and each weight is 0.
+    Zero,
 }
 
 /// How a run ended.
@@ -34,6 +47,8 @@ pub enum Status {
     NoPage(u64),
     /// The file is longer than a file may be.
     OverLimit(Input),
+    BadWeights(WeightsFault),
+    BadCertificate(CertFault),
 }
 
 impl Status {
@@ -53,6 +68,8 @@ impl Status {
             Status::BadArchive(_) => 9,
             Status::NoPage(_) => 10,
             Status::OverLimit(_) => 11,
+            Status::BadWeights(_) => 12,
+            Status::BadCertificate(_) => 16,
         }
     }
 }

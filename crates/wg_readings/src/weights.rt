@@ -1,0 +1,50 @@
+//! The weights of pages.
+ghost use Rattle.std.specs.Prelude.{◌≡◌, ◌⊎◌, nat_eq, IfErr, IfOk, length};
+ghost use Rattle.wg_rank.specs.Sum.{sum_below};
+ghost use Rattle.wg_rank.specs.Intervals.{by_page};
+ghost use Rattle.wg_rank.specs.Weights.{AreWeights};
+ghost use Rattle.wg_readings.specs.Answers.{Steps};
+ghost use Rattle.wg_readings.specs.Judged.{with_weights};
+ghost use Rattle.wg_readings.specs.Loading.{IsBadWeights};
+
+use crate::ending::Ending;
+use crate::{Status, WeightsFault};
+use std::alloc::Global;
+use wg_arcs::{NumbersError, read_numbers};
+use wg_graph::List;
+use wg_rank::MOST_WEIGHT;
+
+// Whether no weight is above 0.
+fn all_zero(weights: &[u64]) -> bool
+    ensures { result ≡ nat_eq (sum_below (length weights.now) (by_page weights.now)) 0 }
+{
+    for weight in weights {
+        if *weight > 0 {
+            return false;
+        }
+    }
+    true
+}
+
+/// The weights of so many pages that a text gives.
+pub fn weights_of_text(alloc: Global, bytes: &[u8], nodes: u64) -> Result<List, Ending>
+    ensures steps { Steps (with_weights nodes bytes.now) result }
+    ensures only { IfErr result (λ e. (e.status ≡ Status.Memory) ⊎ IsBadWeights e.status) }
+    ensures weights { IfOk result (AreWeights nodes) }
+{
+    let weights = match read_numbers(alloc, bytes, nodes, MOST_WEIGHT + 1) {
+        Ok(weights) => weights,
+        Err(NumbersError::Fault(fault)) => return Err(bad_weights(WeightsFault::Numbers(fault))),
+        Err(NumbersError::Memory) => return Err(Ending::of(Status::Memory)),
+    };
+    if nodes > 0 && all_zero(weights.as_slice()) {
+        return Err(bad_weights(WeightsFault::Zero));
+    }
+    Ok(weights)
+}
+
+fn bad_weights(fault: WeightsFault) -> Ending
+    ensures { result ≡ record { status = Status.BadWeights fault; arcs = 0 } }
+{
+    Ending::of(Status::BadWeights(fault))
+}
