@@ -17,12 +17,12 @@ use Rattle.wg_words.specs.declared.jobs.Job.TheVariants.{Build}
 use Rattle.wg_arcs.specs.declared.fault.ArcsKind.{ArcsKind}
 use Rattle.wg_words.specs.declared.layout.Layout.{Layout}
 use Rattle.wg_jobs.specs.Judged.{builds, greedy_line, written_by}
-use Rattle.wg_readings.specs.Judged.{Judged, built, files_of, output_of, status_of}
+use Rattle.wg_readings.specs.Judged.{Judged, Written, an_archive, a_certificate, files_of, output_of, status_of}
 use Rattle.wg_readings.specs.Loading.{LoadsList}
 use Rattle.wg_readings.specs.Promised.{ArePromised, arcs_in}
 use Rattle.wg_jobs.specs.Names.{can_end, has_output, input_name, output_name, reads_again, writes_files}
 use Rattle.wg_readings.specs.Names.{IsOfInput, archive_named, held_by, list_named}
-use Rattle.wg_jobs.specs.Performs.{BuildsArchive, Outside, Performs, judged_on, outside}
+use Rattle.wg_jobs.specs.Performs.{BuildsArchive, Outside, Performs, Produces, judged_on, outside}
 use Rattle.wg_readings.specs.Readings.{Readings}
 use Rattle.wg_jobs.specs.Written.{ArchiveFiles, AreWhole, HasFiles, OthersStay, FilesAfter, IsStopped, archive_at, greedy_archive, params_for}
 use Rattle.wg_readings.specs.Judged.{Archive}
@@ -82,20 +82,31 @@ no_missing (Ok done) i only is = let no : Done ≡ Missing i = is in cc
 no_missing (Err e) i (inl fault) is = let no : WriteFault fault.0 ≡ Missing i = sym fault.1 ∙ is in cc
 no_missing (Err e) i (inr want) is = let no : Memory ≡ Missing i = sym want ∙ is in cc
 
-built_answers : (j : Judged) (a : Archive) (out : List ℕ) (r : Result (Unit {0}) Ending) → j ≡ built a out → IfErr r (λ e. IsStopped e.status) → Answers j (status_in r)
-built_answers j a out (Ok done) is only = inl (sym (ap status_of is))
-built_answers j a out (Err e) is (inl fault) = subst (λ (s : Status). Answers j s) (sym fault.1) (inr tt)
-built_answers j a out (Err e) is (inr want) = subst (λ (s : Status). Answers j s) (sym want) (inr tt)
+built_answers : (j : Judged) (r : Result (Unit {0}) Ending) → status_of j ≡ Done → IfErr r (λ e. IsStopped e.status) → Answers j (status_in r)
+built_answers j (Ok done) is only = inl (sym is)
+built_answers j (Err e) is (inl fault) = subst (λ (s : Status). Answers j s) (sym fault.1) (inr tt)
+built_answers j (Err e) is (inr want) = subst (λ (s : Status). Answers j s) (sym want) (inr tt)
 
-pub has_each : (job : Job) (base : List ℕ) → archive_named base ≡ output_name job → (o : Output) → IsTrue (has_output job o)
-has_each job base names output.Out = refl
-has_each job base names output.Properties = ap (λ (n : Output → Option (List ℕ)). is_some (n output.Properties)) (sym names)
-has_each job base names output.Graph = ap (λ (n : Output → Option (List ℕ)). is_some (n output.Graph)) (sym names)
-has_each job base names output.Offsets = ap (λ (n : Output → Option (List ℕ)). is_some (n output.Offsets)) (sym names)
+rose_there : (name : Option (List ℕ)) (old new : List ℕ → Counts) → IncreasedAt (λ c. c.write_faults) name old new → IsTrue (is_some name)
+rose_there None old new rose = absurd rose
+rose_there (Some name) old new rose = refl
 
-pub built_possible : (job : Job) (r : Result (Unit {0}) Ending) → ((o : Output) → IsTrue (has_output job o)) → IfErr r (λ e. IsStopped e.status) → IsTrue (can_end job (status_in r))
+-- it has each output that was at fault
+module _ (job : Job) (names : Output → Option (List ℕ)) (named : names ≡ output_name job) (inputs : Input → Option (List ℕ)) (old new : List ℕ → Counts) (faults faults' : ℕ) (s : Status)
+    (cause : HasCause inputs names old new faults faults' s) where
+  has_file : (o : Output) → IncreasedAt (λ c. c.write_faults) (names o) old new → IsTrue (is_some (output_name job o))
+  has_file o rose = subst (λ (n : Output → Option (List ℕ)). IsTrue (is_some (n o))) named (rose_there (names o) old new rose)
+
+  pub has_each : (o : Output) → s ≡ WriteFault o → IsTrue (has_output job o)
+  has_each output.Out is = refl
+  has_each output.Properties is = has_file output.Properties (cause.write_fault output.Properties (λ same. cc) is)
+  has_each output.Graph is = has_file output.Graph (cause.write_fault output.Graph (λ same. cc) is)
+  has_each output.Offsets is = has_file output.Offsets (cause.write_fault output.Offsets (λ same. cc) is)
+  has_each output.Certificate is = has_file output.Certificate (cause.write_fault output.Certificate (λ same. cc) is)
+
+pub built_possible : (job : Job) (r : Result (Unit {0}) Ending) → ((o : Output) → status_in r ≡ WriteFault o → IsTrue (has_output job o)) → IfErr r (λ e. IsStopped e.status) → IsTrue (can_end job (status_in r))
 built_possible job (Ok done) has only = refl
-built_possible job (Err e) has (inl fault) = subst (λ (s : Status). IsTrue (can_end job s)) (sym fault.1) (has fault.0)
+built_possible job (Err e) has (inl fault) = subst (λ (s : Status). IsTrue (can_end job s)) (sym fault.1) (has fault.0 fault.1)
 built_possible job (Err e) has (inr want) = subst (λ (s : Status). IsTrue (can_end job s)) (sym want) refl
 
 built_promised : (held : Input → Option (List ℕ)) (r : Result (Unit {0}) Ending) → IfErr r (λ e. IsStopped e.status) → ArePromised held (status_in r) (arcs_in r)
@@ -103,20 +114,51 @@ built_promised held (Ok done) only = tt
 built_promised held (Err e) (inl fault) = subst (λ (s : Status). ArePromised held s e.arcs) (sym fault.1) tt
 built_promised held (Err e) (inr want) = subst (λ (s : Status). ArePromised held s e.arcs) (sym want) tt
 
-cause_since : (inputs : Input → Option (List ℕ)) (base : List ℕ) (old mid new : List ℕ → Counts) (faults faults' : ℕ) (r : Result (Unit {0}) Ending) → IfErr r (λ e. IsStopped e.status)
-    → NonDecreasing old mid → HasCause inputs (archive_named base) mid new faults faults' (status_in r) → HasCause inputs (archive_named base) old new faults faults' (status_in r)
-cause_since inputs base old mid new faults faults' r only later cause = record {
+cause_since : (inputs : Input → Option (List ℕ)) (names : Output → Option (List ℕ)) (old mid new : List ℕ → Counts) (faults faults' : ℕ) (r : Result (Unit {0}) Ending) → IfErr r (λ e. IsStopped e.status)
+    → NonDecreasing old mid → HasCause inputs names mid new faults faults' (status_in r) → HasCause inputs names old new faults faults' (status_in r)
+cause_since inputs names old mid new faults faults' r only later cause = record {
   read_fault = λ i is. absurd (no_read r i only is);
   missing = λ i is. absurd (no_missing r i only is);
-  write_fault = λ o other is. rose_since (archive_named base o) old mid new later (cause.write_fault o other is);
+  write_fault = λ o other is. rose_since (names o) old mid new later (cause.write_fault o other is);
   out_fault = cause.out_fault;
 }
 
 -- what holds of a job that reads once holds of one that may read again
-files_again : (names : Output → Option (List ℕ)) (again : Bool) (a : Archive) (old new : Files) (s : Status) → HasFiles names false (Some a) old new s → HasFiles names again (Some a) old new s
-files_again names again a old new s h = (h.0, left_by again a (archive_at names old) (archive_at names new) s h.1)
+files_again : (names : Output → Option (List ℕ)) (again : Bool) (what : Written) (old new : Files) (s : Status) → HasFiles names false (Some what) old new s → HasFiles names again (Some what) old new s
+files_again names again (an_archive a) old new s h = (h.0, left_by again a (archive_at names old) (archive_at names new) s h.1)
+files_again names again (a_certificate text) old new s h = h
 
--- all was judged, and the archive of this graph is written
+-- all was judged, and what the job writes is written, and its text printed
+pub produced : (job : Job) (td to : Bool) (before after : Outside) (files : Files) (counts : List ℕ → Counts) (names : Output → Option (List ℕ)) (what : Written) (text : Readings → List ℕ)
+    (r : Result (Unit {0}) Ending)
+    → writes_files job ≡ true
+    → names ≡ output_name job
+    → (IsTrue td → (q : Readings) → (status_of (judged_on q job before.files) ≡ Done) × (output_of (judged_on q job before.files) ≡ text q) × (files_of (judged_on q job before.files) ≡ Some what))
+    → files ≡ before.files
+    → NonDecreasing before.counts counts
+    → Produces names what text td to (outside files counts before.taken before.faults) after r
+    → Performs job td to before after (status_in r) (arcs_in r)
+produced job td to before after files counts names what text r writes named is same later h = record {
+  answers = λ t q. built_answers (judged_on q job before.files) r (is t q).0 h.only;
+  possible = built_possible job r (has_each job names named _ _ _ _ _ (status_in r) (h.causes (input_name job))) h.only;
+  causes = subst (λ (n : Output → Option (List ℕ)). HasCause (input_name job) n before.counts after.counts before.faults after.faults (status_in r)) named
+      (cause_since (input_name job) names before.counts counts after.counts before.faults after.faults r h.only later (h.causes (input_name job)));
+  reached = λ t q i fault. absurd (no_read r i h.only fault);
+  needed = λ t q o fault. (is t q).0;
+  output = λ t o q. subst (λ (due : List ℕ). HasOutput due before.taken after.taken (status_in r)) (sym (is t q).1) (h.output t o q);
+  silent = h.silent;
+  files = λ t q.
+      let due : written_by q job (held_by (input_name job) before.files) ≡ Some what =
+      ap (λ (b : Bool). if b then files_of (judged_on q job before.files) else None) writes ∙ (is t q).2 in
+      subst (λ (f : Files). HasFiles (output_name job) (reads_again job) (written_by q job (held_by (input_name job) before.files)) f after.files (status_in r)) same
+      (subst (λ (n : Output → Option (List ℕ)). HasFiles n (reads_again job) (written_by q job (held_by (input_name job) before.files)) files after.files (status_in r)) named
+      (subst (λ (w : Option Written). HasFiles names (reads_again job) w files after.files (status_in r)) (sym due) (files_again names (reads_again job) what files after.files (status_in r) (h.files t))));
+  same = λ none. absurd (let no : true ≡ false = sym writes ∙ none in cc);
+  later = none_falls-trans before.counts counts after.counts later h.later;
+  promised = λ t. built_promised (held_by (input_name job) before.files) r h.only;
+}
+
+-- the same of the archive of a graph
 pub written : (job : Job) (td to : Bool) (before after : Outside) (files : Files) (counts : List ℕ → Counts) (l : Layout) (g : Digraph) (base : List ℕ) (r : Result (Unit {0}) Ending)
     → writes_files job ≡ true
     → archive_named base ≡ output_name job
@@ -125,24 +167,9 @@ pub written : (job : Job) (td to : Bool) (before after : Outside) (files : Files
     → NonDecreasing before.counts counts
     → BuildsArchive l g base td to (outside files counts before.taken before.faults) after r
     → Performs job td to before after (status_in r) (arcs_in r)
-written job td to before after files counts l g base r writes names is same later h = record {
-  answers = λ t q. built_answers (judged_on q job before.files) (greedy_archive (params_for l g) g) (greedy_line (params_for l g) g) r (is t q) h.only;
-  possible = built_possible job r (has_each job base names) h.only;
-  causes = subst (λ (n : Output → Option (List ℕ)). HasCause (input_name job) n before.counts after.counts before.faults after.faults (status_in r)) names
-      (cause_since (input_name job) base before.counts counts after.counts before.faults after.faults r h.only later (h.causes (input_name job)));
-  reached = λ t q i fault. absurd (no_read r i h.only fault);
-  needed = λ t q o fault. ap status_of (is t q);
-  output = λ t o q. subst (λ (due : List ℕ). HasOutput due before.taken after.taken (status_in r)) (sym (ap output_of (is t q))) (h.output t o);
-  files = λ t q.
-      let due : written_by q job (held_by (input_name job) before.files) ≡ Some (greedy_archive (params_for l g) g) =
-      ap (λ (b : Bool). if b then files_of (judged_on q job before.files) else None) writes ∙ ap files_of (is t q) in
-      subst (λ (f : Files). HasFiles (output_name job) (reads_again job) (written_by q job (held_by (input_name job) before.files)) f after.files (status_in r)) same
-      (subst (λ (n : Output → Option (List ℕ)). HasFiles n (reads_again job) (written_by q job (held_by (input_name job) before.files)) files after.files (status_in r)) names
-      (subst (λ (a : Option Archive). HasFiles (archive_named base) (reads_again job) a files after.files (status_in r)) (sym due) (files_again (archive_named base) (reads_again job) _ files after.files (status_in r) (h.files t))));
-  same = λ none. absurd (let no : true ≡ false = sym writes ∙ none in cc);
-  later = none_falls-trans before.counts counts after.counts later h.later;
-  promised = λ t. built_promised (held_by (input_name job) before.files) r h.only;
-}
+written job td to before after files counts l g base r writes names is same later h =
+    produced job td to before after files counts (archive_named base) (an_archive (greedy_archive (params_for l g) g)) (λ q. greedy_line (params_for l g) g) r writes names
+    (λ t q. (ap status_of (is t q), ap output_of (is t q), ap files_of (is t q))) same later h
 
 -- ---- an arc list that was not read
 pub list_unread : (arcs base : List ℕ) (n : ℕ) (l : Layout) (td to : Bool) (before after : Outside) (e : Ending) → after.taken ≡ before.taken → LoadsList arcs n td before.files after.files before.counts after.counts (Err e)

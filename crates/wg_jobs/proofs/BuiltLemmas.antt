@@ -31,8 +31,8 @@ use Rattle.wg_words.proofs.LayoutLemmas.{layout_for_any}
 use Rattle.wg_words.specs.declared.jobs.Job.TheVariants.{Check, Arcs}
 use Rattle.wg_jobs.specs.Built.{holding, IsAcceptedAs, BuiltAreAccepted, BuildsAreAccepted}
 use Rattle.wg_jobs.specs.Judged.{builds, judged, number_lines, ok_line, successors_lines}
-use Rattle.wg_readings.specs.Judged.{Judged, refused, accepted, built, unless_bad_list, unless_bad_properties, with_archive, with_digraph, with_file, with_graph, with_lengths, with_list, with_offsets, with_pages, with_parameters, with_places, with_records}
-use Rattle.wg_jobs.specs.Ranked.{ranking_text}
+use Rattle.wg_readings.specs.Judged.{Judged, refused, accepted, built, certified, unless_bad_list, unless_bad_properties, with_archive, with_digraph, with_file, with_graph, with_lengths, with_list, with_offsets, with_pages, with_parameters, with_places, with_records}
+use Rattle.wg_jobs.specs.Ranked.{bounds_after, ranking_text}
 use Rattle.wg_readings.specs.Readings.{Readings}
 use Rattle.wg_jobs.specs.Written.{greedy_archive, params_for}
 use Rattle.wg_readings.specs.Judged.{Archive}
@@ -101,7 +101,7 @@ module _ (r : Readings) (p : Parameters) (g : Digraph) (limits : IsWithinLimits 
     show = λ pages.
         archive_goes_on (λ q a. with_pages q.nodes pages (λ all. accepted (successors_lines a.graph pages)))
         ∙ ap (λ (n : ℕ). with_pages n pages (λ all. accepted (successors_lines g.lists pages))) nodes;
-    rank = λ rounds damping top. lists_go_on (λ h. accepted (ranking_text r h rounds damping top));
+    rank = λ rounds damping top. lists_go_on (λ h. accepted (ranking_text r (bounds_after h None damping rounds) top));
   }
 
 pub built_accepted : (r : Readings) → BuiltAreAccepted r
@@ -114,6 +114,7 @@ abbrev built_in : Judged → Option (Archive × List ℕ)
 built_in (refused status) = None
 built_in (accepted out) = None
 built_in (built a out) = Some (a, out)
+built_in (certified text out) = None
 
 none_built : (status : Status) (a : Archive) (out : List ℕ) → refused status ≡ built a out → ⊥
 none_built status a out is = none-some (a, out) (ap built_in is)

@@ -83,6 +83,7 @@ stays base name old new apart others = others name not_one
     not_one output.Properties is = apart.properties (let same : Some (properties_name base) ≡ Some name = is in cc)
     not_one output.Graph is = apart.graph (let same : Some (graph_name base) ≡ Some name = is in cc)
     not_one output.Offsets is = apart.offsets (let same : Some (offsets_name base) ≡ Some name = is in cc)
+    not_one output.Certificate is = cc is
     not_one output.Out is = cc is
 
 -- the two files are among the archive's

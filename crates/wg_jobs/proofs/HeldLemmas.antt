@@ -64,7 +64,7 @@ read_within text p e = at (first_continued (lines_of text)) e
 
 -- ---- from a job that was done back to the graph
 
-file_read : (i : Input) (o : Option (List ℕ)) (next : List ℕ → Judged) → status_of (with_file i o next) ≡ Done → (bytes : List ℕ) × (o ≡ Some bytes) × ((n : List ℕ → Judged) → with_file i o n ≡ n bytes)
+pub file_read : (i : Input) (o : Option (List ℕ)) (next : List ℕ → Judged) → status_of (with_file i o next) ≡ Done → (bytes : List ℕ) × (o ≡ Some bytes) × ((n : List ℕ → Judged) → with_file i o n ≡ n bytes)
 file_read i None next is = absurd (let no : Missing i ≡ Done = is in cc)
 file_read i (Some bytes) next is =
     elim (cases_Bool (nat_lt MOST_BYTES (length bytes))) [

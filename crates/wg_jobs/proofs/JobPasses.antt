@@ -4,7 +4,7 @@ use Rattle.std.specs.Bool.{IsTrue}
 use Rattle.std.specs.Result.{IfErr}
 use Rattle.wg_io.specs.Outside.{Files, Counts, NonDecreasing}
 use Rattle.wg_io.specs.declared.output.Output.{Output}
-use Rattle.wg_io.specs.declared.output.Output.TheVariants.{Out}
+use Rattle.wg_io.specs.declared.output.Output.TheVariants.{Certificate, Out}
 use Rattle.wg_io.proofs.FilesLemmas.{none_falls-trans}
 use Rattle.wg_params.specs.Parameters.{Parameters}
 use Rattle.wg_grammar.specs.Archive.{Accepted}
@@ -25,7 +25,7 @@ use Rattle.wg_readings.specs.declared.ending.Ending.{Ending}
 use Rattle.wg_readings.specs.declared.status.Input.{Input}
 use Rattle.wg_readings.specs.declared.status.Input.TheVariants.{Graph}
 use Rattle.wg_readings.specs.declared.status.Status.{Status}
-use Rattle.wg_readings.specs.declared.status.Status.TheVariants.{Done, Usage, Memory, ReadFault, WriteFault, Missing, BadArcs, BadProperties, BadArchive, NoPage, OverLimit}
+use Rattle.wg_readings.specs.declared.status.Status.TheVariants.{Done, Usage, Memory, ReadFault, WriteFault, Missing, BadArcs, BadProperties, BadArchive, NoPage, OverLimit, BadWeights, BadCertificate}
 use Rattle.wg_jobs.proofs.JobSteps.{ComesTo, Hold, bad_possible, judges_here, reaches}
 use Rattle.wg_readings.proofs.PassLemmas.{graph_goes}
 use Rattle.wg_jobs.proofs.PerformsLemmas.{files_same, unread_possible}
@@ -45,6 +45,8 @@ hindered_output due old new (BadProperties f) h put = absurd h
 hindered_output due old new (BadArchive f) h put = absurd h
 hindered_output due old new (NoPage page) h put = absurd h
 hindered_output due old new (OverLimit i) h put = absurd h
+hindered_output due old new (BadWeights f) h put = absurd h
+hindered_output due old new (BadCertificate f) h put = absurd h
 
 output_up_to : (due old new : List ℕ) (r : Result (Unit {0}) Ending) → IfErr r (λ e. IsHindrance e.status) → PutsUpTo due old new r → HasOutput due old new (status_in r)
 output_up_to due old new (Ok done) hindered put = put
@@ -62,6 +64,8 @@ hindered_promised held (BadProperties f) n h = tt
 hindered_promised held (BadArchive f) n h = absurd h
 hindered_promised held (NoPage page) n h = tt
 hindered_promised held (OverLimit i) n h = tt
+hindered_promised held (BadWeights f) n h = tt
+hindered_promised held (BadCertificate f) n h = tt
 
 promised_in : (held : Input → Option (List ℕ)) (r : Result (Unit {0}) Ending) → IfErr r (λ e. IsHindrance e.status) → ArePromised held (status_in r) (arcs_in r)
 promised_in held (Ok done) h = tt
@@ -144,6 +148,7 @@ printed_again base p print job td to before mid after read files counts r none n
           subst (λ (due : List ℕ). HasOutput due before.taken after.taken (status_in r)) (sym (ap output_of (a.2 q)))
           (subst (λ (old : List ℕ). HasOutput (print a.0) old after.taken (status_in r)) silent
           (output_up_to (print a.0) mid.taken after.taken r (h.hindered t a.0 a.1) (h.puts t o a.0 a.1)));
+      silent = λ is. absurd (h.causes.write_fault Certificate (λ same. cc) is);
       files = λ t q. files_same job none before after (status_in r) (h.same ∙ j.reads.same ∙ k.same) q;
       same = λ is. h.same ∙ j.reads.same ∙ k.same;
       later = none_falls-trans _ _ _ (none_falls-trans _ _ _ k.later j.reads.later) h.later;

@@ -82,11 +82,13 @@ pub hold_all : (names : Input → Option (List ℕ)) (files : Files) (read : Lis
 hold_all names files [] = tt
 hold_all names files (i ∷ read) = (refl, hold_all names files read)
 
-gone : (i : Input) (held : Input → Option (List ℕ)) → without i held i ≡ None
+pub gone : (i : Input) (held : Input → Option (List ℕ)) → without i held i ≡ None
 gone input.Properties held = refl
 gone input.Graph held = refl
 gone input.Offsets held = refl
 gone input.ArcList held = refl
+gone input.Weights held = refl
+gone input.Certificate held = refl
 
 -- A job has read these inputs, and goes on by the rest of its judgement, whatever its other inputs hold. Nothing has changed.
 pub record ComesTo (job : Job) (p : Parameters) (td : Bool) (before : Outside) (files : Files) (counts : List ℕ → Counts) (read : List Input) (rest : Readings → (Input → Option (List ℕ)) → Judged) : Type 0 where

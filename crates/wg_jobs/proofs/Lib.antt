@@ -2,6 +2,12 @@ pub mod PerformsLemmas
 pub mod PrintedPass
 pub mod JobPasses
 pub mod GraphJobs
+pub mod NamedSteps
+pub mod WeightedJobs
+pub mod VerifyLemmas
+pub mod VerifyJobs
+pub mod ClaimLemmas
+pub mod VerifiedLemmas
 pub mod JobSteps
 pub mod CheckLemmas
 pub mod PrintedLines
@@ -13,6 +19,9 @@ pub mod BuiltLemmas
 pub mod ConversionLemmas
 pub mod HeldLemmas
 pub mod NumberLemmas
+pub mod WeightsLemmas
 pub mod RankLemmas
+pub mod RankJobs
+pub mod CertifyLemmas
 pub mod CopyingLemmas
 pub mod RewrittenLemmas

@@ -1,5 +1,5 @@
 -- How a job is shown to have been done, or to have ended.
-use Rattle.std.proofs.Common.{◌≡◌, ◌⊎◌, inl, inr, ℕ, Bool, true, false, if◌then◌else◌, List, ◌++◌, take, refl, sym, ◌∙◌, ap, subst, Option, Some, None, Result, Ok, Err}
+use Rattle.std.proofs.Common.{◌≡◌, ◌≢◌, ◌⊎◌, inl, inr, ℕ, Bool, true, false, if◌then◌else◌, List, ◌++◌, take, refl, sym, ◌∙◌, ap, subst, Option, Some, None, Result, Ok, Err}
 use Rattle.std.specs.Bool.{IsTrue}
 use Rattle.std.specs.Result.{IfErr}
 use Rattle.std.proofs.lemmas.List.{append-nil}
@@ -7,7 +7,7 @@ use Rattle.std.specs.FinMap as map
 use Rattle.wg_io.specs.Outside.{Files, Counts, NonDecreasing, Increased}
 use Rattle.wg_io.specs.Puts.{Puts}
 use Rattle.wg_io.specs.declared.output.Output.{Output}
-use Rattle.wg_io.specs.declared.output.Output.TheVariants.{Out, Properties, Graph, Offsets}
+use Rattle.wg_io.specs.declared.output.Output.TheVariants.{Out, Properties, Graph, Offsets, Certificate}
 use Rattle.wg_words.specs.declared.jobs.Job.{Job}
 use Rattle.wg_jobs.specs.Reached.{Reaches}
 use Rattle.wg_readings.specs.Answers.{Answers, HasOutput, IsUnput, status_in}
@@ -19,13 +19,13 @@ use Rattle.wg_jobs.specs.Names.{can_end, has_input, input_name, output_name, rea
 use Rattle.wg_readings.specs.Names.{held_by, no_outputs, IsOfInput}
 use Rattle.wg_jobs.specs.Performs.{Outside, Performs, judged_on}
 use Rattle.wg_readings.specs.Readings.{Readings}
-use Rattle.wg_jobs.specs.Written.{ArchiveFiles, FilesAfter, FilesLeft, HasFiles, archive_at}
-use Rattle.wg_readings.specs.Judged.{Archive}
+use Rattle.wg_jobs.specs.Written.{ArchiveFiles, CertificateAfter, FilesAfter, FilesLeft, HasFiles, archive_at, content_of}
+use Rattle.wg_readings.specs.Judged.{Archive, Written, an_archive, a_certificate}
 use Rattle.wg_readings.specs.declared.ending.Ending.{Ending}
 use Rattle.wg_readings.specs.declared.status.Input.{Input}
 use Rattle.wg_readings.specs.declared.status.Input.TheVariants as input
 use Rattle.wg_readings.specs.declared.status.Status.{Status}
-use Rattle.wg_readings.specs.declared.status.Status.TheVariants.{Done, Usage, Memory, ReadFault, WriteFault, Missing, BadArcs, BadProperties, BadArchive, NoPage, OverLimit}
+use Rattle.wg_readings.specs.declared.status.Status.TheVariants.{Done, Usage, Memory, ReadFault, WriteFault, Missing, BadArcs, BadProperties, BadArchive, NoPage, OverLimit, BadWeights, BadCertificate}
 use Rattle.wg_readings.proofs.Statuses.{cause_named, unput_cause}
 
 -- ---- what is said of a job is said of an equal one
@@ -43,7 +43,7 @@ written_none r job held none = ap (λ (b : Bool). if b then files_of (judged r j
 pub files_same : (job : Job) → writes_files job ≡ false → (before after : Outside) (s : Status) → after.files ≡ before.files → (r : Readings)
     → HasFiles (output_name job) (reads_again job) (written_by r job (held_by (input_name job) before.files)) before.files after.files s
 files_same job none before after s same r =
-    subst (λ (a : Option Archive). HasFiles (output_name job) (reads_again job) a before.files after.files s) (sym (written_none r job (held_by (input_name job) before.files) none)) same
+    subst (λ (a : Option Written). HasFiles (output_name job) (reads_again job) a before.files after.files s) (sym (written_none r job (held_by (input_name job) before.files) none)) same
 
 -- a status before any output
 abbrev pub IsStop : Status → Type 0
@@ -63,6 +63,8 @@ stop_output due old new (BadProperties f) stop same = same
 stop_output due old new (BadArchive f) stop same = same
 stop_output due old new (NoPage page) stop same = same
 stop_output due old new (OverLimit i) stop same = same
+stop_output due old new (BadWeights f) stop same = same
+stop_output due old new (BadCertificate f) stop same = same
 
 -- the files before any of them was touched
 kept_after : (a : Archive) (old new : ArchiveFiles) (s : Status) → IsStop s → new ≡ old → FilesAfter a old new s
@@ -77,6 +79,8 @@ kept_after a old new (BadProperties f) stop same = same
 kept_after a old new (BadArchive f) stop same = same
 kept_after a old new (NoPage page) stop same = same
 kept_after a old new (OverLimit i) stop same = same
+kept_after a old new (BadWeights f) stop same = same
+kept_after a old new (BadCertificate f) stop same = same
 
 -- what stands at an end that is not a read fault while the archive was written
 pub left_by : (again : Bool) (a : Archive) (old new : ArchiveFiles) (s : Status) → FilesAfter a old new s → FilesLeft again a old new s
@@ -85,6 +89,8 @@ left_by true a old new (ReadFault input.Graph) h = inl h
 left_by true a old new (ReadFault input.Properties) h = h
 left_by true a old new (ReadFault input.Offsets) h = h
 left_by true a old new (ReadFault input.ArcList) h = h
+left_by true a old new (ReadFault input.Weights) h = h
+left_by true a old new (ReadFault input.Certificate) h = h
 left_by true a old new Done h = h
 left_by true a old new Usage h = h
 left_by true a old new Memory h = h
@@ -95,10 +101,30 @@ left_by true a old new (BadProperties f) h = h
 left_by true a old new (BadArchive f) h = h
 left_by true a old new (NoPage page) h = h
 left_by true a old new (OverLimit i) h = h
+left_by true a old new (BadWeights f) h = h
+left_by true a old new (BadCertificate f) h = h
 
-files_kept : (names : Output → Option (List ℕ)) (again : Bool) (a : Option Archive) (old new : Files) (s : Status) → IsStop s → new ≡ old → HasFiles names again a old new s
+-- a certificate before it was touched
+certificate_kept : (text : List ℕ) (old new : Option (List ℕ)) (s : Status) → IsStop s → new ≡ old → CertificateAfter text old new s
+certificate_kept text old new Done stop same = absurd stop
+certificate_kept text old new (WriteFault o) stop same = absurd stop
+certificate_kept text old new Memory stop same = inl same
+certificate_kept text old new (ReadFault i) stop same = same
+certificate_kept text old new Usage stop same = same
+certificate_kept text old new (Missing i) stop same = same
+certificate_kept text old new (BadArcs line kind) stop same = same
+certificate_kept text old new (BadProperties f) stop same = same
+certificate_kept text old new (BadArchive f) stop same = same
+certificate_kept text old new (NoPage page) stop same = same
+certificate_kept text old new (OverLimit i) stop same = same
+certificate_kept text old new (BadWeights f) stop same = same
+certificate_kept text old new (BadCertificate f) stop same = same
+
+files_kept : (names : Output → Option (List ℕ)) (again : Bool) (a : Option Written) (old new : Files) (s : Status) → IsStop s → new ≡ old → HasFiles names again a old new s
 files_kept names again None old new s stop same = same
-files_kept names again (Some a) old new s stop same = (λ name other. ap (λ (f : Files). map.get f name) same, left_by again a _ _ s (kept_after a _ _ s stop (ap (archive_at names) same)))
+files_kept names again (Some (a_certificate text)) old new s stop same =
+    (λ name other. ap (λ (f : Files). map.get f name) same, certificate_kept text _ _ s stop (ap (λ (f : Files). content_of f (names Certificate)) same))
+files_kept names again (Some (an_archive a)) old new s stop same = (λ name other. ap (λ (f : Files). map.get f name) same, left_by again a _ _ s (kept_after a _ _ s stop (ap (archive_at names) same)))
 
 no_fault : (s : Status) (o : Output) → IsStop s → s ≡ WriteFault o → ⊥
 no_fault s o stop is = subst IsStop is stop
@@ -120,6 +146,7 @@ stopped job td to before after s a stop silent same answers possible causes reac
   reached = reached;
   needed = λ t r o is. absurd (no_fault s o stop is);
   output = λ t o r. stop_output _ before.taken after.taken s stop silent;
+  silent = λ is. silent;
   files = λ t r. files_kept (output_name job) (reads_again job) _ before.files after.files s stop same;
   same = λ is. same;
   later = later;
@@ -149,6 +176,12 @@ put_promised held (Ok done) only = tt
 put_promised held (Err e) (inl fault) = subst (λ (s : Status). ArePromised held s e.arcs) (sym fault) tt
 put_promised held (Err e) (inr want) = subst (λ (s : Status). ArePromised held s e.arcs) (sym want) tt
 
+-- no file is at fault
+pub unput_written : (r : Result (Unit {0}) Ending) (o : Output) → IfErr r (λ e. IsUnput e.status) → o ≢ Out → status_in r ≡ WriteFault o → ⊥
+unput_written (Ok done) o only other is = let no : Done ≡ WriteFault o = is in cc
+unput_written (Err e) o (inl fault) other is = other (let same : WriteFault o ≡ WriteFault Out = sym is ∙ fault in cc)
+unput_written (Err e) o (inr want) other is = let no : Memory ≡ WriteFault o = sym want ∙ is in cc
+
 put_reads : (r : Result (Unit {0}) Ending) (i : Input) → IfErr r (λ e. IsUnput e.status) → status_in r ≡ ReadFault i → ⊥
 put_reads (Ok done) i only is = let no : Done ≡ ReadFault i = is in cc
 put_reads (Err e) i (inl fault) is = let no : WriteFault Out ≡ ReadFault i = sym fault ∙ is in cc
@@ -170,6 +203,7 @@ printed_by job td to before after text r none is same later puts only cause = re
   reached = λ t q i fault. absurd (put_reads r i only fault);
   needed = λ t q o fault. ap status_of (is t q);
   output = λ t o q. output_put _ (text q) _ _ r (sym (ap output_of (is t q))) (puts o q) only;
+  silent = λ is. absurd (unput_written r Certificate only (λ same. cc) is);
   files = λ t q. files_same job none before after (status_in r) same q;
   same = λ is. same;
   later = later;
@@ -236,6 +270,7 @@ module _ (inputs : Names) (outputs : Output → Option (List ℕ)) (old new : Li
   no_fault_in Properties cause = not_at (λ c. c.write_faults) (outputs Properties) old new none.writes (cause.write_fault Properties (λ same. cc) refl)
   no_fault_in Graph cause = not_at (λ c. c.write_faults) (outputs Graph) old new none.writes (cause.write_fault Graph (λ same. cc) refl)
   no_fault_in Offsets cause = not_at (λ c. c.write_faults) (outputs Offsets) old new none.writes (cause.write_fault Offsets (λ same. cc) refl)
+  no_fault_in Certificate cause = not_at (λ c. c.write_faults) (outputs Certificate) old new none.writes (cause.write_fault Certificate (λ same. cc) refl)
 
   -- memory alone comes in the place of the judgement
   pub unhindered : (j : Judged) (s : Status) → HasCause inputs outputs old new faults faults' s → Answers j s → (s ≡ status_of j) ⊎ (s ≡ Memory)
@@ -251,3 +286,5 @@ module _ (inputs : Names) (outputs : Output → Option (List ℕ)) (old new : Li
   unhindered j (BadArchive f) cause (inr hinders) = absurd hinders
   unhindered j (NoPage page) cause (inr hinders) = absurd hinders
   unhindered j (OverLimit i) cause (inr hinders) = absurd hinders
+  unhindered j (BadWeights f) cause (inr hinders) = absurd hinders
+  unhindered j (BadCertificate f) cause (inr hinders) = absurd hinders

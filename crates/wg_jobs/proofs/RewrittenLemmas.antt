@@ -6,7 +6,7 @@ use Rattle.std.proofs.lemmas.List.{append-nil}
 use Rattle.wg_io.specs.Outside.{Files, Counts, NonDecreasing, Increased}
 use Rattle.wg_io.specs.Puts.{Puts}
 use Rattle.wg_io.specs.declared.output.Output.{Output}
-use Rattle.wg_io.specs.declared.output.Output.TheVariants.{Out}
+use Rattle.wg_io.specs.declared.output.Output.TheVariants.{Certificate, Out}
 use Rattle.wg_io.proofs.FilesLemmas.{none_falls-trans}
 use Rattle.wg_params.specs.Parameters.{Parameters}
 use Rattle.wg_graph.specs.Digraph.{Digraph}
@@ -22,7 +22,7 @@ use Rattle.wg_jobs.specs.Reached.{Reaches}
 use Rattle.wg_readings.specs.Answers.{IsUnput, status_in}
 use Rattle.wg_jobs.specs.Copying.{Copies}
 use Rattle.wg_jobs.specs.Judged.{builds, greedy_line, ok_line, written_by}
-use Rattle.wg_readings.specs.Judged.{Judged, files_of, status_of}
+use Rattle.wg_readings.specs.Judged.{Judged, Written, an_archive, files_of, status_of}
 use Rattle.wg_readings.specs.Loading.{JudgesGraph}
 use Rattle.wg_jobs.specs.Names.{can_end, has_output, input_name}
 use Rattle.wg_readings.specs.Names.{archive_named, file_of, held_by}
@@ -31,7 +31,6 @@ use Rattle.wg_jobs.specs.Performs.{BuildsArchive, Outside, Performs, judged_on, 
 use Rattle.wg_readings.specs.Promised.{arcs_in}
 use Rattle.wg_readings.specs.Readings.{Readings}
 use Rattle.wg_jobs.specs.Written.{AreWhole, FilesLeft, HasFiles, IsStopped, OthersStay, archive_at, greedy_archive, params_for}
-use Rattle.wg_readings.specs.Judged.{Archive}
 use Rattle.wg_readings.specs.declared.ending.Ending.{Ending}
 use Rattle.wg_readings.specs.declared.status.Input.{Input}
 use Rattle.wg_readings.specs.declared.status.Input.TheVariants.{Properties, Graph}
@@ -39,7 +38,7 @@ use Rattle.wg_readings.specs.declared.status.Status.TheVariants.{ReadFault, Writ
 use Rattle.wg_jobs.proofs.BuildLemmas.{built_possible, has_each, no_read, put_stands, put_stopped, written}
 use Rattle.wg_jobs.proofs.JobPasses.{graph_known, hindered_output, hindered_promised, pass_possible, pass_read}
 use Rattle.wg_jobs.proofs.JobSteps.{ComesTo, reaches}
-use Rattle.wg_jobs.proofs.PerformsLemmas.{output_put}
+use Rattle.wg_jobs.proofs.PerformsLemmas.{output_put, unput_written}
 use Rattle.wg_readings.proofs.Statuses.{any_faults, unput_cause}
 use Rattle.wg_readings.proofs.UnderWay.{cause_on}
 
@@ -52,7 +51,7 @@ abbrev pub recodes : Layout → Parameters → Readings → (Input → Option (L
 recodes l p r h = graph_then r p (h Graph) (λ a. builds l (graph_of p a))
 
 -- it can end like this
-rewriting_possible : (job : Job) (n : ℕ) (e : Ending) → IsTrue (can_end job (ReadFault Graph)) → ((o : Output) → IsTrue (has_output job o)) → IsStopAt Graph n e ⊎ IsStopped e.status → IsTrue (can_end job e.status)
+rewriting_possible : (job : Job) (n : ℕ) (e : Ending) → IsTrue (can_end job (ReadFault Graph)) → ((o : Output) → e.status ≡ WriteFault o → IsTrue (has_output job o)) → IsStopAt Graph n e ⊎ IsStopped e.status → IsTrue (can_end job e.status)
 rewriting_possible job n e has each (inl stop) = pass_possible job n (Err e) has (inl stop)
 rewriting_possible job n e has each (inr stops) = built_possible job (Err e) each stops
 
@@ -93,16 +92,17 @@ module _ (input output : List ℕ) (l : Layout) (p : Parameters) (td to : Bool) 
         → Performs job td to before after e.status e.arcs
     rewriting_stopped e silent h left = record {
       answers = λ t q. let a = known t in inr (h.hindered t a.0 a.1);
-      possible = rewriting_possible job p.arcs e refl (has_each job output refl) h.only;
+      possible = rewriting_possible job p.arcs e refl (has_each job (archive_named output) refl _ _ _ _ _ e.status (h.causes (input_name job) refl)) h.only;
       causes = any_faults _ _ _ _ _ _ _ (cause_on (input_name job) (archive_named output) before.counts seen_counts after.counts 0 0 e.status later (h.causes (input_name job) refl));
       reached = λ t q i is. subst (λ (x : Input). Reaches q job held x) (rewriting_read p.arcs e i h.only is) (missing t q);
       needed = λ t q o is. let a = known t in ap status_of (a.2 q);
       output = λ t o q. let a = known t in hindered_output _ before.taken after.taken e.status (h.hindered t a.0 a.1) (0, silent ∙ sym (append-nil before.taken));
+      silent = λ is. silent;
       files = λ t q.
           let a = known t in
-          let due : written_by q job held ≡ Some (greedy_archive (params_for l (graph_of p a.0)) (graph_of p a.0)) = ap files_of (a.2 q) in
+          let due : written_by q job held ≡ Some (an_archive (greedy_archive (params_for l (graph_of p a.0)) (graph_of p a.0))) = ap files_of (a.2 q) in
           subst (λ (f : Files). HasFiles (archive_named output) true (written_by q job held) f after.files e.status) same
-          (subst (λ (x : Option Archive). HasFiles (archive_named output) true x seen after.files e.status) (sym due) (
+          (subst (λ (x : Option Written). HasFiles (archive_named output) true x seen after.files e.status) (sym due) (
             others t,
             subst (λ (m : Parameters). FilesLeft true (greedy_archive m (graph_of p a.0)) (archive_at (archive_named output) seen) (archive_at (archive_named output) after.files) e.status)
                 (made_is ∙ made_for l (held_by (file_of input) seen Graph) p a.0 a.1) (left t a.0 a.1),
@@ -127,9 +127,10 @@ module _ (input output : List ℕ) (l : Layout) (p : Parameters) (td to : Bool) 
         builds_here g is all = record {
           only = put_stopped r only;
           causes = λ inputs. unput_cause inputs (archive_named output) seen_counts after.counts before.faults after.faults r only cause;
-          output = λ t o.
+          output = λ t o q.
               let line : ok_line made bits ≡ greedy_line (params_for l g) g = ap (λ (n : ℕ). ok_line made n) (all t).1 ∙ ap (λ (m : Parameters). greedy_line m g) (is t) in
               output_put (greedy_line (params_for l g) g) (ok_line made bits) before.taken after.taken r line (puts o) only;
+          silent = λ is. absurd (unput_written r Certificate only (λ same. cc) is);
           files = λ t. (
             others t,
             put_stands (greedy_archive (params_for l g) g) (archive_at (archive_named output) seen) (archive_at (archive_named output) after.files) r only

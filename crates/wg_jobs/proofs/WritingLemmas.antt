@@ -27,6 +27,10 @@ pub if_that_err : {A E : Type 0} (P : E → Type 0) (r : Result A E) (e : E) →
 if_that_err P (Ok a) e is p = tt
 if_that_err P (Err x) e is p = subst P (sym is) p
 
+pub if_err_then : {A E : Type 0} (P Q : E → Type 0) (r : Result A E) → IfErr r P → ((e : E) → P e → Q e) → IfErr r Q
+if_err_then P Q (Ok a) p f = tt
+if_err_then P Q (Err e) p f = f e p
+
 pub if_err_both : {A E : Type 0} (P Q R : E → Type 0) (r : Result A E) → IfErr r P → IfErr r Q → ((e : E) → P e → Q e → R e) → IfErr r R
 if_err_both P Q R (Ok a) p q f = tt
 if_err_both P Q R (Err e) p q f = f e p q
@@ -55,7 +59,7 @@ archive_is : (base : List ℕ) (f : Files) (p g o : Option (List ℕ)) → map.g
 archive_is base f p g o at_p at_g at_o = λ i. record { properties = at_p i; graph = at_g i; offsets = at_o i }
 
 -- what is said of a fault and of want of memory is said of the status
-by_stop : (P : Status → Type 0) (o : Output) (s : Status) → IsStoppedAt o s → P (WriteFault o) → P Memory → P s
+pub by_stop : (P : Status → Type 0) (o : Output) (s : Status) → IsStoppedAt o s → P (WriteFault o) → P Memory → P s
 by_stop P o s (inl fault) at_fault at_want = subst P (sym fault) at_fault
 by_stop P o s (inr want) at_fault at_want = subst P (sym want) at_want
 
@@ -123,6 +127,7 @@ module _ (base : List ℕ) where
       by_error (error.Failed output.Graph) stopped first = (first, inr stopped)
       by_error (error.Failed output.Offsets) stopped first = (first, inr stopped)
       by_error (error.Failed output.Properties) stopped first = absurd stopped
+      by_error (error.Failed output.Certificate) stopped first = absurd stopped
       by_error (error.Failed output.Out) stopped first = absurd stopped
       by_error error.Memory (inl stopped) first = inr (inl (first, inr stopped))
       by_error error.Memory (inr stopped) first = inr (inr (inl (first, inr stopped)))

@@ -11,7 +11,7 @@ use Rattle.wg_words.specs.Layouts.{params_of}
 use Rattle.wg_words.specs.declared.jobs.Job.TheVariants.{Check, Arcs, Offsets, Show, Rank, Build, Recode, Transpose}
 use Rattle.wg_words.specs.declared.layout.Layout.{Layout}
 use Rattle.wg_readings.specs.Readings.{Readings}
-use Rattle.wg_jobs.specs.Ranked.{ranking_text}
+use Rattle.wg_jobs.specs.Ranked.{bounds_after, ranking_text}
 use Rattle.wg_jobs.specs.Written.{greedy_archive}
 use Rattle.wg_readings.specs.Judged.{Archive}
 use Rattle.wg_jobs.specs.Judged.{judged, number_lines, ok_line, successors_lines}
@@ -25,6 +25,8 @@ holding a input.Properties = Some a.properties
 holding a input.Graph = Some a.graph
 holding a input.Offsets = Some a.offsets
 holding a input.ArcList = None
+holding a input.Weights = None
+holding a input.Certificate = None
 
 -- The greedy archive of a graph within the limits is accepted, and its arcs, places and ranking are those of the graph.
 pub record IsAcceptedAs (r : Readings) (p : Parameters) (g : Digraph) (base : List ℕ) : Type 0 where
@@ -32,7 +34,7 @@ pub record IsAcceptedAs (r : Readings) (p : Parameters) (g : Digraph) (base : Li
   pub arcs : judged r (Arcs base) (holding (greedy_archive p g)) ≡ accepted (text_of_graph g)
   pub offsets : judged r (Offsets base) (holding (greedy_archive p g)) ≡ accepted (number_lines (places_of (offset_values p g.lists)))
   pub show : (pages : List ℕ) → judged r (Show base pages) (holding (greedy_archive p g)) ≡ with_pages g.nodes pages (λ all. accepted (successors_lines g.lists pages))
-  pub rank : (rounds damping top : ℕ) → judged r (Rank base rounds damping top) (holding (greedy_archive p g)) ≡ accepted (ranking_text r g rounds damping top)
+  pub rank : (rounds damping top : ℕ) → judged r (Rank base rounds damping top None None) (holding (greedy_archive p g)) ≡ accepted (ranking_text r (bounds_after g None damping rounds) top)
 
 abbrev pub BuiltAreAccepted : Readings → Type 0
 BuiltAreAccepted r = (p : Parameters) (g : Digraph) (base : List ℕ) → IsWithinLimits p → IsGraph g → p.nodes ≡ g.nodes → p.arcs ≡ arc_count g → IsAcceptedAs r p g base

@@ -1,22 +1,24 @@
 -- What each job comes to, by what its inputs hold, and the texts that are printed.
-use Rattle.wg_readings.specs.Judged.{Judged, accepted, built, files_of, with_archive, with_arcs, with_digraph, with_pages, with_places, with_records}
-use Rattle.std.specs.Prelude.{ℕ, List, [], ◌++◌, length, map, get_or, if◌then◌else◌, codes, decimal, Option, None}
+use Rattle.wg_readings.specs.Judged.{Judged, Written, accepted, built, certified, claim_then, files_of, weights_then, with_archive, with_arcs, with_digraph, with_pages, with_places, with_records}
+use Rattle.std.specs.Prelude.{ℕ, List, [], ◌++◌, length, map, get_or, if◌then◌else◌, codes, decimal, Option, Some, None}
 use Rattle.wg_io.specs.Puts.{joined}
 use Rattle.wg_params.specs.Parameters.{Parameters}
 use Rattle.wg_graph.specs.Digraph.{Digraph}
+use Rattle.wg_rank.specs.Intervals.{Intervals}
 use Rattle.wg_encoder.specs.Archive.{graph_bits}
 use Rattle.wg_transpose.specs.Transposed.{transposed}
 use Rattle.wg_arcs.specs.Text.{text_of_graph}
 use Rattle.wg_offsets.specs.Places.{last_place}
 use Rattle.wg_words.specs.declared.jobs.Job.{Job}
-use Rattle.wg_words.specs.declared.jobs.Job.TheVariants.{Check, Arcs, Offsets, Show, Rank, Build, Recode, Transpose}
+use Rattle.wg_words.specs.declared.jobs.Job.TheVariants.{Check, Arcs, Offsets, Show, Rank, Verify, Build, Recode, Transpose}
 use Rattle.wg_words.specs.declared.layout.Layout.{Layout}
 use Rattle.wg_jobs.specs.Names.{writes_files}
 use Rattle.wg_readings.specs.Readings.{Readings}
-use Rattle.wg_jobs.specs.Ranked.{ranking_text}
+use Rattle.wg_jobs.specs.Ranked.{bounds_after, certificate_text, ranking_text}
+use Rattle.wg_jobs.specs.Verified.{verified_line, with_gap}
 use Rattle.wg_jobs.specs.Written.{greedy_archive, params_for}
-use Rattle.wg_readings.specs.Judged.{Archive}
 use Rattle.wg_readings.specs.declared.status.Input.{Input}
+use Rattle.wg_readings.specs.declared.status.Input.TheVariants as input
 
 -- the line of a page: its number, and then its successors
 abbrev pub spaced : ℕ → List ℕ
@@ -51,6 +53,11 @@ greedy_line p g = ok_line p (length (graph_bits p g.lists))
 abbrev pub builds : Layout → Digraph → Judged
 builds l g = built (greedy_archive (params_for l g) g) (greedy_line (params_for l g) g)
 
+-- the first lines of the ranking by these bounds are printed; before it, if a certificate is named, their lower half is written
+abbrev pub ranks : Readings → Option (List ℕ) → ℕ → Intervals → Judged
+ranks r None top b = accepted (ranking_text r b top)
+ranks r (Some name) top b = certified (certificate_text b) (ranking_text r b top)
+
 -- Each command: its inputs in their order, and its output.
 abbrev pub judged : Readings → Job → (Input → Option (List ℕ)) → Judged
 judged r (Check base) held =
@@ -61,8 +68,15 @@ judged r (Offsets base) held =
     with_records held (λ p bytes. with_places r p bytes (λ places. accepted (number_lines places)))
 judged r (Show base pages) held =
     with_archive r held (λ p a. with_pages p.nodes pages (λ all. accepted (successors_lines a.graph pages)))
-judged r (Rank base rounds damping top) held =
-    with_records held (λ p bytes. with_digraph r p bytes (λ g. accepted (ranking_text r g rounds damping top)))
+judged r (Rank base rounds damping top weights certificate) held =
+    with_records held (λ p bytes. with_digraph r p bytes (λ g.
+    weights_then weights g.nodes (held input.Weights) (λ given.
+    ranks r certificate top (bounds_after g given damping rounds))))
+judged r (Verify base certificate weights) held =
+    with_records held (λ p bytes. with_digraph r p bytes (λ g.
+    weights_then weights g.nodes (held input.Weights) (λ given.
+    claim_then g.nodes (held input.Certificate) (λ c.
+    with_gap g c given (λ left. accepted (verified_line c left))))))
 judged r (Build arcs base nodes layout) held =
     with_arcs r nodes held (λ g. builds layout g)
 judged r (Recode base to layout) held =
@@ -70,6 +84,6 @@ judged r (Recode base to layout) held =
 judged r (Transpose base to layout) held =
     with_records held (λ p bytes. with_digraph r p bytes (λ g. builds layout (transposed g)))
 
--- the archive that a job writes, if it does
-abbrev pub written_by : Readings → Job → (Input → Option (List ℕ)) → Option Archive
+-- what a job writes, if it does
+abbrev pub written_by : Readings → Job → (Input → Option (List ℕ)) → Option Written
 written_by r job held = if writes_files job then files_of (judged r job held) else None

@@ -7,4 +7,5 @@ pub mod Printed
 pub mod Ranked
 pub mod Reached
 pub mod Showing
+pub mod Verified
 pub mod Written

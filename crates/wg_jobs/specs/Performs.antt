@@ -4,17 +4,20 @@ use Rattle.wg_io.specs.Outside.{Files, Counts, NonDecreasing}
 use Rattle.wg_io.specs.declared.depot.Depot as depot
 use Rattle.wg_io.specs.declared.sink.Sink as sink
 use Rattle.wg_io.specs.declared.output.Output.{Output}
+use Rattle.wg_io.specs.declared.output.Output.TheVariants.{Certificate}
 use Rattle.wg_graph.specs.Digraph.{Digraph}
+use Rattle.wg_rank.specs.Intervals.{Intervals}
 use Rattle.wg_words.specs.declared.jobs.Job.{Job}
 use Rattle.wg_words.specs.declared.layout.Layout.{Layout}
 use Rattle.wg_jobs.specs.Reached.{Reaches}
 use Rattle.wg_readings.specs.Answers.{Answers, HasOutput, status_in}
 use Rattle.wg_readings.specs.Causes.{HasCause}
 use Rattle.wg_jobs.specs.Judged.{greedy_line, judged, written_by}
-use Rattle.wg_readings.specs.Judged.{Judged, output_of, status_of}
+use Rattle.wg_readings.specs.Judged.{Judged, Written, an_archive, a_certificate, output_of, status_of}
 use Rattle.wg_readings.specs.Promised.{ArePromised, arcs_in}
 use Rattle.wg_jobs.specs.Names.{can_end, input_name, output_name, reads_again, writes_files}
-use Rattle.wg_readings.specs.Names.{archive_named, held_by}
+use Rattle.wg_readings.specs.Names.{archive_named, certificate_to, held_by}
+use Rattle.wg_jobs.specs.Ranked.{certificate_text, ranking_text}
 use Rattle.wg_readings.specs.Readings.{Readings}
 use Rattle.wg_jobs.specs.Written.{HasFiles, IsStopped, greedy_archive, params_for}
 use Rattle.wg_readings.specs.declared.ending.Ending.{Ending}
@@ -51,6 +54,8 @@ pub record Performs (job : Job) (told_files told_out : Bool) (before after : Out
   pub needed : IsTrue told_files → (r : Readings) (o : Output) → status ≡ WriteFault o → status_of (judged_on r job before.files) ≡ Done
   -- what stands on the output
   pub output : IsTrue told_files → IsTrue told_out → (r : Readings) → HasOutput (output_of (judged_on r job before.files)) before.taken after.taken status
+  -- nothing is printed where a certificate could not be written
+  pub silent : status ≡ WriteFault Certificate → after.taken ≡ before.taken
   -- what stands in the files
   pub files : IsTrue told_files → (r : Readings) → HasFiles (output_name job) (reads_again job) (written_by r job (held_by (input_name job) before.files)) before.files after.files status
   -- a job that writes no file leaves them all, told or not
@@ -69,20 +74,35 @@ Does d o job before after out out' status arcs =
 abbrev pub DoesOrEnds : {D O : Type 0} → depot.Ghosts D → sink.Ghosts O → Job → D → D → O → O → Result (Unit {0}) Ending → Type 0
 DoesOrEnds d o job before after out out' result = Does d o job before after out out' (status_in result) (arcs_in result)
 
--- The greedy archive of a graph was written in a layout, and its line printed; or what was left where this stopped.
-pub record BuildsArchive (l : Layout) (g : Digraph) (base : List ℕ) (told_files told_out : Bool) (before after : Outside) (result : Result (Unit {0}) Ending) : Type 0 where
+-- What a job writes was written to files of these names, and its text printed; or what was left where this stopped.
+pub record Produces (names : Output → Option (List ℕ)) (what : Written) (text : Readings → List ℕ) (told_files told_out : Bool) (before after : Outside) (result : Result (Unit {0}) Ending) : Type 0 where
   -- a file, the output or memory alone can stop it
   pub only : IfErr result (λ e. IsStopped e.status)
   -- a fault is told only where the outside counted it
-  pub causes : (inputs : Input → Option (List ℕ)) → HasCause inputs (archive_named base) before.counts after.counts before.faults after.faults (status_in result)
+  pub causes : (inputs : Input → Option (List ℕ)) → HasCause inputs names before.counts after.counts before.faults after.faults (status_in result)
   -- what stands on the output
-  pub output : IsTrue told_files → IsTrue told_out → HasOutput (greedy_line (params_for l g) g) before.taken after.taken (status_in result)
+  pub output : IsTrue told_files → IsTrue told_out → (r : Readings) → HasOutput (text r) before.taken after.taken (status_in result)
+  pub silent : status_in result ≡ WriteFault Certificate → after.taken ≡ before.taken
   -- what stands in the files
-  pub files : IsTrue told_files → HasFiles (archive_named base) false (Some (greedy_archive (params_for l g) g)) before.files after.files (status_in result)
+  pub files : IsTrue told_files → HasFiles names false (Some what) before.files after.files (status_in result)
   -- no count of the depot falls
   pub later : NonDecreasing before.counts after.counts
+
+-- The greedy archive of a graph, in a layout, and its line.
+abbrev pub BuildsArchive : Layout → Digraph → List ℕ → Bool → Bool → Outside → Outside → Result (Unit {0}) Ending → Type 0
+BuildsArchive l g base told_files told_out before after result =
+    Produces (archive_named base) (an_archive (greedy_archive (params_for l g) g)) (λ r. greedy_line (params_for l g) g) told_files told_out before after result
+
+-- The certificate of bounds, and the first lines of the ranking by them.
+abbrev pub CertifiesRanking : Intervals → List ℕ → ℕ → Bool → Bool → Outside → Outside → Result (Unit {0}) Ending → Type 0
+CertifiesRanking b name top told_files told_out before after result =
+    Produces (certificate_to name) (a_certificate (certificate_text b)) (λ r. ranking_text r b top) told_files told_out before after result
 
 -- the same, of a depot and an output that a function changes
 abbrev pub Builds : {D O : Type 0} → depot.Ghosts D → sink.Ghosts O → Layout → Digraph → List ℕ → D → D → O → O → Result (Unit {0}) Ending → Type 0
 Builds d o l g base before after out out' result =
     BuildsArchive l g base d.told o.told (outside (d.files before) (d.counts before) (o.taken out) (o.faults out)) (outside (d.files after) (d.counts after) (o.taken out') (o.faults out')) result
+
+abbrev pub Certifies : {D O : Type 0} → depot.Ghosts D → sink.Ghosts O → Intervals → List ℕ → ℕ → D → D → O → O → Result (Unit {0}) Ending → Type 0
+Certifies d o b name top before after out out' result =
+    CertifiesRanking b name top d.told o.told (outside (d.files before) (d.counts before) (o.taken out) (o.faults out)) (outside (d.files after) (d.counts after) (o.taken out') (o.faults out')) result

@@ -1,4 +1,4 @@
--- What stands of the files of a job that writes an archive.
+-- What stands of the files of a job that writes an archive or a certificate.
 use Rattle.std.specs.Prelude.{◌≡◌, ◌≢◌, ◌⊎◌, ℕ, Bool, true, List, [], Option, Some, None}
 use Rattle.std.specs.FinMap as map
 use Rattle.wg_io.specs.Outside.{Files, Counts}
@@ -14,7 +14,7 @@ use Rattle.wg_encoder.specs.declared.error.EncodeError.TheVariants as error
 use Rattle.wg_words.specs.Layouts.{params_of}
 use Rattle.wg_words.specs.declared.layout.Layout.{Layout}
 use Rattle.wg_readings.specs.Causes.{IncreasedAt}
-use Rattle.wg_readings.specs.Judged.{Archive}
+use Rattle.wg_readings.specs.Judged.{Archive, Written, an_archive, a_certificate}
 use Rattle.wg_readings.specs.Names.{archive_named}
 use Rattle.wg_readings.specs.declared.status.Input.TheVariants as input
 use Rattle.wg_readings.specs.declared.status.Status.{Status}
@@ -121,7 +121,18 @@ abbrev pub FilesLeft : Bool → Archive → ArchiveFiles → ArchiveFiles → St
 FilesLeft true a old new (ReadFault input.Graph) = (new ≡ old) ⊎ StopAtInput a new
 FilesLeft again a old new status = FilesAfter a old new status
 
--- The files of a job of these names that writes this archive, or none.
-abbrev pub HasFiles : (Output → Option (List ℕ)) → Bool → Option Archive → Files → Files → Status → Type 0
+-- What stands of the file of a certificate once the job has ended so. It is as before, or lacks something, where a call on it
+-- failed; it is whole before anything is printed.
+abbrev pub CertificateAfter : List ℕ → Option (List ℕ) → Option (List ℕ) → Status → Type 0
+CertificateAfter text old new Done = new ≡ Some text
+CertificateAfter text old new (WriteFault output.Out) = new ≡ Some text
+CertificateAfter text old new (WriteFault output.Certificate) = (new ≡ old) ⊎ HoldsLess new text
+CertificateAfter text old new Memory = (new ≡ old) ⊎ HoldsFront new text
+CertificateAfter text old new _ = new ≡ old
+
+-- The files of a job of these names that writes this, or nothing.
+abbrev pub HasFiles : (Output → Option (List ℕ)) → Bool → Option Written → Files → Files → Status → Type 0
 HasFiles names again None old new status = new ≡ old
-HasFiles names again (Some a) old new status = OthersStay names old new × FilesLeft again a (archive_at names old) (archive_at names new) status
+HasFiles names again (Some (an_archive a)) old new status = OthersStay names old new × FilesLeft again a (archive_at names old) (archive_at names new) status
+HasFiles names again (Some (a_certificate text)) old new status =
+    OthersStay names old new × CertificateAfter text (content_of old (names output.Certificate)) (content_of new (names output.Certificate)) status

@@ -11,6 +11,7 @@ use crate::rank::{Asked, rank};
 use crate::recode::recode;
 use crate::show::show;
 use crate::transpose::transpose;
+use crate::verify::verify;
 use std::alloc::Global;
 use wg_io::{Depot, Sink};
 use wg_readings::{Ending, Status};
@@ -48,14 +49,21 @@ pub fn perform<D: Depot, O: Sink>(alloc: Global, job: &Job, depot: &mut D, out: 
             rounds,
             damping,
             top,
+            weights,
+            certificate,
         } => {
             let asked = Asked {
                 rounds: *rounds,
                 damping: *damping,
                 top: *top,
             };
-            ending_of(rank(alloc, base, asked, depot, out))
+            ending_of(rank(alloc, base, asked, weights, certificate, depot, out))
         }
+        Job::Verify {
+            base,
+            certificate,
+            weights,
+        } => ending_of(verify(alloc, base, certificate, weights, depot, out)),
         Job::Build {
             arcs,
             base,

@@ -4,7 +4,8 @@
 //! asked for, prints, and says by an [`Ending`] how the job ended. What it promises is one set of facts over what
 //! was outside before and after (`Performs`): the status is the one that the job and its inputs lead to (`judged`),
 //! or running out of memory or a fault of the outside came in its place; faults are told only where their counts
-//! rose; and at each status it says what stands on the output and in the three files of a written archive. Each
+//! rose; and at each status it says what stands on the output, in the three files of a written archive and in a written
+//! certificate. Each
 //! command has this as its one clause, by the word `DoesOrEnds`.
 //!
 //! A command is a chain of steps: those of `wg_readings`, which read the files of an archive and judge them, and last one
@@ -21,6 +22,7 @@
 
 mod build;
 mod building;
+mod certificate;
 mod check;
 mod copying;
 mod dispatch;
@@ -34,8 +36,9 @@ mod show;
 mod shown;
 mod text;
 mod transpose;
+mod verify;
 mod writing;
 
 pub use dispatch::perform;
 pub use text::Text;
-pub use wg_readings::{Ending, Input, Status};
+pub use wg_readings::{Ending, Input, Status, WeightsFault};

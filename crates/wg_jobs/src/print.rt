@@ -7,7 +7,9 @@ ghost use Rattle.wg_io.specs.Printing.{Prints};
 ghost use Rattle.wg_arcs.specs.Text.{page_lines};
 ghost use Rattle.wg_io.specs.declared.lines.TheConstants.{MOST_PIECE};
 ghost use Rattle.wg_jobs.specs.Ranked.{rank_line, rank_lines};
+ghost use Rattle.wg_rank.specs.declared.limits.TheConstants.{UNITS};
 ghost use Rattle.wg_jobs.specs.Judged.{number_line, ok_line};
+ghost use Rattle.wg_jobs.specs.Verified.{verified_line};
 ghost use Rattle.wg_io.specs.declared.output.Output.TheVariants.{Out};
 
 use crate::ranked::Ranked;
@@ -15,6 +17,7 @@ use crate::text::Text;
 use wg_io::{Lines, Output, Sink, WriteError, write_all};
 use wg_num::units_text;
 use wg_params::Params;
+use wg_rank::Certificate;
 use wg_readings::{Ending, Status};
 
 // A piece of the output.
@@ -59,6 +62,33 @@ pub fn print_ok<O: Sink>(out: &mut O, params: &Params, bits: u64) -> Result<(), 
     ensures refusals { PrintRefusals ⟦<O as Sink>⟧ out.old out.new result }
 {
     print(out, ok_line(params, bits).as_bytes())
+}
+
+fn verified_line(certificate: &Certificate, left: u128) -> Text
+    requires { left ≤ UNITS }
+    ensures { result ≡ verified_line certificate.now left }
+{
+    Text::new()
+        .with("ok pages=")
+        .with_number(certificate.as_slice().len() as u64)
+        .with(" damping=")
+        .with_number(certificate.damping())
+        .with(" gap=")
+        .with_bytes(units_text(left).as_slice())
+        .with("\n")
+}
+
+/// Prints the line of a certificate that holds, in one call where the output takes it whole.
+pub fn print_verified<O: Sink>(
+    out: &mut O,
+    certificate: &Certificate,
+    left: u128,
+) -> Result<(), Ending>
+    requires { left ≤ UNITS }
+    ensures puts { IsTrue O.told → Puts (verified_line certificate.now left) (O.taken out.old) (O.taken out.new) result }
+    ensures refusals { PrintRefusals ⟦<O as Sink>⟧ out.old out.new result }
+{
+    print(out, verified_line(certificate, left).as_bytes())
 }
 
 // A line of one number.

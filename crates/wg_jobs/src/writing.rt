@@ -23,8 +23,8 @@ use wg_params::Params;
 use wg_readings::{Ending, Status, file_name};
 use wg_words::Name;
 
-// How a job ends that a call on one of its files stopped.
-fn writing_ending(output: Output, error: WriteError) -> Ending
+/// How a job ends that a call on one of its files stopped.
+pub fn writing_ending(output: Output, error: WriteError) -> Ending
     ensures only { IsStoppedAt output result.status }
     ensures fault { result.status ≡ Status.WriteFault output → error ≡ WriteError.Failed }
     ensures want { result.status ≡ Status.Memory → error ≡ WriteError.Memory }

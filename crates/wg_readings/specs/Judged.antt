@@ -33,26 +33,35 @@ pub record Archive : Type 0 where
   pub graph : List ℕ
   pub offsets : List ℕ
 
--- a job is refused with a status; or it is done, with this on the output; or it is done with these files besides
+-- what a job writes: the files of an archive, or a certificate
+pub data Written : Type 0 where
+  an_archive : Archive → Written
+  a_certificate : List ℕ → Written
+
+-- a job is refused with a status; or it is done, with this on the output; or it is done with an archive or a certificate besides
 pub data Judged : Type 0 where
   refused : Status → Judged
   accepted : List ℕ → Judged
   built : Archive → List ℕ → Judged
+  certified : List ℕ → List ℕ → Judged
 
 abbrev pub status_of : Judged → Status
 status_of (refused status) = status
 status_of (accepted out) = Done
 status_of (built files out) = Done
+status_of (certified text out) = Done
 
 abbrev pub output_of : Judged → List ℕ
 output_of (refused status) = []
 output_of (accepted out) = out
 output_of (built files out) = out
+output_of (certified text out) = out
 
-abbrev pub files_of : Judged → Option Archive
+abbrev pub files_of : Judged → Option Written
 files_of (refused status) = None
 files_of (accepted out) = None
-files_of (built files out) = Some files
+files_of (built files out) = Some (an_archive files)
+files_of (certified text out) = Some (a_certificate text)
 
 -- goes on with the bytes of an input, where it is held and not too long
 abbrev pub with_file : Input → Option (List ℕ) → (List ℕ → Judged) → Judged
@@ -135,7 +144,7 @@ with_archive r held next =
 -- weights of n pages, which may not add up to 0 where there are pages
 abbrev pub unless_zero : ℕ → Result (List ℕ) NumbersFault → Result (List ℕ) WeightsFault
 unless_zero n (Ok ws) = if nat_lt 0 n && nat_eq (sum_below n (by_page ws)) 0 then Err weights.Zero else Ok ws
-unless_zero n (Err f) = Err (weights.Numbers f)
+unless_zero n (Err f) = Err (weights.Numbers f n)
 
 -- the weights of n pages that a text gives, or what is wrong with them
 abbrev pub weights_in : ℕ → List ℕ → Result (List ℕ) WeightsFault

@@ -71,6 +71,10 @@ certificate_file name = (input.Certificate, name) ∷ []
 abbrev pub archive_outputs : List ℕ → List (Output × List ℕ)
 archive_outputs base = (output.Properties, base ++ PROPERTIES.now) ∷ (output.Graph, base ++ GRAPH.now) ∷ (output.Offsets, base ++ OFFSETS.now) ∷ []
 
+-- a certificate that is written
+abbrev pub certificate_output : List ℕ → List (Output × List ℕ)
+certificate_output name = (output.Certificate, name) ∷ []
+
 -- the name of a job's input
 abbrev pub list_named : List ℕ → Input → Option (List ℕ)
 list_named name i = name_of_input (list_file name) i
@@ -88,6 +92,10 @@ no_outputs o = None
 -- the files of an archive that is written
 abbrev pub archive_named : List ℕ → Output → Option (List ℕ)
 archive_named base o = name_of_output (archive_outputs base) o
+
+-- the file of a certificate that is written
+abbrev pub certificate_to : List ℕ → Output → Option (List ℕ)
+certificate_to name o = name_of_output (certificate_output name) o
 
 -- what an input of these names holds
 abbrev pub held_by : (Input → Option (List ℕ)) → Files → Input → Option (List ℕ)

@@ -22,8 +22,8 @@ pub enum Input {
 /// What is wrong with the weights of pages.
 #[derive(Clone, Copy, Debug, PartialEq, Eq)]
 pub enum WeightsFault {
-    /// They are not one number for each page, each within the limit.
-    Numbers(NumbersFault),
+    /// They are not one number for each of so many pages, each within the limit.
+    Numbers { fault: NumbersFault, pages: u64 },
     /// There are pages, and each weight is 0.
     Zero,
 }

@@ -34,7 +34,10 @@ pub fn weights_of_text(alloc: Global, bytes: &[u8], nodes: u64) -> Result<List, 
 {
     let weights = match read_numbers(alloc, bytes, nodes, MOST_WEIGHT + 1) {
         Ok(weights) => weights,
-        Err(NumbersError::Fault(fault)) => return Err(bad_weights(WeightsFault::Numbers(fault))),
+        Err(NumbersError::Fault(fault)) => return Err(bad_weights(WeightsFault::Numbers {
+            fault,
+            pages: nodes,
+        })),
         Err(NumbersError::Memory) => return Err(Ending::of(Status::Memory)),
     };
     if nodes > 0 && all_zero(weights.as_slice()) {

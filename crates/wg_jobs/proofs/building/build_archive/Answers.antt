@@ -1,9 +1,11 @@
-use Rattle.std.proofs.Common.{rules, sym, subst}
+use Rattle.std.proofs.Common.{rules, refl, sym, subst}
+use Rattle.wg_io.specs.declared.output.Output.TheVariants.{Certificate}
 use Rattle.wg_readings.specs.Answers.{HasOutput}
 use Rattle.wg_readings.specs.Causes.{HasCause}
 use Rattle.wg_readings.specs.Names.{archive_named}
 use Rattle.wg_readings.specs.declared.status.Status.{Status}
 use Rattle.wg_jobs.proofs.BuildLemmas.{ended_by, stopped_cause, stopped_output}
+use Rattle.wg_jobs.proofs.PerformsLemmas.{unput_written}
 use Rattle.wg_jobs.proofs.building.build_archive.Goals as goal
 
 pub returns-in_err-bits : goal.returns-in_err-bits
@@ -14,7 +16,8 @@ returns-in_err-bits g c =
       causes = λ inputs.
           subst (λ (s : Status). HasCause inputs (archive_named c.args.base.now) (g.D.Depot.counts c.args.depot.now) (g.D.Depot.counts c.write_archive.new.depot) (g.O.Sink.faults c.args.out.now) (g.O.Sink.faults c.args.out.now) s) (sym status)
           (stopped_cause inputs c.args.base.now _ _ _ _ c.in_err-bits.field-0.0.status c.in_err-bits.ensures.only c.in_err-bits.ensures.causes);
-      output = λ t o. subst (HasOutput _ (g.O.Sink.taken c.args.out.now) (g.O.Sink.taken c.args.out.now)) (sym status) (stopped_output _ (g.O.Sink.taken c.args.out.now) c.in_err-bits.field-0.0.status c.in_err-bits.ensures.only);
+      output = λ t o q. subst (HasOutput _ (g.O.Sink.taken c.args.out.now) (g.O.Sink.taken c.args.out.now)) (sym status) (stopped_output _ (g.O.Sink.taken c.args.out.now) c.in_err-bits.field-0.0.status c.in_err-bits.ensures.only);
+      silent = λ is. refl;
       files = search rules;
       later = search rules;
     }
@@ -24,6 +27,7 @@ returns g c = record {
   only = search rules;
   causes = search rules;
   output = search rules;
+  silent = λ is. absurd (unput_written c.print_ok.result Certificate c.print_ok.ensures.refusals.only (λ same. cc) is);
   files = search rules;
   later = search rules;
 }

@@ -16,6 +16,9 @@ returns-in-Show g c = performs_at _ _ _ _ _ _ _ _ _ _ c.in-Show.is c.ending_of-i
 pub returns-in-Rank : goal.returns-in-Rank
 returns-in-Rank g c = performs_at _ _ _ _ _ _ _ _ _ _ c.in-Rank.is c.ending_of-in-Rank.ensures.status c.ending_of-in-Rank.ensures.arcs c.rank.ensures
 
+pub returns-in-Verify : goal.returns-in-Verify
+returns-in-Verify g c = performs_at _ _ _ _ _ _ _ _ _ _ c.in-Verify.is c.ending_of-in-Verify.ensures.status c.ending_of-in-Verify.ensures.arcs c.verify.ensures
+
 pub returns-in-Build : goal.returns-in-Build
 returns-in-Build g c = performs_at _ _ _ _ _ _ _ _ _ _ c.in-Build.is c.ending_of-in-Build.ensures.status c.ending_of-in-Build.ensures.arcs c.build.ensures
 

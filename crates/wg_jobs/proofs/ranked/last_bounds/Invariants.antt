@@ -1,7 +1,6 @@
 use Rattle.std.proofs.Common.{◌≡◌, length}
 use Rattle.wg_rank.specs.Intervals.{Holds}
-use Rattle.wg_jobs.specs.Ranked.{alike}
-use Rattle.wg_jobs.proofs.ranked.Room.rank.Given as goal
+use Rattle.wg_jobs.proofs.ranked.last_bounds.Given as goal
 
 -- the bounds are those of the graph after the rounds so far
 abbrev pub invariant-loop : goal.invariant-loop
@@ -9,7 +8,7 @@ invariant-loop g l = let graph = g.L.Lists.graph l.fn.lists in record {
   same : g.L.Lists.graph l.lists ≡ graph;
   pages : length l.bounds.low ≡ graph.nodes;
   after : l.bounds.rounds ≡ l.counter;
-  damped : l.bounds.damping ≡ l.fn.self.bounds.damping;
-  weighed : l.bounds.weights ≡ alike graph;
+  damped : l.bounds.damping ≡ l.fn.bounds.damping;
+  weighed : l.bounds.weights ≡ l.fn.bounds.weights;
   holds : Holds l.bounds graph;
 }
