@@ -1,3 +1,4 @@
+pub mod NameLemmas
 pub mod KeyNames
 pub mod ProvenLemmas
 pub mod SteadyLemmas

@@ -1,33 +1,46 @@
 -- The ranking that was printed is that of the graph which the files hold.
-use Rattle.std.proofs.Common.{◌≡◌, ◌≤◌, ℕ, List, ◌++◌, Option, inl, inr, sym, ◌∙◌, ap}
+use Rattle.std.proofs.Common.{◌≡◌, ◌≤◌, ℕ, List, ◌++◌, Option, Some, None, inl, inr, refl, sym, ◌∙◌, ap}
 use Rattle.wg_params.specs.declared.limits.TheConstants.{MOST_DAMPING, MOST_ROUNDS}
 use Rattle.wg_graph.specs.Digraph.{Digraph}
+use Rattle.wg_rank.specs.Intervals.{Intervals}
 use Rattle.wg_words.specs.declared.jobs.Job.TheVariants.{Rank}
 use Rattle.wg_readings.specs.Answers.{Answers}
-use Rattle.wg_jobs.specs.Judged.{judged}
-use Rattle.wg_readings.specs.Judged.{Judged, accepted, output_of, status_of}
-use Rattle.wg_jobs.specs.Ranked.{PrintsProvenRanking, ranking_text}
+use Rattle.wg_jobs.specs.Judged.{judged, ranks}
+use Rattle.wg_readings.specs.Judged.{Judged, output_of, status_of, weights_then}
+use Rattle.wg_jobs.specs.Ranked.{PrintsProvenRanking, bounds_after, ranking_text}
 use Rattle.wg_readings.specs.Readings.{Readings}
 use Rattle.wg_readings.specs.declared.status.Input.{Input}
+use Rattle.wg_readings.specs.declared.status.Input.TheVariants.{Weights}
 use Rattle.wg_readings.specs.declared.status.Status.TheVariants.{Done}
 use Rattle.wg_jobs.proofs.HeldLemmas.{graph_behind}
 use Rattle.wg_jobs.proofs.RankLemmas.{proven}
+use Rattle.wg_jobs.proofs.WeightsLemmas.{weights_behind}
 
 -- Done is the status of the judgement itself
 pub when_done : (j : Judged) → Answers j Done → Done ≡ status_of j
 when_done j (inl is) = is
 when_done j (inr hinders) = absurd hinders
 
-pub proven_ranking : (r : Readings) (held : Input → Option (List ℕ)) (base : List ℕ) (rounds damping top : ℕ) (old new : List ℕ) → rounds ≤ MOST_ROUNDS → damping ≤ MOST_DAMPING
-    → Done ≡ status_of (judged r (Rank base rounds damping top) held) → new ≡ old ++ output_of (judged r (Rank base rounds damping top) held)
-    → PrintsProvenRanking r held rounds damping top old new
-proven_ranking r held base rounds damping top old new few damped done put =
-    let last : Digraph → Judged = λ g. accepted (ranking_text r g rounds damping top) in
+-- what is printed does not go by the certificate
+text_ranked : (r : Readings) (certificate : Option (List ℕ)) (top : ℕ) (b : Intervals) → output_of (ranks r certificate top b) ≡ ranking_text r b top
+text_ranked r None top b = refl
+text_ranked r (Some name) top b = refl
+
+pub proven_ranking : (r : Readings) (held : Input → Option (List ℕ)) (base : List ℕ) (rounds damping top : ℕ) (weights certificate : Option (List ℕ)) (old new : List ℕ) → rounds ≤ MOST_ROUNDS → damping ≤ MOST_DAMPING
+    → Done ≡ status_of (judged r (Rank base rounds damping top weights certificate) held) → new ≡ old ++ output_of (judged r (Rank base rounds damping top weights certificate) held)
+    → PrintsProvenRanking r held weights rounds damping top old new
+proven_ranking r held base rounds damping top weights certificate old new few damped done put =
+    let then_ranks : Digraph → Option (List ℕ) → Judged = λ g given. ranks r certificate top (bounds_after g given damping rounds) in
+    let last : Digraph → Judged = λ g. weights_then weights g.nodes (held Weights) (then_ranks g) in
     let behind = graph_behind r held last (sym done) in
+    let weighed = weights_behind weights held behind.graph.nodes (then_ranks behind.graph) (ap status_of (sym (behind.goes_on last)) ∙ sym done) in
+    let ends : judged r (Rank base rounds damping top weights certificate) held ≡ then_ranks behind.graph weighed.given = behind.goes_on last ∙ weighed.goes_on (then_ranks behind.graph) in
     record {
       graph = behind.graph;
+      given = weighed.given;
       stored = behind.stored;
+      weighed = weighed.stored;
       proper = behind.proper;
-      printed = put ∙ ap (λ (j : Judged). old ++ output_of j) (behind.goes_on last);
-      proven = proven r rounds damping few damped behind.graph behind.proper behind.few_pages;
+      printed = put ∙ ap (λ (j : Judged). old ++ output_of j) ends ∙ ap (λ (text : List ℕ). old ++ text) (text_ranked r certificate top (bounds_after behind.graph weighed.given damping rounds));
+      proven = proven r rounds damping few damped behind.graph behind.proper behind.few_pages weighed.given weighed.proper;
     }

@@ -4,12 +4,12 @@ use Rattle.wg_io.specs.declared.output.Output.{Output}
 use Rattle.wg_io.specs.declared.output.Output.TheVariants as output
 use Rattle.wg_words.specs.declared.jobs.Job.{Job}
 use Rattle.wg_jobs.specs.Names.{input_name, output_name}
-use Rattle.wg_readings.specs.Names.{file_of_fault}
+use Rattle.wg_readings.specs.Names.{certificate_to, file_of_fault}
 use Rattle.wg_readings.specs.declared.status.Input.{Input}
 use Rattle.wg_readings.specs.declared.status.Input.TheVariants as input
 use Rattle.wg_readings.specs.declared.status.Status.{Status}
-use Rattle.wg_readings.specs.declared.status.Status.TheVariants.{Done, Usage, Memory, ReadFault, WriteFault, Missing, BadArcs, BadProperties, BadArchive, NoPage, OverLimit}
-use Rattle.wg_cli.specs.Texts.{text_of_line, text_of_properties, text_of_archive, no_page_line}
+use Rattle.wg_readings.specs.declared.status.Status.TheVariants.{Done, Usage, Memory, ReadFault, WriteFault, Missing, BadArcs, BadProperties, BadArchive, NoPage, OverLimit, BadWeights, BadCertificate}
+use Rattle.wg_cli.specs.Texts.{text_of_line, text_of_properties, text_of_archive, text_of_weights, text_of_certificate, no_page_line}
 
 -- a line that names a file; none where the job has no such file
 abbrev pub naming : List ℕ → Option (List ℕ) → List ℕ → List ℕ
@@ -26,6 +26,11 @@ output_in job output.Out = Some (codes "-")
 output_in None o = None
 output_in (Some job) o = output_name job o
 
+-- the certificate that a job writes, if one is named
+abbrev pub certificate_in : Option (List ℕ) → Output → Option (List ℕ)
+certificate_in None o = None
+certificate_in (Some name) o = certificate_to name o
+
 -- The line of a status, where the properties promise so many arcs.
 abbrev pub line_of : Option Job → ℕ → Status → List ℕ
 line_of job promised Done = []
@@ -39,6 +44,8 @@ line_of job promised (BadProperties f) = naming (codes "wg: ") (name_in job inpu
 line_of job promised (BadArchive f) = naming (codes "wg: ") (name_in job (file_of_fault f)) (codes ": " ++ text_of_archive promised f)
 line_of job promised (NoPage page) = no_page_line page
 line_of job promised (OverLimit i) = naming (codes "wg: too long: ") (name_in job i) []
+line_of job promised (BadWeights f) = naming (codes "wg: ") (name_in job input.Weights) (codes ": " ++ text_of_weights f)
+line_of job promised (BadCertificate f) = naming (codes "wg: ") (name_in job input.Certificate) (codes ": " ++ text_of_certificate f)
 
 -- the line is there, or a prefix of it, and this only where the sink failed
 abbrev pub Reports : List ℕ → List ℕ → List ℕ → Type 0 → Type 0

@@ -14,6 +14,16 @@ use Rattle.wg_grammar.specs.declared.fault.ArchiveFault.{ArchiveFault}
 use Rattle.wg_grammar.specs.declared.fault.ArchiveFault.TheVariants as archive
 use Rattle.wg_arcs.specs.declared.fault.ArcsKind.{ArcsKind}
 use Rattle.wg_arcs.specs.declared.fault.ArcsKind.TheVariants as arcs
+use Rattle.wg_arcs.specs.declared.numbers_fault.NumbersFault.{NumbersFault}
+use Rattle.wg_arcs.specs.declared.numbers_fault.NumbersFault.TheVariants as fault
+use Rattle.wg_arcs.specs.declared.numbers_fault.NumbersKind.{NumbersKind}
+use Rattle.wg_arcs.specs.declared.numbers_fault.NumbersKind.TheVariants as numbers
+use Rattle.wg_rank.specs.declared.fault.CertFault.{CertFault}
+use Rattle.wg_rank.specs.declared.fault.CertFault.TheVariants as certificate
+use Rattle.wg_rank.specs.declared.fault.CertKind.{CertKind}
+use Rattle.wg_rank.specs.declared.fault.CertKind.TheVariants as claim
+use Rattle.wg_readings.specs.declared.status.WeightsFault.{WeightsFault}
+use Rattle.wg_readings.specs.declared.status.WeightsFault.TheVariants as weights
 
 abbrev pub text_of_field : Field → List ℕ
 text_of_field field.Outdegree = codes "outdegree"
@@ -72,6 +82,31 @@ text_of_archive promised (archive.Tail at) = codes "tail bit " ++ decimal at
 text_of_archive promised (archive.ArcsShort total) = codes "arcs " ++ decimal total ++ codes " of " ++ decimal promised
 text_of_archive promised (archive.Offsets w) = text_of_word w
 text_of_archive promised (archive.Length page found stored) = codes "page " ++ decimal page ++ codes " length " ++ decimal found ++ codes " stored " ++ decimal stored
+
+abbrev pub text_of_number_kind : NumbersKind → List ℕ
+text_of_number_kind numbers.Shape = codes "shape"
+text_of_number_kind numbers.Range = codes "range"
+text_of_number_kind numbers.TooMany = codes "too many"
+
+-- too few numbers are named beside those that are wanted
+abbrev pub text_of_numbers : ℕ → NumbersFault → List ℕ
+text_of_numbers pages (fault.Line line k) = codes "line " ++ decimal line ++ codes ": " ++ text_of_number_kind k
+text_of_numbers pages (fault.Count found) = codes "count " ++ decimal found ++ codes " of " ++ decimal pages
+
+abbrev pub text_of_weights : WeightsFault → List ℕ
+text_of_weights (weights.Numbers f pages) = text_of_numbers pages f
+text_of_weights weights.Zero = codes "sum zero"
+
+abbrev pub text_of_claim_kind : CertKind → List ℕ
+text_of_claim_kind claim.Shape = codes "shape"
+text_of_claim_kind claim.Pages = codes "pages"
+text_of_claim_kind claim.Missing = codes "missing"
+text_of_claim_kind claim.Extra = codes "extra"
+
+abbrev pub text_of_certificate : CertFault → List ℕ
+text_of_certificate (certificate.Line line k) = codes "line " ++ decimal line ++ codes ": " ++ text_of_claim_kind k
+text_of_certificate certificate.Sum = codes "sum"
+text_of_certificate (certificate.Falls page) = codes "page " ++ decimal page ++ codes " falls"
 
 -- the line about a page that the graph does not have
 abbrev pub no_page_line : ℕ → List ℕ

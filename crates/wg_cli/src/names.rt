@@ -1,7 +1,9 @@
-ghost use Rattle.std.specs.Prelude.{◌≡◌, ◌++◌, option_map};
+ghost use Rattle.std.specs.Prelude.{◌≡◌, ◌++◌, Some, option_map};
 ghost use Rattle.wg_io.specs.declared.suffixes.TheConstants.{PROPERTIES, GRAPH, OFFSETS};
 ghost use Rattle.wg_jobs.specs.Names.{input_name, output_name};
 ghost use Rattle.wg_readings.specs.Names.{archive_files, archive_named, list_named, name_of_input, record_files};
+ghost use Rattle.wg_readings.specs.Names.{certificate_file, certificate_to, weights_file};
+ghost use Rattle.wg_cli.specs.Lines.{certificate_in};
 
 use crate::Input;
 use wg_io::{GRAPH, OFFSETS, Output, PROPERTIES};
@@ -13,9 +15,13 @@ pub fn input_parts(job: &Job, input: Input) -> Option<(&str, &'static str)>
 {
     match job {
         Job::Check { base } | Job::Show { base, .. } => archive_input(base, input),
-        Job::Arcs { base } | Job::Offsets { base } | Job::Rank { base, .. } => record_input(
-            base, input,
-        ),
+        Job::Arcs { base } | Job::Offsets { base } => record_input(base, input),
+        Job::Rank { base, weights, .. } => rank_input(base, weights, input),
+        Job::Verify {
+            base,
+            certificate,
+            weights,
+        } => verify_input(base, certificate, weights, input),
         Job::Build { arcs, .. } => list_parts(arcs, input),
         Job::Recode { input: base, .. } | Job::Transpose { input: base, .. } => {
             record_input(base, input)
@@ -31,7 +37,7 @@ fn archive_input(base: &Name, input: Input) -> Option<(&str, &'static str)>
         Input::Properties => Some((base.as_str(), PROPERTIES)),
         Input::Graph => Some((base.as_str(), GRAPH)),
         Input::Offsets => Some((base.as_str(), OFFSETS)),
-        Input::ArcList => None,
+        Input::ArcList | Input::Weights | Input::Certificate => None,
     }
 }
 
@@ -42,6 +48,87 @@ fn record_input(base: &Name, input: Input) -> Option<(&str, &'static str)>
     match input {
         Input::Properties => Some((base.as_str(), PROPERTIES)),
         Input::Graph => Some((base.as_str(), GRAPH)),
+        Input::Offsets | Input::ArcList | Input::Weights | Input::Certificate => None,
+    }
+}
+
+// The name of one of the files of an archive's records, or of the weights, if they are named.
+fn rank_input<'a>(
+    base: &'a Name,
+    weights: &'a Option<Name>,
+    input: Input,
+) -> Option<(&'a str, &'static str)>
+    ensures { option_map (λ parts. parts.0.now ++ parts.1.now) result
+        ≡ name_of_input (record_files base.now ++ weights_file weights.now) input }
+{
+    match weights {
+        Some(weights) => weighed_input(base, weights, input),
+        None => record_input(base, input),
+    }
+}
+
+fn weighed_input<'a>(
+    base: &'a Name,
+    weights: &'a Name,
+    input: Input,
+) -> Option<(&'a str, &'static str)>
+    ensures { option_map (λ parts. parts.0.now ++ parts.1.now) result
+        ≡ name_of_input (record_files base.now ++ weights_file (Some weights.now)) input }
+{
+    match input {
+        Input::Properties => Some((base.as_str(), PROPERTIES)),
+        Input::Graph => Some((base.as_str(), GRAPH)),
+        Input::Weights => Some((weights.as_str(), "")),
+        Input::Offsets | Input::ArcList | Input::Certificate => None,
+    }
+}
+
+// The same, or the name of a certificate.
+fn verify_input<'a>(
+    base: &'a Name,
+    certificate: &'a Name,
+    weights: &'a Option<Name>,
+    input: Input,
+) -> Option<(&'a str, &'static str)>
+    ensures { option_map (λ parts. parts.0.now ++ parts.1.now) result
+        ≡ name_of_input (record_files base.now ++ weights_file weights.now ++ certificate_file certificate.now) input }
+{
+    match weights {
+        Some(weights) => weighed_claim_input(base, certificate, weights, input),
+        None => claim_input(base, certificate, input),
+    }
+}
+
+fn claim_input<'a>(
+    base: &'a Name,
+    certificate: &'a Name,
+    input: Input,
+) -> Option<(&'a str, &'static str)>
+    ensures { option_map (λ parts. parts.0.now ++ parts.1.now) result
+        ≡ name_of_input (record_files base.now ++ certificate_file certificate.now) input }
+{
+    match input {
+        Input::Properties => Some((base.as_str(), PROPERTIES)),
+        Input::Graph => Some((base.as_str(), GRAPH)),
+        Input::Certificate => Some((certificate.as_str(), "")),
+        Input::Offsets | Input::ArcList | Input::Weights => None,
+    }
+}
+
+fn weighed_claim_input<'a>(
+    base: &'a Name,
+    certificate: &'a Name,
+    weights: &'a Name,
+    input: Input,
+) -> Option<(&'a str, &'static str)>
+    ensures { option_map (λ parts. parts.0.now ++ parts.1.now) result
+        ≡ name_of_input (record_files base.now ++ weights_file (Some weights.now) ++ certificate_file certificate.now) input }
+{
+    match input {
+        Input::Properties => Some((base.as_str(), PROPERTIES)),
+        Input::Graph => Some((base.as_str(), GRAPH)),
+        Input::Weights => Some((weights.as_str(), "")),
+        Input::Certificate => Some((certificate.as_str(), "")),
         Input::Offsets | Input::ArcList => None,
     }
 }
@@ -52,7 +139,8 @@ fn list_parts(arcs: &Name, input: Input) -> Option<(&str, &'static str)>
 {
     match input {
         Input::ArcList => Some((arcs.as_str(), "")),
-        Input::Properties | Input::Graph | Input::Offsets => None,
+        Input::Properties | Input::Graph | Input::Offsets | Input::Weights | Input::Certificate =>
+            None,
     }
 }
 
@@ -65,7 +153,8 @@ pub fn output_parts(job: &Job, output: Output) -> Option<(&str, &'static str)>
         | Job::Arcs { .. }
         | Job::Offsets { .. }
         | Job::Show { .. }
-        | Job::Rank { .. } => None,
+        | Job::Verify { .. } => None,
+        Job::Rank { certificate, .. } => certificate_parts(certificate, output),
         Job::Build { base, .. }
         | Job::Recode { output: base, .. }
         | Job::Transpose { output: base, .. } => archive_parts(base, output),
@@ -79,6 +168,25 @@ fn archive_parts(base: &Name, output: Output) -> Option<(&str, &'static str)>
         Output::Properties => Some((base.as_str(), PROPERTIES)),
         Output::Graph => Some((base.as_str(), GRAPH)),
         Output::Offsets => Some((base.as_str(), OFFSETS)),
-        Output::Out => None,
+        Output::Certificate | Output::Out => None,
+    }
+}
+
+// The name of the certificate that is written, if one is named.
+fn certificate_parts(certificate: &Option<Name>, output: Output) -> Option<(&str, &'static str)>
+    ensures { option_map (λ parts. parts.0.now ++ parts.1.now) result ≡ certificate_in certificate.now output }
+{
+    match certificate {
+        None => None,
+        Some(name) => written_certificate(name, output),
+    }
+}
+
+fn written_certificate(name: &Name, output: Output) -> Option<(&str, &'static str)>
+    ensures { option_map (λ parts. parts.0.now ++ parts.1.now) result ≡ certificate_to name.now output }
+{
+    match output {
+        Output::Certificate => Some((name.as_str(), "")),
+        Output::Properties | Output::Graph | Output::Offsets | Output::Out => None,
     }
 }

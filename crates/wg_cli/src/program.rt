@@ -1,4 +1,4 @@
-ghost use Rattle.std.specs.Prelude.{◌≡◌, ◌≤◌, ◌⊎◌, ℕ, false, List, Some, None, IsTrue, IfOk, IfSome};
+ghost use Rattle.std.specs.Prelude.{◌≡◌, ◌≤◌, ◌⊎◌, ℕ, false, List, Option, Some, None, IsTrue, IfOk, IfSome};
 ghost use Rattle.wg_io.specs.Outside.{Increased};
 ghost use Rattle.wg_io.specs.declared.output.Output.{Output};
 ghost use Rattle.wg_params.specs.declared.limits.TheConstants.{MOST_PAGES};
@@ -14,7 +14,8 @@ ghost use Rattle.wg_cli.specs.Lines.{line_of, Reports};
 ghost use Rattle.wg_cli.specs.Wanted.{some_writes_files, ArePromisedBy};
 ghost use Rattle.wg_jobs.specs.Names.{can_end, held_for, input_name, output_name, reads_again};
 ghost use Rattle.wg_jobs.specs.Performs.{judged_on, Does};
-ghost use Rattle.wg_jobs.specs.Ranked.{IsProvenRanking, PrintsProvenRanking};
+ghost use Rattle.wg_rank.specs.Weights.{AreWeights, weights_of};
+ghost use Rattle.wg_jobs.specs.Ranked.{IsProvenRanking, PrintsProvenRanking, bounds_after};
 ghost use Rattle.wg_readings.specs.Readings.{Readings};
 ghost use Rattle.wg_jobs.specs.Written.{HasFiles};
 ghost use Rattle.wg_readings.specs.declared.status.Input.{Input};
@@ -58,15 +59,23 @@ pub fn run<D: Depot, O: Sink, E: Sink>(
         → (o : Output) → result ≡ Status.WriteFault o
         → status_of (judged_on r job (D.files depot.old)) ≡ Status.Done }
 
+    // Nothing is printed if a certificate could not be written.
+    ensures silent { (job : Job) → job_of words.now ≡ Some job → result ≡ Status.WriteFault Output.Certificate
+        → O.taken out.new ≡ O.taken out.old }
+
     // What is printed of a ranking: intervals that enclose each exact iterate from the last round on, within the
-    // stated width.
+    // stated width, with teleport by the weights that were read or to each page alike.
     ensures certified { IsTrue D.told → IsTrue O.told → (r : Readings) (base : List ℕ) (rounds damping top : ℕ)
-        → job_of words.now ≡ Some (Job.Rank base rounds damping top) → result ≡ Status.Done
-        → PrintsProvenRanking r (held_for (Job.Rank base rounds damping top)
-        (D.files depot.old)) rounds damping top (O.taken out.old) (O.taken out.new) }
+        (weights certificate : Option (List ℕ))
+        → job_of words.now ≡ Some (Job.Rank base rounds damping top weights certificate) → result ≡ Status.Done
+        → PrintsProvenRanking r (held_for (Job.Rank base rounds damping top weights certificate)
+        (D.files depot.old)) weights rounds damping top (O.taken out.old) (O.taken out.new) }
     ensures enclosing { (r : Readings) (base : List ℕ) (rounds damping top : ℕ)
-        → job_of words.now ≡ Some (Job.Rank base rounds damping top) → result ≡ Status.Done
-        → (g : Digraph) → IsGraph g → g.nodes ≤ MOST_PAGES → IsProvenRanking r rounds damping g }
+        (weights certificate : Option (List ℕ))
+        → job_of words.now ≡ Some (Job.Rank base rounds damping top weights certificate) → result ≡ Status.Done
+        → (g : Digraph) → IsGraph g → g.nodes ≤ MOST_PAGES
+        → (given : Option (List ℕ)) → AreWeights g.nodes (weights_of g.nodes given)
+        → IsProvenRanking r (bounds_after g given damping rounds) g }
 
     // What stands on the output, in the files and on the error output.
     ensures output { IsTrue D.told → IsTrue O.told → (r : Readings) (job : Job) → job_of words.now ≡ Some job

@@ -99,7 +99,9 @@ fn parts_of_output(job: &Option<Job>, output: Output) -> Option<(&str, &'static 
 {
     match output {
         Output::Out => Some(("-", "")),
-        Output::Properties | Output::Graph | Output::Offsets => file_parts(job, output),
+        Output::Properties | Output::Graph | Output::Offsets | Output::Certificate => {
+            file_parts(job, output)
+        }
     }
 }
 
@@ -144,6 +146,10 @@ fn write_line<S: Sink>(
         }
         Status::NoPage(page) => write_all(sink, texts::no_page(page).as_bytes()),
         Status::OverLimit(input) => about(sink, "wg: too long: ", job, input, b""),
+        Status::BadWeights(fault) => fault_in(sink, job, Input::Weights, &texts::weights(fault)),
+        Status::BadCertificate(fault) => {
+            fault_in(sink, job, Input::Certificate, &texts::certificate(fault))
+        }
     }
 }
 

@@ -15,6 +15,7 @@ mod outside;
 mod rankings;
 mod recodings;
 mod shrinking;
+mod weighted;
 
 // The words of a line, parted by blanks; an empty line has none.
 fn words_of(alloc: Global, line: &str) -> Result<Words, Fail> {

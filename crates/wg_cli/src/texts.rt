@@ -2,13 +2,15 @@
 ghost use Rattle.std.specs.Prelude.{◌≡◌, ◌≤◌, length};
 ghost use Rattle.wg_cli.specs.Texts.{text_of_field, text_of_kind, text_of_arcs, text_of_line, text_of_properties};
 ghost use Rattle.wg_cli.specs.Texts.{text_of_record, text_of_word, text_of_archive, no_page_line};
+ghost use Rattle.wg_cli.specs.Texts.{text_of_number_kind, text_of_numbers, text_of_weights, text_of_claim_kind, text_of_certificate};
 ghost use Rattle.wg_readings.specs.Names.{file_of_fault};
 
 use crate::Input;
-use wg_arcs::ArcsKind;
+use wg_arcs::{ArcsKind, NumbersFault, NumbersKind};
 use wg_grammar::{ArchiveFault, Fault, Field, Kind, OffsetWord};
-use wg_jobs::Text;
+use wg_jobs::{Text, WeightsFault};
 use wg_properties::{PropFault, key_name};
+use wg_rank::{CertFault, CertKind};
 
 fn field(field: Field) -> &'static str
     ensures text { result.now ≡ text_of_field field }
@@ -133,6 +135,72 @@ pub fn archive(promised: u64, fault: ArchiveFault) -> Text
             .with_number(found)
             .with(" stored ")
             .with_number(stored),
+    }
+}
+
+fn number_kind(kind: NumbersKind) -> &'static str
+    ensures text { result.now ≡ text_of_number_kind kind }
+    ensures short { length result.now ≤ 8 }
+{
+    match kind {
+        NumbersKind::Shape => "shape",
+        NumbersKind::Range => "range",
+        NumbersKind::TooMany => "too many",
+    }
+}
+
+// A fault of a text of so many numbers.
+fn numbers(wanted: u64, fault: NumbersFault) -> Text
+    ensures { result ≡ text_of_numbers wanted fault }
+{
+    match fault {
+        NumbersFault::Line { line, kind } => Text::new()
+            .with("line ")
+            .with_number(line)
+            .with(": ")
+            .with(number_kind(kind)),
+        NumbersFault::Count(found) => Text::new()
+            .with("count ")
+            .with_number(found)
+            .with(" of ")
+            .with_number(wanted),
+    }
+}
+
+/// A fault of the weights of pages.
+pub fn weights(fault: WeightsFault) -> Text
+    ensures { result ≡ text_of_weights fault }
+{
+    match fault {
+        WeightsFault::Numbers { fault, pages } => numbers(pages, fault),
+        WeightsFault::Zero => Text::new().with("sum zero"),
+    }
+}
+
+fn claim_kind(kind: CertKind) -> &'static str
+    ensures text { result.now ≡ text_of_claim_kind kind }
+    ensures short { length result.now ≤ 7 }
+{
+    match kind {
+        CertKind::Shape => "shape",
+        CertKind::Pages => "pages",
+        CertKind::Missing => "missing",
+        CertKind::Extra => "extra",
+    }
+}
+
+/// A fault of a certificate.
+pub fn certificate(fault: CertFault) -> Text
+    ensures { result ≡ text_of_certificate fault }
+{
+    match fault {
+        CertFault::Line { line, kind } => Text::new()
+            .with("line ")
+            .with_number(line)
+            .with(": ")
+            .with(claim_kind(kind)),
+        CertFault::Sum => Text::new().with("sum"),
+        CertFault::Falls(page) => Text::new().with("page ").with_number(page).with(" falls"),
     }
 }
 

@@ -30,6 +30,9 @@ returns-clause-reached g c = λ t r job is i fault. (c.try_job-ending.ensures.pe
 pub returns-clause-needed : goal.returns-clause-needed
 returns-clause-needed g c = λ t r job is o fault. (c.try_job-ending.ensures.performs job (c.in-Ok.ensures.job ∙ is)).needed t r o fault
 
+pub returns-clause-silent : goal.returns-clause-silent
+returns-clause-silent g c = λ job is fault. (c.try_job-ending.ensures.performs job (c.in-Ok.ensures.job ∙ is)).silent fault
+
 pub returns-clause-output : goal.returns-clause-output
 returns-clause-output g c = λ t o r job is. (c.try_job-ending.ensures.performs job (c.in-Ok.ensures.job ∙ is)).output t o r
 
@@ -37,9 +40,9 @@ pub returns-clause-files : goal.returns-clause-files
 returns-clause-files g c = λ t r job is. (c.try_job-ending.ensures.performs job (c.in-Ok.ensures.job ∙ is)).files t r
 
 pub returns-clause-enclosing : goal.returns-clause-enclosing
-returns-clause-enclosing g c = λ r base rounds damping top is done graph ok small.
-    let within = rank_within c.args.words.now base rounds damping top is in
-    proven r rounds damping within.0 within.1 graph ok small
+returns-clause-enclosing g c = λ r base rounds damping top weights certificate is done graph ok small given are.
+    let within = rank_within c.args.words.now base rounds damping top weights certificate is in
+    proven r rounds damping within.0 within.1 graph ok small given are
 
 pub returns-clause-complete : goal.returns-clause-complete
 returns-clause-complete g c = λ t r job is quiet.
@@ -47,11 +50,11 @@ returns-clause-complete g c = λ t r job is quiet.
     unhindered _ _ _ _ _ _ quiet (judged_on r job (g.D.Depot.files c.args.depot.now)) _ does.causes (does.answers t r)
 
 pub returns-clause-certified : goal.returns-clause-certified
-returns-clause-certified g c = λ t o r base rounds damping top is done.
-    let job = Rank base rounds damping top in
+returns-clause-certified g c = λ t o r base rounds damping top weights certificate is done.
+    let job = Rank base rounds damping top weights certificate in
     let files = g.D.Depot.files c.args.depot.now in
     let does = c.try_job-ending.ensures.performs job (c.in-Ok.ensures.job ∙ is) in
-    let within = rank_within c.args.words.now base rounds damping top is in
-    proven_ranking r (held_for job files) base rounds damping top _ _ within.0 within.1
+    let within = rank_within c.args.words.now base rounds damping top weights certificate is in
+    proven_ranking r (held_for job files) base rounds damping top weights certificate _ _ within.0 within.1
     (when_done (judged_on r job files) (subst (Answers (judged_on r job files)) done (does.answers t r)))
     (subst (HasOutput (output_of (judged_on r job files)) (g.O.Sink.taken c.args.out.now) (g.O.Sink.taken c.try_job-ending.new.out)) done (does.output t o r))
