@@ -1,14 +1,13 @@
 -- A certificate that was written, and the ranking that is printed after it.
-use Rattle.std.proofs.Common.{◌≡◌, ◌≢◌, ◌∙◌, ◌⊎◌, inl, inr, ℕ, Bool, List, length, take, refl, sym, ap, subst, Option, Some, Result, Ok, Err}
+use Rattle.std.proofs.Common.{◌≡◌, ◌≢◌, ◌∙◌, ◌⊎◌, inl, inr, ℕ, Bool, List, length, refl, sym, ap, subst, Option, Some, Result, Ok, Err}
 use Rattle.std.specs.Bool.{IsTrue}
 use Rattle.std.specs.FinMap as map
-use Rattle.std.specs.Result.{IfErr, IsErrAnd, OnOk}
+use Rattle.std.specs.Result.{IfErr, IsErrAnd}
 use Rattle.std.proofs.Math.Seq.{take-length}
 use Rattle.wg_io.specs.Outside.{Counts, Files, Increased, NonDecreasing}
 use Rattle.wg_io.specs.Puts.{Puts}
 use Rattle.wg_io.specs.declared.output.Output.{Output}
 use Rattle.wg_io.specs.declared.output.Output.TheVariants.{Certificate, Out}
-use Rattle.wg_io.proofs.FilesLemmas.{none_falls-trans}
 use Rattle.wg_io.proofs.PutsLemmas.{is_that_err}
 use Rattle.wg_encoder.specs.Gone.{HoldsFront, HoldsLess}
 use Rattle.wg_rank.specs.Intervals.{Intervals}
@@ -19,7 +18,7 @@ use Rattle.wg_readings.specs.Readings.{Readings}
 use Rattle.wg_readings.specs.declared.ending.Ending.{Ending}
 use Rattle.wg_readings.specs.declared.status.Input.{Input}
 use Rattle.wg_readings.specs.declared.status.Status.{Status}
-use Rattle.wg_readings.specs.declared.status.Status.TheVariants.{Memory, WriteFault}
+use Rattle.wg_readings.specs.declared.status.Status.TheVariants.{WriteFault}
 use Rattle.wg_readings.proofs.Statuses.{IsOwn, fault_caused, own_caused, unput_cause}
 use Rattle.wg_jobs.specs.Performs.{CertifiesRanking, Outside}
 use Rattle.wg_jobs.specs.Ranked.{certificate_text, ranking_text}

@@ -1,5 +1,5 @@
 -- What a certificate's text claims is within the limits, and of as many pages as are asked for.
-use Rattle.std.proofs.Common.{◌≡◌, ◌∙◌, ◌≤◌, ◌+◌, ℕ, zero, suc, nat_le, List, [], ◌∷◌, length, drop, codes, if◌then◌else◌, Option, Some, None, Result, Ok, Err, inl, inr, refl, sym, ap, arith}
+use Rattle.std.proofs.Common.{◌≡◌, ◌∙◌, ◌≤◌, ◌+◌, ℕ, zero, suc, nat_le, List, [], ◌∷◌, length, drop, codes, Option, Some, None, Result, Ok, Err, inl, inr, refl, sym, ap, arith}
 use Rattle.std.proofs.lemmas.Bool.{cases_Bool, leb-true}
 use Rattle.wg_num.specs.Lines.{lines_of}
 use Rattle.wg_num.specs.Units.{units_of}
@@ -7,7 +7,7 @@ use Rattle.wg_params.specs.declared.limits.TheConstants.{MOST_DAMPING}
 use Rattle.wg_rank.specs.Sum.{sum_below}
 use Rattle.wg_rank.specs.Intervals.{by_page}
 use Rattle.wg_rank.specs.Claims.{Claim}
-use Rattle.wg_rank.specs.CertificateText.{and_then, at_most, before, bounds_of, claim_in, claim_of, claimed, damping_of, number_after, or_fault, pages_of}
+use Rattle.wg_rank.specs.CertificateText.{and_then, at_most, before, bounds_of, claim_of, claimed, damping_of, number_after, or_fault, pages_of}
 use Rattle.wg_rank.specs.declared.fault.CertFault.{CertFault}
 use Rattle.wg_rank.specs.declared.fault.CertFault.TheVariants as fault
 use Rattle.wg_rank.specs.declared.fault.CertKind.TheVariants as kind

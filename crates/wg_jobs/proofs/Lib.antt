@@ -8,6 +8,7 @@ pub mod VerifyLemmas
 pub mod VerifyJobs
 pub mod ClaimLemmas
 pub mod VerifiedLemmas
+pub mod WrittenLemmas
 pub mod JobSteps
 pub mod CheckLemmas
 pub mod PrintedLines

@@ -1,10 +1,9 @@
 -- How each step of `rank` leads on or ends it.
-use Rattle.std.proofs.Common.{◌≡◌, ◌∙◌, ℕ, Bool, true, false, List, [], ◌∷◌, Option, Some, None, Result, Ok, Err, refl, sym, ap, subst}
+use Rattle.std.proofs.Common.{◌≡◌, ◌∙◌, ℕ, Bool, List, [], ◌∷◌, Option, Some, None, Result, Ok, Err, refl, sym, ap, subst}
 use Rattle.std.specs.Bool.{IsTrue}
 use Rattle.std.specs.Result.{IfErr}
 use Rattle.wg_io.specs.Outside.{Files, Counts, Increased}
 use Rattle.wg_io.specs.Puts.{Puts}
-use Rattle.wg_io.specs.declared.output.Output.{Output}
 use Rattle.wg_io.specs.declared.output.Output.TheVariants.{Out}
 use Rattle.wg_params.specs.Parameters.{Parameters}
 use Rattle.wg_graph.specs.Digraph.{Digraph}
@@ -12,7 +11,7 @@ use Rattle.wg_rank.specs.Intervals.{Intervals}
 use Rattle.wg_words.specs.declared.jobs.Job.{Job}
 use Rattle.wg_words.specs.declared.jobs.Job.TheVariants.{Rank}
 use Rattle.wg_readings.specs.Answers.{IsUnput, status_in}
-use Rattle.wg_readings.specs.Judged.{Judged, Written, accepted, a_certificate, certified, files_of, output_of, status_of}
+use Rattle.wg_readings.specs.Judged.{Judged, a_certificate, files_of, output_of, status_of}
 use Rattle.wg_readings.specs.Loading.{LoadsGraph, LoadsParams, LoadsWeights}
 use Rattle.wg_readings.specs.Names.{certificate_to, weights_named}
 use Rattle.wg_readings.specs.Promised.{arcs_in}

@@ -1,15 +1,14 @@
 -- A certificate that is judged, and what holds of one that was not refused.
-use Rattle.std.proofs.Common.{◌≡◌, ◌∙◌, ◌<◌, ◌≤◌, ◌+◌, ℕ, zero, suc, Bool, true, false, cond, nat_lt, List, length, find, Option, Some, None, Result, Ok, Err, inl, inr, refl, sym, ap, subst, arith}
+use Rattle.std.proofs.Common.{◌≡◌, ◌∙◌, ◌<◌, ◌≤◌, ◌+◌, ℕ, zero, suc, Bool, true, false, cond, nat_lt, List, find, Option, Some, None, Ok, inl, inr, refl, sym, ap, subst, arith}
 use Rattle.std.proofs.lemmas.Bool.{cases_Bool, cases_lt, ltb-false, ltb-true}
 use Rattle.std.specs.List.{range_with_len}
 use Rattle.wg_graph.specs.Digraph.{Digraph}
 use Rattle.wg_rank.specs.Rank.{lower, gap}
 use Rattle.wg_rank.specs.Intervals.{by_page}
-use Rattle.wg_rank.specs.Claims.{Claim, FallsFirst, IsJudged, Rises, weights_for}
+use Rattle.wg_rank.specs.Claims.{Claim, FallsFirst, Rises, weights_for}
 use Rattle.wg_rank.specs.declared.fault.CertFault.TheVariants.{Falls}
 use Rattle.wg_readings.specs.Answers.{Steps}
 use Rattle.wg_readings.specs.Judged.{Judged, refused}
-use Rattle.wg_readings.specs.declared.ending.Ending.{Ending}
 use Rattle.wg_readings.specs.declared.status.Status.TheVariants.{BadCertificate}
 use Rattle.wg_jobs.specs.Verified.{falls, first_fall, unless_falls, with_gap}
 

@@ -1,5 +1,5 @@
 -- A job that reads the graph of an archive whole, and then weights, if a file of them is named.
-use Rattle.std.proofs.Common.{◌≡◌, ◌∙◌, ℕ, Bool, true, false, List, [], ◌∷◌, Option, Some, None, is_some, Result, Ok, Err, refl, sym, ap}
+use Rattle.std.proofs.Common.{◌≡◌, ℕ, Bool, true, false, List, [], ◌∷◌, Option, Some, None, is_some, Ok, Err, refl, ap}
 use Rattle.std.specs.Bool.{IsTrue}
 use Rattle.wg_io.specs.Outside.{Files, Counts}
 use Rattle.wg_params.specs.Parameters.{Parameters}

@@ -1,4 +1,5 @@
 pub mod Built
+pub mod Certificates
 pub mod Copying
 pub mod Judged
 pub mod Names

@@ -1,6 +1,7 @@
 //! What the contract of [`perform`](crate::perform) rests on.
 ghost use Rattle.std.specs.Prelude.{ℕ};
 ghost use Rattle.wg_jobs.specs.Built.{BuildsAreAccepted, BuiltAreAccepted, ConversionsAreAccepted};
+ghost use Rattle.wg_jobs.specs.Certificates.{AcceptedAreProven, WrittenAreAccepted};
 ghost use Rattle.wg_readings.specs.Readings.{Readings, ReadingsAreOne};
 ghost use Rattle.wg_jobs.specs.Ranked.{RankingIsProven};
 
@@ -34,4 +35,12 @@ pub fn built_archives()
 /// the one that was read, and to transpose an archive twice is to recode it.
 pub fn converted_archives()
     ensures { (r : Readings) → ConversionsAreAccepted r }
+{}
+
+/// What `verify` accepts holds, whoever made the certificate: each stationary vector of the graph lies between the bounds
+/// and those with the gap that is printed more, page by page, with teleport by the weights that were read or to each page
+/// alike. And it accepts each certificate that `rank` wrote over the same graph and the same weights.
+pub fn certificates()
+    ensures proven { (r : Readings) → AcceptedAreProven r }
+    ensures accepted { (r : Readings) → WrittenAreAccepted r }
 {}

@@ -1,4 +1,4 @@
-use Rattle.std.proofs.Common.{◌≡◌, ◌∙◌, List, ℕ, [], take, ap, sym, subst, Some}
+use Rattle.std.proofs.Common.{◌∙◌, List, ℕ, [], take, ap}
 use Rattle.std.specs.FinMap as map
 use Rattle.wg_io.specs.Outside.{Files, appended}
 use Rattle.wg_encoder.proofs.Sent.{get_more, get_other}

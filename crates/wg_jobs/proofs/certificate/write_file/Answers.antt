@@ -1,7 +1,7 @@
-use Rattle.std.proofs.Common.{◌∙◌, ap, inl, inr, sym, Some}
+use Rattle.std.proofs.Common.{◌∙◌, ap, inl, inr, Some}
 use Rattle.std.specs.FinMap as map
 use Rattle.wg_io.specs.Outside.{Files}
-use Rattle.wg_jobs.proofs.BuildLemmas.{ended_by, rose_since}
+use Rattle.wg_jobs.proofs.BuildLemmas.{rose_since}
 use Rattle.wg_jobs.proofs.WritingLemmas.{if_err_then, if_that_err}
 use Rattle.wg_jobs.proofs.certificate.write_file.Goals as goal
 
