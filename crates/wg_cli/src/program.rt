@@ -16,6 +16,7 @@ ghost use Rattle.wg_jobs.specs.Names.{can_end, held_for, input_name, output_name
 ghost use Rattle.wg_jobs.specs.Performs.{judged_on, Does};
 ghost use Rattle.wg_rank.specs.Weights.{AreWeights, weights_of};
 ghost use Rattle.wg_jobs.specs.Ranked.{IsProvenRanking, PrintsProvenRanking, bounds_after};
+ghost use Rattle.wg_jobs.specs.Verified.{PrintsProvenGap};
 ghost use Rattle.wg_readings.specs.Readings.{Readings};
 ghost use Rattle.wg_jobs.specs.Written.{HasFiles};
 ghost use Rattle.wg_readings.specs.declared.status.Input.{Input};
@@ -76,6 +77,14 @@ pub fn run<D: Depot, O: Sink, E: Sink>(
         → (g : Digraph) → IsGraph g → g.nodes ≤ MOST_PAGES
         → (given : Option (List ℕ)) → AreWeights g.nodes (weights_of g.nodes given)
         → IsProvenRanking r (bounds_after g given damping rounds) g }
+
+    // What is printed of a certificate: what its bounds leave of 1. Each stationary vector lies between the bounds and
+    // those with so much more, with teleport by the weights that were read or to each page alike.
+    ensures verified { IsTrue D.told → IsTrue O.told → (r : Readings) (base certificate : List ℕ)
+        (weights : Option (List ℕ))
+        → job_of words.now ≡ Some (Job.Verify base certificate weights) → result ≡ Status.Done
+        → PrintsProvenGap r (held_for (Job.Verify base certificate weights) (D.files depot.old)) weights
+        (O.taken out.old) (O.taken out.new) }
 
     // What stands on the output, in the files and on the error output.
     ensures output { IsTrue D.told → IsTrue O.told → (r : Readings) (job : Job) → job_of words.now ≡ Some job

@@ -1,6 +1,6 @@
 use Rattle.std.proofs.Common.{◌∙◌, subst}
 use Rattle.wg_words.specs.Jobs.{job_of}
-use Rattle.wg_words.specs.declared.jobs.Job.TheVariants.{Rank}
+use Rattle.wg_words.specs.declared.jobs.Job.TheVariants.{Rank, Verify}
 use Rattle.wg_readings.specs.Answers.{Answers, HasOutput}
 use Rattle.wg_readings.specs.Judged.{output_of}
 use Rattle.wg_jobs.specs.Names.{held_for}
@@ -10,6 +10,7 @@ use Rattle.wg_words.proofs.JobLemmas.{rank_within}
 use Rattle.wg_jobs.proofs.PerformsLemmas.{unhindered}
 use Rattle.wg_cli.proofs.ProvenLemmas.{proven_ranking, when_done}
 use Rattle.wg_jobs.proofs.RankLemmas.{proven}
+use Rattle.wg_jobs.proofs.VerifiedLemmas.{proven_gap}
 use Rattle.wg_cli.proofs.program.run.Goals as goal
 
 pub returns-in_default-clause-line : goal.returns-in_default-clause-line
@@ -56,5 +57,14 @@ returns-clause-certified g c = λ t o r base rounds damping top weights certific
     let does = c.try_job-ending.ensures.performs job (c.in-Ok.ensures.job ∙ is) in
     let within = rank_within c.args.words.now base rounds damping top weights certificate is in
     proven_ranking r (held_for job files) base rounds damping top weights certificate _ _ within.0 within.1
+    (when_done (judged_on r job files) (subst (Answers (judged_on r job files)) done (does.answers t r)))
+    (subst (HasOutput (output_of (judged_on r job files)) (g.O.Sink.taken c.args.out.now) (g.O.Sink.taken c.try_job-ending.new.out)) done (does.output t o r))
+
+pub returns-clause-verified : goal.returns-clause-verified
+returns-clause-verified g c = λ t o r base certificate weights is done.
+    let job = Verify base certificate weights in
+    let files = g.D.Depot.files c.args.depot.now in
+    let does = c.try_job-ending.ensures.performs job (c.in-Ok.ensures.job ∙ is) in
+    proven_gap r (held_for job files) base certificate weights _ _
     (when_done (judged_on r job files) (subst (Answers (judged_on r job files)) done (does.answers t r)))
     (subst (HasOutput (output_of (judged_on r job files)) (g.O.Sink.taken c.args.out.now) (g.O.Sink.taken c.try_job-ending.new.out)) done (does.output t o r))
