@@ -15,6 +15,7 @@ mod outside;
 mod rankings;
 mod recodings;
 mod shrinking;
+mod verified;
 mod weighted;
 
 // The words of a line, parted by blanks; an empty line has none.

@@ -190,8 +190,8 @@ fn the_output_fails_after_the_files(rt: HostRuntime) -> Result<(), Fail> {
     Ok(())
 }
 
-// A list of 100 arcs from each of 1000 pages.
-fn long_list(alloc: Global) -> Result<String, Fail> {
+/// A list of 100 arcs from each of 1000 pages.
+pub fn long_list(alloc: Global) -> Result<String, Fail> {
     let mut list = String::new(alloc);
     for u in 0..1000_u64 {
         for k in 0..100_u64 {
