@@ -46,11 +46,12 @@ impl GraphBuilder {
         })
     }
 
-    // The successors that page x has so far.
+    /// The successors that page `x` has so far; none where it is not begun. It takes constant time.
     #[inline(always)]
-    fn list_so_far(&self, x: u64) -> &[u64]
+    pub fn list_so_far(&self, x: u64) -> &[u64]
         ensures value { result.now ≡ successors self.now x }
         ensures ascends { Ascends 0 result.now }
+        ensures below { Below self.now.nodes result.now }
     {
         if x < self.ends.len() as u64 {
             piece(&self.ends, &self.all, x as usize)
@@ -64,6 +65,7 @@ impl GraphBuilder {
     pub fn nodes(&self) -> u64
         ensures value { result ≡ self.now.nodes }
         ensures within { result ≤ MOST_PAGES }
+        ensures prefix { IsGraphPrefix self.now }
     {
         self.nodes
     }

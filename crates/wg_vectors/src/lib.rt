@@ -1,5 +1,5 @@
 //! Worked values to hold the other crates against, as tables that anyone can read: they come from the formats'
-//! descriptions and not from a program.
+//! descriptions and not from a program. And graphs as large as one likes, which follow from a seed.
 //!
 //! [`VECTORS`] has words of the five codes, [`NO_WORDS`] bits that are no word, and [`FOLDS`] numbers of either sign
 //! with their values. The tests of this crate run each of them through `wg_codes`, both ways.
@@ -9,12 +9,24 @@
 //! archive that a test needs by itself has a name of its own, as [`ONE_ARC`] or [`TWICE`]. [`bytes_of`] turns the text
 //! of some bits into bytes, and [`usual`] makes parameters in the usual codes. The crates above read, write and refuse
 //! these archives in their tests.
+//!
+//! [`generate`] draws a graph of up to [`MOST_GENERATED`] pages that is like a web graph: lists share members with
+//! lists close before them, and have intervals. The definition says each list, and so the same seed gives the same
+//! graph in any program that follows it.
+//!
+//! ```text
+//! seed --> for each page, in order: copy from a list close before --> scatter --> add an interval --> its list
+//!             state of the generator, from page to page; the lists so far, in the graph that grows
+//! ```
 #![tactic(auto)]
 
 mod archives;
 mod bits;
 mod codes;
+mod drafting;
 mod faults;
+mod generating;
+pub mod laws;
 mod longer;
 mod shapes;
 
@@ -29,6 +41,7 @@ pub use faults::{
     OFFSETS_NO_WORD, OFFSETS_NOT_FROM_0, OFFSETS_TOO_FAR, Refused, TOO_FEW_ARCS, TOO_LONG_A_CHAIN,
     TWICE,
 };
+pub use generating::{MOST_GENERATED, generate};
 pub use longer::LONGER;
 pub use shapes::{PLAIN, Shape, usual};
 

@@ -1,0 +1,4 @@
+pub mod Loops
+pub mod Placed
+pub mod Steps
+pub mod Whole
