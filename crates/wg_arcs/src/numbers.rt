@@ -11,7 +11,8 @@ use wg_num::first_line;
 
 // Adds a number of this line.
 fn add(numbers: &mut List, line: u64, number: u64, n: u64, limit: u64) -> Result<(), NumbersError>
-    ensures added { OnOk result (AreAdded (judged n limit line (length numbers.old) (Some number)) numbers.old numbers.new) }
+    ensures added { OnOk result (AreAdded (judged n limit line (length numbers.old) (Some number)) numbers.old
+        numbers.new) }
     ensures few { OnOk result (length numbers.new ≤ n) }
     ensures below { OnOk result (All (λ v. v < limit) numbers.old → All (λ v. v < limit) numbers.new) }
     ensures err { IfErr result (IsRefused (judged n limit line (length numbers.old) (Some number))) }
@@ -40,7 +41,8 @@ fn read_line(
     n: u64,
     limit: u64,
 ) -> Result<(), NumbersError>
-    ensures added { OnOk result (AreAdded (numbers_on n limit line (length numbers.old) text.now) numbers.old numbers.new) }
+    ensures added { OnOk result (AreAdded (numbers_on n limit line (length numbers.old) text.now) numbers.old
+        numbers.new) }
     ensures few { OnOk result (length numbers.old ≤ n → length numbers.new ≤ n) }
     ensures below { OnOk result (All (λ v. v < limit) numbers.old → All (λ v. v < limit) numbers.new) }
     ensures err { IfErr result (IsRefused (numbers_on n limit line (length numbers.old) text.now)) }

@@ -20,7 +20,8 @@ fn add(builder: &mut GraphBuilder, line: u64, u: u64, v: u64) -> Result<(), Arcs
     ensures ends { OnOk result (EndsInArc builder.new) }
     ensures fine { OnOk result (refusal_of builder.old.nodes (arcs_of builder.old) (Some (u, v)) ≡ None) }
     ensures arcs { OnOk result (arcs_of builder.new ≡ arcs_of builder.old ++ (u, v) ∷ []) }
-    ensures err { IfErr result (λ e. IsRefusedLine line (refusal_of builder.old.nodes (arcs_of builder.old) (Some (u, v))) e) }
+    ensures err { IfErr result (λ e. IsRefusedLine line
+        (refusal_of builder.old.nodes (arcs_of builder.old) (Some (u, v))) e) }
 {
     if builder.nodes() <= u || builder.nodes() <= v {
         return Err(ArcsError::Line {

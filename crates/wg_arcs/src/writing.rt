@@ -26,7 +26,8 @@ pub fn print_list<S: Sink>(
     page: u64,
     list: &[u64],
 ) -> Result<(), WriteError>
-    ensures prints { IsTrue S.told → Prints (page_lines page list.now) (S.taken sink.old) (S.taken sink.new) lines.old lines.new result }
+    ensures prints { IsTrue S.told → Prints (page_lines page list.now) (S.taken sink.old) (S.taken sink.new) lines.old
+        lines.new result }
     ensures later { S.later sink.old sink.new }
     ensures refusals { SinkRefusals ⟦<S as Sink>⟧ sink.old sink.new result }
 {

@@ -90,7 +90,8 @@ impl Buffer {
     ) -> Result<(), WriteError>
         requires { length self.old ≤ FULL }
         ensures room { length self.new ≤ FULL }
-        ensures sends { Sends ⟦<D as Depot>⟧ depot.old depot.new name.now (bits_of self.old) (low_bits 64 word) (bits_of self.new) result }
+        ensures sends { Sends ⟦<D as Depot>⟧ depot.old depot.new name.now (bits_of self.old) (low_bits 64 word)
+            (bits_of self.new) result }
     {
         self.push_word(word);
         if self.len > FULL {

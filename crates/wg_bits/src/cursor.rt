@@ -111,7 +111,8 @@ impl<'a> Cursor<'a> {
     pub fn take(&mut self, count: u32) -> Option<u64>
         requires { count ≤ 64 }
         ensures none { IfNone result ((length (rest self.old) < count) × (self.new ≡ self.old)) }
-        ensures some { IfSome result (λ v. (v < 2 ^ count) × (rest self.old ≡ low_bits count v ++ rest self.new) × (self.new ≡ moved self.old count)) }
+        ensures some { IfSome result (λ v. (v < 2 ^ count) × (rest self.old ≡ low_bits count v ++ rest self.new)
+            × (self.new ≡ moved self.old count)) }
     {
         if self.remaining() < count as u64 {
             return None;

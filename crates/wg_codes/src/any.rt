@@ -57,7 +57,8 @@ pub fn write<D: Depot>(
     requires code { IsCode code }
     requires value { v ≤ top code }
     requires ready { writer.old.failed ≡ false }
-    ensures sends { Sends ⟦<D as Depot>⟧ depot.old depot.new name.now writer.old.bits (word code v) writer.new.bits result }
+    ensures sends { Sends ⟦<D as Depot>⟧ depot.old depot.new name.now writer.old.bits (word code v) writer.new.bits
+        result }
     ensures failed { writer.new.failed ≡ is_err result }
 {
     match code {

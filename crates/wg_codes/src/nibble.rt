@@ -67,7 +67,8 @@ pub fn write<D: Depot>(
 ) -> Result<(), WriteError>
     requires value { v ≤ 2 ^ 63 - 1 }
     requires ready { writer.old.failed ≡ false }
-    ensures sends { Sends ⟦<D as Depot>⟧ depot.old depot.new name.now writer.old.bits (nibble v) writer.new.bits result }
+    ensures sends { Sends ⟦<D as Depot>⟧ depot.old depot.new name.now writer.old.bits (nibble v) writer.new.bits
+        result }
     ensures failed { writer.new.failed ≡ is_err result }
 {
     let mut more = highest_one(v) / 3;

@@ -120,7 +120,8 @@ pub fn write<D: Depot>(
     requires k { (1 ≤ k) × (k ≤ 31) }
     requires value { v ≤ 2 ^ (k * (63 / k)) - 2 }
     requires ready { writer.old.failed ≡ false }
-    ensures sends { Sends ⟦<D as Depot>⟧ depot.old depot.new name.now writer.old.bits (zeta k v) writer.new.bits result }
+    ensures sends { Sends ⟦<D as Depot>⟧ depot.old depot.new name.now writer.old.bits (zeta k v) writer.new.bits
+        result }
     ensures failed { writer.new.failed ≡ is_err result }
 {
     let head = over(highest_one(v + 1), k);

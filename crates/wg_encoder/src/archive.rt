@@ -26,8 +26,12 @@ pub fn encode<D: Depot>(
     requires nodes { params.nodes ≡ graph.now.nodes }
     requires arcs { params.arcs ≡ arc_count graph.now }
     ensures bits { IfOk result (λ bits. bits ≡ length (graph_bits params graph.now.lists)) }
-    ensures ok { IsTrue D.told → fin.get (D.files depot.old) (graph_name base.now) ≡ Some [] → fin.get (D.files depot.old) (offsets_name base.now) ≡ Some [] → OnOk result (IsWritten (D.files depot.new) base.now params graph.now.lists) }
-    ensures err { IsTrue D.told → fin.get (D.files depot.old) (graph_name base.now) ≡ Some [] → fin.get (D.files depot.old) (offsets_name base.now) ≡ Some [] → IfErr result (HasStopped (D.files depot.new) base.now params graph.now.lists) }
+    ensures ok { IsTrue D.told → fin.get (D.files depot.old) (graph_name base.now) ≡ Some []
+        → fin.get (D.files depot.old) (offsets_name base.now) ≡ Some []
+        → OnOk result (IsWritten (D.files depot.new) base.now params graph.now.lists) }
+    ensures err { IsTrue D.told → fin.get (D.files depot.old) (graph_name base.now) ≡ Some []
+        → fin.get (D.files depot.old) (offsets_name base.now) ≡ Some []
+        → IfErr result (HasStopped (D.files depot.new) base.now params graph.now.lists) }
     ensures only_two { IsTrue D.told → OnlyTwo base.now (D.files depot.old) (D.files depot.new) }
     ensures fault { IfErr result (HasFailed base.now (D.counts depot.old) (D.counts depot.new)) }
     ensures later { NonDecreasing (D.counts depot.old) (D.counts depot.new) }

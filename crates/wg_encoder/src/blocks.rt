@@ -22,7 +22,8 @@ pub(crate) struct BlockTally {
 
 impl BlockTally {
     pub(crate) fn new(params: &Params, reference: u64) -> BlockTally
-        ensures fields { (referenced list : List ℕ) → block_dues result (mask_of list referenced) ≡ copy_fields params.now reference referenced list }
+        ensures fields { (referenced list : List ℕ)
+            → block_dues result (mask_of list referenced) ≡ copy_fields params.now reference referenced list }
         ensures within { IsWithin result 0 }
     {
         BlockTally {
@@ -38,7 +39,8 @@ impl BlockTally {
     #[inline(always)]
     pub(crate) fn add(&mut self, room: u64, copied: bool) -> u64
         requires { (i : ℕ) × (i < 2 ^ 62) × IsWithin self.old i }
-        ensures fields { (mask : List Bool) → room_after result (block_dues self.new mask) ≡ room_after room (block_dues self.old (copied ∷ mask)) }
+        ensures fields { (mask : List Bool) → room_after result (block_dues self.new mask)
+            ≡ room_after room (block_dues self.old (copied ∷ mask)) }
         ensures within { (i : ℕ) → IsWithin self.old i → IsWithin self.new (i + 1) }
     {
         match self.run.step(copied) {
@@ -52,7 +54,8 @@ impl BlockTally {
     fn add_block(&mut self, room: u64, block: u64) -> u64
         requires few { self.old.count < 2 ^ 62 }
         requires code { IsCode self.old.code }
-        ensures fields { (blocks : List ℕ) → room_after result (dues_of_blocks self.new blocks) ≡ room_after room (dues_of_blocks self.old (block ∷ blocks)) }
+        ensures fields { (blocks : List ℕ) → room_after result (dues_of_blocks self.new blocks)
+            ≡ room_after room (dues_of_blocks self.old (block ∷ blocks)) }
         ensures same { self.new ≡ record self.old { count = self.old.count + 1 } }
     {
         let stored = stored_block(self.count, block);

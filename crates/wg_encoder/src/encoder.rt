@@ -53,7 +53,13 @@ impl<'a> Encoder<'a> {
     pub fn new(alloc: Global, params: Params, graph: &'a Graph) -> Result<Encoder<'a>, AllocError>
         requires nodes { params.nodes ≡ graph.now.nodes }
         requires arcs { params.arcs ≡ arc_count graph.now }
-        ensures fresh { IfOk result (λ e. e ≡ record { params = params; graph = graph.now; page = 0; graph_waits = []; offsets_waits = [] }) }
+        ensures fresh { IfOk result (λ e. e ≡ record {
+          params = params;
+          graph = graph.now;
+          page = 0;
+          graph_waits = [];
+          offsets_waits = [];
+        }) }
         ensures begun { IfOk result (λ e. (files : Files) (base : List ℕ) → fin.get files (graph_name base) ≡ Some []
             → fin.get files (offsets_name base) ≡ Some [] → HasSentUpTo files base e) }
     {
@@ -129,9 +135,15 @@ impl<'a> Encoder<'a> {
     /// Writes the page that comes next, and goes on to the one after it, as [`ListEncoder::next`] does.
     pub fn next<D: Depot>(self, depot: &mut D, base: &str) -> Result<Encoder<'a>, EncodeError>
         requires more { self.page < self.graph.nodes }
-        ensures on { IfOk result (λ e. e ≡ record self.entry { page = self.entry.page + 1; graph_waits = e.graph_waits; offsets_waits = e.offsets_waits }) }
-        ensures ok { IsTrue D.told → HasSentUpTo (D.files depot.old) base.now self.entry → IfOk result (λ e. HasSentUpTo (D.files depot.new) base.now e) }
-        ensures err { IsTrue D.told → HasSentUpTo (D.files depot.old) base.now self.entry → IfErr result (HasStopped (D.files depot.new) base.now self.entry.params self.entry.graph.lists) }
+        ensures on { IfOk result (λ e. e ≡ record self.entry {
+          page = self.entry.page + 1;
+          graph_waits = e.graph_waits;
+          offsets_waits = e.offsets_waits;
+        }) }
+        ensures ok { IsTrue D.told → HasSentUpTo (D.files depot.old) base.now self.entry
+            → IfOk result (λ e. HasSentUpTo (D.files depot.new) base.now e) }
+        ensures err { IsTrue D.told → HasSentUpTo (D.files depot.old) base.now self.entry
+            → IfErr result (HasStopped (D.files depot.new) base.now self.entry.params self.entry.graph.lists) }
         ensures only_two { IsTrue D.told → OnlyTwo base.now (D.files depot.old) (D.files depot.new) }
         ensures fault { IfErr result (HasFailed base.now (D.counts depot.old) (D.counts depot.new)) }
         ensures later { NonDecreasing (D.counts depot.old) (D.counts depot.new) }
@@ -148,8 +160,10 @@ impl<'a> Encoder<'a> {
     pub fn finish<D: Depot>(self, depot: &mut D, base: &str) -> Result<u64, EncodeError>
         requires done { self.page ≡ self.graph.nodes }
         ensures bits { IfOk result (λ bits. bits ≡ length (graph_bits self.entry.params self.entry.graph.lists)) }
-        ensures ok { IsTrue D.told → HasSentUpTo (D.files depot.old) base.now self.entry → OnOk result (IsWritten (D.files depot.new) base.now self.entry.params self.entry.graph.lists) }
-        ensures err { IsTrue D.told → HasSentUpTo (D.files depot.old) base.now self.entry → IfErr result (HasStopped (D.files depot.new) base.now self.entry.params self.entry.graph.lists) }
+        ensures ok { IsTrue D.told → HasSentUpTo (D.files depot.old) base.now self.entry
+            → OnOk result (IsWritten (D.files depot.new) base.now self.entry.params self.entry.graph.lists) }
+        ensures err { IsTrue D.told → HasSentUpTo (D.files depot.old) base.now self.entry
+            → IfErr result (HasStopped (D.files depot.new) base.now self.entry.params self.entry.graph.lists) }
         ensures only_two { IsTrue D.told → OnlyTwo base.now (D.files depot.old) (D.files depot.new) }
         ensures fault { IfErr result (HasFailed base.now (D.counts depot.old) (D.counts depot.new)) }
         ensures later { NonDecreasing (D.counts depot.old) (D.counts depot.new) }

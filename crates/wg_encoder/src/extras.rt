@@ -51,7 +51,9 @@ impl ExtraTally {
         requires ready { IsReady self.old }
         requires few { self.old.intervals.count < 2 ^ 62 }
         requires low { run.left + run.length ≤ 2 ^ 62 }
-        ensures fields { (found : Bool) (runs : List Run) → room_after result (dues_of_runs self.new found runs) ≡ room_after room (dues_of_runs self.old found (run ∷ runs)) }
+        ensures fields { (found : Bool) (runs : List Run)
+            → room_after result (dues_of_runs self.new found runs)
+            ≡ room_after room (dues_of_runs self.old found (run ∷ runs)) }
         ensures ready { IsReady self.new }
         ensures few { self.new.intervals.count ≤ self.old.intervals.count + run.length }
         ensures same { self.new.run ≡ self.old.run }
@@ -66,7 +68,9 @@ impl ExtraTally {
     #[inline(always)]
     fn add(&mut self, room: u64, number: u64) -> u64
         requires { (numbers : List ℕ) × MayCome self.old (number ∷ numbers) }
-        ensures fields { (numbers : List ℕ) → Ascends (number + 1) numbers → room_after result (extra_dues self.new numbers) ≡ room_after room (extra_dues self.old (number ∷ numbers)) }
+        ensures fields { (numbers : List ℕ) → Ascends (number + 1) numbers
+            → room_after result (extra_dues self.new numbers)
+            ≡ room_after room (extra_dues self.old (number ∷ numbers)) }
         ensures come { (numbers : List ℕ) → MayCome self.old (number ∷ numbers) → MayCome self.new numbers }
     {
         match self.run.step(number) {
@@ -80,7 +84,9 @@ impl ExtraTally {
     #[inline(always)]
     pub(crate) fn add_below(&mut self, room: u64, members: &mut Members<'_>, number: u64) -> u64
         requires { MayCome self.old members.old }
-        ensures fields { (rest : List ℕ) → Ascends number rest → room_after result (extra_dues self.new (extras members.new rest)) ≡ room_after room (extra_dues self.old (extras members.old rest)) }
+        ensures fields { (rest : List ℕ) → Ascends number rest
+            → room_after result (extra_dues self.new (extras members.new rest))
+            ≡ room_after room (extra_dues self.old (extras members.old rest)) }
         ensures come { MayCome self.new members.new }
         ensures all { 0 < result → Ascends number members.new }
         ensures same { (y : ℕ) → number ≤ y → is_in y members.new ≡ is_in y members.old }

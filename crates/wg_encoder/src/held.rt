@@ -76,7 +76,8 @@ impl HeldRecord {
     ) -> Result<(), WriteError>
         requires words { all_have_words self.now ≡ true }
         requires ready { writer.old.failed ≡ false }
-        ensures sends { Sends ⟦<D as Depot>⟧ depot.old depot.new name.now writer.old.bits (bits_of_fields self.now) writer.new.bits result }
+        ensures sends { Sends ⟦<D as Depot>⟧ depot.old depot.new name.now writer.old.bits (bits_of_fields self.now)
+            writer.new.bits result }
         ensures failed { writer.new.failed ≡ is_err result }
     {
         for field in self.fields.as_slice() {

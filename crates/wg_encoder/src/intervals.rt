@@ -27,7 +27,8 @@ impl IntervalTally {
         requires long { self.old.least ≤ run.length }
         requires low { run.left + run.length ≤ 2 ^ 62 }
         requires some { 0 < run.length }
-        ensures fields { (runs : List Run) → room_after result (interval_dues self.new runs) ≡ room_after room (interval_dues self.old (run ∷ runs)) }
+        ensures fields { (runs : List Run) → room_after result (interval_dues self.new runs)
+            ≡ room_after room (interval_dues self.old (run ∷ runs)) }
         ensures same { self.new ≡ record self.old { count = self.old.count + 1; past = Some (run.left + run.length) } }
     {
         let gap = stored_gap(self.page, self.past, run.left);

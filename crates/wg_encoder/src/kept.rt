@@ -100,7 +100,8 @@ impl Kept {
     #[inline(always)]
     pub(crate) fn keep(&mut self, list: &[u64], depth: u64) -> Result<(), AllocError>
         ensures window { self.new.window ≡ self.old.window }
-        ensures behind { OnOk result (self.new.behind ≡ take self.old.window (record { list = list.now; depth = depth } ∷ self.old.behind)) }
+        ensures behind { OnOk result (self.new.behind
+            ≡ take self.old.window (record { list = list.now; depth = depth } ∷ self.old.behind)) }
     {
         if self.most == 0 {
             return Ok(());

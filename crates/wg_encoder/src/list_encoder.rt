@@ -169,7 +169,8 @@ impl ListEncoder {
     #[inline(always)]
     fn may_refer(&self, r: u64) -> bool
         requires { r ≤ min self.now.params.window self.now.next.page }
-        ensures { result ≡ (nat_lt 0 (length (referenced self.now.next.behind r)) && not (passes self.now.params.chain (depth_of self.now.next.behind r))) }
+        ensures { result ≡ (nat_lt 0 (length (referenced self.now.next.behind r)) && not
+            (passes self.now.params.chain (depth_of self.now.next.behind r))) }
     {
         !self.referenced_list(r).is_empty() && !passes(self.params.chain(), self.depth(r))
     }

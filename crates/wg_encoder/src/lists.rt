@@ -27,7 +27,8 @@ pub(crate) fn room_after_lists(
     requires list { Ascends 0 list.now }
     requires low { Below (2 ^ 62) list.now }
     requires referenced { Ascends 0 referenced.now }
-    ensures { result ≡ room_after room (copy_fields params.now reference referenced.now list.now ++ extra_fields params.now page (extras list.now referenced.now)) }
+    ensures { result ≡ room_after room (copy_fields params.now reference referenced.now list.now
+        ++ extra_fields params.now page (extras list.now referenced.now)) }
 {
     let mut members = Members::of(list);
     let mut blocks = BlockTally::new(params, reference);

@@ -64,7 +64,8 @@ impl ListEncoder {
         requires page { self.now.next.page < self.now.params.nodes }
         requires list { IsList self.now.params list.now }
         requires chosen { IsChosen self.now.params self.now.next list.now choice }
-        ensures record_is { OnOk result (draft.new ≡ canonical self.now.params self.now.next list.now choice.reference) }
+        ensures record_is { OnOk result (draft.new
+            ≡ canonical self.now.params self.now.next list.now choice.reference) }
         ensures words { OnOk result (all_have_words draft.new ≡ true) }
     {
         self.limits();
@@ -75,7 +76,8 @@ impl ListEncoder {
     // Puts the word of the offsets file that is due: 0 for page 0, else the length of the record before.
     #[inline(always)]
     fn put_offset<D: Depot>(mut self, depot: &mut D, name: &str) -> Result<ListEncoder, EncodeError>
-        ensures sends { SendsTo Output.Offsets ⟦<D as Depot>⟧ depot.old depot.new name.now self.offsets_waits (word self.params.offsets self.last) (λ e. e.offsets_waits) result }
+        ensures sends { SendsTo Output.Offsets ⟦<D as Depot>⟧ depot.old depot.new name.now self.offsets_waits
+            (word self.params.offsets self.last) (λ e. e.offsets_waits) result }
         ensures on { IfOk result (λ e. e ≡ record self { offsets_waits = e.offsets_waits }) }
     {
         self.limits();
@@ -100,7 +102,8 @@ impl ListEncoder {
         name: &str,
     ) -> Result<ListEncoder, EncodeError>
         requires { all_have_words made.now ≡ true }
-        ensures sends { SendsTo Output.Graph ⟦<D as Depot>⟧ depot.old depot.new name.now self.graph_waits (bits_of_fields made.now) (λ e. e.graph_waits) result }
+        ensures sends { SendsTo Output.Graph ⟦<D as Depot>⟧ depot.old depot.new name.now self.graph_waits
+            (bits_of_fields made.now) (λ e. e.graph_waits) result }
         ensures on { IfOk result (λ e. e ≡ record self { graph_waits = e.graph_waits }) }
     {
         match made.write(&mut *self.graph_writer, depot, name) {
@@ -153,10 +156,13 @@ impl ListEncoder {
         requires list { IsList self.params list.now }
         requires arcs { self.next.arcs_before + length list.now ≤ self.params.arcs }
         ensures on { IfOk result (λ e. e ≡ encoded_on self list.now e.graph_waits e.offsets_waits) }
-        ensures written { (lists : ListOf (ListOf ℕ)) → HasWritten self lists → IfOk result (λ e. HasWritten e (lists ++ list.now ∷ [])) }
-        ensures ok { (lists : ListOf (ListOf ℕ)) → HasWritten self lists → IsTrue D.told → HasSentAll (D.files depot.old) base.now self lists
+        ensures written { (lists : ListOf (ListOf ℕ)) → HasWritten self lists
+            → IfOk result (λ e. HasWritten e (lists ++ list.now ∷ [])) }
+        ensures ok { (lists : ListOf (ListOf ℕ)) → HasWritten self lists → IsTrue D.told
+            → HasSentAll (D.files depot.old) base.now self lists
             → IfOk result (λ e. HasSentAll (D.files depot.new) base.now e (lists ++ list.now ∷ [])) }
-        ensures err { (lists more : ListOf (ListOf ℕ)) → HasWritten self lists → IsTrue D.told → HasSentAll (D.files depot.old) base.now self lists
+        ensures err { (lists more : ListOf (ListOf ℕ)) → HasWritten self lists → IsTrue D.told
+            → HasSentAll (D.files depot.old) base.now self lists
             → IfErr result (HasStopped (D.files depot.new) base.now self.params (lists ++ list.now ∷ more)) }
         ensures only_two { IsTrue D.told → OnlyTwo base.now (D.files depot.old) (D.files depot.new) }
         ensures fault { IfErr result (HasFailed base.now (D.counts depot.old) (D.counts depot.new)) }
@@ -177,9 +183,11 @@ impl ListEncoder {
         requires pages { self.next.page ≡ self.params.nodes }
         requires arcs { self.next.arcs_before ≡ self.params.arcs }
         ensures bits { IfOk result (λ bits. bits ≡ self.total) }
-        ensures ok { (lists : ListOf (ListOf ℕ)) → HasWritten self lists → IsTrue D.told → HasSentAll (D.files depot.old) base.now self lists
+        ensures ok { (lists : ListOf (ListOf ℕ)) → HasWritten self lists → IsTrue D.told
+            → HasSentAll (D.files depot.old) base.now self lists
             → OnOk result (IsWritten (D.files depot.new) base.now self.params lists) }
-        ensures err { (lists : ListOf (ListOf ℕ)) → HasWritten self lists → IsTrue D.told → HasSentAll (D.files depot.old) base.now self lists
+        ensures err { (lists : ListOf (ListOf ℕ)) → HasWritten self lists → IsTrue D.told
+            → HasSentAll (D.files depot.old) base.now self lists
             → IfErr result (HasStopped (D.files depot.new) base.now self.params lists) }
         ensures only_two { IsTrue D.told → OnlyTwo base.now (D.files depot.old) (D.files depot.new) }
         ensures fault { IfErr result (HasFailed base.now (D.counts depot.old) (D.counts depot.new)) }
@@ -202,7 +210,8 @@ fn close<D: Depot>(
     name: &str,
 ) -> Result<(), EncodeError>
     requires { writer.value.failed ≡ false }
-    ensures { SendsTo output ⟦<D as Depot>⟧ depot.old depot.new name.now writer.value.bits (replicate (padding (length writer.value.bits)) false) (λ _. []) result }
+    ensures { SendsTo output ⟦<D as Depot>⟧ depot.old depot.new name.now writer.value.bits
+        (replicate (padding (length writer.value.bits)) false) (λ _. []) result }
 {
     match Box::into_inner(writer).finish(depot, name) {
         Ok(()) => Ok(()),

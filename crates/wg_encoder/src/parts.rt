@@ -82,7 +82,8 @@ pub(crate) fn add_intervals(
 ) -> Result<(), AllocError>
     requires page { page < 2 ^ 62 }
     requires low { AreLowRuns ends.now }
-    ensures { (runs : List Run) → ends.now ≡ ends_and_lengths runs → OnOk result (fields.new ≡ fields.old ++ interval_fields page least None runs) }
+    ensures { (runs : List Run) → ends.now ≡ ends_and_lengths runs
+        → OnOk result (fields.new ≡ fields.old ++ interval_fields page least None runs) }
 {
     let mut past = None;
     for index in 0..ends.len() / 2 {

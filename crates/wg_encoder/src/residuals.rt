@@ -24,7 +24,8 @@ impl ResidualTally {
         requires page { self.old.page < 2 ^ 62 }
         requires code { IsCode self.old.code }
         requires low { number < 2 ^ 62 }
-        ensures fields { (numbers : List ℕ) → room_after result (residual_dues self.new numbers) ≡ room_after room (residual_dues self.old (number ∷ numbers)) }
+        ensures fields { (numbers : List ℕ) → room_after result (residual_dues self.new numbers)
+            ≡ room_after room (residual_dues self.old (number ∷ numbers)) }
         ensures same { self.new ≡ record self.old { last = Some number } }
     {
         let gap = stored_gap(self.page, self.last, number);
@@ -38,7 +39,8 @@ impl ResidualTally {
         requires page { self.old.page < 2 ^ 62 }
         requires code { IsCode self.old.code }
         requires low { run.left + run.length ≤ 2 ^ 62 }
-        ensures fields { (numbers : List ℕ) → room_after result (residual_dues self.new numbers) ≡ room_after room (residual_dues self.old (numbers_of run ++ numbers)) }
+        ensures fields { (numbers : List ℕ) → room_after result (residual_dues self.new numbers)
+            ≡ room_after room (residual_dues self.old (numbers_of run ++ numbers)) }
         ensures page { self.new.page ≡ self.old.page }
         ensures code { self.new.code ≡ self.old.code }
     {

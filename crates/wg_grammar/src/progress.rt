@@ -86,7 +86,8 @@ impl Progress {
         requires before { arcs_before ≤ params.now.arcs }
         ensures params { (tally_of result).params ≡ params.now }
         ensures page { (tally_of result).page ≡ page }
-        ensures exact { (c : Context) → c.page ≡ page → c.arcs_before ≡ arcs_before → Follows result params.now c nothing_yet }
+        ensures exact { (c : Context) → c.page ≡ page → c.arcs_before ≡ arcs_before
+            → Follows result params.now c nothing_yet }
     {
         Progress {
             params: *params,
@@ -184,8 +185,10 @@ impl Progress {
         ensures refused { OnErr result (self.new ≡ self.old) }
         ensures params { (tally_of self.new).params ≡ (tally_of self.old).params }
         ensures page { (tally_of self.new).page ≡ (tally_of self.old).page }
-        ensures exact { (p : Parameters) (c : Context) (s : SoFar) (f : Field) (code : Code) → Follows self.old p c s → next p c s ≡ Need.Read f code
-            → Gives referenced p c f value → Judges result (refusal p c s f value) × OnOk result (Follows self.new p c (after p c s f value)) }
+        ensures exact { (p : Parameters) (c : Context) (s : SoFar) (f : Field) (code : Code) → Follows self.old p c s
+            → next p c s ≡ Need.Read f code
+            → Gives referenced p c f value → Judges result (refusal p c s f value)
+            × OnOk result (Follows self.new p c (after p c s f value)) }
     {
         match self.next_field() {
             Need::Read(field, _) => match self.refusal(field, value, referenced) {
@@ -207,7 +210,8 @@ impl Progress {
         ensures params { (tally_of self.new).params ≡ (tally_of self.old).params }
         ensures page { (tally_of self.new).page ≡ (tally_of self.old).page }
         ensures exact { (p : Parameters) (c : Context) (s : SoFar) → Follows self.old p c s
-            → Judges result (refusal p c s Field.Copied 0) × OnOk result (Follows self.new p c (after p c s Field.Copied 0)) }
+            → Judges result (refusal p c s Field.Copied 0)
+            × OnOk result (Follows self.new p c (after p c s Field.Copied 0)) }
     {
         match self.refusal(Field::Copied, 0, None) {
             Some(kind) => Err(kind),

@@ -56,7 +56,8 @@ pub fn add(ends: &mut Vec<u64>, all: &mut Vec<u64>, x: usize, v: u64) -> Result<
     requires few { x < 2 ^ 60 }
     requires whole { EndsAt 0 ends.old.items (length all.old.items) }
     ensures whole { OnOk result (EndsAt 0 ends.new.items (length all.new.items)) }
-    ensures ok { OnOk result (pieces 0 ends.new.items all.new.items ≡ with_arc (pieces 0 ends.old.items all.old.items) x v) }
+    ensures ok { OnOk result (pieces 0 ends.new.items all.new.items
+        ≡ with_arc (pieces 0 ends.old.items all.old.items) x v) }
     ensures err_ends { OnErr result (ends.new.items ≡ ends.old.items) }
     ensures err_all { OnErr result (all.new.items ≡ all.old.items) }
 {
@@ -78,7 +79,8 @@ pub fn add(ends: &mut Vec<u64>, all: &mut Vec<u64>, x: usize, v: u64) -> Result<
 pub fn append(ends: &mut Vec<u64>, all: &mut Vec<u64>, list: &[u64]) -> Result<(), AllocError>
     requires whole { EndsAt 0 ends.old.items (length all.old.items) }
     ensures whole { OnOk result (EndsAt 0 ends.new.items (length all.new.items)) }
-    ensures ok { OnOk result (pieces 0 ends.new.items all.new.items ≡ pieces 0 ends.old.items all.old.items ++ list.now ∷ []) }
+    ensures ok { OnOk result (pieces 0 ends.new.items all.new.items ≡ pieces 0 ends.old.items all.old.items
+        ++ list.now ∷ []) }
     ensures err_ends { OnErr result (ends.new.items ≡ ends.old.items) }
     ensures err_all { OnErr result (all.new.items ≡ all.old.items) }
 {

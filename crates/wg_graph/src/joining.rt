@@ -23,7 +23,9 @@ fn stands_at(members: &[u64], index: usize, number: u64) -> bool
 pub fn join(out: &mut List, members: &[u64], from: usize, number: u64) -> Result<usize, AllocError>
     requires { from ≤ length members.now }
     ensures within { IfOk result (λ to. to ≤ length members.now) }
-    ensures joined { IfOk result (λ to. (numbers : ListOf ℕ) (m : ℕ) → m ≤ number → Joined members.now numbers from out.old m → Joined members.now (numbers ++ number ∷ []) to out.new (suc number)) }
+    ensures joined { IfOk result (λ to. (numbers : ListOf ℕ) (m : ℕ) → m ≤ number
+        → Joined members.now numbers from out.old m
+        → Joined members.now (numbers ++ number ∷ []) to out.new (suc number)) }
 {
     let mut taken = from;
     'below: while taken < members.len() && members[taken] < number {

@@ -51,26 +51,34 @@ pub trait Depot {
         ensures count { IfOk result (λ count. count ≤ length buf.new) }
         ensures bytes { IsTrue told → Reads (map.get (files self.old) name.now) at buf.new result }
         ensures same { files self.new ≡ files self.old }
-        ensures absent { IsErrOf result ReadError.Absent → Increased (counts self.old name.now).absences (counts self.new name.now).absences }
-        ensures failed { IsErrOf result ReadError.Failed → Increased (counts self.old name.now).read_faults (counts self.new name.now).read_faults }
-        ensures memory { IsErrOf result ReadError.Memory → Increased (counts self.old name.now).wants (counts self.new name.now).wants }
+        ensures absent { IsErrOf result ReadError.Absent
+            → Increased (counts self.old name.now).absences (counts self.new name.now).absences }
+        ensures failed { IsErrOf result ReadError.Failed
+            → Increased (counts self.old name.now).read_faults (counts self.new name.now).read_faults }
+        ensures memory { IsErrOf result ReadError.Memory
+            → Increased (counts self.old name.now).wants (counts self.new name.now).wants }
         ensures later { NonDecreasing (counts self.old) (counts self.new) };
 
     /// Leaves an empty file of this name, whatever it held.
     fn create(&mut self, name: &str) -> Result<(), WriteError>
         ensures ok { IsTrue told → OnOk result (files self.new ≡ created (files self.old) name.now) }
         ensures err { OnErr result (files self.new ≡ files self.old) }
-        ensures failed { IsErrOf result WriteError.Failed → Increased (counts self.old name.now).write_faults (counts self.new name.now).write_faults }
-        ensures memory { IsErrOf result WriteError.Memory → Increased (counts self.old name.now).wants (counts self.new name.now).wants }
+        ensures failed { IsErrOf result WriteError.Failed
+            → Increased (counts self.old name.now).write_faults (counts self.new name.now).write_faults }
+        ensures memory { IsErrOf result WriteError.Memory
+            → Increased (counts self.old name.now).wants (counts self.new name.now).wants }
         ensures later { NonDecreasing (counts self.old) (counts self.new) };
 
     /// Adds a prefix of the piece, at least one byte, to the end of a file, and answers its length. An absent file is begun.
     fn append(&mut self, name: &str, piece: &[u8]) -> Result<usize, WriteError>
         requires { 0 < length piece.now }
         ensures count { IfOk result (λ count. (0 < count) × (count ≤ length piece.now)) }
-        ensures ok { IsTrue told → IfOk result (λ count. files self.new ≡ appended (files self.old) name.now (take count piece.now)) }
+        ensures ok { IsTrue told → IfOk result (λ count.
+            files self.new ≡ appended (files self.old) name.now (take count piece.now)) }
         ensures err { OnErr result (files self.new ≡ files self.old) }
-        ensures failed { IsErrOf result WriteError.Failed → Increased (counts self.old name.now).write_faults (counts self.new name.now).write_faults }
-        ensures memory { IsErrOf result WriteError.Memory → Increased (counts self.old name.now).wants (counts self.new name.now).wants }
+        ensures failed { IsErrOf result WriteError.Failed
+            → Increased (counts self.old name.now).write_faults (counts self.new name.now).write_faults }
+        ensures memory { IsErrOf result WriteError.Memory
+            → Increased (counts self.old name.now).wants (counts self.new name.now).wants }
         ensures later { NonDecreasing (counts self.old) (counts self.new) };
 }

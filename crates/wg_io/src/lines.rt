@@ -112,7 +112,8 @@ impl Lines {
     /// Prints a number in decimal digits.
     #[inline(always)]
     pub fn number<S: Sink>(&mut self, sink: &mut S, number: u64) -> Result<(), WriteError>
-        ensures prints { IsTrue S.told → Prints (decimal number) (S.taken sink.old) (S.taken sink.new) self.old self.new result }
+        ensures prints { IsTrue S.told → Prints (decimal number) (S.taken sink.old) (S.taken sink.new) self.old self.new
+            result }
         ensures later { S.later sink.old sink.new }
         ensures refusals { SinkRefusals ⟦<S as Sink>⟧ sink.old sink.new result }
     {
@@ -127,7 +128,8 @@ impl Lines {
 
     /// Prints a byte.
     pub fn byte<S: Sink>(&mut self, sink: &mut S, byte: u8) -> Result<(), WriteError>
-        ensures prints { IsTrue S.told → Prints (byte ∷ []) (S.taken sink.old) (S.taken sink.new) self.old self.new result }
+        ensures prints { IsTrue S.told → Prints (byte ∷ []) (S.taken sink.old) (S.taken sink.new) self.old self.new
+            result }
         ensures later { S.later sink.old sink.new }
         ensures refusals { SinkRefusals ⟦<S as Sink>⟧ sink.old sink.new result }
     {
@@ -143,7 +145,8 @@ impl Lines {
     /// Prints a short text.
     pub fn text<S: Sink>(&mut self, sink: &mut S, text: &[u8]) -> Result<(), WriteError>
         requires { length text.now ≤ MOST_PIECE }
-        ensures prints { IsTrue S.told → Prints text.now (S.taken sink.old) (S.taken sink.new) self.old self.new result }
+        ensures prints { IsTrue S.told → Prints text.now (S.taken sink.old) (S.taken sink.new) self.old self.new
+            result }
         ensures later { S.later sink.old sink.new }
         ensures refusals { SinkRefusals ⟦<S as Sink>⟧ sink.old sink.new result }
     {
@@ -159,7 +162,8 @@ impl Lines {
     /// Prints a line of two numbers, parted by a space.
     #[inline(always)]
     pub fn pair<S: Sink>(&mut self, sink: &mut S, first: u64, second: u64) -> Result<(), WriteError>
-        ensures prints { IsTrue S.told → Prints (pair_line (first, second)) (S.taken sink.old) (S.taken sink.new) self.old self.new result }
+        ensures prints { IsTrue S.told → Prints (pair_line (first, second)) (S.taken sink.old) (S.taken sink.new)
+            self.old self.new result }
         ensures later { S.later sink.old sink.new }
         ensures refusals { SinkRefusals ⟦<S as Sink>⟧ sink.old sink.new result }
     {
@@ -183,7 +187,8 @@ impl Lines {
         second: u64,
     ) -> Result<(), WriteError>
         requires { count ≤ MOST_START }
-        ensures prints { IsTrue S.told → Prints (take count start.now ++ decimal second ++ codes "\n") (S.taken sink.old) (S.taken sink.new) self.old self.new result }
+        ensures prints { IsTrue S.told → Prints (take count start.now ++ decimal second ++ codes "\n")
+            (S.taken sink.old) (S.taken sink.new) self.old self.new result }
         ensures later { S.later sink.old sink.new }
         ensures refusals { SinkRefusals ⟦<S as Sink>⟧ sink.old sink.new result }
     {

@@ -63,7 +63,12 @@ impl MemoryDepot {
 
     /// Gives the depot a file, in place of one of that name.
     pub fn put_file(&mut self, name: &str, bytes: &[u8]) -> Result<(), AllocError>
-        ensures ok { OnOk result (self.new ≡ record self.old { steady = record self.old.steady { files = map.insert self.old.steady.files name.now bytes.now } }) }
+        ensures ok { OnOk result (self.new ≡ record self.old {
+          steady = record self.old.steady {
+            files = map.insert
+                self.old.steady.files name.now bytes.now;
+          };
+        }) }
         ensures err { OnErr result (self.new ≡ self.old) }
     {
         self.steady.put_file(name, bytes)
@@ -109,12 +114,19 @@ impl Depot for MemoryDepot {
         requires { 0 < length buf.old }
         ensures count { IfOk result (λ count. count ≤ length buf.new) }
         ensures bytes { Reads (map.get self.old.steady.files name.now) at buf.new result }
-        ensures moved { IfOk result (λ count. count ≡ min self.old.steady.piece (min (length buf.new) (length (content self.old.steady.files name.now) - at))) }
-        ensures named { IsNamed self.old.reads → IsTrue (map.contains_key self.old.steady.files name.now) → IsErrOf result ReadError.Failed }
+        ensures moved { IfOk result (λ count. count
+            ≡ min self.old.steady.piece (min (length buf.new) (length (content self.old.steady.files name.now) - at))) }
+        ensures named { IsNamed self.old.reads → IsTrue (map.contains_key self.old.steady.files name.now)
+            → IsErrOf result ReadError.Failed }
         ensures only_named { IsErrOf result ReadError.Failed → IsNamed self.old.reads }
         ensures ok { OnOk result (self.new ≡ record self.old { reads = one_more self.old.reads }) }
-        ensures failed { IsErrOf result ReadError.Failed → self.new ≡ record self.old { reads = one_more self.old.reads; read_faults = risen self.old.read_faults } }
-        ensures absent { IsErrOf result ReadError.Absent → self.new ≡ record self.old { reads = one_more self.old.reads; steady = record self.old.steady { absences = risen self.old.steady.absences } } }
+        ensures failed { IsErrOf result ReadError.Failed
+            → self.new ≡ record self.old { reads = one_more self.old.reads; read_faults = risen self.old.read_faults } }
+        ensures absent { IsErrOf result ReadError.Absent
+            → self.new ≡ record self.old {
+              reads = one_more self.old.reads;
+              steady = record self.old.steady { absences = risen self.old.steady.absences };
+            } }
         ensures no_memory { IfErr result (λ error. error ≢ ReadError.Memory) }
         ensures later { NonDecreasing (λ _. failing_counts self.old) (λ _. failing_counts self.new) }
     {
@@ -128,9 +140,20 @@ impl Depot for MemoryDepot {
     #[tactic(auto, using(crate::proofs::FilesLemmas::none_falls_once))]
     fn create(&mut self, name: &str) -> Result<(), WriteError>
         ensures named { IsErrOf result WriteError.Failed ↔ IsNamed self.old.creates }
-        ensures ok { OnOk result (self.new ≡ record self.old { creates = one_more self.old.creates; steady = record self.old.steady { files = created self.old.steady.files name.now } }) }
-        ensures failed { IsErrOf result WriteError.Failed → self.new ≡ record self.old { creates = one_more self.old.creates; write_faults = risen self.old.write_faults } }
-        ensures wanted { IsErrOf result WriteError.Memory → self.new ≡ record self.old { creates = one_more self.old.creates; steady = record self.old.steady { wants = risen self.old.steady.wants } } }
+        ensures ok { OnOk result (self.new ≡ record self.old {
+          creates = one_more self.old.creates;
+          steady = record self.old.steady { files = created self.old.steady.files name.now };
+        }) }
+        ensures failed { IsErrOf result WriteError.Failed
+            → self.new ≡ record self.old {
+              creates = one_more self.old.creates;
+              write_faults = risen self.old.write_faults;
+            } }
+        ensures wanted { IsErrOf result WriteError.Memory
+            → self.new ≡ record self.old {
+              creates = one_more self.old.creates;
+              steady = record self.old.steady { wants = risen self.old.steady.wants };
+            } }
         ensures later { NonDecreasing (λ _. failing_counts self.old) (λ _. failing_counts self.new) }
     {
         if self.creates.begin() {
@@ -146,9 +169,23 @@ impl Depot for MemoryDepot {
         ensures count { IfOk result (λ count. (0 < count) × (count ≤ length piece.now)) }
         ensures named { IsErrOf result WriteError.Failed ↔ IsNamed self.old.appends }
         ensures moved { IfOk result (λ count. count ≡ min self.old.steady.piece (length piece.now)) }
-        ensures ok { IfOk result (λ count. self.new ≡ record self.old { appends = one_more self.old.appends; steady = record self.old.steady { files = appended self.old.steady.files name.now (take count piece.now) } }) }
-        ensures failed { IsErrOf result WriteError.Failed → self.new ≡ record self.old { appends = one_more self.old.appends; write_faults = risen self.old.write_faults } }
-        ensures wanted { IsErrOf result WriteError.Memory → self.new ≡ record self.old { appends = one_more self.old.appends; steady = record self.old.steady { wants = risen self.old.steady.wants } } }
+        ensures ok { IfOk result (λ count. self.new ≡ record self.old {
+          appends = one_more self.old.appends;
+          steady = record self.old.steady {
+            files = appended self.old.steady.files name.now
+                (take count piece.now);
+          };
+        }) }
+        ensures failed { IsErrOf result WriteError.Failed
+            → self.new ≡ record self.old {
+              appends = one_more self.old.appends;
+              write_faults = risen self.old.write_faults;
+            } }
+        ensures wanted { IsErrOf result WriteError.Memory
+            → self.new ≡ record self.old {
+              appends = one_more self.old.appends;
+              steady = record self.old.steady { wants = risen self.old.steady.wants };
+            } }
         ensures later { NonDecreasing (λ _. failing_counts self.old) (λ _. failing_counts self.new) }
     {
         if self.appends.begin() {

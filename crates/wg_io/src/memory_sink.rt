@@ -31,7 +31,11 @@ impl MemorySink {
     /// An empty sink, of which one call takes at most `piece` bytes, and in which no write is to fail.
     pub fn new(alloc: Global, piece: u64) -> MemorySink
         requires { 0 < piece }
-        ensures { result ≡ record { steady = record { taken = []; piece = piece; wants = 0 }; writes = no_calls; faults = 0 } }
+        ensures { result ≡ record {
+          steady = record { taken = []; piece = piece; wants = 0 };
+          writes = no_calls;
+          faults = 0;
+        } }
     {
         MemorySink {
             steady: SteadySink::new(alloc, piece),
@@ -76,9 +80,17 @@ impl Sink for MemorySink {
         ensures count { IfOk result (λ count. (0 < count) × (count ≤ length piece.now)) }
         ensures named { IsErrOf result WriteError.Failed ↔ IsNamed self.old.writes }
         ensures moved { IfOk result (λ count. count ≡ min self.old.steady.piece (length piece.now)) }
-        ensures ok { IfOk result (λ count. self.new ≡ record self.old { writes = one_more self.old.writes; steady = record self.old.steady { taken = self.old.steady.taken ++ take count piece.now } }) }
-        ensures failed { IsErrOf result WriteError.Failed → self.new ≡ record self.old { writes = one_more self.old.writes; faults = risen self.old.faults } }
-        ensures wanted { IsErrOf result WriteError.Memory → self.new ≡ record self.old { writes = one_more self.old.writes; steady = record self.old.steady { wants = risen self.old.steady.wants } } }
+        ensures ok { IfOk result (λ count. self.new ≡ record self.old {
+          writes = one_more self.old.writes;
+          steady = record self.old.steady { taken = self.old.steady.taken ++ take count piece.now };
+        }) }
+        ensures failed { IsErrOf result WriteError.Failed
+            → self.new ≡ record self.old { writes = one_more self.old.writes; faults = risen self.old.faults } }
+        ensures wanted { IsErrOf result WriteError.Memory
+            → self.new ≡ record self.old {
+              writes = one_more self.old.writes;
+              steady = record self.old.steady { wants = risen self.old.steady.wants };
+            } }
         ensures later { NoneFalls (failing_refusals self.old) (failing_refusals self.new) }
     {
         if self.writes.begin() {

@@ -21,7 +21,8 @@ pub fn write_all<S: Sink>(sink: &mut S, piece: &[u8]) -> Result<(), WriteError>
 
 /// Writes the pieces one after the other. It takes no memory of its own; each piece is at least one call of the sink.
 pub fn write_pieces<S: Sink>(sink: &mut S, pieces: &[&[u8]]) -> Result<(), WriteError>
-    ensures puts { IsTrue S.told → Puts (joined (map (λ p. p.now) pieces.now)) (S.taken sink.old) (S.taken sink.new) result }
+    ensures puts { IsTrue S.told → Puts (joined (map (λ p. p.now) pieces.now)) (S.taken sink.old) (S.taken sink.new)
+        result }
     ensures later { S.later sink.old sink.new }
     ensures refusals { SinkRefusals ⟦<S as Sink>⟧ sink.old sink.new result }
 {

@@ -77,7 +77,8 @@ impl Depot for SteadyDepot {
         requires { 0 < length buf.old }
         ensures count { IfOk result (λ count. count ≤ length buf.new) }
         ensures bytes { Reads (map.get self.old.files name.now) at buf.new result }
-        ensures moved { IfOk result (λ count. count ≡ min self.old.piece (min (length buf.new) (length (content self.old.files name.now) - at))) }
+        ensures moved { IfOk result (λ count. count
+            ≡ min self.old.piece (min (length buf.new) (length (content self.old.files name.now) - at))) }
         ensures ok { OnOk result (self.new ≡ self.old) }
         ensures absent { OnErr result (self.new ≡ record self.old { absences = risen self.old.absences }) }
         ensures only_absent { IfErr result (λ error. error ≡ ReadError.Absent) }
@@ -113,7 +114,8 @@ impl Depot for SteadyDepot {
         requires { 0 < length piece.now }
         ensures count { IfOk result (λ count. (0 < count) × (count ≤ length piece.now)) }
         ensures moved { IfOk result (λ count. count ≡ min self.old.piece (length piece.now)) }
-        ensures ok { IfOk result (λ count. self.new ≡ record self.old { files = appended self.old.files name.now (take count piece.now) }) }
+        ensures ok { IfOk result (λ count. self.new
+            ≡ record self.old { files = appended self.old.files name.now (take count piece.now) }) }
         ensures wanted { OnErr result (self.new ≡ record self.old { wants = risen self.old.wants }) }
         ensures only_memory { IfErr result (λ error. error ≡ WriteError.Memory) }
         ensures later { NonDecreasing (λ _. steady_counts self.old) (λ _. steady_counts self.new) }

@@ -68,7 +68,8 @@ impl Sink for SteadySink {
         requires { 0 < length piece.now }
         ensures count { IfOk result (λ count. (0 < count) × (count ≤ length piece.now)) }
         ensures moved { IfOk result (λ count. count ≡ min self.old.piece (length piece.now)) }
-        ensures ok { IfOk result (λ count. self.new ≡ record self.old { taken = self.old.taken ++ take count piece.now }) }
+        ensures ok { IfOk result (λ count. self.new
+            ≡ record self.old { taken = self.old.taken ++ take count piece.now }) }
         ensures wanted { OnErr result (self.new ≡ record self.old { wants = risen self.old.wants }) }
         ensures only_memory { IfErr result (λ error. error ≡ WriteError.Memory) }
         ensures later { NoneFalls (steady_refusals self.old) (steady_refusals self.new) }

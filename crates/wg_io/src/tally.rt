@@ -69,7 +69,8 @@ impl Tally {
 
     /// Counts a refused write, and answers why it was refused.
     pub fn refused_write(&mut self, kind: ErrorKind) -> WriteError
-        ensures failed { result ≡ WriteError.Failed → self.new ≡ record self.old { write_faults = risen self.old.write_faults } }
+        ensures failed { result ≡ WriteError.Failed
+            → self.new ≡ record self.old { write_faults = risen self.old.write_faults } }
         ensures memory { result ≡ WriteError.Memory → self.new ≡ record self.old { wants = risen self.old.wants } }
         ensures which { (result ≡ WriteError.Memory) ↔ (kind ≡ ErrorKind.OutOfMemory) }
         ensures later { NonDecreasing (λ _. self.old) (λ _. self.new) }

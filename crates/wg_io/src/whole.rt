@@ -96,8 +96,10 @@ impl From<AllocError> for LoadError {
 pub fn read_whole<D: Depot>(alloc: Global, depot: &mut D, name: &str) -> Result<List8, LoadError>
     ensures bytes { IsTrue D.told → Loads (map.get (D.files depot.old) name.now) result }
     ensures same { D.files depot.new ≡ D.files depot.old }
-    ensures absent { IsErrOf result LoadError.Absent → Increased (D.counts depot.old name.now).absences (D.counts depot.new name.now).absences }
-    ensures failed { IsErrOf result LoadError.Failed → Increased (D.counts depot.old name.now).read_faults (D.counts depot.new name.now).read_faults }
+    ensures absent { IsErrOf result LoadError.Absent
+        → Increased (D.counts depot.old name.now).absences (D.counts depot.new name.now).absences }
+    ensures failed { IsErrOf result LoadError.Failed
+        → Increased (D.counts depot.old name.now).read_faults (D.counts depot.new name.now).read_faults }
     ensures later { NonDecreasing (D.counts depot.old) (D.counts depot.new) }
     ensures short { IfOk result (λ bytes. length bytes ≤ MOST_BYTES) }
 {

@@ -89,7 +89,8 @@ impl<'a> Depot for ZeroDepot<'a> {
         requires { 0 < length piece.now }
         ensures count { IfOk result (λ count. (0 < count) × (count ≤ length piece.now)) }
         ensures fails { result ≡ Err WriteError.Failed }
-        ensures ok { IfOk result (λ count. files_of_zeros self.new ≡ appended (files_of_zeros self.old) name.now (take count piece.now)) }
+        ensures ok { IfOk result (λ count. files_of_zeros self.new
+            ≡ appended (files_of_zeros self.old) name.now (take count piece.now)) }
         ensures err { OnErr result (files_of_zeros self.new ≡ files_of_zeros self.old) }
         ensures failed { IsErrOf result WriteError.Failed → Increased self.old.write_faults self.new.write_faults }
         ensures memory { IsErrOf result WriteError.Memory → Increased 0 0 }

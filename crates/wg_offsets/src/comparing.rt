@@ -37,7 +37,8 @@ fn first_of(
     there: u64,
 ) -> Option<(u64, u64, u64)>
     ensures none { IfNone result ((before ≡ None) × (here ≡ there)) }
-    ensures some { IfSome result (λ m. (before ≡ Some m) ⊎ ((before ≡ None) × (m ≡ (page, here, there)) × (here ≢ there))) }
+    ensures some { IfSome result (λ m. (before ≡ Some m)
+        ⊎ ((before ≡ None) × (m ≡ (page, here, there)) × (here ≢ there))) }
 {
     match before {
         Some(mismatch) => Some(mismatch),
@@ -73,7 +74,8 @@ impl Comparison {
         ensures page { self.new.page ≡ self.old.page + 1 }
         ensures here { self.new.here ≡ here }
         ensures there { self.new.there ≡ there }
-        ensures compared { (p q : List ℕ) → AreCompared self.old p q → AreCompared self.new (p ++ here ∷ []) (q ++ there ∷ []) }
+        ensures compared { (p q : List ℕ) → AreCompared self.old p q
+            → AreCompared self.new (p ++ here ∷ []) (q ++ there ∷ []) }
     {
         self.mismatch = first_of(
             self.mismatch,

@@ -56,8 +56,10 @@ pub fn read_from<S: Source>(
     ensures count { IfOk result (λ places. length places ≡ n + 1) }
     ensures later { S.later source.old source.new }
     ensures refused { IfErr result (λ e. IfRefusalOf e (S.caused source.old source.new)) }
-    ensures reads { (bits : List Bool) → S.reads_from source.old bits → IfOk result (λ places. ReadsOffsets code n bits (Ok places)) }
-    ensures fault { (bits : List Bool) → S.reads_from source.old bits → IfErr result (λ e. IfWordOf e (λ w. ReadsOffsets code n bits (Err w))) }
+    ensures reads { (bits : List Bool) → S.reads_from source.old bits
+        → IfOk result (λ places. ReadsOffsets code n bits (Ok places)) }
+    ensures fault { (bits : List Bool) → S.reads_from source.old bits
+        → IfErr result (λ e. IfWordOf e (λ w. ReadsOffsets code n bits (Err w))) }
 {
     let mut words = Words::new(n, code);
     let mut offsets = Offsets::new(alloc);

@@ -93,9 +93,11 @@ impl Words {
         ensures err { OnErr result (self.new ≡ self.old) }
         ensures later { S.later source.old source.new }
         ensures refused { OnRefusal result (S.caused source.old source.new) }
-        ensures reads { (bits : List Bool) (places : List ℕ) → S.reads_from source.old bits → AreRead bits self.old (S.offset source.old) places
+        ensures reads { (bits : List Bool) (places : List ℕ) → S.reads_from source.old bits
+            → AreRead bits self.old (S.offset source.old) places
             → OnOk result (AreRead bits self.new (S.offset source.new) (places ++ self.new.offset ∷ [])) }
-        ensures fault { (bits : List Bool) (places : List ℕ) → S.reads_from source.old bits → AreRead bits self.old (S.offset source.old) places
+        ensures fault { (bits : List Bool) (places : List ℕ) → S.reads_from source.old bits
+            → AreRead bits self.old (S.offset source.old) places
             → OnWord result (λ w. ReadsOffsets self.old.code self.old.pages bits (Err w)) }
     {
         let read = match source.read(self.code) {
@@ -113,9 +115,11 @@ impl Words {
         requires done { self.now.count ≡ self.now.pages + 1 }
         ensures later { S.later source.old source.new }
         ensures refused { OnRefusal result (S.caused source.old source.new) }
-        ensures reads { (bits : List Bool) (places : List ℕ) → S.reads_from source.old bits → AreRead bits self.now (S.offset source.old) places
+        ensures reads { (bits : List Bool) (places : List ℕ) → S.reads_from source.old bits
+            → AreRead bits self.now (S.offset source.old) places
             → OnOk result (ReadsOffsets self.now.code self.now.pages bits (Ok places)) }
-        ensures fault { (bits : List Bool) (places : List ℕ) → S.reads_from source.old bits → AreRead bits self.now (S.offset source.old) places
+        ensures fault { (bits : List Bool) (places : List ℕ) → S.reads_from source.old bits
+            → AreRead bits self.now (S.offset source.old) places
             → OnWord result (λ w. ReadsOffsets self.now.code self.now.pages bits (Err w)) }
     {
         match source.tail_fault() {

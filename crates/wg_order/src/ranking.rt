@@ -56,7 +56,8 @@ impl Ranking {
         ensures filled { result.filled ≡ true }
         ensures low { result.low ≡ bounds.low }
         ensures high { result.high ≡ bounds.high }
-        ensures within { (v : ℕ) → v < length result.low → (by_page result.low v ≤ UNITS) × (by_page result.high v ≤ UNITS) }
+        ensures within { (v : ℕ) → v < length result.low → (by_page result.low v ≤ UNITS)
+            × (by_page result.high v ≤ UNITS) }
         ensures ranking { IsRanking result.low result.high result.pages }
         ensures surely { (g : Digraph) → IsGraph g → Holds bounds g → IsSurely result bounds g }
     {

@@ -113,11 +113,14 @@ fn first_bad_number(
     interval: u64,
     zeta: u32,
 ) -> Option<Key>
-    ensures bad { (p : Parameters) → p.nodes ≡ nodes → p.arcs ≡ arcs → p.window ≡ window → p.chain ≡ chain → p.interval ≡ interval → p.zeta ≡ zeta
+    ensures bad { (p : Parameters) → p.nodes ≡ nodes → p.arcs ≡ arcs → p.window ≡ window → p.chain ≡ chain
+        → p.interval ≡ interval → p.zeta ≡ zeta
         → ForSome result (λ key. first_bad p ≡ Some key) }
-    ensures good { (p : Parameters) → p.nodes ≡ nodes → p.arcs ≡ arcs → p.window ≡ window → p.chain ≡ chain → p.interval ≡ interval → p.zeta ≡ zeta
+    ensures good { (p : Parameters) → p.nodes ≡ nodes → p.arcs ≡ arcs → p.window ≡ window → p.chain ≡ chain
+        → p.interval ≡ interval → p.zeta ≡ zeta
         → result ≡ None → first_bad p ≡ (if has_its_codes p then None else Some Key.CompressionFlags) }
-    ensures within { result ≡ None → (nodes ≤ MOST_PAGES) × (arcs ≤ MOST_ARCS) × (window ≤ MOST_WINDOW) × (unwrap_or chain 0 ≤ MOST_CHAIN)
+    ensures within { result ≡ None → (nodes ≤ MOST_PAGES) × (arcs ≤ MOST_ARCS) × (window ≤ MOST_WINDOW)
+        × (unwrap_or chain 0 ≤ MOST_CHAIN)
         × (interval ≤ MOST_INTERVAL) × (1 ≤ zeta) × (zeta ≤ MOST_ZETA) }
 {
     if nodes > MOST_PAGES {

@@ -71,7 +71,8 @@ impl<'a> Values<'a> {
 
     // Keeps the value that a line has for its key.
     fn read_line(&mut self, line: &'a [u8])
-        ensures { (k : Key) → value_at self.new k ≡ last_or (value_at self.old k) (values_of (name_of k) (pairs_of (line.now ∷ []))) }
+        ensures { (k : Key) → value_at self.new k
+            ≡ last_or (value_at self.old k) (values_of (name_of k) (pairs_of (line.now ∷ []))) }
     {
         let pair = without_blanks_before(line);
         if is_skipped(pair) {
@@ -85,7 +86,8 @@ impl<'a> Values<'a> {
 
     /// Reads all lines in one pass; the error names the first that would go on in the next.
     pub fn read(text: &'a [u8]) -> Result<Values<'a>, PropFault>
-        ensures values { IfOk result (λ v. (k : Key) → value_at v k ≡ value_of (name_of k) (pairs_of (lines_of text.now))) }
+        ensures values { IfOk result (λ v. (k : Key)
+            → value_at v k ≡ value_of (name_of k) (pairs_of (lines_of text.now))) }
         ensures ok { OnOk result (first_continued (lines_of text.now) ≡ None) }
         ensures line { IfErr result (λ e. option_map fault.Line (first_continued (lines_of text.now)) ≡ Some e) }
     {

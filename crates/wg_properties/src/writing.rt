@@ -135,7 +135,8 @@ fn add_chain(text: &mut List8, chain: Option<u64>) -> Result<(), AllocError>
 }
 
 fn add_codes(text: &mut List8, params: &Params) -> Result<(), AllocError>
-    ensures { OnOk result (text.new ≡ text.old ++ ended (pair key.CompressionFlags (flags_text (flags_of params.now)))) }
+    ensures { OnOk result (text.new ≡ text.old
+        ++ ended (pair key.CompressionFlags (flags_text (flags_of params.now)))) }
 {
     text.extend(key_name(Key::CompressionFlags).as_bytes())?;
     text.extend(b"=")?;

@@ -19,8 +19,10 @@ const MOST_ZEROS: u64 = (1 << 32) - 1;
 
 // Reads on until the bytes of a word are held from the next bit on, or the file ends.
 fn fill<D: Depot>(held: &mut Stretch, depot: &mut D, name: &str) -> Result<(), LoadError>
-    ensures steps { Steps D.told name.now (D.files depot.old) (D.files depot.new) (D.counts depot.old) (D.counts depot.new) held.old held.new }
-    ensures cause { IfErr result (HasCause D.told name.now (D.files depot.old) (D.counts depot.old) (D.counts depot.new) held.old) }
+    ensures steps { Steps D.told name.now (D.files depot.old) (D.files depot.new) (D.counts depot.old)
+        (D.counts depot.new) held.old held.new }
+    ensures cause { IfErr result (HasCause D.told name.now (D.files depot.old) (D.counts depot.old) (D.counts depot.new)
+        held.old) }
     ensures next { OnOk result (HoldsNext WORD held.new) }
     ensures at { held.new.at ≡ held.old.at }
     ensures inside { OnOk result (IsInside held.new) }
@@ -44,9 +46,12 @@ pub fn next_word<D: Depot>(
     code: Code,
 ) -> Result<Read, LoadError>
     requires code { IsCode code }
-    ensures steps { Steps D.told name.now (D.files depot.old) (D.files depot.new) (D.counts depot.old) (D.counts depot.new) held.old held.new }
-    ensures cause { IfErr result (HasCause D.told name.now (D.files depot.old) (D.counts depot.old) (D.counts depot.new) held.old) }
-    ensures found { IsTrue D.told → (file : List ℕ) → map.get (D.files depot.old) name.now ≡ Some file → IsHeldOf file held.old → IfOk result (λ r. IsReadAt code (bits_of file) held.old.at r held.new.at) }
+    ensures steps { Steps D.told name.now (D.files depot.old) (D.files depot.new) (D.counts depot.old)
+        (D.counts depot.new) held.old held.new }
+    ensures cause { IfErr result (HasCause D.told name.now (D.files depot.old) (D.counts depot.old) (D.counts depot.new)
+        held.old) }
+    ensures found { IsTrue D.told → (file : List ℕ) → map.get (D.files depot.old) name.now ≡ Some file
+        → IsHeldOf file held.old → IfOk result (λ r. IsReadAt code (bits_of file) held.old.at r held.new.at) }
 {
     match held.near_word(code) {
         Some(value) => Ok(Read::Value(value)),
@@ -64,9 +69,12 @@ fn word_in_pieces<D: Depot>(
     code: Code,
 ) -> Result<Read, LoadError>
     requires code { IsCode code }
-    ensures steps { Steps D.told name.now (D.files depot.old) (D.files depot.new) (D.counts depot.old) (D.counts depot.new) held.old held.new }
-    ensures cause { IfErr result (HasCause D.told name.now (D.files depot.old) (D.counts depot.old) (D.counts depot.new) held.old) }
-    ensures found { IsTrue D.told → (file : List ℕ) → map.get (D.files depot.old) name.now ≡ Some file → IsHeldOf file held.old → IfOk result (λ r. IsReadAt code (bits_of file) held.old.at r held.new.at) }
+    ensures steps { Steps D.told name.now (D.files depot.old) (D.files depot.new) (D.counts depot.old)
+        (D.counts depot.new) held.old held.new }
+    ensures cause { IfErr result (HasCause D.told name.now (D.files depot.old) (D.counts depot.old) (D.counts depot.new)
+        held.old) }
+    ensures found { IsTrue D.told → (file : List ℕ) → map.get (D.files depot.old) name.now ≡ Some file
+        → IsHeldOf file held.old → IfOk result (λ r. IsReadAt code (bits_of file) held.old.at r held.new.at) }
 {
     match code {
         Code::Unary => unary(held, depot, name),
@@ -83,9 +91,12 @@ fn short<D: Depot>(
 ) -> Result<Read, LoadError>
     requires code { IsCode code }
     requires other { code ≢ codes.Unary }
-    ensures steps { Steps D.told name.now (D.files depot.old) (D.files depot.new) (D.counts depot.old) (D.counts depot.new) held.old held.new }
-    ensures cause { IfErr result (HasCause D.told name.now (D.files depot.old) (D.counts depot.old) (D.counts depot.new) held.old) }
-    ensures found { IsTrue D.told → (file : List ℕ) → map.get (D.files depot.old) name.now ≡ Some file → IsHeldOf file held.old → IfOk result (λ r. IsReadAt code (bits_of file) held.old.at r held.new.at) }
+    ensures steps { Steps D.told name.now (D.files depot.old) (D.files depot.new) (D.counts depot.old)
+        (D.counts depot.new) held.old held.new }
+    ensures cause { IfErr result (HasCause D.told name.now (D.files depot.old) (D.counts depot.old) (D.counts depot.new)
+        held.old) }
+    ensures found { IsTrue D.told → (file : List ℕ) → map.get (D.files depot.old) name.now ≡ Some file
+        → IsHeldOf file held.old → IfOk result (λ r. IsReadAt code (bits_of file) held.old.at r held.new.at) }
 {
     fill(held, depot, name)?;
     Ok(held.read(code))
@@ -93,9 +104,12 @@ fn short<D: Depot>(
 
 // A unary word. Its zeros may go through many pieces, and none of them is kept.
 fn unary<D: Depot>(held: &mut Stretch, depot: &mut D, name: &str) -> Result<Read, LoadError>
-    ensures steps { Steps D.told name.now (D.files depot.old) (D.files depot.new) (D.counts depot.old) (D.counts depot.new) held.old held.new }
-    ensures cause { IfErr result (HasCause D.told name.now (D.files depot.old) (D.counts depot.old) (D.counts depot.new) held.old) }
-    ensures found { IsTrue D.told → (file : List ℕ) → map.get (D.files depot.old) name.now ≡ Some file → IsHeldOf file held.old → IfOk result (λ r. IsReadAt codes.Unary (bits_of file) held.old.at r held.new.at) }
+    ensures steps { Steps D.told name.now (D.files depot.old) (D.files depot.new) (D.counts depot.old)
+        (D.counts depot.new) held.old held.new }
+    ensures cause { IfErr result (HasCause D.told name.now (D.files depot.old) (D.counts depot.old) (D.counts depot.new)
+        held.old) }
+    ensures found { IsTrue D.told → (file : List ℕ) → map.get (D.files depot.old) name.now ≡ Some file
+        → IsHeldOf file held.old → IfOk result (λ r. IsReadAt codes.Unary (bits_of file) held.old.at r held.new.at) }
 {
     let mut zeros = 0;
     loop {
@@ -120,9 +134,12 @@ pub fn next_tail_fault<D: Depot>(
     depot: &mut D,
     name: &str,
 ) -> Result<Option<u64>, LoadError>
-    ensures steps { Steps D.told name.now (D.files depot.old) (D.files depot.new) (D.counts depot.old) (D.counts depot.new) held.old held.new }
-    ensures cause { IfErr result (HasCause D.told name.now (D.files depot.old) (D.counts depot.old) (D.counts depot.new) held.old) }
-    ensures tail { IsTrue D.told → (file : List ℕ) → map.get (D.files depot.old) name.now ≡ Some file → IsHeldOf file held.old → IfOk result (IsTailAt (bits_of file) held.old.at) }
+    ensures steps { Steps D.told name.now (D.files depot.old) (D.files depot.new) (D.counts depot.old)
+        (D.counts depot.new) held.old held.new }
+    ensures cause { IfErr result (HasCause D.told name.now (D.files depot.old) (D.counts depot.old) (D.counts depot.new)
+        held.old) }
+    ensures tail { IsTrue D.told → (file : List ℕ) → map.get (D.files depot.old) name.now ≡ Some file
+        → IsHeldOf file held.old → IfOk result (IsTailAt (bits_of file) held.old.at) }
 {
     fill(held, depot, name)?;
     Ok(held.tail_fault())

@@ -109,9 +109,11 @@ impl Pages {
         ensures graph { OnFault result IsOfGraph }
         ensures later { S.later source.old source.new }
         ensures refused { OnRefusal result (S.caused source.old source.new) }
-        ensures reads { (bits : ListOf Bool) (behind : ListOf Whole) → S.reads_from source.old bits → AreBehind bits self.old (S.offset source.old) behind
+        ensures reads { (bits : ListOf Bool) (behind : ListOf Whole) → S.reads_from source.old bits
+            → AreBehind bits self.old (S.offset source.old) behind
             → OnOk result (IsOneMore bits self.new (S.offset source.new) behind) }
-        ensures fault { (bits : ListOf Bool) (behind : ListOf Whole) → S.reads_from source.old bits → AreBehind bits self.old (S.offset source.old) behind
+        ensures fault { (bits : ListOf Bool) (behind : ListOf Whole) → S.reads_from source.old bits
+            → AreBehind bits self.old (S.offset source.old) behind
             → OnFault result (λ f. ReadsGraph self.old.params bits (Err f)) }
     {
         let decoded = decode_from(
@@ -137,9 +139,12 @@ impl Pages {
         ensures graph { OnFault result IsOfGraph }
         ensures later { S.later source.old source.new }
         ensures refused { OnRefusal result (S.caused source.old source.new) }
-        ensures reads { (bits : ListOf Bool) (behind : ListOf Whole) → S.reads_from source.old bits → AreBehind bits self.now (S.offset source.old) behind
-            → OnOk result (ReadsGraph self.now.params bits (Ok (record { graph = lists_of behind; places = places_of behind }))) }
-        ensures fault { (bits : ListOf Bool) (behind : ListOf Whole) → S.reads_from source.old bits → AreBehind bits self.now (S.offset source.old) behind
+        ensures reads { (bits : ListOf Bool) (behind : ListOf Whole) → S.reads_from source.old bits
+            → AreBehind bits self.now (S.offset source.old) behind
+            → OnOk result (ReadsGraph self.now.params bits
+            (Ok (record { graph = lists_of behind; places = places_of behind }))) }
+        ensures fault { (bits : ListOf Bool) (behind : ListOf Whole) → S.reads_from source.old bits
+            → AreBehind bits self.now (S.offset source.old) behind
             → OnFault result (λ f. ReadsGraph self.now.params bits (Err f)) }
     {
         let tail = match source.tail_fault() {

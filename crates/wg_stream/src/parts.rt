@@ -52,12 +52,18 @@ pub fn next_record<D: Depot>(
     ensures params { pages.new.params ≡ pages.old.params }
     ensures page { OnOk result (pages.new.page ≡ pages.old.page + 1) }
     ensures arcs { OnOk result (pages.new.arcs ≡ pages.old.arcs + length pages.new.list) }
-    ensures steps { Steps D.told name.now (D.files depot.old) (D.files depot.new) (D.counts depot.old) (D.counts depot.new) held.old held.new }
-    ensures cause { IfErr result (λ e. OfOutside e (HasCause D.told name.now (D.files depot.old) (D.counts depot.old) (D.counts depot.new) held.old)) }
-    ensures reads { IsTrue D.told → (file : ListOf ℕ) → map.get (D.files depot.old) name.now ≡ Some file → IsHeldOf file held.old
-        → (behind : ListOf Whole) → AreBehind (bits_of file) pages.old held.old.at behind → OnOk result (IsOneMore (bits_of file) pages.new held.new.at behind) }
-    ensures fault { IsTrue D.told → (file : ListOf ℕ) → map.get (D.files depot.old) name.now ≡ Some file → IsHeldOf file held.old
-        → (behind : ListOf Whole) → AreBehind (bits_of file) pages.old held.old.at behind → IfErr result (λ e. OfGraph e (λ f. ReadsGraph pages.old.params (bits_of file) (Err f))) }
+    ensures steps { Steps D.told name.now (D.files depot.old) (D.files depot.new) (D.counts depot.old)
+        (D.counts depot.new) held.old held.new }
+    ensures cause { IfErr result (λ e. OfOutside e
+        (HasCause D.told name.now (D.files depot.old) (D.counts depot.old) (D.counts depot.new) held.old)) }
+    ensures reads { IsTrue D.told → (file : ListOf ℕ) → map.get (D.files depot.old) name.now ≡ Some file
+        → IsHeldOf file held.old
+        → (behind : ListOf Whole) → AreBehind (bits_of file) pages.old held.old.at behind
+        → OnOk result (IsOneMore (bits_of file) pages.new held.new.at behind) }
+    ensures fault { IsTrue D.told → (file : ListOf ℕ) → map.get (D.files depot.old) name.now ≡ Some file
+        → IsHeldOf file held.old
+        → (behind : ListOf Whole) → AreBehind (bits_of file) pages.old held.old.at behind
+        → IfErr result (λ e. OfGraph e (λ f. ReadsGraph pages.old.params (bits_of file) (Err f))) }
 {
     let mut source = FileSource::new(depot, name, held);
     match pages.next(&mut source) {
@@ -75,13 +81,19 @@ pub fn judge_end<D: Depot>(
 ) -> Result<(), First>
     requires done { pages.now.page ≡ pages.now.params.nodes }
     ensures total { OnOk result (pages.now.arcs ≡ pages.now.params.arcs) }
-    ensures steps { Steps D.told name.now (D.files depot.old) (D.files depot.new) (D.counts depot.old) (D.counts depot.new) held.old held.new }
-    ensures cause { IfErr result (λ e. OfOutside e (HasCause D.told name.now (D.files depot.old) (D.counts depot.old) (D.counts depot.new) held.old)) }
-    ensures reads { IsTrue D.told → (file : ListOf ℕ) → map.get (D.files depot.old) name.now ≡ Some file → IsHeldOf file held.old
+    ensures steps { Steps D.told name.now (D.files depot.old) (D.files depot.new) (D.counts depot.old)
+        (D.counts depot.new) held.old held.new }
+    ensures cause { IfErr result (λ e. OfOutside e
+        (HasCause D.told name.now (D.files depot.old) (D.counts depot.old) (D.counts depot.new) held.old)) }
+    ensures reads { IsTrue D.told → (file : ListOf ℕ) → map.get (D.files depot.old) name.now ≡ Some file
+        → IsHeldOf file held.old
         → (behind : ListOf Whole) → AreBehind (bits_of file) pages.now held.old.at behind
-        → OnOk result (ReadsGraph pages.now.params (bits_of file) (Ok (record { graph = lists_of behind; places = places_of behind }))) }
-    ensures fault { IsTrue D.told → (file : ListOf ℕ) → map.get (D.files depot.old) name.now ≡ Some file → IsHeldOf file held.old
-        → (behind : ListOf Whole) → AreBehind (bits_of file) pages.now held.old.at behind → IfErr result (λ e. OfGraph e (λ f. ReadsGraph pages.now.params (bits_of file) (Err f))) }
+        → OnOk result (ReadsGraph pages.now.params (bits_of file)
+        (Ok (record { graph = lists_of behind; places = places_of behind }))) }
+    ensures fault { IsTrue D.told → (file : ListOf ℕ) → map.get (D.files depot.old) name.now ≡ Some file
+        → IsHeldOf file held.old
+        → (behind : ListOf Whole) → AreBehind (bits_of file) pages.now held.old.at behind
+        → IfErr result (λ e. OfGraph e (λ f. ReadsGraph pages.now.params (bits_of file) (Err f))) }
 {
     let mut source = FileSource::new(depot, name, held);
     match pages.finish(&mut source) {
@@ -100,18 +112,28 @@ pub fn go_on<D: Depot>(
 ) -> Result<bool, First>
     ensures params { pages.new.params ≡ pages.old.params }
     ensures looked { OnOk result (held.new.looked ≡ true) }
-    ensures more { result ≡ Ok true → (pages.new.page ≡ pages.old.page + 1) × (pages.new.page ≤ pages.new.params.nodes) × (pages.new.arcs ≡ pages.old.arcs + length pages.new.list) }
-    ensures end { result ≡ Ok false → (pages.new ≡ pages.old) × (pages.new.page ≡ pages.new.params.nodes) × (pages.new.arcs ≡ pages.new.params.arcs) }
-    ensures steps { Steps D.told name.now (D.files depot.old) (D.files depot.new) (D.counts depot.old) (D.counts depot.new) held.old held.new }
-    ensures cause { IfErr result (λ e. OfOutside e (HasCause D.told name.now (D.files depot.old) (D.counts depot.old) (D.counts depot.new) held.old)) }
-    ensures absent { IsTrue D.told → map.get (D.files depot.old) name.now ≡ None → held.old.looked ≡ false → result ≡ Err first.Absent }
-    ensures reads { IsTrue D.told → (file : ListOf ℕ) → map.get (D.files depot.old) name.now ≡ Some file → IsHeldOf file held.old
-        → (behind : ListOf Whole) → AreBehind (bits_of file) pages.old held.old.at behind → result ≡ Ok true → IsOneMore (bits_of file) pages.new held.new.at behind }
-    ensures judged { IsTrue D.told → (file : ListOf ℕ) → map.get (D.files depot.old) name.now ≡ Some file → IsHeldOf file held.old
+    ensures more { result ≡ Ok true → (pages.new.page ≡ pages.old.page + 1) × (pages.new.page ≤ pages.new.params.nodes)
+        × (pages.new.arcs ≡ pages.old.arcs + length pages.new.list) }
+    ensures end { result ≡ Ok false → (pages.new ≡ pages.old) × (pages.new.page ≡ pages.new.params.nodes)
+        × (pages.new.arcs ≡ pages.new.params.arcs) }
+    ensures steps { Steps D.told name.now (D.files depot.old) (D.files depot.new) (D.counts depot.old)
+        (D.counts depot.new) held.old held.new }
+    ensures cause { IfErr result (λ e. OfOutside e
+        (HasCause D.told name.now (D.files depot.old) (D.counts depot.old) (D.counts depot.new) held.old)) }
+    ensures absent { IsTrue D.told → map.get (D.files depot.old) name.now ≡ None → held.old.looked ≡ false
+        → result ≡ Err first.Absent }
+    ensures reads { IsTrue D.told → (file : ListOf ℕ) → map.get (D.files depot.old) name.now ≡ Some file
+        → IsHeldOf file held.old
+        → (behind : ListOf Whole) → AreBehind (bits_of file) pages.old held.old.at behind → result ≡ Ok true
+        → IsOneMore (bits_of file) pages.new held.new.at behind }
+    ensures judged { IsTrue D.told → (file : ListOf ℕ) → map.get (D.files depot.old) name.now ≡ Some file
+        → IsHeldOf file held.old
         → (behind : ListOf Whole) → AreBehind (bits_of file) pages.old held.old.at behind → result ≡ Ok false
         → IsJudged file pages.old.params (Ok (record { graph = lists_of behind; places = places_of behind })) }
-    ensures fault { IsTrue D.told → (file : ListOf ℕ) → map.get (D.files depot.old) name.now ≡ Some file → IsHeldOf file held.old
-        → (behind : ListOf Whole) → AreBehind (bits_of file) pages.old held.old.at behind → IfErr result (λ e. OfGraph e (λ f. IsJudged file pages.old.params (Err f))) }
+    ensures fault { IsTrue D.told → (file : ListOf ℕ) → map.get (D.files depot.old) name.now ≡ Some file
+        → IsHeldOf file held.old
+        → (behind : ListOf Whole) → AreBehind (bits_of file) pages.old held.old.at behind
+        → IfErr result (λ e. OfGraph e (λ f. IsJudged file pages.old.params (Err f))) }
 {
     held.look(depot, name)?;
     if pages.is_done() {

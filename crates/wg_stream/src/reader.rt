@@ -88,20 +88,28 @@ impl Reader {
     /// nothing. The list is that of [`list`](Reader::list).
     pub fn advance<D: Depot>(&mut self, depot: &mut D) -> Result<bool, StreamError>
         ensures done { self.old.state ≡ Done → (result ≡ Ok false) × (self.new ≡ self.old) × (depot.new ≡ depot.old) }
-        ensures closed { (e : First) → self.old.state ≡ Closed e → (result ≡ Err (errors.Closed e)) × (self.new ≡ self.old) × (depot.new ≡ depot.old) }
-        ensures err { self.old.state ≡ Open → IfErr result (λ e. (f : First) × (e ≡ of_first f) × (self.new.state ≡ Closed f)) }
+        ensures closed { (e : First) → self.old.state ≡ Closed e → (result ≡ Err (errors.Closed e))
+            × (self.new ≡ self.old) × (depot.new ≡ depot.old) }
+        ensures err { self.old.state ≡ Open → IfErr result (λ e. (f : First) × (e ≡ of_first f)
+            × (self.new.state ≡ Closed f)) }
         ensures params { self.new.pages.params ≡ self.old.pages.params }
         ensures name { self.new.name ≡ self.old.name }
         ensures onward { self.old.at ≤ self.new.at }
-        ensures more { result ≡ Ok true → (self.new.state ≡ Open) × (self.new.held.looked ≡ true) × (self.new.pages.page ≡ self.old.pages.page + 1)
-            × (self.new.pages.page ≤ self.new.pages.params.nodes) × (self.new.pages.arcs ≡ self.old.pages.arcs + length self.new.pages.list) }
+        ensures more { result ≡ Ok true → (self.new.state ≡ Open) × (self.new.held.looked ≡ true)
+            × (self.new.pages.page ≡ self.old.pages.page + 1)
+            × (self.new.pages.page ≤ self.new.pages.params.nodes)
+            × (self.new.pages.arcs ≡ self.old.pages.arcs + length self.new.pages.list) }
         ensures end { result ≡ Ok false → (self.new.state ≡ Done) × (self.new.pages ≡ self.old.pages)
             × (self.new.pages.page ≡ self.new.pages.params.nodes) × (self.new.pages.arcs ≡ self.new.pages.params.arcs) }
-        ensures absent { IsTrue D.told → map.get (D.files depot.old) self.old.name ≡ None → self.old.state ≡ Open → self.old.held.looked ≡ false → result ≡ Err errors.Absent }
-        ensures cause { self.old.state ≡ Open → (f : First) → result ≡ Err (of_first f) → OfOutside f (HasCause D.told self.old.name (D.files depot.old) (D.counts depot.old) (D.counts depot.new) self.old.held) }
+        ensures absent { IsTrue D.told → map.get (D.files depot.old) self.old.name ≡ None → self.old.state ≡ Open
+            → self.old.held.looked ≡ false → result ≡ Err errors.Absent }
+        ensures cause { self.old.state ≡ Open → (f : First) → result ≡ Err (of_first f)
+            → OfOutside f (HasCause D.told self.old.name (D.files depot.old) (D.counts depot.old) (D.counts depot.new)
+            self.old.held) }
         ensures same { D.files depot.new ≡ D.files depot.old }
         ensures later { NonDecreasing (D.counts depot.old) (D.counts depot.new) }
-        ensures in_step { IsTrue D.told → (file : ListOf ℕ) → map.get (D.files depot.old) self.old.name ≡ Some file → (whole : ListOf Whole) → IsInStep file self.old whole
+        ensures in_step { IsTrue D.told → (file : ListOf ℕ) → map.get (D.files depot.old) self.old.name ≡ Some file
+            → (whole : ListOf Whole) → IsInStep file self.old whole
             → StaysInStep file self.new whole result }
     {
         match self.state {
@@ -131,16 +139,21 @@ impl Reader {
         ensures ascends { IfOk result (λ o. IfSome o (λ s. Ascends 0 s.now)) }
         ensures below { IfOk result (λ o. IfSome o (λ s. Below self.old.pages.params.nodes s.now)) }
         ensures done { self.old.state ≡ Done → (result ≡ Ok None) × (depot.new ≡ depot.old) }
-        ensures closed { (e : First) → self.old.state ≡ Closed e → (result ≡ Err (errors.Closed e)) × (depot.new ≡ depot.old) }
-        ensures absent { IsTrue D.told → map.get (D.files depot.old) self.old.name ≡ None → self.old.state ≡ Open → self.old.held.looked ≡ false → result ≡ Err errors.Absent }
-        ensures cause { self.old.state ≡ Open → (f : First) → result ≡ Err (of_first f) → OfOutside f (HasCause D.told self.old.name (D.files depot.old) (D.counts depot.old) (D.counts depot.new) self.old.held) }
+        ensures closed { (e : First) → self.old.state ≡ Closed e → (result ≡ Err (errors.Closed e))
+            × (depot.new ≡ depot.old) }
+        ensures absent { IsTrue D.told → map.get (D.files depot.old) self.old.name ≡ None → self.old.state ≡ Open
+            → self.old.held.looked ≡ false → result ≡ Err errors.Absent }
+        ensures cause { self.old.state ≡ Open → (f : First) → result ≡ Err (of_first f)
+            → OfOutside f (HasCause D.told self.old.name (D.files depot.old) (D.counts depot.old) (D.counts depot.new)
+            self.old.held) }
         ensures same { D.files depot.new ≡ D.files depot.old }
         ensures later { NonDecreasing (D.counts depot.old) (D.counts depot.new) }
         ensures* after { sem 𝓛 (RestsSo self.entry (λ after.
             KeepsOn self.old after
             × IfOk result (λ o. MatchOption o (IsDone self.old after) (λ s. HasLent self.old after s.now))
             × IfErr result (IsClosed self.old after)
-            × (IsTrue D.told → (file : ListOf ℕ) → map.get (D.files depot.old) self.old.name ≡ Some file → (whole : ListOf Whole) → IsInStep file self.old whole →
+            × (IsTrue D.told → (file : ListOf ℕ) → map.get (D.files depot.old) self.old.name ≡ Some file
+            → (whole : ListOf Whole) → IsInStep file self.old whole →
             IfOk result (λ o. MatchOption o (IsInStep file after whole) (λ s. HasRead file after whole s.now))
             × IfErr result (λ e. IsInStep file after whole)))) }
     {

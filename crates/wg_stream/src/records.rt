@@ -25,8 +25,10 @@ pub fn read_offsets<S: Source>(
     ensures later { S.later source.old source.new }
     ensures refused { OnRefusal result (S.caused source.old source.new) }
     ensures reads { (bits : List Bool) → S.reads_from source.old bits
-        → IfOk result (λ offsets. (graph : List (List ℕ)) × ReadsGraph params bits (Ok (record { graph = graph; places = offsets }))) }
-    ensures fault { (bits : List Bool) → S.reads_from source.old bits → OnFault result (λ f. ReadsGraph params bits (Err f)) }
+        → IfOk result (λ offsets. (graph : List (List ℕ))
+        × ReadsGraph params bits (Ok (record { graph = graph; places = offsets }))) }
+    ensures fault { (bits : List Bool) → S.reads_from source.old bits
+        → OnFault result (λ f. ReadsGraph params bits (Err f)) }
 {
     let nodes = params.nodes();
     let mut pages = Pages::new(alloc, params);
@@ -53,8 +55,10 @@ pub fn read_graph<S: Source>(
     ensures later { S.later source.old source.new }
     ensures refused { OnRefusal result (S.caused source.old source.new) }
     ensures reads { (bits : List Bool) → S.reads_from source.old bits
-        → IfOk result (λ g. (places : List ℕ) × ReadsGraph params bits (Ok (record { graph = g.lists; places = places }))) }
-    ensures fault { (bits : List Bool) → S.reads_from source.old bits → OnFault result (λ f. ReadsGraph params bits (Err f)) }
+        → IfOk result (λ g. (places : List ℕ) × ReadsGraph params bits
+        (Ok (record { graph = g.lists; places = places }))) }
+    ensures fault { (bits : List Bool) → S.reads_from source.old bits
+        → OnFault result (λ f. ReadsGraph params bits (Err f)) }
 {
     let nodes = params.nodes();
     let mut pages = Pages::new(alloc, params);

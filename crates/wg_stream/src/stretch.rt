@@ -116,7 +116,10 @@ impl Stretch {
 
     /// Lets go of the bytes before the one of the next bit.
     pub(crate) fn drop_passed(&mut self)
-        ensures { self.new ≡ record self.old { bytes = drop (self.old.at / 8 - self.old.first) self.old.bytes; first = self.old.at / 8 } }
+        ensures { self.new ≡ record self.old {
+          bytes = drop (self.old.at / 8 - self.old.first) self.old.bytes;
+          first = self.old.at / 8;
+        } }
     {
         let passed = (self.here / 8) as usize;
         self.bytes.copy_within(passed..self.length, 0);
@@ -154,11 +157,14 @@ impl Stretch {
     /// Asks once for the byte at the limit, so that a file that is too long is refused before any of it is read.
     #[inline(always)]
     pub fn look<D: Depot>(&mut self, depot: &mut D, name: &str) -> Result<(), LoadError>
-        ensures steps { Steps D.told name.now (D.files depot.old) (D.files depot.new) (D.counts depot.old) (D.counts depot.new) self.old self.new }
-        ensures cause { IfErr result (HasCause D.told name.now (D.files depot.old) (D.counts depot.old) (D.counts depot.new) self.old) }
+        ensures steps { Steps D.told name.now (D.files depot.old) (D.files depot.new) (D.counts depot.old)
+            (D.counts depot.new) self.old self.new }
+        ensures cause { IfErr result (HasCause D.told name.now (D.files depot.old) (D.counts depot.old)
+            (D.counts depot.new) self.old) }
         ensures ok { OnOk result (self.new ≡ record self.old { looked = true }) }
         ensures err { OnErr result (self.new ≡ self.old) }
-        ensures absent { IsTrue D.told → map.get (D.files depot.old) name.now ≡ None → self.old.looked ≡ false → result ≡ Err load.Absent }
+        ensures absent { IsTrue D.told → map.get (D.files depot.old) name.now ≡ None → self.old.looked ≡ false
+            → result ≡ Err load.Absent }
     {
         if self.looked {
             return Ok(());
@@ -170,8 +176,10 @@ impl Stretch {
     #[cold]
     #[inline(never)]
     fn look_now<D: Depot>(&mut self, depot: &mut D, name: &str) -> Result<(), LoadError>
-        ensures steps { Steps D.told name.now (D.files depot.old) (D.files depot.new) (D.counts depot.old) (D.counts depot.new) self.old self.new }
-        ensures cause { IfErr result (HasCause D.told name.now (D.files depot.old) (D.counts depot.old) (D.counts depot.new) self.old) }
+        ensures steps { Steps D.told name.now (D.files depot.old) (D.files depot.new) (D.counts depot.old)
+            (D.counts depot.new) self.old self.new }
+        ensures cause { IfErr result (HasCause D.told name.now (D.files depot.old) (D.counts depot.old)
+            (D.counts depot.new) self.old) }
         ensures ok { OnOk result (self.new ≡ record self.old { looked = true }) }
         ensures err { OnErr result (self.new ≡ self.old) }
         ensures absent { IsTrue D.told → map.get (D.files depot.old) name.now ≡ None → result ≡ Err load.Absent }
@@ -193,8 +201,10 @@ impl Stretch {
     ) -> Result<(), LoadError>
         requires room { length self.old.bytes ≤ WORD }
         requires more { self.old.ended ≡ false }
-        ensures steps { Steps D.told name.now (D.files depot.old) (D.files depot.new) (D.counts depot.old) (D.counts depot.new) self.old self.new }
-        ensures cause { IfErr result (HasCause D.told name.now (D.files depot.old) (D.counts depot.old) (D.counts depot.new) self.old) }
+        ensures steps { Steps D.told name.now (D.files depot.old) (D.files depot.new) (D.counts depot.old)
+            (D.counts depot.new) self.old self.new }
+        ensures cause { IfErr result (HasCause D.told name.now (D.files depot.old) (D.counts depot.old)
+            (D.counts depot.new) self.old) }
         ensures more { OnOk result ((length self.old.bytes < length self.new.bytes) ⊎ (self.new.ended ≡ true)) }
         ensures least { length self.old.bytes ≤ length self.new.bytes }
         ensures first { self.new.first ≡ self.old.first }
@@ -281,7 +291,8 @@ impl Stretch {
     /// The first bit from the next one on that no tail has, by what is held: a one, or one bit too many.
     pub(crate) fn tail_fault(&self) -> Option<u64>
         ensures none { IfNone result (IsTail (bits_of self.now.bytes) (self.now.at - 8 * self.now.first)) }
-        ensures some { IfSome result (λ at. (8 * self.now.first ≤ at) × IsTailFault (bits_of self.now.bytes) (self.now.at - 8 * self.now.first) (at - 8 * self.now.first)) }
+        ensures some { IfSome result (λ at. (8 * self.now.first ≤ at)
+            × IsTailFault (bits_of self.now.bytes) (self.now.at - 8 * self.now.first) (at - 8 * self.now.first)) }
         ensures inside { IsInside self.now }
     {
         let mut cursor = self.cursor();

@@ -53,7 +53,11 @@ impl Progress {
         requires fits { self.old.blocks_sum + block_of (tally_of self.old) value ≤ self.old.source }
         requires count { self.old.blocks + 1 < 2 ^ 64 }
         requires refers { self.old.reference ≢ None }
-        ensures { tally_of self.new ≡ record (tally_of self.old) { blocks = self.old.blocks + 1; blocks_sum = self.old.blocks_sum + block_of (tally_of self.old) value; copied = copied_after (tally_of self.old) (self.old.blocks_sum + block_of (tally_of self.old) value) } }
+        ensures { tally_of self.new ≡ record (tally_of self.old) {
+          blocks = self.old.blocks + 1;
+          blocks_sum = self.old.blocks_sum + block_of (tally_of self.old) value;
+          copied = copied_after (tally_of self.old) (self.old.blocks_sum + block_of (tally_of self.old) value);
+        } }
     {
         let block = if self.blocks == 0 { value } else { value + 1 };
         let end = self.blocks_sum + block;
