@@ -21,6 +21,9 @@ pub record Gathered (g : Digraph) (n u : ℕ) (x : ℕ → ℕ) (xs : List ℕ) 
 pub record Dangling (g : Digraph) (u : ℕ) (x : ℕ → ℕ) (d : ℕ) : Type 0 where
   pub total : d ≡ sum_below u (λ w. cond (outdegree g w == 0) (x w) 0)
 
+pub le_both : (x y z : ℕ) → x ≤ y → y ≤ z → x ≤ z
+le_both x y z h k = omega arith
+
 cond_le : (t : Bool) (x m : ℕ) → x ≤ m → cond t x 0 ≤ m
 cond_le true x m h = h
 cond_le false x m h = omega arith

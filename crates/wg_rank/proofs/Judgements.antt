@@ -1,11 +1,11 @@
 -- What a judged certificate says of stationary vectors, and of bounds that rounds have found.
-use Rattle.std.proofs.Common.{ℕ, ◌≡◌, ◌<◌, ◌≤◌, List, length, Option, Some, None, MatchOption, Result, Ok, Err, IfOk, sym, subst, arith}
+use Rattle.std.proofs.Common.{ℕ, ◌≡◌, ◌<◌, List, length, Option, Some, None, MatchOption, Result, Ok, Err, IfOk, sym, subst, arith}
 use Rattle.wg_graph.specs.Digraph.{Digraph, IsGraph}
 use Rattle.wg_rank.specs.Sum.{sum_below}
 use Rattle.wg_rank.specs.Rank.{lower, EnclosesStationary}
-use Rattle.wg_rank.specs.Intervals.{Intervals, AreBounds, IsTable, Holds, by_page}
+use Rattle.wg_rank.specs.Intervals.{Intervals, AreBounds, Holds, by_page}
 use Rattle.wg_rank.specs.Weights.{AreWeights, weights_or_ones}
-use Rattle.wg_rank.specs.Claims.{Claim, IsClaim, claim_of_bounds, Rises, FallsFirst, IsJudged}
+use Rattle.wg_rank.specs.Claims.{Claim, IsClaim, claim_of_bounds, AreAtMost, Rises, FallsFirst, IsJudged}
 use Rattle.wg_rank.specs.declared.fault.JudgeError.{JudgeError}
 use Rattle.wg_rank.specs.declared.fault.JudgeError.TheVariants as errors
 use Rattle.wg_rank.proofs.Certificates.{enclosing, complete}
@@ -29,14 +29,14 @@ judged_complete g c ws r ok h b p o d e page is =
     let f = rw (is, ← d, ← e) at h in
     omega (arith, f.falls, (complete b g ok p o).0 page f.there)
 
--- the first page that is smaller in the next bounds falls
-pub first_of_table : (g : Digraph) (a n : ℕ) (w : ℕ → ℕ) (low next : List ℕ) (r : Option ℕ) → g.nodes ≡ n → IsTable next g.nodes (lower g a w (by_page low))
-    → MatchOption r ((v : ℕ) → v < n → by_page low v ≤ by_page next v)
-    (λ x. (x < n) × (by_page next x < by_page low x) × ((v : ℕ) → v < x → by_page low v ≤ by_page next v))
+-- the first page whose bound is greater than the next one falls
+pub first_of_round : (g : Digraph) (a n : ℕ) (w next : ℕ → ℕ) (low : List ℕ) (r : Option ℕ) → g.nodes ≡ n
+    → ((v : ℕ) → v < g.nodes → next v ≡ lower g a w (by_page low) v)
+    → MatchOption r (AreAtMost n (by_page low) next) (λ x. (x < n) × (next x < by_page low x) × AreAtMost x (by_page low) next)
     → MatchOption r (Rises g a w (by_page low)) (FallsFirst g a w (by_page low))
-first_of_table g a n w low next None e t h = λ v i. omega (arith, h v (omega arith), t.each v i)
-first_of_table g a n w low next (Some x) e t h = record {
+first_of_round g a n w next low None e is h = λ v i. omega (arith, h v (omega arith), is v i)
+first_of_round g a n w next low (Some x) e is h = record {
   there = omega (arith, h.0);
-  falls = omega (arith, h.1, t.each x (omega (arith, h.0)));
-  before = λ v i. omega (arith, h.2 v i, t.each v (omega (arith, h.0, i)));
+  falls = omega (arith, h.1, is x (omega (arith, h.0)));
+  before = λ v i. omega (arith, h.2 v i, is v (omega (arith, h.0, i)));
 }

@@ -8,7 +8,7 @@ use Rattle.wg_graph.specs.Arcs.{has_arc}
 use Rattle.wg_graph.specs.Digraph.{Digraph, IsGraph, outdegree}
 use Rattle.wg_rank.specs.Sum.{sum_below}
 use Rattle.wg_rank.specs.Rank.{total, sum_in, sum_dangling, low_flow, high_flow, lower, upper, gap, clipped, low, high}
-use Rattle.wg_rank.specs.Settling.{settled_low, settled_high, least}
+use Rattle.wg_rank.specs.Settling.{settled_lows, settled_high, least}
 use Rattle.wg_rank.specs.Intervals.{Intervals, IsTable, Holds, next_low, next_high, by_page}
 use Rattle.wg_rank.specs.Weights.{AreWeights, weights_or_ones}
 use Rattle.wg_rank.specs.declared.limits.TheConstants.{UNITS}
@@ -72,14 +72,18 @@ holds_more b c g d e k l h o = record {
 
 -- ---- what was gathered makes the new bounds
 
+pub settled_lower : (g : Digraph) (a k : ℕ) (w l : ℕ → ℕ) (sums : List ℕ) (d : ℕ) → k ≡ g.nodes
+    → ((v : ℕ) → v < g.nodes → get_or sums v 0 ≡ low_flow g l v) → d ≡ sum_dangling g l
+    → (v : ℕ) → v < g.nodes → settled_lows a k d w (by_page sums) v ≡ lower g a w l v
+settled_lower g a k w l sums d e flows rest v i = rw (flows v i, rest, e) refl
+
 pub settled_table : (g : Digraph) (a k : ℕ) (ws : List ℕ) (l : ℕ → ℕ) (sums xs : List ℕ) (d : ℕ) → k ≡ g.nodes → length xs ≡ g.nodes
     → ((v : ℕ) → v < g.nodes → get_or sums v 0 ≡ low_flow g l v) → d ≡ sum_dangling g l
-    → ((v : ℕ) → v < k → get_or xs v 0
-    ≡ settled_low a k d (sum_below k (by_page (weights_or_ones k ws))) (by_page (weights_or_ones k ws) v) (get_or sums v 0))
+    → ((v : ℕ) → v < k → get_or xs v 0 ≡ settled_lows a k d (by_page (weights_or_ones k ws)) (by_page sums) v)
     → IsTable xs g.nodes (lower g a (by_page (weights_or_ones k ws)) l)
 settled_table g a k ws l sums xs d e m flows rest each = record {
   counted = m;
-  each = λ v i. each v (omega arith) ∙ rw (flows v i, rest, e) refl;
+  each = λ v i. each v (omega arith) ∙ settled_lower g a k (by_page (weights_or_ones k ws)) l sums d e flows rest v i;
 }
 
 -- upper bounds never rise

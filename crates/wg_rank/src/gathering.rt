@@ -9,7 +9,7 @@ ghost use Rattle.wg_rank.specs.Rank.{low_flow, high_flow, sum_dangling};
 ghost use Rattle.wg_rank.specs.declared.limits.TheConstants.{UNITS};
 
 use crate::dividing::{quotient, quotient_up};
-use crate::spreading::spread;
+use crate::spreading::{spread, spread_low};
 use wg_graph::Lists;
 
 // Adds to `inflows` what flows to each page along arcs, and gives what the dangling pages hold, below and above. A page's
@@ -57,4 +57,35 @@ pub(crate) fn gather<L: Lists>(
         }
     }
     (low_dangling, high_dangling)
+}
+
+// The same below alone, where `inflows` has one sum for each page.
+pub(crate) fn gather_low<L: Lists>(lists: &mut L, low: &[u128], inflows: &mut [u128]) -> u128
+    requires few { length low.now ≤ MOST_PAGES }
+    requires pages { (L.graph lists.old).nodes ≡ length low.now }
+    requires inflow_pages { length inflows.old ≡ length low.now }
+    requires units { All (λ x. x ≤ UNITS) low.now }
+    requires empty { All (λ x. x ≡ 0) inflows.old }
+    ensures graph { L.graph lists.new ≡ L.graph lists.old }
+    ensures proper { IsGraph (L.graph lists.old) }
+    ensures flow { (v : ℕ) → v < length low.now → slice_index inflows.new v ≡ low_flow (L.graph lists.old) (by_page low.now) v }
+    ensures dangling { result ≡ sum_dangling (L.graph lists.old) (by_page low.now) }
+    ensures room { All (λ x. x ≤ MOST_PAGES * UNITS) inflows.new }
+    ensures dangling_room { result ≤ MOST_PAGES * UNITS }
+{
+    // Asked for what a graph's lists are, which its contract says.
+    let _pages = lists.nodes();
+    lists.begin();
+    let mut dangling = 0;
+    for u in 0..low.len() {
+        if let Some(list) = lists.next_list() {
+            let degree = list.len() as u64;
+            if degree == 0 {
+                dangling += low[u];
+            } else {
+                spread_low(inflows, list, quotient(low[u], degree));
+            }
+        }
+    }
+    dangling
 }

@@ -4,55 +4,69 @@ ghost use Rattle.std.specs.Prelude.{◌≡◌, ◌≢◌, ℕ, ◌+◌, ◌*◌,
 ghost use Rattle.wg_params.specs.declared.limits.TheConstants.{MOST_PAGES, MOST_DAMPING};
 ghost use Rattle.wg_rank.specs.Rank.{EnclosesStationary};
 ghost use Rattle.wg_rank.specs.Intervals.{Intervals, AreBounds, Holds, by_page};
+ghost use Rattle.wg_rank.specs.Settling.{settled_lows};
 ghost use Rattle.wg_rank.specs.Weights.{AreWeights, weights_or_ones};
 ghost use Rattle.wg_rank.specs.Claims.{IsClaim, AreAtMost, Rises, FallsFirst, IsJudged, weights_for, claim_of_bounds};
 ghost use Rattle.wg_rank.specs.declared.fault.JudgeError.TheVariants as errors;
 ghost use Rattle.wg_rank.specs.declared.limits.TheConstants.{UNITS};
 
-use crate::gathering::gather;
-use crate::settling::{settle_low, total};
+use crate::gathering::gather_low;
+use crate::low_parts::LowParts;
+use crate::settling::total;
 use crate::{Certificate, JudgeError, UNITS};
 use std::alloc::{AllocError, Global};
 use wg_graph::{List, Lists};
 
-// The first page whose bound is smaller in `next`.
-fn first_smaller(low: &[u128], next: &[u128]) -> Option<u64>
-    requires pages { length next.now ≡ length low.now }
+// The first page whose bound is greater than the one that `inflows` makes of it; the dangling pages hold so much.
+fn first_smaller(
+    low: &[u128],
+    inflows: &[u128],
+    damping: u64,
+    dangling: u128,
+    weights: &[u64],
+) -> Option<u64>
     requires few { length low.now ≤ MOST_PAGES }
-    ensures { MatchOption result (AreAtMost (length low.now) (by_page low.now) (by_page next.now))
-        (λ x. (x < length low.now) × (by_page next.now x < by_page low.now x) × AreAtMost x (by_page low.now) (by_page next.now)) }
+    requires pages { length inflows.now ≡ length low.now }
+    requires damped { damping ≤ MOST_DAMPING }
+    requires room { All (λ x. x ≤ MOST_PAGES * UNITS) inflows.now }
+    requires dangling_room { dangling ≤ MOST_PAGES * UNITS }
+    requires weights { AreWeights (length low.now) (weights_or_ones (length low.now) weights.now) }
+    ensures { let n = length low.now in
+        let next = settled_lows damping n dangling (by_page (weights_or_ones n weights.now)) (by_page inflows.now) in
+        MatchOption result (AreAtMost n (by_page low.now) next)
+        (λ x. (x < n) × (next x < by_page low.now x) × AreAtMost x (by_page low.now) next) }
 {
+    if low.is_empty() {
+        return None;
+    }
+    let parts = LowParts::of(low.len(), damping, dangling, weights);
     for v in 0..low.len() {
-        if next[v] < low[v] {
+        if parts.bound(v, inflows[v]) < low[v] {
             return Some(v as u64);
         }
     }
     None
 }
 
-// The first page whose bound one round lowers. The new bounds are left in `next`.
+// The first page whose bound one round lowers. What flows to the pages is left in `inflows`.
 fn first_fall<L: Lists>(
     lists: &mut L,
     damping: u64,
     weights: &[u64],
     low: &[u128],
-    next: &mut [u128],
     inflows: &mut [u128],
 ) -> Option<u64>
     requires pages { (L.graph lists.old).nodes ≡ length low.now }
     requires claim { IsClaim (record { damping = damping; low = low.now }) }
     requires weights { AreWeights (length low.now) (weights_or_ones (length low.now) weights.now) }
-    requires next_pages { length next.old ≡ length low.now }
-    requires inflow_pages { length inflows.old ≡ 2 * length low.now }
+    requires inflow_pages { length inflows.old ≡ length low.now }
     requires empty { All (λ x. x ≡ 0) inflows.old }
     ensures graph { L.graph lists.new ≡ L.graph lists.old }
     ensures first { let w = by_page (weights_or_ones (length low.now) weights.now) in MatchOption result
         (Rises (L.graph lists.old) damping w (by_page low.now)) (FallsFirst (L.graph lists.old) damping w (by_page low.now)) }
 {
-    // A round's upper bounds are not asked for; the lower ones stand in for them.
-    let (dangling, _) = gather(lists, low, low, inflows);
-    settle_low(next, inflows, damping, dangling, weights);
-    first_smaller(low, next)
+    let dangling = gather_low(lists, low, inflows);
+    first_smaller(low, inflows, damping, dangling, weights)
 }
 
 // What the bounds leave of 1, or the first page whose bound one round lowers.
@@ -70,17 +84,16 @@ fn judge_by<L: Lists>(
     ensures judged { let w = weights_or_ones (length low.now) weights.now in
         IsJudged (L.graph lists.old) (record { damping = damping; low = low.now }) (by_page w) result }
 {
-    let mut next = vec![in alloc; 0; low.len()]?;
-    let mut inflows = vec![in alloc; 0; 2 * low.len()]?;
-    match first_fall(lists, damping, weights, low, &mut next, &mut inflows) {
+    let mut inflows = vec![in alloc; 0; low.len()]?;
+    match first_fall(lists, damping, weights, low, &mut inflows) {
         Some(page) => Err(JudgeError::Falls(page)),
         None => Ok(UNITS - total(low)),
     }
 }
 
-/// Judges a certificate by one round, in one pass along the lists of a graph with as many pages. If the round lowers none of
-/// its bounds, the answer is what they leave of 1, in units. Without weights, teleport goes to each page alike. It takes 48
-/// bytes for each page.
+/// Judges a certificate by one round of lower bounds, in one pass along the lists of a graph with as many pages. If the round
+/// lowers none of its bounds, the answer is what they leave of 1, in units. Without weights, teleport goes to each page alike.
+/// It takes 16 bytes for each page, for what flows to it, beside the 16 of the certificate.
 pub fn judge<L: Lists>(
     alloc: Global,
     certificate: &Certificate,

@@ -52,9 +52,11 @@ mod inflows;
 mod judging;
 pub mod laws;
 mod limits;
+mod low_parts;
 mod reading;
 mod settling;
 mod spreading;
+mod teleport;
 mod writing;
 
 pub use bounds::Bounds;

@@ -11,63 +11,12 @@ ghost use Rattle.wg_rank.specs.Weights.{AreWeights, weights_or_ones};
 ghost use Rattle.wg_rank.specs.declared.limits.TheConstants.{UNITS, MOST_WEIGHT};
 
 use crate::UNITS;
-use crate::dividing::{quotient, quotient_up};
+use crate::dividing::quotient_up;
 use crate::inflows::{high_flow, low_flow};
+use crate::low_parts::LowParts;
+use crate::teleport::{part_above, total_weight};
 
-// The sum of the weights of `n` pages; where none are given, each is 1.
-fn total_weight(weights: &[u64], n: usize) -> u128
-    requires few { n ≤ MOST_PAGES }
-    requires weights { AreWeights n (weights_or_ones n weights.now) }
-    ensures value { result ≡ sum_below n (by_page (weights_or_ones n weights.now)) }
-    ensures room { result ≤ MOST_PAGES * MOST_WEIGHT }
-{
-    if weights.is_empty() {
-        return n as u128;
-    }
-    let mut sum = 0;
-    for weight in weights {
-        sum += u128::from(*weight);
-    }
-    sum
-}
-
-// What page `v` gets of what teleport shares out, rounded down. A weight of 1 gets `even`, one of `parts`.
-#[inline(always)]
-fn part_below(shared: u128, parts: u128, even: u128, weights: &[u64], v: usize) -> u128
-    requires few { shared ≤ 1000 * UNITS }
-    requires some { 0 < parts }
-    requires even { even ≡ shared / parts }
-    requires small { All (λ w. w ≤ MOST_WEIGHT) weights.now }
-    requires page { 0 < length weights.now → v < length weights.now }
-    ensures value { (n : ℕ) → v < n → result ≡ shared * by_page (weights_or_ones n weights.now) v / parts }
-    ensures room { result ≤ 1000 * UNITS * MOST_WEIGHT }
-{
-    if weights.is_empty() {
-        return even;
-    }
-    shared * u128::from(weights[v]) / parts
-}
-
-// The same, rounded up.
-#[inline(always)]
-fn part_above(shared: u128, parts: u128, even: u128, weights: &[u64], v: usize) -> u128
-    requires few { shared ≤ 1000 * UNITS }
-    requires some { 0 < parts }
-    requires even { even ≡ div_ceil shared parts }
-    requires small { All (λ w. w ≤ MOST_WEIGHT) weights.now }
-    requires page { 0 < length weights.now → v < length weights.now }
-    ensures value { (n : ℕ) → v < n → result ≡ div_ceil (shared * by_page (weights_or_ones n weights.now) v) parts }
-    ensures room { result ≤ 1000 * UNITS * MOST_WEIGHT }
-{
-    if weights.is_empty() {
-        return even;
-    }
-    (shared * u128::from(weights[v])).div_ceil(parts)
-}
-
-// Puts the lower bounds in place of the old ones; the dangling pages hold so much. Where each page has the weight 1, teleport's
-// part is divided out once.
-#[tactic(auto, using(crate::proofs::Room::damped_room))]
+// Puts the lower bounds in place of the old ones; the dangling pages hold so much.
 pub(crate) fn settle_low(
     low: &mut [u128],
     inflows: &[u128],
@@ -87,13 +36,9 @@ pub(crate) fn settle_low(
     if low.is_empty() {
         return;
     }
-    let rest = damping as u128 * dangling / (1000 * low.len() as u128);
-    let shared = (1000 - damping as u128) * UNITS;
-    let parts = 1000 * total_weight(weights, low.len());
-    let even = shared / parts;
+    let parts = LowParts::of(low.len(), damping, dangling, weights);
     for v in 0..low.len() {
-        let part = part_below(shared, parts, even, weights, v);
-        low[v] = quotient(damping as u128 * low_flow(inflows, v), 1000) + (rest + part);
+        low[v] = parts.bound(v, low_flow(inflows, v));
     }
 }
 

@@ -24,3 +24,17 @@ pub(crate) fn spread(inflows: &mut [u128], list: &[u64], below: u128, above: u12
         add(inflows, *page, below, above);
     }
 }
+
+// The same below alone, where there is one sum for each page.
+#[tactic(auto, using(crate::proofs::Spread::below_at))]
+#[inline(always)]
+pub(crate) fn spread_low(sums: &mut [u128], list: &[u64], share: u128)
+    requires below { Below (length sums.old) list.now }
+    requires ascending { Ascends 0 list.now }
+    requires room { All (λ x. x + share < 2 ^ 128) sums.old }
+    ensures each { (v : ℕ) → v < length sums.old → slice_index sums.new v ≡ slice_index sums.old v + cond (is_in v list.now) share 0 }
+{
+    for page in list {
+        sums[*page as usize] += share;
+    }
+}

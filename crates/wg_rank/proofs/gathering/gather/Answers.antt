@@ -1,11 +1,11 @@
-use Rattle.std.proofs.Common.{ℕ, ◌≡◌, ◌≢◌, ◌+◌, ◌/◌, ◌≤◌, length, get_or, refl, arith, ap, sym, ◌∙◌}
+use Rattle.std.proofs.Common.{ℕ, ◌≡◌, ◌≢◌, ◌+◌, ◌/◌, length, get_or, refl, arith, ap, sym, ◌∙◌}
 use Rattle.std.proofs.Math.Nat.{div-le_self}
 use Rattle.wg_graph.specs.Digraph.{outdegree}
 use Rattle.std.specs.Int.{div_ceil}
 use Rattle.wg_rank.specs.Inflows.{low_flows}
 use Rattle.wg_rank.specs.declared.limits.TheConstants.{UNITS}
 use Rattle.wg_rank.proofs.SideBySide.{low_count, high_count, low_none, high_none}
-use Rattle.wg_rank.proofs.Flow.{gathered_none, gathered_room, dangling_room, gathered_within, dangling_within, gathered_more, gathered_same, dangling_more, dangling_same, div_ceil_le}
+use Rattle.wg_rank.proofs.Flow.{le_both, gathered_none, gathered_room, dangling_room, gathered_within, dangling_within, gathered_more, gathered_same, dangling_more, dangling_same, div_ceil_le}
 use Rattle.wg_rank.proofs.Arcs.{list_below}
 use Rattle.wg_rank.proofs.gathering.gather.Goals as goal
 use Rattle.wg_rank.proofs.gathering.gather.Goals.{in-Some+then-degree-eq0, in-Some+else-degree-eq0, in_default}
@@ -25,9 +25,6 @@ overflow_add-high_dangling g c =
       dangling_room (g.L.Lists.graph c.args.lists.now) c.loop-u.u (λ u. get_or c.args.high.now u 0) c.loop-u.high_dangling (get_or c.args.high.now c.loop-u.u 0) (omega arith)
           (λ w i. c.requires.high_units w 0 (omega arith)) (c.requires.high_units c.loop-u.u 0 (omega arith)) c.loop-u.invariant.high_rest,
     )
-
-le_both : (x y z : ℕ) → x ≤ y → y ≤ z → x ≤ z
-le_both x y z h k = omega arith
 
 pub spread-requires-clause-low_room : goal.spread-requires-clause-low_room
 spread-requires-clause-low_room g c =

@@ -2,7 +2,7 @@ use Rattle.std.proofs.Common.{arith, ◌≡◌, ◌+◌, length, sym, ◌∙◌}
 use Rattle.std.proofs.lemmas.Bool.{eqb-true, eqb-false}
 use Rattle.wg_rank.proofs.Sums.{sum_more}
 use Rattle.wg_rank.proofs.Weighing.{even_total, given_total, given_room}
-use Rattle.wg_rank.proofs.settling.total_weight.Goals as goal
+use Rattle.wg_rank.proofs.teleport.total_weight.Goals as goal
 
 pub returns-then-is_empty-clause-value : goal.returns-then-is_empty-clause-value
 returns-then-is_empty-clause-value c =
