@@ -17,7 +17,7 @@ use crate::{Certificate, JudgeError, UNITS};
 use std::alloc::{AllocError, Global};
 use wg_graph::{List, Lists};
 
-// The first page whose bound is greater than the one that `inflows` makes of it; the dangling pages hold so much.
+// The first page whose new bound is smaller, by what flows to it; the dangling pages hold so much.
 fn first_smaller(
     low: &[u128],
     inflows: &[u128],

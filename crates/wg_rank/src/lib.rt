@@ -17,9 +17,9 @@
 //!
 //! A [`Certificate`] is what others can check without the rounds: a damping and the lower bounds alone. [`write_certificate`]
 //! adds its text to a file, and [`read_certificate`] reads it or names its first fault, a [`CertFault`]. [`judge`] does one round
-//! on the lower bounds, over any graph with as many pages: if it lowers none of them, they enclose every stationary vector, with
-//! what they leave of 1, whoever made them; else it names the first page whose bound falls. The bounds that rounds find never
-//! fall.
+//! of lower bounds alone, over any graph with as many pages: if it lowers none of them, they enclose every stationary vector,
+//! with what they leave of 1, whoever made them; else it names the first page whose bound falls. The bounds that rounds find
+//! never fall.
 //!
 //! ```text
 //! damping 850                      in thousandths
@@ -34,12 +34,14 @@
 //! Bounds take memory by [`Bounds::new`] alone: four numbers of 16 bytes for each page; [`Bounds::weighted`], by which teleport
 //! goes to the pages by weights, takes 8 bytes more. The two sums of what flows to a page lie side by side, so that an arc
 //! reaches one place in memory. Between rounds they say nothing, and [`Bounds::into_parts`] hands them on as room. Writing takes
-//! none. A certificate holds 16 bytes for each page, taken as its lines come, and judging takes 48 more.
+//! none. A certificate holds 16 bytes for each page, taken as its lines come. Judging takes 16 more, for what flows to a page
+//! below: each new bound is compared as it is made, and kept nowhere.
 //!
 //! A round divides each page's two bounds by its outdegree, once and not for each arc, and what flows in by 1000; by weights it
-//! also divides teleport's two parts for each page, and if each weight is 1 once for all. For an arc it adds twice. No sum
-//! passes 128 bits: what flows to a page is at most one whole for each page, so below 2^36 * 10^24, and the damping multiplies
-//! it by less than 2^10; a weight is below 2^32, and teleport's part of 1 is at most 1000 * 10^24 before it is divided.
+//! also divides teleport's two parts for each page, and if each weight is 1 once for all. For an arc it adds twice. Judging does
+//! the same with the lower bounds alone, and adds once. No sum passes 128 bits: what flows to a page is at most one whole for
+//! each page, so below 2^36 * 10^24, and the damping multiplies it by less than 2^10; a weight is below 2^32, and teleport's
+//! part of 1 is at most 1000 * 10^24 before it is divided.
 #![tactic(auto)]
 
 mod advancing;
