@@ -1,6 +1,6 @@
 // A certificate against a graph.
 
-ghost use Rattle.std.specs.Prelude.{◌≡◌, ◌≢◌, ℕ, ◌+◌, ◌*◌, ◌<◌, ◌≤◌, All, length, slice_index, MatchOption, IfOk, Err, option_copied};
+ghost use Rattle.std.specs.Prelude.{◌≡◌, ◌≢◌, ℕ, ◌*◌, ◌<◌, ◌≤◌, All, length, MatchOption, IfOk, Err, option_copied};
 ghost use Rattle.wg_params.specs.declared.limits.TheConstants.{MOST_PAGES, MOST_DAMPING};
 ghost use Rattle.wg_rank.specs.Rank.{EnclosesStationary};
 ghost use Rattle.wg_rank.specs.Intervals.{Intervals, AreBounds, Holds, by_page};

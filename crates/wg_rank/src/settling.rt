@@ -8,7 +8,7 @@ ghost use Rattle.wg_rank.specs.Intervals.{by_page};
 ghost use Rattle.wg_rank.specs.Inflows.{low_flows, high_flows};
 ghost use Rattle.wg_rank.specs.Settling.{settled_low, settled_high, least};
 ghost use Rattle.wg_rank.specs.Weights.{AreWeights, weights_or_ones};
-ghost use Rattle.wg_rank.specs.declared.limits.TheConstants.{UNITS, MOST_WEIGHT};
+ghost use Rattle.wg_rank.specs.declared.limits.TheConstants.{UNITS};
 
 use crate::UNITS;
 use crate::dividing::quotient_up;
