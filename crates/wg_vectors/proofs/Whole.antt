@@ -1,13 +1,8 @@
 -- All lists of a generated graph.
-use Rattle.std.proofs.Common.{◌≡◌, ℕ, zero, suc, ◌+◌, ◌-◌, ◌*◌, ◌<◌, ◌≤◌, List, [], ◌∷◌, ◌++◌, length, replicate, refl, sym, ap, subst, ◌∙◌, arith, length-append}
+use Rattle.std.proofs.Common.{◌≡◌, ℕ, zero, suc, ◌+◌, ◌<◌, ◌≤◌, List, [], ◌∷◌, ◌++◌, length, refl, subst, ◌∙◌, arith, length-append}
 use Rattle.std.specs.Prelude.{All}
-use Rattle.std.specs.List.{sum_by}
-use Rattle.std.proofs.lemmas.List.{append-nil}
 use Rattle.std.proofs.lemmas.List.Elements.{All-nil, All-push, All-weaker}
-use Rattle.std.proofs.lemmas.List.Sums.{sum_by-append, sum_by-cons}
 use Rattle.wg_graph.specs.Ascending.{Ascends, Below}
-use Rattle.wg_graph.specs.Digraph.{Digraph, IsGraph}
-use Rattle.wg_graph.specs.Growing.{padded}
 use Rattle.wg_vectors.specs.Generated.{Drafted, drafted, lists_on, generated}
 use Rattle.wg_vectors.specs.Laws.{GeneratedIsProper, GeneratedIsSparse}
 use Rattle.wg_vectors.proofs.Steps.{Fits, drafted_fits}

@@ -92,6 +92,7 @@ impl Draft {
         }
     }
 
+    // Draws which members of an earlier list are copied.
     fn copy(&mut self, list: &[u64])
         requires ascends { Ascends 0 self.old.list }
         requires few { length self.old.list ≤ MOST_COPIED }

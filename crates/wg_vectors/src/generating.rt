@@ -12,8 +12,9 @@ pub const MOST_GENERATED: u64 = 1 << 24;
 /// share members with lists close before them, and have intervals. The same seed always gives the same graph.
 ///
 /// The draws are those of a linear congruential generator whose state begins as the seed. Each page's successors are
-/// drawn in three steps: members of the list of one of the seven pages before it, each with a chance of 7 in 8; up to
-/// three of all pages; and one time in four an interval of 4 to 11 pages. A page has at most 78 successors.
+/// drawn in three steps: three times in four, members of the list of one of the seven pages before it, 7 in 8 of them
+/// and at most 64; then up to three of all pages; then, one time in four, an interval of 4 to 11 pages. A page has at
+/// most 78 successors, and some ten on average.
 ///
 /// It takes time in proportion to the arcs and pages, and holds the graph alone: 8 bytes for each arc and 8 for each
 /// page, and while the lists grow up to twice that. It is refused only where memory runs out.
@@ -37,6 +38,7 @@ mod tests {
     use std::test::Fail;
 
     // The lists were drawn, and the arcs counted, by another program.
+    #[derive(Clone, Copy)]
     struct Row {
         seed: u64,
         pages: u64,

@@ -1,6 +1,6 @@
-use Rattle.std.proofs.Common.{◌≡◌, ℕ, List, sym, ap, subst, arith}
+use Rattle.std.proofs.Common.{ℕ, List, sym, ap, subst, arith}
 use Rattle.wg_graph.specs.Ascending.{Ascends}
-use Rattle.wg_vectors.specs.Generated.{Drafted, with_number}
+use Rattle.wg_vectors.specs.Generated.{Drafted}
 use Rattle.wg_vectors.proofs.Placed.{goes, stays, ascends-with_number}
 use Rattle.wg_vectors.proofs.drafting.Draft.add.Goals as goal
 
