@@ -37,7 +37,8 @@ pub(crate) fn advance<L: Lists>(
     ensures low { IsTable low.new (L.graph lists.old).nodes
         (lower (L.graph lists.old) damping (by_page (weights_or_ones (length low.old) weights.now)) (by_page low.old)) }
     ensures high { IsTable high.new (L.graph lists.old).nodes
-        (clipped (L.graph lists.old) damping (by_page (weights_or_ones (length low.old) weights.now)) (by_page low.old) (by_page high.old)) }
+        (clipped (L.graph lists.old) damping (by_page (weights_or_ones (length low.old) weights.now)) (by_page low.old)
+        (by_page high.old)) }
     ensures low_total { sum_below (length low.old) (by_page low.new) ≤ UNITS }
     ensures high_units { All (λ x. x ≤ UNITS) high.new }
 {

@@ -176,7 +176,8 @@ impl Bounds {
         ensures nested { Holds self.old (L.graph lists.old) → (v : ℕ) → v < length self.old.low
             → (by_page self.old.low v ≤ by_page self.new.low v) × (by_page self.new.high v ≤ by_page self.old.high v) }
         ensures gap { let g = L.graph lists.old in Holds self.old g → 0 < g.nodes
-            → 1000 * gap g (by_page self.new.low) ≤ self.old.damping * gap g (by_page self.old.low) + self.old.damping * arc_count g + 3 * 1000 * g.nodes }
+            → 1000 * gap g (by_page self.new.low)
+            ≤ self.old.damping * gap g (by_page self.old.low) + self.old.damping * arc_count g + 3 * 1000 * g.nodes }
     {
         self.rounds += 1;
         advance(

@@ -29,8 +29,10 @@ pub(crate) fn gather<L: Lists>(
     requires empty { All (λ x. x ≡ 0) inflows.old }
     ensures graph { L.graph lists.new ≡ L.graph lists.old }
     ensures proper { IsGraph (L.graph lists.old) }
-    ensures low_flow { (v : ℕ) → v < length low.now → slice_index (low_flows inflows.new) v ≡ low_flow (L.graph lists.old) (by_page low.now) v }
-    ensures high_flow { (v : ℕ) → v < length low.now → slice_index (high_flows inflows.new) v ≡ high_flow (L.graph lists.old) (by_page high.now) v }
+    ensures low_flow { (v : ℕ) → v < length low.now
+        → slice_index (low_flows inflows.new) v ≡ low_flow (L.graph lists.old) (by_page low.now) v }
+    ensures high_flow { (v : ℕ) → v < length low.now
+        → slice_index (high_flows inflows.new) v ≡ high_flow (L.graph lists.old) (by_page high.now) v }
     ensures low_dangling { result.0 ≡ sum_dangling (L.graph lists.old) (by_page low.now) }
     ensures high_dangling { result.1 ≡ sum_dangling (L.graph lists.old) (by_page high.now) }
     ensures low_room { All (λ x. x ≤ MOST_PAGES * UNITS) (low_flows inflows.new) }
@@ -68,7 +70,8 @@ pub(crate) fn gather_low<L: Lists>(lists: &mut L, low: &[u128], inflows: &mut [u
     requires empty { All (λ x. x ≡ 0) inflows.old }
     ensures graph { L.graph lists.new ≡ L.graph lists.old }
     ensures proper { IsGraph (L.graph lists.old) }
-    ensures flow { (v : ℕ) → v < length low.now → slice_index inflows.new v ≡ low_flow (L.graph lists.old) (by_page low.now) v }
+    ensures flow { (v : ℕ) → v < length low.now
+        → slice_index inflows.new v ≡ low_flow (L.graph lists.old) (by_page low.now) v }
     ensures dangling { result ≡ sum_dangling (L.graph lists.old) (by_page low.now) }
     ensures room { All (λ x. x ≤ MOST_PAGES * UNITS) inflows.new }
     ensures dangling_room { result ≤ MOST_PAGES * UNITS }

@@ -10,8 +10,10 @@ pub(crate) fn add(inflows: &mut [u128], page: u64, below: u128, above: u128)
     requires page { page < length (low_flows inflows.old) }
     requires low_room { slice_index (low_flows inflows.old) page + below < 2 ^ 128 }
     requires high_room { slice_index (high_flows inflows.old) page + above < 2 ^ 128 }
-    ensures low { low_flows inflows.new ≡ set (low_flows inflows.old) page (slice_index (low_flows inflows.old) page + below) }
-    ensures high { high_flows inflows.new ≡ set (high_flows inflows.old) page (slice_index (high_flows inflows.old) page + above) }
+    ensures low { low_flows inflows.new ≡ set (low_flows inflows.old) page
+        (slice_index (low_flows inflows.old) page + below) }
+    ensures high { high_flows inflows.new ≡ set (high_flows inflows.old) page
+        (slice_index (high_flows inflows.old) page + above) }
 {
     let at = 2 * page as usize;
     inflows[at] += below;

@@ -63,7 +63,8 @@ fn first_fall<L: Lists>(
     requires empty { All (λ x. x ≡ 0) inflows.old }
     ensures graph { L.graph lists.new ≡ L.graph lists.old }
     ensures first { let w = by_page (weights_or_ones (length low.now) weights.now) in MatchOption result
-        (Rises (L.graph lists.old) damping w (by_page low.now)) (FallsFirst (L.graph lists.old) damping w (by_page low.now)) }
+        (Rises (L.graph lists.old) damping w (by_page low.now))
+        (FallsFirst (L.graph lists.old) damping w (by_page low.now)) }
 {
     let dangling = gather_low(lists, low, inflows);
     first_smaller(low, inflows, damping, dangling, weights)

@@ -66,7 +66,8 @@ impl<'a> LowParts<'a> {
         requires page { 0 < length self.now.weights.now → v < length self.now.weights.now }
         requires room { flow ≤ MOST_PAGES * UNITS }
         ensures { (n : ℕ) → v < n → result ≡ self.now.damping * flow / 1000
-            + (self.now.dangling + self.now.shared * by_page (weights_or_ones n self.now.weights.now) v / self.now.parts) }
+            + (self.now.dangling + self.now.shared * by_page (weights_or_ones n self.now.weights.now)
+            v / self.now.parts) }
     {
         let part = part_below(self.shared, self.parts, self.even, self.weights, v);
         quotient(self.damping as u128 * flow, 1000) + (self.dangling + part)

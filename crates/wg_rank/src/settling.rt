@@ -30,8 +30,10 @@ pub(crate) fn settle_low(
     requires room { All (λ x. x ≤ MOST_PAGES * UNITS) (low_flows inflows.now) }
     requires dangling_room { dangling ≤ MOST_PAGES * UNITS }
     requires weights { AreWeights (length low.old) (weights_or_ones (length low.old) weights.now) }
-    ensures each { let w = by_page (weights_or_ones (length low.old) weights.now) in (v : ℕ) → v < length low.old → slice_index low.new v
-        ≡ settled_low damping (length low.old) dangling (sum_below (length low.old) w) (w v) (slice_index (low_flows inflows.now) v) }
+    ensures each { let w = by_page (weights_or_ones (length low.old) weights.now) in (v : ℕ) → v < length low.old
+        → slice_index low.new v
+        ≡ settled_low damping (length low.old) dangling (sum_below (length low.old) w) (w v)
+        (slice_index (low_flows inflows.now) v) }
 {
     if low.is_empty() {
         return;
@@ -75,9 +77,11 @@ pub(crate) fn settle_high(
     requires low_room { All (λ x. x ≤ UNITS) low.now }
     requires weights { AreWeights (length high.old) (weights_or_ones (length high.old) weights.now) }
     requires gap_room { gap ≤ UNITS }
-    ensures each { let w = by_page (weights_or_ones (length high.old) weights.now) in (v : ℕ) → v < length high.old → slice_index high.new v
+    ensures each { let w = by_page (weights_or_ones (length high.old) weights.now) in (v : ℕ) → v < length high.old
+        → slice_index high.new v
         ≡ least (slice_index high.old v)
-        (settled_high damping (length high.old) dangling (sum_below (length high.old) w) (w v) (slice_index (high_flows inflows.now) v))
+        (settled_high damping (length high.old) dangling (sum_below (length high.old) w) (w v)
+        (slice_index (high_flows inflows.now) v))
         (slice_index low.now v + gap) }
 {
     if high.is_empty() {

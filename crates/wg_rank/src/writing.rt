@@ -22,7 +22,8 @@ fn write_named<S: Sink>(
     number: u64,
 ) -> Result<(), WriteError>
     requires { length word.now ≤ MOST_PIECE }
-    ensures prints { IsTrue S.told → Prints (named_line word.now number) (S.taken sink.old) (S.taken sink.new) lines.old lines.new result }
+    ensures prints { IsTrue S.told → Prints (named_line word.now number) (S.taken sink.old) (S.taken sink.new) lines.old
+        lines.new result }
     ensures later { S.later sink.old sink.new }
     ensures refusals { SinkRefusals ⟦<S as Sink>⟧ sink.old sink.new result }
 {
@@ -34,7 +35,8 @@ fn write_named<S: Sink>(
 // Prints the line of a bound.
 fn write_bound<S: Sink>(lines: &mut Lines, sink: &mut S, bound: u128) -> Result<(), WriteError>
     requires { bound ≤ UNITS }
-    ensures prints { IsTrue S.told → Prints (bound_line bound) (S.taken sink.old) (S.taken sink.new) lines.old lines.new result }
+    ensures prints { IsTrue S.told → Prints (bound_line bound) (S.taken sink.old) (S.taken sink.new) lines.old lines.new
+        result }
     ensures later { S.later sink.old sink.new }
     ensures refusals { SinkRefusals ⟦<S as Sink>⟧ sink.old sink.new result }
 {
@@ -45,7 +47,8 @@ fn write_bound<S: Sink>(lines: &mut Lines, sink: &mut S, bound: u128) -> Result<
 // Prints the line of each bound.
 fn write_bounds<S: Sink>(lines: &mut Lines, sink: &mut S, low: &[u128]) -> Result<(), WriteError>
     requires { All (λ x. x ≤ UNITS) low.now }
-    ensures prints { IsTrue S.told → Prints (bound_lines low.now) (S.taken sink.old) (S.taken sink.new) lines.old lines.new result }
+    ensures prints { IsTrue S.told → Prints (bound_lines low.now) (S.taken sink.old) (S.taken sink.new) lines.old
+        lines.new result }
     ensures later { S.later sink.old sink.new }
     ensures refusals { SinkRefusals ⟦<S as Sink>⟧ sink.old sink.new result }
 {

@@ -27,10 +27,10 @@ lists_all n x s seed lists g past count rest nodes_is lists_is =
     let of_lists : List (List ℕ) → Digraph = λ l. record { nodes = n; lists = l } in
     ap of_nodes nodes_is ∙ ap of_lists whole
 
-pub is_drafted : (n n1 n2 s : ℕ) (lists : List (List ℕ)) (first second third : Drafted) → n1 ≡ n → n2 ≡ n → first ≡ begun lists s → second ≡ scattered n1 first → third ≡ extended n2 second → third ≡ drafted n lists s
+pub is_drafted : (n pages s : ℕ) (lists : List (List ℕ)) (first second third : Drafted) → pages ≡ n → first ≡ begun lists s → second ≡ scattered pages first → third ≡ extended pages second → third ≡ drafted n lists s
 unfolding drafted
-is_drafted n n1 n2 s lists first second third same1 same2 first_is second_is third_is =
-    third_is ∙ ap (λ (m : ℕ). extended m second) same2 ∙ ap (extended n) (second_is ∙ ap (λ (m : ℕ). scattered m first) same1 ∙ ap (scattered n) first_is)
+is_drafted n pages s lists first second third same first_is second_is third_is =
+    third_is ∙ ap (extended pages) (second_is ∙ ap (scattered pages) first_is) ∙ ap (λ (m : ℕ). extended m (scattered m (begun lists s))) same
 
 pub finished : {E : Type 0} (r : Result Digraph E) (n x s seed : ℕ) (b : Digraph) → n ≤ x → length b.lists ≡ x → b.nodes ≡ n → lists_on n (n - x) b.lists s ≡ lists_on n n [] seed →
     IfOk r (λ g. g.nodes ≡ b.nodes) → IfOk r (λ g. g.lists ≡ padded b.nodes b.lists) → IfOk r (λ g. g ≡ generated seed n)

@@ -176,9 +176,10 @@ impl Draft {
         ensures below { Below before.now.nodes self.new.list }
         ensures few { length self.new.list ≤ MOST_SUCCESSORS }
     {
+        let pages = before.nodes();
         self.begin(before, page);
-        self.scatter(before.nodes());
-        self.extend(before.nodes());
+        self.scatter(pages);
+        self.extend(pages);
     }
 }
 
