@@ -9,11 +9,11 @@ use Rattle.wg_words.specs.Commands.{parsed}
 use Rattle.wg_words.specs.Files.{is_file_of, overwrites, IsNoFileOf, KeepsInputs, ShareNoFile}
 use Rattle.wg_words.specs.Layouts.{params_of}
 use Rattle.wg_words.specs.Values.{name_in, number_up_to, numbers_in, optional_name_in}
-use Rattle.wg_words.specs.Jobs.{show_on, rank_from, rank_with, rank_on, verify_on, build_from, build_on, conversion_from, conversion_of, conversion_in, recoding, transposing, job_on, job_on_base, job_from, job_of, IsConversion, IsWithin}
+use Rattle.wg_words.specs.Jobs.{show_on, rank_from, rank_with, rank_on, verify_on, build_from, build_on, import_from, import_on, conversion_from, conversion_of, conversion_in, recoding, transposing, job_on, job_on_base, job_from, job_of, IsConversion, IsWithin}
 use Rattle.wg_words.specs.declared.conversion.Conversion.{Conversion}
 use Rattle.wg_words.specs.declared.defaults.TheConstants.{DEFAULT_DAMPING, DEFAULT_ROUNDS, DEFAULT_TOP}
 use Rattle.wg_words.specs.declared.jobs.Job.{Job}
-use Rattle.wg_words.specs.declared.jobs.Job.TheVariants.{Check, Arcs, Offsets, Show, Rank, Verify, Build, Recode, Transpose}
+use Rattle.wg_words.specs.declared.jobs.Job.TheVariants.{Check, Arcs, Ascii, Offsets, Show, Rank, Verify, Build, Import, Recode, Transpose}
 use Rattle.wg_words.specs.declared.layout.Layout.{Layout}
 use Rattle.wg_words.proofs.FileLemmas.{no_file, keeps_inputs, no_file_shared_unless}
 use Rattle.wg_words.proofs.LayoutLemmas.{layout_in_within}
@@ -71,6 +71,17 @@ build_on_within rows base job is =
     option_and_then_some _ _ job is (λ arcs _ unless_file.
     some_unless IsWithin (is_file_of base arcs) (build_from rows base arcs) job (λ other. build_from_within rows base arcs job (no_file base arcs other)) unless_file)
 
+import_from_within : (rows : List Row) (base text : Text) (job : Job) → IsNoFileOf base text → import_from rows base text ≡ Some job → IsWithin job
+import_from_within rows base text job apart is =
+    let no_pages : 0 ≤ MOST_PAGES = omega arith in
+    option_and_then_some _ _ job is (λ layout is_layout job_is.
+    subst IsWithin (same_Some (Import text base layout) job job_is) (layout_in_within rows layout 0 no_pages is_layout, apart))
+
+import_on_within : (rows : List Row) (base : Text) (job : Job) → import_on rows base ≡ Some job → IsWithin job
+import_on_within rows base job is =
+    option_and_then_some _ _ job is (λ text _ unless_file.
+    some_unless IsWithin (is_file_of base text) (import_from rows base text) job (λ other. import_from_within rows base text job (no_file base text other)) unless_file)
+
 -- what is known of a conversion
 abbrev IsProper : Conversion → Type 0
 IsProper c = IsConversion c.input c.output c.layout
@@ -104,11 +115,13 @@ job_on_within : (command : Text) (rows : List Row) (base : Text) (job : Job) →
 job_on_within command rows base job =
     chosen_within (bytes_eq command (codes "check")) _ _ job (λ is. subst IsWithin (same_Some (Check base) job is) tt)
     (chosen_within (bytes_eq command (codes "arcs")) _ _ job (λ is. subst IsWithin (same_Some (Arcs base) job is) tt)
+    (chosen_within (bytes_eq command (codes "ascii")) _ _ job (λ is. subst IsWithin (same_Some (Ascii base) job is) tt)
     (chosen_within (bytes_eq command (codes "offsets")) _ _ job (λ is. subst IsWithin (same_Some (Offsets base) job is) tt)
     (chosen_within (bytes_eq command (codes "show")) _ _ job (show_on_within rows base job)
     (chosen_within (bytes_eq command (codes "rank")) _ _ job (rank_on_within rows base job)
     (chosen_within (bytes_eq command (codes "verify")) _ _ job (verify_on_within rows base job)
-    (chosen_within (bytes_eq command (codes "build")) _ _ job (build_on_within rows base job) (λ is. absurd (none-some job is))))))))
+    (chosen_within (bytes_eq command (codes "build")) _ _ job (build_on_within rows base job)
+    (chosen_within (bytes_eq command (codes "import")) _ _ job (import_on_within rows base job) (λ is. absurd (none-some job is))))))))))
 
 job_on_base_within : (command : Text) (rows : List Row) (job : Job) → job_on_base command rows ≡ Some job → IsWithin job
 job_on_base_within command rows job is =
@@ -131,6 +144,9 @@ rank_within words base rounds damping top weights certificate is = job_within wo
 -- what a caller knows of the building of an archive
 pub build_within : (words : List Text) (arcs base : Text) (nodes : ℕ) (layout : Layout) → job_of words ≡ Some (Build arcs base nodes layout) → (nodes ≤ MOST_PAGES) × IsWithinLimits (params_of layout nodes 0) × IsNoFileOf base arcs
 build_within words arcs base nodes layout is = job_within words (Build arcs base nodes layout) is
+
+pub import_within : (words : List Text) (text base : Text) (layout : Layout) → job_of words ≡ Some (Import text base layout) → IsWithinLimits (params_of layout 0 0) × IsNoFileOf base text
+import_within words text base layout is = job_within words (Import text base layout) is
 
 -- what a caller knows of a command that reads one archive and writes another
 pub recode_within : (words : List Text) (input output : Text) (layout : Layout) → job_of words ≡ Some (Recode input output layout) → IsConversion input output layout

@@ -71,6 +71,14 @@ plain_build_app = with_rule (with_rule (with_rule (new_app (codes "build")) (pos
 abbrev pub build_app : App
 build_app = with_layout plain_build_app
 
+-- import TEXT BASE
+abbrev pub plain_import_app : App
+plain_import_app = with_rule (with_rule (new_app (codes "import")) (positional_rule (codes "text"))) base_rule
+
+-- the same with the options that say how the archive is written
+abbrev pub import_app : App
+import_app = with_layout plain_import_app
+
 -- NAME IN OUT
 abbrev pub two_archives_app : Text → App
 two_archives_app name = with_rule (with_rule (new_app name) (positional_rule (codes "in"))) (positional_rule (codes "out"))
@@ -83,7 +91,7 @@ conversion_app name = with_layout (two_archives_app name)
 abbrev pub program_app : App
 program_app = record (new_app (codes "webgraph")) { top = record (new_app (codes "webgraph")).top { no_binary_name = true; subcommand_required = true } }
 
--- the commands that take an archive and no option
+-- commands that take an archive and no option
 abbrev pub plain_app : App
 plain_app = with_subcommand (with_subcommand (with_subcommand program_app (archive_app (codes "check")).top) (archive_app (codes "arcs")).top) (archive_app (codes "offsets")).top
 
@@ -94,8 +102,8 @@ with_command line command = with_subcommand line command.top
 -- the command line of the program
 abbrev pub command_app : App
 command_app =
-    with_command (with_command (with_command (with_command (with_command (with_command plain_app show_app) rank_app) verify_app) build_app)
-    (conversion_app (codes "recode"))) (conversion_app (codes "transpose"))
+    with_command (with_command (with_command (with_command (with_command (with_command (with_command (with_command plain_app (archive_app (codes "ascii"))) show_app) rank_app) verify_app)
+    build_app) import_app) (conversion_app (codes "recode"))) (conversion_app (codes "transpose"))
 
 -- nothing where the words are refused
 abbrev pub where_empty : {X : Type 0} → Kinds → Option X → Option X

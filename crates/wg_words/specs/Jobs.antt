@@ -11,7 +11,7 @@ use Rattle.wg_words.specs.Values.{name_in, number_in, numbers_in, optional_name_
 use Rattle.wg_words.specs.declared.conversion.Conversion.{Conversion}
 use Rattle.wg_words.specs.declared.defaults.TheConstants.{DEFAULT_DAMPING, DEFAULT_ROUNDS, DEFAULT_TOP}
 use Rattle.wg_words.specs.declared.jobs.Job.{Job}
-use Rattle.wg_words.specs.declared.jobs.Job.TheVariants.{Check, Arcs, Offsets, Show, Rank, Verify, Build, Recode, Transpose}
+use Rattle.wg_words.specs.declared.jobs.Job.TheVariants.{Check, Arcs, Ascii, Offsets, Show, Rank, Verify, Build, Import, Recode, Transpose}
 use Rattle.wg_words.specs.declared.layout.Layout.{Layout}
 
 -- the successors of the pages of an archive that the words name, in their order
@@ -58,6 +58,16 @@ build_on rows base =
     option_and_then (λ arcs. if is_file_of base arcs then None else build_from rows base arcs)
     (name_in rows (codes "arcs"))
 
+-- the building of an archive from a plain text, with the layout that the options give
+abbrev pub import_from : List Row → Text → Text → Option Job
+import_from rows base text = option_and_then (λ layout. Some (Import text base layout)) (layout_in rows)
+
+-- the building of an archive from a plain text that is none of its files
+abbrev pub import_on : List Row → Text → Option Job
+import_on rows base =
+    option_and_then (λ text. if is_file_of base text then None else import_from rows base text)
+    (name_in rows (codes "text"))
+
 -- the conversion between two archives, with the layout that the options give
 abbrev pub conversion_from : List Row → Text → Text → Option Conversion
 conversion_from rows input output = option_and_then (λ layout. Some (record { input = input; output = output; layout = layout })) (layout_in rows)
@@ -84,11 +94,13 @@ abbrev pub job_on : Text → List Row → Text → Option Job
 job_on command rows base =
     if bytes_eq command (codes "check") then Some (Check base)
     else if bytes_eq command (codes "arcs") then Some (Arcs base)
+    else if bytes_eq command (codes "ascii") then Some (Ascii base)
     else if bytes_eq command (codes "offsets") then Some (Offsets base)
     else if bytes_eq command (codes "show") then show_on rows base
     else if bytes_eq command (codes "rank") then rank_on rows base
     else if bytes_eq command (codes "verify") then verify_on rows base
     else if bytes_eq command (codes "build") then build_on rows base
+    else if bytes_eq command (codes "import") then import_on rows base
     else None
 
 -- the same, with the archive that the words name
@@ -115,6 +127,7 @@ abbrev pub IsWithin : Job → Type 0
 IsWithin (Rank base rounds damping top weights certificate) =
     (rounds ≤ MOST_ROUNDS) × (damping ≤ MOST_DAMPING) × (top ≤ MOST_PAGES) × KeepsInputs base weights certificate
 IsWithin (Build arcs base nodes layout) = (nodes ≤ MOST_PAGES) × IsWithinLimits (params_of layout nodes 0) × IsNoFileOf base arcs
+IsWithin (Import text base layout) = IsWithinLimits (params_of layout 0 0) × IsNoFileOf base text
 IsWithin (Recode input output layout) = IsConversion input output layout
 IsWithin (Transpose input output layout) = IsConversion input output layout
 IsWithin _ = ⊤

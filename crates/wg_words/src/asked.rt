@@ -1,7 +1,7 @@
 ghost use Rattle.std.specs.Prelude.{◌≡◌, Some, None, IfOk, IfErr, option_and_then, map, string_bytes};
 ghost use Rattle.clap.specs.Words.{subcommand_rows_of, rows_of, found_of};
 ghost use Rattle.wg_words.specs.Commands.{parsed};
-ghost use Rattle.wg_words.specs.Jobs.{job_of, job_from, job_on_base, job_on, show_on, rank_from, rank_on, verify_on, build_on, build_from, recoding, transposing, IsWithin};
+ghost use Rattle.wg_words.specs.Jobs.{job_of, job_from, job_on_base, job_on, show_on, rank_from, rank_on, verify_on, build_on, build_from, import_on, import_from, recoding, transposing, IsWithin};
 
 use crate::commands::command;
 use crate::conversion::{Conversion, conversion_at};
@@ -109,11 +109,13 @@ fn job_on(
     match command {
         "check" => Ok(Some(Job::Check { base })),
         "arcs" => Ok(Some(Job::Arcs { base })),
+        "ascii" => Ok(Some(Job::Ascii { base })),
         "offsets" => Ok(Some(Job::Offsets { base })),
         "show" => show_on(alloc, found, base),
         "rank" => rank_on(alloc, found, base),
         "verify" => verify_on(alloc, found, base),
         "build" => build_on(alloc, found, base),
+        "import" => import_on(alloc, found, base),
         _ => Ok(None),
     }
 }
@@ -209,4 +211,25 @@ fn build_from(found: &ArgMatches<'_>, arcs: Name, base: Name) -> Option<Job>
         nodes,
         layout,
     })
+}
+
+// The building of an archive from a plain text that is none of its files.
+fn import_on(alloc: Global, found: &ArgMatches<'_>, base: Name) -> Result<Option<Job>, AllocError>
+    ensures { IfOk result (λ job. job ≡ import_on (rows_of (found_of found.now)) base) }
+{
+    let Some(text) = name_at(alloc, found, "text")? else {
+        return Ok(None);
+    };
+    if is_file_of(base.as_str(), text.as_str()) {
+        return Ok(None);
+    }
+    Ok(import_from(found, text, base))
+}
+
+// The building of an archive from a plain text, with the layout that the options give.
+fn import_from(found: &ArgMatches<'_>, text: Name, base: Name) -> Option<Job>
+    ensures { result ≡ import_from (rows_of (found_of found.now)) base text }
+{
+    let layout = layout_at(found)?;
+    Some(Job::Import { text, base, layout })
 }

@@ -1,7 +1,7 @@
 //! The commands of the program with their options and positionals: a function each, as the definitions have an `App` each.
 ghost use Rattle.std.specs.Prelude.{◌≡◌, IfOk, false};
 ghost use Rattle.clap.specs.Words.{App, rule_of};
-ghost use Rattle.wg_words.specs.Commands.{IsApp, positional_rule, several_rule, base_rule, archive_app, option_rule, required_rule, show_app, plain_rank_app, rank_app, verify_app, with_option, with_limits, with_codes, with_layout, plain_build_app, build_app, two_archives_app, conversion_app, program_app, plain_app, with_command, command_app};
+ghost use Rattle.wg_words.specs.Commands.{IsApp, positional_rule, several_rule, base_rule, archive_app, option_rule, required_rule, show_app, plain_rank_app, rank_app, verify_app, with_option, with_limits, with_codes, with_layout, plain_build_app, build_app, plain_import_app, import_app, two_archives_app, conversion_app, program_app, plain_app, with_command, command_app};
 
 use clap::{Arg, Command};
 use std::alloc::{AllocError, Global};
@@ -143,6 +143,22 @@ fn build<'a>(alloc: Global) -> Result<Command<'a>, AllocError>
     with_layout(alloc, command)
 }
 
+// `import` without the options that say how the archive is written.
+fn plain_import<'a>(alloc: Global) -> Result<Command<'a>, AllocError>
+    ensures { IfOk result (IsApp plain_import_app) }
+{
+    Command::new(alloc, "import")
+        .arg(positional(alloc, "text"))?
+        .arg(base(alloc))
+}
+
+fn import<'a>(alloc: Global) -> Result<Command<'a>, AllocError>
+    ensures { IfOk result (IsApp import_app) }
+{
+    let command = plain_import(alloc)?;
+    with_layout(alloc, command)
+}
+
 // A command on two archives.
 fn on_two_archives<'a>(alloc: Global, name: &'a str) -> Result<Command<'a>, AllocError>
     ensures { IfOk result (IsApp (two_archives_app name.now)) }
@@ -168,7 +184,7 @@ fn program<'a>(alloc: Global) -> Command<'a>
         .subcommand_required(true)
 }
 
-// The commands that take an archive and no option.
+// Commands that take an archive and no option.
 fn plain<'a>(alloc: Global) -> Result<Command<'a>, AllocError>
     ensures { IfOk result (IsApp plain_app) }
 {
@@ -193,6 +209,8 @@ pub fn command<'a>(alloc: Global) -> Result<Command<'a>, AllocError>
     ensures { IfOk result (IsApp command_app) }
 {
     let line = plain(alloc)?;
+    let ascii = on_archive(alloc, "ascii")?;
+    let line = with_command(line, ascii)?;
     let show = show(alloc)?;
     let line = with_command(line, show)?;
     let rank = rank(alloc)?;
@@ -201,6 +219,8 @@ pub fn command<'a>(alloc: Global) -> Result<Command<'a>, AllocError>
     let line = with_command(line, verify)?;
     let build = build(alloc)?;
     let line = with_command(line, build)?;
+    let import = import(alloc)?;
+    let line = with_command(line, import)?;
     let recode = conversion(alloc, "recode")?;
     let line = with_command(line, recode)?;
     let transpose = conversion(alloc, "transpose")?;

@@ -13,6 +13,10 @@ pub enum Job {
     Arcs {
         base: Name,
     },
+    /// `ascii BASE`: the graph as a plain text.
+    Ascii {
+        base: Name,
+    },
     /// `offsets BASE`: the places of the records.
     Offsets {
         base: Name,
@@ -48,6 +52,13 @@ pub enum Job {
         arcs: Name,
         base: Name,
         nodes: u64,
+        layout: Layout,
+    },
+    /// `import TEXT BASE`: the archive BASE of the graph that the file TEXT holds as a plain text, which tells the pages. The
+    /// layout is within the limits of `wg_params`, and TEXT is none of the files of BASE.
+    Import {
+        text: Name,
+        base: Name,
         layout: Layout,
     },
     /// `recode IN OUT`: the archive OUT of the graph of the archive IN. The layout is within the limits of `wg_params`, and the

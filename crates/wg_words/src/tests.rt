@@ -49,6 +49,7 @@ fn described(alloc: Global, job: &Job) -> Result<String, Fail> {
     match job {
         Job::Check { base } => Ok(named(alloc, "check", base)?),
         Job::Arcs { base } => Ok(named(alloc, "arcs", base)?),
+        Job::Ascii { base } => Ok(named(alloc, "ascii", base)?),
         Job::Offsets { base } => Ok(named(alloc, "offsets", base)?),
         Job::Show { base, pages } => {
             let pages = pages.as_slice();
@@ -87,6 +88,7 @@ fn described(alloc: Global, job: &Job) -> Result<String, Fail> {
             let text = format!(in alloc; "build {nodes}")?;
             with_layout(alloc, text.as_str(), arcs, layout, base)
         }
+        Job::Import { text, base, layout } => with_layout(alloc, "import", text, layout, base),
         Job::Recode {
             input,
             output,

@@ -1,12 +1,13 @@
 //! Lines that ask for a job, with what it is, and lines that ask for none.
 
 // Of an archive that is read: the command, the numbers, and the graph file.
-pub const JOBS: [(&str, &str); 20] = [
+pub const JOBS: [(&str, &str); 21] = [
     ("check g", "check g.graph"),
     ("check data/a.b", "check data/a.b.graph"),
     ("check -", "check -.graph"),
     ("check -- -g", "check -g.graph"),
     ("arcs g", "arcs g.graph"),
+    ("ascii g", "ascii g.graph"),
     ("offsets -- g", "offsets g.graph"),
     ("show g 1", "show [1] g.graph"),
     ("show g 2 0 2", "show [2, 0, 2] g.graph"),
@@ -39,9 +40,10 @@ pub const JOBS: [(&str, &str); 20] = [
     ("verify --weights c g.graph c", "verify c c g.graph.graph"),
 ];
 
-pub const NO_JOBS: [&str; 47] = [
+pub const NO_JOBS: [&str; 48] = [
     "check",
     "arcs g h",
+    "ascii",
     "offsets",
     "show",
     "show g",
@@ -89,8 +91,8 @@ pub const NO_JOBS: [&str; 47] = [
     "",
 ];
 
-// Of an archive that is built: the file of arcs, the pages and the layout too.
-pub const BUILDS: [(&str, &str); 4] = [
+// Of an archive that is built: the file that holds the graph, the pages if they are told, and the layout too.
+pub const BUILDS: [(&str, &str); 5] = [
     (
         "build g.arcs g --nodes 1",
         "build 1 g.arcs Layout { window: 7, chain: Some(3), interval: 4, zeta: 3, outdegrees: Gamma, references: Unary, block_counts: Gamma, blocks: Gamma, residuals: Zeta(3), offsets: Gamma } g.graph",
@@ -104,12 +106,16 @@ pub const BUILDS: [(&str, &str); 4] = [
         "build 0 a Layout { window: 7, chain: None, interval: 4, zeta: 5, outdegrees: Gamma, references: Delta, block_counts: Delta, blocks: Gamma, residuals: Zeta(5), offsets: Gamma } b.graph",
     ),
     (
+        "import g.txt g --zeta 5",
+        "import g.txt Layout { window: 7, chain: Some(3), interval: 4, zeta: 5, outdegrees: Gamma, references: Unary, block_counts: Gamma, blocks: Gamma, residuals: Zeta(5), offsets: Gamma } g.graph",
+    ),
+    (
         "build --residuals delta --nodes 3 --chain 2147483647 --window 65535 -- -a g",
         "build 3 -a Layout { window: 65535, chain: Some(2147483647), interval: 4, zeta: 3, outdegrees: Gamma, references: Unary, block_counts: Gamma, blocks: Gamma, residuals: Delta, offsets: Gamma } g.graph",
     ),
 ];
 
-pub const NO_BUILDS: [&str; 23] = [
+pub const NO_BUILDS: [&str; 28] = [
     "build a b",
     "build a --nodes 1",
     "build a b c --nodes 1",
@@ -132,6 +138,11 @@ pub const NO_BUILDS: [&str; 23] = [
     "build g.offsets g --nodes 1",
     "build  b --nodes 1",
     "build a  --nodes 1",
+    "import a",
+    "import a b --nodes 1",
+    "import a b --offsets nibble",
+    "import g.graph g",
+    "import  b",
     "check a --window 1",
 ];
 
