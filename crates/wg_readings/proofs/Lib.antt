@@ -10,3 +10,4 @@ pub mod LimitsLemmas
 pub mod ReadingsLaws
 pub mod ReadingsLemmas
 pub mod ListsLemmas
+pub mod TextLemmas

@@ -1,4 +1,4 @@
--- There is one function that reads all graph files, one that reads all offsets files, one that ranks all bounds, and one that reads all arc lists.
+-- There is one function that reads all graph files, one that reads all offsets files, one that ranks all bounds, one that reads all arc lists, and one that reads all plain texts.
 use Rattle.std.proofs.Common.{◌≡◌, ℕ, List, Option, Some, None, Result, Err, refl, sym, ◌∙◌}
 use Rattle.wg_bits.specs.Bits.{bits_of}
 use Rattle.wg_params.specs.declared.key.Key.{Key}
@@ -14,9 +14,11 @@ use Rattle.wg_offsets.proofs.OneFile.{offsets_one, offsets_some}
 use Rattle.wg_properties.proofs.Limits.{none_bad}
 use Rattle.wg_arcs.proofs.SomeGraph.{texts_are_some}
 use Rattle.wg_arcs.proofs.Unique.{listed_one}
+use Rattle.wg_ascii.proofs.Some as ascii
 use Rattle.wg_readings.specs.Readings.{Readings, ReadingsAreOne}
 use Rattle.wg_order.proofs.OneRanking.{ranking_some, ranking_one}
 use Rattle.wg_readings.proofs.LimitsLemmas.{within_limits, coded}
+use Rattle.wg_readings.proofs.ReadingsLemmas.{decided_one}
 
 -- what the bytes stand for, where no key is bad
 abbrev read_where : (p : Parameters) (bad : Option Key) → first_bad p ≡ bad → List ℕ → Result Accepted ArchiveFault
@@ -48,6 +50,7 @@ the_readings = record {
   };
   ranking = record { value = λ low high. (ranking_some low high).0; reads = λ low high. (ranking_some low high).1 };
   arc_list = record { value = λ n bytes. (texts_are_some n bytes).0; reads = λ n bytes. (texts_are_some n bytes).1 };
+  plain_text = record { value = λ bytes. (ascii.texts_are_some bytes).0; reads = λ bytes. (ascii.texts_are_some bytes).1 };
 }
 
 pub readings_one : ReadingsAreOne
@@ -61,4 +64,6 @@ readings_one r q = record {
       ranking_one low high (r.ranking.value low high) (q.ranking.value low high) (r.ranking.reads low high) (q.ranking.reads low high);
   arc_list = λ n bytes.
       listed_one n bytes (r.arc_list.value n bytes) (q.arc_list.value n bytes) (r.arc_list.reads n bytes) (q.arc_list.reads n bytes);
+  plain_text = λ bytes.
+      decided_one bytes (r.plain_text.value bytes) (q.plain_text.value bytes) (r.plain_text.reads bytes) (q.plain_text.reads bytes);
 }

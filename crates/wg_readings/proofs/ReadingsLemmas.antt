@@ -17,11 +17,14 @@ use Rattle.wg_graph.specs.Digraph.{Digraph}
 use Rattle.wg_arcs.specs.declared.fault.ArcsKind.{ArcsKind}
 use Rattle.wg_arcs.specs.Reading.{AreArcs, IsFirstFault, IsListed}
 use Rattle.wg_arcs.proofs.Unique.{listed_one}
+use Rattle.wg_ascii.specs.declared.fault.AsciiKind.{AsciiKind}
+use Rattle.wg_ascii.specs.Reading as ascii
+use Rattle.wg_ascii.proofs.Unique.{texts_are_one}
 use Rattle.wg_readings.specs.Names.{file_of_fault}
 use Rattle.wg_readings.specs.declared.status.Input.TheVariants as input
 use Rattle.wg_readings.specs.Readings.{Readings}
-use Rattle.wg_readings.specs.Judged.{Judged, refused, with_graph, with_offsets, with_lengths, with_list, unless_bad_graph, unless_bad_offsets, unless_bad_list, unless_some_differ}
-use Rattle.wg_readings.specs.declared.status.Status.TheVariants.{BadArcs, BadArchive}
+use Rattle.wg_readings.specs.Judged.{Judged, refused, with_graph, with_offsets, with_lengths, with_list, with_text, unless_bad_graph, unless_bad_offsets, unless_bad_list, unless_bad_text, unless_some_differ}
+use Rattle.wg_readings.specs.declared.status.Status.TheVariants.{BadArcs, BadArchive, BadText}
 use Rattle.wg_readings.proofs.LimitsLemmas.{coded}
 
 -- a fault of a graph file lies there
@@ -63,6 +66,26 @@ module _ (r : Readings) (n : ℕ) (bytes : List ℕ) where
 
   pub list_refused : (line : ℕ) (kind : ArcsKind) → IsFirstFault n (lines_of bytes) line kind → (next : Digraph → Judged) → with_list r n bytes next ≡ refused (BadArcs line kind)
   list_refused line kind reads next = ap (λ (w : Result Digraph (ℕ × ArcsKind)). unless_bad_list w next) (lists_as (Err (line, kind)) reads)
+
+-- a plain text stands for one thing alone
+pub decided_one : (bytes : List ℕ) (w v : Result Digraph (ℕ × AsciiKind)) → ascii.IsDecided bytes w → ascii.IsDecided bytes v → w ≡ v
+decided_one bytes (Ok g) (Ok h) a b = ap Ok (texts_are_one.graph (lines_of bytes) g h a b)
+decided_one bytes (Ok g) (Err fault) a b = absurd (texts_are_one.never_both (lines_of bytes) g fault.0 fault.1 a b)
+decided_one bytes (Err fault) (Ok g) a b = absurd (texts_are_one.never_both (lines_of bytes) g fault.0 fault.1 b a)
+decided_one bytes (Err fault) (Err other) a b =
+    let same = texts_are_one.fault (lines_of bytes) fault.0 other.0 fault.1 other.1 a b in
+    λ i. Err (same.0 i, same.1 i)
+
+-- a plain text that was read
+module _ (r : Readings) (bytes : List ℕ) where
+  text_as : (w : Result Digraph (ℕ × AsciiKind)) → ascii.IsDecided bytes w → r.plain_text.value bytes ≡ w
+  text_as w reads = decided_one bytes (r.plain_text.value bytes) w (r.plain_text.reads bytes) reads
+
+  pub text_goes_on : (g : Digraph) → ascii.StandsFor (lines_of bytes) g → (next : Digraph → Judged) → with_text r bytes next ≡ next g
+  text_goes_on g reads next = ap (λ (w : Result Digraph (ℕ × AsciiKind)). unless_bad_text w next) (text_as (Ok g) reads)
+
+  pub text_refused : (line : ℕ) (kind : AsciiKind) → ascii.IsFirstFault (lines_of bytes) line kind → (next : Digraph → Judged) → with_text r bytes next ≡ refused (BadText line kind)
+  text_refused line kind reads next = ap (λ (w : Result Digraph (ℕ × AsciiKind)). unless_bad_text w next) (text_as (Err (line, kind)) reads)
 
 -- records that were held against what is stored
 pub all_agree : (found stored : List ℕ) → AgreeInLengths found stored → (next : Unit {0} → Judged) → with_lengths found stored next ≡ next tt

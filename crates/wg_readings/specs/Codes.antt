@@ -1,7 +1,7 @@
 -- The exit status of the program.
 use Rattle.std.specs.Prelude.{ℕ}
 use Rattle.wg_readings.specs.declared.status.Status.{Status}
-use Rattle.wg_readings.specs.declared.status.Status.TheVariants.{Done, Usage, Memory, ReadFault, WriteFault, Missing, BadArcs, BadProperties, BadArchive, NoPage, OverLimit, BadWeights, BadCertificate}
+use Rattle.wg_readings.specs.declared.status.Status.TheVariants.{Done, Usage, Memory, ReadFault, WriteFault, Missing, BadArcs, BadProperties, BadArchive, NoPage, OverLimit, BadWeights, BadText, BadCertificate}
 
 abbrev pub code_of : Status → ℕ
 code_of Done = 0
@@ -16,4 +16,5 @@ code_of (BadArchive f) = 9
 code_of (NoPage page) = 10
 code_of (OverLimit i) = 11
 code_of (BadWeights f) = 12
+code_of (BadText line kind) = 13
 code_of (BadCertificate f) = 16

@@ -12,6 +12,7 @@ use Rattle.wg_graph.specs.Digraph.{Digraph}
 use Rattle.wg_arcs.specs.declared.fault.ArcsKind.{ArcsKind}
 use Rattle.wg_arcs.specs.declared.numbers_fault.NumbersFault.{NumbersFault}
 use Rattle.wg_arcs.specs.Numbers.{numbers_of}
+use Rattle.wg_ascii.specs.declared.fault.AsciiKind.{AsciiKind}
 use Rattle.wg_offsets.specs.Places.{record_length, pages_that_differ}
 use Rattle.wg_rank.specs.Sum.{sum_below}
 use Rattle.wg_rank.specs.Intervals.{by_page}
@@ -23,7 +24,7 @@ use Rattle.wg_readings.specs.Readings.{Readings}
 use Rattle.wg_readings.specs.declared.status.Input.{Input}
 use Rattle.wg_readings.specs.declared.status.Input.TheVariants as input
 use Rattle.wg_readings.specs.declared.status.Status.{Status}
-use Rattle.wg_readings.specs.declared.status.Status.TheVariants.{Done, Missing, BadArcs, BadProperties, BadArchive, NoPage, OverLimit, BadWeights, BadCertificate}
+use Rattle.wg_readings.specs.declared.status.Status.TheVariants.{Done, Missing, BadArcs, BadProperties, BadArchive, NoPage, OverLimit, BadWeights, BadText, BadCertificate}
 use Rattle.wg_readings.specs.declared.status.WeightsFault.{WeightsFault}
 use Rattle.wg_readings.specs.declared.status.WeightsFault.TheVariants as weights
 
@@ -127,6 +128,18 @@ with_list r n bytes next = unless_bad_list (r.arc_list.value n bytes) next
 -- goes on with the graph of so many pages that the arc list holds
 abbrev pub with_arcs : Readings → ℕ → (Input → Option (List ℕ)) → (Digraph → Judged) → Judged
 with_arcs r n held next = with_file input.ArcList (held input.ArcList) (λ bytes. with_list r n bytes next)
+
+abbrev pub unless_bad_text : Result Digraph (ℕ × AsciiKind) → (Digraph → Judged) → Judged
+unless_bad_text (Ok g) next = next g
+unless_bad_text (Err fault) next = refused (BadText fault.0 fault.1)
+
+-- goes on with the graph that the plain text stands for
+abbrev pub with_text : Readings → List ℕ → (Digraph → Judged) → Judged
+with_text r bytes next = unless_bad_text (r.plain_text.value bytes) next
+
+-- goes on with the graph that a plain text holds
+abbrev pub text_then : Readings → Option (List ℕ) → (Digraph → Judged) → Judged
+text_then r held next = with_file input.Text held (λ bytes. with_text r bytes next)
 
 -- goes on with the parameters, and the bytes of the graph file
 abbrev pub with_records : (Input → Option (List ℕ)) → (Parameters → List ℕ → Judged) → Judged

@@ -9,13 +9,14 @@ use Rattle.wg_properties.specs.declared.fault.PropFault.{PropFault}
 use Rattle.wg_graph.specs.Digraph.{Digraph}
 use Rattle.wg_grammar.specs.Archive.{Accepted}
 use Rattle.wg_arcs.specs.declared.fault.ArcsKind.{ArcsKind}
+use Rattle.wg_ascii.specs.declared.fault.AsciiKind.{AsciiKind}
 use Rattle.wg_rank.specs.Weights.{AreWeights, weights_of}
 use Rattle.wg_rank.specs.Claims.{Claim}
 use Rattle.wg_rank.specs.declared.fault.CertFault.{CertFault}
 use Rattle.wg_readings.specs.Answers.{Steps, status_in}
 use Rattle.wg_readings.specs.Causes.{HasCause}
-use Rattle.wg_readings.specs.Judged.{Judged, claim_then, weights_then, with_arcs, with_digraph, with_file, with_lengths, with_parameters}
-use Rattle.wg_readings.specs.Names.{IsOfInput, certificate_named, file_of, held_by, list_named, no_outputs, weights_named}
+use Rattle.wg_readings.specs.Judged.{Judged, claim_then, text_then, weights_then, with_arcs, with_digraph, with_file, with_lengths, with_parameters}
+use Rattle.wg_readings.specs.Names.{IsOfInput, certificate_named, file_of, held_by, list_named, no_outputs, text_named, weights_named}
 use Rattle.wg_readings.specs.Pairing.{files_then, offsets_then}
 use Rattle.wg_readings.specs.Passes.{IsGraphFile, IsStopAt, graph_then}
 use Rattle.wg_readings.specs.Readings.{Readings}
@@ -23,7 +24,7 @@ use Rattle.wg_readings.specs.declared.ending.Ending.{Ending}
 use Rattle.wg_readings.specs.declared.status.Input.{Input}
 use Rattle.wg_readings.specs.declared.status.Input.TheVariants as input
 use Rattle.wg_readings.specs.declared.status.Status.{Status}
-use Rattle.wg_readings.specs.declared.status.Status.TheVariants.{BadArcs, BadCertificate, BadProperties, BadWeights}
+use Rattle.wg_readings.specs.declared.status.Status.TheVariants.{BadArcs, BadCertificate, BadProperties, BadText, BadWeights}
 use Rattle.wg_readings.specs.declared.status.WeightsFault.{WeightsFault}
 
 -- A file of this name was read whole, as this input.
@@ -112,6 +113,19 @@ pub record LoadsList (name : List ℕ) (n : ℕ) (told : Bool) (files files' : F
   pub same : files' ≡ files
   pub later : NonDecreasing counts counts'
 
+abbrev pub IsBadText : Status → Type 0
+IsBadText status = (line : ℕ) × (kind : AsciiKind) × (status ≡ BadText line kind)
+
+-- The graph that a plain text holds was read whole, or the job ends at the text.
+pub record LoadsText (name : List ℕ) (told : Bool) (files files' : Files) (counts counts' : List ℕ → Counts) (result : Result Digraph Ending) : Type 0 where
+  pub steps : IsTrue told → (r : Readings) → Steps (text_then r (held_by (text_named name) files input.Text)) result
+  pub only : IfErr result (λ e. IsOfInput input.Text e.status ⊎ IsBadText e.status)
+  -- an absence or a fault is told only where the outside counted it
+  pub causes : HasCause (text_named name) no_outputs counts counts' 0 0 (status_in result)
+  -- no file has changed, and no count of the depot falls
+  pub same : files' ≡ files
+  pub later : NonDecreasing counts counts'
+
 -- A file that is no archive's was read whole and judged, as this input, or the job ends at it, at last with a fault of what it holds.
 pub record ReadsNamed {B : Type 0} (i : Input) (names : Input → Option (List ℕ)) (IsFault : Status → Type 0) (step : Option (List ℕ) → (B → Judged) → Judged) (told : Bool) (files files' : Files) (counts counts' : List ℕ → Counts) (result : Result B Ending) : Type 0 where
   pub steps : IsTrue told → Steps (step (held_by names files i)) result
@@ -169,6 +183,9 @@ JudgesOffsetsBy d base p places before after result =
 
 abbrev pub LoadsListBy : {D : Type 0} → depot.Ghosts D → List ℕ → ℕ → D → D → Result Digraph Ending → Type 0
 LoadsListBy d name n before after result = LoadsList name n d.told (d.files before) (d.files after) (d.counts before) (d.counts after) result
+
+abbrev pub LoadsTextBy : {D : Type 0} → depot.Ghosts D → List ℕ → D → D → Result Digraph Ending → Type 0
+LoadsTextBy d name before after result = LoadsText name d.told (d.files before) (d.files after) (d.counts before) (d.counts after) result
 
 abbrev pub LoadsWeightsBy : {D : Type 0} → depot.Ghosts D → Option (List ℕ) → ℕ → D → D → Result (Option (List ℕ)) Ending → Type 0
 LoadsWeightsBy d given n before after result = LoadsWeights given n d.told (d.files before) (d.files after) (d.counts before) (d.counts after) result

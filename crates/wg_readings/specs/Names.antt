@@ -20,6 +20,7 @@ suffix_of input.Offsets = Some OFFSETS.now
 suffix_of input.ArcList = None
 suffix_of input.Weights = None
 suffix_of input.Certificate = None
+suffix_of input.Text = None
 
 -- the name of one of an archive's files
 abbrev pub file_of : List ℕ → Input → Option (List ℕ)
@@ -33,6 +34,7 @@ input_code input.Offsets = 2
 input_code input.ArcList = 3
 input_code input.Weights = 4
 input_code input.Certificate = 5
+input_code input.Text = 6
 
 abbrev pub output_code : Output → ℕ
 output_code output.Properties = 0
@@ -50,7 +52,7 @@ abbrev pub name_of_output : List (Output × List ℕ) → Output → Option (Lis
 name_of_output [] o = None
 name_of_output (entry ∷ rest) o = if nat_eq (output_code entry.0) (output_code o) then Some entry.1 else name_of_output rest o
 
--- the files of an archive's records, all files of an archive, an arc list, weights if they are asked for, and a certificate
+-- the files of an archive's records, all files of an archive, an arc list, a plain text, weights if they are asked for, and a certificate
 abbrev pub record_files : List ℕ → List (Input × List ℕ)
 record_files base = (input.Properties, base ++ PROPERTIES.now) ∷ (input.Graph, base ++ GRAPH.now) ∷ []
 
@@ -59,6 +61,9 @@ archive_files base = (input.Properties, base ++ PROPERTIES.now) ∷ (input.Graph
 
 abbrev pub list_file : List ℕ → List (Input × List ℕ)
 list_file name = (input.ArcList, name) ∷ []
+
+abbrev pub text_file : List ℕ → List (Input × List ℕ)
+text_file name = (input.Text, name) ∷ []
 
 abbrev pub weights_file : Option (List ℕ) → List (Input × List ℕ)
 weights_file None = []
@@ -78,6 +83,9 @@ certificate_output name = (output.Certificate, name) ∷ []
 -- the name of a job's input
 abbrev pub list_named : List ℕ → Input → Option (List ℕ)
 list_named name i = name_of_input (list_file name) i
+
+abbrev pub text_named : List ℕ → Input → Option (List ℕ)
+text_named name i = name_of_input (text_file name) i
 
 abbrev pub weights_named : Option (List ℕ) → Input → Option (List ℕ)
 weights_named given i = name_of_input (weights_file given) i

@@ -1,10 +1,12 @@
--- What all graph files, all offsets files, all bounds and all arc lists stand for.
+-- What all graph files, all offsets files, all bounds, all arc lists and all plain texts stand for.
 use Rattle.std.specs.Prelude.{◌≡◌, ℕ, List, Result}
 use Rattle.wg_bits.specs.Bits.{bits_of}
 use Rattle.wg_params.specs.Parameters.{Parameters, IsWithinLimits}
 use Rattle.wg_graph.specs.Digraph.{Digraph}
 use Rattle.wg_arcs.specs.declared.fault.ArcsKind.{ArcsKind}
 use Rattle.wg_arcs.specs.Reading.{IsListed}
+use Rattle.wg_ascii.specs.declared.fault.AsciiKind.{AsciiKind}
+use Rattle.wg_ascii.specs.Reading.{IsDecided}
 use Rattle.wg_grammar.specs.declared.fault.ArchiveFault.{ArchiveFault}
 use Rattle.wg_grammar.specs.declared.fault.OffsetWord.{OffsetWord}
 use Rattle.wg_grammar.specs.Archive.{Accepted, ReadsGraph}
@@ -31,12 +33,18 @@ pub record ListReading : Type 0 where
   pub value : ℕ → List ℕ → Result Digraph (ℕ × ArcsKind)
   pub reads : (n : ℕ) (bytes : List ℕ) → IsListed n bytes (value n bytes)
 
+-- from a plain text to its graph, or to its first faulty line
+pub record TextReading : Type 0 where
+  pub value : List ℕ → Result Digraph (ℕ × AsciiKind)
+  pub reads : (bytes : List ℕ) → IsDecided bytes (value bytes)
+
 -- One function of each kind. The definitions leave one choice for each, within the limits of the parameters.
 pub record Readings : Type 0 where
   pub graph : GraphReading
   pub offsets : OffsetsReading
   pub ranking : RankingReading
   pub arc_list : ListReading
+  pub plain_text : TextReading
 
 -- Two such choices agree within the limits.
 pub record ReadingsAgree (r q : Readings) : Type 0 where
@@ -44,6 +52,7 @@ pub record ReadingsAgree (r q : Readings) : Type 0 where
   pub offsets : (p : Parameters) → IsWithinLimits p → (bytes : List ℕ) → r.offsets.value p bytes ≡ q.offsets.value p bytes
   pub ranking : (low high : List ℕ) → r.ranking.value low high ≡ q.ranking.value low high
   pub arc_list : (n : ℕ) (bytes : List ℕ) → r.arc_list.value n bytes ≡ q.arc_list.value n bytes
+  pub plain_text : (bytes : List ℕ) → r.plain_text.value bytes ≡ q.plain_text.value bytes
 
 abbrev pub ReadingsAreOne : Type 0
 ReadingsAreOne = (r q : Readings) → ReadingsAgree r q

@@ -1,7 +1,7 @@
-//! The files of an archive, arc lists, weights and certificates, as a job reads them: each is read and judged, and the job
-//! goes on with what it holds, or ends.
+//! The files of an archive, arc lists, plain texts, weights and certificates, as a job reads them: each is read and judged,
+//! and the job goes on with what it holds, or ends.
 //!
-//! [`load_params`], [`load_graph`], [`load_list`], [`load_weights`] and [`load_certificate`] read a file whole; [`judge_graph`], [`judge_files`] and
+//! [`load_params`], [`load_graph`], [`load_list`], [`load_text`], [`load_weights`] and [`load_certificate`] read a file whole; [`judge_graph`], [`judge_files`] and
 //! [`judge_offsets`] go through the files in pieces, and so do [`open_graph`], [`next_record`] and [`end_records`],
 //! record by record. Each promises that it is a step of a judgement (`Judged`): it goes on with a value whatever
 //! comes next, or it ends with a [`Status`] whatever would have come next, unless running out of memory or a fault
@@ -22,6 +22,7 @@ mod listed;
 mod loading;
 mod names;
 mod pairing;
+mod plain;
 mod records;
 mod status;
 mod weights;
@@ -29,7 +30,9 @@ mod weights;
 pub use archive::{find_pages, lists_of_records, records_of_graph};
 pub use ending::Ending;
 pub use judge::{judge_files, judge_graph, judge_offsets};
-pub use loading::{load, load_certificate, load_graph, load_list, load_params, load_weights};
+pub use loading::{
+    load, load_certificate, load_graph, load_list, load_params, load_text, load_weights,
+};
 pub use names::file_name;
 pub use records::{end_records, next_record, open_graph};
 pub use status::{Input, Status, WeightsFault};

@@ -1,8 +1,8 @@
-//! Files that are read whole and judged: those of an archive, arc lists, weights and certificates.
+//! Files that are read whole and judged: those of an archive, arc lists, plain texts, weights and certificates.
 ghost use Rattle.std.specs.Prelude.{◌≡◌, ◌≤◌, ℕ, List, Option, IsSome, Some};
 ghost use Rattle.wg_params.specs.declared.limits.TheConstants.{MOST_PAGES};
 ghost use Rattle.wg_readings.specs.Loading.{LoadsBy, LoadsCertificateBy, LoadsGraphBy, LoadsListBy, LoadsParamsBy};
-ghost use Rattle.wg_readings.specs.Loading.{LoadsWeightsBy};
+ghost use Rattle.wg_readings.specs.Loading.{LoadsTextBy, LoadsWeightsBy};
 ghost use Rattle.wg_readings.specs.Names.{file_of, suffix_of};
 ghost use Rattle.wg_readings.specs.declared.status.Input.{Input};
 
@@ -11,6 +11,7 @@ use crate::claims::claim_of_text;
 use crate::ending::Ending;
 use crate::listed::graph_of_list;
 use crate::names::{file_name, suffix};
+use crate::plain::graph_of_text;
 use crate::weights::weights_of_text;
 use crate::{Input, Status};
 use std::alloc::Global;
@@ -90,6 +91,14 @@ pub fn load_list<D: Depot>(
 {
     let bytes = load_file(alloc, depot, name.as_str(), Input::ArcList)?;
     graph_of_list(alloc, bytes.as_slice(), nodes)
+}
+
+/// Reads the graph that a plain text holds. Beside the graph it holds the bytes of the text, until it is read.
+pub fn load_text<D: Depot>(alloc: Global, depot: &mut D, name: &Name) -> Result<Graph, Ending>
+    ensures { LoadsTextBy ⟦<D as Depot>⟧ name.now depot.old depot.new result }
+{
+    let bytes = load_file(alloc, depot, name.as_str(), Input::Text)?;
+    graph_of_text(alloc, bytes.as_slice())
 }
 
 /// Reads the weights of so many pages, where a file of them is named; without one, each page weighs the same. Beside the

@@ -2,6 +2,7 @@ ghost use Rattle.std.specs.Prelude.{◌≡◌};
 ghost use Rattle.wg_readings.specs.Codes.{code_of};
 
 use wg_arcs::{ArcsKind, NumbersFault};
+use wg_ascii::AsciiKind;
 use wg_grammar::ArchiveFault;
 use wg_io::Output;
 use wg_properties::PropFault;
@@ -17,6 +18,8 @@ pub enum Input {
     /// A weight of teleport for each page.
     Weights,
     Certificate,
+    /// A graph as a plain text.
+    Text,
 }
 
 /// What is wrong with the weights of pages.
@@ -48,6 +51,8 @@ pub enum Status {
     /// The file is longer than a file may be.
     OverLimit(Input),
     BadWeights(WeightsFault),
+    /// The plain text's first faulty line, counted from 1.
+    BadText { line: u64, kind: AsciiKind },
     BadCertificate(CertFault),
 }
 
@@ -69,6 +74,7 @@ impl Status {
             Status::NoPage(_) => 10,
             Status::OverLimit(_) => 11,
             Status::BadWeights(_) => 12,
+            Status::BadText { .. } => 13,
             Status::BadCertificate(_) => 16,
         }
     }

@@ -1,0 +1,24 @@
+//! The plain text of a graph.
+ghost use Rattle.std.specs.Prelude.{◌≡◌, ◌⊎◌, IfErr};
+ghost use Rattle.wg_readings.specs.Answers.{Steps};
+ghost use Rattle.wg_readings.specs.Judged.{with_text};
+ghost use Rattle.wg_readings.specs.Loading.{IsBadText};
+ghost use Rattle.wg_readings.specs.Readings.{Readings};
+
+use crate::Status;
+use crate::ending::Ending;
+use std::alloc::Global;
+use wg_ascii::AsciiError;
+use wg_graph::Graph;
+
+/// The graph that a plain text stands for.
+pub fn graph_of_text(alloc: Global, bytes: &[u8]) -> Result<Graph, Ending>
+    ensures steps { (r : Readings) → Steps (with_text r bytes.now) result }
+    ensures only { IfErr result (λ e. (e.status ≡ Status.Memory) ⊎ IsBadText e.status) }
+{
+    match wg_ascii::read(alloc, bytes) {
+        Ok(graph) => Ok(graph),
+        Err(AsciiError::Line { line, kind }) => Err(Ending::of(Status::BadText { line, kind })),
+        Err(AsciiError::Memory) => Err(Ending::of(Status::Memory)),
+    }
+}
