@@ -26,6 +26,7 @@ use Rattle.wg_arcs.specs.Text.{text_of_arcs, text_of_graph}
 use Rattle.wg_arcs.specs.declared.fault.ArcsKind.{ArcsKind}
 use Rattle.wg_arcs.proofs.FewArcs.{listed_few}
 use Rattle.wg_arcs.proofs.Texts.{text_is_of_arcs}
+use Rattle.wg_ascii.specs.Text as plain
 use Rattle.wg_params.specs.declared.limits.TheConstants.{MOST_PAGES}
 use Rattle.wg_words.proofs.LayoutLemmas.{layout_for_any}
 use Rattle.wg_words.specs.declared.jobs.Job.TheVariants.{Check, Arcs}
@@ -60,7 +61,7 @@ last_bit p lists = last_sum 0 (map length (record_bits p lists)) ∙ values_sum 
 
 -- ---- files
 
-file_goes_on : (i : Input) (bytes : List ℕ) → length bytes ≤ MOST_BYTES → (next : List ℕ → Judged) → with_file i (Some bytes) next ≡ next bytes
+pub file_goes_on : (i : Input) (bytes : List ℕ) → length bytes ≤ MOST_BYTES → (next : List ℕ → Judged) → with_file i (Some bytes) next ≡ next bytes
 file_goes_on i bytes few next = cond-false (nat_lt MOST_BYTES (length bytes)) (refused (OverLimit i)) (next bytes) (le-ltb MOST_BYTES (length bytes) few)
 
 module _ (r : Readings) (p : Parameters) (g : Digraph) (limits : IsWithinLimits p) (nodes : p.nodes ≡ g.nodes) (is : IsAcceptedArchive p g.lists) where
@@ -95,6 +96,7 @@ module _ (r : Readings) (p : Parameters) (g : Digraph) (limits : IsWithinLimits 
   accepted_as base = record {
     check = archive_goes_on (λ q a. accepted (ok_line q (last_place a.places))) ∙ ap (λ (n : ℕ). accepted (ok_line p n)) (last_bit p g.lists);
     arcs = lists_go_on (λ h. accepted (text_of_graph h));
+    ascii = lists_go_on (λ h. accepted (plain.text_of_graph h));
     offsets =
         records_go_on (λ q bytes. with_places r q bytes (λ found. accepted (number_lines found)))
         ∙ goes_on r p limits (graph_file p g.lists) g.lists places is.graph (λ a. accepted (number_lines a.places));
@@ -116,7 +118,7 @@ built_in (accepted out) = None
 built_in (built a out) = Some (a, out)
 built_in (certified text out) = None
 
-none_built : (status : Status) (a : Archive) (out : List ℕ) → refused status ≡ built a out → ⊥
+pub none_built : (status : Status) (a : Archive) (out : List ℕ) → refused status ≡ built a out → ⊥
 none_built status a out is = none-some (a, out) (ap built_in is)
 
 pub same_built : (a b : Archive) (out text : List ℕ) → built a out ≡ built b text → (a ≡ b) × (out ≡ text)
@@ -125,7 +127,7 @@ same_built a b out text is =
     (λ i. (same i).0, λ i. (same i).1)
 
 module _ (a : Archive) (out : List ℕ) where
-  file_behind : (i : Input) (o : Option (List ℕ)) (next : List ℕ → Judged) → with_file i o next ≡ built a out → (bytes : List ℕ) × (o ≡ Some bytes) × (next bytes ≡ built a out)
+  pub file_behind : (i : Input) (o : Option (List ℕ)) (next : List ℕ → Judged) → with_file i o next ≡ built a out → (bytes : List ℕ) × (o ≡ Some bytes) × (next bytes ≡ built a out)
   file_behind i None next is = absurd (none_built (Missing i) a out is)
   file_behind i (Some bytes) next is =
       elim (cases_Bool (nat_lt MOST_BYTES (length bytes))) [

@@ -23,11 +23,11 @@ use Rattle.wg_jobs.proofs.BuiltLemmas.{built_accepted, lists_go_on, same_built}
 use Rattle.wg_jobs.proofs.HeldLemmas.{graph_behind}
 
 -- the archive of a graph is accepted with its line, and each judgement goes on with that graph
-record IsReadAgain (r : Readings) (g : Digraph) (a : Archive) (out : List ℕ) : Type 0 where
+pub record IsReadAgain (r : Readings) (g : Digraph) (a : Archive) (out : List ℕ) : Type 0 where
   pub check : (base : List ℕ) → judged r (Check base) (holding a) ≡ accepted out
   pub goes_on : (next : Digraph → Judged) → with_records (holding a) (λ q bytes. with_digraph r q bytes next) ≡ next g
 
-read_again : (r : Readings) (l : Layout) (g : Digraph) (a : Archive) (out : List ℕ) → IsWithinLimits (params_of l 0 0) → IsGraph g → g.nodes ≤ MOST_PAGES → arc_count g ≤ MOST_ARCS
+pub read_again : (r : Readings) (l : Layout) (g : Digraph) (a : Archive) (out : List ℕ) → IsWithinLimits (params_of l 0 0) → IsGraph g → g.nodes ≤ MOST_PAGES → arc_count g ≤ MOST_ARCS
     → builds l g ≡ built a out → IsReadAgain r g a out
 read_again r l g a out within proper few few_arcs is =
     let p : Parameters = params_for l g in

@@ -18,6 +18,7 @@ pub mod WritingLemmas
 pub mod BuildLemmas
 pub mod BuiltLemmas
 pub mod ConversionLemmas
+pub mod ImportLemmas
 pub mod HeldLemmas
 pub mod NumberLemmas
 pub mod WeightsLemmas

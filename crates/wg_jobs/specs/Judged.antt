@@ -1,5 +1,5 @@
 -- What each job comes to, by what its inputs hold, and the texts that are printed.
-use Rattle.wg_readings.specs.Judged.{Judged, Written, accepted, built, certified, claim_then, files_of, weights_then, with_archive, with_arcs, with_digraph, with_pages, with_places, with_records}
+use Rattle.wg_readings.specs.Judged.{Judged, Written, accepted, built, certified, claim_then, files_of, text_then, weights_then, with_archive, with_arcs, with_digraph, with_pages, with_places, with_records}
 use Rattle.std.specs.Prelude.{ℕ, List, [], ◌++◌, length, map, get_or, if◌then◌else◌, codes, decimal, Option, Some, None}
 use Rattle.wg_io.specs.Puts.{joined}
 use Rattle.wg_params.specs.Parameters.{Parameters}
@@ -8,9 +8,10 @@ use Rattle.wg_rank.specs.Intervals.{Intervals}
 use Rattle.wg_encoder.specs.Archive.{graph_bits}
 use Rattle.wg_transpose.specs.Transposed.{transposed}
 use Rattle.wg_arcs.specs.Text.{text_of_graph}
+use Rattle.wg_ascii.specs.Text as plain
 use Rattle.wg_offsets.specs.Places.{last_place}
 use Rattle.wg_words.specs.declared.jobs.Job.{Job}
-use Rattle.wg_words.specs.declared.jobs.Job.TheVariants.{Check, Arcs, Offsets, Show, Rank, Verify, Build, Recode, Transpose}
+use Rattle.wg_words.specs.declared.jobs.Job.TheVariants.{Check, Arcs, Ascii, Offsets, Show, Rank, Verify, Build, Import, Recode, Transpose}
 use Rattle.wg_words.specs.declared.layout.Layout.{Layout}
 use Rattle.wg_jobs.specs.Names.{writes_files}
 use Rattle.wg_readings.specs.Readings.{Readings}
@@ -64,6 +65,8 @@ judged r (Check base) held =
     with_archive r held (λ p a. accepted (ok_line p (last_place a.places)))
 judged r (Arcs base) held =
     with_records held (λ p bytes. with_digraph r p bytes (λ g. accepted (text_of_graph g)))
+judged r (Ascii base) held =
+    with_records held (λ p bytes. with_digraph r p bytes (λ g. accepted (plain.text_of_graph g)))
 judged r (Offsets base) held =
     with_records held (λ p bytes. with_places r p bytes (λ places. accepted (number_lines places)))
 judged r (Show base pages) held =
@@ -79,6 +82,8 @@ judged r (Verify base certificate weights) held =
     with_gap g c given (λ left. accepted (verified_line c left))))))
 judged r (Build arcs base nodes layout) held =
     with_arcs r nodes held (λ g. builds layout g)
+judged r (Import text base layout) held =
+    text_then r (held input.Text) (λ g. builds layout g)
 judged r (Recode base to layout) held =
     with_records held (λ p bytes. with_digraph r p bytes (λ g. builds layout g))
 judged r (Transpose base to layout) held =

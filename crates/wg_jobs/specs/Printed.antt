@@ -1,11 +1,13 @@
 -- A text of each record of a graph file, as it is printed.
-use Rattle.std.specs.Prelude.{◌⊎◌, ℕ, ◌++◌, Bool, ◌≡◌, List, [], take, Result, Ok, Err, IsTrue, IfErr}
+use Rattle.std.specs.Prelude.{◌⊎◌, ℕ, ◌++◌, Bool, ◌≡◌, List, [], map, take, Result, Ok, Err, IsTrue, IfErr}
 use Rattle.wg_io.specs.Outside.{NonDecreasing}
 use Rattle.wg_io.specs.declared.depot.Depot as depot
 use Rattle.wg_io.specs.declared.sink.Sink as sink
 use Rattle.wg_params.specs.Parameters.{Parameters}
 use Rattle.wg_grammar.specs.Archive.{Accepted}
 use Rattle.wg_arcs.specs.Text.{lines_from, page_lines}
+use Rattle.wg_ascii.specs.Text.{list_line, nodes_line}
+use Rattle.wg_io.specs.Puts.{joined}
 use Rattle.wg_words.specs.declared.jobs.Job.{Job}
 use Rattle.wg_words.specs.declared.jobs.Job.TheVariants as job
 use Rattle.wg_readings.specs.Answers.{IsHindrance, IsUnput, status_in}
@@ -16,28 +18,32 @@ use Rattle.wg_readings.specs.Passes.{IsGraphFile, IsStopAt}
 use Rattle.wg_jobs.specs.Performs.{Outside, outside}
 use Rattle.wg_readings.specs.declared.ending.Ending.{Ending}
 use Rattle.wg_jobs.specs.declared.printing.Listing.{Listing}
-use Rattle.wg_jobs.specs.declared.printing.Listing.TheVariants.{Arcs, Offsets}
+use Rattle.wg_jobs.specs.declared.printing.Listing.TheVariants.{Arcs, Ascii, Offsets}
 use Rattle.wg_readings.specs.declared.status.Input.TheVariants as input
 
 -- the job that prints it
 abbrev pub job_of : Listing → List ℕ → Job
 job_of Arcs base = job.Arcs base
+job_of Ascii base = job.Ascii base
 job_of Offsets base = job.Offsets base
 
--- what comes before the first record
-abbrev pub head_of : Listing → List ℕ
-head_of Arcs = []
-head_of Offsets = number_line 0
+-- what comes before the first record of so many
+abbrev pub head_of : Listing → ℕ → List ℕ
+head_of Arcs n = []
+head_of Ascii n = nodes_line n
+head_of Offsets n = number_line 0
 
 -- what is printed of the record of a page, by its list and the offset after it
 abbrev pub piece_of : Listing → ℕ → List ℕ → ℕ → List ℕ
 piece_of Arcs page list end = page_lines page list
+piece_of Ascii page list end = list_line list
 piece_of Offsets page list end = number_line end
 
--- what is printed of a graph
-abbrev pub listed : Listing → Accepted → List ℕ
-listed Arcs a = lines_from 0 a.graph
-listed Offsets a = number_lines a.places
+-- what is printed of a graph of so many pages
+abbrev pub listed : Listing → ℕ → Accepted → List ℕ
+listed Arcs n a = lines_from 0 a.graph
+listed Ascii n a = nodes_line n ++ joined (map list_line a.graph)
+listed Offsets n a = number_lines a.places
 
 -- all of the text at Ok, and else a prefix of it
 abbrev pub PutsUpTo : List ℕ → List ℕ → List ℕ → Result (Unit {0}) Ending → Type 0

@@ -6,6 +6,7 @@ ghost use Rattle.wg_jobs.specs.Performs.{Does};
 
 use crate::build::build;
 use crate::check::check;
+use crate::import::import;
 use crate::printing::{Listing, print_records};
 use crate::rank::{Asked, rank};
 use crate::recode::recode;
@@ -36,6 +37,7 @@ pub fn perform<D: Depot, O: Sink>(alloc: Global, job: &Job, depot: &mut D, out: 
     match job {
         Job::Check { base } => ending_of(check(alloc, base, depot, out)),
         Job::Arcs { base } => ending_of(print_records(alloc, base, Listing::Arcs, depot, out)),
+        Job::Ascii { base } => ending_of(print_records(alloc, base, Listing::Ascii, depot, out)),
         Job::Offsets { base } => ending_of(print_records(
             alloc,
             base,
@@ -70,6 +72,9 @@ pub fn perform<D: Depot, O: Sink>(alloc: Global, job: &Job, depot: &mut D, out: 
             nodes,
             layout,
         } => ending_of(build(alloc, arcs, base, *nodes, layout, depot, out)),
+        Job::Import { text, base, layout } => {
+            ending_of(import(alloc, text, base, layout, depot, out))
+        }
         Job::Recode {
             input,
             output,

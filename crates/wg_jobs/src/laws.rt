@@ -1,14 +1,14 @@
 //! What the contract of [`perform`](crate::perform) rests on.
 ghost use Rattle.std.specs.Prelude.{ℕ};
-ghost use Rattle.wg_jobs.specs.Built.{BuildsAreAccepted, BuiltAreAccepted, ConversionsAreAccepted};
+ghost use Rattle.wg_jobs.specs.Built.{BuildsAreAccepted, BuiltAreAccepted, ConversionsAreAccepted, ImportsAreAccepted};
 ghost use Rattle.wg_jobs.specs.Certificates.{AcceptedAreProven, WrittenAreAccepted};
 ghost use Rattle.wg_readings.specs.Readings.{Readings, ReadingsAreOne};
 ghost use Rattle.wg_jobs.specs.Ranked.{RankingIsProven};
 
 /// There are functions that give for all parameters and all bytes the graph or the places that they stand for or
-/// their first fault, for all bounds their ranking, and for all arc lists their graph or their first faulty line;
-/// within the limits of the parameters there is only one of each. So a clause about each such four speaks of these,
-/// and is never empty.
+/// their first fault, for all bounds their ranking, and for all arc lists and all plain texts their graph or their
+/// first faulty line; within the limits of the parameters there is only one of each. So a clause about each such five
+/// speaks of these, and is never empty.
 pub fn readings()
     ensures some { Readings }
     ensures one { ReadingsAreOne }
@@ -21,13 +21,20 @@ pub fn rankings()
 {}
 
 /// What is built is accepted. Of the archive of any graph within the limits, `check` prints the pages, the arcs and
-/// the bits of the records, `arcs` the arcs of the graph, `offsets` the places of the records that were written,
+/// the bits of the records, `arcs` the arcs of the graph, `ascii` its plain text, `offsets` the places of the records that were written,
 /// `show` the successors that pages have in the graph, and `rank` the ranking of the graph. And whatever arc list
 /// `build` took, with pages and a layout within the limits, `check` accepts the three files that it wrote, and
 /// prints the very line that it printed.
 pub fn built_archives()
     ensures accepted { (r : Readings) → BuiltAreAccepted r }
     ensures builds { (r : Readings) → BuildsAreAccepted r }
+{}
+
+/// What is imported is accepted, whatever plain text was read, with a layout within the limits: `check` prints of the
+/// three files the very line that was printed, and `ascii` a text of the same words, line by line. And to import what
+/// `ascii` prints of an archive, where a file may be so long, is to recode the archive.
+pub fn imported_archives()
+    ensures { (r : Readings) → ImportsAreAccepted r }
 {}
 
 /// What is recoded or transposed is accepted, whatever archive was read, with a layout within the limits: `check`

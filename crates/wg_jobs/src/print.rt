@@ -5,6 +5,7 @@ ghost use Rattle.wg_io.specs.Refusals.{SinkRefusals};
 ghost use Rattle.wg_readings.specs.Answers.{IsUnput, PrintRefusals};
 ghost use Rattle.wg_io.specs.Printing.{Prints};
 ghost use Rattle.wg_arcs.specs.Text.{page_lines};
+ghost use Rattle.wg_ascii.specs.Text.{list_line, nodes_line};
 ghost use Rattle.wg_io.specs.declared.lines.TheConstants.{MOST_PIECE};
 ghost use Rattle.wg_jobs.specs.Ranked.{rank_line, rank_lines};
 ghost use Rattle.wg_rank.specs.declared.limits.TheConstants.{UNITS};
@@ -128,6 +129,32 @@ pub fn print_page<O: Sink>(
     ensures refusals { PrintRefusals ⟦<O as Sink>⟧ out.old out.new result }
 {
     match wg_arcs::print_list(lines, out, page, list) {
+        Ok(()) => Ok(()),
+        Err(error) => Err(output_ending(error)),
+    }
+}
+
+/// Prints the first line of a plain text.
+pub fn print_nodes<O: Sink>(lines: &mut Lines, out: &mut O, nodes: u64) -> Result<(), Ending>
+    ensures prints { IsTrue O.told → Prints (nodes_line nodes) (O.taken out.old)
+        (O.taken out.new) lines.old lines.new result }
+    ensures later { O.later out.old out.new }
+    ensures refusals { PrintRefusals ⟦<O as Sink>⟧ out.old out.new result }
+{
+    match wg_ascii::print_nodes(lines, out, nodes) {
+        Ok(()) => Ok(()),
+        Err(error) => Err(output_ending(error)),
+    }
+}
+
+/// Prints the line of a page with these successors in a plain text.
+pub fn print_list<O: Sink>(lines: &mut Lines, out: &mut O, list: &[u64]) -> Result<(), Ending>
+    ensures prints { IsTrue O.told → Prints (list_line list.now) (O.taken out.old)
+        (O.taken out.new) lines.old lines.new result }
+    ensures later { O.later out.old out.new }
+    ensures refusals { PrintRefusals ⟦<O as Sink>⟧ out.old out.new result }
+{
+    match wg_ascii::print_list(lines, out, list) {
         Ok(()) => Ok(()),
         Err(error) => Err(output_ending(error)),
     }

@@ -1,11 +1,11 @@
-//! The commands `arcs` and `offsets`: a text of each record of a graph, one after the other.
+//! The commands `arcs`, `ascii` and `offsets`: a text of each record of a graph, one after the other.
 ghost use Rattle.std.specs.Prelude.{IsTrue};
 ghost use Rattle.wg_io.specs.Printing.{Prints};
 ghost use Rattle.wg_readings.specs.Answers.{PrintRefusals};
 ghost use Rattle.wg_jobs.specs.Performs.{DoesOrEnds};
 ghost use Rattle.wg_jobs.specs.Printed.{PrintsAgain, head_of, job_of, listed, piece_of};
 
-use crate::print::{print_number, print_page, print_rest};
+use crate::print::{print_list, print_nodes, print_number, print_page, print_rest};
 use std::alloc::Global;
 use wg_io::{Depot, Lines, Sink};
 use wg_params::Params;
@@ -13,10 +13,12 @@ use wg_readings::{Ending, end_records, judge_graph, load_params, next_record, op
 use wg_stream::Reader;
 use wg_words::Name;
 
-/// What is printed of each record: the lines of its arcs, or the line of the offset after it.
+/// What is printed of each record: the lines of its arcs, the line of its list in the plain text, or that of the offset
+/// after it.
 #[derive(Clone, Copy)]
 pub enum Listing {
     Arcs,
+    Ascii,
     Offsets,
 }
 
@@ -47,12 +49,12 @@ fn print_again<D: Depot, O: Sink>(
     base: &Name,
     out: &mut O,
 ) -> Result<(), Ending>
-    ensures { PrintsAgain ⟦<D as Depot>⟧ ⟦<O as Sink>⟧ base.now params.now (listed listing)
+    ensures { PrintsAgain ⟦<D as Depot>⟧ ⟦<O as Sink>⟧ base.now params.now (listed listing params.now.nodes)
         depot.old depot.new out.old out.new result }
 {
     let mut reader = open_graph(alloc, params, base)?;
     let mut lines = Lines::new();
-    print_head(&mut lines, out, listing)?;
+    print_head(&mut lines, out, listing, params)?;
     for page in 0..params.nodes() {
         next_record(&mut reader, depot, params)?;
         print_piece(&mut lines, out, listing, page, &reader)?;
@@ -61,15 +63,22 @@ fn print_again<D: Depot, O: Sink>(
     print_rest(&mut lines, out)
 }
 
-// What comes before the first record: of the offsets it is 0, where this record begins.
-fn print_head<O: Sink>(lines: &mut Lines, out: &mut O, listing: Listing) -> Result<(), Ending>
-    ensures prints { IsTrue O.told → Prints (head_of listing) (O.taken out.old)
+// What comes before the first record: of the plain text it is the number of pages, and of the offsets it is 0, where this
+// record begins.
+fn print_head<O: Sink>(
+    lines: &mut Lines,
+    out: &mut O,
+    listing: Listing,
+    params: &Params,
+) -> Result<(), Ending>
+    ensures prints { IsTrue O.told → Prints (head_of listing params.now.nodes) (O.taken out.old)
         (O.taken out.new) lines.old lines.new result }
     ensures later { O.later out.old out.new }
     ensures refusals { PrintRefusals ⟦<O as Sink>⟧ out.old out.new result }
 {
     match listing {
         Listing::Arcs => Ok(()),
+        Listing::Ascii => print_nodes(lines, out, params.nodes()),
         Listing::Offsets => print_number(lines, out, 0),
     }
 }
@@ -89,6 +98,7 @@ fn print_piece<O: Sink>(
 {
     match listing {
         Listing::Arcs => print_page(lines, out, page, reader.list()),
+        Listing::Ascii => print_list(lines, out, reader.list()),
         Listing::Offsets => print_number(lines, out, reader.at()),
     }
 }

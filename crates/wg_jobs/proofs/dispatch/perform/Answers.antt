@@ -7,6 +7,9 @@ returns-in-Check g c = performs_at _ _ _ _ _ _ _ _ _ _ c.in-Check.is c.ending_of
 pub returns-in-Arcs : goal.returns-in-Arcs
 returns-in-Arcs g c = performs_at _ _ _ _ _ _ _ _ _ _ c.in-Arcs.is c.ending_of-in-Arcs.ensures.status c.ending_of-in-Arcs.ensures.arcs c.print_records.ensures
 
+pub returns-in-Ascii : goal.returns-in-Ascii
+returns-in-Ascii g c = performs_at _ _ _ _ _ _ _ _ _ _ c.in-Ascii.is c.ending_of-in-Ascii.ensures.status c.ending_of-in-Ascii.ensures.arcs c.print_records-in-Ascii.ensures
+
 pub returns-in-Offsets : goal.returns-in-Offsets
 returns-in-Offsets g c = performs_at _ _ _ _ _ _ _ _ _ _ c.in-Offsets.is c.ending_of-in-Offsets.ensures.status c.ending_of-in-Offsets.ensures.arcs c.print_records-in-Offsets.ensures
 
@@ -21,6 +24,9 @@ returns-in-Verify g c = performs_at _ _ _ _ _ _ _ _ _ _ c.in-Verify.is c.ending_
 
 pub returns-in-Build : goal.returns-in-Build
 returns-in-Build g c = performs_at _ _ _ _ _ _ _ _ _ _ c.in-Build.is c.ending_of-in-Build.ensures.status c.ending_of-in-Build.ensures.arcs c.build.ensures
+
+pub returns-in-Import : goal.returns-in-Import
+returns-in-Import g c = performs_at _ _ _ _ _ _ _ _ _ _ c.in-Import.is c.ending_of-in-Import.ensures.status c.ending_of-in-Import.ensures.arcs c.import.ensures
 
 pub returns-in-Recode : goal.returns-in-Recode
 returns-in-Recode g c = performs_at _ _ _ _ _ _ _ _ _ _ c.in-Recode.is c.ending_of-in-Recode.ensures.status c.ending_of-in-Recode.ensures.arcs c.recode.ensures

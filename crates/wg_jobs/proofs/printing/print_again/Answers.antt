@@ -12,13 +12,13 @@ pub returns-in_err-print_head : goal.returns-in_err-print_head
 returns-in_err-print_head g c =
     let n = c.in_err-print_head.ensures in
     prints_exit _ _ _ _ _ _ _ _ _ c.from_residual-in_err-print_head.ensures.1
-    (prints_less _ _ _ _ _ _ _ _ _ c.in_ok-reader.ensures.fresh.limits (listed_grow c.args.listing) _ _ 0 c.in_ok-reader.reader _
-    (begins _ _ _ _ _ _ _ c.in_ok-reader.ensures.fresh (λ o. head_less c.args.listing _ _ _ c.new-lines.ensures (n.prints o)))
+    (prints_less _ _ _ _ _ _ _ _ _ c.in_ok-reader.ensures.fresh.limits (listed_grow c.args.listing c.args.params.now.nodes) _ _ 0 c.in_ok-reader.reader _
+    (begins _ _ _ _ _ _ _ c.in_ok-reader.ensures.fresh (λ o. head_less c.args.listing c.args.params.now.nodes _ _ _ c.new-lines.ensures (n.prints o)))
     (omega arith) _ _ n.refusals.only n.refusals.failed)
 
 pub loop-page-init : goal.loop-page-init
 loop-page-init g c = record {
-  way = begins _ _ _ _ _ _ _ c.in_ok-reader.ensures.fresh (λ o. head_printed c.args.listing _ _ _ _ c.new-lines.ensures (c.in_ok-print_head.ensures.prints o));
+  way = begins _ _ _ _ _ _ _ c.in_ok-reader.ensures.fresh (λ o. head_printed c.args.listing c.args.params.now.nodes _ _ _ _ c.new-lines.ensures (c.in_ok-print_head.ensures.prints o));
   later = c.in_ok-print_head.ensures.later;
 }
 
@@ -34,7 +34,7 @@ next_record-requires-clause-more g c = omega (arith, c.loop-page.invariant.way.p
 pub returns-in_err-next_record : goal.returns-in_err-next_record
 returns-in_err-next_record g c =
     prints_exit _ _ _ _ _ _ _ _ _ c.from_residual-in_err-next_record.ensures.1
-    (prints_read _ _ _ _ _ _ _ _ _ c.nodes-page-end.ensures.limits (listed_grow c.args.listing) _ _ _ _ _ _ c.loop-page.invariant.way (omega (arith, c.loop-page-test.true, c.nodes-page-end.ensures.value))
+    (prints_read _ _ _ _ _ _ _ _ _ c.nodes-page-end.ensures.limits (listed_grow c.args.listing c.args.params.now.nodes) _ _ _ _ _ _ c.loop-page.invariant.way (omega (arith, c.loop-page-test.true, c.nodes-page-end.ensures.value))
     _ _ _ _ _ c.in_err-next_record.ensures.advances)
 
 pub returns-in_err-print_piece : goal.returns-in_err-print_piece
@@ -43,9 +43,9 @@ returns-in_err-print_piece g c =
     let n = c.in_err-print_piece.ensures in
     let on = (g.met.O.Sink.onward _ _ c.loop-page.invariant.later).0 in
     prints_exit _ _ _ _ _ _ _ _ _ c.from_residual-in_err-print_piece.ensures.1
-    (prints_less _ _ _ _ _ _ _ _ _ c.nodes-page-end.ensures.limits (listed_grow c.args.listing) _ _ _ _ _
+    (prints_less _ _ _ _ _ _ _ _ _ c.nodes-page-end.ensures.limits (listed_grow c.args.listing c.args.params.now.nodes) _ _ _ _ _
     (goes_further _ _ _ _ _ _ _ _ _ _ _ _ _ c.loop-page.invariant.way _ r.advances r.open r.page r.in_step
-    (λ whole w count list end h o. piece_less c.args.listing _ _ _ _ _ _ _ w whole count list end (h o) (n.prints o)))
+    (λ whole w count list end h o. piece_less c.args.listing c.args.params.now.nodes _ _ _ _ _ _ _ w whole count list end (h o) (n.prints o)))
     (omega (arith, c.loop-page-test.true, c.nodes-page-end.ensures.value)) _ _ n.refusals.only (λ is. rose_on _ _ _ _ on (n.refusals.failed is) (omega arith)))
 
 pub loop-page-preserved : goal.loop-page-preserved
@@ -54,7 +54,7 @@ loop-page-preserved g c =
     let n = c.in_ok-print_piece.ensures in
     record {
       way = goes_further _ _ _ _ _ _ _ _ _ _ _ _ _ c.loop-page.invariant.way _ r.advances r.open r.page r.in_step
-          (λ whole w count list end h o. piece_printed c.args.listing _ _ _ _ _ _ _ w whole count list end (h o) _ (n.prints o));
+          (λ whole w count list end h o. piece_printed c.args.listing c.args.params.now.nodes _ _ _ _ _ _ _ w whole count list end (h o) _ (n.prints o));
       later = g.met.O.Sink.goes_on _ _ _ c.loop-page.invariant.later n.later;
     }
 
@@ -70,12 +70,12 @@ end_records-requires-clause-done g c = omega (arith, c.loop-page.invariant.way.p
 pub returns-in_err-end_records : goal.returns-in_err-end_records
 returns-in_err-end_records g c =
     prints_exit _ _ _ _ _ _ _ _ _ c.from_residual-in_err-end_records.ensures.1
-    (prints_read _ _ _ _ _ _ _ _ _ c.nodes-page-end.ensures.limits (listed_grow c.args.listing) _ _ _ _ _ _ c.loop-page.invariant.way (omega (arith, c.loop-page.auto.page-end, c.nodes-page-end.ensures.value))
+    (prints_read _ _ _ _ _ _ _ _ _ c.nodes-page-end.ensures.limits (listed_grow c.args.listing c.args.params.now.nodes) _ _ _ _ _ _ c.loop-page.invariant.way (omega (arith, c.loop-page.auto.page-end, c.nodes-page-end.ensures.value))
     _ _ _ _ _ c.in_err-end_records.ensures.advances)
 
 pub returns : goal.returns
 returns g c =
     let on = (g.met.O.Sink.onward _ _ c.loop-page.invariant.later).0 in
     let n = c.print_rest.ensures in
-    prints_all _ _ _ _ _ _ _ _ _ c.nodes-page-end.ensures.limits (listed_grow c.args.listing) _ _ _ _ _ _ c.loop-page.invariant.way _ _ _ c.in_ok-end_records.ensures.advances c.in_ok-end_records.ensures.judged
+    prints_all _ _ _ _ _ _ _ _ _ c.nodes-page-end.ensures.limits (listed_grow c.args.listing c.args.params.now.nodes) _ _ _ _ _ _ c.loop-page.invariant.way _ _ _ c.in_ok-end_records.ensures.advances c.in_ok-end_records.ensures.judged
     _ _ c.print_rest.result n.puts n.refusals.only (λ is. rose_on _ _ _ _ on (n.refusals.failed is) (omega arith))

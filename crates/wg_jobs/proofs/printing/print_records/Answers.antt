@@ -25,7 +25,7 @@ returns-in_err-judge_graph g c =
     let before : Outside = outside (g.D.Depot.files c.args.depot.now) (g.D.Depot.counts c.args.depot.now) (g.O.Sink.taken c.args.out.now) (g.O.Sink.faults c.args.out.now) in
     let come = loaded job base g.D.Depot.told g.O.Sink.told before (named_properties c.args.listing base) (told c.args.listing) (judges c.args.listing base) p _ _ c.in_ok-params.ensures in
     performs_exit _ _ _ _ _ _ _ c.from_residual-in_err-judge_graph.ensures.1
-    (ends_reading job base _ _ before p _ _ _ input.Graph (named_graph c.args.listing base) (λ r. graph_then r p) (λ a r h. accepted (listed c.args.listing a)) come
+    (ends_reading job base _ _ before p _ _ _ input.Graph (named_graph c.args.listing base) (λ r. graph_then r p) (λ a r h. accepted (listed c.args.listing p.nodes a)) come
     (λ h holds. holds) (λ t r n. refl) refl _ _ refl c.in_err-judge_graph.ensures.reads)
 
 pub returns : goal.returns
@@ -35,5 +35,5 @@ returns g c =
     let p : Parameters = c.in_ok-params.params in
     let before : Outside = outside (g.D.Depot.files c.args.depot.now) (g.D.Depot.counts c.args.depot.now) (g.O.Sink.taken c.args.out.now) (g.O.Sink.faults c.args.out.now) in
     let come = loaded job base g.D.Depot.told g.O.Sink.told before (named_properties c.args.listing base) (told c.args.listing) (judges c.args.listing base) p _ _ c.in_ok-params.ensures in
-    printed_again base p (listed c.args.listing) job _ _ _ _ _ _ _ _ c.print_again.result (none_written c.args.listing base) (named_graph c.args.listing base) refl refl
+    printed_again base p (listed c.args.listing p.nodes) job _ _ _ _ _ _ _ _ c.print_again.result (none_written c.args.listing base) (named_graph c.args.listing base) refl refl
     (λ h holds. holds) come c.in_ok-judge_graph.ensures c.print_again.ensures
