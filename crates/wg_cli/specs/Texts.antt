@@ -18,6 +18,8 @@ use Rattle.wg_arcs.specs.declared.numbers_fault.NumbersFault.{NumbersFault}
 use Rattle.wg_arcs.specs.declared.numbers_fault.NumbersFault.TheVariants as fault
 use Rattle.wg_arcs.specs.declared.numbers_fault.NumbersKind.{NumbersKind}
 use Rattle.wg_arcs.specs.declared.numbers_fault.NumbersKind.TheVariants as numbers
+use Rattle.wg_ascii.specs.declared.fault.AsciiKind.{AsciiKind}
+use Rattle.wg_ascii.specs.declared.fault.AsciiKind.TheVariants as plain
 use Rattle.wg_rank.specs.declared.fault.CertFault.{CertFault}
 use Rattle.wg_rank.specs.declared.fault.CertFault.TheVariants as certificate
 use Rattle.wg_rank.specs.declared.fault.CertKind.{CertKind}
@@ -96,6 +98,17 @@ text_of_numbers pages (fault.Count found) = codes "count " ++ decimal found ++ c
 abbrev pub text_of_weights : WeightsFault → List ℕ
 text_of_weights (weights.Numbers f pages) = text_of_numbers pages f
 text_of_weights weights.Zero = codes "sum zero"
+
+abbrev pub text_of_plain_kind : AsciiKind → List ℕ
+text_of_plain_kind plain.Shape = codes "shape"
+text_of_plain_kind plain.Range = codes "range"
+text_of_plain_kind plain.Order = codes "order"
+text_of_plain_kind plain.TooMany = codes "too many"
+text_of_plain_kind plain.Extra = codes "extra"
+text_of_plain_kind plain.Missing = codes "missing"
+
+abbrev pub text_of_plain : ℕ → AsciiKind → List ℕ
+text_of_plain line k = codes "line " ++ decimal line ++ codes ": " ++ text_of_plain_kind k
 
 abbrev pub text_of_claim_kind : CertKind → List ℕ
 text_of_claim_kind claim.Shape = codes "shape"

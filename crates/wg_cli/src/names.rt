@@ -1,7 +1,7 @@
 ghost use Rattle.std.specs.Prelude.{◌≡◌, ◌++◌, Some, option_map};
 ghost use Rattle.wg_io.specs.declared.suffixes.TheConstants.{PROPERTIES, GRAPH, OFFSETS};
 ghost use Rattle.wg_jobs.specs.Names.{input_name, output_name};
-ghost use Rattle.wg_readings.specs.Names.{archive_files, archive_named, list_named, name_of_input, record_files};
+ghost use Rattle.wg_readings.specs.Names.{archive_files, archive_named, list_named, name_of_input, record_files, text_named};
 ghost use Rattle.wg_readings.specs.Names.{certificate_file, certificate_to, weights_file};
 ghost use Rattle.wg_cli.specs.Lines.{certificate_in};
 
@@ -15,7 +15,9 @@ pub fn input_parts(job: &Job, input: Input) -> Option<(&str, &'static str)>
 {
     match job {
         Job::Check { base } | Job::Show { base, .. } => archive_input(base, input),
-        Job::Arcs { base } | Job::Offsets { base } => record_input(base, input),
+        Job::Arcs { base } | Job::Ascii { base } | Job::Offsets { base } => record_input(
+            base, input,
+        ),
         Job::Rank { base, weights, .. } => rank_input(base, weights, input),
         Job::Verify {
             base,
@@ -23,6 +25,7 @@ pub fn input_parts(job: &Job, input: Input) -> Option<(&str, &'static str)>
             weights,
         } => verify_input(base, certificate, weights, input),
         Job::Build { arcs, .. } => list_parts(arcs, input),
+        Job::Import { text, .. } => text_parts(text, input),
         Job::Recode { input: base, .. } | Job::Transpose { input: base, .. } => {
             record_input(base, input)
         }
@@ -37,7 +40,7 @@ fn archive_input(base: &Name, input: Input) -> Option<(&str, &'static str)>
         Input::Properties => Some((base.as_str(), PROPERTIES)),
         Input::Graph => Some((base.as_str(), GRAPH)),
         Input::Offsets => Some((base.as_str(), OFFSETS)),
-        Input::ArcList | Input::Weights | Input::Certificate => None,
+        Input::ArcList | Input::Weights | Input::Certificate | Input::Text => None,
     }
 }
 
@@ -48,7 +51,7 @@ fn record_input(base: &Name, input: Input) -> Option<(&str, &'static str)>
     match input {
         Input::Properties => Some((base.as_str(), PROPERTIES)),
         Input::Graph => Some((base.as_str(), GRAPH)),
-        Input::Offsets | Input::ArcList | Input::Weights | Input::Certificate => None,
+        Input::Offsets | Input::ArcList | Input::Weights | Input::Certificate | Input::Text => None,
     }
 }
 
@@ -79,7 +82,7 @@ fn weighed_input<'a>(
         Input::Properties => Some((base.as_str(), PROPERTIES)),
         Input::Graph => Some((base.as_str(), GRAPH)),
         Input::Weights => Some((weights.as_str(), "")),
-        Input::Offsets | Input::ArcList | Input::Certificate => None,
+        Input::Offsets | Input::ArcList | Input::Certificate | Input::Text => None,
     }
 }
 
@@ -111,7 +114,7 @@ fn claim_input<'a>(
         Input::Properties => Some((base.as_str(), PROPERTIES)),
         Input::Graph => Some((base.as_str(), GRAPH)),
         Input::Certificate => Some((certificate.as_str(), "")),
-        Input::Offsets | Input::ArcList | Input::Weights => None,
+        Input::Offsets | Input::ArcList | Input::Weights | Input::Text => None,
     }
 }
 
@@ -129,7 +132,7 @@ fn weighed_claim_input<'a>(
         Input::Graph => Some((base.as_str(), GRAPH)),
         Input::Weights => Some((weights.as_str(), "")),
         Input::Certificate => Some((certificate.as_str(), "")),
-        Input::Offsets | Input::ArcList => None,
+        Input::Offsets | Input::ArcList | Input::Text => None,
     }
 }
 
@@ -139,8 +142,27 @@ fn list_parts(arcs: &Name, input: Input) -> Option<(&str, &'static str)>
 {
     match input {
         Input::ArcList => Some((arcs.as_str(), "")),
-        Input::Properties | Input::Graph | Input::Offsets | Input::Weights | Input::Certificate =>
-            None,
+        Input::Properties
+        | Input::Graph
+        | Input::Offsets
+        | Input::Weights
+        | Input::Certificate
+        | Input::Text => None,
+    }
+}
+
+// The name of the one input of a job that reads a plain text.
+fn text_parts(text: &Name, input: Input) -> Option<(&str, &'static str)>
+    ensures { option_map (λ parts. parts.0.now ++ parts.1.now) result ≡ text_named text.now input }
+{
+    match input {
+        Input::Text => Some((text.as_str(), "")),
+        Input::Properties
+        | Input::Graph
+        | Input::Offsets
+        | Input::ArcList
+        | Input::Weights
+        | Input::Certificate => None,
     }
 }
 
@@ -151,11 +173,13 @@ pub fn output_parts(job: &Job, output: Output) -> Option<(&str, &'static str)>
     match job {
         Job::Check { .. }
         | Job::Arcs { .. }
+        | Job::Ascii { .. }
         | Job::Offsets { .. }
         | Job::Show { .. }
         | Job::Verify { .. } => None,
         Job::Rank { certificate, .. } => certificate_parts(certificate, output),
         Job::Build { base, .. }
+        | Job::Import { base, .. }
         | Job::Recode { output: base, .. }
         | Job::Transpose { output: base, .. } => archive_parts(base, output),
     }

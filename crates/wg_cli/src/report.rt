@@ -147,6 +147,9 @@ fn write_line<S: Sink>(
         Status::NoPage(page) => write_all(sink, texts::no_page(page).as_bytes()),
         Status::OverLimit(input) => about(sink, "wg: too long: ", job, input, b""),
         Status::BadWeights(fault) => fault_in(sink, job, Input::Weights, &texts::weights(fault)),
+        Status::BadText { line, kind } => {
+            fault_in(sink, job, Input::Text, &texts::plain(line, kind))
+        }
         Status::BadCertificate(fault) => {
             fault_in(sink, job, Input::Certificate, &texts::certificate(fault))
         }

@@ -12,6 +12,7 @@ mod conversions;
 mod lines;
 mod lists;
 mod outside;
+mod plain;
 mod rankings;
 mod recodings;
 mod shrinking;

@@ -3,10 +3,12 @@ ghost use Rattle.std.specs.Prelude.{◌≡◌, ◌≤◌, length};
 ghost use Rattle.wg_cli.specs.Texts.{text_of_field, text_of_kind, text_of_arcs, text_of_line, text_of_properties};
 ghost use Rattle.wg_cli.specs.Texts.{text_of_record, text_of_word, text_of_archive, no_page_line};
 ghost use Rattle.wg_cli.specs.Texts.{text_of_number_kind, text_of_numbers, text_of_weights, text_of_claim_kind, text_of_certificate};
+ghost use Rattle.wg_cli.specs.Texts.{text_of_plain_kind, text_of_plain};
 ghost use Rattle.wg_readings.specs.Names.{file_of_fault};
 
 use crate::Input;
 use wg_arcs::{ArcsKind, NumbersFault, NumbersKind};
+use wg_ascii::AsciiKind;
 use wg_grammar::{ArchiveFault, Fault, Field, Kind, OffsetWord};
 use wg_jobs::{Text, WeightsFault};
 use wg_properties::{PropFault, key_name};
@@ -175,6 +177,31 @@ pub fn weights(fault: WeightsFault) -> Text
         WeightsFault::Numbers { fault, pages } => numbers(pages, fault),
         WeightsFault::Zero => Text::new().with("sum zero"),
     }
+}
+
+fn plain_kind(kind: AsciiKind) -> &'static str
+    ensures text { result.now ≡ text_of_plain_kind kind }
+    ensures short { length result.now ≤ 8 }
+{
+    match kind {
+        AsciiKind::Shape => "shape",
+        AsciiKind::Range => "range",
+        AsciiKind::Order => "order",
+        AsciiKind::TooMany => "too many",
+        AsciiKind::Extra => "extra",
+        AsciiKind::Missing => "missing",
+    }
+}
+
+/// A faulty line of a plain text.
+pub fn plain(line: u64, kind: AsciiKind) -> Text
+    ensures { result ≡ text_of_plain line kind }
+{
+    Text::new()
+        .with("line ")
+        .with_number(line)
+        .with(": ")
+        .with(plain_kind(kind))
 }
 
 fn claim_kind(kind: CertKind) -> &'static str

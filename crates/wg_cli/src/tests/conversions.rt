@@ -102,8 +102,8 @@ fn is_converted(alloc: Global, converted: &Converted, piece: u64) -> Result<bool
     )
 }
 
-// Whether the line writes this archive into the files of h, which are accepted and have the arcs of its lists.
-fn writes(
+/// Whether the line writes this archive into the files of h, which are accepted and have the arcs of its lists.
+pub fn writes(
     alloc: Global,
     line: &str,
     depot: &mut MemoryDepot,

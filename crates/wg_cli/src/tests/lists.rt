@@ -63,7 +63,7 @@ pub const COPIED_OK: &str = "ok nodes=3 arcs=4 bits=19\n";
 pub const COPIED_PROPERTIES: &str =
     "#BVGraph properties\nversion=0\nnodes=3\narcs=4\nwindowsize=7\nmaxrefcount=3\nminintervallength=4\nzetak=3\ncompressionflags=\ngraphclass=it.unimi.dsi.webgraph.BVGraph\n";
 
-/// A line over an arc list a that holds so much, and the status and the line of error that it ends with.
+/// A line over an arc list or a plain text a that holds so much, and the status and the line of error that it ends with.
 pub struct Unbuilt {
     pub line: &'static str,
     pub list: &'static str,
@@ -71,7 +71,61 @@ pub struct Unbuilt {
     pub report: &'static str,
 }
 
-pub const UNBUILT: [Unbuilt; 8] = [
+pub const UNBUILT: [Unbuilt; 17] = [
+    Unbuilt {
+        line: "import a g",
+        list: "",
+        code: 13,
+        report: "wg: a: line 1: missing\n",
+    },
+    Unbuilt {
+        line: "import a g",
+        list: "2\n1\n",
+        code: 13,
+        report: "wg: a: line 3: missing\n",
+    },
+    Unbuilt {
+        line: "import a g",
+        list: "1\n0 0\n",
+        code: 13,
+        report: "wg: a: line 2: order\n",
+    },
+    Unbuilt {
+        line: "import a g",
+        list: "2 0\n",
+        code: 13,
+        report: "wg: a: line 1: shape\n",
+    },
+    Unbuilt {
+        line: "import a g",
+        list: "68719476736\n",
+        code: 13,
+        report: "wg: a: line 1: range\n",
+    },
+    Unbuilt {
+        line: "import a g",
+        list: "1\n\n\n0\n",
+        code: 13,
+        report: "wg: a: line 4: extra\n",
+    },
+    Unbuilt {
+        line: "import b g",
+        list: "0\n",
+        code: 6,
+        report: "wg: missing: b\n",
+    },
+    Unbuilt {
+        line: "import a g --nodes 0",
+        list: "0\n",
+        code: 2,
+        report: "wg: bad command line\n",
+    },
+    Unbuilt {
+        line: "import g.offsets g",
+        list: "0\n",
+        code: 2,
+        report: "wg: bad command line\n",
+    },
     Unbuilt {
         line: "build a g --nodes 2",
         list: "0 1\n0 1\n",
