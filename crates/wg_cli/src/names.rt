@@ -125,7 +125,8 @@ fn weighed_claim_input<'a>(
     input: Input,
 ) -> Option<(&'a str, &'static str)>
     ensures { option_map (λ parts. parts.0.now ++ parts.1.now) result
-        ≡ name_of_input (record_files base.now ++ weights_file (Some weights.now) ++ certificate_file certificate.now) input }
+        ≡ name_of_input (record_files base.now ++ weights_file (Some weights.now) ++ certificate_file certificate.now)
+        input }
 {
     match input {
         Input::Properties => Some((base.as_str(), PROPERTIES)),

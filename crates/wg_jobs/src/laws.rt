@@ -21,10 +21,10 @@ pub fn rankings()
 {}
 
 /// What is built is accepted. Of the archive of any graph within the limits, `check` prints the pages, the arcs and
-/// the bits of the records, `arcs` the arcs of the graph, `ascii` its plain text, `offsets` the places of the records that were written,
-/// `show` the successors that pages have in the graph, and `rank` the ranking of the graph. And whatever arc list
-/// `build` took, with pages and a layout within the limits, `check` accepts the three files that it wrote, and
-/// prints the very line that it printed.
+/// the bits of the records, `arcs` the arcs of the graph, `ascii` its plain text, `offsets` the places of the records
+/// that were written, `show` the successors that pages have in the graph, and `rank` the ranking of the graph. And
+/// whatever arc list `build` took, with pages and a layout within the limits, `check` accepts the three files that it
+/// wrote, and prints the very line that it printed.
 pub fn built_archives()
     ensures accepted { (r : Readings) → BuiltAreAccepted r }
     ensures builds { (r : Readings) → BuildsAreAccepted r }

@@ -15,9 +15,9 @@
 //! `judged` takes the graph of a file from a function that reads all graph files; [`laws`] states that the grammar leaves
 //! exactly one such function, and that an archive that was built is accepted.
 //!
-//! `check`, `arcs`, `ascii`, `offsets` and `recode` read the graph and the offsets in pieces, so that an archive need not fit into
-//! memory; all other inputs are held whole until they are read. `show` opens pages by their offsets, and prints their
-//! successors as they come.
+//! `check`, `arcs`, `ascii`, `offsets` and `recode` read the graph in pieces, and `check` and `show` the offsets, so that an
+//! archive need not fit into memory; all other inputs are held whole until they are read. `show` opens pages by their
+//! offsets, and prints their successors as they come.
 #![tactic(auto)]
 
 mod build;

@@ -86,7 +86,8 @@ pub fn print_verified<O: Sink>(
     left: u128,
 ) -> Result<(), Ending>
     requires { left ≤ UNITS }
-    ensures puts { IsTrue O.told → Puts (verified_line certificate.now left) (O.taken out.old) (O.taken out.new) result }
+    ensures puts { IsTrue O.told → Puts (verified_line certificate.now left) (O.taken out.old) (O.taken out.new)
+        result }
     ensures refusals { PrintRefusals ⟦<O as Sink>⟧ out.old out.new result }
 {
     print(out, verified_line(certificate, left).as_bytes())

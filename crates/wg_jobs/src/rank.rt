@@ -43,7 +43,8 @@ pub fn rank<D: Depot, O: Sink>(
 ) -> Result<(), Ending>
     requires rounds { asked.rounds ≤ MOST_ROUNDS }
     requires damping { asked.damping ≤ MOST_DAMPING }
-    ensures { DoesOrEnds ⟦<D as Depot>⟧ ⟦<O as Sink>⟧ (Rank base.now asked.rounds asked.damping asked.top weights.now certificate.now)
+    ensures { DoesOrEnds ⟦<D as Depot>⟧ ⟦<O as Sink>⟧
+        (Rank base.now asked.rounds asked.damping asked.top weights.now certificate.now)
         depot.old depot.new out.old out.new result }
 {
     let params = load_params(alloc, depot, base)?;

@@ -1,9 +1,9 @@
 //! The files of an archive, arc lists, plain texts, weights and certificates, as a job reads them: each is read and judged,
 //! and the job goes on with what it holds, or ends.
 //!
-//! [`load_params`], [`load_graph`], [`load_list`], [`load_text`], [`load_weights`] and [`load_certificate`] read a file whole; [`judge_graph`], [`judge_files`] and
-//! [`judge_offsets`] go through the files in pieces, and so do [`open_graph`], [`next_record`] and [`end_records`],
-//! record by record. Each promises that it is a step of a judgement (`Judged`): it goes on with a value whatever
+//! [`load_params`], [`load_graph`], [`load_list`], [`load_text`], [`load_weights`] and [`load_certificate`] read a file
+//! whole; [`judge_graph`], [`judge_files`] and [`judge_offsets`] go through the files in pieces, and so do
+//! [`open_graph`], [`next_record`] and [`end_records`], record by record. Each promises that it is a step of a judgement (`Judged`): it goes on with a value whatever
 //! comes next, or it ends with a [`Status`] whatever would have come next, unless running out of memory or a fault
 //! of the outside came in its place (`Steps`). A fault or an absence is told only where its count rose, and no file
 //! changes. Which steps a job takes, and what it prints and writes, is said above, in `wg_jobs`.
