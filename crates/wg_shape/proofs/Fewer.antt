@@ -1,0 +1,105 @@
+-- A quotient has no more arcs than the graph.
+use Rattle.std.proofs.Common.{◌≡◌, ℕ, zero, suc, ◌+◌, ◌<◌, ◌≤◌, Bool, true, false, cond, eqb, ltb, ◌||◌, List, [], ◌∷◌, ◌++◌, length, take, map, refl, sym, ap, subst, ◌∙◌, arith, inl, inr, append-nil, length-append}
+use Rattle.std.specs.List.{sum_by, range_with_len}
+use Rattle.std.proofs.lemmas.Bool.{cases_Bool, cases_eq, cases_order, ne_eqb, eq-eqb, lt-ltb, le-ltb}
+use Rattle.std.proofs.lemmas.List.{take_all, length-map}
+use Rattle.std.proofs.lemmas.List.Sums.{sum_by_more}
+use Rattle.std.proofs.lemmas.List.FromFn.{sum_by-map-range_with_len_more}
+use Rattle.wg_graph.specs.Ascending.{Below}
+use Rattle.wg_graph.specs.Numbers.{is_in, numbers_where}
+use Rattle.wg_graph.specs.Digraph.{Digraph, IsGraph, successors, arc_count}
+use Rattle.wg_graph.proofs.Sets.{where_none}
+use Rattle.wg_transpose.proofs.Seen.{where_more, member_below}
+use Rattle.wg_shape.specs.Quotient.{class_of, members, reached, leads, quotient_of}
+use Rattle.wg_shape.proofs.Walk.{reached_push}
+
+-- ---- a set has no more numbers than a list of its members
+
+where_or : (s t : ℕ → Bool) (n k : ℕ) → length (numbers_where (λ y. s y || t y) n k) ≤ length (numbers_where s n k) + length (numbers_where t n k)
+where_or s t n zero = omega arith
+where_or s t n (suc k) =
+    let rest = where_or s t (n + 1) k in
+    elim (cases_Bool (s n)) [
+      | inl e ↦ elim (cases_Bool (t n)) [ inl d ↦ rw (e, d) (omega (arith, rest)) | inr d ↦ rw (e, d) (omega (arith, rest)) ]
+      | inr e ↦ elim (cases_Bool (t n)) [ inl d ↦ rw (e, d) (omega (arith, rest)) | inr d ↦ rw (e, d) (omega (arith, rest)) ]
+    ]
+
+where_one : (x n k : ℕ) → length (numbers_where (λ y. eqb y x) n k) ≤ 1
+where_one x n zero = omega arith
+where_one x n (suc k) =
+    elim (cases_eq n x) [
+      | inl same ↦
+          let here : eqb n x ≡ true = eq-eqb n x same in
+          let none : length (numbers_where (λ y. eqb y x) (n + 1) k) ≡ 0 = ap length (where_none (λ y. eqb y x) (n + 1) k (λ y low high. ne_eqb y x (λ e. omega arith))) in
+          rw here (omega (arith, none))
+      | inr other ↦ let here : eqb n x ≡ false = ne_eqb n x other in rw here (where_one x (n + 1) k)
+    ]
+
+where_members : (xs : List ℕ) (n k : ℕ) → length (numbers_where (λ y. is_in y xs) n k) ≤ length xs
+where_members [] n k = omega (arith, ap length (where_none (λ y. is_in y []) n k (λ y low high. refl)))
+where_members (x ∷ xs) n k = omega (arith, where_or (λ y. eqb y x) (λ y. is_in y xs) n k, where_one x n k, where_members xs n k)
+
+-- ---- how many arcs leave the pages below page m that are in a class below k
+
+arcs_below : Digraph → List ℕ → ℕ → ℕ → ℕ
+arcs_below g classes k zero = 0
+arcs_below g classes k (suc m) = arcs_below g classes k m + cond (ltb (class_of classes m) k) (length (successors g m)) 0
+
+reached_one : (g : Digraph) (classes us : List ℕ) (m : ℕ) (b : Bool) → length (reached g classes (us ++ cond b (m ∷ []) [])) ≡ length (reached g classes us) + cond b (length (successors g m)) 0
+reached_one g classes us m true =
+    omega (arith, ap length (reached_push g classes us m), length-append (reached g classes us) (map (class_of classes) (successors g m)), length-map (successors g m) (class_of classes))
+reached_one g classes us m false = omega (arith, ap (λ (l : List ℕ). length (reached g classes l)) (append-nil us))
+
+abbrev of_class : List ℕ → ℕ → ℕ → Bool
+of_class classes k u = eqb k (class_of classes u)
+
+reached_more : (g : Digraph) (classes : List ℕ) (k m : ℕ) → length (reached g classes (numbers_where (of_class classes k) 0 (suc m))) ≡ length (reached g classes (numbers_where (of_class classes k) 0 m)) + cond (of_class classes k m) (length (successors g m)) 0
+reached_more g classes k m =
+    let e : m + 1 ≡ suc m = omega arith in
+    subst (λ i. length (reached g classes (numbers_where (of_class classes k) 0 i)) ≡ length (reached g classes (numbers_where (of_class classes k) 0 m)) + cond (of_class classes k m) (length (successors g m)) 0) e
+    (ap (λ (l : List ℕ). length (reached g classes l)) (where_more (of_class classes k) m) ∙ reached_one g classes (numbers_where (of_class classes k) 0 m) m (of_class classes k m))
+
+-- a class more, one page more
+one_page : (c k d : ℕ) → cond (eqb k c) d 0 + cond (ltb c k) d 0 ≡ cond (ltb c (suc k)) d 0
+one_page c k d =
+    elim (cases_order c k) [
+      | inl same ↦
+          let a : eqb k c ≡ true = eq-eqb k c (sym same) in let b : ltb c k ≡ false = le-ltb c k (omega arith) in let e : ltb c (suc k) ≡ true = lt-ltb c (suc k) (omega arith) in rw (a, b, e) (omega arith)
+      | inr (inl less) ↦
+          let a : eqb k c ≡ false = ne_eqb k c (λ e. omega arith) in let b : ltb c k ≡ true = lt-ltb c k less in let e : ltb c (suc k) ≡ true = lt-ltb c (suc k) (omega arith) in rw (a, b, e) (omega arith)
+      | inr (inr more) ↦
+          let a : eqb k c ≡ false = ne_eqb k c (λ e. omega arith) in let b : ltb c k ≡ false = le-ltb c k (omega arith) in let e : ltb c (suc k) ≡ false = le-ltb c (suc k) (omega arith) in rw (a, b, e) (omega arith)
+    ]
+
+class_more : (g : Digraph) (classes : List ℕ) (k m : ℕ) → length (reached g classes (numbers_where (of_class classes k) 0 m)) + arcs_below g classes k m ≡ arcs_below g classes (suc k) m
+unfolding arcs_below
+class_more g classes k zero = omega arith
+class_more g classes k (suc m) = omega (arith, class_more g classes k m, reached_more g classes k m, one_page (class_of classes m) k (length (successors g m)))
+
+none_below : (g : Digraph) (classes : List ℕ) (m : ℕ) → arcs_below g classes 0 m ≡ 0
+unfolding arcs_below
+none_below g classes zero = refl
+none_below g classes (suc m) = let b : ltb (class_of classes m) 0 ≡ false = le-ltb (class_of classes m) 0 (omega arith) in rw b (omega (arith, none_below g classes m))
+
+module _ (g : Digraph) (ok : IsGraph g) (classes : List ℕ) (n : ℕ) (size : length classes ≡ g.nodes) (below : Below n classes) where
+  all_below : (m : ℕ) → m ≤ g.nodes → arcs_below g classes n m ≡ sum_by (λ s. length s) (take m g.lists)
+  unfolding arcs_below
+  all_below zero le = refl
+  all_below (suc m) le =
+      let e : m + 1 ≡ suc m = omega arith in
+      let b : ltb (class_of classes m) n ≡ true = lt-ltb (class_of classes m) n (member_below n m classes below (omega arith)) in
+      rw b (subst (λ i. arcs_below g classes n m + length (successors g m) ≡ sum_by (λ s. length s) (take i g.lists)) e
+      (omega (arith, all_below m (omega arith), sum_by_more (λ (s : List ℕ). length s) g.lists m [] (omega (arith, ok.counted)))))
+
+  rows : (k : ℕ) → sum_by (λ s. length s) (map (λ i. numbers_where (leads g classes i) 0 n) (range_with_len 0 k)) ≤ arcs_below g classes k (length classes)
+  rows zero = omega arith
+  rows (suc k) =
+      let e : k + 1 ≡ suc k = omega arith in
+      let more = sum_by-map-range_with_len_more (λ (s : List ℕ). length s) (λ i. numbers_where (leads g classes i) 0 n) 0 k k (omega arith) in
+      subst (λ i. sum_by (λ s. length s) (map (λ i. numbers_where (leads g classes i) 0 n) (range_with_len 0 i)) ≤ arcs_below g classes (suc k) (length classes)) e
+      (omega (arith, more, rows k, where_members (reached g classes (members classes k)) 0 n, class_more g classes k (length classes)))
+
+  pub fewer : arc_count (quotient_of g classes n) ≤ arc_count g
+  fewer =
+      let all = ap (λ (l : List (List ℕ)). sum_by (λ (s : List ℕ). length s) l) (take_all g.nodes g.lists (omega (arith, ok.counted))) in
+      omega (arith, rows n, ap (arcs_below g classes n) size, all_below g.nodes (omega arith), all)

@@ -1,0 +1,4 @@
+pub mod Quotient
+pub mod Classes
+pub mod SoFar
+pub mod Laws
