@@ -4,3 +4,6 @@ pub mod Steps
 pub mod Walk
 pub mod Fewer
 pub mod Made
+pub mod Unions
+pub mod OneByOne
+pub mod GraphUnions

@@ -1,0 +1,131 @@
+-- Unions of ascending lists, number by number.
+use Rattle.std.proofs.Common.{◌≡◌, ℕ, suc, ◌<◌, ◌≤◌, Bool, true, false, eqb, ◌||◌, inl, inr, List, [], ◌∷◌, Option, Some, None, refl, sym, ap, subst, ◌∙◌, arith}
+use Rattle.std.proofs.lemmas.Bool.{cases_Bool, cases_order, cases_lt, cases_eq, lt-ltb, le-ltb, ne_eqb, eq-eqb}
+use Rattle.wg_graph.specs.Ascending.{Ascends, Below}
+use Rattle.wg_graph.specs.Numbers.{is_in}
+use Rattle.wg_graph.proofs.Sets.{ascends_more}
+use Rattle.wg_shape.specs.Union.{Gives, front, with_number, union_of}
+
+with_ascends : (n x : ℕ) (ys : List ℕ) → n ≤ x → Ascends n ys → Ascends n (with_number x ys)
+with_ascends n x [] le h = (le, tt)
+with_ascends n x (y ∷ ys) le h =
+    elim (cases_lt x y) [
+      | inl lt ↦ rw (lt-ltb x y lt) (le, (lt, h.1))
+      | inr ge ↦ elim (cases_eq x y) [
+        | inl e ↦ rw (le-ltb x y ge, eq-eqb x y e) h
+        | inr ne ↦ rw (le-ltb x y ge, ne_eqb x y ne) (h.0, with_ascends (suc y) x ys (omega arith) h.1)
+      ]
+    ]
+
+pub union_ascends : (n : ℕ) (xs ys : List ℕ) → Ascends n xs → Ascends n ys → Ascends n (union_of xs ys)
+union_ascends n [] ys h k = k
+union_ascends n (x ∷ xs) ys h k = let le = h.0 in with_ascends n x (union_of xs ys) le (union_ascends n xs ys (ascends_more n (suc x) xs (omega (arith, le)) h.1) k)
+
+with_first : (x : ℕ) (ys : List ℕ) → Ascends (suc x) ys → with_number x ys ≡ x ∷ ys
+with_first x [] h = refl
+with_first x (y ∷ ys) h = let lt = h.0 in rw (lt-ltb x y lt) refl
+
+with_later : (a x : ℕ) (ys : List ℕ) → x < a → with_number a (x ∷ ys) ≡ x ∷ with_number a ys
+with_later a x ys lt = rw (le-ltb a x (omega arith), ne_eqb a x (λ e. omega arith)) refl
+
+with_same : (x : ℕ) (ys : List ℕ) → with_number x (x ∷ ys) ≡ x ∷ ys
+with_same x ys = rw (le-ltb x x (omega arith), eq-eqb x x refl) refl
+
+pub union_first : (x : ℕ) (xs ys : List ℕ) → Ascends (suc x) xs → Ascends (suc x) ys → union_of (x ∷ xs) ys ≡ x ∷ union_of xs ys
+union_first x xs ys h k = with_first x (union_of xs ys) (union_ascends (suc x) xs ys h k)
+
+pub union_second : (x : ℕ) (xs ys : List ℕ) → Ascends (suc x) xs → union_of xs (x ∷ ys) ≡ x ∷ union_of xs ys
+union_second x [] ys h = refl
+union_second x (a ∷ xs) ys h =
+    let lt = h.0 in
+    ap (with_number a) (union_second x xs ys (ascends_more (suc x) (suc a) xs (omega (arith, lt)) h.1)) ∙ with_later a x (union_of xs ys) lt
+
+pub union_both : (x : ℕ) (xs ys : List ℕ) → Ascends (suc x) xs → union_of (x ∷ xs) (x ∷ ys) ≡ x ∷ union_of xs ys
+union_both x xs ys h = ap (with_number x) (union_second x xs ys h) ∙ with_same x (union_of xs ys)
+
+pub union_none : (xs : List ℕ) → Ascends 0 xs → union_of xs [] ≡ xs
+union_none xs h = none_after 0 xs h
+  where
+    none_after : (n : ℕ) (xs : List ℕ) → Ascends n xs → union_of xs [] ≡ xs
+    none_after n [] h = refl
+    none_after n (x ∷ xs) h = ap (with_number x) (none_after (suc x) xs h.1) ∙ with_first x xs h.1
+
+-- ---- numbers that are taken ahead
+
+pub front_gives : (old new : List ℕ) (answer : Option ℕ) → Gives old answer new → front answer new ≡ old
+front_gives old new None h = sym h.0
+front_gives old new (Some x) h = sym h
+
+module _ (first second : Option ℕ) (a b now : List ℕ) (x : ℕ) (view : union_of (front first a) (front second b) ≡ now)
+    (up_a : Ascends 0 (front first a)) (up_b : Ascends 0 (front second b)) where
+  pub all_ascend : Ascends 0 now
+  all_ascend = subst (Ascends 0) view (union_ascends 0 (front first a) (front second b) up_a up_b)
+
+  pub took_first : (answer : Option ℕ) (later : List ℕ) → first ≡ Some x → Gives a answer later → Ascends (suc x) (front second b) → now ≡ x ∷ union_of (front answer later) (front second b)
+  took_first answer later is gives above =
+      let up : Ascends 0 (x ∷ a) = subst (λ (o : Option ℕ). Ascends 0 (front o a)) is up_a in
+      sym view ∙ ap (λ (o : Option ℕ). union_of (front o a) (front second b)) is ∙ union_first x a (front second b) up.1 above
+      ∙ ap (λ (l : List ℕ). x ∷ union_of l (front second b)) (sym (front_gives a later answer gives))
+
+  pub took_second : (answer : Option ℕ) (later : List ℕ) → second ≡ Some x → Gives b answer later → Ascends (suc x) (front first a) → now ≡ x ∷ union_of (front first a) (front answer later)
+  took_second answer later is gives above =
+      sym view ∙ ap (λ (o : Option ℕ). union_of (front first a) (front o b)) is ∙ union_second x (front first a) b above
+      ∙ ap (λ (l : List ℕ). x ∷ union_of (front first a) l) (sym (front_gives b later answer gives))
+
+  pub took_both : (left right : Option ℕ) (later_a later_b : List ℕ) → first ≡ Some x → second ≡ Some x → Gives a left later_a → Gives b right later_b
+      → now ≡ x ∷ union_of (front left later_a) (front right later_b)
+  took_both left right later_a later_b first_is second_is gives_a gives_b =
+      let up : Ascends 0 (x ∷ a) = subst (λ (o : Option ℕ). Ascends 0 (front o a)) first_is up_a in
+      sym view ∙ ap (λ (o : Option ℕ). union_of (front o a) (front second b)) first_is ∙ ap (λ (o : Option ℕ). union_of (x ∷ a) (front o b)) second_is ∙ union_both x a b up.1
+      ∙ ap (λ (l : List ℕ). x ∷ union_of l b) (sym (front_gives a later_a left gives_a)) ∙ ap (λ (l : List ℕ). x ∷ union_of (front left later_a) l) (sym (front_gives b later_b right gives_b))
+
+-- what a list that begins above x has is above x
+pub above : (next : Option ℕ) (list : List ℕ) (y x : ℕ) → next ≡ Some y → x < y → Ascends 0 (front next list) → Ascends (suc x) (front next list)
+above next list y x is lt up =
+    let P : Option ℕ → Type 0 = λ (o : Option ℕ). Ascends (suc x) (front o list) in
+    let here : Ascends 0 (y ∷ list) = subst (λ (o : Option ℕ). Ascends 0 (front o list)) is up in
+    subst P (sym is) (lt, here.1)
+
+pub above_none : (next : Option ℕ) (list : List ℕ) (x : ℕ) → next ≡ None → Ascends (suc x) (front next list)
+above_none next list x is = let P : Option ℕ → Type 0 = λ (o : Option ℕ). Ascends (suc x) (front o list) in subst P (sym is) tt
+
+-- ---- sets
+
+in_with : (y x : ℕ) (ys : List ℕ) → is_in y (with_number x ys) ≡ (eqb y x || is_in y ys)
+in_with y x [] = refl
+in_with y x (z ∷ ys) =
+    elim (cases_order x z) [
+      | inl same ↦ elim (cases_Bool (eqb y z)) [
+        | inl e ↦ rw (same, le-ltb z z (omega arith), eq-eqb z z refl, e) refl
+        | inr e ↦ rw (same, le-ltb z z (omega arith), eq-eqb z z refl, e) refl
+      ]
+      | inr (inl less) ↦ rw (lt-ltb x z less) refl
+      | inr (inr more) ↦
+          let rest = in_with y x ys in
+          elim (cases_Bool (eqb y z)) [
+            | inl e ↦ elim (cases_Bool (eqb y x)) [
+              | inl d ↦ rw (le-ltb x z (omega arith), ne_eqb x z (λ f. omega arith), e, d) refl
+              | inr d ↦ rw (le-ltb x z (omega arith), ne_eqb x z (λ f. omega arith), e, d) refl
+            ]
+            | inr e ↦ rw (le-ltb x z (omega arith), ne_eqb x z (λ f. omega arith), e) rest
+          ]
+    ]
+
+pub in_union : (y : ℕ) (xs ys : List ℕ) → is_in y (union_of xs ys) ≡ (is_in y xs || is_in y ys)
+in_union y [] ys = refl
+in_union y (x ∷ xs) ys =
+    in_with y x (union_of xs ys) ∙ ap (λ (b : Bool). eqb y x || b) (in_union y xs ys)
+    ∙ elim (cases_Bool (eqb y x)) [ inl e ↦ rw e refl | inr e ↦ rw e refl ]
+
+with_below : (m x : ℕ) (ys : List ℕ) → x < m → Below m ys → Below m (with_number x ys)
+with_below m x [] lt low = (lt, tt)
+with_below m x (z ∷ ys) lt low =
+    elim (cases_order x z) [
+      | inl same ↦ rw (same, le-ltb z z (omega arith), eq-eqb z z refl) low
+      | inr (inl less) ↦ rw (lt-ltb x z less) (lt, (low.0, low.1))
+      | inr (inr more) ↦ let rest = with_below m x ys lt low.1 in rw (le-ltb x z (omega arith), ne_eqb x z (λ f. omega arith)) (low.0, rest)
+    ]
+
+pub union_below : (m : ℕ) (xs ys : List ℕ) → Below m xs → Below m ys → Below m (union_of xs ys)
+union_below m [] ys h k = k
+union_below m (x ∷ xs) ys h k = with_below m x (union_of xs ys) h.0 (union_below m xs ys h.1 k)
