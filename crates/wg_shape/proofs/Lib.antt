@@ -7,3 +7,4 @@ pub mod Made
 pub mod Unions
 pub mod OneByOne
 pub mod GraphUnions
+pub mod ByLaw

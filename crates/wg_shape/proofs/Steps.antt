@@ -1,12 +1,11 @@
 -- The arcs of the pages of one class, one by one.
-use Rattle.std.proofs.Common.{◌≡◌, ℕ, zero, suc, ◌+◌, ◌<◌, ◌≤◌, Bool, true, false, cond, eqb, ◌||◌, List, [], ◌∷◌, ◌++◌, length, take, map, get_or, set, replicate, refl, sym, ap, subst, ◌∙◌, arith, inl, inr, append-nil, length-append, length-set, get_or-set_same, get_or-set_other}
-use Rattle.std.proofs.lemmas.Bool.{cases_Bool, cases_eq, eq-eqb, ne_eqb, eqb-true, or_cases, true≢false}
-use Rattle.std.proofs.lemmas.List.{take_all, take_more}
+use Rattle.std.proofs.Common.{◌≡◌, ℕ, ◌+◌, ◌<◌, ◌≤◌, Bool, true, false, cond, eqb, ◌||◌, List, [], ◌∷◌, ◌++◌, length, get_or, set, refl, sym, ap, subst, ◌∙◌, arith, inl, inr, append-nil, length-append, length-set, get_or-set_same, get_or-set_other}
+use Rattle.std.proofs.lemmas.Bool.{cases_Bool, cases_eq, eq-eqb, ne_eqb, eqb-true, or_cases}
 use Rattle.wg_graph.specs.Numbers.{is_in}
-use Rattle.wg_graph.specs.Digraph.{Digraph, IsGraph, successors, arc_count}
+use Rattle.wg_graph.specs.Digraph.{Digraph, IsGraph}
 use Rattle.wg_graph.specs.Arcs.{has_arc}
 use Rattle.wg_transpose.specs.Transposed.{predecessors}
-use Rattle.wg_transpose.specs.SoFar.{predecessors_below, start, AreCounts, ArePlaced}
+use Rattle.wg_transpose.specs.SoFar.{predecessors_below, start, ArePlaced}
 use Rattle.wg_transpose.proofs.Seen.{where_more, where_le, where_few, in_push, seen_now, seen_other}
 use Rattle.wg_transpose.proofs.Places.{OneMore, longer, count_more, place_more, place_fits}
 use Rattle.wg_shape.specs.SoFar.{sources, Marked, Counted, Placed}

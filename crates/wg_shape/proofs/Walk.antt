@@ -1,5 +1,5 @@
 -- The arcs of the pages of one class, page after page: which classes have been reached so far.
-use Rattle.std.proofs.Common.{◌≡◌, ℕ, zero, suc, ◌+◌, ◌<◌, ◌≤◌, Bool, true, false, eqb, not, List, [], ◌∷◌, ◌++◌, length, take, map, get_or, set, refl, sym, ap, subst, ◌∙◌, arith, append_assoc, append-nil}
+use Rattle.std.proofs.Common.{◌≡◌, ℕ, ◌+◌, ◌<◌, ◌≤◌, Bool, true, false, eqb, not, List, [], ◌∷◌, ◌++◌, length, take, map, get_or, set, sym, ap, subst, ◌∙◌, arith, append_assoc, append-nil}
 use Rattle.std.proofs.lemmas.Bool.{not-true, not-false}
 use Rattle.std.proofs.lemmas.List.{take_all, take_more, map-append}
 use Rattle.wg_graph.specs.Numbers.{is_in}
@@ -12,7 +12,7 @@ use Rattle.wg_shape.specs.Quotient.{class_of, members, reached}
 use Rattle.wg_shape.specs.Classes.{Classes, AreClasses, whole, reached_of}
 use Rattle.wg_shape.specs.SoFar.{Marked, Counted, Placed}
 use Rattle.wg_shape.proofs.Quotients.{is_proper, arc_is, leads_to, members_from}
-use Rattle.wg_shape.proofs.Steps.{count_new, count_old, count_end, count_room, place_new, place_old, place_below, place_end}
+use Rattle.wg_shape.proofs.Steps.{count_new, count_old, count_end, place_new, place_old, place_below, place_end}
 
 pub reached_push : (g : Digraph) (classes us : List ℕ) (u : ℕ) → reached g classes (us ++ u ∷ []) ≡ reached g classes us ++ map (class_of classes) (successors g u)
 reached_push g classes [] u = append-nil (map (class_of classes) (successors g u))

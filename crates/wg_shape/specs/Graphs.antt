@@ -1,5 +1,5 @@
 -- The union of two graphs.
-use Rattle.std.specs.Prelude.{◌≡◌, ℕ, ◌<◌, ◌≤◌, max, Bool, ◌||◌, List, [], length, map}
+use Rattle.std.specs.Prelude.{◌≡◌, ℕ, ◌<◌, ◌≤◌, max, ◌||◌, List, length, map}
 use Rattle.std.specs.List.{sum_by, range_with_len}
 use Rattle.wg_graph.specs.Digraph.{Digraph, IsGraph, successors, arc_count}
 use Rattle.wg_graph.specs.Arcs.{has_arc}

@@ -1,5 +1,5 @@
 -- Which arcs of a quotient have been counted or placed, while the arcs of the pages of one class are gone through.
-use Rattle.std.specs.Prelude.{◌≡◌, ℕ, suc, ◌+◌, ◌<◌, ◌≤◌, Bool, true, cond, ◌==◌, List, [], ◌∷◌, ◌++◌, length, get_or}
+use Rattle.std.specs.Prelude.{◌≡◌, ℕ, ◌+◌, ◌<◌, ◌≤◌, true, cond, ◌==◌, List, [], ◌∷◌, ◌++◌, length, get_or}
 use Rattle.wg_graph.specs.Numbers.{is_in}
 use Rattle.wg_graph.specs.Digraph.{Digraph}
 use Rattle.wg_graph.specs.Arcs.{has_arc}

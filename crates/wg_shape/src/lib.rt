@@ -1,4 +1,30 @@
 //! Unions and quotients of graphs.
+//!
+//! The union of two graphs has as many pages as the larger, and an arc exactly where one of them has it. It is made
+//! page after page: each list comes number by number, as a [`Coming`] does; [`Merge`] gives the numbers of two, which
+//! are never held side by side; [`add_union`] makes them the successors of a page. [`union`] does so for all pages of
+//! two graphs in memory.
+//!
+//! ```text
+//! ListWalk (a list) --\
+//!                      Merge: each number once, ascending --> add_union --> GraphBuilder
+//! ListWalk (a list) --/
+//! ```
+//!
+//! The quotient of a graph by classes of its pages is the graph of the classes: an arc leads from class to class exactly
+//! where one leads from some page of the one to some page of the other. [`quotient`] makes it as a graph is transposed,
+//! by counting and then placing, only that a class is counted, or placed, once for each class that its arcs reach: a mark
+//! a class tells which have been reached before. Class after class is put into lists, and so these ascend without a
+//! sort; they are those of the transposed quotient, which is transposed once more.
+//!
+//! ```text
+//! classes of the pages --> Grouping: the pages of each class
+//!                             |--> count: classes with an arc to each class --> set_starts: where each list begins
+//!                             |--> place: each class, in the lists of what its arcs reach --> transposed quotient
+//!                                                                            transpose --> quotient
+//! ```
+//!
+//! Both take time in proportion to the pages, classes and arcs. What each holds is told at the functions.
 #![tactic(auto)]
 
 mod adding;

@@ -1,4 +1,4 @@
-use crate::quotient;
+use crate::{Coming, ListWalk, Merge, quotient, union};
 use std::alloc::{AllocError, Global};
 use std::process::Abort;
 use std::test::Fail;
@@ -49,4 +49,49 @@ fn classes_of_pages(rt: HostRuntime) -> Result<(), Fail> {
         check_lists(&rt, &made, lists);
     }
     Ok(())
+}
+
+// The lists of two graphs, and those of their union.
+const UNIONS: [(&[&[u64]], &[&[u64]], &[&[u64]]); 4] = [
+    (
+        GRAPH,
+        &[&[], &[0, 1], &[0, 1]],
+        &[&[1, 2], &[0, 1, 2], &[0, 1]],
+    ),
+    (GRAPH, GRAPH, GRAPH),
+    (&[&[1], &[]], &[&[0], &[], &[2]], &[&[0, 1], &[], &[2]]),
+    (&[&[0], &[], &[2]], &[], &[&[0], &[], &[2]]),
+];
+
+#[test]
+fn unions_of_two_graphs(rt: HostRuntime) -> Result<(), Fail> {
+    for (first, second, lists) in UNIONS {
+        let first = graph_of(&rt, rt.alloc(), first)?;
+        let second = graph_of(&rt, rt.alloc(), second)?;
+        check_lists(&rt, &union(rt.alloc(), &first, &second)?, lists);
+    }
+    Ok(())
+}
+
+#[test]
+fn three_lists_number_by_number(rt: HostRuntime) {
+    let two = Merge::new(ListWalk::new(&[1, 5, 9]), ListWalk::new(&[1, 2, 9, 12]));
+    let mut three = Merge::new(two, ListWalk::new(&[0, 5]));
+    let mut given = [None; 8];
+    for place in &mut given {
+        *place = three.next();
+    }
+    assert_eq!(rt;
+        given,
+        [
+            Some(0),
+            Some(1),
+            Some(2),
+            Some(5),
+            Some(9),
+            Some(12),
+            None,
+            None
+        ]
+    );
 }

@@ -1,11 +1,11 @@
-use Rattle.std.proofs.Common.{◌≡◌, ℕ, ◌<◌, List, length, get_or, ap, ◌∙◌, subst, arith}
+use Rattle.std.proofs.Common.{ℕ, ◌<◌, List, length, get_or, ap, ◌∙◌, subst, arith}
 use Rattle.wg_graph.specs.Digraph.{successors}
 use Rattle.wg_transpose.proofs.Seen.{member_below}
 use Rattle.wg_shape.specs.Quotient.{class_of, members}
 use Rattle.wg_shape.specs.Classes.{whole}
 use Rattle.wg_shape.specs.SoFar.{Counted}
 use Rattle.wg_shape.proofs.Steps.{count_room}
-use Rattle.wg_shape.proofs.Walk.{page_below, seen_at, seen_page, is_new, is_old, count_step, count_skip}
+use Rattle.wg_shape.proofs.Walk.{page_below, seen_page, is_new, is_old, count_step, count_skip}
 use Rattle.wg_shape.proofs.counting.count_page.Goals as goal
 use Rattle.wg_shape.proofs.counting.count_page.Goals.{then-mark, else-mark}
 

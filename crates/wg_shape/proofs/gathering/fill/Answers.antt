@@ -1,4 +1,4 @@
-use Rattle.std.proofs.Common.{◌≡◌, ℕ, ◌<◌, length, get_or, refl, ◌∙◌, arith}
+use Rattle.std.proofs.Common.{refl, ◌∙◌, arith}
 use Rattle.wg_transpose.proofs.Whole.{is_transposed, is_whole}
 use Rattle.wg_shape.specs.Classes.{Classes, whole}
 use Rattle.wg_shape.proofs.Made.{begun, all_placed}

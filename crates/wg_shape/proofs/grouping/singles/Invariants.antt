@@ -1,4 +1,4 @@
-use Rattle.std.proofs.Common.{◌≡◌, ℕ, List, [], ◌∷◌, map, take}
+use Rattle.std.proofs.Common.{◌≡◌, ℕ, [], ◌∷◌, map, take}
 use Rattle.wg_shape.proofs.grouping.singles.Given as goal
 
 abbrev pub invariant-loop-class : goal.invariant-loop-class

@@ -1,4 +1,4 @@
-use Rattle.std.proofs.Common.{◌≡◌, ℕ, ◌<◌, List, length, get_or, ap, ◌∙◌, subst, arith}
+use Rattle.std.proofs.Common.{ℕ, ◌<◌, List, length, get_or, ap, ◌∙◌, subst, arith}
 use Rattle.wg_graph.specs.Digraph.{successors}
 use Rattle.wg_transpose.proofs.Seen.{member_below}
 use Rattle.wg_shape.specs.Quotient.{class_of, members}

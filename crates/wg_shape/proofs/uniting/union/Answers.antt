@@ -1,9 +1,8 @@
-use Rattle.std.proofs.Common.{◌≡◌, ℕ, ◌+◌, ◌≤◌, max, List, length, ap, subst, sym, ◌∙◌, arith}
-use Rattle.wg_graph.specs.Ascending.{Below}
+use Rattle.std.proofs.Common.{◌≡◌, ℕ, ◌≤◌, max, List, length, ap, subst, sym, arith}
 use Rattle.wg_graph.specs.Digraph.{Digraph}
 use Rattle.wg_graph.proofs.Sets.{below_more}
 use Rattle.wg_shape.specs.Added.{Added}
-use Rattle.wg_shape.specs.Graphs.{IsUnion, both, union_graph, UnionSoFar}
+use Rattle.wg_shape.specs.Graphs.{IsUnion, UnionSoFar}
 use Rattle.wg_shape.proofs.Unions.{union_below}
 use Rattle.wg_shape.proofs.GraphUnions.{both_are, union_more, part_le, finished, is_union}
 use Rattle.wg_shape.proofs.uniting.union.Goals as goal

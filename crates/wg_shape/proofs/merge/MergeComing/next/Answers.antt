@@ -1,4 +1,4 @@
-use Rattle.std.proofs.Common.{Option, Some, ap, ◌∙◌, arith}
+use Rattle.std.proofs.Common.{Some, ap, ◌∙◌, arith}
 use Rattle.wg_shape.proofs.Unions.{all_ascend, took_first, took_second, took_both, above, above_none}
 use Rattle.wg_shape.proofs.merge.MergeComing.next.Goals as goal
 
