@@ -62,6 +62,7 @@ impl<'a> Grouping<'a> {
         requires few { count ≤ MOST_PAGES }
         ensures { IfOk result (λ p. p ≡ record { graph = graph.now; classes = classes.now; count = count }) }
     {
+        // so that sums of counts of arcs have room later on
         let few_arcs = graph.arcs() <= MOST_ARCS;
         prove!(few_arcs);
         let leading = singles(alloc, classes, graph.nodes().max(count))?;
