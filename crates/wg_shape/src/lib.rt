@@ -3,12 +3,13 @@
 //! The union of two graphs has as many pages as the larger, and an arc exactly where one of them has it. It is made
 //! page after page: each list comes number by number, as a [`Coming`] does; [`Merge`] gives the numbers of two, which
 //! are never held side by side; [`add_union`] makes them the successors of a page. [`union`] does so for all pages of
-//! two graphs in memory.
+//! two graphs in memory. The successors of a page of an archive come from its bits, by
+//! [`Successors`](wg_iterators::Successors).
 //!
 //! ```text
-//! ListWalk (a list) --\
-//!                      Merge: each number once, ascending --> add_union --> GraphBuilder
-//! ListWalk (a list) --/
+//! ListWalk, Successors --\
+//!                         Merge: each number once, ascending --> add_union --> GraphBuilder
+//! ListWalk, Successors --/
 //! ```
 //!
 //! The quotient of a graph by classes of its pages is the graph of the classes: an arc leads from class to class exactly
@@ -36,6 +37,7 @@ mod grouping;
 pub mod laws;
 mod merge;
 mod placing;
+mod successors;
 mod uniting;
 
 pub use adding::add_union;
