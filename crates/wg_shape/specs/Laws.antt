@@ -13,7 +13,8 @@ use Rattle.wg_shape.specs.Quotient.{IsQuotient, quotient_of}
 
 -- The union of two ascending lists ascends, and has the numbers of either.
 abbrev pub ListsAreJoined : Type 0
-ListsAreJoined = (xs ys : List ℕ) → Ascends 0 xs → Ascends 0 ys → Ascends 0 (union_of xs ys) × ((y : ℕ) → is_in y (union_of xs ys) ≡ (is_in y xs || is_in y ys))
+ListsAreJoined = (xs ys : List ℕ) → Ascends 0 xs → Ascends 0 ys
+    → Ascends 0 (union_of xs ys) × ((y : ℕ) → is_in y (union_of xs ys) ≡ (is_in y xs || is_in y ys))
 
 -- ---- unions
 
@@ -37,11 +38,13 @@ UnionWithItself = (g : Digraph) → IsGraph g → union_graph g g ≡ g
 
 -- A graph whose pages have classes below n has a quotient of n classes.
 abbrev pub ThereIsAQuotient : Type 0
-ThereIsAQuotient = (g : Digraph) (classes : List ℕ) (n : ℕ) → IsGraph g → length classes ≡ g.nodes → Below n classes → IsQuotient g classes n (quotient_of g classes n)
+ThereIsAQuotient = (g : Digraph) (classes : List ℕ) (n : ℕ) → IsGraph g → length classes ≡ g.nodes → Below n classes
+    → IsQuotient g classes n (quotient_of g classes n)
 
 -- It has no other.
 abbrev pub QuotientsAreOne : Type 0
-QuotientsAreOne = (g : Digraph) (classes : List ℕ) (n : ℕ) (q p : Digraph) → IsQuotient g classes n q → IsQuotient g classes n p → q ≡ p
+QuotientsAreOne = (g : Digraph) (classes : List ℕ) (n : ℕ) (q p : Digraph)
+    → IsQuotient g classes n q → IsQuotient g classes n p → q ≡ p
 
 -- The quotient by classes of one page each, in order, is the graph.
 abbrev pub QuotientByPages : Type 0
@@ -49,4 +52,5 @@ QuotientByPages = (g : Digraph) → IsGraph g → quotient_of g (range_with_len 
 
 -- The quotient of the transposed graph is the transposed quotient.
 abbrev pub QuotientOfTransposed : Type 0
-QuotientOfTransposed = (g : Digraph) (classes : List ℕ) (n : ℕ) → IsGraph g → length classes ≡ g.nodes → Below n classes → quotient_of (transposed g) classes n ≡ transposed (quotient_of g classes n)
+QuotientOfTransposed = (g : Digraph) (classes : List ℕ) (n : ℕ) → IsGraph g → length classes ≡ g.nodes → Below n classes
+    → quotient_of (transposed g) classes n ≡ transposed (quotient_of g classes n)

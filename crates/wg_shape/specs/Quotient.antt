@@ -37,4 +37,7 @@ leads g classes i j = is_in j (reached g classes (members classes i))
 
 -- the one graph of n classes
 abbrev pub quotient_of : Digraph → List ℕ → ℕ → Digraph
-quotient_of g classes n = record { nodes = n; lists = map (λ i. numbers_where (leads g classes i) 0 n) (range_with_len 0 n) }
+quotient_of g classes n = record {
+  nodes = n;
+  lists = map (λ i. numbers_where (leads g classes i) 0 n) (range_with_len 0 n);
+}

@@ -23,7 +23,8 @@ pub fn add_union<A: Coming, B: Coming>(
     ensures added { OnOk result (Added numbers page (length numbers) builder.old builder.new) }
     ensures some { OnErr result ((k : ℕ) × Added numbers page k builder.old builder.new) }
     ensures fits { OnOk result (arc_count builder.old + length numbers ≤ MOST_ARCS) }
-    ensures too_many { IfErr result (λ e. e ≡ ShapeError.TooManyArcs → MOST_ARCS < arc_count builder.old + length numbers) }
+    ensures too_many { IfErr result (λ e. e ≡ ShapeError.TooManyArcs
+        → MOST_ARCS < arc_count builder.old + length numbers) }
 {
     let mut room = MOST_ARCS - builder.arcs();
     'numbers: while let Some(number) = numbers.next() {

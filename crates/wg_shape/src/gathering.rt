@@ -59,9 +59,9 @@ fn gather(alloc: Global, pages: Grouping) -> Result<Graph, AllocError>
 /// the classes; it has an arc from class to class exactly where some page of the one has an arc to some page of the
 /// other. An arc inside a class is an arc from the class to itself.
 ///
-/// It takes time in proportion to the pages, the classes and the arcs. While the pages are grouped it holds 32 bytes for
-/// each page; then 16 for each page, a mark of 8 for each class, by which an arc that comes again is dropped, and the
-/// quotient with its arcs the other way round; and in the end that graph and the quotient.
+/// It takes time in proportion to the pages, the classes and the arcs. While the pages are grouped it holds 32 bytes
+/// for each page; then 16 for each page, a mark of 8 for each class, by which an arc that comes again is dropped, and
+/// the quotient with its arcs the other way round; and in the end that graph and the quotient.
 pub fn quotient(
     alloc: Global,
     graph: &Graph,

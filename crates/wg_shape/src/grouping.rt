@@ -30,7 +30,8 @@ impl<'a> Model for Grouping<'a> {
 
     ghost view = { λ p. record { graph = p.graph.now; classes = p.classes.now; count = p.count } };
 
-    ghost invariant = { λ p. AreGrouped (record { graph = p.graph.now; classes = p.classes.now; count = p.count }) p.members };
+    ghost invariant = { λ p. AreGrouped (record { graph = p.graph.now; classes = p.classes.now; count = p.count })
+        p.members };
 }
 
 // The graph in which each page leads to its class alone.

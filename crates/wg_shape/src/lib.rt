@@ -12,11 +12,11 @@
 //! ListWalk, Successors --/
 //! ```
 //!
-//! The quotient of a graph by classes of its pages is the graph of the classes: an arc leads from class to class exactly
-//! where one leads from some page of the one to some page of the other. [`quotient`] makes it as a graph is transposed,
-//! by counting and then placing, only that a class is counted, or placed, once for each class that its arcs reach: a mark
-//! a class tells which have been reached before. Class after class is put into lists, and so these ascend without a
-//! sort; they are those of the transposed quotient, which is transposed once more.
+//! The quotient of a graph by classes of its pages is the graph of the classes: an arc leads from class to class
+//! exactly where one leads from some page of the one to some page of the other. [`quotient`] makes it as a graph is
+//! transposed, by counting and then placing, only that a class is counted, or placed, once for each class that its arcs
+//! reach: a mark a class tells which have been reached before. Class after class is put into lists, and so these ascend
+//! without a sort; they are those of the transposed quotient, which is transposed once more.
 //!
 //! ```text
 //! classes of the pages --> Grouping: the pages of each class

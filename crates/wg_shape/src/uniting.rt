@@ -28,7 +28,8 @@ fn list_of(graph: &Graph, page: u64) -> &[u64]
 pub fn union(alloc: Global, first: &Graph, second: &Graph) -> Result<Graph, ShapeError>
     ensures union { IfOk result (λ u. IsUnion first.now second.now u) }
     ensures exact { IfOk result (λ u. u ≡ union_graph first.now second.now) }
-    ensures too_many { IfErr result (λ e. e ≡ ShapeError.TooManyArcs → MOST_ARCS < arc_count (union_graph first.now second.now)) }
+    ensures too_many { IfErr result (λ e. e ≡ ShapeError.TooManyArcs
+        → MOST_ARCS < arc_count (union_graph first.now second.now)) }
 {
     let nodes = first.nodes().max(second.nodes());
     let mut builder = GraphBuilder::new(alloc, nodes)?;
