@@ -34,9 +34,11 @@ pub fn members<S: Source>(
     ensures later { S.later source.old source.new }
     ensures refused { OnRefusal result (S.caused source.old source.new) }
     ensures reads { (bits : ListOf Bool) → S.reads_from source.old bits
-        → IfOk result (λ list. AreMembers params.now page head.outdegree head.reference named.now bits (S.offset source.old) list (S.offset source.new)) }
+        → IfOk result (λ list. AreMembers params.now page head.outdegree head.reference named.now bits
+        (S.offset source.old) list (S.offset source.new)) }
     ensures fault { (bits : ListOf Bool) → S.reads_from source.old bits
-        → OnFault result (λ e. AreNoMembers params.now page head.outdegree head.reference named.now bits (S.offset source.old) e) }
+        → OnFault result (λ e. AreNoMembers params.now page head.outdegree head.reference named.now bits
+        (S.offset source.old) e) }
     ensures ascends { IfOk result (λ list. Ascends 0 list) }
     ensures below { IfOk result (λ list. Below params.now.nodes list) }
     ensures few { IfOk result (λ list. length list ≤ head.outdegree) }

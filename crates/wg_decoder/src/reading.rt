@@ -2,10 +2,11 @@
 ghost use Rattle.std.specs.Prelude.{◌≡◌, ◌+◌, ◌<◌, ◌≤◌, Bool, List as ListOf, length, Ok, Err, IfOk, OnErr};
 ghost use Rattle.wg_graph.specs.Ascending.{Ascends, Below};
 ghost use Rattle.wg_grammar.specs.Record.{ReadsRecord};
+ghost use Rattle.wg_decoder.specs.Apart.{IsRest};
 ghost use Rattle.wg_decoder.specs.Answer.{context_at, known_error, IfFault, OnFault, OnRefusal};
 ghost use Rattle.wg_decoder.specs.Remembered.{known_of, Serves};
 
-use crate::head::{depth_at, list_at, read_head};
+use crate::head::{Head, depth_at, list_at, read_head};
 use crate::members::members;
 use crate::{DecodeError, Decoded, Spares, Unread, Window};
 use std::alloc::Global;
@@ -14,6 +15,53 @@ use wg_bits::Cursor;
 use wg_grammar::{Fault, Field, Kind};
 use wg_params::Params;
 use wg_source::Source;
+
+/// The rest of a record that begins at the bit `start` and whose head has been read. Its reference names a page with this
+/// list, and leads to this depth.
+#[inline(always)]
+pub(crate) fn decode_members<S: Source>(
+    params: &Params,
+    page: u64,
+    start: u64,
+    head: Head,
+    named: &[u64],
+    depth: u64,
+    spares: &mut Spares,
+    source: &mut S,
+) -> Result<Decoded, Unread<S::Refusal>>
+    requires page { page < params.now.nodes }
+    requires there { head.reference ≤ params.now.window }
+    requires named_ascends { Ascends 0 named.now }
+    requires named_below { Below params.now.nodes named.now }
+    ensures later { S.later source.old source.new }
+    ensures refused { OnRefusal result (S.caused source.old source.new) }
+    ensures reads { (bits : ListOf Bool) → S.reads_from source.old bits → IfOk result (λ d.
+        IsRest params.now page start head.outdegree head.reference named.now depth bits (S.offset source.old)
+        (Ok (record { known = known_of d; end = S.offset source.new }))) }
+    ensures fault { (bits : ListOf Bool) → S.reads_from source.old bits → OnFault result (λ e.
+        IsRest params.now page start head.outdegree head.reference named.now depth bits (S.offset source.old) (Err e)) }
+    ensures depth { IfOk result (λ d. d.depth ≤ depth) }
+    ensures ascends { IfOk result (λ d. Ascends 0 d.list) }
+    ensures below { IfOk result (λ d. Below params.now.nodes d.list) }
+    ensures few { IfOk result (λ d. length d.list ≤ head.outdegree) }
+{
+    if head.outdegree == 0 {
+        return Ok(Decoded {
+            list: spares.nothing(),
+            depth: 0,
+        });
+    }
+    let list = members(spares, params, page, head, named, source)?;
+    if (list.as_slice().len() as u64) < head.outdegree {
+        return Err(Unread::Fault(Fault {
+            page,
+            at: start,
+            field: Field::Record,
+            kind: Kind::Twice,
+        }));
+    }
+    Ok(Decoded { list, depth })
+}
 
 /// The record that comes next from a source, of a page with `arcs_before` arcs before it. The source moves over the
 /// record, and may stand anywhere in it where it is refused, memory is wanting or a word was refused.
@@ -31,8 +79,12 @@ pub fn decode_from<S: Source>(
     requires serves { Serves params.now page window.now.behind }
     ensures later { S.later source.old source.new }
     ensures refused { OnRefusal result (S.caused source.old source.new) }
-    ensures reads { (bits : ListOf Bool) → S.reads_from source.old bits → IfOk result (λ d. ReadsRecord params.now (context_at page arcs_before window.now.behind) bits (S.offset source.old) (Ok (record { known = known_of d; end = S.offset source.new }))) }
-    ensures fault { (bits : ListOf Bool) → S.reads_from source.old bits → OnFault result (λ e. ReadsRecord params.now (context_at page arcs_before window.now.behind) bits (S.offset source.old) (Err e)) }
+    ensures reads { (bits : ListOf Bool) → S.reads_from source.old bits
+        → IfOk result (λ d. ReadsRecord params.now (context_at page arcs_before window.now.behind) bits
+        (S.offset source.old) (Ok (record { known = known_of d; end = S.offset source.new }))) }
+    ensures fault { (bits : ListOf Bool) → S.reads_from source.old bits
+        → OnFault result (λ e. ReadsRecord params.now (context_at page arcs_before window.now.behind) bits
+        (S.offset source.old) (Err e)) }
     ensures depth { IfOk result (λ d. d.depth ≤ page) }
     ensures ascends { IfOk result (λ d. Ascends 0 d.list) }
     ensures below { IfOk result (λ d. Below params.now.nodes d.list) }
@@ -40,26 +92,9 @@ pub fn decode_from<S: Source>(
 {
     let start = source.at();
     let head = read_head(params, page, arcs_before, window, source)?;
-    if head.outdegree == 0 {
-        return Ok(Decoded {
-            list: spares.nothing(),
-            depth: 0,
-        });
-    }
     let named = list_at(window, head.reference);
-    let list = members(spares, params, page, head, named, source)?;
-    if (list.as_slice().len() as u64) < head.outdegree {
-        return Err(Unread::Fault(Fault {
-            page,
-            at: start,
-            field: Field::Record,
-            kind: Kind::Twice,
-        }));
-    }
-    Ok(Decoded {
-        list,
-        depth: depth_at(window, page, head.reference),
-    })
+    let depth = depth_at(window, page, head.reference);
+    decode_members(params, page, start, head, named, depth, spares, source)
 }
 
 // Bits in memory refuse no word.
@@ -88,8 +123,10 @@ pub fn decode(
     requires before { arcs_before ≤ params.now.arcs }
     requires serves { Serves params.now page window.now.behind }
     ensures bits { cursor.new.bits ≡ cursor.old.bits }
-    ensures reads { IfOk result (λ d. ReadsRecord params.now (context_at page arcs_before window.now.behind) cursor.old.bits cursor.old.at (Ok (record { known = known_of d; end = cursor.new.at }))) }
-    ensures fault { IfFault result (λ e. ReadsRecord params.now (context_at page arcs_before window.now.behind) cursor.old.bits cursor.old.at (Err e)) }
+    ensures reads { IfOk result (λ d. ReadsRecord params.now (context_at page arcs_before window.now.behind)
+        cursor.old.bits cursor.old.at (Ok (record { known = known_of d; end = cursor.new.at }))) }
+    ensures fault { IfFault result (λ e. ReadsRecord params.now (context_at page arcs_before window.now.behind)
+        cursor.old.bits cursor.old.at (Err e)) }
     ensures still { OnErr result (cursor.new ≡ cursor.old) }
     ensures ascends { IfOk result (λ d. Ascends 0 d.list) }
     ensures below { IfOk result (λ d. Below params.now.nodes d.list) }

@@ -22,8 +22,10 @@ pub fn value<S: Source>(
     requires { IsCode code }
     ensures later { S.later source.old source.new }
     ensures refused { OnRefusal result (S.caused source.old source.new) }
-    ensures ok { (bits : List Bool) → S.reads_from source.old bits → IfOk result (λ v. IsWordAt code bits (S.offset source.old) v (S.offset source.new)) }
-    ensures fault { (bits : List Bool) → S.reads_from source.old bits → OnFault result (λ e. IsNoWordAt field code bits (S.offset source.old) page e) }
+    ensures ok { (bits : List Bool) → S.reads_from source.old bits
+        → IfOk result (λ v. IsWordAt code bits (S.offset source.old) v (S.offset source.new)) }
+    ensures fault { (bits : List Bool) → S.reads_from source.old bits
+        → OnFault result (λ e. IsNoWordAt field code bits (S.offset source.old) page e) }
 {
     let at = source.at();
     let read = match source.read(code) {
@@ -61,8 +63,10 @@ pub fn first_number<S: Source>(
     ensures later { S.later source.old source.new }
     ensures refused { OnRefusal result (S.caused source.old source.new) }
     ensures below { IfOk result (λ y. y < nodes) }
-    ensures ok { (bits : List Bool) → S.reads_from source.old bits → IfOk result (λ y. IsNumberAt code (unfolded_from page) bits (S.offset source.old) y (S.offset source.new)) }
-    ensures fault { (bits : List Bool) → S.reads_from source.old bits → OnFault result (λ e. IsNoNumberAt field code (unfolded_from page) nodes bits (S.offset source.old) page e) }
+    ensures ok { (bits : List Bool) → S.reads_from source.old bits
+        → IfOk result (λ y. IsNumberAt code (unfolded_from page) bits (S.offset source.old) y (S.offset source.new)) }
+    ensures fault { (bits : List Bool) → S.reads_from source.old bits
+        → OnFault result (λ e. IsNoNumberAt field code (unfolded_from page) nodes bits (S.offset source.old) page e) }
 {
     let at = source.at();
     let value = value(page, field, code, source)?;
@@ -93,8 +97,12 @@ pub fn later_number<S: Source>(
     ensures refused { OnRefusal result (S.caused source.old source.new) }
     ensures below { IfOk result (λ y. y < nodes) }
     ensures above { IfOk result (λ y. least ≤ y) }
-    ensures ok { (bits : List Bool) → S.reads_from source.old bits → IfOk result (λ y. IsNumberAt code (λ v. Some (least + v)) bits (S.offset source.old) y (S.offset source.new)) }
-    ensures fault { (bits : List Bool) → S.reads_from source.old bits → OnFault result (λ e. IsNoNumberAt field code (λ v. Some (least + v)) nodes bits (S.offset source.old) page e) }
+    ensures ok { (bits : List Bool) → S.reads_from source.old bits
+        → IfOk result (λ y. IsNumberAt code (λ v. Some (least + v)) bits (S.offset source.old) y
+        (S.offset source.new)) }
+    ensures fault { (bits : List Bool) → S.reads_from source.old bits
+        → OnFault result (λ e. IsNoNumberAt field code (λ v. Some (least + v)) nodes bits (S.offset source.old) page
+        e) }
 {
     let at = source.at();
     let value = value(page, field, code, source)?;

@@ -3,3 +3,8 @@ pub mod ArchiveLemmas
 pub mod ChainLemmas
 pub mod Matching
 pub mod SweepLemmas
+pub mod SpotLemmas
+pub mod SpotOne
+pub mod SpotSome
+pub mod SpotMoves
+pub mod SpotAgree

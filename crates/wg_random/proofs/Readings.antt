@@ -95,7 +95,7 @@ earlier_get (w ∷ ws) first (suc x) k lt le =
           ap (λ (j : ℕ). get_or (earlier x ws (w ∷ first)) j no_record) same ∙ earlier_past ws (w ∷ first) x 0 (omega (arith, le)) ∙ ap (λ (j : ℕ). get_or (w ∷ ws) j no_record) none
     ]
 
-earlier_length : (ws first : List Whole) (x : ℕ) → x ≤ length ws → length (earlier x ws first) ≡ x + length first
+pub earlier_length : (ws first : List Whole) (x : ℕ) → x ≤ length ws → length (earlier x ws first) ≡ x + length first
 unfolding earlier
 earlier_length ws first zero le = omega arith
 earlier_length [] first (suc x) le = absurd (omega (arith, le))
@@ -103,7 +103,7 @@ earlier_length (w ∷ ws) first (suc x) le = omega (arith, earlier_length ws (w 
 
 -- ---- the places
 
-start_is : (ws : List Whole) (x : ℕ) → start_at 0 ws x ≡ offset_at ws x
+pub start_is : (ws : List Whole) (x : ℕ) → start_at 0 ws x ≡ offset_at ws x
 unfolding start_at
 start_is ws zero = refl
 start_is ws (suc x) = refl
@@ -139,7 +139,7 @@ known_get [] k = refl
 known_get (w ∷ ws) zero = refl
 known_get (w ∷ ws) (suc k) = known_get ws k
 
-behind_get : (p : Parameters) (ws : List Whole) (x r : ℕ) → suc r ≤ x → suc r ≤ p.window → x ≤ length ws → get_or (context_of p (earlier x ws [])).behind r no_page ≡ known_at ws (x - suc r)
+pub behind_get : (p : Parameters) (ws : List Whole) (x r : ℕ) → suc r ≤ x → suc r ≤ p.window → x ≤ length ws → get_or (context_of p (earlier x ws [])).behind r no_page ≡ known_at ws (x - suc r)
 behind_get p ws x r near reach le =
     take_get p.window r (map (λ w. w.known) (earlier x ws [])) (omega (arith, reach)) ∙ known_get (earlier x ws []) r ∙ ap (λ (w : Whole). w.known) (earlier_get ws [] x r (omega (arith, near)) le)
 

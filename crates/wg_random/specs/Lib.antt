@@ -5,3 +5,6 @@ pub mod Answer
 pub mod Checking
 pub mod Sweeping
 pub mod OneStands
+pub mod Unread
+pub mod Spot
+pub mod SpotLaws

@@ -113,7 +113,8 @@ impl<'a> Archive<'a> {
         requires fresh { IsFresh below }
         requires ready { (r : Reading self.now.params self.now.bits)
             → StandsOn self.now.params self.now.bits r.records page (listed below) }
-        ensures whole { (r : Reading self.now.params self.now.bits) → let list : List ℕ = (known_at r.records page).list in
+        ensures whole { (r : Reading self.now.params self.now.bits)
+            → let list : List ℕ = (known_at r.records page).list in
             result ≡ record { outdegree = length list; depth = depth_of below.entry; list = list } }
         ensures fresh { length result.list ≡ result.outdegree }
         ensures depth { result.depth ≡ depth_of below.entry }

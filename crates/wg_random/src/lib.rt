@@ -22,6 +22,11 @@
 //! list of x <--copied-- list <--copied-- ... <-- list                            up: two lists, used in turn
 //! ```
 //!
+//! [`spot`] reads a page of an archive that was not checked, from the bytes and the offsets, by the same chain alone. It
+//! judges the heads of these records first, from the page down, and then the whole records, from the last one up, and
+//! answers the list of the page or the first fault. The functions of [`laws`] state that there is one answer, and that
+//! it is the page's list of the graph where the archive is accepted.
+//!
 //! [`Records::sweep`] needs no offsets: a [`Sweep`] goes over all pages in order, as often as one likes, and decodes each
 //! list from the bits again. It takes all its memory when it is made, so that no list can be wanting later.
 //!
@@ -38,17 +43,21 @@
 //! | [`Records::archive`] | none | constant |
 //! | [`Archive::open`] | a box for each reference of the chain | that of the words of the chain's records |
 //! | [`Archive::list`] | a number for each page of the chain, and two of its lists | that of the words and the lists of the chain's records |
+//! | [`spot`] | a number for each page of the chain, and at most 6 lists | that of the words and the lists of the chain's records |
 //! | [`Records::sweep`] | a row for each page that a reference reaches, and one; while it runs, the lists of a window | that of all bits and lists |
 //! | a list of a [`Sweep`] | none | that of the words of its record and of the lists that it has and refers to |
 //!
 //! A page that does not exist, a chain that is too long to be opened, and want of memory are answered by
 //! [`OpenError`] and [`ListError`]; there is no other reason, since the archive was checked. Why a file is no archive is
-//! told by [`CheckError`] and [`ArchiveFault`](wg_grammar::ArchiveFault).
+//! told by [`CheckError`] and [`ArchiveFault`](wg_grammar::ArchiveFault), and why a page of one that was not checked has no
+//! list by [`SpotError`].
 #![tactic(auto)]
 
 mod archive;
+mod chain;
 mod error;
 mod greatest;
+pub mod laws;
 mod listing;
 mod records;
 mod standing;
@@ -56,9 +65,11 @@ mod steps;
 mod sweep;
 #[cfg(test)]
 mod tests;
+mod unchecked;
 
 pub use archive::Archive;
-pub use error::{CheckError, ListError, OpenError};
+pub use chain::spot;
+pub use error::{CheckError, ListError, OpenError, SpotError};
 pub use records::Records;
 pub use steps::Steps;
 pub use sweep::Sweep;

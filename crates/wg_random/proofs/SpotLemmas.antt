@@ -1,0 +1,206 @@
+-- A page of an archive that was not checked.
+use Rattle.std.proofs.Common.{◌≡◌, ◌≢◌, ◌∙◌, ℕ, zero, suc, ◌+◌, ◌-◌, ◌<◌, ◌≤◌, Bool, inl, inr, List, [], ◌∷◌, ◌++◌, length, drop, Some, Result, Ok, Err, refl, sym, ap, subst, arith}
+use Rattle.std.specs.Prelude.{get_or}
+use Rattle.std.specs.Result.{IfOk, IfErr}
+use Rattle.std.proofs.Math.ListN.{drop_of_length-le}
+use Rattle.std.proofs.Math.Seq.{drop-cons}
+use Rattle.std.proofs.lemmas.Bool.{cases_lt}
+use Rattle.std.proofs.lemmas.List.{length-drop, get_or_append_left}
+use Rattle.wg_params.specs.declared.code.Code.{Code}
+use Rattle.wg_params.specs.Parameters.{Parameters}
+use Rattle.wg_codes.specs.Reading.{Reads}
+use Rattle.wg_codes.specs.Words.{word, top}
+use Rattle.wg_codes.specs.declared.outcome.Read.TheVariants as reads
+use Rattle.wg_codes.proofs.CodeLaws.{word_some}
+use Rattle.wg_grammar.specs.declared.fault.ArchiveFault.{ArchiveFault}
+use Rattle.wg_grammar.specs.declared.fault.ArchiveFault.TheVariants as faults
+use Rattle.wg_grammar.specs.declared.fault.Fault.{Fault}
+use Rattle.wg_grammar.specs.declared.fault.Field.TheVariants as field
+use Rattle.wg_grammar.specs.declared.fault.Kind.TheVariants as kind
+use Rattle.wg_grammar.specs.Context.{Known, Context, no_page}
+use Rattle.wg_grammar.specs.Record.{Whole, ReadsRecord}
+use Rattle.wg_decoder.specs.declared.decoded.Unread.{Unread}
+use Rattle.wg_decoder.specs.declared.decoded.Unread.TheVariants as unread
+use Rattle.wg_decoder.specs.Answer.{OfUnread}
+use Rattle.wg_decoder.specs.Apart.{page_over, ReferenceStands, HeadStands, HeadFails}
+use Rattle.wg_decoder.specs.Head.{of_outdegree}
+use Rattle.wg_decoder.proofs.ApartLemmas.{head_refused, reference_near}
+use Rattle.wg_random.specs.declared.error.SpotError.{SpotError}
+use Rattle.wg_random.specs.declared.error.SpotError.TheVariants as errors
+use Rattle.wg_random.specs.Chain.{ArePages}
+use Rattle.wg_random.specs.Spot.{endless, start_of, HeadReads, RecordReads, RefersTo, OverReads, ChainReads, IsChain, SpotAnswers, OfSpot, IsHeadFault}
+use Rattle.wg_random.specs.Unread.{spot_error}
+use Rattle.wg_random.proofs.ChainLemmas.{pushed_length}
+
+-- ---- a record that begins past the last bit
+
+cut_past : (code : Code) (bits : List Bool) (at : ℕ) → length bits ≤ at → Reads (word code) (top code) (drop at bits) reads.Cut
+cut_past code bits at past =
+    subst (λ (z : List Bool). Reads (word code) (top code) z reads.Cut) (sym (drop_of_length-le bits past))
+    (0, (let low : 0 ≤ top code = omega arith in low), (word code 0, word_some code 0, refl))
+
+head_cut : (p : Parameters) (c : Context) (bits : List Bool) (at : ℕ) (e : Fault) → length bits ≤ at → e ≡ record { page = c.page; at = at; field = field.Outdegree; kind = kind.Cut } → HeadFails p c bits at e
+head_cut p c bits at e past is =
+    subst (λ (f : Fault). HeadFails p c bits at f) (sym is) (inl (reads.Cut, cut_past p.outdegrees bits at past, refl, refl, refl), refl)
+
+pub page_cut : (p : Parameters) (bits : List Bool) (offsets : List ℕ) (page : ℕ) (e : Fault) → length bits ≤ start_of offsets page → e ≡ record { page = page; at = start_of offsets page; field = field.Outdegree; kind = kind.Cut } →
+    IsHeadFault p bits offsets page (faults.Record e)
+page_cut p bits offsets page e past is = (e, refl, head_cut (endless p) (page_over p page no_page) bits (start_of offsets page) e past is)
+
+pub record_cut : (p : Parameters) (bits : List Bool) (offsets : List ℕ) (page : ℕ) (below : Known) (e : Fault) → length bits ≤ start_of offsets page → e ≡ record { page = page; at = start_of offsets page; field = field.Outdegree; kind = kind.Cut } →
+    RecordReads p bits offsets page below (Err (faults.Record e))
+record_cut p bits offsets page below e past is =
+    let c = page_over p page below in
+    head_refused p c bits (start_of offsets page) e (head_cut p c bits (start_of offsets page) e past is)
+
+-- ---- a record
+
+-- a fault of a record that was read from bits in memory
+pub spot_weaker : {R : Type 0} (x : Unread R) (P : Fault → Type 0) (Q : ArchiveFault → Type 0) → ((e : Fault) → P e → Q (faults.Record e)) → OfUnread x P → OfSpot (spot_error x) Q
+spot_weaker (unread.Fault e) P Q f h = f e h
+spot_weaker unread.Memory P Q f h = tt
+spot_weaker (unread.Refused r) P Q f h = tt
+
+pub faults_weaker : (x : SpotError) (P Q : ArchiveFault → Type 0) → ((f : ArchiveFault) → P f → Q f) → OfSpot x P → OfSpot x Q
+faults_weaker errors.NoPage P Q f h = h
+faults_weaker (errors.Archive e) P Q f h = f e h
+faults_weaker errors.Memory P Q f h = tt
+
+pub head_fault : (p q : Parameters) (bits : List Bool) (offsets : List ℕ) (page at : ℕ) (e : Fault) → q ≡ endless p → at ≡ start_of offsets page → HeadFails q (page_over q page no_page) bits at e → IsHeadFault p bits offsets page (faults.Record e)
+head_fault p q bits offsets page at e is place h =
+    (e, refl, subst (λ (k : ℕ). HeadFails (endless p) (page_over p page no_page) bits k e) place (subst (λ (r : Parameters). HeadFails r (page_over r page no_page) bits at e) is h))
+
+pub head_reads : (p q : Parameters) (bits : List Bool) (offsets : List ℕ) (page at d r end : ℕ) → q ≡ endless p → at ≡ start_of offsets page → HeadStands q (page_over q page no_page) bits at d r end → HeadReads p bits offsets page (Ok r)
+head_reads p q bits offsets page at d r end is place h =
+    (d, end, subst (λ (k : ℕ). HeadStands (endless p) (page_over p page no_page) bits k d r end) place (subst (λ (x : Parameters). HeadStands x (page_over x page no_page) bits at d r end) is h))
+
+pub length_fault : (p : Parameters) (bits : List Bool) (offsets : List ℕ) (page : ℕ) (below : Known) (at end stop : ℕ) (k : Known) (f : ArchiveFault) → at ≡ start_of offsets page →
+    ReadsRecord p (page_over p page below) bits at (Ok (record { known = k; end = end })) → stop ≡ end → stop ≢ start_of offsets (page + 1) →
+    f ≡ faults.Length page (stop - start_of offsets page) (start_of offsets (page + 1) - start_of offsets page) → RecordReads p bits offsets page below (Err f)
+length_fault p bits offsets page below at end stop k f place h same differ is =
+    let here = subst (λ (i : ℕ). ReadsRecord p (page_over p page below) bits i (Ok (record { known = k; end = end }))) place h in
+    let w : Whole = record { known = k; end = stop } in
+    let there : ReadsRecord p (page_over p page below) bits (start_of offsets page) (Ok w) =
+    subst (λ (i : ℕ). ReadsRecord p (page_over p page below) bits (start_of offsets page) (Ok (record { known = k; end = i }))) (sym same) here in
+    subst (λ (g : ArchiveFault). RecordReads p bits offsets page below (Err g)) (sym is) (w, there, differ, refl, refl, refl)
+
+-- ---- a reference leads to a lower page
+
+near_of : (p : Parameters) (c : Context) (bits : List Bool) (d at r end : ℕ) → 0 < r → ReferenceStands p c bits d at r end → r ≤ c.page
+near_of p c bits d at r end some (inl h) = omega (arith, reference_near p c (of_outdegree d) r h.1.2)
+near_of p c bits d at r end some (inr h) = absurd (omega (arith, some, h.1))
+
+pub refers_falls : (p : Parameters) (bits : List Bool) (offsets : List ℕ) (y z : ℕ) → RefersTo p bits offsets y z → z < y
+refers_falls p bits offsets y z h =
+    let s = h.2.2 in
+    let near : h.0 ≤ y = near_of (endless p) (page_over p y no_page) bits h.2.0 s.0 h.0 h.2.1 h.1 s.2 in
+    omega (arith, h.1, near, h.3)
+
+-- ---- the chain grows
+
+pub one_page : (p : Parameters) (bits : List Bool) (offsets : List ℕ) (x : ℕ) (chain : List ℕ) → chain ≡ x ∷ [] → IsChain p bits offsets x chain
+one_page p bits offsets x chain is = subst (λ (l : List ℕ). IsChain p bits offsets x l) (sym is) (record {
+  some = omega arith;
+  first = refl;
+  links = λ i lt. absurd (omega (arith, lt));
+})
+
+before : (chain : List ℕ) (z i : ℕ) → i < length chain → get_or (chain ++ z ∷ []) i 0 ≡ get_or chain i 0
+before chain z i lt = get_or_append_left chain (z ∷ []) 0 i lt
+
+pub pushed_chain : (p : Parameters) (bits : List Bool) (offsets : List ℕ) (x : ℕ) (chain new : List ℕ) (page z : ℕ) → new ≡ chain ++ z ∷ [] → get_or chain (length chain - 1) 0 ≡ page → RefersTo p bits offsets page z →
+    IsChain p bits offsets x chain → IsChain p bits offsets x new
+pushed_chain p bits offsets x chain new page z is here refers h = subst (λ (l : List ℕ). IsChain p bits offsets x l) (sym is) (record {
+  some = omega (arith, pushed_length chain (chain ++ z ∷ []) z refl);
+  first = before chain z 0 h.some ∙ h.first;
+  links = λ i lt. elim (cases_lt (suc i) (length chain)) [
+    | inl less ↦
+        let one = subst (λ (k : ℕ). RefersTo p bits offsets (get_or chain i 0) k) (sym (before chain z (suc i) less)) (h.links i less) in
+        subst (λ (k : ℕ). RefersTo p bits offsets k (get_or (chain ++ z ∷ []) (suc i) 0)) (sym (before chain z i (omega (arith, less)))) one
+    | inr ge ↦
+        let e : i ≡ length chain - 1 = omega (arith, lt, ge, pushed_length chain (chain ++ z ∷ []) z refl, h.some) in
+        let first : get_or (chain ++ z ∷ []) i 0 ≡ page = before chain z i (omega (arith, e, h.some)) ∙ ap (λ (k : ℕ). get_or chain k 0) e ∙ here in
+        let place : suc i ≡ length chain = omega (arith, e, h.some) in
+        let next : get_or (chain ++ z ∷ []) (suc i) 0 ≡ z = ap (λ (k : ℕ). get_or (chain ++ z ∷ []) k 0) place ∙ last_pushed chain z in
+        subst (λ (k : ℕ). RefersTo p bits offsets k (get_or (chain ++ z ∷ []) (suc i) 0)) (sym first) (subst (λ (k : ℕ). RefersTo p bits offsets page k) (sym next) refers)
+  ];
+})
+  where
+    last_pushed : (chain : List ℕ) (z : ℕ) → get_or (chain ++ z ∷ []) (length chain) 0 ≡ z
+    last_pushed [] z = refl
+    last_pushed (y ∷ ys) z = last_pushed ys z
+
+pub pushed_here : (chain new : List ℕ) (z : ℕ) → new ≡ chain ++ z ∷ [] → get_or new (length new - 1) 0 ≡ z
+pushed_here chain new z is =
+    let place : length new - 1 ≡ length chain = omega (arith, pushed_length chain new z is) in
+    ap (λ (k : ℕ). get_or new k 0) place ∙ ap (λ (l : List ℕ). get_or l (length chain) 0) is ∙ last_one chain z
+  where
+    last_one : (chain : List ℕ) (z : ℕ) → get_or (chain ++ z ∷ []) (length chain) 0 ≡ z
+    last_one [] z = refl
+    last_one (y ∷ ys) z = last_one ys z
+
+-- ---- up the chain
+
+-- what is left of a chain after the page i
+pub after_page : (chain : List ℕ) (i : ℕ) → suc i < length chain → drop (suc i) chain ≡ get_or chain (suc i) 0 ∷ drop (suc (suc i)) chain
+after_page chain i lt = drop-cons chain (suc i) 0 lt
+
+-- a page up, over one that is known
+pub up_one : (p : Parameters) (bits : List Bool) (offsets : List ℕ) (x : ℕ) (chain : List ℕ) (i : ℕ) (v w : Result Known ArchiveFault) → suc i < length chain → IsChain p bits offsets x chain →
+    ChainReads p bits offsets (get_or chain (suc i) 0) (drop (suc (suc i)) chain) v → OverReads p bits offsets (get_or chain i 0) v w → ChainReads p bits offsets (get_or chain i 0) (drop (suc i) chain) w
+up_one p bits offsets x chain i v w lt h reads over =
+    subst (λ (zs : List ℕ). ChainReads p bits offsets (get_or chain i 0) zs w) (sym (after_page chain i lt)) (h.links i lt, v, reads, over)
+
+-- the list of the page below, lent
+pub lent_reads : (p : Parameters) (bits : List Bool) (offsets : List ℕ) (page : ℕ) (lent list : List ℕ) (depth : ℕ) (w : Result Known ArchiveFault) → lent ≡ list → RecordReads p bits offsets page (record { list = lent; depth = depth }) w →
+    RecordReads p bits offsets page (record { list = list; depth = depth }) w
+lent_reads p bits offsets page lent list depth w is h = subst (λ (l : List ℕ). RecordReads p bits offsets page (record { list = l; depth = depth }) w) is h
+
+-- a fault is the first page's
+pub carried : (p : Parameters) (bits : List Bool) (offsets : List ℕ) (x : ℕ) (chain : List ℕ) (i : ℕ) (f : ArchiveFault) → i < length chain → IsChain p bits offsets x chain →
+    ChainReads p bits offsets (get_or chain i 0) (drop (suc i) chain) (Err f) → ChainReads p bits offsets (get_or chain 0 0) (drop 1 chain) (Err f)
+carried p bits offsets x chain zero f lt h reads = reads
+carried p bits offsets x chain (suc i) f lt h reads = carried p bits offsets x chain i f (omega (arith, lt)) h (up_one p bits offsets x chain i (Err f) (Err f) lt h reads refl)
+
+none_after : (chain : List ℕ) → drop (suc (length chain - 1)) chain ≡ []
+none_after chain = drop_of_length-le chain {i = suc (length chain - 1)} (omega arith)
+
+-- the last page
+pub last_reads : (p : Parameters) (bits : List Bool) (offsets : List ℕ) (chain : List ℕ) (w : Result Known ArchiveFault) → HeadReads p bits offsets (get_or chain (length chain - 1) 0) (Ok 0) →
+    RecordReads p bits offsets (get_or chain (length chain - 1) 0) no_page w → ChainReads p bits offsets (get_or chain (length chain - 1) 0) (drop (suc (length chain - 1)) chain) w
+last_reads p bits offsets chain w head reads = subst (λ (zs : List ℕ). ChainReads p bits offsets (get_or chain (length chain - 1) 0) zs w) (sym (none_after chain)) (Ok 0, head, reads)
+
+last_fails : (p : Parameters) (bits : List Bool) (offsets : List ℕ) (chain : List ℕ) (e : Fault) → HeadReads p bits offsets (get_or chain (length chain - 1) 0) (Err e) →
+    ChainReads p bits offsets (get_or chain (length chain - 1) 0) (drop (suc (length chain - 1)) chain) (Err (faults.Record e))
+last_fails p bits offsets chain e head = subst (λ (zs : List ℕ). ChainReads p bits offsets (get_or chain (length chain - 1) 0) zs (Err (faults.Record e))) (sym (none_after chain)) (Err e, head, refl)
+
+from_first : (p : Parameters) (bits : List Bool) (offsets : List ℕ) (x : ℕ) (chain : List ℕ) (w : Result Known ArchiveFault) → IsChain p bits offsets x chain → ChainReads p bits offsets (get_or chain 0 0) (drop 1 chain) w →
+    ChainReads p bits offsets x (drop 1 chain) w
+from_first p bits offsets x chain w h reads = subst (λ (k : ℕ). ChainReads p bits offsets k (drop 1 chain) w) h.first reads
+
+counted : (chain : List ℕ) (from to : ℕ) → 0 < length chain → to ≡ from + length chain → to ≡ from + length (drop 1 chain) + 1
+counted chain from to some ticks = omega (arith, length-drop 1 chain)
+
+-- the head of the last page is refused, or memory was wanting
+pub head_error : (p : Parameters) (bits : List Bool) (offsets : List ℕ) (x : ℕ) (chain : List ℕ) (page from to : ℕ) (e : SpotError) → x < p.nodes → IsChain p bits offsets x chain → get_or chain (length chain - 1) 0 ≡ page → to ≡ from + length chain →
+    OfSpot e (IsHeadFault p bits offsets page) → SpotAnswers p bits offsets x from to (Err e)
+head_error p bits offsets x chain page from to errors.NoPage lt h here ticks bad = absurd bad
+head_error p bits offsets x chain page from to (errors.Archive f) lt h here ticks bad =
+    let at_end = last_fails p bits offsets chain bad.0 (subst (λ (k : ℕ). HeadReads p bits offsets k (Err bad.0)) (sym here) bad.2) in
+    let all = carried p bits offsets x chain (length chain - 1) (faults.Record bad.0) (omega (arith, h.some)) h at_end in
+    let first = from_first p bits offsets x chain (Err (faults.Record bad.0)) h all in
+    (lt, drop 1 chain, subst (λ (g : ArchiveFault). ChainReads p bits offsets x (drop 1 chain) (Err g)) (sym bad.1) first, counted chain from to h.some ticks)
+head_error p bits offsets x chain page from to errors.Memory lt h here ticks bad = (lt, chain, h, (let le : to ≤ from + length chain = omega (arith, ticks) in le))
+
+pub no_memory : (p : Parameters) (bits : List Bool) (offsets : List ℕ) (x : ℕ) (chain : List ℕ) (from to : ℕ) → x < p.nodes → IsChain p bits offsets x chain → to ≤ from + length chain → SpotAnswers p bits offsets x from to (Err errors.Memory)
+no_memory p bits offsets x chain from to lt h few = (lt, chain, h, few)
+
+-- the answer, where all heads are right
+pub answer_of : (p : Parameters) (bits : List Bool) (offsets : List ℕ) (x : ℕ) (chain : List ℕ) (from to : ℕ) (result : Result (List ℕ) SpotError) → x < p.nodes → IsChain p bits offsets x chain → to ≡ from + length chain →
+    IfOk result (λ list. (k : Known) × ChainReads p bits offsets (get_or chain 0 0) (drop 1 chain) (Ok k) × (list ≡ k.list)) →
+    IfErr result (λ e. OfSpot e (λ f. ChainReads p bits offsets (get_or chain 0 0) (drop 1 chain) (Err f))) → SpotAnswers p bits offsets x from to result
+answer_of p bits offsets x chain from to (Ok list) lt h ticks good bad =
+    (lt, drop 1 chain, good.0, from_first p bits offsets x chain (Ok good.0) h good.1, good.2, counted chain from to h.some ticks)
+answer_of p bits offsets x chain from to (Err errors.NoPage) lt h ticks good bad = absurd bad
+answer_of p bits offsets x chain from to (Err (errors.Archive f)) lt h ticks good bad = (lt, drop 1 chain, from_first p bits offsets x chain (Err f) h bad, counted chain from to h.some ticks)
+answer_of p bits offsets x chain from to (Err errors.Memory) lt h ticks good bad = (lt, chain, h, (let le : to ≤ from + length chain = omega (arith, ticks) in le))
