@@ -1,13 +1,13 @@
 -- A page of an archive that is accepted has its list of the graph, by its chain alone.
-use Rattle.std.proofs.Common.{◌≡◌, ◌∙◌, ℕ, zero, suc, ◌+◌, ◌-◌, ◌<◌, ◌≤◌, Bool, inl, inr, List, [], ◌∷◌, length, Ok, refl, sym, ap, subst, arith}
+use Rattle.std.proofs.Common.{◌≡◌, ◌∙◌, ℕ, zero, suc, ◌+◌, ◌-◌, ◌<◌, ◌≤◌, Bool, List, [], ◌∷◌, length, Ok, refl, sym, ap, subst, arith}
 use Rattle.std.specs.Prelude.{get_or}
 use Rattle.wg_params.specs.Parameters.{Parameters}
 use Rattle.wg_grammar.specs.Archive.{Accepted, ReadsGraph, context_of}
 use Rattle.wg_grammar.specs.Context.{Known, no_page}
 use Rattle.wg_grammar.specs.Record.{Whole, ReadsRecord}
 use Rattle.wg_decoder.specs.Apart.{page_over, HeadStands}
-use Rattle.wg_random.specs.Reading.{Reading, no_record, known_at, offset_at}
-use Rattle.wg_random.specs.Spot.{endless, start_of, HeadReads, RecordReads, ChainReads, SpotReads}
+use Rattle.wg_random.specs.Reading.{no_record, known_at}
+use Rattle.wg_random.specs.Spot.{endless, start_of, HeadReads, RecordReads, SpotReads}
 use Rattle.wg_random.proofs.Matching.{Read, read_of, list_at}
 use Rattle.wg_random.proofs.Readings.{all_records, earlier, start_at, record_at, earlier_length, start_is, offset_is, behind_get}
 use Rattle.wg_random.proofs.SpotMoves.{Apart, apart_of, named_page}

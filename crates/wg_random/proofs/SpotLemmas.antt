@@ -1,5 +1,5 @@
 -- A page of an archive that was not checked.
-use Rattle.std.proofs.Common.{◌≡◌, ◌≢◌, ◌∙◌, ℕ, zero, suc, ◌+◌, ◌-◌, ◌<◌, ◌≤◌, Bool, inl, inr, List, [], ◌∷◌, ◌++◌, length, drop, Some, Result, Ok, Err, refl, sym, ap, subst, arith}
+use Rattle.std.proofs.Common.{◌≡◌, ◌≢◌, ◌∙◌, ℕ, zero, suc, ◌+◌, ◌-◌, ◌<◌, ◌≤◌, Bool, inl, inr, List, [], ◌∷◌, ◌++◌, length, drop, Result, Ok, Err, refl, sym, ap, subst, arith}
 use Rattle.std.specs.Prelude.{get_or}
 use Rattle.std.specs.Result.{IfOk, IfErr}
 use Rattle.std.proofs.Math.ListN.{drop_of_length-le}
@@ -27,7 +27,6 @@ use Rattle.wg_decoder.specs.Head.{of_outdegree}
 use Rattle.wg_decoder.proofs.ApartLemmas.{head_refused, reference_near}
 use Rattle.wg_random.specs.declared.error.SpotError.{SpotError}
 use Rattle.wg_random.specs.declared.error.SpotError.TheVariants as errors
-use Rattle.wg_random.specs.Chain.{ArePages}
 use Rattle.wg_random.specs.Spot.{endless, start_of, HeadReads, RecordReads, RefersTo, OverReads, ChainReads, IsChain, SpotAnswers, OfSpot, IsHeadFault}
 use Rattle.wg_random.specs.Unread.{spot_error}
 use Rattle.wg_random.proofs.ChainLemmas.{pushed_length}

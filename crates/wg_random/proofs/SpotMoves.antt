@@ -15,7 +15,7 @@ use Rattle.wg_grammar.specs.declared.need.Need.TheVariants as need
 use Rattle.wg_grammar.specs.Context.{Known, Context, no_page, referenced, depth_of}
 use Rattle.wg_grammar.specs.SoFar.{SoFar, nothing_yet, after, value_or_0, source}
 use Rattle.wg_grammar.specs.Next.{next}
-use Rattle.wg_grammar.specs.Refusal.{refusal, passes}
+use Rattle.wg_grammar.specs.Refusal.{refusal}
 use Rattle.wg_grammar.specs.Members.{list_of, is_covered}
 use Rattle.wg_grammar.specs.Record.{Whole, Stands, Fields, ReadsRecord}
 use Rattle.wg_grammar.specs.Tally.{tally}

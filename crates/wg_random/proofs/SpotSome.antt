@@ -1,7 +1,6 @@
 -- A page has an outcome by its chain.
-use Rattle.std.proofs.Common.{◌≡◌, ◌⊎◌, ◌∙◌, ℕ, zero, suc, ◌+◌, ◌-◌, ◌<◌, ◌≤◌, Bool, inl, inr, List, [], ◌∷◌, length, drop, Option, Some, None, Result, Ok, Err, refl, subst, length-drop, arith}
+use Rattle.std.proofs.Common.{◌≡◌, ℕ, zero, suc, ◌+◌, ◌-◌, ◌<◌, ◌≤◌, Bool, inl, inr, List, [], ◌∷◌, length, drop, Option, Some, None, Result, Ok, Err, refl, subst, length-drop, arith}
 use Rattle.std.proofs.lemmas.Bool.{cases_lt, cases_eq}
-use Rattle.wg_params.specs.declared.code.Code.{Code}
 use Rattle.wg_params.specs.Parameters.{Parameters, IsWithinLimits}
 use Rattle.wg_codes.specs.Reading.{Reads}
 use Rattle.wg_codes.specs.Words.{word, top}
@@ -24,7 +23,7 @@ use Rattle.wg_decoder.specs.Apart.{page_over, RefersNext, OutdegreeStands, HeadS
 use Rattle.wg_decoder.specs.Head.{of_outdegree}
 use Rattle.wg_decoder.proofs.HeadLemmas.{reference_due}
 use Rattle.wg_decoder.proofs.ApartLemmas.{no_reference_stands}
-use Rattle.wg_random.specs.Spot.{endless, start_of, HeadReads, RecordReads, OverReads, ChainReads, SpotReads}
+use Rattle.wg_random.specs.Spot.{endless, start_of, HeadReads, RecordReads, OverReads, SpotReads}
 use Rattle.wg_random.proofs.SpotLemmas.{refers_falls}
 use Rattle.wg_random.proofs.SpotOne.{outdegree_coded, reference_coded, endless_limits}
 
