@@ -13,19 +13,18 @@ use Rattle.wg_graph.specs.Filled.{Filled}
 use Rattle.wg_grammar.specs.declared.fault.ArchiveFault.{ArchiveFault}
 use Rattle.wg_grammar.specs.SoFar.{value_or_0}
 use Rattle.wg_grammar.specs.Record.{Whole}
-use Rattle.wg_grammar.specs.Archive.{Accepted, ReadsGraph, Pages, lists_of}
+use Rattle.wg_grammar.specs.Archive.{Accepted, ReadsGraph, lists_of}
 use Rattle.wg_grammar.proofs.OneGraph.{graph_one, lists_ascend}
 use Rattle.wg_iterators.specs.Laid.{list_or_none}
 use Rattle.wg_iterators.specs.Proper.{IsRecord}
-use Rattle.wg_stream.specs.Prefix.{PagesRead, AreBehind, IsOneMore}
 use Rattle.wg_stream.proofs.PrefixLemmas.{lists_more}
 use Rattle.wg_random.specs.Reading.{Reading, no_record, known_at, offset_at}
 use Rattle.wg_random.specs.Chain.{below_at}
 use Rattle.wg_random.specs.Sweeping.{StandFor, HaveGraph, no_row, AreKept, IsNext}
 use Rattle.wg_random.specs.OneStands.{one_set, stand_one}
-use Rattle.wg_random.proofs.Readings.{all_records, one_reading, record_at, found_of}
+use Rattle.wg_random.proofs.Readings.{all_records, record_at, found_of}
 use Rattle.wg_random.proofs.ArchiveLemmas.{ReadsReference}
-use Rattle.wg_random.proofs.Matching.{read_of, parts_on, list_at}
+use Rattle.wg_random.proofs.Matching.{list_at}
 
 -- ---- the graph
 
@@ -91,19 +90,11 @@ pub list_none : (records : List Whole) (page back : ℕ) → back ≡ 0 → None
 list_none records page zero none = refl
 list_none records page (suc r) none = absurd (omega (arith, none))
 
--- ---- the greatest outdegree
+-- ---- no fault
 
 -- bits that stand for a graph have no fault
 pub no_fault : (p : Parameters) (bits : List Bool) (a : Accepted) (f : ArchiveFault) → IsWithinLimits p → ReadsGraph p bits (Ok a) → ReadsGraph p bits (Err f) → ⊥
 no_fault p bits a f limits h k = let e : (let x : Result Accepted ArchiveFault = Ok a in x) ≡ Err f = graph_one p limits bits (Ok a) (Err f) h k in cc
-
--- all pages were read: their lists are the graph
-pub lists_are : (p : Parameters) (bits : List Bool) (r : PagesRead) (at : ℕ) (behind : List Whole) (a : Accepted) → IsWithinLimits p → r.params ≡ p → r.page ≡ p.nodes → AreBehind bits r at behind → ReadsGraph p bits (Ok a) → lists_of behind ≡ a.graph
-lists_are p bits r at behind a limits same all h reads =
-    let g = read_of p bits a reads in
-    let pages : Pages p bits [] 0 h.stood behind at = subst (λ (q : Parameters). Pages q bits [] 0 h.stood behind at) same h.records in
-    let reading : Reading p bits = record { records = h.stood; behind = behind; end = at; pages = pages; all = h.count ∙ all } in
-    parts_on (λ (w : Whole). w.known.list) p bits [] 0 h.stood behind at pages ∙ ap (λ (ws : List Whole). map (λ (w : Whole). w.known.list) ws) (one_reading p bits limits reading g.reading) ∙ sym g.graph
 
 -- ---- the record that comes next
 
@@ -183,10 +174,6 @@ one_greater behind w g m n list lent is lent_is len most all =
     subst (All (λ s. length s ≤ m)) (sym (lists_more w behind))
     (All-push (λ s. length s ≤ m) (lists_of behind) w.known.list (All-weaker (λ s. length s ≤ g) (λ s. length s ≤ m) (λ s h. omega (arith, h, most)) (lists_of behind) all)
     (omega (arith, most, len, ap (λ (l : List ℕ). length l) is, ap (λ (l : List ℕ). length l) lent_is)))
-
--- the same of the bits by another name
-pub one_on : (a b : List Bool) (r new : PagesRead) (at end : ℕ) → a ≡ b → ((behind : List Whole) → AreBehind a r at behind → IsOneMore a new end behind) → (behind : List Whole) → AreBehind b r at behind → IsOneMore b new end behind
-one_on a b r new at end e = subst (λ (x : List Bool). (behind : List Whole) → AreBehind x r at behind → IsOneMore x new end behind) e
 
 -- ---- a vector that was written through a slice of it
 

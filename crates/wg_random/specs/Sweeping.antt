@@ -15,6 +15,12 @@ pub record StandFor (p : Parameters) (bits : List Bool) (graph : List (List ℕ)
   pub places : List ℕ
   pub reads : ReadsGraph p bits (Ok (record { graph = graph; places = places }))
 
+-- What a pass over all records finds: the bits stand for a graph whose records have these offsets, and no list of it is
+-- longer than the greatest.
+abbrev pub PassFinds : Parameters → List Bool → List ℕ → ℕ → Type 0
+PassFinds p bits offsets greatest =
+    (graph : List (List ℕ)) × ReadsGraph p bits (Ok (record { graph = graph; places = offsets })) × All (λ s. length s ≤ greatest) graph
+
 -- they stand for a graph; there is one at most
 abbrev pub HaveGraph : Parameters → List Bool → Type 0
 HaveGraph p bits = (graph : List (List ℕ)) × ∥ StandFor p bits graph ∥₁

@@ -77,6 +77,7 @@ impl<'a> Archive<'a> {
             bytes,
             params,
             offsets: found,
+            ..
         } = records;
         compare(&found, offsets)?;
         Ok(Archive {

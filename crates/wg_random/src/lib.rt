@@ -44,7 +44,7 @@
 //! | [`Archive::open`] | a box for each reference of the chain | that of the words of the chain's records |
 //! | [`Archive::list`] | a number for each page of the chain, and two of its lists | that of the words and the lists of the chain's records |
 //! | [`spot`] | a number for each page of the chain, and at most 6 lists | that of the words and the lists of the chain's records |
-//! | [`Records::sweep`] | a row for each page that a reference reaches, and one; while it runs, the lists of a window | that of all bits and lists |
+//! | [`Records::sweep`] | a row for each page that a reference reaches, and one | that of the rows |
 //! | a list of a [`Sweep`] | none | that of the words of its record and of the lists that it has and refers to |
 //!
 //! A page that does not exist, a chain that is too long to be opened, and want of memory are answered by
@@ -56,9 +56,9 @@
 mod archive;
 mod chain;
 mod error;
-mod greatest;
 pub mod laws;
 mod listing;
+mod pass;
 mod records;
 mod standing;
 mod steps;

@@ -7,13 +7,13 @@ ghost use Rattle.wg_grammar.specs.Laws.{graph_of};
 ghost use Rattle.wg_offsets.specs.Places.{ArePlaces};
 ghost use Rattle.wg_random.specs.Checking.{OfArchive};
 
+use crate::pass::pass;
 use crate::{Archive, CheckError, Sweep};
 use std::alloc::{AllocError, Global};
 use std::marker::Model;
-use wg_bits::{Bits, Cursor};
 use wg_offsets::Offsets;
 use wg_params::Params;
-use wg_stream::{PagesError, read_offsets};
+use wg_stream::PagesError;
 
 /// The bits of a graph file that stand for one graph, and where their records are.
 ///
@@ -23,26 +23,28 @@ pub struct Records<'a> {
     pub(crate) bytes: &'a [u8],
     pub(crate) params: Params,
     pub(crate) offsets: Offsets,
+    // at least the outdegree of each page
+    pub(crate) greatest: usize,
 }
 
 impl<'a> Model for Records<'a> {
-    ghost use Rattle.std.specs.Prelude.{◌≤◌, ℕ, List, length, Ok};
+    ghost use Rattle.std.specs.Prelude.{◌≤◌, length};
     ghost use Rattle.wg_io.specs.declared.limits.TheConstants.{MOST_BYTES};
     ghost use Rattle.wg_bits.specs.Bits.{bits_of};
-    ghost use Rattle.wg_grammar.specs.Archive.{ReadsGraph};
     ghost use Rattle.wg_random.specs.Held.{Held};
+    ghost use Rattle.wg_random.specs.Sweeping.{PassFinds};
 
     ghost Value = { Held };
 
     ghost view = { λ r. record { params = r.params; bits = bits_of r.bytes.now; offsets = r.offsets } };
 
     ghost invariant = { λ r. (length r.bytes.now ≤ MOST_BYTES)
-        × ((graph : List (List ℕ)) × ReadsGraph r.params (bits_of r.bytes.now) (Ok (record { graph = graph; places = r.offsets }))) };
+        × PassFinds r.params (bits_of r.bytes.now) r.offsets r.greatest };
 }
 
 impl<'a> Records<'a> {
-    /// Judges the records of all pages, the tail and the number of arcs, and keeps where the records are. It takes one
-    /// pass over the bytes and the lists.
+    /// Judges the records of all pages, the tail and the number of arcs, and keeps where the records are and the
+    /// greatest outdegree. It takes one pass over the bytes and the lists.
     pub fn check(alloc: Global, bytes: &'a [u8], params: Params) -> Result<Records<'a>, CheckError>
         requires { length bytes.now ≤ MOST_BYTES }
         ensures params { IfOk result (λ r. r.params ≡ params) }
@@ -51,11 +53,12 @@ impl<'a> Records<'a> {
             × ReadsGraph params (bits_of bytes.now) (Ok (record { graph = graph; places = r.offsets }))) }
         ensures refused { IfErr result (λ e. OfArchive e (λ f. ReadsGraph params (bits_of bytes.now) (Err f))) }
     {
-        match read_offsets(alloc, params, &mut Cursor::new(Bits::of(bytes), 0)) {
-            Ok(offsets) => Ok(Records {
+        match pass(alloc, bytes, params) {
+            Ok(found) => Ok(Records {
                 bytes,
                 params,
-                offsets,
+                offsets: found.offsets,
+                greatest: found.greatest,
             }),
             Err(PagesError::Fault(fault)) => Err(CheckError::Archive(fault)),
             Err(PagesError::Memory) => Err(CheckError::Memory),
@@ -63,14 +66,14 @@ impl<'a> Records<'a> {
         }
     }
 
-    /// The lists of the graph in the order of the pages, as often as one likes. All memory is taken now, as by
-    /// [`Sweep::new`].
+    /// The lists of the graph in the order of the pages, as often as one likes. All memory is taken now: the rows of
+    /// the [`Sweep`]. The records are not passed over again.
     pub fn sweep(&self, alloc: Global) -> Result<Sweep<'a>, AllocError>
         ensures graph { (a : Accepted) → ReadsGraph self.now.params self.now.bits (Ok a)
             → IfOk result (λ s. s.graph ≡ graph_of self.now.params a) }
         ensures place { IfOk result (λ s. s.place ≡ 0) }
     {
-        Sweep::new(alloc, self.bytes, self.params)
+        Sweep::with_room(alloc, self.bytes, self.params, self.greatest)
     }
 
     /// The bit where the record of a page begins; and of the number of pages, the bit after the last record.

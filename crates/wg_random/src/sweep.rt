@@ -8,9 +8,9 @@ ghost use Rattle.wg_grammar.specs.Archive.{Accepted, ReadsGraph};
 ghost use Rattle.wg_grammar.specs.Laws.{graph_of};
 ghost use Rattle.wg_random.specs.Reading.{Reading, known_at, offset_at};
 ghost use Rattle.wg_random.specs.Chain.{below_at};
-ghost use Rattle.wg_random.specs.Sweeping.{AreKept, IsNext};
+ghost use Rattle.wg_random.specs.Sweeping.{AreKept, IsNext, PassFinds};
 
-use crate::greatest::greatest_outdegree;
+use crate::pass::pass;
 use crate::standing::Standing;
 use std::alloc::{AllocError, Global};
 use std::marker::Model;
@@ -19,6 +19,7 @@ use wg_bits::{Bits, Cursor};
 use wg_graph::{Lists, Row};
 use wg_iterators::{decode_into, reference};
 use wg_params::Params;
+use wg_stream::PagesError;
 
 /// The lists of an archive that was checked, decoded from its bits page after page, as often as one likes.
 ///
@@ -128,7 +129,8 @@ fn decode_page<'b>(
 
 impl<'a> Sweep<'a> {
     /// The lists of the graph that the bytes stand for, from page 0 on. It passes over the records once to find the
-    /// greatest outdegree, and takes all memory: besides the rows, the lists of a window while it passes.
+    /// greatest outdegree, and takes all memory: besides the rows, what [`Records::check`](crate::Records::check)
+    /// takes, until it returns.
     pub fn new(alloc: Global, bytes: &'a [u8], params: Params) -> Result<Sweep<'a>, AllocError>
         requires short { length bytes.now ≤ MOST_BYTES }
         requires graph { (a : Accepted) × ReadsGraph params (bits_of bytes.now) (Ok a) }
@@ -136,7 +138,30 @@ impl<'a> Sweep<'a> {
             → IfOk result (λ s. s.graph ≡ graph_of params a) }
         ensures place { IfOk result (λ s. s.place ≡ 0) }
     {
-        let room = greatest_outdegree(alloc, bytes, params)?;
+        // tells the limits
+        params.nodes();
+        match pass(alloc, bytes, params) {
+            Ok(found) => Sweep::with_room(alloc, bytes, params, found.greatest),
+            Err(PagesError::Memory) => Err(AllocError),
+            Err(PagesError::Fault(_)) => unreachable!(),
+            Err(PagesError::Refused(never)) => match never {},
+        }
+    }
+
+    // The lists of the graph that the bytes stand for, from page 0 on, in rows with this room, which holds each of
+    // them.
+    pub(crate) fn with_room(
+        alloc: Global,
+        bytes: &'a [u8],
+        params: Params,
+        room: usize,
+    ) -> Result<Sweep<'a>, AllocError>
+        requires short { length bytes.now ≤ MOST_BYTES }
+        requires finds { (offsets : ListOf ℕ) × PassFinds params (bits_of bytes.now) offsets room }
+        ensures graph { (a : Accepted) → ReadsGraph params (bits_of bytes.now) (Ok a)
+            → IfOk result (λ s. s.graph ≡ graph_of params a) }
+        ensures place { IfOk result (λ s. s.place ≡ 0) }
+    {
         let kept = rows(alloc, params.window().min(params.nodes()), room)?;
         let list = Row::new(alloc, room)?;
         Ok(Sweep {

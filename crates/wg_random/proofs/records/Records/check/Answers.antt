@@ -1,5 +1,5 @@
-use Rattle.std.proofs.Common.{Err, ap, sym, subst, ◌∙◌}
-use Rattle.wg_bits.specs.Bits.{bits_of, Position}
+use Rattle.std.proofs.Common.{Err, sym, subst}
+use Rattle.wg_bits.specs.Bits.{bits_of}
 use Rattle.wg_grammar.specs.Archive.{ReadsGraph}
 use Rattle.wg_stream.specs.Errors.{OfFault}
 use Rattle.wg_random.proofs.records.Records.check.Goals as goal
@@ -7,6 +7,5 @@ use Rattle.wg_random.proofs.records.Records.check.Goals as goal
 pub returns-in-Err-Fault-clause-refused : goal.returns-in-Err-Fault-clause-refused
 returns-in-Err-Fault-clause-refused c =
     let bits = bits_of c.args.bytes.now in
-    let refused = c.in-Err-Fault.ensures.fault bits (ap (λ (q : Position). q.bits) c.new.ensures ∙ c.of.ensures) in
-    let fault = subst (λ e. OfFault e (λ f. ReadsGraph c.args.params bits (Err f))) c.in-Err-Fault.field-0-is refused in
+    let fault = subst (λ e. OfFault e (λ f. ReadsGraph c.args.params bits (Err f))) c.in-Err-Fault.field-0-is c.in-Err-Fault.ensures.fault in
     subst (λ f. ReadsGraph c.args.params bits (Err f)) (sym c.in-Err-Fault.fault-is) fault

@@ -7,4 +7,4 @@ use Rattle.wg_random.proofs.records.Records.sweep.Goals as goal
 
 pub returns-clause-graph : goal.returns-clause-graph
 returns-clause-graph c =
-    subst (λ (v : Held). (a : Accepted) → ReadsGraph v.params v.bits (Ok a) → IfOk c.new.result (λ s. s.graph ≡ graph_of v.params a)) c.self.view_is c.new.ensures.graph
+    subst (λ (v : Held). (a : Accepted) → ReadsGraph v.params v.bits (Ok a) → IfOk c.with_room.result (λ s. s.graph ≡ graph_of v.params a)) c.self.view_is c.with_room.ensures.graph

@@ -1,0 +1,48 @@
+//! One pass over all records of an archive.
+ghost use Rattle.std.specs.Prelude.{◌≤◌, Err, IfOk, length};
+ghost use Rattle.wg_io.specs.declared.limits.TheConstants.{MOST_BYTES};
+ghost use Rattle.wg_bits.specs.Bits.{bits_of};
+ghost use Rattle.wg_grammar.specs.Archive.{ReadsGraph};
+ghost use Rattle.wg_stream.specs.Errors.{OnFault};
+ghost use Rattle.wg_random.specs.Sweeping.{PassFinds};
+
+use std::alloc::Global;
+use std::convert::Infallible;
+use wg_bits::{Bits, Cursor};
+use wg_offsets::Offsets;
+use wg_params::Params;
+use wg_stream::{Pages, PagesError};
+
+// What a pass finds: the offset of each record and the end of the last, and the greatest outdegree, 0 if there are no
+// pages.
+#[derive(Drop)]
+pub(crate) struct Passed {
+    pub(crate) offsets: Offsets,
+    pub(crate) greatest: usize,
+}
+
+// Judges the records of all pages, the tail and the number of arcs. It holds the lists of a window while it runs, and
+// takes 8 bytes a page, as the records come.
+pub(crate) fn pass(
+    alloc: Global,
+    bytes: &[u8],
+    params: Params,
+) -> Result<Passed, PagesError<Infallible>>
+    requires { length bytes.now ≤ MOST_BYTES }
+    ensures finds { IfOk result (λ found. PassFinds params (bits_of bytes.now) found.offsets found.greatest) }
+    ensures fault { OnFault result (λ f. ReadsGraph params (bits_of bytes.now) (Err f)) }
+{
+    let nodes = params.nodes();
+    let mut source = Cursor::new(Bits::of(bytes), 0);
+    let mut pages = Pages::new(alloc, params);
+    let mut offsets = Offsets::new(alloc);
+    let mut greatest = 0;
+    offsets.push(0)?;
+    for _page in 0..nodes {
+        pages.next(&mut source)?;
+        offsets.push(source.at())?;
+        greatest = greatest.max(pages.list().len());
+    }
+    pages.finish(&mut source)?;
+    Ok(Passed { offsets, greatest })
+}
