@@ -1,5 +1,5 @@
 -- Where a record ends.
-use Rattle.std.proofs.Common.{◌≡◌, ℕ, ◌-◌, ◌≤◌, Bool, List, [], ◌∷◌, length, drop, Option, ap, subst, arith}
+use Rattle.std.proofs.Common.{◌≡◌, ℕ, ◌-◌, ◌≤◌, Bool, List, [], ◌∷◌, length, drop, Option, ap, arith}
 use Rattle.std.proofs.lemmas.List.{length-drop}
 use Rattle.wg_params.specs.Parameters.{Parameters}
 use Rattle.wg_bits.specs.Bits.{Position, rest, moved}
@@ -45,8 +45,3 @@ pub end_there : (p : Parameters) (page : ℕ) (below : Option (List ℕ)) (posit
 end_there p page below position new list by fits is h by_is =
     let g = inside p page below position list fits h in
     omega (arith, g.from, g.within, fits, by_is, ap (λ (q : Position). q.at) is, length-drop h.end position.bits, length-drop position.at position.bits)
-
--- what stands behind it, told of the same position
-pub behind_there : (p : Parameters) (page : ℕ) (below : Option (List ℕ)) (position again : Position) (list : List ℕ) (behind : List Bool) → again ≡ position → ((h : IsRecord p page below again list) → behind ≡ drop h.end again.bits)
-    → (h : IsRecord p page below position list) → behind ≡ drop h.end position.bits
-behind_there p page below position again list behind e f = subst (λ (q : Position). (h : IsRecord p page below q list) → behind ≡ drop h.end q.bits) e f

@@ -6,10 +6,13 @@ pub mod PassLemmas
 pub mod Going
 pub mod Tails
 pub mod Heads
-pub mod Merging
 pub mod Ending
 pub mod LaidOut
 pub mod Counting
 pub mod Beginning
 pub mod Transfer
 pub mod BelowLemmas
+pub mod JoinLemmas
+pub mod CopyingLemmas
+pub mod CoveredLemmas
+pub mod DecodeLemmas

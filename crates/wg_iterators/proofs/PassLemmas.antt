@@ -40,11 +40,11 @@ pub block_first : (i v : ℕ) (vs : List ℕ) → blocks_after i (v ∷ vs) ≡ 
 block_first zero v vs = refl
 block_first (suc i) v vs = rw (ne_eqb (suc i) 0 (λ e. omega (arith, e))) refl
 
-parts_on : (values done vs : List ℕ) (index v stored b : ℕ) → blocks_of values ≡ done ++ blocks_after index (v ∷ vs) → v ≡ stored → b ≡ cond (eqb index 0) stored (stored + 1) → blocks_of values ≡ done ++ (b ∷ blocks_after (suc index) vs)
+pub parts_on : (values done vs : List ℕ) (index v stored b : ℕ) → blocks_of values ≡ done ++ blocks_after index (v ∷ vs) → v ≡ stored → b ≡ cond (eqb index 0) stored (stored + 1) → blocks_of values ≡ done ++ (b ∷ blocks_after (suc index) vs)
 parts_on values done vs index v stored b parts same is =
     parts ∙ ap (λ (l : List ℕ). done ++ l) (block_first index v vs ∙ ap (λ (k : ℕ). cond (eqb index 0) k (k + 1) ∷ blocks_after (suc index) vs) same ∙ ap (λ (k : ℕ). k ∷ blocks_after (suc index) vs) (sym is))
 
-fits_on : (values done more : List ℕ) (source b : ℕ) → blocks_of values ≡ done ++ (b ∷ more) → sum (blocks_of values) ≤ source → sum done + b ≤ source
+pub fits_on : (values done more : List ℕ) (source b : ℕ) → blocks_of values ≡ done ++ (b ∷ more) → sum (blocks_of values) ≤ source → sum done + b ≤ source
 fits_on values done more source b parts fits =
     omega (arith, fits, ap (λ (l : List ℕ). sum l) parts, sum_by-append (λ (e : ℕ). e) done (b ∷ more), sum_cons b more)
 

@@ -1,5 +1,5 @@
 -- The residuals that stand at bits.
-use Rattle.std.proofs.Common.{◌≡◌, ℕ, zero, suc, ◌-◌, ◌^◌, ◌<◌, Bool, List, [], ◌∷◌, length, Option, Some, None, refl, sym, ap, subst, ◌∙◌, arith}
+use Rattle.std.proofs.Common.{◌≡◌, ℕ, zero, suc, ◌-◌, ◌^◌, ◌<◌, ◌≤◌, Bool, List, [], ◌∷◌, length, Option, Some, None, refl, sym, ap, subst, ◌∙◌, arith}
 use Rattle.wg_params.specs.declared.code.Code.{Code}
 use Rattle.wg_params.specs.Codes.{IsCode}
 use Rattle.wg_grammar.specs.SoFar.{value_or_0}
@@ -51,10 +51,10 @@ first_word c page last n z some (y ∷ ys, end, len, h) = (h.1.v, h.0, h.1.word)
 abbrev pub Takes : Code → List Bool → List Bool → ℕ → Type 0
 Takes c old new w = (v : ℕ) (behind : List Bool) → IsWord c v old behind → (v ≡ w) × (behind ≡ new)
 
-pub means_page : (c : Code) (page : ℕ) (last : Option ℕ) (n : ℕ) (old new : List Bool) (w : ℕ) → Takes c old new w → 0 < n → Left c page last n old → (y : ℕ) × (y < 2 ^ 62) × (residual_of page last w ≡ Some y)
+pub means_page : (c : Code) (page : ℕ) (last : Option ℕ) (n : ℕ) (old new : List Bool) (w : ℕ) → Takes c old new w → 0 < n → Left c page last n old → (y : ℕ) × (y ≤ 2 ^ 62) × (residual_of page last w ≡ Some y)
 means_page c page last n old new w takes some ([], end, len, h) = absurd (omega (arith, some, len))
 means_page c page last n old new w takes some (y ∷ ys, end, len, h) =
-    let e = takes h.1.v h.0 h.1.word in (y, h.1.low, ap (residual_of page last) (sym e.0) ∙ h.1.means)
+    let e = takes h.1.v h.0 h.1.word in (y, omega (arith, h.1.low), ap (residual_of page last) (sym e.0) ∙ h.1.means)
 
 number_in : Option ℕ → ℕ
 number_in None = 0

@@ -8,3 +8,4 @@ pub mod Passing
 pub mod Proper
 pub mod Fields
 pub mod Below
+pub mod Joining

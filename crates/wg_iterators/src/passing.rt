@@ -12,7 +12,7 @@ use wg_params::Code;
 
 // A block's length: the first is stored as it is, later ones less 1.
 #[inline(always)]
-fn block_of(index: u64, stored: u64) -> u64
+pub(crate) fn block_of(index: u64, stored: u64) -> u64
     requires { stored < 2 ^ 63 }
     ensures { result ≡ (if index == 0 then stored else stored + 1) }
 {

@@ -1,5 +1,5 @@
 //! The residuals of a record, one after the other.
-ghost use Rattle.std.specs.Prelude.{◌≡◌, ℕ, ◌^◌, ◌<◌, List, [], Bool, length, None, Some};
+ghost use Rattle.std.specs.Prelude.{◌≡◌, ℕ, ◌^◌, ◌<◌, ◌≤◌, List, [], Bool, length, None, Some};
 ghost use Rattle.wg_params.specs.Codes.{IsCode};
 ghost use Rattle.wg_bits.specs.Bits.{rest};
 ghost use Rattle.wg_intervals.specs.Coming.{Gives};
@@ -47,9 +47,9 @@ impl<'a> Model for Residuals<'a> {
 
 // The page that is stored as this value.
 #[inline(always)]
-fn page_of(page: u64, last: Option<u64>, value: u64) -> u64
+pub(crate) fn page_of(page: u64, last: Option<u64>, value: u64) -> u64
     requires page { page < 2 ^ 62 }
-    requires means { (y : ℕ) × (y < 2 ^ 62) × (residual_of page last value ≡ Some y) }
+    requires means { (y : ℕ) × (y ≤ 2 ^ 62) × (residual_of page last value ≡ Some y) }
     ensures { residual_of page last value ≡ Some result }
 {
     match last {

@@ -6,6 +6,7 @@ ghost use Rattle.wg_graph.specs.Digraph.{successors};
 ghost use Rattle.wg_grammar.specs.Record.{Whole};
 ghost use Rattle.wg_grammar.specs.Archive.{Accepted, ReadsGraph};
 ghost use Rattle.wg_grammar.specs.Laws.{graph_of};
+ghost use Rattle.wg_iterators.specs.Laid.{list_or_none};
 ghost use Rattle.wg_random.specs.Reading.{Reading, known_at, offset_at};
 ghost use Rattle.wg_random.specs.Chain.{below_at};
 ghost use Rattle.wg_random.specs.Sweeping.{AreKept, IsNext, PassFinds};
@@ -24,7 +25,7 @@ use wg_stream::PagesError;
 /// The lists of an archive that was checked, decoded from its bits page after page, as often as one likes.
 ///
 /// It is seen as the graph of the archive, and the page whose list comes next. It holds rows for the lists that a
-/// reference may reach and for one list more, each with room for the greatest outdegree, 8 bytes a number; all are taken
+/// reference may reach and for two lists more, each with room for the greatest outdegree, 8 bytes a number; all are taken
 /// when it is made. A list then takes the time of its record's words and of the lists that it has and refers to.
 #[derive(Drop)]
 pub struct Sweep<'a> {
@@ -36,9 +37,12 @@ pub struct Sweep<'a> {
     kept: Vec<Row>,
     // the list of the last page
     list: Row,
+    // another row, at hand while a list is made
+    spare: Row,
 }
 
 impl<'a> Model for Sweep<'a> {
+    ghost use Rattle.std.specs.Prelude.{◌≡◌};
     ghost use Rattle.wg_graph.specs.Listing.{Listing};
     ghost use Rattle.wg_random.specs.Sweeping.{Sweeping};
 
@@ -50,7 +54,7 @@ impl<'a> Model for Sweep<'a> {
     } };
 
     ghost invariant = { λ s. Sweeping s.archive.params s.archive.bytes.now s.archive.graph.0 s.page s.at
-        s.kept.items s.list };
+        s.kept.items s.list × (s.spare.room ≡ s.list.room) };
 }
 
 // So many rows, each with this room.
@@ -87,8 +91,10 @@ fn keep(kept: &mut [Row], list: &mut Row, page: u64)
 fn list_back(kept: &[Row], page: u64, back: u64) -> Option<&[u64]>
     requires near { back ≤ page }
     requires reach { back ≤ length kept.now }
-    ensures { (records : ListOf Whole) → AreKept records page kept.now
+    ensures below { (records : ListOf Whole) → AreKept records page kept.now
         → option_copied result ≡ below_at records page back }
+    ensures within { (room : ℕ) → All (λ r. r.room ≡ room) kept.now
+        → length (list_or_none (option_copied result)) ≤ room }
 {
     if back == 0 {
         return None;
@@ -105,10 +111,13 @@ fn decode_page<'b>(
     page: u64,
     at: u64,
     kept: &'b [Row],
+    spare: &mut Row,
     list: &mut Row,
 ) -> u64
     requires short { length bytes.now ≤ MOST_BYTES }
     requires page { page < params.now.nodes }
+    requires rooms { All (λ r. r.room ≡ list.old.room) kept.now }
+    requires room { spare.old.room ≡ list.old.room }
     requires next { (r : Reading params.now (bits_of bytes.now))
         × IsNext params.now (bits_of bytes.now) r page at kept.now
         × (length (known_at r.records page).list ≤ list.old.room) }
@@ -117,13 +126,14 @@ fn decode_page<'b>(
     ensures end { (r : Reading params.now (bits_of bytes.now))
         → IsNext params.now (bits_of bytes.now) r page at kept.now → result ≡ offset_at r.records (page + 1) }
     ensures room { list.new.room ≡ list.old.room }
+    ensures spare { spare.new.room ≡ spare.old.room }
 {
     // tells the limits
     params.nodes();
     let mut cursor = Cursor::new(Bits::of(bytes), at);
     let back = reference(params, cursor.again());
     let below = list_back(kept, page, back);
-    decode_into(params, page, below, &mut cursor, list);
+    decode_into(params, page, below, &mut cursor, spare, list);
     cursor.at()
 }
 
@@ -164,12 +174,14 @@ impl<'a> Sweep<'a> {
     {
         let kept = rows(alloc, params.window().min(params.nodes()), room)?;
         let list = Row::new(alloc, room)?;
+        let spare = Row::new(alloc, room)?;
         Ok(Sweep {
             archive: Standing::of(bytes, params),
             page: 0,
             at: 0,
             kept,
             list,
+            spare,
         })
     }
 
@@ -188,6 +200,7 @@ impl<'a> Sweep<'a> {
             self.page,
             self.at,
             self.kept.as_slice(),
+            &mut self.spare,
             &mut self.list,
         );
         self.page += 1;

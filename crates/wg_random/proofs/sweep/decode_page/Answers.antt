@@ -35,24 +35,27 @@ pub decode_into-requires-clause-ascends : goal.decode_into-requires-clause-ascen
 decode_into-requires-clause-ascends c =
     let n = c.requires.next in
     let is = c.new-cursor.ensures ∙ ap (λ (b : List Bool). record { bits = b; at = c.args.at }) c.of.ensures in
-    (found_below c.args.params.now _ n.0 c.args.page c.args.at c.args.kept.now c.new-cursor.result c.again.result c.reference-back.result _ c.requires.page is c.again.ensures c.reference-back.ensures n.1 (c.list_back-below.ensures n.0.records n.1.before)).ascends
+    (found_below c.args.params.now _ n.0 c.args.page c.args.at c.args.kept.now c.new-cursor.result c.again.result c.reference-back.result _ c.requires.page is c.again.ensures c.reference-back.ensures n.1 (c.list_back-below.ensures.below n.0.records n.1.before)).ascends
 
 pub decode_into-requires-clause-proper : goal.decode_into-requires-clause-proper
 decode_into-requires-clause-proper c =
     let n = c.requires.next in
     let is = c.new-cursor.ensures ∙ ap (λ (b : List Bool). record { bits = b; at = c.args.at }) c.of.ensures in
-    let g = found_below c.args.params.now _ n.0 c.args.page c.args.at c.args.kept.now c.new-cursor.result c.again.result c.reference-back.result _ c.requires.page is c.again.ensures c.reference-back.ensures n.1 (c.list_back-below.ensures n.0.records n.1.before) in
+    let g = found_below c.args.params.now _ n.0 c.args.page c.args.at c.args.kept.now c.new-cursor.result c.again.result c.reference-back.result _ c.requires.page is c.again.ensures c.reference-back.ensures n.1 (c.list_back-below.ensures.below n.0.records n.1.before) in
     ((known_at n.0.records c.args.page).list, g.proper, n.2)
 
 pub returns-clause-list : goal.returns-clause-list
 returns-clause-list c r n =
     let is = c.new-cursor.ensures ∙ ap (λ (b : List Bool). record { bits = b; at = c.args.at }) c.of.ensures in
-    let g = found_below c.args.params.now _ r c.args.page c.args.at c.args.kept.now c.new-cursor.result c.again.result c.reference-back.result _ c.requires.page is c.again.ensures c.reference-back.ensures n (c.list_back-below.ensures r.records n.before) in
+    let g = found_below c.args.params.now _ r c.args.page c.args.at c.args.kept.now c.new-cursor.result c.again.result c.reference-back.result _ c.requires.page is c.again.ensures c.reference-back.ensures n (c.list_back-below.ensures.below r.records n.before) in
     c.decode_into.ensures.list (known_at r.records c.args.page).list g.proper
 
 pub returns-clause-end : goal.returns-clause-end
 returns-clause-end c r n =
     let is = c.new-cursor.ensures ∙ ap (λ (b : List Bool). record { bits = b; at = c.args.at }) c.of.ensures in
-    let g = found_below c.args.params.now _ r c.args.page c.args.at c.args.kept.now c.new-cursor.result c.again.result c.reference-back.result _ c.requires.page is c.again.ensures c.reference-back.ensures n (c.list_back-below.ensures r.records n.before) in
+    let g = found_below c.args.params.now _ r c.args.page c.args.at c.args.kept.now c.new-cursor.result c.again.result c.reference-back.result _ c.requires.page is c.again.ensures c.reference-back.ensures n (c.list_back-below.ensures.below r.records n.before) in
     let next : suc c.args.page ≡ c.args.page + 1 = omega arith in
     c.at.ensures.offset ∙ c.decode_into.ensures.end (known_at r.records c.args.page).list g.proper ∙ g.end ∙ ap (offset_at r.records) next
+
+pub decode_into-requires-clause-below : goal.decode_into-requires-clause-below
+decode_into-requires-clause-below c = c.list_back-below.ensures.within c.args.list.now.room c.requires.rooms

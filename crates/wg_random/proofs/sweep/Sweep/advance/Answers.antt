@@ -6,9 +6,19 @@ use Rattle.wg_random.specs.Sweeping.{AreKept, IsNext}
 use Rattle.wg_random.proofs.SweepLemmas.{written, fits_room}
 use Rattle.wg_random.proofs.sweep.Sweep.advance.Goals as goal
 
+pub decode_page-self-inside-requires-clause-rooms : goal.decode_page-self-inside-requires-clause-rooms
+decode_page-self-inside-requires-clause-rooms c =
+    let lists = c.as_mut_slice.ensures.value in
+    let rows : c.as_slice.result.now ≡ c.keep.new.kept =
+    c.as_slice.ensures.value ∙ written _ c.keep.new.kept _ (c.keep.ensures.count ∙ ap (λ (l : List Filled). length l) lists) (sym c.as_mut_slice.ensures.len ∙ ap (λ (l : List Filled). length l) lists) in
+    subst (λ (l : List Filled). All (λ r. r.room ≡ c.keep.new.list.room) l) (sym rows) (subst (λ (k : ℕ). All (λ r. r.room ≡ k) c.keep.new.kept) (sym c.keep.ensures.room) c.keep.ensures.rooms)
+
+pub decode_page-self-inside-requires-clause-room : goal.decode_page-self-inside-requires-clause-room
+decode_page-self-inside-requires-clause-room c = c.self.invariant.1 ∙ sym c.keep.ensures.room
+
 pub decode_page-self-inside-requires-clause-next : goal.decode_page-self-inside-requires-clause-next
 decode_page-self-inside-requires-clause-next c =
-    let h = c.self.invariant in
+    let h = c.self.invariant.0 in
     let lists = c.as_mut_slice.ensures.value in
     let rows : c.as_slice.result.now ≡ c.keep.new.kept =
     c.as_slice.ensures.value ∙ written _ c.keep.new.kept _ (c.keep.ensures.count ∙ ap (λ (l : List Filled). length l) lists) (sym c.as_mut_slice.ensures.len ∙ ap (λ (l : List Filled). length l) lists) in
@@ -24,7 +34,7 @@ decode_page-self-inside-requires-clause-next c =
 
 pub invariant_of-self : goal.invariant_of-self
 invariant_of-self c =
-    let h = c.self.invariant in
+    let h = c.self.invariant.0 in
     let lists = c.as_mut_slice.ensures.value in
     let rows = written c.self.inside.kept.len c.keep.new.kept c.self.inside.kept.items (c.keep.ensures.count ∙ ap (λ (l : List Filled). length l) lists) (sym c.as_mut_slice.ensures.len ∙ ap (λ (l : List Filled). length l) lists) in
     let lent : c.as_slice.result.now ≡ c.keep.new.kept = c.as_slice.ensures.value ∙ rows in
@@ -37,7 +47,7 @@ invariant_of-self c =
     } in
     let same : c.decode_page-self-inside.new.list.room ≡ c.self.inside.list.room = c.decode_page-self-inside.ensures.room ∙ c.keep.ensures.room in
     let page : c.self.inside.page ≡ c.self.inside.page + 1 - 1 = omega arith in
-    record {
+    (record {
       short = h.short;
       reading = h.reading;
       graph_is = h.graph_is;
@@ -49,4 +59,4 @@ invariant_of-self c =
       rooms = subst (λ (l : List Filled). All (λ r. r.room ≡ c.decode_page-self-inside.new.list.room) l) (sym rows) (subst (λ (k : ℕ). All (λ r. r.room ≡ k) c.keep.new.kept) (sym same) c.keep.ensures.rooms);
       last = λ _. c.decode_page-self-inside.ensures.list h.reading next ∙ ap (λ (k : ℕ). (known_at h.reading.records k).list) page;
       before = subst (AreKept h.reading.records (c.self.inside.page + 1 - 1)) (sym rows) (subst (λ (k : ℕ). AreKept h.reading.records k c.keep.new.kept) page kept);
-    }
+    }, c.decode_page-self-inside.ensures.spare ∙ c.self.invariant.1 ∙ sym same)

@@ -4,8 +4,8 @@ use Rattle.wg_random.proofs.sweep.SweepLists.begin.Goals as goal
 
 pub invariant_of-self : goal.invariant_of-self
 invariant_of-self c =
-    let h = c.self.invariant in
-    record {
+    let h = c.self.invariant.0 in
+    (record {
       short = h.short;
       reading = h.reading;
       graph_is = h.graph_is;
@@ -17,4 +17,4 @@ invariant_of-self c =
       rooms = h.rooms;
       last = λ some. absurd (omega (arith, some));
       before = kept_none h.reading.records _ _ (omega arith);
-    }
+    }, c.self.invariant.1)

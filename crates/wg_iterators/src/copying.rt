@@ -1,0 +1,70 @@
+//! The members that a record copies.
+ghost use Rattle.std.specs.Prelude.{◌≡◌, ℕ, ◌+◌, ◌%◌, ◌≤◌, ◌==◌, if◌then◌else◌, List, [], ◌++◌, Bool, length, sum};
+ghost use Rattle.wg_params.specs.Codes.{IsCode};
+ghost use Rattle.wg_bits.specs.Bits.{rest};
+ghost use Rattle.wg_graph.specs.Copied.{copied_members};
+ghost use Rattle.wg_blocks.specs.Stored.{blocks_of};
+ghost use Rattle.wg_iterators.specs.Laid.{WordsTo};
+
+use crate::passing::block_of;
+use crate::value::value;
+use wg_bits::Cursor;
+use wg_graph::Row;
+use wg_params::Code;
+
+// Adds numbers at the end.
+#[inline(always)]
+pub(crate) fn push_all(row: &mut Row, numbers: &[u64])
+    requires { length row.old.list + length numbers.now ≤ row.old.room }
+    ensures list { row.new.list ≡ row.old.list ++ numbers.now }
+    ensures room { row.new.room ≡ row.old.room }
+{
+    let mut left = numbers;
+    'numbers: while let Some((first, others)) = left.split_first() {
+        row.push(*first);
+        left = others;
+    }
+}
+
+// Adds every other run of members, from the first on.
+#[inline(always)]
+fn keep(row: &mut Row, run: &[u64], index: u64)
+    requires { length row.old.list + length run.now ≤ row.old.room }
+    ensures list { row.new.list ≡ row.old.list ++ (if index % 2 == 0 then run.now else []) }
+    ensures room { row.new.room ≡ row.old.room }
+    ensures fits { length row.new.list ≤ length row.old.list + length run.now }
+{
+    if index % 2 == 0 {
+        push_all(row, run);
+    }
+}
+
+// Adds the members that so many blocks copy. It reads their words.
+#[inline(always)]
+pub(crate) fn copy_members(
+    code: Code,
+    count: u64,
+    members: &[u64],
+    cursor: &mut Cursor<'_>,
+    row: &mut Row,
+)
+    requires code { IsCode code }
+    requires room { length row.old.list + length members.now ≤ row.old.room }
+    requires stand { (values : List ℕ) × (behind : List Bool) × (length values ≡ count)
+        × (sum (blocks_of values) ≤ length members.now) × WordsTo code values (rest cursor.old) behind }
+    ensures list { (values : List ℕ) (behind : List Bool) → length values ≡ count
+        → sum (blocks_of values) ≤ length members.now → WordsTo code values (rest cursor.old) behind
+        → row.new.list ≡ row.old.list ++ copied_members (blocks_of values) members.now }
+    ensures behind { (values : List ℕ) (behind : List Bool) → length values ≡ count
+        → sum (blocks_of values) ≤ length members.now → WordsTo code values (rest cursor.old) behind
+        → behind ≡ rest cursor.new }
+    ensures room { row.new.room ≡ row.old.room }
+{
+    let mut done = 0;
+    'copies: for index in 0..count {
+        let length = block_of(index, value(code, cursor)) as usize;
+        keep(row, &members[done..done + length], index);
+        done += length;
+    }
+    keep(row, &members[done..], count);
+}
