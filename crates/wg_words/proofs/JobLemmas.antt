@@ -8,12 +8,12 @@ use Rattle.wg_params.specs.declared.limits.TheConstants.{MOST_PAGES, MOST_DAMPIN
 use Rattle.wg_words.specs.Commands.{parsed}
 use Rattle.wg_words.specs.Files.{is_file_of, overwrites, IsNoFileOf, KeepsInputs, ShareNoFile}
 use Rattle.wg_words.specs.Layouts.{params_of}
-use Rattle.wg_words.specs.Values.{name_in, number_up_to, numbers_in, optional_name_in}
-use Rattle.wg_words.specs.Jobs.{show_on, rank_from, rank_with, rank_on, verify_on, build_from, build_on, import_from, import_on, conversion_from, conversion_of, conversion_in, recoding, transposing, job_on, job_on_base, job_from, job_of, IsConversion, IsWithin}
+use Rattle.wg_words.specs.Values.{name_in, number_up_to, numbers_in, optional_name_in, unlimited_in}
+use Rattle.wg_words.specs.Jobs.{show_on, spot_on, rank_from, rank_with, rank_on, verify_on, build_from, build_on, import_from, import_on, conversion_from, conversion_of, conversion_in, recoding, transposing, job_on, job_on_base, job_from, job_of, IsConversion, IsWithin}
 use Rattle.wg_words.specs.declared.conversion.Conversion.{Conversion}
 use Rattle.wg_words.specs.declared.defaults.TheConstants.{DEFAULT_DAMPING, DEFAULT_ROUNDS, DEFAULT_TOP}
 use Rattle.wg_words.specs.declared.jobs.Job.{Job}
-use Rattle.wg_words.specs.declared.jobs.Job.TheVariants.{Check, Arcs, Ascii, Offsets, Show, Rank, Verify, Build, Import, Recode, Transpose}
+use Rattle.wg_words.specs.declared.jobs.Job.TheVariants.{Check, Arcs, Ascii, Offsets, Show, Spot, Rank, Verify, Build, Import, Recode, Transpose}
 use Rattle.wg_words.specs.declared.layout.Layout.{Layout}
 use Rattle.wg_words.proofs.FileLemmas.{no_file, keeps_inputs, no_file_shared_unless}
 use Rattle.wg_words.proofs.LayoutLemmas.{layout_in_within}
@@ -25,6 +25,13 @@ show_on_within rows base job = made (numbers_in rows (codes "page"))
     made : (o : Option (List ℕ)) → option_map (Show base) o ≡ Some job → IsWithin job
     made None is = absurd (none-some job is)
     made (Some pages) is = subst IsWithin (same_Some (Show base pages) job is) tt
+
+spot_on_within : (rows : List Row) (base : Text) (job : Job) → spot_on rows base ≡ Some job → IsWithin job
+spot_on_within rows base job = made (unlimited_in rows (codes "page"))
+  where
+    made : (o : Option ℕ) → option_map (Spot base) o ≡ Some job → IsWithin job
+    made None is = absurd (none-some job is)
+    made (Some page) is = subst IsWithin (same_Some (Spot base page) job is) tt
 
 rank_from_within : (rows : List Row) (base : Text) (weights certificate : Option Text) (job : Job) → KeepsInputs base weights certificate → rank_from rows base weights certificate ≡ Some job → IsWithin job
 rank_from_within rows base weights certificate job apart is =
@@ -118,10 +125,11 @@ job_on_within command rows base job =
     (chosen_within (bytes_eq command (codes "ascii")) _ _ job (λ is. subst IsWithin (same_Some (Ascii base) job is) tt)
     (chosen_within (bytes_eq command (codes "offsets")) _ _ job (λ is. subst IsWithin (same_Some (Offsets base) job is) tt)
     (chosen_within (bytes_eq command (codes "show")) _ _ job (show_on_within rows base job)
+    (chosen_within (bytes_eq command (codes "spot")) _ _ job (spot_on_within rows base job)
     (chosen_within (bytes_eq command (codes "rank")) _ _ job (rank_on_within rows base job)
     (chosen_within (bytes_eq command (codes "verify")) _ _ job (verify_on_within rows base job)
     (chosen_within (bytes_eq command (codes "build")) _ _ job (build_on_within rows base job)
-    (chosen_within (bytes_eq command (codes "import")) _ _ job (import_on_within rows base job) (λ is. absurd (none-some job is))))))))))
+    (chosen_within (bytes_eq command (codes "import")) _ _ job (import_on_within rows base job) (λ is. absurd (none-some job is)))))))))))
 
 job_on_base_within : (command : Text) (rows : List Row) (job : Job) → job_on_base command rows ≡ Some job → IsWithin job
 job_on_base_within command rows job is =

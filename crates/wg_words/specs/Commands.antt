@@ -33,6 +33,10 @@ required_rule name = record (option_rule name) { required = true }
 abbrev pub show_app : App
 show_app = with_rule (archive_app (codes "show")) (several_rule (codes "page"))
 
+-- spot BASE PAGE
+abbrev pub spot_app : App
+spot_app = with_rule (archive_app (codes "spot")) (positional_rule (codes "page"))
+
 -- a command with one option more
 abbrev pub with_option : App → Text → App
 with_option a name = with_rule a (option_rule name)
@@ -102,8 +106,9 @@ with_command line command = with_subcommand line command.top
 -- the command line of the program
 abbrev pub command_app : App
 command_app =
-    with_command (with_command (with_command (with_command (with_command (with_command (with_command (with_command plain_app (archive_app (codes "ascii"))) show_app) rank_app) verify_app)
-    build_app) import_app) (conversion_app (codes "recode"))) (conversion_app (codes "transpose"))
+    with_command (with_command (with_command (with_command (with_command (with_command (with_command (with_command (with_command
+    plain_app (archive_app (codes "ascii"))) show_app) spot_app) rank_app) verify_app) build_app) import_app)
+    (conversion_app (codes "recode"))) (conversion_app (codes "transpose"))
 
 -- nothing where the words are refused
 abbrev pub where_empty : {X : Type 0} → Kinds → Option X → Option X

@@ -7,16 +7,20 @@ use Rattle.wg_params.specs.declared.limits.TheConstants.{MOST_PAGES, MOST_DAMPIN
 use Rattle.wg_words.specs.Commands.{parsed}
 use Rattle.wg_words.specs.Files.{is_file_of, overwrites, IsNoFileOf, KeepsInputs, ShareNoFile}
 use Rattle.wg_words.specs.Layouts.{params_of, layout_in}
-use Rattle.wg_words.specs.Values.{name_in, number_in, numbers_in, optional_name_in, required_in}
+use Rattle.wg_words.specs.Values.{name_in, number_in, numbers_in, optional_name_in, required_in, unlimited_in}
 use Rattle.wg_words.specs.declared.conversion.Conversion.{Conversion}
 use Rattle.wg_words.specs.declared.defaults.TheConstants.{DEFAULT_DAMPING, DEFAULT_ROUNDS, DEFAULT_TOP}
 use Rattle.wg_words.specs.declared.jobs.Job.{Job}
-use Rattle.wg_words.specs.declared.jobs.Job.TheVariants.{Check, Arcs, Ascii, Offsets, Show, Rank, Verify, Build, Import, Recode, Transpose}
+use Rattle.wg_words.specs.declared.jobs.Job.TheVariants.{Check, Arcs, Ascii, Offsets, Show, Spot, Rank, Verify, Build, Import, Recode, Transpose}
 use Rattle.wg_words.specs.declared.layout.Layout.{Layout}
 
 -- the successors of the pages of an archive that the words name, in their order
 abbrev pub show_on : List Row → Text → Option Job
 show_on rows base = option_map (Show base) (numbers_in rows (codes "page"))
+
+-- the successors of the page of an archive that the words name, where the archive is not checked
+abbrev pub spot_on : List Row → Text → Option Job
+spot_on rows base = option_map (Spot base) (unlimited_in rows (codes "page"))
 
 -- the ranking of an archive, with the numbers that the options give
 abbrev pub rank_from : List Row → Text → Option Text → Option Text → Option Job
@@ -97,6 +101,7 @@ job_on command rows base =
     else if bytes_eq command (codes "ascii") then Some (Ascii base)
     else if bytes_eq command (codes "offsets") then Some (Offsets base)
     else if bytes_eq command (codes "show") then show_on rows base
+    else if bytes_eq command (codes "spot") then spot_on rows base
     else if bytes_eq command (codes "rank") then rank_on rows base
     else if bytes_eq command (codes "verify") then verify_on rows base
     else if bytes_eq command (codes "build") then build_on rows base

@@ -1,13 +1,13 @@
 ghost use Rattle.std.specs.Prelude.{◌≡◌, Some, None, IfOk, IfErr, option_and_then, map, string_bytes};
 ghost use Rattle.clap.specs.Words.{subcommand_rows_of, rows_of, found_of};
 ghost use Rattle.wg_words.specs.Commands.{parsed};
-ghost use Rattle.wg_words.specs.Jobs.{job_of, job_from, job_on_base, job_on, show_on, rank_from, rank_on, verify_on, build_on, build_from, import_on, import_from, recoding, transposing, IsWithin};
+ghost use Rattle.wg_words.specs.Jobs.{job_of, job_from, job_on_base, job_on, show_on, spot_on, rank_from, rank_on, verify_on, build_on, build_from, import_on, import_from, recoding, transposing, IsWithin};
 
 use crate::commands::command;
 use crate::conversion::{Conversion, conversion_at};
 use crate::files::{is_file_of, overwrites};
 use crate::options::layout_at;
-use crate::values::{name_at, number_at, numbers_at, optional_name_at, required_at};
+use crate::values::{name_at, number_at, numbers_at, optional_name_at, required_at, unlimited_at};
 use crate::{DEFAULT_DAMPING, DEFAULT_ROUNDS, DEFAULT_TOP, Job, JobError, Name, Words};
 use clap::ArgMatches;
 use clap::error::ErrorKind;
@@ -112,6 +112,7 @@ fn job_on(
         "ascii" => Ok(Some(Job::Ascii { base })),
         "offsets" => Ok(Some(Job::Offsets { base })),
         "show" => show_on(alloc, found, base),
+        "spot" => Ok(spot_on(found, base)),
         "rank" => rank_on(alloc, found, base),
         "verify" => verify_on(alloc, found, base),
         "build" => build_on(alloc, found, base),
@@ -128,6 +129,14 @@ fn show_on(alloc: Global, found: &ArgMatches<'_>, base: Name) -> Result<Option<J
         return Ok(None);
     };
     Ok(Some(Job::Show { base, pages }))
+}
+
+// The successors of the page that the words name, of an archive that is not checked.
+fn spot_on(found: &ArgMatches<'_>, base: Name) -> Option<Job>
+    ensures { result ≡ spot_on (rows_of (found_of found.now)) base }
+{
+    let page = unlimited_at(found, "page")?;
+    Some(Job::Spot { base, page })
 }
 
 // The ranking of an archive, with weights and a certificate if the options name them: the certificate is none of the files that

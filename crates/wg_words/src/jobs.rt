@@ -27,6 +27,12 @@ pub enum Job {
         base: Name,
         pages: List,
     },
+    /// `spot BASE PAGE`: the successors of this page of an archive that is not checked. The page is any number below 2^64,
+    /// also one that the archive does not have.
+    Spot {
+        base: Name,
+        page: u64,
+    },
     /// `rank BASE`: bounds of each page's PageRank after so many rounds at a damping in thousandths, and the order of the `top`
     /// best pages. The numbers are at most `wg_params::MOST_ROUNDS`, `wg_params::MOST_DAMPING` and `wg_params::MOST_PAGES`.
     /// Teleport goes to each page alike, or by the file of weights. The lower bounds may be written to a certificate, which is

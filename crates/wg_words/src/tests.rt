@@ -56,6 +56,10 @@ fn described(alloc: Global, job: &Job) -> Result<String, Fail> {
             let text = format!(in alloc; "show {pages:?}")?;
             Ok(named(alloc, text.as_str(), base)?)
         }
+        Job::Spot { base, page } => {
+            let text = format!(in alloc; "spot {page}")?;
+            Ok(named(alloc, text.as_str(), base)?)
+        }
         Job::Rank {
             base,
             rounds,

@@ -1,7 +1,7 @@
 //! Lines that ask for a job, with what it is, and lines that ask for none.
 
 // Of an archive that is read: the command, the numbers, and the graph file.
-pub const JOBS: [(&str, &str); 21] = [
+pub const JOBS: [(&str, &str); 22] = [
     ("check g", "check g.graph"),
     ("check data/a.b", "check data/a.b.graph"),
     ("check -", "check -.graph"),
@@ -15,6 +15,10 @@ pub const JOBS: [(&str, &str); 21] = [
     (
         "show -- -g 18446744073709551615",
         "show [18446744073709551615] -g.graph",
+    ),
+    (
+        "spot -- -g 18446744073709551615",
+        "spot 18446744073709551615 -g.graph",
     ),
     ("rank g", "rank 100 850 10 none none g.graph"),
     (
@@ -40,7 +44,7 @@ pub const JOBS: [(&str, &str); 21] = [
     ("verify --weights c g.graph c", "verify c c g.graph.graph"),
 ];
 
-pub const NO_JOBS: [&str; 48] = [
+pub const NO_JOBS: [&str; 52] = [
     "check",
     "arcs g h",
     "ascii",
@@ -55,6 +59,10 @@ pub const NO_JOBS: [&str; 48] = [
     "show g 1 18446744073709551616",
     "show  1",
     "show g --page 1",
+    "spot g",
+    "spot g 1 2",
+    "spot g 18446744073709551616",
+    "spot  1",
     "rank",
     "rank g --rounds",
     "rank g --rounds 10001",
