@@ -9,11 +9,11 @@ use Rattle.wg_words.specs.Commands.{parsed}
 use Rattle.wg_words.specs.Files.{is_file_of, overwrites, IsNoFileOf, KeepsInputs, ShareNoFile}
 use Rattle.wg_words.specs.Layouts.{params_of}
 use Rattle.wg_words.specs.Values.{name_in, number_up_to, numbers_in, optional_name_in, unlimited_in}
-use Rattle.wg_words.specs.Jobs.{show_on, spot_on, rank_from, rank_with, rank_on, verify_on, build_from, build_on, import_from, import_on, conversion_from, conversion_of, conversion_in, recoding, transposing, job_on, job_on_base, job_from, job_of, IsConversion, IsWithin}
+use Rattle.wg_words.specs.Jobs.{show_on, spot_on, rank_from, rank_with, rank_on, verify_on, build_from, build_on, import_from, import_on, conversion_from, conversion_of, conversion_in, quotient_by, quotient_on, quotient_in, recoding, transposing, job_on, job_on_base, job_from, job_of, IsConversion, IsWithin}
 use Rattle.wg_words.specs.declared.conversion.Conversion.{Conversion}
 use Rattle.wg_words.specs.declared.defaults.TheConstants.{DEFAULT_DAMPING, DEFAULT_ROUNDS, DEFAULT_TOP}
 use Rattle.wg_words.specs.declared.jobs.Job.{Job}
-use Rattle.wg_words.specs.declared.jobs.Job.TheVariants.{Check, Arcs, Ascii, Offsets, Show, Spot, Rank, Verify, Build, Import, Recode, Transpose}
+use Rattle.wg_words.specs.declared.jobs.Job.TheVariants.{Check, Arcs, Ascii, Offsets, Show, Spot, Rank, Verify, Build, Import, Quotient, Recode, Transpose}
 use Rattle.wg_words.specs.declared.layout.Layout.{Layout}
 use Rattle.wg_words.proofs.FileLemmas.{no_file, keeps_inputs, no_file_shared_unless}
 use Rattle.wg_words.proofs.LayoutLemmas.{layout_in_within}
@@ -108,6 +108,21 @@ conversion_in_within : (rows : List Row) (c : Conversion) → conversion_in rows
 conversion_in_within rows c is =
     option_and_then_some (conversion_of rows) (name_in rows (codes "in")) c is (λ input _ then_output. conversion_of_within rows input c then_output)
 
+quotient_by_within : (rows : List Row) (c : Conversion) (map : Text) (job : Job) → IsProper c → IsNoFileOf c.output map → quotient_by rows c map ≡ Some job → IsWithin job
+quotient_by_within rows c map job proper apart is =
+    option_and_then_some _ _ job is (λ classes is_classes job_is.
+    let few : classes ≤ MOST_PAGES = option_and_then_some (number_up_to MOST_PAGES) (first_of (codes "classes") rows) classes is_classes (λ text _ found. up_to_within MOST_PAGES text classes found) in
+    subst IsWithin (same_Some (Quotient c.input map c.output classes c.layout) job job_is) (few, proper, apart))
+
+quotient_on_within : (rows : List Row) (c : Conversion) (job : Job) → IsProper c → quotient_on rows c ≡ Some job → IsWithin job
+quotient_on_within rows c job proper is =
+    option_and_then_some _ _ job is (λ map _ unless_file.
+    some_unless IsWithin (is_file_of c.output map) (quotient_by rows c map) job (λ other. quotient_by_within rows c map job proper (no_file c.output map other)) unless_file)
+
+quotient_in_within : (rows : List Row) (job : Job) → quotient_in rows ≡ Some job → IsWithin job
+quotient_in_within rows job is =
+    option_and_then_some (quotient_on rows) (conversion_in rows) job is (λ c is_conversion then_map. quotient_on_within rows c job (conversion_in_within rows c is_conversion) then_map)
+
 -- the job of a conversion is within its limits, as the conversion is
 mapped_within : (make : Conversion → Job) → ((c : Conversion) → IsProper c → IsWithin (make c)) → (o : Option Conversion) → ((c : Conversion) → o ≡ Some c → IsProper c) → (job : Job) → option_map make o ≡ Some job → IsWithin job
 mapped_within make makes None within job is = absurd (none-some job is)
@@ -137,9 +152,10 @@ job_on_base_within command rows job is =
 
 job_from_within : (command : Text) (rows : List Row) (job : Job) → job_from (command, rows) ≡ Some job → IsWithin job
 job_from_within command rows job =
-    chosen_within (bytes_eq command (codes "recode")) _ _ job (mapped_within recoding (λ c within. within) (conversion_in rows) (conversion_in_within rows) job)
+    chosen_within (bytes_eq command (codes "quotient")) _ _ job (quotient_in_within rows job)
+    (chosen_within (bytes_eq command (codes "recode")) _ _ job (mapped_within recoding (λ c within. within) (conversion_in rows) (conversion_in_within rows) job)
     (chosen_within (bytes_eq command (codes "transpose")) _ _ job (mapped_within transposing (λ c within. within) (conversion_in rows) (conversion_in_within rows) job)
-    (job_on_base_within command rows job))
+    (job_on_base_within command rows job)))
 
 pub job_within : (words : List Text) (job : Job) → job_of words ≡ Some job → IsWithin job
 job_within words job is =
@@ -155,6 +171,10 @@ build_within words arcs base nodes layout is = job_within words (Build arcs base
 
 pub import_within : (words : List Text) (text base : Text) (layout : Layout) → job_of words ≡ Some (Import text base layout) → IsWithinLimits (params_of layout 0 0) × IsNoFileOf base text
 import_within words text base layout is = job_within words (Import text base layout) is
+
+pub quotient_within : (words : List Text) (input map output : Text) (classes : ℕ) (layout : Layout) → job_of words ≡ Some (Quotient input map output classes layout)
+    → (classes ≤ MOST_PAGES) × IsConversion input output layout × IsNoFileOf output map
+quotient_within words input map output classes layout is = job_within words (Quotient input map output classes layout) is
 
 -- what a caller knows of a command that reads one archive and writes another
 pub recode_within : (words : List Text) (input output : Text) (layout : Layout) → job_of words ≡ Some (Recode input output layout) → IsConversion input output layout

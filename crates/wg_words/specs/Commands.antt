@@ -83,6 +83,18 @@ plain_import_app = with_rule (with_rule (new_app (codes "import")) (positional_r
 abbrev pub import_app : App
 import_app = with_layout plain_import_app
 
+-- quotient IN MAP OUT
+abbrev pub mapped_app : App
+mapped_app = with_rule (with_rule (with_rule (new_app (codes "quotient")) (positional_rule (codes "in"))) (positional_rule (codes "map"))) (positional_rule (codes "out"))
+
+-- quotient IN MAP OUT --classes C
+abbrev pub plain_quotient_app : App
+plain_quotient_app = with_rule mapped_app (required_rule (codes "classes"))
+
+-- the same with the options that say how the archive OUT is written
+abbrev pub quotient_app : App
+quotient_app = with_layout plain_quotient_app
+
 -- NAME IN OUT
 abbrev pub two_archives_app : Text → App
 two_archives_app name = with_rule (with_rule (new_app name) (positional_rule (codes "in"))) (positional_rule (codes "out"))
@@ -107,8 +119,10 @@ with_command line command = with_subcommand line command.top
 abbrev pub command_app : App
 command_app =
     with_command (with_command (with_command (with_command (with_command (with_command (with_command (with_command (with_command
-    plain_app (archive_app (codes "ascii"))) show_app) spot_app) rank_app) verify_app) build_app) import_app)
-    (conversion_app (codes "recode"))) (conversion_app (codes "transpose"))
+    (with_command plain_app
+    (archive_app (codes "ascii"))) show_app) spot_app) rank_app) verify_app) build_app) import_app) quotient_app)
+    (conversion_app (codes "recode")))
+    (conversion_app (codes "transpose"))
 
 -- nothing where the words are refused
 abbrev pub where_empty : {X : Type 0} → Kinds → Option X → Option X

@@ -11,7 +11,7 @@ use Rattle.wg_words.specs.Values.{name_in, number_in, numbers_in, optional_name_
 use Rattle.wg_words.specs.declared.conversion.Conversion.{Conversion}
 use Rattle.wg_words.specs.declared.defaults.TheConstants.{DEFAULT_DAMPING, DEFAULT_ROUNDS, DEFAULT_TOP}
 use Rattle.wg_words.specs.declared.jobs.Job.{Job}
-use Rattle.wg_words.specs.declared.jobs.Job.TheVariants.{Check, Arcs, Ascii, Offsets, Show, Spot, Rank, Verify, Build, Import, Recode, Transpose}
+use Rattle.wg_words.specs.declared.jobs.Job.TheVariants.{Check, Arcs, Ascii, Offsets, Show, Spot, Rank, Verify, Build, Import, Quotient, Recode, Transpose}
 use Rattle.wg_words.specs.declared.layout.Layout.{Layout}
 
 -- the successors of the pages of an archive that the words name, in their order
@@ -93,6 +93,22 @@ recoding c = Recode c.input c.output c.layout
 abbrev pub transposing : Conversion → Job
 transposing c = Transpose c.input c.output c.layout
 
+-- the quotient of an archive by a map, with as many classes as the option gives
+abbrev pub quotient_by : List Row → Conversion → Text → Option Job
+quotient_by rows c map =
+    option_and_then (λ classes. Some (Quotient c.input map c.output classes c.layout))
+    (required_in rows (codes "classes") MOST_PAGES)
+
+-- the same by a map that is none of the files that are written
+abbrev pub quotient_on : List Row → Conversion → Option Job
+quotient_on rows c =
+    option_and_then (λ map. if is_file_of c.output map then None else quotient_by rows c map)
+    (name_in rows (codes "map"))
+
+-- the quotient that the words ask for
+abbrev pub quotient_in : List Row → Option Job
+quotient_in rows = option_and_then (quotient_on rows) (conversion_in rows)
+
 -- the job of a command on one archive
 abbrev pub job_on : Text → List Row → Text → Option Job
 job_on command rows base =
@@ -115,7 +131,8 @@ job_on_base command rows = option_and_then (job_on command rows) (name_in rows (
 -- the job of a command by its matches
 abbrev pub job_from : Text × List Row → Option Job
 job_from found =
-    if bytes_eq found.0 (codes "recode") then option_map recoding (conversion_in found.1)
+    if bytes_eq found.0 (codes "quotient") then quotient_in found.1
+    else if bytes_eq found.0 (codes "recode") then option_map recoding (conversion_in found.1)
     else if bytes_eq found.0 (codes "transpose") then option_map transposing (conversion_in found.1)
     else job_on_base found.0 found.1
 
@@ -133,6 +150,7 @@ IsWithin (Rank base rounds damping top weights certificate) =
     (rounds ≤ MOST_ROUNDS) × (damping ≤ MOST_DAMPING) × (top ≤ MOST_PAGES) × KeepsInputs base weights certificate
 IsWithin (Build arcs base nodes layout) = (nodes ≤ MOST_PAGES) × IsWithinLimits (params_of layout nodes 0) × IsNoFileOf base arcs
 IsWithin (Import text base layout) = IsWithinLimits (params_of layout 0 0) × IsNoFileOf base text
+IsWithin (Quotient input map output classes layout) = (classes ≤ MOST_PAGES) × IsConversion input output layout × IsNoFileOf output map
 IsWithin (Recode input output layout) = IsConversion input output layout
 IsWithin (Transpose input output layout) = IsConversion input output layout
 IsWithin _ = ⊤

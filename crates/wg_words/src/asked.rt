@@ -1,7 +1,7 @@
 ghost use Rattle.std.specs.Prelude.{◌≡◌, Some, None, IfOk, IfErr, option_and_then, map, string_bytes};
 ghost use Rattle.clap.specs.Words.{subcommand_rows_of, rows_of, found_of};
 ghost use Rattle.wg_words.specs.Commands.{parsed};
-ghost use Rattle.wg_words.specs.Jobs.{job_of, job_from, job_on_base, job_on, show_on, spot_on, rank_from, rank_on, verify_on, build_on, build_from, import_on, import_from, recoding, transposing, IsWithin};
+ghost use Rattle.wg_words.specs.Jobs.{job_of, job_from, job_on_base, job_on, show_on, spot_on, rank_from, rank_on, verify_on, build_on, build_from, import_on, import_from, quotient_in, quotient_on, quotient_by, recoding, transposing, IsWithin};
 
 use crate::commands::command;
 use crate::conversion::{Conversion, conversion_at};
@@ -57,10 +57,52 @@ fn job_from(alloc: Global, command: &str, found: &ArgMatches<'_>) -> Result<Opti
     ensures { IfOk result (λ job. job ≡ job_from (command.now, rows_of (found_of found.now))) }
 {
     match command {
+        "quotient" => quotient_in(alloc, found),
         "recode" => Ok(conversion_at(alloc, found)?.map(recoding)),
         "transpose" => Ok(conversion_at(alloc, found)?.map(transposing)),
         _ => job_on_base(alloc, command, found),
     }
+}
+
+// The quotient that the words ask for.
+fn quotient_in(alloc: Global, found: &ArgMatches<'_>) -> Result<Option<Job>, AllocError>
+    ensures { IfOk result (λ job. job ≡ quotient_in (rows_of (found_of found.now))) }
+{
+    let Some(conversion) = conversion_at(alloc, found)? else {
+        return Ok(None);
+    };
+    quotient_on(alloc, found, conversion)
+}
+
+// The quotient of an archive by a map that is none of the files that are written.
+fn quotient_on(
+    alloc: Global,
+    found: &ArgMatches<'_>,
+    conversion: Conversion,
+) -> Result<Option<Job>, AllocError>
+    ensures { IfOk result (λ job. job ≡ quotient_on (rows_of (found_of found.now)) conversion) }
+{
+    let Some(map) = name_at(alloc, found, "map")? else {
+        return Ok(None);
+    };
+    if is_file_of(conversion.output.as_str(), map.as_str()) {
+        return Ok(None);
+    }
+    Ok(quotient_by(found, conversion, map))
+}
+
+// The quotient of an archive by a map, with as many classes as the option gives.
+fn quotient_by(found: &ArgMatches<'_>, conversion: Conversion, map: Name) -> Option<Job>
+    ensures { result ≡ quotient_by (rows_of (found_of found.now)) conversion map }
+{
+    let classes = required_at(found, "classes", MOST_PAGES)?;
+    Some(Job::Quotient {
+        input: conversion.input,
+        map,
+        output: conversion.output,
+        classes,
+        layout: conversion.layout,
+    })
 }
 
 fn recoding(conversion: Conversion) -> Job

@@ -1,7 +1,7 @@
 //! The commands of the program with their options and positionals: a function each, as the definitions have an `App` each.
 ghost use Rattle.std.specs.Prelude.{◌≡◌, IfOk, false};
 ghost use Rattle.clap.specs.Words.{App, rule_of};
-ghost use Rattle.wg_words.specs.Commands.{IsApp, positional_rule, several_rule, base_rule, archive_app, option_rule, required_rule, show_app, spot_app, plain_rank_app, rank_app, verify_app, with_option, with_limits, with_codes, with_layout, plain_build_app, build_app, plain_import_app, import_app, two_archives_app, conversion_app, program_app, plain_app, with_command, command_app};
+ghost use Rattle.wg_words.specs.Commands.{IsApp, positional_rule, several_rule, base_rule, archive_app, option_rule, required_rule, show_app, spot_app, plain_rank_app, rank_app, verify_app, with_option, with_limits, with_codes, with_layout, plain_build_app, build_app, plain_import_app, import_app, mapped_app, plain_quotient_app, quotient_app, two_archives_app, conversion_app, program_app, plain_app, with_command, command_app};
 
 use clap::{Arg, Command};
 use std::alloc::{AllocError, Global};
@@ -165,6 +165,30 @@ fn import<'a>(alloc: Global) -> Result<Command<'a>, AllocError>
     with_layout(alloc, command)
 }
 
+// The names of `quotient`: two archives, and a map between them.
+fn mapped<'a>(alloc: Global) -> Result<Command<'a>, AllocError>
+    ensures { IfOk result (IsApp mapped_app) }
+{
+    Command::new(alloc, "quotient")
+        .arg(positional(alloc, "in"))?
+        .arg(positional(alloc, "map"))?
+        .arg(positional(alloc, "out"))
+}
+
+// `quotient` without the options that say how the archive is written.
+fn plain_quotient<'a>(alloc: Global) -> Result<Command<'a>, AllocError>
+    ensures { IfOk result (IsApp plain_quotient_app) }
+{
+    mapped(alloc)?.arg(required(alloc, "classes"))
+}
+
+fn quotient<'a>(alloc: Global) -> Result<Command<'a>, AllocError>
+    ensures { IfOk result (IsApp quotient_app) }
+{
+    let command = plain_quotient(alloc)?;
+    with_layout(alloc, command)
+}
+
 // A command on two archives.
 fn on_two_archives<'a>(alloc: Global, name: &'a str) -> Result<Command<'a>, AllocError>
     ensures { IfOk result (IsApp (two_archives_app name.now)) }
@@ -229,6 +253,8 @@ pub fn command<'a>(alloc: Global) -> Result<Command<'a>, AllocError>
     let line = with_command(line, build)?;
     let import = import(alloc)?;
     let line = with_command(line, import)?;
+    let quotient = quotient(alloc)?;
+    let line = with_command(line, quotient)?;
     let recode = conversion(alloc, "recode")?;
     let line = with_command(line, recode)?;
     let transpose = conversion(alloc, "transpose")?;

@@ -67,6 +67,17 @@ pub enum Job {
         base: Name,
         layout: Layout,
     },
+    /// `quotient IN MAP OUT --classes C`: the archive OUT of the graph of C classes of the pages of the archive IN. The
+    /// file MAP has a line for each page with the number of its class, and an arc leads from class to class exactly if
+    /// one leads from a page of the first to a page of the second. The classes are at most `wg_params::MOST_PAGES`. The
+    /// layout and the names of the archives are as for `recode`, and MAP is none of the files of OUT.
+    Quotient {
+        input: Name,
+        map: Name,
+        output: Name,
+        classes: u64,
+        layout: Layout,
+    },
     /// `recode IN OUT`: the archive OUT of the graph of the archive IN. The layout is within the limits of `wg_params`, and the
     /// two names differ, so that no file of IN is one of OUT.
     Recode {

@@ -5,7 +5,9 @@ use std::test::Fail;
 
 mod lines;
 
-use lines::{BUILDS, CONVERSIONS, JOBS, NO_BUILDS, NO_CONVERSIONS, NO_JOBS};
+use lines::{
+    BUILDS, CONVERSIONS, JOBS, NO_BUILDS, NO_CONVERSIONS, NO_JOBS, NO_QUOTIENTS, QUOTIENTS,
+};
 
 // The words of a line, parted by blanks.
 fn words_of(alloc: Global, line: &str) -> Result<Words, AllocError> {
@@ -93,6 +95,17 @@ fn described(alloc: Global, job: &Job) -> Result<String, Fail> {
             with_layout(alloc, text.as_str(), arcs, layout, base)
         }
         Job::Import { text, base, layout } => with_layout(alloc, "import", text, layout, base),
+        Job::Quotient {
+            input,
+            map,
+            output,
+            classes,
+            layout,
+        } => {
+            let map = map.as_str();
+            let text = format!(in alloc; "quotient {classes} {map}")?;
+            with_layout(alloc, text.as_str(), input, layout, output)
+        }
         Job::Recode {
             input,
             output,
@@ -124,6 +137,7 @@ fn each_asks(rt: &impl Abort, alloc: Global, table: &[(&str, &str)]) -> Result<(
 fn lines_that_ask_for_a_job(rt: HostRuntime) -> Result<(), Fail> {
     each_asks(&rt, rt.alloc(), &JOBS)?;
     each_asks(&rt, rt.alloc(), &BUILDS)?;
+    each_asks(&rt, rt.alloc(), &QUOTIENTS)?;
     each_asks(&rt, rt.alloc(), &CONVERSIONS)
 }
 
@@ -144,5 +158,6 @@ fn none_asks(rt: &impl Abort, alloc: Global, table: &[&str]) -> Result<(), Fail>
 fn lines_that_ask_for_none(rt: HostRuntime) -> Result<(), Fail> {
     none_asks(&rt, rt.alloc(), &NO_JOBS)?;
     none_asks(&rt, rt.alloc(), &NO_BUILDS)?;
+    none_asks(&rt, rt.alloc(), &NO_QUOTIENTS)?;
     none_asks(&rt, rt.alloc(), &NO_CONVERSIONS)
 }

@@ -154,6 +154,35 @@ pub const NO_BUILDS: [&str; 28] = [
     "check a --window 1",
 ];
 
+// Of a graph of classes: how many they are, the map, the archive that is read, and the layout too.
+pub const QUOTIENTS: [(&str, &str); 2] = [
+    (
+        "quotient g m h --classes 68719476735",
+        "quotient 68719476735 m g Layout { window: 7, chain: Some(3), interval: 4, zeta: 3, outdegrees: Gamma, references: Unary, block_counts: Gamma, blocks: Gamma, residuals: Zeta(3), offsets: Gamma } h.graph",
+    ),
+    (
+        "quotient --classes=0 --window 0 -- -g g h.txt",
+        "quotient 0 g -g Layout { window: 0, chain: Some(3), interval: 4, zeta: 3, outdegrees: Gamma, references: Unary, block_counts: Gamma, blocks: Gamma, residuals: Zeta(3), offsets: Gamma } h.txt.graph",
+    ),
+];
+
+pub const NO_QUOTIENTS: [&str; 14] = [
+    "quotient g m h",
+    "quotient g h --classes 1",
+    "quotient g m h i --classes 1",
+    "quotient g m h --classes 68719476736",
+    "quotient g m h --classes x",
+    "quotient g m h --classes 1 --classes 1",
+    "quotient g m h --classes 1 --nodes 1",
+    "quotient g m h --classes 1 --offsets nibble",
+    "quotient g m g --classes 1",
+    "quotient g h.properties h --classes 1",
+    "quotient g h.graph h --classes 1",
+    "quotient g h.offsets h --classes 1",
+    "quotient g  h --classes 1",
+    "quotient  m h --classes 1",
+];
+
 // Of an archive that is written again: the archive that is read and the layout too.
 pub const CONVERSIONS: [(&str, &str); 5] = [
     (

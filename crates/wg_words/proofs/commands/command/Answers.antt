@@ -9,5 +9,6 @@ returns c =
     let with_verify = c.in_ok-line-6.ensures _ _ with_rank c.in_ok-verify.ensures in
     let with_build = c.in_ok-line-7.ensures _ _ with_verify c.in_ok-build.ensures in
     let with_import = c.in_ok-line-8.ensures _ _ with_build c.in_ok-import.ensures in
-    let with_recode = c.in_ok-line-9.ensures _ _ with_import c.in_ok-recode.ensures in
+    let with_quotient = c.in_ok-line-9.ensures _ _ with_import c.in_ok-quotient.ensures in
+    let with_recode = c.in_ok-line-9.ensures _ _ with_quotient c.in_ok-recode.ensures in
     c.with_command-9.ensures _ _ with_recode c.in_ok-transpose.ensures
