@@ -9,11 +9,11 @@ use Rattle.wg_words.specs.Commands.{parsed}
 use Rattle.wg_words.specs.Files.{is_file_of, overwrites, IsNoFileOf, KeepsInputs, ShareNoFile}
 use Rattle.wg_words.specs.Layouts.{params_of}
 use Rattle.wg_words.specs.Values.{name_in, number_up_to, numbers_in, optional_name_in, unlimited_in}
-use Rattle.wg_words.specs.Jobs.{show_on, spot_on, rank_from, rank_with, rank_on, verify_on, build_from, build_on, import_from, import_on, conversion_from, conversion_of, conversion_in, quotient_by, quotient_on, quotient_in, recoding, transposing, job_on, job_on_base, job_from, job_of, IsConversion, IsWithin}
+use Rattle.wg_words.specs.Jobs.{show_on, spot_on, rank_from, rank_with, rank_on, verify_on, build_from, build_on, import_from, import_on, conversion_from, conversion_of, conversion_in, quotient_by, quotient_on, quotient_in, recoding, union_with, union_of, union_in, transposing, job_on, job_on_base, job_from, job_of, IsConversion, IsWithin}
 use Rattle.wg_words.specs.declared.conversion.Conversion.{Conversion}
 use Rattle.wg_words.specs.declared.defaults.TheConstants.{DEFAULT_DAMPING, DEFAULT_ROUNDS, DEFAULT_TOP}
 use Rattle.wg_words.specs.declared.jobs.Job.{Job}
-use Rattle.wg_words.specs.declared.jobs.Job.TheVariants.{Check, Arcs, Ascii, Offsets, Show, Spot, Rank, Verify, Build, Import, Quotient, Recode, Transpose}
+use Rattle.wg_words.specs.declared.jobs.Job.TheVariants.{Check, Arcs, Ascii, Offsets, Show, Spot, Rank, Verify, Build, Import, Quotient, Recode, Union, Transpose}
 use Rattle.wg_words.specs.declared.layout.Layout.{Layout}
 use Rattle.wg_words.proofs.FileLemmas.{no_file, keeps_inputs, no_file_shared_unless}
 use Rattle.wg_words.proofs.LayoutLemmas.{layout_in_within}
@@ -128,6 +128,17 @@ mapped_within : (make : Conversion → Job) → ((c : Conversion) → IsProper c
 mapped_within make makes None within job is = absurd (none-some job is)
 mapped_within make makes (Some c) within job is = subst IsWithin (same_Some (make c) job is) (makes c (within c refl))
 
+union_with_within : (c : Conversion) (second : Text) (job : Job) → IsProper c → union_with c second ≡ Some job → IsWithin job
+union_with_within c second job within =
+    some_unless IsWithin (bytes_eq second c.output) (Some (Union c.input second c.output c.layout)) job
+    (λ other is. subst IsWithin (same_Some (Union c.input second c.output c.layout) job is) (within, no_file_shared_unless second c.output other))
+
+union_in_within : (rows : List Row) (job : Job) → union_in rows ≡ Some job → IsWithin job
+union_in_within rows job is =
+    option_and_then_some (union_of rows) (conversion_in rows) job is (λ c is_conversion then_second.
+    option_and_then_some (union_with c) (name_in rows (codes "second")) job then_second (λ second _ unless_same.
+    union_with_within c second job (conversion_in_within rows c is_conversion) unless_same))
+
 -- one of two answers
 chosen_within : (b : Bool) (first other : Option Job) (job : Job) → (first ≡ Some job → IsWithin job) → (other ≡ Some job → IsWithin job) → cond b first other ≡ Some job → IsWithin job
 chosen_within true first other job by_first by_other is = by_first is
@@ -154,6 +165,7 @@ job_from_within : (command : Text) (rows : List Row) (job : Job) → job_from (c
 job_from_within command rows job =
     chosen_within (bytes_eq command (codes "quotient")) _ _ job (quotient_in_within rows job)
     (chosen_within (bytes_eq command (codes "recode")) _ _ job (mapped_within recoding (λ c within. within) (conversion_in rows) (conversion_in_within rows) job)
+    (chosen_within (bytes_eq command (codes "union")) _ _ job (union_in_within rows job)
     (chosen_within (bytes_eq command (codes "transpose")) _ _ job (mapped_within transposing (λ c within. within) (conversion_in rows) (conversion_in_within rows) job)
     (job_on_base_within command rows job)))
 
@@ -179,6 +191,10 @@ quotient_within words input map output classes layout is = job_within words (Quo
 -- what a caller knows of a command that reads one archive and writes another
 pub recode_within : (words : List Text) (input output : Text) (layout : Layout) → job_of words ≡ Some (Recode input output layout) → IsConversion input output layout
 recode_within words input output layout is = job_within words (Recode input output layout) is
+
+-- what a caller knows of a union
+pub union_within : (words : List Text) (first second output : Text) (layout : Layout) → job_of words ≡ Some (Union first second output layout) → IsConversion first output layout × ShareNoFile second output
+union_within words first second output layout is = job_within words (Union first second output layout) is
 
 pub transpose_within : (words : List Text) (input output : Text) (layout : Layout) → job_of words ≡ Some (Transpose input output layout) → IsConversion input output layout
 transpose_within words input output layout is = job_within words (Transpose input output layout) is

@@ -103,6 +103,15 @@ two_archives_app name = with_rule (with_rule (new_app name) (positional_rule (co
 abbrev pub conversion_app : Text → App
 conversion_app name = with_layout (two_archives_app name)
 
+-- union IN SECOND OUT
+abbrev pub plain_union_app : App
+plain_union_app =
+    with_rule (with_rule (with_rule (new_app (codes "union")) (positional_rule (codes "in"))) (positional_rule (codes "second"))) (positional_rule (codes "out"))
+
+-- the same with the options that say how the archive OUT is written
+abbrev pub union_app : App
+union_app = with_layout plain_union_app
+
 -- one level of subcommands, of which one is required
 abbrev pub program_app : App
 program_app = record (new_app (codes "webgraph")) { top = record (new_app (codes "webgraph")).top { no_binary_name = true; subcommand_required = true } }
@@ -119,10 +128,11 @@ with_command line command = with_subcommand line command.top
 abbrev pub command_app : App
 command_app =
     with_command (with_command (with_command (with_command (with_command (with_command (with_command (with_command (with_command
-    (with_command plain_app
+    (with_command (with_command
+    plain_app
     (archive_app (codes "ascii"))) show_app) spot_app) rank_app) verify_app) build_app) import_app) quotient_app)
     (conversion_app (codes "recode")))
-    (conversion_app (codes "transpose"))
+    union_app) (conversion_app (codes "transpose"))
 
 -- nothing where the words are refused
 abbrev pub where_empty : {X : Type 0} → Kinds → Option X → Option X

@@ -11,7 +11,7 @@ use Rattle.wg_words.specs.Values.{name_in, number_in, numbers_in, optional_name_
 use Rattle.wg_words.specs.declared.conversion.Conversion.{Conversion}
 use Rattle.wg_words.specs.declared.defaults.TheConstants.{DEFAULT_DAMPING, DEFAULT_ROUNDS, DEFAULT_TOP}
 use Rattle.wg_words.specs.declared.jobs.Job.{Job}
-use Rattle.wg_words.specs.declared.jobs.Job.TheVariants.{Check, Arcs, Ascii, Offsets, Show, Spot, Rank, Verify, Build, Import, Quotient, Recode, Transpose}
+use Rattle.wg_words.specs.declared.jobs.Job.TheVariants.{Check, Arcs, Ascii, Offsets, Show, Spot, Rank, Verify, Build, Import, Quotient, Recode, Union, Transpose}
 use Rattle.wg_words.specs.declared.layout.Layout.{Layout}
 
 -- the successors of the pages of an archive that the words name, in their order
@@ -90,6 +90,17 @@ conversion_in rows = option_and_then (conversion_of rows) (name_in rows (codes "
 abbrev pub recoding : Conversion → Job
 recoding c = Recode c.input c.output c.layout
 
+-- the union of two archives, of which the first was taken for a conversion and the second has not the name of what is written
+abbrev pub union_with : Conversion → Text → Option Job
+union_with c second = if bytes_eq second c.output then None else Some (Union c.input second c.output c.layout)
+
+abbrev pub union_of : List Row → Conversion → Option Job
+union_of rows c = option_and_then (union_with c) (name_in rows (codes "second"))
+
+-- the union that the words ask for
+abbrev pub union_in : List Row → Option Job
+union_in rows = option_and_then (union_of rows) (conversion_in rows)
+
 abbrev pub transposing : Conversion → Job
 transposing c = Transpose c.input c.output c.layout
 
@@ -133,6 +144,7 @@ abbrev pub job_from : Text × List Row → Option Job
 job_from found =
     if bytes_eq found.0 (codes "quotient") then quotient_in found.1
     else if bytes_eq found.0 (codes "recode") then option_map recoding (conversion_in found.1)
+    else if bytes_eq found.0 (codes "union") then union_in found.1
     else if bytes_eq found.0 (codes "transpose") then option_map transposing (conversion_in found.1)
     else job_on_base found.0 found.1
 
@@ -152,5 +164,6 @@ IsWithin (Build arcs base nodes layout) = (nodes ≤ MOST_PAGES) × IsWithinLimi
 IsWithin (Import text base layout) = IsWithinLimits (params_of layout 0 0) × IsNoFileOf base text
 IsWithin (Quotient input map output classes layout) = (classes ≤ MOST_PAGES) × IsConversion input output layout × IsNoFileOf output map
 IsWithin (Recode input output layout) = IsConversion input output layout
+IsWithin (Union first second output layout) = IsConversion first output layout × ShareNoFile second output
 IsWithin (Transpose input output layout) = IsConversion input output layout
 IsWithin _ = ⊤

@@ -1,7 +1,7 @@
 ghost use Rattle.std.specs.Prelude.{◌≡◌, Some, None, IfOk, IfErr, option_and_then, map, string_bytes};
 ghost use Rattle.clap.specs.Words.{subcommand_rows_of, rows_of, found_of};
 ghost use Rattle.wg_words.specs.Commands.{parsed};
-ghost use Rattle.wg_words.specs.Jobs.{job_of, job_from, job_on_base, job_on, show_on, spot_on, rank_from, rank_on, verify_on, build_on, build_from, import_on, import_from, quotient_in, quotient_on, quotient_by, recoding, transposing, IsWithin};
+ghost use Rattle.wg_words.specs.Jobs.{job_of, job_from, job_on_base, job_on, show_on, spot_on, rank_from, rank_on, verify_on, build_on, build_from, import_on, import_from, quotient_in, quotient_on, quotient_by, recoding, union_with, union_in, transposing, IsWithin};
 
 use crate::commands::command;
 use crate::conversion::{Conversion, conversion_at};
@@ -59,6 +59,7 @@ fn job_from(alloc: Global, command: &str, found: &ArgMatches<'_>) -> Result<Opti
     match command {
         "quotient" => quotient_in(alloc, found),
         "recode" => Ok(conversion_at(alloc, found)?.map(recoding)),
+        "union" => union_at(alloc, found),
         "transpose" => Ok(conversion_at(alloc, found)?.map(transposing)),
         _ => job_on_base(alloc, command, found),
     }
@@ -113,6 +114,34 @@ fn recoding(conversion: Conversion) -> Job
         output: conversion.output,
         layout: conversion.layout,
     }
+}
+
+// The union of two archives: the first and what is written are taken as for a conversion.
+fn union_at(alloc: Global, found: &ArgMatches<'_>) -> Result<Option<Job>, AllocError>
+    ensures { IfOk result (λ job. job ≡ union_in (rows_of (found_of found.now))) }
+{
+    let Some(conversion) = conversion_at(alloc, found)? else {
+        return Ok(None);
+    };
+    let Some(second) = name_at(alloc, found, "second")? else {
+        return Ok(None);
+    };
+    Ok(union_with(conversion, second))
+}
+
+// The union of two archives, unless the second has the name of what is written.
+fn union_with(conversion: Conversion, second: Name) -> Option<Job>
+    ensures { result ≡ union_with conversion second }
+{
+    if second.as_str() == conversion.output.as_str() {
+        return None;
+    }
+    Some(Job::Union {
+        first: conversion.input,
+        second,
+        output: conversion.output,
+        layout: conversion.layout,
+    })
 }
 
 fn transposing(conversion: Conversion) -> Job

@@ -85,6 +85,15 @@ pub enum Job {
         output: Name,
         layout: Layout,
     },
+    /// `union A B OUT`: the archive OUT of the union of the graphs of the archives A and B, which may be one. The
+    /// layout is within the limits of `wg_params`, and OUT is neither of the two names, so that no file of A or B is
+    /// one of OUT.
+    Union {
+        first: Name,
+        second: Name,
+        output: Name,
+        layout: Layout,
+    },
     /// `transpose IN OUT`: the archive OUT of the graph of the archive IN with each arc the other way round. The layout and the
     /// names are as for `recode`.
     Transpose {

@@ -111,6 +111,16 @@ fn described(alloc: Global, job: &Job) -> Result<String, Fail> {
             output,
             layout,
         } => with_layout(alloc, "recode", input, layout, output),
+        Job::Union {
+            first,
+            second,
+            output,
+            layout,
+        } => {
+            let text = format!(in alloc; "union {} {}", first.as_str(), second.as_str())?;
+            let text = format!(in alloc; "{text} {layout:?}")?;
+            Ok(named(alloc, text.as_str(), output)?)
+        }
         Job::Transpose {
             input,
             output,

@@ -184,7 +184,7 @@ pub const NO_QUOTIENTS: [&str; 14] = [
 ];
 
 // Of an archive that is written again: the archive that is read and the layout too.
-pub const CONVERSIONS: [(&str, &str); 5] = [
+pub const CONVERSIONS: [(&str, &str); 7] = [
     (
         "recode g h",
         "recode g Layout { window: 7, chain: Some(3), interval: 4, zeta: 3, outdegrees: Gamma, references: Unary, block_counts: Gamma, blocks: Gamma, residuals: Zeta(3), offsets: Gamma } h.graph",
@@ -205,9 +205,17 @@ pub const CONVERSIONS: [(&str, &str); 5] = [
         "recode g ./g",
         "recode g Layout { window: 7, chain: Some(3), interval: 4, zeta: 3, outdegrees: Gamma, references: Unary, block_counts: Gamma, blocks: Gamma, residuals: Zeta(3), offsets: Gamma } ./g.graph",
     ),
+    (
+        "union g h k --window 1",
+        "union g h Layout { window: 1, chain: Some(3), interval: 4, zeta: 3, outdegrees: Gamma, references: Unary, block_counts: Gamma, blocks: Gamma, residuals: Zeta(3), offsets: Gamma } k.graph",
+    ),
+    (
+        "union -- g g -",
+        "union g g Layout { window: 7, chain: Some(3), interval: 4, zeta: 3, outdegrees: Gamma, references: Unary, block_counts: Gamma, blocks: Gamma, residuals: Zeta(3), offsets: Gamma } -.graph",
+    ),
 ];
 
-pub const NO_CONVERSIONS: [&str; 21] = [
+pub const NO_CONVERSIONS: [&str; 27] = [
     "recode g g",
     "transpose g g",
     "recode --window 1 -- g g",
@@ -222,6 +230,12 @@ pub const NO_CONVERSIONS: [&str; 21] = [
     "recode g h --rounds 1",
     "recode  h",
     "recode g ",
+    "union g h",
+    "union g h k l",
+    "union g h g",
+    "union g h h",
+    "union g  k",
+    "union g h k --nodes 1",
     "transpose  h",
     "transpose g ",
     "recode g h --window 65536",
