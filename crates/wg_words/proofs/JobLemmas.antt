@@ -5,15 +5,16 @@ use Rattle.std.proofs.lemmas.Option.{none-some, same_Some, option_and_then_some}
 use Rattle.clap.specs.Words.{Row, Text, first_of}
 use Rattle.wg_params.specs.Parameters.{IsWithinLimits}
 use Rattle.wg_params.specs.declared.limits.TheConstants.{MOST_PAGES, MOST_DAMPING, MOST_ROUNDS}
+use Rattle.wg_vectors.specs.declared.generating.TheConstants.{MOST_GENERATED}
 use Rattle.wg_words.specs.Commands.{parsed}
 use Rattle.wg_words.specs.Files.{is_file_of, overwrites, IsNoFileOf, KeepsInputs, ShareNoFile}
 use Rattle.wg_words.specs.Layouts.{params_of}
 use Rattle.wg_words.specs.Values.{name_in, number_up_to, numbers_in, optional_name_in, unlimited_in}
-use Rattle.wg_words.specs.Jobs.{show_on, spot_on, rank_from, rank_with, rank_on, verify_on, build_from, build_on, import_from, import_on, conversion_from, conversion_of, conversion_in, quotient_by, quotient_on, quotient_in, recoding, union_with, union_of, union_in, transposing, job_on, job_on_base, job_from, job_of, IsConversion, IsWithin}
+use Rattle.wg_words.specs.Jobs.{show_on, spot_on, rank_from, rank_with, rank_on, verify_on, build_from, build_on, import_from, import_on, conversion_from, conversion_of, conversion_in, quotient_by, quotient_on, quotient_in, recoding, union_with, union_of, union_in, transposing, bulk_in, job_on, job_on_base, job_from, job_of, IsConversion, IsWithin}
 use Rattle.wg_words.specs.declared.conversion.Conversion.{Conversion}
 use Rattle.wg_words.specs.declared.defaults.TheConstants.{DEFAULT_DAMPING, DEFAULT_ROUNDS, DEFAULT_TOP}
 use Rattle.wg_words.specs.declared.jobs.Job.{Job}
-use Rattle.wg_words.specs.declared.jobs.Job.TheVariants.{Check, Arcs, Ascii, Offsets, Show, Spot, Rank, Verify, Build, Import, Quotient, Recode, Union, Transpose}
+use Rattle.wg_words.specs.declared.jobs.Job.TheVariants.{Check, Arcs, Ascii, Offsets, Show, Spot, Rank, Verify, Build, Import, Quotient, Recode, Union, Transpose, Bulk}
 use Rattle.wg_words.specs.declared.layout.Layout.{Layout}
 use Rattle.wg_words.proofs.FileLemmas.{no_file, keeps_inputs, no_file_shared_unless}
 use Rattle.wg_words.proofs.LayoutLemmas.{layout_in_within}
@@ -144,6 +145,13 @@ chosen_within : (b : Bool) (first other : Option Job) (job : Job) → (first ≡
 chosen_within true first other job by_first by_other is = by_first is
 chosen_within false first other job by_first by_other is = by_other is
 
+bulk_in_within : (rows : List Row) (job : Job) → bulk_in rows ≡ Some job → IsWithin job
+bulk_in_within rows job is =
+    option_and_then_some _ _ job is (λ seed _ then_pages.
+    option_and_then_some _ _ job then_pages (λ pages is_pages job_is.
+    let few : pages ≤ MOST_GENERATED = option_and_then_some (number_up_to MOST_GENERATED) (first_of (codes "pages") rows) pages is_pages (λ text _ found. up_to_within MOST_GENERATED text pages found) in
+    subst IsWithin (same_Some (Bulk seed pages) job job_is) few))
+
 job_on_within : (command : Text) (rows : List Row) (base : Text) (job : Job) → job_on command rows base ≡ Some job → IsWithin job
 job_on_within command rows base job =
     chosen_within (bytes_eq command (codes "check")) _ _ job (λ is. subst IsWithin (same_Some (Check base) job is) tt)
@@ -167,6 +175,7 @@ job_from_within command rows job =
     (chosen_within (bytes_eq command (codes "recode")) _ _ job (mapped_within recoding (λ c within. within) (conversion_in rows) (conversion_in_within rows) job)
     (chosen_within (bytes_eq command (codes "union")) _ _ job (union_in_within rows job)
     (chosen_within (bytes_eq command (codes "transpose")) _ _ job (mapped_within transposing (λ c within. within) (conversion_in rows) (conversion_in_within rows) job)
+    (chosen_within (bytes_eq command (codes "bulk")) _ _ job (bulk_in_within rows job)
     (job_on_base_within command rows job)))
 
 pub job_within : (words : List Text) (job : Job) → job_of words ≡ Some job → IsWithin job
@@ -198,3 +207,7 @@ union_within words first second output layout is = job_within words (Union first
 
 pub transpose_within : (words : List Text) (input output : Text) (layout : Layout) → job_of words ≡ Some (Transpose input output layout) → IsConversion input output layout
 transpose_within words input output layout is = job_within words (Transpose input output layout) is
+
+-- what a caller knows of a generated graph
+pub bulk_within : (words : List Text) (seed pages : ℕ) → job_of words ≡ Some (Bulk seed pages) → pages ≤ MOST_GENERATED
+bulk_within words seed pages is = job_within words (Bulk seed pages) is

@@ -112,6 +112,10 @@ plain_union_app =
 abbrev pub union_app : App
 union_app = with_layout plain_union_app
 
+-- bulk SEED N
+abbrev pub bulk_app : App
+bulk_app = with_rule (with_rule (new_app (codes "bulk")) (positional_rule (codes "seed"))) (positional_rule (codes "pages"))
+
 -- one level of subcommands, of which one is required
 abbrev pub program_app : App
 program_app = record (new_app (codes "webgraph")) { top = record (new_app (codes "webgraph")).top { no_binary_name = true; subcommand_required = true } }
@@ -127,12 +131,10 @@ with_command line command = with_subcommand line command.top
 -- the command line of the program
 abbrev pub command_app : App
 command_app =
-    with_command (with_command (with_command (with_command (with_command (with_command (with_command (with_command (with_command
-    (with_command (with_command
-    plain_app
-    (archive_app (codes "ascii"))) show_app) spot_app) rank_app) verify_app) build_app) import_app) quotient_app)
-    (conversion_app (codes "recode")))
-    union_app) (conversion_app (codes "transpose"))
+    with_command (with_command (with_command (with_command (with_command (with_command (with_command (with_command
+    (with_command (with_command (with_command (with_command
+    plain_app (archive_app (codes "ascii"))) show_app) spot_app) rank_app) verify_app) build_app) import_app) quotient_app)
+    (conversion_app (codes "recode"))) union_app) (conversion_app (codes "transpose"))) bulk_app
 
 -- nothing where the words are refused
 abbrev pub where_empty : {X : Type 0} → Kinds → Option X → Option X

@@ -4,14 +4,15 @@ use Rattle.std.specs.Str.{bytes_eq}
 use Rattle.clap.specs.Words.{Row, Text}
 use Rattle.wg_params.specs.Parameters.{IsWithinLimits}
 use Rattle.wg_params.specs.declared.limits.TheConstants.{MOST_PAGES, MOST_DAMPING, MOST_ROUNDS}
+use Rattle.wg_vectors.specs.declared.generating.TheConstants.{MOST_GENERATED}
 use Rattle.wg_words.specs.Commands.{parsed}
 use Rattle.wg_words.specs.Files.{is_file_of, overwrites, IsNoFileOf, KeepsInputs, ShareNoFile}
 use Rattle.wg_words.specs.Layouts.{params_of, layout_in}
-use Rattle.wg_words.specs.Values.{name_in, number_in, numbers_in, optional_name_in, required_in, unlimited_in}
+use Rattle.wg_words.specs.Values.{any_in, name_in, number_in, numbers_in, optional_name_in, required_in, unlimited_in}
 use Rattle.wg_words.specs.declared.conversion.Conversion.{Conversion}
 use Rattle.wg_words.specs.declared.defaults.TheConstants.{DEFAULT_DAMPING, DEFAULT_ROUNDS, DEFAULT_TOP}
 use Rattle.wg_words.specs.declared.jobs.Job.{Job}
-use Rattle.wg_words.specs.declared.jobs.Job.TheVariants.{Check, Arcs, Ascii, Offsets, Show, Spot, Rank, Verify, Build, Import, Quotient, Recode, Union, Transpose}
+use Rattle.wg_words.specs.declared.jobs.Job.TheVariants.{Check, Arcs, Ascii, Offsets, Show, Spot, Rank, Verify, Build, Import, Quotient, Recode, Union, Transpose, Bulk}
 use Rattle.wg_words.specs.declared.layout.Layout.{Layout}
 
 -- the successors of the pages of an archive that the words name, in their order
@@ -120,6 +121,14 @@ quotient_on rows c =
 abbrev pub quotient_in : List Row → Option Job
 quotient_in rows = option_and_then (quotient_on rows) (conversion_in rows)
 
+-- what an archive of a generated graph comes to, with the seed and the pages that the words give
+abbrev pub bulk_in : List Row → Option Job
+bulk_in rows =
+    option_and_then (λ seed.
+    option_and_then (λ pages. Some (Bulk seed pages))
+    (required_in rows (codes "pages") MOST_GENERATED))
+    (any_in rows (codes "seed"))
+
 -- the job of a command on one archive
 abbrev pub job_on : Text → List Row → Text → Option Job
 job_on command rows base =
@@ -146,6 +155,7 @@ job_from found =
     else if bytes_eq found.0 (codes "recode") then option_map recoding (conversion_in found.1)
     else if bytes_eq found.0 (codes "union") then union_in found.1
     else if bytes_eq found.0 (codes "transpose") then option_map transposing (conversion_in found.1)
+    else if bytes_eq found.0 (codes "bulk") then bulk_in found.1
     else job_on_base found.0 found.1
 
 -- the job of the words: none where clap refuses them, or where a part of the job is out of its range
@@ -166,4 +176,5 @@ IsWithin (Quotient input map output classes layout) = (classes ≤ MOST_PAGES) �
 IsWithin (Recode input output layout) = IsConversion input output layout
 IsWithin (Union first second output layout) = IsConversion first output layout × ShareNoFile second output
 IsWithin (Transpose input output layout) = IsConversion input output layout
+IsWithin (Bulk seed pages) = pages ≤ MOST_GENERATED
 IsWithin _ = ⊤

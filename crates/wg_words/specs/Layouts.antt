@@ -27,6 +27,21 @@ params_of l pages links = record {
   offsets = l.offsets;
 }
 
+-- how an archive is written where no option says otherwise
+abbrev pub default_layout : Layout
+default_layout = record {
+  window = DEFAULT_WINDOW;
+  chain = Some DEFAULT_CHAIN;
+  interval = DEFAULT_INTERVAL;
+  zeta = DEFAULT_ZETA;
+  outdegrees = Gamma;
+  references = Unary;
+  block_counts = Gamma;
+  blocks = Gamma;
+  residuals = Zeta DEFAULT_ZETA;
+  offsets = Gamma;
+}
+
 -- none for no limit, or the limit
 abbrev pub chain_of : Text → Option (Option ℕ)
 chain_of text = if bytes_eq text (codes "none") then Some None else option_map (λ n. Some n) (number_up_to MOST_CHAIN text)

@@ -1,18 +1,19 @@
 ghost use Rattle.std.specs.Prelude.{◌≡◌, Some, None, IfOk, IfErr, option_and_then, map, string_bytes};
 ghost use Rattle.clap.specs.Words.{subcommand_rows_of, rows_of, found_of};
 ghost use Rattle.wg_words.specs.Commands.{parsed};
-ghost use Rattle.wg_words.specs.Jobs.{job_of, job_from, job_on_base, job_on, show_on, spot_on, rank_from, rank_on, verify_on, build_on, build_from, import_on, import_from, quotient_in, quotient_on, quotient_by, recoding, union_with, union_in, transposing, IsWithin};
+ghost use Rattle.wg_words.specs.Jobs.{job_of, job_from, job_on_base, job_on, show_on, spot_on, rank_from, rank_on, verify_on, build_on, build_from, import_on, import_from, quotient_in, quotient_on, quotient_by, recoding, union_with, union_in, transposing, bulk_in, IsWithin};
 
 use crate::commands::command;
 use crate::conversion::{Conversion, conversion_at};
 use crate::files::{is_file_of, overwrites};
 use crate::options::layout_at;
-use crate::values::{name_at, number_at, numbers_at, optional_name_at, required_at, unlimited_at};
+use crate::values::{any_at, name_at, number_at, numbers_at, optional_name_at, required_at, unlimited_at};
 use crate::{DEFAULT_DAMPING, DEFAULT_ROUNDS, DEFAULT_TOP, Job, JobError, Name, Words};
 use clap::ArgMatches;
 use clap::error::ErrorKind;
 use std::alloc::{AllocError, Global};
 use wg_params::{MOST_DAMPING, MOST_PAGES, MOST_ROUNDS};
+use wg_vectors::MOST_GENERATED;
 
 /// The job of the words. It takes memory for `clap`'s tables and for the names of the job.
 pub fn job(alloc: Global, words: &Words) -> Result<Job, JobError>
@@ -61,6 +62,7 @@ fn job_from(alloc: Global, command: &str, found: &ArgMatches<'_>) -> Result<Opti
         "recode" => Ok(conversion_at(alloc, found)?.map(recoding)),
         "union" => union_at(alloc, found),
         "transpose" => Ok(conversion_at(alloc, found)?.map(transposing)),
+        "bulk" => Ok(bulk_at(found)),
         _ => job_on_base(alloc, command, found),
     }
 }
@@ -152,6 +154,15 @@ fn transposing(conversion: Conversion) -> Job
         output: conversion.output,
         layout: conversion.layout,
     }
+}
+
+// What an archive of a generated graph comes to, with the seed and the pages that the words give.
+fn bulk_at(found: &ArgMatches<'_>) -> Option<Job>
+    ensures { result ≡ bulk_in (rows_of (found_of found.now)) }
+{
+    let seed = any_at(found, "seed")?;
+    let pages = required_at(found, "pages", MOST_GENERATED)?;
+    Some(Job::Bulk { seed, pages })
 }
 
 // The job of a command on one archive, which the words name.

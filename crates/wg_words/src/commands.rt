@@ -1,7 +1,7 @@
 //! The commands of the program with their options and positionals: a function each, as the definitions have an `App` each.
 ghost use Rattle.std.specs.Prelude.{◌≡◌, IfOk, false};
 ghost use Rattle.clap.specs.Words.{App, rule_of};
-ghost use Rattle.wg_words.specs.Commands.{IsApp, positional_rule, several_rule, base_rule, archive_app, option_rule, required_rule, show_app, spot_app, plain_rank_app, rank_app, verify_app, with_option, with_limits, with_codes, with_layout, plain_build_app, build_app, plain_import_app, import_app, mapped_app, plain_quotient_app, quotient_app, two_archives_app, conversion_app, plain_union_app, union_app, program_app, plain_app, with_command, command_app};
+ghost use Rattle.wg_words.specs.Commands.{IsApp, positional_rule, several_rule, base_rule, archive_app, option_rule, required_rule, show_app, spot_app, plain_rank_app, rank_app, verify_app, with_option, with_limits, with_codes, with_layout, plain_build_app, build_app, plain_import_app, import_app, mapped_app, plain_quotient_app, quotient_app, two_archives_app, conversion_app, plain_union_app, union_app, bulk_app, program_app, plain_app, with_command, command_app};
 
 use clap::{Arg, Command};
 use std::alloc::{AllocError, Global};
@@ -224,6 +224,15 @@ fn union_command<'a>(alloc: Global) -> Result<Command<'a>, AllocError>
     with_layout(alloc, command)
 }
 
+// A command on a generated graph, which reads and writes no file.
+fn bulk<'a>(alloc: Global) -> Result<Command<'a>, AllocError>
+    ensures { IfOk result (IsApp bulk_app) }
+{
+    Command::new(alloc, "bulk")
+        .arg(positional(alloc, "seed"))?
+        .arg(positional(alloc, "pages"))
+}
+
 fn program<'a>(alloc: Global) -> Command<'a>
     ensures { IsApp program_app result }
 {
@@ -278,5 +287,7 @@ pub fn command<'a>(alloc: Global) -> Result<Command<'a>, AllocError>
     let union = union_command(alloc)?;
     let line = with_command(line, union)?;
     let transpose = conversion(alloc, "transpose")?;
-    with_command(line, transpose)
+    let line = with_command(line, transpose)?;
+    let bulk = bulk(alloc)?;
+    with_command(line, bulk)
 }

@@ -101,6 +101,12 @@ pub enum Job {
         output: Name,
         layout: Layout,
     },
+    /// `bulk SEED N`: what an archive of the generated graph of so many pages comes to. The seed is any number below
+    /// 2^64, the pages are at most `wg_vectors::MOST_GENERATED`. No file is read or written.
+    Bulk {
+        seed: u64,
+        pages: u64,
+    },
 }
 
 /// Why there is no job.

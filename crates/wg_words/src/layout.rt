@@ -1,3 +1,8 @@
+ghost use Rattle.std.specs.Prelude.{◌≡◌, [], Some};
+ghost use Rattle.wg_params.specs.Parameters.{IsWithinLimits};
+ghost use Rattle.wg_words.specs.Layouts.{default_layout, layout_in, params_of};
+
+use crate::defaults::{DEFAULT_CHAIN, DEFAULT_INTERVAL, DEFAULT_WINDOW, DEFAULT_ZETA};
 use wg_params::Code;
 
 /// How an archive is written, whatever graph it holds: all its parameters but the numbers of its pages and arcs.
@@ -17,4 +22,26 @@ pub struct Layout {
     pub blocks: Code,
     pub residuals: Code,
     pub offsets: Code,
+}
+
+impl Layout {
+    /// The layout where no option says otherwise.
+    pub fn usual() -> Layout
+        ensures value { result ≡ default_layout }
+        ensures given { layout_in [] ≡ Some result }
+        ensures within { IsWithinLimits (params_of result 0 0) }
+    {
+        Layout {
+            window: DEFAULT_WINDOW,
+            chain: Some(DEFAULT_CHAIN),
+            interval: DEFAULT_INTERVAL,
+            zeta: DEFAULT_ZETA,
+            outdegrees: Code::Gamma,
+            references: Code::Unary,
+            block_counts: Code::Gamma,
+            blocks: Code::Gamma,
+            residuals: Code::Zeta(DEFAULT_ZETA),
+            offsets: Code::Gamma,
+        }
+    }
 }

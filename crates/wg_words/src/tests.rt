@@ -126,6 +126,7 @@ fn described(alloc: Global, job: &Job) -> Result<String, Fail> {
             output,
             layout,
         } => with_layout(alloc, "transpose", input, layout, output),
+        Job::Bulk { seed, pages } => Ok(format!(in alloc; "bulk {seed} {pages}")?),
     }
 }
 

@@ -1,7 +1,7 @@
 //! Lines that ask for a job, with what it is, and lines that ask for none.
 
 // Of an archive that is read: the command, the numbers, and the graph file.
-pub const JOBS: [(&str, &str); 22] = [
+pub const JOBS: [(&str, &str); 24] = [
     ("check g", "check g.graph"),
     ("check data/a.b", "check data/a.b.graph"),
     ("check -", "check -.graph"),
@@ -42,9 +42,14 @@ pub const JOBS: [(&str, &str); 22] = [
     ),
     ("verify g c", "verify c none g.graph"),
     ("verify --weights c g.graph c", "verify c c g.graph.graph"),
+    ("bulk 7 0", "bulk 7 0"),
+    (
+        "bulk 18446744073709551615 16777216",
+        "bulk 18446744073709551615 16777216",
+    ),
 ];
 
-pub const NO_JOBS: [&str; 52] = [
+pub const NO_JOBS: [&str; 57] = [
     "check",
     "arcs g h",
     "ascii",
@@ -97,6 +102,11 @@ pub const NO_JOBS: [&str; 52] = [
     "chec g",
     "g",
     "",
+    "bulk 1",
+    "bulk 1 16777217",
+    "bulk 18446744073709551616 1",
+    "bulk 1 2 3",
+    "bulk 1 01",
 ];
 
 // Of an archive that is built: the file that holds the graph, the pages if they are told, and the layout too.

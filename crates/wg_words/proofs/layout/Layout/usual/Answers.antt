@@ -1,0 +1,9 @@
+use Rattle.std.proofs.Common.{[], refl, arith}
+use Rattle.wg_words.proofs.LayoutLemmas.{layout_in_within}
+use Rattle.wg_words.proofs.layout.Layout.usual.Goals as goal
+
+pub returns-clause-given : goal.returns-clause-given
+returns-clause-given c = refl
+
+pub returns-clause-within : goal.returns-clause-within
+returns-clause-within c = layout_in_within [] _ 0 (omega arith) refl
