@@ -7,7 +7,9 @@ use crate::commands::command;
 use crate::conversion::{Conversion, conversion_at};
 use crate::files::{is_file_of, overwrites};
 use crate::options::layout_at;
-use crate::values::{any_at, name_at, number_at, numbers_at, optional_name_at, required_at, unlimited_at};
+use crate::values::{
+    any_at, name_at, number_at, numbers_at, optional_name_at, required_at, unlimited_at,
+};
 use crate::{DEFAULT_DAMPING, DEFAULT_ROUNDS, DEFAULT_TOP, Job, JobError, Name, Words};
 use clap::ArgMatches;
 use clap::error::ErrorKind;
