@@ -1,4 +1,4 @@
--- There is one function that reads all graph files, one that reads all offsets files, one that ranks all bounds, one that reads all arc lists, and one that reads all plain texts.
+-- There is one function that reads all graph files, one that reads all offsets files, one that reads all pages, one that ranks all bounds, one that reads all arc lists, and one that reads all plain texts.
 use Rattle.std.proofs.Common.{◌≡◌, ℕ, List, Option, Some, None, Result, Err, refl, sym, ◌∙◌}
 use Rattle.wg_bits.specs.Bits.{bits_of}
 use Rattle.wg_params.specs.declared.key.Key.{Key}
@@ -6,19 +6,22 @@ use Rattle.wg_params.specs.Parameters.{Parameters, IsWithinLimits, first_bad}
 use Rattle.wg_grammar.specs.declared.fault.ArchiveFault.{ArchiveFault}
 use Rattle.wg_grammar.specs.declared.fault.ArchiveFault.TheVariants.{Tail}
 use Rattle.wg_grammar.specs.Archive.{Accepted, ReadsGraph}
+use Rattle.wg_grammar.specs.Context.{Known}
 use Rattle.wg_grammar.proofs.OneGraph.{graph_one, graph_some}
 use Rattle.wg_grammar.specs.declared.fault.OffsetWord.{OffsetWord}
 use Rattle.wg_grammar.specs.declared.fault.OffsetWord.TheVariants.{First}
 use Rattle.wg_offsets.specs.Words.{ReadsOffsets}
 use Rattle.wg_offsets.proofs.OneFile.{offsets_one, offsets_some}
 use Rattle.wg_properties.proofs.Limits.{none_bad}
+use Rattle.wg_random.specs.Spot.{SpotReads}
+use Rattle.wg_random.proofs.SpotSome.{page_some}
 use Rattle.wg_arcs.proofs.SomeGraph.{texts_are_some}
 use Rattle.wg_arcs.proofs.Unique.{listed_one}
 use Rattle.wg_ascii.proofs.Some as ascii
 use Rattle.wg_readings.specs.Readings.{Readings, ReadingsAreOne}
 use Rattle.wg_order.proofs.OneRanking.{ranking_some, ranking_one}
 use Rattle.wg_readings.proofs.LimitsLemmas.{within_limits, coded}
-use Rattle.wg_readings.proofs.ReadingsLemmas.{decided_one}
+use Rattle.wg_readings.proofs.ReadingsLemmas.{decided_one, pages_one}
 
 -- what the bytes stand for, where no key is bad
 abbrev read_where : (p : Parameters) (bad : Option Key) → first_bad p ≡ bad → List ℕ → Result Accepted ArchiveFault
@@ -38,6 +41,15 @@ places_right : (p : Parameters) → IsWithinLimits p → (bytes : List ℕ) (bad
 places_right p limits bytes None none = (offsets_some p.offsets (coded p (within_limits p none)) p.nodes (bits_of bytes)).1
 places_right p limits bytes (Some key) none = let never : None ≡ Some key = sym (none_bad p limits) ∙ none in absurd cc
 
+-- what a page is, where no key is bad
+abbrev page_where : (p : Parameters) (bad : Option Key) → first_bad p ≡ bad → List ℕ → List ℕ → ℕ → Result Known ArchiveFault
+page_where p None none bytes places page = (page_some p (within_limits p none) (bits_of bytes) places page).0
+page_where p (Some key) none bytes places page = Err (Tail 0)
+
+page_right : (p : Parameters) → IsWithinLimits p → (bytes places : List ℕ) (page : ℕ) (bad : Option Key) (is : first_bad p ≡ bad) → SpotReads p (bits_of bytes) places page (page_where p bad is bytes places page)
+page_right p limits bytes places page None none = (page_some p (within_limits p none) (bits_of bytes) places page).1
+page_right p limits bytes places page (Some key) none = let never : None ≡ Some key = sym (none_bad p limits) ∙ none in absurd cc
+
 pub the_readings : Readings
 the_readings = record {
   graph = record {
@@ -47,6 +59,10 @@ the_readings = record {
   offsets = record {
     value = λ p bytes. places_where p (first_bad p) refl bytes;
     reads = λ p limits bytes. places_right p limits bytes (first_bad p) refl;
+  };
+  page = record {
+    value = λ p bytes places page. page_where p (first_bad p) refl bytes places page;
+    reads = λ p limits bytes places page. page_right p limits bytes places page (first_bad p) refl;
   };
   ranking = record { value = λ low high. (ranking_some low high).0; reads = λ low high. (ranking_some low high).1 };
   arc_list = record { value = λ n bytes. (texts_are_some n bytes).0; reads = λ n bytes. (texts_are_some n bytes).1 };
@@ -60,6 +76,9 @@ readings_one r q = record {
   offsets = λ p limits bytes.
       offsets_one p.offsets (coded p limits) p.nodes (bits_of bytes) (r.offsets.value p bytes) (q.offsets.value p bytes)
       (r.offsets.reads p limits bytes) (q.offsets.reads p limits bytes);
+  page = λ p limits bytes places page.
+      pages_one p limits (bits_of bytes) places page (r.page.value p bytes places page) (q.page.value p bytes places page)
+      (r.page.reads p limits bytes places page) (q.page.reads p limits bytes places page);
   ranking = λ low high.
       ranking_one low high (r.ranking.value low high) (q.ranking.value low high) (r.ranking.reads low high) (q.ranking.reads low high);
   arc_list = λ n bytes.

@@ -1,16 +1,21 @@
 -- Files that were read, in a judgement.
-use Rattle.std.proofs.Common.{◌≡◌, ℕ, Bool, refl, List, ap, sym, Ok, Err, Result}
+use Rattle.std.proofs.Common.{◌≡◌, ◌∙◌, ◌<◌, ◌≤◌, inl, inr, ℕ, Bool, if◌then◌else◌, refl, List, [], ◌∷◌, ap, sym, subst, Some, None, Ok, Err, Result}
+use Rattle.std.proofs.lemmas.Bool.{le-leb, lt-leb}
 use Rattle.wg_bits.specs.Bits.{bits_of}
 use Rattle.wg_params.specs.Parameters.{Parameters, IsWithinLimits}
+use Rattle.wg_params.specs.declared.code.Code.{Code}
 use Rattle.wg_grammar.specs.declared.fault.ArchiveFault.{ArchiveFault}
 use Rattle.wg_grammar.specs.declared.fault.ArchiveFault.TheVariants as archive
 use Rattle.wg_grammar.specs.declared.fault.OffsetWord.{OffsetWord}
 use Rattle.wg_grammar.specs.Archive.{Accepted, ReadsGraph}
+use Rattle.wg_grammar.specs.Context.{Known}
 use Rattle.wg_grammar.proofs.OneGraph.{graph_one}
 use Rattle.wg_offsets.specs.Places.{AgreeInLengths, IsFirstMismatch, record_length}
 use Rattle.wg_offsets.specs.Words.{ReadsOffsets}
 use Rattle.wg_offsets.proofs.OneFile.{offsets_one}
 use Rattle.wg_random.specs.Checking.{IsLengthFault}
+use Rattle.wg_random.specs.Spot.{SpotReads}
+use Rattle.wg_random.proofs.SpotOne.{chain_one}
 use Rattle.wg_offsets.proofs.Differences.{none_differ, first_differs}
 use Rattle.wg_num.specs.Lines.{lines_of}
 use Rattle.wg_graph.specs.Digraph.{Digraph}
@@ -20,11 +25,13 @@ use Rattle.wg_arcs.proofs.Unique.{listed_one}
 use Rattle.wg_ascii.specs.declared.fault.AsciiKind.{AsciiKind}
 use Rattle.wg_ascii.specs.Reading as ascii
 use Rattle.wg_ascii.proofs.Unique.{texts_are_one}
+use Rattle.wg_readings.specs.Loading.{IsBadPage}
 use Rattle.wg_readings.specs.Names.{file_of_fault}
+use Rattle.wg_readings.specs.declared.ending.Ending.{Ending}
 use Rattle.wg_readings.specs.declared.status.Input.TheVariants as input
 use Rattle.wg_readings.specs.Readings.{Readings}
-use Rattle.wg_readings.specs.Judged.{Judged, refused, with_graph, with_offsets, with_lengths, with_list, with_text, unless_bad_graph, unless_bad_offsets, unless_bad_list, unless_bad_text, unless_some_differ}
-use Rattle.wg_readings.specs.declared.status.Status.TheVariants.{BadArcs, BadArchive, BadText}
+use Rattle.wg_readings.specs.Judged.{Judged, refused, with_graph, with_offsets, with_lengths, with_list, with_pages, with_successors, with_text, unless_bad_chain, unless_bad_graph, unless_bad_offsets, unless_bad_list, unless_bad_text, unless_no_page, unless_some_differ}
+use Rattle.wg_readings.specs.declared.status.Status.TheVariants.{BadArcs, BadArchive, BadText, NoPage}
 use Rattle.wg_readings.proofs.LimitsLemmas.{coded}
 
 -- a fault of a graph file lies there
@@ -55,6 +62,49 @@ module _ (r : Readings) (p : Parameters) (limits : IsWithinLimits p) (bytes : Li
 
   pub offsets_refused : (f : OffsetWord) → ReadsOffsets p.offsets p.nodes (bits_of bytes) (Err f) → (next : List ℕ → Judged) → with_offsets r p bytes next ≡ refused (BadArchive (archive.Offsets f))
   offsets_refused f read next = ap (λ (w : Result (List ℕ) OffsetWord). unless_bad_offsets w next) (stores (Err f) read)
+
+-- an offsets file that was read by what the parameters say
+pub by_params : (p : Parameters) (bits : List Bool) (code : Code) (n : ℕ) (w : Result (List ℕ) OffsetWord) → code ≡ p.offsets → n ≡ p.nodes
+    → ReadsOffsets code n bits w → ReadsOffsets p.offsets p.nodes bits w
+by_params p bits code n w same count h =
+    subst (λ (c : Code). ReadsOffsets c p.nodes bits w) same (subst (λ (k : ℕ). ReadsOffsets code k bits w) count h)
+
+-- a page is one thing alone
+pub pages_one : (p : Parameters) → IsWithinLimits p → (bits : List Bool) (places : List ℕ) (page : ℕ) (v w : Result Known ArchiveFault)
+    → SpotReads p bits places page v → SpotReads p bits places page w → v ≡ w
+pages_one p limits bits places page v w h k = chain_one p limits bits places page h.0 k.0 v w h.1 k.1
+
+-- a page that is there, or is not
+pub page_there : (n page : ℕ) → page < n → (next : Unit {0} → Judged) → with_pages n (page ∷ []) next ≡ next tt
+page_there n page lt next = ap (λ (b : Bool). unless_no_page (if b then Some page else None) next) (lt-leb n page lt)
+
+pub page_absent : (n page : ℕ) → n ≤ page → (next : Unit {0} → Judged) → with_pages n (page ∷ []) next ≡ refused (NoPage page)
+page_absent n page le next = ap (λ (b : Bool). unless_no_page (if b then Some page else None) next) (le-leb n page le)
+
+-- a page that was read by its chain
+module _ (r : Readings) (p : Parameters) (limits : IsWithinLimits p) (bytes places : List ℕ) (page : ℕ) where
+  page_as : (w : Result Known ArchiveFault) → SpotReads p (bits_of bytes) places page w → r.page.value p bytes places page ≡ w
+  page_as w reads = pages_one p limits (bits_of bytes) places page (r.page.value p bytes places page) w (r.page.reads p limits bytes places page) reads
+
+  there : page < p.nodes → (next : List ℕ → Judged) → with_successors r p bytes places page next ≡ unless_bad_chain (r.page.value p bytes places page) next
+  there lt next = page_there p.nodes page lt (λ t. unless_bad_chain (r.page.value p bytes places page) next)
+
+  pub successors_go_on : page < p.nodes → (k : Known) → SpotReads p (bits_of bytes) places page (Ok k) → (next : List ℕ → Judged) → with_successors r p bytes places page next ≡ next k.list
+  successors_go_on lt k reads next = there lt next ∙ ap (λ (w : Result Known ArchiveFault). unless_bad_chain w next) (page_as (Ok k) reads)
+
+  pub chain_refused : page < p.nodes → (f : ArchiveFault) → SpotReads p (bits_of bytes) places page (Err f) → (next : List ℕ → Judged) → with_successors r p bytes places page next ≡ refused (BadArchive f)
+  chain_refused lt f reads next = there lt next ∙ ap (λ (w : Result Known ArchiveFault). unless_bad_chain w next) (page_as (Err f) reads)
+
+  pub page_refused : p.nodes ≤ page → (next : List ℕ → Judged) → with_successors r p bytes places page next ≡ refused (NoPage page)
+  page_refused le next = page_absent p.nodes page le (λ t. unless_bad_chain (r.page.value p bytes places page) next)
+
+-- a fault of the chain lies in the graph file or in the offsets file
+pub bad_chain : (page promised : ℕ) (f : ArchiveFault) (e : Ending) → e.status ≡ BadArchive f → e.arcs ≡ promised → IsBadPage page promised e
+bad_chain page promised (archive.Record x) e is names = inr (inl (inr (archive.Record x, refl, is, names)))
+bad_chain page promised (archive.Tail at) e is names = inr (inl (inr (archive.Tail at, refl, is, names)))
+bad_chain page promised (archive.ArcsShort total) e is names = inr (inl (inr (archive.ArcsShort total, refl, is, names)))
+bad_chain page promised (archive.Offsets w) e is names = inr (inr (inr (archive.Offsets w, refl, is, names)))
+bad_chain page promised (archive.Length x found stored) e is names = inr (inr (inr (archive.Length x found stored, refl, is, names)))
 
 -- an arc list that was read
 module _ (r : Readings) (n : ℕ) (bytes : List ℕ) where

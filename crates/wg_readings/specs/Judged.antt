@@ -8,6 +8,7 @@ use Rattle.wg_grammar.specs.declared.fault.ArchiveFault.{ArchiveFault}
 use Rattle.wg_grammar.specs.declared.fault.ArchiveFault.TheVariants as archive
 use Rattle.wg_grammar.specs.declared.fault.OffsetWord.{OffsetWord}
 use Rattle.wg_grammar.specs.Archive.{Accepted}
+use Rattle.wg_grammar.specs.Context.{Known}
 use Rattle.wg_graph.specs.Digraph.{Digraph}
 use Rattle.wg_arcs.specs.declared.fault.ArcsKind.{ArcsKind}
 use Rattle.wg_arcs.specs.declared.numbers_fault.NumbersFault.{NumbersFault}
@@ -116,6 +117,14 @@ unless_no_page (Some page) next = refused (NoPage page)
 -- goes on where a graph of so many pages has all of these; else the first that it does not have is refused
 abbrev pub with_pages : ℕ → List ℕ → (Unit {0} → Judged) → Judged
 with_pages n pages next = unless_no_page (find (λ page. nat_le n page) pages) next
+
+abbrev pub unless_bad_chain : Result Known ArchiveFault → (List ℕ → Judged) → Judged
+unless_bad_chain (Ok k) next = next k.list
+unless_bad_chain (Err f) next = refused (BadArchive f)
+
+-- goes on with the successors of a page, by these offsets and its chain of references alone
+abbrev pub with_successors : Readings → Parameters → List ℕ → List ℕ → ℕ → (List ℕ → Judged) → Judged
+with_successors r p bytes places page next = with_pages p.nodes (page ∷ []) (λ there. unless_bad_chain (r.page.value p bytes places page) next)
 
 abbrev pub unless_bad_list : Result Digraph (ℕ × ArcsKind) → (Digraph → Judged) → Judged
 unless_bad_list (Ok g) next = next g

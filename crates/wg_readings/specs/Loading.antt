@@ -1,5 +1,5 @@
 -- Steps of a job that read files, and print nothing.
-use Rattle.std.specs.Prelude.{◌≡◌, ◌⊎◌, ℕ, ◌≤◌, Bool, List, length, Option, Some, Result, Ok, Err, IsTrue, IsSome, OnOk, IfOk, IfErr}
+use Rattle.std.specs.Prelude.{◌≡◌, ◌⊎◌, ℕ, ◌+◌, ◌≤◌, Bool, List, length, Option, Some, Result, Ok, Err, IsTrue, IsSome, OnOk, IfOk, IfErr}
 use Rattle.wg_io.specs.Outside.{Files, Counts, NonDecreasing}
 use Rattle.wg_io.specs.declared.depot.Depot as depot
 use Rattle.wg_io.specs.declared.limits.TheConstants.{MOST_BYTES}
@@ -19,12 +19,13 @@ use Rattle.wg_readings.specs.Judged.{Judged, claim_then, text_then, weights_then
 use Rattle.wg_readings.specs.Names.{IsOfInput, certificate_named, file_of, held_by, list_named, no_outputs, text_named, weights_named}
 use Rattle.wg_readings.specs.Pairing.{files_then, offsets_then}
 use Rattle.wg_readings.specs.Passes.{IsGraphFile, IsStopAt, graph_then}
+use Rattle.wg_readings.specs.Promised.{IsBadFile}
 use Rattle.wg_readings.specs.Readings.{Readings}
 use Rattle.wg_readings.specs.declared.ending.Ending.{Ending}
 use Rattle.wg_readings.specs.declared.status.Input.{Input}
 use Rattle.wg_readings.specs.declared.status.Input.TheVariants as input
 use Rattle.wg_readings.specs.declared.status.Status.{Status}
-use Rattle.wg_readings.specs.declared.status.Status.TheVariants.{BadArcs, BadCertificate, BadProperties, BadText, BadWeights}
+use Rattle.wg_readings.specs.declared.status.Status.TheVariants.{BadArcs, BadCertificate, BadProperties, BadText, BadWeights, NoPage}
 use Rattle.wg_readings.specs.declared.status.WeightsFault.{WeightsFault}
 
 -- A file of this name was read whole, as this input.
@@ -101,6 +102,16 @@ lengths_then r p places held next = offsets_then r p held (λ stored. with_lengt
 pub record JudgesOffsets (base : List ℕ) (p : Parameters) (places : List ℕ) (told : Bool) (files files' : Files) (counts counts' : List ℕ → Counts) (result : Result (Unit {0}) Ending) : Type 0 where
   pub reads : Reads base input.Offsets p.arcs (λ r. lengths_then r p places) told files files' counts counts' result
   pub goes : IsTrue told → (r : Readings) → Steps (lengths_then r p places (held_by (file_of base) files input.Offsets)) result
+
+-- The offsets of an archive were read whole, and held against no graph; or the job ends at their file.
+pub record LoadsOffsets (base : List ℕ) (p : Parameters) (told : Bool) (files files' : Files) (counts counts' : List ℕ → Counts) (result : Result (List ℕ) Ending) : Type 0 where
+  pub reads : Reads base input.Offsets p.arcs (λ r. offsets_then r p) told files files' counts counts' result
+  pub goes : IsTrue told → (r : Readings) → Steps (offsets_then r p (held_by (file_of base) files input.Offsets)) result
+  pub count : IfOk result (λ places. length places ≡ p.nodes + 1)
+
+-- The successors of a page were not read: there is no such page, or memory was wanting, or one of these files is at fault.
+abbrev pub IsBadPage : ℕ → ℕ → Ending → Type 0
+IsBadPage page promised e = (e.status ≡ NoPage page) ⊎ IsBadFile input.Graph promised e ⊎ IsBadFile input.Offsets promised e
 
 -- The graph of so many pages that an arc list holds was read whole, or the job ends at the list.
 pub record LoadsList (name : List ℕ) (n : ℕ) (told : Bool) (files files' : Files) (counts counts' : List ℕ → Counts) (result : Result Digraph Ending) : Type 0 where
@@ -180,6 +191,9 @@ LoadsGraphBy d base p before after result = LoadsGraph base p d.told (d.files be
 abbrev pub JudgesOffsetsBy : {D : Type 0} → depot.Ghosts D → List ℕ → Parameters → List ℕ → D → D → Result (Unit {0}) Ending → Type 0
 JudgesOffsetsBy d base p places before after result =
     JudgesOffsets base p places d.told (d.files before) (d.files after) (d.counts before) (d.counts after) result
+
+abbrev pub LoadsOffsetsBy : {D : Type 0} → depot.Ghosts D → List ℕ → Parameters → D → D → Result (List ℕ) Ending → Type 0
+LoadsOffsetsBy d base p before after result = LoadsOffsets base p d.told (d.files before) (d.files after) (d.counts before) (d.counts after) result
 
 abbrev pub LoadsListBy : {D : Type 0} → depot.Ghosts D → List ℕ → ℕ → D → D → Result Digraph Ending → Type 0
 LoadsListBy d name n before after result = LoadsList name n d.told (d.files before) (d.files after) (d.counts before) (d.counts after) result

@@ -1,5 +1,5 @@
 //! The files of an archive that are held whole, each judged as far as it goes by itself.
-ghost use Rattle.std.specs.Prelude.{◌≡◌, ◌⊎◌, ◌<◌, ◌≤◌, ℕ, All, List as ListOf, IfErr, IfOk, OnOk, Ok, Err, length};
+ghost use Rattle.std.specs.Prelude.{◌≡◌, ◌⊎◌, ◌<◌, ◌≤◌, ℕ, All, List as ListOf, IfErr, IfOk, OnOk, Ok, Err, length, ◌+◌};
 ghost use Rattle.wg_io.specs.declared.limits.TheConstants.{MOST_BYTES};
 ghost use Rattle.wg_bits.specs.Bits.{bits_of};
 ghost use Rattle.wg_params.specs.Parameters.{IsWithinLimits};
@@ -10,7 +10,7 @@ ghost use Rattle.wg_grammar.specs.Archive.{Accepted, ReadsGraph};
 ghost use Rattle.wg_graph.specs.Digraph.{Digraph};
 ghost use Rattle.wg_grammar.specs.declared.fault.ArchiveFault.{ArchiveFault};
 ghost use Rattle.wg_readings.specs.Answers.{Steps};
-ghost use Rattle.wg_readings.specs.Judged.{with_parameters, with_digraph, with_graph, with_pages};
+ghost use Rattle.wg_readings.specs.Judged.{with_parameters, with_digraph, with_graph, with_offsets, with_pages};
 ghost use Rattle.wg_readings.specs.Promised.{IsBadFile};
 ghost use Rattle.wg_readings.specs.Readings.{Readings};
 
@@ -20,6 +20,7 @@ use std::alloc::Global;
 use wg_bits::{Bits, Cursor};
 use wg_grammar::ArchiveFault;
 use wg_graph::Graph;
+use wg_offsets::{Offsets, OffsetsError};
 use wg_params::Params;
 use wg_random::{CheckError, Records, Sweep};
 use wg_stream::{PagesError, read_graph};
@@ -53,8 +54,8 @@ pub fn graph_of_records(alloc: Global, params: &Params, bytes: &[u8]) -> Result<
     }
 }
 
-// How a job ends whose archive is refused.
-fn bad_archive(fault: ArchiveFault, params: &Params) -> Ending
+/// How a job ends whose archive is refused.
+pub fn bad_archive(fault: ArchiveFault, params: &Params) -> Ending
     ensures { result ≡ record { status = Status.BadArchive fault; arcs = params.now.arcs } }
 {
     Ending {
@@ -85,6 +86,20 @@ pub fn records_of_graph<'a>(
         Ok(records) => Ok(records),
         Err(CheckError::Archive(fault)) => Err(bad_archive(fault, params)),
         Err(CheckError::Memory) => Err(Ending::of(Status::Memory)),
+    }
+}
+
+/// The places that an offsets file stores. It takes 8 bytes for each.
+pub fn offsets_of_file(alloc: Global, params: &Params, bytes: &[u8]) -> Result<Offsets, Ending>
+    requires { length bytes.now ≤ MOST_BYTES }
+    ensures steps { (r : Readings) → Steps (with_offsets r params.now bytes.now) result }
+    ensures only { IfErr result (λ e. IsBadFile Input.Offsets params.now.arcs e) }
+    ensures count { IfOk result (λ places. length places ≡ params.now.nodes + 1) }
+{
+    match wg_offsets::read(alloc, bytes, params.nodes(), params.offsets()) {
+        Ok(offsets) => Ok(offsets),
+        Err(OffsetsError::Word(word)) => Err(bad_archive(ArchiveFault::Offsets(word), params)),
+        Err(OffsetsError::Memory) => Err(Ending::of(Status::Memory)),
     }
 }
 

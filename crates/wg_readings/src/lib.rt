@@ -1,12 +1,14 @@
 //! The files of an archive, arc lists, plain texts, weights and certificates, as a job reads them: each is read and judged,
 //! and the job goes on with what it holds, or ends.
 //!
-//! [`load_params`], [`load_graph`], [`load_list`], [`load_text`], [`load_weights`] and [`load_certificate`] read a file
-//! whole; [`judge_graph`], [`judge_files`] and [`judge_offsets`] go through the files in pieces, and so do
-//! [`open_graph`], [`next_record`] and [`end_records`], record by record. Each promises that it is a step of a judgement (`Judged`): it goes on with a value whatever
-//! comes next, or it ends with a [`Status`] whatever would have come next, unless running out of memory or a fault
-//! of the outside came in its place (`Steps`). A fault or an absence is told only where its count rose, and no file
-//! changes. Which steps a job takes, and what it prints and writes, is said above, in `wg_jobs`.
+//! [`load_params`], [`load_graph`], [`load_offsets`], [`load_list`], [`load_text`], [`load_weights`] and
+//! [`load_certificate`] read a file whole; [`judge_graph`], [`judge_files`] and [`judge_offsets`] go through the files
+//! in pieces, and so do [`open_graph`], [`next_record`] and [`end_records`], record by record. [`successors_of_page`]
+//! judges the records that one page refers to, and no others. Each promises that it is a step of a judgement
+//! (`Judged`): it goes on with a value whatever comes next, or it ends with a [`Status`] whatever would have come next,
+//! unless running out of memory or a fault of the outside came in its place (`Steps`). A fault or an absence is told
+//! only where its count rose, and no file changes. Which steps a job takes, and what it prints and writes, is said
+//! above, in `wg_jobs`.
 //!
 //! A judgement takes the graph of a file from a function that reads all graph files (`Readings`); the grammar leaves
 //! exactly one such function.
@@ -15,6 +17,7 @@
 #![tactic(auto)]
 
 mod archive;
+mod chains;
 mod claims;
 mod ending;
 mod judge;
@@ -28,10 +31,12 @@ mod status;
 mod weights;
 
 pub use archive::{find_pages, lists_of_records, records_of_graph};
+pub use chains::successors_of_page;
 pub use ending::Ending;
 pub use judge::{judge_files, judge_graph, judge_offsets};
 pub use loading::{
-    load, load_certificate, load_graph, load_list, load_params, load_text, load_weights,
+    load, load_certificate, load_graph, load_list, load_offsets, load_params, load_text,
+    load_weights,
 };
 pub use names::file_name;
 pub use records::{end_records, next_record, open_graph};

@@ -1,12 +1,12 @@
 //! Files that are read whole and judged: those of an archive, arc lists, plain texts, weights and certificates.
 ghost use Rattle.std.specs.Prelude.{◌≡◌, ◌≤◌, ℕ, List, Option, IsSome, Some};
 ghost use Rattle.wg_params.specs.declared.limits.TheConstants.{MOST_PAGES};
-ghost use Rattle.wg_readings.specs.Loading.{LoadsBy, LoadsCertificateBy, LoadsGraphBy, LoadsListBy, LoadsParamsBy};
+ghost use Rattle.wg_readings.specs.Loading.{LoadsBy, LoadsCertificateBy, LoadsGraphBy, LoadsListBy, LoadsOffsetsBy, LoadsParamsBy};
 ghost use Rattle.wg_readings.specs.Loading.{LoadsTextBy, LoadsWeightsBy};
 ghost use Rattle.wg_readings.specs.Names.{file_of, suffix_of};
 ghost use Rattle.wg_readings.specs.declared.status.Input.{Input};
 
-use crate::archive::{graph_of_records, parameters};
+use crate::archive::{graph_of_records, offsets_of_file, parameters};
 use crate::claims::claim_of_text;
 use crate::ending::Ending;
 use crate::listed::graph_of_list;
@@ -17,6 +17,7 @@ use crate::{Input, Status};
 use std::alloc::Global;
 use wg_graph::{Graph, List as Numbers};
 use wg_io::{Depot, List8, LoadError, read_whole};
+use wg_offsets::Offsets;
 use wg_params::Params;
 use wg_rank::Certificate;
 use wg_words::Name;
@@ -76,6 +77,20 @@ pub fn load_graph<D: Depot>(
 {
     let bytes = load(alloc, depot, base, Input::Graph)?;
     graph_of_records(alloc, params, bytes.as_slice())
+}
+
+/// Reads the offsets of an archive, which are held against no graph. Beside them, 8 bytes each, it holds the bytes of
+/// their file, until it is read.
+pub fn load_offsets<D: Depot>(
+    alloc: Global,
+    params: &Params,
+    depot: &mut D,
+    base: &Name,
+) -> Result<Offsets, Ending>
+    ensures { LoadsOffsetsBy ⟦<D as Depot>⟧ base.now params.now depot.old depot.new result }
+{
+    let bytes = load(alloc, depot, base, Input::Offsets)?;
+    offsets_of_file(alloc, params, bytes.as_slice())
 }
 
 /// Reads the graph of so many pages that an arc list holds. Beside the graph it holds the bytes of the list, until
