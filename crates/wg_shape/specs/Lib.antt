@@ -1,7 +1,7 @@
 pub mod Quotient
 pub mod Classes
 pub mod SoFar
-pub mod Union
+pub mod Gives
 pub mod Added
 pub mod Graphs
 pub mod Laws
