@@ -11,3 +11,4 @@ pub mod ReadingsLaws
 pub mod ReadingsLemmas
 pub mod ListsLemmas
 pub mod TextLemmas
+pub mod ClassLemmas

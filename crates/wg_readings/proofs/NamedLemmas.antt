@@ -9,7 +9,7 @@ use Rattle.wg_rank.specs.Weights.{AreWeights}
 use Rattle.wg_rank.proofs.Weighing.{ones}
 use Rattle.wg_readings.specs.Answers.{Answers, Steps}
 use Rattle.wg_readings.specs.Judged.{Judged, weights_then, with_file, with_weights}
-use Rattle.wg_readings.specs.Loading.{IsBadCertificate, IsBadWeights, Loads, LoadsWeights, ReadsNamed}
+use Rattle.wg_readings.specs.Loading.{IsBadCertificate, IsBadMap, IsBadWeights, Loads, LoadsWeights, ReadsNamed}
 use Rattle.wg_readings.specs.Names.{IsOfInput, weights_named}
 use Rattle.wg_readings.specs.declared.ending.Ending.{Ending}
 use Rattle.wg_readings.specs.declared.status.Input.{Input}
@@ -23,6 +23,9 @@ weights_own s fault = subst IsOwn (sym fault.1) tt
 
 pub certificate_own : (s : Status) → IsBadCertificate s → IsOwn s
 certificate_own s fault = subst IsOwn (sym fault.1) tt
+
+pub map_own : (s : Status) → IsBadMap s → IsOwn s
+map_own s fault = subst IsOwn (sym fault.2) tt
 
 -- the exit of a `?`
 pub named_exit : {B : Type 0} (i : Input) (names : Input → Option (List ℕ)) (IsFault : Status → Type 0) (step : Option (List ℕ) → (B → Judged) → Judged) (td : Bool) (files files' : Files) (counts counts' : List ℕ → Counts)

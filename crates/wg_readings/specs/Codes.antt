@@ -1,7 +1,7 @@
 -- The exit status of the program.
 use Rattle.std.specs.Prelude.{ℕ}
 use Rattle.wg_readings.specs.declared.status.Status.{Status}
-use Rattle.wg_readings.specs.declared.status.Status.TheVariants.{Done, Usage, Memory, ReadFault, WriteFault, Missing, BadArcs, BadProperties, BadArchive, NoPage, OverLimit, BadWeights, BadText, BadCertificate}
+use Rattle.wg_readings.specs.declared.status.Status.TheVariants.{Done, Usage, Memory, ReadFault, WriteFault, Missing, BadArcs, BadProperties, BadArchive, NoPage, OverLimit, BadWeights, BadText, BadMap, BadCertificate}
 
 abbrev pub code_of : Status → ℕ
 code_of Done = 0
@@ -17,4 +17,5 @@ code_of (NoPage page) = 10
 code_of (OverLimit i) = 11
 code_of (BadWeights f) = 12
 code_of (BadText line kind) = 13
+code_of (BadMap f pages) = 15
 code_of (BadCertificate f) = 16

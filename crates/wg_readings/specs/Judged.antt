@@ -25,7 +25,7 @@ use Rattle.wg_readings.specs.Readings.{Readings}
 use Rattle.wg_readings.specs.declared.status.Input.{Input}
 use Rattle.wg_readings.specs.declared.status.Input.TheVariants as input
 use Rattle.wg_readings.specs.declared.status.Status.{Status}
-use Rattle.wg_readings.specs.declared.status.Status.TheVariants.{Done, Missing, BadArcs, BadProperties, BadArchive, NoPage, OverLimit, BadWeights, BadText, BadCertificate}
+use Rattle.wg_readings.specs.declared.status.Status.TheVariants.{Done, Missing, BadArcs, BadProperties, BadArchive, NoPage, OverLimit, BadWeights, BadText, BadMap, BadCertificate}
 use Rattle.wg_readings.specs.declared.status.WeightsFault.{WeightsFault}
 use Rattle.wg_readings.specs.declared.status.WeightsFault.TheVariants as weights
 
@@ -196,3 +196,15 @@ with_claim n bytes next = unless_bad_claim (claim_of n bytes) next
 -- goes on with what a certificate claims of so many pages
 abbrev pub claim_then : ℕ → Option (List ℕ) → (Claim → Judged) → Judged
 claim_then n held next = with_file input.Certificate held (λ bytes. with_claim n bytes next)
+
+abbrev pub unless_bad_map : ℕ → Result (List ℕ) NumbersFault → (List ℕ → Judged) → Judged
+unless_bad_map n (Ok classes) next = next classes
+unless_bad_map n (Err f) next = refused (BadMap f n)
+
+-- goes on with the classes of n pages that a text gives, each below the limit
+abbrev pub with_map : ℕ → ℕ → List ℕ → (List ℕ → Judged) → Judged
+with_map n limit bytes next = unless_bad_map n (numbers_of n limit bytes) next
+
+-- goes on with the classes of n pages that a file gives
+abbrev pub map_then : ℕ → ℕ → Option (List ℕ) → (List ℕ → Judged) → Judged
+map_then n limit held next = with_file input.Map held (λ bytes. with_map n limit bytes next)

@@ -6,17 +6,19 @@ use Rattle.wg_io.specs.declared.limits.TheConstants.{MOST_BYTES}
 use Rattle.wg_params.specs.Parameters.{Parameters, IsWithinLimits}
 use Rattle.wg_properties.specs.Judged.{properties_of}
 use Rattle.wg_properties.specs.declared.fault.PropFault.{PropFault}
+use Rattle.wg_graph.specs.Ascending.{Below}
 use Rattle.wg_graph.specs.Digraph.{Digraph}
 use Rattle.wg_grammar.specs.Archive.{Accepted}
 use Rattle.wg_arcs.specs.declared.fault.ArcsKind.{ArcsKind}
+use Rattle.wg_arcs.specs.declared.numbers_fault.NumbersFault.{NumbersFault}
 use Rattle.wg_ascii.specs.declared.fault.AsciiKind.{AsciiKind}
 use Rattle.wg_rank.specs.Weights.{AreWeights, weights_of}
 use Rattle.wg_rank.specs.Claims.{Claim}
 use Rattle.wg_rank.specs.declared.fault.CertFault.{CertFault}
 use Rattle.wg_readings.specs.Answers.{Steps, status_in}
 use Rattle.wg_readings.specs.Causes.{HasCause}
-use Rattle.wg_readings.specs.Judged.{Judged, claim_then, text_then, weights_then, with_arcs, with_digraph, with_file, with_lengths, with_parameters}
-use Rattle.wg_readings.specs.Names.{IsOfInput, certificate_named, file_of, held_by, list_named, no_outputs, text_named, weights_named}
+use Rattle.wg_readings.specs.Judged.{Judged, claim_then, map_then, text_then, weights_then, with_arcs, with_digraph, with_file, with_lengths, with_parameters}
+use Rattle.wg_readings.specs.Names.{IsOfInput, certificate_named, file_of, held_by, list_named, map_named, no_outputs, text_named, weights_named}
 use Rattle.wg_readings.specs.Pairing.{files_then, offsets_then}
 use Rattle.wg_readings.specs.Passes.{IsGraphFile, IsStopAt, graph_then}
 use Rattle.wg_readings.specs.Promised.{IsBadFile}
@@ -25,7 +27,7 @@ use Rattle.wg_readings.specs.declared.ending.Ending.{Ending}
 use Rattle.wg_readings.specs.declared.status.Input.{Input}
 use Rattle.wg_readings.specs.declared.status.Input.TheVariants as input
 use Rattle.wg_readings.specs.declared.status.Status.{Status}
-use Rattle.wg_readings.specs.declared.status.Status.TheVariants.{BadArcs, BadCertificate, BadProperties, BadText, BadWeights, NoPage}
+use Rattle.wg_readings.specs.declared.status.Status.TheVariants.{BadArcs, BadCertificate, BadMap, BadProperties, BadText, BadWeights, NoPage}
 use Rattle.wg_readings.specs.declared.status.WeightsFault.{WeightsFault}
 
 -- A file of this name was read whole, as this input.
@@ -165,6 +167,15 @@ pub record LoadsCertificate (name : List ℕ) (n : ℕ) (told : Bool) (files fil
   pub reads : ReadsNamed input.Certificate (certificate_named name) IsBadCertificate (claim_then n) told files files' counts counts' result
   pub pages : IfOk result (λ c. length c.low ≡ n)
 
+abbrev pub IsBadMap : Status → Type 0
+IsBadMap status = (f : NumbersFault) × (n : ℕ) × (status ≡ BadMap f n)
+
+-- The classes of so many pages, each below the limit, were read, or the job ends at their file.
+pub record LoadsMap (name : List ℕ) (n limit : ℕ) (told : Bool) (files files' : Files) (counts counts' : List ℕ → Counts) (result : Result (List ℕ) Ending) : Type 0 where
+  pub reads : ReadsNamed input.Map (map_named name) IsBadMap (map_then n limit) told files files' counts counts' result
+  pub each : IfOk result (λ classes. length classes ≡ n)
+  pub below : IfOk result (λ classes. Below limit classes)
+
 -- The graph file and the offsets file of an archive were judged beside each other, or the job ends at one of them: at the offsets file only if the
 -- graph is in order.
 pub record JudgesFiles (base : List ℕ) (p : Parameters) (told : Bool) (files files' : Files) (counts counts' : List ℕ → Counts) (result : Result ℕ Ending) : Type 0 where
@@ -206,6 +217,9 @@ LoadsWeightsBy d given n before after result = LoadsWeights given n d.told (d.fi
 
 abbrev pub LoadsCertificateBy : {D : Type 0} → depot.Ghosts D → List ℕ → ℕ → D → D → Result Claim Ending → Type 0
 LoadsCertificateBy d name n before after result = LoadsCertificate name n d.told (d.files before) (d.files after) (d.counts before) (d.counts after) result
+
+abbrev pub LoadsMapBy : {D : Type 0} → depot.Ghosts D → List ℕ → ℕ → ℕ → D → D → Result (List ℕ) Ending → Type 0
+LoadsMapBy d name n limit before after result = LoadsMap name n limit d.told (d.files before) (d.files after) (d.counts before) (d.counts after) result
 
 abbrev pub JudgesGraphBy : {D : Type 0} → depot.Ghosts D → List ℕ → Parameters → D → D → Result (Unit {0}) Ending → Type 0
 JudgesGraphBy d base p before after result = JudgesGraph base p d.told (d.files before) (d.files after) (d.counts before) (d.counts after) result

@@ -21,6 +21,7 @@ suffix_of input.ArcList = None
 suffix_of input.Weights = None
 suffix_of input.Certificate = None
 suffix_of input.Text = None
+suffix_of input.Map = None
 
 -- the name of one of an archive's files
 abbrev pub file_of : List ℕ → Input → Option (List ℕ)
@@ -35,6 +36,7 @@ input_code input.ArcList = 3
 input_code input.Weights = 4
 input_code input.Certificate = 5
 input_code input.Text = 6
+input_code input.Map = 7
 
 abbrev pub output_code : Output → ℕ
 output_code output.Properties = 0
@@ -52,7 +54,7 @@ abbrev pub name_of_output : List (Output × List ℕ) → Output → Option (Lis
 name_of_output [] o = None
 name_of_output (entry ∷ rest) o = if nat_eq (output_code entry.0) (output_code o) then Some entry.1 else name_of_output rest o
 
--- the files of an archive's records, all files of an archive, an arc list, a plain text, weights if they are asked for, and a certificate
+-- the files of an archive's records, all files of an archive, an arc list, a plain text, weights if they are asked for, a certificate, and classes
 abbrev pub record_files : List ℕ → List (Input × List ℕ)
 record_files base = (input.Properties, base ++ PROPERTIES.now) ∷ (input.Graph, base ++ GRAPH.now) ∷ []
 
@@ -71,6 +73,9 @@ weights_file (Some name) = (input.Weights, name) ∷ []
 
 abbrev pub certificate_file : List ℕ → List (Input × List ℕ)
 certificate_file name = (input.Certificate, name) ∷ []
+
+abbrev pub map_file : List ℕ → List (Input × List ℕ)
+map_file name = (input.Map, name) ∷ []
 
 -- the files of an archive that is written
 abbrev pub archive_outputs : List ℕ → List (Output × List ℕ)
@@ -92,6 +97,9 @@ weights_named given i = name_of_input (weights_file given) i
 
 abbrev pub certificate_named : List ℕ → Input → Option (List ℕ)
 certificate_named name i = name_of_input (certificate_file name) i
+
+abbrev pub map_named : List ℕ → Input → Option (List ℕ)
+map_named name i = name_of_input (map_file name) i
 
 -- the outputs of what writes no file
 abbrev pub no_outputs : Output → Option (List ℕ)

@@ -1,10 +1,13 @@
-//! The files of an archive, arc lists, plain texts, weights and certificates, as a job reads them: each is read and judged,
-//! and the job goes on with what it holds, or ends.
+//! The files of an archive, arc lists, plain texts, weights, certificates and maps, as a job reads them: each is read
+//! and judged, and the job goes on with what it holds, or ends.
 //!
-//! [`load_params`], [`load_graph`], [`load_offsets`], [`load_list`], [`load_text`], [`load_weights`] and
-//! [`load_certificate`] read a file whole; [`judge_graph`], [`judge_files`] and [`judge_offsets`] go through the files
-//! in pieces, and so do [`open_graph`], [`next_record`] and [`end_records`], record by record. [`successors_of_page`]
-//! judges the records that one page refers to, and no others. Each promises that it is a step of a judgement
+//! [`load_params`], [`load_graph`], [`load_offsets`], [`load_list`], [`load_text`], [`load_weights`],
+//! [`load_certificate`] and
+//! [`load_map`] read a file whole; [`judge_graph`], [`judge_files`] and [`judge_offsets`] go through the files
+//! in
+//! pieces, and so do [`open_graph`], [`next_record`] and [`end_records`], record by record. [`successors_of_page`]
+//! judges the records that one page refers to, and no others. Each promises that it is a
+//! step of a judgement
 //! (`Judged`): it goes on with a value whatever comes next, or it ends with a [`Status`] whatever would have come next,
 //! unless running out of memory or a fault of the outside came in its place (`Steps`). A fault or an absence is told
 //! only where its count rose, and no file changes. Which steps a job takes, and what it prints and writes, is said
@@ -19,6 +22,7 @@
 mod archive;
 mod chains;
 mod claims;
+mod classes;
 mod ending;
 mod judge;
 mod listed;
@@ -35,7 +39,7 @@ pub use chains::successors_of_page;
 pub use ending::Ending;
 pub use judge::{judge_files, judge_graph, judge_offsets};
 pub use loading::{
-    load, load_certificate, load_graph, load_list, load_offsets, load_params, load_text,
+    load, load_certificate, load_graph, load_list, load_offsets, load_map, load_params, load_text,
     load_weights,
 };
 pub use names::file_name;

@@ -1,13 +1,14 @@
-//! Files that are read whole and judged: those of an archive, arc lists, plain texts, weights and certificates.
+//! Files that are read whole and judged: those of an archive, arc lists, plain texts, weights, certificates and maps.
 ghost use Rattle.std.specs.Prelude.{◌≡◌, ◌≤◌, ℕ, List, Option, IsSome, Some};
 ghost use Rattle.wg_params.specs.declared.limits.TheConstants.{MOST_PAGES};
 ghost use Rattle.wg_readings.specs.Loading.{LoadsBy, LoadsCertificateBy, LoadsGraphBy, LoadsListBy, LoadsOffsetsBy, LoadsParamsBy};
-ghost use Rattle.wg_readings.specs.Loading.{LoadsTextBy, LoadsWeightsBy};
+ghost use Rattle.wg_readings.specs.Loading.{LoadsMapBy, LoadsTextBy, LoadsWeightsBy};
 ghost use Rattle.wg_readings.specs.Names.{file_of, suffix_of};
 ghost use Rattle.wg_readings.specs.declared.status.Input.{Input};
 
 use crate::archive::{graph_of_records, offsets_of_file, parameters};
 use crate::claims::claim_of_text;
+use crate::classes::classes_of_text;
 use crate::ending::Ending;
 use crate::listed::graph_of_list;
 use crate::names::{file_name, suffix};
@@ -147,4 +148,19 @@ pub fn load_certificate<D: Depot>(
 {
     let bytes = load_file(alloc, depot, name.as_str(), Input::Certificate)?;
     claim_of_text(alloc, bytes.as_slice(), nodes)
+}
+
+/// Reads the classes of so many pages, each below the limit. Beside the classes, 8 bytes each, it holds the bytes of
+/// the file, until it is read.
+pub fn load_map<D: Depot>(
+    alloc: Global,
+    nodes: u64,
+    limit: u64,
+    depot: &mut D,
+    name: &Name,
+) -> Result<Numbers, Ending>
+    ensures { LoadsMapBy ⟦<D as Depot>⟧ name.now nodes limit depot.old depot.new result }
+{
+    let bytes = load_file(alloc, depot, name.as_str(), Input::Map)?;
+    classes_of_text(alloc, bytes.as_slice(), nodes, limit)
 }

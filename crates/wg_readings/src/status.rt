@@ -20,6 +20,8 @@ pub enum Input {
     Certificate,
     /// A graph as a plain text.
     Text,
+    /// A class for each page.
+    Map,
 }
 
 /// What is wrong with the weights of pages.
@@ -53,6 +55,8 @@ pub enum Status {
     BadWeights(WeightsFault),
     /// The plain text's first faulty line, counted from 1.
     BadText { line: u64, kind: AsciiKind },
+    /// The classes are not one number for each of so many pages, each below the limit.
+    BadMap { fault: NumbersFault, pages: u64 },
     BadCertificate(CertFault),
 }
 
@@ -75,6 +79,7 @@ impl Status {
             Status::OverLimit(_) => 11,
             Status::BadWeights(_) => 12,
             Status::BadText { .. } => 13,
+            Status::BadMap { .. } => 15,
             Status::BadCertificate(_) => 16,
         }
     }
