@@ -8,7 +8,7 @@ use Rattle.wg_vectors.specs.declared.generating.TheConstants.{MOST_GENERATED}
 use Rattle.wg_words.specs.Commands.{parsed}
 use Rattle.wg_words.specs.Files.{is_file_of, overwrites, IsNoFileOf, KeepsInputs, ShareNoFile}
 use Rattle.wg_words.specs.Layouts.{params_of, layout_in}
-use Rattle.wg_words.specs.Values.{any_in, name_in, number_in, numbers_in, optional_name_in, required_in, unlimited_in}
+use Rattle.wg_words.specs.Values.{name_in, number_in, numbers_in, optional_name_in, required_in, unlimited_in}
 use Rattle.wg_words.specs.declared.conversion.Conversion.{Conversion}
 use Rattle.wg_words.specs.declared.defaults.TheConstants.{DEFAULT_DAMPING, DEFAULT_ROUNDS, DEFAULT_TOP}
 use Rattle.wg_words.specs.declared.jobs.Job.{Job}
@@ -127,7 +127,7 @@ bulk_in rows =
     option_and_then (λ seed.
     option_and_then (λ pages. Some (Bulk seed pages))
     (required_in rows (codes "pages") MOST_GENERATED))
-    (any_in rows (codes "seed"))
+    (unlimited_in rows (codes "seed"))
 
 -- the job of a command on one archive
 abbrev pub job_on : Text → List Row → Text → Option Job

@@ -46,10 +46,6 @@ required_in rows id most = option_and_then (number_up_to most) (first_of id rows
 abbrev pub unlimited_in : List Row → Text → Option ℕ
 unlimited_in rows id = option_and_then number_of (first_of id rows)
 
--- the number that an argument gives, whatever it is
-abbrev pub any_in : List Row → Text → Option ℕ
-any_in rows id = option_and_then number_of (first_of id rows)
-
 -- the numbers whose decimals the texts are, where each text is a decimal
 abbrev pub numbers_of : List Text → Option (List ℕ)
 numbers_of [] = Some []

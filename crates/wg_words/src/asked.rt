@@ -7,9 +7,7 @@ use crate::commands::command;
 use crate::conversion::{Conversion, conversion_at};
 use crate::files::{is_file_of, overwrites};
 use crate::options::layout_at;
-use crate::values::{
-    any_at, name_at, number_at, numbers_at, optional_name_at, required_at, unlimited_at,
-};
+use crate::values::{name_at, number_at, numbers_at, optional_name_at, required_at, unlimited_at};
 use crate::{DEFAULT_DAMPING, DEFAULT_ROUNDS, DEFAULT_TOP, Job, JobError, Name, Words};
 use clap::ArgMatches;
 use clap::error::ErrorKind;
@@ -162,7 +160,7 @@ fn transposing(conversion: Conversion) -> Job
 fn bulk_at(found: &ArgMatches<'_>) -> Option<Job>
     ensures { result ≡ bulk_in (rows_of (found_of found.now)) }
 {
-    let seed = any_at(found, "seed")?;
+    let seed = unlimited_at(found, "seed")?;
     let pages = required_at(found, "pages", MOST_GENERATED)?;
     Some(Job::Bulk { seed, pages })
 }

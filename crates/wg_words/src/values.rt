@@ -1,6 +1,6 @@
 ghost use Rattle.std.specs.Prelude.{◌≡◌, IfOk, map, option_map};
 ghost use Rattle.clap.specs.Words.{rows_of, found_of, all_of, first_of};
-ghost use Rattle.wg_words.specs.Values.{any_in, nonempty_of, name_in, name_or_none, optional_name_in, limited, number_up_to, number_or, number_in, numbers_of, numbers_in, required_in, unlimited_in, word_in};
+ghost use Rattle.wg_words.specs.Values.{nonempty_of, name_in, name_or_none, optional_name_in, limited, number_up_to, number_or, number_in, numbers_of, numbers_in, required_in, unlimited_in, word_in};
 
 use crate::Name;
 use clap::ArgMatches;
@@ -97,13 +97,6 @@ pub fn required_at(found: &ArgMatches<'_>, id: &str, most: u64) -> Option<u64>
 /// The number below 2^64 that an argument gives: none where it is absent or no decimal.
 pub fn unlimited_at(found: &ArgMatches<'_>, id: &str) -> Option<u64>
     ensures { result ≡ unlimited_in (rows_of (found_of found.now)) id.now }
-{
-    read_decimal(text_at(found, id)?.as_bytes())
-}
-
-/// The number that an argument gives, whatever it is below 2^64.
-pub fn any_at(found: &ArgMatches<'_>, id: &str) -> Option<u64>
-    ensures { result ≡ any_in (rows_of (found_of found.now)) id.now }
 {
     read_decimal(text_at(found, id)?.as_bytes())
 }
