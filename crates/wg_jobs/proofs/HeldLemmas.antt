@@ -54,7 +54,7 @@ values_within v p e =
     same_within : (q p : Parameters) → given q ≡ given p → IsWithinLimits q → IsWithinLimits p
     same_within q p is within = subst IsWithinLimits (let same : q ≡ p = cc in same) within
 
-read_within : (text : List ℕ) (p : Parameters) → properties_of text ≡ Ok p → IsWithinLimits p
+pub read_within : (text : List ℕ) (p : Parameters) → properties_of text ≡ Ok p → IsWithinLimits p
 unfolding properties_of
 read_within text p e = at (first_continued (lines_of text)) e
   where
@@ -72,11 +72,11 @@ file_read i (Some bytes) next is =
       | inr few ↦ (bytes, refl, λ n. rw few refl)
     ]
 
-text_read : (w : Result Parameters PropFault) (next : Parameters → Judged) → status_of (unless_bad_properties w next) ≡ Done → (p : Parameters) × (w ≡ Ok p) × ((n : Parameters → Judged) → unless_bad_properties w n ≡ n p)
+pub text_read : (w : Result Parameters PropFault) (next : Parameters → Judged) → status_of (unless_bad_properties w next) ≡ Done → (p : Parameters) × (w ≡ Ok p) × ((n : Parameters → Judged) → unless_bad_properties w n ≡ n p)
 text_read (Ok p) next is = (p, refl, λ n. refl)
 text_read (Err f) next is = absurd (let no : BadProperties f ≡ Done = is in cc)
 
-graph_read : (w : Result Accepted ArchiveFault) (next : Accepted → Judged) → status_of (unless_bad_graph w next) ≡ Done → (a : Accepted) × (w ≡ Ok a) × ((n : Accepted → Judged) → unless_bad_graph w n ≡ n a)
+pub graph_read : (w : Result Accepted ArchiveFault) (next : Accepted → Judged) → status_of (unless_bad_graph w next) ≡ Done → (a : Accepted) × (w ≡ Ok a) × ((n : Accepted → Judged) → unless_bad_graph w n ≡ n a)
 graph_read (Ok a) next is = (a, refl, λ n. refl)
 graph_read (Err f) next is = absurd (let no : BadArchive f ≡ Done = is in cc)
 

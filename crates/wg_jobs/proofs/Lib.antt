@@ -14,6 +14,8 @@ pub mod CheckLemmas
 pub mod PrintedLines
 pub mod ShownLemmas
 pub mod ShowJobs
+pub mod SpotJobs
+pub mod SpottedLemmas
 pub mod WritingLemmas
 pub mod BuildLemmas
 pub mod BuiltLemmas

@@ -1,5 +1,5 @@
 -- What each job comes to, by what its inputs hold, and the texts that are printed.
-use Rattle.wg_readings.specs.Judged.{Judged, Written, accepted, built, certified, claim_then, files_of, text_then, weights_then, with_archive, with_arcs, with_digraph, with_pages, with_places, with_records}
+use Rattle.wg_readings.specs.Judged.{Judged, Written, accepted, built, certified, claim_then, files_of, text_then, weights_then, with_archive, with_arcs, with_digraph, with_pages, with_places, with_records, with_successors}
 use Rattle.std.specs.Prelude.{ℕ, List, [], ◌++◌, length, map, get_or, if◌then◌else◌, codes, decimal, Option, Some, None}
 use Rattle.wg_io.specs.Puts.{joined}
 use Rattle.wg_params.specs.Parameters.{Parameters}
@@ -11,9 +11,10 @@ use Rattle.wg_arcs.specs.Text.{text_of_graph}
 use Rattle.wg_ascii.specs.Text as plain
 use Rattle.wg_offsets.specs.Places.{last_place}
 use Rattle.wg_words.specs.declared.jobs.Job.{Job}
-use Rattle.wg_words.specs.declared.jobs.Job.TheVariants.{Check, Arcs, Ascii, Offsets, Show, Rank, Verify, Build, Import, Recode, Transpose}
+use Rattle.wg_words.specs.declared.jobs.Job.TheVariants.{Check, Arcs, Ascii, Offsets, Show, Spot, Rank, Verify, Build, Import, Recode, Transpose}
 use Rattle.wg_words.specs.declared.layout.Layout.{Layout}
 use Rattle.wg_jobs.specs.Names.{writes_files}
+use Rattle.wg_readings.specs.Pairing.{offsets_then}
 use Rattle.wg_readings.specs.Readings.{Readings}
 use Rattle.wg_jobs.specs.Ranked.{bounds_after, certificate_text, ranking_text}
 use Rattle.wg_jobs.specs.Verified.{verified_line, with_gap}
@@ -71,6 +72,9 @@ judged r (Offsets base) held =
     with_records held (λ p bytes. with_places r p bytes (λ places. accepted (number_lines places)))
 judged r (Show base pages) held =
     with_archive r held (λ p a. with_pages p.nodes pages (λ all. accepted (successors_lines a.graph pages)))
+judged r (Spot base page) held =
+    with_records held (λ p bytes. offsets_then r p (held input.Offsets) (λ places.
+    with_successors r p bytes places page (λ list. accepted (successors_line page list))))
 judged r (Rank base rounds damping top weights certificate) held =
     with_records held (λ p bytes. with_digraph r p bytes (λ g.
     weights_then weights g.nodes (held input.Weights) (λ given.

@@ -8,5 +8,6 @@ pub mod Printed
 pub mod Ranked
 pub mod Reached
 pub mod Showing
+pub mod Spotted
 pub mod Verified
 pub mod Written

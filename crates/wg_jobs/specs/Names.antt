@@ -5,7 +5,7 @@ use Rattle.wg_io.specs.Outside.{Files}
 use Rattle.wg_io.specs.declared.output.Output.{Output}
 use Rattle.wg_io.specs.declared.output.Output.TheVariants as output
 use Rattle.wg_words.specs.declared.jobs.Job.{Job}
-use Rattle.wg_words.specs.declared.jobs.Job.TheVariants.{Check, Arcs, Ascii, Offsets, Show, Rank, Verify, Build, Import, Recode, Transpose}
+use Rattle.wg_words.specs.declared.jobs.Job.TheVariants.{Check, Arcs, Ascii, Offsets, Show, Spot, Rank, Verify, Build, Import, Recode, Transpose}
 use Rattle.wg_readings.specs.declared.status.Input.{Input}
 use Rattle.wg_readings.specs.declared.status.Input.TheVariants as input
 use Rattle.wg_readings.specs.declared.status.Status.{Status}
@@ -18,6 +18,7 @@ inputs_of (Arcs base) = record_files base
 inputs_of (Ascii base) = record_files base
 inputs_of (Offsets base) = record_files base
 inputs_of (Show base pages) = archive_files base
+inputs_of (Spot base page) = archive_files base
 inputs_of (Rank base rounds damping top weights certificate) = record_files base ++ weights_file weights
 inputs_of (Verify base certificate weights) = record_files base ++ weights_file weights ++ certificate_file certificate
 inputs_of (Build arcs base nodes layout) = list_file arcs
@@ -65,6 +66,7 @@ has_output job o = is_some (output_name job o)
 -- whether a job asks for pages by their numbers
 abbrev pub names_pages : Job → Bool
 names_pages (Show base pages) = true
+names_pages (Spot base page) = true
 names_pages _ = false
 
 -- how a job can end at all

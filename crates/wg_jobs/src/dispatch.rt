@@ -11,6 +11,7 @@ use crate::printing::{Listing, print_records};
 use crate::rank::{Asked, rank};
 use crate::recode::recode;
 use crate::show::show;
+use crate::spot::spot;
 use crate::transpose::transpose;
 use crate::verify::verify;
 use std::alloc::Global;
@@ -46,6 +47,7 @@ pub fn perform<D: Depot, O: Sink>(alloc: Global, job: &Job, depot: &mut D, out: 
             out,
         )),
         Job::Show { base, pages } => ending_of(show(alloc, base, pages, depot, out)),
+        Job::Spot { base, page } => ending_of(spot(alloc, base, *page, depot, out)),
         Job::Rank {
             base,
             rounds,

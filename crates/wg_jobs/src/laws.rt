@@ -4,11 +4,12 @@ ghost use Rattle.wg_jobs.specs.Built.{BuildsAreAccepted, BuiltAreAccepted, Conve
 ghost use Rattle.wg_jobs.specs.Certificates.{AcceptedAreProven, WrittenAreAccepted};
 ghost use Rattle.wg_readings.specs.Readings.{Readings, ReadingsAreOne};
 ghost use Rattle.wg_jobs.specs.Ranked.{RankingIsProven};
+ghost use Rattle.wg_jobs.specs.Spotted.{SpotsAreShown};
 
 /// There are functions that give for all parameters and all bytes the graph or the places that they stand for or
-/// their first fault, for all bounds their ranking, and for all arc lists and all plain texts their graph or their
-/// first faulty line; within the limits of the parameters there is only one of each. So a clause about each such five
-/// speaks of these, and is never empty.
+/// their first fault, for all pages what they are by their chain of references alone, for all bounds their ranking, and
+/// for all arc lists and all plain texts their graph or their first faulty line; within the limits of the parameters
+/// there is only one of each. So a clause about each such six speaks of these, and is never empty.
 pub fn readings()
     ensures some { Readings }
     ensures one { ReadingsAreOne }
@@ -18,6 +19,12 @@ pub fn readings()
 /// width.
 pub fn rankings()
     ensures { (r : Readings) (rounds damping : ℕ) → RankingIsProven r rounds damping }
+{}
+
+/// Of an archive that `check` accepts, `spot` prints the line that `show` prints of the page, or refuses the page as
+/// `show` does, although it judges the records of one chain alone.
+pub fn spotted_pages()
+    ensures { (r : Readings) → SpotsAreShown r }
 {}
 
 /// What is built is accepted. Of the archive of any graph within the limits, `check` prints the pages, the arcs and

@@ -17,7 +17,8 @@
 //!
 //! `check`, `arcs`, `ascii`, `offsets` and `recode` read the graph in pieces, and `check` and `show` the offsets, so that an
 //! archive need not fit into memory; all other inputs are held whole until they are read. `show` opens pages by their
-//! offsets, and prints their successors as they come.
+//! offsets, and prints their successors as they come. `spot` judges no record but those that one page refers to, and holds
+//! the graph file and the offsets whole.
 #![tactic(auto)]
 
 mod build;
@@ -35,6 +36,7 @@ mod ranked;
 mod recode;
 mod show;
 mod shown;
+mod spot;
 mod text;
 mod transpose;
 mod verify;

@@ -16,6 +16,9 @@ returns-in-Offsets g c = performs_at _ _ _ _ _ _ _ _ _ _ c.in-Offsets.is c.endin
 pub returns-in-Show : goal.returns-in-Show
 returns-in-Show g c = performs_at _ _ _ _ _ _ _ _ _ _ c.in-Show.is c.ending_of-in-Show.ensures.status c.ending_of-in-Show.ensures.arcs c.show.ensures
 
+pub returns-in-Spot : goal.returns-in-Spot
+returns-in-Spot g c = performs_at _ _ _ _ _ _ _ _ _ _ c.in-Spot.is c.ending_of-in-Spot.ensures.status c.ending_of-in-Spot.ensures.arcs c.spot.ensures
+
 pub returns-in-Rank : goal.returns-in-Rank
 returns-in-Rank g c = performs_at _ _ _ _ _ _ _ _ _ _ c.in-Rank.is c.ending_of-in-Rank.ensures.status c.ending_of-in-Rank.ensures.arcs c.rank.ensures
 
