@@ -25,7 +25,7 @@ use Rattle.wg_readings.specs.declared.ending.Ending.{Ending}
 use Rattle.wg_readings.specs.declared.status.Input.{Input}
 use Rattle.wg_readings.specs.declared.status.Input.TheVariants.{Graph}
 use Rattle.wg_readings.specs.declared.status.Status.{Status}
-use Rattle.wg_readings.specs.declared.status.Status.TheVariants.{Done, Usage, Memory, ReadFault, WriteFault, Missing, BadArcs, BadProperties, BadArchive, NoPage, OverLimit, BadWeights, BadText, BadCertificate}
+use Rattle.wg_readings.specs.declared.status.Status.TheVariants.{Done, Usage, Memory, ReadFault, WriteFault, Missing, BadArcs, BadProperties, BadArchive, NoPage, OverLimit, BadWeights, BadText, BadMap, BadCertificate}
 use Rattle.wg_jobs.proofs.JobSteps.{ComesTo, Hold, bad_possible, judges_here, reaches}
 use Rattle.wg_readings.proofs.PassLemmas.{graph_goes}
 use Rattle.wg_jobs.proofs.PerformsLemmas.{files_same, unread_possible}
@@ -47,6 +47,7 @@ hindered_output due old new (NoPage page) h put = absurd h
 hindered_output due old new (OverLimit i) h put = absurd h
 hindered_output due old new (BadWeights f) h put = absurd h
 hindered_output due old new (BadText line kind) h put = absurd h
+hindered_output due old new (BadMap f pages) h put = absurd h
 hindered_output due old new (BadCertificate f) h put = absurd h
 
 output_up_to : (due old new : List ℕ) (r : Result (Unit {0}) Ending) → IfErr r (λ e. IsHindrance e.status) → PutsUpTo due old new r → HasOutput due old new (status_in r)
@@ -67,6 +68,7 @@ hindered_promised held (NoPage page) n h = tt
 hindered_promised held (OverLimit i) n h = tt
 hindered_promised held (BadWeights f) n h = tt
 hindered_promised held (BadText line kind) n h = tt
+hindered_promised held (BadMap f pages) n h = tt
 hindered_promised held (BadCertificate f) n h = tt
 
 promised_in : (held : Input → Option (List ℕ)) (r : Result (Unit {0}) Ending) → IfErr r (λ e. IsHindrance e.status) → ArePromised held (status_in r) (arcs_in r)

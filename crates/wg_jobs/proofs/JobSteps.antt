@@ -90,6 +90,7 @@ gone input.ArcList held = refl
 gone input.Weights held = refl
 gone input.Certificate held = refl
 gone input.Text held = refl
+gone input.Map held = refl
 
 -- A job has read these inputs, and goes on by the rest of its judgement, whatever its other inputs hold. Nothing has changed.
 pub record ComesTo (job : Job) (p : Parameters) (td : Bool) (before : Outside) (files : Files) (counts : List ℕ → Counts) (read : List Input) (rest : Readings → (Input → Option (List ℕ)) → Judged) : Type 0 where

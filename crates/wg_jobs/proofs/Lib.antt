@@ -29,3 +29,5 @@ pub mod RankJobs
 pub mod CertifyLemmas
 pub mod CopyingLemmas
 pub mod RewrittenLemmas
+pub mod QuotientJobs
+pub mod QuotientLemmas

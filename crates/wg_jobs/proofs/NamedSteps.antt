@@ -9,7 +9,7 @@ use Rattle.wg_words.specs.declared.jobs.Job.{Job}
 use Rattle.wg_jobs.specs.Reached.{Reaches}
 use Rattle.wg_readings.specs.Answers.{Answers, without}
 use Rattle.wg_readings.specs.Judged.{Judged, refused}
-use Rattle.wg_readings.specs.Loading.{IsBadCertificate, IsBadWeights, ReadsNamed}
+use Rattle.wg_readings.specs.Loading.{IsBadCertificate, IsBadMap, IsBadWeights, ReadsNamed}
 use Rattle.wg_jobs.specs.Names.{can_end, has_input, input_name}
 use Rattle.wg_readings.specs.Names.{held_by, IsOfInput}
 use Rattle.wg_jobs.specs.Performs.{Outside, Performs, judged_on, outside}
@@ -17,7 +17,7 @@ use Rattle.wg_readings.specs.Promised.{ArePromised}
 use Rattle.wg_readings.specs.Readings.{Readings}
 use Rattle.wg_readings.specs.declared.ending.Ending.{Ending}
 use Rattle.wg_readings.specs.declared.status.Input.{Input}
-use Rattle.wg_readings.specs.declared.status.Input.TheVariants.{Weights, Certificate}
+use Rattle.wg_readings.specs.declared.status.Input.TheVariants.{Weights, Certificate, Map}
 use Rattle.wg_readings.specs.declared.status.Status.{Status}
 use Rattle.wg_readings.specs.declared.status.Status.TheVariants.{Memory, Missing}
 use Rattle.wg_jobs.proofs.JobSteps.{ComesTo, Hold, ends_without, gone, hold_all, judges_rest}
@@ -46,6 +46,14 @@ certificate_refused job has = record {
   stop = λ s f. subst IsStop (sym f.1) tt;
   possible = λ s f. subst (λ (x : Status). IsTrue (can_end job x)) (sym f.1) has;
   promised = λ held s n f. subst (λ (x : Status). ArePromised held x n) (sym f.1) tt;
+}
+
+pub map_refused : (job : Job) → IsTrue (has_input job Map) → AreRefusals job IsBadMap
+map_refused job has = record {
+  own = λ s f. subst IsOwn (sym f.2) tt;
+  stop = λ s f. subst IsStop (sym f.2) tt;
+  possible = λ s f. subst (λ (x : Status). IsTrue (can_end job x)) (sym f.2) has;
+  promised = λ held s n f. subst (λ (x : Status). ArePromised held x n) (sym f.2) tt;
 }
 
 module _ (job : Job) (base : List ℕ) (td to : Bool) (before : Outside) (p : Parameters) (files : Files) (counts : List ℕ → Counts) (read : List Input) where

@@ -25,7 +25,7 @@ use Rattle.wg_readings.specs.declared.ending.Ending.{Ending}
 use Rattle.wg_readings.specs.declared.status.Input.{Input}
 use Rattle.wg_readings.specs.declared.status.Input.TheVariants as input
 use Rattle.wg_readings.specs.declared.status.Status.{Status}
-use Rattle.wg_readings.specs.declared.status.Status.TheVariants.{Done, Usage, Memory, ReadFault, WriteFault, Missing, BadArcs, BadProperties, BadArchive, NoPage, OverLimit, BadWeights, BadText, BadCertificate}
+use Rattle.wg_readings.specs.declared.status.Status.TheVariants.{Done, Usage, Memory, ReadFault, WriteFault, Missing, BadArcs, BadProperties, BadArchive, NoPage, OverLimit, BadWeights, BadText, BadMap, BadCertificate}
 use Rattle.wg_readings.proofs.Statuses.{cause_named, unput_cause}
 
 -- ---- what is said of a job is said of an equal one
@@ -65,6 +65,7 @@ stop_output due old new (NoPage page) stop same = same
 stop_output due old new (OverLimit i) stop same = same
 stop_output due old new (BadWeights f) stop same = same
 stop_output due old new (BadText line kind) stop same = same
+stop_output due old new (BadMap f pages) stop same = same
 stop_output due old new (BadCertificate f) stop same = same
 
 -- the files before any of them was touched
@@ -82,6 +83,7 @@ kept_after a old new (NoPage page) stop same = same
 kept_after a old new (OverLimit i) stop same = same
 kept_after a old new (BadWeights f) stop same = same
 kept_after a old new (BadText line kind) stop same = same
+kept_after a old new (BadMap f pages) stop same = same
 kept_after a old new (BadCertificate f) stop same = same
 
 -- what stands at an end that is not a read fault while the archive was written
@@ -94,6 +96,7 @@ left_by true a old new (ReadFault input.ArcList) h = h
 left_by true a old new (ReadFault input.Weights) h = h
 left_by true a old new (ReadFault input.Certificate) h = h
 left_by true a old new (ReadFault input.Text) h = h
+left_by true a old new (ReadFault input.Map) h = h
 left_by true a old new Done h = h
 left_by true a old new Usage h = h
 left_by true a old new Memory h = h
@@ -106,6 +109,7 @@ left_by true a old new (NoPage page) h = h
 left_by true a old new (OverLimit i) h = h
 left_by true a old new (BadWeights f) h = h
 left_by true a old new (BadText line kind) h = h
+left_by true a old new (BadMap f pages) h = h
 left_by true a old new (BadCertificate f) h = h
 
 -- a certificate before it was touched
@@ -123,6 +127,7 @@ certificate_kept text old new (NoPage page) stop same = same
 certificate_kept text old new (OverLimit i) stop same = same
 certificate_kept text old new (BadWeights f) stop same = same
 certificate_kept text old new (BadText line kind) stop same = same
+certificate_kept text old new (BadMap f pages) stop same = same
 certificate_kept text old new (BadCertificate f) stop same = same
 
 files_kept : (names : Output → Option (List ℕ)) (again : Bool) (a : Option Written) (old new : Files) (s : Status) → IsStop s → new ≡ old → HasFiles names again a old new s
@@ -293,4 +298,5 @@ module _ (inputs : Names) (outputs : Output → Option (List ℕ)) (old new : Li
   unhindered j (OverLimit i) cause (inr hinders) = absurd hinders
   unhindered j (BadWeights f) cause (inr hinders) = absurd hinders
   unhindered j (BadText line kind) cause (inr hinders) = absurd hinders
+  unhindered j (BadMap f pages) cause (inr hinders) = absurd hinders
   unhindered j (BadCertificate f) cause (inr hinders) = absurd hinders

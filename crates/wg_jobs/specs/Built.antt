@@ -1,6 +1,7 @@
 -- What is said of an archive that was built.
 use Rattle.std.specs.Prelude.{◌≡◌, ℕ, ◌≤◌, List, length, Option, Some, None}
 use Rattle.wg_io.specs.declared.limits.TheConstants.{MOST_BYTES}
+use Rattle.wg_params.specs.declared.limits.TheConstants.{MOST_PAGES}
 use Rattle.wg_params.specs.Parameters.{Parameters, IsWithinLimits}
 use Rattle.wg_graph.specs.Digraph.{Digraph, IsGraph, arc_count}
 use Rattle.wg_offsets.specs.Words.{places_of}
@@ -11,7 +12,7 @@ use Rattle.wg_arcs.specs.Text.{text_of_arcs, text_of_graph}
 use Rattle.wg_ascii.specs.Laws.{HaveSameWords}
 use Rattle.wg_ascii.specs.Text as plain
 use Rattle.wg_words.specs.Layouts.{params_of}
-use Rattle.wg_words.specs.declared.jobs.Job.TheVariants.{Check, Arcs, Ascii, Offsets, Show, Rank, Build, Import, Recode, Transpose}
+use Rattle.wg_words.specs.declared.jobs.Job.TheVariants.{Check, Arcs, Ascii, Offsets, Show, Rank, Build, Import, Quotient, Recode, Transpose}
 use Rattle.wg_words.specs.declared.layout.Layout.{Layout}
 use Rattle.wg_readings.specs.Readings.{Readings}
 use Rattle.wg_jobs.specs.Ranked.{bounds_after, ranking_text}
@@ -31,6 +32,7 @@ holding a input.ArcList = None
 holding a input.Weights = None
 holding a input.Certificate = None
 holding a input.Text = None
+holding a input.Map = None
 
 -- The greedy archive of a graph within the limits is accepted, and its arcs, plain text, places and ranking are those of the graph.
 pub record IsAcceptedAs (r : Readings) (p : Parameters) (g : Digraph) (base : List ℕ) : Type 0 where
@@ -69,6 +71,13 @@ pub record ImportsAreAccepted (r : Readings) : Type 0 where
   pub back : (base output name text : List ℕ) (layout : Layout) (held after : Input → Option (List ℕ))
       → judged r (Ascii base) held ≡ accepted text → length text ≤ MOST_BYTES → after input.Text ≡ Some text
       → judged r (Import name output layout) after ≡ judged r (Recode base output layout) held
+
+-- What a quotient comes to is accepted with its line, for each archive and each map that are read, and each layout within the limits.
+abbrev pub QuotientsAreAccepted : Readings → Type 0
+QuotientsAreAccepted r =
+    (input map output : List ℕ) (classes : ℕ) (layout : Layout) (held : Input → Option (List ℕ)) (a : Archive) (out : List ℕ)
+    → classes ≤ MOST_PAGES → IsWithinLimits (params_of layout 0 0) → judged r (Quotient input map output classes layout) held ≡ built a out
+    → judged r (Check output) (holding a) ≡ accepted out
 
 -- What a recoding comes to is accepted with its line, and has the arcs of the archive that was read.
 pub record IsAcceptedRecoding (r : Readings) (held : Input → Option (List ℕ)) (input output : List ℕ) (a : Archive) (out : List ℕ) : Type 0 where

@@ -1,17 +1,18 @@
 -- What each job comes to, by what its inputs hold, and the texts that are printed.
-use Rattle.wg_readings.specs.Judged.{Judged, Written, accepted, built, certified, claim_then, files_of, text_then, weights_then, with_archive, with_arcs, with_digraph, with_pages, with_places, with_records, with_successors}
+use Rattle.wg_readings.specs.Judged.{Judged, Written, accepted, built, certified, claim_then, files_of, map_then, text_then, weights_then, with_archive, with_arcs, with_digraph, with_pages, with_places, with_records, with_successors}
 use Rattle.std.specs.Prelude.{ℕ, List, [], ◌++◌, length, map, get_or, if◌then◌else◌, codes, decimal, Option, Some, None}
 use Rattle.wg_io.specs.Puts.{joined}
 use Rattle.wg_params.specs.Parameters.{Parameters}
 use Rattle.wg_graph.specs.Digraph.{Digraph}
 use Rattle.wg_rank.specs.Intervals.{Intervals}
 use Rattle.wg_encoder.specs.Archive.{graph_bits}
+use Rattle.wg_shape.specs.Quotient.{quotient_of}
 use Rattle.wg_transpose.specs.Transposed.{transposed}
 use Rattle.wg_arcs.specs.Text.{text_of_graph}
 use Rattle.wg_ascii.specs.Text as plain
 use Rattle.wg_offsets.specs.Places.{last_place}
 use Rattle.wg_words.specs.declared.jobs.Job.{Job}
-use Rattle.wg_words.specs.declared.jobs.Job.TheVariants.{Check, Arcs, Ascii, Offsets, Show, Spot, Rank, Verify, Build, Import, Recode, Transpose}
+use Rattle.wg_words.specs.declared.jobs.Job.TheVariants.{Check, Arcs, Ascii, Offsets, Show, Spot, Rank, Verify, Build, Import, Quotient, Recode, Transpose}
 use Rattle.wg_words.specs.declared.layout.Layout.{Layout}
 use Rattle.wg_jobs.specs.Names.{writes_files}
 use Rattle.wg_readings.specs.Pairing.{offsets_then}
@@ -88,6 +89,9 @@ judged r (Build arcs base nodes layout) held =
     with_arcs r nodes held (λ g. builds layout g)
 judged r (Import text base layout) held =
     text_then r (held input.Text) (λ g. builds layout g)
+judged r (Quotient base map to classes layout) held =
+    with_records held (λ p bytes. with_digraph r p bytes (λ g.
+    map_then g.nodes classes (held input.Map) (λ list. builds layout (quotient_of g list classes))))
 judged r (Recode base to layout) held =
     with_records held (λ p bytes. with_digraph r p bytes (λ g. builds layout g))
 judged r (Transpose base to layout) held =

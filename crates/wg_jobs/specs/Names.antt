@@ -1,15 +1,15 @@
 -- The files of a job.
-use Rattle.wg_readings.specs.Names.{name_of_input, name_of_output, record_files, archive_files, list_file, text_file, weights_file, certificate_file, archive_outputs, certificate_output, held_by, file_of_fault}
+use Rattle.wg_readings.specs.Names.{name_of_input, name_of_output, record_files, archive_files, list_file, text_file, weights_file, certificate_file, map_file, archive_outputs, certificate_output, held_by, file_of_fault}
 use Rattle.std.specs.Prelude.{ℕ, Bool, true, false, nat_lt, List, [], ◌++◌, length, Option, Some, is_some}
 use Rattle.wg_io.specs.Outside.{Files}
 use Rattle.wg_io.specs.declared.output.Output.{Output}
 use Rattle.wg_io.specs.declared.output.Output.TheVariants as output
 use Rattle.wg_words.specs.declared.jobs.Job.{Job}
-use Rattle.wg_words.specs.declared.jobs.Job.TheVariants.{Check, Arcs, Ascii, Offsets, Show, Spot, Rank, Verify, Build, Import, Recode, Transpose}
+use Rattle.wg_words.specs.declared.jobs.Job.TheVariants.{Check, Arcs, Ascii, Offsets, Show, Spot, Rank, Verify, Build, Import, Quotient, Recode, Transpose}
 use Rattle.wg_readings.specs.declared.status.Input.{Input}
 use Rattle.wg_readings.specs.declared.status.Input.TheVariants as input
 use Rattle.wg_readings.specs.declared.status.Status.{Status}
-use Rattle.wg_readings.specs.declared.status.Status.TheVariants.{Done, Usage, Memory, ReadFault, WriteFault, Missing, BadArcs, BadProperties, BadArchive, NoPage, OverLimit, BadWeights, BadText, BadCertificate}
+use Rattle.wg_readings.specs.declared.status.Status.TheVariants.{Done, Usage, Memory, ReadFault, WriteFault, Missing, BadArcs, BadProperties, BadArchive, NoPage, OverLimit, BadWeights, BadText, BadMap, BadCertificate}
 
 -- what each job reads, in its order, and what it writes
 abbrev pub inputs_of : Job → List (Input × List ℕ)
@@ -23,12 +23,14 @@ inputs_of (Rank base rounds damping top weights certificate) = record_files base
 inputs_of (Verify base certificate weights) = record_files base ++ weights_file weights ++ certificate_file certificate
 inputs_of (Build arcs base nodes layout) = list_file arcs
 inputs_of (Import text base layout) = text_file text
+inputs_of (Quotient base map to classes layout) = record_files base ++ map_file map
 inputs_of (Recode base to layout) = record_files base
 inputs_of (Transpose base to layout) = record_files base
 
 abbrev pub outputs_of : Job → List (Output × List ℕ)
 outputs_of (Build arcs base nodes layout) = archive_outputs base
 outputs_of (Import text base layout) = archive_outputs base
+outputs_of (Quotient from map base classes layout) = archive_outputs base
 outputs_of (Recode from base layout) = archive_outputs base
 outputs_of (Transpose from base layout) = archive_outputs base
 outputs_of (Rank base rounds damping top weights (Some certificate)) = certificate_output certificate
@@ -84,4 +86,5 @@ can_end job (NoPage page) = names_pages job
 can_end job (OverLimit i) = has_input job i
 can_end job (BadWeights f) = has_input job input.Weights
 can_end job (BadText line kind) = has_input job input.Text
+can_end job (BadMap f pages) = has_input job input.Map
 can_end job (BadCertificate f) = has_input job input.Certificate

@@ -8,6 +8,7 @@ use crate::build::build;
 use crate::check::check;
 use crate::import::import;
 use crate::printing::{Listing, print_records};
+use crate::quotient::quotient;
 use crate::rank::{Asked, rank};
 use crate::recode::recode;
 use crate::show::show;
@@ -77,6 +78,13 @@ pub fn perform<D: Depot, O: Sink>(alloc: Global, job: &Job, depot: &mut D, out: 
         Job::Import { text, base, layout } => {
             ending_of(import(alloc, text, base, layout, depot, out))
         }
+        Job::Quotient {
+            input,
+            map,
+            output,
+            classes,
+            layout,
+        } => ending_of(quotient(alloc, input, map, output, *classes, layout, depot, out)),
         Job::Recode {
             input,
             output,

@@ -1,6 +1,6 @@
 //! What the contract of [`perform`](crate::perform) rests on.
 ghost use Rattle.std.specs.Prelude.{ℕ};
-ghost use Rattle.wg_jobs.specs.Built.{BuildsAreAccepted, BuiltAreAccepted, ConversionsAreAccepted, ImportsAreAccepted};
+ghost use Rattle.wg_jobs.specs.Built.{BuildsAreAccepted, BuiltAreAccepted, ConversionsAreAccepted, ImportsAreAccepted, QuotientsAreAccepted};
 ghost use Rattle.wg_jobs.specs.Certificates.{AcceptedAreProven, WrittenAreAccepted};
 ghost use Rattle.wg_readings.specs.Readings.{Readings, ReadingsAreOne};
 ghost use Rattle.wg_jobs.specs.Ranked.{RankingIsProven};
@@ -42,6 +42,12 @@ pub fn built_archives()
 /// `ascii` prints of an archive, where a file may be so long, is to recode the archive.
 pub fn imported_archives()
     ensures { (r : Readings) → ImportsAreAccepted r }
+{}
+
+/// What `quotient` writes is accepted, whatever archive and whatever map were read, with classes and a layout within the
+/// limits: `check` prints of the three files the very line that was printed.
+pub fn quotients()
+    ensures { (r : Readings) → QuotientsAreAccepted r }
 {}
 
 /// What is recoded or transposed is accepted, whatever archive was read, with a layout within the limits: `check`

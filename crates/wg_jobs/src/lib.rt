@@ -31,6 +31,7 @@ mod import;
 pub mod laws;
 mod print;
 mod printing;
+mod quotient;
 mod rank;
 mod ranked;
 mod recode;

@@ -31,6 +31,9 @@ returns-in-Build g c = performs_at _ _ _ _ _ _ _ _ _ _ c.in-Build.is c.ending_of
 pub returns-in-Import : goal.returns-in-Import
 returns-in-Import g c = performs_at _ _ _ _ _ _ _ _ _ _ c.in-Import.is c.ending_of-in-Import.ensures.status c.ending_of-in-Import.ensures.arcs c.import.ensures
 
+pub returns-in-Quotient : goal.returns-in-Quotient
+returns-in-Quotient g c = performs_at _ _ _ _ _ _ _ _ _ _ c.in-Quotient.is c.ending_of-in-Quotient.ensures.status c.ending_of-in-Quotient.ensures.arcs c.quotient.ensures
+
 pub returns-in-Recode : goal.returns-in-Recode
 returns-in-Recode g c = performs_at _ _ _ _ _ _ _ _ _ _ c.in-Recode.is c.ending_of-in-Recode.ensures.status c.ending_of-in-Recode.ensures.arcs c.recode.ensures
 
