@@ -8,8 +8,8 @@ use Rattle.wg_readings.specs.Names.{certificate_to, file_of_fault}
 use Rattle.wg_readings.specs.declared.status.Input.{Input}
 use Rattle.wg_readings.specs.declared.status.Input.TheVariants as input
 use Rattle.wg_readings.specs.declared.status.Status.{Status}
-use Rattle.wg_readings.specs.declared.status.Status.TheVariants.{Done, Usage, Memory, ReadFault, WriteFault, Missing, BadArcs, BadProperties, BadArchive, NoPage, OverLimit, BadWeights, BadText, BadCertificate}
-use Rattle.wg_cli.specs.Texts.{text_of_line, text_of_properties, text_of_archive, text_of_weights, text_of_plain, text_of_certificate, no_page_line}
+use Rattle.wg_readings.specs.declared.status.Status.TheVariants.{Done, Usage, Memory, ReadFault, WriteFault, Missing, BadArcs, BadProperties, BadArchive, NoPage, OverLimit, BadWeights, BadText, BadMap, BadCertificate}
+use Rattle.wg_cli.specs.Texts.{text_of_line, text_of_properties, text_of_archive, text_of_numbers, text_of_weights, text_of_plain, text_of_certificate, no_page_line}
 
 -- a line that names a file; none where the job has no such file
 abbrev pub naming : List ℕ → Option (List ℕ) → List ℕ → List ℕ
@@ -46,6 +46,7 @@ line_of job promised (NoPage page) = no_page_line page
 line_of job promised (OverLimit i) = naming (codes "wg: too long: ") (name_in job i) []
 line_of job promised (BadWeights f) = naming (codes "wg: ") (name_in job input.Weights) (codes ": " ++ text_of_weights f)
 line_of job promised (BadText line kind) = naming (codes "wg: ") (name_in job input.Text) (codes ": " ++ text_of_plain line kind)
+line_of job promised (BadMap f pages) = naming (codes "wg: ") (name_in job input.Map) (codes ": " ++ text_of_numbers pages f)
 line_of job promised (BadCertificate f) = naming (codes "wg: ") (name_in job input.Certificate) (codes ": " ++ text_of_certificate f)
 
 -- the line is there, or a prefix of it, and this only where the sink failed

@@ -2,7 +2,7 @@ ghost use Rattle.std.specs.Prelude.{◌≡◌, ◌++◌, Some, option_map};
 ghost use Rattle.wg_io.specs.declared.suffixes.TheConstants.{PROPERTIES, GRAPH, OFFSETS};
 ghost use Rattle.wg_jobs.specs.Names.{input_name, output_name};
 ghost use Rattle.wg_readings.specs.Names.{archive_files, archive_named, list_named, name_of_input, record_files, text_named};
-ghost use Rattle.wg_readings.specs.Names.{certificate_file, certificate_to, weights_file};
+ghost use Rattle.wg_readings.specs.Names.{certificate_file, certificate_to, map_file, weights_file};
 ghost use Rattle.wg_cli.specs.Lines.{certificate_in};
 
 use crate::Input;
@@ -26,6 +26,11 @@ pub fn input_parts(job: &Job, input: Input) -> Option<(&str, &'static str)>
         } => verify_input(base, certificate, weights, input),
         Job::Build { arcs, .. } => list_parts(arcs, input),
         Job::Import { text, .. } => text_parts(text, input),
+        Job::Quotient {
+            input: base,
+            map,
+            ..
+        } => mapped_input(base, map, input),
         Job::Recode { input: base, .. } | Job::Transpose { input: base, .. } => {
             record_input(base, input)
         }
@@ -40,7 +45,7 @@ fn archive_input(base: &Name, input: Input) -> Option<(&str, &'static str)>
         Input::Properties => Some((base.as_str(), PROPERTIES)),
         Input::Graph => Some((base.as_str(), GRAPH)),
         Input::Offsets => Some((base.as_str(), OFFSETS)),
-        Input::ArcList | Input::Weights | Input::Certificate | Input::Text => None,
+        Input::ArcList | Input::Weights | Input::Certificate | Input::Text | Input::Map => None,
     }
 }
 
@@ -51,7 +56,12 @@ fn record_input(base: &Name, input: Input) -> Option<(&str, &'static str)>
     match input {
         Input::Properties => Some((base.as_str(), PROPERTIES)),
         Input::Graph => Some((base.as_str(), GRAPH)),
-        Input::Offsets | Input::ArcList | Input::Weights | Input::Certificate | Input::Text => None,
+        Input::Offsets
+        | Input::ArcList
+        | Input::Weights
+        | Input::Certificate
+        | Input::Text
+        | Input::Map => None,
     }
 }
 
@@ -82,7 +92,7 @@ fn weighed_input<'a>(
         Input::Properties => Some((base.as_str(), PROPERTIES)),
         Input::Graph => Some((base.as_str(), GRAPH)),
         Input::Weights => Some((weights.as_str(), "")),
-        Input::Offsets | Input::ArcList | Input::Certificate | Input::Text => None,
+        Input::Offsets | Input::ArcList | Input::Certificate | Input::Text | Input::Map => None,
     }
 }
 
@@ -114,7 +124,7 @@ fn claim_input<'a>(
         Input::Properties => Some((base.as_str(), PROPERTIES)),
         Input::Graph => Some((base.as_str(), GRAPH)),
         Input::Certificate => Some((certificate.as_str(), "")),
-        Input::Offsets | Input::ArcList | Input::Weights | Input::Text => None,
+        Input::Offsets | Input::ArcList | Input::Weights | Input::Text | Input::Map => None,
     }
 }
 
@@ -133,7 +143,20 @@ fn weighed_claim_input<'a>(
         Input::Graph => Some((base.as_str(), GRAPH)),
         Input::Weights => Some((weights.as_str(), "")),
         Input::Certificate => Some((certificate.as_str(), "")),
-        Input::Offsets | Input::ArcList | Input::Text => None,
+        Input::Offsets | Input::ArcList | Input::Text | Input::Map => None,
+    }
+}
+
+// The name of one of the files of an archive's records, or of a map.
+fn mapped_input<'a>(base: &'a Name, map: &'a Name, input: Input) -> Option<(&'a str, &'static str)>
+    ensures { option_map (λ parts. parts.0.now ++ parts.1.now) result
+        ≡ name_of_input (record_files base.now ++ map_file map.now) input }
+{
+    match input {
+        Input::Properties => Some((base.as_str(), PROPERTIES)),
+        Input::Graph => Some((base.as_str(), GRAPH)),
+        Input::Map => Some((map.as_str(), "")),
+        Input::Offsets | Input::ArcList | Input::Weights | Input::Certificate | Input::Text => None,
     }
 }
 
@@ -148,7 +171,8 @@ fn list_parts(arcs: &Name, input: Input) -> Option<(&str, &'static str)>
         | Input::Offsets
         | Input::Weights
         | Input::Certificate
-        | Input::Text => None,
+        | Input::Text
+        | Input::Map => None,
     }
 }
 
@@ -163,7 +187,8 @@ fn text_parts(text: &Name, input: Input) -> Option<(&str, &'static str)>
         | Input::Offsets
         | Input::ArcList
         | Input::Weights
-        | Input::Certificate => None,
+        | Input::Certificate
+        | Input::Map => None,
     }
 }
 
@@ -181,6 +206,7 @@ pub fn output_parts(job: &Job, output: Output) -> Option<(&str, &'static str)>
         Job::Rank { certificate, .. } => certificate_parts(certificate, output),
         Job::Build { base, .. }
         | Job::Import { base, .. }
+        | Job::Quotient { output: base, .. }
         | Job::Recode { output: base, .. }
         | Job::Transpose { output: base, .. } => archive_parts(base, output),
     }

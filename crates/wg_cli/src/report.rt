@@ -150,6 +150,9 @@ fn write_line<S: Sink>(
         Status::BadText { line, kind } => {
             fault_in(sink, job, Input::Text, &texts::plain(line, kind))
         }
+        Status::BadMap { fault, pages } => {
+            fault_in(sink, job, Input::Map, &texts::numbers(pages, fault))
+        }
         Status::BadCertificate(fault) => {
             fault_in(sink, job, Input::Certificate, &texts::certificate(fault))
         }

@@ -13,6 +13,7 @@ mod lines;
 mod lists;
 mod outside;
 mod plain;
+mod quotient;
 mod rankings;
 mod recodings;
 mod shrinking;

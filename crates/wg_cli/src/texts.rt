@@ -151,8 +151,8 @@ fn number_kind(kind: NumbersKind) -> &'static str
     }
 }
 
-// A fault of a text of so many numbers.
-fn numbers(wanted: u64, fault: NumbersFault) -> Text
+/// A fault of a text of so many numbers.
+pub fn numbers(wanted: u64, fault: NumbersFault) -> Text
     ensures { result ≡ text_of_numbers wanted fault }
 {
     match fault {
