@@ -14,6 +14,7 @@ use Rattle.wg_iterators.specs.Coming.{union_of}
 use Rattle.wg_codes.specs.Standing.{IsWord}
 use Rattle.wg_iterators.specs.Laid.{MaybeWord}
 use Rattle.wg_iterators.specs.Fronts.{copied_of}
+use Rattle.wg_iterators.specs.Headed.{TakesHead}
 use Rattle.wg_iterators.specs.Apart.{AreApart}
 use Rattle.wg_iterators.specs.Laid.{WordsTo, IntervalsTo, ResidualsTo, list_or_none, length_of, Laid}
 use Rattle.wg_iterators.proofs.PassLemmas.{Takes}
@@ -58,6 +59,15 @@ reference_read p page below z list z1 z2 d w r b code flag window is takes l e =
 pub reference_value : (p : Parameters) (page : ℕ) (below : Option (List ℕ)) (z : List Bool) (list : List ℕ) (z1 z2 : List Bool) (d w r : ℕ) (b : Bool) (code : Code) → b ≡ (ltb 0 d && ltb 0 w) → w ≡ p.window → code ≡ p.references → MaybeTakes b code z1 z2 r
     → (l : Laid p page below z list) → (l.outdegree ≡ d) × (l.after_outdegree ≡ z1) → l.reference ≡ r
 reference_value p page below z list z1 z2 d w r b code flag window is takes l e = (takes l.reference l.after_reference (reference_stands p page below z list z1 d w b code flag window is l e.0 e.1)).0
+
+-- ---- both
+
+pub head_taken : (p : Parameters) (z z1 z2 : List Bool) (d w r : ℕ) (code reference_code : Code) → code ≡ p.outdegrees → w ≡ p.window → reference_code ≡ p.references → Takes code z z1 d → MaybeTakes (ltb 0 d && ltb 0 w) reference_code z1 z2 r → TakesHead p z z2 d r
+head_taken p z z1 z2 d w r code reference_code is window reference_is takes then v s mid behind word maybe =
+    let e = takes v mid (same_word p.outdegrees code v z z mid is refl word) in
+    let flag : (ltb 0 d && ltb 0 w) ≡ (ltb 0 v && ltb 0 p.window) = ap (λ (k : ℕ). ltb 0 d && ltb 0 k) window ∙ ap (λ (k : ℕ). ltb 0 k && ltb 0 p.window) (sym e.0) in
+    let f = then s behind (same_maybe (ltb 0 v && ltb 0 p.window) (ltb 0 d && ltb 0 w) p.references reference_code s mid z1 behind flag reference_is e.1 maybe) in
+    (e.0, f.0, f.1)
 
 -- ---- the block count
 

@@ -1,9 +1,8 @@
 -- A record that is decoded in one pass over its words.
-use Rattle.std.proofs.Common.{◌≡◌, ℕ, ◌+◌, ◌-◌, ◌≤◌, Bool, List, [], ◌++◌, length, drop, Option, None, refl, sym, ap, subst, ◌∙◌, arith}
+use Rattle.std.proofs.Common.{◌≡◌, ℕ, ◌+◌, ◌-◌, ◌≤◌, Bool, List, [], ◌++◌, length, Option, None, refl, sym, ap, subst, ◌∙◌, arith}
 use Rattle.std.specs.Prelude.{sum}
 use Rattle.wg_params.specs.declared.code.Code.{Code}
 use Rattle.wg_params.specs.Parameters.{Parameters}
-use Rattle.wg_bits.specs.Bits.{Position}
 use Rattle.wg_graph.specs.Ascending.{Ascends}
 use Rattle.wg_graph.specs.Copied.{copied_members}
 use Rattle.wg_blocks.specs.Stored.{blocks_of}
@@ -11,19 +10,9 @@ use Rattle.wg_intervals.specs.Stored.{numbers_inside}
 use Rattle.wg_iterators.specs.Coming.{union_of}
 use Rattle.wg_iterators.specs.Joining.{AreJoinable}
 use Rattle.wg_iterators.specs.Laid.{WordsTo, IntervalsTo, ResidualsTo, list_or_none, Laid}
-use Rattle.wg_iterators.specs.Proper.{IsRecord}
 use Rattle.wg_iterators.proofs.Beginning.{blocks_words, intervals_words, residuals_given, laid_parts}
 use Rattle.wg_iterators.proofs.Counting.{inside_count}
 use Rattle.wg_iterators.proofs.JoinLemmas.{first_two, with_third, joined_long}
-
--- ---- the same record, told of a second cursor
-
-pub again_record : (p : Parameters) (page : ℕ) (below : Option (List ℕ)) (position again : Position) (list : List ℕ) → again ≡ position → IsRecord p page below position list → IsRecord p page below again list
-again_record p page below position again list e h = subst (λ (q : Position). IsRecord p page below q list) (sym e) h
-
-pub again_behind : (p : Parameters) (page : ℕ) (below : Option (List ℕ)) (position again : Position) (list : List ℕ) (k : ℕ) → again ≡ position → ((h : IsRecord p page below again list) → k ≡ length (drop h.end again.bits))
-    → (h : IsRecord p page below position list) → k ≡ length (drop h.end position.bits)
-again_behind p page below position again list k e f = subst (λ (q : Position). (h : IsRecord p page below q list) → k ≡ length (drop h.end q.bits)) e f
 
 -- ---- what is copied
 

@@ -9,3 +9,4 @@ pub mod Proper
 pub mod Fields
 pub mod Below
 pub mod Joining
+pub mod Headed

@@ -1,13 +1,15 @@
 //! The whole list of a record, at once.
 ghost use Rattle.std.specs.Prelude.{◌≡◌, ◌<◌, ◌≤◌, ℕ, List, Option, length, option_copied};
 ghost use Rattle.wg_graph.specs.Ascending.{Ascends};
+ghost use Rattle.wg_iterators.specs.Headed.{IsHead};
 ghost use Rattle.wg_iterators.specs.Laid.{list_or_none};
 ghost use Rattle.wg_iterators.specs.Proper.{IsRecord};
 ghost use Rattle.wg_iterators.specs.Below.{StandsBelow};
 
 use crate::copying::copy_members;
+use crate::head::RecordHead;
 use crate::joining::{add_intervals, add_residuals};
-use crate::value::{value, value_where};
+use crate::value::value_where;
 use wg_bits::Cursor;
 use wg_graph::Row;
 use wg_params::{Code, Params};
@@ -16,6 +18,7 @@ use wg_params::{Code, Params};
 fn decode_on<'a>(
     params: &Params,
     page: u64,
+    head: RecordHead<'a>,
     source: Option<u64>,
     members: &[u64],
     cursor: &mut Cursor<'a>,
@@ -23,6 +26,7 @@ fn decode_on<'a>(
     row: &mut Row,
 )
     requires page { page < params.now.nodes }
+    requires head { IsHead params.now cursor.old head }
     requires rooms { spare.old.room ≡ row.old.room }
     requires below { length members.now ≤ row.old.room }
     requires ascends { Ascends 0 members.now }
@@ -40,10 +44,11 @@ fn decode_on<'a>(
     cursor.at();
     // tells the limits
     params.nodes();
-    let mut words = cursor.again();
-    let outdegree = value(params.outdegrees(), &mut words);
-    let refers = (outdegree > 0) & (params.window() > 0);
-    value_where(refers, params.references(), &mut words);
+    let RecordHead {
+        outdegree,
+        reference: _,
+        mut words,
+    } = head;
     let count = value_where(source.is_some(), params.block_counts(), &mut words);
     row.clear();
     copy_members(params.blocks(), count, members, &mut words, row);
@@ -57,20 +62,22 @@ fn decode_on<'a>(
 }
 
 /// Puts the list of the record of `page`, which stands at the cursor, into the row, in place of what it held, and moves
-/// over the record. `below` is the list of the page that the record refers to, if it has a reference. `spare` is another
-/// row, where numbers are joined to others: both have the same room, and there is room for `below` too.
+/// over the record. `head` is the record's head, and `below` the list of the page that it refers to, if it has one.
+/// `spare` is another row, where numbers are joined to others: both have the same room, which is enough for `below` too.
 ///
 /// It takes no memory, and the time of the record's words, of the members that are copied, and of the list: a number of
-/// it is written three times at most. Each word is read once.
+/// it is written three times at most. Each word behind the head is read once.
 pub fn decode_into<'a>(
     params: &Params,
     page: u64,
+    head: RecordHead<'a>,
     below: Option<&[u64]>,
     cursor: &mut Cursor<'a>,
     spare: &mut Row,
     row: &mut Row,
 )
     requires page { page < params.now.nodes }
+    requires head { IsHead params.now cursor.old head }
     requires rooms { spare.old.room ≡ row.old.room }
     requires below { length (list_or_none (option_copied below)) ≤ row.old.room }
     requires ascends { Ascends 0 (list_or_none (option_copied below)) }
@@ -85,10 +92,10 @@ pub fn decode_into<'a>(
         → cursor.new.at ≡ h.end }
 {
     match below {
-        None => decode_on(params, page, None, &[], cursor, spare, row),
+        None => decode_on(params, page, head, None, &[], cursor, spare, row),
         Some(list) => {
             let source = Some(list.len() as u64);
-            decode_on(params, page, source, list, cursor, spare, row)
+            decode_on(params, page, head, source, list, cursor, spare, row)
         }
     }
 }

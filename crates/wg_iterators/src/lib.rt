@@ -48,6 +48,6 @@ mod value;
 pub use below::CHAIN_PAGES;
 pub use decoding::decode_into;
 pub use fields::{Fronts, find_fronts};
-pub use head::reference;
+pub use head::{RecordHead, read_head, reference};
 pub use residuals::Residuals;
 pub use successors::Successors;

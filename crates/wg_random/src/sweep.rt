@@ -18,7 +18,7 @@ use std::marker::Model;
 use std::mem::swap;
 use wg_bits::{Bits, Cursor};
 use wg_graph::{Lists, Row};
-use wg_iterators::{decode_into, reference};
+use wg_iterators::{decode_into, read_head};
 use wg_params::Params;
 use wg_stream::PagesError;
 
@@ -131,9 +131,9 @@ fn decode_page<'b>(
     // tells the limits
     params.nodes();
     let mut cursor = Cursor::new(Bits::of(bytes), at);
-    let back = reference(params, cursor.again());
-    let below = list_back(kept, page, back);
-    decode_into(params, page, below, &mut cursor, spare, list);
+    let head = read_head(params, cursor.again());
+    let below = list_back(kept, page, head.reference);
+    decode_into(params, page, head, below, &mut cursor, spare, list);
     cursor.at()
 }
 
