@@ -63,7 +63,7 @@ fn decode_on<'a>(
 
 /// Puts the list of the record of `page`, which stands at the cursor, into the row, in place of what it held, and moves
 /// over the record. `head` is the record's head, and `below` the list of the page that it refers to, if it has one.
-/// `spare` is another row, where numbers are joined to others: both have the same room, which is enough for `below` too.
+/// `spare` is another row, where numbers are joined to others: both have the same room, and `below` fits into it too.
 ///
 /// It takes no memory, and the time of the record's words, of the members that are copied, and of the list: a number of
 /// it is written three times at most. Each word behind the head is read once.

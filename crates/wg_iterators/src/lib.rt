@@ -16,10 +16,11 @@
 //! what is below. So the words of blocks and intervals are read twice, and no others. Whoever walks down to the
 //! referenced page first asks [`reference`], which reads the two words at the head of a record.
 //!
-//! [`decode_into`] puts the whole list of a record into a [`Row`](wg_graph::Row) at once, over a lent list, and moves the
-//! cursor over the record. So whoever reads all records in order needs no offsets, and takes no memory while it reads. It
-//! has no fronts: it reads each word once, in the order of the record, copies runs of members while their blocks come,
-//! joins the intervals to them as runs, and then the residuals, from one row to another.
+//! [`decode_into`] puts the whole list of a record into a [`Row`](wg_graph::Row) at once, over a lent list, and moves
+//! the cursor over the record. So whoever reads all records in order needs no offsets, and takes no memory while it
+//! reads. [`read_head`] reads the head before, so that the list that is referred to can be found. There are no fronts:
+//! each word is read once, in the order of the record; runs of members are copied while their blocks come, intervals are
+//! joined to them as runs, and then the residuals, from one row to another.
 //!
 //! **Memory** is that of the values themselves: an iterator holds three cursors and three numbers, no list, and one box
 //! for each page below, which the caller makes. No call takes memory.
