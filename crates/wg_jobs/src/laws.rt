@@ -44,8 +44,8 @@ pub fn imported_archives()
     ensures { (r : Readings) → ImportsAreAccepted r }
 {}
 
-/// What `quotient` writes is accepted, whatever archive and whatever map were read, with classes and a layout within the
-/// limits: `check` prints of the three files the very line that was printed.
+/// What `quotient` writes is accepted, whatever archive and whatever map were read, with classes and a layout within
+/// the limits: `check` prints of the three files the very line that was printed.
 pub fn quotients()
     ensures { (r : Readings) → QuotientsAreAccepted r }
 {}

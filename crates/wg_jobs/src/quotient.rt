@@ -20,9 +20,9 @@ use wg_words::{Layout, Name};
 /// the second. The map has a line for each page with its class, which is below their number. It judges the whole graph,
 /// and then the map, before it touches a file.
 ///
-/// It holds 8 bytes an arc and 8 a page for the graph, and until it is read the bytes of its file, and then those of the
-/// map; 8 a page for the classes; what [`wg_shape::quotient`] holds; then the quotient, one record, and buffers of 8192
-/// bytes.
+/// It holds 8 bytes an arc and 8 a page for the graph, and until it is read the bytes of its file, and then those of
+/// the map; 8 a page for the classes; what [`wg_shape::quotient`] holds; then the quotient, one record, and buffers of
+/// 8192 bytes.
 pub fn quotient<D: Depot, O: Sink>(
     alloc: Global,
     input: &Name,

@@ -142,8 +142,8 @@ fn graphs_of_classes(rt: HostRuntime) -> Result<(), Fail> {
     are_grouped(&rt, rt.alloc(), &GROUPED)
 }
 
-// A line over an archive g whose graph file holds these bits, and a map m, where the read of this number fails, if it is not 0:
-// the status and the line of error.
+// A line over an archive g whose graph file holds these bits, and a map m, where the read of this number fails, if it
+// is not 0: the status and the line of error.
 struct Ungrouped {
     line: &'static str,
     graph: &'static str,
