@@ -1,15 +1,16 @@
 -- From one list to the next: what an encoder knows is what the greedy archive has.
-use Rattle.std.proofs.Common.{◌≡◌, ℕ, zero, suc, ◌+◌, ◌<◌, ◌≤◌, Bool, List, [], ◌∷◌, ◌++◌, length, length-append, take, refl, sym, ap, ◌∙◌, arith}
+use Rattle.std.proofs.Common.{◌≡◌, ℕ, zero, suc, ◌+◌, ◌<◌, ◌≤◌, Bool, true, false, cond, List, [], ◌∷◌, ◌++◌, length, length-append, take, refl, sym, ap, ◌∙◌, arith}
 use Rattle.std.proofs.lemmas.List.{length-take}
 use Rattle.std.proofs.lemmas.List.Elements.{All-cons, All-same, All-take, All-weaker}
 use Rattle.wg_params.specs.Parameters.{Parameters}
 use Rattle.wg_graph.specs.Ascending.{Ascends, Below}
 use Rattle.wg_grammar.specs.Context.{Known, Context}
 use Rattle.wg_decoder.specs.Remembered.{Serves}
-use Rattle.wg_encoder.specs.Archive.{graph_bits}
+use Rattle.wg_encoder.specs.Archive.{graph_bits, refers, referring_pages}
 use Rattle.wg_encoder.specs.Laws.{IsList}
 use Rattle.wg_encoder.specs.Encoding.{Encoded, next_context, context_on, chosen_size, encoded_on, HasWritten}
-use Rattle.wg_encoder.proofs.Pages.{context_more, due_more, graph_more, chosen_bits}
+use Rattle.wg_encoder.specs.Greedy.{chosen}
+use Rattle.wg_encoder.proofs.Pages.{context_more, due_more, graph_more, referring_more, chosen_bits}
 
 -- one list more was written
 pub written_on : (e : Encoded) (list : List ℕ) (w v : List Bool) (lists : List (List ℕ)) → HasWritten e lists → HasWritten (encoded_on e list w v) (lists ++ list ∷ [])
@@ -19,8 +20,17 @@ written_on e list w v lists h =
     record {
       context = ap (λ (c : Context). context_on p c list) h.context ∙ context_more p lists list;
       is_last = size ∙ sym (due_more p lists list);
+      is_referring = ap (λ (n : ℕ). n + cond (refers (chosen p e.next list)) 1 0) h.is_referring ∙ ap (λ (c : Context). referring_pages p lists + cond (refers (chosen p c list)) 1 0) h.context ∙ sym (referring_more p lists list);
       is_total = omega (arith, h.is_total, size, ap (λ (bits : List Bool). length bits) (graph_more p lists list), length-append (graph_bits p lists) (chosen_bits p (next_context p lists) list));
     }
+
+-- a record is counted once at most
+pub ones_few : (r : ℕ) → cond (refers r) 1 0 ≤ 1
+ones_few r = at (refers r)
+  where
+    at : (b : Bool) → cond b 1 0 ≤ 1
+    at true = omega arith
+    at false = omega arith
 
 -- nothing is kept where no reference may be
 pub none_kept : (w : ℕ) (behind more : List Known) → w ≡ 0 → length behind ≤ w → behind ≡ take w more

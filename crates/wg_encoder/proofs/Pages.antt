@@ -1,6 +1,6 @@
 -- The record of a list after those before it, and the words of the offsets.
-use Rattle.std.proofs.Common.{◌≡◌, ℕ, zero, suc, ◌+◌, ◌-◌, ◌<◌, Bool, false, List, [], ◌∷◌, ◌++◌, length, length-append, append_assoc, map, take, get_or, replicate, refl, sym, ap, ◌∙◌, arith}
-use Rattle.std.specs.List.{flat_map, sum_by}
+use Rattle.std.proofs.Common.{◌≡◌, ℕ, zero, suc, ◌+◌, ◌-◌, ◌<◌, Bool, false, cond, List, [], ◌∷◌, ◌++◌, length, length-append, append_assoc, map, take, get_or, replicate, refl, sym, ap, ◌∙◌, arith}
+use Rattle.std.specs.List.{flat_map, sum_by, count_by}
 use Rattle.std.proofs.lemmas.List.{append-nil, map-append, take_more, take_all, take-take, take-append-le, length-map, get_or-append_right}
 use Rattle.std.proofs.lemmas.List.Sums.{sum_by-cons, sum_by-append}
 use Rattle.std.proofs.lemmas.List.Concat.{flat_map-append}
@@ -10,8 +10,8 @@ use Rattle.wg_codes.specs.Words.{word}
 use Rattle.wg_params.specs.Parameters.{Parameters}
 use Rattle.wg_grammar.specs.Context.{Known, Context}
 use Rattle.wg_encoder.specs.Fields.{bits_of_fields}
-use Rattle.wg_encoder.specs.Greedy.{context_after, canonical, chosen, known_of, known_after, records_of}
-use Rattle.wg_encoder.specs.Archive.{record_bits, graph_bits, offset_values, offsets_bits, graph_file, offsets_file}
+use Rattle.wg_encoder.specs.Greedy.{context_after, canonical, chosen, known_of, known_after, references_of, records_of}
+use Rattle.wg_encoder.specs.Archive.{record_bits, graph_bits, refers, referring_pages, offset_values, offsets_bits, graph_file, offsets_file}
 use Rattle.wg_encoder.specs.Encoding.{next_context, context_on, due_offset, words_before}
 use Rattle.wg_encoder.proofs.Bytes.{graph_again, offsets_again}
 
@@ -81,6 +81,21 @@ graph_more p lists list =
     ap (flat_map (λ bits. bits)) (bits_more p lists (list ∷ []) ∙ ap (λ bs. record_bits p lists ++ bs) (one_later p lists list))
     ∙ flat_map-append (λ (bits : List Bool). bits) (record_bits p lists) (chosen_bits p (next_context p lists) list ∷ [])
     ∙ ap (λ z. graph_bits p lists ++ z) (append-nil (chosen_bits p (next_context p lists) list))
+
+-- ---- those that refer to a page before
+
+references_more : (p : Parameters) (behind : List Known) (lists more : List (List ℕ)) → references_of p behind (lists ++ more) ≡ references_of p behind lists ++ references_of p (known_after p behind lists) more
+references_more p behind [] more = refl
+references_more p behind (l ∷ ls) more = ap (λ rs. chosen p (context_after p behind) l ∷ rs) (references_more p (known_of p (context_after p behind) l ∷ behind) ls more)
+
+pub referring_more : (p : Parameters) (lists : List (List ℕ)) (list : List ℕ) → referring_pages p (lists ++ list ∷ []) ≡ referring_pages p lists + cond (refers (chosen p (next_context p lists) list)) 1 0
+referring_more p lists list =
+    let one : ℕ → ℕ = λ r. cond (refers r) 1 0 in
+    let r : ℕ = chosen p (next_context p lists) list in
+    let more : referring_pages p (lists ++ list ∷ []) ≡ referring_pages p lists + count_by refers (r ∷ []) =
+    ap (count_by refers) (references_more p [] lists (list ∷ []) ∙ ap (λ (c : Context). references_of p [] lists ++ chosen p c list ∷ []) (sym (same_context p lists)))
+    ∙ sum_by-append one (references_of p [] lists) (r ∷ []) in
+    omega (arith, more, sum_by-cons one r [])
 
 -- ---- the words of the offsets
 

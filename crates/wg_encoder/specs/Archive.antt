@@ -1,11 +1,12 @@
 -- The graph file and the offsets file of a graph.
-use Rattle.std.specs.Prelude.{ℕ, ◌+◌, ◌*◌, ◌/◌, Bool, false, if◌then◌else◌, List, [], ◌∷◌, ◌++◌, length, take, drop, map, replicate, fold}
-use Rattle.std.specs.List.{flat_map, range_with_len}
+use Rattle.std.specs.Prelude.{ℕ, ◌+◌, ◌*◌, ◌/◌, Bool, false, nat_lt, if◌then◌else◌, List, [], ◌∷◌, ◌++◌, length, take, drop, map, replicate, fold}
+use Rattle.std.specs.List.{flat_map, range_with_len, count_by}
 use Rattle.wg_bits.specs.Written.{padding}
 use Rattle.wg_codes.specs.Words.{word}
 use Rattle.wg_params.specs.Parameters.{Parameters}
 use Rattle.wg_encoder.specs.Fields.{bits_of_fields}
-use Rattle.wg_encoder.specs.Greedy.{records_of}
+use Rattle.wg_encoder.specs.Greedy.{references_of, records_of}
+use Rattle.wg_encoder.specs.declared.summary.Summary.{Summary}
 
 -- the bits of each record
 abbrev pub record_bits : Parameters → List (List ℕ) → List (List Bool)
@@ -14,6 +15,18 @@ record_bits p lists = map bits_of_fields (records_of p [] lists)
 -- the records one after the other
 abbrev pub graph_bits : Parameters → List (List ℕ) → List Bool
 graph_bits p lists = flat_map (λ bits. bits) (record_bits p lists)
+
+-- whether a reference names a page before
+abbrev pub refers : ℕ → Bool
+refers r = nat_lt 0 r
+
+-- how many pages are written with a reference above 0
+abbrev pub referring_pages : Parameters → List (List ℕ) → ℕ
+referring_pages p lists = count_by refers (references_of p [] lists)
+
+-- how many bits the records have, and how many of them refer to a page before
+abbrev pub summary_of : Parameters → List (List ℕ) → Summary
+summary_of p lists = record { bits = length (graph_bits p lists); referring = referring_pages p lists }
 
 -- 0, and the length of each record
 abbrev pub offset_values : Parameters → List (List ℕ) → List ℕ

@@ -1,5 +1,5 @@
 -- Where an encoder stands, and which reference is the best so far.
-use Rattle.std.specs.Prelude.{◌≡◌, ℕ, ◌+◌, ◌<◌, ◌≤◌, Bool, true, if◌then◌else◌, List, [], ◌∷◌, length, take, get_or, Option, Some, None}
+use Rattle.std.specs.Prelude.{◌≡◌, ℕ, ◌+◌, ◌<◌, ◌≤◌, Bool, true, cond, if◌then◌else◌, List, [], ◌∷◌, length, take, get_or, Option, Some, None}
 use Rattle.std.specs.List.{flat_map, sum_by}
 use Rattle.wg_codes.specs.Words.{word}
 use Rattle.wg_params.specs.Parameters.{Parameters}
@@ -7,17 +7,18 @@ use Rattle.wg_graph.specs.Digraph.{Digraph, successors}
 use Rattle.wg_grammar.specs.Context.{Context}
 use Rattle.wg_encoder.specs.declared.choice.Choice.{Choice}
 use Rattle.wg_encoder.specs.Greedy.{known_of, known_after, size_of, is_candidate, chosen}
-use Rattle.wg_encoder.specs.Archive.{graph_bits, offset_values}
+use Rattle.wg_encoder.specs.Archive.{graph_bits, refers, referring_pages, offset_values}
 
 -- ---- one list after the other
 
--- Where the record that comes next stands; how many bits the last record has, 0 before the first, and all together; and
--- the bits of the two files that wait to go out.
+-- Where the record that comes next stands; how many bits the last record has, 0 before the first, and all together; how
+-- many records have a reference above 0; and the bits of the two files that wait to go out.
 pub record Encoded : Type 0 where
   pub params : Parameters
   pub next : Context
   pub last : ℕ
   pub total : ℕ
+  pub referring : ℕ
   pub graph_waits : List Bool
   pub offsets_waits : List Bool
 
@@ -36,7 +37,7 @@ chosen_size p c list = size_of p c list (chosen p c list)
 -- once a list is written, and these bits wait
 abbrev pub encoded_on : Encoded → List ℕ → List Bool → List Bool → Encoded
 encoded_on e list w v =
-    record { params = e.params; next = context_on e.params e.next list; last = chosen_size e.params e.next list; total = e.total + chosen_size e.params e.next list; graph_waits = w; offsets_waits = v }
+    record { params = e.params; next = context_on e.params e.next list; last = chosen_size e.params e.next list; total = e.total + chosen_size e.params e.next list; referring = e.referring + cond (refers (chosen e.params e.next list)) 1 0; graph_waits = w; offsets_waits = v }
 
 -- the number of the offsets file that is put with the record that comes next: 0 for page 0, else the length of the
 -- record before
@@ -52,6 +53,7 @@ pub record HasWritten (e : Encoded) (lists : List (List ℕ)) : Type 0 where
   pub context : e.next ≡ next_context e.params lists
   pub is_last : e.last ≡ due_offset e.params lists
   pub is_total : e.total ≡ length (graph_bits e.params lists)
+  pub is_referring : e.referring ≡ referring_pages e.params lists
 
 -- ---- the pages of a graph
 

@@ -5,9 +5,9 @@ ghost use Rattle.wg_io.specs.Outside.{Files, NonDecreasing};
 ghost use Rattle.wg_io.specs.Suffixes.{graph_name, offsets_name};
 ghost use Rattle.wg_graph.specs.Digraph.{IsGraph, arc_count};
 ghost use Rattle.wg_encoder.specs.Greedy.{size_of, is_candidate, chosen};
-ghost use Rattle.wg_encoder.specs.Archive.{graph_bits};
+ghost use Rattle.wg_encoder.specs.Archive.{graph_bits, referring_pages};
 ghost use Rattle.wg_encoder.specs.Laws.{IsList};
-ghost use Rattle.wg_encoder.specs.Encoding.{context_of, list_of};
+ghost use Rattle.wg_encoder.specs.Encoding.{lists_before, context_of, list_of};
 ghost use Rattle.wg_encoder.specs.Gone.{HasSentUpTo, IsWritten, HasStopped, HasFailed, OnlyTwo};
 
 use crate::error::EncodeError;
@@ -73,6 +73,17 @@ impl<'a> Encoder<'a> {
         ensures within { result ≤ self.now.graph.nodes }
     {
         self.lists.page()
+    }
+
+    /// How many of the pages that were written have a reference above 0. It takes no memory, and counts nothing anew.
+    pub fn referring(&self) -> u64
+        ensures value { result ≡ referring_pages self.now.params (lists_before self.now) }
+        ensures all { self.now.page ≡ self.now.graph.nodes
+            → result ≡ referring_pages self.now.params self.now.graph.lists }
+        ensures within { result ≤ self.now.page }
+    {
+        self.limits();
+        self.lists.referring()
     }
 
     // The graph is within the limits.

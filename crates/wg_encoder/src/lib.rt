@@ -17,10 +17,10 @@
 //! [`HeldRecord::write`] puts its words through a writer, where each value has one.
 //!
 //! [`ListEncoder::next`] and [`Encoder::next`] write a list, and `finish` ends the two files once all are written;
-//! [`encode`] does both for a whole graph. All take the archive's name, and write the files of its suffixes. The words
-//! of the offsets file are 0 and the length of each record. An encoder has a writer of 4096 bytes for each of the files.
-//! If a call of the depot fails, the [`EncodeError`] names the file, and both files are prefixes of those that were to
-//! be written.
+//! [`encode`] does both for a whole graph, and answers the [`Summary`] of its records. All take the archive's name, and
+//! write the files of its suffixes. The words of the offsets file are 0 and the length of each record. An encoder has a
+//! writer of 4096 bytes for each of the files. If a call of the depot fails, the [`EncodeError`] names the file, and
+//! both files are prefixes of those that were to be written.
 //!
 //! The definitions give the fields of a record with their codes and stored values, the reference that is chosen, and
 //! the bytes of the two files. The functions of [`laws`] state that no candidate's record is shorter than the one that
@@ -48,6 +48,7 @@ mod parts;
 mod record;
 mod residuals;
 mod sharing;
+mod summary;
 #[cfg(test)]
 mod tests;
 
@@ -58,3 +59,4 @@ pub use held::HeldRecord;
 pub use list_encoder::ListEncoder;
 pub use making::make_record;
 pub use record::record_cost;
+pub use summary::Summary;

@@ -31,10 +31,11 @@ use wg_params::Params;
 /// Writes lists one after the other, each by the reference that makes its record the shortest. They are the lists of
 /// pages 0, 1 and so on, and each is handed in once: an archive of any size is written so.
 ///
-/// It is seen as where the next record stands, how many bits the last one and all have, and the bits of the two files
-/// that wait to go out. It holds a copy of each list that a reference may name, with room for at most twice its numbers
-/// or for few, and 32 bytes beside it; 4096 bytes for each file, and their names; and memory for the longest record so
-/// far and for the lists that it was made of. Each memory serves again for later lists.
+/// It is seen as where the next record stands, how many bits the last one and all have, how many refer to a page
+/// before, and the bits of the two files that wait to go out. It holds a copy of each list that a reference may name,
+/// with room for at most twice its numbers or for few, and 32 bytes beside it; 4096 bytes for each file, and their
+/// names; and memory for the longest record so far and for the lists that it was made of. Each memory serves again for
+/// later lists.
 #[derive(Drop)]
 pub struct ListEncoder {
     pub(crate) alloc: Global,
@@ -53,6 +54,8 @@ pub struct ListEncoder {
     // the bits of the record before, 0 before the first, and of all records so far
     pub(crate) last: u64,
     pub(crate) total: u64,
+    // how many of them have a reference above 0
+    pub(crate) referring: u64,
 }
 
 impl Model for ListEncoder {
@@ -68,6 +71,7 @@ impl Model for ListEncoder {
       next = record { page = e.page; arcs_before = e.arcs; behind = e.kept.value.behind };
       last = e.last;
       total = e.total;
+      referring = e.referring;
       graph_waits = e.graph_writer.value.bits;
       offsets_waits = e.offsets_writer.value.bits;
     } };
@@ -75,7 +79,7 @@ impl Model for ListEncoder {
     ghost invariant = { λ e. (e.kept.value.window ≡ e.params.window) × (e.page ≤ e.params.nodes)
         × (e.arcs ≤ e.params.arcs) × Serves e.params e.page e.kept.value.behind
         × (e.graph_writer.value.failed ≡ false) × (e.offsets_writer.value.failed ≡ false)
-        × (e.last < 2 ^ 62) × (e.total ≤ enough_bits e.page e.arcs) };
+        × (e.last < 2 ^ 62) × (e.total ≤ enough_bits e.page e.arcs) × (e.referring ≤ e.page) };
 }
 
 impl ListEncoder {
@@ -102,6 +106,7 @@ impl ListEncoder {
             names: None,
             last: 0,
             total: 0,
+            referring: 0,
         })
     }
 
@@ -119,6 +124,14 @@ impl ListEncoder {
         ensures within { result ≤ self.now.params.arcs }
     {
         self.arcs
+    }
+
+    /// How many of the lists that were written refer to a page before. It takes no memory, and counts nothing anew.
+    pub fn referring(&self) -> u64
+        ensures value { result ≡ self.now.referring }
+        ensures within { result ≤ self.now.next.page }
+    {
+        self.referring
     }
 
     // The parameters are within their limits, and what is kept serves the page that comes next.

@@ -1,10 +1,11 @@
 //! From list to list: what goes to the two files.
-ghost use Rattle.std.specs.Prelude.{◌≡◌, ℕ, ◌+◌, ◌<◌, ◌≤◌, true, false, List as ListOf, [], ◌∷◌, ◌++◌, length, replicate, IfOk, IfErr, OnOk, OnErr, IsTrue};
+ghost use Rattle.std.specs.Prelude.{◌≡◌, ℕ, ◌+◌, ◌<◌, ◌≤◌, true, false, cond, List as ListOf, [], ◌∷◌, ◌++◌, length, replicate, IfOk, IfErr, OnOk, OnErr, IsTrue};
 ghost use Rattle.wg_io.specs.Outside.{NonDecreasing};
 ghost use Rattle.wg_bits.specs.Written.{padding};
 ghost use Rattle.wg_codes.specs.Words.{word};
 ghost use Rattle.wg_encoder.specs.Fields.{bits_of_fields, all_have_words};
 ghost use Rattle.wg_encoder.specs.Greedy.{canonical};
+ghost use Rattle.wg_encoder.specs.Archive.{refers};
 ghost use Rattle.wg_encoder.specs.Laws.{IsList};
 ghost use Rattle.wg_encoder.specs.Encoding.{encoded_on, HasWritten, IsChosen};
 ghost use Rattle.wg_encoder.specs.Gone.{HasSentAll, IsWritten, HasStopped, HasFailed, SendsTo, OnlyTwo};
@@ -20,6 +21,14 @@ use std::alloc::AllocError;
 use wg_bits::Writer;
 use wg_codes::write;
 use wg_io::{Depot, Output, WriteError};
+
+// 1 for a reference to a page before, else 0.
+#[inline(always)]
+fn ones(reference: u64) -> u64
+    ensures { result ≡ cond (refers reference) 1 0 }
+{
+    if reference > 0 { 1 } else { 0 }
+}
 
 // The depot's own error, of a call on this file.
 fn failed_on(output: Output, error: WriteError) -> EncodeError
@@ -135,6 +144,7 @@ impl ListEncoder {
         self.arcs += list.len() as u64;
         self.last = choice.bits;
         self.total += choice.bits;
+        self.referring += ones(choice.reference);
         self.spare = Some(draft);
         self.names = Some(names);
         Ok(self)

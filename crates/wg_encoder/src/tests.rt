@@ -1,6 +1,6 @@
 // Worked archives, whole, step by step and list by list.
 
-use crate::{EncodeError, Encoder, ListEncoder, encode};
+use crate::{EncodeError, Encoder, ListEncoder, Summary, encode};
 use std::alloc::{AllocError, Global};
 use std::process::Abort;
 use std::test::Fail;
@@ -41,7 +41,7 @@ fn write<D: Depot>(
     alloc: Global,
     archive: &Archive,
     depot: &mut D,
-) -> Result<Result<u64, EncodeError>, Fail> {
+) -> Result<Result<Summary, EncodeError>, Fail> {
     let graph = graph_of(rt, alloc, archive)?;
     let params = archive.shape.params(archive.nodes, archive.arcs)?;
     assert_eq!(rt; params.nodes(), graph.nodes());
@@ -56,8 +56,8 @@ fn worked_archives(rt: HostRuntime) -> Result<(), Fail> {
     for archive in WRITTEN.iter() {
         let name = archive.name;
         let mut depot = SteadyDepot::new(rt.alloc(), 2);
-        let bits = write(&rt, rt.alloc(), archive, &mut depot)??;
-        assert_eq!(rt; Some(&bits), archive.places.last(), "{name}");
+        let summary = write(&rt, rt.alloc(), archive, &mut depot)??;
+        assert_eq!(rt; Some(&summary.bits), archive.places.last(), "{name}");
         assert_eq!(rt;
             read_whole(rt.alloc(), &mut depot, "g.graph")?.as_slice(),
             bytes_of(rt.alloc(), archive.graph)?.as_slice(),
@@ -126,6 +126,8 @@ fn chains_of_one_reference(rt: HostRuntime) -> Result<(), Fail> {
     encoder = go_on(&rt, encoder, &mut depot)?;
     assert!(rt; !may(&rt, &encoder, 1));
     assert_eq!(rt; choice(&rt, &encoder), (2, 7));
+    encoder = go_on(&rt, encoder, &mut depot)?;
+    assert_eq!(rt; encoder.referring(), 2);
     Ok(())
 }
 
@@ -166,12 +168,15 @@ fn write_twice(
     archive: &Archive,
     depot: &mut SteadyDepot,
 ) -> Result<(), Fail> {
-    let bits = write(rt, alloc, archive, depot)??;
+    let summary = write(rt, alloc, archive, depot)??;
     let graph = graph_of(rt, alloc, archive)?;
     let params = archive.shape.params(archive.nodes, archive.arcs)?;
     depot.create("l.graph")?;
     depot.create("l.offsets")?;
-    assert_eq!(rt; write_lists(rt, alloc, params, &graph, depot)?, bits);
+    assert_eq!(rt;
+        write_lists(rt, alloc, params, &graph, depot)?,
+        summary.bits
+    );
     Ok(())
 }
 

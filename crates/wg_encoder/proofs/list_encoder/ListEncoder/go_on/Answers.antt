@@ -2,7 +2,7 @@ use Rattle.std.proofs.Common.{◌∙◌, ◌∷◌, take, sym, ap, subst, arith}
 use Rattle.wg_decoder.specs.Remembered.{Remembered}
 use Rattle.wg_encoder.specs.Laws.{IsList}
 use Rattle.wg_encoder.specs.Encoding.{Encoded}
-use Rattle.wg_encoder.proofs.Going.{serves_on}
+use Rattle.wg_encoder.proofs.Going.{ones_few, serves_on}
 use Rattle.wg_encoder.proofs.Chosen.{chosen_reach, stays_few_at}
 use Rattle.wg_encoder.proofs.list_encoder.ListEncoder.go_on.Goals as goal
 
@@ -33,4 +33,5 @@ invariant_of-self c =
       c.self.invariant.5,
       s.last,
       s.total,
+      omega (arith, c.self.invariant.8, ones_few c.args.choice.reference, c.ones.ensures),
     )
