@@ -14,7 +14,9 @@ pub fn input_parts(job: &Job, input: Input) -> Option<(&str, &'static str)>
     ensures { option_map (λ parts. parts.0.now ++ parts.1.now) result ≡ input_name job.now input }
 {
     match job {
-        Job::Check { base } | Job::Show { base, .. } => archive_input(base, input),
+        Job::Check { base } | Job::Show { base, .. } | Job::Spot { base, .. } => {
+            archive_input(base, input)
+        }
         Job::Arcs { base } | Job::Ascii { base } | Job::Offsets { base } => record_input(
             base, input,
         ),
@@ -202,6 +204,7 @@ pub fn output_parts(job: &Job, output: Output) -> Option<(&str, &'static str)>
         | Job::Ascii { .. }
         | Job::Offsets { .. }
         | Job::Show { .. }
+        | Job::Spot { .. }
         | Job::Verify { .. } => None,
         Job::Rank { certificate, .. } => certificate_parts(certificate, output),
         Job::Build { base, .. }

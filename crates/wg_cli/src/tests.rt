@@ -17,6 +17,7 @@ mod quotient;
 mod rankings;
 mod recodings;
 mod shrinking;
+mod spot;
 mod verified;
 mod weighted;
 

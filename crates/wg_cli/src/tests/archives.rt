@@ -5,7 +5,7 @@ use wg_vectors::{ARCHIVES, BAD_GRAPHS, BAD_OFFSETS, COPIED, LONGER, PLAIN, Refus
 
 // The three files of an archive.
 #[derive(Drop)]
-struct Files {
+pub struct Files {
     properties: String,
     graph: Vec<u8>,
     offsets: Vec<u8>,
@@ -28,7 +28,7 @@ fn properties(alloc: Global, nodes: u64, arcs: u64, shape: &Shape) -> Result<Str
     Ok(format!(in alloc; "{head}{tail}")?)
 }
 
-fn files_of(
+pub fn files_of(
     alloc: Global,
     nodes: u64,
     arcs: u64,
@@ -68,7 +68,7 @@ fn says(
 }
 
 // The same, however much moves at once.
-fn does_say(
+pub fn does_say(
     alloc: Global,
     line: &str,
     files: &Files,

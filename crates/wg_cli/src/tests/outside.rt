@@ -279,13 +279,14 @@ fn nine_reads_fail(rt: &impl Abort, alloc: Global, line: &str) -> Result<(), Fai
     Ok(())
 }
 
-// `check` and `show` read three files once, the others two, and one of them twice.
+// `check`, `show` and `spot` read three files once, the others two, and one of them twice.
 #[test]
 fn each_read_fails_once(rt: HostRuntime) -> Result<(), Fail> {
     nine_reads_fail(&rt, rt.alloc(), "check g")?;
     nine_reads_fail(&rt, rt.alloc(), "arcs g")?;
     nine_reads_fail(&rt, rt.alloc(), "offsets g")?;
-    nine_reads_fail(&rt, rt.alloc(), "show g 0")
+    nine_reads_fail(&rt, rt.alloc(), "show g 0")?;
+    nine_reads_fail(&rt, rt.alloc(), "spot g 0")
 }
 
 #[test]
