@@ -22,13 +22,13 @@ use Rattle.wg_shape.proofs.Quotients.{same_graph}
 
 -- ---- lists of any page
 
-none_past : (g : Digraph) → IsGraph g → (x : ℕ) → g.nodes ≤ x → successors g x ≡ []
+pub none_past : (g : Digraph) → IsGraph g → (x : ℕ) → g.nodes ≤ x → successors g x ≡ []
 none_past g ok x past = get_or_past g.lists x [] (omega (arith, ok.counted))
 
 ascends_any : (g : Digraph) → IsGraph g → (x : ℕ) → Ascends 0 (successors g x)
 ascends_any g ok x = elim (cases_lt x g.nodes) [ inl lt ↦ list_ascends g ok x lt | inr past ↦ subst (Ascends 0) (sym (none_past g ok x past)) tt ]
 
-below_any : (g : Digraph) → IsGraph g → (m x : ℕ) → g.nodes ≤ m → Below m (successors g x)
+pub below_any : (g : Digraph) → IsGraph g → (m x : ℕ) → g.nodes ≤ m → Below m (successors g x)
 below_any g ok m x le = elim (cases_lt x g.nodes) [
   | inl lt ↦ below_more g.nodes m (successors g x) le (list_below g ok x lt)
   | inr past ↦ subst (Below m) (sym (none_past g ok x past)) tt

@@ -8,3 +8,4 @@ pub mod Unions
 pub mod OneByOne
 pub mod GraphUnions
 pub mod ByLaw
+pub mod ListUnions

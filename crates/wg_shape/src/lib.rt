@@ -2,9 +2,9 @@
 //!
 //! The union of two graphs has as many pages as the larger, and an arc exactly where one of them has it. It is made
 //! page after page: each list comes number by number, as a [`Coming`] does; [`Merge`] gives the numbers of two, which
-//! are never held side by side; [`add_union`] makes them the successors of a page. [`union`] does so for all pages of
-//! two graphs in memory. The successors of a page of an archive come from its bits, by
-//! [`Successors`](wg_iterators::Successors).
+//! are never held side by side; [`add_union`] makes them the successors of a page. [`union_of_lists`] does so for all
+//! pages of two graphs whose lists are lent one by one, wherever they come from, and [`union`] for two graphs in
+//! memory. The successors of a page of an archive come from its bits, by [`Successors`](wg_iterators::Successors).
 //!
 //! ```text
 //! ListWalk, Successors --\
@@ -34,6 +34,7 @@ mod counting;
 mod error;
 mod gathering;
 mod grouping;
+mod joining;
 pub mod laws;
 mod merge;
 mod placing;
@@ -44,6 +45,7 @@ pub use adding::add_union;
 pub use coming::{Coming, ListWalk};
 pub use error::ShapeError;
 pub use gathering::quotient;
+pub use joining::union_of_lists;
 pub use merge::Merge;
 pub use uniting::union;
 

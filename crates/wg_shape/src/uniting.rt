@@ -1,26 +1,12 @@
 //! The union of two graphs in memory.
-ghost use Rattle.std.specs.Prelude.{◌≡◌, ◌<◌, ◌≤◌, length, IfErr, IfOk};
+ghost use Rattle.std.specs.Prelude.{◌≡◌, ◌<◌, IfErr, IfOk};
 ghost use Rattle.wg_params.specs.declared.limits.TheConstants.{MOST_ARCS};
-ghost use Rattle.wg_graph.specs.Ascending.{Ascends, Below};
-ghost use Rattle.wg_graph.specs.Digraph.{IsGraph, arc_count, successors};
+ghost use Rattle.wg_graph.specs.Digraph.{arc_count};
 ghost use Rattle.wg_shape.specs.Graphs.{IsUnion, union_graph};
 
-use crate::{ListWalk, Merge, ShapeError, add_union};
+use crate::{ShapeError, union_of_lists};
 use std::alloc::Global;
-use wg_graph::{Graph, GraphBuilder};
-
-// The successors of a page; none of one that the graph does not have.
-fn list_of(graph: &Graph, page: u64) -> &[u64]
-    ensures value { result.now ≡ successors graph.now page }
-    ensures ascends { Ascends 0 result.now }
-    ensures below { Below graph.now.nodes result.now }
-{
-    if page < graph.nodes() {
-        graph.list(page)
-    } else {
-        &[]
-    }
-}
+use wg_graph::{Graph, GraphLists};
 
 /// The graph with as many pages as the larger of two graphs, and with the arcs of both. It takes time in proportion to
 /// the pages and arcs, and no memory but that of the graph made. [`ShapeError::TooManyArcs`] tells that there are more
@@ -31,18 +17,12 @@ pub fn union(alloc: Global, first: &Graph, second: &Graph) -> Result<Graph, Shap
     ensures too_many { IfErr result (λ e. e ≡ ShapeError.TooManyArcs
         → MOST_ARCS < arc_count (union_graph first.now second.now)) }
 {
-    let nodes = first.nodes().max(second.nodes());
-    let mut builder = GraphBuilder::new(alloc, nodes)?;
-    for page in 0..nodes {
-        let numbers = Merge::new(
-            ListWalk::new(list_of(first, page)),
-            ListWalk::new(list_of(second, page)),
-        );
-        match add_union(&mut builder, page, numbers) {
-            Ok(()) => (),
-            Err(error) => return Err(error),
-        }
-    }
-    let made = builder.finish()?;
-    Ok(made)
+    // tells that their pages are few
+    first.nodes();
+    second.nodes();
+    union_of_lists(
+        alloc,
+        &mut GraphLists::new(first),
+        &mut GraphLists::new(second),
+    )
 }

@@ -1,5 +1,0 @@
-use Rattle.wg_shape.specs.Graphs.{UnionSoFar}
-use Rattle.wg_shape.proofs.uniting.union.Given as goal
-
-abbrev pub invariant-loop-page : goal.invariant-loop-page
-invariant-loop-page l = UnionSoFar l.first l.second l.page l.builder
