@@ -1,7 +1,8 @@
 -- The exit status of the program.
 use Rattle.std.specs.Prelude.{ℕ}
 use Rattle.wg_readings.specs.declared.status.Status.{Status}
-use Rattle.wg_readings.specs.declared.status.Status.TheVariants.{Done, Usage, Memory, ReadFault, WriteFault, Missing, BadArcs, BadProperties, BadArchive, NoPage, OverLimit, BadWeights, BadText, BadMap, BadCertificate}
+use Rattle.wg_readings.specs.declared.status.Status.TheVariants.{Done, Usage, Memory, ReadFault, WriteFault, Missing, BadArcs, BadProperties, BadArchive, BadSecond, TooManyArcs, NoPage, OverLimit, BadWeights, BadText, BadMap, BadCertificate}
+use Rattle.wg_readings.specs.declared.status.SecondFault.TheVariants as second
 
 abbrev pub code_of : Status → ℕ
 code_of Done = 0
@@ -13,6 +14,9 @@ code_of (Missing i) = 6
 code_of (BadArcs line kind) = 7
 code_of (BadProperties f) = 8
 code_of (BadArchive f) = 9
+code_of (BadSecond (second.Properties f)) = 8
+code_of (BadSecond (second.Archive f)) = 9
+code_of TooManyArcs = 14
 code_of (NoPage page) = 10
 code_of (OverLimit i) = 11
 code_of (BadWeights f) = 12

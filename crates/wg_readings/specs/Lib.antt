@@ -8,3 +8,4 @@ pub mod Pairing
 pub mod Passes
 pub mod Promised
 pub mod Readings
+pub mod Second

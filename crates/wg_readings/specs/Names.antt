@@ -17,6 +17,9 @@ abbrev pub suffix_of : Input → Option (List ℕ)
 suffix_of input.Properties = Some PROPERTIES.now
 suffix_of input.Graph = Some GRAPH.now
 suffix_of input.Offsets = Some OFFSETS.now
+suffix_of input.SecondProperties = None
+suffix_of input.SecondGraph = None
+suffix_of input.SecondOffsets = None
 suffix_of input.ArcList = None
 suffix_of input.Weights = None
 suffix_of input.Certificate = None
@@ -37,6 +40,9 @@ input_code input.Weights = 4
 input_code input.Certificate = 5
 input_code input.Text = 6
 input_code input.Map = 7
+input_code input.SecondProperties = 7
+input_code input.SecondGraph = 8
+input_code input.SecondOffsets = 9
 
 abbrev pub output_code : Output → ℕ
 output_code output.Properties = 0
@@ -60,6 +66,11 @@ record_files base = (input.Properties, base ++ PROPERTIES.now) ∷ (input.Graph,
 
 abbrev pub archive_files : List ℕ → List (Input × List ℕ)
 archive_files base = (input.Properties, base ++ PROPERTIES.now) ∷ (input.Graph, base ++ GRAPH.now) ∷ (input.Offsets, base ++ OFFSETS.now) ∷ []
+
+-- the files of the second archive of a job
+abbrev pub second_files : List ℕ → List (Input × List ℕ)
+second_files base =
+    (input.SecondProperties, base ++ PROPERTIES.now) ∷ (input.SecondGraph, base ++ GRAPH.now) ∷ (input.SecondOffsets, base ++ OFFSETS.now) ∷ []
 
 abbrev pub list_file : List ℕ → List (Input × List ℕ)
 list_file name = (input.ArcList, name) ∷ []

@@ -9,11 +9,13 @@ use Rattle.wg_readings.specs.declared.ending.Ending.{Ending}
 use Rattle.wg_readings.specs.declared.status.Input.{Input}
 use Rattle.wg_readings.specs.declared.status.Input.TheVariants as input
 use Rattle.wg_readings.specs.declared.status.Status.{Status}
-use Rattle.wg_readings.specs.declared.status.Status.TheVariants.{Memory, BadArchive}
+use Rattle.wg_readings.specs.declared.status.Status.TheVariants.{Memory, BadArchive, BadSecond}
+use Rattle.wg_readings.specs.declared.status.SecondFault.TheVariants as second
 
 -- the arcs that the properties promise, where the line of the status names them
 abbrev pub ArePromised : (Input → Option (List ℕ)) → Status → ℕ → Type 0
 ArePromised held (BadArchive (archive.ArcsShort total)) promised = (text : List ℕ) (p : Parameters) → held input.Properties ≡ Some text → properties_of text ≡ Ok p → promised ≡ p.arcs
+ArePromised held (BadSecond (second.Archive (archive.ArcsShort total))) promised = (text : List ℕ) (p : Parameters) → held input.SecondProperties ≡ Some text → properties_of text ≡ Ok p → promised ≡ p.arcs
 ArePromised held status promised = Unit {0}
 
 -- memory was wanting, or this file is at fault, and the ending names the arcs that are promised

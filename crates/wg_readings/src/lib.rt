@@ -16,7 +16,8 @@
 //! A judgement takes the graph of a file from a function that reads all graph files (`Readings`); the grammar leaves
 //! exactly one such function.
 //!
-//! Public for `wg_jobs` alone are all items but [`Ending`], [`Input`], [`Status`] and [`WeightsFault`], which it hands on.
+//! Public for `wg_jobs` alone are all items but [`Ending`], [`Input`], [`SecondFault`], [`Status`] and [`WeightsFault`],
+//! which it hands on.
 #![tactic(auto)]
 
 mod archive;
@@ -31,6 +32,7 @@ mod names;
 mod pairing;
 mod plain;
 mod records;
+mod second;
 mod status;
 mod weights;
 
@@ -44,4 +46,5 @@ pub use loading::{
 };
 pub use names::file_name;
 pub use records::{end_records, next_record, open_graph};
-pub use status::{Input, Status, WeightsFault};
+pub use second::{as_second, second_input};
+pub use status::{Input, SecondFault, Status, WeightsFault};

@@ -16,6 +16,7 @@ pub fn suffix(input: Input) -> Option<&'static str>
         Input::Properties => Some(PROPERTIES),
         Input::Graph => Some(GRAPH),
         Input::Offsets => Some(OFFSETS),
+        Input::SecondProperties | Input::SecondGraph | Input::SecondOffsets => None,
         Input::ArcList | Input::Weights | Input::Certificate | Input::Text | Input::Map => None,
     }
 }

@@ -14,6 +14,10 @@ pub enum Input {
     Properties,
     Graph,
     Offsets,
+    /// The files of the second archive that a job reads.
+    SecondProperties,
+    SecondGraph,
+    SecondOffsets,
     ArcList,
     /// A weight of teleport for each page.
     Weights,
@@ -33,6 +37,13 @@ pub enum WeightsFault {
     Zero,
 }
 
+/// What is wrong with the second archive that a job reads.
+#[derive(Clone, Copy, Debug, PartialEq, Eq)]
+pub enum SecondFault {
+    Properties(PropFault),
+    Archive(ArchiveFault),
+}
+
 /// How a run ended.
 #[derive(Clone, Copy, Debug, PartialEq, Eq)]
 pub enum Status {
@@ -48,6 +59,10 @@ pub enum Status {
     BadArcs { line: u64, kind: ArcsKind },
     BadProperties(PropFault),
     BadArchive(ArchiveFault),
+    /// The first fault of the second archive, where the first has none.
+    BadSecond(SecondFault),
+    /// The graph that was to be written would have more than 2^40 arcs.
+    TooManyArcs,
     /// The first page asked for that the graph does not have.
     NoPage(u64),
     /// The file is longer than a file may be.
@@ -75,6 +90,9 @@ impl Status {
             Status::BadArcs { .. } => 7,
             Status::BadProperties(_) => 8,
             Status::BadArchive(_) => 9,
+            Status::BadSecond(SecondFault::Properties(_)) => 8,
+            Status::BadSecond(SecondFault::Archive(_)) => 9,
+            Status::TooManyArcs => 14,
             Status::NoPage(_) => 10,
             Status::OverLimit(_) => 11,
             Status::BadWeights(_) => 12,
