@@ -25,7 +25,7 @@ use Rattle.wg_readings.specs.declared.ending.Ending.{Ending}
 use Rattle.wg_readings.specs.declared.status.Input.{Input}
 use Rattle.wg_readings.specs.declared.status.Input.TheVariants.{Graph}
 use Rattle.wg_readings.specs.declared.status.Status.{Status}
-use Rattle.wg_readings.specs.declared.status.Status.TheVariants.{Done, Usage, Memory, ReadFault, WriteFault, Missing, BadArcs, BadProperties, BadArchive, NoPage, OverLimit, BadWeights, BadText, BadMap, BadCertificate}
+use Rattle.wg_readings.specs.declared.status.Status.TheVariants.{Done, Usage, Memory, ReadFault, WriteFault, Missing, BadArcs, BadProperties, BadArchive, BadSecond, TooManyArcs, NoPage, OverLimit, BadWeights, BadText, BadMap, BadCertificate}
 use Rattle.wg_jobs.proofs.JobSteps.{ComesTo, Hold, bad_possible, judges_here, reaches}
 use Rattle.wg_readings.proofs.PassLemmas.{graph_goes}
 use Rattle.wg_jobs.proofs.PerformsLemmas.{files_same, unread_possible}
@@ -43,6 +43,8 @@ hindered_output due old new (Missing i) h put = absurd h
 hindered_output due old new (BadArcs line kind) h put = absurd h
 hindered_output due old new (BadProperties f) h put = absurd h
 hindered_output due old new (BadArchive f) h put = absurd h
+hindered_output due old new (BadSecond f) h put = absurd h
+hindered_output due old new TooManyArcs h put = absurd h
 hindered_output due old new (NoPage page) h put = absurd h
 hindered_output due old new (OverLimit i) h put = absurd h
 hindered_output due old new (BadWeights f) h put = absurd h
@@ -64,6 +66,8 @@ hindered_promised held (Missing i) n h = tt
 hindered_promised held (BadArcs line kind) n h = tt
 hindered_promised held (BadProperties f) n h = tt
 hindered_promised held (BadArchive f) n h = absurd h
+hindered_promised held (BadSecond f) n h = absurd h
+hindered_promised held TooManyArcs n h = tt
 hindered_promised held (NoPage page) n h = tt
 hindered_promised held (OverLimit i) n h = tt
 hindered_promised held (BadWeights f) n h = tt

@@ -59,7 +59,7 @@ same_arcs held p n file is (archive.Tail at) = tt
 same_arcs held p n file is (archive.Offsets w) = tt
 same_arcs held p n file is (archive.Length page found stored) = tt
 
-bad_promised : (held : Input → Option (List ℕ)) (p : Parameters) (i : Input) (e : Ending) → IsPropertiesFile (held input.Properties) p → IsBadFile i p.arcs e → ArePromised held e.status e.arcs
+pub bad_promised : (held : Input → Option (List ℕ)) (p : Parameters) (i : Input) (e : Ending) → IsPropertiesFile (held input.Properties) p → IsBadFile i p.arcs e → ArePromised held e.status e.arcs
 bad_promised held p i e file (inl want) = subst (λ (s : Status). ArePromised held s e.arcs) (sym want) tt
 bad_promised held p i e file (inr fault) = subst (λ (s : Status). ArePromised held s e.arcs) (sym fault.2) (same_arcs held p e.arcs file fault.3 fault.0)
 
@@ -86,6 +86,9 @@ pub gone : (i : Input) (held : Input → Option (List ℕ)) → without i held i
 gone input.Properties held = refl
 gone input.Graph held = refl
 gone input.Offsets held = refl
+gone input.SecondProperties held = refl
+gone input.SecondGraph held = refl
+gone input.SecondOffsets held = refl
 gone input.ArcList held = refl
 gone input.Weights held = refl
 gone input.Certificate held = refl

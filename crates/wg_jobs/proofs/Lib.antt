@@ -31,3 +31,5 @@ pub mod CopyingLemmas
 pub mod RewrittenLemmas
 pub mod QuotientJobs
 pub mod QuotientLemmas
+pub mod LoadedLemmas
+pub mod UnionJobs

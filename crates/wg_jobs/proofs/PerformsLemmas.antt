@@ -25,7 +25,7 @@ use Rattle.wg_readings.specs.declared.ending.Ending.{Ending}
 use Rattle.wg_readings.specs.declared.status.Input.{Input}
 use Rattle.wg_readings.specs.declared.status.Input.TheVariants as input
 use Rattle.wg_readings.specs.declared.status.Status.{Status}
-use Rattle.wg_readings.specs.declared.status.Status.TheVariants.{Done, Usage, Memory, ReadFault, WriteFault, Missing, BadArcs, BadProperties, BadArchive, NoPage, OverLimit, BadWeights, BadText, BadMap, BadCertificate}
+use Rattle.wg_readings.specs.declared.status.Status.TheVariants.{Done, Usage, Memory, ReadFault, WriteFault, Missing, BadArcs, BadProperties, BadArchive, BadSecond, TooManyArcs, NoPage, OverLimit, BadWeights, BadText, BadMap, BadCertificate}
 use Rattle.wg_readings.proofs.Statuses.{cause_named, unput_cause}
 
 -- ---- what is said of a job is said of an equal one
@@ -61,6 +61,8 @@ stop_output due old new (Missing i) stop same = same
 stop_output due old new (BadArcs line kind) stop same = same
 stop_output due old new (BadProperties f) stop same = same
 stop_output due old new (BadArchive f) stop same = same
+stop_output due old new (BadSecond f) stop same = same
+stop_output due old new TooManyArcs stop same = same
 stop_output due old new (NoPage page) stop same = same
 stop_output due old new (OverLimit i) stop same = same
 stop_output due old new (BadWeights f) stop same = same
@@ -79,6 +81,8 @@ kept_after a old new (Missing i) stop same = same
 kept_after a old new (BadArcs line kind) stop same = same
 kept_after a old new (BadProperties f) stop same = same
 kept_after a old new (BadArchive f) stop same = same
+kept_after a old new (BadSecond f) stop same = same
+kept_after a old new TooManyArcs stop same = same
 kept_after a old new (NoPage page) stop same = same
 kept_after a old new (OverLimit i) stop same = same
 kept_after a old new (BadWeights f) stop same = same
@@ -92,6 +96,9 @@ left_by false a old new s h = h
 left_by true a old new (ReadFault input.Graph) h = inl h
 left_by true a old new (ReadFault input.Properties) h = h
 left_by true a old new (ReadFault input.Offsets) h = h
+left_by true a old new (ReadFault input.SecondProperties) h = h
+left_by true a old new (ReadFault input.SecondGraph) h = h
+left_by true a old new (ReadFault input.SecondOffsets) h = h
 left_by true a old new (ReadFault input.ArcList) h = h
 left_by true a old new (ReadFault input.Weights) h = h
 left_by true a old new (ReadFault input.Certificate) h = h
@@ -105,6 +112,8 @@ left_by true a old new (Missing i) h = h
 left_by true a old new (BadArcs line kind) h = h
 left_by true a old new (BadProperties f) h = h
 left_by true a old new (BadArchive f) h = h
+left_by true a old new (BadSecond f) h = h
+left_by true a old new TooManyArcs h = h
 left_by true a old new (NoPage page) h = h
 left_by true a old new (OverLimit i) h = h
 left_by true a old new (BadWeights f) h = h
@@ -123,6 +132,8 @@ certificate_kept text old new (Missing i) stop same = same
 certificate_kept text old new (BadArcs line kind) stop same = same
 certificate_kept text old new (BadProperties f) stop same = same
 certificate_kept text old new (BadArchive f) stop same = same
+certificate_kept text old new (BadSecond f) stop same = same
+certificate_kept text old new TooManyArcs stop same = same
 certificate_kept text old new (NoPage page) stop same = same
 certificate_kept text old new (OverLimit i) stop same = same
 certificate_kept text old new (BadWeights f) stop same = same
@@ -294,6 +305,8 @@ module _ (inputs : Names) (outputs : Output → Option (List ℕ)) (old new : Li
   unhindered j (BadArcs line kind) cause (inr hinders) = absurd hinders
   unhindered j (BadProperties f) cause (inr hinders) = absurd hinders
   unhindered j (BadArchive f) cause (inr hinders) = absurd hinders
+  unhindered j (BadSecond f) cause (inr hinders) = absurd hinders
+  unhindered j TooManyArcs cause (inr hinders) = absurd hinders
   unhindered j (NoPage page) cause (inr hinders) = absurd hinders
   unhindered j (OverLimit i) cause (inr hinders) = absurd hinders
   unhindered j (BadWeights f) cause (inr hinders) = absurd hinders

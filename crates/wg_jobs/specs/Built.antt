@@ -28,6 +28,9 @@ abbrev pub holding : Archive → Input → Option (List ℕ)
 holding a input.Properties = Some a.properties
 holding a input.Graph = Some a.graph
 holding a input.Offsets = Some a.offsets
+holding a input.SecondProperties = None
+holding a input.SecondGraph = None
+holding a input.SecondOffsets = None
 holding a input.ArcList = None
 holding a input.Weights = None
 holding a input.Certificate = None

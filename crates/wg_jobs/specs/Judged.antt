@@ -1,9 +1,12 @@
 -- What each job comes to, by what its inputs hold, and the texts that are printed.
-use Rattle.wg_readings.specs.Judged.{Judged, Written, accepted, built, certified, claim_then, files_of, map_then, text_then, weights_then, with_archive, with_arcs, with_digraph, with_pages, with_places, with_records, with_successors}
-use Rattle.std.specs.Prelude.{ℕ, List, [], ◌++◌, length, map, get_or, if◌then◌else◌, codes, decimal, Option, Some, None}
+use Rattle.wg_readings.specs.Judged.{Judged, Written, accepted, built, certified, claim_then, files_of, refused, map_then, text_then, weights_then, with_archive, with_arcs, with_digraph, with_pages, with_places, with_records, with_successors}
+use Rattle.std.specs.Prelude.{ℕ, List, [], ◌++◌, length, map, get_or, nat_lt, if◌then◌else◌, codes, decimal, Option, Some, None}
 use Rattle.wg_io.specs.Puts.{joined}
 use Rattle.wg_params.specs.Parameters.{Parameters}
-use Rattle.wg_graph.specs.Digraph.{Digraph}
+use Rattle.wg_params.specs.declared.limits.TheConstants.{MOST_ARCS}
+use Rattle.wg_graph.specs.Digraph.{Digraph, arc_count}
+use Rattle.wg_grammar.specs.Laws.{graph_of}
+use Rattle.wg_shape.specs.Graphs.{union_graph}
 use Rattle.wg_rank.specs.Intervals.{Intervals}
 use Rattle.wg_encoder.specs.Archive.{graph_bits}
 use Rattle.wg_shape.specs.Quotient.{quotient_of}
@@ -12,11 +15,13 @@ use Rattle.wg_arcs.specs.Text.{text_of_graph}
 use Rattle.wg_ascii.specs.Text as plain
 use Rattle.wg_offsets.specs.Places.{last_place}
 use Rattle.wg_words.specs.declared.jobs.Job.{Job}
-use Rattle.wg_words.specs.declared.jobs.Job.TheVariants.{Check, Arcs, Ascii, Offsets, Show, Spot, Rank, Verify, Build, Import, Quotient, Recode, Transpose}
+use Rattle.wg_words.specs.declared.jobs.Job.TheVariants.{Check, Arcs, Ascii, Offsets, Show, Spot, Rank, Verify, Build, Import, Quotient, Recode, Union, Transpose}
 use Rattle.wg_words.specs.declared.layout.Layout.{Layout}
 use Rattle.wg_jobs.specs.Names.{writes_files}
 use Rattle.wg_readings.specs.Pairing.{offsets_then}
 use Rattle.wg_readings.specs.Readings.{Readings}
+use Rattle.wg_readings.specs.Second.{of_second, second_held}
+use Rattle.wg_readings.specs.declared.status.Status.TheVariants.{TooManyArcs}
 use Rattle.wg_jobs.specs.Ranked.{bounds_after, certificate_text, ranking_text}
 use Rattle.wg_jobs.specs.Verified.{verified_line, with_gap}
 use Rattle.wg_jobs.specs.Written.{greedy_archive, params_for}
@@ -56,6 +61,10 @@ greedy_line p g = ok_line p (length (graph_bits p g.lists))
 abbrev pub builds : Layout → Digraph → Judged
 builds l g = built (greedy_archive (params_for l g) g) (greedy_line (params_for l g) g)
 
+-- goes on with the union of two graphs, where it has no more arcs than a graph may have
+abbrev pub with_union : Digraph → Digraph → (Digraph → Judged) → Judged
+with_union g h next = if nat_lt MOST_ARCS (arc_count (union_graph g h)) then refused TooManyArcs else next (union_graph g h)
+
 -- the first lines of the ranking by these bounds are printed; before it, if a certificate is named, their lower half is written
 abbrev pub ranks : Readings → Option (List ℕ) → ℕ → Intervals → Judged
 ranks r None top b = accepted (ranking_text r b top)
@@ -94,6 +103,10 @@ judged r (Quotient base map to classes layout) held =
     map_then g.nodes classes (held input.Map) (λ list. builds layout (quotient_of g list classes))))
 judged r (Recode base to layout) held =
     with_records held (λ p bytes. with_digraph r p bytes (λ g. builds layout g))
+judged r (Union first second output layout) held =
+    with_archive r held (λ p a.
+    of_second (with_archive r (second_held held) (λ q b.
+    with_union (graph_of p a) (graph_of q b) (λ g. builds layout g))))
 judged r (Transpose base to layout) held =
     with_records held (λ p bytes. with_digraph r p bytes (λ g. builds layout (transposed g)))
 

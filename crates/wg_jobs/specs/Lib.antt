@@ -2,6 +2,7 @@ pub mod Built
 pub mod Certificates
 pub mod Copying
 pub mod Judged
+pub mod Loaded
 pub mod Names
 pub mod Performs
 pub mod Printed

@@ -1,15 +1,17 @@
 -- The files of a job.
-use Rattle.wg_readings.specs.Names.{name_of_input, name_of_output, record_files, archive_files, list_file, text_file, weights_file, certificate_file, map_file, archive_outputs, certificate_output, held_by, file_of_fault}
+use Rattle.wg_readings.specs.Names.{name_of_input, name_of_output, record_files, archive_files, second_files, list_file, text_file, weights_file, certificate_file, map_file, archive_outputs, certificate_output, held_by, file_of_fault}
 use Rattle.std.specs.Prelude.{ℕ, Bool, true, false, nat_lt, List, [], ◌++◌, length, Option, Some, is_some}
 use Rattle.wg_io.specs.Outside.{Files}
 use Rattle.wg_io.specs.declared.output.Output.{Output}
 use Rattle.wg_io.specs.declared.output.Output.TheVariants as output
 use Rattle.wg_words.specs.declared.jobs.Job.{Job}
-use Rattle.wg_words.specs.declared.jobs.Job.TheVariants.{Check, Arcs, Ascii, Offsets, Show, Spot, Rank, Verify, Build, Import, Quotient, Recode, Transpose}
+use Rattle.wg_words.specs.declared.jobs.Job.TheVariants.{Check, Arcs, Ascii, Offsets, Show, Spot, Rank, Verify, Build, Import, Quotient, Recode, Union, Transpose}
 use Rattle.wg_readings.specs.declared.status.Input.{Input}
 use Rattle.wg_readings.specs.declared.status.Input.TheVariants as input
 use Rattle.wg_readings.specs.declared.status.Status.{Status}
-use Rattle.wg_readings.specs.declared.status.Status.TheVariants.{Done, Usage, Memory, ReadFault, WriteFault, Missing, BadArcs, BadProperties, BadArchive, NoPage, OverLimit, BadWeights, BadText, BadMap, BadCertificate}
+use Rattle.wg_readings.specs.declared.status.Status.TheVariants.{Done, Usage, Memory, ReadFault, WriteFault, Missing, BadArcs, BadProperties, BadArchive, BadSecond, TooManyArcs, NoPage, OverLimit, BadWeights, BadText, BadMap, BadCertificate}
+use Rattle.wg_readings.specs.declared.status.SecondFault.TheVariants as second
+use Rattle.wg_readings.specs.Second.{second_input}
 
 -- what each job reads, in its order, and what it writes
 abbrev pub inputs_of : Job → List (Input × List ℕ)
@@ -25,6 +27,7 @@ inputs_of (Build arcs base nodes layout) = list_file arcs
 inputs_of (Import text base layout) = text_file text
 inputs_of (Quotient base map to classes layout) = record_files base ++ map_file map
 inputs_of (Recode base to layout) = record_files base
+inputs_of (Union first second output layout) = archive_files first ++ second_files second
 inputs_of (Transpose base to layout) = record_files base
 
 abbrev pub outputs_of : Job → List (Output × List ℕ)
@@ -32,6 +35,7 @@ outputs_of (Build arcs base nodes layout) = archive_outputs base
 outputs_of (Import text base layout) = archive_outputs base
 outputs_of (Quotient from map base classes layout) = archive_outputs base
 outputs_of (Recode from base layout) = archive_outputs base
+outputs_of (Union first second output layout) = archive_outputs output
 outputs_of (Transpose from base layout) = archive_outputs base
 outputs_of (Rank base rounds damping top weights (Some certificate)) = certificate_output certificate
 outputs_of _ = []
@@ -82,6 +86,9 @@ can_end job (Missing i) = has_input job i
 can_end job (BadArcs line kind) = has_input job input.ArcList
 can_end job (BadProperties f) = has_input job input.Properties
 can_end job (BadArchive f) = has_input job (file_of_fault f)
+can_end job (BadSecond (second.Properties f)) = has_input job input.SecondProperties
+can_end job (BadSecond (second.Archive f)) = has_input job (second_input (file_of_fault f))
+can_end job TooManyArcs = has_input job input.SecondGraph
 can_end job (NoPage page) = names_pages job
 can_end job (OverLimit i) = has_input job i
 can_end job (BadWeights f) = has_input job input.Weights

@@ -14,6 +14,7 @@ use crate::recode::recode;
 use crate::show::show;
 use crate::spot::spot;
 use crate::transpose::transpose;
+use crate::union::union;
 use crate::verify::verify;
 use std::alloc::Global;
 use wg_io::{Depot, Sink};
@@ -90,6 +91,12 @@ pub fn perform<D: Depot, O: Sink>(alloc: Global, job: &Job, depot: &mut D, out: 
             output,
             layout,
         } => ending_of(recode(alloc, input, output, layout, depot, out)),
+        Job::Union {
+            first,
+            second,
+            output,
+            layout,
+        } => ending_of(union(alloc, first, second, output, layout, depot, out)),
         Job::Transpose {
             input,
             output,

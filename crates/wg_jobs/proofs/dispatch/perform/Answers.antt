@@ -37,5 +37,8 @@ returns-in-Quotient g c = performs_at _ _ _ _ _ _ _ _ _ _ c.in-Quotient.is c.end
 pub returns-in-Recode : goal.returns-in-Recode
 returns-in-Recode g c = performs_at _ _ _ _ _ _ _ _ _ _ c.in-Recode.is c.ending_of-in-Recode.ensures.status c.ending_of-in-Recode.ensures.arcs c.recode.ensures
 
+pub returns-in-Union : goal.returns-in-Union
+returns-in-Union g c = performs_at _ _ _ _ _ _ _ _ _ _ c.in-Union.is c.ending_of-in-Union.ensures.status c.ending_of-in-Union.ensures.arcs c.union.ensures
+
 pub returns-in-Transpose : goal.returns-in-Transpose
 returns-in-Transpose g c = performs_at _ _ _ _ _ _ _ _ _ _ c.in-Transpose.is c.ending_of-in-Transpose.ensures.status c.ending_of-in-Transpose.ensures.arcs c.transpose.ensures
