@@ -8,7 +8,9 @@ use Rattle.wg_readings.specs.Names.{certificate_to, file_of_fault}
 use Rattle.wg_readings.specs.declared.status.Input.{Input}
 use Rattle.wg_readings.specs.declared.status.Input.TheVariants as input
 use Rattle.wg_readings.specs.declared.status.Status.{Status}
-use Rattle.wg_readings.specs.declared.status.Status.TheVariants.{Done, Usage, Memory, ReadFault, WriteFault, Missing, BadArcs, BadProperties, BadArchive, NoPage, OverLimit, BadWeights, BadText, BadMap, BadCertificate}
+use Rattle.wg_readings.specs.declared.status.Status.TheVariants.{Done, Usage, Memory, ReadFault, WriteFault, Missing, BadArcs, BadProperties, BadArchive, BadSecond, TooManyArcs, NoPage, OverLimit, BadWeights, BadText, BadMap, BadCertificate}
+use Rattle.wg_readings.specs.declared.status.SecondFault.TheVariants as second
+use Rattle.wg_readings.specs.Second.{second_input}
 use Rattle.wg_cli.specs.Texts.{text_of_line, text_of_properties, text_of_archive, text_of_numbers, text_of_weights, text_of_plain, text_of_certificate, no_page_line}
 
 -- a line that names a file; none where the job has no such file
@@ -42,6 +44,9 @@ line_of job promised (Missing i) = naming (codes "wg: missing: ") (name_in job i
 line_of job promised (BadArcs line kind) = naming (codes "wg: ") (name_in job input.ArcList) (codes ": " ++ text_of_line line kind)
 line_of job promised (BadProperties f) = naming (codes "wg: ") (name_in job input.Properties) (codes ": " ++ text_of_properties f)
 line_of job promised (BadArchive f) = naming (codes "wg: ") (name_in job (file_of_fault f)) (codes ": " ++ text_of_archive promised f)
+line_of job promised (BadSecond (second.Properties f)) = naming (codes "wg: ") (name_in job input.SecondProperties) (codes ": " ++ text_of_properties f)
+line_of job promised (BadSecond (second.Archive f)) = naming (codes "wg: ") (name_in job (second_input (file_of_fault f))) (codes ": " ++ text_of_archive promised f)
+line_of job promised TooManyArcs = codes "wg: too many arcs\n"
 line_of job promised (NoPage page) = no_page_line page
 line_of job promised (OverLimit i) = naming (codes "wg: too long: ") (name_in job i) []
 line_of job promised (BadWeights f) = naming (codes "wg: ") (name_in job input.Weights) (codes ": " ++ text_of_weights f)

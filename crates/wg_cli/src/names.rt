@@ -1,7 +1,7 @@
 ghost use Rattle.std.specs.Prelude.{◌≡◌, ◌++◌, Some, option_map};
 ghost use Rattle.wg_io.specs.declared.suffixes.TheConstants.{PROPERTIES, GRAPH, OFFSETS};
 ghost use Rattle.wg_jobs.specs.Names.{input_name, output_name};
-ghost use Rattle.wg_readings.specs.Names.{archive_files, archive_named, list_named, name_of_input, record_files, text_named};
+ghost use Rattle.wg_readings.specs.Names.{archive_files, archive_named, list_named, name_of_input, record_files, second_files, text_named};
 ghost use Rattle.wg_readings.specs.Names.{certificate_file, certificate_to, map_file, weights_file};
 ghost use Rattle.wg_cli.specs.Lines.{certificate_in};
 
@@ -36,6 +36,7 @@ pub fn input_parts(job: &Job, input: Input) -> Option<(&str, &'static str)>
         Job::Recode { input: base, .. } | Job::Transpose { input: base, .. } => {
             record_input(base, input)
         }
+        Job::Union { first, second, .. } => union_input(first, second, input),
     }
 }
 
@@ -47,6 +48,27 @@ fn archive_input(base: &Name, input: Input) -> Option<(&str, &'static str)>
         Input::Properties => Some((base.as_str(), PROPERTIES)),
         Input::Graph => Some((base.as_str(), GRAPH)),
         Input::Offsets => Some((base.as_str(), OFFSETS)),
+        Input::SecondProperties | Input::SecondGraph | Input::SecondOffsets => None,
+        Input::ArcList | Input::Weights | Input::Certificate | Input::Text => None,
+    }
+}
+
+// The name of one of the files of two archives.
+fn union_input<'a>(
+    first: &'a Name,
+    second: &'a Name,
+    input: Input,
+) -> Option<(&'a str, &'static str)>
+    ensures { option_map (λ parts. parts.0.now ++ parts.1.now) result
+        ≡ name_of_input (archive_files first.now ++ second_files second.now) input }
+{
+    match input {
+        Input::Properties => Some((first.as_str(), PROPERTIES)),
+        Input::Graph => Some((first.as_str(), GRAPH)),
+        Input::Offsets => Some((first.as_str(), OFFSETS)),
+        Input::SecondProperties => Some((second.as_str(), PROPERTIES)),
+        Input::SecondGraph => Some((second.as_str(), GRAPH)),
+        Input::SecondOffsets => Some((second.as_str(), OFFSETS)),
         Input::ArcList | Input::Weights | Input::Certificate | Input::Text | Input::Map => None,
     }
 }
@@ -58,6 +80,7 @@ fn record_input(base: &Name, input: Input) -> Option<(&str, &'static str)>
     match input {
         Input::Properties => Some((base.as_str(), PROPERTIES)),
         Input::Graph => Some((base.as_str(), GRAPH)),
+        Input::SecondProperties | Input::SecondGraph | Input::SecondOffsets => None,
         Input::Offsets
         | Input::ArcList
         | Input::Weights
@@ -94,6 +117,7 @@ fn weighed_input<'a>(
         Input::Properties => Some((base.as_str(), PROPERTIES)),
         Input::Graph => Some((base.as_str(), GRAPH)),
         Input::Weights => Some((weights.as_str(), "")),
+        Input::SecondProperties | Input::SecondGraph | Input::SecondOffsets => None,
         Input::Offsets | Input::ArcList | Input::Certificate | Input::Text | Input::Map => None,
     }
 }
@@ -126,6 +150,7 @@ fn claim_input<'a>(
         Input::Properties => Some((base.as_str(), PROPERTIES)),
         Input::Graph => Some((base.as_str(), GRAPH)),
         Input::Certificate => Some((certificate.as_str(), "")),
+        Input::SecondProperties | Input::SecondGraph | Input::SecondOffsets => None,
         Input::Offsets | Input::ArcList | Input::Weights | Input::Text | Input::Map => None,
     }
 }
@@ -145,6 +170,7 @@ fn weighed_claim_input<'a>(
         Input::Graph => Some((base.as_str(), GRAPH)),
         Input::Weights => Some((weights.as_str(), "")),
         Input::Certificate => Some((certificate.as_str(), "")),
+        Input::SecondProperties | Input::SecondGraph | Input::SecondOffsets => None,
         Input::Offsets | Input::ArcList | Input::Text | Input::Map => None,
     }
 }
@@ -171,6 +197,9 @@ fn list_parts(arcs: &Name, input: Input) -> Option<(&str, &'static str)>
         Input::Properties
         | Input::Graph
         | Input::Offsets
+        | Input::SecondProperties
+        | Input::SecondGraph
+        | Input::SecondOffsets
         | Input::Weights
         | Input::Certificate
         | Input::Text
@@ -187,6 +216,9 @@ fn text_parts(text: &Name, input: Input) -> Option<(&str, &'static str)>
         Input::Properties
         | Input::Graph
         | Input::Offsets
+        | Input::SecondProperties
+        | Input::SecondGraph
+        | Input::SecondOffsets
         | Input::ArcList
         | Input::Weights
         | Input::Certificate
@@ -211,6 +243,7 @@ pub fn output_parts(job: &Job, output: Output) -> Option<(&str, &'static str)>
         | Job::Import { base, .. }
         | Job::Quotient { output: base, .. }
         | Job::Recode { output: base, .. }
+        | Job::Union { output: base, .. }
         | Job::Transpose { output: base, .. } => archive_parts(base, output),
     }
 }

@@ -8,7 +8,8 @@ ghost use Rattle.wg_jobs.specs.Names.{input_name};
 use crate::names::{input_parts, output_parts};
 use crate::{Input, Status, texts};
 use wg_io::{Output, Sink, WriteError, write_all, write_pieces};
-use wg_jobs::Text;
+use wg_jobs::{SecondFault, Text};
+use wg_readings::second_input;
 use wg_words::Job;
 
 // The name of a job's input, in two parts.
@@ -144,6 +145,19 @@ fn write_line<S: Sink>(
             let input = texts::file_of_fault(fault);
             fault_in(sink, job, input, &texts::archive(promised, fault))
         }
+        Status::BadSecond(SecondFault::Properties(fault)) => {
+            fault_in(
+                sink,
+                job,
+                Input::SecondProperties,
+                &texts::properties(fault),
+            )
+        }
+        Status::BadSecond(SecondFault::Archive(fault)) => {
+            let input = second_input(texts::file_of_fault(fault));
+            fault_in(sink, job, input, &texts::archive(promised, fault))
+        }
+        Status::TooManyArcs => write_all(sink, b"wg: too many arcs\n"),
         Status::NoPage(page) => write_all(sink, texts::no_page(page).as_bytes()),
         Status::OverLimit(input) => about(sink, "wg: too long: ", job, input, b""),
         Status::BadWeights(fault) => fault_in(sink, job, Input::Weights, &texts::weights(fault)),

@@ -18,6 +18,7 @@ mod rankings;
 mod recodings;
 mod shrinking;
 mod spot;
+mod union;
 mod verified;
 mod weighted;
 
