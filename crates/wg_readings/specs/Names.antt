@@ -40,9 +40,9 @@ input_code input.Weights = 4
 input_code input.Certificate = 5
 input_code input.Text = 6
 input_code input.Map = 7
-input_code input.SecondProperties = 7
-input_code input.SecondGraph = 8
-input_code input.SecondOffsets = 9
+input_code input.SecondProperties = 8
+input_code input.SecondGraph = 9
+input_code input.SecondOffsets = 10
 
 abbrev pub output_code : Output → ℕ
 output_code output.Properties = 0
