@@ -56,7 +56,7 @@ last_sum v vs =
     ap (λ (k : ℕ). get_or (places_of (v ∷ vs)) k 0) at ∙ omega (arith, last_end 0 v vs)
 
 -- the last record ends where the bits do
-last_bit : (p : Parameters) (lists : List (List ℕ)) → last_place (places_of (offset_values p lists)) ≡ length (graph_bits p lists)
+pub last_bit : (p : Parameters) (lists : List (List ℕ)) → last_place (places_of (offset_values p lists)) ≡ length (graph_bits p lists)
 last_bit p lists = last_sum 0 (map length (record_bits p lists)) ∙ values_sum p lists
 
 -- ---- files

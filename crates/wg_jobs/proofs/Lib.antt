@@ -33,3 +33,5 @@ pub mod QuotientJobs
 pub mod QuotientLemmas
 pub mod LoadedLemmas
 pub mod UnionJobs
+pub mod SteadyLemmas
+pub mod BulkLemmas

@@ -15,8 +15,10 @@ use Rattle.wg_arcs.specs.Text.{text_of_graph}
 use Rattle.wg_ascii.specs.Text as plain
 use Rattle.wg_offsets.specs.Places.{last_place}
 use Rattle.wg_words.specs.declared.jobs.Job.{Job}
-use Rattle.wg_words.specs.declared.jobs.Job.TheVariants.{Check, Arcs, Ascii, Offsets, Show, Spot, Rank, Verify, Build, Import, Quotient, Recode, Union, Transpose}
+use Rattle.wg_words.specs.declared.jobs.Job.TheVariants.{Check, Arcs, Ascii, Offsets, Show, Spot, Rank, Verify, Build, Import, Quotient, Recode, Union, Transpose, Bulk}
 use Rattle.wg_words.specs.declared.layout.Layout.{Layout}
+use Rattle.wg_vectors.specs.Generated.{generated}
+use Rattle.wg_jobs.specs.Bulk.{outcome_of, outcome_text}
 use Rattle.wg_jobs.specs.Names.{writes_files}
 use Rattle.wg_readings.specs.Pairing.{offsets_then}
 use Rattle.wg_readings.specs.Readings.{Readings}
@@ -109,6 +111,8 @@ judged r (Union first second output layout) held =
     with_union (graph_of p a) (graph_of q b) (λ g. builds layout g))))
 judged r (Transpose base to layout) held =
     with_records held (λ p bytes. with_digraph r p bytes (λ g. builds layout (transposed g)))
+judged r (Bulk seed pages) held =
+    accepted (outcome_text (outcome_of r (generated seed pages)))
 
 -- what a job writes, if it does
 abbrev pub written_by : Readings → Job → (Input → Option (List ℕ)) → Option Written

@@ -1,4 +1,5 @@
 pub mod Built
+pub mod Bulk
 pub mod Certificates
 pub mod Copying
 pub mod Judged

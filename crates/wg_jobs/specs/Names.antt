@@ -5,7 +5,7 @@ use Rattle.wg_io.specs.Outside.{Files}
 use Rattle.wg_io.specs.declared.output.Output.{Output}
 use Rattle.wg_io.specs.declared.output.Output.TheVariants as output
 use Rattle.wg_words.specs.declared.jobs.Job.{Job}
-use Rattle.wg_words.specs.declared.jobs.Job.TheVariants.{Check, Arcs, Ascii, Offsets, Show, Spot, Rank, Verify, Build, Import, Quotient, Recode, Union, Transpose}
+use Rattle.wg_words.specs.declared.jobs.Job.TheVariants.{Check, Arcs, Ascii, Offsets, Show, Spot, Rank, Verify, Build, Import, Quotient, Recode, Union, Transpose, Bulk}
 use Rattle.wg_readings.specs.declared.status.Input.{Input}
 use Rattle.wg_readings.specs.declared.status.Input.TheVariants as input
 use Rattle.wg_readings.specs.declared.status.Status.{Status}
@@ -29,6 +29,7 @@ inputs_of (Quotient base map to classes layout) = record_files base ++ map_file 
 inputs_of (Recode base to layout) = record_files base
 inputs_of (Union first second output layout) = archive_files first ++ second_files second
 inputs_of (Transpose base to layout) = record_files base
+inputs_of (Bulk seed pages) = []
 
 abbrev pub outputs_of : Job → List (Output × List ℕ)
 outputs_of (Build arcs base nodes layout) = archive_outputs base

@@ -74,6 +74,12 @@ Does d o job before after out out' status arcs =
 abbrev pub DoesOrEnds : {D O : Type 0} → depot.Ghosts D → sink.Ghosts O → Job → D → D → O → O → Result (Unit {0}) Ending → Type 0
 DoesOrEnds d o job before after out out' result = Does d o job before after out out' (status_in result) (arcs_in result)
 
+-- the same of a command without files: it makes no call of a depot, whatever the depot holds
+abbrev pub DoesAlone : {O : Type 0} → sink.Ghosts O → Job → O → O → Result (Unit {0}) Ending → Type 0
+DoesAlone o job out out' result =
+    (told : Bool) (files : Files) (counts : List ℕ → Counts)
+    → Performs job told o.told (outside files counts (o.taken out) (o.faults out)) (outside files counts (o.taken out') (o.faults out')) (status_in result) (arcs_in result)
+
 -- What a job writes was written to files of these names, and its text printed; or what was left where this stopped.
 pub record Produces (names : Output → Option (List ℕ)) (what : Written) (text : Readings → List ℕ) (told_files told_out : Bool) (before after : Outside) (result : Result (Unit {0}) Ending) : Type 0 where
   -- a file, the output or memory alone can stop it

@@ -29,8 +29,8 @@ pub fn build_archive<D: Depot, O: Sink>(
         ⟦<O as Sink>⟧ layout.now graph.now base.now depot.old depot.new out.old out.new result }
 {
     let params = params_of(layout, graph.nodes(), graph.arcs());
-    let bits = write_archive(alloc, &params, graph, base, depot)?;
-    print_ok(out, &params, bits)
+    let summary = write_archive(alloc, &params, graph, base, depot)?;
+    print_ok(out, &params, summary.bits)
 }
 
 /// The parameters of an archive of so many pages and arcs in this layout.

@@ -5,6 +5,7 @@ ghost use Rattle.wg_readings.specs.Promised.{arcs_in};
 ghost use Rattle.wg_jobs.specs.Performs.{Does};
 
 use crate::build::build;
+use crate::bulk::bulk;
 use crate::check::check;
 use crate::import::import;
 use crate::printing::{Listing, print_records};
@@ -102,5 +103,6 @@ pub fn perform<D: Depot, O: Sink>(alloc: Global, job: &Job, depot: &mut D, out: 
             output,
             layout,
         } => ending_of(transpose(alloc, input, output, layout, depot, out)),
+        Job::Bulk { seed, pages } => ending_of(bulk(alloc, *seed, *pages, out)),
     }
 }

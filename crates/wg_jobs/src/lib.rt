@@ -5,8 +5,8 @@
 //! was outside before and after (`Performs`): the status is the one that the job and its inputs lead to (`judged`),
 //! or running out of memory or a fault of the outside came in its place; faults are told only where their counts
 //! rose; and at each status it says what stands on the output, in the three files of a written archive and in a written
-//! certificate. Each
-//! command has this as its one clause, by the word `DoesOrEnds`.
+//! certificate. Each command has this as its one clause, by the word `DoesOrEnds`; `bulk`, which has no files, has it
+//! of any depot, of which it makes no call, by `DoesAlone`.
 //!
 //! A command is a chain of steps: those of `wg_readings`, which read the files of an archive and judge them, and last one
 //! that prints or writes. A command more is an equation of `judged`, the lists of its inputs and outputs, and a module
@@ -23,13 +23,16 @@
 
 mod build;
 mod building;
+mod bulk;
 mod certificate;
 mod check;
 mod copying;
 mod dispatch;
+mod generated;
 mod import;
 pub mod laws;
 mod loaded;
+mod outcome;
 mod print;
 mod printing;
 mod quotient;

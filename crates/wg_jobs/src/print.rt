@@ -21,8 +21,8 @@ use wg_params::Params;
 use wg_rank::Certificate;
 use wg_readings::{Ending, Status};
 
-// A piece of the output.
-fn print<O: Sink>(out: &mut O, piece: &[u8]) -> Result<(), Ending>
+/// A piece of the output, in one call where the output takes it whole.
+pub fn print<O: Sink>(out: &mut O, piece: &[u8]) -> Result<(), Ending>
     ensures puts { IsTrue O.told → Puts piece.now (O.taken out.old) (O.taken out.new) result }
     ensures refusals { PrintRefusals ⟦<O as Sink>⟧ out.old out.new result }
 {

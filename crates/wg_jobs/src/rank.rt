@@ -59,8 +59,8 @@ pub fn rank<D: Depot, O: Sink>(
     }
 }
 
-// All memory that the rounds and the ranking take.
-fn room_for<L: Lists>(
+/// All memory that the rounds and the ranking take.
+pub fn room_for<L: Lists>(
     alloc: Global,
     lists: &L,
     weights: Option<List>,

@@ -5,7 +5,7 @@ use std::marker::Model;
 use wg_num::decimal_into;
 
 /// The most bytes of a text.
-pub const MOST_TEXT: usize = 128;
+pub const MOST_TEXT: usize = 192;
 
 /// A short text, built from the front in a buffer of its own.
 #[derive(Drop)]

@@ -1,12 +1,12 @@
 //! An archive on its way into its three files. The properties come last: until they are whole, no one takes the
 //! files for an archive.
-ghost use Rattle.std.specs.Prelude.{◌≡◌, ◌≢◌, ◌++◌, ℕ, List, [], length, IsTrue, OnOk, IfOk, IfErr, Some};
+ghost use Rattle.std.specs.Prelude.{◌≡◌, ◌≢◌, ◌++◌, ℕ, List, [], IsTrue, OnOk, IfOk, IfErr, Some};
 ghost use Rattle.std.specs.FinMap as map;
 ghost use Rattle.wg_io.specs.Outside.{NonDecreasing, created, appended};
 ghost use Rattle.wg_io.specs.Suffixes.{properties_name};
 ghost use Rattle.wg_graph.specs.Digraph.{arc_count};
 ghost use Rattle.wg_properties.specs.Text.{text_of};
-ghost use Rattle.wg_encoder.specs.Archive.{graph_bits, graph_file, offsets_file};
+ghost use Rattle.wg_encoder.specs.Archive.{graph_file, offsets_file, summary_of};
 ghost use Rattle.wg_readings.specs.Answers.{status_in};
 ghost use Rattle.wg_readings.specs.Causes.{IncreasedAt};
 ghost use Rattle.wg_readings.specs.Names.{archive_named};
@@ -16,7 +16,7 @@ ghost use Rattle.wg_jobs.specs.Written.{IsStoppedAt, IsStopped, LeavesAfter};
 ghost use Rattle.wg_readings.specs.Judged.{Archive};
 
 use std::alloc::Global;
-use wg_encoder::{EncodeError, encode};
+use wg_encoder::{EncodeError, Summary, encode};
 use wg_graph::Graph;
 use wg_io::{Depot, GRAPH, List8, OFFSETS, Output, PROPERTIES, WriteError, append_all};
 use wg_params::Params;
@@ -86,20 +86,19 @@ pub fn encoding_ending(error: EncodeError) -> Ending
     }
 }
 
-// Writes the graph file and the offsets file, which are empty, and answers how many bits the records have.
+// Writes the graph file and the offsets file, which are empty, and answers what the records come to.
 fn write_records<D: Depot>(
     alloc: Global,
     params: &Params,
     graph: &Graph,
     base: &Name,
     depot: &mut D,
-) -> Result<u64, Ending>
+) -> Result<Summary, Ending>
     requires nodes { params.now.nodes ≡ graph.now.nodes }
     requires arcs { params.now.arcs ≡ arc_count graph.now }
     ensures ok { IsTrue D.told → archive_in base.now (D.files depot.old) ≡ emptied
         → OnOk result (archive_in base.now (D.files depot.new) ≡ unnamed (greedy_archive params.now graph.now)) }
-    ensures bits { IsTrue D.told → archive_in base.now (D.files depot.old) ≡ emptied
-        → IfOk result (λ bits. bits ≡ length (graph_bits params.now graph.now.lists)) }
+    ensures summary { IfOk result (λ summary. summary ≡ summary_of params.now graph.now.lists) }
     ensures err { IsTrue D.told → archive_in base.now (D.files depot.old) ≡ emptied → (before : ArchiveFiles)
         → IfErr result (λ e. FilesAfter (greedy_archive params.now graph.now) before
         (archive_in base.now (D.files depot.new)) e.status) }
@@ -109,7 +108,7 @@ fn write_records<D: Depot>(
     ensures later { NonDecreasing (D.counts depot.old) (D.counts depot.new) }
 {
     match encode(alloc, *params, graph, depot, base.as_str()) {
-        Ok(bits) => Ok(bits),
+        Ok(summary) => Ok(summary),
         Err(error) => Err(encoding_ending(error)),
     }
 }
@@ -151,19 +150,20 @@ pub fn properties_text(alloc: Global, params: &Params) -> Result<List8, Ending>
 }
 
 /// Writes the greedy archive of a graph: creates the three files, appends the records and the offsets, and the
-/// properties last. It answers how many bits the records have. Beside the graph it holds what an `Encoder` holds and
-/// the properties text.
+/// properties last. It answers what the records come to. Beside the graph it holds what an `Encoder` holds and the
+/// properties text.
 pub fn write_archive<D: Depot>(
     alloc: Global,
     params: &Params,
     graph: &Graph,
     base: &Name,
     depot: &mut D,
-) -> Result<u64, Ending>
+) -> Result<Summary, Ending>
     requires nodes { params.now.nodes ≡ graph.now.nodes }
     requires arcs { params.now.arcs ≡ arc_count graph.now }
-    ensures ok { IsTrue D.told → IfOk result (λ bits. AreWhole (greedy_archive params.now graph.now)
-        (archive_in base.now (D.files depot.new)) × (bits ≡ length (graph_bits params.now graph.now.lists))) }
+    ensures ok { IsTrue D.told → OnOk result (AreWhole (greedy_archive params.now graph.now)
+        (archive_in base.now (D.files depot.new))) }
+    ensures summary { IfOk result (λ summary. summary ≡ summary_of params.now graph.now.lists) }
     ensures err { IsTrue D.told → IfErr result (λ e. LeavesAfter (greedy_archive params.now graph.now) base.now
         (D.files depot.old) (D.files depot.new) e.status) }
     ensures others { IsTrue D.told → OthersStay (archive_named base.now) (D.files depot.old) (D.files depot.new) }
@@ -174,7 +174,7 @@ pub fn write_archive<D: Depot>(
     let name = file_name(alloc, base, PROPERTIES)?;
     let text = properties_text(alloc, params)?;
     create_files(alloc, depot, base)?;
-    let bits = write_records(alloc, params, graph, base, depot)?;
+    let summary = write_records(alloc, params, graph, base, depot)?;
     write_properties(text.as_slice(), base, &name, depot)?;
-    Ok(bits)
+    Ok(summary)
 }

@@ -42,3 +42,6 @@ returns-in-Union g c = performs_at _ _ _ _ _ _ _ _ _ _ c.in-Union.is c.ending_of
 
 pub returns-in-Transpose : goal.returns-in-Transpose
 returns-in-Transpose g c = performs_at _ _ _ _ _ _ _ _ _ _ c.in-Transpose.is c.ending_of-in-Transpose.ensures.status c.ending_of-in-Transpose.ensures.arcs c.transpose.ensures
+
+pub returns-in-Bulk : goal.returns-in-Bulk
+returns-in-Bulk g c = performs_at _ _ _ _ _ _ _ _ _ _ c.in-Bulk.is c.ending_of-in-Bulk.ensures.status c.ending_of-in-Bulk.ensures.arcs (c.bulk.ensures _ _ _)

@@ -17,20 +17,20 @@ pub returns-in_err-create_files-clause-causes : goal.returns-in_err-create_files
 returns-in_err-create_files-clause-causes g c = λ o is.
     (c.in_err-create_files.ensures.causes o (sym (ended_by c.from_residual-in_err-create_files.result c.in_err-create_files.field-0.0 c.from_residual-in_err-create_files.ensures.1) ∙ is))
 
-pub returns-in_err-bits-clause-others : goal.returns-in_err-bits-clause-others
-returns-in_err-bits-clause-others g c = λ t.
+pub returns-in_err-summary-clause-others : goal.returns-in_err-summary-clause-others
+returns-in_err-summary-clause-others g c = λ t.
     (others_twice _ _ _ _ (c.create_files.ensures.others t) (c.write_records.ensures.others t))
 
-pub returns-in_err-bits-clause-causes : goal.returns-in_err-bits-clause-causes
-returns-in_err-bits-clause-causes g c = λ o is.
+pub returns-in_err-summary-clause-causes : goal.returns-in_err-summary-clause-causes
+returns-in_err-summary-clause-causes g c = λ o is.
     (rose_since (archive_named c.args.base.now o) _ _ _ c.create_files.ensures.later
-    (c.in_err-bits.ensures.causes o (sym (ended_by c.from_residual-in_err-bits.result c.in_err-bits.field-0.0 c.from_residual-in_err-bits.ensures.1) ∙ is)))
+    (c.in_err-summary.ensures.causes o (sym (ended_by c.from_residual-in_err-summary.result c.in_err-summary.field-0.0 c.from_residual-in_err-summary.ensures.1) ∙ is)))
 
 pub returns-in_err-write_properties-clause-err : goal.returns-in_err-write_properties-clause-err
 returns-in_err-write_properties-clause-err g c = λ t.
     let empty = c.in_ok-create_files.ensures.ok t in
     if_that_err _ _ _ c.from_residual-in_err-write_properties.ensures.1
-    ((c.in_err-write_properties.ensures.err t (greedy_archive c.args.params.now c.args.graph.now) (sym (c.as_slice.ensures ∙ c.in_ok-text.ensures.text)) (c.in_ok-bits.ensures.ok t empty)
+    ((c.in_err-write_properties.ensures.err t (greedy_archive c.args.params.now c.args.graph.now) (sym (c.as_slice.ensures ∙ c.in_ok-text.ensures.text)) (c.in_ok-summary.ensures.ok t empty)
     (archive_at (archive_named c.args.base.now) (g.D.Depot.files c.args.depot.now))))
 
 pub returns-in_err-write_properties-clause-others : goal.returns-in_err-write_properties-clause-others
@@ -45,10 +45,8 @@ returns-in_err-write_properties-clause-causes g c = λ o is.
 
 pub returns-clause-ok : goal.returns-clause-ok
 returns-clause-ok g c = λ t.
-    let empty = c.in_ok-create_files.ensures.ok t in (
-      (c.in_ok-write_properties.ensures.ok t (greedy_archive c.args.params.now c.args.graph.now) (sym (c.as_slice.ensures ∙ c.in_ok-text.ensures.text)) (c.in_ok-bits.ensures.ok t empty)),
-      c.in_ok-bits.ensures.bits t empty,
-    )
+    let empty = c.in_ok-create_files.ensures.ok t in
+    c.in_ok-write_properties.ensures.ok t (greedy_archive c.args.params.now c.args.graph.now) (sym (c.as_slice.ensures ∙ c.in_ok-text.ensures.text)) (c.in_ok-summary.ensures.ok t empty)
 
 pub returns-clause-others : goal.returns-clause-others
 returns-clause-others g c = λ t.

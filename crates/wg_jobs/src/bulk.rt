@@ -1,0 +1,28 @@
+//! The command `bulk`: what comes of a generated graph.
+ghost use Rattle.std.specs.Prelude.{◌≤◌};
+ghost use Rattle.wg_vectors.specs.declared.generating.TheConstants.{MOST_GENERATED};
+ghost use Rattle.wg_words.specs.declared.jobs.Job.TheVariants.{Bulk};
+ghost use Rattle.wg_jobs.specs.Performs.{DoesAlone};
+
+use crate::generated::try_generated;
+use crate::print::print;
+use std::alloc::Global;
+use wg_io::Sink;
+use wg_readings::Ending;
+
+/// Writes the archive of the generated graph of so many pages in memory, judges it as `check` does, ranks the pages of
+/// the graph that its bytes stand for, and prints in six lines what comes of this. It makes no call of a depot but its
+/// own, and the archive is never refused: out of memory or a fault of the output alone can stop it.
+///
+/// First it holds the graph and the archive, then the archive and what `check` holds, and then the bytes of the graph
+/// file and what `rank` holds. The graph takes 8 bytes a page and 8 an arc, and up to twice that while its lists grow;
+/// the archive less than a byte an arc and two a page, and up to twice that while its files grow; bounds and ranking
+/// take 64 bytes a page, and 8 more for the places of the records until these are judged. A page has some ten arcs. The
+/// time is in proportion to pages and arcs, but for the sorting of the pages.
+pub fn bulk<O: Sink>(alloc: Global, seed: u64, pages: u64, out: &mut O) -> Result<(), Ending>
+    requires { pages ≤ MOST_GENERATED }
+    ensures { DoesAlone ⟦<O as Sink>⟧ (Bulk seed pages) out.old out.new result }
+{
+    let outcome = try_generated(alloc, seed, pages)?;
+    print(out, outcome.text().as_bytes())
+}
