@@ -1,6 +1,6 @@
 -- What runs where nothing outside is at fault tells no fault.
-use Rattle.std.proofs.Common.{◌≡◌, ◌≢◌, ◌⊎◌, inl, inr, ℕ, List, refl, sym, ◌∙◌, subst, arith, Option, Some, None}
-use Rattle.wg_io.specs.Outside.{Counts, Increased}
+use Rattle.std.proofs.Common.{◌≡◌, ◌≢◌, ◌⊎◌, inl, inr, ℕ, List, refl, sym, ◌∙◌, subst, Option, Some, None}
+use Rattle.wg_io.specs.Outside.{Counts}
 use Rattle.wg_io.specs.declared.output.Output.{Output}
 use Rattle.wg_words.specs.declared.jobs.Job.{Job}
 use Rattle.wg_readings.specs.Causes.{AreFaultless, HasCause}
@@ -9,18 +9,6 @@ use Rattle.wg_readings.specs.declared.status.Input.{Input}
 use Rattle.wg_readings.specs.declared.status.Status.{Status}
 use Rattle.wg_readings.specs.declared.status.Status.TheVariants.{Usage, Memory, ReadFault, WriteFault}
 use Rattle.wg_jobs.proofs.PerformsLemmas.{not_at, no_fault_in}
-
--- a count that stays 0
-still : ¬ Increased 0 0
-still (inl more) = omega (arith, more)
-still (inr last) = omega (arith, last)
-
-pub faultless : (old new : List ℕ → Counts) → ((n : List ℕ) → ((old n).read_faults ≡ 0) × ((new n).read_faults ≡ 0) × ((old n).write_faults ≡ 0) × ((new n).write_faults ≡ 0)) → AreFaultless old new 0 0
-faultless old new zeros = record {
-  reads = λ n more. still (subst (λ (k : ℕ). Increased k 0) (zeros n).0 (subst (λ (k : ℕ). Increased (old n).read_faults k) (zeros n).1 more));
-  writes = λ n more. still (subst (λ (k : ℕ). Increased k 0) (zeros n).2 (subst (λ (k : ℕ). Increased (old n).write_faults k) (zeros n).3 more));
-  output = still;
-}
 
 module _ (old new : List ℕ → Counts) (faults faults' : ℕ) (quiet : AreFaultless old new faults faults') (s : Status) where
   no_fault_here : (s ≡ Usage) ⊎ (s ≡ Memory) → (f : Status) → (Usage ≡ f → ⊥) → (Memory ≡ f → ⊥) → s ≢ f

@@ -37,6 +37,7 @@ pub fn input_parts(job: &Job, input: Input) -> Option<(&str, &'static str)>
             record_input(base, input)
         }
         Job::Union { first, second, .. } => union_input(first, second, input),
+        Job::Bulk { .. } => None,
     }
 }
 
@@ -237,7 +238,8 @@ pub fn output_parts(job: &Job, output: Output) -> Option<(&str, &'static str)>
         | Job::Offsets { .. }
         | Job::Show { .. }
         | Job::Spot { .. }
-        | Job::Verify { .. } => None,
+        | Job::Verify { .. }
+        | Job::Bulk { .. } => None,
         Job::Rank { certificate, .. } => certificate_parts(certificate, output),
         Job::Build { base, .. }
         | Job::Import { base, .. }

@@ -8,6 +8,7 @@ use wg_words::Words;
 
 mod archives;
 mod built;
+mod bulk;
 mod conversions;
 mod lines;
 mod lists;
