@@ -50,7 +50,7 @@ fn archive_input(base: &Name, input: Input) -> Option<(&str, &'static str)>
         Input::Graph => Some((base.as_str(), GRAPH)),
         Input::Offsets => Some((base.as_str(), OFFSETS)),
         Input::SecondProperties | Input::SecondGraph | Input::SecondOffsets => None,
-        Input::ArcList | Input::Weights | Input::Certificate | Input::Text => None,
+        Input::ArcList | Input::Weights | Input::Certificate | Input::Text | Input::Map => None,
     }
 }
 
@@ -185,6 +185,7 @@ fn mapped_input<'a>(base: &'a Name, map: &'a Name, input: Input) -> Option<(&'a 
         Input::Properties => Some((base.as_str(), PROPERTIES)),
         Input::Graph => Some((base.as_str(), GRAPH)),
         Input::Map => Some((map.as_str(), "")),
+        Input::SecondProperties | Input::SecondGraph | Input::SecondOffsets => None,
         Input::Offsets | Input::ArcList | Input::Weights | Input::Certificate | Input::Text => None,
     }
 }

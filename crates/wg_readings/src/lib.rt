@@ -41,7 +41,7 @@ pub use chains::successors_of_page;
 pub use ending::Ending;
 pub use judge::{judge_files, judge_graph, judge_offsets};
 pub use loading::{
-    load, load_certificate, load_graph, load_list, load_offsets, load_map, load_params, load_text,
+    load, load_certificate, load_graph, load_list, load_map, load_offsets, load_params, load_text,
     load_weights,
 };
 pub use names::file_name;

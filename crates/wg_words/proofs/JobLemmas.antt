@@ -176,7 +176,7 @@ job_from_within command rows job =
     (chosen_within (bytes_eq command (codes "union")) _ _ job (union_in_within rows job)
     (chosen_within (bytes_eq command (codes "transpose")) _ _ job (mapped_within transposing (λ c within. within) (conversion_in rows) (conversion_in_within rows) job)
     (chosen_within (bytes_eq command (codes "bulk")) _ _ job (bulk_in_within rows job)
-    (job_on_base_within command rows job)))
+    (job_on_base_within command rows job)))))
 
 pub job_within : (words : List Text) (job : Job) → job_of words ≡ Some job → IsWithin job
 job_within words job is =

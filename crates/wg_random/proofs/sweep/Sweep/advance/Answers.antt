@@ -46,17 +46,19 @@ invariant_of-self c =
       before = subst (AreKept h.reading.records c.self.inside.page) (sym lent) kept;
     } in
     let same : c.decode_page-self-inside.new.list.room ≡ c.self.inside.list.room = c.decode_page-self-inside.ensures.room ∙ c.keep.ensures.room in
-    let page : c.self.inside.page ≡ c.self.inside.page + 1 - 1 = omega arith in
-    (record {
-      short = h.short;
-      reading = h.reading;
-      graph_is = h.graph_is;
-      proper = h.proper;
-      few = omega (arith, lt);
-      begins = c.decode_page-self-inside.ensures.end h.reading next;
-      count = ap (λ (l : List Filled). length l) rows ∙ c.keep.ensures.count ∙ ap (λ (l : List Filled). length l) lists ∙ h.count;
-      room = subst (λ (k : ℕ). All (λ s. length s ≤ k) c.self.inside.archive.graph.0) (sym same) h.room;
-      rooms = subst (λ (l : List Filled). All (λ r. r.room ≡ c.decode_page-self-inside.new.list.room) l) (sym rows) (subst (λ (k : ℕ). All (λ r. r.room ≡ k) c.keep.new.kept) (sym same) c.keep.ensures.rooms);
-      last = λ _. c.decode_page-self-inside.ensures.list h.reading next ∙ ap (λ (k : ℕ). (known_at h.reading.records k).list) page;
-      before = subst (AreKept h.reading.records (c.self.inside.page + 1 - 1)) (sym rows) (subst (λ (k : ℕ). AreKept h.reading.records k c.keep.new.kept) page kept);
-    }, c.decode_page-self-inside.ensures.spare ∙ c.self.invariant.1 ∙ sym same)
+    let page : c.self.inside.page ≡ c.self.inside.page + 1 - 1 = omega arith in (
+      record {
+        short = h.short;
+        reading = h.reading;
+        graph_is = h.graph_is;
+        proper = h.proper;
+        few = omega (arith, lt);
+        begins = c.decode_page-self-inside.ensures.end h.reading next;
+        count = ap (λ (l : List Filled). length l) rows ∙ c.keep.ensures.count ∙ ap (λ (l : List Filled). length l) lists ∙ h.count;
+        room = subst (λ (k : ℕ). All (λ s. length s ≤ k) c.self.inside.archive.graph.0) (sym same) h.room;
+        rooms = subst (λ (l : List Filled). All (λ r. r.room ≡ c.decode_page-self-inside.new.list.room) l) (sym rows) (subst (λ (k : ℕ). All (λ r. r.room ≡ k) c.keep.new.kept) (sym same) c.keep.ensures.rooms);
+        last = λ _. c.decode_page-self-inside.ensures.list h.reading next ∙ ap (λ (k : ℕ). (known_at h.reading.records k).list) page;
+        before = subst (AreKept h.reading.records (c.self.inside.page + 1 - 1)) (sym rows) (subst (λ (k : ℕ). AreKept h.reading.records k c.keep.new.kept) page kept);
+      },
+      c.decode_page-self-inside.ensures.spare ∙ c.self.invariant.1 ∙ sym same,
+    )
