@@ -150,21 +150,31 @@ fn pages_without_a_check(rt: HostRuntime) -> Result<(), Fail> {
             "wg: g.graph: page 1 bit 4 reference range\n",
         ),
         Spotted {
+            files: COPY,
+            counts: [2, 4],
             chain: Some(0),
-            ..refused(
-                COPY,
-                [2, 4],
-                "spot g 1",
-                "wg: g.graph: page 1 bit 14 reference chain\n",
-            )
+            line: "spot g 1",
+            code: 9,
+            printed: "",
+            told: "wg: g.graph: page 1 bit 14 reference chain\n",
         },
         Spotted {
+            files: CUT,
+            counts: [3, 4],
+            chain: None,
+            line: "spot g 3",
             code: 10,
-            ..refused(CUT, [3, 4], "spot g 3", "wg: no page 3\n")
+            printed: "",
+            told: "wg: no page 3\n",
         },
         Spotted {
+            files: CUT,
+            counts: [3, 4],
+            chain: None,
+            line: "spot h 3",
             code: 6,
-            ..refused(CUT, [3, 4], "spot h 3", "wg: missing: h.properties\n")
+            printed: "",
+            told: "wg: missing: h.properties\n",
         },
     ];
     for row in rows.iter() {
