@@ -17,6 +17,7 @@ mod plain;
 mod quotient;
 mod rankings;
 mod recodings;
+mod rounds;
 mod shrinking;
 mod spot;
 mod union;
