@@ -10,6 +10,7 @@ mod archives;
 mod built;
 mod bulk;
 mod conversions;
+mod failing;
 mod lines;
 mod lists;
 mod outside;
