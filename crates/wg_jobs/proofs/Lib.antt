@@ -35,3 +35,4 @@ pub mod LoadedLemmas
 pub mod UnionJobs
 pub mod SteadyLemmas
 pub mod BulkLemmas
+pub mod UnionLaws

@@ -11,5 +11,6 @@ pub mod Ranked
 pub mod Reached
 pub mod Showing
 pub mod Spotted
+pub mod Unions
 pub mod Verified
 pub mod Written

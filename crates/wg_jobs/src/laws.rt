@@ -5,6 +5,7 @@ ghost use Rattle.wg_jobs.specs.Certificates.{AcceptedAreProven, WrittenAreAccept
 ghost use Rattle.wg_readings.specs.Readings.{Readings, ReadingsAreOne};
 ghost use Rattle.wg_jobs.specs.Ranked.{RankingIsProven};
 ghost use Rattle.wg_jobs.specs.Spotted.{SpotsAreShown};
+ghost use Rattle.wg_jobs.specs.Unions.{UnionsAreAccepted};
 
 /// There are functions that give for all parameters and all bytes the graph or the places that they stand for or
 /// their first fault, for all pages what they are by their chain of references alone, for all bounds their ranking, and
@@ -55,6 +56,13 @@ pub fn quotients()
 /// the one that was read, and to transpose an archive twice is to recode it.
 pub fn converted_archives()
     ensures { (r : Readings) → ConversionsAreAccepted r }
+{}
+
+/// What is joined is accepted, whatever two archives were read, with a layout within the limits: `check` prints of the
+/// three files the very line that was printed, and their graph, whose arcs `arcs` prints, is the union of the graphs of
+/// both archives.
+pub fn joined_archives()
+    ensures { (r : Readings) → UnionsAreAccepted r }
 {}
 
 /// What `verify` accepts holds, whoever made the certificate: each stationary vector of the graph lies between the bounds

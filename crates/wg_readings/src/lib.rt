@@ -16,8 +16,9 @@
 //! A judgement takes the graph of a file from a function that reads all graph files (`Readings`); the grammar leaves
 //! exactly one such function.
 //!
-//! Public for `wg_jobs` alone are all items but [`Ending`], [`Input`], [`SecondFault`], [`Status`] and [`WeightsFault`],
-//! which it hands on.
+//! Public for `wg_jobs` alone are all items but [`Ending`], [`Input`], [`SecondFault`], [`Status`] and
+//! [`WeightsFault`], which it hands on. The second archive of a job is read as a first is, and [`as_second`] turns the
+//! ending that this gives.
 #![tactic(auto)]
 
 mod archive;
