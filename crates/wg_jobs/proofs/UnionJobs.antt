@@ -28,7 +28,7 @@ use Rattle.wg_readings.specs.declared.ending.Ending.{Ending}
 use Rattle.wg_readings.specs.declared.status.Input.{Input}
 use Rattle.wg_readings.specs.declared.status.Input.TheVariants as input
 use Rattle.wg_readings.specs.declared.status.Status.{Status}
-use Rattle.wg_readings.specs.declared.status.Status.TheVariants.{Done, Usage, Memory, ReadFault, WriteFault, Missing, BadArcs, BadProperties, BadArchive, BadSecond, TooManyArcs, NoPage, OverLimit, BadWeights, BadText, BadCertificate}
+use Rattle.wg_readings.specs.declared.status.Status.TheVariants.{Done, Usage, Memory, ReadFault, WriteFault, Missing, BadArcs, BadProperties, BadArchive, BadSecond, TooManyArcs, NoPage, OverLimit, BadWeights, BadText, BadMap, BadCertificate}
 use Rattle.wg_readings.proofs.Statuses.{IsOwn, absent_caused, failed_caused, own_caused}
 use Rattle.wg_readings.proofs.UnderWay.{cause_later}
 use Rattle.wg_jobs.specs.Judged.{builds, with_union}
@@ -59,6 +59,7 @@ archive_cases P memory failed absent long properties bad TooManyArcs only = absu
 archive_cases P memory failed absent long properties bad (NoPage page) only = absurd only
 archive_cases P memory failed absent long properties bad (BadWeights f) only = absurd only
 archive_cases P memory failed absent long properties bad (BadText line kind) only = absurd only
+archive_cases P memory failed absent long properties bad (BadMap f pages) only = absurd only
 archive_cases P memory failed absent long properties bad (BadCertificate f) only = absurd only
 
 archive_inputs : (P : Input → Type 0) → P input.Properties → P input.Graph → P input.Offsets → (i : Input) → IsArchiveFile i → P i
@@ -70,6 +71,7 @@ archive_inputs P properties graph offsets input.SecondGraph there = absurd there
 archive_inputs P properties graph offsets input.SecondOffsets there = absurd there
 archive_inputs P properties graph offsets input.ArcList there = absurd there
 archive_inputs P properties graph offsets input.Weights there = absurd there
+archive_inputs P properties graph offsets input.Map there = absurd there
 archive_inputs P properties graph offsets input.Certificate there = absurd there
 archive_inputs P properties graph offsets input.Text there = absurd there
 
