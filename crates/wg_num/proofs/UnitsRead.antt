@@ -1,67 +1,23 @@
--- The digits of units, read from the first to the last.
-use Rattle.std.proofs.Common.{ℕ, zero, suc, ◌≡◌, ◌+◌, ◌-◌, ◌*◌, ◌/◌, ◌%◌, ◌^◌, ◌<◌, ◌≤◌, leb, true, ◌&&◌, cond, List, length, get_or, Option, Some, None, Fits, w8, refl, ap, sym, ◌∙◌, arith, le-leb, leb-true}
+-- Units from the digits of their text.
+use Rattle.std.proofs.Common.{ℕ, zero, suc, ◌≡◌, ◌+◌, ◌*◌, ◌/◌, ◌%◌, ◌^◌, ◌<◌, ◌≤◌, leb, true, ◌&&◌, cond, List, [], ◌∷◌, ◌++◌, length, get_or, take, drop, Option, Some, None, refl, ap, sym, ◌∙◌, subst, arith, le-leb, leb-true}
 use Rattle.std.specs.Str.{bytes_eq}
-use Rattle.std.proofs.Math.Nat.{div-add-mod, pow-zero, pow-suc, one-le-pow, mul-le-mul_left, mul-le-mul_right}
+use Rattle.std.proofs.Math.Nat.{div-add-mod, pow-zero, pow-succ', one-le-pow, mul-add-div_right, mul-add-mod_self_right}
+use Rattle.std.proofs.lemmas.Nat.{div-mul-add}
+use Rattle.std.proofs.lemmas.List.{drop-drop, take-append-drop, length-take, length-drop}
+use Rattle.std.proofs.lemmas.Int.Digits.{digits_value-lt}
+use Rattle.std.proofs.lemmas.Str.Parse.{digit_from_value}
 use Rattle.std.proofs.lemmas.Bool.{and_parts}
 use Rattle.std.proofs.lemmas.Option.{cond_some}
 use Rattle.std.proofs.lemmas.Slice.Eq.{bytes_eq-Decides}
 use Rattle.std.specs.Char.{digit_value}
-use Rattle.std.specs.Str.Parse.{digits_value_after}
+use Rattle.std.specs.Str.Parse.{AllDigits, digits_value_after, digits_value}
 use Rattle.std.proofs.lemmas.Str.{digit_value_digit}
 use Rattle.wg_num.specs.Units.{last_digits, text_of_units, value_of_units, units_of}
 use Rattle.wg_num.proofs.UnitsLemmas.{div_next}
 
 -- one digit more
-pub digit_next : (v k : ℕ) → v / 10 ^ suc k * 10 + v / 10 ^ k % 10 ≡ v / 10 ^ k
+digit_next : (v k : ℕ) → v / 10 ^ suc k * 10 + v / 10 ^ k % 10 ≡ v / 10 ^ k
 digit_next v k = ap (λ x. x * 10 + v / 10 ^ k % 10) (sym (div_next v k)) ∙ omega (arith, div-add-mod (v / 10 ^ k) 10)
-
-pub digit_at : (k i j v : ℕ) → i + suc j ≡ k → get_or (last_digits k v) i 0 ≡ 48 + v / 10 ^ j % 10
-digit_at zero i j v e = absurd (omega arith)
-digit_at (suc k) zero j v e = let s : k ≡ j = omega arith in rw s refl
-digit_at (suc k) (suc i) j v e = digit_at k i j v (omega arith)
-
--- the digit at an index of the text
-pub text_digit : (text : List ℕ) (v index j : ℕ) → text ≡ text_of_units v → 2 ≤ index → index + suc j ≡ 26 → get_or text index 0 ≡ 48 + v / 10 ^ j % 10
-unfolding text_of_units
-text_digit text v zero j e h p = absurd (omega arith)
-text_digit text v (suc zero) j e h p = absurd (omega arith)
-text_digit text v (suc (suc i)) j e h p = ap (λ t. get_or t (suc (suc i)) 0) e ∙ digit_at 24 i j v (omega arith)
-
-pub first_digit : (text : List ℕ) (v : ℕ) → text ≡ text_of_units v → get_or text 0 0 ≡ 48 + v / 10 ^ 24
-unfolding text_of_units
-first_digit text v e = ap (λ t. get_or t 0 0) e
-
--- the number that the bytes before an index write
-pub record IsValue (text : List ℕ) (index value : ℕ) : Type 0 where
-  pub digits : (v : ℕ) → text ≡ text_of_units v → (k : ℕ) → index + k ≡ 26 → value ≡ v / 10 ^ k
-  pub room : (k : ℕ) → index + k ≡ 26 → (value + 23) * 10 ^ k ≤ 23 * 10 ^ 25
-
-pub value_begun : (text : List ℕ) (value byte : ℕ) → value ≡ byte - 48 → byte ≡ get_or text 0 0 → Fits w8 byte → IsValue text 2 value
-value_begun text value byte e f h = record {
-  digits = λ v is k p. let q : k ≡ 24 = omega arith in rw q (omega (arith, first_digit text v is, e, f));
-  room = λ k p. let q : k ≡ 24 = omega arith in rw q (omega (arith, e));
-}
-
-pub value_next : (text : List ℕ) (index value byte next : ℕ) → 2 ≤ index → index < 26 → byte ≡ get_or text index 0 → Fits w8 byte
-    → next ≡ value * 10 + (byte - 48) → IsValue text index value → IsValue text (index + 1) next
-value_next text index value byte next h w e b n p = record {
-  digits = λ v is k q.
-      omega (arith, n, e, p.digits v is (suc k) (omega arith), text_digit text v index k is h (omega arith), digit_next v k);
-  room = room;
-}
-  where
-    room : (k : ℕ) → index + 1 + k ≡ 26 → (next + 23) * 10 ^ k ≤ 23 * 10 ^ 25
-    room k q =
-        let e = rw (pow-suc 10 k) at (p.room (suc k) (omega arith)) in
-        omega (arith, e, mul-le-mul_right {m = next + 23} {n = (value + 23) * 10} (10 ^ k) (omega (arith, n)))
-
-pub value_ended : (text : List ℕ) (index value v : ℕ) → index ≡ 26 → IsValue text index value → text ≡ text_of_units v → value ≡ v
-value_ended text index value v e p is = p.digits v is 0 (omega arith) ∙ rw (pow-zero 10) (omega arith)
-
-pub value_room : (text : List ℕ) (index value : ℕ) → index ≤ 26 → IsValue text index value → value ≤ 10 ^ 36
-value_room text index value h p =
-    let k : ℕ = 26 - index in
-    omega (arith, p.room k (omega arith), mul-le-mul_left (value + 23) (one-le-pow k 10 (omega arith)))
 
 -- ---- the definition gives the number that the text is of
 
@@ -75,7 +31,7 @@ digits_of_last (suc k) v =
     let e : v / 10 ^ suc k * 10 + digit_value (48 + v / 10 ^ k % 10) ≡ v / 10 ^ k = omega (arith, digit_next v k, digit_read (v / 10 ^ k % 10) (omega arith)) in
     ap (λ x. digits_value_after 10 x (last_digits k v)) e ∙ digits_of_last k v
 
-value_of_text : (v : ℕ) → v ≤ 10 ^ 24 → value_of_units (text_of_units v) ≡ v
+pub value_of_text : (v : ℕ) → v ≤ 10 ^ 24 → value_of_units (text_of_units v) ≡ v
 unfolding text_of_units
 value_of_text v h =
     let e : 0 * 10 + digit_value (48 + v / 10 ^ 24) ≡ v / 10 ^ 24 = omega (arith, digit_read (v / 10 ^ 24) (omega arith)) in
@@ -114,3 +70,112 @@ last_length (suc k) v = omega (arith, last_length k v)
 pub text_length : (v : ℕ) → length (text_of_units v) ≡ 26
 unfolding text_of_units
 text_length v = omega (arith, last_length 24 v)
+
+-- ---- digits, and what they write
+
+-- digits after a number
+value_after : (n : ℕ) (ds : List ℕ) → digits_value_after 10 n ds ≡ n * 10 ^ length ds + digits_value 10 ds
+value_after n [] = omega (arith, ap (λ p. n * p) (pow-zero 10))
+value_after n (c ∷ cs) =
+    omega (arith, value_after (n * 10 + digit_value c) cs, value_after (0 * 10 + digit_value c) cs, ap (λ p. n * p) (pow-succ' 10 (length cs)))
+
+after_append : (n : ℕ) (xs ys : List ℕ) → digits_value_after 10 n (xs ++ ys) ≡ digits_value_after 10 (digits_value_after 10 n xs) ys
+after_append n [] ys = refl
+after_append n (x ∷ xs) ys = after_append (n * 10 + digit_value x) xs ys
+
+pub value_append : (xs ys : List ℕ) → digits_value 10 (xs ++ ys) ≡ digits_value 10 xs * 10 ^ length ys + digits_value 10 ys
+value_append xs ys = after_append 0 xs ys ∙ value_after (digits_value 10 xs) ys
+
+pub digits_append : (xs ys : List ℕ) → AllDigits 10 xs → AllDigits 10 ys → AllDigits 10 (xs ++ ys)
+digits_append [] ys p q = q
+digits_append (x ∷ xs) ys p q = (p.0, digits_append xs ys p.1 q)
+
+pub digits_parts : (xs ys : List ℕ) → AllDigits 10 (xs ++ ys) → AllDigits 10 xs × AllDigits 10 ys
+digits_parts [] ys p = (tt, p)
+digits_parts (x ∷ xs) ys p = let r = digits_parts xs ys p.1 in ((p.0, r.0), r.1)
+
+pub few_digits : (k : ℕ) (ds : List ℕ) → length ds ≡ k → AllDigits 10 ds → digits_value 10 ds < 10 ^ k
+few_digits k ds n p = subst (λ m. digits_value 10 ds < 10 ^ m) n (digits_value-lt 10 ds p)
+
+-- digits are the last ones of what they write
+last_after : (k w v : ℕ) → last_digits k (w * 10 ^ k + v) ≡ last_digits k v
+last_after zero w v = refl
+last_after (suc k) w v =
+    let some : 0 < 10 ^ k = one-le-pow k 10 (omega arith) in
+    let split : w * 10 ^ suc k + v ≡ w * 10 * 10 ^ k + v = omega (arith, ap (λ p. w * p) (pow-succ' 10 k)) in
+    let digit : (w * 10 ^ suc k + v) / 10 ^ k % 10 ≡ v / 10 ^ k % 10 =
+    ap (λ x. x / 10 ^ k % 10) split ∙ ap (λ x. x % 10) (mul-add-div_right {m = 10 ^ k} some (w * 10) v) ∙ mul-add-mod_self_right w 10 (v / 10 ^ k) in
+    λ i. (48 + digit i) ∷ (ap (last_digits k) split ∙ last_after k (w * 10) v) i
+
+pub digits_last : (k : ℕ) (ds : List ℕ) → length ds ≡ k → AllDigits 10 ds → last_digits k (digits_value 10 ds) ≡ ds
+digits_last zero [] e p = refl
+digits_last zero (c ∷ cs) e p = absurd (omega (arith, e))
+digits_last (suc k) [] e p = absurd (omega (arith, e))
+digits_last (suc k) (c ∷ cs) e p =
+    let n : length cs ≡ k = omega (arith, e) in
+    let some : 0 < 10 ^ k = one-le-pow k 10 (omega arith) in
+    let small : digits_value 10 cs < 10 ^ k = few_digits k cs n p.1 in
+    let value : digits_value 10 (c ∷ cs) ≡ digit_value c * 10 ^ k + digits_value 10 cs =
+    subst (λ m. digits_value 10 (c ∷ cs) ≡ digit_value c * 10 ^ m + digits_value 10 cs) n (value_append (c ∷ []) cs ∙ omega arith) in
+    let quotient : digits_value 10 (c ∷ cs) / 10 ^ k ≡ digit_value c = ap (λ x. x / 10 ^ k) value ∙ div-mul-add (digit_value c) (10 ^ k) (digits_value 10 cs) small in
+    let range = digit_from_value c p.0 in
+    let head : 48 + digits_value 10 (c ∷ cs) / 10 ^ k % 10 ≡ c = omega (arith, quotient, p.0, digit_value_digit c range, range.0, range.1) in
+    λ i. head i ∷ (ap (last_digits k) value ∙ last_after k (digit_value c) (digits_value 10 cs) ∙ digits_last k cs n p.1) i
+
+-- 25 digits with a point after the first are the text of the units that they write
+pub text_read : (text : List ℕ) (v : ℕ) → length text ≡ 26 → get_or text 1 0 ≡ 46 → AllDigits 10 (take 1 text ++ drop 2 text) → v ≡ value_of_units text
+    → text ≡ text_of_units v
+unfolding text_of_units
+text_read [] v n point p e = absurd (omega (arith, n))
+text_read (x ∷ []) v n point p e = absurd (omega (arith, n))
+text_read (x ∷ y ∷ rest) v n point p e =
+    let last : last_digits 25 v ≡ x ∷ rest = ap (last_digits 25) e ∙ digits_last 25 (x ∷ rest) (omega (arith, n)) p in
+    let small : v < 10 ^ 25 = omega (arith, e, few_digits 25 (x ∷ rest) (omega (arith, n)) p) in
+    let head : x ≡ 48 + v / 10 ^ 24 = omega (arith, ap (λ l. get_or l 0 0) last, small) in
+    λ i. head i ∷ point i ∷ ap (drop 1) (sym last) i
+
+last_all : (k v : ℕ) → AllDigits 10 (last_digits k v)
+last_all zero v = tt
+last_all (suc k) v = (omega (arith, digit_read (v / 10 ^ k % 10) (omega arith)), last_all k v)
+
+-- the text of units is such digits
+pub text_digits : (text : List ℕ) (v : ℕ) → v ≤ 10 ^ 24 → text ≡ text_of_units v → AllDigits 10 (take 1 text ++ drop 2 text)
+unfolding text_of_units
+text_digits text v h is =
+    subst (λ t. AllDigits 10 (take 1 t ++ drop 2 t)) (sym is) (omega (arith, digit_read (v / 10 ^ 24) (omega arith)), last_all 24 v)
+
+pub text_point : (text : List ℕ) (v : ℕ) → text ≡ text_of_units v → get_or text 1 0 ≡ 46
+unfolding text_of_units
+text_point text v is = ap (λ t. get_or t 1 0) is
+
+-- the digits after the point, in two halves
+halves : (text : List ℕ) → take 12 (drop 2 text) ++ drop 14 text ≡ drop 2 text
+halves text = ap (λ l. take 12 (drop 2 text) ++ l) (sym (drop-drop 12 2 text)) ∙ take-append-drop 12 (drop 2 text)
+
+pub halves_value : (text : List ℕ) → length text ≡ 26
+    → value_of_units text ≡ (digits_value 10 (take 1 text) * 10 ^ 12 + digits_value 10 (take 12 (drop 2 text))) * 10 ^ 12 + digits_value 10 (drop 14 text)
+halves_value text n =
+    let high : length (take 12 (drop 2 text)) ≡ 12 = omega (arith, length-take 12 (drop 2 text), length-drop 2 text, n) in
+    let low : length (drop 14 text) ≡ 12 = omega (arith, length-drop 14 text, n) in
+    let rest : length (drop 2 text) ≡ 24 = omega (arith, length-drop 2 text, n) in
+    omega (
+      arith,
+      value_append (take 1 text) (drop 2 text),
+      ap (λ l. digits_value 10 l) (sym (halves text)),
+      value_append (take 12 (drop 2 text)) (drop 14 text),
+      ap (λ m. digits_value 10 (take 1 text) * 10 ^ m) rest,
+      ap (λ m. digits_value 10 (take 12 (drop 2 text)) * 10 ^ m) low,
+    )
+
+pub halves_digits : (text : List ℕ) → AllDigits 10 (take 1 text) → AllDigits 10 (take 12 (drop 2 text)) → AllDigits 10 (drop 14 text)
+    → AllDigits 10 (take 1 text ++ drop 2 text)
+halves_digits text w h l =
+    digits_append (take 1 text) (drop 2 text) w (subst (AllDigits 10) (halves text) (digits_append (take 12 (drop 2 text)) (drop 14 text) h l))
+
+-- each part of such digits is digits
+pub part_digits : (text : List ℕ) → AllDigits 10 (take 1 text ++ drop 2 text)
+    → AllDigits 10 (take 1 text) × AllDigits 10 (take 12 (drop 2 text)) × AllDigits 10 (drop 14 text)
+part_digits text p =
+    let r = digits_parts (take 1 text) (drop 2 text) p in
+    let s = digits_parts (take 12 (drop 2 text)) (drop 14 text) (subst (AllDigits 10) (sym (halves text)) r.1) in
+    (r.0, s.0, s.1)

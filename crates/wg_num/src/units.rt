@@ -1,10 +1,16 @@
-ghost use Rattle.std.specs.Prelude.{◌≡◌, ℕ, ◌≤◌, ◌^◌, IfSome, Some, length};
-ghost use Rattle.wg_num.specs.Units.{text_of_units, units_of};
+ghost use Rattle.std.specs.Prelude.{◌≡◌, ℕ, ◌≤◌, ◌^◌, IfSome, Some, ◌++◌, length, take, drop};
+ghost use Rattle.std.specs.Option.{SomeIff};
+ghost use Rattle.std.specs.Str.Parse.{AllDigits};
+ghost use Rattle.wg_num.specs.Units.{text_of_units, value_of_units, units_of};
 
+use crate::decimal::value_of;
 use std::marker::Model;
 
 /// So many units of 10^-24 make 1.
 pub const UNITS: u128 = 1_000_000_000_000_000_000_000_000;
+
+// The twelve digits of each half of the 24 write less than this.
+const HALF: u64 = 1_000_000_000_000;
 
 /// The text of a part of 1 in units of 10^-24: `0` or `1`, a point, 24 digits. It holds its 26 bytes itself.
 #[derive(Drop)]
@@ -46,16 +52,15 @@ pub fn units_text(value: u128) -> UnitsText
 }
 
 // What the first byte and those after the second write, if they are digits.
-fn digits_of(text: &[u8]) -> u128
+#[inline(always)]
+fn digits_of(text: &[u8]) -> Option<u128>
     requires { length text.now ≡ 26 }
-    ensures text { (v : ℕ) → v ≤ 10 ^ 24 → text.now ≡ text_of_units v → result ≡ v }
-    ensures room { result ≤ 10 ^ 36 }
+    ensures { SomeIff result (AllDigits 10 (take 1 text.now ++ drop 2 text.now)) (value_of_units text.now) }
 {
-    let mut value = u128::from(text[0].saturating_sub(b'0'));
-    for index in 2..26 {
-        value = value * 10 + u128::from(text[index].saturating_sub(b'0'));
-    }
-    value
+    let whole = value_of(&text[..1])?;
+    let high = value_of(&text[2..14])?;
+    let low = value_of(&text[14..])?;
+    Some(u128::from(whole * HALF + high) * u128::from(HALF) + u128::from(low))
 }
 
 /// The units of 10^-24, at most 1 whole, whose text this is, if it is one.
@@ -68,11 +73,11 @@ pub fn read_units(text: &[u8]) -> Option<u128>
     if text.len() != 26 {
         return None;
     }
-    let value = digits_of(text);
-    if value > UNITS {
+    if text[1] != b'.' {
         return None;
     }
-    if units_text(value).as_slice() != text {
+    let value = digits_of(text)?;
+    if value > UNITS {
         return None;
     }
     Some(value)
