@@ -1,7 +1,7 @@
 -- Units from the digits of their text.
 use Rattle.std.proofs.Common.{ℕ, zero, suc, ◌≡◌, ◌+◌, ◌*◌, ◌/◌, ◌%◌, ◌^◌, ◌<◌, ◌≤◌, leb, true, ◌&&◌, cond, List, [], ◌∷◌, ◌++◌, length, get_or, take, drop, Option, Some, None, refl, ap, sym, ◌∙◌, subst, arith, le-leb, leb-true}
 use Rattle.std.specs.Str.{bytes_eq}
-use Rattle.std.proofs.Math.Nat.{div-add-mod, pow-zero, pow-succ', one-le-pow, mul-add-div_right, mul-add-mod_self_right}
+use Rattle.std.proofs.Math.Nat.{div-add-mod, pow-zero, pow-succ', one-le-pow}
 use Rattle.std.proofs.lemmas.Nat.{div-mul-add}
 use Rattle.std.proofs.lemmas.List.{drop-drop, take-append-drop, length-take, length-drop}
 use Rattle.std.proofs.lemmas.Int.Digits.{digits_value-lt}
@@ -13,7 +13,7 @@ use Rattle.std.specs.Char.{digit_value}
 use Rattle.std.specs.Str.Parse.{AllDigits, digits_value_after, digits_value}
 use Rattle.std.proofs.lemmas.Str.{digit_value_digit}
 use Rattle.wg_num.specs.Units.{last_digits, text_of_units, value_of_units, units_of}
-use Rattle.wg_num.proofs.UnitsLemmas.{div_next}
+use Rattle.wg_num.proofs.UnitsLemmas.{div_next, last_after}
 
 -- one digit more
 digit_next : (v k : ℕ) → v / 10 ^ suc k * 10 + v / 10 ^ k % 10 ≡ v / 10 ^ k
@@ -98,15 +98,6 @@ pub few_digits : (k : ℕ) (ds : List ℕ) → length ds ≡ k → AllDigits 10 
 few_digits k ds n p = subst (λ m. digits_value 10 ds < 10 ^ m) n (digits_value-lt 10 ds p)
 
 -- digits are the last ones of what they write
-last_after : (k w v : ℕ) → last_digits k (w * 10 ^ k + v) ≡ last_digits k v
-last_after zero w v = refl
-last_after (suc k) w v =
-    let some : 0 < 10 ^ k = one-le-pow k 10 (omega arith) in
-    let split : w * 10 ^ suc k + v ≡ w * 10 * 10 ^ k + v = omega (arith, ap (λ p. w * p) (pow-succ' 10 k)) in
-    let digit : (w * 10 ^ suc k + v) / 10 ^ k % 10 ≡ v / 10 ^ k % 10 =
-    ap (λ x. x / 10 ^ k % 10) split ∙ ap (λ x. x % 10) (mul-add-div_right {m = 10 ^ k} some (w * 10) v) ∙ mul-add-mod_self_right w 10 (v / 10 ^ k) in
-    λ i. (48 + digit i) ∷ (ap (last_digits k) split ∙ last_after k (w * 10) v) i
-
 pub digits_last : (k : ℕ) (ds : List ℕ) → length ds ≡ k → AllDigits 10 ds → last_digits k (digits_value 10 ds) ≡ ds
 digits_last zero [] e p = refl
 digits_last zero (c ∷ cs) e p = absurd (omega (arith, e))

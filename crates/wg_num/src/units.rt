@@ -1,7 +1,7 @@
 ghost use Rattle.std.specs.Prelude.{◌≡◌, ℕ, ◌≤◌, ◌^◌, IfSome, Some, ◌++◌, length, take, drop};
 ghost use Rattle.std.specs.Option.{SomeIff};
 ghost use Rattle.std.specs.Str.Parse.{AllDigits};
-ghost use Rattle.wg_num.specs.Units.{text_of_units, value_of_units, units_of};
+ghost use Rattle.wg_num.specs.Units.{last_digits, text_of_units, value_of_units, units_of};
 
 use crate::decimal::value_of;
 use std::marker::Model;
@@ -35,19 +35,30 @@ impl UnitsText {
     }
 }
 
+// Writes the last digits of a number, as many as there is room for.
+#[inline(always)]
+fn write_digits(value: u64, to: &mut [u8])
+    ensures { to.new ≡ last_digits (length to.old) value }
+{
+    let mut rest = value;
+    for index in (0..to.len()).rev() {
+        to[index] = b'0' + (rest % 10) as u8;
+        rest /= 10;
+    }
+}
+
 /// The text of so many units of 10^-24. Another number of units has another text.
 pub fn units_text(value: u128) -> UnitsText
     requires { value ≤ 10 ^ 24 }
     ensures text { result ≡ text_of_units value }
     ensures exact { (other : ℕ) → other ≤ 10 ^ 24 → result ≡ text_of_units other → other ≡ value }
 {
+    let high = (value / u128::from(HALF)) as u64;
+    let low = (value % u128::from(HALF)) as u64;
     let mut bytes = [b'.'; 26];
-    let mut rest = value;
-    for index in (2..26).rev() {
-        bytes[index] = b'0' + (rest % 10) as u8;
-        rest /= 10;
-    }
-    bytes[0] = b'0' + rest as u8;
+    bytes[0] = b'0' + (high / HALF) as u8;
+    write_digits(low, &mut bytes[14..]);
+    write_digits(high, &mut bytes[2..14]);
     UnitsText { bytes }
 }
 
