@@ -1,9 +1,9 @@
 use Rattle.std.proofs.Common.{◌≡◌, ℕ, suc, ◌+◌, ◌-◌, ◌*◌, ◌/◌, ◌%◌, ◌^◌, ◌<◌, ◌≤◌, Bool, false, List, ◌++◌, length, drop, get_or, refl, sym, ap, ◌∙◌, subst, ⊎_elim, arith, append_assoc}
 use Rattle.std.specs.Int.Count.{count_leading_zeros}
-use Rattle.std.proofs.Math.Nat.{pow-suc, div-div-eq-div-mul}
+use Rattle.std.proofs.Math.Nat.{pow-suc, div-div-eq-div-mul, mul-lt-mul_of_pos_right}
 use Rattle.std.proofs.Math.ListN.{replicate}
 use Rattle.std.proofs.Math.Pow.{pow_mono}
-use Rattle.std.proofs.lemmas.Nat.{leading_top, pow_pos, pow-add, le-div, div_below}
+use Rattle.std.proofs.lemmas.Nat.{leading_top, pow_pos, pow-add, le-div, div_below, div-mul-add, div-add-mod', mod_below, mul-add-lt}
 use Rattle.std.proofs.lemmas.Bool.{cases_eq}
 use Rattle.wg_bits.specs.Bits.{low_bits}
 use Rattle.wg_bits.proofs.LowBits.{length-low_bits, low_bits-add, low_bits-above, low_bits-zero}
@@ -96,6 +96,32 @@ window_field w h n l e few = ⊎_elim
     (le-div (2 ^ n) w (2 ^ (63 - h - n)) pos (omega (arith, t.2)), div_below w (2 ^ (63 - h - n)) (2 ^ suc n) pos (omega (arith, t.3))))
     (cases_eq w 0)
 
+shifted_out : (q d r e f t m : ℕ) → e ≡ f * 2 → q ≡ t + m → (q * d + r) * f * 2 ≡ t * (d * e) + r * e + m * (d * e)
+shifted_out q d r e f t m ef eq = ap (λ x. (x * d + r) * f * 2) eq ∙ (let s : ((t + m) * d + r) * f * 2 ≡ t * (d * (f * 2)) + r * (f * 2) + m * (d * (f * 2)) = omega arith in s) ∙ ap (λ x. t * (d * x) + r * x + m * (d * x)) (sym ef)
+
+-- what stands behind the head, when the bits before it are shifted out
+pub field_behind : (w h n : ℕ) → w < 2 ^ 64 → h ≡ count_leading_zeros 64 w → h + n ≤ 63
+    → w * 2 ^ h % 2 ^ 64 * 2 % 2 ^ 64 / 2 ^ (64 - n) ≡ w / 2 ^ (63 - h - n) - 2 ^ n
+field_behind w h n l e few =
+    let f = window_field w h n l e few in
+    let d : ℕ = 2 ^ (63 - h - n) in
+    let t : ℕ = w / 2 ^ (63 - h - n) - 2 ^ n in
+    let r : ℕ = w % 2 ^ (63 - h - n) in
+    let p : 2 ^ suc n ≡ 2 ^ n * 2 = pow-suc 2 n in
+    let small : w % 2 ^ (63 - h - n) < 2 ^ (63 - h - n) = mod_below w (2 ^ (63 - h - n)) (pow_pos (63 - h - n)) in
+    let wide : 2 ^ (63 - h - n) * 2 ^ suc h ≡ 2 ^ (64 - n) =
+    sym (pow-add 2 (63 - h - n) (suc h)) ∙ ap (λ k. 2 ^ k) (let s : 63 - h - n + suc h ≡ 64 - n = omega arith in s) in
+    let all : 2 ^ n * 2 ^ (64 - n) ≡ 2 ^ 64 = sym (pow-add 2 n (64 - n)) ∙ ap (λ k. 2 ^ k) (let s : n + (64 - n) ≡ 64 = omega arith in s) in
+    let under : w % 2 ^ (63 - h - n) * 2 ^ suc h < 2 ^ (64 - n) =
+    subst (λ m. w % 2 ^ (63 - h - n) * 2 ^ suc h < m) wide (mul-lt-mul_of_pos_right small (pow_pos (suc h))) in
+    let twice : w * 2 ^ h * 2 ≡ t * 2 ^ (64 - n) + r * 2 ^ suc h + 2 ^ 64 =
+    ap (λ m. m * 2 ^ h * 2) (sym (div-add-mod' w (2 ^ (63 - h - n))))
+    ∙ shifted_out (w / 2 ^ (63 - h - n)) (2 ^ (63 - h - n)) r (2 ^ suc h) (2 ^ h) t (2 ^ n) (pow-suc 2 h) (omega (arith, f.0))
+    ∙ ap (λ m. t * m + r * 2 ^ suc h + 2 ^ n * m) wide ∙ ap (λ m. t * 2 ^ (64 - n) + r * 2 ^ suc h + m) all in
+    let low : t * 2 ^ (64 - n) + r * 2 ^ suc h < 2 ^ (64 - n) * 2 ^ n = mul-add-lt t (2 ^ (64 - n)) (r * 2 ^ suc h) (2 ^ n) (omega (arith, f.1)) under in
+    let left : w * 2 ^ h % 2 ^ 64 * 2 % 2 ^ 64 ≡ t * 2 ^ (64 - n) + r * 2 ^ suc h = omega (arith, twice, low, all) in
+    ap (λ m. m / 2 ^ (64 - n)) left ∙ div-mul-add t (2 ^ (64 - n)) (r * 2 ^ suc h) under
+
 headed_front : (z : List Bool) (w h n : ℕ) → w < 2 ^ 64 → h ≡ count_leading_zeros 64 w → h + n ≤ 63
     → ((i : ℕ) → i < 64 → get_or (low_bits 64 w) i false ≡ get_or z i false) → h + n + 1 ≤ length z
     → (w / 2 ^ (63 - h - n) - 2 ^ n < 2 ^ n) × (z ≡ unary h ++ (low_bits n (w / 2 ^ (63 - h - n) - 2 ^ n) ++ drop (h + n + 1) z))
@@ -123,22 +149,32 @@ unary_found z w h most l e few lm agree fits =
 head_small : (k h : ℕ) → 1 ≤ k → h + 1 + (h * k + k) ≤ 64 → h ≤ 63 / k - 1
 head_small k h some fits = let q : h + 1 ≤ 63 / k = le-div (h + 1) 63 k (omega arith) (omega arith) in omega arith
 
-pub window_short : (z : List Bool) (k w h least one low : ℕ) → 1 ≤ k → k ≤ 31 → w < 2 ^ 64 → h ≡ count_leading_zeros 64 w
-    → h + 1 + (h * k + k) ≤ 64 → least ≡ 2 ^ (h * k) → one ≡ 2 ^ (h * k + k - 1) → low ≡ w / 2 ^ (64 - h - (h * k + k)) - one → low < least
+-- the field of the long form is that of the short one, and a bit more
+longer_field : (w h n : ℕ) → h + n ≤ 63 → 1 ≤ n → (w / 2 ^ (63 - h - n) - 2 ^ n) / 2 ≡ w / 2 ^ (64 - h - n) - 2 ^ (n - 1)
+longer_field w h n few some =
+    let s : 64 - h - n ≡ suc (63 - h - n) = omega arith in
+    let p : 2 ^ (64 - h - n) ≡ 2 ^ (63 - h - n) * 2 = ap (λ m. 2 ^ m) s ∙ pow-suc 2 (63 - h - n) in
+    let t : n ≡ suc (n - 1) = omega arith in
+    let q : 2 ^ n ≡ 2 ^ (n - 1) * 2 = ap (λ m. 2 ^ m) t ∙ pow-suc 2 (n - 1) in
+    let half : w / 2 ^ (63 - h - n) / 2 ≡ w / 2 ^ (64 - h - n) = div-div-eq-div-mul w (2 ^ (63 - h - n)) 2 ∙ ap (λ m. w / m) (sym p) in
+    let x : ℕ = w / 2 ^ (63 - h - n) in
+    omega arith
+
+pub window_short : (z : List Bool) (k w h least long : ℕ) → 1 ≤ k → k ≤ 31 → w < 2 ^ 64 → h ≡ count_leading_zeros 64 w
+    → h + 1 + (h * k + k) ≤ 64 → least ≡ 2 ^ (h * k) → long ≡ w / 2 ^ (63 - h - (h * k + k)) - 2 ^ (h * k + k) → long / 2 < least
     → ((i : ℕ) → i < 64 → get_or (low_bits 64 w) i false ≡ get_or z i false) → h + (h * k + k) ≤ length z
-    → Reads (zeta k) (zeta_top k) z (Value (least + low - 1)) × (h + (h * k + k) ≡ length (zeta k (least + low - 1)))
-window_short z k w h least one low some few l e fits el eo elow less agree long =
-    let n : ℕ = h * k + k - 1 in
+    → Reads (zeta k) (zeta_top k) z (Value (least + long / 2 - 1)) × (h + (h * k + k) ≡ length (zeta k (least + long / 2 - 1)))
+window_short z k w h least long some few l e fits el et less agree enough =
+    let low : ℕ = long / 2 in
     let f = headed_front z w h (h * k + k - 1) l e (omega arith) agree (omega arith) in
     let shift : 63 - h - (h * k + k - 1) ≡ 64 - h - (h * k + k) = omega arith in
-    let same : w / 2 ^ (63 - h - (h * k + k - 1)) - 2 ^ (h * k + k - 1) ≡ low =
-    ap (λ m. w / 2 ^ m - 2 ^ (h * k + k - 1)) shift ∙ ap (λ m. w / 2 ^ (64 - h - (h * k + k)) - m) (sym eo) ∙ sym elow in
+    let same : w / 2 ^ (63 - h - (h * k + k - 1)) - 2 ^ (h * k + k - 1) ≡ long / 2 =
+    ap (λ m. w / 2 ^ m - 2 ^ (h * k + k - 1)) shift ∙ sym (longer_field w h (h * k + k) (omega arith) (omega arith)) ∙ ap (λ m. m / 2) (sym et) in
     let room : h * k + k ≤ 63 = omega arith in
-    let below : low < 2 ^ (h * k) = subst (λ m. low < m) el less in
+    let below : long / 2 < 2 ^ (h * k) = subst (λ m. long / 2 < m) el less in
     let bits : z ≡ unary h ++ (low_bits (h * k + k - 1) low ++ drop (h + (h * k + k - 1) + 1) z) =
     f.1 ∙ ap (λ m. unary h ++ (low_bits (h * k + k - 1) m ++ drop (h + (h * k + k - 1) + 1) z)) same in
     let s = short_form k h low some room below in
-    let v : ℕ = 2 ^ (h * k) + low - 1 in
     let value : least + low - 1 ≡ 2 ^ (h * k) + low - 1 = ap (λ m. m + low - 1) el in
     let width : length (low_bits (h * k + k - 1) low) ≡ h * k + k - 1 = length-low_bits (h * k + k - 1) low in
     let span : length (zeta k (2 ^ (h * k) + low - 1)) ≡ h + 1 + length (low_bits (h * k + k - 1) low) =
@@ -149,68 +185,40 @@ window_short z k w h least one low some few l e fits el eo elow less agree long 
       subst (λ m. h + (h * k + k) ≡ length (zeta k m)) (sym value) (omega arith),
     )
 
--- the field of the long form is that of the short one, and a bit more
-longer_field : (w h n one low : ℕ) → h + n ≤ 63 → 1 ≤ n → one ≡ 2 ^ (n - 1) → low ≡ w / 2 ^ (64 - h - n) - one → (w / 2 ^ (63 - h - n) - 2 ^ n) / 2 ≡ low
-longer_field w h n one low few some eo el =
-    let s : 64 - h - n ≡ suc (63 - h - n) = omega arith in
-    let p : 2 ^ (64 - h - n) ≡ 2 ^ (63 - h - n) * 2 = ap (λ m. 2 ^ m) s ∙ pow-suc 2 (63 - h - n) in
-    let t : n ≡ suc (n - 1) = omega arith in
-    let q : 2 ^ n ≡ 2 ^ (n - 1) * 2 = ap (λ m. 2 ^ m) t ∙ pow-suc 2 (n - 1) in
-    let half : w / 2 ^ (63 - h - n) / 2 ≡ w / 2 ^ (64 - h - n) = div-div-eq-div-mul w (2 ^ (63 - h - n)) 2 ∙ ap (λ m. w / m) (sym p) in
-    let x : ℕ = w / 2 ^ (63 - h - n) in
-    omega arith
-
-pub window_long : (z : List Bool) (k w h least one low : ℕ) → 1 ≤ k → k ≤ 31 → w < 2 ^ 64 → h ≡ count_leading_zeros 64 w
-    → h + 1 + (h * k + k) ≤ 64 → least ≡ 2 ^ (h * k) → one ≡ 2 ^ (h * k + k - 1) → low ≡ w / 2 ^ (64 - h - (h * k + k)) - one → least ≤ low
+pub window_long : (z : List Bool) (k w h least long : ℕ) → 1 ≤ k → k ≤ 31 → w < 2 ^ 64 → h ≡ count_leading_zeros 64 w
+    → h + 1 + (h * k + k) ≤ 64 → least ≡ 2 ^ (h * k) → long ≡ w / 2 ^ (63 - h - (h * k + k)) - 2 ^ (h * k + k) → least ≤ long / 2
     → ((i : ℕ) → i < 64 → get_or (low_bits 64 w) i false ≡ get_or z i false) → h + (h * k + k) + 1 ≤ length z
-    → Reads (zeta k) (zeta_top k) z (Value (w / 2 ^ (63 - h - (h * k + k)) - 2 * one - 1))
-    × (h + (h * k + k) + 1 ≡ length (zeta k (w / 2 ^ (63 - h - (h * k + k)) - 2 * one - 1)))
-    × (2 * one + 1 ≤ w / 2 ^ (63 - h - (h * k + k)))
-window_long z k w h least one low some few l e fits el eo elow more agree long =
-    let n : ℕ = h * k + k in
-    let f = headed_front z w h (h * k + k) l e (omega arith) agree long in
-    let g = window_field w h (h * k + k) l e (omega arith) in
-    let t : ℕ = w / 2 ^ (63 - h - (h * k + k)) - 2 ^ (h * k + k) in
-    let half : t / 2 ≡ low = longer_field w h (h * k + k) one low (omega arith) (omega arith) eo elow in
+    → Reads (zeta k) (zeta_top k) z (Value (long - 1)) × (h + (h * k + k) + 1 ≡ length (zeta k (long - 1)))
+window_long z k w h least long some few l e fits el et more agree enough =
+    let low : ℕ = long / 2 in
+    let f = headed_front z w h (h * k + k) l e (omega arith) agree enough in
     let up : h * k + k ≡ suc (h * k + k - 1) = omega arith in
     let q : 2 ^ (h * k + k) ≡ 2 ^ (h * k + k - 1) * 2 = ap (λ m. 2 ^ m) up ∙ pow-suc 2 (h * k + k - 1) in
-    let both : 2 * one ≡ 2 ^ (h * k + k) = omega arith in
-    let pos : 0 < 2 ^ (h * k) = pow_pos (h * k) in
-    let split : t ≡ 2 * low + t % 2 = omega arith in
-    let bit : t % 2 < 2 = omega arith in
-    let least : 2 ^ (h * k + k) ≤ w / 2 ^ (63 - h - (h * k + k)) = g.0 in
-    let value : w / 2 ^ (63 - h - (h * k + k)) - 2 * one - 1 ≡ 2 * low + t % 2 - 1 = omega arith in
+    let split : long ≡ 2 * low + long % 2 = omega arith in
+    let bit : long % 2 < 2 = omega arith in
+    let value : long - 1 ≡ 2 * low + long % 2 - 1 = omega arith in
     let room : h * k + k ≤ 63 = omega arith in
     let above : 2 ^ (h * k) ≤ low = subst (λ m. m ≤ low) el more in
-    let below : low < 2 ^ (h * k + k - 1) = omega (arith, f.0) in
+    let small : long < 2 ^ (h * k + k) = subst (λ m. m < 2 ^ (h * k + k)) (sym et) f.0 in
+    let below : low < 2 ^ (h * k + k - 1) = omega arith in
     let sum : h * k + k - 1 + 1 ≡ h * k + k = omega arith in
-    let down : t / 2 ^ 1 ≡ low = half in
-    let last : low_bits 1 t ≡ low_bits 1 (t % 2) =
-    ap (low_bits 1) (let m : t ≡ t / 2 * 2 ^ 1 + t % 2 = omega arith in m) ∙ low_bits-above 1 (t / 2) (t % 2) in
-    let cut : low_bits (h * k + k) t ≡ low_bits (h * k + k - 1) low ++ low_bits 1 (t % 2) =
-    ap (λ m. low_bits m t) (sym sum) ∙ low_bits-add (h * k + k - 1) 1 t ∙ ap (λ m. low_bits (h * k + k - 1) m ++ low_bits 1 t) down
+    let last : low_bits 1 long ≡ low_bits 1 (long % 2) =
+    ap (low_bits 1) (let m : long ≡ long / 2 * 2 ^ 1 + long % 2 = omega arith in m) ∙ low_bits-above 1 (long / 2) (long % 2) in
+    let cut : low_bits (h * k + k) long ≡ low_bits (h * k + k - 1) low ++ low_bits 1 (long % 2) =
+    ap (λ m. low_bits m long) (sym sum) ∙ low_bits-add (h * k + k - 1) 1 long
     ∙ ap (λ x. low_bits (h * k + k - 1) low ++ x) last in
-    let s = long_form k h low (t % 2) some room below above bit in
-    let wide : length (low_bits (h * k + k - 1) low ++ low_bits 1 (t % 2)) ≡ h * k + k =
-    ap length (sym cut) ∙ length-low_bits (h * k + k) t in
-    let span : length (zeta k (2 * low + t % 2 - 1)) ≡ h + 1 + length (low_bits (h * k + k - 1) low ++ low_bits 1 (t % 2)) =
-    zeta_span k h (2 * low + t % 2 - 1) s.0 ∙ ap (λ x. h + 1 + length x) s.2 in
+    let s = long_form k h low (long % 2) some room below above bit in
+    let wide : length (low_bits (h * k + k - 1) low ++ low_bits 1 (long % 2)) ≡ h * k + k =
+    ap length (sym cut) ∙ length-low_bits (h * k + k) long in
+    let span : length (zeta k (2 * low + long % 2 - 1)) ≡ h + 1 + length (low_bits (h * k + k - 1) low ++ low_bits 1 (long % 2)) =
+    zeta_span k h (2 * low + long % 2 - 1) s.0 ∙ ap (λ x. h + 1 + length x) s.2 in
     let end : List Bool = drop (h + (h * k + k) + 1) z in
-    let tail : low_bits (h * k + k) t ++ end ≡ low_bits (h * k + k - 1) low ++ (low_bits 1 (t % 2) ++ end) =
-    ap (λ x. x ++ end) cut ∙ append_assoc (low_bits (h * k + k - 1) low) (low_bits 1 (t % 2)) end in (
+    let bits : z ≡ unary h ++ (low_bits (h * k + k) long ++ end) =
+    f.1 ∙ ap (λ m. unary h ++ (low_bits (h * k + k) m ++ end)) (sym et) in
+    let tail : low_bits (h * k + k) long ++ end ≡ low_bits (h * k + k - 1) low ++ (low_bits 1 (long % 2) ++ end) =
+    ap (λ x. x ++ end) cut ∙ append_assoc (low_bits (h * k + k - 1) low) (low_bits 1 (long % 2)) end in (
       subst (λ m. Reads (zeta k) (zeta_top k) z (Value m)) (sym value)
-          (zeta_value k some few z _ end h (2 * low + t % 2 - 1) (head_small k h some fits) f.1
-          (tail_long k h low (t % 2) _ _ end some room below above bit tail refl)),
+          (zeta_value k some few z _ end h (2 * low + long % 2 - 1) (head_small k h some fits) bits
+          (tail_long k h low (long % 2) _ _ end some room below above bit tail refl)),
       subst (λ m. h + (h * k + k) + 1 ≡ length (zeta k m)) (sym value) (omega arith),
-      omega arith,
     )
-
--- ---- the numbers of the code
-pub one_below : (w k h one : ℕ) → 1 ≤ k → w < 2 ^ 64 → h ≡ count_leading_zeros 64 w → h + 1 + (h * k + k) ≤ 64 → one ≡ 2 ^ (h * k + k - 1)
-    → (one ≤ w / 2 ^ (64 - h - (h * k + k))) × (one ≤ 2 ^ 62)
-one_below w k h one some l e fits eo =
-    let f = window_field w h (h * k + k - 1) l e (omega arith) in
-    let shift : 63 - h - (h * k + k - 1) ≡ 64 - h - (h * k + k) = omega arith in
-    let small : 2 ^ (h * k + k - 1) ≤ 2 ^ 62 = pow_mono (let s : h * k + k - 1 ≤ 62 = omega arith in s) in
-    let low : 2 ^ (h * k + k - 1) ≤ w / 2 ^ (64 - h - (h * k + k)) = subst (λ m. 2 ^ (h * k + k - 1) ≤ w / 2 ^ m) shift f.0 in
-    (omega arith, omega arith)

@@ -50,17 +50,17 @@ pub fn word_in(window: u64, k: u32) -> Option<Word>
         return None;
     }
     let least = 1u64 << (head * k);
-    let one = 1u64 << (width - 1);
-    let low = (window >> (64 - head - width)) - one;
-    if low < least {
-        return Some(Word {
-            value: least + low - 1,
-            bits: (head + width) as u64,
-        });
-    }
+    // what stands behind the head, in as many bits as the long form has
+    let long = window << head << 1 >> (64 - width);
+    let low = long / 2;
+    let (next, bits) = if low < least {
+        (least + low, head + width)
+    } else {
+        (long, head + width + 1)
+    };
     Some(Word {
-        value: (window >> (63 - head - width)) - 2 * one - 1,
-        bits: (head + width + 1) as u64,
+        value: next - 1,
+        bits: bits as u64,
     })
 }
 
