@@ -8,7 +8,7 @@ ghost use Rattle.wg_rank.specs.Inflows.{low_flows, high_flows};
 ghost use Rattle.wg_rank.specs.Rank.{low_flow, high_flow, sum_dangling};
 ghost use Rattle.wg_rank.specs.declared.limits.TheConstants.{UNITS};
 
-use crate::dividing::{quotient, quotient_up};
+use crate::dividing::Divisor;
 use crate::spreading::{spread, spread_low};
 use wg_graph::Lists;
 
@@ -52,8 +52,9 @@ pub(crate) fn gather<L: Lists>(
                 low_dangling += low[u];
                 high_dangling += high[u];
             } else {
-                let below = quotient(low[u], degree);
-                let above = quotient_up(high[u], degree);
+                let outdegree = Divisor::new(degree);
+                let below = outdegree.quotient(low[u]);
+                let above = outdegree.quotient_up(high[u]);
                 spread(inflows, list, below, above);
             }
         }
@@ -86,7 +87,7 @@ pub(crate) fn gather_low<L: Lists>(lists: &mut L, low: &[u128], inflows: &mut [u
             if degree == 0 {
                 dangling += low[u];
             } else {
-                spread_low(inflows, list, quotient(low[u], degree));
+                spread_low(inflows, list, Divisor::new(degree).quotient(low[u]));
             }
         }
     }
