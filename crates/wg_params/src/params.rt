@@ -140,6 +140,31 @@ fn first_bad_number(
     }
 }
 
+// Whether each field is in a code that it may have.
+fn has_its_codes(
+    zeta: u32,
+    outdegrees: Code,
+    references: Code,
+    block_counts: Code,
+    blocks: Code,
+    residuals: Code,
+    offsets: Code,
+) -> bool
+    ensures value { (p : Parameters) → p.zeta ≡ zeta → p.outdegrees ≡ outdegrees → p.references ≡ references
+        → p.block_counts ≡ block_counts → p.blocks ≡ blocks → p.residuals ≡ residuals → p.offsets ≡ offsets
+        → has_its_codes p ≡ result }
+    ensures within { result ≡ true → (is_gamma_or_delta outdegrees ≡ true) × (is_unary_gamma_or_delta references ≡ true)
+        × (is_unary_gamma_or_delta block_counts ≡ true) × (is_gamma_or_delta blocks ≡ true)
+        × (is_residual_code zeta residuals ≡ true) × (is_gamma_or_delta offsets ≡ true) }
+{
+    is_gamma_or_delta(outdegrees)
+        && is_unary_gamma_or_delta(references)
+        && is_unary_gamma_or_delta(block_counts)
+        && is_gamma_or_delta(blocks)
+        && is_residual_code(zeta, residuals)
+        && is_gamma_or_delta(offsets)
+}
+
 impl Params {
     /// The parameters, where each is within its limits; a code that its field may not have counts as the compression flags.
     pub fn new(
@@ -186,17 +211,18 @@ impl Params {
           offsets = offsets;
         } in IfErr result (λ e. first_bad given ≡ Some e.key) }
     {
-        let bad = first_bad_number(nodes, arcs, window, chain, interval, zeta);
-        if let Some(key) = bad {
+        if let Some(key) = first_bad_number(nodes, arcs, window, chain, interval, zeta) {
             return Err(BadParam { key });
         }
-        let allowed = is_gamma_or_delta(outdegrees)
-            && is_unary_gamma_or_delta(references)
-            && is_unary_gamma_or_delta(block_counts)
-            && is_gamma_or_delta(blocks)
-            && is_residual_code(zeta, residuals)
-            && is_gamma_or_delta(offsets);
-        if !allowed {
+        if !has_its_codes(
+            zeta,
+            outdegrees,
+            references,
+            block_counts,
+            blocks,
+            residuals,
+            offsets,
+        ) {
             return Err(BadParam {
                 key: Key::CompressionFlags,
             });
