@@ -234,3 +234,36 @@ fn are_unjoined(rt: &impl Abort, alloc: Global, table: &[Unjoined]) -> Result<()
 fn unions_that_are_refused(rt: HostRuntime) -> Result<(), Fail> {
     are_unjoined(&rt, rt.alloc(), &UNJOINED)
 }
+
+// The pages 0 to pages - 1, each with the successors 0 and 1.
+fn same_lists(alloc: Global, pages: u64) -> Result<String, Fail> {
+    let mut text = String::new(alloc);
+    for page in 0..pages {
+        text.push_str(format!(in alloc; "{page} 0\n{page} 1\n")?.as_str())?;
+    }
+    Ok(text)
+}
+
+// Whether page 256 is joined, which lies 256 references from page 0: more than a page is opened through. It refers to the
+// page before, as each but page 0 does: that is what their 6 bits say.
+fn is_deep_joined(alloc: Global) -> Result<bool, Fail> {
+    let mut depot = SteadyDepot::new(alloc, 4096);
+    let list = same_lists(alloc, 257)?;
+    put_steady(&mut depot, "a", list.as_bytes())?;
+    put_steady(&mut depot, "b", b"0 2\n".as_slice())?;
+    let deep = "ok nodes=257 arcs=514 bits=1547\n";
+    let build = "build a g --nodes 257 --chain none";
+    let (built, _, _) = told(alloc, "build b h --nodes 3", &mut depot)?;
+    Ok(
+        built == 0
+            && prints(alloc, build, &mut depot, deep)?
+            && told(alloc, "union g h k", &mut depot)?.0 == 0
+            && prints(alloc, "show k 0 256", &mut depot, "0 0 1 2\n256 0 1\n")?,
+    )
+}
+
+#[test]
+fn a_deep_page_is_joined(rt: HostRuntime) -> Result<(), Fail> {
+    assert!(rt; is_deep_joined(rt.alloc())?);
+    Ok(())
+}
