@@ -83,13 +83,13 @@ plain_import_app = with_rule (with_rule (new_app (codes "import")) (positional_r
 abbrev pub import_app : App
 import_app = with_layout plain_import_app
 
--- quotient IN MAP OUT
-abbrev pub mapped_app : App
-mapped_app = with_rule (with_rule (with_rule (new_app (codes "quotient")) (positional_rule (codes "in"))) (positional_rule (codes "map"))) (positional_rule (codes "out"))
+-- NAME IN SECOND OUT
+abbrev pub three_files_app : Text → Text → App
+three_files_app name second = with_rule (with_rule (with_rule (new_app name) (positional_rule (codes "in"))) (positional_rule second)) (positional_rule (codes "out"))
 
 -- quotient IN MAP OUT --classes C
 abbrev pub plain_quotient_app : App
-plain_quotient_app = with_rule mapped_app (required_rule (codes "classes"))
+plain_quotient_app = with_rule (three_files_app (codes "quotient") (codes "map")) (required_rule (codes "classes"))
 
 -- the same with the options that say how the archive OUT is written
 abbrev pub quotient_app : App
@@ -103,14 +103,9 @@ two_archives_app name = with_rule (with_rule (new_app name) (positional_rule (co
 abbrev pub conversion_app : Text → App
 conversion_app name = with_layout (two_archives_app name)
 
--- union IN SECOND OUT
-abbrev pub plain_union_app : App
-plain_union_app =
-    with_rule (with_rule (with_rule (new_app (codes "union")) (positional_rule (codes "in"))) (positional_rule (codes "second"))) (positional_rule (codes "out"))
-
--- the same with the options that say how the archive OUT is written
+-- union IN SECOND OUT, with the options that say how the archive OUT is written
 abbrev pub union_app : App
-union_app = with_layout plain_union_app
+union_app = with_layout (three_files_app (codes "union") (codes "second"))
 
 -- bulk SEED N
 abbrev pub bulk_app : App

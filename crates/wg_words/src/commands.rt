@@ -1,7 +1,7 @@
 //! The commands of the program with their options and positionals: a function each, as the definitions have an `App` each.
 ghost use Rattle.std.specs.Prelude.{◌≡◌, IfOk, false};
 ghost use Rattle.clap.specs.Words.{App, rule_of};
-ghost use Rattle.wg_words.specs.Commands.{IsApp, positional_rule, several_rule, base_rule, archive_app, option_rule, required_rule, show_app, spot_app, plain_rank_app, rank_app, verify_app, with_option, with_limits, with_codes, with_layout, plain_build_app, build_app, plain_import_app, import_app, mapped_app, plain_quotient_app, quotient_app, two_archives_app, conversion_app, plain_union_app, union_app, bulk_app, program_app, plain_app, with_command, command_app};
+ghost use Rattle.wg_words.specs.Commands.{IsApp, positional_rule, several_rule, base_rule, archive_app, option_rule, required_rule, show_app, spot_app, plain_rank_app, rank_app, verify_app, with_option, with_limits, with_codes, with_layout, plain_build_app, build_app, plain_import_app, import_app, three_files_app, plain_quotient_app, quotient_app, two_archives_app, conversion_app, union_app, bulk_app, program_app, plain_app, with_command, command_app};
 
 use clap::{Arg, Command};
 use std::alloc::{AllocError, Global};
@@ -165,13 +165,17 @@ fn import<'a>(alloc: Global) -> Result<Command<'a>, AllocError>
     with_layout(alloc, command)
 }
 
-// The names of `quotient`: two archives, and a map between them.
-fn mapped<'a>(alloc: Global) -> Result<Command<'a>, AllocError>
-    ensures { IfOk result (IsApp mapped_app) }
+// A command that reads an archive and one input more, and writes an archive.
+fn on_three_files<'a>(
+    alloc: Global,
+    name: &'a str,
+    second: &'a str,
+) -> Result<Command<'a>, AllocError>
+    ensures { IfOk result (IsApp (three_files_app name.now second.now)) }
 {
-    Command::new(alloc, "quotient")
+    Command::new(alloc, name)
         .arg(positional(alloc, "in"))?
-        .arg(positional(alloc, "map"))?
+        .arg(positional(alloc, second))?
         .arg(positional(alloc, "out"))
 }
 
@@ -179,7 +183,7 @@ fn mapped<'a>(alloc: Global) -> Result<Command<'a>, AllocError>
 fn plain_quotient<'a>(alloc: Global) -> Result<Command<'a>, AllocError>
     ensures { IfOk result (IsApp plain_quotient_app) }
 {
-    mapped(alloc)?.arg(required(alloc, "classes"))
+    on_three_files(alloc, "quotient", "map")?.arg(required(alloc, "classes"))
 }
 
 fn quotient<'a>(alloc: Global) -> Result<Command<'a>, AllocError>
@@ -206,21 +210,11 @@ fn conversion<'a>(alloc: Global, name: &'a str) -> Result<Command<'a>, AllocErro
     with_layout(alloc, command)
 }
 
-// `union` without the options that say how the archive is written.
-fn plain_union<'a>(alloc: Global) -> Result<Command<'a>, AllocError>
-    ensures { IfOk result (IsApp plain_union_app) }
-{
-    Command::new(alloc, "union")
-        .arg(positional(alloc, "in"))?
-        .arg(positional(alloc, "second"))?
-        .arg(positional(alloc, "out"))
-}
-
 // A command that reads two archives and writes a third.
 fn union_command<'a>(alloc: Global) -> Result<Command<'a>, AllocError>
     ensures { IfOk result (IsApp union_app) }
 {
-    let command = plain_union(alloc)?;
+    let command = on_three_files(alloc, "union", "second")?;
     with_layout(alloc, command)
 }
 
