@@ -6,9 +6,9 @@
 //!
 //! [`ARCHIVES`] has worked archives, bit by bit, with the list of each page and the offset of each record. [`LONGER`]
 //! has legal archives that are not the shortest, and [`BAD_GRAPHS`] and [`BAD_OFFSETS`] have archives with a fault. An
-//! archive that a test needs by itself has a name of its own, as [`ONE_ARC`] or [`TWICE`]. [`bytes_of`] turns the text
-//! of some bits into bytes, and [`usual`] makes parameters in the usual codes. The crates above read, write and refuse
-//! these archives in their tests.
+//! archive that a test needs by itself has a name of its own, as [`ONE_ARC`] or [`TWICE`]; those of which pages are read
+//! before the whole is checked are in [`unchecked`]. [`bytes_of`] turns the text of some bits into bytes, and [`usual`]
+//! makes parameters in the usual codes. The crates above read, write and refuse these archives in their tests.
 //!
 //! [`generate`] draws a graph of up to [`MOST_GENERATED`] pages that is like a web graph: lists share members with
 //! lists close before them, and have intervals. The definition says each list, and so the same seed gives the same
@@ -29,6 +29,7 @@ mod generating;
 pub mod laws;
 mod longer;
 mod shapes;
+pub mod unchecked;
 
 pub use archives::{
     ARCHIVES, Archive, BLOCKS, CHAIN, COPIED, COPIED_DELTA, COPIED_GRAPH, COPIED_OFFSETS,
