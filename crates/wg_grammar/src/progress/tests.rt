@@ -28,9 +28,37 @@ fn read(
     }
 }
 
+// Reads these values, each where it is needed and with this answer; none of them is a reference.
+fn read_each(
+    rt: &impl Abort,
+    progress: &mut Progress,
+    table: &[(Need, u64, Result<(), Kind>)],
+) -> Result<(), Fail> {
+    for (need, value, expected) in table {
+        assert_eq!(rt; read(rt, progress, *need, *value, None), *expected);
+    }
+    Ok(())
+}
+
+const OUTDEGREE: Need = Need::Read(Field::Outdegree, Code::Gamma);
+
+const REFERENCE: Need = Need::Read(Field::Reference, Code::Unary);
+
+// What follows the reference.
+const FIELDS: [(Need, u64, Result<(), Kind>); 9] = [
+    (Need::Read(Field::BlockCount, Code::Gamma), 2, Ok(())),
+    (Need::Read(Field::Block, Code::Gamma), 1, Ok(())),
+    (Need::Read(Field::Block, Code::Gamma), 0, Ok(())),
+    (Need::Check, 0, Ok(())),
+    (Need::Read(Field::IntervalCount, Code::Gamma), 1, Ok(())),
+    (Need::Read(Field::Left, Code::Gamma), 4, Ok(())),
+    (Need::Read(Field::Length, Code::Gamma), 2, Err(Kind::Range)),
+    (Need::Read(Field::Length, Code::Gamma), 0, Ok(())),
+    (Need::Read(Field::Residual, Code::Zeta(3)), 9, Ok(())),
+];
+
 #[test]
 fn a_record_with_all_fields(rt: HostRuntime) -> Result<(), Fail> {
-    let gamma = Code::Gamma;
     let params = usual(100, 100, 7, 3, 4)?;
     let mut progress = Progress::start(&params, 10, 20);
     let p = &mut progress;
@@ -38,57 +66,10 @@ fn a_record_with_all_fields(rt: HostRuntime) -> Result<(), Fail> {
         length: 4,
         depth: 0,
     };
-    assert_eq!(rt;
-        read(&rt, p, Need::Read(Field::Outdegree, gamma), 81, None),
-        Err(Kind::Total)
-    );
-    assert_eq!(rt;
-        read(&rt, p, Need::Read(Field::Outdegree, gamma), 8, None),
-        Ok(())
-    );
-    assert_eq!(rt;
-        read(
-            &rt,
-            p,
-            Need::Read(Field::Reference, Code::Unary),
-            1,
-            Some(named)
-        ),
-        Ok(())
-    );
-    assert_eq!(rt;
-        read(&rt, p, Need::Read(Field::BlockCount, gamma), 2, None),
-        Ok(())
-    );
-    assert_eq!(rt;
-        read(&rt, p, Need::Read(Field::Block, gamma), 1, None),
-        Ok(())
-    );
-    assert_eq!(rt;
-        read(&rt, p, Need::Read(Field::Block, gamma), 0, None),
-        Ok(())
-    );
-    assert_eq!(rt; read(&rt, p, Need::Check, 0, None), Ok(()));
-    assert_eq!(rt;
-        read(&rt, p, Need::Read(Field::IntervalCount, gamma), 1, None),
-        Ok(())
-    );
-    assert_eq!(rt;
-        read(&rt, p, Need::Read(Field::Left, gamma), 4, None),
-        Ok(())
-    );
-    assert_eq!(rt;
-        read(&rt, p, Need::Read(Field::Length, gamma), 2, None),
-        Err(Kind::Range)
-    );
-    assert_eq!(rt;
-        read(&rt, p, Need::Read(Field::Length, gamma), 0, None),
-        Ok(())
-    );
-    assert_eq!(rt;
-        read(&rt, p, Need::Read(Field::Residual, Code::Zeta(3)), 9, None),
-        Ok(())
-    );
+    assert_eq!(rt; read(&rt, p, OUTDEGREE, 81, None), Err(Kind::Total));
+    assert_eq!(rt; read(&rt, p, OUTDEGREE, 8, None), Ok(()));
+    assert_eq!(rt; read(&rt, p, REFERENCE, 1, Some(named)), Ok(()));
+    read_each(&rt, p, &FIELDS)?;
     assert_eq!(rt; p.need(), Need::End);
     assert_eq!(rt;
         (p.outdegree(), p.reference(), p.blocks(), p.blocks_sum()),
