@@ -6,12 +6,31 @@ ghost use Rattle.wg_codes.specs.Standing.{IsWord};
 ghost use Rattle.wg_iterators.specs.Laid.{MaybeWord};
 
 use wg_bits::Cursor;
-use wg_codes::{Read, read};
+use wg_codes::{Read, read, word_in};
 use wg_params::Code;
 
-// Reads a value whose word stands at the cursor.
+// Reads a value whose word stands at the cursor: where 64 bits tell it, no test is left of whether it is cut.
 #[inline(always)]
 pub(crate) fn value(code: Code, cursor: &mut Cursor<'_>) -> u64
+    requires code { IsCode code }
+    requires stands { (v : ℕ) × (behind : List Bool) × IsWord code v (rest cursor.old) behind }
+    ensures short { result < 2 ^ 63 }
+    ensures exact { (v : ℕ) (behind : List Bool) → IsWord code v (rest cursor.old) behind
+        → (v ≡ result) × (behind ≡ rest cursor.new) }
+{
+    match word_in(code, cursor.peek()) {
+        Some(word) => {
+            cursor.advance(word.bits);
+            word.value
+        }
+        None => long_value(code, cursor),
+    }
+}
+
+// The same for any word.
+#[cold]
+#[inline(never)]
+fn long_value(code: Code, cursor: &mut Cursor<'_>) -> u64
     requires code { IsCode code }
     requires stands { (v : ℕ) × (behind : List Bool) × IsWord code v (rest cursor.old) behind }
     ensures short { result < 2 ^ 63 }

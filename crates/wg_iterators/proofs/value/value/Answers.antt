@@ -1,11 +1,18 @@
-use Rattle.wg_codes.proofs.Standing.{not_cut, not_none, read_one}
+use Rattle.std.proofs.Common.{arith, ap, sym, ◌∙◌}
+use Rattle.std.proofs.lemmas.List.{drop-drop}
+use Rattle.wg_bits.specs.Bits.{rest}
+use Rattle.wg_iterators.proofs.Words.{told, top_short}
 use Rattle.wg_iterators.proofs.value.value.Goals as goal
 
-pub unreachable-requires : goal.unreachable-requires
-unreachable-requires c = let s = c.requires.stands in not_cut c.args.code c.requires.code s.0 _ s.1 s.2 c.in-Cut.ensures.found
+pub advance-requires : goal.advance-requires
+advance-requires c =
+    let s = c.requires.stands in (told c.args.code c.requires.code s.0 _ s.1 s.2 _ c.peek.ensures c.in-Some.word c.in-Some.ensures).1
 
-pub unreachable-requires-in-NoWord : goal.unreachable-requires-in-NoWord
-unreachable-requires-in-NoWord c = let s = c.requires.stands in not_none c.args.code s.0 _ s.1 s.2 c.in-NoWord.ensures.found
+pub returns-in-Some-clause-short : goal.returns-in-Some-clause-short
+returns-in-Some-clause-short c =
+    let s = c.requires.stands in
+    let t = told c.args.code c.requires.code s.0 _ s.1 s.2 _ c.peek.ensures c.in-Some.word c.in-Some.ensures in omega (arith, t.0, s.2.0, top_short c.args.code c.requires.code)
 
-pub returns-clause-exact : goal.returns-clause-exact
-returns-clause-exact c v behind stand = read_one c.args.code c.requires.code v c.in-Value.value _ behind _ stand c.in-Value.ensures.found.0 c.in-Value.ensures.passed
+pub returns-in-Some-clause-exact : goal.returns-in-Some-clause-exact
+returns-in-Some-clause-exact c v behind stand =
+    let t = told c.args.code c.requires.code v _ behind stand _ c.peek.ensures c.in-Some.word c.in-Some.ensures in (t.0, t.2 ∙ drop-drop c.in-Some.word.bits c.args.cursor.now.at c.args.cursor.now.bits ∙ ap rest (sym c.advance.ensures))
