@@ -16,3 +16,4 @@ pub mod JoinLemmas
 pub mod CopyingLemmas
 pub mod CoveredLemmas
 pub mod DecodeLemmas
+pub mod Near

@@ -6,6 +6,7 @@ use Rattle.std.proofs.lemmas.List.{length_push, length-append, length-drop, leng
 use Rattle.std.proofs.lemmas.List.Sums.{sum_by-append}
 use Rattle.wg_params.specs.declared.code.Code.{Code}
 use Rattle.wg_params.specs.declared.code.Code.TheVariants.{Gamma}
+use Rattle.wg_bits.specs.Bits.{Position, rest}
 use Rattle.wg_graph.specs.Copied.{copied_members, is_copied}
 use Rattle.wg_graph.proofs.Copies.{at_positions_all, length-at_positions, sum_cons, sum_push, copied_before, copied_count, copied_front}
 use Rattle.wg_blocks.specs.Stored.{blocks_of}
@@ -17,6 +18,9 @@ use Rattle.wg_iterators.specs.Passing.{blocks_after, Passing, Covering}
 -- what the reader of a value answers for the word that stands first
 abbrev pub Takes : Code → List Bool → List Bool → ℕ → Type 0
 Takes c old new w = (v : ℕ) (behind : List Bool) → IsWord c v old behind → (v ≡ w) × (behind ≡ new)
+
+pub takes_from : (c : Code) (p q : Position) (new : List Bool) (w : ℕ) → q ≡ p → Takes c (rest q) new w → Takes c (rest p) new w
+takes_from c p q new w e takes = subst (λ x. Takes c (rest x) new w) e takes
 
 -- ---- blocks
 

@@ -10,3 +10,4 @@ pub mod Fields
 pub mod Below
 pub mod Joining
 pub mod Headed
+pub mod Near

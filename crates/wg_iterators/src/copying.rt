@@ -7,8 +7,7 @@ ghost use Rattle.wg_blocks.specs.Stored.{blocks_of};
 ghost use Rattle.wg_iterators.specs.Laid.{WordsTo};
 
 use crate::passing::block_of;
-use crate::value::value;
-use wg_bits::Cursor;
+use crate::value::{Lookahead, value};
 use wg_graph::Row;
 use wg_params::Code;
 
@@ -45,7 +44,7 @@ pub(crate) fn copy_members(
     code: Code,
     count: u64,
     members: &[u64],
-    cursor: &mut Cursor<'_>,
+    cursor: &mut Lookahead<'_>,
     row: &mut Row,
 )
     requires code { IsCode code }

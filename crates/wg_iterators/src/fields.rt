@@ -7,7 +7,7 @@ ghost use Rattle.wg_iterators.specs.Fields.{AreFronts};
 
 use crate::passing::{pass_blocks, pass_intervals};
 use crate::residuals::Residuals;
-use crate::value::{value, value_where};
+use crate::value::{Lookahead, value, value_where};
 use wg_bits::Cursor;
 use wg_blocks::Mask;
 use wg_intervals::IntervalWalk;
@@ -29,7 +29,7 @@ pub struct Fronts<'a> {
 pub fn find_fronts<'a>(
     params: &Params,
     page: u64,
-    mut cursor: Cursor<'a>,
+    cursor: Cursor<'a>,
     source: Option<u64>,
 ) -> Fronts<'a>
     requires page { page < params.now.nodes }
@@ -42,6 +42,7 @@ pub fn find_fronts<'a>(
 {
     // tells the limits
     params.nodes();
+    let mut cursor = Lookahead::new(cursor);
     let outdegree = value(params.outdegrees(), &mut cursor);
     let refers = (outdegree > 0) & (params.window() > 0);
     value_where(refers, params.references(), &mut cursor);

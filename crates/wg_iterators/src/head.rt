@@ -4,7 +4,7 @@ ghost use Rattle.wg_grammar.specs.SoFar.{value_or_0};
 ghost use Rattle.wg_iterators.specs.Headed.{IsHead};
 ghost use Rattle.wg_iterators.specs.Proper.{IsRecord};
 
-use crate::value::{value, value_where};
+use crate::value::{Lookahead, value, value_where};
 use wg_bits::Cursor;
 use wg_params::Params;
 
@@ -16,7 +16,7 @@ pub struct RecordHead<'a> {
     /// How many pages back the record refers; 0, if it has no reference.
     pub reference: u64,
     // stands behind the head
-    pub(crate) words: Cursor<'a>,
+    pub(crate) words: Lookahead<'a>,
 }
 
 /// Reads the head of the record at the cursor: two words at most.
@@ -30,7 +30,7 @@ pub fn read_head<'a>(params: &Params, cursor: Cursor<'a>) -> RecordHead<'a>
 {
     // tells the limits
     params.nodes();
-    let mut words = cursor;
+    let mut words = Lookahead::new(cursor);
     let outdegree = value(params.outdegrees(), &mut words);
     let refers = (outdegree > 0) & (params.window() > 0);
     let reference = value_where(refers, params.references(), &mut words);

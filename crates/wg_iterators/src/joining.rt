@@ -11,9 +11,8 @@ ghost use Rattle.wg_iterators.specs.Laid.{IntervalsTo, ResidualsTo};
 
 use crate::copying::push_all;
 use crate::residuals::{Residuals, page_of};
-use crate::value::value;
+use crate::value::{Lookahead, value};
 use std::mem::swap;
-use wg_bits::Cursor;
 use wg_graph::Row;
 use wg_params::Code;
 
@@ -58,7 +57,7 @@ fn join_intervals(
     least: u64,
     count: u64,
     members: &[u64],
-    cursor: &mut Cursor<'_>,
+    cursor: &mut Lookahead<'_>,
     row: &mut Row,
 )
     requires page { page < 2 ^ 62 }
@@ -112,7 +111,7 @@ pub(crate) fn add_intervals(
     page: u64,
     least: u64,
     count: u64,
-    cursor: &mut Cursor<'_>,
+    cursor: &mut Lookahead<'_>,
     spare: &mut Row,
     row: &mut Row,
 )
@@ -146,7 +145,7 @@ pub(crate) fn add_residuals(
     code: Code,
     page: u64,
     count: u64,
-    cursor: Cursor<'_>,
+    cursor: Lookahead<'_>,
     spare: &mut Row,
     row: &mut Row,
 ) -> u64

@@ -6,8 +6,7 @@ ghost use Rattle.wg_graph.specs.Copied.{copied_members};
 ghost use Rattle.wg_blocks.specs.Stored.{blocks_of};
 ghost use Rattle.wg_iterators.specs.Laid.{WordsTo, IntervalsTo};
 
-use crate::value::value;
-use wg_bits::Cursor;
+use crate::value::{Lookahead, value};
 use wg_params::Code;
 
 // A block's length: the first is stored as it is, later ones less 1.
@@ -35,7 +34,7 @@ fn turned(index: u64, copied: u64, left: u64) -> u64
 
 // Passes so many blocks of a list with `source` members, and counts the members that they copy.
 #[inline(always)]
-pub(crate) fn pass_blocks(code: Code, count: u64, source: u64, cursor: &mut Cursor<'_>) -> u64
+pub(crate) fn pass_blocks(code: Code, count: u64, source: u64, cursor: &mut Lookahead<'_>) -> u64
     requires code { IsCode code }
     requires stand { (values : List ℕ) × (behind : List Bool) × (length values ≡ count)
         × (sum (blocks_of values) ≤ source) × WordsTo code values (rest cursor.old) behind }
@@ -57,7 +56,7 @@ pub(crate) fn pass_blocks(code: Code, count: u64, source: u64, cursor: &mut Curs
 
 // Passes so many intervals, and counts the numbers inside them.
 #[inline(always)]
-pub(crate) fn pass_intervals(least: u64, count: u64, cursor: &mut Cursor<'_>) -> u64
+pub(crate) fn pass_intervals(least: u64, count: u64, cursor: &mut Lookahead<'_>) -> u64
     requires { (page : ℕ) × (past : Option ℕ) × (lefts : List ℕ) × (lengths : List ℕ) × (behind : List Bool)
         × (length lefts ≡ count) × (sum lengths < 2 ^ 63)
         × IntervalsTo page least past lefts lengths (rest cursor.old) behind }

@@ -6,9 +6,8 @@ ghost use Rattle.wg_intervals.specs.Coming.{Gives};
 ghost use Rattle.wg_iterators.specs.Fronts.{residual_of};
 ghost use Rattle.wg_iterators.specs.Laid.{ResidualsTo};
 
-use crate::value::value;
+use crate::value::{Lookahead, value};
 use std::marker::Model;
-use wg_bits::Cursor;
 use wg_codes::unfold_from;
 use wg_params::Code;
 
@@ -17,7 +16,7 @@ use wg_params::Code;
 #[derive(Drop)]
 pub struct Residuals<'a> {
     // stands behind the residuals that were read
-    cursor: Cursor<'a>,
+    cursor: Lookahead<'a>,
     code: Code,
     page: u64,
     // the last one that was given
@@ -63,7 +62,7 @@ pub(crate) fn page_of(page: u64, last: Option<u64>, value: u64) -> u64
 
 impl<'a> Residuals<'a> {
     // The residuals that stand at the cursor, so many.
-    pub(crate) fn new(cursor: Cursor<'a>, code: Code, page: u64, count: u64) -> Residuals<'a>
+    pub(crate) fn new(cursor: Lookahead<'a>, code: Code, page: u64, count: u64) -> Residuals<'a>
         requires code { IsCode code }
         requires page { page < 2 ^ 62 }
         requires stand { (ys : List ℕ) × (behind : List Bool) × (length ys ≡ count)

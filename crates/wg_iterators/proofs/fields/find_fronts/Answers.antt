@@ -6,6 +6,7 @@ use Rattle.wg_blocks.specs.Stored.{blocks_of}
 use Rattle.wg_intervals.specs.Stored.{numbers_inside}
 use Rattle.wg_iterators.proofs.LaidOut.{laid_of, laid_with}
 use Rattle.wg_iterators.proofs.Counting.{blocks_stand, intervals_stand}
+use Rattle.wg_iterators.proofs.PassLemmas.{takes_from}
 use Rattle.wg_iterators.proofs.Beginning.{outdegree_word, outdegree_read, reference_word, reference_read, count_word, count_read, mask_words, pass_words, blocks_passed, copied_fits, interval_count_word, interval_count_read, walk_words, cover_words, intervals_passed, covered_fits, residual_words, some_source, source_long, copied_front, laid_parts, apart_fronts, union_fronts, blocks_words, intervals_words, residuals_given}
 use Rattle.wg_iterators.proofs.fields.find_fronts.Goals as goal
 
@@ -13,20 +14,20 @@ pub value-outdegree-requires-clause-stands : goal.value-outdegree-requires-claus
 value-outdegree-requires-clause-stands c =
     let few : c.args.params.now.nodes ≤ 2 ^ 62 = omega (arith, c.nodes.ensures.within) in
     let l = laid_of c.args.params.now c.args.page c.requires.proper.0 c.args.cursor c.requires.proper.1 few c.requires.proper.2 in
-    outdegree_word c.args.params.now c.args.page c.requires.proper.0 (rest c.args.cursor) c.requires.proper.1 c.outdegrees.result c.outdegrees.ensures.value l
+    rw c.new-cursor.ensures (outdegree_word c.args.params.now c.args.page c.requires.proper.0 (rest c.args.cursor) c.requires.proper.1 c.outdegrees.result c.outdegrees.ensures.value l)
 
 pub value_where-requires-clause-stands : goal.value_where-requires-clause-stands
 value_where-requires-clause-stands c =
     let few : c.args.params.now.nodes ≤ 2 ^ 62 = omega (arith, c.nodes.ensures.within) in
     let l = laid_of c.args.params.now c.args.page c.requires.proper.0 c.args.cursor c.requires.proper.1 few c.requires.proper.2 in
-    let e1 = outdegree_read c.args.params.now c.args.page c.requires.proper.0 (rest c.args.cursor) c.requires.proper.1 c.outdegrees.result (rest c.value-outdegree.new.cursor) c.value-outdegree.result c.outdegrees.ensures.value c.value-outdegree.ensures.exact l in
+    let e1 = outdegree_read c.args.params.now c.args.page c.requires.proper.0 (rest c.args.cursor) c.requires.proper.1 c.outdegrees.result (rest c.value-outdegree.new.cursor) c.value-outdegree.result c.outdegrees.ensures.value (takes_from c.outdegrees.result _ _ _ _ c.new-cursor.ensures c.value-outdegree.ensures.exact) l in
     reference_word c.args.params.now c.args.page c.requires.proper.0 (rest c.args.cursor) c.requires.proper.1 (rest c.value-outdegree.new.cursor) c.value-outdegree.result c.window.result _ c.references.result refl c.window.ensures.value c.references.ensures.value l e1
 
 pub value_where-count-requires-clause-stands : goal.value_where-count-requires-clause-stands
 value_where-count-requires-clause-stands c =
     let few : c.args.params.now.nodes ≤ 2 ^ 62 = omega (arith, c.nodes.ensures.within) in
     let l = laid_of c.args.params.now c.args.page c.requires.proper.0 c.args.cursor c.requires.proper.1 few c.requires.proper.2 in
-    let e1 = outdegree_read c.args.params.now c.args.page c.requires.proper.0 (rest c.args.cursor) c.requires.proper.1 c.outdegrees.result (rest c.value-outdegree.new.cursor) c.value-outdegree.result c.outdegrees.ensures.value c.value-outdegree.ensures.exact l in
+    let e1 = outdegree_read c.args.params.now c.args.page c.requires.proper.0 (rest c.args.cursor) c.requires.proper.1 c.outdegrees.result (rest c.value-outdegree.new.cursor) c.value-outdegree.result c.outdegrees.ensures.value (takes_from c.outdegrees.result _ _ _ _ c.new-cursor.ensures c.value-outdegree.ensures.exact) l in
     let e2 = reference_read c.args.params.now c.args.page c.requires.proper.0 (rest c.args.cursor) c.requires.proper.1 (rest c.value-outdegree.new.cursor) (rest c.value_where.new.cursor) c.value-outdegree.result c.window.result c.value_where.result _ c.references.result refl c.window.ensures.value c.references.ensures.value c.value_where.ensures.exact l e1 in
     count_word c.args.params.now c.args.page c.requires.proper.0 (rest c.args.cursor) c.requires.proper.1 (rest c.value_where.new.cursor) c.is_some.result c.block_counts.result (c.is_some.ensures ∙ some_source c.args.source c.requires.proper.0 c.requires.proper.3) c.block_counts.ensures.value l e2
 
@@ -34,7 +35,7 @@ pub new-mask-requires-clause-stand : goal.new-mask-requires-clause-stand
 new-mask-requires-clause-stand c =
     let few : c.args.params.now.nodes ≤ 2 ^ 62 = omega (arith, c.nodes.ensures.within) in
     let l = laid_of c.args.params.now c.args.page c.requires.proper.0 c.args.cursor c.requires.proper.1 few c.requires.proper.2 in
-    let e1 = outdegree_read c.args.params.now c.args.page c.requires.proper.0 (rest c.args.cursor) c.requires.proper.1 c.outdegrees.result (rest c.value-outdegree.new.cursor) c.value-outdegree.result c.outdegrees.ensures.value c.value-outdegree.ensures.exact l in
+    let e1 = outdegree_read c.args.params.now c.args.page c.requires.proper.0 (rest c.args.cursor) c.requires.proper.1 c.outdegrees.result (rest c.value-outdegree.new.cursor) c.value-outdegree.result c.outdegrees.ensures.value (takes_from c.outdegrees.result _ _ _ _ c.new-cursor.ensures c.value-outdegree.ensures.exact) l in
     let e2 = reference_read c.args.params.now c.args.page c.requires.proper.0 (rest c.args.cursor) c.requires.proper.1 (rest c.value-outdegree.new.cursor) (rest c.value_where.new.cursor) c.value-outdegree.result c.window.result c.value_where.result _ c.references.result refl c.window.ensures.value c.references.ensures.value c.value_where.ensures.exact l e1 in
     let e3 = count_read c.args.params.now c.args.page c.requires.proper.0 (rest c.args.cursor) c.requires.proper.1 (rest c.value_where.new.cursor) (rest c.value_where-count.new.cursor) c.value_where-count.result c.is_some.result c.block_counts.result (c.is_some.ensures ∙ some_source c.args.source c.requires.proper.0 c.requires.proper.3) c.block_counts.ensures.value c.value_where-count.ensures.exact l e2 in
     rw c.again.ensures (mask_words c.args.params.now c.args.page c.requires.proper.0 (rest c.args.cursor) c.requires.proper.1 (rest c.value_where-count.new.cursor) c.value_where-count.result c.blocks-2.result c.blocks-2.ensures.value l e3)
@@ -43,7 +44,7 @@ pub pass_blocks-copied-requires-clause-stand : goal.pass_blocks-copied-requires-
 pass_blocks-copied-requires-clause-stand c =
     let few : c.args.params.now.nodes ≤ 2 ^ 62 = omega (arith, c.nodes.ensures.within) in
     let l = laid_of c.args.params.now c.args.page c.requires.proper.0 c.args.cursor c.requires.proper.1 few c.requires.proper.2 in
-    let e1 = outdegree_read c.args.params.now c.args.page c.requires.proper.0 (rest c.args.cursor) c.requires.proper.1 c.outdegrees.result (rest c.value-outdegree.new.cursor) c.value-outdegree.result c.outdegrees.ensures.value c.value-outdegree.ensures.exact l in
+    let e1 = outdegree_read c.args.params.now c.args.page c.requires.proper.0 (rest c.args.cursor) c.requires.proper.1 c.outdegrees.result (rest c.value-outdegree.new.cursor) c.value-outdegree.result c.outdegrees.ensures.value (takes_from c.outdegrees.result _ _ _ _ c.new-cursor.ensures c.value-outdegree.ensures.exact) l in
     let e2 = reference_read c.args.params.now c.args.page c.requires.proper.0 (rest c.args.cursor) c.requires.proper.1 (rest c.value-outdegree.new.cursor) (rest c.value_where.new.cursor) c.value-outdegree.result c.window.result c.value_where.result _ c.references.result refl c.window.ensures.value c.references.ensures.value c.value_where.ensures.exact l e1 in
     let e3 = count_read c.args.params.now c.args.page c.requires.proper.0 (rest c.args.cursor) c.requires.proper.1 (rest c.value_where.new.cursor) (rest c.value_where-count.new.cursor) c.value_where-count.result c.is_some.result c.block_counts.result (c.is_some.ensures ∙ some_source c.args.source c.requires.proper.0 c.requires.proper.3) c.block_counts.ensures.value c.value_where-count.ensures.exact l e2 in
     pass_words c.args.params.now c.args.page c.requires.proper.0 (rest c.args.cursor) c.requires.proper.1 (rest c.value_where-count.new.cursor) c.value_where-count.result c.unwrap_or.result c.blocks-3.result c.blocks-3.ensures.value (c.unwrap_or.ensures ∙ source_long c.args.source c.requires.proper.0 c.requires.proper.3) l e3
@@ -52,7 +53,7 @@ pub overflow_sub-extra : goal.overflow_sub-extra
 overflow_sub-extra c =
     let few : c.args.params.now.nodes ≤ 2 ^ 62 = omega (arith, c.nodes.ensures.within) in
     let l = laid_of c.args.params.now c.args.page c.requires.proper.0 c.args.cursor c.requires.proper.1 few c.requires.proper.2 in
-    let e1 = outdegree_read c.args.params.now c.args.page c.requires.proper.0 (rest c.args.cursor) c.requires.proper.1 c.outdegrees.result (rest c.value-outdegree.new.cursor) c.value-outdegree.result c.outdegrees.ensures.value c.value-outdegree.ensures.exact l in
+    let e1 = outdegree_read c.args.params.now c.args.page c.requires.proper.0 (rest c.args.cursor) c.requires.proper.1 c.outdegrees.result (rest c.value-outdegree.new.cursor) c.value-outdegree.result c.outdegrees.ensures.value (takes_from c.outdegrees.result _ _ _ _ c.new-cursor.ensures c.value-outdegree.ensures.exact) l in
     let e2 = reference_read c.args.params.now c.args.page c.requires.proper.0 (rest c.args.cursor) c.requires.proper.1 (rest c.value-outdegree.new.cursor) (rest c.value_where.new.cursor) c.value-outdegree.result c.window.result c.value_where.result _ c.references.result refl c.window.ensures.value c.references.ensures.value c.value_where.ensures.exact l e1 in
     let e3 = count_read c.args.params.now c.args.page c.requires.proper.0 (rest c.args.cursor) c.requires.proper.1 (rest c.value_where.new.cursor) (rest c.value_where-count.new.cursor) c.value_where-count.result c.is_some.result c.block_counts.result (c.is_some.ensures ∙ some_source c.args.source c.requires.proper.0 c.requires.proper.3) c.block_counts.ensures.value c.value_where-count.ensures.exact l e2 in
     let e4 = blocks_passed c.args.params.now c.args.page c.requires.proper.0 (rest c.args.cursor) c.requires.proper.1 (rest c.value_where-count.new.cursor) (rest c.pass_blocks-copied.new.cursor) c.value_where-count.result c.unwrap_or.result c.pass_blocks-copied.result c.blocks-3.result c.blocks-3.ensures.value (c.unwrap_or.ensures ∙ source_long c.args.source c.requires.proper.0 c.requires.proper.3) (c.pass_blocks-copied.ensures.copied, c.pass_blocks-copied.ensures.behind) l e3 in
@@ -62,7 +63,7 @@ pub value_where-count-requires-2-clause-stands : goal.value_where-count-requires
 value_where-count-requires-2-clause-stands c =
     let few : c.args.params.now.nodes ≤ 2 ^ 62 = omega (arith, c.nodes.ensures.within) in
     let l = laid_of c.args.params.now c.args.page c.requires.proper.0 c.args.cursor c.requires.proper.1 few c.requires.proper.2 in
-    let e1 = outdegree_read c.args.params.now c.args.page c.requires.proper.0 (rest c.args.cursor) c.requires.proper.1 c.outdegrees.result (rest c.value-outdegree.new.cursor) c.value-outdegree.result c.outdegrees.ensures.value c.value-outdegree.ensures.exact l in
+    let e1 = outdegree_read c.args.params.now c.args.page c.requires.proper.0 (rest c.args.cursor) c.requires.proper.1 c.outdegrees.result (rest c.value-outdegree.new.cursor) c.value-outdegree.result c.outdegrees.ensures.value (takes_from c.outdegrees.result _ _ _ _ c.new-cursor.ensures c.value-outdegree.ensures.exact) l in
     let e2 = reference_read c.args.params.now c.args.page c.requires.proper.0 (rest c.args.cursor) c.requires.proper.1 (rest c.value-outdegree.new.cursor) (rest c.value_where.new.cursor) c.value-outdegree.result c.window.result c.value_where.result _ c.references.result refl c.window.ensures.value c.references.ensures.value c.value_where.ensures.exact l e1 in
     let e3 = count_read c.args.params.now c.args.page c.requires.proper.0 (rest c.args.cursor) c.requires.proper.1 (rest c.value_where.new.cursor) (rest c.value_where-count.new.cursor) c.value_where-count.result c.is_some.result c.block_counts.result (c.is_some.ensures ∙ some_source c.args.source c.requires.proper.0 c.requires.proper.3) c.block_counts.ensures.value c.value_where-count.ensures.exact l e2 in
     let e4 = blocks_passed c.args.params.now c.args.page c.requires.proper.0 (rest c.args.cursor) c.requires.proper.1 (rest c.value_where-count.new.cursor) (rest c.pass_blocks-copied.new.cursor) c.value_where-count.result c.unwrap_or.result c.pass_blocks-copied.result c.blocks-3.result c.blocks-3.ensures.value (c.unwrap_or.ensures ∙ source_long c.args.source c.requires.proper.0 c.requires.proper.3) (c.pass_blocks-copied.ensures.copied, c.pass_blocks-copied.ensures.behind) l e3 in
@@ -72,7 +73,7 @@ pub new-intervals-requires-clause-stand : goal.new-intervals-requires-clause-sta
 new-intervals-requires-clause-stand c =
     let few : c.args.params.now.nodes ≤ 2 ^ 62 = omega (arith, c.nodes.ensures.within) in
     let l = laid_of c.args.params.now c.args.page c.requires.proper.0 c.args.cursor c.requires.proper.1 few c.requires.proper.2 in
-    let e1 = outdegree_read c.args.params.now c.args.page c.requires.proper.0 (rest c.args.cursor) c.requires.proper.1 c.outdegrees.result (rest c.value-outdegree.new.cursor) c.value-outdegree.result c.outdegrees.ensures.value c.value-outdegree.ensures.exact l in
+    let e1 = outdegree_read c.args.params.now c.args.page c.requires.proper.0 (rest c.args.cursor) c.requires.proper.1 c.outdegrees.result (rest c.value-outdegree.new.cursor) c.value-outdegree.result c.outdegrees.ensures.value (takes_from c.outdegrees.result _ _ _ _ c.new-cursor.ensures c.value-outdegree.ensures.exact) l in
     let e2 = reference_read c.args.params.now c.args.page c.requires.proper.0 (rest c.args.cursor) c.requires.proper.1 (rest c.value-outdegree.new.cursor) (rest c.value_where.new.cursor) c.value-outdegree.result c.window.result c.value_where.result _ c.references.result refl c.window.ensures.value c.references.ensures.value c.value_where.ensures.exact l e1 in
     let e3 = count_read c.args.params.now c.args.page c.requires.proper.0 (rest c.args.cursor) c.requires.proper.1 (rest c.value_where.new.cursor) (rest c.value_where-count.new.cursor) c.value_where-count.result c.is_some.result c.block_counts.result (c.is_some.ensures ∙ some_source c.args.source c.requires.proper.0 c.requires.proper.3) c.block_counts.ensures.value c.value_where-count.ensures.exact l e2 in
     let e4 = blocks_passed c.args.params.now c.args.page c.requires.proper.0 (rest c.args.cursor) c.requires.proper.1 (rest c.value_where-count.new.cursor) (rest c.pass_blocks-copied.new.cursor) c.value_where-count.result c.unwrap_or.result c.pass_blocks-copied.result c.blocks-3.result c.blocks-3.ensures.value (c.unwrap_or.ensures ∙ source_long c.args.source c.requires.proper.0 c.requires.proper.3) (c.pass_blocks-copied.ensures.copied, c.pass_blocks-copied.ensures.behind) l e3 in
@@ -83,7 +84,7 @@ pub pass_intervals-covered-requires : goal.pass_intervals-covered-requires
 pass_intervals-covered-requires c =
     let few : c.args.params.now.nodes ≤ 2 ^ 62 = omega (arith, c.nodes.ensures.within) in
     let l = laid_of c.args.params.now c.args.page c.requires.proper.0 c.args.cursor c.requires.proper.1 few c.requires.proper.2 in
-    let e1 = outdegree_read c.args.params.now c.args.page c.requires.proper.0 (rest c.args.cursor) c.requires.proper.1 c.outdegrees.result (rest c.value-outdegree.new.cursor) c.value-outdegree.result c.outdegrees.ensures.value c.value-outdegree.ensures.exact l in
+    let e1 = outdegree_read c.args.params.now c.args.page c.requires.proper.0 (rest c.args.cursor) c.requires.proper.1 c.outdegrees.result (rest c.value-outdegree.new.cursor) c.value-outdegree.result c.outdegrees.ensures.value (takes_from c.outdegrees.result _ _ _ _ c.new-cursor.ensures c.value-outdegree.ensures.exact) l in
     let e2 = reference_read c.args.params.now c.args.page c.requires.proper.0 (rest c.args.cursor) c.requires.proper.1 (rest c.value-outdegree.new.cursor) (rest c.value_where.new.cursor) c.value-outdegree.result c.window.result c.value_where.result _ c.references.result refl c.window.ensures.value c.references.ensures.value c.value_where.ensures.exact l e1 in
     let e3 = count_read c.args.params.now c.args.page c.requires.proper.0 (rest c.args.cursor) c.requires.proper.1 (rest c.value_where.new.cursor) (rest c.value_where-count.new.cursor) c.value_where-count.result c.is_some.result c.block_counts.result (c.is_some.ensures ∙ some_source c.args.source c.requires.proper.0 c.requires.proper.3) c.block_counts.ensures.value c.value_where-count.ensures.exact l e2 in
     let e4 = blocks_passed c.args.params.now c.args.page c.requires.proper.0 (rest c.args.cursor) c.requires.proper.1 (rest c.value_where-count.new.cursor) (rest c.pass_blocks-copied.new.cursor) c.value_where-count.result c.unwrap_or.result c.pass_blocks-copied.result c.blocks-3.result c.blocks-3.ensures.value (c.unwrap_or.ensures ∙ source_long c.args.source c.requires.proper.0 c.requires.proper.3) (c.pass_blocks-copied.ensures.copied, c.pass_blocks-copied.ensures.behind) l e3 in
@@ -94,7 +95,7 @@ pub overflow_sub-extra-2 : goal.overflow_sub-extra-2
 overflow_sub-extra-2 c =
     let few : c.args.params.now.nodes ≤ 2 ^ 62 = omega (arith, c.nodes.ensures.within) in
     let l = laid_of c.args.params.now c.args.page c.requires.proper.0 c.args.cursor c.requires.proper.1 few c.requires.proper.2 in
-    let e1 = outdegree_read c.args.params.now c.args.page c.requires.proper.0 (rest c.args.cursor) c.requires.proper.1 c.outdegrees.result (rest c.value-outdegree.new.cursor) c.value-outdegree.result c.outdegrees.ensures.value c.value-outdegree.ensures.exact l in
+    let e1 = outdegree_read c.args.params.now c.args.page c.requires.proper.0 (rest c.args.cursor) c.requires.proper.1 c.outdegrees.result (rest c.value-outdegree.new.cursor) c.value-outdegree.result c.outdegrees.ensures.value (takes_from c.outdegrees.result _ _ _ _ c.new-cursor.ensures c.value-outdegree.ensures.exact) l in
     let e2 = reference_read c.args.params.now c.args.page c.requires.proper.0 (rest c.args.cursor) c.requires.proper.1 (rest c.value-outdegree.new.cursor) (rest c.value_where.new.cursor) c.value-outdegree.result c.window.result c.value_where.result _ c.references.result refl c.window.ensures.value c.references.ensures.value c.value_where.ensures.exact l e1 in
     let e3 = count_read c.args.params.now c.args.page c.requires.proper.0 (rest c.args.cursor) c.requires.proper.1 (rest c.value_where.new.cursor) (rest c.value_where-count.new.cursor) c.value_where-count.result c.is_some.result c.block_counts.result (c.is_some.ensures ∙ some_source c.args.source c.requires.proper.0 c.requires.proper.3) c.block_counts.ensures.value c.value_where-count.ensures.exact l e2 in
     let e4 = blocks_passed c.args.params.now c.args.page c.requires.proper.0 (rest c.args.cursor) c.requires.proper.1 (rest c.value_where-count.new.cursor) (rest c.pass_blocks-copied.new.cursor) c.value_where-count.result c.unwrap_or.result c.pass_blocks-copied.result c.blocks-3.result c.blocks-3.ensures.value (c.unwrap_or.ensures ∙ source_long c.args.source c.requires.proper.0 c.requires.proper.3) (c.pass_blocks-copied.ensures.copied, c.pass_blocks-copied.ensures.behind) l e3 in
@@ -106,7 +107,7 @@ pub new-residuals-requires-clause-stand : goal.new-residuals-requires-clause-sta
 new-residuals-requires-clause-stand c =
     let few : c.args.params.now.nodes ≤ 2 ^ 62 = omega (arith, c.nodes.ensures.within) in
     let l = laid_of c.args.params.now c.args.page c.requires.proper.0 c.args.cursor c.requires.proper.1 few c.requires.proper.2 in
-    let e1 = outdegree_read c.args.params.now c.args.page c.requires.proper.0 (rest c.args.cursor) c.requires.proper.1 c.outdegrees.result (rest c.value-outdegree.new.cursor) c.value-outdegree.result c.outdegrees.ensures.value c.value-outdegree.ensures.exact l in
+    let e1 = outdegree_read c.args.params.now c.args.page c.requires.proper.0 (rest c.args.cursor) c.requires.proper.1 c.outdegrees.result (rest c.value-outdegree.new.cursor) c.value-outdegree.result c.outdegrees.ensures.value (takes_from c.outdegrees.result _ _ _ _ c.new-cursor.ensures c.value-outdegree.ensures.exact) l in
     let e2 = reference_read c.args.params.now c.args.page c.requires.proper.0 (rest c.args.cursor) c.requires.proper.1 (rest c.value-outdegree.new.cursor) (rest c.value_where.new.cursor) c.value-outdegree.result c.window.result c.value_where.result _ c.references.result refl c.window.ensures.value c.references.ensures.value c.value_where.ensures.exact l e1 in
     let e3 = count_read c.args.params.now c.args.page c.requires.proper.0 (rest c.args.cursor) c.requires.proper.1 (rest c.value_where.new.cursor) (rest c.value_where-count.new.cursor) c.value_where-count.result c.is_some.result c.block_counts.result (c.is_some.ensures ∙ some_source c.args.source c.requires.proper.0 c.requires.proper.3) c.block_counts.ensures.value c.value_where-count.ensures.exact l e2 in
     let e4 = blocks_passed c.args.params.now c.args.page c.requires.proper.0 (rest c.args.cursor) c.requires.proper.1 (rest c.value_where-count.new.cursor) (rest c.pass_blocks-copied.new.cursor) c.value_where-count.result c.unwrap_or.result c.pass_blocks-copied.result c.blocks-3.result c.blocks-3.ensures.value (c.unwrap_or.ensures ∙ source_long c.args.source c.requires.proper.0 c.requires.proper.3) (c.pass_blocks-copied.ensures.copied, c.pass_blocks-copied.ensures.behind) l e3 in
@@ -118,7 +119,7 @@ pub returns-clause-fronts : goal.returns-clause-fronts
 returns-clause-fronts c below list proper is up =
     let few : c.args.params.now.nodes ≤ 2 ^ 62 = omega (arith, c.nodes.ensures.within) in
     let l = laid_of c.args.params.now c.args.page below c.args.cursor list few proper in
-    let e1 = outdegree_read c.args.params.now c.args.page below (rest c.args.cursor) list c.outdegrees.result (rest c.value-outdegree.new.cursor) c.value-outdegree.result c.outdegrees.ensures.value c.value-outdegree.ensures.exact l in
+    let e1 = outdegree_read c.args.params.now c.args.page below (rest c.args.cursor) list c.outdegrees.result (rest c.value-outdegree.new.cursor) c.value-outdegree.result c.outdegrees.ensures.value (takes_from c.outdegrees.result _ _ _ _ c.new-cursor.ensures c.value-outdegree.ensures.exact) l in
     let e2 = reference_read c.args.params.now c.args.page below (rest c.args.cursor) list (rest c.value-outdegree.new.cursor) (rest c.value_where.new.cursor) c.value-outdegree.result c.window.result c.value_where.result _ c.references.result refl c.window.ensures.value c.references.ensures.value c.value_where.ensures.exact l e1 in
     let e3 = count_read c.args.params.now c.args.page below (rest c.args.cursor) list (rest c.value_where.new.cursor) (rest c.value_where-count.new.cursor) c.value_where-count.result c.is_some.result c.block_counts.result (c.is_some.ensures ∙ some_source c.args.source below is) c.block_counts.ensures.value c.value_where-count.ensures.exact l e2 in
     let e4 = blocks_passed c.args.params.now c.args.page below (rest c.args.cursor) list (rest c.value_where-count.new.cursor) (rest c.pass_blocks-copied.new.cursor) c.value_where-count.result c.unwrap_or.result c.pass_blocks-copied.result c.blocks-3.result c.blocks-3.ensures.value (c.unwrap_or.ensures ∙ source_long c.args.source below is) (c.pass_blocks-copied.ensures.copied, c.pass_blocks-copied.ensures.behind) l e3 in
@@ -143,7 +144,7 @@ returns-clause-behind c below list proper is =
     let few : c.args.params.now.nodes ≤ 2 ^ 62 = omega (arith, c.nodes.ensures.within) in
     let g = laid_with c.args.params.now c.args.page below c.args.cursor list few proper in
     let l = g.laid in
-    let e1 = outdegree_read c.args.params.now c.args.page below (rest c.args.cursor) list c.outdegrees.result (rest c.value-outdegree.new.cursor) c.value-outdegree.result c.outdegrees.ensures.value c.value-outdegree.ensures.exact l in
+    let e1 = outdegree_read c.args.params.now c.args.page below (rest c.args.cursor) list c.outdegrees.result (rest c.value-outdegree.new.cursor) c.value-outdegree.result c.outdegrees.ensures.value (takes_from c.outdegrees.result _ _ _ _ c.new-cursor.ensures c.value-outdegree.ensures.exact) l in
     let e2 = reference_read c.args.params.now c.args.page below (rest c.args.cursor) list (rest c.value-outdegree.new.cursor) (rest c.value_where.new.cursor) c.value-outdegree.result c.window.result c.value_where.result _ c.references.result refl c.window.ensures.value c.references.ensures.value c.value_where.ensures.exact l e1 in
     let e3 = count_read c.args.params.now c.args.page below (rest c.args.cursor) list (rest c.value_where.new.cursor) (rest c.value_where-count.new.cursor) c.value_where-count.result c.is_some.result c.block_counts.result (c.is_some.ensures ∙ some_source c.args.source below is) c.block_counts.ensures.value c.value_where-count.ensures.exact l e2 in
     let e4 = blocks_passed c.args.params.now c.args.page below (rest c.args.cursor) list (rest c.value_where-count.new.cursor) (rest c.pass_blocks-copied.new.cursor) c.value_where-count.result c.unwrap_or.result c.pass_blocks-copied.result c.blocks-3.result c.blocks-3.ensures.value (c.unwrap_or.ensures ∙ source_long c.args.source below is) (c.pass_blocks-copied.ensures.copied, c.pass_blocks-copied.ensures.behind) l e3 in
