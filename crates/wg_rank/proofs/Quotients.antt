@@ -1,6 +1,8 @@
 -- A quotient in two steps, and one that is rounded up.
-use Rattle.std.proofs.Common.{ℕ, ◌≡◌, ◌+◌, ◌-◌, ◌*◌, ◌/◌, ◌%◌, ◌<◌, ◌≤◌, arith, sym, ap, ◌∙◌}
+use Rattle.std.proofs.Common.{ℕ, ◌≡◌, ◌+◌, ◌-◌, ◌*◌, ◌/◌, ◌%◌, ◌<◌, ◌≤◌, inl, inr, get_or, replicate, arith, sym, ap, ◌∙◌}
 use Rattle.std.proofs.Math.Nat.{div-mul-le_self, lt-div-mul-add, mul-le-mul_left, mul-le-mul_right, le_of_mul-le-mul_right, lt_of_mul-lt-mul_right}
+use Rattle.std.proofs.lemmas.Bool.{cases_lt}
+use Rattle.std.proofs.lemmas.List.{length-replicate, get_or-replicate, get_or_past}
 use Rattle.std.proofs.lemmas.Nat.{div-mul-add, mod-mul-add, div-add-mod', mod_below, mul-add-lt}
 
 -- a multiple of the divisor leaves the rest as it is
@@ -46,3 +48,11 @@ quotient_near v d n le lt = sym (ap (λ k. k / d) (omega (arith, le)) ∙ div-mu
 
 pub rest_near : (v d n : ℕ) → n * d ≤ v → v - n * d < d → v - n * d ≡ v % d
 rest_near v d n le lt = sym (ap (λ k. k % d) (omega (arith, le)) ∙ mod-mul-add n d (v - n * d) lt)
+
+-- where nothing was asked for, no inverse is remembered
+pub none_remembered : (n by x : ℕ) → get_or (replicate n x) by x ≡ x
+none_remembered n by x =
+    elim (cases_lt by n) [
+      | inl lt ↦ get_or-replicate n by x x lt
+      | inr ge ↦ get_or_past (replicate n x) by x (omega (arith, ge, length-replicate n x))
+    ]

@@ -8,7 +8,7 @@ ghost use Rattle.wg_rank.specs.Inflows.{low_flows, high_flows};
 ghost use Rattle.wg_rank.specs.Rank.{low_flow, high_flow, sum_dangling};
 ghost use Rattle.wg_rank.specs.declared.limits.TheConstants.{UNITS};
 
-use crate::dividing::Divisor;
+use crate::divisor::Divisors;
 use crate::spreading::{spread, spread_low};
 use wg_graph::Lists;
 
@@ -43,6 +43,7 @@ pub(crate) fn gather<L: Lists>(
     // Asked for what a graph's lists are, which its contract says.
     let _pages = lists.nodes();
     lists.begin();
+    let mut divisors = Divisors::new();
     let mut low_dangling = 0;
     let mut high_dangling = 0;
     for u in 0..low.len() {
@@ -52,7 +53,7 @@ pub(crate) fn gather<L: Lists>(
                 low_dangling += low[u];
                 high_dangling += high[u];
             } else {
-                let outdegree = Divisor::new(degree);
+                let outdegree = divisors.get(degree);
                 let below = outdegree.quotient(low[u]);
                 let above = outdegree.quotient_up(high[u]);
                 spread(inflows, list, below, above);
@@ -80,6 +81,7 @@ pub(crate) fn gather_low<L: Lists>(lists: &mut L, low: &[u128], inflows: &mut [u
     // Asked for what a graph's lists are, which its contract says.
     let _pages = lists.nodes();
     lists.begin();
+    let mut divisors = Divisors::new();
     let mut dangling = 0;
     for u in 0..low.len() {
         if let Some(list) = lists.next_list() {
@@ -87,7 +89,7 @@ pub(crate) fn gather_low<L: Lists>(lists: &mut L, low: &[u128], inflows: &mut [u
             if degree == 0 {
                 dangling += low[u];
             } else {
-                spread_low(inflows, list, Divisor::new(degree).quotient(low[u]));
+                spread_low(inflows, list, divisors.get(degree).quotient(low[u]));
             }
         }
     }

@@ -38,8 +38,9 @@
 //! below: each new bound is compared as it is made, and kept nowhere.
 //!
 //! A round divides each page's two bounds by its outdegree, once and not for each arc, and what flows in by 1000; by weights it
-//! also divides teleport's two parts for each page, and if each weight is 1 once for all. For an arc it adds twice. Judging does
-//! the same with the lower bounds alone, and adds once. No sum passes 128 bits: what flows to a page is at most one whole for
+//! also divides teleport's two parts for each page, and if each weight is 1 once for all. A quotient by an outdegree is two
+//! products with its inverse; those of outdegrees below 256 are kept until the round ends, in 2 KiB. For an arc it adds twice.
+//! Judging does the same with the lower bounds alone, and adds once. No sum passes 128 bits: what flows to a page is at most one whole for
 //! each page, so below 2^36 * 10^24, and the damping multiplies it by less than 2^10; a weight is below 2^32, and teleport's
 //! part of 1 is at most 1000 * 10^24 before it is divided.
 #![tactic(auto)]
@@ -48,6 +49,7 @@ mod advancing;
 mod bounds;
 mod certificate;
 mod dividing;
+mod divisor;
 mod fault;
 mod gathering;
 mod inflows;

@@ -11,7 +11,7 @@ ghost use Rattle.wg_rank.specs.Weights.{AreWeights, weights_or_ones};
 ghost use Rattle.wg_rank.specs.declared.limits.TheConstants.{UNITS};
 
 use crate::UNITS;
-use crate::dividing::Divisor;
+use crate::dividing::quotient_up;
 use crate::inflows::{high_flow, low_flow};
 use crate::low_parts::LowParts;
 use crate::teleport::{part_above, total_weight};
@@ -91,10 +91,9 @@ pub(crate) fn settle_high(
     let shared = (1000 - damping as u128) * UNITS;
     let parts = 1000 * total_weight(weights, high.len());
     let even = shared.div_ceil(parts);
-    let thousand = Divisor::new(1000);
     for v in 0..high.len() {
         let part = part_above(shared, parts, even, weights, v);
-        let above = thousand.quotient_up(damping as u128 * high_flow(inflows, v)) + (rest + part);
+        let above = quotient_up(damping as u128 * high_flow(inflows, v), 1000) + (rest + part);
         high[v] = high[v].min(above).min(low[v] + gap);
     }
 }

@@ -31,14 +31,14 @@ spread-requires-clause-low_room g c =
     gathered_room _ (length c.args.low.now) c.loop-u.u (λ u. get_or c.args.low.now u 0 / outdegree (g.L.Lists.graph c.args.lists.now) u) _ c.quotient-below.result (omega arith)
     (low_count _ c.loop-u.inflows (omega arith))
     (λ w i. le_both _ _ UNITS (div-le_self _ _) (c.requires.low_units w 0 (omega arith)))
-    (omega (arith, c.quotient-below.ensures, div-le_self (get_or c.args.low.now c.loop-u.u 0) c.new-outdegree.result.by, c.requires.low_units c.loop-u.u 0 (omega arith))) c.loop-u.invariant.low
+    (omega (arith, c.quotient-below.ensures, div-le_self (get_or c.args.low.now c.loop-u.u 0) c.get-outdegree.result.by, c.requires.low_units c.loop-u.u 0 (omega arith))) c.loop-u.invariant.low
 
 pub spread-requires-clause-high_room : goal.spread-requires-clause-high_room
 spread-requires-clause-high_room g c =
     gathered_room _ (length c.args.low.now) c.loop-u.u (λ u. div_ceil (get_or c.args.high.now u 0) (outdegree (g.L.Lists.graph c.args.lists.now) u)) _ c.quotient_up-above.result (omega arith)
     (high_count c.loop-u.inflows ∙ low_count _ c.loop-u.inflows (omega arith))
     (λ w i. le_both _ _ UNITS (div_ceil_le _ _) (c.requires.high_units w 0 (omega arith)))
-    (omega (arith, c.quotient_up-above.ensures, div_ceil_le (get_or c.args.high.now c.loop-u.u 0) c.new-outdegree.result.by, c.requires.high_units c.loop-u.u 0 (omega arith))) c.loop-u.invariant.high
+    (omega (arith, c.quotient_up-above.ensures, div_ceil_le (get_or c.args.high.now c.loop-u.u 0) c.get-outdegree.result.by, c.requires.high_units c.loop-u.u 0 (omega arith))) c.loop-u.invariant.high
 
 pub loop-u-init : goal.loop-u-init
 loop-u-init g c = record {
@@ -80,8 +80,8 @@ loop-u-preserved g c =
           let d : outdegree graph u ≡ length w.in-Some.list.now = ap length (sym l.1) in
           let e : outdegree graph u ≢ 0 = λ q. w.if-degree-eq0.false (sym d ∙ q) in
           let p = rw w.in-Some.is at a in
-          let s1 = rw (w.quotient-below.ensures, w.new-outdegree.ensures, l.1) at w.spread.ensures.low in
-          let s2 = rw (w.quotient_up-above.ensures, w.new-outdegree.ensures, l.1) at w.spread.ensures.high in
+          let s1 = rw (w.quotient-below.ensures, w.get-outdegree.ensures, l.1) at w.spread.ensures.low in
+          let s2 = rw (w.quotient_up-above.ensures, w.get-outdegree.ensures, l.1) at w.spread.ensures.high in
           record {
             same = rw w.lists-is (p.0 ∙ i.same);
             place = rw w.lists-is (p.1 ∙ ap (λ k. k + 1) i.place);

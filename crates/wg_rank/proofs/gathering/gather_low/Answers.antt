@@ -26,7 +26,7 @@ pub spread_low-requires-clause-room : goal.spread_low-requires-clause-room
 spread_low-requires-clause-room g c =
     gathered_room _ (length c.args.low.now) c.loop-u.u (λ u. get_or c.args.low.now u 0 / outdegree (g.L.Lists.graph c.args.lists.now) u) _ c.quotient.result (omega arith) (omega arith)
     (λ w i. le_both _ _ UNITS (div-le_self _ _) (c.requires.units w 0 (omega arith)))
-    (omega (arith, c.quotient.ensures, div-le_self (get_or c.args.low.now c.loop-u.u 0) c.new.result.by, c.requires.units c.loop-u.u 0 (omega arith))) c.loop-u.invariant.flow
+    (omega (arith, c.quotient.ensures, div-le_self (get_or c.args.low.now c.loop-u.u 0) c.get.result.by, c.requires.units c.loop-u.u 0 (omega arith))) c.loop-u.invariant.flow
 
 pub loop-u-preserved : goal.loop-u-preserved
 loop-u-preserved g c =
@@ -53,7 +53,7 @@ loop-u-preserved g c =
           let d : outdegree graph u ≡ length w.in-Some.list.now = ap length (sym l.1) in
           let e : outdegree graph u ≢ 0 = λ q. w.if-degree-eq0.false (sym d ∙ q) in
           let p = rw w.in-Some.is at a in
-          let s = rw (w.quotient.ensures, w.new.ensures, l.1) at w.spread_low.ensures.each in
+          let s = rw (w.quotient.ensures, w.get.ensures, l.1) at w.spread_low.ensures.each in
           record {
             same = rw w.lists-is (p.0 ∙ i.same);
             place = rw w.lists-is (p.1 ∙ ap (λ k. k + 1) i.place);

@@ -1,6 +1,6 @@
-use Rattle.std.proofs.Common.{◌≡◌, ◌+◌, ◌-◌, ◌*◌, ◌/◌, ◌<◌, ◌≤◌, ℕ, arith}
+use Rattle.std.proofs.Common.{◌+◌, ◌*◌, ◌/◌, ℕ, arith}
 use Rattle.wg_rank.proofs.Quotients.{near_above, near_below, quotient_near, rest_near}
-use Rattle.wg_rank.proofs.dividing.Divisor.divide.Goals as goal
+use Rattle.wg_rank.proofs.divisor.Divisor.divide.Goals as goal
 
 pub overflow_sub-rest : goal.overflow_sub-rest
 overflow_sub-rest c = near_above c.args.value c.args.self.now.by c.args.self.now.inverse 18446744073709551616 (omega arith) c.args.self.now.inverted
