@@ -1,9 +1,8 @@
 -- The rows of a sweep.
-use Rattle.std.proofs.Common.{◌≡◌, ℕ, zero, suc, ◌+◌, ◌-◌, ◌*◌, ◌/◌, ◌%◌, ◌<◌, ◌≤◌, Bool, inl, inr, List, [], ◌∷◌, ◌++◌, length, take, drop, map, Option, Some, None, Ok, Err, Result, refl, sym, ap, subst, ◌∙◌, arith}
+use Rattle.std.proofs.Common.{◌≡◌, ℕ, zero, suc, ◌-◌, ◌<◌, ◌≤◌, ◌≢◌, Bool, inl, inr, List, [], ◌∷◌, ◌++◌, length, take, drop, map, Option, Some, None, Ok, Err, Result, refl, sym, ap, subst, ◌∙◌, arith}
 use Rattle.std.specs.Prelude.{get_or, set, max, All}
 use Rattle.std.proofs.Math.Logic.{∥∥₁_elim}
-use Rattle.std.proofs.Math.Nat.{div-add-mod, mod-lt, mul-le-mul_left}
-use Rattle.std.proofs.lemmas.Bool.{cases_lt, cases_eq}
+use Rattle.std.proofs.lemmas.Bool.{cases_lt}
 use Rattle.std.proofs.lemmas.List.{length-set, get_or-set_same, get_or-set_other, length-map}
 use Rattle.std.proofs.lemmas.List.Elements.{All-get_or, All-nil, All-push, All-weaker}
 use Rattle.wg_params.specs.Parameters.{Parameters, IsWithinLimits}
@@ -20,7 +19,7 @@ use Rattle.wg_iterators.specs.Proper.{IsRecord}
 use Rattle.wg_stream.proofs.PrefixLemmas.{lists_more}
 use Rattle.wg_random.specs.Reading.{Reading, no_record, known_at, offset_at}
 use Rattle.wg_random.specs.Chain.{below_at}
-use Rattle.wg_random.specs.Sweeping.{StandFor, HaveGraph, no_row, AreKept, IsNext}
+use Rattle.wg_random.specs.Sweeping.{StandFor, HaveGraph, no_row, IsBack, AreKept, IsNext}
 use Rattle.wg_random.specs.OneStands.{one_set, stand_one}
 use Rattle.wg_random.proofs.Readings.{all_records, record_at, found_of}
 use Rattle.wg_random.proofs.ArchiveLemmas.{ReadsReference}
@@ -39,52 +38,52 @@ graph_there p q xs ys g same is b =
 
 -- ---- rows in turn
 
--- numbers that are less than n apart differ modulo n
-mod_apart : (x y n : ℕ) → y < x → x < y + n → x % n ≡ y % n → ⊥
-mod_apart x y n lt near same =
-    let ex : n * (x / n) + x % n ≡ x = div-add-mod x n in
-    let ey : n * (y / n) + y % n ≡ y = div-add-mod y n in
-    elim (cases_lt (y / n) (x / n)) [
-      | inl less ↦
-          let step : n * suc (y / n) ≤ n * (x / n) = mul-le-mul_left n less in
-          let more : n * suc (y / n) ≡ n * (y / n) + n = grind arith in
-          omega (arith, ex, ey, same, near, step, more)
-      | inr ge ↦
-          let step : n * (x / n) ≤ n * (y / n) = mul-le-mul_left n ge in
-          omega (arith, ex, ey, same, lt, step)
-    ]
+-- Where the turn went on by one row, one row back is the one that was filled, and any other is one row nearer before that.
+one_more : (n turn next row back : ℕ) → turn < n → row < n → 1 < back → back ≤ n → IsBack n next 1 turn → IsBack n next back row → (row ≢ turn) × IsBack n turn (back - 1) row
+one_more n turn next row back within lt some near (inl on) (inl there) = (λ e. omega (arith, on, there, e, some), inl (omega (arith, on, there, some)))
+one_more n turn next row back within lt some near (inl on) (inr there) = (λ e. omega (arith, on, there, e, near), inr (omega (arith, on, there, some)))
+one_more n turn next row back within lt some near (inr over) (inl there) = absurd (omega (arith, over, there, within, some))
+one_more n turn next row back within lt some near (inr over) (inr there) = (λ e. omega (arith, over, there, e, some), inl (omega (arith, over, there, some)))
+
+one_back : (n turn next row : ℕ) → turn < n → row < n → IsBack n next 1 turn → IsBack n next 1 row → row ≡ turn
+one_back n turn next row within lt (inl on) (inl there) = omega (arith, on, there)
+one_back n turn next row within lt (inl on) (inr there) = absurd (omega (arith, on, there, lt))
+one_back n turn next row within lt (inr over) (inl there) = absurd (omega (arith, over, there, within))
+one_back n turn next row within lt (inr over) (inr there) = omega (arith, over, there)
 
 -- the list of the page before takes the place of one that is out of reach
-pub kept_more : (records : List Whole) (page : ℕ) (rows : List Filled) (list : Filled) → 0 < page → 0 < length rows → AreKept records (page - 1) rows → list.list ≡ (known_at records (page - 1)).list → AreKept records page (set rows ((page - 1) % length rows) list)
-kept_more records page rows list some there kept is y lt near =
-    let n : ℕ = length rows in
-    let slot : ℕ = (page - 1) % n in
-    let len : length (set rows slot list) ≡ n = length-set rows slot list in
-    let within : slot < n = mod-lt (page - 1) there in
-    elim (cases_eq y (page - 1)) [
-      | inl e ↦
-          let here : y % length (set rows slot list) ≡ slot = ap (λ (k : ℕ). y % k) len ∙ ap (λ (k : ℕ). k % n) e in
-          ap (λ (k : ℕ). (get_or (set rows slot list) k no_row).list) here ∙ ap (λ (f : Filled). f.list) (get_or-set_same rows slot list no_row within) ∙ is ∙ ap (λ (k : ℕ). (known_at records k).list) (sym e)
-      | inr ne ↦
-          let before : y < page - 1 = omega (arith, lt, ne) in
-          let close : page ≤ y + n = omega (arith, near, len) in
-          let other : y % n ≡ slot → ⊥ = λ e. mod_apart (page - 1) y n before (omega (arith, close, some)) (sym e) in
-          ap (λ (k : ℕ). (get_or (set rows slot list) (y % k) no_row).list) len ∙ ap (λ (f : Filled). f.list) (get_or-set_other rows slot (y % n) list no_row other) ∙ kept y before (omega (arith, close))
+pub kept_more : (records : List Whole) (page turn next : ℕ) (rows : List Filled) (list : Filled) → turn < length rows → IsBack (length rows) next 1 turn → AreKept records (page - 1) rows turn
+    → (0 < page → list.list ≡ (known_at records (page - 1)).list) → AreKept records page (set rows turn list) next
+kept_more records page turn next rows list within on kept is row back lt some before near there =
+    let len : length (set rows turn list) ≡ length rows = length-set rows turn list in
+    let low : row < length rows = omega (arith, lt, len) in
+    let reach : back ≤ length rows = omega (arith, near, len) in
+    let from : IsBack (length rows) next back row = subst (λ (k : ℕ). IsBack k next back row) len there in
+    elim (cases_lt 1 back) [
+      | inl more ↦
+          let g = one_more (length rows) turn next row back within low more reach on from in
+          ap (λ (f : Filled). f.list) (get_or-set_other rows turn row list no_row g.0) ∙ kept row (back - 1) low (omega (arith, more)) (omega (arith, before, more)) (omega (arith, reach)) g.1
+          ∙ ap (λ (k : ℕ). (known_at records k).list) (omega (arith, more, before))
+      | inr le ↦
+          let one : back ≡ 1 = omega (arith, le, some) in
+          let here : row ≡ turn = one_back (length rows) turn next row within low on (subst (λ (k : ℕ). IsBack (length rows) next k row) one from) in
+          ap (λ (k : ℕ). (get_or (set rows turn list) k no_row).list) here ∙ ap (λ (f : Filled). f.list) (get_or-set_same rows turn list no_row within) ∙ is (omega (arith, some, before))
+          ∙ ap (λ (k : ℕ). (known_at records (page - k)).list) (sym one)
     ]
 
 -- there is none to keep before the first page, or where there are no rows
-pub kept_none : (records : List Whole) (page : ℕ) (rows : List Filled) → page ≡ 0 → AreKept records page rows
-kept_none records page rows none y lt near = absurd (omega (arith, none, lt))
+pub kept_none : (records : List Whole) (page turn : ℕ) (rows : List Filled) → page ≡ 0 → AreKept records page rows turn
+kept_none records page turn rows none row back lt some before near there = absurd (omega (arith, none, some, before))
 
-pub kept_nowhere : (records : List Whole) (page : ℕ) (rows : List Filled) → length rows ≡ 0 → AreKept records page rows
-kept_nowhere records page rows none y lt near = absurd (omega (arith, none, lt, near))
+pub kept_nowhere : (records : List Whole) (page turn : ℕ) (rows : List Filled) → length rows ≡ 0 → AreKept records page rows turn
+kept_nowhere records page turn rows none row back lt some before near there = absurd (omega (arith, none, lt))
 
 -- the row of a page that a reference reaches
-pub list_there : (records : List Whole) (page back : ℕ) (rows : List Filled) (row : Filled) (result : Option (List ℕ)) → 0 < back → back ≤ page → back ≤ length rows → row ≡ get_or rows ((page - back) % length rows) no_row → result ≡ Some row.list
-    → AreKept records page rows → result ≡ below_at records page back
-list_there records page zero rows row result some near reach is gives kept = absurd (omega (arith, some))
-list_there records page (suc r) rows row result some near reach is gives kept =
-    gives ∙ ap (λ (l : List ℕ). Some l) (ap (λ (f : Filled). f.list) is ∙ kept (page - suc r) (omega (arith, near)) (omega (arith, near, reach)))
+pub list_there : (records : List Whole) (page turn back at : ℕ) (rows : List Filled) (row : Filled) (result : Option (List ℕ)) → 0 < back → back ≤ page → back ≤ length rows → at < length rows → IsBack (length rows) turn back at
+    → row ≡ get_or rows at no_row → result ≡ Some row.list → AreKept records page rows turn → result ≡ below_at records page back
+list_there records page turn zero at rows row result some near reach within there is gives kept = absurd (omega (arith, some))
+list_there records page turn (suc r) at rows row result some near reach within there is gives kept =
+    gives ∙ ap (λ (l : List ℕ). Some l) (ap (λ (f : Filled). f.list) is ∙ kept at (suc r) within some near reach there)
 
 pub list_none : (records : List Whole) (page back : ℕ) → back ≡ 0 → None ≡ below_at records page back
 list_none records page zero none = refl
@@ -107,8 +106,8 @@ pub record NextRecord (p : Parameters) (bits : List Bool) (r : Reading p bits) (
   pub reference : value_or_0 proper.whole.reference ≡ back
   pub end : proper.end ≡ offset_at r.records (suc page)
 
-pub next_record : (p : Parameters) (bits : List Bool) (r : Reading p bits) (page at : ℕ) (kept : List Filled) (q : Position) → page < p.nodes → q ≡ (let x : Position = record { bits = bits; at = at } in x) → IsNext p bits r page at kept → NextRecord p bits r page q
-next_record p bits r page at kept q lt is n =
+pub next_record : (p : Parameters) (bits : List Bool) (r : Reading p bits) (page at turn : ℕ) (kept : List Filled) (q : Position) → page < p.nodes → q ≡ (let x : Position = record { bits = bits; at = at } in x) → IsNext p bits r page at kept turn → NextRecord p bits r page q
+next_record p bits r page at turn kept q lt is n =
     let f = found_of p bits r page lt in
     let there : q ≡ (let x : Position = record { bits = bits; at = offset_at r.records page } in x) = is ∙ ap (λ (k : ℕ). record { bits = bits; at = k }) n.begins in
     subst (λ (x : Position). NextRecord p bits r page x) (sym there) (record { back = f.r; near = f.refers.near; reach = f.reach; proper = f.refers.proper; reference = f.reference; end = f.end })
@@ -120,8 +119,8 @@ back_is p bits r page q result reads n = reads page (below_at r.records page n.b
 pub back_near : (p : Parameters) (bits : List Bool) (r : Reading p bits) (page : ℕ) (q : Position) (result : ℕ) → ReadsReference p q result → NextRecord p bits r page q → result ≤ page
 back_near p bits r page q result reads n = omega (arith, n.near, back_is p bits r page q result reads n)
 
-pub back_reach : (p : Parameters) (bits : List Bool) (r : Reading p bits) (page at : ℕ) (kept : List Filled) (q : Position) (result : ℕ) → page < p.nodes → ReadsReference p q result → IsNext p bits r page at kept → NextRecord p bits r page q → result ≤ length kept
-back_reach p bits r page at kept q result lt reads next n = omega (arith, lt, n.near, n.reach, next.enough, back_is p bits r page q result reads n)
+pub back_reach : (p : Parameters) (bits : List Bool) (r : Reading p bits) (page at turn : ℕ) (kept : List Filled) (q : Position) (result : ℕ) → page < p.nodes → ReadsReference p q result → IsNext p bits r page at kept turn → NextRecord p bits r page q → result ≤ length kept
+back_reach p bits r page at turn kept q result lt reads next n = omega (arith, lt, n.near, n.reach, next.enough, back_is p bits r page q result reads n)
 
 -- ---- lists ascend
 
@@ -149,11 +148,14 @@ pub record Below (p : Parameters) (bits : List Bool) (r : Reading p bits) (page 
   pub proper : IsRecord p page below q (known_at r.records page).list
   pub end : proper.end ≡ offset_at r.records (suc page)
 
-pub found_below : (p : Parameters) (bits : List Bool) (r : Reading p bits) (page at : ℕ) (kept : List Filled) (q again : Position) (back : ℕ) (below : Option (List ℕ)) → page < p.nodes → q ≡ (let x : Position = record { bits = bits; at = at } in x) → again ≡ q
-    → ReadsReference p again back → IsNext p bits r page at kept → below ≡ below_at r.records page back → Below p bits r page q below
-found_below p bits r page at kept q again back below lt is same reads next e =
-    let n = next_record p bits r page at kept q lt is next in
-    let back_same : n.back ≡ back = sym (back_is p bits r page q back (subst (λ (x : Position). ReadsReference p x back) same reads) n) in
+pub found_below : (p : Parameters) (bits : List Bool) (r : Reading p bits) (page at turn : ℕ) (kept : List Filled) (q again : Position) (back : ℕ) (below : Option (List ℕ)) → page < p.nodes → q ≡ (let x : Position = record { bits = bits; at = at } in x) → again ≡ q
+    → ReadsReference p again back → IsNext p bits r page at kept turn
+    → (back ≤ page → AreKept r.records page kept turn → below ≡ below_at r.records page back) → Below p bits r page q below
+found_below p bits r page at turn kept q again back below lt is same reads next gives =
+    let n = next_record p bits r page at turn kept q lt is next in
+    let here = subst (λ (x : Position). ReadsReference p x back) same reads in
+    let back_same : n.back ≡ back = sym (back_is p bits r page q back here n) in
+    let e = gives (back_near p bits r page q back here n) next.before in
     subst (Below p bits r page q) (sym (e ∙ ap (below_at r.records page) (sym back_same)))
     (record { ascends = below_ascends p bits r page n.back; proper = n.proper; end = n.end })
 

@@ -9,7 +9,7 @@ ghost use Rattle.wg_grammar.specs.Laws.{graph_of};
 ghost use Rattle.wg_iterators.specs.Laid.{list_or_none};
 ghost use Rattle.wg_random.specs.Reading.{Reading, known_at, offset_at};
 ghost use Rattle.wg_random.specs.Chain.{below_at};
-ghost use Rattle.wg_random.specs.Sweeping.{AreKept, IsNext, PassFinds};
+ghost use Rattle.wg_random.specs.Sweeping.{AreKept, IsBack, IsNext, PassFinds};
 
 use crate::pass::pass;
 use crate::standing::Standing;
@@ -33,8 +33,10 @@ pub struct Sweep<'a> {
     // the page whose list comes next, and where its record begins
     page: u64,
     at: u64,
-    // the lists of the pages before the last one: that of page y stands in row y modulo their number
+    // the lists of the pages before the last one, in rows that are filled in turn, round and round
     kept: Vec<Row>,
+    // the row whose turn comes next
+    turn: u64,
     // the list of the last page
     list: Row,
     // another row, at hand while a list is made
@@ -54,7 +56,7 @@ impl<'a> Model for Sweep<'a> {
     } };
 
     ghost invariant = { λ s. Sweeping s.archive.params s.archive.bytes.now s.archive.graph.0 s.page s.at
-        s.kept.items s.list × (s.spare.room ≡ s.list.room) };
+        s.kept.items s.turn s.list × (s.spare.room ≡ s.list.room) };
 }
 
 // So many rows, each with this room.
@@ -69,29 +71,58 @@ fn rows(alloc: Global, count: u64, room: usize) -> Result<Vec<Row>, AllocError>
     Ok(rows)
 }
 
-// Keeps the list of the page before this one, in place of one that no reference reaches any more.
+// The row after this one, of so many in a circle.
 #[inline(always)]
-fn keep(kept: &mut [Row], list: &mut Row, page: u64)
+fn row_after(row: u64, count: u64) -> u64
+    requires { row < count }
+    ensures within { result < count }
+    ensures back { IsBack count result 1 row }
+{
+    if row + 1 < count { row + 1 } else { 0 }
+}
+
+// The row so many before this one, of so many in a circle.
+#[inline(always)]
+fn row_back(row: u64, count: u64, back: u64) -> u64
+    requires within { row < count }
+    requires some { 0 < back }
+    requires reach { back ≤ count }
+    ensures within { result < count }
+    ensures back { IsBack count row back result }
+{
+    if back <= row {
+        row - back
+    } else {
+        count - (back - row)
+    }
+}
+
+// Keeps the list of the page before the one that comes next, in place of one that no reference reaches any more, and
+// gives the row whose turn comes next.
+#[inline(always)]
+fn keep(kept: &mut [Row], turn: u64, list: &mut Row) -> u64
     requires rooms { All (λ r. r.room ≡ list.old.room) kept.old }
+    requires turn { 0 < length kept.old → turn < length kept.old }
     ensures count { length kept.new ≡ length kept.old }
     ensures room { list.new.room ≡ list.old.room }
     ensures rooms { All (λ r. r.room ≡ list.old.room) kept.new }
-    ensures kept { (records : ListOf Whole) → AreKept records (page - 1) kept.old
-        → (0 < page → list.old.list ≡ (known_at records (page - 1)).list) → AreKept records page kept.new }
+    ensures turn { 0 < length kept.old → result < length kept.old }
+    ensures kept { (records : ListOf Whole) (page : ℕ) → AreKept records (page - 1) kept.old turn
+        → (0 < page → list.old.list ≡ (known_at records (page - 1)).list) → AreKept records page kept.new result }
 {
-    if page == 0 || kept.is_empty() {
-        return;
+    if kept.is_empty() {
+        return turn;
     }
-    let slot = (page - 1) % kept.len() as u64;
-    swap(&mut kept[slot as usize], list);
+    swap(&mut kept[turn as usize], list);
+    row_after(turn, kept.len() as u64)
 }
 
-// The list of the page so many pages before this one; none for 0.
+// The list of the page so many pages before the one that comes next, which is as many rows back; none for 0.
 #[inline(always)]
-fn list_back(kept: &[Row], page: u64, back: u64) -> Option<&[u64]>
-    requires near { back ≤ page }
+fn list_back(kept: &[Row], turn: u64, back: u64) -> Option<&[u64]>
+    requires turn { 0 < length kept.now → turn < length kept.now }
     requires reach { back ≤ length kept.now }
-    ensures below { (records : ListOf Whole) → AreKept records page kept.now
+    ensures below { (records : ListOf Whole) (page : ℕ) → back ≤ page → AreKept records page kept.now turn
         → option_copied result ≡ below_at records page back }
     ensures within { (room : ℕ) → All (λ r. r.room ≡ room) kept.now
         → length (list_or_none (option_copied result)) ≤ room }
@@ -99,40 +130,44 @@ fn list_back(kept: &[Row], page: u64, back: u64) -> Option<&[u64]>
     if back == 0 {
         return None;
     }
-    let slot = (page - back) % kept.len() as u64;
-    Some(kept[slot as usize].as_slice())
+    let row = row_back(turn, kept.len() as u64, back);
+    Some(kept[row as usize].as_slice())
 }
 
 // Decodes the record of a page, which begins at the bit `at`, into the row, and tells where it ends.
 #[inline(always)]
-fn decode_page<'b>(
-    params: &Params,
-    bytes: &'b [u8],
+fn decode_page(
+    archive: &Standing<'_>,
     page: u64,
     at: u64,
-    kept: &'b [Row],
+    kept: &[Row],
+    turn: u64,
     spare: &mut Row,
     list: &mut Row,
 ) -> u64
-    requires short { length bytes.now ≤ MOST_BYTES }
-    requires page { page < params.now.nodes }
+    requires short { length archive.now.bytes.now ≤ MOST_BYTES }
+    requires page { page < archive.now.params.nodes }
+    requires turn { 0 < length kept.now → turn < length kept.now }
     requires rooms { All (λ r. r.room ≡ list.old.room) kept.now }
     requires room { spare.old.room ≡ list.old.room }
-    requires next { (r : Reading params.now (bits_of bytes.now))
-        × IsNext params.now (bits_of bytes.now) r page at kept.now
+    requires next { (r : Reading archive.now.params (bits_of archive.now.bytes.now))
+        × IsNext archive.now.params (bits_of archive.now.bytes.now) r page at kept.now turn
         × (length (known_at r.records page).list ≤ list.old.room) }
-    ensures list { (r : Reading params.now (bits_of bytes.now))
-        → IsNext params.now (bits_of bytes.now) r page at kept.now → list.new.list ≡ (known_at r.records page).list }
-    ensures end { (r : Reading params.now (bits_of bytes.now))
-        → IsNext params.now (bits_of bytes.now) r page at kept.now → result ≡ offset_at r.records (page + 1) }
+    ensures list { (r : Reading archive.now.params (bits_of archive.now.bytes.now))
+        → IsNext archive.now.params (bits_of archive.now.bytes.now) r page at kept.now turn
+        → list.new.list ≡ (known_at r.records page).list }
+    ensures end { (r : Reading archive.now.params (bits_of archive.now.bytes.now))
+        → IsNext archive.now.params (bits_of archive.now.bytes.now) r page at kept.now turn
+        → result ≡ offset_at r.records (page + 1) }
     ensures room { list.new.room ≡ list.old.room }
     ensures spare { spare.new.room ≡ spare.old.room }
 {
+    let params = &archive.params;
     // tells the limits
     params.nodes();
-    let mut cursor = Cursor::new(Bits::of(bytes), at);
+    let mut cursor = Cursor::new(Bits::of(archive.bytes), at);
     let head = read_head(params, cursor.again());
-    let below = list_back(kept, page, head.reference);
+    let below = list_back(kept, turn, head.reference);
     decode_into(params, page, head, below, &mut cursor, spare, list);
     cursor.at()
 }
@@ -180,6 +215,7 @@ impl<'a> Sweep<'a> {
             page: 0,
             at: 0,
             kept,
+            turn: 0,
             list,
             spare,
         })
@@ -192,14 +228,13 @@ impl<'a> Sweep<'a> {
         ensures graph { self.new.graph ≡ self.old.graph }
         ensures place { self.new.place ≡ self.old.place + 1 }
     {
-        keep(self.kept.as_mut_slice(), &mut self.list, self.page);
-        let archive = &self.archive;
+        self.turn = keep(self.kept.as_mut_slice(), self.turn, &mut self.list);
         self.at = decode_page(
-            &archive.params,
-            archive.bytes,
+            &self.archive,
             self.page,
             self.at,
             self.kept.as_slice(),
+            self.turn,
             &mut self.spare,
             &mut self.list,
         );

@@ -4,7 +4,7 @@ use Rattle.wg_iterators.specs.Headed.{IsHead}
 use Rattle.wg_random.specs.Reading.{known_at, offset_at}
 use Rattle.wg_random.specs.Chain.{below_at}
 use Rattle.wg_random.proofs.Readings.{offset_within}
-use Rattle.wg_random.proofs.SweepLemmas.{next_record, back_near, back_reach, found_below}
+use Rattle.wg_random.proofs.SweepLemmas.{next_record, back_reach, found_below}
 use Rattle.wg_random.proofs.sweep.decode_page.Goals as goal
 
 pub new-cursor-requires : goal.new-cursor-requires
@@ -16,46 +16,39 @@ pub read_head-head-requires : goal.read_head-head-requires
 read_head-head-requires c =
     let n = c.requires.next in
     let is = c.new-cursor.ensures ∙ ap (λ (b : List Bool). record { bits = b; at = c.args.at }) c.of.ensures in
-    let g = next_record c.args.params.now _ n.0 c.args.page c.args.at c.args.kept.now c.again.result c.requires.page (c.again.ensures ∙ is) n.1 in
+    let g = next_record c.args.archive.now.params _ n.0 c.args.page c.args.at c.args.turn c.args.kept.now c.again.result c.requires.page (c.again.ensures ∙ is) n.1 in
     (c.args.page, below_at n.0.records c.args.page g.back, (known_at n.0.records c.args.page).list, g.proper)
-
-pub list_back-below-requires-clause-near : goal.list_back-below-requires-clause-near
-list_back-below-requires-clause-near c =
-    let n = c.requires.next in
-    let is = c.new-cursor.ensures ∙ ap (λ (b : List Bool). record { bits = b; at = c.args.at }) c.of.ensures in
-    let g = next_record c.args.params.now _ n.0 c.args.page c.args.at c.args.kept.now c.again.result c.requires.page (c.again.ensures ∙ is) n.1 in
-    back_near c.args.params.now _ n.0 c.args.page c.again.result c.read_head-head.result.reference c.read_head-head.ensures.reference g
 
 pub list_back-below-requires-clause-reach : goal.list_back-below-requires-clause-reach
 list_back-below-requires-clause-reach c =
     let n = c.requires.next in
     let is = c.new-cursor.ensures ∙ ap (λ (b : List Bool). record { bits = b; at = c.args.at }) c.of.ensures in
-    let g = next_record c.args.params.now _ n.0 c.args.page c.args.at c.args.kept.now c.again.result c.requires.page (c.again.ensures ∙ is) n.1 in
-    back_reach c.args.params.now _ n.0 c.args.page c.args.at c.args.kept.now c.again.result c.read_head-head.result.reference c.requires.page c.read_head-head.ensures.reference n.1 g
+    let g = next_record c.args.archive.now.params _ n.0 c.args.page c.args.at c.args.turn c.args.kept.now c.again.result c.requires.page (c.again.ensures ∙ is) n.1 in
+    back_reach c.args.archive.now.params _ n.0 c.args.page c.args.at c.args.turn c.args.kept.now c.again.result c.read_head-head.result.reference c.requires.page c.read_head-head.ensures.reference n.1 g
 
 pub decode_into-requires-clause-ascends : goal.decode_into-requires-clause-ascends
 decode_into-requires-clause-ascends c =
     let n = c.requires.next in
     let is = c.new-cursor.ensures ∙ ap (λ (b : List Bool). record { bits = b; at = c.args.at }) c.of.ensures in
-    (found_below c.args.params.now _ n.0 c.args.page c.args.at c.args.kept.now c.new-cursor.result c.again.result c.read_head-head.result.reference _ c.requires.page is c.again.ensures c.read_head-head.ensures.reference n.1 (c.list_back-below.ensures.below n.0.records n.1.before)).ascends
+    (found_below c.args.archive.now.params _ n.0 c.args.page c.args.at c.args.turn c.args.kept.now c.new-cursor.result c.again.result c.read_head-head.result.reference _ c.requires.page is c.again.ensures c.read_head-head.ensures.reference n.1 (c.list_back-below.ensures.below n.0.records c.args.page)).ascends
 
 pub decode_into-requires-clause-proper : goal.decode_into-requires-clause-proper
 decode_into-requires-clause-proper c =
     let n = c.requires.next in
     let is = c.new-cursor.ensures ∙ ap (λ (b : List Bool). record { bits = b; at = c.args.at }) c.of.ensures in
-    let g = found_below c.args.params.now _ n.0 c.args.page c.args.at c.args.kept.now c.new-cursor.result c.again.result c.read_head-head.result.reference _ c.requires.page is c.again.ensures c.read_head-head.ensures.reference n.1 (c.list_back-below.ensures.below n.0.records n.1.before) in
+    let g = found_below c.args.archive.now.params _ n.0 c.args.page c.args.at c.args.turn c.args.kept.now c.new-cursor.result c.again.result c.read_head-head.result.reference _ c.requires.page is c.again.ensures c.read_head-head.ensures.reference n.1 (c.list_back-below.ensures.below n.0.records c.args.page) in
     ((known_at n.0.records c.args.page).list, g.proper, n.2)
 
 pub returns-clause-list : goal.returns-clause-list
 returns-clause-list c r n =
     let is = c.new-cursor.ensures ∙ ap (λ (b : List Bool). record { bits = b; at = c.args.at }) c.of.ensures in
-    let g = found_below c.args.params.now _ r c.args.page c.args.at c.args.kept.now c.new-cursor.result c.again.result c.read_head-head.result.reference _ c.requires.page is c.again.ensures c.read_head-head.ensures.reference n (c.list_back-below.ensures.below r.records n.before) in
+    let g = found_below c.args.archive.now.params _ r c.args.page c.args.at c.args.turn c.args.kept.now c.new-cursor.result c.again.result c.read_head-head.result.reference _ c.requires.page is c.again.ensures c.read_head-head.ensures.reference n (c.list_back-below.ensures.below r.records c.args.page) in
     c.decode_into.ensures.list (known_at r.records c.args.page).list g.proper
 
 pub returns-clause-end : goal.returns-clause-end
 returns-clause-end c r n =
     let is = c.new-cursor.ensures ∙ ap (λ (b : List Bool). record { bits = b; at = c.args.at }) c.of.ensures in
-    let g = found_below c.args.params.now _ r c.args.page c.args.at c.args.kept.now c.new-cursor.result c.again.result c.read_head-head.result.reference _ c.requires.page is c.again.ensures c.read_head-head.ensures.reference n (c.list_back-below.ensures.below r.records n.before) in
+    let g = found_below c.args.archive.now.params _ r c.args.page c.args.at c.args.turn c.args.kept.now c.new-cursor.result c.again.result c.read_head-head.result.reference _ c.requires.page is c.again.ensures c.read_head-head.ensures.reference n (c.list_back-below.ensures.below r.records c.args.page) in
     let next : suc c.args.page ≡ c.args.page + 1 = omega arith in
     c.at.ensures.offset ∙ c.decode_into.ensures.end (known_at r.records c.args.page).list g.proper ∙ g.end ∙ ap (offset_at r.records) next
 
@@ -63,4 +56,4 @@ pub decode_into-requires-clause-below : goal.decode_into-requires-clause-below
 decode_into-requires-clause-below c = c.list_back-below.ensures.within c.args.list.now.room c.requires.rooms
 
 pub decode_into-requires-clause-head : goal.decode_into-requires-clause-head
-decode_into-requires-clause-head c = subst (λ (q : Position). IsHead c.args.params.now q c.read_head-head.result) c.again.ensures c.read_head-head.ensures.head
+decode_into-requires-clause-head c = subst (λ (q : Position). IsHead c.args.archive.now.params q c.read_head-head.result) c.again.ensures c.read_head-head.ensures.head

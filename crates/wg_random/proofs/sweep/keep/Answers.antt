@@ -1,13 +1,14 @@
-use Rattle.std.proofs.Common.{rules, ◌-◌, ◌%◌, ◌<◌, length, sym, subst, arith}
+use Rattle.std.proofs.Common.{rules, ℕ, ◌<◌, length, sym, subst}
 use Rattle.std.specs.Prelude.{set}
+use Rattle.std.proofs.lemmas.List.{length-set}
 use Rattle.wg_graph.specs.Filled.{Filled}
-use Rattle.wg_random.specs.Sweeping.{AreKept}
+use Rattle.wg_random.specs.Sweeping.{AreKept, IsBack}
 use Rattle.wg_random.proofs.SweepLemmas.{kept_more}
 use Rattle.wg_random.proofs.sweep.keep.Goals as goal
 
 pub returns-clause-kept : goal.returns-clause-kept
-returns-clause-kept c records kept is =
-    let some : 0 < c.args.page = omega arith in
-    let there : 0 < length c.args.kept.now = search rules in
-    subst (λ (f : Filled). AreKept records c.args.page (set c.args.kept.now ((c.args.page - 1) % length c.args.kept.now) f)) (sym c.swap.ensures.x_after)
-    (kept_more records c.args.page c.args.kept.now c.args.list.now some there kept (is some))
+returns-clause-kept c records page kept is =
+    let within : c.args.turn < length c.args.kept.now = search rules in
+    let on = subst (λ (n : ℕ). IsBack n c.row_after.result 1 c.args.turn) (length-set c.args.kept.now c.args.turn c.swap.new.x) c.row_after.ensures.back in
+    subst (λ (f : Filled). AreKept records page (set c.args.kept.now c.args.turn f) c.row_after.result) (sym c.swap.ensures.x_after)
+    (kept_more records page c.args.turn c.row_after.result c.args.kept.now c.args.list.now within on kept is)

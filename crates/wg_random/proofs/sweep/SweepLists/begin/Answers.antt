@@ -16,7 +16,8 @@ invariant_of-self c =
         room = h.room;
         rooms = h.rooms;
         last = λ some. absurd (omega (arith, some));
-        before = kept_none h.reading.records _ _ (omega arith);
+        turns = h.turns;
+        before = kept_none h.reading.records _ _ _ (omega arith);
       },
       c.self.invariant.1,
     )
