@@ -1,5 +1,5 @@
 -- The archive that was built of a generated graph is in order, and has this graph.
-use Rattle.std.proofs.Common.{◌≡◌, ◌+◌, ◌≤◌, ◌∙◌, Bool, true, false, cond, inl, inr, ℕ, suc, zero-add, List, [], ◌∷◌, length, get_or, Option, None, Result, Ok, Err, refl, sym, ap, subst, arith}
+use Rattle.std.proofs.Common.{◌≡◌, ◌+◌, ◌≤◌, ◌∙◌, Bool, true, false, cond, inr, ℕ, suc, zero-add, List, [], ◌∷◌, length, get_or, Option, None, Result, Ok, Err, refl, sym, ap, subst, arith}
 use Rattle.std.specs.List.{count_by, range_with_len}
 use Rattle.std.proofs.lemmas.Option.{same_Some}
 use Rattle.wg_io.specs.Outside.{Files, Counts}
@@ -24,14 +24,14 @@ use Rattle.wg_order.proofs.Counts.{count_range}
 use Rattle.wg_words.specs.Layouts.{default_layout, params_of}
 use Rattle.wg_words.specs.declared.layout.Layout.{Layout}
 use Rattle.wg_words.proofs.LayoutLemmas.{layout_for_any}
-use Rattle.wg_readings.specs.Answers.{IsHindrance, Steps}
+use Rattle.wg_readings.specs.Answers.{IsHindrance}
 use Rattle.wg_readings.specs.Causes.{AreFaultless}
-use Rattle.wg_readings.specs.Judged.{Judged, accepted, output_of, unless_bad_properties, with_digraph, with_file, with_graph, with_lengths, with_offsets, with_parameters}
-use Rattle.wg_readings.specs.Loading.{IsPropertiesFile, JudgesFiles, Loads, LoadsParams, params_then}
+use Rattle.wg_readings.specs.Judged.{Judged, accepted, output_of, unless_bad_properties, with_graph, with_lengths, with_offsets, with_parameters}
+use Rattle.wg_readings.specs.Loading.{IsPropertiesFile, JudgesFiles, LoadsGraph, LoadsParams, digraph_then, params_then}
 use Rattle.wg_readings.specs.Names.{file_of, held_by, no_outputs}
 use Rattle.wg_readings.specs.Pairing.{files_then, offsets_then}
 use Rattle.wg_readings.specs.Passes.{graph_then}
-use Rattle.wg_readings.specs.Promised.{ArePromised, IsBadFile}
+use Rattle.wg_readings.specs.Promised.{ArePromised}
 use Rattle.wg_readings.specs.Readings.{Readings}
 use Rattle.wg_readings.specs.declared.ending.Ending.{Ending}
 use Rattle.wg_readings.specs.declared.status.Input.TheVariants as input
@@ -133,8 +133,8 @@ module _ (g : Digraph) (base : List ℕ) (files : Files) (is : IsBuilt g base fi
       ∙ all_agree places places (λ x lt. refl) (λ same. next (last_place places))
       ∙ ap next (last_bit p g.lists)
 
-  bytes_go_on : (r : Readings) (next : Digraph → Judged) → with_digraph r p (graph_file p g.lists) next ≡ next g
-  bytes_go_on r next = goes_on r p is.limits (graph_file p g.lists) g.lists places in_order.graph (λ a. next (record { nodes = p.nodes; lists = a.graph }))
+  digraph_goes_on : (r : Readings) (next : Digraph → Judged) → digraph_then r p (held_by (file_of base) files input.Graph) next ≡ next g
+  digraph_goes_on r next = graph_goes_on r (λ a. next (record { nodes = p.nodes; lists = a.graph }))
 
   -- ---- the parameters
   pub params_are : (q : Parameters) → IsPropertiesFile (held_by (file_of base) files input.Properties) q → q ≡ p
@@ -162,32 +162,21 @@ module _ (g : Digraph) (base : List ℕ) (files : Files) (is : IsBuilt g base fi
         let k = subst (λ (x : Parameters). JudgesFiles base x true files files' counts counts' (Err e)) same j in
         by_memory (file_of base) no_outputs counts counts' none e.status k.causes (hindered (files_then r p (held_by (file_of base) files)) (length (graph_bits p g.lists)) e (files_go_on r) (k.steps refl r))
 
-  -- ---- the bytes of the graph file
-  pub bytes_are : (files' : Files) (counts counts' : List ℕ → Counts) (bytes : List ℕ) → Loads (file_of base) input.Graph true files files' counts counts' (Ok bytes) → bytes ≡ graph_file p g.lists
-  bytes_are files' counts counts' bytes l = same_Some bytes (graph_file p g.lists) (sym (l.held refl) ∙ is.whole.1)
+    -- ---- the graph alone
+    pub no_graph : (e : Ending) → AreFaultless counts counts' 0 0 → LoadsGraph base q true files files' counts counts' (Err e) → e.status ≡ Memory
+    no_graph e none l =
+        let r : Readings = the_readings in
+        let k = subst (λ (x : Parameters). LoadsGraph base x true files files' counts counts' (Err e)) same l in
+        by_memory (file_of base) no_outputs counts counts' none e.status k.reads.ends.causes
+        (hindered (digraph_then r p (held_by (file_of base) files input.Graph)) g e (digraph_goes_on r) (k.reads.ends.refused refl r))
 
-  pub no_bytes : (files' : Files) (counts counts' : List ℕ → Counts) (e : Ending) → AreFaultless counts counts' 0 0 → Loads (file_of base) input.Graph true files files' counts counts' (Err e) → e.status ≡ Memory
-  no_bytes files' counts counts' e none l =
-      by_memory (file_of base) no_outputs counts counts' none e.status l.causes
-      (hindered (with_file input.Graph (held_by (file_of base) files input.Graph)) (graph_file p g.lists) e
-      (λ next. ap (λ (o : Option (List ℕ)). with_file input.Graph o next) is.whole.1 ∙ file_goes_on input.Graph (graph_file p g.lists) (omega (arith, in_order.short_graph)) next)
-      (l.steps refl))
-
-  module _ (q : Parameters) (bytes : List ℕ) (same : q ≡ p) (whole : bytes ≡ graph_file p g.lists) where
-    read_on : (next : Digraph → Judged) → with_digraph the_readings q bytes next ≡ next g
-    read_on next =
-        ap (λ (x : Parameters). with_digraph the_readings x bytes next) same ∙ ap (λ (b : List ℕ). with_digraph the_readings p b next) whole
-        ∙ bytes_go_on the_readings next
-
-    -- the lists of this file are not refused
-    pub no_lists : (e : Ending) → IsBadFile input.Graph q.arcs e → Steps {B = Digraph} (with_digraph the_readings q bytes) (Err e) → e.status ≡ Memory
-    no_lists e (inl want) refused = want
-    no_lists e (inr fault) refused = absurd (subst IsHindrance fault.2 (hindered (with_digraph the_readings q bytes) g e read_on refused))
-
-    -- and their bounds are those of the graph
-    pub bounds_of_lists : (h : Digraph) (damping rounds : ℕ) → Steps (with_digraph the_readings q bytes) (Ok h) → bounds_after h None damping rounds ≡ bounds_after g None damping rounds
-    bounds_of_lists h damping rounds goes =
-        let text : (f : Digraph → List ℕ) → f h ≡ f g = λ f. same_text (with_digraph the_readings q bytes) h g f goes read_on in
+    -- the bounds of what was read are those of the graph
+    pub bounds_of_graph : (h : Digraph) (damping rounds : ℕ) → LoadsGraph base q true files files' counts counts' (Ok h) → bounds_after h None damping rounds ≡ bounds_after g None damping rounds
+    bounds_of_graph h damping rounds l =
+        let r : Readings = the_readings in
+        let k = subst (λ (x : Parameters). LoadsGraph base x true files files' counts counts' (Ok h)) same l in
+        let text : (f : Digraph → List ℕ) → f h ≡ f g =
+            λ f. same_text (digraph_then r p (held_by (file_of base) files input.Graph)) h g f (k.goes refl r) (digraph_goes_on r) in
         λ i. record {
           damping = damping;
           rounds = rounds;

@@ -16,11 +16,11 @@ use crate::rank::room_for;
 use crate::ranked::{Ranked, last_bounds};
 use crate::writing::write_archive;
 use std::alloc::Global;
-use wg_graph::Graph;
+use wg_graph::{Graph, GraphLists};
 use wg_io::SteadyDepot;
 use wg_params::Params;
 use wg_rank::Bounds;
-use wg_readings::{Ending, Input, Status, judge_files, lists_of_records, load, load_params};
+use wg_readings::{Ending, Status, judge_files, load_graph, load_params};
 use wg_vectors::generate;
 use wg_words::{DEFAULT_DAMPING, Layout, Name};
 
@@ -96,8 +96,8 @@ fn judge(alloc: Global, base: &Name, depot: &mut SteadyDepot) -> Result<Checked,
     Ok(Checked { params, bits })
 }
 
-// Bounds of the pages after the last round, along the lists of the archive's graph file. The depot is let go once the
-// file is read.
+// Bounds of the pages after the last round, along the lists of the graph that is read from the archive's graph file. The
+// depot is let go once the graph is there.
 fn rounded(
     alloc: Global,
     params: &Params,
@@ -109,9 +109,11 @@ fn rounded(
     ensures only { (g : Digraph) → IsBuilt g base.now depot.files → params.now ≡ bulk_params g
         → IfErr result (λ e. e.status ≡ Status.Memory) }
 {
-    let bytes = load(alloc, &mut depot, base, Input::Graph)?;
+    let graph = load_graph(alloc, params, &mut depot, base)?;
     drop(depot);
-    let mut lists = lists_of_records(alloc, params, bytes.as_slice())?;
+    // tells the limit
+    graph.nodes();
+    let mut lists = GraphLists::new(&graph);
     let first = room_for(alloc, &lists, None, DEFAULT_DAMPING)?;
     Ok(last_bounds(first, &mut lists, BULK_ROUNDS))
 }
