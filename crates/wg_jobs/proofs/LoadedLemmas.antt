@@ -28,6 +28,7 @@ use Rattle.wg_readings.proofs.UnderWay.{cause_later}
 use Rattle.wg_jobs.specs.Loaded.{IsArchiveFile, IsOfArchive, JudgesArchive, LoadsArchive}
 use Rattle.wg_jobs.specs.declared.loaded.Loaded.{Loaded}
 use Rattle.wg_jobs.proofs.JobSteps.{bad_promised}
+use Rattle.wg_jobs.proofs.PerformsLemmas.{unread_promised}
 
 -- ---- the end at one of the files
 of_input : (i : Input) (s : Status) → IsArchiveFile i → IsOfInput i s → IsOfArchive s
@@ -47,13 +48,6 @@ of_stop i n e there (inr bad) = of_bad i n e bad
 stop_read : (i : Input) (n : ℕ) (e : Ending) (j : Input) → IsStopAt i n e → e.status ≡ ReadFault j → i ≡ j
 stop_read i n e j (inl only) is = own_read i e.status j only is
 stop_read i n e j (inr bad) is = absurd (bad_unread i n e j bad is)
-
--- its line names no arcs, if the file was not read
-input_promised : (held : Input → Option (List ℕ)) (i : Input) (s : Status) (n : ℕ) → IsOfInput i s → ArePromised held s n
-input_promised held i s n (inl want) = subst (λ (x : Status). ArePromised held x n) (sym want) tt
-input_promised held i s n (inr (inl fault)) = subst (λ (x : Status). ArePromised held x n) (sym fault) tt
-input_promised held i s n (inr (inr (inl absent))) = subst (λ (x : Status). ArePromised held x n) (sym absent) tt
-input_promised held i s n (inr (inr (inr long))) = subst (λ (x : Status). ArePromised held x n) (sym long) tt
 
 -- the exit of a `?`
 pub loads_exit : (base : List ℕ) (td : Bool) (files files' : Files) (counts counts' : List ℕ → Counts) (r : Result Loaded Ending) (e : Ending) → IsErrAnd r (λ x. x ≡ e)
@@ -84,7 +78,7 @@ module _ (base : List ℕ) (td : Bool) (files : Files) (counts : List ℕ → Co
   behind_params r h next p = with_file Graph (h Graph) (λ bytes. behind_bytes r h next p bytes)
 
   not_params : (held' : Input → Option (List ℕ)) (e : Ending) → (IsOfInput Properties e.status ⊎ ((f : PropFault) × (e.status ≡ BadProperties f))) → ArePromised held' e.status e.arcs
-  not_params held' e (inl only) = input_promised held' Properties e.status e.arcs only
+  not_params held' e (inl only) = unread_promised held' Properties e.status e.arcs only
   not_params held' e (inr fault) = subst (λ (s : Status). ArePromised held' s e.arcs) (sym fault.1) tt
 
   of_params : (e : Ending) → (IsOfInput Properties e.status ⊎ ((f : PropFault) × (e.status ≡ BadProperties f))) → IsOfArchive e.status
@@ -125,7 +119,7 @@ module _ (base : List ℕ) (td : Bool) (files : Files) (counts : List ℕ → Co
       only = of_input Graph e.status tt b.mine;
       causes = cause_later (file_of base) counts counts1 counts' e.status l.later b.causes;
       reached = λ t r i is next. subst (λ (k : Input). with_archive r (without k held) next ≡ refused (Missing k)) (own_read Graph e.status i b.mine is) (k1 t r (without Graph held) refl next);
-      promised = λ t. input_promised held Graph e.status e.arcs b.mine;
+      promised = λ t. unread_promised held Graph e.status e.arcs b.mine;
       same = b.same ∙ l.same;
       later = none_falls-trans _ _ _ l.later b.later;
     }
@@ -171,7 +165,7 @@ module _ (base : List ℕ) (td : Bool) (files : Files) (counts : List ℕ → Co
         }
           where
             stop_promised : IsTrue td → IsStopAt Offsets p.arcs e → ArePromised held e.status e.arcs
-            stop_promised t (inl only) = input_promised held Offsets e.status e.arcs only
+            stop_promised t (inl only) = unread_promised held Offsets e.status e.arcs only
             stop_promised t (inr bad) = bad_promised held p Offsets e (l.given t) bad
 
         loads_all : (files' : Files) (counts' : List ℕ → Counts) (loaded : Loaded) → JudgesOffsets base p a.places td files2 files' counts2 counts' (Ok tt) → loaded.params ≡ p → loaded.bytes ≡ bytes

@@ -259,7 +259,8 @@ unread_possible job i s has (inr (inl fault)) = subst (λ (x : Status). IsTrue (
 unread_possible job i s has (inr (inr (inl gone))) = subst (λ (x : Status). IsTrue (can_end job x)) (sym gone) has
 unread_possible job i s has (inr (inr (inr long))) = subst (λ (x : Status). IsTrue (can_end job x)) (sym long) has
 
-unread_promised : (held : Names) (i : Input) (s : Status) (a : ℕ) → IsOfInput i s → ArePromised held s a
+-- its line names no arcs
+pub unread_promised : (held : Names) (i : Input) (s : Status) (a : ℕ) → IsOfInput i s → ArePromised held s a
 unread_promised held i s a (inl want) = subst (λ (x : Status). ArePromised held x a) (sym want) tt
 unread_promised held i s a (inr (inl fault)) = subst (λ (x : Status). ArePromised held x a) (sym fault) tt
 unread_promised held i s a (inr (inr (inl gone))) = subst (λ (x : Status). ArePromised held x a) (sym gone) tt
