@@ -17,9 +17,11 @@ pub fn input_parts(job: &Job, input: Input) -> Option<(&str, &'static str)>
         Job::Check { base } | Job::Show { base, .. } | Job::Spot { base, .. } => {
             archive_input(base, input)
         }
-        Job::Arcs { base } | Job::Ascii { base } | Job::Offsets { base } => record_input(
-            base, input,
-        ),
+        Job::Arcs { base }
+        | Job::Ascii { base }
+        | Job::Offsets { base }
+        | Job::Recode { input: base, .. }
+        | Job::Transpose { input: base, .. } => record_input(base, input),
         Job::Rank { base, weights, .. } => rank_input(base, weights, input),
         Job::Verify {
             base,
@@ -33,9 +35,6 @@ pub fn input_parts(job: &Job, input: Input) -> Option<(&str, &'static str)>
             map,
             ..
         } => mapped_input(base, map, input),
-        Job::Recode { input: base, .. } | Job::Transpose { input: base, .. } => {
-            record_input(base, input)
-        }
         Job::Union { first, second, .. } => union_input(first, second, input),
         Job::Bulk { .. } => None,
     }
@@ -49,8 +48,7 @@ fn archive_input(base: &Name, input: Input) -> Option<(&str, &'static str)>
         Input::Properties => Some((base.as_str(), PROPERTIES)),
         Input::Graph => Some((base.as_str(), GRAPH)),
         Input::Offsets => Some((base.as_str(), OFFSETS)),
-        Input::SecondProperties | Input::SecondGraph | Input::SecondOffsets => None,
-        Input::ArcList | Input::Weights | Input::Certificate | Input::Text | Input::Map => None,
+        _ => None,
     }
 }
 
@@ -64,13 +62,10 @@ fn union_input<'a>(
         ≡ name_of_input (archive_files first.now ++ second_files second.now) input }
 {
     match input {
-        Input::Properties => Some((first.as_str(), PROPERTIES)),
-        Input::Graph => Some((first.as_str(), GRAPH)),
-        Input::Offsets => Some((first.as_str(), OFFSETS)),
         Input::SecondProperties => Some((second.as_str(), PROPERTIES)),
         Input::SecondGraph => Some((second.as_str(), GRAPH)),
         Input::SecondOffsets => Some((second.as_str(), OFFSETS)),
-        Input::ArcList | Input::Weights | Input::Certificate | Input::Text | Input::Map => None,
+        _ => archive_input(first, input),
     }
 }
 
@@ -81,13 +76,7 @@ fn record_input(base: &Name, input: Input) -> Option<(&str, &'static str)>
     match input {
         Input::Properties => Some((base.as_str(), PROPERTIES)),
         Input::Graph => Some((base.as_str(), GRAPH)),
-        Input::SecondProperties | Input::SecondGraph | Input::SecondOffsets => None,
-        Input::Offsets
-        | Input::ArcList
-        | Input::Weights
-        | Input::Certificate
-        | Input::Text
-        | Input::Map => None,
+        _ => None,
     }
 }
 
@@ -115,11 +104,8 @@ fn weighed_input<'a>(
         ≡ name_of_input (record_files base.now ++ weights_file (Some weights.now)) input }
 {
     match input {
-        Input::Properties => Some((base.as_str(), PROPERTIES)),
-        Input::Graph => Some((base.as_str(), GRAPH)),
         Input::Weights => Some((weights.as_str(), "")),
-        Input::SecondProperties | Input::SecondGraph | Input::SecondOffsets => None,
-        Input::Offsets | Input::ArcList | Input::Certificate | Input::Text | Input::Map => None,
+        _ => record_input(base, input),
     }
 }
 
@@ -148,11 +134,8 @@ fn claim_input<'a>(
         ≡ name_of_input (record_files base.now ++ certificate_file certificate.now) input }
 {
     match input {
-        Input::Properties => Some((base.as_str(), PROPERTIES)),
-        Input::Graph => Some((base.as_str(), GRAPH)),
         Input::Certificate => Some((certificate.as_str(), "")),
-        Input::SecondProperties | Input::SecondGraph | Input::SecondOffsets => None,
-        Input::Offsets | Input::ArcList | Input::Weights | Input::Text | Input::Map => None,
+        _ => record_input(base, input),
     }
 }
 
@@ -167,12 +150,8 @@ fn weighed_claim_input<'a>(
         input }
 {
     match input {
-        Input::Properties => Some((base.as_str(), PROPERTIES)),
-        Input::Graph => Some((base.as_str(), GRAPH)),
-        Input::Weights => Some((weights.as_str(), "")),
         Input::Certificate => Some((certificate.as_str(), "")),
-        Input::SecondProperties | Input::SecondGraph | Input::SecondOffsets => None,
-        Input::Offsets | Input::ArcList | Input::Text | Input::Map => None,
+        _ => weighed_input(base, weights, input),
     }
 }
 
@@ -182,11 +161,8 @@ fn mapped_input<'a>(base: &'a Name, map: &'a Name, input: Input) -> Option<(&'a 
         ≡ name_of_input (record_files base.now ++ map_file map.now) input }
 {
     match input {
-        Input::Properties => Some((base.as_str(), PROPERTIES)),
-        Input::Graph => Some((base.as_str(), GRAPH)),
         Input::Map => Some((map.as_str(), "")),
-        Input::SecondProperties | Input::SecondGraph | Input::SecondOffsets => None,
-        Input::Offsets | Input::ArcList | Input::Weights | Input::Certificate | Input::Text => None,
+        _ => record_input(base, input),
     }
 }
 
@@ -196,16 +172,7 @@ fn list_parts(arcs: &Name, input: Input) -> Option<(&str, &'static str)>
 {
     match input {
         Input::ArcList => Some((arcs.as_str(), "")),
-        Input::Properties
-        | Input::Graph
-        | Input::Offsets
-        | Input::SecondProperties
-        | Input::SecondGraph
-        | Input::SecondOffsets
-        | Input::Weights
-        | Input::Certificate
-        | Input::Text
-        | Input::Map => None,
+        _ => None,
     }
 }
 
@@ -215,16 +182,7 @@ fn text_parts(text: &Name, input: Input) -> Option<(&str, &'static str)>
 {
     match input {
         Input::Text => Some((text.as_str(), "")),
-        Input::Properties
-        | Input::Graph
-        | Input::Offsets
-        | Input::SecondProperties
-        | Input::SecondGraph
-        | Input::SecondOffsets
-        | Input::ArcList
-        | Input::Weights
-        | Input::Certificate
-        | Input::Map => None,
+        _ => None,
     }
 }
 

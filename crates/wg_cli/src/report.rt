@@ -4,6 +4,7 @@ ghost use Rattle.wg_io.specs.Outside.{Increased};
 ghost use Rattle.wg_io.specs.Puts.{Puts};
 ghost use Rattle.wg_cli.specs.Lines.{naming, name_in, output_in, line_of, Reports};
 ghost use Rattle.wg_jobs.specs.Names.{input_name};
+ghost use Rattle.wg_readings.specs.declared.status.Status.TheVariants.{BadSecond};
 
 use crate::names::{input_parts, output_parts};
 use crate::{Input, Status, texts};
@@ -145,18 +146,7 @@ fn write_line<S: Sink>(
             let input = texts::file_of_fault(fault);
             fault_in(sink, job, input, &texts::archive(promised, fault))
         }
-        Status::BadSecond(SecondFault::Properties(fault)) => {
-            fault_in(
-                sink,
-                job,
-                Input::SecondProperties,
-                &texts::properties(fault),
-            )
-        }
-        Status::BadSecond(SecondFault::Archive(fault)) => {
-            let input = second_input(texts::file_of_fault(fault));
-            fault_in(sink, job, input, &texts::archive(promised, fault))
-        }
+        Status::BadSecond(fault) => fault_of_second(sink, job, promised, fault),
         Status::TooManyArcs => write_all(sink, b"wg: too many arcs\n"),
         Status::NoPage(page) => write_all(sink, texts::no_page(page).as_bytes()),
         Status::OverLimit(input) => about(sink, "wg: too long: ", job, input, b""),
@@ -169,6 +159,34 @@ fn write_line<S: Sink>(
         }
         Status::BadCertificate(fault) => {
             fault_in(sink, job, Input::Certificate, &texts::certificate(fault))
+        }
+    }
+}
+
+// A line about a fault of the second archive.
+fn fault_of_second<S: Sink>(
+    sink: &mut S,
+    job: &Option<Job>,
+    promised: u64,
+    fault: SecondFault,
+) -> Result<(), WriteError>
+    ensures puts { IsTrue S.told → Puts (line_of job.now promised (BadSecond fault)) (S.taken sink.old)
+        (S.taken sink.new) result }
+    ensures cause { IsErr result → Increased (S.faults sink.old) (S.faults sink.new)
+        ⊎ Increased (S.wants sink.old) (S.wants sink.new) }
+{
+    match fault {
+        SecondFault::Properties(fault) => {
+            fault_in(
+                sink,
+                job,
+                Input::SecondProperties,
+                &texts::properties(fault),
+            )
+        }
+        SecondFault::Archive(fault) => {
+            let input = second_input(texts::file_of_fault(fault));
+            fault_in(sink, job, input, &texts::archive(promised, fault))
         }
     }
 }
