@@ -8,6 +8,20 @@
 //! between the numbers and round them, lines without words, comments that begin with `#`, and a CR before the end of a line.
 //! The arcs must ascend, and no page may be as large as the number of pages, which is given.
 //!
+//! A text that is read and written again, and one whose second line is faulty:
+//!
+//! ```rust
+//! let graph = wg_arcs::read(rt.alloc(), b"# two arcs\n0 1\n 1\t2", 3)?;
+//! assert_eq!(rt; graph.arcs(), 2);
+//! let mut sink = SteadySink::new(rt.alloc(), 4096);
+//! wg_arcs::write(&graph, &mut sink)?;
+//! assert_eq!(rt; sink.bytes(), b"0 1\n1 2\n".as_slice());
+//! let twice = wg_arcs::read(rt.alloc(), b"0 1\n0 1\n", 3);
+//! let kind = ArcsKind::Order;
+//! assert_eq!(rt; twice.err(), Some(ArcsError::Line { line: 2, kind }));
+//! Ok(())
+//! ```
+//!
 //! [`read_numbers`] reads a text of as many numbers as are wanted, each below a limit and on a line of its own, or names its
 //! first fault, a [`NumbersFault`]: the first faulty line, or, where no line is faulty, that numbers are missing. Blanks, lines
 //! without words, comments and a CR are as in the text of a graph.

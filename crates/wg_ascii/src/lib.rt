@@ -18,6 +18,20 @@
 //! - `Extra`: a word stands on a line after those of the pages, whatever the word is;
 //! - `Missing`: the text ends before this line, which is the first or that of a page.
 //!
+//! A text that is read and written again, and one that ends too early:
+//!
+//! ```rust
+//! let graph = wg_ascii::read(rt.alloc(), b" 3\n1  2\n2\n\n")?;
+//! assert_eq!(rt; graph.arcs(), 3);
+//! let mut sink = SteadySink::new(rt.alloc(), 4096);
+//! wg_ascii::write(&graph, &mut sink)?;
+//! assert_eq!(rt; sink.bytes(), b"3\n1 2\n2\n\n".as_slice());
+//! let short = wg_ascii::read(rt.alloc(), b"3\n1 2\n2\n");
+//! let kind = AsciiKind::Missing;
+//! assert_eq!(rt; short.err(), Some(AsciiError::Line { line: 4, kind }));
+//! Ok(())
+//! ```
+//!
 //! Writing takes no memory, and time in proportion to the pages and to the digits of the arcs. Reading goes over the
 //! text once, and over a line that is not as it is written a few times. It holds the graph and the list of one page, 8
 //! bytes for each arc and each page, and takes memory as the lines come, and none by the number of pages that the first

@@ -6,6 +6,23 @@
 //! each input holds: which status comes, what stands on the output and in the files, and that faults of the outside
 //! are told only where their counts rose. Besides it says which line is reported (`line_of`). [`run_in_memory`] is
 //! the same over files and outputs in memory, which are never at fault.
+//!
+//! A plain text in memory is imported as an archive:
+//!
+//! ```rust
+//! let mut words = Words::new(rt.alloc());
+//! for word in ["import", "web.txt", "web"] {
+//!     words.push(word)?;
+//! }
+//! let mut depot = SteadyDepot::new(rt.alloc(), 4096);
+//! depot.put_file("web.txt", b"3\n1 2\n1 2\n\n")?;
+//! let mut out = SteadySink::new(rt.alloc(), 4096);
+//! let mut err = SteadySink::new(rt.alloc(), 4096);
+//! let status = run_in_memory(rt.alloc(), &words, &mut depot, &mut out, &mut err);
+//! assert_eq!(rt; status, Status::Done);
+//! assert!(rt; depot.holds("web.graph"));
+//! Ok(())
+//! ```
 #![tactic(auto)]
 
 mod names;

@@ -22,6 +22,22 @@
 //! writer of 4096 bytes for each of the files. If a call of the depot fails, the [`EncodeError`] names the file, and
 //! both files are prefixes of those that were to be written.
 //!
+//! The files of a graph of three pages, in a depot in memory:
+//!
+//! ```rust
+//! let mut builder = GraphBuilder::new(rt.alloc(), 3)?;
+//! builder.push_list(&[1, 2])?;
+//! builder.push_list(&[1, 2])?;
+//! let graph = builder.finish()?;
+//! let params = usual(graph.nodes(), graph.arcs(), 7, 3, 4)?;
+//! let mut depot = SteadyDepot::new(rt.alloc(), 4096);
+//! let summary = encode(rt.alloc(), params, &graph, &mut depot, "web")?;
+//! assert_eq!(rt; (summary.bits, summary.referring), (19, 1));
+//! let bytes = read_whole(rt.alloc(), &mut depot, "web.graph")?;
+//! assert_eq!(rt; bytes.as_slice(), b"\x7D\xC6\xE0".as_slice());
+//! Ok(())
+//! ```
+//!
 //! The definitions give the fields of a record with their codes and stored values, the reference that is chosen, and
 //! the bytes of the two files. The functions of [`laws`] state that no candidate's record is shorter than the one that
 //! is written, that the bytes of the files are their bits, and that these files are accepted and have the graph.

@@ -19,6 +19,23 @@
 //! the next [`Need`], a field and its code, and judges the value that was read there. A refused field is named by a
 //! [`Fault`], and the first fault of a whole archive by an [`ArchiveFault`]. [`tail_fault`] judges the tail.
 //!
+//! The record of the last page, with an outdegree that is refused, and one that ends it:
+//!
+//! ```rust
+//! let params = usual(3, 4, 7, 3, 4)?;
+//! // page 2 is the last, and each of the 4 arcs stands before it
+//! let mut progress = Progress::start(&params, 2, 4);
+//! if let Need::Read(field, code) = progress.need() {
+//!     assert_eq!(rt; (field, code), (Field::Outdegree, Code::Gamma));
+//!     assert_eq!(rt; progress.accept(1, None), Err(Kind::Total));
+//! }
+//! if let Need::Read(_, _) = progress.need() {
+//!     assert_eq!(rt; progress.accept(0, None), Ok(()));
+//! }
+//! assert_eq!(rt; progress.need(), Need::End);
+//! Ok(())
+//! ```
+//!
 //! Nothing here takes memory, and each call takes constant time.
 #![tactic(auto)]
 

@@ -4,6 +4,22 @@
 //! [`GraphBuilder`], which takes arcs in ascending order, or whole lists, page by page. [`Lists`] is a graph whose
 //! lists are read in order, wherever they come from; [`GraphLists`] reads those of a [`Graph`].
 //!
+//! A graph of three pages, and its lists as they are lent:
+//!
+//! ```rust
+//! let mut builder = GraphBuilder::new(rt.alloc(), 3)?;
+//! builder.push_list(&[1, 2])?;
+//! assert!(rt; builder.fits(1, 2) && !builder.fits(0, 2));
+//! builder.push(1, 2)?;
+//! let graph = builder.finish()?;
+//! assert_eq!(rt; graph.arcs(), 3);
+//! assert_eq!(rt; graph.list(0), [1, 2].as_slice());
+//! let mut lists = GraphLists::new(&graph);
+//! assert_eq!(rt; lists.next_list(), Some([1, 2].as_slice()));
+//! assert_eq!(rt; lists.next_list(), Some([2].as_slice()));
+//! Ok(())
+//! ```
+//!
 //! [`List`] holds numbers in order, as the successors of one page; a [`Row`] does so in memory that is taken once, and
 //! never wants more. [`join`] joins to an ascending list the numbers of
 //! another that come one after the other. [`Members`] tells of one number after the other whether it stands in an

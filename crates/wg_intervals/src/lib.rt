@@ -11,6 +11,16 @@
 //! function of [`laws`] states that a split loses nothing, and leaves nothing in residuals that could stand in an
 //! interval.
 //!
+//! A list that is split:
+//!
+//! ```rust
+//! // runs of at least 3 numbers are intervals: a left end, and a length
+//! let parts = split(rt.alloc(), &[0, 1, 2, 4, 5, 9], 3)?;
+//! assert_eq!(rt; parts.intervals.as_slice(), [0, 3].as_slice());
+//! assert_eq!(rt; parts.residuals.as_slice(), [4, 5, 9].as_slice());
+//! Ok(())
+//! ```
+//!
 //! Nothing but a [`Split`] takes memory. A step of a walk reads two words if it begins an interval, and two more for
 //! each empty one before it.
 #![tactic(auto)]

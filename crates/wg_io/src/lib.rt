@@ -14,6 +14,19 @@
 //!
 //! [`PROPERTIES`], [`GRAPH`] and [`OFFSETS`] are what the names of an archive's files end in.
 //!
+//! A file in memory that is read whole, and one that is not there:
+//!
+//! ```rust
+//! let mut depot = SteadyDepot::new(rt.alloc(), 4096);
+//! depot.put_file("arcs", b"0 1\n")?;
+//! append_all(&mut depot, "arcs", b"1 0\n")?;
+//! let bytes = read_whole(rt.alloc(), &mut depot, "arcs")?;
+//! assert_eq!(rt; bytes.as_slice(), b"0 1\n1 0\n".as_slice());
+//! let other = read_whole(rt.alloc(), &mut depot, "weights");
+//! assert_eq!(rt; other.err(), Some(LoadError::Absent));
+//! Ok(())
+//! ```
+//!
 //! An error is never made up: `Failed`, `Absent` and `Memory` come from an outside only where it counted them, which is how
 //! a contract far above can say that a failed job was the outside's fault. The counts stand still at 2^64 - 1.
 //!

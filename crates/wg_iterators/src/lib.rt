@@ -12,6 +12,17 @@
 //! residuals -----------------------------> residual -/
 //! ```
 //!
+//! Here `archive` is a `wg_random::Archive`, which puts a [`Successors`] on the record of page 1:
+//!
+//! ```rust
+//! let mut successors = archive.open(alloc, 1, steps)?;
+//! assert_eq!(rt; successors.outdegree(), 2);
+//! assert_eq!(rt; successors.next(), Some(1));
+//! assert_eq!(rt; successors.next(), Some(2));
+//! assert_eq!(rt; successors.next(), None);
+//! Ok(())
+//! ```
+//!
 //! [`find_fronts`] passes the words of a record once, to find where its fronts begin; an iterator is made of them and of
 //! what is below. So the words of blocks and intervals are read twice, and no others. Whoever walks down to the
 //! referenced page first asks [`reference`], which reads the two words at the head of a record.

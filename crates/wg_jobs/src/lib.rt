@@ -12,6 +12,21 @@
 //! that prints or writes. A command more is an equation of `judged`, the lists of its inputs and outputs, and a module
 //! beside `check` with that clause; its proof is a line for each exit, by the lemmas of `JobSteps`.
 //!
+//! The arcs of an archive in memory are printed:
+//!
+//! ```rust
+//! let mut depot = SteadyDepot::new(rt.alloc(), 4096);
+//! let text = wg_properties::write(rt.alloc(), &usual(3, 4, 7, 3, 4)?)?;
+//! depot.put_file("web.properties", text.as_slice())?;
+//! depot.put_file("web.graph", b"\x7D\xC6\xE0")?;
+//! let base = Name::new(rt.alloc(), "web")?;
+//! let mut out = SteadySink::new(rt.alloc(), 4096);
+//! let ending = perform(rt.alloc(), &Job::Arcs { base }, &mut depot, &mut out);
+//! assert_eq!(rt; ending.status, Status::Done);
+//! assert_eq!(rt; out.bytes(), b"0 1\n0 2\n1 1\n1 2\n".as_slice());
+//! Ok(())
+//! ```
+//!
 //! `judged` takes the graph of a file from a function that reads all graph files; [`laws`] states that the grammar leaves
 //! exactly one such function, and that an archive that was built is accepted.
 //!

@@ -6,6 +6,21 @@
 //! [`read_units`] accepts that text and nothing else. [`first_line`] cuts a text after its first line, and
 //! [`without_blanks_before`] and [`without_blanks_after`] drop spaces and tabs; each lends a part of its text, and goes
 //! over the part that it cuts off or drops. No call takes memory.
+//!
+//! A number and its digits, and a quarter in units:
+//!
+//! ```rust
+//! assert_eq!(rt; read_decimal(b"1024"), Some(1024));
+//! assert_eq!(rt; read_decimal(b"01024"), None);
+//! let mut buffer = [0; 20];
+//! let count = decimal_into(1024, &mut buffer);
+//! assert_eq!(rt; &buffer[..count], b"1024".as_slice());
+//! let quarter = units_text(UNITS / 4);
+//! assert_eq!(rt;
+//!     quarter.as_slice(),
+//!     b"0.250000000000000000000000".as_slice()
+//! );
+//! ```
 #![tactic(auto)]
 
 mod decimal;

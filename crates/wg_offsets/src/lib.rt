@@ -10,6 +10,20 @@
 //! the records that were read; a [`Comparison`] does so record after record. The function of [`laws`] states that each
 //! file has one list of places or one first fault.
 //!
+//! An offsets file of two bytes, and one that is cut off:
+//!
+//! ```rust
+//! // 1 0001101 00111 010: the words of 0, 12, 6 and 1
+//! let offsets = wg_offsets::read(rt.alloc(), b"\x8D\x3A", 3, Code::Gamma)?;
+//! assert_eq!(rt; offsets.len(), 4);
+//! assert_eq!(rt; (offsets.place(1), offsets.place(2)), (12, 18));
+//! assert_eq!(rt; offsets.end(), 19);
+//! let cut = wg_offsets::read(rt.alloc(), b"\x8D", 3, Code::Gamma);
+//! let word = OffsetWord::Cut(2);
+//! assert_eq!(rt; cut.err(), Some(OffsetsError::Word(word)));
+//! Ok(())
+//! ```
+//!
 //! Offsets hold 8 bytes for each offset. Memory is taken as the words come, and never by the number of pages that an
 //! archive claims; words and a comparison take none. Reading costs a pass over the file, and looking up an offset takes
 //! constant time.

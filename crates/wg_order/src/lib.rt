@@ -11,6 +11,23 @@
 //!                    \---> rising (by upper bounds) --> worst
 //! ```
 //!
+//! Two rounds at a low damping settle the ranking of the graph with the arc from page 0 to page 1:
+//!
+//! ```rust
+//! let mut builder = GraphBuilder::new(rt.alloc(), 2)?;
+//! builder.push_list(&[1])?;
+//! let graph = builder.finish()?;
+//! let mut lists = GraphLists::new(&graph);
+//! let mut bounds = Bounds::new(rt.alloc(), 2, 100)?;
+//! bounds.round(&mut lists);
+//! bounds.round(&mut lists);
+//! let ranking = Ranking::of(bounds);
+//! assert_eq!(rt; (ranking.page(0), ranking.page(1)), (1, 0));
+//! assert!(rt; ranking.surely_above(1, 0));
+//! assert_eq!(rt; (ranking.best(1), ranking.worst(1)), (1, 1));
+//! Ok(())
+//! ```
+//!
 //! The function of [`laws`] states that any bounds have one ranking.
 //!
 //! [`Ranking::of`] takes the bounds over and sorts in the room of their rounds, so it takes no memory: bounds and ranking

@@ -17,6 +17,19 @@
 //! taken; the cost is linear in the text, however long its lines, values and blanks are. Of what Java allows besides, a line
 //! that goes on in the next is a fault, and any other backslash is a byte like the rest.
 //!
+//! Parameters that are written and read again, and a text without a version:
+//!
+//! ```rust
+//! let params = usual(3, 4, 7, 3, 4)?;
+//! let text = wg_properties::write(rt.alloc(), &params)?;
+//! let again = wg_properties::read(text.as_slice())?;
+//! assert_eq!(rt; (again.nodes(), again.arcs()), (3, 4));
+//! assert_eq!(rt; again.residuals(), Code::Zeta(3));
+//! let cut = wg_properties::read(b"graphclass=it.unimi.dsi.webgraph.BVGraph\n");
+//! assert_eq!(rt; cut.err(), Some(PropFault::Missing(Key::Version)));
+//! Ok(())
+//! ```
+//!
 //! A text that is written takes some 200 bytes, in a `List8`. The function of [`laws`] states that it is read
 //! again, and that no text that was cut short is read.
 #![tactic(auto)]

@@ -36,6 +36,21 @@
 //! rows of the W pages before --------+  the list that the record refers to
 //! ```
 //!
+//! A graph file of three bytes, checked, and its lists in order and again:
+//!
+//! ```rust
+//! let records = Records::check(rt.alloc(), b"\x7D\xC6\xE0", usual(3, 4, 7, 3, 4)?)?;
+//! assert_eq!(rt; records.offset(1), 12);
+//! let mut lists = records.sweep(rt.alloc())?;
+//! assert_eq!(rt; lists.next_list(), Some([1, 2].as_slice()));
+//! assert_eq!(rt; lists.next_list(), Some([1, 2].as_slice()));
+//! assert_eq!(rt; lists.next_list(), Some([].as_slice()));
+//! assert_eq!(rt; lists.next_list(), None);
+//! lists.begin();
+//! assert_eq!(rt; lists.next_list(), Some([1, 2].as_slice()));
+//! Ok(())
+//! ```
+//!
 //! | call | memory | time |
 //! |---|---|---|
 //! | [`Records::check`] | an offset, 8 bytes, for each page; while it runs, the lists of a window | that of all bits and lists |

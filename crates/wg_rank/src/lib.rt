@@ -15,6 +15,20 @@
 //!               new low, high <-- settle: the damping's part, and teleport's <-+
 //! ```
 //!
+//! One round over the graph of two pages with the arc from page 0 to page 1:
+//!
+//! ```rust
+//! let mut builder = GraphBuilder::new(rt.alloc(), 2)?;
+//! builder.push_list(&[1])?;
+//! let graph = builder.finish()?;
+//! let mut bounds = Bounds::new(rt.alloc(), 2, 850)?;
+//! assert_eq!(rt; (bounds.low(0), bounds.high(0)), (0, UNITS));
+//! bounds.round(&mut GraphLists::new(&graph));
+//! assert_eq!(rt; bounds.low(0), 75 * (UNITS / 1000));
+//! assert_eq!(rt; bounds.high(0), UNITS / 2);
+//! Ok(())
+//! ```
+//!
 //! A [`Certificate`] is what others can check without the rounds: a damping and the lower bounds alone. [`write_certificate`]
 //! adds its text to a file, and [`read_certificate`] reads it or names its first fault, a [`CertFault`]. [`judge`] does one round
 //! of lower bounds alone, over any graph with as many pages: if it lowers none of them, they enclose every stationary vector,

@@ -13,6 +13,24 @@
 //! only where its count rose, and no file changes. Which steps a job takes, and what it prints and writes, is said
 //! above, in `wg_jobs`.
 //!
+//! The parameters of an archive, and how a job ends whose archive is not there:
+//!
+//! ```rust
+//! let mut depot = SteadyDepot::new(rt.alloc(), 4096);
+//! let text = wg_properties::write(rt.alloc(), &usual(3, 4, 7, 3, 4)?)?;
+//! depot.put_file("web.properties", text.as_slice())?;
+//! let web = Name::new(rt.alloc(), "web")?;
+//! let arcs = load_params(rt.alloc(), &mut depot, &web)
+//!     .ok()
+//!     .map(|params| params.arcs());
+//! assert_eq!(rt; arcs, Some(4));
+//! let other = Name::new(rt.alloc(), "other")?;
+//! let ending = load_params(rt.alloc(), &mut depot, &other).err();
+//! let missing = Status::Missing(Input::Properties);
+//! assert_eq!(rt; ending.map(|ending| ending.status), Some(missing));
+//! Ok(())
+//! ```
+//!
 //! A judgement takes the graph of a file from a function that reads all graph files (`Readings`); the grammar leaves
 //! exactly one such function.
 //!

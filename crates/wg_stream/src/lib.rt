@@ -15,6 +15,20 @@
 //!                                              window of the lists before
 //! ```
 //!
+//! A graph file of three bytes, list after list:
+//!
+//! ```rust
+//! let mut depot = SteadyDepot::new(rt.alloc(), 4096);
+//! depot.put_file("web.graph", b"\x7D\xC6\xE0")?;
+//! let mut reader = Reader::new(rt.alloc(), usual(3, 4, 7, 3, 4)?, "web.graph")?;
+//! assert_eq!(rt; reader.next(&mut depot)?, Some([1, 2].as_slice()));
+//! assert_eq!(rt; reader.next(&mut depot)?, Some([1, 2].as_slice()));
+//! assert_eq!(rt; reader.next(&mut depot)?, Some([].as_slice()));
+//! assert_eq!(rt; reader.next(&mut depot)?, None);
+//! assert_eq!(rt; reader.at(), 19);
+//! Ok(())
+//! ```
+//!
 //! Memory is held for the lists of the window, each with room for at most twice its numbers, and for a few lists more
 //! while a record is read. A stretch is one piece of 4096 bytes and what a word may need of the next; no bytes of a
 //! record are kept, however long it is. The zeros of a long unary word are counted piece by piece, and a word that

@@ -10,6 +10,17 @@
 //! lists of the graph --> place: each source, at the next place of its target's list --> ends, lists
 //! ```
 //!
+//! A graph of three arcs, transposed:
+//!
+//! ```rust
+//! let graph = wg_arcs::read(rt.alloc(), b"0 1\n0 2\n1 2\n", 3)?;
+//! let transposed = transpose(rt.alloc(), &graph)?;
+//! assert_eq!(rt; transposed.nodes(), 3);
+//! assert_eq!(rt; transposed.list(0), [].as_slice());
+//! assert_eq!(rt; transposed.list(2), [0, 1].as_slice());
+//! Ok(())
+//! ```
+//!
 //! It takes time in proportion to the arcs and pages. Memory is taken twice, at the beginning, and is that of the graph
 //! made: 8 bytes for each arc and 8 for each page. The starts become the ends of the lists in the same array, as the
 //! sources are placed.

@@ -10,6 +10,19 @@
 //! before the whole is checked are in [`unchecked`]. [`bytes_of`] turns the text of some bits into bytes, and [`usual`]
 //! makes parameters in the usual codes. The crates above read, write and refuse these archives in their tests.
 //!
+//! One of the worked archives, bit by bit, and a graph that is generated from the seed 7:
+//!
+//! ```rust
+//! assert_eq!(rt; COPIED.graph, "011 1 1 1011 100  011 01 1  1");
+//! let bytes = bytes_of(rt.alloc(), COPIED.graph)?;
+//! assert_eq!(rt; bytes.as_slice(), b"\x7D\xC6\xE0".as_slice());
+//! assert_eq!(rt; COPIED.lists.first(), Some(&[1, 2].as_slice()));
+//! assert_eq!(rt; COPIED.places, [0, 12, 18, 19].as_slice());
+//! let graph = generate(rt.alloc(), 7, 1000)?;
+//! assert_eq!(rt; graph.nodes(), 1000);
+//! Ok(())
+//! ```
+//!
 //! [`generate`] draws a graph of up to [`MOST_GENERATED`] pages that is like a web graph: lists share members with
 //! lists close before them, and have intervals. The definition says each list, and so the same seed gives the same
 //! graph in any program that follows it.

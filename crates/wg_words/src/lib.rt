@@ -5,6 +5,23 @@
 //! the words give. There is no job where `clap` refuses the words, a request for help being such a refusal, or where a value is
 //! out of its range. The definition of the job, `job_of`, is over the matches that `clap` defines for these words.
 //!
+//! The words of a command, and the job that they ask for:
+//!
+//! ```rust
+//! let mut words = Words::new(rt.alloc());
+//! for word in ["show", "web", "7", "0"] {
+//!     words.push(word)?;
+//! }
+//! match wg_words::job(rt.alloc(), &words)? {
+//!     Job::Show { base, pages } => {
+//!         assert_eq!(rt; base.as_str(), "web");
+//!         assert_eq!(rt; pages.as_slice(), [7, 0].as_slice());
+//!     }
+//!     _ => return Err("another job".into()),
+//! }
+//! Ok(())
+//! ```
+//!
 //! A command that writes an archive takes the options of `options`, and its job has a [`Layout`]: what the words say of the
 //! archive's parameters, all but the numbers of pages and arcs. No such job reads one of the files that it writes. What `recode`
 //! and `transpose` take is one `Conversion`, which becomes the job of either.
