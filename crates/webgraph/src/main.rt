@@ -1,5 +1,6 @@
-//! The program `webgraph`: it collects the words after its name, runs their job over the folder's files and the standard streams,
-//! and ends with the status's code. All that is proved of it stands in `wg_cli`; here it is only put together.
+//! The program `webgraph`: it collects the words after its name, runs their job over the folder's files and the
+//! standard streams, and ends with the status's code. All that is proved of it stands in `wg_cli`; here it is only put
+//! together.
 #![tactic(auto)]
 
 use std::env;

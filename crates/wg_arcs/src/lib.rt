@@ -1,12 +1,13 @@
-//! Graphs as texts, a line for each arc, its two pages in decimal digits, parted by a space; and lists of numbers as texts.
+//! Graphs as texts, a line for each arc, its two pages in decimal digits, parted by a space; and lists of numbers as
+//! texts.
 //!
-//! [`write`] puts the text of a graph to a sink, arc by arc, ascending, and [`write_list`] the lines of one page. Both print
-//! through a fixed buffer, so that a sink is called once for some hundred lines; [`print_list`] prints the lines of a page
-//! through any buffer, for a graph whose lists come one after the other.
+//! [`write`] puts the text of a graph to a sink, arc by arc, ascending, and [`write_list`] the lines of one page. Both
+//! print through a fixed buffer, so that a sink is called once for some hundred lines; [`print_list`] prints the lines
+//! of a page through any buffer, for a graph whose lists come one after the other.
 //!
-//! [`read`] reads such a text into a graph, or names its first faulty line, an [`ArcsError::Line`]. It also takes blanks
-//! between the numbers and round them, lines without words, comments that begin with `#`, and a CR before the end of a line.
-//! The arcs must ascend, and no page may be as large as the number of pages, which is given.
+//! [`read`] reads such a text into a graph, or names its first faulty line, an [`ArcsError::Line`]. It also takes
+//! blanks between the numbers and round them, lines without words, comments that begin with `#`, and a CR before the
+//! end of a line. The arcs must ascend, and no page may be as large as the number of pages, which is given.
 //!
 //! A text that is read and written again, and one whose second line is faulty:
 //!
@@ -22,12 +23,12 @@
 //! Ok(())
 //! ```
 //!
-//! [`read_numbers`] reads a text of as many numbers as are wanted, each below a limit and on a line of its own, or names its
-//! first fault, a [`NumbersFault`]: the first faulty line, or, where no line is faulty, that numbers are missing. Blanks, lines
-//! without words, comments and a CR are as in the text of a graph.
+//! [`read_numbers`] reads a text of as many numbers as are wanted, each below a limit and on a line of its own, or
+//! names its first fault, a [`NumbersFault`]: the first faulty line, or, where no line is faulty, that numbers are
+//! missing. Blanks, lines without words, comments and a CR are as in the text of a graph.
 //!
-//! Writing takes no memory, and time in proportion to the pages, and to the digits of the arcs. Reading goes over the text
-//! once; it holds the graph or the numbers, 8 bytes each, and takes memory as they come.
+//! Writing takes no memory, and time in proportion to the pages, and to the digits of the arcs. Reading goes over the
+//! text once; it holds the graph or the numbers, 8 bytes each, and takes memory as they come.
 #![tactic(auto)]
 
 mod fault;

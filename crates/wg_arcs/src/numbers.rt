@@ -60,8 +60,8 @@ fn read_line(
     }
 }
 
-/// Reads a text of `n` numbers below a limit, or names its first fault. It takes memory as the numbers come, and one pass
-/// over the text.
+/// Reads a text of `n` numbers below a limit, or names its first fault. It takes memory as the numbers come, and one
+/// pass over the text.
 pub fn read_numbers(alloc: Global, bytes: &[u8], n: u64, limit: u64) -> Result<List, NumbersError>
     ensures read { AreRead (numbers_of n limit bytes.now) result }
     ensures count { IfOk result (λ list. length list ≡ n) }

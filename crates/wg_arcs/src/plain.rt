@@ -15,8 +15,8 @@ fn after(text: &[u8], byte: u8) -> Option<&[u8]>
     None
 }
 
-/// The arc of the first line and the text after it, where the line is two numbers, one space between them, and its end. It goes
-/// over the line once.
+/// The arc of the first line and the text after it, where the line is two numbers, one space between them, and its end.
+/// It goes over the line once.
 #[inline(always)]
 pub fn plain_arc(text: &[u8]) -> Option<(u64, u64, &[u8])>
     ensures line { IfSome result (λ r. text.now ≡ arc_line (r.0, r.1) ++ r.2.now) }

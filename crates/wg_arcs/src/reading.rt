@@ -113,8 +113,8 @@ fn read_first<'a>(
     }
 }
 
-/// Reads the text of a graph of `n` pages, or names its first faulty line. Memory is taken as the arcs come, and at the end 8
-/// bytes for each page; it costs a pass over the text.
+/// Reads the text of a graph of `n` pages, or names its first faulty line. Memory is taken as the arcs come, and at the
+/// end 8 bytes for each page; it costs a pass over the text.
 pub fn read(alloc: Global, bytes: &[u8], n: u64) -> Result<Graph, ArcsError>
     requires { n ≤ MOST_PAGES }
     ensures { IsRead n bytes.now result }

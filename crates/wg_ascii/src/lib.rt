@@ -8,8 +8,8 @@
 //! [`read`] reads such a text into a graph, or names its first faulty line, an [`AsciiError::Line`]. It also takes
 //! other blanks between the words and round them, a CR before the end of a line, a last line that is not ended, and
 //! lines of blanks after those of the pages. No line is skipped: a line without words is a page without successors.
-//! There are no comments. The successors of a page ascend, and are below the number of pages; the pages and the arcs are within
-//! the limits of an archive. Line by line, and on a line word by word, the first fault is named:
+//! There are no comments. The successors of a page ascend, and are below the number of pages; the pages and the arcs
+//! are within the limits of an archive. Line by line, and on a line word by word, the first fault is named:
 //!
 //! - `Shape`: the first line is not one word, or a word is not the decimal text of a number below 2^64;
 //! - `Range`: the first line tells more pages than an archive may have, or a successor is no page;

@@ -16,8 +16,8 @@ use wg_graph::{GraphBuilder, List};
 use wg_num::{first_line, read_decimal};
 use wg_params::MOST_ARCS;
 
-// The number that a word writes, if it may come next on the line of a page, or why it is refused: `least` is one more than
-// the number before it on the line, or 0, and so many arcs come before it.
+// The number that a word writes, if it may come next on the line of a page, or why it is refused: `least` is one more
+// than the number before it on the line, or 0, and so many arcs come before it.
 #[inline(always)]
 fn judge(word: &[u8], n: u64, least: u64, arcs: u64) -> Result<u64, AsciiKind>
     ensures number { IfOk result (λ v. IsNumber n least arcs word.now v) }

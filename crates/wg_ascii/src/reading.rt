@@ -65,8 +65,8 @@ fn refuse_words(bytes: &[u8], line: u64) -> Result<(), AsciiError>
     Ok(())
 }
 
-/// Reads the plain text of a graph, or names its first faulty line. It holds the graph and the list of one page, 8 bytes
-/// for each arc and each page, and takes memory as the lines come; it costs a pass over the text.
+/// Reads the plain text of a graph, or names its first faulty line. It holds the graph and the list of one page, 8
+/// bytes for each arc and each page, and takes memory as the lines come; it costs a pass over the text.
 pub fn read(alloc: Global, bytes: &[u8]) -> Result<Graph, AsciiError>
     ensures { IsRead bytes.now result }
 {

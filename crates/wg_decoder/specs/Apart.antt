@@ -50,8 +50,8 @@ HeadFails p c bits start e =
     ⊎ ((d : ℕ) × (mid : ℕ) × OutdegreeStands p c bits start d mid × ReferenceFails p c bits start d mid e))
     × (e.page ≡ c.page)
 
--- Where the head of a record stands from the bit start to the bit at, and its reference names this list and leads to this
--- depth, the record is this one.
+-- Where the head of a record stands from the bit start to the bit at, and its reference names this list and leads to
+-- this depth, the record is this one.
 abbrev pub IsRest : Parameters → ℕ → ℕ → ℕ → ℕ → List ℕ → ℕ → List Bool → ℕ → Result Whole Fault → Type 0
 IsRest p page start d r named depth bits at w =
     (arcs_before : ℕ) (behind : List Known) → referenced behind r ≡ named → depth_of behind r ≡ depth

@@ -110,8 +110,8 @@ fn reference_over<S: Source>(
     Ok(reference)
 }
 
-/// The head of a record whose reference, where it has one, names a page of which this is told. Where the outdegree is 0,
-/// nothing follows it. It reads two words at most.
+/// The head of a record whose reference, where it has one, names a page of which this is told. Where the outdegree is
+/// 0, nothing follows it. It reads two words at most.
 pub fn read_head_over<S: Source>(
     params: &Params,
     page: u64,

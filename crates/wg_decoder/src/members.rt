@@ -15,8 +15,8 @@ use wg_graph::List;
 use wg_params::Params;
 use wg_source::Source;
 
-/// The list of a record with this head, whose reference names the list `named`. It may be shorter than the outdegree, where a
-/// number stands twice. Memory is taken as numbers come, and not by the outdegree.
+/// The list of a record with this head, whose reference names the list `named`. It may be shorter than the outdegree,
+/// where a number stands twice. Memory is taken as numbers come, and not by the outdegree.
 #[inline(always)]
 pub fn members<S: Source>(
     spares: &mut Spares,

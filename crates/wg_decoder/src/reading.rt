@@ -16,8 +16,8 @@ use wg_grammar::{Fault, Field, Kind};
 use wg_params::Params;
 use wg_source::Source;
 
-/// The rest of a record that begins at the bit `start` and whose head has been read. Its reference names a page with this
-/// list, and leads to this depth.
+/// The rest of a record that begins at the bit `start` and whose head has been read. Its reference names a page with
+/// this list, and leads to this depth.
 #[inline(always)]
 pub(crate) fn decode_members<S: Source>(
     params: &Params,

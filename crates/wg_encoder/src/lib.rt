@@ -7,11 +7,11 @@
 //! depths alone, where the archive limits chains.
 //!
 //! [`record_cost`] counts the bits of a canonical record from the two lists, without making it. A [`ListEncoder`] takes
-//! the lists of pages 0, 1 and so on, each once, and keeps a copy of those that a reference may name, with their depths:
-//! at most as many as the archive's window, each with room for at most twice its numbers, and 32 bytes beside it. For a
-//! list that comes next it tells the candidates, what each of them takes, and which one is written. An [`Encoder`] does
-//! the same for the pages of a graph, and stands on it; a copy of each list is what it costs. No record has 2 ^ 64 bits
-//! or more.
+//! the lists of pages 0, 1 and so on, each once, and keeps a copy of those that a reference may name, with their
+//! depths: at most as many as the archive's window, each with room for at most twice its numbers, and 32 bytes beside
+//! it. For a list that comes next it tells the candidates, what each of them takes, and which one is written. An
+//! [`Encoder`] does the same for the pages of a graph, and stands on it; a copy of each list is what it costs. No
+//! record has 2 ^ 64 bits or more.
 //!
 //! [`make_record`] makes a canonical record from the two lists as a [`HeldRecord`], 24 bytes for each field, and
 //! [`HeldRecord::write`] puts its words through a writer, where each value has one.

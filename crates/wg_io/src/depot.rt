@@ -29,19 +29,19 @@ pub enum WriteError {
 /// Files by their names, which are read and added to in pieces.
 ///
 /// A depot in memory can tell what it holds, and one of the system's files cannot: what others write there meanwhile is
-/// not ours to say. So each clause on bytes stands under `told`. What holds of every depot is that it owns up to what it
-/// refuses: an error comes only where a count rose. An implementation may keep one count for all names.
+/// not ours to say. So each clause on bytes stands under `told`. What holds of every depot is that it owns up to what
+/// it refuses: an error comes only where a count rose. An implementation may keep one count for all names.
 pub trait Depot {
     /// Whether `files` is what is there. It is a constant of the type.
     ghost told: { Bool };
 
-    /// The bytes of each file, by the bytes of its name. Only `create` and `append` change them, and these only the file
-    /// that they name.
+    /// The bytes of each file, by the bytes of its name. Only `create` and `append` change them, and these only the
+    /// file that they name.
     ghost files: { Self → Files };
 
-    /// How often the calls on a name were refused: `read_faults` counts the reads and `write_faults` the calls of `create`
-    /// and `append` that failed, `absences` the reads that found no such file, and `wants` the calls of all three that
-    /// found no memory.
+    /// How often the calls on a name were refused: `read_faults` counts the reads and `write_faults` the calls of
+    /// `create` and `append` that failed, `absences` the reads that found no such file, and `wants` the calls of all
+    /// three that found no memory.
     ghost counts: { Self → List ℕ → Counts };
 
     /// Reads bytes of a file from the offset `at` on into the front of `buf`, and answers how many: none at or past the
@@ -69,7 +69,8 @@ pub trait Depot {
             → Increased (counts self.old name.now).wants (counts self.new name.now).wants }
         ensures later { NonDecreasing (counts self.old) (counts self.new) };
 
-    /// Adds a prefix of the piece, at least one byte, to the end of a file, and answers its length. An absent file is begun.
+    /// Adds a prefix of the piece, at least one byte, to the end of a file, and answers its length. An absent file is
+    /// begun.
     fn append(&mut self, name: &str, piece: &[u8]) -> Result<usize, WriteError>
         requires { 0 < length piece.now }
         ensures count { IfOk result (λ count. (0 < count) × (count ≤ length piece.now)) }

@@ -14,13 +14,13 @@ use std::rt::Files;
 
 /// Files of the system, by their paths. It tells no bytes, and counts for all names together.
 ///
-/// The file that was read last stays open, and so does the one that was appended to last, so that a file that is read or
-/// written in pieces costs one call of the system a piece. Each holds a copy of its name; if there is no memory for it, the
-/// next call opens the file anew. A file that others put under the name of an open one goes unseen.
+/// The file that was read last stays open, and so does the one that was appended to last, so that a file that is read
+/// or written in pieces costs one call of the system a piece. Each holds a copy of its name; if there is no memory for
+/// it, the next call opens the file anew. A file that others put under the name of an open one goes unseen.
 ///
-/// A file that was read is never emptied under another name: of each name that was read it remembers which file that was,
-/// and `create` of a second name of the same file fails, with nothing changed. If there is no memory to remember it, it is
-/// not read.
+/// A file that was read is never emptied under another name: of each name that was read it remembers which file that
+/// was, and `create` of a second name of the same file fails, with nothing changed. If there is no memory to remember
+/// it, it is not read.
 #[derive(Drop)]
 pub struct FolderDepot<R: Files<File = File> + AllocGlobal + Drop> {
     rt: R,

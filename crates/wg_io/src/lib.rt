@@ -1,9 +1,10 @@
 //! The outside of a program, by two traits: a [`Depot`] of named files, and a [`Sink`] of bytes.
 //!
-//! Whoever reads or writes is generic over these traits, and its contract says which bytes it read and wrote wherever the
-//! outside can tell them. [`read_whole`] reads a file into a [`List8`], [`append_all`] writes to a file, [`write_all`] and
-//! [`write_pieces`] write to a sink; each loops until all is done or a call is refused. [`Lines`] prints numbers and short
-//! texts through a fixed buffer, so that a sink is called once for some thousand bytes. A [`FileSink`] is a file of any depot.
+//! Whoever reads or writes is generic over these traits, and its contract says which bytes it read and wrote wherever
+//! the outside can tell them. [`read_whole`] reads a file into a [`List8`], [`append_all`] writes to a file,
+//! [`write_all`] and [`write_pieces`] write to a sink; each loops until all is done or a call is refused. [`Lines`]
+//! prints numbers and short texts through a fixed buffer, so that a sink is called once for some thousand bytes. A
+//! [`FileSink`] is a file of any depot.
 //!
 //! | outside | files | bytes |
 //! |---|---|---|
@@ -27,12 +28,12 @@
 //! Ok(())
 //! ```
 //!
-//! An error is never made up: `Failed`, `Absent` and `Memory` come from an outside only where it counted them, which is how
-//! a contract far above can say that a failed job was the outside's fault. The counts stand still at 2^64 - 1.
+//! An error is never made up: `Failed`, `Absent` and `Memory` come from an outside only where it counted them, which is
+//! how a contract far above can say that a failed job was the outside's fault. The counts stand still at 2^64 - 1.
 //!
-//! No call holds memory but for the bytes that it answers, the names of two open files of the system, and the names that
-//! files of the system were read by. The depots and sinks in memory hold their own bytes, and a depot looks a name up by
-//! going through all of them.
+//! No call holds memory but for the bytes that it answers, the names of two open files of the system, and the names
+//! that files of the system were read by. The depots and sinks in memory hold their own bytes, and a depot looks a name
+//! up by going through all of them.
 #![tactic(auto)]
 
 mod appending;

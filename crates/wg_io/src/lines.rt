@@ -20,9 +20,9 @@ pub const MOST_START: usize = 24;
 
 /// Numbers and bytes on their way into a sink: those that were printed and have not gone out yet.
 ///
-/// It holds up to 8192 bytes itself and takes no memory. They go out when there is no room for another line, and all that is
-/// left with [`flush`](Lines::flush). The sink is that of each call: always hand in the same one. After an error what waits is
-/// lost.
+/// It holds up to 8192 bytes itself and takes no memory. They go out when there is no room for another line, and all
+/// that is left with [`flush`](Lines::flush). The sink is that of each call: always hand in the same one. After an
+/// error what waits is lost.
 #[derive(Drop)]
 pub struct Lines {
     // the bytes that wait are the first `len`
@@ -72,7 +72,8 @@ impl Lines {
         self.len = end;
     }
 
-    // Lets the first `count` bytes of a text wait. All of it is copied, which costs less than a copy of any other length.
+    // Lets the first `count` bytes of a text wait. All of it is copied, which costs less than a copy of any other
+    // length.
     #[inline(always)]
     fn hold_prefix(&mut self, text: &[u8; MOST_START], count: usize)
         requires count { count ≤ MOST_START }
@@ -176,8 +177,8 @@ impl Lines {
         }
     }
 
-    /// Prints such a line, if the first `count` bytes of `start` are its first number and the space: they were made once for
-    /// many lines.
+    /// Prints such a line, if the first `count` bytes of `start` are its first number and the space: they were made
+    /// once for many lines.
     #[inline(always)]
     pub fn pair_after<S: Sink>(
         &mut self,

@@ -11,8 +11,8 @@ use crate::{Depot, ReadError, SteadyDepot, WriteError};
 use std::alloc::{AllocError, Global};
 use std::marker::Model;
 
-/// Files in memory: a depot that tells its bytes, and in which the calls fail that were named to fail. Calls of each kind
-/// are counted from 1 since `new`, failing ones too.
+/// Files in memory: a depot that tells its bytes, and in which the calls fail that were named to fail. Calls of each
+/// kind are counted from 1 since `new`, failing ones too.
 #[derive(Drop)]
 pub struct MemoryDepot {
     steady: SteadyDepot,

@@ -10,8 +10,8 @@ use crate::{Sink, SteadySink, WriteError};
 use std::alloc::Global;
 use std::marker::Model;
 
-/// Bytes in memory: a sink that tells its bytes, and in which the write fails that was named to fail. Writes are counted
-/// from 1 since `new`, failing ones too.
+/// Bytes in memory: a sink that tells its bytes, and in which the write fails that was named to fail. Writes are
+/// counted from 1 since `new`, failing ones too.
 #[derive(Drop)]
 pub struct MemorySink {
     steady: SteadySink,

@@ -11,8 +11,8 @@ use crate::{Depot, ReadError, WriteError};
 use std::alloc::{AllocError, Global};
 use std::marker::Model;
 
-/// Files in memory: a depot that tells its bytes, and in which no call fails but for want of memory. A call goes through
-/// the names one by one.
+/// Files in memory: a depot that tells its bytes, and in which no call fails but for want of memory. A call goes
+/// through the names one by one.
 #[derive(Drop)]
 pub struct SteadyDepot {
     files: HeldFiles,

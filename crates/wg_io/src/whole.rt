@@ -91,8 +91,8 @@ impl From<AllocError> for LoadError {
 
 /// Reads a whole file into memory, in pieces of 65536 bytes.
 ///
-/// The byte at the limit is asked for first, so that a file that is too long is refused before any of it is held; one that
-/// grows meanwhile is refused when it passes the limit.
+/// The byte at the limit is asked for first, so that a file that is too long is refused before any of it is held; one
+/// that grows meanwhile is refused when it passes the limit.
 pub fn read_whole<D: Depot>(alloc: Global, depot: &mut D, name: &str) -> Result<List8, LoadError>
     ensures bytes { IsTrue D.told → Loads (map.get (D.files depot.old) name.now) result }
     ensures same { D.files depot.new ≡ D.files depot.old }

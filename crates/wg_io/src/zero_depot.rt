@@ -9,8 +9,8 @@ use crate::tally::Tally;
 use crate::{Depot, ReadError, WriteError};
 use std::marker::Model;
 
-/// One file of zero bytes, however long, which takes no memory: a depot that tells its bytes, and to which nothing can be
-/// written.
+/// One file of zero bytes, however long, which takes no memory: a depot that tells its bytes, and to which nothing can
+/// be written.
 #[derive(Drop)]
 pub struct ZeroDepot<'a> {
     name: &'a str,

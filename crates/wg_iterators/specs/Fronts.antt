@@ -1,5 +1,5 @@
--- The copied members and the residuals of a record, as the lists that are still to come. Each is told from what stands at
--- its own offset of the bits.
+-- The copied members and the residuals of a record, as the lists that are still to come. Each is told from what stands
+-- at its own offset of the bits.
 use Rattle.std.specs.Prelude.{ℕ, zero, suc, ◌+◌, Bool, not, if◌then◌else◌, List, [], ◌∷◌, Option, Some, None}
 use Rattle.wg_params.specs.declared.code.Code.{Code}
 use Rattle.wg_params.specs.Codes.{IsCode}

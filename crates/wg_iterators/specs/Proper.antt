@@ -21,7 +21,8 @@ behind_of p (Some list) = replicate p.window (record { list = list; depth = 0 })
 abbrev pub context_on : Parameters → ℕ → Option (List ℕ) → Context
 context_on p page below = record { page = page; arcs_before = 0; behind = behind_of p below }
 
--- At the position stands a proper record of the page with this list. It has a reference exactly where there is a list below, to which it refers.
+-- At the position stands a proper record of the page with this list. It has a reference exactly where there is a list
+-- below, to which it refers.
 pub record IsRecord (p : Parameters) (page : ℕ) (below : Option (List ℕ)) (position : Position) (list : List ℕ) : Type 0 where
   pub stored : List ℕ
   pub whole : SoFar

@@ -13,8 +13,8 @@ use wg_blocks::Mask;
 use wg_intervals::IntervalWalk;
 use wg_params::{Code, Params};
 
-/// What the list of a record is read from: a mask over the members of the list that it refers to, the numbers inside its
-/// intervals, and its residuals.
+/// What the list of a record is read from: a mask over the members of the list that it refers to, the numbers inside
+/// its intervals, and its residuals.
 #[derive(Drop)]
 pub struct Fronts<'a> {
     pub outdegree: u64,

@@ -1,9 +1,9 @@
 //! The successors of one page, given one by one, straight from the bits of an archive.
 //!
-//! A [`Successors`] stands on one record, and has three fronts: members copied from the list of the page that the record
-//! refers to, numbers inside intervals, and residuals. Each front reads its words with a cursor of its own, when its
-//! next number is asked for, and keeps that number until it is given; [`Successors::next`] gives the least of the three.
-//! What is copied comes through a mask, either from the [`Successors`] of the referenced page, in a `Box`
+//! A [`Successors`] stands on one record, and has three fronts: members copied from the list of the page that the
+//! record refers to, numbers inside intervals, and residuals. Each front reads its words with a cursor of its own, when
+//! its next number is asked for, and keeps that number until it is given; [`Successors::next`] gives the least of the
+//! three. What is copied comes through a mask, either from the [`Successors`] of the referenced page, in a `Box`
 //! ([`Successors::begin`]), or from its list, if that was made before and is lent ([`Successors::begin_on`]).
 //!
 //! ```text
@@ -23,24 +23,24 @@
 //! Ok(())
 //! ```
 //!
-//! [`find_fronts`] passes the words of a record once, to find where its fronts begin; an iterator is made of them and of
-//! what is below. So the words of blocks and intervals are read twice, and no others. Whoever walks down to the
+//! [`find_fronts`] passes the words of a record once, to find where its fronts begin; an iterator is made of them and
+//! of what is below. So the words of blocks and intervals are read twice, and no others. Whoever walks down to the
 //! referenced page first asks [`reference`], which reads the two words at the head of a record.
 //!
 //! [`decode_into`] puts the whole list of a record into a [`Row`](wg_graph::Row) at once, over a lent list, and moves
 //! the cursor over the record. So whoever reads all records in order needs no offsets, and takes no memory while it
 //! reads. [`read_head`] reads the head before, so that the list that is referred to can be found. There are no fronts:
-//! each word is read once, in the order of the record; runs of members are copied while their blocks come, intervals are
-//! joined to them as runs, and then the residuals, from one row to another.
+//! each word is read once, in the order of the record; runs of members are copied while their blocks come, intervals
+//! are joined to them as runs, and then the residuals, from one row to another.
 //!
 //! **Memory** is that of the values themselves: an iterator holds three cursors and three numbers, no list, and one box
 //! for each page below, which the caller makes. No call takes memory.
 //!
 //! **Cost.** To begin takes the time of the record's own words, however many pages are below, since no number is read
-//! before it is asked for. All numbers together take the time of the record's words and of the members below, whether the
-//! mask copies them or not. Over a lent list those are its members; over other iterators, the members of all lists below,
-//! since a number that is copied through several pages is given once by each of them, and a call of `next` goes down
-//! through them all. Therefore at most [`CHAIN_PAGES`] pages stand on each other.
+//! before it is asked for. All numbers together take the time of the record's words and of the members below, whether
+//! the mask copies them or not. Over a lent list those are its members; over other iterators, the members of all lists
+//! below, since a number that is copied through several pages is given once by each of them, and a call of `next` goes
+//! down through them all. Therefore at most [`CHAIN_PAGES`] pages stand on each other.
 //!
 //! **Errors.** There are none: all calls ask for a proper record at the cursor, which a checked archive has.
 #![tactic(auto)]

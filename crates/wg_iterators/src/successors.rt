@@ -166,8 +166,8 @@ impl<'a> Successors<'a> {
         }
     }
 
-    /// The successors of `page`, whose record stands at the cursor, before the first. `below` is the page that the record
-    /// refers to, if it has a reference, and has given nothing yet. It takes the time of the record's own words.
+    /// The successors of `page`, whose record stands at the cursor, before the first. `below` is the page that the
+    /// record refers to, if it has a reference, and has given nothing yet. It takes the time of the record's own words.
     pub fn begin(
         params: &Params,
         page: u64,

@@ -37,7 +37,8 @@ holding a input.Certificate = None
 holding a input.Text = None
 holding a input.Map = None
 
--- The greedy archive of a graph within the limits is accepted, and its arcs, plain text, places and ranking are those of the graph.
+-- The greedy archive of a graph within the limits is accepted, and its arcs, plain text, places and ranking are those
+-- of the graph.
 pub record IsAcceptedAs (r : Readings) (p : Parameters) (g : Digraph) (base : List ℕ) : Type 0 where
   pub check : judged r (Check base) (holding (greedy_archive p g)) ≡ accepted (ok_line p (length (graph_bits p g.lists)))
   pub arcs : judged r (Arcs base) (holding (greedy_archive p g)) ≡ accepted (text_of_graph g)
@@ -60,14 +61,15 @@ BuildsAreAccepted r =
     (list_name base : List ℕ) (nodes : ℕ) (layout : Layout) (held : Input → Option (List ℕ)) (a : Archive) (out : List ℕ)
     → IsWithinLimits (params_of layout nodes 0) → judged r (Build list_name base nodes layout) held ≡ built a out → IsAcceptedBuild r held base a out
 
--- What an import comes to is accepted with its line, and its plain text has the words of the text that was read, line by line.
+-- What an import comes to is accepted with its line, and its plain text has the words of the text that was read, line
+-- by line.
 pub record IsAcceptedImport (r : Readings) (held : Input → Option (List ℕ)) (base : List ℕ) (a : Archive) (out : List ℕ) : Type 0 where
   pub check : judged r (Check base) (holding a) ≡ accepted out
   pub ascii : (bytes : List ℕ) → held input.Text ≡ Some bytes
       → (text : List ℕ) × (judged r (Ascii base) (holding a) ≡ accepted text) × HaveSameWords (lines_of bytes) (lines_of text)
 
--- It does for each text and each layout within the limits; and to import the plain text of an archive, where a file may be so long,
--- is to recode the archive.
+-- It does for each text and each layout within the limits; and to import the plain text of an archive, where a file may
+-- be so long, is to recode the archive.
 pub record ImportsAreAccepted (r : Readings) : Type 0 where
   pub import : (name base : List ℕ) (layout : Layout) (held : Input → Option (List ℕ)) (a : Archive) (out : List ℕ)
       → IsWithinLimits (params_of layout 0 0) → judged r (Import name base layout) held ≡ built a out → IsAcceptedImport r held base a out
@@ -75,7 +77,8 @@ pub record ImportsAreAccepted (r : Readings) : Type 0 where
       → judged r (Ascii base) held ≡ accepted text → length text ≤ MOST_BYTES → after input.Text ≡ Some text
       → judged r (Import name output layout) after ≡ judged r (Recode base output layout) held
 
--- What a quotient comes to is accepted with its line, for each archive and each map that are read, and each layout within the limits.
+-- What a quotient comes to is accepted with its line, for each archive and each map that are read, and each layout
+-- within the limits.
 abbrev pub QuotientsAreAccepted : Readings → Type 0
 QuotientsAreAccepted r =
     (input map output : List ℕ) (classes : ℕ) (layout : Layout) (held : Input → Option (List ℕ)) (a : Archive) (out : List ℕ)
@@ -87,7 +90,8 @@ pub record IsAcceptedRecoding (r : Readings) (held : Input → Option (List ℕ)
   pub check : judged r (Check output) (holding a) ≡ accepted out
   pub arcs : judged r (Arcs output) (holding a) ≡ judged r (Arcs input) held
 
--- What a transposing comes to is accepted with its line, and to transpose it again is to recode the archive that was read.
+-- What a transposing comes to is accepted with its line, and to transpose it again is to recode the archive that was
+-- read.
 pub record IsAcceptedTransposing (r : Readings) (held : Input → Option (List ℕ)) (input output : List ℕ) (a : Archive) (out : List ℕ) : Type 0 where
   pub check : judged r (Check output) (holding a) ≡ accepted out
   pub back : (third : List ℕ) (layout : Layout) → judged r (Transpose output third layout) (holding a) ≡ judged r (Recode input third layout) held

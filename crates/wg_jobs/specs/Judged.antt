@@ -67,7 +67,8 @@ builds l g = built (greedy_archive (params_for l g) g) (greedy_line (params_for 
 abbrev pub with_union : Digraph → Digraph → (Digraph → Judged) → Judged
 with_union g h next = if nat_lt MOST_ARCS (arc_count (union_graph g h)) then refused TooManyArcs else next (union_graph g h)
 
--- the first lines of the ranking by these bounds are printed; before it, if a certificate is named, their lower half is written
+-- the first lines of the ranking by these bounds are printed; before it, if a certificate is named, their lower half is
+-- written
 abbrev pub ranks : Readings → Option (List ℕ) → ℕ → Intervals → Judged
 ranks r None top b = accepted (ranking_text r b top)
 ranks r (Some name) top b = certified (certificate_text b) (ranking_text r b top)

@@ -25,7 +25,8 @@ use Rattle.wg_readings.specs.declared.status.Input.{Input}
 use Rattle.wg_readings.specs.declared.status.Status.{Status}
 use Rattle.wg_readings.specs.declared.status.Status.TheVariants.{Done, ReadFault, WriteFault}
 
--- the outside of a job at one moment: the files of the depot and its counts, what the output has taken, and how often the output failed
+-- the outside of a job at one moment: the files of the depot and its counts, what the output has taken, and how often
+-- the output failed
 pub record Outside : Type 0 where
   pub files : Files
   pub counts : List ℕ → Counts
@@ -39,10 +40,11 @@ outside files counts taken faults = record { files = files; counts = counts; tak
 abbrev pub judged_on : Readings → Job → Files → Judged
 judged_on r job files = judged r job (held_by (input_name job) files)
 
--- The job was done or has ended with this status, where the properties promise so many arcs. What the files or the output hold is told only of a
--- depot and an output whose ghosts are told.
+-- The job was done or has ended with this status, where the properties promise so many arcs. What the files or the
+-- output hold is told only of a depot and an output whose ghosts are told.
 pub record Performs (job : Job) (told_files told_out : Bool) (before after : Outside) (status : Status) (arcs : ℕ) : Type 0 where
-  -- the status is the one that the job and its inputs lead to, or a fault of the outside or want of memory came in its place
+  -- the status is the one that the job and its inputs lead to, or a fault of the outside or want of memory came in its
+  -- place
   pub answers : IsTrue told_files → (r : Readings) → Answers (judged_on r job before.files) status
   -- it is one of those that this job can have at all
   pub possible : IsTrue (can_end job status)

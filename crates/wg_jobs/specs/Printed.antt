@@ -50,8 +50,8 @@ abbrev pub PutsUpTo : List ℕ → List ℕ → List ℕ → Result (Unit {0}) E
 PutsUpTo due old new (Ok done) = new ≡ old ++ due
 PutsUpTo due old new (Err e) = (k : ℕ) × (new ≡ old ++ take k due)
 
--- A pass over a graph file that prints a text of its graph. If the file stands for a graph, all of the text is put out, or a prefix of it and
--- then something hindered the pass.
+-- A pass over a graph file that prints a text of its graph. If the file stands for a graph, all of the text is put out,
+-- or a prefix of it and then something hindered the pass.
 pub record PrintsGraph (base : List ℕ) (p : Parameters) (text : Accepted → List ℕ) (told_files told_out : Bool) (before after : Outside) (result : Result (Unit {0}) Ending) : Type 0 where
   pub same : after.files ≡ before.files
   pub later : NonDecreasing before.counts after.counts

@@ -26,7 +26,8 @@ use Rattle.wg_readings.specs.declared.status.Input.TheVariants as input
 abbrev pub of_pages : Digraph → (ℕ → ℕ) → List ℕ
 of_pages g f = map f (range_with_len 0 g.nodes)
 
--- the bounds of a graph's pages after so many rounds, with teleport by the weights that are given, or to each page alike
+-- the bounds of a graph's pages after so many rounds, with teleport by the weights that are given, or to each page
+-- alike
 abbrev pub bounds_after : Digraph → Option (List ℕ) → ℕ → ℕ → Intervals
 bounds_after g given damping rounds = let w = weights_of g.nodes given in record {
   damping = damping;
@@ -74,8 +75,9 @@ pub record Ranks (b : Intervals) (s : Positions) : Type 0 where
   pub high_is : s.high ≡ b.high
   pub ranked : IsRanking s.low s.high s.pages
 
--- What the bounds and positions that are printed say: they enclose every exact iterate from these rounds on and every stationary
--- vector, within the stated width; and pages whose intervals are disjoint are in the order of their exact shares.
+-- What the bounds and positions that are printed say: they enclose every exact iterate from these rounds on and every
+-- stationary vector, within the stated width; and pages whose intervals are disjoint are in the order of their exact
+-- shares.
 pub record IsProvenRanking (r : Readings) (b : Intervals) (g : Digraph) : Type 0 where
   pub certified : IsCertified b g
   pub surely : IsSurely (positions_of r b) b g
@@ -86,7 +88,8 @@ RankingIsProven r rounds damping =
     rounds ≤ MOST_ROUNDS → damping ≤ MOST_DAMPING → (g : Digraph) → IsGraph g → g.nodes ≤ MOST_PAGES
     → (given : Option (List ℕ)) → AreWeights g.nodes (weights_of g.nodes given) → IsProvenRanking r (bounds_after g given damping rounds) g
 
--- The files of an archive stand for this graph: the bytes of its graph file do, by the parameters of its properties text.
+-- The files of an archive stand for this graph: the bytes of its graph file do, by the parameters of its properties
+-- text.
 pub record HoldGraph (r : Readings) (held : Input → Option (List ℕ)) (g : Digraph) : Type 0 where
   pub text : List ℕ
   pub parameters : Parameters
@@ -104,8 +107,8 @@ HoldWeights None held n given = given ≡ None
 HoldWeights (Some name) held n given =
     (bytes : List ℕ) × (ws : List ℕ) × (held input.Weights ≡ Some bytes) × (weights_in n bytes ≡ Ok ws) × (given ≡ Some ws)
 
--- What is printed is the ranking of the graph that the files stand for, by the weights that they hold, and this much is proved of
--- its bounds and positions.
+-- What is printed is the ranking of the graph that the files stand for, by the weights that they hold, and this much is
+-- proved of its bounds and positions.
 pub record PrintsProvenRanking (r : Readings) (held : Input → Option (List ℕ)) (weights : Option (List ℕ)) (rounds damping top : ℕ) (old new : List ℕ) : Type 0 where
   pub graph : Digraph
   pub given : Option (List ℕ)

@@ -36,8 +36,8 @@ abbrev pub verified_line : Claim → ℕ → List ℕ
 verified_line c left =
     codes "ok pages=" ++ decimal (length c.low) ++ codes " damping=" ++ decimal c.damping ++ codes " gap=" ++ text_of_units left ++ codes "\n"
 
--- What is printed is what the bounds of a certificate leave of 1, over the graph and the weights that the files hold; and each
--- stationary vector lies between these bounds and those with so much more.
+-- What is printed is what the bounds of a certificate leave of 1, over the graph and the weights that the files hold;
+-- and each stationary vector lies between these bounds and those with so much more.
 pub record PrintsProvenGap (r : Readings) (held : Input → Option (List ℕ)) (weights : Option (List ℕ)) (old new : List ℕ) : Type 0 where
   pub graph : Digraph
   pub given : Option (List ℕ)

@@ -67,7 +67,8 @@ abbrev pub StopAtGraph : Archive → ArchiveFiles → ArchiveFiles → Type 0
 StopAtGraph a old new =
     (new.properties ≡ Some []) × (((new.graph ≡ old.graph) × (new.offsets ≡ old.offsets)) ⊎ (HoldsLess new.graph a.graph × HoldsFront new.offsets a.offsets))
 
--- the properties are empty; the graph file is and the offsets are as before, or both are prefixes of the archive's, and the offsets lack something
+-- the properties are empty; the graph file is and the offsets are as before, or both are prefixes of the archive's, and
+-- the offsets lack something
 abbrev pub StopAtOffsets : Archive → ArchiveFiles → ArchiveFiles → Type 0
 StopAtOffsets a old new =
     (new.properties ≡ Some []) × (((new.graph ≡ Some []) × (new.offsets ≡ old.offsets)) ⊎ (HoldsFront new.graph a.graph × HoldsLess new.offsets a.offsets))
@@ -97,8 +98,8 @@ abbrev pub status_of_error : EncodeError → Status
 status_of_error (error.Failed o) = WriteFault o
 status_of_error error.Memory = Memory
 
--- What stands once the job has ended so. A fault names the file that it stopped at; want of memory may stop it anywhere; and
--- nothing has changed where it was refused or its input could not be read.
+-- What stands once the job has ended so. A fault names the file that it stopped at; want of memory may stop it
+-- anywhere; and nothing has changed where it was refused or its input could not be read.
 abbrev pub FilesAfter : Archive → ArchiveFiles → ArchiveFiles → Status → Type 0
 FilesAfter a old new Done = AreWhole a new
 FilesAfter a old new (WriteFault output.Out) = AreWhole a new
@@ -121,8 +122,8 @@ abbrev pub FilesLeft : Bool → Archive → ArchiveFiles → ArchiveFiles → St
 FilesLeft true a old new (ReadFault input.Graph) = (new ≡ old) ⊎ StopAtInput a new
 FilesLeft again a old new status = FilesAfter a old new status
 
--- What stands of the file of a certificate once the job has ended so. It is as before, or lacks something, where a call on it
--- failed; it is whole before anything is printed.
+-- What stands of the file of a certificate once the job has ended so. It is as before, or lacks something, where a call
+-- on it failed; it is whole before anything is printed.
 abbrev pub CertificateAfter : List ℕ → Option (List ℕ) → Option (List ℕ) → Status → Type 0
 CertificateAfter text old new Done = new ≡ Some text
 CertificateAfter text old new (WriteFault output.Out) = new ≡ Some text

@@ -50,8 +50,8 @@ fn append<D: Depot>(bounds: &Bounds, name: &Name, depot: &mut D) -> Result<(), E
     }
 }
 
-/// Writes the certificate of these bounds: creates its file, and appends its text. It takes no memory. After an error the file
-/// is as before or holds a prefix of the text, and never all of it. No other file changes.
+/// Writes the certificate of these bounds: creates its file, and appends its text. It takes no memory. After an error
+/// the file is as before or holds a prefix of the text, and never all of it. No other file changes.
 pub fn write_file<D: Depot>(bounds: &Bounds, name: &Name, depot: &mut D) -> Result<(), Ending>
     ensures ok { IsTrue D.told
         → OnOk result (map.get (D.files depot.new) name.now ≡ Some (certificate_text bounds.now)) }

@@ -96,8 +96,8 @@ fn judge(alloc: Global, base: &Name, depot: &mut SteadyDepot) -> Result<Checked,
     Ok(Checked { params, bits })
 }
 
-// Bounds of the pages after the last round, along the lists of the graph that is read from the archive's graph file. The
-// depot is let go once the graph is there.
+// Bounds of the pages after the last round, along the lists of the graph that is read from the archive's graph file.
+// The depot is let go once the graph is there.
 fn rounded(
     alloc: Global,
     params: &Params,

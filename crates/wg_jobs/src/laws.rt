@@ -65,9 +65,9 @@ pub fn joined_archives()
     ensures { (r : Readings) → UnionsAreAccepted r }
 {}
 
-/// What `verify` accepts holds, whoever made the certificate: each stationary vector of the graph lies between the bounds
-/// and those with the gap that is printed more, page by page, with teleport by the weights that were read or to each page
-/// alike. And it accepts each certificate that `rank` wrote over the same graph and the same weights.
+/// What `verify` accepts holds, whoever made the certificate: each stationary vector of the graph lies between the
+/// bounds and those with the gap that is printed more, page by page, with teleport by the weights that were read or to
+/// each page alike. And it accepts each certificate that `rank` wrote over the same graph and the same weights.
 pub fn certificates()
     ensures proven { (r : Readings) → AcceptedAreProven r }
     ensures accepted { (r : Readings) → WrittenAreAccepted r }

@@ -8,9 +8,9 @@
 //! certificate. Each command has this as its one clause, by the word `DoesOrEnds`; `bulk`, which has no files, has it
 //! of any depot, of which it makes no call, by `DoesAlone`.
 //!
-//! A command is a chain of steps: those of `wg_readings`, which read the files of an archive and judge them, and last one
-//! that prints or writes. A command more is an equation of `judged`, the lists of its inputs and outputs, and a module
-//! beside `check` with that clause; its proof is a line for each exit, by the lemmas of `JobSteps`.
+//! A command is a chain of steps: those of `wg_readings`, which read the files of an archive and judge them, and last
+//! one that prints or writes. A command more is an equation of `judged`, the lists of its inputs and outputs, and a
+//! module beside `check` with that clause; its proof is a line for each exit, by the lemmas of `JobSteps`.
 //!
 //! The arcs of an archive in memory are printed:
 //!
@@ -27,14 +27,14 @@
 //! Ok(())
 //! ```
 //!
-//! `judged` takes the graph of a file from a function that reads all graph files; [`laws`] states that the grammar leaves
-//! exactly one such function, and that an archive that was built is accepted.
+//! `judged` takes the graph of a file from a function that reads all graph files; [`laws`] states that the grammar
+//! leaves exactly one such function, and that an archive that was built is accepted.
 //!
-//! `check`, `arcs`, `ascii`, `offsets` and `recode` read the graph in pieces, and `check` and `show` the offsets, so that an
-//! archive need not fit into memory; all other inputs are held whole until they are read. `show` opens pages by their
-//! offsets, and prints their successors as they come. `spot` judges no record but those that one page refers to, and holds `union` holds the bytes of two graph files, and goes through
-//! the graph file and the offsets whole.
-//! their lists side by side.
+//! `check`, `arcs`, `ascii`, `offsets` and `recode` read the graph in pieces, and `check` and `show` the offsets, so
+//! that an archive need not fit into memory; all other inputs are held whole until they are read. `show` opens pages by
+//! their offsets, and prints their successors as they come. `spot` judges no record but those that one page refers to,
+//! and holds `union` holds the bytes of two graph files, and goes through the graph file and the offsets whole. their
+//! lists side by side.
 #![tactic(auto)]
 
 mod build;

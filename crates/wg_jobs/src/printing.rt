@@ -63,8 +63,8 @@ fn print_again<D: Depot, O: Sink>(
     print_rest(&mut lines, out)
 }
 
-// What comes before the first record: of the plain text it is the number of pages, and of the offsets it is 0, where this
-// record begins.
+// What comes before the first record: of the plain text it is the number of pages, and of the offsets it is 0, where
+// this record begins.
 fn print_head<O: Sink>(
     lines: &mut Lines,
     out: &mut O,

@@ -27,11 +27,11 @@ pub struct Asked {
     pub top: u64,
 }
 
-/// Prints the first pages of the ranking, with their bounds and positions, with teleport by the weights that are named or to
-/// each page alike. If a certificate is named, the lower bounds are written to it before anything is printed. It judges the
-/// whole graph and the weights before that, and takes all its memory before the first round: the bytes of the graph file, a
-/// row of the greatest outdegree for each page that a reference reaches and one more, and 64 bytes a page for bounds and
-/// ranking, 8 more with weights. Each round decodes all lists again.
+/// Prints the first pages of the ranking, with their bounds and positions, with teleport by the weights that are named
+/// or to each page alike. If a certificate is named, the lower bounds are written to it before anything is printed. It
+/// judges the whole graph and the weights before that, and takes all its memory before the first round: the bytes of
+/// the graph file, a row of the greatest outdegree for each page that a reference reaches and one more, and 64 bytes a
+/// page for bounds and ranking, 8 more with weights. Each round decodes all lists again.
 pub fn rank<D: Depot, O: Sink>(
     alloc: Global,
     base: &Name,
@@ -91,8 +91,8 @@ fn print_ranks<O: Sink>(out: &mut O, bounds: Bounds, top: u64) -> Result<(), End
     print_ranking(out, &ranked, top.min(pages))
 }
 
-// Writes the certificate of these bounds, and then prints the first pages of the ranking by them. It takes no memory, so that
-// the certificate's file and the output alone can stop it.
+// Writes the certificate of these bounds, and then prints the first pages of the ranking by them. It takes no memory,
+// so that the certificate's file and the output alone can stop it.
 fn certify<D: Depot, O: Sink>(
     bounds: Bounds,
     name: &Name,

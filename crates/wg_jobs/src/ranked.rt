@@ -31,8 +31,8 @@ impl Ranked {
     }
 }
 
-/// Bounds of a graph before the first round. They take all memory of the rounds and the ranking: 64 bytes a page, and 8 more
-/// if weights are given.
+/// Bounds of a graph before the first round. They take all memory of the rounds and the ranking: 64 bytes a page, and 8
+/// more if weights are given.
 pub fn first_bounds<L: Lists>(
     alloc: Global,
     lists: &L,

@@ -25,8 +25,8 @@ use wg_words::Name;
 
 /// Prints the successors of pages, a line for each. It judges the three files before it prints, and looks whether all
 /// pages are there that it is asked for. It holds the bytes of the graph file and 8 bytes a page for the offsets; the
-/// offsets file is read in pieces. A page then takes the time of its chain of references, and a box for each of them; its
-/// successors are printed as they come.
+/// offsets file is read in pieces. A page then takes the time of its chain of references, and a box for each of them;
+/// its successors are printed as they come.
 pub fn show<D: Depot, O: Sink>(
     alloc: Global,
     base: &Name,

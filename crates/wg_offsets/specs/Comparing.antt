@@ -2,8 +2,8 @@
 use Rattle.std.specs.Prelude.{◌≡◌, ℕ, ◌+◌, List, length, Option, MatchOption}
 use Rattle.wg_offsets.specs.Places.{last_place, AgreeInLengths, IsFirstMismatch}
 
--- how many records were compared; the offset after them here and there; and the first of them whose lengths differ, with
--- its length here and its length there
+-- how many records were compared; the offset after them here and there; and the first of them whose lengths differ,
+-- with its length here and its length there
 pub record Compared : Type 0 where
   pub page : ℕ
   pub here : ℕ

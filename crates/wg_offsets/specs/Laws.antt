@@ -14,7 +14,7 @@ OffsetsAreOne = (c : Code) (n : ℕ) (bits : List Bool) (w x : Result (List ℕ)
 abbrev pub OffsetsAreSome : Type 0
 OffsetsAreSome = (c : Code) (n : ℕ) (bits : List Bool) → IsCode c → (w : Result (List ℕ) OffsetWord) × ReadsOffsets c n bits w
 
--- There is one offset more than there are records; the first is 0, none is below the one before it, and none is past the
--- last bit of a file.
+-- There is one offset more than there are records; the first is 0, none is below the one before it, and none is past
+-- the last bit of a file.
 abbrev pub PlacesAreWithin : Type 0
 PlacesAreWithin = (c : Code) (n : ℕ) (bits : List Bool) (places : List ℕ) → ReadsOffsets c n bits (Ok places) → (length places ≡ n + 1) × ArePlaces places

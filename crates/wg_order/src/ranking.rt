@@ -13,7 +13,8 @@ use std::alloc::{AllocError, Global};
 use std::marker::Model;
 use wg_rank::Bounds;
 
-/// Pages ranked by bounds. It holds 64 bytes for each page; those of a ranking that took bounds over are the bounds' own.
+/// Pages ranked by bounds. It holds 64 bytes for each page; those of a ranking that took bounds over are the bounds'
+/// own.
 #[derive(Drop)]
 pub struct Ranking {
     filled: bool,
@@ -50,8 +51,8 @@ impl Ranking {
         })
     }
 
-    /// The ranking of the pages by these bounds, which it takes over. It takes no memory, as the pages are sorted where rounds
-    /// added up what flows to them, and time for two sorts.
+    /// The ranking of the pages by these bounds, which it takes over. It takes no memory, as the pages are sorted where
+    /// rounds added up what flows to them, and time for two sorts.
     pub fn of(bounds: Bounds) -> Ranking
         ensures filled { result.filled ≡ true }
         ensures low { result.low ≡ bounds.low }
@@ -104,7 +105,8 @@ impl Ranking {
         self.high[v as usize]
     }
 
-    /// The first position, counted from 1, that the bounds leave to page `v`. It takes time in the logarithm of the pages.
+    /// The first position, counted from 1, that the bounds leave to page `v`. It takes time in the logarithm of the
+    /// pages.
     pub fn best(&self, v: u64) -> u64
         requires page { v < length self.now.low }
         requires filled { self.now.filled ≡ true }
@@ -113,7 +115,8 @@ impl Ranking {
         1 + count_above(self.ranked(), &self.low, self.high[v as usize]) as u64
     }
 
-    /// The last position, counted from 1, that the bounds leave to page `v`. It takes time in the logarithm of the pages.
+    /// The last position, counted from 1, that the bounds leave to page `v`. It takes time in the logarithm of the
+    /// pages.
     pub fn worst(&self, v: u64) -> u64
         requires page { v < length self.now.low }
         requires filled { self.now.filled ≡ true }

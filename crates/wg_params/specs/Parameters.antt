@@ -6,8 +6,9 @@ use Rattle.wg_params.specs.declared.key.Key.{Key}
 use Rattle.wg_params.specs.declared.key.Key.TheVariants as key
 use Rattle.wg_params.specs.Codes.{is_gamma_or_delta, is_unary_gamma_or_delta, is_residual_code}
 
--- Pages and arcs; how many pages back a reference may reach; how many references may lead from one page to the next, where
--- this is limited; the least length of an interval, 0 for no intervals; the shrinking factor of zeta; and the code of each field.
+-- Pages and arcs; how many pages back a reference may reach; how many references may lead from one page to the next,
+-- where this is limited; the least length of an interval, 0 for no intervals; the shrinking factor of zeta; and the
+-- code of each field.
 pub record Parameters : Type 0 where
   pub nodes : ℕ
   pub arcs : ℕ

@@ -1,9 +1,9 @@
 //! The parameters of an archive: how many pages and arcs it has, how far its references reach, and in which codes its
 //! fields are written.
 //!
-//! [`Code`] names a code for whole numbers. [`Params`] keeps one archive's parameters within their limits, the constants
-//! of this crate; [`Params::new`] is the one way to make it, and names the first [`Key`] that is out of its limits. Whoever
-//! holds a `Params` can rely on the limits: each call that reads a field ensures them.
+//! [`Code`] names a code for whole numbers. [`Params`] keeps one archive's parameters within their limits, the
+//! constants of this crate; [`Params::new`] is the one way to make it, and names the first [`Key`] that is out of its
+//! limits. Whoever holds a `Params` can rely on the limits: each call that reads a field ensures them.
 //!
 //! Parameters of an archive in the usual codes, and some that are refused:
 //!

@@ -166,7 +166,8 @@ fn has_its_codes(
 }
 
 impl Params {
-    /// The parameters, where each is within its limits; a code that its field may not have counts as the compression flags.
+    /// The parameters, where each is within its limits; a code that its field may not have counts as the compression
+    /// flags.
     pub fn new(
         nodes: u64,
         arcs: u64,

@@ -1,9 +1,9 @@
 use thiserror::Error;
 use wg_params::Key;
 
-/// The first fault of a properties text: a line, counted from 1, that would go on in the next; then, in the order in which
-/// the keys are declared, a key that is missing, one whose value is no number or is out of its limits, or another value that
-/// is not accepted. A flag is counted from 1 among the flags.
+/// The first fault of a properties text: a line, counted from 1, that would go on in the next; then, in the order in
+/// which the keys are declared, a key that is missing, one whose value is no number or is out of its limits, or another
+/// value that is not accepted. A flag is counted from 1 among the flags.
 #[derive(Clone, Copy, Debug, PartialEq, Eq, Error)]
 pub enum PropFault {
     #[error("line {0} would go on in the next")]

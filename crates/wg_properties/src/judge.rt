@@ -150,7 +150,8 @@ fn judge(values: &Values) -> Result<Params, PropFault>
     }
 }
 
-/// The parameters that a properties text stands for, or its first fault. It takes no memory, and time linear in the text.
+/// The parameters that a properties text stands for, or its first fault. It takes no memory, and time linear in the
+/// text.
 #[tactic(auto, unfolding(crate::specs::Judged::properties_of))]
 pub fn read(bytes: &[u8]) -> Result<Params, PropFault>
     ensures { result ≡ properties_of bytes.now }

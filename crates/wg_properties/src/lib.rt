@@ -1,7 +1,8 @@
 //! The properties of an archive: a text of keys and values, in the form of Java's property files.
 //!
-//! [`read`] gives the parameters of a text or its first fault, [`PropFault`], and [`write`] gives the text of parameters. A
-//! line is a comment where it begins with `#` or `!`; else it has a key, and after `=`, `:` or blanks its value:
+//! [`read`] gives the parameters of a text or its first fault, [`PropFault`], and [`write`] gives the text of
+//! parameters. A line is a comment where it begins with `#` or `!`; else it has a key, and after `=`, `:` or blanks its
+//! value:
 //!
 //! ```text
 //! #BVGraph properties
@@ -11,11 +12,11 @@
 //! graphclass=it.unimi.dsi.webgraph.BVGraph
 //! ```
 //!
-//! The text goes through three steps. One pass cuts it into lines, takes the pair of each, and keeps for each of the ten keys
-//! where its last value stands. Then the values are judged one by one in the order of the keys, numbers by `wg_num`, and at
-//! last the flags, which say in which codes the fields of a record are. Only the ten places are held, and no memory is
-//! taken; the cost is linear in the text, however long its lines, values and blanks are. Of what Java allows besides, a line
-//! that goes on in the next is a fault, and any other backslash is a byte like the rest.
+//! The text goes through three steps. One pass cuts it into lines, takes the pair of each, and keeps for each of the
+//! ten keys where its last value stands. Then the values are judged one by one in the order of the keys, numbers by
+//! `wg_num`, and at last the flags, which say in which codes the fields of a record are. Only the ten places are held,
+//! and no memory is taken; the cost is linear in the text, however long its lines, values and blanks are. Of what Java
+//! allows besides, a line that goes on in the next is a fault, and any other backslash is a byte like the rest.
 //!
 //! Parameters that are written and read again, and a text without a version:
 //!

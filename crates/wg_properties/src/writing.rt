@@ -144,8 +144,8 @@ fn add_codes(text: &mut List8, params: &Params) -> Result<(), AllocError>
     text.extend(b"\n")
 }
 
-/// The properties text of parameters, which [`read`](crate::read) reads again. Each key has its line, and of the codes those
-/// that are not the defaults are written. The class comes last, so that no text that was cut short is read.
+/// The properties text of parameters, which [`read`](crate::read) reads again. Each key has its line, and of the codes
+/// those that are not the defaults are written. The class comes last, so that no text that was cut short is read.
 pub fn write(alloc: Global, params: &Params) -> Result<List8, AllocError>
     ensures { IfOk result (λ text. text ≡ text_of params.now) }
 {

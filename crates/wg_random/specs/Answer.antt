@@ -12,7 +12,8 @@ use Rattle.wg_random.specs.declared.error.OpenError.TheVariants.{NoPage, Deep, M
 abbrev pub all_of : Known → Coming
 all_of k = record { outdegree = length k.list; depth = k.depth; list = k.list }
 
--- the page, which is x; or there is no such page; or it is too deep; or memory was wanting, for a page that refers to another
+-- the page, which is x; or there is no such page; or it is too deep; or memory was wanting, for a page that refers to
+-- another
 abbrev pub Opens : ℕ → ℕ → Known → Result Coming OpenError → Type 0
 Opens nodes x k (Ok s) = (x < nodes) × (k.depth < CHAIN_PAGES) × (s ≡ all_of k)
 Opens nodes x k (Err NoPage) = nodes ≤ x

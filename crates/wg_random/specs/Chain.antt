@@ -33,7 +33,8 @@ pub record Link (p : Parameters) (bits : List Bool) (records : List Whole) (x y 
 abbrev pub ArePages : ℕ → List ℕ → ℕ → Type 0
 ArePages nodes chain depth = (i : ℕ) → i ≤ depth → i < length chain → get_or chain i 0 < nodes
 
--- From page x the references have been followed over depth pages, to this page. The chain keeps as many of them as it has room for.
+-- From page x the references have been followed over depth pages, to this page. The chain keeps as many of them as it
+-- has room for.
 pub record Going (p : Parameters) (bits : List Bool) (records : List Whole) (chain : List ℕ) (x page depth : ℕ) : Type 0 where
   pub first : get_or chain 0 0 ≡ x
   pub links : (i : ℕ) → i < depth → suc i < length chain → Link p bits records (get_or chain i 0) (get_or chain (suc i) 0)

@@ -55,7 +55,8 @@ pub record Sweeping (p : Parameters) (bytes : List ℕ) (graph : List (List ℕ)
   pub turns : 0 < length kept → turn < length kept
   pub before : AreKept reading.records (page - 1) kept turn
 
--- What the record of the page is decoded from: it begins at the bit at, and the rows have the lists that it may refer to.
+-- What the record of the page is decoded from: it begins at the bit at, and the rows have the lists that it may refer
+-- to.
 pub record IsNext (p : Parameters) (bits : List Bool) (r : Reading p bits) (page at : ℕ) (kept : List Filled) (turn : ℕ) : Type 0 where
   pub begins : at ≡ offset_at r.records page
   pub enough : min p.window p.nodes ≤ length kept

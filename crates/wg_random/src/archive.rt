@@ -166,7 +166,8 @@ impl<'a> Archive<'a> {
         }
     }
 
-    // Makes the pages of a chain that ends after `depth` references, from the last one up, each below the one before it.
+    // Makes the pages of a chain that ends after `depth` references, from the last one up, each below the one before
+    // it.
     fn ascend(
         &self,
         alloc: Global,
@@ -192,9 +193,9 @@ impl<'a> Archive<'a> {
         Ok(self.stand(chain[0], below))
     }
 
-    /// The successors of page `x`, all of them still to come. Each record of its chain of references is opened once, with
-    /// a tick; a box is taken for each but the first. It takes the time of the words of these records, and not of their
-    /// lists.
+    /// The successors of page `x`, all of them still to come. Each record of its chain of references is opened once,
+    /// with a tick; a box is taken for each but the first. It takes the time of the words of these records, and not of
+    /// their lists.
     pub fn open<L: Ledger>(
         &self,
         alloc: Global,

@@ -81,15 +81,16 @@ fn climb(archive: &Unchecked, alloc: Global, chain: &[u64]) -> Result<List, Spot
 
 /// The successors of a page of an archive that was not checked, or the first fault that its chain of references shows.
 ///
-/// The chain begins with the page. The heads of its pages are judged first, from the page down, each on its own: with no
-/// limit on chains, and as though no outdegrees came before it. A record that begins past the last bit is cut at its
-/// outdegree. Then the whole records are judged, from the last page of the chain up, each against the list and the depth
-/// of the page that it refers to; a proper record must end where the offsets say that the next one begins. The first
-/// fault in this order is answered. No other record is read, nor the tail, nor the number of arcs; where the archive is
-/// accepted, the list is that of its graph.
+/// The chain begins with the page. The heads of its pages are judged first, from the page down, each on its own: with
+/// no limit on chains, and as though no outdegrees came before it. A record that begins past the last bit is cut at its
+/// outdegree. Then the whole records are judged, from the last page of the chain up, each against the list and the
+/// depth of the page that it refers to; a proper record must end where the offsets say that the next one begins. The
+/// first fault in this order is answered. No other record is read, nor the tail, nor the number of arcs; where the
+/// archive is accepted, the list is that of its graph.
 ///
-/// Each page of the chain is counted by a tick. It takes time in proportion to the words and the lists of these records,
-/// and holds a number for each page of the chain and a few lists. Memory is taken as pages and successors come.
+/// Each page of the chain is counted by a tick. It takes time in proportion to the words and the lists of these
+/// records, and holds a number for each page of the chain and a few lists. Memory is taken as pages and successors
+/// come.
 pub fn spot<L: Ledger>(
     alloc: Global,
     bytes: &[u8],

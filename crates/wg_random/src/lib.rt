@@ -1,34 +1,34 @@
 //! Pages of an archive by their offsets, and all of them in order.
 //!
 //! [`Records`] are the bits of a graph file that were checked and stand for one graph, with the offset of each record.
-//! An [`Archive`] is made of them, by their own offsets or by those of an offsets file that agrees. A page is read in two
-//! ways. Both follow the references down, with a tick of [`Steps`] for each record of the chain, and then go up the same
-//! chain again.
+//! An [`Archive`] is made of them, by their own offsets or by those of an offsets file that agrees. A page is read in
+//! two ways. Both follow the references down, with a tick of [`Steps`] for each record of the chain, and then go up the
+//! same chain again.
 //!
-//! [`Archive::open`] gives the successors of a page one by one. It makes an iterator for each page of the chain, each in
-//! the box of the next, and no list.
+//! [`Archive::open`] gives the successors of a page one by one. It makes an iterator for each page of the chain, each
+//! in the box of the next, and no list.
 //!
 //! ```text
 //! page x --reference--> page --reference--> ... --> page without a reference     down: the pages stand in an array
 //! Successors <--in a box-- Successors <--in a box-- ... <-- Successors           up: a box for each page but x
 //! ```
 //!
-//! [`Archive::list`] makes the whole list, and the lists of all other pages of the chain before it. It serves a chain of
-//! any length; one of more than [`CHAIN_PAGES`](wg_iterators::CHAIN_PAGES) pages is not opened, since a call of `next`
-//! would go down through all of them.
+//! [`Archive::list`] makes the whole list, and the lists of all other pages of the chain before it. It serves a chain
+//! of any length; one of more than [`CHAIN_PAGES`](wg_iterators::CHAIN_PAGES) pages is not opened, since a call of
+//! `next` would go down through all of them.
 //!
 //! ```text
 //! page x --reference--> page --reference--> ... --> page without a reference     down: the pages stand in a list
 //! list of x <--copied-- list <--copied-- ... <-- list                            up: two lists, used in turn
 //! ```
 //!
-//! [`spot`] reads a page of an archive that was not checked, from the bytes and the offsets, by the same chain alone. It
-//! judges the heads of these records first, from the page down, and then the whole records, from the last one up, and
-//! answers the list of the page or the first fault. The functions of [`laws`] state that there is one answer, and that
-//! it is the page's list of the graph where the archive is accepted.
+//! [`spot`] reads a page of an archive that was not checked, from the bytes and the offsets, by the same chain alone.
+//! It judges the heads of these records first, from the page down, and then the whole records, from the last one up,
+//! and answers the list of the page or the first fault. The functions of [`laws`] state that there is one answer, and
+//! that it is the page's list of the graph where the archive is accepted.
 //!
-//! [`Records::sweep`] needs no offsets: a [`Sweep`] goes over all pages in order, as often as one likes, and decodes each
-//! list from the bits again. It takes all its memory when it is made, so that no list can be wanting later.
+//! [`Records::sweep`] needs no offsets: a [`Sweep`] goes over all pages in order, as often as one likes, and decodes
+//! each list from the bits again. It takes all its memory when it is made, so that no list can be wanting later.
 //!
 //! ```text
 //! record of page x --decode_into--> row --lent--> list of x        then the row is kept in the place of that of x - W - 1
@@ -62,9 +62,9 @@
 //! | [`Records::sweep`] | a row for each page that a reference reaches, and two | that of the rows |
 //! | a list of a [`Sweep`] | none | that of the words of its record and of the lists that it has and refers to |
 //!
-//! A page that does not exist, a chain that is too long to be opened, and want of memory are answered by
-//! [`OpenError`] and [`ListError`]; there is no other reason, since the archive was checked. Why a file is no archive is
-//! told by [`CheckError`] and [`ArchiveFault`](wg_grammar::ArchiveFault), and why a page of one that was not checked has no
+//! A page that does not exist, a chain that is too long to be opened, and want of memory are answered by [`OpenError`]
+//! and [`ListError`]; there is no other reason, since the archive was checked. Why a file is no archive is told by
+//! [`CheckError`] and [`ArchiveFault`](wg_grammar::ArchiveFault), and why a page of one that was not checked has no
 //! list by [`SpotError`].
 #![tactic(auto)]
 

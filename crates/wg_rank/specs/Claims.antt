@@ -43,7 +43,8 @@ pub record FallsFirst (g : Digraph) (a : ℕ) (w l : ℕ → ℕ) (page : ℕ) :
   pub falls : lower g a w l page < l page
   pub before : AreAtMost page l (lower g a w l)
 
--- a round lowers none of the bounds, which leave so much of 1, or this page is the first that falls, or memory was wanting
+-- a round lowers none of the bounds, which leave so much of 1, or this page is the first that falls, or memory was
+-- wanting
 abbrev pub IsJudged : Digraph → Claim → (ℕ → ℕ) → Result ℕ JudgeError → Type 0
 IsJudged g c w (Ok left) = Rises g c.damping w (by_page c.low) × (left ≡ gap g (by_page c.low))
 IsJudged g c w (Err (error.Falls page)) = FallsFirst g c.damping w (by_page c.low) page

@@ -1,4 +1,5 @@
--- PageRank after Page and Brin, with damping a / 1000 and a teleport by weights w: its exact iterates, and bounds of them in whole units.
+-- PageRank after Page and Brin, with damping a / 1000 and a teleport by weights w: its exact iterates, and bounds of
+-- them in whole units.
 use Rattle.std.specs.Prelude.{ℕ, ◌≡◌, zero, suc, ◌+◌, ◌-◌, ◌*◌, ◌/◌, ◌<◌, ◌≤◌, ◌==◌, cond, min, max}
 use Rattle.std.specs.Int.{div_ceil}
 use Rattle.wg_graph.specs.Arcs.{has_arc}

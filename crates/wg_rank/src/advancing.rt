@@ -14,8 +14,8 @@ use crate::gathering::gather;
 use crate::settling::{settle_high, settle_low, total};
 use wg_graph::Lists;
 
-// Puts the new bounds in place of the old ones. Where no weights are given, each page has the weight 1. What `inflows` held
-// before is lost.
+// Puts the new bounds in place of the old ones. Where no weights are given, each page has the weight 1. What `inflows`
+// held before is lost.
 pub(crate) fn advance<L: Lists>(
     lists: &mut L,
     damping: u64,

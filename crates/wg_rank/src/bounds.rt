@@ -14,7 +14,8 @@ use std::alloc::{AllocError, Global};
 use std::marker::Model;
 use wg_graph::{List, Lists};
 
-/// Bounds of the PageRank of each page, in units of 10^-24. They hold 64 bytes for each page, and 8 more if weights are given.
+/// Bounds of the PageRank of each page, in units of 10^-24. They hold 64 bytes for each page, and 8 more if weights are
+/// given.
 #[derive(Drop)]
 pub struct Bounds {
     // In thousandths.
@@ -24,8 +25,8 @@ pub struct Bounds {
     weights: List,
     low: Vec<u128>,
     high: Vec<u128>,
-    // What flows to each page in a round, below and above, side by side, so that an arc reaches one place in memory. What it
-    // holds between rounds is never read.
+    // What flows to each page in a round, below and above, side by side, so that an arc reaches one place in memory.
+    // What it holds between rounds is never read.
     inflows: Vec<u128>,
 }
 
@@ -41,8 +42,8 @@ impl Model for Bounds {
 }
 
 impl Bounds {
-    /// The bounds of `n` pages before the first round, 0 and 1, at a damping in thousandths. Teleport goes to each page alike.
-    /// All memory of later rounds is taken here.
+    /// The bounds of `n` pages before the first round, 0 and 1, at a damping in thousandths. Teleport goes to each page
+    /// alike. All memory of later rounds is taken here.
     pub fn new(alloc: Global, n: u64, damping: u64) -> Result<Bounds, AllocError>
         requires pages { n ≤ MOST_PAGES }
         requires damping { damping ≤ MOST_DAMPING }
@@ -148,8 +149,8 @@ impl Bounds {
         self.high[v as usize]
     }
 
-    /// Gives up the bounds: the lower ones, the upper ones, and room for two numbers for each page, in which rounds added up what
-    /// flows to it. Whoever takes them needs no memory of its own to go on.
+    /// Gives up the bounds: the lower ones, the upper ones, and room for two numbers for each page, in which rounds
+    /// added up what flows to it. Whoever takes them needs no memory of its own to go on.
     pub fn into_parts(self) -> (Vec<u128>, Vec<u128>, Vec<u128>)
         ensures low { result.0.items ≡ self.low }
         ensures high { result.1.items ≡ self.high }

@@ -12,8 +12,8 @@ use crate::divisor::Divisors;
 use crate::spreading::{spread, spread_low};
 use wg_graph::Lists;
 
-// Adds to `inflows` what flows to each page along arcs, and gives what the dangling pages hold, below and above. A page's
-// share is divided out once and then added to each of its successors.
+// Adds to `inflows` what flows to each page along arcs, and gives what the dangling pages hold, below and above. A
+// page's share is divided out once and then added to each of its successors.
 pub(crate) fn gather<L: Lists>(
     lists: &mut L,
     low: &[u128],

@@ -1,4 +1,5 @@
-// What flows to the pages: two sums for each page, below and above, side by side, so that an arc reaches one place in memory.
+// What flows to the pages: two sums for each page, below and above, side by side, so that an arc reaches one place in
+// memory.
 
 ghost use Rattle.std.specs.Prelude.{◌≡◌, ◌+◌, ◌*◌, ◌<◌, ◌^◌, length, slice_index, set};
 ghost use Rattle.wg_rank.specs.Inflows.{low_flows, high_flows};

@@ -5,15 +5,15 @@ pub fn iterates()
     ensures sums { SharesAddUp }
 {}
 
-/// Bounds that hold of a graph enclose its exact iterates and stationary vectors, within a stated width; and they are the same
-/// by whatever lists of the graph they were found.
+/// Bounds that hold of a graph enclose its exact iterates and stationary vectors, within a stated width; and they are
+/// the same by whatever lists of the graph they were found.
 pub fn bounds()
     ensures certified { BoundsAreCertified }
     ensures one { BoundsAreOne }
 {}
 
-/// Lower bounds that a round does not lower enclose every stationary vector, with what they leave of 1, and those that rounds
-/// find are such bounds. The text of a certificate is read as this certificate.
+/// Lower bounds that a round does not lower enclose every stationary vector, with what they leave of 1, and those that
+/// rounds find are such bounds. The text of a certificate is read as this certificate.
 pub fn certificates()
     ensures enclose { RisingBoundsEnclose }
     ensures complete { LowerBoundsRise }

@@ -2,10 +2,10 @@
 //!
 //! [`Bounds`] has a lower and an upper bound for each page, in units of 10^-24. They begin at 0 and 1, and each
 //! [`Bounds::round`] takes the damping's part of what flows along the arcs and from the dangling pages, and teleport's
-//! part, all rounded down in the lower bounds and up in the upper ones. The lower bounds leave some rest of 1; no share is
-//! above its lower bound by more than that. After `k` rounds the intervals hold every exact iterate from the `k`-th on and
-//! every stationary vector, they lie within the earlier ones, and their width is bounded by a stated term, which shrinks as
-//! the damping's power does. [`laws`] says the same of bounds before the first round.
+//! part, all rounded down in the lower bounds and up in the upper ones. The lower bounds leave some rest of 1; no share
+//! is above its lower bound by more than that. After `k` rounds the intervals hold every exact iterate from the `k`-th
+//! on and every stationary vector, they lie within the earlier ones, and their width is bounded by a stated term, which
+//! shrinks as the damping's power does. [`laws`] says the same of bounds before the first round.
 //!
 //! Data flow of a round, in one pass along the lists of [`wg_graph::Lists`]:
 //!
@@ -29,11 +29,11 @@
 //! Ok(())
 //! ```
 //!
-//! A [`Certificate`] is what others can check without the rounds: a damping and the lower bounds alone. [`write_certificate`]
-//! adds its text to a file, and [`read_certificate`] reads it or names its first fault, a [`CertFault`]. [`judge`] does one round
-//! of lower bounds alone, over any graph with as many pages: if it lowers none of them, they enclose every stationary vector,
-//! with what they leave of 1, whoever made them; else it names the first page whose bound falls. The bounds that rounds find
-//! never fall.
+//! A [`Certificate`] is what others can check without the rounds: a damping and the lower bounds alone.
+//! [`write_certificate`] adds its text to a file, and [`read_certificate`] reads it or names its first fault, a
+//! [`CertFault`]. [`judge`] does one round of lower bounds alone, over any graph with as many pages: if it lowers none
+//! of them, they enclose every stationary vector, with what they leave of 1, whoever made them; else it names the first
+//! page whose bound falls. The bounds that rounds find never fall.
 //!
 //! ```text
 //! damping 850                      in thousandths
@@ -42,21 +42,21 @@
 //! 0.075000000000000000000000
 //! ```
 //!
-//! Each line ends in LF, which the last may lack, and before which one CR is no part of the line. No line may be empty or come
-//! after the last bound, and the bounds add up to at most 1.
+//! Each line ends in LF, which the last may lack, and before which one CR is no part of the line. No line may be empty
+//! or come after the last bound, and the bounds add up to at most 1.
 //!
-//! Bounds take memory by [`Bounds::new`] alone: four numbers of 16 bytes for each page; [`Bounds::weighted`], by which teleport
-//! goes to the pages by weights, takes 8 bytes more. The two sums of what flows to a page lie side by side, so that an arc
-//! reaches one place in memory. Between rounds they say nothing, and [`Bounds::into_parts`] hands them on as room. Writing takes
-//! none. A certificate holds 16 bytes for each page, taken as its lines come. Judging takes 16 more, for what flows to a page
-//! below: each new bound is compared as it is made, and kept nowhere.
+//! Bounds take memory by [`Bounds::new`] alone: four numbers of 16 bytes for each page; [`Bounds::weighted`], by which
+//! teleport goes to the pages by weights, takes 8 bytes more. The two sums of what flows to a page lie side by side, so
+//! that an arc reaches one place in memory. Between rounds they say nothing, and [`Bounds::into_parts`] hands them on
+//! as room. Writing takes none. A certificate holds 16 bytes for each page, taken as its lines come. Judging takes 16
+//! more, for what flows to a page below: each new bound is compared as it is made, and kept nowhere.
 //!
-//! A round divides each page's two bounds by its outdegree, once and not for each arc, and what flows in by 1000; by weights it
-//! also divides teleport's two parts for each page, and if each weight is 1 once for all. A quotient by an outdegree is two
-//! products with its inverse; those of outdegrees below 256 are kept until the round ends, in 2 KiB. For an arc it adds twice.
-//! Judging does the same with the lower bounds alone, and adds once. No sum passes 128 bits: what flows to a page is at most one whole for
-//! each page, so below 2^36 * 10^24, and the damping multiplies it by less than 2^10; a weight is below 2^32, and teleport's
-//! part of 1 is at most 1000 * 10^24 before it is divided.
+//! A round divides each page's two bounds by its outdegree, once and not for each arc, and what flows in by 1000; by
+//! weights it also divides teleport's two parts for each page, and if each weight is 1 once for all. A quotient by an
+//! outdegree is two products with its inverse; those of outdegrees below 256 are kept until the round ends, in 2 KiB.
+//! For an arc it adds twice. Judging does the same with the lower bounds alone, and adds once. No sum passes 128 bits:
+//! what flows to a page is at most one whole for each page, so below 2^36 * 10^24, and the damping multiplies it by
+//! less than 2^10; a weight is below 2^32, and teleport's part of 1 is at most 1000 * 10^24 before it is divided.
 #![tactic(auto)]
 
 mod advancing;

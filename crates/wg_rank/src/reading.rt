@@ -141,8 +141,8 @@ fn read_bounds(alloc: Global, bytes: &[u8], n: u64) -> Result<Vec<u128>, CertErr
     }
 }
 
-/// Reads a certificate of `n` pages, or names its first fault. It takes 16 bytes for each bound as the lines come, and one pass
-/// over the text.
+/// Reads a certificate of `n` pages, or names its first fault. It takes 16 bytes for each bound as the lines come, and
+/// one pass over the text.
 pub fn read_certificate(alloc: Global, bytes: &[u8], n: u64) -> Result<Certificate, CertError>
     requires { n ≤ MOST_PAGES }
     ensures read { IsRead (claim_of n bytes.now) result }

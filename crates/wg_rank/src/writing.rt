@@ -89,9 +89,9 @@ fn write_claim<S: Sink>(sink: &mut S, damping: u64, low: &[u128]) -> Result<(), 
     lines.flush(sink)
 }
 
-/// Adds the text of a certificate, the lower half of these bounds, to the end of a file. It takes no memory, and one call of
-/// the depot for some hundred pages. After an error a prefix of the text may have been added, and never all of it. No other
-/// file changes.
+/// Adds the text of a certificate, the lower half of these bounds, to the end of a file. It takes no memory, and one
+/// call of the depot for some hundred pages. After an error a prefix of the text may have been added, and never all of
+/// it. No other file changes.
 pub fn write_certificate<D: Depot>(
     bounds: &Bounds,
     depot: &mut D,

@@ -21,7 +21,8 @@ IsHindrance _ = ⊥
 abbrev pub Answers : Judged → Status → Type 0
 Answers judgement status = (status ≡ status_of judgement) ⊎ IsHindrance status
 
--- One step of a judgement: it goes on with this value whatever comes next, or it ends like this whatever would come next.
+-- One step of a judgement: it goes on with this value whatever comes next, or it ends like this whatever would come
+-- next.
 abbrev pub Steps : {B : Type 0} → ((B → Judged) → Judged) → Result B Ending → Type 0
 Steps {B} step (Ok b) = (next : B → Judged) → step next ≡ next b
 Steps {B} step (Err e) = (next : B → Judged) → Answers (step next) e.status

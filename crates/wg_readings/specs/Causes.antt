@@ -12,7 +12,8 @@ abbrev pub IncreasedAt : (Counts → ℕ) → Option (List ℕ) → (List ℕ �
 IncreasedAt count None old new = ⊥
 IncreasedAt count (Some name) old new = Increased (count (old name)) (count (new name))
 
--- a fault or an absence is told only where the count of its own file rose, and a fault of the output where the output's faults rose
+-- a fault or an absence is told only where the count of its own file rose, and a fault of the output where the output's
+-- faults rose
 pub record HasCause (inputs : Input → Option (List ℕ)) (outputs : Output → Option (List ℕ)) (old new : List ℕ → Counts) (faults faults' : ℕ) (status : Status) : Type 0 where
   pub read_fault : (i : Input) → status ≡ ReadFault i → IncreasedAt (λ c. c.read_faults) (inputs i) old new
   pub missing : (i : Input) → status ≡ Missing i → IncreasedAt (λ c. c.absences) (inputs i) old new

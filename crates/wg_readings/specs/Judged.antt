@@ -40,7 +40,8 @@ pub data Written : Type 0 where
   an_archive : Archive → Written
   a_certificate : List ℕ → Written
 
--- a job is refused with a status; or it is done, with this on the output; or it is done with an archive or a certificate besides
+-- a job is refused with a status; or it is done, with this on the output; or it is done with an archive or a
+-- certificate besides
 pub data Judged : Type 0 where
   refused : Status → Judged
   accepted : List ℕ → Judged

@@ -65,7 +65,8 @@ pub record LoadsParams (base : List ℕ) (told : Bool) (files files' : Files) (c
   pub same : files' ≡ files
   pub later : NonDecreasing counts counts'
 
--- A step of a judgement that looks at one file of an archive ended the job, whatever would have come next. The properties promise so many arcs.
+-- A step of a judgement that looks at one file of an archive ended the job, whatever would have come next. The
+-- properties promise so many arcs.
 pub record EndsAt {B : Type 0} (base : List ℕ) (i : Input) (promised : ℕ) (step : Readings → Option (List ℕ) → (B → Judged) → Judged) (told : Bool) (files : Files) (counts counts' : List ℕ → Counts) (e : Ending) : Type 0 where
   -- the file was not read, or is at fault
   pub only : IsStopAt i promised e
@@ -100,7 +101,8 @@ pub record LoadsGraph (base : List ℕ) (p : Parameters) (told : Bool) (files fi
 abbrev pub lengths_then : Readings → Parameters → List ℕ → Option (List ℕ) → (Unit {0} → Judged) → Judged
 lengths_then r p places held next = offsets_then r p held (λ stored. with_lengths places stored next)
 
--- The offsets file of an archive was judged: it stores the lengths of the records with these places, or the job ends at this file.
+-- The offsets file of an archive was judged: it stores the lengths of the records with these places, or the job ends at
+-- this file.
 pub record JudgesOffsets (base : List ℕ) (p : Parameters) (places : List ℕ) (told : Bool) (files files' : Files) (counts counts' : List ℕ → Counts) (result : Result (Unit {0}) Ending) : Type 0 where
   pub reads : Reads base input.Offsets p.arcs (λ r. lengths_then r p places) told files files' counts counts' result
   pub goes : IsTrue told → (r : Readings) → Steps (lengths_then r p places (held_by (file_of base) files input.Offsets)) result
@@ -111,7 +113,8 @@ pub record LoadsOffsets (base : List ℕ) (p : Parameters) (told : Bool) (files 
   pub goes : IsTrue told → (r : Readings) → Steps (offsets_then r p (held_by (file_of base) files input.Offsets)) result
   pub count : IfOk result (λ places. length places ≡ p.nodes + 1)
 
--- The successors of a page were not read: there is no such page, or memory was wanting, or one of these files is at fault.
+-- The successors of a page were not read: there is no such page, or memory was wanting, or one of these files is at
+-- fault.
 abbrev pub IsBadPage : ℕ → ℕ → Ending → Type 0
 IsBadPage page promised e = (e.status ≡ NoPage page) ⊎ IsBadFile input.Graph promised e ⊎ IsBadFile input.Offsets promised e
 
@@ -139,7 +142,8 @@ pub record LoadsText (name : List ℕ) (told : Bool) (files files' : Files) (cou
   pub same : files' ≡ files
   pub later : NonDecreasing counts counts'
 
--- A file that is no archive's was read whole and judged, as this input, or the job ends at it, at last with a fault of what it holds.
+-- A file that is no archive's was read whole and judged, as this input, or the job ends at it, at last with a fault of
+-- what it holds.
 pub record ReadsNamed {B : Type 0} (i : Input) (names : Input → Option (List ℕ)) (IsFault : Status → Type 0) (step : Option (List ℕ) → (B → Judged) → Judged) (told : Bool) (files files' : Files) (counts counts' : List ℕ → Counts) (result : Result B Ending) : Type 0 where
   pub steps : IsTrue told → Steps (step (held_by names files i)) result
   pub only : IfErr result (λ e. IsOfInput i e.status ⊎ IsFault e.status)
@@ -176,8 +180,8 @@ pub record LoadsMap (name : List ℕ) (n limit : ℕ) (told : Bool) (files files
   pub each : IfOk result (λ classes. length classes ≡ n)
   pub below : IfOk result (λ classes. Below limit classes)
 
--- The graph file and the offsets file of an archive were judged beside each other, or the job ends at one of them: at the offsets file only if the
--- graph is in order.
+-- The graph file and the offsets file of an archive were judged beside each other, or the job ends at one of them: at
+-- the offsets file only if the graph is in order.
 pub record JudgesFiles (base : List ℕ) (p : Parameters) (told : Bool) (files files' : Files) (counts counts' : List ℕ → Counts) (result : Result ℕ Ending) : Type 0 where
   pub steps : IsTrue told → (r : Readings) → Steps (files_then r p (held_by (file_of base) files)) result
   pub limits : OnOk result (IsWithinLimits p)

@@ -59,7 +59,8 @@ pub record IsPaired (p : Parameters) (b : Pairing) : Type 0 where
   pub there : b.lengths.there ≡ b.words.offset
   pub looked : b.held.looked ≡ true
 
--- the words that were read are those of this file, and the lengths that they tell were compared with those of the records
+-- the words that were read are those of this file, and the lengths that they tell were compared with those of the
+-- records
 pub record IsPairedWith (file : List ℕ) (b : Pairing) (here there : List ℕ) : Type 0 where
   pub held : IsHeldOf file b.held
   pub read : AreRead (bits_of file) b.words b.held.at there
@@ -71,7 +72,8 @@ pub record IsStopped (told : Bool) (files : Files) (counts counts' : List ℕ �
   pub causes : (names : Input → Option (List ℕ)) → names input.Offsets ≡ Some name → HasCause names no_outputs counts counts' 0 0 e.status
   pub refused : IsTrue told → IsWithinLimits p → (r : Readings) → Steps {B = List ℕ} (offsets_then r p (map.get files name)) (Err e)
 
--- How far the pairing has come: to the end of so many records, or to the first error of the offsets file, after which no more is read.
+-- How far the pairing has come: to the end of so many records, or to the first error of the offsets file, after which
+-- no more is read.
 abbrev pub HasCome : Bool → Files → (List ℕ → Counts) → (List ℕ → Counts) → Parameters → List ℕ → ℕ → ℕ → Pairing → Result (Unit {0}) Ending → Type 0
 HasCome told files counts counts' p name n at b (Ok done) =
     IsPaired p b × (b.lengths.page ≡ n) × (b.lengths.here ≡ at) × (IsTrue told → (file : List ℕ) × (map.get files name ≡ Some file))
@@ -81,7 +83,8 @@ abbrev pub ComesWith : List ℕ → Pairing → List ℕ → Result (Unit {0}) E
 ComesWith file b here (Ok done) = (there : List ℕ) × IsPairedWith file b here there
 ComesWith file b here (Err e) = Unit {0}
 
--- What the end of a pairing is: the offsets file is judged to its end, and then the lengths that it tells are compared with those of the records.
+-- What the end of a pairing is: the offsets file is judged to its end, and then the lengths that it tells are compared
+-- with those of the records.
 pub record EndsPairing (told : Bool) (files : Files) (counts counts' : List ℕ → Counts) (p : Parameters) (name : List ℕ) (b : Pairing) (so_far result : Result (Unit {0}) Ending) : Type 0 where
   pub only : IfErr result (IsStopAt input.Offsets p.arcs)
   pub causes : (names : Input → Option (List ℕ)) → names input.Offsets ≡ Some name → HasCause names no_outputs counts counts' 0 0 (status_in result)

@@ -25,8 +25,8 @@ pub record OffsetsReading : Type 0 where
   pub value : Parameters → List ℕ → Result (List ℕ) OffsetWord
   pub reads : (p : Parameters) → IsWithinLimits p → (bytes : List ℕ) → ReadsOffsets p.offsets p.nodes (bits_of bytes) (value p bytes)
 
--- from parameters, the bytes of a graph file, the places that an offsets file stores and a page to what the page is by its chain of
--- references, or to the first fault of this chain
+-- from parameters, the bytes of a graph file, the places that an offsets file stores and a page to what the page is by
+-- its chain of references, or to the first fault of this chain
 pub record PageReading : Type 0 where
   pub value : Parameters → List ℕ → List ℕ → ℕ → Result Known ArchiveFault
   pub reads : (p : Parameters) → IsWithinLimits p → (bytes places : List ℕ) (page : ℕ) → SpotReads p (bits_of bytes) places page (value p bytes places page)

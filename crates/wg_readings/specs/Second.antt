@@ -1,4 +1,5 @@
--- An archive that a job reads as its second: its files are inputs of their own, and its faults are told as those of the second.
+-- An archive that a job reads as its second: its files are inputs of their own, and its faults are told as those of the
+-- second.
 use Rattle.std.specs.Prelude.{ℕ, List, Option}
 use Rattle.wg_readings.specs.Judged.{Judged, refused}
 use Rattle.wg_readings.specs.declared.ending.Ending.{Ending}

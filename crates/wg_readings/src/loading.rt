@@ -117,8 +117,8 @@ pub fn load_text<D: Depot>(alloc: Global, depot: &mut D, name: &Name) -> Result<
     graph_of_text(alloc, bytes.as_slice())
 }
 
-/// Reads the weights of so many pages, where a file of them is named; without one, each page weighs the same. Beside the
-/// weights, 8 bytes each, it holds the bytes of the file, until it is read.
+/// Reads the weights of so many pages, where a file of them is named; without one, each page weighs the same. Beside
+/// the weights, 8 bytes each, it holds the bytes of the file, until it is read.
 pub fn load_weights<D: Depot>(
     alloc: Global,
     nodes: u64,

@@ -16,8 +16,8 @@ use wg_source::Source;
 
 /// A file of a depot, of which a stretch is held. It reads on in pieces of at most 4096 bytes.
 ///
-/// A word that a piece cuts waits for the next piece, and only the end of the file cuts a word for good. What is held is
-/// to be of the same file at each call. [`Stretch::look`] tells before the first word whether the file is too long.
+/// A word that a piece cuts waits for the next piece, and only the end of the file cuts a word for good. What is held
+/// is to be of the same file at each call. [`Stretch::look`] tells before the first word whether the file is too long.
 #[derive(Drop)]
 pub struct FileSource<'a, D: Depot> {
     depot: &'a mut D,

@@ -84,8 +84,8 @@ impl Reader {
         self.pages.list()
     }
 
-    /// Reads the record that comes next, or judges the end, if there is none; from then on, and after an error, it reads
-    /// nothing. The list is that of [`list`](Reader::list).
+    /// Reads the record that comes next, or judges the end, if there is none; from then on, and after an error, it
+    /// reads nothing. The list is that of [`list`](Reader::list).
     pub fn advance<D: Depot>(&mut self, depot: &mut D) -> Result<bool, StreamError>
         ensures done { self.old.state ≡ Done → (result ≡ Ok false) × (self.new ≡ self.old) × (depot.new ≡ depot.old) }
         ensures closed { (e : First) → self.old.state ≡ Closed e → (result ≡ Err (errors.Closed e))

@@ -241,8 +241,8 @@ impl Stretch {
         read
     }
 
-    /// The value of the word that comes next, which it moves over: if it is told by 64 bits, and so many bytes are held as
-    /// any word has, so that no load needs a test.
+    /// The value of the word that comes next, which it moves over: if it is told by 64 bits, and so many bytes are held
+    /// as any word has, so that no load needs a test.
     #[inline(always)]
     pub(crate) fn near_word(&mut self, code: Code) -> Option<u64>
         requires { IsCode code }

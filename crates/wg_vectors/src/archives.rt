@@ -203,8 +203,8 @@ pub const COPIED_LATER: Archive = Archive {
     places: &[0, 1, 13, 19],
 };
 
-/// All of them: the shortest that there are under their parameters, but for the zeros in one tail and one that is the shortest
-/// with chains of one reference alone.
+/// All of them: the shortest that there are under their parameters, but for the zeros in one tail and one that is the
+/// shortest with chains of one reference alone.
 pub const ARCHIVES: [Archive; 16] = [
     PLAIN_ARC,
     ZETA_ARC,

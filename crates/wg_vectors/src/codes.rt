@@ -248,8 +248,8 @@ pub const VECTORS: [Vector; 44] = [
     },
 ];
 
-/// Where a code has no word: after 63 zeros of gamma, 6 of delta, 63 / k of zeta; after a leading zero digit of nibble, and
-/// where its 21st digit is not marked as the last. Unary has no row, since it takes 2^32 zeros to say so.
+/// Where a code has no word: after 63 zeros of gamma, 6 of delta, 63 / k of zeta; after a leading zero digit of nibble,
+/// and where its 21st digit is not marked as the last. Unary has no row, since it takes 2^32 zeros to say so.
 pub const NO_WORDS: [NoWord; 8] = [
     NoWord {
         code: Code::Gamma,

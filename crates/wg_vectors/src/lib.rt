@@ -6,9 +6,10 @@
 //!
 //! [`ARCHIVES`] has worked archives, bit by bit, with the list of each page and the offset of each record. [`LONGER`]
 //! has legal archives that are not the shortest, and [`BAD_GRAPHS`] and [`BAD_OFFSETS`] have archives with a fault. An
-//! archive that a test needs by itself has a name of its own, as [`ONE_ARC`] or [`TWICE`]; those of which pages are read
-//! before the whole is checked are in [`unchecked`]. [`bytes_of`] turns the text of some bits into bytes, and [`usual`]
-//! makes parameters in the usual codes. The crates above read, write and refuse these archives in their tests.
+//! archive that a test needs by itself has a name of its own, as [`ONE_ARC`] or [`TWICE`]; those of which pages are
+//! read before the whole is checked are in [`unchecked`]. [`bytes_of`] turns the text of some bits into bytes, and
+//! [`usual`] makes parameters in the usual codes. The crates above read, write and refuse these archives in their
+//! tests.
 //!
 //! One of the worked archives, bit by bit, and a graph that is generated from the seed 7:
 //!

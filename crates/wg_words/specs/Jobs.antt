@@ -91,7 +91,8 @@ conversion_in rows = option_and_then (conversion_of rows) (name_in rows (codes "
 abbrev pub recoding : Conversion → Job
 recoding c = Recode c.input c.output c.layout
 
--- the union of two archives, of which the first was taken for a conversion and the second has not the name of what is written
+-- the union of two archives, of which the first was taken for a conversion and the second has not the name of what is
+-- written
 abbrev pub union_with : Conversion → Text → Option Job
 union_with c second = if bytes_eq second c.output then None else Some (Union c.input second c.output c.layout)
 
@@ -162,7 +163,8 @@ job_from found =
 abbrev pub job_of : List Text → Option Job
 job_of words = option_and_then job_from (parsed words)
 
--- the layout is within its limits, even for a graph without pages, and the archive that is written has no file of the other
+-- the layout is within its limits, even for a graph without pages, and the archive that is written has no file of the
+-- other
 abbrev pub IsConversion : Text → Text → Layout → Type 0
 IsConversion input output layout = IsWithinLimits (params_of layout 0 0) × ShareNoFile input output
 

@@ -221,8 +221,8 @@ fn spot_on(found: &ArgMatches<'_>, base: Name) -> Option<Job>
     Some(Job::Spot { base, page })
 }
 
-// The ranking of an archive, with weights and a certificate if the options name them: the certificate is none of the files that
-// are read.
+// The ranking of an archive, with weights and a certificate if the options name them: the certificate is none of the
+// files that are read.
 fn rank_on(alloc: Global, found: &ArgMatches<'_>, base: Name) -> Result<Option<Job>, AllocError>
     ensures { IfOk result (λ job. job ≡ rank_on (rows_of (found_of found.now)) base) }
 {

@@ -1,4 +1,5 @@
-//! The commands of the program with their options and positionals: a function each, as the definitions have an `App` each.
+//! The commands of the program with their options and positionals: a function each, as the definitions have an `App`
+//! each.
 ghost use Rattle.std.specs.Prelude.{◌≡◌, IfOk, false};
 ghost use Rattle.clap.specs.Words.{App, rule_of};
 ghost use Rattle.wg_words.specs.Commands.{IsApp, positional_rule, several_rule, base_rule, archive_app, option_rule, required_rule, show_app, spot_app, plain_rank_app, rank_app, verify_app, with_option, with_limits, with_codes, with_layout, plain_build_app, build_app, plain_import_app, import_app, three_files_app, plain_quotient_app, quotient_app, two_archives_app, conversion_app, union_app, bulk_app, program_app, plain_app, with_command, command_app};

@@ -21,22 +21,22 @@ pub enum Job {
     Offsets {
         base: Name,
     },
-    /// `show BASE PAGE...`: the successors of these pages, in the order of the words. A page is any number below 2^64, also one
-    /// that the archive does not have.
+    /// `show BASE PAGE...`: the successors of these pages, in the order of the words. A page is any number below 2^64,
+    /// also one that the archive does not have.
     Show {
         base: Name,
         pages: List,
     },
-    /// `spot BASE PAGE`: the successors of this page of an archive that is not checked. The page is any number below 2^64,
-    /// also one that the archive does not have.
+    /// `spot BASE PAGE`: the successors of this page of an archive that is not checked. The page is any number below
+    /// 2^64, also one that the archive does not have.
     Spot {
         base: Name,
         page: u64,
     },
-    /// `rank BASE`: bounds of each page's PageRank after so many rounds at a damping in thousandths, and the order of the `top`
-    /// best pages. The numbers are at most `wg_params::MOST_ROUNDS`, `wg_params::MOST_DAMPING` and `wg_params::MOST_PAGES`.
-    /// Teleport goes to each page alike, or by the file of weights. The lower bounds may be written to a certificate, which is
-    /// none of the files that are read.
+    /// `rank BASE`: bounds of each page's PageRank after so many rounds at a damping in thousandths, and the order of
+    /// the `top` best pages. The numbers are at most `wg_params::MOST_ROUNDS`, `wg_params::MOST_DAMPING` and
+    /// `wg_params::MOST_PAGES`. Teleport goes to each page alike, or by the file of weights. The lower bounds may be
+    /// written to a certificate, which is none of the files that are read.
     Rank {
         base: Name,
         rounds: u64,
@@ -45,23 +45,24 @@ pub enum Job {
         weights: Option<Name>,
         certificate: Option<Name>,
     },
-    /// `verify BASE FILE`: whether the certificate in FILE bounds each page's PageRank from below, with teleport to each page
-    /// alike or by the file of weights. No file is written, so that any names may be the same.
+    /// `verify BASE FILE`: whether the certificate in FILE bounds each page's PageRank from below, with teleport to
+    /// each page alike or by the file of weights. No file is written, so that any names may be the same.
     Verify {
         base: Name,
         certificate: Name,
         weights: Option<Name>,
     },
-    /// `build ARCS BASE --nodes N`: the archive BASE of the graph with so many pages whose arcs the file ARCS lists. The pages
-    /// are at most `wg_params::MOST_PAGES`, the layout is within the limits of `wg_params`, and ARCS is none of the files of BASE.
+    /// `build ARCS BASE --nodes N`: the archive BASE of the graph with so many pages whose arcs the file ARCS lists.
+    /// The pages are at most `wg_params::MOST_PAGES`, the layout is within the limits of `wg_params`, and ARCS is none
+    /// of the files of BASE.
     Build {
         arcs: Name,
         base: Name,
         nodes: u64,
         layout: Layout,
     },
-    /// `import TEXT BASE`: the archive BASE of the graph that the file TEXT holds as a plain text, which tells the pages. The
-    /// layout is within the limits of `wg_params`, and TEXT is none of the files of BASE.
+    /// `import TEXT BASE`: the archive BASE of the graph that the file TEXT holds as a plain text, which tells the
+    /// pages. The layout is within the limits of `wg_params`, and TEXT is none of the files of BASE.
     Import {
         text: Name,
         base: Name,
@@ -78,8 +79,8 @@ pub enum Job {
         classes: u64,
         layout: Layout,
     },
-    /// `recode IN OUT`: the archive OUT of the graph of the archive IN. The layout is within the limits of `wg_params`, and the
-    /// two names differ, so that no file of IN is one of OUT.
+    /// `recode IN OUT`: the archive OUT of the graph of the archive IN. The layout is within the limits of `wg_params`,
+    /// and the two names differ, so that no file of IN is one of OUT.
     Recode {
         input: Name,
         output: Name,
@@ -94,8 +95,8 @@ pub enum Job {
         output: Name,
         layout: Layout,
     },
-    /// `transpose IN OUT`: the archive OUT of the graph of the archive IN with each arc the other way round. The layout and the
-    /// names are as for `recode`.
+    /// `transpose IN OUT`: the archive OUT of the graph of the archive IN with each arc the other way round. The layout
+    /// and the names are as for `recode`.
     Transpose {
         input: Name,
         output: Name,

@@ -1,9 +1,10 @@
 //! The job that the words of a command line ask for.
 //!
-//! [`Words`] holds the words after the program's name. [`job`] reads them with `clap`, by the one table of commands and options in
-//! `commands`, and answers the [`Job`]: an enum with a variant for each command, which owns the names and numbers that
-//! the words give. There is no job where `clap` refuses the words, a request for help being such a refusal, or where a value is
-//! out of its range. The definition of the job, `job_of`, is over the matches that `clap` defines for these words.
+//! [`Words`] holds the words after the program's name. [`job`] reads them with `clap`, by the one table of commands and
+//! options in `commands`, and answers the [`Job`]: an enum with a variant for each command, which owns the names and
+//! numbers that the words give. There is no job where `clap` refuses the words, a request for help being such a
+//! refusal, or where a value is out of its range. The definition of the job, `job_of`, is over the matches that `clap`
+//! defines for these words.
 //!
 //! The words of a command, and the job that they ask for:
 //!
@@ -22,18 +23,20 @@
 //! Ok(())
 //! ```
 //!
-//! A command that writes an archive takes the options of `options`, and its job has a [`Layout`]: what the words say of the
-//! archive's parameters, all but the numbers of pages and arcs. No such job reads one of the files that it writes. What `recode`
-//! and `transpose` take is one `Conversion`, which becomes the job of either.
+//! A command that writes an archive takes the options of `options`, and its job has a [`Layout`]: what the words say of
+//! the archive's parameters, all but the numbers of pages and arcs. No such job reads one of the files that it writes.
+//! What `recode` and `transpose` take is one `Conversion`, which becomes the job of either.
 //!
-//! `rank` and `verify` may name a file of weights. The certificate that `rank` writes is none of the files that it reads, which
-//! the definitions say by `KeepsInputs`.
+//! `rank` and `verify` may name a file of weights. The certificate that `rank` writes is none of the files that it
+//! reads, which the definitions say by `KeepsInputs`.
 //!
-//! A number is read from the text of its option by [`wg_num::read_decimal`], and by none of `clap`'s parsers: digits alone, no 0
-//! before others, at most its limit. An option that is absent gives its default. The pages of `show` are a list of such numbers,
-//! of which each below 2^64 will do: which pages there are is known only when the archive has been read.
+//! A number is read from the text of its option by [`wg_num::read_decimal`], and by none of `clap`'s parsers: digits
+//! alone, no 0 before others, at most its limit. An option that is absent gives its default. The pages of `show` are a
+//! list of such numbers, of which each below 2^64 will do: which pages there are is known only when the archive has
+//! been read.
 //!
-//! A command more is a variant of `Job`, a function in `commands` with its twin in the definitions, and an arm of `asked`.
+//! A command more is a variant of `Job`, a function in `commands` with its twin in the definitions, and an arm of
+//! `asked`.
 #![tactic(auto)]
 
 mod asked;

@@ -108,8 +108,8 @@ fn texts_at<'a, 'b>(found: &'b ArgMatches<'a>, id: &str) -> Option<&'b [&'a str]
     found.get_strs(id)
 }
 
-/// The numbers that an argument of several values gives: none where it is absent, or where one of its texts is no number. They
-/// take 8 bytes each.
+/// The numbers that an argument of several values gives: none where it is absent, or where one of its texts is no
+/// number. They take 8 bytes each.
 pub fn numbers_at(
     alloc: Global,
     found: &ArgMatches<'_>,

@@ -128,7 +128,8 @@ fn lists_that_are_refused(rt: HostRuntime) -> Result<(), Fail> {
     are_unbuilt(&rt, rt.alloc(), &UNBUILT)
 }
 
-// Whether a line that writes the archive with a copied list, and is stopped as the row says, reports this, and leaves the files so.
+// Whether a line that writes the archive with a copied list, and is stopped as the row says, reports this, and leaves
+// the files so.
 fn is_stopped(rt: &impl Abort, alloc: Global, line: &str, stopped: &Stopped) -> Result<bool, Fail> {
     assert!(rt; stopped.piece > 0 && stopped.create < 10 && stopped.append < 10);
     let mut depot = MemoryDepot::new(alloc, stopped.piece);

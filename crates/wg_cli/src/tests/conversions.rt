@@ -83,7 +83,8 @@ pub fn put_records(
     put(depot, graph, &bytes_of(alloc, archive.graph)?)
 }
 
-// Whether the line writes the archive that it should, which is accepted and has the arcs of its lists; the input is as before.
+// Whether the line writes the archive that it should, which is accepted and has the arcs of its lists; the input is as
+// before.
 fn is_converted(alloc: Global, converted: &Converted, piece: u64) -> Result<bool, Fail>
     requires { 1 ≤ piece }
 {

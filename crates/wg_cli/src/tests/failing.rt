@@ -6,8 +6,8 @@ use super::conversions::put_records;
 use super::*;
 use wg_vectors::ONE_ARC;
 
-// A line, and the files that it reads, in order. Each takes three reads: one at the limit, one of all its bytes, and one
-// at its end.
+// A line, and the files that it reads, in order. Each takes three reads: one at the limit, one of all its bytes, and
+// one at its end.
 struct Reading {
     line: &'static str,
     names: &'static [&'static str],

@@ -63,7 +63,8 @@ pub const COPIED_OK: &str = "ok nodes=3 arcs=4 bits=19\n";
 pub const COPIED_PROPERTIES: &str =
     "#BVGraph properties\nversion=0\nnodes=3\narcs=4\nwindowsize=7\nmaxrefcount=3\nminintervallength=4\nzetak=3\ncompressionflags=\ngraphclass=it.unimi.dsi.webgraph.BVGraph\n";
 
-/// A line over an arc list or a plain text a that holds so much, and the status and the line of error that it ends with.
+/// A line over an arc list or a plain text a that holds so much, and the status and the line of error that it ends
+/// with.
 pub struct Unbuilt {
     pub line: &'static str,
     pub list: &'static str,

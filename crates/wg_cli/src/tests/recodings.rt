@@ -17,7 +17,8 @@ fn stands<D: Depot>(alloc: Global, depot: &mut D, begun: bool) -> Result<bool, F
     )
 }
 
-// Whether a recoding whose read `k` fails ends so, with nothing printed, and leaves the files of OUT begun or untouched.
+// Whether a recoding whose read `k` fails ends so, with nothing printed, and leaves the files of OUT begun or
+// untouched.
 fn ends_at_read(alloc: Global, k: u64, begun: bool) -> Result<bool, Fail>
     requires { (0 < k) × (k < 2 ^ 64 - 1) }
 {

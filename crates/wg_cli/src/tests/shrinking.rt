@@ -8,7 +8,8 @@ use wg_io::{ReadError, WriteError};
 const PROPERTIES: &[u8] =
     b"graphclass=it.unimi.dsi.webgraph.BVGraph\nversion=0\nnodes=4000\narcs=4000\nwindowsize=0\nmaxrefcount=3\nminintervallength=0\ncompressionflags=RESIDUALS_GAMMA\n";
 
-// The first reading of the graph file gives other bytes than all later ones. It tells no bytes, and each of its counts stands at its last value.
+// The first reading of the graph file gives other bytes than all later ones. It tells no bytes, and each of its counts
+// stands at its last value.
 #[derive(Drop)]
 struct ShrinkingDepot<'a> {
     first: Option<&'a [u8]>,
@@ -56,7 +57,8 @@ fn copy_piece(file: &[u8], at: u64, buf: &mut [u8]) -> usize
     count
 }
 
-// Whether a line that goes through the graph file twice prints a part of its text, and tells the fault that the second reading met.
+// Whether a line that goes through the graph file twice prints a part of its text, and tells the fault that the second
+// reading met.
 fn stops_in_the_middle(alloc: Global, line: &str) -> Result<bool, Fail> {
     let graph = [0b0101_0101; 2000];
     let mut steady = ShrinkingDepot {

@@ -244,8 +244,8 @@ fn same_lists(alloc: Global, pages: u64) -> Result<String, Fail> {
     Ok(text)
 }
 
-// Whether page 256 is joined, which lies 256 references from page 0: more than a page is opened through. It refers to the
-// page before, as each but page 0 does: that is what their 6 bits say.
+// Whether page 256 is joined, which lies 256 references from page 0: more than a page is opened through. It refers to
+// the page before, as each but page 0 does: that is what their 6 bits say.
 fn is_deep_joined(alloc: Global) -> Result<bool, Fail> {
     let mut depot = SteadyDepot::new(alloc, 4096);
     let list = same_lists(alloc, 257)?;

@@ -5,7 +5,8 @@ use super::*;
 use wg_io::{append_all, read_whole};
 use wg_vectors::{NO_PAGES, ONE_ARC};
 
-// A certificate against an archive, by these weights, if there are any: the status, what is printed, and what is reported.
+// A certificate against an archive, by these weights, if there are any: the status, what is printed, and what is
+// reported.
 struct Verified {
     archive: Archive,
     weights: &'static str,

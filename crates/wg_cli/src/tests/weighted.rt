@@ -82,8 +82,8 @@ fn rankings_by_weights(rt: HostRuntime) -> Result<(), Fail> {
     are_weighed(&rt, rt.alloc(), &WEIGHED)
 }
 
-// A ranking that writes a certificate over an old file, where the create, the append or the write of this number fails, if it
-// is not 0: the status, what is reported, whether the ranking is printed, and what the file then holds.
+// A ranking that writes a certificate over an old file, where the create, the append or the write of this number fails,
+// if it is not 0: the status, what is reported, whether the ranking is printed, and what the file then holds.
 struct Certified {
     create: u64,
     append: u64,
