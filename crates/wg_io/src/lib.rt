@@ -76,5 +76,3 @@ pub use suffixes::{GRAPH, OFFSETS, PROPERTIES};
 pub use whole::{List8, LoadError, read_whole};
 pub use zero_depot::ZeroDepot;
 
-#[cfg(test)]
-mod tests;

@@ -44,5 +44,3 @@ mod sorting;
 
 pub use ranking::Ranking;
 
-#[cfg(test)]
-mod tests;

@@ -85,5 +85,3 @@ pub use limits::{MOST_WEIGHT, UNITS};
 pub use reading::read_certificate;
 pub use writing::write_certificate;
 
-#[cfg(test)]
-mod tests;

@@ -1,6 +1,6 @@
 ghost use Rattle.std.specs.Prelude.{◌≡◌, ◌<◌, true, length, IfOk};
 
-use crate::Ranking;
+use wg_order::Ranking;
 use std::alloc::{AllocError, Global};
 use std::process::Abort;
 use std::test::Fail;

@@ -1,7 +1,7 @@
 // Files and sinks, of the system and in memory.
 ghost use Rattle.std.specs.Prelude.{◌<◌};
 
-use crate::{
+use wg_io::{
     Depot, FileSink, FolderDepot, Lines, LoadError, MOST_BYTES, MemoryDepot, MemorySink, Sink,
     StdSink, SteadyDepot, SteadySink, WriteError, ZeroDepot, append_all, read_whole, write_all,
     write_pieces,

@@ -1,0 +1,108 @@
+use std::test::Fail;
+use wg_arcs::{ArcsError, ArcsKind};
+use wg_ascii::{AsciiError, AsciiKind};
+use wg_graph::{GraphBuilder, GraphLists, Lists};
+use wg_io::SteadySink;
+use wg_order::Ranking;
+use wg_rank::{Bounds, UNITS};
+use wg_transpose::transpose;
+use wg_vectors::{COPIED, bytes_of, generate};
+
+// In the overview of wg_graph.
+#[test]
+fn a_graph_is_built_and_its_lists_are_lent(rt: HostRuntime) -> Result<(), Fail> {
+    let mut builder = GraphBuilder::new(rt.alloc(), 3)?;
+    builder.push_list(&[1, 2])?;
+    assert!(rt; builder.fits(1, 2) && !builder.fits(0, 2));
+    builder.push(1, 2)?;
+    let graph = builder.finish()?;
+    assert_eq!(rt; graph.arcs(), 3);
+    assert_eq!(rt; graph.list(0), [1, 2].as_slice());
+    let mut lists = GraphLists::new(&graph);
+    assert_eq!(rt; lists.next_list(), Some([1, 2].as_slice()));
+    assert_eq!(rt; lists.next_list(), Some([2].as_slice()));
+    Ok(())
+}
+
+// In the overview of wg_vectors.
+#[test]
+fn a_worked_archive_and_a_generated_graph(rt: HostRuntime) -> Result<(), Fail> {
+    assert_eq!(rt; COPIED.graph, "011 1 1 1011 100  011 01 1  1");
+    let bytes = bytes_of(rt.alloc(), COPIED.graph)?;
+    assert_eq!(rt; bytes.as_slice(), b"\x7D\xC6\xE0".as_slice());
+    assert_eq!(rt; COPIED.lists.first(), Some(&[1, 2].as_slice()));
+    assert_eq!(rt; COPIED.places, [0, 12, 18, 19].as_slice());
+    let graph = generate(rt.alloc(), 7, 1000)?;
+    assert_eq!(rt; graph.nodes(), 1000);
+    Ok(())
+}
+
+// In the overview of wg_arcs.
+#[test]
+fn arcs_of_a_text(rt: HostRuntime) -> Result<(), Fail> {
+    let graph = wg_arcs::read(rt.alloc(), b"# two arcs\n0 1\n 1\t2", 3)?;
+    assert_eq!(rt; graph.arcs(), 2);
+    let mut sink = SteadySink::new(rt.alloc(), 4096);
+    wg_arcs::write(&graph, &mut sink)?;
+    assert_eq!(rt; sink.bytes(), b"0 1\n1 2\n".as_slice());
+    let twice = wg_arcs::read(rt.alloc(), b"0 1\n0 1\n", 3);
+    let kind = ArcsKind::Order;
+    assert_eq!(rt; twice.err(), Some(ArcsError::Line { line: 2, kind }));
+    Ok(())
+}
+
+// In the overview of wg_ascii.
+#[test]
+fn lists_of_a_text(rt: HostRuntime) -> Result<(), Fail> {
+    let graph = wg_ascii::read(rt.alloc(), b" 3\n1  2\n2\n\n")?;
+    assert_eq!(rt; graph.arcs(), 3);
+    let mut sink = SteadySink::new(rt.alloc(), 4096);
+    wg_ascii::write(&graph, &mut sink)?;
+    assert_eq!(rt; sink.bytes(), b"3\n1 2\n2\n\n".as_slice());
+    let short = wg_ascii::read(rt.alloc(), b"3\n1 2\n2\n");
+    let kind = AsciiKind::Missing;
+    assert_eq!(rt; short.err(), Some(AsciiError::Line { line: 4, kind }));
+    Ok(())
+}
+
+// In the overview of wg_transpose.
+#[test]
+fn arcs_the_other_way_round(rt: HostRuntime) -> Result<(), Fail> {
+    let graph = wg_arcs::read(rt.alloc(), b"0 1\n0 2\n1 2\n", 3)?;
+    let transposed = transpose(rt.alloc(), &graph)?;
+    assert_eq!(rt; transposed.nodes(), 3);
+    assert_eq!(rt; transposed.list(0), [].as_slice());
+    assert_eq!(rt; transposed.list(2), [0, 1].as_slice());
+    Ok(())
+}
+
+// In the overview of wg_rank.
+#[test]
+fn one_round_of_bounds(rt: HostRuntime) -> Result<(), Fail> {
+    let mut builder = GraphBuilder::new(rt.alloc(), 2)?;
+    builder.push_list(&[1])?;
+    let graph = builder.finish()?;
+    let mut bounds = Bounds::new(rt.alloc(), 2, 850)?;
+    assert_eq!(rt; (bounds.low(0), bounds.high(0)), (0, UNITS));
+    bounds.round(&mut GraphLists::new(&graph));
+    assert_eq!(rt; bounds.low(0), 75 * (UNITS / 1000));
+    assert_eq!(rt; bounds.high(0), UNITS / 2);
+    Ok(())
+}
+
+// In the overview of wg_order.
+#[test]
+fn the_second_page_is_surely_first(rt: HostRuntime) -> Result<(), Fail> {
+    let mut builder = GraphBuilder::new(rt.alloc(), 2)?;
+    builder.push_list(&[1])?;
+    let graph = builder.finish()?;
+    let mut lists = GraphLists::new(&graph);
+    let mut bounds = Bounds::new(rt.alloc(), 2, 100)?;
+    bounds.round(&mut lists);
+    bounds.round(&mut lists);
+    let ranking = Ranking::of(bounds);
+    assert_eq!(rt; (ranking.page(0), ranking.page(1)), (1, 0));
+    assert!(rt; ranking.surely_above(1, 0));
+    assert_eq!(rt; (ranking.best(1), ranking.worst(1)), (1, 1));
+    Ok(())
+}

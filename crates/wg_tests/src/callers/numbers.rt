@@ -1,0 +1,74 @@
+use std::test::Fail;
+use wg_bits::{Bits, Cursor};
+use wg_codes::{Read, fold, length, unfold};
+use wg_io::{LoadError, SteadyDepot, append_all, read_whole};
+use wg_num::{UNITS, decimal_into, read_decimal, units_text};
+use wg_params::{Code, Key, Params};
+
+// In the overview of wg_num.
+#[test]
+fn a_number_and_its_digits(rt: HostRuntime) {
+    assert_eq!(rt; read_decimal(b"1024"), Some(1024));
+    assert_eq!(rt; read_decimal(b"01024"), None);
+    let mut buffer = [0; 20];
+    let count = decimal_into(1024, &mut buffer);
+    assert_eq!(rt; &buffer[..count], b"1024".as_slice());
+    let quarter = units_text(UNITS / 4);
+    assert_eq!(rt;
+        quarter.as_slice(),
+        b"0.250000000000000000000000".as_slice()
+    );
+}
+
+// In the overview of wg_params.
+#[test]
+fn parameters_within_their_limits(rt: HostRuntime) -> Result<(), Fail> {
+    let gamma = Code::Gamma;
+    let unary = Code::Unary;
+    let zeta = Code::Zeta(3);
+    let params = Params::new(3, 4, 7, None, 4, 3, gamma, unary, gamma, gamma, zeta, gamma)?;
+    assert_eq!(rt; params.nodes(), 3);
+    assert_eq!(rt; params.residuals(), Code::Zeta(3));
+    // offsets are in gamma or delta
+    let other = Params::new(3, 4, 7, None, 4, 3, gamma, unary, gamma, gamma, zeta, unary);
+    assert_eq!(rt; other.err().map(|bad| bad.key), Some(Key::CompressionFlags));
+    Ok(())
+}
+
+// In the overview of wg_io.
+#[test]
+fn a_file_in_memory(rt: HostRuntime) -> Result<(), Fail> {
+    let mut depot = SteadyDepot::new(rt.alloc(), 4096);
+    depot.put_file("arcs", b"0 1\n")?;
+    append_all(&mut depot, "arcs", b"1 0\n")?;
+    let bytes = read_whole(rt.alloc(), &mut depot, "arcs")?;
+    assert_eq!(rt; bytes.as_slice(), b"0 1\n1 0\n".as_slice());
+    let other = read_whole(rt.alloc(), &mut depot, "weights");
+    assert_eq!(rt; other.err(), Some(LoadError::Absent));
+    Ok(())
+}
+
+// In the overview of wg_bits.
+#[test]
+fn a_byte_bit_by_bit(rt: HostRuntime) {
+    // 101 00 1 00
+    let mut cursor = Cursor::new(Bits::of(b"\xA4"), 0);
+    assert_eq!(rt; cursor.take(3), Some(5));
+    assert_eq!(rt; cursor.zeros(64), 2);
+    assert_eq!(rt; cursor.bit(), Some(true));
+    assert_eq!(rt; cursor.at(), 6);
+    assert_eq!(rt; cursor.take(3), None);
+}
+
+// In the overview of wg_codes.
+#[test]
+fn words_of_codes(rt: HostRuntime) {
+    // 00101 in gamma, and then 1011 in zeta
+    let mut cursor = Cursor::new(Bits::of(b"\x2D\x80"), 0);
+    assert_eq!(rt; wg_codes::read(Code::Gamma, &mut cursor), Read::Value(4));
+    assert_eq!(rt; wg_codes::read(Code::Zeta(3), &mut cursor), Read::Value(2));
+    assert_eq!(rt; wg_codes::read(Code::Gamma, &mut cursor), Read::Cut);
+    assert_eq!(rt; length(Code::Gamma, 4), 5);
+    assert_eq!(rt; fold(-2), 3);
+    assert_eq!(rt; unfold(3), -2);
+}

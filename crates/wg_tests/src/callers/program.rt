@@ -1,0 +1,74 @@
+use std::test::Fail;
+use wg_cli::run_in_memory;
+use wg_io::{SteadyDepot, SteadySink};
+use wg_jobs::perform;
+use wg_readings::{Input, Status, load_params};
+use wg_vectors::usual;
+use wg_words::{Job, Name, Words};
+
+// In the overview of wg_words.
+#[test]
+fn words_that_ask_for_a_job(rt: HostRuntime) -> Result<(), Fail> {
+    let mut words = Words::new(rt.alloc());
+    for word in ["show", "web", "7", "0"] {
+        words.push(word)?;
+    }
+    match wg_words::job(rt.alloc(), &words)? {
+        Job::Show { base, pages } => {
+            assert_eq!(rt; base.as_str(), "web");
+            assert_eq!(rt; pages.as_slice(), [7, 0].as_slice());
+        }
+        _ => return Err("another job".into()),
+    }
+    Ok(())
+}
+
+// In the overview of wg_readings.
+#[test]
+fn parameters_of_an_archive(rt: HostRuntime) -> Result<(), Fail> {
+    let mut depot = SteadyDepot::new(rt.alloc(), 4096);
+    let text = wg_properties::write(rt.alloc(), &usual(3, 4, 7, 3, 4)?)?;
+    depot.put_file("web.properties", text.as_slice())?;
+    let web = Name::new(rt.alloc(), "web")?;
+    let arcs = load_params(rt.alloc(), &mut depot, &web)
+        .ok()
+        .map(|params| params.arcs());
+    assert_eq!(rt; arcs, Some(4));
+    let other = Name::new(rt.alloc(), "other")?;
+    let ending = load_params(rt.alloc(), &mut depot, &other).err();
+    let missing = Status::Missing(Input::Properties);
+    assert_eq!(rt; ending.map(|ending| ending.status), Some(missing));
+    Ok(())
+}
+
+// In the overview of wg_jobs.
+#[test]
+fn arcs_of_an_archive(rt: HostRuntime) -> Result<(), Fail> {
+    let mut depot = SteadyDepot::new(rt.alloc(), 4096);
+    let text = wg_properties::write(rt.alloc(), &usual(3, 4, 7, 3, 4)?)?;
+    depot.put_file("web.properties", text.as_slice())?;
+    depot.put_file("web.graph", b"\x7D\xC6\xE0")?;
+    let base = Name::new(rt.alloc(), "web")?;
+    let mut out = SteadySink::new(rt.alloc(), 4096);
+    let ending = perform(rt.alloc(), &Job::Arcs { base }, &mut depot, &mut out);
+    assert_eq!(rt; ending.status, Status::Done);
+    assert_eq!(rt; out.bytes(), b"0 1\n0 2\n1 1\n1 2\n".as_slice());
+    Ok(())
+}
+
+// In the overview of wg_cli.
+#[test]
+fn a_text_is_imported(rt: HostRuntime) -> Result<(), Fail> {
+    let mut words = Words::new(rt.alloc());
+    for word in ["import", "web.txt", "web"] {
+        words.push(word)?;
+    }
+    let mut depot = SteadyDepot::new(rt.alloc(), 4096);
+    depot.put_file("web.txt", b"3\n1 2\n1 2\n\n")?;
+    let mut out = SteadySink::new(rt.alloc(), 4096);
+    let mut err = SteadySink::new(rt.alloc(), 4096);
+    let status = run_in_memory(rt.alloc(), &words, &mut depot, &mut out, &mut err);
+    assert_eq!(rt; status, Status::Done);
+    assert!(rt; depot.holds("web.graph"));
+    Ok(())
+}

@@ -1,0 +1,138 @@
+ghost use Rattle.std.specs.Prelude.{◌≡◌, ◌<◌};
+
+use std::alloc::Global;
+use std::marker::Brand;
+use std::process::Abort;
+use std::sync::ledger::{Blank, Ledger};
+use std::test::Fail;
+use wg_bits::{Bits, Cursor};
+use wg_codes::Read;
+use wg_decoder::{Window, decode};
+use wg_grammar::OffsetWord;
+use wg_graph::{List, Lists};
+use wg_io::SteadyDepot;
+use wg_offsets::OffsetsError;
+use wg_params::Code;
+use wg_random::{Archive, Records, Steps};
+use wg_shape::{quotient, union};
+use wg_source::Source;
+use wg_stream::Reader;
+use wg_vectors::usual;
+
+// In the overview of wg_source.
+#[test]
+fn words_and_a_tail(rt: HostRuntime) {
+    // 010 and 00101 in gamma, and then zeros
+    let mut source = Cursor::new(Bits::of(b"\x45\x00"), 0);
+    assert_eq!(rt; source.read(Code::Gamma).ok(), Some(Read::Value(1)));
+    assert_eq!(rt; source.read(Code::Gamma).ok(), Some(Read::Value(4)));
+    assert_eq!(rt; Source::at(&source), 8);
+    assert_eq!(rt; source.tail_fault().ok(), Some(None));
+}
+
+// In the overview of wg_decoder.
+#[test]
+fn two_records(rt: HostRuntime) -> Result<(), Fail> {
+    // 011 1 1 1011 100  011 01 1  1
+    let mut cursor = Cursor::new(Bits::of(b"\x7D\xC6\xE0"), 0);
+    let params = usual(3, 4, 7, 3, 4)?;
+    let mut window = Window::new(rt.alloc(), &params);
+    let first = decode(rt.alloc(), &params, 0, 0, &window, &mut cursor)?;
+    assert_eq!(rt; first.list.as_slice(), [1, 2].as_slice());
+    window.push(first.list, first.depth)?;
+    // page 1 copies the list of page 0
+    let second = decode(rt.alloc(), &params, 1, 2, &window, &mut cursor)?;
+    assert_eq!(rt; second.list.as_slice(), [1, 2].as_slice());
+    assert_eq!(rt; (second.depth, cursor.at()), (1, 18));
+    Ok(())
+}
+
+// In the overview of wg_offsets.
+#[test]
+fn offsets_of_three_records(rt: HostRuntime) -> Result<(), Fail> {
+    // 1 0001101 00111 010: the words of 0, 12, 6 and 1
+    let offsets = wg_offsets::read(rt.alloc(), b"\x8D\x3A", 3, Code::Gamma)?;
+    assert_eq!(rt; offsets.len(), 4);
+    assert_eq!(rt; (offsets.place(1), offsets.place(2)), (12, 18));
+    assert_eq!(rt; offsets.end(), 19);
+    let cut = wg_offsets::read(rt.alloc(), b"\x8D", 3, Code::Gamma);
+    let word = OffsetWord::Cut(2);
+    assert_eq!(rt; cut.err(), Some(OffsetsError::Word(word)));
+    Ok(())
+}
+
+// In the overview of wg_stream.
+#[test]
+fn lists_of_a_graph_file(rt: HostRuntime) -> Result<(), Fail> {
+    let mut depot = SteadyDepot::new(rt.alloc(), 4096);
+    depot.put_file("web.graph", b"\x7D\xC6\xE0")?;
+    let mut reader = Reader::new(rt.alloc(), usual(3, 4, 7, 3, 4)?, "web.graph")?;
+    assert_eq!(rt; reader.next(&mut depot)?, Some([1, 2].as_slice()));
+    assert_eq!(rt; reader.next(&mut depot)?, Some([1, 2].as_slice()));
+    assert_eq!(rt; reader.next(&mut depot)?, Some([].as_slice()));
+    assert_eq!(rt; reader.next(&mut depot)?, None);
+    assert_eq!(rt; reader.at(), 19);
+    Ok(())
+}
+
+// In the overview of wg_iterators.
+fn successors_one_by_one<L: Ledger>(
+    rt: &impl Abort,
+    alloc: Global,
+    archive: &Archive<'_>,
+    steps: &mut Steps<L>,
+) -> Result<(), Fail> {
+    let mut successors = archive.open(alloc, 1, steps)?;
+    assert_eq!(rt; successors.outdegree(), 2);
+    assert_eq!(rt; successors.next(), Some(1));
+    assert_eq!(rt; successors.next(), Some(2));
+    assert_eq!(rt; successors.next(), None);
+    Ok(())
+}
+
+fn counted<L: Ledger>(rt: &impl Abort, alloc: Global, blank: Blank) -> Result<(), Fail>
+    requires name { blank.name ≡ L.name }
+    requires parts { blank.parts ≡ L.parts }
+    requires some { 0 < blank.parts }
+{
+    let (book, share) = blank.open::<L>();
+    let mut steps = Steps::new(book, share);
+    let records = Records::check(alloc, b"\x7D\xC6\xE0", usual(3, 4, 7, 3, 4)?)?;
+    successors_one_by_one(rt, alloc, &records.archive(), &mut steps)
+}
+
+#[test]
+fn successors_of_an_opened_page(rt: HostRuntime) -> Result<(), Fail> {
+    counted::<Brand>(&rt, rt.alloc(), Blank::new(1))
+}
+
+// In the overview of wg_random.
+#[test]
+fn records_are_checked_and_swept(rt: HostRuntime) -> Result<(), Fail> {
+    let records = Records::check(rt.alloc(), b"\x7D\xC6\xE0", usual(3, 4, 7, 3, 4)?)?;
+    assert_eq!(rt; records.offset(1), 12);
+    let mut lists = records.sweep(rt.alloc())?;
+    assert_eq!(rt; lists.next_list(), Some([1, 2].as_slice()));
+    assert_eq!(rt; lists.next_list(), Some([1, 2].as_slice()));
+    assert_eq!(rt; lists.next_list(), Some([].as_slice()));
+    assert_eq!(rt; lists.next_list(), None);
+    lists.begin();
+    assert_eq!(rt; lists.next_list(), Some([1, 2].as_slice()));
+    Ok(())
+}
+
+// In the overview of wg_shape.
+#[test]
+fn a_union_and_its_quotient(rt: HostRuntime) -> Result<(), Fail> {
+    let first = wg_arcs::read(rt.alloc(), b"0 1\n", 2)?;
+    let second = wg_arcs::read(rt.alloc(), b"0 2\n1 2\n", 3)?;
+    let both = union(rt.alloc(), &first, &second)?;
+    assert_eq!(rt; both.nodes(), 3);
+    assert_eq!(rt; both.list(0), [1, 2].as_slice());
+    // pages 0 and 1 are class 0, and page 2 is class 1
+    let mut classes = List::new(rt.alloc());
+    classes.extend(&[0, 0, 1])?;
+    let graph = quotient(rt.alloc(), &both, &classes, 2)?;
+    assert_eq!(rt; (graph.nodes(), graph.arcs()), (2, 2));
+    Ok(())
+}
