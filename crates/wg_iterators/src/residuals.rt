@@ -62,6 +62,7 @@ pub(crate) fn page_of(page: u64, last: Option<u64>, value: u64) -> u64
 
 impl<'a> Residuals<'a> {
     // The residuals that stand at the cursor, so many.
+    #[inline(always)]
     pub(crate) fn new(cursor: Lookahead<'a>, code: Code, page: u64, count: u64) -> Residuals<'a>
         requires code { IsCode code }
         requires page { page < 2 ^ 62 }
@@ -97,6 +98,7 @@ impl<'a> Residuals<'a> {
     }
 
     // How many bits stand behind the last residual, if all were given.
+    #[inline(always)]
     pub(crate) fn left_behind(&self) -> u64
         requires { self.now.list ≡ [] }
         ensures { result ≡ length self.now.behind }

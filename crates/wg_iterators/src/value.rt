@@ -1,5 +1,5 @@
 //! Values whose words stand at a cursor.
-ghost use Rattle.std.specs.Prelude.{◌≡◌, ℕ, ◌^◌, ◌<◌, List, Bool, length};
+ghost use Rattle.std.specs.Prelude.{◌≡◌, ℕ, ◌^◌, ◌<◌, ◌≤◌, List, Bool, length, drop};
 ghost use Rattle.wg_params.specs.Codes.{IsCode};
 ghost use Rattle.wg_bits.specs.Bits.{rest};
 ghost use Rattle.wg_codes.specs.Standing.{IsWord};
@@ -7,7 +7,7 @@ ghost use Rattle.wg_iterators.specs.Laid.{MaybeWord};
 
 use std::marker::Model;
 use wg_bits::Cursor;
-use wg_codes::{Read, read, word_in};
+use wg_codes::{Read, Word, read, word_in};
 use wg_params::Code;
 
 // With fewer bits at hand than these, more are loaded.
@@ -50,6 +50,7 @@ impl<'a> Lookahead<'a> {
     }
 
     // A cursor at the same offset of the same bits.
+    #[inline(always)]
     pub(crate) fn again(&self) -> Cursor<'a>
         ensures { result ≡ self.now }
     {
@@ -93,23 +94,33 @@ pub(crate) fn value(code: Code, cursor: &mut Lookahead<'_>) -> u64
             cursor.cursor.advance(word.bits);
             word.value
         }
-        _ => long_value(code, cursor),
+        _ => {
+            let word = long_word(code, cursor.again());
+            cursor.known = 0;
+            cursor.cursor.advance(word.bits);
+            word.value
+        }
     }
 }
 
-// The same for any word.
+// The word that stands at a cursor, whichever it is. It takes the cursor itself, for one that were lent would have to stay
+// in memory wherever words are read.
 #[cold]
 #[inline(never)]
-fn long_value(code: Code, cursor: &mut Lookahead<'_>) -> u64
+fn long_word(code: Code, mut cursor: Cursor<'_>) -> Word
     requires code { IsCode code }
-    requires stands { (v : ℕ) × (behind : List Bool) × IsWord code v (rest cursor.old) behind }
-    ensures short { result < 2 ^ 63 }
-    ensures exact { (v : ℕ) (behind : List Bool) → IsWord code v (rest cursor.old) behind
-        → (v ≡ result) × (behind ≡ rest cursor.new) }
+    requires stands { (v : ℕ) × (behind : List Bool) × IsWord code v (rest cursor) behind }
+    ensures short { result.value < 2 ^ 63 }
+    ensures within { result.bits ≤ length (rest cursor.entry) }
+    ensures exact { (v : ℕ) (behind : List Bool) → IsWord code v (rest cursor.entry) behind
+        → (v ≡ result.value) × (behind ≡ drop result.bits (rest cursor.entry)) }
 {
-    cursor.known = 0;
-    match read(code, &mut cursor.cursor) {
-        Read::Value(value) => value,
+    let start = cursor.at();
+    match read(code, &mut cursor) {
+        Read::Value(value) => Word {
+            value,
+            bits: cursor.at() - start,
+        },
         Read::Cut => unreachable!(),
         Read::NoWord => unreachable!(),
     }
