@@ -15,8 +15,8 @@ pub(crate) fn whole_quotient(value: u128, by: u64) -> u128
     value / by as u128
 }
 
-// The quotient by a number that is known when the program is compiled. By one of at most 2^16 it takes two divisions of
-// 64 bits, which are compiled to products.
+// The quotient by a number that is known when the program is compiled. By one of at most 2^16 it takes two divisions
+// of 64 bits, which are compiled to products.
 #[inline(always)]
 pub(crate) fn quotient(value: u128, by: u64) -> u128
     requires { 0 < by }

@@ -6,8 +6,7 @@ use crate::dividing::{CUT, whole_quotient};
 use std::marker::Model;
 
 // A number to divide by, and its inverse in units of 2^-64, rounded down. A quotient of 64 bits is then a product, at
-// most 1 too small. One of 128 bits takes two of them where the number is at most 2^16, and so a fraction of a
-// division's time.
+// most 1 too small. One of 128 bits takes two of them where the number is at most 2^16, and else a division.
 #[derive(Drop)]
 pub(crate) struct Divisor {
     by: u64,
