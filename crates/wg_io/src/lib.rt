@@ -75,4 +75,3 @@ pub use stream::StdSink;
 pub use suffixes::{GRAPH, OFFSETS, PROPERTIES};
 pub use whole::{List8, LoadError, read_whole};
 pub use zero_depot::ZeroDepot;
-

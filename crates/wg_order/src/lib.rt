@@ -43,4 +43,3 @@ mod ranking;
 mod sorting;
 
 pub use ranking::Ranking;
-

@@ -84,4 +84,3 @@ pub use judging::judge;
 pub use limits::{MOST_WEIGHT, UNITS};
 pub use reading::read_certificate;
 pub use writing::write_certificate;
-

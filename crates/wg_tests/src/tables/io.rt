@@ -1,16 +1,16 @@
 // Files and sinks, of the system and in memory.
 ghost use Rattle.std.specs.Prelude.{◌<◌};
 
-use wg_io::{
-    Depot, FileSink, FolderDepot, Lines, LoadError, MOST_BYTES, MemoryDepot, MemorySink, Sink,
-    StdSink, SteadyDepot, SteadySink, WriteError, ZeroDepot, append_all, read_whole, write_all,
-    write_pieces,
-};
 use std::alloc::Global;
 use std::fs;
 use std::io::{self, Write};
 use std::process::Abort;
 use std::test::Fail;
+use wg_io::{
+    Depot, FileSink, FolderDepot, Lines, LoadError, MOST_BYTES, MemoryDepot, MemorySink, Sink,
+    StdSink, SteadyDepot, SteadySink, WriteError, ZeroDepot, append_all, read_whole, write_all,
+    write_pieces,
+};
 
 const TEXT: &[u8] = b"pages and their successors";
 

@@ -1,10 +1,10 @@
 ghost use Rattle.std.specs.Prelude.{◌≡◌, ◌<◌, true, length, IfOk};
 
-use wg_order::Ranking;
 use std::alloc::{AllocError, Global};
 use std::process::Abort;
 use std::test::Fail;
 use wg_graph::{Graph, GraphBuilder, GraphLists};
+use wg_order::Ranking;
 use wg_rank::Bounds;
 
 // Two pages and the arc from page 0 to page 1.
