@@ -176,7 +176,7 @@ module _ (g : Digraph) (base : List ℕ) (files : Files) (is : IsBuilt g base fi
         let r : Readings = the_readings in
         let k = subst (λ (x : Parameters). LoadsGraph base x true files files' counts counts' (Ok h)) same l in
         let text : (f : Digraph → List ℕ) → f h ≡ f g =
-            λ f. same_text (digraph_then r p (held_by (file_of base) files input.Graph)) h g f (k.goes refl r) (digraph_goes_on r) in
+        λ f. same_text (digraph_then r p (held_by (file_of base) files input.Graph)) h g f (k.goes refl r) (digraph_goes_on r) in
         λ i. record {
           damping = damping;
           rounds = rounds;
