@@ -32,9 +32,9 @@
 //!
 //! `check`, `arcs`, `ascii`, `offsets` and `recode` read the graph in pieces, and `check` and `show` the offsets, so
 //! that an archive need not fit into memory; all other inputs are held whole until they are read. `show` opens pages by
-//! their offsets, and prints their successors as they come. `spot` judges no record but those that one page refers to,
-//! and holds `union` holds the bytes of two graph files, and goes through the graph file and the offsets whole. their
-//! lists side by side.
+//! their offsets, and prints their successors as they come. `spot` holds the graph file and goes through the offsets,
+//! and judges no record but those that one page refers to. `union` holds the bytes of two graph files, and goes through
+//! their lists side by side.
 #![tactic(auto)]
 
 mod build;
