@@ -33,8 +33,8 @@
 //! each word is read once, in the order of the record; runs of members are copied while their blocks come, intervals
 //! are joined to them as runs, and then the residuals, from one row to another.
 //!
-//! **Memory** is that of the values themselves: an iterator holds three cursors and three numbers, no list, and one box
-//! for each page below, which the caller makes. No call takes memory.
+//! **Memory** is that of the values themselves: an iterator holds three cursors, one of them with 64 bits at hand, and
+//! three numbers, no list, and one box for each page below, which the caller makes. No call takes memory.
 //!
 //! **Cost.** To begin takes the time of the record's own words, however many pages are below, since no number is read
 //! before it is asked for. All numbers together take the time of the record's words and of the members below, whether

@@ -103,8 +103,8 @@ pub(crate) fn value(code: Code, cursor: &mut Lookahead<'_>) -> u64
     }
 }
 
-// The word that stands at a cursor, whichever it is. It takes the cursor itself, for one that were lent would have to
-// stay in memory wherever words are read.
+// The word that stands at a cursor, whichever it is. It takes the cursor itself: one that is lent would have to stay in
+// memory wherever words are read.
 #[cold]
 #[inline(never)]
 fn long_word(code: Code, mut cursor: Cursor<'_>) -> Word
