@@ -8,3 +8,4 @@ pub mod Prefixes
 pub mod Growth
 pub mod Arcs
 pub mod Asked
+pub mod Written

@@ -39,7 +39,9 @@ mod joining;
 mod list;
 mod lists;
 mod members;
+mod pieces;
 mod row;
+mod stretch;
 
 pub use builder::GraphBuilder;
 pub use graph::Graph;
@@ -48,6 +50,7 @@ pub use list::List;
 pub use lists::{GraphLists, Lists};
 pub use members::Members;
 pub use row::Row;
+pub use stretch::Stretch;
 
 #[cfg(test)]
 mod tests;

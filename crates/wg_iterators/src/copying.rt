@@ -8,33 +8,19 @@ ghost use Rattle.wg_iterators.specs.Laid.{WordsTo};
 
 use crate::passing::block_of;
 use crate::value::{Lookahead, value};
-use wg_graph::Row;
+use wg_graph::{Row, Stretch};
 use wg_params::Code;
-
-// Adds numbers at the end.
-#[inline(always)]
-pub(crate) fn push_all(row: &mut Row, numbers: &[u64])
-    requires { length row.old.list + length numbers.now ≤ row.old.room }
-    ensures list { row.new.list ≡ row.old.list ++ numbers.now }
-    ensures room { row.new.room ≡ row.old.room }
-{
-    let mut left = numbers;
-    'numbers: while let Some((first, others)) = left.split_first() {
-        row.push(*first);
-        left = others;
-    }
-}
 
 // Adds every other run of members, from the first on.
 #[inline(always)]
-fn keep(row: &mut Row, run: &[u64], index: u64)
-    requires { length row.old.list + length run.now ≤ row.old.room }
-    ensures list { row.new.list ≡ row.old.list ++ (if index % 2 == 0 then run.now else []) }
+fn keep(row: &mut Row, run: Stretch<'_>, index: u64)
+    requires { length row.old.list + length run ≤ row.old.room }
+    ensures list { row.new.list ≡ row.old.list ++ (if index % 2 == 0 then run.entry else []) }
     ensures room { row.new.room ≡ row.old.room }
-    ensures fits { length row.new.list ≤ length row.old.list + length run.now }
+    ensures fits { length row.new.list ≤ length row.old.list + length run.entry }
 {
     if index % 2 == 0 {
-        push_all(row, run);
+        row.extend(run);
     }
 }
 
@@ -43,7 +29,7 @@ fn keep(row: &mut Row, run: &[u64], index: u64)
 pub(crate) fn copy_members(
     code: Code,
     count: u64,
-    members: &[u64],
+    members: &Stretch<'_>,
     cursor: &mut Lookahead<'_>,
     row: &mut Row,
 )
@@ -59,11 +45,12 @@ pub(crate) fn copy_members(
         → behind ≡ rest cursor.new }
     ensures room { row.new.room ≡ row.old.room }
 {
+    let all = members.len();
     let mut done = 0;
     'copies: for index in 0..count {
         let length = block_of(index, value(code, cursor)) as usize;
-        keep(row, &members[done..done + length], index);
+        keep(row, members.part(done, done + length), index);
         done += length;
     }
-    keep(row, &members[done..], count);
+    keep(row, members.part(done, all), count);
 }

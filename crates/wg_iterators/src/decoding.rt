@@ -1,5 +1,5 @@
 //! The whole list of a record, at once.
-ghost use Rattle.std.specs.Prelude.{◌≡◌, ◌<◌, ◌≤◌, ℕ, List, Option, length, option_copied};
+ghost use Rattle.std.specs.Prelude.{◌≡◌, ◌<◌, ◌≤◌, ℕ, List, Option, length};
 ghost use Rattle.wg_graph.specs.Ascending.{Ascends};
 ghost use Rattle.wg_iterators.specs.Headed.{IsHead};
 ghost use Rattle.wg_iterators.specs.Laid.{list_or_none};
@@ -11,7 +11,7 @@ use crate::head::RecordHead;
 use crate::joining::{add_intervals, add_residuals};
 use crate::value::value_where;
 use wg_bits::Cursor;
-use wg_graph::Row;
+use wg_graph::{Row, Stretch};
 use wg_params::{Code, Params};
 
 // The same as `decode_into`, where `members` are those of the list below, and `source` is their number, if it is there.
@@ -20,7 +20,7 @@ fn decode_on<'a>(
     page: u64,
     head: RecordHead<'a>,
     source: Option<u64>,
-    members: &[u64],
+    members: &Stretch<'_>,
     cursor: &mut Cursor<'a>,
     spare: &mut Row,
     row: &mut Row,
@@ -71,7 +71,7 @@ pub fn decode_into<'a>(
     params: &Params,
     page: u64,
     head: RecordHead<'a>,
-    below: Option<&[u64]>,
+    below: Option<Stretch<'_>>,
     cursor: &mut Cursor<'a>,
     spare: &mut Row,
     row: &mut Row,
@@ -79,23 +79,23 @@ pub fn decode_into<'a>(
     requires page { page < params.now.nodes }
     requires head { IsHead params.now cursor.old head }
     requires rooms { spare.old.room ≡ row.old.room }
-    requires below { length (list_or_none (option_copied below)) ≤ row.old.room }
-    requires ascends { Ascends 0 (list_or_none (option_copied below)) }
-    requires proper { (list : List ℕ) × IsRecord params.now page (option_copied below) cursor.old list
+    requires below { length (list_or_none below) ≤ row.old.room }
+    requires ascends { Ascends 0 (list_or_none below) }
+    requires proper { (list : List ℕ) × IsRecord params.now page below cursor.old list
         × (length list ≤ row.old.room) }
-    ensures list { (list : List ℕ) → IsRecord params.now page (option_copied below.entry) cursor.old list
+    ensures list { (list : List ℕ) → IsRecord params.now page below.entry cursor.old list
         → row.new.list ≡ list }
     ensures room { row.new.room ≡ row.old.room }
     ensures spare { spare.new.room ≡ spare.old.room }
     ensures bits { cursor.new.bits ≡ cursor.old.bits }
-    ensures end { (list : List ℕ) (h : IsRecord params.now page (option_copied below.entry) cursor.old list)
+    ensures end { (list : List ℕ) (h : IsRecord params.now page below.entry cursor.old list)
         → cursor.new.at ≡ h.end }
 {
     match below {
-        None => decode_on(params, page, head, None, &[], cursor, spare, row),
+        None => decode_on(params, page, head, None, &Stretch::none(), cursor, spare, row),
         Some(list) => {
             let source = Some(list.len() as u64);
-            decode_on(params, page, head, source, list, cursor, spare, row)
+            decode_on(params, page, head, source, &list, cursor, spare, row)
         }
     }
 }

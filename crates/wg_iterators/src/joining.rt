@@ -1,6 +1,5 @@
 //! Numbers that are joined to ascending members.
 ghost use Rattle.std.specs.Prelude.{◌≡◌, ℕ, ◌+◌, ◌^◌, ◌<◌, ◌≤◌, List, ◌++◌, Bool, None, length};
-ghost use Rattle.std.specs.List.{range_with_len};
 ghost use Rattle.wg_params.specs.Codes.{IsCode};
 ghost use Rattle.wg_bits.specs.Bits.{rest};
 ghost use Rattle.wg_graph.specs.Ascending.{Ascends};
@@ -9,45 +8,31 @@ ghost use Rattle.wg_iterators.specs.Coming.{union_of};
 ghost use Rattle.wg_iterators.specs.Joining.{AreJoinable, Joining};
 ghost use Rattle.wg_iterators.specs.Laid.{IntervalsTo, ResidualsTo};
 
-use crate::copying::push_all;
 use crate::residuals::{Residuals, page_of};
 use crate::value::{Lookahead, value};
 use std::mem::swap;
-use wg_graph::Row;
+use wg_graph::{Row, Stretch};
 use wg_params::Code;
 
 // Adds the members below the bound, and answers those that are not.
 #[inline(always)]
-fn push_below<'a>(members: &'a [u64], bound: u64, row: &mut Row) -> &'a [u64]
-    requires { (all : List ℕ) × (others : List ℕ) × Joining all row.old.list members.now others
+fn push_below<'a>(members: Stretch<'a>, bound: u64, row: &mut Row) -> Stretch<'a>
+    requires { (all : List ℕ) × (others : List ℕ) × Joining all row.old.list members others
         × Ascends bound others × (length all ≤ row.old.room) }
-    ensures joining { (all others : List ℕ) → Joining all row.old.list members.now others → Ascends bound others
-        → Joining all row.new.list result.now others }
-    ensures ascends { Ascends bound result.now }
+    ensures joining { (all others : List ℕ) → Joining all row.old.list members.entry others → Ascends bound others
+        → Joining all row.new.list result others }
+    ensures ascends { Ascends bound result }
     ensures room { row.new.room ≡ row.old.room }
 {
     let mut left = members;
     'members: while let Some((first, others)) = left.split_first() {
-        if *first >= bound {
+        if first >= bound {
             return left;
         }
-        row.push(*first);
+        row.push(first);
         left = others;
     }
     left
-}
-
-// Adds so many numbers that follow one another.
-#[inline(always)]
-fn push_run(row: &mut Row, left: u64, count: u64)
-    requires room { length row.old.list + count ≤ row.old.room }
-    requires short { left + count ≤ 2 ^ 63 }
-    ensures list { row.new.list ≡ row.old.list ++ range_with_len left count }
-    ensures room { row.new.room ≡ row.old.room }
-{
-    'run: for index in 0..count {
-        row.push(left + index);
-    }
 }
 
 // Adds the members and the numbers inside so many intervals. It reads their words.
@@ -56,22 +41,22 @@ fn join_intervals(
     page: u64,
     least: u64,
     count: u64,
-    members: &[u64],
+    members: Stretch<'_>,
     cursor: &mut Lookahead<'_>,
     row: &mut Row,
 )
     requires page { page < 2 ^ 62 }
     requires stand { (lefts : List ℕ) × (lengths : List ℕ) × (behind : List Bool) × (length lefts ≡ count)
         × IntervalsTo page least None lefts lengths (rest cursor.old) behind
-        × AreJoinable members.now (numbers_inside lefts lengths)
-        × (length row.old.list + length (union_of members.now (numbers_inside lefts lengths)) ≤ row.old.room) }
+        × AreJoinable members (numbers_inside lefts lengths)
+        × (length row.old.list + length (union_of members (numbers_inside lefts lengths)) ≤ row.old.room) }
     ensures list { (lefts lengths : List ℕ) (behind : List Bool) → length lefts ≡ count
         → IntervalsTo page least None lefts lengths (rest cursor.old) behind
-        → AreJoinable members.now (numbers_inside lefts lengths)
-        → row.new.list ≡ row.old.list ++ union_of members.now (numbers_inside lefts lengths) }
+        → AreJoinable members.entry (numbers_inside lefts lengths)
+        → row.new.list ≡ row.old.list ++ union_of members.entry (numbers_inside lefts lengths) }
     ensures behind { (lefts lengths : List ℕ) (behind : List Bool) → length lefts ≡ count
         → IntervalsTo page least None lefts lengths (rest cursor.old) behind
-        → AreJoinable members.now (numbers_inside lefts lengths) → behind ≡ rest cursor.new }
+        → AreJoinable members.entry (numbers_inside lefts lengths) → behind ≡ rest cursor.new }
     ensures room { row.new.room ≡ row.old.room }
 {
     let mut past = None;
@@ -80,18 +65,18 @@ fn join_intervals(
         let first = page_of(page, past, value(Code::Gamma, cursor));
         let run = value(Code::Gamma, cursor) + least;
         left = push_below(left, first, row);
-        push_run(row, first, run);
+        row.extend_run(first, run);
         past = Some(first + run);
     }
-    push_all(row, left);
+    row.extend(left);
 }
 
 // Adds the members and the residuals, and tells how many bits stand behind the last.
 #[inline(always)]
-fn join_residuals<'a>(residuals: Residuals<'a>, members: &[u64], row: &mut Row) -> u64
-    requires joinable { AreJoinable members.now residuals.list }
-    requires room { length row.old.list + length (union_of members.now residuals.list) ≤ row.old.room }
-    ensures list { row.new.list ≡ row.old.list ++ union_of members.now residuals.entry.list }
+fn join_residuals<'a>(residuals: Residuals<'a>, members: Stretch<'_>, row: &mut Row) -> u64
+    requires joinable { AreJoinable members residuals.list }
+    requires room { length row.old.list + length (union_of members residuals.list) ≤ row.old.room }
+    ensures list { row.new.list ≡ row.old.list ++ union_of members.entry residuals.entry.list }
     ensures behind { result ≡ length residuals.entry.behind }
     ensures room { row.new.room ≡ row.old.room }
 {
@@ -101,7 +86,7 @@ fn join_residuals<'a>(residuals: Residuals<'a>, members: &[u64], row: &mut Row) 
         left = push_below(left, residual, row);
         row.push(residual);
     }
-    push_all(row, left);
+    row.extend(left);
     coming.left_behind()
 }
 
@@ -135,7 +120,7 @@ pub(crate) fn add_intervals(
         return;
     }
     spare.clear();
-    join_intervals(page, least, count, row.as_slice(), cursor, spare);
+    join_intervals(page, least, count, row.stretch(), cursor, spare);
     swap(spare, row);
 }
 
@@ -169,7 +154,7 @@ pub(crate) fn add_residuals(
     }
     let residuals = Residuals::new(cursor, code, page, count);
     spare.clear();
-    let behind = join_residuals(residuals, row.as_slice(), spare);
+    let behind = join_residuals(residuals, row.stretch(), spare);
     swap(spare, row);
     behind
 }

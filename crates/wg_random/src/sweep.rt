@@ -1,5 +1,5 @@
 //! The lists of an archive in the order of the pages, as often as one likes, from its bits.
-ghost use Rattle.std.specs.Prelude.{◌≡◌, ◌+◌, ◌-◌, ◌<◌, ◌≤◌, ℕ, List as ListOf, Ok, All, length, min, IfOk, option_copied};
+ghost use Rattle.std.specs.Prelude.{◌≡◌, ◌+◌, ◌-◌, ◌<◌, ◌≤◌, ℕ, List as ListOf, Ok, All, length, min, IfOk};
 ghost use Rattle.wg_io.specs.declared.limits.TheConstants.{MOST_BYTES};
 ghost use Rattle.wg_bits.specs.Bits.{bits_of};
 ghost use Rattle.wg_graph.specs.Digraph.{successors};
@@ -17,7 +17,7 @@ use std::alloc::{AllocError, Global};
 use std::marker::Model;
 use std::mem::swap;
 use wg_bits::{Bits, Cursor};
-use wg_graph::{Lists, Row};
+use wg_graph::{Lists, Row, Stretch};
 use wg_iterators::{decode_into, read_head};
 use wg_params::Params;
 use wg_stream::PagesError;
@@ -119,19 +119,19 @@ fn keep(kept: &mut [Row], turn: u64, list: &mut Row) -> u64
 
 // The list of the page so many pages before the one that comes next, which is as many rows back; none for 0.
 #[inline(always)]
-fn list_back(kept: &[Row], turn: u64, back: u64) -> Option<&[u64]>
+fn list_back(kept: &[Row], turn: u64, back: u64) -> Option<Stretch<'_>>
     requires turn { 0 < length kept.now → turn < length kept.now }
     requires reach { back ≤ length kept.now }
     ensures below { (records : ListOf Whole) (page : ℕ) → back ≤ page → AreKept records page kept.now turn
-        → option_copied result ≡ below_at records page back }
+        → result ≡ below_at records page back }
     ensures within { (room : ℕ) → All (λ r. r.room ≡ room) kept.now
-        → length (list_or_none (option_copied result)) ≤ room }
+        → length (list_or_none result) ≤ room }
 {
     if back == 0 {
         return None;
     }
     let row = row_back(turn, kept.len() as u64, back);
-    Some(kept[row as usize].as_slice())
+    Some(kept[row as usize].stretch())
 }
 
 // Decodes the record of a page, which begins at the bit `at`, into the row, and tells where it ends.
