@@ -64,3 +64,15 @@ fn a_row_is_filled_again(rt: HostRuntime) -> Result<(), Fail> {
     assert_eq!(rt; row.as_slice(), [7].as_slice());
     Ok(())
 }
+
+#[test]
+fn a_row_takes_numbers_of_another(rt: HostRuntime) -> Result<(), Fail> {
+    let mut members = Row::new(rt.alloc(), 9)?;
+    members.extend_run(4, 9);
+    let mut row = Row::new(rt.alloc(), 10)?;
+    let others = row.extend_below(members.stretch(), 9);
+    row.push(100);
+    row.extend(others.part(1, 4));
+    assert_eq!(rt; row.as_slice(), [4, 5, 6, 7, 8, 100, 10, 11, 12].as_slice());
+    Ok(())
+}

@@ -92,7 +92,16 @@ pub fn decode_into<'a>(
         → cursor.new.at ≡ h.end }
 {
     match below {
-        None => decode_on(params, page, head, None, &Stretch::none(), cursor, spare, row),
+        None => decode_on(
+            params,
+            page,
+            head,
+            None,
+            &Stretch::none(),
+            cursor,
+            spare,
+            row,
+        ),
         Some(list) => {
             let source = Some(list.len() as u64);
             decode_on(params, page, head, source, &list, cursor, spare, row)

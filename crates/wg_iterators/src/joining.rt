@@ -24,15 +24,7 @@ fn push_below<'a>(members: Stretch<'a>, bound: u64, row: &mut Row) -> Stretch<'a
     ensures ascends { Ascends bound result }
     ensures room { row.new.room ≡ row.old.room }
 {
-    let mut left = members;
-    'members: while let Some((first, others)) = left.split_first() {
-        if first >= bound {
-            return left;
-        }
-        row.push(first);
-        left = others;
-    }
-    left
+    row.extend_below(members, bound)
 }
 
 // Adds the members and the numbers inside so many intervals. It reads their words.
