@@ -25,8 +25,9 @@ use wg_stream::PagesError;
 /// The lists of an archive that was checked, decoded from its bits page after page, as often as one likes.
 ///
 /// It is seen as the graph of the archive, and the page whose list comes next. It holds rows for the lists that a
-/// reference may reach and for two lists more, each with room for the greatest outdegree, 8 bytes a number; all are
-/// taken when it is made. A list then takes the time of its record's words and of the lists that it has and refers to.
+/// reference may reach and for two lists more, each with room for the greatest outdegree, 8 bytes a number, and 64 more;
+/// all are taken when it is made. A list then takes the time of its record's words and of the lists that it has and
+/// refers to.
 #[derive(Drop)]
 pub struct Sweep<'a> {
     archive: Standing<'a>,
