@@ -43,7 +43,7 @@ pub fn word_in(window: u64, most: u64) -> Option<Word>
     ensures { IfSome result (Tells gamma (2 ^ (most + 1) - 2) window) }
 {
     let index = window.leading_zeros();
-    if index >= 32 || index as u64 > most {
+    if index as u64 > most.min(31) {
         return None;
     }
     Some(Word {
