@@ -1,7 +1,7 @@
 //! A code that is chosen while the program runs.
 ghost use Rattle.std.specs.Prelude.{◌≡◌, ◌≤◌, false, length, is_err, IsTrue, IfSome, ◌↔◌};
 ghost use Rattle.wg_params.specs.Codes.{IsCode};
-ghost use Rattle.wg_bits.specs.Bits.{rest};
+ghost use Rattle.wg_bits.specs.Bits.{rest, moved};
 ghost use Rattle.wg_bits.specs.Written.{Sends};
 ghost use Rattle.wg_codes.specs.Words.{word, top};
 ghost use Rattle.wg_codes.specs.Reading.{Reads, Passes, after};
@@ -20,13 +20,48 @@ pub fn read(code: Code, cursor: &mut Cursor<'_>) -> Read
     ensures moves { cursor.new ≡ after (word code) cursor.old result }
     ensures passed { Passes (word code) cursor.old cursor.new result }
 {
-    match code {
-        Code::Unary => unary::read(cursor, (1 << 32) - 1),
-        Code::Gamma => gamma::read(cursor, 62),
-        Code::Delta => delta::read(cursor),
-        Code::Zeta(k) => zeta::read(cursor, k),
-        Code::Nibble => nibble::read(cursor),
+    if let Some(word) = word_in(code, cursor.peek()) {
+        if word.bits <= cursor.remaining() {
+            cursor.advance(word.bits);
+            return Read::Value(word.value);
+        }
     }
+    read_long(code, cursor)
+}
+
+// The same for any word. Two numbers and a tag are handed back in memory, which is cleared where the function that asks
+// for them begins: so this is a function of its own.
+#[inline(always)]
+fn read_long(code: Code, cursor: &mut Cursor<'_>) -> Read
+    requires { IsCode code }
+    ensures found { Reads (word code) (top code) (rest cursor.old) result }
+    ensures moves { cursor.new ≡ after (word code) cursor.old result }
+    ensures passed { Passes (word code) cursor.old cursor.new result }
+{
+    let (read, bits) = read_in_steps(code, cursor.again());
+    cursor.advance(bits);
+    read
+}
+
+// What stands at the cursor, and how many bits to move over. It takes the cursor itself: one that is
+// lent would have to stay in memory wherever words are read.
+#[cold]
+#[inline(never)]
+fn read_in_steps(code: Code, mut cursor: Cursor<'_>) -> (Read, u64)
+    requires { IsCode code }
+    ensures found { Reads (word code) (top code) (rest cursor.entry) result.0 }
+    ensures moves { moved cursor.entry result.1 ≡ after (word code) cursor.entry result.0 }
+    ensures within { result.1 ≤ length (rest cursor.entry) }
+{
+    let start = cursor.at();
+    let read = match code {
+        Code::Unary => unary::read(&mut cursor, (1 << 32) - 1),
+        Code::Gamma => gamma::read(&mut cursor, 62),
+        Code::Delta => delta::read(&mut cursor),
+        Code::Zeta(k) => zeta::read(&mut cursor, k),
+        Code::Nibble => nibble::read(&mut cursor),
+    };
+    (read, cursor.at() - start)
 }
 
 /// The word that 64 bits begin with, the first of them the number's highest. It is told of unary, gamma and zeta, where
