@@ -59,9 +59,9 @@ pub fn next_word<D: Depot>(
     }
 }
 
-// The same, if maybe more of the file has to be read.
-#[cold]
-#[inline(never)]
+// The same, if maybe more of the file has to be read. What it calls hands its result back in memory, which is cleared
+// where this begins, so that it is inlined and they are not.
+#[inline(always)]
 fn word_in_pieces<D: Depot>(
     held: &mut Stretch,
     depot: &mut D,
@@ -83,6 +83,8 @@ fn word_in_pieces<D: Depot>(
 }
 
 // A word of a code other than unary.
+#[cold]
+#[inline(never)]
 fn short<D: Depot>(
     held: &mut Stretch,
     depot: &mut D,
@@ -103,6 +105,8 @@ fn short<D: Depot>(
 }
 
 // A unary word. Its zeros may go through many pieces, and none of them is kept.
+#[cold]
+#[inline(never)]
 fn unary<D: Depot>(held: &mut Stretch, depot: &mut D, name: &str) -> Result<Read, LoadError>
     ensures steps { Steps D.told name.now (D.files depot.old) (D.files depot.new) (D.counts depot.old)
         (D.counts depot.new) held.old held.new }

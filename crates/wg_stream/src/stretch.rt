@@ -254,7 +254,7 @@ impl Stretch {
         ensures inside { IsInside self.old }
     {
         let from = (self.here / 8) as usize;
-        if self.length < WORD || from > self.length - WORD {
+        if from + WORD > self.length {
             return None;
         }
         let near = Cursor::new(Bits::of(&self.bytes[from..from + WORD]), self.here % 8);
