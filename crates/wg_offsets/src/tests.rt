@@ -5,11 +5,12 @@ ghost use Rattle.wg_offsets.specs.declared.places.TheConstants.{MOST_PLACE};
 
 use crate::{Comparison, MOST_PLACE, Offsets, OffsetsError, read};
 use std::alloc::{AllocError, Global};
+use std::process::Abort;
 use std::test::Fail;
 use wg_grammar::OffsetWord;
 use wg_params::Code;
 use wg_vectors::{
-    ARCHIVES, LONGER, OFFSETS_BAD_TAIL, OFFSETS_CUT, OFFSETS_NO_WORD, OFFSETS_NOT_FROM_0,
+    ARCHIVES, Archive, LONGER, OFFSETS_BAD_TAIL, OFFSETS_CUT, OFFSETS_NO_WORD, OFFSETS_NOT_FROM_0,
     OFFSETS_TOO_FAR, bytes_of,
 };
 
@@ -25,16 +26,21 @@ fn has_places(offsets: &Offsets, places: &[u64]) -> bool {
     true
 }
 
-#[test]
-fn each_word_leads_from_one_place_to_the_next(rt: HostRuntime) -> Result<(), Fail> {
-    for archive in ARCHIVES.iter().chain(LONGER.iter()) {
+fn are_read(rt: &impl Abort, alloc: Global, table: &[&Archive]) -> Result<(), Fail> {
+    for archive in table {
         let params = archive.shape.params(archive.nodes, archive.arcs)?;
-        let bytes = bytes_of(rt.alloc(), archive.offsets)?;
+        let bytes = bytes_of(alloc, archive.offsets)?;
         assert!(rt; bytes.len() <= 1 << 46);
-        let offsets = read(rt.alloc(), &bytes, params.nodes(), params.offsets())?;
+        let offsets = read(alloc, &bytes, params.nodes(), params.offsets())?;
         assert!(rt; has_places(&offsets, archive.places), "{}", archive.name);
     }
     Ok(())
+}
+
+#[test]
+fn each_word_leads_from_one_place_to_the_next(rt: HostRuntime) -> Result<(), Fail> {
+    are_read(&rt, rt.alloc(), &ARCHIVES)?;
+    are_read(&rt, rt.alloc(), &LONGER)
 }
 
 // After the word of 0 comes that of the last offset that there is.

@@ -205,21 +205,21 @@ pub const COPIED_LATER: Archive = Archive {
 
 /// All of them: the shortest that there are under their parameters, but for the zeros in one tail and one that is the
 /// shortest with chains of one reference alone.
-pub const ARCHIVES: [Archive; 16] = [
-    PLAIN_ARC,
-    ZETA_ARC,
-    NIBBLE_ARC,
-    DELTA_ARC,
-    REFERRED,
-    NO_PAGES,
-    ONE_PAGE,
-    LOOP,
-    ONE_ARC,
-    LONG_TAIL,
-    COPIED,
-    COPIED_DELTA,
-    INTERVALS,
-    BLOCKS,
-    CHAIN,
-    COPIED_LATER,
+pub const ARCHIVES: [&Archive; 16] = [
+    &PLAIN_ARC,
+    &ZETA_ARC,
+    &NIBBLE_ARC,
+    &DELTA_ARC,
+    &REFERRED,
+    &NO_PAGES,
+    &ONE_PAGE,
+    &LOOP,
+    &ONE_ARC,
+    &LONG_TAIL,
+    &COPIED,
+    &COPIED_DELTA,
+    &INTERVALS,
+    &BLOCKS,
+    &CHAIN,
+    &COPIED_LATER,
 ];

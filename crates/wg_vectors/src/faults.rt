@@ -63,8 +63,8 @@ pub const TOO_FEW_ARCS: Refused = Refused {
 };
 
 /// Archives whose graph is refused.
-pub const BAD_GRAPHS: [Refused; 29] = [
-    Refused {
+pub const BAD_GRAPHS: [&Refused; 29] = [
+    &Refused {
         fault: "tail bit 7",
         nodes: 2,
         arcs: 1,
@@ -72,7 +72,7 @@ pub const BAD_GRAPHS: [Refused; 29] = [
         graph: "010 011  1  1",
         offsets: "",
     },
-    Refused {
+    &Refused {
         fault: "page 0 bit 3 residual cut",
         nodes: 1,
         arcs: 1,
@@ -80,7 +80,7 @@ pub const BAD_GRAPHS: [Refused; 29] = [
         graph: "010",
         offsets: "",
     },
-    Refused {
+    &Refused {
         fault: "page 0 bit 3 residual range",
         nodes: 2,
         arcs: 1,
@@ -88,7 +88,7 @@ pub const BAD_GRAPHS: [Refused; 29] = [
         graph: "010 00101",
         offsets: "",
     },
-    Refused {
+    &Refused {
         fault: "page 0 bit 0 outdegree total",
         nodes: 2,
         arcs: 0,
@@ -96,7 +96,7 @@ pub const BAD_GRAPHS: [Refused; 29] = [
         graph: "010 011  1",
         offsets: "",
     },
-    Refused {
+    &Refused {
         fault: "arcs 1 of 2",
         nodes: 2,
         arcs: 2,
@@ -104,7 +104,7 @@ pub const BAD_GRAPHS: [Refused; 29] = [
         graph: "010 011  1",
         offsets: "",
     },
-    Refused {
+    &Refused {
         fault: "page 0 bit 0 outdegree cut",
         nodes: 1,
         arcs: 0,
@@ -112,7 +112,7 @@ pub const BAD_GRAPHS: [Refused; 29] = [
         graph: "0",
         offsets: "",
     },
-    Refused {
+    &Refused {
         fault: "page 0 bit 0 outdegree noword",
         nodes: 1,
         arcs: 0,
@@ -120,7 +120,7 @@ pub const BAD_GRAPHS: [Refused; 29] = [
         graph: "00000000 00000000 00000000 00000000 00000000 00000000 00000000 00000000 11111111",
         offsets: "",
     },
-    Refused {
+    &Refused {
         fault: "page 0 bit 3 residual noword",
         nodes: 2,
         arcs: 1,
@@ -128,10 +128,10 @@ pub const BAD_GRAPHS: [Refused; 29] = [
         graph: "010 0000  0 10000000",
         offsets: "",
     },
-    TOO_LONG_A_CHAIN,
-    BLOCK_TOO_LONG,
-    TWICE,
-    Refused {
+    &TOO_LONG_A_CHAIN,
+    &BLOCK_TOO_LONG,
+    &TWICE,
+    &Refused {
         fault: "page 0 bit 0 outdegree cut",
         nodes: 1,
         arcs: 0,
@@ -139,7 +139,7 @@ pub const BAD_GRAPHS: [Refused; 29] = [
         graph: "0",
         offsets: "",
     },
-    Refused {
+    &Refused {
         fault: "page 0 bit 3 reference cut",
         nodes: 1,
         arcs: 1,
@@ -147,7 +147,7 @@ pub const BAD_GRAPHS: [Refused; 29] = [
         graph: "010",
         offsets: "",
     },
-    Refused {
+    &Refused {
         fault: "page 1 bit 20 block range",
         nodes: 3,
         arcs: 4,
@@ -155,7 +155,7 @@ pub const BAD_GRAPHS: [Refused; 29] = [
         graph: "011 1 1 1011 100  011 01 010 00100 1",
         offsets: "",
     },
-    Refused {
+    &Refused {
         fault: "page 1 bit 12 record twice",
         nodes: 3,
         arcs: 5,
@@ -163,8 +163,8 @@ pub const BAD_GRAPHS: [Refused; 29] = [
         graph: "011 1 1 1011 100  00100 01 1 1 100  1",
         offsets: "",
     },
-    BAD_TAIL,
-    Refused {
+    &BAD_TAIL,
+    &Refused {
         fault: "tail bit 137",
         nodes: 2,
         arcs: 1,
@@ -173,8 +173,8 @@ pub const BAD_GRAPHS: [Refused; 29] = [
                 00000000 00000000 00000000 00000000 00000000 00000000 00000000 00000000 000000",
         offsets: "",
     },
-    TOO_FEW_ARCS,
-    Refused {
+    &TOO_FEW_ARCS,
+    &Refused {
         fault: "page 1 bit 12 outdegree total",
         nodes: 3,
         arcs: 3,
@@ -182,7 +182,7 @@ pub const BAD_GRAPHS: [Refused; 29] = [
         graph: "011 1 1 1011 100  011 01 1  1",
         offsets: "",
     },
-    Refused {
+    &Refused {
         fault: "page 2 bit 17 reference chain",
         nodes: 4,
         arcs: 6,
@@ -190,7 +190,7 @@ pub const BAD_GRAPHS: [Refused; 29] = [
         graph: "1  011 1 1 1010 1010  011 01 1  011 001 1",
         offsets: "",
     },
-    Refused {
+    &Refused {
         fault: "page 1 bit 18 copied copied",
         nodes: 3,
         arcs: 3,
@@ -198,7 +198,7 @@ pub const BAD_GRAPHS: [Refused; 29] = [
         graph: "011 1 1 1011 100  010 01 1  1",
         offsets: "",
     },
-    Refused {
+    &Refused {
         fault: "page 0 bit 0 outdegree range",
         nodes: 1,
         arcs: 0,
@@ -207,7 +207,7 @@ pub const BAD_GRAPHS: [Refused; 29] = [
                 00000000 00000000 00000000 00000000 00000000 00000000 00000000 00000000",
         offsets: "",
     },
-    Refused {
+    &Refused {
         fault: "page 0 bit 3 reference range",
         nodes: 1,
         arcs: 1,
@@ -215,7 +215,7 @@ pub const BAD_GRAPHS: [Refused; 29] = [
         graph: "010 01",
         offsets: "",
     },
-    Refused {
+    &Refused {
         fault: "page 1 bit 17 blockcount range",
         nodes: 3,
         arcs: 4,
@@ -223,7 +223,7 @@ pub const BAD_GRAPHS: [Refused; 29] = [
         graph: "011 1 1 1011 100  011 01 00101",
         offsets: "",
     },
-    Refused {
+    &Refused {
         fault: "page 0 bit 6 intervalcount range",
         nodes: 5,
         arcs: 4,
@@ -231,7 +231,7 @@ pub const BAD_GRAPHS: [Refused; 29] = [
         graph: "00101 1 011",
         offsets: "",
     },
-    Refused {
+    &Refused {
         fault: "page 0 bit 9 left range",
         nodes: 5,
         arcs: 4,
@@ -239,7 +239,7 @@ pub const BAD_GRAPHS: [Refused; 29] = [
         graph: "00101 1 010 010",
         offsets: "",
     },
-    Refused {
+    &Refused {
         fault: "page 0 bit 14 length range",
         nodes: 5,
         arcs: 4,
@@ -247,7 +247,7 @@ pub const BAD_GRAPHS: [Refused; 29] = [
         graph: "00101 1 010 00101 1",
         offsets: "",
     },
-    Refused {
+    &Refused {
         fault: "page 0 bit 0 outdegree cut",
         nodes: 2_147_483_648,
         arcs: 0,
@@ -255,7 +255,7 @@ pub const BAD_GRAPHS: [Refused; 29] = [
         graph: "",
         offsets: "",
     },
-    Refused {
+    &Refused {
         fault: "page 0 bit 0 outdegree cut",
         nodes: 68_719_476_735,
         arcs: 0,
@@ -312,13 +312,13 @@ pub const OFFSETS_BAD_TAIL: Refused = Refused {
 };
 
 /// Archives whose graph is accepted and whose offsets are refused.
-pub const BAD_OFFSETS: [Refused; 8] = [
-    OFFSETS_NOT_FROM_0,
-    OFFSETS_CUT,
-    OFFSETS_NO_WORD,
-    OFFSETS_TOO_FAR,
-    OFFSETS_BAD_TAIL,
-    Refused {
+pub const BAD_OFFSETS: [&Refused; 8] = [
+    &OFFSETS_NOT_FROM_0,
+    &OFFSETS_CUT,
+    &OFFSETS_NO_WORD,
+    &OFFSETS_TOO_FAR,
+    &OFFSETS_BAD_TAIL,
+    &Refused {
         fault: "page 0 length 9 stored 8",
         nodes: 2,
         arcs: 1,
@@ -326,7 +326,7 @@ pub const BAD_OFFSETS: [Refused; 8] = [
         graph: "010 1 1 1011  1",
         offsets: "1 0001001 010",
     },
-    Refused {
+    &Refused {
         fault: "page 2 length 1 stored 0",
         nodes: 3,
         arcs: 4,
@@ -334,7 +334,7 @@ pub const BAD_OFFSETS: [Refused; 8] = [
         graph: "011 1 1 1011 100  011 01 1  1",
         offsets: "1 0001101 00111 1",
     },
-    Refused {
+    &Refused {
         fault: "word 1 cut",
         nodes: 3,
         arcs: 4,
