@@ -78,6 +78,17 @@ fn put(depot: &mut MemoryDepot, name: &str, bytes: &[u8]) -> Result<(), Fail> {
     Ok(())
 }
 
+// Has the create and the append of these numbers fail, if they are not 0.
+fn set_faults(rt: &impl Abort, depot: &mut MemoryDepot, create: u64, append: u64) {
+    assert!(rt; create < 10 && append < 10);
+    if create > 0 {
+        depot.fail_create(create);
+    }
+    if append > 0 {
+        depot.fail_append(append);
+    }
+}
+
 fn put_steady(depot: &mut SteadyDepot, name: &str, bytes: &[u8]) -> Result<(), Fail> {
     depot.put_file(name, bytes)?;
     Ok(())

@@ -139,7 +139,7 @@ fn is_accepted(alloc: Global, archive: &Archive) -> Result<bool, Fail> {
     )
 }
 
-fn are_accepted(rt: &impl Abort, alloc: Global, table: &[Archive]) -> Result<(), Fail> {
+fn are_accepted(rt: &impl Abort, alloc: Global, table: &[&Archive]) -> Result<(), Fail> {
     for archive in table {
         assert!(rt; is_accepted(alloc, archive)?, "{}", archive.name);
     }
@@ -234,7 +234,7 @@ fn is_refused(alloc: Global, x: &Refused, file: &str) -> Result<bool, Fail> {
 }
 
 // Each row of a table is to be refused as it says, for this file.
-fn are_refused(rt: &impl Abort, alloc: Global, table: &[Refused], file: &str) -> Result<(), Fail> {
+fn are_refused(rt: &impl Abort, alloc: Global, table: &[&Refused], file: &str) -> Result<(), Fail> {
     for (row, refused) in table.iter().enumerate() {
         assert!(rt;
             is_refused(alloc, refused, file)?,
@@ -252,7 +252,7 @@ fn refused_archives(rt: HostRuntime) -> Result<(), Fail> {
 }
 
 fn is_printed(alloc: Global, ranking: &Ranking) -> Result<bool, Fail> {
-    let files = files_of_archive(alloc, &ranking.archive)?;
+    let files = files_of_archive(alloc, ranking.archive)?;
     does_say(alloc, ranking.line, &files, 0, ranking.text, "")
 }
 

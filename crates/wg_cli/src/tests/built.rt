@@ -35,6 +35,16 @@ pub fn holds<D: Depot>(
     }
 }
 
+/// Whether none of these files is there.
+pub fn are_absent<D: Depot>(alloc: Global, depot: &mut D, names: &[&str]) -> Result<bool, Fail> {
+    for name in names {
+        if !holds(alloc, depot, name, None)? {
+            return Ok(false);
+        }
+    }
+    Ok(true)
+}
+
 /// Whether a file holds the bits of this text, or is not there.
 pub fn holds_bits<D: Depot>(
     alloc: Global,
@@ -61,7 +71,7 @@ fn hold<D: Depot>(alloc: Global, depot: &mut D, held: &Held) -> Result<bool, Fai
 fn is_built(alloc: Global, built: &Built, piece: u64) -> Result<bool, Fail>
     requires { 1 ≤ piece }
 {
-    let archive = &built.archive;
+    let archive = built.archive;
     let list = arc_lines(alloc, archive)?;
     let ok = ok_line(alloc, archive)?;
     let mut depot = SteadyDepot::new(alloc, piece);
@@ -131,20 +141,14 @@ fn lists_that_are_refused(rt: HostRuntime) -> Result<(), Fail> {
 // Whether a line that writes the archive with a copied list, and is stopped as the row says, reports this, and leaves
 // the files so.
 fn is_stopped(rt: &impl Abort, alloc: Global, line: &str, stopped: &Stopped) -> Result<bool, Fail> {
-    assert!(rt; stopped.piece > 0 && stopped.create < 10 && stopped.append < 10);
-    let mut depot = MemoryDepot::new(alloc, stopped.piece);
+    let mut depot = MemoryDepot::new(alloc, stopped.piece.max(1));
     put(&mut depot, "a", COPIED_ARCS.as_bytes())?;
     put_records(alloc, &mut depot, "i.properties", "i.graph", &COPIED)?;
     put_records(alloc, &mut depot, "t.properties", "t.graph", &REVERSED)?;
-    if stopped.create > 0 {
-        depot.fail_create(stopped.create);
-    }
-    if stopped.append > 0 {
-        depot.fail_append(stopped.append);
-    }
+    set_faults(rt, &mut depot, stopped.create, stopped.append);
     Ok(
         refuses(alloc, line, &mut depot, 5, stopped.report)?
-            && hold(alloc, &mut depot, &stopped.held)?,
+            && hold(alloc, &mut depot, stopped.held)?,
     )
 }
 

@@ -1,7 +1,7 @@
 //! What `recode` and `transpose` write, and archives that they refuse.
 ghost use Rattle.std.specs.Prelude.{◌≤◌};
 
-use super::built::{holds, holds_bits, prints};
+use super::built::{are_absent, holds, holds_bits, prints};
 use super::*;
 use wg_vectors::{COPIED, COPIED_DELTA, COPIED_GRAPH, ONE_ARC, PLAIN_ARC};
 
@@ -18,40 +18,40 @@ pub const REVERSED: Archive = Archive {
 // A line that makes an archive h of an archive g.
 struct Converted {
     line: &'static str,
-    input: Archive,
-    output: Archive,
+    input: &'static Archive,
+    output: &'static Archive,
 }
 
 const CONVERTED: [Converted; 6] = [
     Converted {
         line: "recode g h --window 0 --interval 0 --residuals gamma",
-        input: ONE_ARC,
-        output: PLAIN_ARC,
+        input: &ONE_ARC,
+        output: &PLAIN_ARC,
     },
     Converted {
         line: "recode g h",
-        input: PLAIN_ARC,
-        output: ONE_ARC,
+        input: &PLAIN_ARC,
+        output: &ONE_ARC,
     },
     Converted {
         line: "recode g h --offsets delta",
-        input: COPIED,
-        output: COPIED_DELTA,
+        input: &COPIED,
+        output: &COPIED_DELTA,
     },
     Converted {
         line: "transpose g h",
-        input: COPIED,
-        output: REVERSED,
+        input: &COPIED,
+        output: &REVERSED,
     },
     Converted {
         line: "transpose g h",
-        input: REVERSED,
-        output: COPIED,
+        input: &REVERSED,
+        output: &COPIED,
     },
     Converted {
         line: "transpose g h",
-        input: COPIED_DELTA,
-        output: REVERSED,
+        input: &COPIED_DELTA,
+        output: &REVERSED,
     },
 ];
 
@@ -94,10 +94,10 @@ fn is_converted(alloc: Global, converted: &Converted, piece: u64) -> Result<bool
         &mut depot,
         "g.properties",
         "g.graph",
-        &converted.input,
+        converted.input,
     )?;
     Ok(
-        writes(alloc, converted.line, &mut depot, &converted.output)?
+        writes(alloc, converted.line, &mut depot, converted.output)?
             && holds_bits(alloc, &mut depot, "g.graph", Some(converted.input.graph))?
             && holds(alloc, &mut depot, "g.offsets", None)?,
     )
@@ -184,6 +184,8 @@ const UNCONVERTED: [Unconverted; 5] = [
     },
 ];
 
+const UNWRITTEN: [&str; 4] = ["h.properties", "h.graph", "h.offsets", "g.offsets"];
+
 // Whether the line ends as its row says, and no file has changed.
 fn is_unconverted(alloc: Global, row: &Unconverted) -> Result<bool, Fail> {
     let input = Archive {
@@ -194,19 +196,9 @@ fn is_unconverted(alloc: Global, row: &Unconverted) -> Result<bool, Fail> {
     put_records(alloc, &mut depot, "g.properties", "g.graph", &input)?;
     Ok(
         refuses(alloc, row.line, &mut depot, row.code, row.report)?
-            && are_absent(alloc, &mut depot)?
+            && are_absent(alloc, &mut depot, &UNWRITTEN)?
             && holds_bits(alloc, &mut depot, "g.graph", Some(row.graph))?,
     )
-}
-
-// Whether nothing was written.
-fn are_absent(alloc: Global, depot: &mut MemoryDepot) -> Result<bool, Fail> {
-    for name in ["h.properties", "h.graph", "h.offsets", "g.offsets"] {
-        if !holds(alloc, depot, name, None)? {
-            return Ok(false);
-        }
-    }
-    Ok(true)
 }
 
 fn are_unconverted(rt: &impl Abort, alloc: Global, table: &[Unconverted]) -> Result<(), Fail> {

@@ -93,11 +93,16 @@ fn depot_with_fault(alloc: Global, k: u64) -> Result<MemoryDepot, Fail>
     let mut depot = MemoryDepot::new(alloc, 4096);
     put_records(alloc, &mut depot, "g.properties", "g.graph", &ONE_ARC)?;
     put(&mut depot, "g.offsets", &bytes_of(alloc, ONE_ARC.offsets)?)?;
-    for (name, bytes) in TEXTS {
-        put(&mut depot, name, bytes)?;
-    }
+    put_all(&mut depot, &TEXTS)?;
     depot.fail_read(k);
     Ok(depot)
+}
+
+fn put_all(depot: &mut MemoryDepot, files: &[(&str, &[u8])]) -> Result<(), Fail> {
+    for (name, bytes) in files {
+        put(depot, name, bytes)?;
+    }
+    Ok(())
 }
 
 // Whether a line whose read `k` fails reports the file, prints nothing and begins no archive.

@@ -7,49 +7,49 @@ use wg_vectors::{
 /// A line that builds an archive g of the arc list a, and the archive that is built where the list has its arcs.
 pub struct Built {
     pub line: &'static str,
-    pub archive: Archive,
+    pub archive: &'static Archive,
 }
 
 pub const BUILT: [Built; 10] = [
     Built {
         line: "build a g --nodes 1",
-        archive: ONE_PAGE,
+        archive: &ONE_PAGE,
     },
     Built {
         line: "build a g --nodes 2",
-        archive: ONE_ARC,
+        archive: &ONE_ARC,
     },
     Built {
         line: BUILD_COPIED,
-        archive: COPIED,
+        archive: &COPIED,
     },
     Built {
         line: "build --interval 2 a g --nodes 6",
-        archive: INTERVALS,
+        archive: &INTERVALS,
     },
     Built {
         line: "build a g --nodes 1",
-        archive: LOOP,
+        archive: &LOOP,
     },
     Built {
         line: "build a g --nodes 0",
-        archive: NO_PAGES,
+        archive: &NO_PAGES,
     },
     Built {
         line: "build --chain 1 a g --nodes 4",
-        archive: CHAIN,
+        archive: &CHAIN,
     },
     Built {
         line: "build a g --nodes 2 --window 0 --interval 0 --residuals gamma",
-        archive: PLAIN_ARC,
+        archive: &PLAIN_ARC,
     },
     Built {
         line: "build a g --nodes 8",
-        archive: BLOCKS,
+        archive: &BLOCKS,
     },
     Built {
         line: "build a g --nodes 3 --offsets delta",
-        archive: COPIED_DELTA,
+        archive: &COPIED_DELTA,
     },
 ];
 
@@ -235,7 +235,7 @@ pub struct Stopped {
     pub create: u64,
     pub append: u64,
     pub report: &'static str,
-    pub held: Held,
+    pub held: &'static Held,
 }
 
 pub const STOPPED: [Stopped; 9] = [
@@ -244,62 +244,62 @@ pub const STOPPED: [Stopped; 9] = [
         create: 1,
         append: 0,
         report: "wg: write failed: g.properties\n",
-        held: NO_FILES,
+        held: &NO_FILES,
     },
     Stopped {
         piece: 4096,
         create: 2,
         append: 0,
         report: "wg: write failed: g.graph\n",
-        held: ONE_FILE,
+        held: &ONE_FILE,
     },
     Stopped {
         piece: 4096,
         create: 3,
         append: 0,
         report: "wg: write failed: g.offsets\n",
-        held: TWO_FILES,
+        held: &TWO_FILES,
     },
     Stopped {
         piece: 4096,
         create: 0,
         append: 1,
         report: "wg: write failed: g.graph\n",
-        held: EMPTY_FILES,
+        held: &EMPTY_FILES,
     },
     Stopped {
         piece: 4096,
         create: 0,
         append: 2,
         report: "wg: write failed: g.offsets\n",
-        held: WITH_GRAPH,
+        held: &WITH_GRAPH,
     },
     Stopped {
         piece: 4096,
         create: 0,
         append: 3,
         report: "wg: write failed: g.properties\n",
-        held: WITH_OFFSETS,
+        held: &WITH_OFFSETS,
     },
     Stopped {
         piece: 1,
         create: 0,
         append: 3,
         report: "wg: write failed: g.graph\n",
-        held: TWO_BYTES,
+        held: &TWO_BYTES,
     },
     Stopped {
         piece: 1,
         create: 0,
         append: 4,
         report: "wg: write failed: g.offsets\n",
-        held: WITH_GRAPH,
+        held: &WITH_GRAPH,
     },
     Stopped {
         piece: 1,
         create: 0,
         append: 8,
         report: "wg: write failed: g.properties\n",
-        held: WITH_BEGUN_PROPERTIES,
+        held: &WITH_BEGUN_PROPERTIES,
     },
 ];

@@ -1,5 +1,5 @@
 //! What `quotient` writes, and what it refuses.
-use super::built::holds;
+use super::built::are_absent;
 use super::conversions::{put_records, writes};
 use super::*;
 use wg_vectors::{COPIED, COPIED_GRAPH};
@@ -19,16 +19,16 @@ const NO_PAGES: Archive = Archive {
 struct Grouped {
     line: &'static str,
     map: &'static str,
-    input: Archive,
-    output: Archive,
+    input: &'static Archive,
+    output: &'static Archive,
 }
 
 const GROUPED: [Grouped; 7] = [
     Grouped {
         line: "quotient g m h --classes 2",
         map: "0\n0\n1\n",
-        input: COPIED,
-        output: Archive {
+        input: &COPIED,
+        output: &Archive {
             name: "two classes",
             nodes: 2,
             arcs: 2,
@@ -42,8 +42,8 @@ const GROUPED: [Grouped; 7] = [
     Grouped {
         line: "quotient g m h --classes 3",
         map: "# the first class is empty\n1\n 1\r\n2",
-        input: COPIED,
-        output: Archive {
+        input: &COPIED,
+        output: &Archive {
             name: "the first of three classes is empty",
             nodes: 3,
             arcs: 2,
@@ -57,8 +57,8 @@ const GROUPED: [Grouped; 7] = [
     Grouped {
         line: "quotient g m h --classes 3",
         map: "0\n0\n2\n",
-        input: COPIED,
-        output: Archive {
+        input: &COPIED,
+        output: &Archive {
             name: "the second of three classes is empty",
             nodes: 3,
             arcs: 2,
@@ -72,8 +72,8 @@ const GROUPED: [Grouped; 7] = [
     Grouped {
         line: "quotient g m h --classes 3",
         map: "0\n0\n1\n",
-        input: COPIED,
-        output: Archive {
+        input: &COPIED,
+        output: &Archive {
             name: "the last of three classes is empty",
             nodes: 3,
             arcs: 2,
@@ -87,8 +87,8 @@ const GROUPED: [Grouped; 7] = [
     Grouped {
         line: "quotient g m h --classes 1",
         map: "0\n0\n0\n",
-        input: COPIED,
-        output: Archive {
+        input: &COPIED,
+        output: &Archive {
             name: "all pages in one class",
             nodes: 1,
             arcs: 1,
@@ -102,14 +102,14 @@ const GROUPED: [Grouped; 7] = [
     Grouped {
         line: "quotient g m h --classes 3",
         map: "0\n1\n2\n",
-        input: COPIED,
-        output: COPIED,
+        input: &COPIED,
+        output: &COPIED,
     },
     Grouped {
         line: "quotient g m h --classes 2",
         map: "\n# no number\n",
-        input: NO_PAGES,
-        output: Archive {
+        input: &NO_PAGES,
+        output: &Archive {
             name: "two classes without pages",
             nodes: 2,
             arcs: 0,
@@ -125,9 +125,9 @@ const GROUPED: [Grouped; 7] = [
 // Whether the line writes the archive that it should, which is accepted and has the arcs of its lists.
 fn is_grouped(alloc: Global, row: &Grouped) -> Result<bool, Fail> {
     let mut depot = MemoryDepot::new(alloc, 4096);
-    put_records(alloc, &mut depot, "g.properties", "g.graph", &row.input)?;
+    put_records(alloc, &mut depot, "g.properties", "g.graph", row.input)?;
     put(&mut depot, "m", row.map.as_bytes())?;
-    writes(alloc, row.line, &mut depot, &row.output)
+    writes(alloc, row.line, &mut depot, row.output)
 }
 
 fn are_grouped(rt: &impl Abort, alloc: Global, table: &[Grouped]) -> Result<(), Fail> {
@@ -216,9 +216,16 @@ const UNGROUPED: [Ungrouped; 9] = [
     },
 ];
 
+// Has the read of this number fail, if it is not 0.
+fn set_read_fault(rt: &impl Abort, depot: &mut MemoryDepot, read: u64) {
+    assert!(rt; read < 10);
+    if read > 0 {
+        depot.fail_read(read);
+    }
+}
+
 // Whether the line ends as its row says, and no file is written.
 fn is_ungrouped(rt: &impl Abort, alloc: Global, row: &Ungrouped) -> Result<bool, Fail> {
-    assert!(rt; row.read < 10);
     let input = Archive {
         graph: row.graph,
         ..COPIED
@@ -226,14 +233,10 @@ fn is_ungrouped(rt: &impl Abort, alloc: Global, row: &Ungrouped) -> Result<bool,
     let mut depot = MemoryDepot::new(alloc, 4096);
     put_records(alloc, &mut depot, "g.properties", "g.graph", &input)?;
     put(&mut depot, "m", row.map.as_bytes())?;
-    if row.read > 0 {
-        depot.fail_read(row.read);
-    }
+    set_read_fault(rt, &mut depot, row.read);
     Ok(
         refuses(alloc, row.line, &mut depot, row.code, row.report)?
-            && holds(alloc, &mut depot, "h.properties", None)?
-            && holds(alloc, &mut depot, "h.graph", None)?
-            && holds(alloc, &mut depot, "h.offsets", None)?,
+            && are_absent(alloc, &mut depot, &["h.properties", "h.graph", "h.offsets"])?,
     )
 }
 

@@ -1,186 +1,133 @@
 //! What `spot` says of pages, of whatever their archive is.
 use super::archives::{does_say, files_of};
 use super::*;
+use wg_vectors::unchecked::{AGAIN, CHAINED, CUT, FEW_ARCS, SHORT, Unchecked};
 use wg_vectors::{
     COPIED_GRAPH, COPIED_OFFSETS, OFFSETS_BAD_TAIL, OFFSETS_CUT, OFFSETS_NO_WORD,
-    OFFSETS_NOT_FROM_0, OFFSETS_TOO_FAR, PLAIN, Refused, Shape,
+    OFFSETS_NOT_FROM_0, OFFSETS_TOO_FAR, Refused,
 };
 
-// The bits of a graph file and of an offsets file, how many pages and arcs are promised, a limit on chains, and a line
-// about them: its status, what is printed, and what is said on standard error.
-#[derive(Drop)]
+// A line about an archive: its status, what is printed, and what is said on standard error.
+#[derive(Clone, Copy)]
 struct Spotted {
-    files: [&'static str; 2],
-    counts: [u64; 2],
-    chain: Option<u64>,
+    archive: &'static Unchecked,
     line: &'static str,
     code: u8,
     printed: &'static str,
     told: &'static str,
 }
 
-// A page with a list.
-fn found(
-    files: [&'static str; 2],
-    counts: [u64; 2],
-    line: &'static str,
-    printed: &'static str,
-) -> Spotted {
-    Spotted {
-        files,
-        counts,
-        chain: None,
-        line,
-        code: 0,
-        printed,
-        told: "",
-    }
-}
-
-// A page whose chain is at fault.
-fn refused(
-    files: [&'static str; 2],
-    counts: [u64; 2],
-    line: &'static str,
-    told: &'static str,
-) -> Spotted {
-    Spotted {
-        files,
-        counts,
-        chain: None,
-        line,
-        code: 9,
-        printed: "",
-        told,
-    }
-}
-
-// Page 0 has pages 1 and 2, page 1 copies them, and the record of page 2 is cut.
-const CUT: [&str; 2] = ["011 1 1 1011 100  011 01 1  000000", COPIED_OFFSETS];
-
-// Page 0 has page 1, and its record is longer than the offsets say; page 1 has none.
-const SHORT: [&str; 2] = ["010 1 1 1011  1", "1 0001001 010"];
-
-// Page 0 has pages 0 and 1, and page 1 copies them.
-const COPY: [&str; 2] = ["011 1 1 100 100  011 01 1", "1 0001100 00111"];
-
-// Page 1 copies more than it has.
-const MANY: [&str; 2] = ["011 1 1 100 100  010 01 1", "1 0001100 00111"];
-
-// Page 1 copies both pages of page 0, and has one of them again; the length of its record is stored wrong too.
-const AGAIN: [&str; 2] = [
-    "011 1 1 100 100  00100 01 1 1 100  1",
-    "1 0001100 00111 010",
-];
-
-// The record of page 1 begins past the last bit.
-const PAST: [&str; 2] = ["1", "1 0001010 010"];
-
-// Page 1 refers to a page before the first.
-const FAR: [&str; 2] = ["1  010 001", "1 010 00111"];
-
 fn is_spotted(alloc: Global, row: &Spotted) -> Result<bool, Fail> {
-    let shape = Shape {
-        window: 7,
-        chain: row.chain,
-        interval: 4,
-        flags: "",
-        ..PLAIN
-    };
-    let files = files_of(
-        alloc,
-        row.counts[0],
-        row.counts[1],
-        &shape,
-        row.files[0],
-        row.files[1],
-    )?;
+    let x = row.archive;
+    let files = files_of(alloc, x.nodes, x.arcs, &x.shape, x.graph, x.offsets)?;
     does_say(alloc, row.line, &files, row.code, row.printed, row.told)
 }
 
+fn are_spotted(rt: &impl Abort, alloc: Global, table: &[Spotted]) -> Result<(), Fail> {
+    for row in table {
+        assert!(rt; is_spotted(alloc, row)?, "{}: {}", row.line, row.told);
+    }
+    Ok(())
+}
+
 // The archive with a copied list, of which so many arcs are promised that are not there: `spot` does not count them.
-const FEW_ARCS: [&str; 2] = [COPIED_GRAPH, COPIED_OFFSETS];
+const MORE_ARCS: Unchecked = Unchecked {
+    arcs: 9,
+    graph: COPIED_GRAPH,
+    offsets: COPIED_OFFSETS,
+    ..CUT
+};
+
+const FOUND: [Spotted; 3] = [
+    Spotted {
+        archive: &CUT,
+        line: "spot g 1",
+        code: 0,
+        printed: "1 1 2\n",
+        told: "",
+    },
+    Spotted {
+        archive: &MORE_ARCS,
+        line: "spot g 2",
+        code: 0,
+        printed: "2\n",
+        told: "",
+    },
+    Spotted {
+        archive: &SHORT,
+        line: "spot g 1",
+        code: 0,
+        printed: "1\n",
+        told: "",
+    },
+];
 
 #[test]
 fn pages_without_a_check(rt: HostRuntime) -> Result<(), Fail> {
-    let rows = [
-        found(CUT, [3, 4], "spot g 1", "1 1 2\n"),
-        refused(
-            CUT,
-            [3, 4],
-            "spot g 2",
-            "wg: g.graph: page 2 bit 18 outdegree cut\n",
-        ),
-        found(FEW_ARCS, [3, 9], "spot g 2", "2\n"),
-        found(SHORT, [2, 1], "spot g 1", "1\n"),
-        refused(
-            SHORT,
-            [2, 1],
-            "spot g 0",
-            "wg: g.offsets: page 0 length 9 stored 8\n",
-        ),
-        refused(
-            COPY,
-            [2, 1],
-            "spot g 1",
-            "wg: g.graph: page 1 bit 11 outdegree total\n",
-        ),
-        refused(
-            MANY,
-            [2, 3],
-            "spot g 1",
-            "wg: g.graph: page 1 bit 17 copied copied\n",
-        ),
-        refused(
-            AGAIN,
-            [3, 5],
-            "spot g 1",
-            "wg: g.graph: page 1 bit 11 record twice\n",
-        ),
-        refused(
-            PAST,
-            [2, 0],
-            "spot g 1",
-            "wg: g.graph: page 1 bit 9 outdegree cut\n",
-        ),
-        refused(
-            FAR,
-            [2, 1],
-            "spot g 1",
-            "wg: g.graph: page 1 bit 4 reference range\n",
-        ),
-        Spotted {
-            files: COPY,
-            counts: [2, 4],
-            chain: Some(0),
-            line: "spot g 1",
-            code: 9,
-            printed: "",
-            told: "wg: g.graph: page 1 bit 14 reference chain\n",
-        },
-        Spotted {
-            files: CUT,
-            counts: [3, 4],
-            chain: None,
-            line: "spot g 3",
-            code: 10,
-            printed: "",
-            told: "wg: no page 3\n",
-        },
-        Spotted {
-            files: CUT,
-            counts: [3, 4],
-            chain: None,
-            line: "spot h 3",
-            code: 6,
-            printed: "",
-            told: "wg: missing: h.properties\n",
-        },
-    ];
-    for row in rows.iter() {
-        assert!(rt; is_spotted(rt.alloc(), row)?, "{}: {}", row.line, row.told);
-    }
-    Ok(())
+    are_spotted(&rt, rt.alloc(), &FOUND)
+}
+
+// A page whose chain is at fault.
+const REFUSED: Spotted = Spotted {
+    archive: &CUT,
+    line: "spot g 2",
+    code: 9,
+    printed: "",
+    told: "wg: g.graph: page 2 bit 18 outdegree cut\n",
+};
+
+// The other kinds are in the tables of `check`, and in those of `spot` as `wg_random` has it.
+const FAULTS: [Spotted; 5] = [
+    REFUSED,
+    Spotted {
+        archive: &SHORT,
+        line: "spot g 0",
+        told: "wg: g.offsets: page 0 length 9 stored 8\n",
+        ..REFUSED
+    },
+    Spotted {
+        archive: &FEW_ARCS,
+        line: "spot g 1",
+        told: "wg: g.graph: page 1 bit 11 outdegree total\n",
+        ..REFUSED
+    },
+    Spotted {
+        archive: &AGAIN,
+        line: "spot g 1",
+        told: "wg: g.graph: page 1 bit 11 record twice\n",
+        ..REFUSED
+    },
+    Spotted {
+        archive: &CHAINED,
+        line: "spot g 1",
+        told: "wg: g.graph: page 1 bit 14 reference chain\n",
+        ..REFUSED
+    },
+];
+
+#[test]
+fn chains_with_a_fault(rt: HostRuntime) -> Result<(), Fail> {
+    are_spotted(&rt, rt.alloc(), &FAULTS)
+}
+
+const ABSENT: [Spotted; 2] = [
+    Spotted {
+        line: "spot g 3",
+        code: 10,
+        told: "wg: no page 3\n",
+        ..REFUSED
+    },
+    Spotted {
+        line: "spot h 3",
+        code: 6,
+        told: "wg: missing: h.properties\n",
+        ..REFUSED
+    },
+];
+
+#[test]
+fn pages_that_are_not_there(rt: HostRuntime) -> Result<(), Fail> {
+    are_spotted(&rt, rt.alloc(), &ABSENT)
 }
 
 // A fault of the offsets file comes before a page that is not there.
@@ -191,17 +138,22 @@ fn is_refused(alloc: Global, x: &Refused) -> Result<bool, Fail> {
     does_say(alloc, "spot g 68719476736", &files, 9, "", &told)
 }
 
-#[test]
-fn offsets_before_the_page(rt: HostRuntime) -> Result<(), Fail> {
-    let rows = [
-        OFFSETS_CUT,
-        OFFSETS_NO_WORD,
-        OFFSETS_NOT_FROM_0,
-        OFFSETS_TOO_FAR,
-        OFFSETS_BAD_TAIL,
-    ];
-    for row in rows.iter() {
-        assert!(rt; is_refused(rt.alloc(), row)?, "{}", row.fault);
+fn are_refused(rt: &impl Abort, alloc: Global, table: &[Refused]) -> Result<(), Fail> {
+    for row in table {
+        assert!(rt; is_refused(alloc, row)?, "{}", row.fault);
     }
     Ok(())
+}
+
+const OFFSETS: [Refused; 5] = [
+    OFFSETS_CUT,
+    OFFSETS_NO_WORD,
+    OFFSETS_NOT_FROM_0,
+    OFFSETS_TOO_FAR,
+    OFFSETS_BAD_TAIL,
+];
+
+#[test]
+fn offsets_before_the_page(rt: HostRuntime) -> Result<(), Fail> {
+    are_refused(&rt, rt.alloc(), &OFFSETS)
 }

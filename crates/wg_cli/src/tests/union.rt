@@ -1,7 +1,7 @@
 //! What `union` writes, and what it refuses of either archive.
 ghost use Rattle.std.specs.Prelude.{◌≤◌};
 
-use super::built::{holds, prints};
+use super::built::{are_absent, prints};
 use super::conversions::{REVERSED, properties_of, put_records};
 use super::*;
 use wg_vectors::{BLOCKS, COPIED, LOOP, NO_PAGES, PLAIN, Shape};
@@ -23,8 +23,8 @@ fn put_archive(
 // A line over archives g and h that writes an archive k: the line that it prints, and the arcs of k.
 struct Joined {
     line: &'static str,
-    first: Archive,
-    second: Archive,
+    first: &'static Archive,
+    second: &'static Archive,
     printed: &'static str,
     arcs: &'static str,
 }
@@ -32,36 +32,36 @@ struct Joined {
 const JOINED: [Joined; 5] = [
     Joined {
         line: "union g h k",
-        first: COPIED,
-        second: REVERSED,
+        first: &COPIED,
+        second: &REVERSED,
         printed: "ok nodes=3 arcs=7",
         arcs: "0 1\n0 2\n1 0\n1 1\n1 2\n2 0\n2 1\n",
     },
     Joined {
         line: "union g h k --window 0",
-        first: BLOCKS,
-        second: LOOP,
+        first: &BLOCKS,
+        second: &LOOP,
         printed: "ok nodes=8 arcs=8",
         arcs: "0 0\n0 1\n0 3\n0 5\n0 7\n1 1\n1 5\n1 7\n",
     },
     Joined {
         line: "union g h k --offsets delta",
-        first: LOOP,
-        second: BLOCKS,
+        first: &LOOP,
+        second: &BLOCKS,
         printed: "ok nodes=8 arcs=8",
         arcs: "0 0\n0 1\n0 3\n0 5\n0 7\n1 1\n1 5\n1 7\n",
     },
     Joined {
         line: "union g h k",
-        first: NO_PAGES,
-        second: NO_PAGES,
+        first: &NO_PAGES,
+        second: &NO_PAGES,
         printed: "ok nodes=0 arcs=0",
         arcs: "",
     },
     Joined {
         line: "union g g k",
-        first: COPIED,
-        second: NO_PAGES,
+        first: &COPIED,
+        second: &NO_PAGES,
         printed: "ok nodes=3 arcs=4 bits=19\n",
         arcs: "0 1\n0 2\n1 1\n1 2\n",
     },
@@ -72,8 +72,8 @@ fn is_joined(alloc: Global, row: &Joined, piece: u64) -> Result<bool, Fail>
     requires { 1 ≤ piece }
 {
     let mut depot = MemoryDepot::new(alloc, piece);
-    put_archive(alloc, &mut depot, "g", &row.first)?;
-    put_archive(alloc, &mut depot, "h", &row.second)?;
+    put_archive(alloc, &mut depot, "g", row.first)?;
+    put_archive(alloc, &mut depot, "h", row.second)?;
     let (code, out, _) = told(alloc, row.line, &mut depot)?;
     let (checked, again, _) = told(alloc, "check k", &mut depot)?;
     Ok(
@@ -100,8 +100,8 @@ fn unions_of_archives(rt: HostRuntime) -> Result<(), Fail> {
 
 // An archive g, and the files of an archive h from the first on: the status, and the line of error.
 struct Unjoined {
-    first: Archive,
-    second: Archive,
+    first: &'static Archive,
+    second: &'static Archive,
     files: u64,
     code: u8,
     report: &'static str,
@@ -133,93 +133,103 @@ const OTHER_LENGTHS: Archive = Archive {
 // Each fault of the second archive comes in its order, after all of the first.
 const UNJOINED: [Unjoined; 9] = [
     Unjoined {
-        first: OTHER_LENGTHS,
-        second: NO_FLAG,
+        first: &OTHER_LENGTHS,
+        second: &NO_FLAG,
         files: 0,
         code: 9,
         report: "wg: g.offsets: page 0 length 12 stored 1\n",
     },
     Unjoined {
-        first: FEW_ARCS,
-        second: NO_FLAG,
+        first: &FEW_ARCS,
+        second: &NO_FLAG,
         files: 3,
         code: 9,
         report: "wg: g.graph: arcs 0 of 4\n",
     },
     Unjoined {
-        first: COPIED,
-        second: COPIED,
+        first: &COPIED,
+        second: &COPIED,
         files: 0,
         code: 6,
         report: "wg: missing: h.properties\n",
     },
     Unjoined {
-        first: COPIED,
-        second: NO_FLAG,
+        first: &COPIED,
+        second: &NO_FLAG,
         files: 1,
         code: 8,
         report: "wg: h.properties: flag 1\n",
     },
     Unjoined {
-        first: COPIED,
-        second: COPIED,
+        first: &COPIED,
+        second: &COPIED,
         files: 1,
         code: 6,
         report: "wg: missing: h.graph\n",
     },
     Unjoined {
-        first: COPIED,
-        second: NO_RECORD,
+        first: &COPIED,
+        second: &NO_RECORD,
         files: 2,
         code: 9,
         report: "wg: h.graph: page 0 bit 0 outdegree cut\n",
     },
     Unjoined {
-        first: COPIED,
-        second: FEW_ARCS,
+        first: &COPIED,
+        second: &FEW_ARCS,
         files: 2,
         code: 9,
         report: "wg: h.graph: arcs 0 of 4\n",
     },
     Unjoined {
-        first: COPIED,
-        second: COPIED,
+        first: &COPIED,
+        second: &COPIED,
         files: 2,
         code: 6,
         report: "wg: missing: h.offsets\n",
     },
     Unjoined {
-        first: COPIED,
-        second: OTHER_LENGTHS,
+        first: &COPIED,
+        second: &OTHER_LENGTHS,
         files: 3,
         code: 9,
         report: "wg: h.offsets: page 0 length 12 stored 1\n",
     },
 ];
 
+// Puts so many files of an archive h into a depot, in their order.
+fn put_first_files(
+    alloc: Global,
+    depot: &mut MemoryDepot,
+    archive: &Archive,
+    files: u64,
+) -> Result<(), Fail> {
+    if files == 0 {
+        return Ok(());
+    }
+    put(
+        depot,
+        "h.properties",
+        properties_of(alloc, archive)?.as_bytes(),
+    )?;
+    if files == 1 {
+        return Ok(());
+    }
+    put(depot, "h.graph", &bytes_of(alloc, archive.graph)?)?;
+    if files == 2 {
+        return Ok(());
+    }
+    put(depot, "h.offsets", &bytes_of(alloc, archive.offsets)?)
+}
+
 // Whether the archives are refused so, and nothing is written.
 fn is_unjoined(alloc: Global, row: &Unjoined) -> Result<bool, Fail> {
     let mut depot = MemoryDepot::new(alloc, 3);
-    put_archive(alloc, &mut depot, "g", &row.first)?;
-    if row.files > 0 {
-        let properties = properties_of(alloc, &row.second)?;
-        put(&mut depot, "h.properties", properties.as_bytes())?;
-    }
-    if row.files > 1 {
-        put(&mut depot, "h.graph", &bytes_of(alloc, row.second.graph)?)?;
-    }
-    if row.files > 2 {
-        put(
-            &mut depot,
-            "h.offsets",
-            &bytes_of(alloc, row.second.offsets)?,
-        )?;
-    }
+    put_archive(alloc, &mut depot, "g", row.first)?;
+    put_first_files(alloc, &mut depot, row.second, row.files)?;
     Ok(
         refuses(alloc, "union g h k", &mut depot, row.code, row.report)?
-            && holds(alloc, &mut depot, "k.properties", None)?
-            && holds(alloc, &mut depot, "k.graph", None)?
-            && holds(alloc, &mut depot, "k.offsets", None)?,
+            && are_absent(alloc, &mut depot, &["k.properties", "k.graph", "k.offsets"])?,
     )
 }
 

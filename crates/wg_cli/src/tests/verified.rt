@@ -8,7 +8,7 @@ use wg_vectors::{NO_PAGES, ONE_ARC};
 // A certificate against an archive, by these weights, if there are any: the status, what is printed, and what is
 // reported.
 struct Verified {
-    archive: Archive,
+    archive: &'static Archive,
     weights: &'static str,
     certificate: &'static str,
     code: u8,
@@ -26,7 +26,7 @@ const GAP: &str = "ok pages=2 damping=850 gap=0.850000000000000000000000\n";
 
 const VERIFIED: [Verified; 11] = [
     Verified {
-        archive: ONE_ARC,
+        archive: &ONE_ARC,
         weights: "",
         certificate: BY_ROUNDS,
         code: 0,
@@ -34,7 +34,7 @@ const VERIFIED: [Verified; 11] = [
         report: "",
     },
     Verified {
-        archive: ONE_ARC,
+        archive: &ONE_ARC,
         weights: "3\n1\n",
         certificate: BY_WEIGHTS,
         code: 0,
@@ -42,7 +42,7 @@ const VERIFIED: [Verified; 11] = [
         report: "",
     },
     Verified {
-        archive: NO_PAGES,
+        archive: &NO_PAGES,
         weights: "",
         certificate: "damping 0\npages 0\n",
         code: 0,
@@ -50,7 +50,7 @@ const VERIFIED: [Verified; 11] = [
         report: "",
     },
     Verified {
-        archive: ONE_ARC,
+        archive: &ONE_ARC,
         weights: "0\n0\n",
         certificate: BY_ROUNDS,
         code: 12,
@@ -58,7 +58,7 @@ const VERIFIED: [Verified; 11] = [
         report: "wg: w: sum zero\n",
     },
     Verified {
-        archive: ONE_ARC,
+        archive: &ONE_ARC,
         weights: "",
         certificate: BY_WEIGHTS,
         code: 16,
@@ -66,7 +66,7 @@ const VERIFIED: [Verified; 11] = [
         report: "wg: c: page 0 falls\n",
     },
     Verified {
-        archive: ONE_ARC,
+        archive: &ONE_ARC,
         weights: "",
         certificate: "damping 850\npages 2\n0.500000000000000000000000\n0.075000000000000000000000\n",
         code: 16,
@@ -74,7 +74,7 @@ const VERIFIED: [Verified; 11] = [
         report: "wg: c: page 0 falls\n",
     },
     Verified {
-        archive: ONE_ARC,
+        archive: &ONE_ARC,
         weights: "",
         certificate: "damping 850\npages 2\n0.600000000000000000000000\n0.600000000000000000000000\n",
         code: 16,
@@ -82,7 +82,7 @@ const VERIFIED: [Verified; 11] = [
         report: "wg: c: sum\n",
     },
     Verified {
-        archive: ONE_ARC,
+        archive: &ONE_ARC,
         weights: "",
         certificate: "damping 1000\npages 2\n",
         code: 16,
@@ -90,7 +90,7 @@ const VERIFIED: [Verified; 11] = [
         report: "wg: c: line 1: shape\n",
     },
     Verified {
-        archive: ONE_ARC,
+        archive: &ONE_ARC,
         weights: "",
         certificate: "damping 850\npages 3\n",
         code: 16,
@@ -98,7 +98,7 @@ const VERIFIED: [Verified; 11] = [
         report: "wg: c: line 2: pages\n",
     },
     Verified {
-        archive: ONE_ARC,
+        archive: &ONE_ARC,
         weights: "",
         certificate: "damping 850\npages 2\n0.075000000000000000000000\n",
         code: 16,
@@ -106,7 +106,7 @@ const VERIFIED: [Verified; 11] = [
         report: "wg: c: line 4: missing\n",
     },
     Verified {
-        archive: ONE_ARC,
+        archive: &ONE_ARC,
         weights: "",
         certificate: "damping 0\npages 2\n0.000000000000000000000000\n0.000000000000000000000000\n\n",
         code: 16,
@@ -118,7 +118,7 @@ const VERIFIED: [Verified; 11] = [
 // Whether `verify` ends and prints as the row says.
 fn is_verified(alloc: Global, row: &Verified) -> Result<bool, Fail> {
     let mut depot = MemoryDepot::new(alloc, 4096);
-    put_records(alloc, &mut depot, "g.properties", "g.graph", &row.archive)?;
+    put_records(alloc, &mut depot, "g.properties", "g.graph", row.archive)?;
     put(&mut depot, "c", row.certificate.as_bytes())?;
     put(&mut depot, "w", row.weights.as_bytes())?;
     let line = if row.weights.is_empty() {

@@ -155,22 +155,23 @@ const CERTIFIED: [Certified; 6] = [
     },
 ];
 
+// A sink where the write of this number fails, if it is not 0.
+fn sink_with_fault(rt: &impl Abort, alloc: Global, write: u64) -> MemorySink {
+    assert!(rt; write < 10);
+    let mut out = MemorySink::new(alloc, 4096);
+    if write > 0 {
+        out.fail_write(write);
+    }
+    out
+}
+
 // Whether `rank` ends as the row says, and leaves the certificate so.
 fn is_certified(rt: &impl Abort, alloc: Global, row: &Certified) -> Result<bool, Fail> {
-    assert!(rt; row.create < 10 && row.append < 10 && row.write < 10);
     let mut depot = MemoryDepot::new(alloc, 32);
     put_records(alloc, &mut depot, "g.properties", "g.graph", &ONE_ARC)?;
     put(&mut depot, "c", b"old")?;
-    if row.create > 0 {
-        depot.fail_create(row.create);
-    }
-    if row.append > 0 {
-        depot.fail_append(row.append);
-    }
-    let mut out = MemorySink::new(alloc, 4096);
-    if row.write > 0 {
-        out.fail_write(row.write);
-    }
+    set_faults(rt, &mut depot, row.create, row.append);
+    let mut out = sink_with_fault(rt, alloc, row.write);
     let line = "rank g --rounds 1 --certificate c";
     let (code, err) = report_of(alloc, line, &mut depot, &mut out)?;
     Ok(
