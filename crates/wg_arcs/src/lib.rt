@@ -45,6 +45,3 @@ pub use numbers::read_numbers;
 pub use numbers_fault::{NumbersError, NumbersFault, NumbersKind};
 pub use reading::read;
 pub use writing::{print_list, write, write_list};
-
-#[cfg(test)]
-mod tests;

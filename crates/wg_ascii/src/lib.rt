@@ -49,6 +49,3 @@ mod writing;
 pub use fault::{AsciiError, AsciiKind};
 pub use reading::read;
 pub use writing::{print_list, print_nodes, write};
-
-#[cfg(test)]
-mod tests;

@@ -65,8 +65,6 @@ mod record;
 mod residuals;
 mod sharing;
 mod summary;
-#[cfg(test)]
-mod tests;
 
 pub use archive::encode;
 pub use encoder::Encoder;

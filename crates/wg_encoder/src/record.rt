@@ -63,32 +63,3 @@ pub fn record_cost(
     }
     Some(most - left)
 }
-
-#[cfg(test)]
-mod tests {
-    use super::*;
-    use std::test::Fail;
-    use wg_vectors::usual;
-
-    #[test]
-    fn bits_of_small_records(rt: HostRuntime) -> Result<(), Fail> {
-        let params = usual(8, 16, 7, 3, 2)?;
-        // no successors; one residual; two intervals
-        assert_eq!(rt; record_cost(&params, 1, 0, &[], &[], u64::MAX), Some(1));
-        assert_eq!(rt; record_cost(&params, 0, 0, &[], &[1], u64::MAX), Some(9));
-        assert_eq!(rt;
-            record_cost(&params, 0, 0, &[], &[1, 2, 4, 5], u64::MAX),
-            Some(15)
-        );
-        // by a reference that copies all, and by one with two blocks
-        assert_eq!(rt;
-            record_cost(&params, 1, 1, &[1, 2], &[1, 2], u64::MAX),
-            Some(6)
-        );
-        assert_eq!(rt;
-            record_cost(&params, 1, 1, &[1, 3, 5, 7], &[1, 5, 7], u64::MAX),
-            Some(14)
-        );
-        Ok(())
-    }
-}

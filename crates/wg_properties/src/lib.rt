@@ -48,6 +48,3 @@ pub use fault::PropFault;
 pub use judge::read;
 pub use keys::key_name;
 pub use writing::write;
-
-#[cfg(test)]
-mod tests;

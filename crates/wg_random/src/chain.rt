@@ -6,9 +6,6 @@ ghost use Rattle.wg_grammar.specs.Context.{Known};
 ghost use Rattle.wg_random.specs.Chain.{ArePages};
 ghost use Rattle.wg_random.specs.Spot.{HeadReads, ChainReads, IsChain, SpotAnswers, OfSpot};
 
-#[cfg(test)]
-mod tests;
-
 use crate::unchecked::Unchecked;
 use crate::{SpotError, Steps};
 use std::alloc::Global;

@@ -78,8 +78,6 @@ mod records;
 mod standing;
 mod steps;
 mod sweep;
-#[cfg(test)]
-mod tests;
 mod unchecked;
 
 pub use archive::Archive;

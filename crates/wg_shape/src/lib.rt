@@ -64,6 +64,3 @@ pub use gathering::quotient;
 pub use joining::union_of_lists;
 pub use merge::Merge;
 pub use uniting::union;
-
-#[cfg(test)]
-mod tests;

@@ -59,8 +59,3 @@ pub use reader::Reader;
 pub use records::{read_graph, read_offsets};
 pub use stream_error::StreamError;
 pub use stretch::Stretch;
-
-#[cfg(test)]
-mod in_pieces;
-#[cfg(test)]
-mod tests;

@@ -164,13 +164,22 @@ impl Pages {
 #[cfg(test)]
 mod tests {
     use super::*;
-    use crate::tests::why_stopped;
+    use std::convert::Infallible;
     use std::test::Fail;
     use wg_bits::{Bits, Cursor};
     use wg_vectors::{bytes_of, usual};
 
     // Page 0 has all 1,000 pages as successors, in one interval, and page 1 copies the first of them.
     const ONE_OF_MANY: &str = "0000000001111101001 1 010 1 0000000001111100101  010 01 010 010";
+
+    // Bits in memory refuse no word, and these are in order.
+    fn why_stopped(error: PagesError<Infallible>) -> &'static str {
+        match error {
+            PagesError::Fault(_fault) => "a fault",
+            PagesError::Memory => "out of memory",
+            PagesError::Refused(never) => match never {},
+        }
+    }
 
     #[test]
     fn a_list_is_kept_without_the_room_that_it_was_read_in(rt: HostRuntime) -> Result<(), Fail> {

@@ -58,6 +58,3 @@ pub use jobs::{Job, JobError};
 pub use layout::Layout;
 pub use name::Name;
 pub use words::Words;
-
-#[cfg(test)]
-mod tests;

@@ -1,17 +1,17 @@
 // A worked archive in memory, read in each way.
 ghost use Rattle.std.specs.Prelude.{◌≤◌, ◌^◌, length};
 
-use crate::{PagesError, read_graph, read_offsets};
 use std::alloc::Global;
 use std::convert::Infallible;
 use std::test::Fail;
 use wg_bits::{Bits, Cursor};
 use wg_graph::Graph;
 use wg_params::Params;
+use wg_stream::{PagesError, read_graph, read_offsets};
 use wg_vectors::{COPIED, bytes_of};
 
 // Bits in memory refuse no word, and these are in order.
-pub fn why_stopped(error: PagesError<Infallible>) -> &'static str {
+fn why_stopped(error: PagesError<Infallible>) -> &'static str {
     match error {
         PagesError::Fault(_fault) => "a fault",
         PagesError::Memory => "out of memory",

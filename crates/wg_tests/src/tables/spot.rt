@@ -1,14 +1,13 @@
 // Pages of archives that were not checked: a list, or the first fault of the chain.
 ghost use Rattle.std.specs.Prelude.{◌≡◌, ◌<◌};
 
-use super::spot;
-use crate::{SpotError, Steps};
 use std::alloc::Global;
 use std::marker::Brand;
 use std::process::Abort;
 use std::sync::ledger::{Blank, Ledger};
 use std::test::Fail;
 use wg_grammar::{ArchiveFault, Fault, Field, Kind};
+use wg_random::{SpotError, Steps, spot};
 use wg_vectors::bytes_of;
 use wg_vectors::unchecked::{
     AGAIN, APART, CHAINED, CUT, FAR, FEW_ARCS, MANY, NO_WORD, PAST, SHORT, Unchecked,

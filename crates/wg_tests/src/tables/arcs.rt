@@ -1,8 +1,8 @@
-use crate::{
+use std::test::Fail;
+use wg_arcs::{
     ArcsError, ArcsKind, NumbersError, NumbersFault, NumbersKind, read, read_numbers, write,
     write_list,
 };
-use std::test::Fail;
 use wg_graph::GraphBuilder;
 use wg_io::SteadySink;
 

@@ -1,5 +1,5 @@
-use crate::{AsciiError, AsciiKind, read, write};
 use std::test::Fail;
+use wg_ascii::{AsciiError, AsciiKind, read, write};
 use wg_io::SteadySink;
 
 // A text, and what its graph is written as, or the line and the kind of its first fault.

@@ -1,7 +1,6 @@
 // Each page of an archive opened and listed, and a chain of references that is too long to be opened.
 ghost use Rattle.std.specs.Prelude.{◌≡◌, ◌<◌, ◌≤◌, ◌^◌, length};
 
-use crate::{Archive, ListError, OpenError, Records, Steps, Sweep};
 use std::alloc::Global;
 use std::marker::Brand;
 use std::process::Abort;
@@ -10,6 +9,7 @@ use std::test::Fail;
 use wg_graph::Lists;
 use wg_iterators::Successors;
 use wg_params::{BadParam, Code, Params};
+use wg_random::{Archive, ListError, OpenError, Records, Steps, Sweep};
 use wg_vectors::{ARCHIVES, Archive as Worked, LONGER, bytes_of};
 
 // What is wanted of a page: its list, if there is one, and why it is not opened, if it is not.
@@ -113,14 +113,19 @@ fn page_is_read(rt: &impl Abort, alloc: Global, archive: &Worked, page: u64) -> 
     are_read::<Brand>(rt, alloc, params, files, &cases, Blank::new(1))
 }
 
-#[test]
-fn each_page_of_an_archive(rt: HostRuntime) -> Result<(), Fail> {
-    for archive in ARCHIVES.iter().chain(LONGER.iter()) {
+fn all_pages_are_read(rt: &impl Abort, alloc: Global, table: &[&Worked]) -> Result<(), Fail> {
+    for archive in table {
         for page in 0..archive.nodes {
-            page_is_read(&rt, rt.alloc(), archive, page)?;
+            page_is_read(rt, alloc, archive, page)?;
         }
     }
     Ok(())
+}
+
+#[test]
+fn each_page_of_an_archive(rt: HostRuntime) -> Result<(), Fail> {
+    all_pages_are_read(&rt, rt.alloc(), &ARCHIVES)?;
+    all_pages_are_read(&rt, rt.alloc(), &LONGER)
 }
 
 // Parameters in the usual codes, where references may lead on without end.
@@ -196,13 +201,18 @@ fn are_swept(
     gives_lists(rt, &mut sweep, lists)
 }
 
-#[test]
-fn all_lists_of_an_archive_and_again(rt: HostRuntime) -> Result<(), Fail> {
-    for archive in ARCHIVES.iter().chain(LONGER.iter()) {
+fn all_are_swept(rt: &impl Abort, alloc: Global, table: &[&Worked]) -> Result<(), Fail> {
+    for archive in table {
         let params = archive.shape.params(archive.nodes, archive.arcs)?;
-        are_swept(&rt, rt.alloc(), params, archive.graph, archive.lists)?;
+        are_swept(rt, alloc, params, archive.graph, archive.lists)?;
     }
     Ok(())
+}
+
+#[test]
+fn all_lists_of_an_archive_and_again(rt: HostRuntime) -> Result<(), Fail> {
+    all_are_swept(&rt, rt.alloc(), &ARCHIVES)?;
+    all_are_swept(&rt, rt.alloc(), &LONGER)
 }
 
 #[test]

@@ -1,4 +1,3 @@
-use crate::{Job, JobError, Layout, Name, Words, job};
 use std::alloc::{AllocError, Global};
 use std::process::Abort;
 use std::test::Fail;
@@ -8,6 +7,7 @@ mod lines;
 use lines::{
     BUILDS, CONVERSIONS, JOBS, NO_BUILDS, NO_CONVERSIONS, NO_JOBS, NO_QUOTIENTS, QUOTIENTS,
 };
+use wg_words::{Job, JobError, Layout, Name, Words, job};
 
 // The words of a line, parted by blanks.
 fn words_of(alloc: Global, line: &str) -> Result<Words, AllocError> {
@@ -46,22 +46,9 @@ fn with_layout(
     Ok(named(alloc, text.as_str(), output)?)
 }
 
-// The command, what the options give, and the graph file of the archive: of the one that is written, if there are two.
-fn described(alloc: Global, job: &Job) -> Result<String, Fail> {
+// What is asked of a ranking, and of a certificate.
+fn of_ranking(alloc: Global, job: &Job) -> Result<String, Fail> {
     match job {
-        Job::Check { base } => Ok(named(alloc, "check", base)?),
-        Job::Arcs { base } => Ok(named(alloc, "arcs", base)?),
-        Job::Ascii { base } => Ok(named(alloc, "ascii", base)?),
-        Job::Offsets { base } => Ok(named(alloc, "offsets", base)?),
-        Job::Show { base, pages } => {
-            let pages = pages.as_slice();
-            let text = format!(in alloc; "show {pages:?}")?;
-            Ok(named(alloc, text.as_str(), base)?)
-        }
-        Job::Spot { base, page } => {
-            let text = format!(in alloc; "spot {page}")?;
-            Ok(named(alloc, text.as_str(), base)?)
-        }
         Job::Rank {
             base,
             rounds,
@@ -85,16 +72,13 @@ fn described(alloc: Global, job: &Job) -> Result<String, Fail> {
             let text = format!(in alloc; "verify {certificate} {weights}")?;
             Ok(named(alloc, text.as_str(), base)?)
         }
-        Job::Build {
-            arcs,
-            base,
-            nodes,
-            layout,
-        } => {
-            let text = format!(in alloc; "build {nodes}")?;
-            with_layout(alloc, text.as_str(), arcs, layout, base)
-        }
-        Job::Import { text, base, layout } => with_layout(alloc, "import", text, layout, base),
+        _ => Err("another job".into()),
+    }
+}
+
+// What is asked where an archive is made of an archive, or of two.
+fn of_archives(alloc: Global, job: &Job) -> Result<String, Fail> {
+    match job {
         Job::Quotient {
             input,
             map,
@@ -126,7 +110,39 @@ fn described(alloc: Global, job: &Job) -> Result<String, Fail> {
             output,
             layout,
         } => with_layout(alloc, "transpose", input, layout, output),
+        _ => Err("another job".into()),
+    }
+}
+
+// The command, what the options give, and the graph file of the archive: of the one that is written, if there are two.
+fn described(alloc: Global, job: &Job) -> Result<String, Fail> {
+    match job {
+        Job::Check { base } => Ok(named(alloc, "check", base)?),
+        Job::Arcs { base } => Ok(named(alloc, "arcs", base)?),
+        Job::Ascii { base } => Ok(named(alloc, "ascii", base)?),
+        Job::Offsets { base } => Ok(named(alloc, "offsets", base)?),
+        Job::Show { base, pages } => {
+            let pages = pages.as_slice();
+            let text = format!(in alloc; "show {pages:?}")?;
+            Ok(named(alloc, text.as_str(), base)?)
+        }
+        Job::Spot { base, page } => {
+            let text = format!(in alloc; "spot {page}")?;
+            Ok(named(alloc, text.as_str(), base)?)
+        }
+        Job::Rank { .. } | Job::Verify { .. } => of_ranking(alloc, job),
+        Job::Build {
+            arcs,
+            base,
+            nodes,
+            layout,
+        } => {
+            let text = format!(in alloc; "build {nodes}")?;
+            with_layout(alloc, text.as_str(), arcs, layout, base)
+        }
+        Job::Import { text, base, layout } => with_layout(alloc, "import", text, layout, base),
         Job::Bulk { seed, pages } => Ok(format!(in alloc; "bulk {seed} {pages}")?),
+        _ => of_archives(alloc, job),
     }
 }
 

@@ -1,30 +1,7 @@
-use crate::{Coming, ListWalk, Merge, quotient, union};
-use std::alloc::{AllocError, Global};
-use std::process::Abort;
+use super::graphs::{check_lists, graph_of};
 use std::test::Fail;
-use wg_graph::{Graph, GraphBuilder, List};
-
-// The graph of these lists.
-fn graph_of(rt: &impl Abort, alloc: Global, lists: &[&[u64]]) -> Result<Graph, AllocError> {
-    assert!(rt; lists.len() < 1000);
-    let mut builder = GraphBuilder::new(alloc, lists.len() as u64)?;
-    for (page, list) in lists.iter().enumerate() {
-        for target in *list {
-            assert!(rt; builder.fits(page as u64, *target), "{page} {target}");
-            builder.push(page as u64, *target)?;
-        }
-    }
-    builder.finish()
-}
-
-// Holds the graph to these lists.
-fn check_lists(rt: &impl Abort, graph: &Graph, lists: &[&[u64]]) {
-    assert_eq!(rt; graph.nodes(), lists.len() as u64);
-    for (page, list) in lists.iter().enumerate() {
-        assert!(rt; (page as u64) < graph.nodes());
-        assert_eq!(rt; graph.list(page as u64), *list);
-    }
-}
+use wg_graph::List;
+use wg_shape::{Coming, ListWalk, Merge, quotient, union};
 
 // The lists of a graph.
 const GRAPH: &[&[u64]] = &[&[1, 2], &[1, 2], &[]];

@@ -1,6 +1,7 @@
-use crate::{PropFault, key_name, read};
 use std::alloc::{AllocError, Global};
+use std::test::Fail;
 use wg_params::{Code, Key, Params};
+use wg_properties::{PropFault, key_name, read, write};
 
 const ALL_BUT_NODES: &[u8] =
     b"#BVGraph properties\ngraphclass=it.unimi.dsi.webgraph.BVGraph\nversion=0\narcs=4\nwindowsize=7\nmaxrefcount=3\nminintervallength=4\nzetak=3\ncompressionflags=\n";
@@ -212,4 +213,52 @@ fn keys_that_are_missing(rt: HostRuntime) {
             Ok(_) | Err(_) => assert!(rt; false, "{name} is not missed"),
         }
     }
+}
+
+#[test]
+fn text_of_the_defaults(rt: HostRuntime) -> Result<(), Fail> {
+    let params = Params::new(
+        3,
+        4,
+        7,
+        Some(3),
+        4,
+        3,
+        Code::Gamma,
+        Code::Unary,
+        Code::Gamma,
+        Code::Gamma,
+        Code::Zeta(3),
+        Code::Gamma,
+    )?;
+    let text = write(rt.alloc(), &params)?;
+    assert_eq!(rt;
+        text.as_slice(),
+        b"#BVGraph properties\nversion=0\nnodes=3\narcs=4\nwindowsize=7\nmaxrefcount=3\nminintervallength=4\nzetak=3\ncompressionflags=\ngraphclass=it.unimi.dsi.webgraph.BVGraph\n".as_slice()
+    );
+    Ok(())
+}
+
+#[test]
+fn text_of_other_codes(rt: HostRuntime) -> Result<(), Fail> {
+    let params = Params::new(
+        0,
+        0,
+        0,
+        None,
+        0,
+        5,
+        Code::Delta,
+        Code::Gamma,
+        Code::Unary,
+        Code::Gamma,
+        Code::Nibble,
+        Code::Delta,
+    )?;
+    let text = write(rt.alloc(), &params)?;
+    assert_eq!(rt;
+        text.as_slice(),
+        b"#BVGraph properties\nversion=0\nnodes=0\narcs=0\nwindowsize=0\nmaxrefcount=-1\nminintervallength=0\nzetak=5\ncompressionflags=OUTDEGREES_DELTA | REFERENCES_GAMMA | BLOCK_COUNT_UNARY | RESIDUALS_NIBBLE | OFFSETS_DELTA\ngraphclass=it.unimi.dsi.webgraph.BVGraph\n".as_slice()
+    );
+    Ok(())
 }
