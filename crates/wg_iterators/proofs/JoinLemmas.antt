@@ -1,12 +1,11 @@
 -- Numbers that are joined to ascending members.
-use Rattle.std.proofs.Common.{◌≡◌, ℕ, zero, suc, ◌+◌, ◌<◌, ◌≤◌, true, false, ◌||◌, inl, inr, List, [], ◌∷◌, ◌++◌, length, take, drop, ltb, refl, sym, ap, subst, ◌∙◌, arith}
+use Rattle.std.proofs.Common.{◌≡◌, ℕ, zero, suc, ◌+◌, ◌<◌, ◌≤◌, true, false, ◌||◌, inl, inr, List, [], ◌∷◌, ◌++◌, length, refl, sym, ap, subst, ◌∙◌, arith}
 use Rattle.std.specs.List.{range_with_len}
-use Rattle.std.proofs.lemmas.Bool.{cases_Bool, cases_lt, cases_eq, ltb-true, ltb-false, lt-ltb, le-ltb, ne_eqb, eq-eqb}
-use Rattle.std.proofs.lemmas.List.{length-append, length-take-le, append_assoc, append-nil}
+use Rattle.std.proofs.lemmas.Bool.{cases_Bool, cases_lt, cases_eq, lt-ltb, le-ltb, ne_eqb, eq-eqb}
+use Rattle.std.proofs.lemmas.List.{length-append, append_assoc, append-nil}
 use Rattle.wg_graph.specs.Ascending.{Ascends}
 use Rattle.wg_graph.specs.Numbers.{is_in}
 use Rattle.wg_graph.proofs.Sets.{ascends_more, in_below}
-use Rattle.wg_graph.proofs.Fewer.{below, all_within}
 use Rattle.wg_intervals.specs.Stored.{numbers_inside}
 use Rattle.wg_iterators.specs.Apart.{ShareNone}
 use Rattle.wg_iterators.specs.Coming.{with_number, union_of}
@@ -17,58 +16,35 @@ use Rattle.wg_iterators.proofs.Counting.{Parts, in_union}
 pub all_fit : (row u : List ℕ) (room : ℕ) → length row + length u ≤ room → length (row ++ u) ≤ room
 all_fit row u room le = omega (arith, le, length-append row u)
 
--- ---- the members below the bound of all others
+-- ---- a member that is below all others
 
-front_joined : (members all row others : List ℕ) (bound : ℕ) → Ascends bound others → Joining all row members others → Joining all (row ++ take (below bound members) members) (drop (below bound members) members) others
-front_joined [] all row others bound up h = subst (λ (l : List ℕ). Joining all l [] others) (sym (append-nil row)) h
-front_joined (x ∷ left) all row others bound up h =
-    elim (cases_Bool (ltb x bound)) [
-      | inl less ↦ (
-          let first = first_joined all row left others x bound (ltb-true x bound less) up h in
-          let rest = front_joined left all (row ++ x ∷ []) others bound up first in
-          let whole = subst (λ (l : List ℕ). Joining all l (drop (below bound left) left) others) (append_assoc row (x ∷ []) (take (below bound left) left)) rest in
-          let count : 1 + below bound left ≡ suc (below bound left) = omega arith in
-          let is : below bound (x ∷ left) ≡ suc (below bound left) = rw less count in
-          subst (λ (k : ℕ). Joining all (row ++ take k (x ∷ left)) (drop k (x ∷ left)) others) (sym is) whole)
-      | inr past ↦ rw past (subst (λ (l : List ℕ). Joining all l (x ∷ left) others) (sym (append-nil row)) h)
-    ]
-  where
-    first_joined : (all row left others : List ℕ) (x bound : ℕ) → x < bound → Ascends bound others → Joining all row (x ∷ left) others → Joining all (row ++ x ∷ []) left others
-    first_joined all row left others x bound lt up g =
-        let first : union_of (x ∷ left) others ≡ x ∷ union_of left others = union_first x left others g.joinable.members_ascend.1 (ascends_more (suc x) bound others (omega (arith, lt)) up) in
-        record {
-          joinable = record {
-            members_ascend = ascends_more 0 (suc x) left (omega arith) g.joinable.members_ascend.1;
-            others_ascend = g.joinable.others_ascend;
-            apart = share_tail x left others g.joinable.apart;
-          };
-          list = append_assoc row (x ∷ []) (union_of left others) ∙ ap (λ (l : List ℕ). row ++ l) (sym first) ∙ g.list;
-        }
+pub first_joined : (all row new members others left : List ℕ) (x bound : ℕ) → members ≡ x ∷ left → x < bound → Ascends bound others → new ≡ row ++ x ∷ [] → Joining all row members others → Joining all new left others
+first_joined all row new members others left x bound is lt up more h =
+    let g : Joining all row (x ∷ left) others = subst (λ (l : List ℕ). Joining all row l others) is h in
+    let first : union_of (x ∷ left) others ≡ x ∷ union_of left others = union_first x left others g.joinable.members_ascend.1 (ascends_more (suc x) bound others (omega (arith, lt)) up) in
+    record {
+      joinable = record {
+        members_ascend = ascends_more 0 (suc x) left (omega arith) g.joinable.members_ascend.1;
+        others_ascend = g.joinable.others_ascend;
+        apart = share_tail x left others g.joinable.apart;
+      };
+      list = ap (λ (l : List ℕ). l ++ union_of left others) more ∙ append_assoc row (x ∷ []) (union_of left others) ∙ ap (λ (l : List ℕ). row ++ l) (sym first) ∙ g.list;
+    }
 
--- the members that are left are not below it
-from_bound : (members : List ℕ) (n bound : ℕ) → Ascends n members → Ascends bound (drop (below bound members) members)
-from_bound [] n bound up = tt
-from_bound (x ∷ left) n bound up =
-    elim (cases_Bool (ltb x bound)) [
-      | inl less ↦ (
-          let count : 1 + below bound left ≡ suc (below bound left) = omega arith in
-          let is : below bound (x ∷ left) ≡ suc (below bound left) = rw less count in
-          subst (λ (k : ℕ). Ascends bound (drop k (x ∷ left))) (sym is) (from_bound left (suc x) bound up.1))
-      | inr past ↦ rw past (ltb-false x bound past, up.1)
-    ]
+-- there is room for it
+pub first_fits : (all row members others left : List ℕ) (x bound room : ℕ) → members ≡ x ∷ left → x < bound → Ascends bound others → length all ≤ room → Joining all row members others → length row < room
+first_fits all row members others left x bound room is lt up fits h =
+    let g = first_joined all row (row ++ x ∷ []) members others left x bound is lt up refl h in
+    omega (arith, fits, ap (λ (l : List ℕ). length l) g.list, length-append (row ++ x ∷ []) (union_of left others), length-append row (x ∷ []))
 
-pub members_joined : (all row new members left others : List ℕ) (bound : ℕ) → new ≡ row ++ take (below bound members) members → left ≡ drop (below bound members) members → Ascends bound others → Joining all row members others → Joining all new left others
-members_joined all row new members left others bound more is up h =
-    subst (λ (l : List ℕ). Joining all l left others) (sym more) (subst (λ (l : List ℕ). Joining all (row ++ take (below bound members) members) l others) (sym is) (front_joined members all row others bound up h))
+-- where the first is not below the bound, none is
+pub none_below : (all row members others left : List ℕ) (x bound : ℕ) → members ≡ x ∷ left → bound ≤ x → Joining all row members others → Ascends bound members
+none_below all row members others left x bound is le h =
+    let g : Joining all row (x ∷ left) others = subst (λ (l : List ℕ). Joining all row l others) is h in
+    subst (Ascends bound) (sym is) (le, g.joinable.members_ascend.1)
 
-pub members_left : (all row members left others : List ℕ) (bound : ℕ) → left ≡ drop (below bound members) members → Joining all row members others → Ascends bound left
-members_left all row members left others bound is h = subst (Ascends bound) (sym is) (from_bound members 0 bound h.joinable.members_ascend)
-
--- there is room for them
-pub members_fit : (all row members others : List ℕ) (bound room : ℕ) → Ascends bound others → length all ≤ room → Joining all row members others → length row + below bound members ≤ room
-members_fit all row members others bound room up fits h =
-    let g = front_joined members all row others bound up h in
-    omega (arith, fits, ap (λ (l : List ℕ). length l) g.list, length-append (row ++ take (below bound members) members) (union_of (drop (below bound members) members) others), length-append row (take (below bound members) members), length-take-le (below bound members) members (all_within bound members))
+pub none_left : (members : List ℕ) (bound : ℕ) → members ≡ [] → Ascends bound members
+none_left members bound is = subst (Ascends bound) (sym is) tt
 
 -- ---- another number, where no member is below it
 

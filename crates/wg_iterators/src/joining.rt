@@ -24,7 +24,15 @@ fn push_below<'a>(members: Stretch<'a>, bound: u64, row: &mut Row) -> Stretch<'a
     ensures ascends { Ascends bound result }
     ensures room { row.new.room ≡ row.old.room }
 {
-    row.extend_below(members, bound)
+    let mut left = members;
+    'members: while let Some((first, others)) = left.split_first() {
+        if first >= bound {
+            return left;
+        }
+        row.push(first);
+        left = others;
+    }
+    left
 }
 
 // Adds the members and the numbers inside so many intervals. It reads their words.

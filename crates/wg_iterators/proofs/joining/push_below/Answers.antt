@@ -1,14 +1,19 @@
-use Rattle.wg_iterators.proofs.JoinLemmas.{members_joined, members_left, members_fit}
+use Rattle.std.proofs.Common.{rules, ◌∙◌, arith}
+use Rattle.wg_iterators.proofs.JoinLemmas.{first_joined, first_fits, none_below}
 use Rattle.wg_iterators.proofs.joining.push_below.Goals as goal
 
-pub extend_below-requires-clause-ascends : goal.extend_below-requires-clause-ascends
-extend_below-requires-clause-ascends c = c.requires.2.joinable.members_ascend
+pub returns-then-first-bound-clause-ascends : goal.returns-then-first-bound-clause-ascends
+returns-then-first-bound-clause-ascends c =
+    let s = c.requires in
+    none_below s.0 c.members.row.list c.members.left s.1 c.in-Some.others c.in-Some.first c.args.bound (search rules) (omega arith) (c.members.invariant.on s.0 s.1 s.2 s.3)
 
-pub extend_below-requires-clause-room : goal.extend_below-requires-clause-room
-extend_below-requires-clause-room c = let s = c.requires in members_fit s.0 c.args.row.now.list c.args.members s.1 c.args.bound c.args.row.now.room s.3 s.4 s.2
+pub push-requires : goal.push-requires
+push-requires c =
+    let s = c.requires in
+    omega (arith, c.members.invariant.room, first_fits s.0 c.members.row.list c.members.left s.1 c.in-Some.others c.in-Some.first c.args.bound c.args.row.now.room (search rules) (omega arith) s.3 s.4 (c.members.invariant.on s.0 s.1 s.2 s.3))
 
-pub returns-clause-joining : goal.returns-clause-joining
-returns-clause-joining c all others h up = members_joined all c.args.row.now.list c.extend_below.new.self.list c.args.members c.extend_below.result others c.args.bound c.extend_below.ensures.list c.extend_below.ensures.others up h
-
-pub returns-clause-ascends : goal.returns-clause-ascends
-returns-clause-ascends c = let s = c.requires in members_left s.0 c.args.row.now.list c.args.members c.extend_below.result s.1 c.args.bound c.extend_below.ensures.others s.2
+pub members-preserved : goal.members-preserved
+members-preserved c = record {
+  on = λ all others h up. first_joined all c.members.row.list c.push.new.self.list c.members.left others c.in-Some.others c.in-Some.first c.args.bound (search rules) (omega arith) up c.push.ensures.list (c.members.invariant.on all others h up);
+  room = c.push.ensures.room ∙ c.members.invariant.room;
+}
