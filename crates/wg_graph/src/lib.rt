@@ -21,7 +21,7 @@
 //! ```
 //!
 //! [`List`] holds numbers in order, as the successors of one page; a [`Row`] does so in memory that is taken once, and
-//! never wants more. A row lends its numbers as a [`Stretch`], which another row copies in whole pieces. [`join`] joins
+//! never wants more. A row lends its numbers as a [`RowSlice`], which another row copies in whole pieces. [`join`] joins
 //! to an ascending list the numbers of another that come one after the other. [`Members`] tells of one number after the
 //! other whether it stands in an ascending list, and gives the members below a number one by one. The definitions say
 //! what a graph is, which lists ascend, which ascending list a set of numbers has, and which members of a referenced
@@ -41,7 +41,7 @@ mod lists;
 mod members;
 mod pieces;
 mod row;
-mod stretch;
+mod row_slice;
 
 pub use builder::GraphBuilder;
 pub use graph::Graph;
@@ -50,7 +50,7 @@ pub use list::List;
 pub use lists::{GraphLists, Lists};
 pub use members::Members;
 pub use row::Row;
-pub use stretch::Stretch;
+pub use row_slice::RowSlice;
 
 #[cfg(test)]
 mod tests;

@@ -1,9 +1,8 @@
-ghost use Rattle.std.specs.Prelude.{◌≡◌, ◌<◌, ◌≤◌, ◌+◌, ◌^◌, [], ◌∷◌, ◌++◌, length, take, drop, nat_lt, IfOk};
-ghost use Rattle.std.specs.List.{range_with_len, prefix_len};
-ghost use Rattle.wg_graph.specs.Ascending.{Ascends};
+ghost use Rattle.std.specs.Prelude.{◌≡◌, ◌<◌, ◌≤◌, ◌+◌, ◌^◌, [], ◌∷◌, ◌++◌, length, IfOk};
+ghost use Rattle.std.specs.List.{range_with_len};
 
-use crate::Stretch;
-use crate::pieces::{PIECE, copy, copy_below, write_run};
+use crate::RowSlice;
+use crate::pieces::{PIECE, copy, write_run};
 use std::alloc::{AllocError, Global};
 use std::marker::Model;
 
@@ -66,29 +65,13 @@ impl Row {
 
     /// Adds numbers of another row at the end, in their order, eight at a time.
     #[inline(always)]
-    pub fn extend(&mut self, others: Stretch<'_>)
+    pub fn extend(&mut self, others: RowSlice<'_>)
         requires { length self.old.list + length others ≤ self.old.room }
         ensures list { self.new.list ≡ self.old.list ++ others.entry }
         ensures room { self.new.room ≡ self.old.room }
     {
         copy(&mut self.numbers, self.len, others.numbers(), others.len());
         self.len += others.len();
-    }
-
-    /// Adds those of another row's ascending numbers that are below the bound, four at a time, and answers the others.
-    #[inline(always)]
-    pub fn extend_below<'a>(&mut self, others: Stretch<'a>, bound: u64) -> Stretch<'a>
-        requires ascends { Ascends 0 others }
-        requires room { length self.old.list + prefix_len (λ x. nat_lt x bound) others ≤ self.old.room }
-        ensures list { self.new.list
-            ≡ self.old.list ++ take (prefix_len (λ x. nat_lt x bound) others.entry) others.entry }
-        ensures room { self.new.room ≡ self.old.room }
-        ensures others { result ≡ drop (prefix_len (λ x. nat_lt x bound) others.entry) others.entry }
-    {
-        let count = others.len();
-        let below = copy_below(&mut self.numbers, self.len, others.numbers(), count, bound);
-        self.len += below;
-        others.part(below, count)
     }
 
     /// Adds so many numbers that follow one another, eight at a time.
@@ -114,10 +97,10 @@ impl Row {
 
     /// The numbers, as another row can copy them.
     #[inline(always)]
-    pub fn stretch(&self) -> Stretch<'_>
+    pub fn as_row_slice(&self) -> RowSlice<'_>
         ensures value { result ≡ self.now.list }
         ensures within { length result ≤ self.now.room }
     {
-        Stretch::new(&self.numbers, self.len)
+        RowSlice::new(&self.numbers, self.len)
     }
 }

@@ -70,9 +70,9 @@ fn a_row_takes_numbers_of_another(rt: HostRuntime) -> Result<(), Fail> {
     let mut members = Row::new(rt.alloc(), 9)?;
     members.extend_run(4, 9);
     let mut row = Row::new(rt.alloc(), 10)?;
-    let others = row.extend_below(members.stretch(), 9);
+    row.extend(members.as_row_slice().part(0, 5));
     row.push(100);
-    row.extend(others.part(1, 4));
+    row.extend(members.as_row_slice().part(6, 9));
     assert_eq!(rt; row.as_slice(), [4, 5, 6, 7, 8, 100, 10, 11, 12].as_slice());
     Ok(())
 }

@@ -8,12 +8,12 @@ ghost use Rattle.wg_iterators.specs.Laid.{WordsTo};
 
 use crate::passing::block_of;
 use crate::value::{Lookahead, value};
-use wg_graph::{Row, Stretch};
+use wg_graph::{Row, RowSlice};
 use wg_params::Code;
 
 // Adds every other run of members, from the first on.
 #[inline(always)]
-fn keep(row: &mut Row, run: Stretch<'_>, index: u64)
+fn keep(row: &mut Row, run: RowSlice<'_>, index: u64)
     requires { length row.old.list + length run ≤ row.old.room }
     ensures list { row.new.list ≡ row.old.list ++ (if index % 2 == 0 then run.entry else []) }
     ensures room { row.new.room ≡ row.old.room }
@@ -29,7 +29,7 @@ fn keep(row: &mut Row, run: Stretch<'_>, index: u64)
 pub(crate) fn copy_members(
     code: Code,
     count: u64,
-    members: &Stretch<'_>,
+    members: &RowSlice<'_>,
     cursor: &mut Lookahead<'_>,
     row: &mut Row,
 )

@@ -11,7 +11,7 @@ use crate::head::RecordHead;
 use crate::joining::{add_intervals, add_residuals};
 use crate::value::value_where;
 use wg_bits::Cursor;
-use wg_graph::{Row, Stretch};
+use wg_graph::{Row, RowSlice};
 use wg_params::{Code, Params};
 
 // The same as `decode_into`, where `members` are those of the list below, and `source` is their number, if it is there.
@@ -20,7 +20,7 @@ fn decode_on<'a>(
     page: u64,
     head: RecordHead<'a>,
     source: Option<u64>,
-    members: &Stretch<'_>,
+    members: &RowSlice<'_>,
     cursor: &mut Cursor<'a>,
     spare: &mut Row,
     row: &mut Row,
@@ -71,7 +71,7 @@ pub fn decode_into<'a>(
     params: &Params,
     page: u64,
     head: RecordHead<'a>,
-    below: Option<Stretch<'_>>,
+    below: Option<RowSlice<'_>>,
     cursor: &mut Cursor<'a>,
     spare: &mut Row,
     row: &mut Row,
@@ -97,7 +97,7 @@ pub fn decode_into<'a>(
             page,
             head,
             None,
-            &Stretch::none(),
+            &RowSlice::none(),
             cursor,
             spare,
             row,

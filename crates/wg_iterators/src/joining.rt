@@ -11,12 +11,12 @@ ghost use Rattle.wg_iterators.specs.Laid.{IntervalsTo, ResidualsTo};
 use crate::residuals::{Residuals, page_of};
 use crate::value::{Lookahead, value};
 use std::mem::swap;
-use wg_graph::{Row, Stretch};
+use wg_graph::{Row, RowSlice};
 use wg_params::Code;
 
 // Adds the members below the bound, and answers those that are not.
 #[inline(always)]
-fn push_below<'a>(members: Stretch<'a>, bound: u64, row: &mut Row) -> Stretch<'a>
+fn push_below<'a>(members: RowSlice<'a>, bound: u64, row: &mut Row) -> RowSlice<'a>
     requires { (all : List ℕ) × (others : List ℕ) × Joining all row.old.list members others
         × Ascends bound others × (length all ≤ row.old.room) }
     ensures joining { (all others : List ℕ) → Joining all row.old.list members.entry others → Ascends bound others
@@ -41,7 +41,7 @@ fn join_intervals(
     page: u64,
     least: u64,
     count: u64,
-    members: Stretch<'_>,
+    members: RowSlice<'_>,
     cursor: &mut Lookahead<'_>,
     row: &mut Row,
 )
@@ -73,7 +73,7 @@ fn join_intervals(
 
 // Adds the members and the residuals, and tells how many bits stand behind the last.
 #[inline(always)]
-fn join_residuals<'a>(residuals: Residuals<'a>, members: Stretch<'_>, row: &mut Row) -> u64
+fn join_residuals<'a>(residuals: Residuals<'a>, members: RowSlice<'_>, row: &mut Row) -> u64
     requires joinable { AreJoinable members residuals.list }
     requires room { length row.old.list + length (union_of members residuals.list) ≤ row.old.room }
     ensures list { row.new.list ≡ row.old.list ++ union_of members.entry residuals.entry.list }
@@ -120,7 +120,7 @@ pub(crate) fn add_intervals(
         return;
     }
     spare.clear();
-    join_intervals(page, least, count, row.stretch(), cursor, spare);
+    join_intervals(page, least, count, row.as_row_slice(), cursor, spare);
     swap(spare, row);
 }
 
@@ -154,7 +154,7 @@ pub(crate) fn add_residuals(
     }
     let residuals = Residuals::new(cursor, code, page, count);
     spare.clear();
-    let behind = join_residuals(residuals, row.stretch(), spare);
+    let behind = join_residuals(residuals, row.as_row_slice(), spare);
     swap(spare, row);
     behind
 }

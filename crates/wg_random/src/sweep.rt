@@ -17,7 +17,7 @@ use std::alloc::{AllocError, Global};
 use std::marker::Model;
 use std::mem::swap;
 use wg_bits::{Bits, Cursor};
-use wg_graph::{Lists, Row, Stretch};
+use wg_graph::{Lists, Row, RowSlice};
 use wg_iterators::{decode_into, read_head};
 use wg_params::Params;
 use wg_stream::PagesError;
@@ -120,7 +120,7 @@ fn keep(kept: &mut [Row], turn: u64, list: &mut Row) -> u64
 
 // The list of the page so many pages before the one that comes next, which is as many rows back; none for 0.
 #[inline(always)]
-fn list_back(kept: &[Row], turn: u64, back: u64) -> Option<Stretch<'_>>
+fn list_back(kept: &[Row], turn: u64, back: u64) -> Option<RowSlice<'_>>
     requires turn { 0 < length kept.now → turn < length kept.now }
     requires reach { back ≤ length kept.now }
     ensures below { (records : ListOf Whole) (page : ℕ) → back ≤ page → AreKept records page kept.now turn
@@ -132,7 +132,7 @@ fn list_back(kept: &[Row], turn: u64, back: u64) -> Option<Stretch<'_>>
         return None;
     }
     let row = row_back(turn, kept.len() as u64, back);
-    Some(kept[row as usize].stretch())
+    Some(kept[row as usize].as_row_slice())
 }
 
 // Decodes the record of a page, which begins at the bit `at`, into the row, and tells where it ends.

@@ -7,13 +7,13 @@ use std::marker::Model;
 /// Numbers of a [`Row`](crate::Row), one after the other, that are lent. What stands behind them in the row's memory is
 /// there to be read, and has no meaning: so they are copied in whole pieces.
 #[derive(Drop)]
-pub struct Stretch<'a> {
+pub struct RowSlice<'a> {
     // these, and a piece at least behind them
     numbers: &'a [u64],
     count: usize,
 }
 
-impl<'a> Model for Stretch<'a> {
+impl<'a> Model for RowSlice<'a> {
     ghost use Rattle.std.specs.Prelude.{List, ℕ, ◌+◌, ◌≤◌, length, take};
     ghost use Rattle.wg_graph.specs.declared.pieces.TheConstants.{PIECE};
 
@@ -24,13 +24,13 @@ impl<'a> Model for Stretch<'a> {
     ghost invariant = { λ s. s.count + PIECE ≤ length s.numbers.now };
 }
 
-impl<'a> Stretch<'a> {
+impl<'a> RowSlice<'a> {
     /// No numbers.
     #[inline(always)]
-    pub fn none() -> Stretch<'a>
+    pub fn none() -> RowSlice<'a>
         ensures { result ≡ [] }
     {
-        Stretch {
+        RowSlice {
             numbers: &[0; PIECE],
             count: 0,
         }
@@ -38,11 +38,11 @@ impl<'a> Stretch<'a> {
 
     // The first of these numbers, behind which there are others.
     #[inline(always)]
-    pub(crate) fn new(numbers: &'a [u64], count: usize) -> Stretch<'a>
+    pub(crate) fn new(numbers: &'a [u64], count: usize) -> RowSlice<'a>
         requires { count + PIECE ≤ length numbers.now }
         ensures { result ≡ take count numbers.now }
     {
-        Stretch { numbers, count }
+        RowSlice { numbers, count }
     }
 
     // The numbers, and a piece at least behind them.
@@ -64,13 +64,13 @@ impl<'a> Stretch<'a> {
 
     /// Those from `start` on, before `end`.
     #[inline(always)]
-    pub fn part(&self, start: usize, end: usize) -> Stretch<'a>
+    pub fn part(&self, start: usize, end: usize) -> RowSlice<'a>
         requires order { start ≤ end }
         requires within { end ≤ length self.now }
         ensures value { result ≡ slice_range self.now start end }
         ensures count { length result ≡ end - start }
     {
-        Stretch {
+        RowSlice {
             numbers: &self.numbers[start..],
             count: end - start,
         }
@@ -78,13 +78,13 @@ impl<'a> Stretch<'a> {
 
     /// The first number and those behind it; none if there are no numbers.
     #[inline(always)]
-    pub fn split_first(&self) -> Option<(u64, Stretch<'a>)>
+    pub fn split_first(&self) -> Option<(u64, RowSlice<'a>)>
         ensures { MatchOption result (self.now ≡ []) (λ r. self.now ≡ r.0 ∷ r.1) }
     {
         if self.count == 0 {
             return None;
         }
-        let others = Stretch {
+        let others = RowSlice {
             numbers: &self.numbers[1..],
             count: self.count - 1,
         };
