@@ -15,7 +15,7 @@ use Rattle.wg_graph.specs.Digraph.{Digraph}
 use Rattle.wg_words.specs.declared.jobs.Job.{Job}
 use Rattle.wg_words.specs.declared.jobs.Job.TheVariants.{Build}
 use Rattle.wg_arcs.specs.declared.fault.ArcsKind.{ArcsKind}
-use Rattle.wg_words.specs.declared.layout.Layout.{Layout}
+use Rattle.wg_params.specs.declared.layout.Layout.{Layout}
 use Rattle.wg_jobs.specs.Judged.{builds, greedy_line, written_by}
 use Rattle.wg_readings.specs.Judged.{Judged, Written, an_archive, a_certificate, files_of, output_of, status_of}
 use Rattle.wg_readings.specs.Loading.{LoadsList}

@@ -3,7 +3,7 @@ use Rattle.std.proofs.Common.{◌≡◌, ◌+◌, ◌≤◌, ◌∙◌, Bool, tr
 use Rattle.std.specs.List.{count_by, range_with_len}
 use Rattle.std.proofs.lemmas.Option.{same_Some}
 use Rattle.wg_io.specs.Outside.{Files, Counts}
-use Rattle.wg_params.specs.Parameters.{Parameters, IsWithinLimits}
+use Rattle.wg_params.specs.Parameters.{Parameters, IsWithinLimits, params_of}
 use Rattle.wg_params.specs.declared.limits.TheConstants.{MOST_ARCS, MOST_PAGES}
 use Rattle.wg_properties.specs.Judged.{properties_of}
 use Rattle.wg_properties.specs.Text.{text_of}
@@ -21,8 +21,8 @@ use Rattle.wg_encoder.proofs.Accepted.{greedy_accepted}
 use Rattle.wg_encoder.proofs.ProperRecord.{canonical_proper}
 use Rattle.wg_rank.specs.Sum.{sum_below}
 use Rattle.wg_order.proofs.Counts.{count_range}
-use Rattle.wg_words.specs.Layouts.{default_layout, params_of}
-use Rattle.wg_words.specs.declared.layout.Layout.{Layout}
+use Rattle.wg_words.specs.Layouts.{default_layout}
+use Rattle.wg_params.specs.declared.layout.Layout.{Layout}
 use Rattle.wg_words.proofs.LayoutLemmas.{layout_for_any}
 use Rattle.wg_readings.specs.Answers.{IsHindrance}
 use Rattle.wg_readings.specs.Causes.{AreFaultless}

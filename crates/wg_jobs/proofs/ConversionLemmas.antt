@@ -1,7 +1,7 @@
 -- What a recoding or a transposing comes to, read again.
 use Rattle.std.proofs.Common.{◌≡◌, ℕ, ◌≤◌, List, refl, sym, ap, subst, ◌∙◌}
 use Rattle.wg_params.specs.declared.limits.TheConstants.{MOST_ARCS, MOST_PAGES}
-use Rattle.wg_params.specs.Parameters.{Parameters, IsWithinLimits}
+use Rattle.wg_params.specs.Parameters.{Parameters, IsWithinLimits, params_of}
 use Rattle.wg_graph.specs.Digraph.{Digraph, IsGraph, arc_count}
 use Rattle.wg_encoder.proofs.Accepted.{greedy_accepted}
 use Rattle.wg_encoder.proofs.ProperRecord.{canonical_proper}
@@ -9,9 +9,8 @@ use Rattle.wg_arcs.specs.Text.{text_of_graph}
 use Rattle.wg_transpose.specs.Transposed.{transposed}
 use Rattle.wg_transpose.proofs.Reversed.{gives_back, is_proper}
 use Rattle.wg_transpose.proofs.Totals.{as_many}
-use Rattle.wg_words.specs.Layouts.{params_of}
 use Rattle.wg_words.specs.declared.jobs.Job.TheVariants.{Check}
-use Rattle.wg_words.specs.declared.layout.Layout.{Layout}
+use Rattle.wg_params.specs.declared.layout.Layout.{Layout}
 use Rattle.wg_words.proofs.LayoutLemmas.{layout_for_any}
 use Rattle.wg_jobs.specs.Built.{holding, ConversionsAreAccepted}
 use Rattle.wg_jobs.specs.Judged.{builds, greedy_line, judged}

@@ -4,16 +4,15 @@ use Rattle.std.specs.Bool.{IsTrue}
 use Rattle.std.proofs.lemmas.Option.{same_Some}
 use Rattle.wg_io.specs.declared.limits.TheConstants.{MOST_BYTES}
 use Rattle.wg_num.specs.Lines.{lines_of}
-use Rattle.wg_params.specs.Parameters.{IsWithinLimits}
+use Rattle.wg_params.specs.Parameters.{IsWithinLimits, params_of}
 use Rattle.wg_graph.specs.Digraph.{Digraph}
 use Rattle.wg_ascii.specs.Laws.{HaveSameWords}
 use Rattle.wg_ascii.specs.Reading.{IsDecided, StandsFor}
 use Rattle.wg_ascii.specs.Text as plain
 use Rattle.wg_ascii.specs.declared.fault.AsciiKind.{AsciiKind}
 use Rattle.wg_ascii.proofs.ReadBack as texts
-use Rattle.wg_words.specs.Layouts.{params_of}
 use Rattle.wg_words.specs.declared.jobs.Job.TheVariants.{Ascii, Import, Recode}
-use Rattle.wg_words.specs.declared.layout.Layout.{Layout}
+use Rattle.wg_params.specs.declared.layout.Layout.{Layout}
 use Rattle.wg_readings.specs.Answers.{Answers}
 use Rattle.wg_readings.specs.Judged.{Archive, Judged, accepted, built, output_of, status_of, text_then, unless_bad_text, with_text}
 use Rattle.wg_readings.specs.Loading.{IsBadText, LoadsText}

@@ -15,7 +15,7 @@ use Rattle.wg_graph.specs.Digraph.{Digraph}
 use Rattle.wg_grammar.specs.declared.fault.ArchiveFault.{ArchiveFault}
 use Rattle.wg_grammar.specs.declared.fault.ArchiveFault.TheVariants as archive
 use Rattle.wg_words.specs.declared.jobs.Job.{Job}
-use Rattle.wg_words.specs.declared.layout.Layout.{Layout}
+use Rattle.wg_params.specs.declared.layout.Layout.{Layout}
 use Rattle.wg_jobs.specs.Reached.{Reaches}
 use Rattle.wg_readings.specs.Answers.{Answers, IsHindrance, IsUnput, Steps, status_in, without}
 use Rattle.wg_jobs.specs.Judged.{builds, judged}

@@ -6,7 +6,7 @@ use Rattle.wg_graph.specs.Digraph.{Digraph}
 use Rattle.wg_shape.specs.Quotient.{quotient_of}
 use Rattle.wg_words.specs.declared.jobs.Job.{Job}
 use Rattle.wg_words.specs.declared.jobs.Job.TheVariants.{Quotient}
-use Rattle.wg_words.specs.declared.layout.Layout.{Layout}
+use Rattle.wg_params.specs.declared.layout.Layout.{Layout}
 use Rattle.wg_readings.specs.Answers.{status_in}
 use Rattle.wg_readings.specs.Judged.{Judged, map_then}
 use Rattle.wg_readings.specs.Loading.{IsBadMap, LoadsGraph, LoadsMap, LoadsParams}

@@ -8,16 +8,15 @@ use Rattle.wg_io.specs.Puts.{Puts}
 use Rattle.wg_io.specs.declared.output.Output.{Output}
 use Rattle.wg_io.specs.declared.output.Output.TheVariants.{Certificate, Out}
 use Rattle.wg_io.proofs.FilesLemmas.{none_falls-trans}
-use Rattle.wg_params.specs.Parameters.{Parameters}
+use Rattle.wg_params.specs.Parameters.{Parameters, params_of}
 use Rattle.wg_graph.specs.Digraph.{Digraph}
 use Rattle.wg_encoder.specs.Archive.{graph_bits}
 use Rattle.wg_grammar.specs.Archive.{Accepted}
 use Rattle.wg_grammar.specs.Laws.{graph_of}
 use Rattle.wg_grammar.proofs.ProperGraphs.{arcs_promised}
-use Rattle.wg_words.specs.Layouts.{params_of}
 use Rattle.wg_words.specs.declared.jobs.Job.{Job}
 use Rattle.wg_words.specs.declared.jobs.Job.TheVariants.{Recode}
-use Rattle.wg_words.specs.declared.layout.Layout.{Layout}
+use Rattle.wg_params.specs.declared.layout.Layout.{Layout}
 use Rattle.wg_jobs.specs.Reached.{Reaches}
 use Rattle.wg_readings.specs.Answers.{IsUnput, status_in}
 use Rattle.wg_jobs.specs.Copying.{Copies}

@@ -16,7 +16,7 @@ use Rattle.wg_grammar.specs.declared.fault.ArchiveFault.TheVariants as archive
 use Rattle.wg_shape.specs.Graphs.{union_graph}
 use Rattle.wg_words.specs.declared.jobs.Job.{Job}
 use Rattle.wg_words.specs.declared.jobs.Job.TheVariants.{Union}
-use Rattle.wg_words.specs.declared.layout.Layout.{Layout}
+use Rattle.wg_params.specs.declared.layout.Layout.{Layout}
 use Rattle.wg_readings.specs.Answers.{Answers, IsHindrance, status_in, without}
 use Rattle.wg_readings.specs.Causes.{HasCause, IncreasedAt}
 use Rattle.wg_readings.specs.Judged.{Judged, accepted, built, certified, refused, status_of, with_archive}

@@ -2,7 +2,7 @@
 use Rattle.std.specs.Prelude.{◌≡◌, ℕ, ◌≤◌, List, length, Option, Some, None}
 use Rattle.wg_io.specs.declared.limits.TheConstants.{MOST_BYTES}
 use Rattle.wg_params.specs.declared.limits.TheConstants.{MOST_PAGES}
-use Rattle.wg_params.specs.Parameters.{Parameters, IsWithinLimits}
+use Rattle.wg_params.specs.Parameters.{Parameters, IsWithinLimits, params_of}
 use Rattle.wg_graph.specs.Digraph.{Digraph, IsGraph, arc_count}
 use Rattle.wg_offsets.specs.Words.{places_of}
 use Rattle.wg_encoder.specs.Archive.{graph_bits, offset_values}
@@ -11,9 +11,8 @@ use Rattle.wg_arcs.specs.Reading.{arcs_in}
 use Rattle.wg_arcs.specs.Text.{text_of_arcs, text_of_graph}
 use Rattle.wg_ascii.specs.Laws.{HaveSameWords}
 use Rattle.wg_ascii.specs.Text as plain
-use Rattle.wg_words.specs.Layouts.{params_of}
 use Rattle.wg_words.specs.declared.jobs.Job.TheVariants.{Check, Arcs, Ascii, Offsets, Show, Rank, Build, Import, Quotient, Recode, Transpose}
-use Rattle.wg_words.specs.declared.layout.Layout.{Layout}
+use Rattle.wg_params.specs.declared.layout.Layout.{Layout}
 use Rattle.wg_readings.specs.Readings.{Readings}
 use Rattle.wg_jobs.specs.Ranked.{bounds_after, ranking_text}
 use Rattle.wg_jobs.specs.Written.{greedy_archive}

@@ -8,7 +8,7 @@ use Rattle.wg_io.specs.declared.output.Output.TheVariants.{Certificate}
 use Rattle.wg_graph.specs.Digraph.{Digraph}
 use Rattle.wg_rank.specs.Intervals.{Intervals}
 use Rattle.wg_words.specs.declared.jobs.Job.{Job}
-use Rattle.wg_words.specs.declared.layout.Layout.{Layout}
+use Rattle.wg_params.specs.declared.layout.Layout.{Layout}
 use Rattle.wg_jobs.specs.Reached.{Reaches}
 use Rattle.wg_readings.specs.Answers.{Answers, HasOutput, status_in}
 use Rattle.wg_readings.specs.Causes.{HasCause}

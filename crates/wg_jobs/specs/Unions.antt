@@ -1,12 +1,11 @@
 -- What is proved of the archive of a union.
 use Rattle.std.specs.Prelude.{◌≡◌, ℕ, List, Option}
-use Rattle.wg_params.specs.Parameters.{IsWithinLimits}
+use Rattle.wg_params.specs.Parameters.{IsWithinLimits, params_of}
 use Rattle.wg_graph.specs.Digraph.{Digraph}
 use Rattle.wg_shape.specs.Graphs.{IsUnion}
 use Rattle.wg_arcs.specs.Text.{text_of_graph}
-use Rattle.wg_words.specs.Layouts.{params_of}
 use Rattle.wg_words.specs.declared.jobs.Job.TheVariants.{Arcs, Check, Union}
-use Rattle.wg_words.specs.declared.layout.Layout.{Layout}
+use Rattle.wg_params.specs.declared.layout.Layout.{Layout}
 use Rattle.wg_readings.specs.Judged.{Archive, accepted, built}
 use Rattle.wg_readings.specs.Readings.{Readings}
 use Rattle.wg_readings.specs.Second.{second_held}

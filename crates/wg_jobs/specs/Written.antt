@@ -4,15 +4,14 @@ use Rattle.std.specs.FinMap as map
 use Rattle.wg_io.specs.Outside.{Files, Counts}
 use Rattle.wg_io.specs.declared.output.Output.{Output}
 use Rattle.wg_io.specs.declared.output.Output.TheVariants as output
-use Rattle.wg_params.specs.Parameters.{Parameters}
+use Rattle.wg_params.specs.Parameters.{Parameters, params_of}
 use Rattle.wg_properties.specs.Text.{text_of}
 use Rattle.wg_graph.specs.Digraph.{Digraph, arc_count}
 use Rattle.wg_encoder.specs.Archive.{graph_file, offsets_file}
 use Rattle.wg_encoder.specs.Gone.{HoldsFront, HoldsLess}
 use Rattle.wg_encoder.specs.declared.error.EncodeError.{EncodeError}
 use Rattle.wg_encoder.specs.declared.error.EncodeError.TheVariants as error
-use Rattle.wg_words.specs.Layouts.{params_of}
-use Rattle.wg_words.specs.declared.layout.Layout.{Layout}
+use Rattle.wg_params.specs.declared.layout.Layout.{Layout}
 use Rattle.wg_readings.specs.Causes.{IncreasedAt}
 use Rattle.wg_readings.specs.Judged.{Archive, Written, an_archive, a_certificate}
 use Rattle.wg_readings.specs.Names.{archive_named}

@@ -1,8 +1,7 @@
 //! The command `build`: an archive from a list of arcs.
 ghost use Rattle.std.specs.Prelude.{◌≤◌};
-ghost use Rattle.wg_params.specs.Parameters.{IsWithinLimits};
+ghost use Rattle.wg_params.specs.Parameters.{IsWithinLimits, params_of};
 ghost use Rattle.wg_params.specs.declared.limits.TheConstants.{MOST_PAGES};
-ghost use Rattle.wg_words.specs.Layouts.{params_of};
 ghost use Rattle.wg_words.specs.declared.jobs.Job.TheVariants.{Build};
 ghost use Rattle.wg_jobs.specs.Performs.{DoesOrEnds};
 
@@ -10,7 +9,8 @@ use crate::building::build_archive;
 use std::alloc::Global;
 use wg_io::{Depot, Sink};
 use wg_readings::{Ending, load_list};
-use wg_words::{Layout, Name};
+use wg_params::Layout;
+use wg_words::Name;
 
 /// Writes the greedy archive of a graph that is listed arc by arc, and prints the line of what it holds. It judges
 /// the whole list before it touches a file, and holds its bytes until then; then it holds 8 bytes an arc and 8 a

@@ -1,8 +1,7 @@
 //! The archive of a graph, in the layout that the options give, and the line of what it holds.
 ghost use Rattle.std.specs.Prelude.{◌≡◌, ◌≤◌};
-ghost use Rattle.wg_params.specs.Parameters.{IsWithinLimits};
+ghost use Rattle.wg_params.specs.Parameters.{IsWithinLimits, params_of};
 ghost use Rattle.wg_params.specs.declared.limits.TheConstants.{MOST_ARCS, MOST_PAGES};
-ghost use Rattle.wg_words.specs.Layouts.{params_of};
 ghost use Rattle.wg_jobs.specs.Performs.{Builds};
 
 use crate::print::print_ok;
@@ -10,9 +9,9 @@ use crate::writing::write_archive;
 use std::alloc::Global;
 use wg_graph::Graph;
 use wg_io::{Depot, Sink};
-use wg_params::Params;
+use wg_params::{Layout, Params};
 use wg_readings::Ending;
-use wg_words::{Layout, Name};
+use wg_words::Name;
 
 /// Writes the greedy archive of a graph, and prints the line of what it holds. Beside the graph it holds one record,
 /// and buffers of 8192 bytes.
@@ -40,21 +39,7 @@ pub fn params_of(layout: &Layout, nodes: u64, arcs: u64) -> Params
     requires arcs { arcs ≤ MOST_ARCS }
     ensures { result ≡ params_of layout.now nodes arcs }
 {
-    let made = Params::new(
-        nodes,
-        arcs,
-        layout.window,
-        layout.chain,
-        layout.interval,
-        layout.zeta,
-        layout.outdegrees,
-        layout.references,
-        layout.block_counts,
-        layout.blocks,
-        layout.residuals,
-        layout.offsets,
-    );
-    match made {
+    match Params::new(nodes, arcs, *layout) {
         Ok(params) => params,
         Err(_) => unreachable!(),
     }

@@ -22,7 +22,7 @@ use wg_params::Params;
 use wg_rank::Bounds;
 use wg_readings::{Ending, Status, judge_files, load_graph, load_params};
 use wg_vectors::generate;
-use wg_words::{DEFAULT_DAMPING, Layout, Name};
+use wg_words::{DEFAULT_DAMPING, Name, usual_layout};
 
 // The most bytes that a call moves.
 const PIECE: u64 = 1 << 16;
@@ -70,7 +70,7 @@ fn build(
     ensures only { IfErr result (λ e. e.status ≡ Status.Memory) }
 {
     let graph = drawn(alloc, seed, pages)?;
-    let params = params_of(&Layout::usual(), graph.nodes(), graph.arcs());
+    let params = params_of(&usual_layout(), graph.nodes(), graph.arcs());
     let summary = write_archive(alloc, &params, &graph, base, depot)?;
     Ok(summary.referring)
 }

@@ -1,6 +1,5 @@
 //! The command `import`: an archive from the plain text of a graph.
-ghost use Rattle.wg_params.specs.Parameters.{IsWithinLimits};
-ghost use Rattle.wg_words.specs.Layouts.{params_of};
+ghost use Rattle.wg_params.specs.Parameters.{IsWithinLimits, params_of};
 ghost use Rattle.wg_words.specs.declared.jobs.Job.TheVariants.{Import};
 ghost use Rattle.wg_jobs.specs.Performs.{DoesOrEnds};
 
@@ -8,7 +7,8 @@ use crate::building::build_archive;
 use std::alloc::Global;
 use wg_io::{Depot, Sink};
 use wg_readings::{Ending, load_text};
-use wg_words::{Layout, Name};
+use wg_params::Layout;
+use wg_words::Name;
 
 /// Writes the greedy archive of a graph that is listed page by page, and prints the line of what it holds. It judges
 /// the whole text before it touches a file, and holds its bytes until then; then it holds 8 bytes an arc and 8 a

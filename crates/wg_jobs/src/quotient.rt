@@ -1,10 +1,9 @@
 //! The command `quotient`: an archive of the graph of classes of pages.
 ghost use Rattle.std.specs.Prelude.{◌≡◌, ◌≤◌, IfErr, IfOk, length};
-ghost use Rattle.wg_params.specs.Parameters.{IsWithinLimits};
+ghost use Rattle.wg_params.specs.Parameters.{IsWithinLimits, params_of};
 ghost use Rattle.wg_params.specs.declared.limits.TheConstants.{MOST_PAGES};
 ghost use Rattle.wg_graph.specs.Ascending.{Below};
 ghost use Rattle.wg_shape.specs.Quotient.{quotient_of};
-ghost use Rattle.wg_words.specs.Layouts.{params_of};
 ghost use Rattle.wg_words.specs.declared.jobs.Job.TheVariants.{Quotient};
 ghost use Rattle.wg_jobs.specs.Performs.{DoesOrEnds};
 
@@ -13,7 +12,8 @@ use std::alloc::Global;
 use wg_graph::{Graph, List};
 use wg_io::{Depot, Sink};
 use wg_readings::{Ending, Status, load_graph, load_map, load_params};
-use wg_words::{Layout, Name};
+use wg_params::Layout;
+use wg_words::Name;
 
 /// Writes the greedy archive of the graph of classes of an archive's pages, in the layout that is given, and prints the
 /// line of what it holds: an arc leads from class to class exactly if one leads from a page of the first to a page of

@@ -1,11 +1,10 @@
 //! The command `recode`: an archive of the same graph in another layout.
 ghost use Rattle.std.specs.Prelude.{◌≡◌, IsTrue, IfOk, IfErr, length};
 ghost use Rattle.wg_io.specs.Suffixes.{graph_name};
-ghost use Rattle.wg_params.specs.Parameters.{IsWithinLimits};
+ghost use Rattle.wg_params.specs.Parameters.{IsWithinLimits, params_of};
 ghost use Rattle.wg_encoder.specs.Archive.{graph_bits};
 ghost use Rattle.wg_grammar.specs.Archive.{Accepted};
 ghost use Rattle.wg_words.specs.Files.{IsNoFileOf, ShareNoFile};
-ghost use Rattle.wg_words.specs.Layouts.{params_of};
 ghost use Rattle.wg_words.specs.declared.jobs.Job.TheVariants.{Recode};
 ghost use Rattle.wg_jobs.specs.Copying.{Copies, IsGraphIn, LeavesCopy, copy_of};
 ghost use Rattle.wg_readings.specs.Names.{archive_named};
@@ -18,9 +17,9 @@ use crate::print::print_ok;
 use crate::writing::{create_files, properties_text, write_properties};
 use std::alloc::Global;
 use wg_io::{Depot, PROPERTIES, Sink};
-use wg_params::Params;
+use wg_params::{Layout, Params};
 use wg_readings::{Ending, file_name, judge_graph, load_params};
-use wg_words::{Layout, Name};
+use wg_words::Name;
 
 /// Writes the greedy archive of an archive's graph, in the layout that is given, and prints the line of what it
 /// holds. It goes through the graph file twice: it judges the whole graph before it touches a file. It holds a piece

@@ -1,8 +1,7 @@
 //! The command `transpose`: an archive of the transposed graph.
 ghost use Rattle.std.specs.Prelude.{◌≡◌, IfErr, IfOk};
-ghost use Rattle.wg_params.specs.Parameters.{IsWithinLimits};
+ghost use Rattle.wg_params.specs.Parameters.{IsWithinLimits, params_of};
 ghost use Rattle.wg_transpose.specs.Transposed.{transposed};
-ghost use Rattle.wg_words.specs.Layouts.{params_of};
 ghost use Rattle.wg_words.specs.declared.jobs.Job.TheVariants.{Transpose};
 ghost use Rattle.wg_jobs.specs.Performs.{DoesOrEnds};
 
@@ -11,7 +10,8 @@ use std::alloc::Global;
 use wg_graph::Graph;
 use wg_io::{Depot, Sink};
 use wg_readings::{Ending, Status, load_graph, load_params};
-use wg_words::{Layout, Name};
+use wg_params::Layout;
+use wg_words::Name;
 
 /// Writes the greedy archive of an archive's graph with each arc the other way round, in the layout that is given,
 /// and prints the line of what it holds. It judges the whole graph before it touches a file; it holds 16 bytes an

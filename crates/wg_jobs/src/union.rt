@@ -1,12 +1,11 @@
 //! The command `union`: an archive of the arcs of two.
 ghost use Rattle.std.specs.Prelude.{◌≡◌, ◌⊎◌, ◌<◌, ◌≤◌, IfErr, IfOk};
-ghost use Rattle.wg_params.specs.Parameters.{IsWithinLimits};
+ghost use Rattle.wg_params.specs.Parameters.{IsWithinLimits, params_of};
 ghost use Rattle.wg_params.specs.declared.limits.TheConstants.{MOST_ARCS, MOST_PAGES};
 ghost use Rattle.wg_graph.specs.Digraph.{arc_count};
 ghost use Rattle.wg_grammar.specs.Archive.{Accepted};
 ghost use Rattle.wg_grammar.specs.Laws.{graph_of};
 ghost use Rattle.wg_shape.specs.Graphs.{union_graph};
-ghost use Rattle.wg_words.specs.Layouts.{params_of};
 ghost use Rattle.wg_words.specs.declared.jobs.Job.TheVariants.{Union};
 ghost use Rattle.wg_jobs.specs.Loaded.{IsLoaded};
 ghost use Rattle.wg_jobs.specs.Performs.{DoesOrEnds};
@@ -19,7 +18,8 @@ use wg_io::{Depot, Sink};
 use wg_random::Sweep;
 use wg_readings::{Ending, Status};
 use wg_shape::{ShapeError, union_of_lists};
-use wg_words::{Layout, Name};
+use wg_params::Layout;
+use wg_words::Name;
 
 /// Writes the greedy archive of the union of two archives' graphs, in the layout that is given, and prints the line of
 /// what it holds. All of the first archive is judged before the second is read, and both before a file is touched. It

@@ -4,6 +4,8 @@ use Rattle.wg_params.specs.declared.limits.TheConstants.{MOST_PAGES, MOST_ARCS, 
 use Rattle.wg_params.specs.declared.code.Code.{Code}
 use Rattle.wg_params.specs.declared.key.Key.{Key}
 use Rattle.wg_params.specs.declared.key.Key.TheVariants as key
+use Rattle.wg_params.specs.declared.layout.Codes.{Codes}
+use Rattle.wg_params.specs.declared.layout.Layout.{Layout}
 use Rattle.wg_params.specs.Codes.{is_gamma_or_delta, is_unary_gamma_or_delta, is_residual_code}
 
 -- Pages and arcs; how many pages back a reference may reach; how many references may lead from one page to the next,
@@ -23,6 +25,40 @@ pub record Parameters : Type 0 where
   pub residuals : Code
   pub offsets : Code
 
+-- those of an archive that is written so, with so many pages and arcs
+abbrev pub params_of : Layout → ℕ → ℕ → Parameters
+params_of l nodes arcs = record {
+  nodes = nodes;
+  arcs = arcs;
+  window = l.window;
+  chain = l.chain;
+  interval = l.interval;
+  zeta = l.zeta;
+  outdegrees = l.codes.outdegrees;
+  references = l.codes.references;
+  block_counts = l.codes.block_counts;
+  blocks = l.codes.blocks;
+  residuals = l.codes.residuals;
+  offsets = l.codes.offsets;
+}
+
+-- how an archive with these parameters is written
+abbrev pub layout_of : Parameters → Layout
+layout_of p = record {
+  window = p.window;
+  chain = p.chain;
+  interval = p.interval;
+  zeta = p.zeta;
+  codes = record {
+    outdegrees = p.outdegrees;
+    references = p.references;
+    block_counts = p.block_counts;
+    blocks = p.blocks;
+    residuals = p.residuals;
+    offsets = p.offsets;
+  };
+}
+
 -- each field is in a code that it may have
 abbrev pub has_its_codes : Parameters → Bool
 has_its_codes p =
@@ -40,6 +76,15 @@ first_bad p =
     else if p.zeta == 0 || nat_lt MOST_ZETA p.zeta then Some key.ZetaK
     else if not (has_its_codes p) then Some key.CompressionFlags
     else None
+
+-- each field is in a code that it may have, with this shrinking factor
+pub record AreCodes (zeta : ℕ) (c : Codes) : Type 0 where
+  pub outdegrees : is_gamma_or_delta c.outdegrees ≡ true
+  pub references : is_unary_gamma_or_delta c.references ≡ true
+  pub block_counts : is_unary_gamma_or_delta c.block_counts ≡ true
+  pub blocks : is_gamma_or_delta c.blocks ≡ true
+  pub residuals : is_residual_code zeta c.residuals ≡ true
+  pub offsets : is_gamma_or_delta c.offsets ≡ true
 
 -- all keys are within their limits
 pub record IsWithinLimits (p : Parameters) : Type 0 where

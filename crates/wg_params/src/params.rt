@@ -1,11 +1,11 @@
 ghost use Rattle.std.specs.Prelude.{◌≡◌, ◌≤◌, true, if◌then◌else◌, IfOk, IfErr, Some, None, unwrap_or};
 ghost use Rattle.std.specs.Option.{ForSome};
 ghost use Rattle.wg_params.specs.Codes.{IsCode, is_gamma_or_delta, is_unary_gamma_or_delta, is_residual_code};
-ghost use Rattle.wg_params.specs.Parameters.{Parameters, IsWithinLimits, has_its_codes, first_bad};
+ghost use Rattle.wg_params.specs.Parameters.{AreCodes, IsWithinLimits, params_of, layout_of, has_its_codes, first_bad};
 ghost use Rattle.wg_params.specs.declared.limits.TheConstants.{MOST_PAGES, MOST_ARCS, MOST_WINDOW, MOST_CHAIN, MOST_INTERVAL, MOST_ZETA};
 
 use crate::limits::{MOST_ARCS, MOST_CHAIN, MOST_INTERVAL, MOST_PAGES, MOST_WINDOW, MOST_ZETA};
-use crate::{BadParam, Code, Key};
+use crate::{BadParam, Code, Key, Layout};
 use std::marker::Model;
 
 /// The parameters of one archive, within their limits.
@@ -13,67 +13,19 @@ use std::marker::Model;
 pub struct Params {
     nodes: u64,
     arcs: u64,
-    window: u64,
-    chain: Option<u64>,
-    interval: u64,
-    zeta: u32,
-    outdegrees: Code,
-    references: Code,
-    block_counts: Code,
-    blocks: Code,
-    residuals: Code,
-    offsets: Code,
+    layout: Layout,
 }
 
 impl Model for Params {
-    ghost use Rattle.wg_params.specs.Parameters.{Parameters, IsWithinLimits};
+    ghost use Rattle.wg_params.specs.Parameters.{Parameters, IsWithinLimits, params_of, layout_of};
 
     ghost Value = { Parameters };
 
-    ghost view = { λ p. record {
-      nodes = p.nodes;
-      arcs = p.arcs;
-      window = p.window;
-      chain = p.chain;
-      interval = p.interval;
-      zeta = p.zeta;
-      outdegrees = p.outdegrees;
-      references = p.references;
-      block_counts = p.block_counts;
-      blocks = p.blocks;
-      residuals = p.residuals;
-      offsets = p.offsets;
-    } };
+    ghost view = { λ p. params_of p.layout p.nodes p.arcs };
 
-    ghost invariant = { λ p. IsWithinLimits (record {
-      nodes = p.nodes;
-      arcs = p.arcs;
-      window = p.window;
-      chain = p.chain;
-      interval = p.interval;
-      zeta = p.zeta;
-      outdegrees = p.outdegrees;
-      references = p.references;
-      block_counts = p.block_counts;
-      blocks = p.blocks;
-      residuals = p.residuals;
-      offsets = p.offsets;
-    }) };
+    ghost invariant = { λ p. IsWithinLimits (params_of p.layout p.nodes p.arcs) };
 
-    ghost inverse = { λ p. record {
-      nodes = p.nodes;
-      arcs = p.arcs;
-      window = p.window;
-      chain = p.chain;
-      interval = p.interval;
-      zeta = p.zeta;
-      outdegrees = p.outdegrees;
-      references = p.references;
-      block_counts = p.block_counts;
-      blocks = p.blocks;
-      residuals = p.residuals;
-      offsets = p.offsets;
-    } };
+    ghost inverse = { λ p. record { nodes = p.nodes; arcs = p.arcs; layout = layout_of p } };
 }
 
 fn is_gamma_or_delta(code: Code) -> bool
@@ -105,35 +57,25 @@ fn is_residual_code(zeta: u32, code: Code) -> bool
 }
 
 // The first of these keys that is out of its limits.
-fn first_bad_number(
-    nodes: u64,
-    arcs: u64,
-    window: u64,
-    chain: Option<u64>,
-    interval: u64,
-    zeta: u32,
-) -> Option<Key>
-    ensures bad { (p : Parameters) → p.nodes ≡ nodes → p.arcs ≡ arcs → p.window ≡ window → p.chain ≡ chain
-        → p.interval ≡ interval → p.zeta ≡ zeta
-        → ForSome result (λ key. first_bad p ≡ Some key) }
-    ensures good { (p : Parameters) → p.nodes ≡ nodes → p.arcs ≡ arcs → p.window ≡ window → p.chain ≡ chain
-        → p.interval ≡ interval → p.zeta ≡ zeta
-        → result ≡ None → first_bad p ≡ (if has_its_codes p then None else Some Key.CompressionFlags) }
-    ensures within { result ≡ None → (nodes ≤ MOST_PAGES) × (arcs ≤ MOST_ARCS) × (window ≤ MOST_WINDOW)
-        × (unwrap_or chain 0 ≤ MOST_CHAIN)
-        × (interval ≤ MOST_INTERVAL) × (1 ≤ zeta) × (zeta ≤ MOST_ZETA) }
+fn first_bad_number(nodes: u64, arcs: u64, layout: &Layout) -> Option<Key>
+    ensures bad { ForSome result (λ key. first_bad (params_of layout.now nodes arcs) ≡ Some key) }
+    ensures good { result ≡ None → first_bad (params_of layout.now nodes arcs)
+        ≡ (if has_its_codes (params_of layout.now nodes arcs) then None else Some Key.CompressionFlags) }
+    ensures within { result ≡ None → (nodes ≤ MOST_PAGES) × (arcs ≤ MOST_ARCS)
+        × (layout.now.window ≤ MOST_WINDOW) × (unwrap_or layout.now.chain 0 ≤ MOST_CHAIN)
+        × (layout.now.interval ≤ MOST_INTERVAL) × (1 ≤ layout.now.zeta) × (layout.now.zeta ≤ MOST_ZETA) }
 {
     if nodes > MOST_PAGES {
         Some(Key::Nodes)
     } else if arcs > MOST_ARCS {
         Some(Key::Arcs)
-    } else if window > MOST_WINDOW {
+    } else if layout.window > MOST_WINDOW {
         Some(Key::WindowSize)
-    } else if chain.unwrap_or(0) > MOST_CHAIN {
+    } else if layout.chain.unwrap_or(0) > MOST_CHAIN {
         Some(Key::MaxRefCount)
-    } else if interval > MOST_INTERVAL {
+    } else if layout.interval > MOST_INTERVAL {
         Some(Key::MinIntervalLength)
-    } else if zeta == 0 || zeta > MOST_ZETA {
+    } else if layout.zeta == 0 || layout.zeta > MOST_ZETA {
         Some(Key::ZetaK)
     } else {
         None
@@ -141,89 +83,30 @@ fn first_bad_number(
 }
 
 // Whether each field is in a code that it may have.
-fn has_its_codes(
-    zeta: u32,
-    outdegrees: Code,
-    references: Code,
-    block_counts: Code,
-    blocks: Code,
-    residuals: Code,
-    offsets: Code,
-) -> bool
-    ensures value { (p : Parameters) → p.zeta ≡ zeta → p.outdegrees ≡ outdegrees → p.references ≡ references
-        → p.block_counts ≡ block_counts → p.blocks ≡ blocks → p.residuals ≡ residuals → p.offsets ≡ offsets
-        → has_its_codes p ≡ result }
-    ensures within { result ≡ true → (is_gamma_or_delta outdegrees ≡ true) × (is_unary_gamma_or_delta references ≡ true)
-        × (is_unary_gamma_or_delta block_counts ≡ true) × (is_gamma_or_delta blocks ≡ true)
-        × (is_residual_code zeta residuals ≡ true) × (is_gamma_or_delta offsets ≡ true) }
+fn has_its_codes(layout: &Layout) -> bool
+    ensures value { result ≡ has_its_codes (params_of layout.now 0 0) }
+    ensures within { result ≡ true → AreCodes layout.now.zeta layout.now.codes }
 {
-    is_gamma_or_delta(outdegrees)
-        && is_unary_gamma_or_delta(references)
-        && is_unary_gamma_or_delta(block_counts)
-        && is_gamma_or_delta(blocks)
-        && is_residual_code(zeta, residuals)
-        && is_gamma_or_delta(offsets)
+    is_gamma_or_delta(layout.codes.outdegrees)
+        && is_unary_gamma_or_delta(layout.codes.references)
+        && is_unary_gamma_or_delta(layout.codes.block_counts)
+        && is_gamma_or_delta(layout.codes.blocks)
+        && is_residual_code(layout.zeta, layout.codes.residuals)
+        && is_gamma_or_delta(layout.codes.offsets)
 }
 
 impl Params {
-    /// The parameters, where each is within its limits; a code that its field may not have counts as the compression
-    /// flags.
-    pub fn new(
-        nodes: u64,
-        arcs: u64,
-        window: u64,
-        chain: Option<u64>,
-        interval: u64,
-        zeta: u32,
-        outdegrees: Code,
-        references: Code,
-        block_counts: Code,
-        blocks: Code,
-        residuals: Code,
-        offsets: Code,
-    ) -> Result<Params, BadParam>
-        ensures ok { IfOk result (λ p. p ≡ record {
-          nodes = nodes;
-          arcs = arcs;
-          window = window;
-          chain = chain;
-          interval = interval;
-          zeta = zeta;
-          outdegrees = outdegrees;
-          references = references;
-          block_counts = block_counts;
-          blocks = blocks;
-          residuals = residuals;
-          offsets = offsets;
-        }) }
+    /// The parameters of an archive of so many pages and arcs in this layout, if each is within its limits; a code that
+    /// its field may not have counts as the compression flags.
+    pub fn new(nodes: u64, arcs: u64, layout: Layout) -> Result<Params, BadParam>
+        ensures ok { IfOk result (λ p. p ≡ params_of layout nodes arcs) }
         ensures within { IfOk result (λ p. first_bad p ≡ None) }
-        ensures bad { let given : Parameters = record {
-          nodes = nodes;
-          arcs = arcs;
-          window = window;
-          chain = chain;
-          interval = interval;
-          zeta = zeta;
-          outdegrees = outdegrees;
-          references = references;
-          block_counts = block_counts;
-          blocks = blocks;
-          residuals = residuals;
-          offsets = offsets;
-        } in IfErr result (λ e. first_bad given ≡ Some e.key) }
+        ensures bad { IfErr result (λ e. first_bad (params_of layout nodes arcs) ≡ Some e.key) }
     {
-        if let Some(key) = first_bad_number(nodes, arcs, window, chain, interval, zeta) {
+        if let Some(key) = first_bad_number(nodes, arcs, &layout) {
             return Err(BadParam { key });
         }
-        if !has_its_codes(
-            zeta,
-            outdegrees,
-            references,
-            block_counts,
-            blocks,
-            residuals,
-            offsets,
-        ) {
+        if !has_its_codes(&layout) {
             return Err(BadParam {
                 key: Key::CompressionFlags,
             });
@@ -231,16 +114,7 @@ impl Params {
         Ok(Params {
             nodes,
             arcs,
-            window,
-            chain,
-            interval,
-            zeta,
-            outdegrees,
-            references,
-            block_counts,
-            blocks,
-            residuals,
-            offsets,
+            layout,
         })
     }
 
@@ -261,12 +135,19 @@ impl Params {
         self.arcs
     }
 
+    /// How the archive is written.
+    pub fn layout(&self) -> Layout
+        ensures { result ≡ layout_of self.now }
+    {
+        self.layout
+    }
+
     /// How many pages back a reference may reach; 0 means that no record has a reference.
     pub fn window(&self) -> u64
         ensures value { result ≡ self.now.window }
         ensures within { self.now.window ≤ MOST_WINDOW }
     {
-        self.window
+        self.layout.window
     }
 
     /// How many references may lead from one page to the next, or none for any number.
@@ -274,7 +155,7 @@ impl Params {
         ensures value { result ≡ self.now.chain }
         ensures within { unwrap_or self.now.chain 0 ≤ MOST_CHAIN }
     {
-        self.chain
+        self.layout.chain
     }
 
     /// The least length of an interval; 0 means that no record has intervals.
@@ -282,7 +163,7 @@ impl Params {
         ensures value { result ≡ self.now.interval }
         ensures within { self.now.interval ≤ MOST_INTERVAL }
     {
-        self.interval
+        self.layout.interval
     }
 
     /// The shrinking factor of zeta codes.
@@ -290,7 +171,7 @@ impl Params {
         ensures value { result ≡ self.now.zeta }
         ensures within { (1 ≤ self.now.zeta) × (self.now.zeta ≤ MOST_ZETA) }
     {
-        self.zeta
+        self.layout.zeta
     }
 
     /// The code of outdegrees.
@@ -298,7 +179,7 @@ impl Params {
         ensures value { result ≡ self.now.outdegrees }
         ensures code { IsCode self.now.outdegrees }
     {
-        self.outdegrees
+        self.layout.codes.outdegrees
     }
 
     /// The code of references.
@@ -306,7 +187,7 @@ impl Params {
         ensures value { result ≡ self.now.references }
         ensures code { IsCode self.now.references }
     {
-        self.references
+        self.layout.codes.references
     }
 
     /// The code of block counts.
@@ -314,7 +195,7 @@ impl Params {
         ensures value { result ≡ self.now.block_counts }
         ensures code { IsCode self.now.block_counts }
     {
-        self.block_counts
+        self.layout.codes.block_counts
     }
 
     /// The code of blocks.
@@ -322,7 +203,7 @@ impl Params {
         ensures value { result ≡ self.now.blocks }
         ensures code { IsCode self.now.blocks }
     {
-        self.blocks
+        self.layout.codes.blocks
     }
 
     /// The code of residuals.
@@ -330,7 +211,7 @@ impl Params {
         ensures value { result ≡ self.now.residuals }
         ensures code { IsCode self.now.residuals }
     {
-        self.residuals
+        self.layout.codes.residuals
     }
 
     /// The code of the words of an offsets file.
@@ -339,6 +220,6 @@ impl Params {
         ensures code { IsCode self.now.offsets }
         ensures kind { is_gamma_or_delta self.now.offsets ≡ true }
     {
-        self.offsets
+        self.layout.codes.offsets
     }
 }

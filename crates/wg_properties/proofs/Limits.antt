@@ -4,7 +4,7 @@ use Rattle.std.specs.Str.{bytes_eq}
 use Rattle.std.proofs.lemmas.Bool.{ltb-false, le-ltb, ne_eqb}
 use Rattle.wg_num.specs.Decimal.{number_of}
 use Rattle.wg_params.specs.Codes.{is_gamma_or_delta, is_unary_gamma_or_delta, is_residual_code}
-use Rattle.wg_params.specs.Parameters.{Parameters, IsWithinLimits, first_bad}
+use Rattle.wg_params.specs.Parameters.{Parameters, AreCodes, IsWithinLimits, first_bad}
 use Rattle.wg_params.specs.declared.key.Key.{Key}
 use Rattle.wg_params.specs.declared.key.Key.TheVariants as key
 use Rattle.wg_params.specs.declared.limits.TheConstants.{MOST_PAGES, MOST_ARCS, MOST_WINDOW, MOST_CHAIN, MOST_INTERVAL, MOST_ZETA}
@@ -12,7 +12,7 @@ use Rattle.wg_properties.specs.Flags.{default_codes, with_flag, codes_from, code
 use Rattle.wg_properties.specs.Judged.{and_then, within, judged_number, judged_chain, judged_zeta, judged_flags}
 use Rattle.wg_properties.specs.declared.fault.PropFault.{PropFault}
 use Rattle.wg_properties.specs.declared.fault.PropFault.TheVariants as fault
-use Rattle.wg_properties.specs.declared.flags.Codes.{Codes}
+use Rattle.wg_params.specs.declared.layout.Codes.{Codes}
 use Rattle.wg_properties.specs.declared.flags.Flag.{Flag}
 use Rattle.wg_properties.specs.declared.flags.Flag.TheVariants.{OutdegreesGamma, OutdegreesDelta, BlocksGamma, BlocksDelta, ReferencesUnary, ReferencesGamma, ReferencesDelta, BlockCountUnary, BlockCountGamma, BlockCountDelta, ResidualsGamma, ResidualsDelta, ResidualsZeta, ResidualsNibble, OffsetsGamma, OffsetsDelta}
 
@@ -47,15 +47,6 @@ chain_ok (Some text) chain e = at (bytes_eq text (codes "-1")) e
     at : (t : Bool) → cond t (Ok None) (and_then (within key.MaxRefCount 0 MOST_CHAIN (number_of text)) (λ n. Ok (Some n))) ≡ Ok chain → unwrap_or chain 0 ≤ MOST_CHAIN
     at true e = let same : None ≡ chain = cc in subst (λ o. unwrap_or o 0 ≤ MOST_CHAIN) same (omega arith)
     at false e = some (within key.MaxRefCount 0 MOST_CHAIN (number_of text)) refl e
-
--- each field is in a code that it may have
-pub record AreCodes (zeta : ℕ) (c : Codes) : Type 0 where
-  pub outdegrees : is_gamma_or_delta c.outdegrees ≡ true
-  pub references : is_unary_gamma_or_delta c.references ≡ true
-  pub block_counts : is_unary_gamma_or_delta c.block_counts ≡ true
-  pub blocks : is_gamma_or_delta c.blocks ≡ true
-  pub residuals : is_residual_code zeta c.residuals ≡ true
-  pub offsets : is_gamma_or_delta c.offsets ≡ true
 
 flag_keeps : (zeta : ℕ) (c : Codes) (flag : Flag) → AreCodes zeta c → AreCodes zeta (with_flag zeta c flag)
 flag_keeps zeta c OutdegreesGamma a = record { outdegrees = refl; references = a.references; block_counts = a.block_counts; blocks = a.blocks; residuals = a.residuals; offsets = a.offsets }

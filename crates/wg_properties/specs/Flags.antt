@@ -5,7 +5,7 @@ use Rattle.std.specs.Str.{bytes_eq}
 use Rattle.wg_params.specs.declared.code.Code.TheVariants.{Unary, Gamma, Delta, Zeta, Nibble}
 use Rattle.wg_properties.specs.declared.fault.PropFault.{PropFault}
 use Rattle.wg_properties.specs.declared.fault.PropFault.TheVariants as fault
-use Rattle.wg_properties.specs.declared.flags.Codes.{Codes}
+use Rattle.wg_params.specs.declared.layout.Codes.{Codes}
 use Rattle.wg_properties.specs.declared.flags.Flag.{Flag}
 use Rattle.wg_properties.specs.declared.flags.Flag.TheVariants.{OutdegreesGamma, OutdegreesDelta, BlocksGamma, BlocksDelta, ReferencesUnary, ReferencesGamma, ReferencesDelta, BlockCountUnary, BlockCountGamma, BlockCountDelta, ResidualsGamma, ResidualsDelta, ResidualsZeta, ResidualsNibble, OffsetsGamma, OffsetsDelta}
 use Rattle.wg_properties.specs.declared.flags.TheConstants.{FLAGS}

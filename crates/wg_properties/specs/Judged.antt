@@ -12,7 +12,7 @@ use Rattle.wg_properties.specs.Pairs.{first_continued, pairs_of, value_of}
 use Rattle.wg_properties.specs.Words.{name_of, class_name, long_class_name}
 use Rattle.wg_properties.specs.declared.fault.PropFault.{PropFault}
 use Rattle.wg_properties.specs.declared.fault.PropFault.TheVariants as fault
-use Rattle.wg_properties.specs.declared.flags.Codes.{Codes}
+use Rattle.wg_params.specs.declared.layout.Codes.{Codes}
 
 -- a fault, or what comes next
 abbrev pub and_then : {A B : Type 0} → Result A PropFault → (A → Result B PropFault) → Result B PropFault

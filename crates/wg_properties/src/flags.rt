@@ -4,7 +4,7 @@ ghost use Rattle.wg_properties.specs.Words.{word_of};
 
 use crate::PropFault;
 use wg_num::{without_blanks_after, without_blanks_before};
-use wg_params::Code;
+use wg_params::{Code, Codes};
 
 /// A compression flag: a field, and the code that it is in.
 #[derive(Clone, Copy, Debug, PartialEq, Eq)]
@@ -46,73 +46,6 @@ pub const FLAGS: [Flag; 16] = [
     Flag::OffsetsGamma,
     Flag::OffsetsDelta,
 ];
-
-/// The code of each field.
-#[derive(Clone, Copy, Debug)]
-pub struct Codes {
-    pub outdegrees: Code,
-    pub references: Code,
-    pub block_counts: Code,
-    pub blocks: Code,
-    pub residuals: Code,
-    pub offsets: Code,
-}
-
-impl Codes {
-    fn with_outdegrees(self, code: Code) -> Codes
-        ensures { result ≡ record self { outdegrees = code } }
-    {
-        Codes {
-            outdegrees: code,
-            ..self
-        }
-    }
-
-    fn with_references(self, code: Code) -> Codes
-        ensures { result ≡ record self { references = code } }
-    {
-        Codes {
-            references: code,
-            ..self
-        }
-    }
-
-    fn with_block_counts(self, code: Code) -> Codes
-        ensures { result ≡ record self { block_counts = code } }
-    {
-        Codes {
-            block_counts: code,
-            ..self
-        }
-    }
-
-    fn with_blocks(self, code: Code) -> Codes
-        ensures { result ≡ record self { blocks = code } }
-    {
-        Codes {
-            blocks: code,
-            ..self
-        }
-    }
-
-    fn with_residuals(self, code: Code) -> Codes
-        ensures { result ≡ record self { residuals = code } }
-    {
-        Codes {
-            residuals: code,
-            ..self
-        }
-    }
-
-    fn with_offsets(self, code: Code) -> Codes
-        ensures { result ≡ record self { offsets = code } }
-    {
-        Codes {
-            offsets: code,
-            ..self
-        }
-    }
-}
 
 /// The word that stands for a flag.
 #[tactic(auto, unfolding(crate::specs::Words::word_of))]
@@ -157,24 +90,26 @@ pub fn default_codes(zeta: u32) -> Codes
 pub fn with_flag(zeta: u32, codes: Codes, flag: Flag) -> Codes
     ensures { result ≡ with_flag zeta codes flag }
 {
+    let mut new = codes;
     match flag {
-        Flag::OutdegreesGamma => codes.with_outdegrees(Code::Gamma),
-        Flag::OutdegreesDelta => codes.with_outdegrees(Code::Delta),
-        Flag::BlocksGamma => codes.with_blocks(Code::Gamma),
-        Flag::BlocksDelta => codes.with_blocks(Code::Delta),
-        Flag::ReferencesUnary => codes.with_references(Code::Unary),
-        Flag::ReferencesGamma => codes.with_references(Code::Gamma),
-        Flag::ReferencesDelta => codes.with_references(Code::Delta),
-        Flag::BlockCountUnary => codes.with_block_counts(Code::Unary),
-        Flag::BlockCountGamma => codes.with_block_counts(Code::Gamma),
-        Flag::BlockCountDelta => codes.with_block_counts(Code::Delta),
-        Flag::ResidualsGamma => codes.with_residuals(Code::Gamma),
-        Flag::ResidualsDelta => codes.with_residuals(Code::Delta),
-        Flag::ResidualsZeta => codes.with_residuals(Code::Zeta(zeta)),
-        Flag::ResidualsNibble => codes.with_residuals(Code::Nibble),
-        Flag::OffsetsGamma => codes.with_offsets(Code::Gamma),
-        Flag::OffsetsDelta => codes.with_offsets(Code::Delta),
+        Flag::OutdegreesGamma => new.outdegrees = Code::Gamma,
+        Flag::OutdegreesDelta => new.outdegrees = Code::Delta,
+        Flag::BlocksGamma => new.blocks = Code::Gamma,
+        Flag::BlocksDelta => new.blocks = Code::Delta,
+        Flag::ReferencesUnary => new.references = Code::Unary,
+        Flag::ReferencesGamma => new.references = Code::Gamma,
+        Flag::ReferencesDelta => new.references = Code::Delta,
+        Flag::BlockCountUnary => new.block_counts = Code::Unary,
+        Flag::BlockCountGamma => new.block_counts = Code::Gamma,
+        Flag::BlockCountDelta => new.block_counts = Code::Delta,
+        Flag::ResidualsGamma => new.residuals = Code::Gamma,
+        Flag::ResidualsDelta => new.residuals = Code::Delta,
+        Flag::ResidualsZeta => new.residuals = Code::Zeta(zeta),
+        Flag::ResidualsNibble => new.residuals = Code::Nibble,
+        Flag::OffsetsGamma => new.offsets = Code::Gamma,
+        Flag::OffsetsDelta => new.offsets = Code::Delta,
     }
+    new
 }
 
 /// The flag that a word names.

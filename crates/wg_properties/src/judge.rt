@@ -5,11 +5,12 @@ ghost use Rattle.wg_properties.specs.Judged.{within, judged_class, judged_versio
 ghost use Rattle.wg_properties.specs.Values.{value_at};
 
 use crate::PropFault;
-use crate::flags::{Codes, codes_of};
+use crate::flags::codes_of;
 use crate::values::Values;
 use wg_num::read_decimal;
 use wg_params::{
-    Key, MOST_ARCS, MOST_CHAIN, MOST_INTERVAL, MOST_PAGES, MOST_WINDOW, MOST_ZETA, Params,
+    Codes, Key, Layout, MOST_ARCS, MOST_CHAIN, MOST_INTERVAL, MOST_PAGES, MOST_WINDOW, MOST_ZETA,
+    Params,
 };
 
 fn number_within(key: Key, least: u64, most: u64, text: &[u8]) -> Result<u64, PropFault>
@@ -130,21 +131,14 @@ fn judge(values: &Values) -> Result<Params, PropFault>
     let interval = judge_number(values, Key::MinIntervalLength, MOST_INTERVAL)?;
     let zeta = judge_zeta(values)?;
     let codes = judge_flags(values, zeta)?;
-    let params = Params::new(
-        nodes,
-        arcs,
+    let layout = Layout {
         window,
         chain,
         interval,
         zeta,
-        codes.outdegrees,
-        codes.references,
-        codes.block_counts,
-        codes.blocks,
-        codes.residuals,
-        codes.offsets,
-    );
-    match params {
+        codes,
+    };
+    match Params::new(nodes, arcs, layout) {
         Ok(params) => Ok(params),
         Err(bad) => Err(PropFault::Range(bad.key)),
     }

@@ -15,29 +15,17 @@ use wg_bits::{Bits, Cursor};
 use wg_decoder::{Decoded, Spares, decode_over, read_head_over};
 use wg_grammar::{ArchiveFault, Fault, Field, Kind, Referenced};
 use wg_offsets::Offsets;
-use wg_params::Params;
+use wg_params::{Layout, Params};
 
 // The same parameters without a limit on chains.
 fn endless(params: &Params) -> Params
     ensures { result ≡ endless params.now }
 {
-    // tells the limits
-    params.nodes();
-    let without = Params::new(
-        params.nodes(),
-        params.arcs(),
-        params.window(),
-        None,
-        params.interval(),
-        params.zeta(),
-        params.outdegrees(),
-        params.references(),
-        params.block_counts(),
-        params.blocks(),
-        params.residuals(),
-        params.offsets(),
-    );
-    match without {
+    let layout = Layout {
+        chain: None,
+        ..params.layout()
+    };
+    match Params::new(params.nodes(), params.arcs(), layout) {
         Ok(params) => params,
         Err(_) => unreachable!(),
     }

@@ -2,7 +2,7 @@
 ghost use Rattle.std.specs.Prelude.{◌≡◌, IfOk};
 ghost use Rattle.wg_vectors.specs.Usual.{parameters_of, usual_parameters};
 
-use wg_params::{BadParam, Code, Params};
+use wg_params::{BadParam, Code, Codes, Layout, Params};
 
 /// How far the references and the intervals of an archive go, and the codes of its fields, which `flags` tells in the
 /// words of a properties text. If no flag says otherwise, references are in unary and the other fields in gamma, but
@@ -24,20 +24,21 @@ impl Shape {
     pub fn params(&self, nodes: u64, arcs: u64) -> Result<Params, BadParam>
         ensures { IfOk result (λ p. p ≡ parameters_of self.now nodes arcs) }
     {
-        Params::new(
-            nodes,
-            arcs,
-            self.window,
-            self.chain,
-            self.interval,
-            3,
-            self.outdegrees,
-            Code::Unary,
-            Code::Gamma,
-            Code::Gamma,
-            self.residuals,
-            self.offsets,
-        )
+        let layout = Layout {
+            window: self.window,
+            chain: self.chain,
+            interval: self.interval,
+            zeta: 3,
+            codes: Codes {
+                outdegrees: self.outdegrees,
+                references: Code::Unary,
+                block_counts: Code::Gamma,
+                blocks: Code::Gamma,
+                residuals: self.residuals,
+                offsets: self.offsets,
+            },
+        };
+        Params::new(nodes, arcs, layout)
     }
 }
 

@@ -5,14 +5,15 @@ use Rattle.std.proofs.lemmas.Bool.{le-ltb}
 use Rattle.std.proofs.lemmas.Option.{none-some, same_Some, option_and_then_some}
 use Rattle.clap.specs.Words.{Row, Text, first_of}
 use Rattle.wg_params.specs.Codes.{is_gamma_or_delta, is_unary_gamma_or_delta, is_residual_code}
-use Rattle.wg_params.specs.Parameters.{Parameters, IsWithinLimits, first_bad}
+use Rattle.wg_params.specs.Parameters.{Parameters, AreCodes, IsWithinLimits, params_of, first_bad}
 use Rattle.wg_params.specs.declared.code.Code.{Code}
 use Rattle.wg_params.specs.declared.code.Code.TheVariants.{Unary, Gamma, Delta, Zeta, Nibble}
 use Rattle.wg_params.specs.declared.limits.TheConstants.{MOST_PAGES, MOST_ARCS, MOST_WINDOW, MOST_CHAIN, MOST_INTERVAL, MOST_ZETA}
 use Rattle.wg_words.specs.Values.{number_up_to, word_in}
-use Rattle.wg_words.specs.Layouts.{params_of, chain_or, factor_of, zeta_in, gamma_or_delta, unary_gamma_or_delta, residual_code, coded_in, layout_in}
+use Rattle.wg_words.specs.Layouts.{chain_or, factor_of, zeta_in, gamma_or_delta, unary_gamma_or_delta, residual_code, codes_in, layout_in}
 use Rattle.wg_words.specs.declared.defaults.TheConstants.{DEFAULT_WINDOW, DEFAULT_CHAIN, DEFAULT_INTERVAL, DEFAULT_ZETA, DEFAULT_OUTDEGREES, DEFAULT_REFERENCES, DEFAULT_BLOCK_COUNTS, DEFAULT_BLOCKS, DEFAULT_RESIDUALS, DEFAULT_OFFSETS}
-use Rattle.wg_words.specs.declared.layout.Layout.{Layout}
+use Rattle.wg_params.specs.declared.layout.Codes.{Codes}
+use Rattle.wg_params.specs.declared.layout.Layout.{Layout}
 use Rattle.wg_words.proofs.ValueLemmas.{up_to_within, number_within, first_or_other}
 
 -- gamma or delta, under whatever holds of both
@@ -61,23 +62,15 @@ zeta_within rows factor is =
     option_and_then_some _ _ factor is (λ n is_number is_factor.
     factor_within n factor (number_within DEFAULT_ZETA MOST_ZETA (first_of (codes "zeta") rows) n least is_number) is_factor)
 
-coded_within : (rows : List Row) (back : ℕ) (row : Option ℕ) (least factor : ℕ) (layout : Layout) (pages : ℕ) → pages ≤ MOST_PAGES → back ≤ MOST_WINDOW → unwrap_or row 0 ≤ MOST_CHAIN → least ≤ MOST_INTERVAL → (1 ≤ factor) × (factor ≤ MOST_ZETA) → coded_in rows back row least factor ≡ Some layout → IsWithinLimits (params_of layout pages 0)
-coded_within rows back row least factor layout pages few_pages near short small factor_in is =
-    let no_links : 0 ≤ MOST_ARCS = omega arith in
-    option_and_then_some _ _ layout is (λ outdegrees is_outdegrees then_references.
-    option_and_then_some _ _ layout then_references (λ references is_references then_counts.
-    option_and_then_some _ _ layout then_counts (λ counts is_counts then_blocks.
-    option_and_then_some _ _ layout then_blocks (λ blocks is_blocks then_residuals.
-    option_and_then_some _ _ layout then_residuals (λ residuals is_residuals then_offsets.
-    option_and_then_some _ _ layout then_offsets (λ offsets is_offsets layout_is.
-    subst (λ (l : Layout). IsWithinLimits (params_of l pages 0)) (same_Some (record { window = back; chain = row; interval = least; zeta = factor; outdegrees = outdegrees; references = references; block_counts = counts; blocks = blocks; residuals = residuals; offsets = offsets }) layout layout_is) (record {
-      nodes = few_pages;
-      arcs = no_links;
-      window = near;
-      chain = short;
-      interval = small;
-      some_zeta = factor_in.0;
-      zeta = factor_in.1;
+codes_within : (rows : List Row) (factor : ℕ) (given : Codes) → codes_in rows factor ≡ Some given → AreCodes factor given
+codes_within rows factor given is =
+    option_and_then_some _ _ given is (λ outdegrees is_outdegrees then_references.
+    option_and_then_some _ _ given then_references (λ references is_references then_counts.
+    option_and_then_some _ _ given then_counts (λ counts is_counts then_blocks.
+    option_and_then_some _ _ given then_blocks (λ blocks is_blocks then_residuals.
+    option_and_then_some _ _ given then_residuals (λ residuals is_residuals then_offsets.
+    option_and_then_some _ _ given then_offsets (λ offsets is_offsets given_is.
+    subst (AreCodes factor) (same_Some (record { outdegrees = outdegrees; references = references; block_counts = counts; blocks = blocks; residuals = residuals; offsets = offsets }) given given_is) (record {
       outdegrees = gamma_or_delta_within (word_in rows (codes "outdegrees") DEFAULT_OUTDEGREES.now) outdegrees is_outdegrees;
       references = unary_gamma_or_delta_within (word_in rows (codes "references") DEFAULT_REFERENCES.now) references is_references;
       block_counts = unary_gamma_or_delta_within (word_in rows (codes "blockcounts") DEFAULT_BLOCK_COUNTS.now) counts is_counts;
@@ -90,16 +83,29 @@ pub layout_in_within : (rows : List Row) (layout : Layout) (pages : ℕ) → pag
 layout_in_within rows layout pages few_pages is =
     let near : DEFAULT_WINDOW ≤ MOST_WINDOW = omega arith in
     let small : DEFAULT_INTERVAL ≤ MOST_INTERVAL = omega arith in
+    let no_links : 0 ≤ MOST_ARCS = omega arith in
     option_and_then_some _ _ layout is (λ window is_window then_chain.
     option_and_then_some _ _ layout then_chain (λ chain is_chain then_interval.
     option_and_then_some _ _ layout then_interval (λ interval is_interval then_zeta.
-    option_and_then_some _ _ layout then_zeta (λ zeta is_zeta is_coded.
-    coded_within rows window chain interval zeta layout pages few_pages
-    (number_within DEFAULT_WINDOW MOST_WINDOW (first_of (codes "window") rows) window near is_window)
-    (chain_within (first_of (codes "chain") rows) chain is_chain)
-    (number_within DEFAULT_INTERVAL MOST_INTERVAL (first_of (codes "interval") rows) interval small is_interval)
-    (zeta_within rows zeta is_zeta)
-    is_coded))))
+    option_and_then_some _ _ layout then_zeta (λ zeta is_zeta then_codes.
+    option_and_then_some _ _ layout then_codes (λ given is_given layout_is.
+    let factor = zeta_within rows zeta is_zeta in
+    let coded = codes_within rows zeta given is_given in
+    subst (λ (l : Layout). IsWithinLimits (params_of l pages 0)) (same_Some (record { window = window; chain = chain; interval = interval; zeta = zeta; codes = given }) layout layout_is) (record {
+      nodes = few_pages;
+      arcs = no_links;
+      window = number_within DEFAULT_WINDOW MOST_WINDOW (first_of (codes "window") rows) window near is_window;
+      chain = chain_within (first_of (codes "chain") rows) chain is_chain;
+      interval = number_within DEFAULT_INTERVAL MOST_INTERVAL (first_of (codes "interval") rows) interval small is_interval;
+      some_zeta = factor.0;
+      zeta = factor.1;
+      outdegrees = coded.outdegrees;
+      references = coded.references;
+      block_counts = coded.block_counts;
+      blocks = coded.blocks;
+      residuals = coded.residuals;
+      offsets = coded.offsets;
+    }))))))
 
 -- a layout that is within its limits for one graph is so for any, as far as its pages and arcs are
 pub layout_for_any : (layout : Layout) (pages links other_pages other_links : ℕ) → IsWithinLimits (params_of layout other_pages other_links) → pages ≤ MOST_PAGES → links ≤ MOST_ARCS → IsWithinLimits (params_of layout pages links)

@@ -2,18 +2,18 @@
 use Rattle.std.specs.Prelude.{◌≤◌, ⊤, List, Option, Some, None, option_and_then, option_map, codes, if◌then◌else◌}
 use Rattle.std.specs.Str.{bytes_eq}
 use Rattle.clap.specs.Words.{Row, Text}
-use Rattle.wg_params.specs.Parameters.{IsWithinLimits}
+use Rattle.wg_params.specs.Parameters.{IsWithinLimits, params_of}
 use Rattle.wg_params.specs.declared.limits.TheConstants.{MOST_PAGES, MOST_DAMPING, MOST_ROUNDS}
 use Rattle.wg_vectors.specs.declared.generating.TheConstants.{MOST_GENERATED}
 use Rattle.wg_words.specs.Commands.{parsed}
 use Rattle.wg_words.specs.Files.{is_file_of, overwrites, IsNoFileOf, KeepsInputs, ShareNoFile}
-use Rattle.wg_words.specs.Layouts.{params_of, layout_in}
+use Rattle.wg_words.specs.Layouts.{layout_in}
 use Rattle.wg_words.specs.Values.{name_in, number_in, numbers_in, optional_name_in, required_in, unlimited_in}
 use Rattle.wg_words.specs.declared.conversion.Conversion.{Conversion}
 use Rattle.wg_words.specs.declared.defaults.TheConstants.{DEFAULT_DAMPING, DEFAULT_ROUNDS, DEFAULT_TOP}
 use Rattle.wg_words.specs.declared.jobs.Job.{Job}
 use Rattle.wg_words.specs.declared.jobs.Job.TheVariants.{Check, Arcs, Ascii, Offsets, Show, Spot, Rank, Verify, Build, Import, Quotient, Recode, Union, Transpose, Bulk}
-use Rattle.wg_words.specs.declared.layout.Layout.{Layout}
+use Rattle.wg_params.specs.declared.layout.Layout.{Layout}
 
 -- the successors of the pages of an archive that the words name, in their order
 abbrev pub show_on : List Row → Text → Option Job

@@ -2,30 +2,13 @@
 use Rattle.std.specs.Prelude.{ℕ, ◌==◌, List, Option, Some, None, option_and_then, option_map, codes, if◌then◌else◌}
 use Rattle.std.specs.Str.{bytes_eq}
 use Rattle.clap.specs.Words.{Row, Text, first_of}
-use Rattle.wg_params.specs.Parameters.{Parameters}
 use Rattle.wg_params.specs.declared.code.Code.{Code}
 use Rattle.wg_params.specs.declared.code.Code.TheVariants.{Unary, Gamma, Delta, Zeta, Nibble}
 use Rattle.wg_params.specs.declared.limits.TheConstants.{MOST_WINDOW, MOST_CHAIN, MOST_INTERVAL, MOST_ZETA}
 use Rattle.wg_words.specs.Values.{number_up_to, number_in, word_in}
 use Rattle.wg_words.specs.declared.defaults.TheConstants.{DEFAULT_WINDOW, DEFAULT_CHAIN, DEFAULT_INTERVAL, DEFAULT_ZETA, DEFAULT_OUTDEGREES, DEFAULT_REFERENCES, DEFAULT_BLOCK_COUNTS, DEFAULT_BLOCKS, DEFAULT_RESIDUALS, DEFAULT_OFFSETS}
-use Rattle.wg_words.specs.declared.layout.Layout.{Layout}
-
--- the parameters of an archive that is written so, with so many pages and arcs
-abbrev pub params_of : Layout → ℕ → ℕ → Parameters
-params_of l pages links = record {
-  nodes = pages;
-  arcs = links;
-  window = l.window;
-  chain = l.chain;
-  interval = l.interval;
-  zeta = l.zeta;
-  outdegrees = l.outdegrees;
-  references = l.references;
-  block_counts = l.block_counts;
-  blocks = l.blocks;
-  residuals = l.residuals;
-  offsets = l.offsets;
-}
+use Rattle.wg_params.specs.declared.layout.Codes.{Codes}
+use Rattle.wg_params.specs.declared.layout.Layout.{Layout}
 
 -- how an archive is written where no option says otherwise
 abbrev pub default_layout : Layout
@@ -34,12 +17,14 @@ default_layout = record {
   chain = Some DEFAULT_CHAIN;
   interval = DEFAULT_INTERVAL;
   zeta = DEFAULT_ZETA;
-  outdegrees = Gamma;
-  references = Unary;
-  block_counts = Gamma;
-  blocks = Gamma;
-  residuals = Zeta DEFAULT_ZETA;
-  offsets = Gamma;
+  codes = record {
+    outdegrees = Gamma;
+    references = Unary;
+    block_counts = Gamma;
+    blocks = Gamma;
+    residuals = Zeta DEFAULT_ZETA;
+    offsets = Gamma;
+  };
 }
 
 -- none for no limit, or the limit
@@ -80,15 +65,15 @@ residual_code factor word =
     else if bytes_eq word (codes "nibble") then Some Nibble
     else gamma_or_delta word
 
--- the layout with these numbers and the codes that the options give
-abbrev pub coded_in : List Row → ℕ → Option ℕ → ℕ → ℕ → Option Layout
-coded_in rows back row least factor =
+-- the codes that the options give, with this shrinking factor: none where a word is unknown
+abbrev pub codes_in : List Row → ℕ → Option Codes
+codes_in rows factor =
     option_and_then (λ outdegrees.
     option_and_then (λ references.
     option_and_then (λ counts.
     option_and_then (λ blocks.
     option_and_then (λ residuals.
-    option_and_then (λ offsets. Some (record { window = back; chain = row; interval = least; zeta = factor; outdegrees = outdegrees; references = references; block_counts = counts; blocks = blocks; residuals = residuals; offsets = offsets }))
+    option_and_then (λ offsets. Some (record { outdegrees = outdegrees; references = references; block_counts = counts; blocks = blocks; residuals = residuals; offsets = offsets }))
     (gamma_or_delta (word_in rows (codes "offsets") DEFAULT_OFFSETS.now)))
     (residual_code factor (word_in rows (codes "residuals") DEFAULT_RESIDUALS.now)))
     (gamma_or_delta (word_in rows (codes "blocks") DEFAULT_BLOCKS.now)))
@@ -102,7 +87,9 @@ layout_in rows =
     option_and_then (λ window.
     option_and_then (λ chain.
     option_and_then (λ interval.
-    option_and_then (λ zeta. coded_in rows window chain interval zeta)
+    option_and_then (λ zeta.
+    option_and_then (λ given. Some (record { window = window; chain = chain; interval = interval; zeta = zeta; codes = given }))
+    (codes_in rows zeta))
     (zeta_in rows))
     (number_in rows (codes "interval") DEFAULT_INTERVAL MOST_INTERVAL))
     (chain_in rows))

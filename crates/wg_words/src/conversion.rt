@@ -2,11 +2,12 @@ ghost use Rattle.std.specs.Prelude.{◌≡◌, IfOk};
 ghost use Rattle.clap.specs.Words.{rows_of, found_of};
 ghost use Rattle.wg_words.specs.Jobs.{conversion_in, conversion_from};
 
+use crate::Name;
 use crate::options::layout_at;
 use crate::values::name_at;
-use crate::{Layout, Name};
 use clap::ArgMatches;
 use std::alloc::{AllocError, Global};
+use wg_params::Layout;
 
 /// What a command is given that reads one archive and writes another.
 #[derive(Drop)]

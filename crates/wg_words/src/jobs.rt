@@ -1,6 +1,7 @@
-use crate::{Layout, Name};
+use crate::Name;
 use thiserror::Error;
 use wg_graph::List;
+use wg_params::Layout;
 
 /// What the words ask for.
 #[derive(Drop)]

@@ -23,8 +23,8 @@
 //! Ok(())
 //! ```
 //!
-//! A command that writes an archive takes the options of `options`, and its job has a [`Layout`]: what the words say of
-//! the archive's parameters, all but the numbers of pages and arcs. No such job reads one of the files that it writes.
+//! A command that writes an archive takes the options of `options`, and its job has a [`Layout`](wg_params::Layout): what
+//! the words say of the archive's parameters, all but the numbers of pages and arcs. No such job reads one of the files that it writes.
 //! What `recode` and `transpose` take is one `Conversion`, which becomes the job of either.
 //!
 //! `rank` and `verify` may name a file of weights. The certificate that `rank` writes is none of the files that it
@@ -55,6 +55,6 @@ mod words;
 pub use asked::job;
 pub use defaults::{DEFAULT_DAMPING, DEFAULT_ROUNDS, DEFAULT_TOP};
 pub use jobs::{Job, JobError};
-pub use layout::Layout;
+pub use layout::usual_layout;
 pub use name::Name;
 pub use words::Words;

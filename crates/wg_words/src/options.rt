@@ -1,8 +1,7 @@
 ghost use Rattle.std.specs.Prelude.{◌≡◌, option_map};
 ghost use Rattle.clap.specs.Words.{rows_of, found_of};
-ghost use Rattle.wg_words.specs.Layouts.{chain_of, chain_or, chain_in, factor_of, zeta_in, coded_in, layout_in};
+ghost use Rattle.wg_words.specs.Layouts.{chain_of, chain_or, chain_in, factor_of, zeta_in, codes_in, layout_in};
 
-use crate::Layout;
 use crate::codes::{gamma_or_delta, residual_code, unary_gamma_or_delta};
 use crate::defaults::{
     DEFAULT_BLOCK_COUNTS, DEFAULT_BLOCKS, DEFAULT_CHAIN, DEFAULT_INTERVAL, DEFAULT_OFFSETS,
@@ -10,7 +9,7 @@ use crate::defaults::{
 };
 use crate::values::{number_at, number_up_to, text_at, word_at};
 use clap::ArgMatches;
-use wg_params::{MOST_CHAIN, MOST_INTERVAL, MOST_WINDOW, MOST_ZETA};
+use wg_params::{Codes, Layout, MOST_CHAIN, MOST_INTERVAL, MOST_WINDOW, MOST_ZETA};
 
 /// The layout that the options of an archive that is written give: none where one is out of its range.
 pub fn layout_at(found: &ArgMatches<'_>) -> Option<Layout>
@@ -20,7 +19,14 @@ pub fn layout_at(found: &ArgMatches<'_>) -> Option<Layout>
     let chain = chain_at(found)?;
     let interval = number_at(found, "interval", DEFAULT_INTERVAL, MOST_INTERVAL)?;
     let zeta = zeta_at(found)?;
-    coded_at(found, window, chain, interval, zeta)
+    let codes = codes_at(found, zeta)?;
+    Some(Layout {
+        window,
+        chain,
+        interval,
+        zeta,
+        codes,
+    })
 }
 
 // How many references may lead from one page to the next: inside, none for any number.
@@ -65,15 +71,9 @@ fn factor_of(zeta: u32) -> Option<u32>
     Some(zeta)
 }
 
-// The layout with these numbers and the codes that the options give.
-fn coded_at(
-    found: &ArgMatches<'_>,
-    window: u64,
-    chain: Option<u64>,
-    interval: u64,
-    zeta: u32,
-) -> Option<Layout>
-    ensures { result ≡ coded_in (rows_of (found_of found.now)) window chain interval zeta }
+// The codes that the options give, with this shrinking factor: none where a word is unknown.
+fn codes_at(found: &ArgMatches<'_>, zeta: u32) -> Option<Codes>
+    ensures { result ≡ codes_in (rows_of (found_of found.now)) zeta }
 {
     let outdegrees = gamma_or_delta(word_at(found, "outdegrees", DEFAULT_OUTDEGREES))?;
     let references = unary_gamma_or_delta(word_at(found, "references", DEFAULT_REFERENCES))?;
@@ -81,11 +81,7 @@ fn coded_at(
     let blocks = gamma_or_delta(word_at(found, "blocks", DEFAULT_BLOCKS))?;
     let residuals = residual_code(zeta, word_at(found, "residuals", DEFAULT_RESIDUALS))?;
     let offsets = gamma_or_delta(word_at(found, "offsets", DEFAULT_OFFSETS))?;
-    Some(Layout {
-        window,
-        chain,
-        interval,
-        zeta,
+    Some(Codes {
         outdegrees,
         references,
         block_counts,

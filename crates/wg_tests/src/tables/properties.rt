@@ -1,7 +1,8 @@
 use std::alloc::{AllocError, Global};
 use std::test::Fail;
-use wg_params::{Code, Key, Params};
+use wg_params::{Code, Codes, Key, Layout, Params};
 use wg_properties::{PropFault, key_name, read, write};
+use wg_vectors::usual;
 
 const ALL_BUT_NODES: &[u8] =
     b"#BVGraph properties\ngraphclass=it.unimi.dsi.webgraph.BVGraph\nversion=0\narcs=4\nwindowsize=7\nmaxrefcount=3\nminintervallength=4\nzetak=3\ncompressionflags=\n";
@@ -217,20 +218,7 @@ fn keys_that_are_missing(rt: HostRuntime) {
 
 #[test]
 fn text_of_the_defaults(rt: HostRuntime) -> Result<(), Fail> {
-    let params = Params::new(
-        3,
-        4,
-        7,
-        Some(3),
-        4,
-        3,
-        Code::Gamma,
-        Code::Unary,
-        Code::Gamma,
-        Code::Gamma,
-        Code::Zeta(3),
-        Code::Gamma,
-    )?;
+    let params = usual(3, 4, 7, 3, 4)?;
     let text = write(rt.alloc(), &params)?;
     assert_eq!(rt;
         text.as_slice(),
@@ -241,20 +229,22 @@ fn text_of_the_defaults(rt: HostRuntime) -> Result<(), Fail> {
 
 #[test]
 fn text_of_other_codes(rt: HostRuntime) -> Result<(), Fail> {
-    let params = Params::new(
-        0,
-        0,
-        0,
-        None,
-        0,
-        5,
-        Code::Delta,
-        Code::Gamma,
-        Code::Unary,
-        Code::Gamma,
-        Code::Nibble,
-        Code::Delta,
-    )?;
+    let codes = Codes {
+        outdegrees: Code::Delta,
+        references: Code::Gamma,
+        block_counts: Code::Unary,
+        blocks: Code::Gamma,
+        residuals: Code::Nibble,
+        offsets: Code::Delta,
+    };
+    let layout = Layout {
+        window: 0,
+        chain: None,
+        interval: 0,
+        zeta: 5,
+        codes,
+    };
+    let params = Params::new(0, 0, layout)?;
     let text = write(rt.alloc(), &params)?;
     assert_eq!(rt;
         text.as_slice(),

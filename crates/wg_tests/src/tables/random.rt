@@ -8,9 +8,9 @@ use std::sync::ledger::{Blank, Ledger};
 use std::test::Fail;
 use wg_graph::Lists;
 use wg_iterators::Successors;
-use wg_params::{BadParam, Code, Params};
+use wg_params::{BadParam, Layout, Params};
 use wg_random::{Archive, ListError, OpenError, Records, Steps, Sweep};
-use wg_vectors::{ARCHIVES, Archive as Worked, LONGER, bytes_of};
+use wg_vectors::{ARCHIVES, Archive as Worked, LONGER, bytes_of, usual};
 
 // What is wanted of a page: its list, if there is one, and why it is not opened, if it is not.
 #[derive(Drop)]
@@ -130,22 +130,12 @@ fn each_page_of_an_archive(rt: HostRuntime) -> Result<(), Fail> {
 
 // Parameters in the usual codes, where references may lead on without end.
 fn endless(nodes: u64, arcs: u64) -> Result<Params, BadParam> {
-    let unary = Code::Unary;
-    let gamma = Code::Gamma;
-    Params::new(
-        nodes,
-        arcs,
-        7,
-        None,
-        4,
-        3,
-        gamma,
-        unary,
-        gamma,
-        gamma,
-        Code::Zeta(3),
-        gamma,
-    )
+    let layout = usual(nodes, arcs, 7, 0, 4)?.layout();
+    let endless = Layout {
+        chain: None,
+        ..layout
+    };
+    Params::new(nodes, arcs, endless)
 }
 
 // Page 0 has the successors 0 and 1 as residuals, and each later page copies the page before it.

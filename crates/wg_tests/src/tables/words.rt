@@ -7,7 +7,8 @@ mod lines;
 use lines::{
     BUILDS, CONVERSIONS, JOBS, NO_BUILDS, NO_CONVERSIONS, NO_JOBS, NO_QUOTIENTS, QUOTIENTS,
 };
-use wg_words::{Job, JobError, Layout, Name, Words, job};
+use wg_params::Layout;
+use wg_words::{Job, JobError, Name, Words, job};
 
 // The words of a line, parted by blanks.
 fn words_of(alloc: Global, line: &str) -> Result<Words, AllocError> {

@@ -11,10 +11,10 @@ returns-in_err-summary-clause-only c =
 
 pub returns-clause-built : goal.returns-clause-built
 returns-clause-built c =
-    built _ _ _ _ _ _ c.params_of-params.ensures c.usual.ensures.value c.nodes.ensures.value c.arcs.ensures.value c.in_ok-graph.ensures.exact c.args.base.now _
-    c.nodes.ensures.proper c.nodes.ensures.within c.arcs.ensures.within c.usual.ensures.within (c.in_ok-summary.ensures.ok refl)
+    built _ _ _ _ _ _ c.params_of-params.ensures c.usual_layout.ensures.value c.nodes.ensures.value c.arcs.ensures.value c.in_ok-graph.ensures.exact c.args.base.now _
+    c.nodes.ensures.proper c.nodes.ensures.within c.arcs.ensures.within c.usual_layout.ensures.within (c.in_ok-summary.ensures.ok refl)
 
 pub returns-clause-referring : goal.returns-clause-referring
 returns-clause-referring c =
-    referring_written _ _ _ _ _ _ c.params_of-params.ensures c.usual.ensures.value c.nodes.ensures.value c.arcs.ensures.value c.in_ok-graph.ensures.exact c.in_ok-summary.summary
+    referring_written _ _ _ _ _ _ c.params_of-params.ensures c.usual_layout.ensures.value c.nodes.ensures.value c.arcs.ensures.value c.in_ok-graph.ensures.exact c.in_ok-summary.summary
     c.in_ok-summary.ensures.summary

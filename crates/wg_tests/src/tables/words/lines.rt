@@ -113,23 +113,23 @@ pub const NO_JOBS: [&str; 57] = [
 pub const BUILDS: [(&str, &str); 5] = [
     (
         "build g.arcs g --nodes 1",
-        "build 1 g.arcs Layout { window: 7, chain: Some(3), interval: 4, zeta: 3, outdegrees: Gamma, references: Unary, block_counts: Gamma, blocks: Gamma, residuals: Zeta(3), offsets: Gamma } g.graph",
+        "build 1 g.arcs Layout { window: 7, chain: Some(3), interval: 4, zeta: 3, codes: Codes { outdegrees: Gamma, references: Unary, block_counts: Gamma, blocks: Gamma, residuals: Zeta(3), offsets: Gamma } } g.graph",
     ),
     (
         "build --window 0 --chain=0 --interval 2147483647 --zeta 31 --outdegrees delta --references gamma --blockcounts unary --blocks delta --residuals nibble --offsets delta --nodes=68719476735 a b",
-        "build 68719476735 a Layout { window: 0, chain: Some(0), interval: 2147483647, zeta: 31, outdegrees: Delta, references: Gamma, block_counts: Unary, blocks: Delta, residuals: Nibble, offsets: Delta } b.graph",
+        "build 68719476735 a Layout { window: 0, chain: Some(0), interval: 2147483647, zeta: 31, codes: Codes { outdegrees: Delta, references: Gamma, block_counts: Unary, blocks: Delta, residuals: Nibble, offsets: Delta } } b.graph",
     ),
     (
         "build a b --nodes 0 --chain none --zeta 5 --references delta --blockcounts delta",
-        "build 0 a Layout { window: 7, chain: None, interval: 4, zeta: 5, outdegrees: Gamma, references: Delta, block_counts: Delta, blocks: Gamma, residuals: Zeta(5), offsets: Gamma } b.graph",
+        "build 0 a Layout { window: 7, chain: None, interval: 4, zeta: 5, codes: Codes { outdegrees: Gamma, references: Delta, block_counts: Delta, blocks: Gamma, residuals: Zeta(5), offsets: Gamma } } b.graph",
     ),
     (
         "import g.txt g --zeta 5",
-        "import g.txt Layout { window: 7, chain: Some(3), interval: 4, zeta: 5, outdegrees: Gamma, references: Unary, block_counts: Gamma, blocks: Gamma, residuals: Zeta(5), offsets: Gamma } g.graph",
+        "import g.txt Layout { window: 7, chain: Some(3), interval: 4, zeta: 5, codes: Codes { outdegrees: Gamma, references: Unary, block_counts: Gamma, blocks: Gamma, residuals: Zeta(5), offsets: Gamma } } g.graph",
     ),
     (
         "build --residuals delta --nodes 3 --chain 2147483647 --window 65535 -- -a g",
-        "build 3 -a Layout { window: 65535, chain: Some(2147483647), interval: 4, zeta: 3, outdegrees: Gamma, references: Unary, block_counts: Gamma, blocks: Gamma, residuals: Delta, offsets: Gamma } g.graph",
+        "build 3 -a Layout { window: 65535, chain: Some(2147483647), interval: 4, zeta: 3, codes: Codes { outdegrees: Gamma, references: Unary, block_counts: Gamma, blocks: Gamma, residuals: Delta, offsets: Gamma } } g.graph",
     ),
 ];
 
@@ -168,11 +168,11 @@ pub const NO_BUILDS: [&str; 28] = [
 pub const QUOTIENTS: [(&str, &str); 2] = [
     (
         "quotient g m h --classes 68719476735",
-        "quotient 68719476735 m g Layout { window: 7, chain: Some(3), interval: 4, zeta: 3, outdegrees: Gamma, references: Unary, block_counts: Gamma, blocks: Gamma, residuals: Zeta(3), offsets: Gamma } h.graph",
+        "quotient 68719476735 m g Layout { window: 7, chain: Some(3), interval: 4, zeta: 3, codes: Codes { outdegrees: Gamma, references: Unary, block_counts: Gamma, blocks: Gamma, residuals: Zeta(3), offsets: Gamma } } h.graph",
     ),
     (
         "quotient --classes=0 --window 0 -- -g g h.txt",
-        "quotient 0 g -g Layout { window: 0, chain: Some(3), interval: 4, zeta: 3, outdegrees: Gamma, references: Unary, block_counts: Gamma, blocks: Gamma, residuals: Zeta(3), offsets: Gamma } h.txt.graph",
+        "quotient 0 g -g Layout { window: 0, chain: Some(3), interval: 4, zeta: 3, codes: Codes { outdegrees: Gamma, references: Unary, block_counts: Gamma, blocks: Gamma, residuals: Zeta(3), offsets: Gamma } } h.txt.graph",
     ),
 ];
 
@@ -197,31 +197,31 @@ pub const NO_QUOTIENTS: [&str; 14] = [
 pub const CONVERSIONS: [(&str, &str); 7] = [
     (
         "recode g h",
-        "recode g Layout { window: 7, chain: Some(3), interval: 4, zeta: 3, outdegrees: Gamma, references: Unary, block_counts: Gamma, blocks: Gamma, residuals: Zeta(3), offsets: Gamma } h.graph",
+        "recode g Layout { window: 7, chain: Some(3), interval: 4, zeta: 3, codes: Codes { outdegrees: Gamma, references: Unary, block_counts: Gamma, blocks: Gamma, residuals: Zeta(3), offsets: Gamma } } h.graph",
     ),
     (
         "transpose h g",
-        "transpose h Layout { window: 7, chain: Some(3), interval: 4, zeta: 3, outdegrees: Gamma, references: Unary, block_counts: Gamma, blocks: Gamma, residuals: Zeta(3), offsets: Gamma } g.graph",
+        "transpose h Layout { window: 7, chain: Some(3), interval: 4, zeta: 3, codes: Codes { outdegrees: Gamma, references: Unary, block_counts: Gamma, blocks: Gamma, residuals: Zeta(3), offsets: Gamma } } g.graph",
     ),
     (
         "recode --window 0 --chain=none --interval 0 --zeta 1 --outdegrees delta --references delta --blockcounts delta --blocks delta --residuals zeta --offsets delta -- -g -",
-        "recode -g Layout { window: 0, chain: None, interval: 0, zeta: 1, outdegrees: Delta, references: Delta, block_counts: Delta, blocks: Delta, residuals: Zeta(1), offsets: Delta } -.graph",
+        "recode -g Layout { window: 0, chain: None, interval: 0, zeta: 1, codes: Codes { outdegrees: Delta, references: Delta, block_counts: Delta, blocks: Delta, residuals: Zeta(1), offsets: Delta } } -.graph",
     ),
     (
         "transpose a --residuals gamma a.b --window 65535",
-        "transpose a Layout { window: 65535, chain: Some(3), interval: 4, zeta: 3, outdegrees: Gamma, references: Unary, block_counts: Gamma, blocks: Gamma, residuals: Gamma, offsets: Gamma } a.b.graph",
+        "transpose a Layout { window: 65535, chain: Some(3), interval: 4, zeta: 3, codes: Codes { outdegrees: Gamma, references: Unary, block_counts: Gamma, blocks: Gamma, residuals: Gamma, offsets: Gamma } } a.b.graph",
     ),
     (
         "recode g ./g",
-        "recode g Layout { window: 7, chain: Some(3), interval: 4, zeta: 3, outdegrees: Gamma, references: Unary, block_counts: Gamma, blocks: Gamma, residuals: Zeta(3), offsets: Gamma } ./g.graph",
+        "recode g Layout { window: 7, chain: Some(3), interval: 4, zeta: 3, codes: Codes { outdegrees: Gamma, references: Unary, block_counts: Gamma, blocks: Gamma, residuals: Zeta(3), offsets: Gamma } } ./g.graph",
     ),
     (
         "union g h k --window 1",
-        "union g h Layout { window: 1, chain: Some(3), interval: 4, zeta: 3, outdegrees: Gamma, references: Unary, block_counts: Gamma, blocks: Gamma, residuals: Zeta(3), offsets: Gamma } k.graph",
+        "union g h Layout { window: 1, chain: Some(3), interval: 4, zeta: 3, codes: Codes { outdegrees: Gamma, references: Unary, block_counts: Gamma, blocks: Gamma, residuals: Zeta(3), offsets: Gamma } } k.graph",
     ),
     (
         "union -- g g -",
-        "union g g Layout { window: 7, chain: Some(3), interval: 4, zeta: 3, outdegrees: Gamma, references: Unary, block_counts: Gamma, blocks: Gamma, residuals: Zeta(3), offsets: Gamma } -.graph",
+        "union g g Layout { window: 7, chain: Some(3), interval: 4, zeta: 3, codes: Codes { outdegrees: Gamma, references: Unary, block_counts: Gamma, blocks: Gamma, residuals: Zeta(3), offsets: Gamma } } -.graph",
     ),
 ];
 

@@ -1,0 +1,27 @@
+use crate::Code;
+
+/// The code of each field.
+#[derive(Clone, Copy, Debug, PartialEq, Eq)]
+pub struct Codes {
+    pub outdegrees: Code,
+    pub references: Code,
+    pub block_counts: Code,
+    pub blocks: Code,
+    pub residuals: Code,
+    /// The code of the words of an offsets file.
+    pub offsets: Code,
+}
+
+/// How an archive is written, whatever graph it holds: all its parameters but the numbers of its pages and arcs.
+#[derive(Clone, Copy, Debug, PartialEq, Eq)]
+pub struct Layout {
+    /// How many pages back a reference may reach; 0 for no references.
+    pub window: u64,
+    /// How many references may lead from one page to the next, or none for any number.
+    pub chain: Option<u64>,
+    /// The least length of an interval; 0 for no intervals.
+    pub interval: u64,
+    /// The shrinking factor of zeta codes.
+    pub zeta: u32,
+    pub codes: Codes,
+}
