@@ -9,3 +9,4 @@ pub mod Growth
 pub mod Arcs
 pub mod Asked
 pub mod Written
+pub mod Ahead

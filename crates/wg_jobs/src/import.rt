@@ -6,8 +6,8 @@ ghost use Rattle.wg_jobs.specs.Performs.{DoesOrEnds};
 use crate::building::build_archive;
 use std::alloc::Global;
 use wg_io::{Depot, Sink};
-use wg_readings::{Ending, load_text};
 use wg_params::Layout;
+use wg_readings::{Ending, load_text};
 use wg_words::Name;
 
 /// Writes the greedy archive of a graph that is listed page by page, and prints the line of what it holds. It judges

@@ -11,8 +11,8 @@ use crate::building::build_archive;
 use std::alloc::Global;
 use wg_graph::{Graph, List};
 use wg_io::{Depot, Sink};
-use wg_readings::{Ending, Status, load_graph, load_map, load_params};
 use wg_params::Layout;
+use wg_readings::{Ending, Status, load_graph, load_map, load_params};
 use wg_words::Name;
 
 /// Writes the greedy archive of the graph of classes of an archive's pages, in the layout that is given, and prints the

@@ -9,8 +9,8 @@ use crate::building::build_archive;
 use std::alloc::Global;
 use wg_graph::Graph;
 use wg_io::{Depot, Sink};
-use wg_readings::{Ending, Status, load_graph, load_params};
 use wg_params::Layout;
+use wg_readings::{Ending, Status, load_graph, load_params};
 use wg_words::Name;
 
 /// Writes the greedy archive of an archive's graph with each arc the other way round, in the layout that is given,

@@ -15,10 +15,10 @@ use crate::loaded::{Loaded, load_archive, load_second};
 use std::alloc::Global;
 use wg_graph::Graph;
 use wg_io::{Depot, Sink};
+use wg_params::Layout;
 use wg_random::Sweep;
 use wg_readings::{Ending, Status};
 use wg_shape::{ShapeError, union_of_lists};
-use wg_params::Layout;
 use wg_words::Name;
 
 /// Writes the greedy archive of the union of two archives' graphs, in the layout that is given, and prints the line of

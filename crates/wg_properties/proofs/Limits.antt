@@ -3,7 +3,6 @@ use Rattle.std.proofs.Common.{◌≡◌, ℕ, ◌+◌, ◌≤◌, Bool, true, fa
 use Rattle.std.specs.Str.{bytes_eq}
 use Rattle.std.proofs.lemmas.Bool.{ltb-false, le-ltb, ne_eqb}
 use Rattle.wg_num.specs.Decimal.{number_of}
-use Rattle.wg_params.specs.Codes.{is_gamma_or_delta, is_unary_gamma_or_delta, is_residual_code}
 use Rattle.wg_params.specs.Parameters.{Parameters, AreCodes, IsWithinLimits, first_bad}
 use Rattle.wg_params.specs.declared.key.Key.{Key}
 use Rattle.wg_params.specs.declared.key.Key.TheVariants as key

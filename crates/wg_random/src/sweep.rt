@@ -274,4 +274,10 @@ impl<'a> Lists for Sweep<'a> {
             None
         }
     }
+
+    // The next lists are still bits.
+    #[inline(always)]
+    fn ahead(&self, _count: u64) -> &[u64] {
+        &[]
+    }
 }
