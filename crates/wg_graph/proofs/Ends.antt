@@ -48,17 +48,14 @@ end_le s t [] x h lt = absurd (omega arith)
 end_le s t (e ∷ es) zero h lt = ends_le e t es h.1
 end_le s t (e ∷ es) (suc x) h lt = end_le e t es x h.1 (omega arith)
 
--- a list begins before any later one ends
-begins_before : (s t : ℕ) (es : List ℕ) (x y : ℕ) → EndsAt s es t → x ≤ y → y < length es → get_or (s ∷ es) x 0 ≤ get_or es y 0
-begins_before s t [] x y h le lt = absurd (omega (arith, lt))
-begins_before s t (e ∷ es) zero zero h le lt = h.0
-begins_before s t (e ∷ es) zero (suc y) h le lt = omega (arith, h.0, begins_before e t es zero y h.1 (omega arith) (omega (arith, lt)))
-begins_before s t (e ∷ es) (suc x) zero h le lt = absurd (omega (arith, le))
-begins_before s t (e ∷ es) (suc x) (suc y) h le lt = begins_before e t es x y h.1 (omega (arith, le)) (omega (arith, lt))
+pub start_le : (s t : ℕ) (es : List ℕ) (x : ℕ) → EndsAt s es t → x < length es → get_or (s ∷ es) x 0 ≤ get_or es x 0
+start_le s t [] x h lt = absurd (omega arith)
+start_le s t (e ∷ es) zero h lt = h.0
+start_le s t (e ∷ es) (suc x) h lt = start_le e t es x h.1 (omega arith)
 
-pub ends_before : (s t : ℕ) (es : List ℕ) (x y : ℕ) → EndsAt s es t → 0 < x → x ≤ y → y < length es → get_or es (x - 1) 0 ≤ get_or es y 0
-ends_before s t es zero y h some le lt = absurd (omega (arith, some))
-ends_before s t es (suc w) y h some le lt = let e : suc w - 1 ≡ w = omega arith in rw e (begins_before s t es (suc w) y h le lt)
+pub before_le : (s t : ℕ) (es : List ℕ) (x : ℕ) → EndsAt s es t → 0 < x → x < length es → get_or es (x - 1) 0 ≤ get_or es x 0
+before_le s t es zero h some lt = absurd (omega arith)
+before_le s t es (suc y) h some lt = let e : suc y - 1 ≡ y = omega arith in rw e (start_le s t es (suc y) h lt)
 
 -- ---- all pieces
 

@@ -9,4 +9,3 @@ pub mod Growth
 pub mod Arcs
 pub mod Asked
 pub mod Written
-pub mod Ahead

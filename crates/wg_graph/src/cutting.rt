@@ -1,23 +1,22 @@
 // Lists that stand one after the other in one array, with the end of each: what a graph and its builder hold.
 
-ghost use Rattle.std.specs.Prelude.{◌≡◌, ◌+◌, ◌<◌, ◌≤◌, ◌^◌, [], ◌∷◌, ◌++◌, length, take, get_or, slice_range, OnOk, OnErr};
+ghost use Rattle.std.specs.Prelude.{◌≡◌, ◌+◌, ◌<◌, ◌≤◌, ◌^◌, [], ◌∷◌, ◌++◌, length, take, get_or, OnOk, OnErr};
 ghost use Rattle.wg_graph.specs.Growing.{padded, with_arc};
 ghost use Rattle.wg_graph.specs.Pieces.{pieces, EndsAt};
 
 use std::alloc::AllocError;
 
-// Where list number x begins, and where list number y ends.
+// Where list number x begins, and where it ends.
 #[inline(always)]
-fn span(ends: &[u64], all: &[u64], x: usize, y: usize) -> (usize, usize)
-    requires order { x ≤ y }
-    requires there { y < length ends.now }
+fn span(ends: &[u64], all: &[u64], x: usize) -> (usize, usize)
+    requires there { x < length ends.now }
     requires whole { EndsAt 0 ends.now (length all.now) }
     ensures from { result.0 ≡ get_or (0 ∷ ends.now) x 0 }
-    ensures to { result.1 ≡ get_or ends.now y 0 }
+    ensures to { result.1 ≡ get_or ends.now x 0 }
     ensures ordered { result.0 ≤ result.1 }
     ensures within { result.1 ≤ length all.now }
 {
-    let to = ends[y] as usize;
+    let to = ends[x] as usize;
     if x == 0 {
         return (0, to);
     }
@@ -31,21 +30,7 @@ pub fn piece<'a>(ends: &[u64], all: &'a [u64], x: usize) -> &'a [u64]
     requires whole { EndsAt 0 ends.now (length all.now) }
     ensures { result.now ≡ get_or (pieces 0 ends.now all.now) x [] }
 {
-    let (from, to) = span(ends, all, x, x);
-    &all[from..to]
-}
-
-// Lists number x to y, one after the other.
-#[inline(always)]
-pub fn pieces_between<'a>(ends: &[u64], all: &'a [u64], x: usize, y: usize) -> &'a [u64]
-    requires order { x ≤ y }
-    requires there { y < length ends.now }
-    requires whole { EndsAt 0 ends.now (length all.now) }
-    ensures value { result.now ≡ slice_range all.now (get_or (0 ∷ ends.now) x 0) (get_or ends.now y 0) }
-    ensures ordered { get_or (0 ∷ ends.now) x 0 ≤ get_or ends.now y 0 }
-    ensures within { get_or ends.now y 0 ≤ length all.now }
-{
-    let (from, to) = span(ends, all, x, y);
+    let (from, to) = span(ends, all, x);
     &all[from..to]
 }
 

@@ -4,7 +4,7 @@ ghost use Rattle.wg_graph.specs.Ascending.{Ascends, Below};
 ghost use Rattle.wg_graph.specs.Digraph.{IsGraph, successors, arc_count};
 ghost use Rattle.wg_graph.specs.Pieces.{cut, IsCut};
 
-use crate::cutting::{piece, pieces_between};
+use crate::cutting::piece;
 use std::marker::Model;
 
 /// A graph of pages: 8 bytes for each arc, and 8 for each page. Each call takes constant time, and no memory.
@@ -64,17 +64,5 @@ impl Graph {
         ensures below { Below self.now.nodes result.now }
     {
         piece(&self.ends, &self.all, x as usize)
-    }
-
-    /// The successors of `count` pages from page `x` on, list after list, or of fewer where there are not so many.
-    #[inline(always)]
-    pub(crate) fn lists_from(&self, x: u64, count: u64) -> &[u64]
-        ensures { Below self.now.nodes result.now }
-    {
-        let end = x.saturating_add(count).min(self.nodes());
-        if x >= end {
-            return &[];
-        }
-        pieces_between(&self.ends, &self.all, x as usize, end as usize - 1)
     }
 }

@@ -1,7 +1,6 @@
 ghost use Rattle.std.specs.Prelude.{◌≡◌, ℕ, ◌<◌, ◌≤◌, MatchOption};
 ghost use Rattle.std.specs.Io.BufRead.{Rests};
 ghost use Rattle.std.specs.Borrow.{sem};
-ghost use Rattle.wg_graph.specs.Ascending.{Below};
 ghost use Rattle.wg_graph.specs.Digraph.{Digraph, IsGraph, successors};
 ghost use Rattle.wg_graph.specs.Listing.{PlaceAfter};
 
@@ -31,11 +30,6 @@ pub trait Lists {
             (λ s. (place self.old < (graph self.old).nodes) × (s.now ≡ successors (graph self.old) (place self.old))) }
         ensures* after { sem 𝓛 (Rests Self.row self.entry (λ after.
             (graph after ≡ graph self.old) × PlaceAfter result (place self.old) (place after))) };
-
-    /// Successors of the next `count` pages, as far as they are in memory: a hint of what will be needed. There may be
-    /// none.
-    fn ahead(&self, count: u64) -> &[u64]
-        ensures { Below (graph self.now).nodes result.now };
 }
 
 /// The lists of a graph in memory. Each call takes constant time, and no memory.
@@ -90,10 +84,5 @@ impl<'a> Lists for GraphLists<'a> {
         } else {
             None
         }
-    }
-
-    #[inline(always)]
-    fn ahead(&self, count: u64) -> &[u64] {
-        self.source.lists_from(self.page, count)
     }
 }

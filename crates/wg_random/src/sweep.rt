@@ -274,10 +274,4 @@ impl<'a> Lists for Sweep<'a> {
             None
         }
     }
-
-    // The next lists are still bits.
-    #[inline(always)]
-    fn ahead(&self, _count: u64) -> &[u64] {
-        &[]
-    }
 }

@@ -9,7 +9,6 @@ ghost use Rattle.wg_rank.specs.Rank.{low_flow, high_flow, sum_dangling};
 ghost use Rattle.wg_rank.specs.declared.limits.TheConstants.{UNITS};
 
 use crate::divisor::Divisors;
-use crate::reaching::reach;
 use crate::spreading::{spread, spread_low};
 use wg_graph::Lists;
 
@@ -48,9 +47,6 @@ pub(crate) fn gather<L: Lists>(
     let mut low_dangling = 0;
     let mut high_dangling = 0;
     for u in 0..low.len() {
-        if !reach(lists, u, inflows) {
-            return (low_dangling, high_dangling);
-        }
         if let Some(list) = lists.next_list() {
             let degree = list.len() as u64;
             if degree == 0 {

@@ -71,7 +71,6 @@ mod judging;
 pub mod laws;
 mod limits;
 mod low_parts;
-mod reaching;
 mod reading;
 mod settling;
 mod spreading;

@@ -26,18 +26,6 @@ overflow_add-high_dangling g c =
           (λ w i. c.requires.high_units w 0 (omega arith)) (c.requires.high_units c.loop-u.u 0 (omega arith)) c.loop-u.invariant.high_rest,
     )
 
-pub reach-requires-clause-pages : goal.reach-requires-clause-pages
-reach-requires-clause-pages g c = rw c.loop-u.invariant.same (omega (arith, c.requires.pages, low_count (length c.args.low.now) c.loop-u.inflows (omega arith)))
-
-pub reach-requires-clause-short : goal.reach-requires-clause-short
-reach-requires-clause-short g c =
-    let sums =
-    gathered_within (g.L.Lists.graph c.args.lists.now) (length c.args.low.now) c.loop-u.u (λ u. get_or c.args.low.now u 0 / outdegree (g.L.Lists.graph c.args.lists.now) u) _ (omega arith)
-    (low_count _ c.loop-u.inflows (omega arith))
-    (λ w i. le_both _ _ UNITS (div-le_self _ _) (c.requires.low_units w 0 (omega arith))) c.loop-u.invariant.low
-    in
-    λ k d lt. omega (arith, sums k d lt)
-
 pub spread-requires-clause-low_room : goal.spread-requires-clause-low_room
 spread-requires-clause-low_room g c =
     gathered_room _ (length c.args.low.now) c.loop-u.u (λ u. get_or c.args.low.now u 0 / outdegree (g.L.Lists.graph c.args.lists.now) u) _ c.quotient-below.result (omega arith)
