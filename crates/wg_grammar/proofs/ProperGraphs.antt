@@ -1,5 +1,5 @@
 -- Bits that stand for a graph stand for a proper one.
-use Rattle.std.proofs.Common.{◌≡◌, ℕ, ◌+◌, Bool, List, [], ◌∷◌, length, map, reverse, Ok, refl, sym, ap, subst, ◌∙◌, arith}
+use Rattle.std.proofs.Common.{◌≡◌, ℕ, Bool, List, [], ◌∷◌, length, map, reverse, refl, sym, ap, subst, ◌∙◌, arith}
 use Rattle.std.specs.Prelude.{All}
 use Rattle.std.specs.List.{sum_by}
 use Rattle.std.proofs.lemmas.List.{length-reverse, length-map}
@@ -8,10 +8,9 @@ use Rattle.std.proofs.lemmas.List.Sorted.{IsPermutation-reverse, All-permutation
 use Rattle.std.proofs.lemmas.List.Sums.{sum_by-cons}
 use Rattle.wg_params.specs.Parameters.{Parameters}
 use Rattle.wg_graph.specs.Ascending.{Ascends, Below}
-use Rattle.wg_graph.specs.Digraph.{IsGraph, arc_count}
 use Rattle.wg_grammar.specs.Record.{Whole}
-use Rattle.wg_grammar.specs.Archive.{arcs_of, context_of, Pages, Accepted, lists_of, ReadsGraph}
-use Rattle.wg_grammar.specs.Laws.{graph_of, GraphIsProper, ArcsAreAsPromised, OffsetsAreAll}
+use Rattle.wg_grammar.specs.Archive.{arcs_of, context_of, Pages, lists_of}
+use Rattle.wg_grammar.specs.Laws.{GraphIsProper, ArcsAreAsPromised, OffsetsAreAll}
 use Rattle.wg_grammar.proofs.OneGraph.{lists_ascend}
 
 abbrev IsProper : Parameters → Whole → Type 0

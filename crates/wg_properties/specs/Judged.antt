@@ -2,7 +2,7 @@
 use Rattle.std.specs.Prelude.{ℕ, ◌||◌, nat_lt, if◌then◌else◌, List, [], codes, Option, Some, None, Result, Ok, Err, unwrap_or}
 use Rattle.std.specs.Str.{bytes_eq}
 use Rattle.wg_num.specs.Decimal.{number_of}
-use Rattle.wg_params.specs.Parameters.{Parameters}
+use Rattle.wg_params.specs.Parameters.{Parameters, params_of}
 use Rattle.wg_params.specs.declared.key.Key.{Key}
 use Rattle.wg_params.specs.declared.key.Key.TheVariants as key
 use Rattle.wg_params.specs.declared.limits.TheConstants.{MOST_PAGES, MOST_ARCS, MOST_WINDOW, MOST_CHAIN, MOST_INTERVAL, MOST_ZETA}
@@ -68,20 +68,8 @@ judged value =
     and_then (judged_chain (value key.MaxRefCount)) (λ chain.
     and_then (judged_number key.MinIntervalLength MOST_INTERVAL (value key.MinIntervalLength)) (λ interval.
     and_then (judged_zeta (value key.ZetaK)) (λ zeta.
-    and_then (judged_flags zeta (value key.CompressionFlags)) (λ c. Ok (record {
-      nodes = nodes;
-      arcs = arcs;
-      window = window;
-      chain = chain;
-      interval = interval;
-      zeta = zeta;
-      outdegrees = c.outdegrees;
-      references = c.references;
-      block_counts = c.block_counts;
-      blocks = c.blocks;
-      residuals = c.residuals;
-      offsets = c.offsets;
-    })))))))))))
+    and_then (judged_flags zeta (value key.CompressionFlags)) (λ c.
+    Ok (params_of (record { window = window; chain = chain; interval = interval; zeta = zeta; codes = c }) nodes arcs)))))))))))
 
 -- a line that would go on in the next is a fault before all others
 abbrev pub unless_continued : Option ℕ → Result Parameters PropFault → Result Parameters PropFault

@@ -1,4 +1,4 @@
-use Rattle.std.proofs.Common.{◌≡◌, ◌∙◌, Bool, List, Err, ap, sym, subst}
+use Rattle.std.proofs.Common.{◌≡◌, ◌∙◌, Err, ap, sym, subst}
 use Rattle.wg_bits.specs.Bits.{Position, bits_of}
 use Rattle.wg_offsets.specs.declared.error.OffsetsError.{OffsetsError}
 use Rattle.wg_offsets.specs.Words.{ReadsOffsets}

@@ -1,4 +1,4 @@
-use Rattle.std.proofs.Common.{◌≡◌, ℕ, ◌+◌, Ok, Err, subst}
+use Rattle.std.proofs.Common.{ℕ, Ok, Err, subst}
 use Rattle.std.proofs.lemmas.Result.{err_from_is_err_and}
 use Rattle.wg_params.specs.declared.code.Code.{Code}
 use Rattle.wg_offsets.specs.Words.{ReadsOffsets}

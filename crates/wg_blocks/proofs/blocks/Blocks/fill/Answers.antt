@@ -1,5 +1,5 @@
-use Rattle.std.proofs.Common.{◌+◌, arith, sym, subst}
-use Rattle.wg_blocks.proofs.Made.{Making, begun, more, done}
+use Rattle.std.proofs.Common.{arith}
+use Rattle.wg_blocks.proofs.Made.{begun, done}
 use Rattle.wg_blocks.proofs.blocks.Blocks.fill.Goals as goal
 
 pub loop-y-init : goal.loop-y-init
