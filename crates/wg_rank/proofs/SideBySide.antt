@@ -3,6 +3,7 @@ use Rattle.std.proofs.Common.{ℕ, zero, suc, ◌≡◌, ◌≢◌, ◌+◌, ◌
 use Rattle.std.proofs.lemmas.List.{length-set}
 use Rattle.std.proofs.lemmas.List.Elements.{All-from_get_or}
 use Rattle.wg_rank.specs.Inflows.{low_flows, high_flows}
+use Rattle.wg_rank.proofs.Settled.{table_more}
 
 -- ---- how many there are
 
@@ -110,3 +111,14 @@ high_added xs v below above h =
     high_set_high ys v (get_or ys (2 * v + 1) 0 + above) (omega (arith, low_length xs v x h))
     ∙ ap (λ l. set l v (get_or ys (2 * v + 1) 0 + above)) (high_set_low xs v x h)
     ∙ ap (λ y. set (high_flows xs) v (y + above)) (get_or-set_other xs (2 * v) (2 * v + 1) x 0 (ne_next (2 * v)) ∙ high_at xs v (omega (arith, high_count xs)))
+
+-- ---- what is left where both were made 0
+
+pub high_cleared : (xs : List ℕ) (v : ℕ) → v < length (low_flows xs) → high_flows (set (set xs (2 * v) 0) (2 * v + 1) 0) ≡ set (high_flows xs) v 0
+high_cleared xs v h = high_set_high (set xs (2 * v) 0) v 0 (omega (arith, low_length xs v 0 h)) ∙ ap (λ l. set l v 0) (high_set_low xs v 0 h)
+
+pub cleared_more : (xs : List ℕ) (v : ℕ) → 2 * v + 1 < length xs → ((k : ℕ) → k < 2 * v → get_or xs k 0 ≡ 0)
+    → (k : ℕ) → k < 2 * (v + 1) → get_or (set (set xs (2 * v) 0) (2 * v + 1) 0) k 0 ≡ 0
+cleared_more xs v w h k l =
+    table_more (2 * v + 1) (set xs (2 * v) 0) 0 (λ _. 0) (omega (arith, length-set xs (2 * v) 0)) refl
+    (table_more (2 * v) xs 0 (λ _. 0) (omega arith) refl h) k (omega arith)

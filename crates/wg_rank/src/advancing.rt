@@ -14,8 +14,8 @@ use crate::gathering::gather;
 use crate::settling::{settle_high, settle_low, total};
 use wg_graph::Lists;
 
-// Puts the new bounds in place of the old ones. Where no weights are given, each page has the weight 1. What `inflows`
-// held before is lost.
+// Puts the new bounds in place of the old ones. Where no weights are given, each page has the weight 1. All of `inflows`
+// is 0 before and after.
 pub(crate) fn advance<L: Lists>(
     lists: &mut L,
     damping: u64,
@@ -29,6 +29,7 @@ pub(crate) fn advance<L: Lists>(
     requires damped { damping ≤ MOST_DAMPING }
     requires high_pages { length high.old ≡ length low.old }
     requires inflow_pages { length inflows.old ≡ 2 * length low.old }
+    requires empty { All (λ x. x ≡ 0) inflows.old }
     requires weights { AreWeights (length low.old) (weights_or_ones (length low.old) weights.now) }
     requires low_total { sum_below (length low.old) (by_page low.old) ≤ UNITS }
     requires high_units { All (λ x. x ≤ UNITS) high.old }
@@ -41,8 +42,8 @@ pub(crate) fn advance<L: Lists>(
         (by_page high.old)) }
     ensures low_total { sum_below (length low.old) (by_page low.new) ≤ UNITS }
     ensures high_units { All (λ x. x ≤ UNITS) high.new }
+    ensures empty { All (λ x. x ≡ 0) inflows.new }
 {
-    inflows.fill(0);
     let (dangling, high_dangling) = gather(lists, low, high, inflows);
     settle_low(low, inflows, damping, dangling, weights);
     let gap = UNITS - total(low);

@@ -26,7 +26,7 @@ pub struct Bounds {
     low: Vec<u128>,
     high: Vec<u128>,
     // What flows to each page in a round, below and above, side by side, so that an arc reaches one place in memory.
-    // What it holds between rounds is never read.
+    // All 0 between rounds.
     inflows: Vec<u128>,
 }
 

@@ -12,7 +12,7 @@ ghost use Rattle.wg_rank.specs.declared.limits.TheConstants.{UNITS};
 
 use crate::UNITS;
 use crate::dividing::quotient_up;
-use crate::inflows::{high_flow, low_flow};
+use crate::inflows::{clear, high_flow, low_flow};
 use crate::low_parts::LowParts;
 use crate::teleport::{part_above, total_weight};
 
@@ -57,11 +57,12 @@ pub(crate) fn total(low: &[u128]) -> u128
     sum
 }
 
-// Puts the upper bounds in place of the old ones; `low` are the new lower bounds, which leave `gap`.
+// Puts the upper bounds in place of the old ones, and makes all sums 0 for the next round, as they are passed by anyway.
+// `low` are the new lower bounds, which leave `gap`.
 #[tactic(auto, using(crate::proofs::Room::damped_room, crate::proofs::Flow::div_ceil_le))]
 pub(crate) fn settle_high(
     high: &mut [u128],
-    inflows: &[u128],
+    inflows: &mut [u128],
     low: &[u128],
     damping: u64,
     dangling: u128,
@@ -70,9 +71,9 @@ pub(crate) fn settle_high(
 )
     requires damped { damping ≤ MOST_DAMPING }
     requires few { length high.old ≤ MOST_PAGES }
-    requires inflow_pages { length (high_flows inflows.now) ≡ length high.old }
+    requires inflow_pages { length inflows.old ≡ 2 * length high.old }
     requires low_pages { length low.now ≡ length high.old }
-    requires room { All (λ x. x ≤ MOST_PAGES * UNITS) (high_flows inflows.now) }
+    requires room { All (λ x. x ≤ MOST_PAGES * UNITS) (high_flows inflows.old) }
     requires dangling_room { dangling ≤ MOST_PAGES * UNITS }
     requires low_room { All (λ x. x ≤ UNITS) low.now }
     requires weights { AreWeights (length high.old) (weights_or_ones (length high.old) weights.now) }
@@ -81,8 +82,9 @@ pub(crate) fn settle_high(
         → slice_index high.new v
         ≡ least (slice_index high.old v)
         (settled_high damping (length high.old) dangling (sum_below (length high.old) w) (w v)
-        (slice_index (high_flows inflows.now) v))
+        (slice_index (high_flows inflows.old) v))
         (slice_index low.now v + gap) }
+    ensures empty { All (λ x. x ≡ 0) inflows.new }
 {
     if high.is_empty() {
         return;
@@ -95,5 +97,6 @@ pub(crate) fn settle_high(
         let part = part_above(shared, parts, even, weights, v);
         let above = quotient_up(damping as u128 * high_flow(inflows, v), 1000) + (rest + part);
         high[v] = high[v].min(above).min(low[v] + gap);
+        clear(inflows, v);
     }
 }

@@ -4,7 +4,7 @@ use Rattle.wg_rank.specs.Weights.{weights_or_ones}
 use Rattle.wg_rank.specs.declared.limits.TheConstants.{UNITS}
 use Rattle.wg_rank.proofs.Rounds.{all_within_total, settled_table, settled_total, clipped_from, least_within}
 use Rattle.wg_rank.specs.Inflows.{low_flows, high_flows}
-use Rattle.wg_rank.proofs.SideBySide.{low_count, high_count}
+use Rattle.wg_rank.proofs.SideBySide.{low_count}
 use Rattle.wg_rank.proofs.advancing.advance.Goals as goal
 
 pub gather-dangling-requires-clause-low_units : goal.gather-dangling-requires-clause-low_units
@@ -67,7 +67,3 @@ returns-clause-high_units g c =
 
 pub settle_low-requires-clause-inflow_pages : goal.settle_low-requires-clause-inflow_pages
 settle_low-requires-clause-inflow_pages g c = low_count _ c.gather-dangling.new.inflows (omega arith)
-
-pub settle_high-requires-clause-inflow_pages : goal.settle_high-requires-clause-inflow_pages
-settle_high-requires-clause-inflow_pages g c =
-    omega (arith, high_count c.gather-dangling.new.inflows, low_count (length c.args.low.now) c.gather-dangling.new.inflows (omega arith))
