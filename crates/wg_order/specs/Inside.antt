@@ -1,21 +1,19 @@
 -- What is true of the fields of all rankings.
 use Rattle.std.specs.Prelude.{ℕ, ◌≡◌, ◌*◌, ◌≤◌, Bool, true, List, length, take, drop}
-use Rattle.std.specs.List.{range_with_len}
-use Rattle.std.specs.List.Sorted.{IsPermutation, IsNonDecreasingBy}
+use Rattle.std.specs.List.Sorted.{IsPermutation, IsNonDecreasing}
 use Rattle.wg_params.specs.declared.limits.TheConstants.{MOST_PAGES}
-use Rattle.wg_rank.specs.Intervals.{by_page}
 use Rattle.wg_order.specs.Order.{Positions, IsRanking}
 use Rattle.wg_order.specs.declared.ranking.Ranking.TheInside.{Inside}
 
 abbrev pub positions_of : Inside → Positions
 positions_of r = record { filled = r.filled; low = r.low.items; high = r.high.items; pages = take (length r.low.items) r.sorted.items }
 
--- all pages, by upper bounds rising
-pub record IsRising (high pages : List ℕ) : Type 0 where
-  pub all : IsPermutation (range_with_len 0 (length high)) pages
-  pub rises : IsNonDecreasingBy (by_page high) pages
+-- the upper bounds of all pages, rising
+pub record IsRising (high rising : List ℕ) : Type 0 where
+  pub all : IsPermutation high rising
+  pub rises : IsNonDecreasing rising
 
--- sorted has all pages as they are ranked, and then by upper bounds rising
+-- sorted has all pages as they are ranked, and then all upper bounds rising
 pub record AreKept (filled : Bool) (low high sorted : List ℕ) : Type 0 where
   pub few : length low ≤ MOST_PAGES
   pub high_pages : length high ≡ length low

@@ -1,4 +1,4 @@
-// The pages in both orders, over slices.
+// The pages as they are ranked and their upper bounds rising, over slices.
 
 ghost use Rattle.std.specs.Prelude.{◌≡◌, ◌*◌, length, take, drop};
 ghost use Rattle.std.specs.List.{range_with_len};
@@ -16,7 +16,7 @@ fn number(pages: &mut [u128])
     }
 }
 
-// Leaves all pages twice in `sorted`, each time in its order.
+// Leaves in `sorted` all pages as they are ranked, and then all upper bounds rising.
 pub(crate) fn arrange(low: &[u128], high: &[u128], sorted: &mut [u128])
     requires high_pages { length high.now ≡ length low.now }
     requires sorted_pages { length sorted.old ≡ 2 * length low.now }
@@ -25,7 +25,6 @@ pub(crate) fn arrange(low: &[u128], high: &[u128], sorted: &mut [u128])
 {
     let (ranked, rising) = sorted.split_at_mut(low.len());
     number(ranked);
-    number(rising);
     rank(ranked, low, high);
     raise(rising, high);
 }

@@ -20,7 +20,7 @@ pub struct Ranking {
     filled: bool,
     low: Vec<u128>,
     high: Vec<u128>,
-    // All pages twice: first as they are ranked, then by upper bounds rising.
+    // All pages as they are ranked, and then all upper bounds rising.
     sorted: Vec<u128>,
 }
 
@@ -122,7 +122,7 @@ impl Ranking {
         requires filled { self.now.filled ≡ true }
         ensures { result ≡ worst self.now v }
     {
-        (self.low.len() - count_below(self.rising(), &self.high, self.low[v as usize])) as u64
+        (self.low.len() - count_below(self.rising(), self.low[v as usize])) as u64
     }
 
     /// Whether the bounds alone say that page `u` has a greater share than page `v`.
@@ -160,7 +160,7 @@ impl Ranking {
         &self.sorted[..self.low.len()]
     }
 
-    // All pages by upper bounds rising.
+    // All upper bounds, rising.
     fn rising(&self) -> &[u128]
         requires { self.now.filled ≡ true }
         ensures count { length result.now ≡ length self.now.low }
