@@ -1,6 +1,5 @@
 -- The archive that was built of a generated graph is in order, and has this graph.
-use Rattle.std.proofs.Common.{◌≡◌, ◌+◌, ◌≤◌, ◌∙◌, Bool, true, false, cond, inr, ℕ, suc, zero-add, List, [], ◌∷◌, length, get_or, Option, None, Result, Ok, Err, refl, sym, ap, subst, arith}
-use Rattle.std.specs.List.{count_by, range_with_len}
+use Rattle.std.proofs.Common.{◌≡◌, ◌≤◌, ◌∙◌, Bool, true, inr, ℕ, List, [], ◌∷◌, length, get_or, Option, None, Result, Ok, Err, refl, sym, ap, subst, arith}
 use Rattle.std.proofs.lemmas.Option.{same_Some}
 use Rattle.wg_io.specs.Outside.{Files, Counts}
 use Rattle.wg_params.specs.Parameters.{Parameters, IsWithinLimits, params_of}
@@ -19,8 +18,6 @@ use Rattle.wg_encoder.specs.declared.summary.Summary.{Summary}
 use Rattle.wg_encoder.specs.Laws.{IsAcceptedArchive}
 use Rattle.wg_encoder.proofs.Accepted.{greedy_accepted}
 use Rattle.wg_encoder.proofs.ProperRecord.{canonical_proper}
-use Rattle.wg_rank.specs.Sum.{sum_below}
-use Rattle.wg_order.proofs.Counts.{count_range}
 use Rattle.wg_words.specs.Layouts.{default_layout}
 use Rattle.wg_params.specs.declared.layout.Layout.{Layout}
 use Rattle.wg_words.proofs.LayoutLemmas.{layout_for_any}
@@ -58,21 +55,6 @@ same_text step b d text one two = ap output_of (sym (one (λ x. accepted (text x
 
 abbrev given : Parameters → Result Parameters PropFault
 given p = Ok p
-
--- ---- positions
-
--- one page more is counted
-pub count_on : (q : ℕ → Bool) (n : ℕ) → count_by q (range_with_len 0 (n + 1)) ≡ count_by q (range_with_len 0 n) + cond (q n) 1 0
-count_on q n =
-    let one : ℕ → ℕ = λ k. cond (q (0 + k)) 1 0 in
-    let next : n + 1 ≡ suc n = omega arith in
-    let more : sum_below (n + 1) one ≡ sum_below n one + one n = ap (λ (m : ℕ). sum_below m one) next in
-    let here : one n ≡ cond (q n) 1 0 = ap (λ (m : ℕ). cond (q m) 1 0) (zero-add n) in
-    omega (arith, count_range q 0 (n + 1), count_range q 0 n, more, here)
-
-pub counted_once : (b : Bool) → cond b 1 0 ≤ 1
-counted_once true = omega arith
-counted_once false = omega arith
 
 -- ---- what was written
 

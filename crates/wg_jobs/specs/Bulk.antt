@@ -1,11 +1,11 @@
 -- What comes of a generated graph.
-use Rattle.std.specs.Prelude.{ℕ, Bool, nat_eq, List, ◌++◌, length, slice_get, codes, decimal, Option, Some, None}
-use Rattle.std.specs.List.{count_by, range_with_len}
+use Rattle.std.specs.Prelude.{ℕ, List, ◌++◌, length, slice_get, codes, decimal, Option, Some, None}
 use Rattle.wg_io.specs.Outside.{Files}
 use Rattle.wg_params.specs.Parameters.{Parameters, IsWithinLimits}
 use Rattle.wg_graph.specs.Digraph.{Digraph, IsGraph, arc_count}
 use Rattle.wg_encoder.specs.Archive.{graph_bits, referring_pages}
-use Rattle.wg_order.specs.Order.{Positions, best, worst}
+use Rattle.wg_order.specs.Order.{Positions}
+use Rattle.wg_order.specs.Summary.{sure_pages}
 use Rattle.wg_words.specs.Layouts.{default_layout}
 use Rattle.wg_words.specs.declared.defaults.TheConstants.{DEFAULT_DAMPING}
 use Rattle.wg_readings.specs.Readings.{Readings}
@@ -13,14 +13,6 @@ use Rattle.wg_jobs.specs.Ranked.{bounds_after, positions_of}
 use Rattle.wg_jobs.specs.Written.{AreWhole, archive_in, greedy_archive, params_for}
 use Rattle.wg_jobs.specs.declared.outcome.Outcome.{Outcome}
 use Rattle.wg_jobs.specs.declared.outcome.TheConstants.{BULK_ROUNDS}
-
--- whether the bounds leave one position alone to page v
-abbrev pub is_sure : Positions → ℕ → Bool
-is_sure s v = nat_eq (best s v) (worst s v)
-
--- how many pages have one position alone
-abbrev pub sure_pages : Positions → ℕ
-sure_pages s = count_by (is_sure s) (range_with_len 0 (length s.low))
 
 -- the parameters of its archive, which is written as if no option were given
 abbrev pub bulk_params : Digraph → Parameters

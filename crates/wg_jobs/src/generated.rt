@@ -1,23 +1,24 @@
 //! The archive of a generated graph, in memory.
-ghost use Rattle.std.specs.Prelude.{◌≡◌, ◌<◌, ◌≤◌, cond, length, slice_get, OnOk, IfOk, IfErr, None};
+ghost use Rattle.std.specs.Prelude.{◌≡◌, ◌≤◌, length, OnOk, IfOk, IfErr, None};
 ghost use Rattle.wg_graph.specs.Digraph.{Digraph};
 ghost use Rattle.wg_vectors.specs.Generated.{generated};
 ghost use Rattle.wg_vectors.specs.declared.generating.TheConstants.{MOST_GENERATED};
 ghost use Rattle.wg_encoder.specs.Archive.{graph_bits, referring_pages};
 ghost use Rattle.wg_words.specs.declared.defaults.TheConstants.{DEFAULT_DAMPING};
 ghost use Rattle.wg_readings.specs.Readings.{Readings};
-ghost use Rattle.wg_jobs.specs.Bulk.{IsBuilt, bulk_params, is_sure, outcome_of, sure_pages};
-ghost use Rattle.wg_jobs.specs.Ranked.{bounds_after, positions_of};
+ghost use Rattle.wg_jobs.specs.Bulk.{IsBuilt, bulk_params, outcome_of};
+ghost use Rattle.wg_jobs.specs.Ranked.{bounds_after};
 ghost use Rattle.wg_jobs.specs.declared.outcome.TheConstants.{BULK_ROUNDS};
 
 use crate::building::params_of;
 use crate::outcome::{BULK_ROUNDS, Outcome};
 use crate::rank::room_for;
-use crate::ranked::{Ranked, last_bounds};
+use crate::ranked::last_bounds;
 use crate::writing::write_archive;
 use std::alloc::Global;
 use wg_graph::{Graph, GraphLists};
 use wg_io::SteadyDepot;
+use wg_order::Summary;
 use wg_params::Params;
 use wg_rank::Bounds;
 use wg_readings::{Ending, Status, judge_files, load_graph, load_params};
@@ -118,41 +119,6 @@ fn rounded(
     Ok(last_bounds(first, &mut lists, BULK_ROUNDS))
 }
 
-// The first page of a ranking of so many pages.
-fn first_page(ranked: &Ranked, pages: u64) -> Option<u64>
-    requires { pages ≡ length ranked.now.ranking.low }
-    ensures { result ≡ slice_get ranked.now.ranking.pages 0 }
-{
-    if pages == 0 {
-        return None;
-    }
-    Some(ranked.ranking.page(0))
-}
-
-// 1 for a page that has one position alone, else 0.
-fn ones(ranked: &Ranked, page: u64) -> u64
-    requires { page < length ranked.now.ranking.low }
-    ensures { result ≡ cond (is_sure ranked.now.ranking page) 1 0 }
-{
-    if ranked.ranking.best(page) == ranked.ranking.worst(page) {
-        1
-    } else {
-        0
-    }
-}
-
-// How many of so many pages have one position alone.
-fn sure_pages(ranked: &Ranked, pages: u64) -> u64
-    requires { pages ≡ length ranked.now.ranking.low }
-    ensures { result ≡ sure_pages ranked.now.ranking }
-{
-    let mut sure = 0;
-    for page in 0..pages {
-        sure += ones(ranked, page);
-    }
-    sure
-}
-
 // What comes of an archive that was judged, by the bounds of its pages.
 fn summed(checked: &Checked, referring: u64, bounds: Bounds) -> Outcome
     ensures { (r : Readings) (g : Digraph) → checked.now.params ≡ bulk_params g
@@ -160,15 +126,14 @@ fn summed(checked: &Checked, referring: u64, bounds: Bounds) -> Outcome
         → referring ≡ referring_pages (bulk_params g) g.lists
         → bounds ≡ bounds_after g None DEFAULT_DAMPING BULK_ROUNDS → result ≡ outcome_of r g }
 {
-    let pages = bounds.lower().len() as u64;
-    let ranked = Ranked::of(bounds);
+    let ranking = Summary::of(bounds);
     Outcome {
         pages: checked.params.nodes(),
         arcs: checked.params.arcs(),
         bits: checked.bits,
         referring,
-        first: first_page(&ranked, pages),
-        sure: sure_pages(&ranked, pages),
+        first: ranking.first,
+        sure: ranking.sure,
     }
 }
 

@@ -1,5 +1,5 @@
 -- What is true of the fields of all rankings.
-use Rattle.std.specs.Prelude.{ℕ, ◌≡◌, ◌*◌, ◌≤◌, Bool, true, List, length, take, drop}
+use Rattle.std.specs.Prelude.{ℕ, ◌≡◌, ◌*◌, ◌<◌, ◌≤◌, Bool, true, List, length, slice_index, take, drop}
 use Rattle.std.specs.List.Sorted.{IsPermutation, IsNonDecreasing}
 use Rattle.wg_params.specs.declared.limits.TheConstants.{MOST_PAGES}
 use Rattle.wg_order.specs.Order.{Positions, IsRanking}
@@ -12,6 +12,11 @@ positions_of r = record { filled = r.filled; low = r.low.items; high = r.high.it
 pub record IsRising (high rising : List ℕ) : Type 0 where
   pub all : IsPermutation high rising
   pub rises : IsNonDecreasing rising
+
+-- the lower bounds of all pages, falling
+pub record IsFalling (low falling : List ℕ) : Type 0 where
+  pub all : IsPermutation low falling
+  pub falls : (i j : ℕ) → i ≤ j → j < length falling → slice_index falling j ≤ slice_index falling i
 
 -- sorted has all pages as they are ranked, and then all upper bounds rising
 pub record AreKept (filled : Bool) (low high sorted : List ℕ) : Type 0 where

@@ -5,7 +5,7 @@ ghost use Rattle.std.specs.List.{range_with_len};
 ghost use Rattle.wg_order.specs.Order.{IsRanking};
 ghost use Rattle.wg_order.specs.Inside.{IsRising};
 
-use crate::sorting::{raise, rank};
+use crate::sorting::{rank, sort_rising};
 
 // Lists the pages by their numbers.
 fn number(pages: &mut [u128])
@@ -26,5 +26,5 @@ pub(crate) fn arrange(low: &[u128], high: &[u128], sorted: &mut [u128])
     let (ranked, rising) = sorted.split_at_mut(low.len());
     number(ranked);
     rank(ranked, low, high);
-    raise(rising, high);
+    sort_rising(rising, high);
 }

@@ -1,15 +1,17 @@
 //! Pages ranked by the bounds of their PageRank, and the positions that the bounds leave to each.
 //!
-//! A [`Ranking`] sorts the pages of a [`wg_rank::Bounds`] twice: by lower bounds falling, then by upper bounds falling,
-//! then by numbers rising, which is the ranking; and by upper bounds rising. Where the lower bound of one page is above
-//! the upper bound of another, the first has the greater share, whatever the exact shares are
-//! ([`Ranking::surely_above`]). So a page stands after those that are surely above it ([`Ranking::best`]) and before
-//! those that are surely below it ([`Ranking::worst`]). Both are counted by a binary search of a sorted list:
+//! A [`Ranking`] sorts the pages of a [`wg_rank::Bounds`] by lower bounds falling, then by upper bounds falling, then by
+//! numbers rising; and it sorts the upper bounds by themselves. Where the lower bound of one page is above the upper
+//! bound of another, the first has the greater share, whatever the exact shares are ([`Ranking::surely_above`]). So a
+//! page stands after those that are surely above it ([`Ranking::best`]) and before those that are surely below it
+//! ([`Ranking::worst`]). Both are counted by a binary search of a sorted list:
 //!
 //! ```text
-//! Bounds --> low, high --> ranked (the ranking) -----> best
-//!                    \---> rising (by upper bounds) --> worst
+//! Bounds --> low, high --> ranked (the ranking) --> best
+//!                    \---> rising (upper bounds) --> worst
 //! ```
+//!
+//! A [`Summary`] says what a ranking comes to, and needs less time for it: both bounds are sorted by themselves.
 //!
 //! Two rounds at a low damping settle the ranking of the graph with the arc from page 0 to page 1:
 //!
@@ -31,7 +33,7 @@
 //! The function of [`laws`] states that any bounds have one ranking.
 //!
 //! [`Ranking::of`] takes the bounds over and sorts in the room of their rounds, so it takes no memory: bounds and
-//! ranking together hold the 64 bytes for each page that the bounds held. [`Ranking::new`] takes as many of its own,
+//! ranking together hold the 64 bytes for each page that the bounds held. [`Summary::of`] does so too. [`Ranking::new`] takes as many of its own,
 //! for any number of [`Ranking::fill`], which copies bounds and leaves them as they are; with those bounds that is 128
 //! for each page.
 #![tactic(auto)]
@@ -41,5 +43,7 @@ mod counting;
 pub mod laws;
 mod ranking;
 mod sorting;
+mod summary;
 
 pub use ranking::Ranking;
+pub use summary::Summary;

@@ -4,7 +4,7 @@ use std::alloc::{AllocError, Global};
 use std::process::Abort;
 use std::test::Fail;
 use wg_graph::{Graph, GraphBuilder, GraphLists};
-use wg_order::Ranking;
+use wg_order::{Ranking, Summary};
 use wg_rank::Bounds;
 
 // Two pages and the arc from page 0 to page 1.
@@ -83,6 +83,20 @@ fn bounds_become_a_ranking(rt: HostRuntime) -> Result<(), Fail> {
     assert_eq!(rt; positions(&taken, 1), (1, 1));
     assert_eq!(rt; taken.high(0), high);
     assert!(rt; taken.low(1) > taken.high(0));
+    Ok(())
+}
+
+#[test]
+fn what_a_ranking_comes_to(rt: HostRuntime) -> Result<(), Fail> {
+    let graph = with_one_arc(&rt, rt.alloc())?;
+    let two = Summary::of(after_two(rt.alloc(), &graph)?);
+    assert_eq!(rt; (two.first, two.sure), (Some(1), 0));
+    let mut bounds = after_two(rt.alloc(), &graph)?;
+    bounds.round(&mut GraphLists::new(&graph));
+    let three = Summary::of(bounds);
+    assert_eq!(rt; (three.first, three.sure), (Some(1), 2));
+    let none = Summary::of(Bounds::new(rt.alloc(), 0, 850)?);
+    assert_eq!(rt; (none.first, none.sure), (None, 0));
     Ok(())
 }
 
