@@ -1,12 +1,10 @@
 ghost use Rattle.std.specs.Prelude.{◌≡◌, ◌≤◌, IfOk};
+ghost use Rattle.wg_params.specs.declared.limits.TheConstants.{MOST_GENERATED};
 ghost use Rattle.wg_vectors.specs.Generated.{generated};
 
 use crate::drafting::Draft;
 use std::alloc::{AllocError, Global};
 use wg_graph::{Graph, GraphBuilder};
-
-/// The most pages of a generated graph.
-pub const MOST_GENERATED: u64 = 1 << 24;
 
 /// The generated graph of `n` pages that follows from a seed, as large as one likes and like a web graph: many lists
 /// share members with lists close before them, and have intervals. The same seed always gives the same graph.

@@ -23,8 +23,8 @@
 //! Ok(())
 //! ```
 //!
-//! [`generate`] draws a graph of up to [`MOST_GENERATED`] pages that is like a web graph: lists share members with
-//! lists close before them, and have intervals. The definition says each list, and so the same seed gives the same
+//! [`generate`] draws a graph of up to [`wg_params::MOST_GENERATED`] pages that is like a web graph: lists share members
+//! with lists close before them, and have intervals. The definition says each list, and so the same seed gives the same
 //! graph in any program that follows it.
 //!
 //! ```text
@@ -55,6 +55,6 @@ pub use faults::{
     OFFSETS_NO_WORD, OFFSETS_NOT_FROM_0, OFFSETS_TOO_FAR, Refused, TOO_FEW_ARCS, TOO_LONG_A_CHAIN,
     TWICE,
 };
-pub use generating::{MOST_GENERATED, generate};
+pub use generating::generate;
 pub use longer::LONGER;
 pub use shapes::{PLAIN, Shape, usual};
