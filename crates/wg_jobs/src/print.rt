@@ -3,10 +3,10 @@ ghost use Rattle.std.specs.Prelude.{◌≡◌, ◌≤◌, ◌<◌, true, length,
 ghost use Rattle.wg_io.specs.Puts.{Puts};
 ghost use Rattle.wg_io.specs.Refusals.{SinkRefusals};
 ghost use Rattle.wg_readings.specs.Answers.{IsUnput, PrintRefusals};
-ghost use Rattle.wg_io.specs.Printing.{Prints};
+ghost use Rattle.wg_lines.specs.Printing.{Prints};
 ghost use Rattle.wg_arcs.specs.Text.{page_lines};
 ghost use Rattle.wg_ascii.specs.Text.{list_line, nodes_line};
-ghost use Rattle.wg_io.specs.declared.lines.TheConstants.{MOST_PIECE};
+ghost use Rattle.wg_lines.specs.declared.lines.TheConstants.{MOST_PIECE};
 ghost use Rattle.wg_jobs.specs.Ranked.{rank_line, rank_lines};
 ghost use Rattle.wg_rank.specs.declared.limits.TheConstants.{UNITS};
 ghost use Rattle.wg_jobs.specs.Judged.{number_line, ok_line};
@@ -15,7 +15,8 @@ ghost use Rattle.wg_io.specs.declared.output.Output.TheVariants.{Out};
 
 use crate::ranked::Ranked;
 use crate::text::Text;
-use wg_io::{Lines, Output, Sink, WriteError, write_all};
+use wg_io::{Output, Sink, WriteError, write_all};
+use wg_lines::Lines;
 use wg_num::units_text;
 use wg_params::Params;
 use wg_rank::Certificate;

@@ -16,7 +16,8 @@ use std::alloc::Global;
 use std::marker::Brand;
 use std::sync::ledger::{Blank, Ledger};
 use wg_graph::List;
-use wg_io::{Depot, Lines, Sink};
+use wg_io::{Depot, Sink};
+use wg_lines::Lines;
 use wg_random::{Archive, ListError, OpenError, Steps};
 use wg_readings::{
     Ending, Input, Status, find_pages, judge_offsets, load, load_params, records_of_graph,

@@ -12,7 +12,8 @@ ghost use Rattle.wg_jobs.specs.Performs.{DoesOrEnds};
 use crate::print::print_rest;
 use crate::shown::print_list;
 use std::alloc::Global;
-use wg_io::{Depot, Lines, Sink};
+use wg_io::{Depot, Sink};
+use wg_lines::Lines;
 use wg_readings::{Ending, Input, load, load_offsets, load_params, successors_of_page};
 use wg_words::Name;
 

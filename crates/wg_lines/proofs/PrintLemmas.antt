@@ -3,7 +3,7 @@ use Rattle.std.proofs.Common.{◌≡◌, ℕ, List, [], ◌++◌, length, take, 
 use Rattle.std.proofs.lemmas.List.{append-nil, take_at, take-append-drop}
 use Rattle.wg_io.specs.Puts.{Puts}
 use Rattle.wg_io.proofs.PutsLemmas.{puts_more}
-use Rattle.wg_io.specs.Printing.{HasPrinted, HasPrintedLess, Prints}
+use Rattle.wg_lines.specs.Printing.{HasPrinted, HasPrintedLess, Prints}
 
 -- ---- nothing goes out
 

@@ -1,12 +1,12 @@
 // Numbers and texts into a sink, through a buffer.
 ghost use Rattle.std.specs.Prelude.{◌≡◌, ◌+◌, ◌≤◌, [], ◌∷◌, ◌++◌, length, take, codes, decimal, IsTrue, OnOk};
 ghost use Rattle.wg_io.specs.Puts.{Puts};
-ghost use Rattle.wg_io.specs.Printing.{Prints, pair_line};
+ghost use Rattle.wg_lines.specs.Printing.{Prints, pair_line};
 ghost use Rattle.wg_io.specs.Refusals.{SinkRefusals};
-ghost use Rattle.wg_io.specs.declared.lines.TheConstants.{BUFFER, MOST_PIECE, MOST_START};
+ghost use Rattle.wg_lines.specs.declared.lines.TheConstants.{BUFFER, MOST_PIECE, MOST_START};
 
-use crate::{Sink, WriteError, write_all};
 use std::marker::Model;
+use wg_io::{Sink, WriteError, write_all};
 use wg_num::decimal_at;
 
 // The bytes that may wait.
@@ -32,7 +32,7 @@ pub struct Lines {
 
 impl Model for Lines {
     ghost use Rattle.std.specs.Prelude.{List, ℕ, ◌≤◌, take};
-    ghost use Rattle.wg_io.specs.declared.lines.TheConstants.{BUFFER};
+    ghost use Rattle.wg_lines.specs.declared.lines.TheConstants.{BUFFER};
 
     ghost Value = { List ℕ };
 
