@@ -13,10 +13,9 @@ use std::alloc::{AllocError, Global};
 use std::marker::Model;
 use std::mem;
 use wg_decoder::{Decoded, Spares, Window, decode_from};
-use wg_grammar::ArchiveFault;
+use wg_grammar::{ArchiveFault, Source};
 use wg_graph::List;
 use wg_params::Params;
-use wg_source::Source;
 
 /// Reads the records of an archive page by page, as `wg_encoder::Encoder` writes them: it owns all that has to be known
 /// of the pages before, and stands at the page that comes next.

@@ -5,8 +5,8 @@ use Rattle.wg_codes.specs.Words.{word, top}
 use Rattle.wg_codes.specs.declared.outcome.Read.{Read}
 use Rattle.wg_codes.specs.declared.outcome.Read.TheVariants.{Value, Cut, NoWord}
 use Rattle.wg_params.specs.declared.code.Code.{Code}
-use Rattle.wg_source.specs.Standing.{StopsAt, IsReadAt}
-use Rattle.wg_source.specs.Moving.{MovedOn}
+use Rattle.wg_grammar.specs.Standing.{StopsAt, IsReadAt}
+use Rattle.wg_grammar.specs.Moving.{MovedOn}
 
 pub after_later : (code : Code) (a b : Position) (r : Read) → b ≡ after (word code) a r → MovedOn a b
 after_later code a b (Value v) e = record { bits = ap (λ (p : Position). p.bits) e; at = omega (arith, ap (λ (p : Position). p.at) e) }
