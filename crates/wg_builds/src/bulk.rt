@@ -1,6 +1,6 @@
 //! The command `bulk`: what comes of a generated graph.
 ghost use Rattle.std.specs.Prelude.{◌≤◌};
-ghost use Rattle.wg_vectors.specs.declared.generating.TheConstants.{MOST_GENERATED};
+ghost use Rattle.wg_params.specs.declared.limits.TheConstants.{MOST_GENERATED};
 ghost use Rattle.wg_words.specs.declared.jobs.Job.TheVariants.{Bulk};
 ghost use Rattle.wg_outcomes.specs.Performs.{DoesAlone};
 

@@ -13,7 +13,7 @@ use crate::spares::Spares;
 use crate::uniting::union;
 use wg_graph::List;
 use wg_params::Params;
-use wg_source::Source;
+use wg_grammar::Source;
 
 /// The list of a record with this head, whose reference names the list `named`. It may be shorter than the outdegree,
 /// where a number stands twice. Memory is taken as numbers come, and not by the outdegree.

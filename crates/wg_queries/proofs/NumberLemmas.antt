@@ -2,8 +2,8 @@
 use Rattle.std.proofs.Common.{◌≡◌, ℕ, ◌+◌, ◌<◌, List, [], ◌∷◌, ◌++◌, map, length, take, drop, get_or, refl, sym, ap, subst, ◌∙◌, append_assoc, append-nil}
 use Rattle.std.proofs.lemmas.List.{take_more, take-append-drop}
 use Rattle.wg_io.specs.Puts.{joined}
-use Rattle.wg_io.specs.Printing.{HasPrinted, HasPrintedLess}
-use Rattle.wg_io.proofs.PrintLemmas.{printed_more, less_after, less_before}
+use Rattle.wg_lines.specs.Printing.{HasPrinted, HasPrintedLess}
+use Rattle.wg_lines.proofs.PrintLemmas.{printed_more, less_after, less_before}
 
 module _ (line : ℕ → List ℕ) where
   abbrev lines : List ℕ → List ℕ

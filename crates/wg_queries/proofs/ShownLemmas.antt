@@ -11,8 +11,8 @@ use Rattle.wg_random.specs.declared.error.ListError.TheVariants as lists
 use Rattle.wg_random.specs.declared.error.OpenError.{OpenError}
 use Rattle.wg_random.specs.declared.error.OpenError.TheVariants.{NoPage}
 use Rattle.wg_io.specs.Puts.{joined}
-use Rattle.wg_io.specs.Printing.{HasPrinted, HasPrintedLess, Prints}
-use Rattle.wg_io.proofs.PrintLemmas.{printed_more, less_after, less_before}
+use Rattle.wg_lines.specs.Printing.{HasPrinted, HasPrintedLess, Prints}
+use Rattle.wg_lines.proofs.PrintLemmas.{printed_more, less_after, less_before}
 use Rattle.std.specs.Bool.{IsTrue}
 use Rattle.wg_io.specs.declared.output.Output.TheVariants.{Out}
 use Rattle.wg_io.specs.declared.sink.Sink as sink

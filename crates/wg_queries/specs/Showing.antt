@@ -1,7 +1,7 @@
 -- The line of a page, as it is printed.
 use Rattle.std.specs.Prelude.{◌≡◌, ℕ, List, Result, Ok, IsTrue, IfErr}
 use Rattle.wg_io.specs.Outside.{Increased}
-use Rattle.wg_io.specs.Printing.{Prints}
+use Rattle.wg_lines.specs.Printing.{Prints}
 use Rattle.wg_io.specs.declared.output.Output.TheVariants.{Out}
 use Rattle.wg_io.specs.declared.sink.Sink as sink
 use Rattle.wg_grammar.specs.Archive.{Accepted, ReadsGraph}

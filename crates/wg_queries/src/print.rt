@@ -3,10 +3,10 @@ ghost use Rattle.std.specs.Prelude.{◌≡◌, ◌≤◌, ◌<◌, true, length,
 ghost use Rattle.wg_io.specs.Puts.{Puts};
 ghost use Rattle.wg_io.specs.Refusals.{SinkRefusals};
 ghost use Rattle.wg_outcomes.specs.Answers.{IsUnput, PrintRefusals};
-ghost use Rattle.wg_io.specs.Printing.{Prints};
+ghost use Rattle.wg_lines.specs.Printing.{Prints};
 ghost use Rattle.wg_arcs.specs.Text.{page_lines};
 ghost use Rattle.wg_ascii.specs.Text.{list_line, nodes_line};
-ghost use Rattle.wg_io.specs.declared.lines.TheConstants.{MOST_PIECE};
+ghost use Rattle.wg_lines.specs.declared.lines.TheConstants.{MOST_PIECE};
 ghost use Rattle.wg_outcomes.specs.Ranked.{rank_line, rank_lines};
 ghost use Rattle.wg_rank.specs.declared.limits.TheConstants.{UNITS};
 ghost use Rattle.wg_outcomes.specs.Commands.{number_line, ok_line};
@@ -14,7 +14,8 @@ ghost use Rattle.wg_outcomes.specs.Verified.{verified_line};
 ghost use Rattle.wg_io.specs.declared.output.Output.TheVariants.{Out};
 
 use crate::ranked::Ranked;
-use wg_io::{Lines, Sink, WriteError};
+use wg_io::{Sink, WriteError};
+use wg_lines::Lines;
 use wg_num::units_text;
 use wg_outcomes::{Ending, Text, output_ending, print_piece};
 use wg_rank::Certificate;

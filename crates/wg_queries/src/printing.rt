@@ -1,13 +1,14 @@
 //! The commands `arcs`, `ascii` and `offsets`: a text of each record of a graph, one after the other.
 ghost use Rattle.std.specs.Prelude.{IsTrue};
-ghost use Rattle.wg_io.specs.Printing.{Prints};
+ghost use Rattle.wg_lines.specs.Printing.{Prints};
 ghost use Rattle.wg_outcomes.specs.Answers.{PrintRefusals};
 ghost use Rattle.wg_outcomes.specs.Performs.{DoesOrEnds};
 ghost use Rattle.wg_queries.specs.Printed.{PrintsAgain, head_of, job_of, listed, piece_of};
 
 use crate::print::{print_list, print_nodes, print_number, print_page, print_rest};
 use std::alloc::Global;
-use wg_io::{Depot, Lines, Sink};
+use wg_io::{Depot, Sink};
+use wg_lines::Lines;
 use wg_outcomes::Ending;
 use wg_params::Params;
 use wg_readings::{end_records, judge_graph, load_params, next_record, open_graph};

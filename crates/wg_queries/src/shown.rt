@@ -1,12 +1,13 @@
 //! The lines of pages with their successors.
 ghost use Rattle.std.specs.Prelude.{◌≡◌, map, IsTrue};
-ghost use Rattle.wg_io.specs.Printing.{Prints};
+ghost use Rattle.wg_lines.specs.Printing.{Prints};
 ghost use Rattle.wg_io.specs.Puts.{joined};
 ghost use Rattle.wg_io.specs.Refusals.{SinkRefusals};
 ghost use Rattle.wg_outcomes.specs.Answers.{PrintRefusals};
 ghost use Rattle.wg_outcomes.specs.Commands.{spaced, successors_line};
 
-use wg_io::{Lines, Sink, WriteError};
+use wg_io::{Sink, WriteError};
+use wg_lines::Lines;
 use wg_iterators::Successors;
 use wg_outcomes::{Ending, output_ending};
 

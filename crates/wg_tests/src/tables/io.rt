@@ -7,10 +7,11 @@ use std::io::{self, Write};
 use std::process::Abort;
 use std::test::Fail;
 use wg_io::{
-    Depot, FileSink, FolderDepot, Lines, LoadError, MOST_BYTES, MemoryDepot, MemorySink, Sink,
-    StdSink, SteadyDepot, SteadySink, WriteError, ZeroDepot, append_all, read_whole, write_all,
+    Depot, FileSink, FolderDepot, LoadError, MOST_BYTES, MemoryDepot, MemorySink, Sink, StdSink,
+    SteadyDepot, SteadySink, WriteError, ZeroDepot, append_all, read_whole, write_all,
     write_pieces,
 };
+use wg_lines::Lines;
 
 const TEXT: &[u8] = b"pages and their successors";
 

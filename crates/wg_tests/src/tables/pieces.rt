@@ -6,10 +6,9 @@ use std::alloc::Global;
 use std::process::Abort;
 use std::test::Fail;
 use wg_codes::Read;
-use wg_grammar::{Fault, Field, Kind};
+use wg_grammar::{Fault, Field, Kind, Source};
 use wg_io::{Depot, LoadError, MOST_BYTES, MemoryDepot, SteadyDepot, ZeroDepot, append_all};
 use wg_params::Code;
-use wg_source::Source;
 use wg_stream::{FileSource, First, Reader, StreamError, Stretch};
 use wg_vectors::{
     Archive, BAD_TAIL, BLOCKS, CHAIN, INTERVALS, Refused, TOO_FEW_ARCS, TWICE, bytes_of, usual,

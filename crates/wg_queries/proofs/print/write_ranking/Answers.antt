@@ -3,8 +3,8 @@ use Rattle.std.proofs.lemmas.List.{take_all, get_or-take, length-take}
 use Rattle.wg_io.proofs.PutsLemmas.{is_that_err}
 use Rattle.wg_io.proofs.RefusalLemmas.{sink_after, sink_exit}
 use Rattle.wg_io.specs.declared.depot.WriteError.{WriteError}
-use Rattle.wg_io.specs.Printing.{HasPrinted, HasPrintedLess}
-use Rattle.wg_io.proofs.PrintLemmas.{puts_of_less, puts_in_the_end}
+use Rattle.wg_lines.specs.Printing.{HasPrinted, HasPrintedLess}
+use Rattle.wg_lines.proofs.PrintLemmas.{puts_of_less, puts_in_the_end}
 use Rattle.wg_outcomes.specs.Ranked.{rank_line, rank_lines}
 use Rattle.wg_queries.proofs.NumberLemmas.{line_printed, line_less}
 use Rattle.wg_queries.proofs.print.write_ranking.Goals as goal

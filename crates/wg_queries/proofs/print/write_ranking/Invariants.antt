@@ -1,5 +1,5 @@
 use Rattle.std.proofs.Common.{[], take, IsTrue}
-use Rattle.wg_io.specs.Printing.{HasPrinted}
+use Rattle.wg_lines.specs.Printing.{HasPrinted}
 use Rattle.wg_outcomes.specs.Ranked.{rank_lines}
 use Rattle.wg_queries.proofs.print.write_ranking.Given as goal
 

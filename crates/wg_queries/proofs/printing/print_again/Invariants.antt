@@ -1,5 +1,5 @@
 use Rattle.std.proofs.Common.{[], IsTrue}
-use Rattle.wg_io.specs.Printing.{HasPrinted}
+use Rattle.wg_lines.specs.Printing.{HasPrinted}
 use Rattle.wg_readings.specs.Passes.{accepted_of}
 use Rattle.wg_queries.specs.Printed.{listed}
 use Rattle.wg_readings.proofs.UnderWay.{IsUnderWay}

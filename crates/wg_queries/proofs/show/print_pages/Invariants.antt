@@ -1,5 +1,5 @@
 use Rattle.std.proofs.Common.{[], Ok, map, take, IsTrue}
-use Rattle.wg_io.specs.Printing.{HasPrinted}
+use Rattle.wg_lines.specs.Printing.{HasPrinted}
 use Rattle.wg_io.specs.Puts.{joined}
 use Rattle.wg_grammar.specs.Archive.{Accepted, ReadsGraph}
 use Rattle.wg_outcomes.specs.Commands.{line_in}
