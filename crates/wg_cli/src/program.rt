@@ -21,8 +21,8 @@ ghost use Rattle.wg_outcomes.specs.Readings.{Readings};
 ghost use Rattle.wg_outcomes.specs.Written.{HasFiles};
 ghost use Rattle.wg_outcomes.specs.declared.status.Input.{Input};
 
-use crate::report::report;
 use crate::Status;
+use crate::report::report;
 use std::alloc::{AllocError, Global};
 use wg_io::{Depot, Sink};
 use wg_outcomes::Ending;

@@ -7,8 +7,8 @@ ghost use Rattle.wg_outcomes.specs.Answers.{PrintRefusals};
 ghost use Rattle.wg_outcomes.specs.Commands.{spaced, successors_line};
 
 use wg_io::{Sink, WriteError};
-use wg_lines::Lines;
 use wg_iterators::Successors;
+use wg_lines::Lines;
 use wg_outcomes::{Ending, output_ending};
 
 // A number behind a space.
