@@ -13,8 +13,9 @@
 //! depot.put_file("a", b"0 1\n")?;
 //! let list = Name::new(rt.alloc(), "a")?;
 //! let base = Name::new(rt.alloc(), "g")?;
+//! let layout = usual_layout();
 //! let mut out = SteadySink::new(rt.alloc(), 4096);
-//! let done = build(rt.alloc(), &list, &base, 2, &usual_layout(), &mut depot, &mut out);
+//! let done = build(rt.alloc(), &list, &base, 2, &layout, &mut depot, &mut out);
 //! assert!(rt; done.is_ok());
 //! assert_eq!(rt; out.bytes(), b"ok nodes=2 arcs=1 bits=10\n".as_slice());
 //! Ok(())

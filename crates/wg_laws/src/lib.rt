@@ -4,8 +4,8 @@
 //! that what is written is accepted and read back, and that what is ranked and verified is proven.
 //!
 //! ```rust
-//! readings();
-//! built_archives();
+//! wg_laws::readings();
+//! wg_laws::built_archives();
 //! ```
 #![tactic(auto)]
 
