@@ -8,8 +8,8 @@ ghost use Rattle.wg_jobs.specs.Judged.{spaced, successors_line};
 
 use crate::print::output_ending;
 use wg_io::{Sink, WriteError};
-use wg_lines::Lines;
 use wg_iterators::Successors;
+use wg_lines::Lines;
 use wg_readings::Ending;
 
 // A number behind a space.
