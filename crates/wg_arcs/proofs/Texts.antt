@@ -1,9 +1,9 @@
 -- The text of arcs, one after the other.
 use Rattle.std.proofs.Common.{◌≡◌, ℕ, ◌+◌, ◌<◌, List, [], ◌∷◌, ◌++◌, map, length, take, drop, get_or, codes, decimal, refl, sym, ap, subst, ◌∙◌, append_assoc, append-nil}
 use Rattle.std.proofs.lemmas.List.{map-append, take_more, take-append-drop}
-use Rattle.wg_io.specs.Printing.{HasPrinted, HasPrintedLess}
+use Rattle.wg_lines.specs.Printing.{HasPrinted, HasPrintedLess}
 use Rattle.wg_io.specs.Puts.{joined}
-use Rattle.wg_io.proofs.PrintLemmas.{printed_more, less_after, less_before}
+use Rattle.wg_lines.proofs.PrintLemmas.{printed_more, less_after, less_before}
 use Rattle.wg_graph.specs.Digraph.{Digraph, successors}
 use Rattle.wg_graph.specs.Arcs.{arcs_from, arcs_of}
 use Rattle.wg_graph.proofs.Arcs.{arcs_from_more, arcs_from_split}

@@ -2,9 +2,9 @@
 use Rattle.std.proofs.Common.{◌≡◌, ℕ, ◌+◌, ◌<◌, List, [], ◌∷◌, ◌++◌, map, length, take, drop, get_or, Result, Ok, Err, refl, sym, ap, subst, ◌∙◌, append_assoc, append-nil}
 use Rattle.std.specs.Result.{IsErrAnd}
 use Rattle.std.proofs.lemmas.List.{map-append, take_more, take-append-drop}
-use Rattle.wg_io.specs.Printing.{HasPrinted, HasPrintedLess, Prints}
+use Rattle.wg_lines.specs.Printing.{HasPrinted, HasPrintedLess, Prints}
 use Rattle.wg_io.specs.Puts.{joined}
-use Rattle.wg_io.proofs.PrintLemmas.{printed_more, less_after, less_before}
+use Rattle.wg_lines.proofs.PrintLemmas.{printed_more, less_after, less_before}
 use Rattle.wg_io.proofs.PutsLemmas.{is_that_err}
 
 -- ---- two texts

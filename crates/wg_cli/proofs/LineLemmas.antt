@@ -3,7 +3,7 @@ use Rattle.std.proofs.Common.{ℕ, Option, Some, None}
 use Rattle.wg_io.specs.Outside.{Files}
 use Rattle.wg_words.specs.declared.jobs.Job.{Job}
 use Rattle.wg_cli.specs.Wanted.{ArePromisedBy}
-use Rattle.wg_readings.specs.declared.status.Status.TheVariants.{Memory}
+use Rattle.wg_outcomes.specs.declared.status.Status.TheVariants.{Memory}
 
 -- want of memory names none
 pub nothing_promised : (o : Option Job) (files : Files) (n : ℕ) → ArePromisedBy o files Memory n

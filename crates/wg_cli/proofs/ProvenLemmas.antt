@@ -4,17 +4,17 @@ use Rattle.wg_params.specs.declared.limits.TheConstants.{MOST_DAMPING, MOST_ROUN
 use Rattle.wg_graph.specs.Digraph.{Digraph}
 use Rattle.wg_rank.specs.Intervals.{Intervals}
 use Rattle.wg_words.specs.declared.jobs.Job.TheVariants.{Rank}
-use Rattle.wg_readings.specs.Answers.{Answers}
-use Rattle.wg_jobs.specs.Judged.{judged, ranks}
-use Rattle.wg_readings.specs.Judged.{Judged, output_of, status_of, weights_then}
-use Rattle.wg_jobs.specs.Ranked.{PrintsProvenRanking, bounds_after, ranking_text}
-use Rattle.wg_readings.specs.Readings.{Readings}
-use Rattle.wg_readings.specs.declared.status.Input.{Input}
-use Rattle.wg_readings.specs.declared.status.Input.TheVariants.{Weights}
-use Rattle.wg_readings.specs.declared.status.Status.TheVariants.{Done}
-use Rattle.wg_jobs.proofs.HeldLemmas.{graph_behind}
-use Rattle.wg_jobs.proofs.RankLemmas.{proven}
-use Rattle.wg_jobs.proofs.WeightsLemmas.{weights_behind}
+use Rattle.wg_outcomes.specs.Answers.{Answers}
+use Rattle.wg_outcomes.specs.Commands.{judged, ranks}
+use Rattle.wg_outcomes.specs.Judged.{Judged, output_of, status_of, weights_then}
+use Rattle.wg_outcomes.specs.Ranked.{PrintsProvenRanking, bounds_after, ranking_text}
+use Rattle.wg_outcomes.specs.Readings.{Readings}
+use Rattle.wg_outcomes.specs.declared.status.Input.{Input}
+use Rattle.wg_outcomes.specs.declared.status.Input.TheVariants.{Weights}
+use Rattle.wg_outcomes.specs.declared.status.Status.TheVariants.{Done}
+use Rattle.wg_laws.proofs.HeldLemmas.{graph_behind}
+use Rattle.wg_outcomes.proofs.RankLemmas.{proven}
+use Rattle.wg_laws.proofs.WeightsLemmas.{weights_behind}
 
 -- Done is the status of the judgement itself
 pub when_done : (j : Judged) → Answers j Done → Done ≡ status_of j

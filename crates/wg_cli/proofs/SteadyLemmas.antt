@@ -3,12 +3,12 @@ use Rattle.std.proofs.Common.{◌≡◌, ◌≢◌, ◌⊎◌, inl, inr, ℕ, Li
 use Rattle.wg_io.specs.Outside.{Counts}
 use Rattle.wg_io.specs.declared.output.Output.{Output}
 use Rattle.wg_words.specs.declared.jobs.Job.{Job}
-use Rattle.wg_readings.specs.Causes.{AreFaultless, HasCause}
-use Rattle.wg_jobs.specs.Names.{input_name, output_name}
-use Rattle.wg_readings.specs.declared.status.Input.{Input}
-use Rattle.wg_readings.specs.declared.status.Status.{Status}
-use Rattle.wg_readings.specs.declared.status.Status.TheVariants.{Usage, Memory, ReadFault, WriteFault}
-use Rattle.wg_jobs.proofs.PerformsLemmas.{not_at, no_fault_in}
+use Rattle.wg_outcomes.specs.Causes.{AreFaultless, HasCause}
+use Rattle.wg_outcomes.specs.JobFiles.{input_name, output_name}
+use Rattle.wg_outcomes.specs.declared.status.Input.{Input}
+use Rattle.wg_outcomes.specs.declared.status.Status.{Status}
+use Rattle.wg_outcomes.specs.declared.status.Status.TheVariants.{Usage, Memory, ReadFault, WriteFault}
+use Rattle.wg_outcomes.proofs.PerformsLemmas.{not_at, no_fault_in}
 
 module _ (old new : List ℕ → Counts) (faults faults' : ℕ) (quiet : AreFaultless old new faults faults') (s : Status) where
   no_fault_here : (s ≡ Usage) ⊎ (s ≡ Memory) → (f : Status) → (Usage ≡ f → ⊥) → (Memory ≡ f → ⊥) → s ≢ f

@@ -3,14 +3,14 @@ use Rattle.std.specs.Prelude.{◌≡◌, ◌⊎◌, ◌<◌, ℕ, List, [], ◌+
 use Rattle.wg_io.specs.declared.output.Output.{Output}
 use Rattle.wg_io.specs.declared.output.Output.TheVariants as output
 use Rattle.wg_words.specs.declared.jobs.Job.{Job}
-use Rattle.wg_jobs.specs.Names.{input_name, output_name}
-use Rattle.wg_readings.specs.Names.{certificate_to, file_of_fault}
-use Rattle.wg_readings.specs.declared.status.Input.{Input}
-use Rattle.wg_readings.specs.declared.status.Input.TheVariants as input
-use Rattle.wg_readings.specs.declared.status.Status.{Status}
-use Rattle.wg_readings.specs.declared.status.Status.TheVariants.{Done, Usage, Memory, ReadFault, WriteFault, Missing, BadArcs, BadProperties, BadArchive, BadSecond, TooManyArcs, NoPage, OverLimit, BadWeights, BadText, BadMap, BadCertificate}
-use Rattle.wg_readings.specs.declared.status.SecondFault.TheVariants as second
-use Rattle.wg_readings.specs.Second.{second_input}
+use Rattle.wg_outcomes.specs.JobFiles.{input_name, output_name}
+use Rattle.wg_outcomes.specs.Names.{certificate_to, file_of_fault}
+use Rattle.wg_outcomes.specs.declared.status.Input.{Input}
+use Rattle.wg_outcomes.specs.declared.status.Input.TheVariants as input
+use Rattle.wg_outcomes.specs.declared.status.Status.{Status}
+use Rattle.wg_outcomes.specs.declared.status.Status.TheVariants.{Done, Usage, Memory, ReadFault, WriteFault, Missing, BadArcs, BadProperties, BadArchive, BadSecond, TooManyArcs, NoPage, OverLimit, BadWeights, BadText, BadMap, BadCertificate}
+use Rattle.wg_outcomes.specs.declared.status.SecondFault.TheVariants as second
+use Rattle.wg_outcomes.specs.Second.{second_input}
 use Rattle.wg_cli.specs.Texts.{text_of_line, text_of_properties, text_of_archive, text_of_numbers, text_of_weights, text_of_plain, text_of_certificate, no_page_line}
 
 -- a line that names a file; none where the job has no such file

@@ -24,8 +24,8 @@ use Rattle.wg_rank.specs.declared.fault.CertFault.{CertFault}
 use Rattle.wg_rank.specs.declared.fault.CertFault.TheVariants as certificate
 use Rattle.wg_rank.specs.declared.fault.CertKind.{CertKind}
 use Rattle.wg_rank.specs.declared.fault.CertKind.TheVariants as claim
-use Rattle.wg_readings.specs.declared.status.WeightsFault.{WeightsFault}
-use Rattle.wg_readings.specs.declared.status.WeightsFault.TheVariants as weights
+use Rattle.wg_outcomes.specs.declared.status.WeightsFault.{WeightsFault}
+use Rattle.wg_outcomes.specs.declared.status.WeightsFault.TheVariants as weights
 
 abbrev pub text_of_field : Field → List ℕ
 text_of_field field.Outdegree = codes "outdegree"

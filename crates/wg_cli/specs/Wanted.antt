@@ -2,10 +2,10 @@
 use Rattle.std.specs.Prelude.{ℕ, Bool, false, Option, Some, None}
 use Rattle.wg_io.specs.Outside.{Files}
 use Rattle.wg_words.specs.declared.jobs.Job.{Job}
-use Rattle.wg_jobs.specs.Names.{input_name, writes_files}
-use Rattle.wg_readings.specs.Names.{held_by}
-use Rattle.wg_readings.specs.Promised.{ArePromised}
-use Rattle.wg_readings.specs.declared.status.Status.{Status}
+use Rattle.wg_outcomes.specs.JobFiles.{input_name, writes_files}
+use Rattle.wg_outcomes.specs.Names.{held_by}
+use Rattle.wg_outcomes.specs.Promised.{ArePromised}
+use Rattle.wg_outcomes.specs.declared.status.Status.{Status}
 
 -- whether it writes files
 abbrev pub some_writes_files : Option Job → Bool

@@ -3,14 +3,13 @@ ghost use Rattle.std.specs.Prelude.{◌≡◌, ◌≢◌, ◌⊎◌, ◌≤◌, 
 ghost use Rattle.wg_io.specs.Outside.{Increased};
 ghost use Rattle.wg_io.specs.Puts.{Puts};
 ghost use Rattle.wg_cli.specs.Lines.{naming, name_in, output_in, line_of, Reports};
-ghost use Rattle.wg_jobs.specs.Names.{input_name};
-ghost use Rattle.wg_readings.specs.declared.status.Status.TheVariants.{BadSecond};
+ghost use Rattle.wg_outcomes.specs.JobFiles.{input_name};
+ghost use Rattle.wg_outcomes.specs.declared.status.Status.TheVariants.{BadSecond};
 
 use crate::names::{input_parts, output_parts};
 use crate::{Input, Status, texts};
 use wg_io::{Output, Sink, WriteError, write_all, write_pieces};
-use wg_jobs::{SecondFault, Text};
-use wg_readings::second_input;
+use wg_outcomes::{SecondFault, Text, second_input};
 use wg_words::Job;
 
 // The name of a job's input, in two parts.

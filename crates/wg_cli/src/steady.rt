@@ -2,10 +2,10 @@ ghost use Rattle.std.specs.Prelude.{◌≡◌, ◌≢◌, ◌⊎◌, Some};
 ghost use Rattle.wg_io.specs.declared.output.Output.{Output};
 ghost use Rattle.wg_words.specs.Jobs.{job_of};
 ghost use Rattle.wg_words.specs.declared.jobs.Job.{Job};
-ghost use Rattle.wg_readings.specs.Judged.{status_of};
-ghost use Rattle.wg_jobs.specs.Performs.{judged_on};
-ghost use Rattle.wg_readings.specs.Readings.{Readings};
-ghost use Rattle.wg_readings.specs.declared.status.Input.{Input};
+ghost use Rattle.wg_outcomes.specs.Judged.{status_of};
+ghost use Rattle.wg_outcomes.specs.Performs.{judged_on};
+ghost use Rattle.wg_outcomes.specs.Readings.{Readings};
+ghost use Rattle.wg_outcomes.specs.declared.status.Input.{Input};
 
 use crate::{Status, run};
 use std::alloc::Global;

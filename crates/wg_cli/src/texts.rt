@@ -4,13 +4,13 @@ ghost use Rattle.wg_cli.specs.Texts.{text_of_field, text_of_kind, text_of_arcs, 
 ghost use Rattle.wg_cli.specs.Texts.{text_of_record, text_of_word, text_of_archive, no_page_line};
 ghost use Rattle.wg_cli.specs.Texts.{text_of_number_kind, text_of_numbers, text_of_weights, text_of_claim_kind, text_of_certificate};
 ghost use Rattle.wg_cli.specs.Texts.{text_of_plain_kind, text_of_plain};
-ghost use Rattle.wg_readings.specs.Names.{file_of_fault};
+ghost use Rattle.wg_outcomes.specs.Names.{file_of_fault};
 
 use crate::Input;
 use wg_arcs::{ArcsKind, NumbersFault, NumbersKind};
 use wg_ascii::AsciiKind;
 use wg_grammar::{ArchiveFault, Fault, Field, Kind, OffsetWord};
-use wg_jobs::{Text, WeightsFault};
+use wg_outcomes::{Text, WeightsFault};
 use wg_properties::{PropFault, key_name};
 use wg_rank::{CertFault, CertKind};
 

@@ -23,9 +23,8 @@ use crate::head::Head;
 use crate::reading::decode_members;
 use crate::value::value;
 use crate::{Decoded, Spares, Unread};
-use wg_grammar::{Fault, Field, Progress, Referenced};
+use wg_grammar::{Fault, Field, Progress, Referenced, Source};
 use wg_params::Params;
-use wg_source::Source;
 
 // Takes the value of a field of the head that stands at the bit `at`, or refuses it.
 fn accepted<R>(

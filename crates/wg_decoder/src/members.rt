@@ -11,9 +11,9 @@ use crate::intervals::intervals;
 use crate::residuals::with_residuals;
 use crate::spares::Spares;
 use crate::uniting::union;
+use wg_grammar::Source;
 use wg_graph::List;
 use wg_params::Params;
-use wg_source::Source;
 
 /// The list of a record with this head, whose reference names the list `named`. It may be shorter than the outdegree,
 /// where a number stands twice. Memory is taken as numbers come, and not by the outdegree.

@@ -12,9 +12,8 @@ use crate::{DecodeError, Decoded, Spares, Unread, Window};
 use std::alloc::Global;
 use std::convert::Infallible;
 use wg_bits::Cursor;
-use wg_grammar::{Fault, Field, Kind};
+use wg_grammar::{Fault, Field, Kind, Source};
 use wg_params::Params;
-use wg_source::Source;
 
 /// The rest of a record that begins at the bit `start` and whose head has been read. Its reference names a page with
 /// this list, and leads to this depth.

@@ -7,9 +7,8 @@ ghost use Rattle.wg_decoder.specs.Stages.{IsWordAt, IsNoWordAt, IsNumberAt, IsNo
 
 use crate::Unread;
 use wg_codes::{Read, unfold_from};
-use wg_grammar::{Fault, Field, Kind};
+use wg_grammar::{Fault, Field, Kind, Source};
 use wg_params::Code;
-use wg_source::Source;
 
 // The value of the word that comes next.
 #[inline(always)]

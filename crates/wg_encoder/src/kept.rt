@@ -112,32 +112,3 @@ impl Kept {
         Ok(())
     }
 }
-
-#[cfg(test)]
-mod tests {
-    use super::*;
-    use std::test::Fail;
-    use wg_vectors::usual;
-
-    #[test]
-    fn memory_serves_again(rt: HostRuntime) -> Result<(), Fail> {
-        let many = [0, 1, 2, 3, 4, 5, 6, 7, 8, 9, 10, 11, 12, 13, 14, 15, 16];
-        let mut kept = Kept::new(rt.alloc(), &usual(100, 100, 1, 3, 4)?);
-        kept.keep(&many, 0)?;
-        kept.keep(&[], 0)?;
-        let none = kept.window.get(1).ok_or("nothing is kept")?;
-        assert_eq!(rt; none.room(), 0);
-        kept.keep(&[1], 0)?;
-        let one = kept.window.get(1).ok_or("nothing is kept")?;
-        assert!(rt; one.as_slice() == [1].as_slice() && one.room() >= many.len());
-        Ok(())
-    }
-
-    #[test]
-    fn nothing_is_kept_without_references(rt: HostRuntime) -> Result<(), Fail> {
-        let mut kept = Kept::new(rt.alloc(), &usual(100, 100, 0, 3, 4)?);
-        kept.keep(&[1], 0)?;
-        assert!(rt; kept.window.get(1).is_none());
-        Ok(())
-    }
-}

@@ -27,20 +27,3 @@ pub(crate) fn shares(list: &[u64], referenced: &[u64]) -> bool
     }
     false
 }
-
-#[cfg(test)]
-mod tests {
-    use super::*;
-
-    #[test]
-    fn lists_with_and_without_a_common_member(rt: HostRuntime) {
-        let answers = [
-            shares(&[], &[1]),
-            shares(&[1, 2], &[3, 4]),
-            shares(&[1, 4, 7], &[0, 2, 5, 9]),
-            shares(&[4, 7], &[1, 2, 7]),
-            shares(&[1, 5, 6], &[5, 8]),
-        ];
-        assert_eq!(rt; answers, [false, false, false, true, true]);
-    }
-}

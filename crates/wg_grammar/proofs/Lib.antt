@@ -8,3 +8,4 @@ pub mod OneGraph
 pub mod Tallies
 pub mod Tails
 pub mod ProperGraphs
+pub mod CursorLemmas

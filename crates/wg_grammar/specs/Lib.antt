@@ -9,3 +9,5 @@ pub mod Laws
 pub mod Tally
 pub mod Judging
 pub mod Follow
+pub mod Standing
+pub mod Moving

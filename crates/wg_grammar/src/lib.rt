@@ -19,6 +19,10 @@
 //! the next [`Need`], a field and its code, and judges the value that was read there. A refused field is named by a
 //! [`Fault`], and the first fault of a whole archive by an [`ArchiveFault`]. [`tail_fault`] judges the tail.
 //!
+//! Words and tail are read from a [`Source`], wherever its bits come from; whoever reads records is generic over it. A
+//! cursor over bytes in memory is a source that refuses nothing; one that takes its bytes in pieces from a file may
+//! refuse a word, since a read may fail.
+//!
 //! The record of the last page, with an outdegree that is refused, and one that ends it:
 //!
 //! ```rust
@@ -36,16 +40,19 @@
 //! Ok(())
 //! ```
 //!
-//! Nothing here takes memory, and each call takes constant time.
+//! Nothing here takes memory, and each call takes constant time; a word from memory costs what [`wg_codes::read`] costs.
 #![tactic(auto)]
 
+mod cursor;
 mod fault;
 pub mod laws;
 mod need;
 mod progress;
+mod source;
 mod tail;
 
 pub use fault::{ArchiveFault, Fault, Field, Kind, OffsetWord};
 pub use need::Need;
 pub use progress::{Progress, Referenced};
+pub use source::Source;
 pub use tail::{MOST_TAIL, tail_fault};

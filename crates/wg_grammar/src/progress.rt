@@ -3,8 +3,6 @@ ghost use Rattle.std.specs.Option.{ForSome, ForNone};
 
 mod refusal;
 mod taking;
-#[cfg(test)]
-mod tests;
 
 use crate::{Field, Kind, Need};
 use wg_params::{Code, Params};

@@ -23,19 +23,3 @@ pub fn tail_fault(cursor: &mut Cursor<'_>) -> Option<u64>
     }
     None
 }
-
-#[cfg(test)]
-mod tests {
-    use super::*;
-    use wg_bits::Bits;
-
-    #[test]
-    fn a_tail_has_at_most_127_bits_of_0(rt: HostRuntime) {
-        let short = [0u8; 15];
-        assert_eq!(rt; tail_fault(&mut Cursor::new(Bits::of(&short), 0)), None);
-        let long = [0u8; 16];
-        assert_eq!(rt; tail_fault(&mut Cursor::new(Bits::of(&long), 0)), Some(127));
-        let one = [0u8, 16];
-        assert_eq!(rt; tail_fault(&mut Cursor::new(Bits::of(&one), 0)), Some(11));
-    }
-}

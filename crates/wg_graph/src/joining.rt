@@ -38,21 +38,3 @@ pub fn join(out: &mut List, members: &[u64], from: usize, number: u64) -> Result
     }
     Ok(taken)
 }
-
-#[cfg(test)]
-mod tests {
-    use super::*;
-    use std::test::Fail;
-
-    #[test]
-    fn numbers_joined_one_by_one(rt: HostRuntime) -> Result<(), Fail> {
-        let members = [1, 5, 7, 9];
-        let mut out = List::new(rt.alloc());
-        let first = join(&mut out, &members, 0, 0)?;
-        let second = join(&mut out, &members, first, 5)?;
-        let third = join(&mut out, &members, second, 8)?;
-        assert_eq!(rt; [first, second, third], [0, 2, 3]);
-        assert_eq!(rt; out.as_slice(), [0, 1, 5, 7, 8].as_slice());
-        Ok(())
-    }
-}

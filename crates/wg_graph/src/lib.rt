@@ -51,6 +51,3 @@ pub use lists::{GraphLists, Lists};
 pub use members::Members;
 pub use row::Row;
 pub use row_slice::RowSlice;
-
-#[cfg(test)]
-mod tests;

@@ -102,38 +102,3 @@ impl<'a> Members<'a> {
         }
     }
 }
-
-#[cfg(test)]
-mod tests {
-    use super::*;
-
-    #[test]
-    fn questions_in_ascending_order(rt: HostRuntime) {
-        let mut members = Members::of(&[1, 5, 7]);
-        let answers = [
-            members.has(1),
-            members.has(3),
-            members.has(5),
-            members.has(7),
-            members.has(9),
-        ];
-        assert_eq!(rt; answers, [true, false, true, true, false]);
-    }
-
-    #[test]
-    fn members_below_a_number_and_the_number(rt: HostRuntime) {
-        let mut members = Members::of(&[1, 5, 7]);
-        let below = [
-            members.next_below(5),
-            members.next_below(5),
-            members.next_below(5),
-        ];
-        assert_eq!(rt; below, [Some(1), None, None]);
-        let taken = [members.take(5), members.take(5), members.take(6)];
-        assert_eq!(rt; taken, [true, false, false]);
-        assert_eq!(rt;
-            [members.next_below(8), members.next_below(8)],
-            [Some(7), None]
-        );
-    }
-}

@@ -30,8 +30,6 @@ pub mod laws;
 mod parts;
 mod run;
 mod splitting;
-#[cfg(test)]
-mod tests;
 mod walk;
 
 pub use parts::Split;

@@ -1,7 +1,6 @@
 pub mod FilesLemmas
 pub mod PieceLemmas
 pub mod PutsLemmas
-pub mod PrintLemmas
 pub mod RefusalLemmas
 pub mod HeldLemmas
 pub mod SuffixLemmas

@@ -2,7 +2,6 @@ pub mod Outside
 pub mod FileLaws
 pub mod Reads
 pub mod Puts
-pub mod Printing
 pub mod Refusals
 pub mod Memory
 pub mod Later

@@ -2,8 +2,7 @@
 //!
 //! Whoever reads or writes is generic over these traits, and its contract says which bytes it read and wrote wherever
 //! the outside can tell them. [`read_whole`] reads a file into a [`List8`], [`append_all`] writes to a file,
-//! [`write_all`] and [`write_pieces`] write to a sink; each loops until all is done or a call is refused. [`Lines`]
-//! prints numbers and short texts through a fixed buffer, so that a sink is called once for some thousand bytes. A
+//! [`write_all`] and [`write_pieces`] write to a sink; each loops until all is done or a call is refused. A
 //! [`FileSink`] is a file of any depot.
 //!
 //! | outside | files | bytes |
@@ -43,7 +42,6 @@ mod file_sink;
 mod folder;
 mod held;
 mod limits;
-mod lines;
 mod memory_depot;
 mod memory_sink;
 mod output;
@@ -63,7 +61,6 @@ pub use depot::{Depot, ReadError, WriteError};
 pub use file_sink::FileSink;
 pub use folder::FolderDepot;
 pub use limits::MOST_BYTES;
-pub use lines::{Lines, MOST_PIECE, MOST_START};
 pub use memory_depot::MemoryDepot;
 pub use memory_sink::MemorySink;
 pub use output::Output;

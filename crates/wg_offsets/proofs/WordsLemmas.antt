@@ -15,7 +15,7 @@ use Rattle.wg_grammar.specs.declared.fault.OffsetWord.TheVariants as faults
 use Rattle.wg_offsets.specs.Words.{places_of, refusal, Words, IsRefused, ReadsOffsets}
 use Rattle.wg_offsets.specs.declared.places.TheConstants.{MOST_PLACE}
 use Rattle.wg_offsets.specs.Places.{last_place}
-use Rattle.wg_source.specs.Standing.{IsReadAt}
+use Rattle.wg_grammar.specs.Standing.{IsReadAt}
 use Rattle.wg_offsets.specs.Stages.{PrefixRead, LeadsTo, LeadsBy}
 
 -- a word more after some

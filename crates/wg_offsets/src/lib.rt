@@ -41,6 +41,3 @@ pub use error::{OffsetsError, ReadError, WordError};
 pub use places::{MOST_PLACE, Offsets};
 pub use reading::{read, read_from};
 pub use words::Words;
-
-#[cfg(test)]
-mod tests;

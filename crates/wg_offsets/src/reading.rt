@@ -13,7 +13,7 @@ use std::alloc::Global;
 use std::convert::Infallible;
 use wg_bits::{Bits, Cursor};
 use wg_params::Code;
-use wg_source::Source;
+use wg_grammar::Source;
 
 /// Reads the places of `n` records, whose offsets file these bytes are. It takes one pass, and 8 bytes of memory for
 /// each word that it has read.

@@ -11,9 +11,8 @@ ghost use Rattle.wg_offsets.specs.Stages.{AreRead, LeadsBy};
 use crate::{MOST_PLACE, WordError};
 use std::marker::Model;
 use wg_codes::Read;
-use wg_grammar::OffsetWord;
+use wg_grammar::{OffsetWord, Source};
 use wg_params::Code;
-use wg_source::Source;
 
 /// Reads the words of an offsets file, one for each record and one more: each leads from the offset of a record to that
 /// of the next. It keeps the last offset only.

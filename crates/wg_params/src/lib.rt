@@ -48,7 +48,7 @@ pub use code::Code;
 pub use key::{BadParam, Key};
 pub use layout::{Codes, Layout};
 pub use limits::{
-    MOST_ARCS, MOST_CHAIN, MOST_DAMPING, MOST_INTERVAL, MOST_PAGES, MOST_ROUNDS, MOST_WINDOW,
-    MOST_ZETA,
+    MOST_ARCS, MOST_CHAIN, MOST_DAMPING, MOST_GENERATED, MOST_INTERVAL, MOST_PAGES, MOST_ROUNDS,
+    MOST_WINDOW, MOST_ZETA,
 };
 pub use params::Params;

@@ -21,3 +21,6 @@ pub const MOST_DAMPING: u64 = 999;
 
 /// The most rounds of a ranking.
 pub const MOST_ROUNDS: u64 = 10_000;
+
+/// The most pages of a generated graph.
+pub const MOST_GENERATED: u64 = 1 << 24;

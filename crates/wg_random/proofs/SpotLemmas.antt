@@ -27,7 +27,8 @@ use Rattle.wg_decoder.specs.Head.{of_outdegree}
 use Rattle.wg_decoder.proofs.ApartLemmas.{head_refused, reference_near}
 use Rattle.wg_random.specs.declared.error.SpotError.{SpotError}
 use Rattle.wg_random.specs.declared.error.SpotError.TheVariants as errors
-use Rattle.wg_random.specs.Spot.{endless, start_of, HeadReads, RecordReads, RefersTo, OverReads, ChainReads, IsChain, SpotAnswers, OfSpot, IsHeadFault}
+use Rattle.wg_decoder.specs.Chains.{endless, start_of, HeadReads, RecordReads, RefersTo, OverReads, ChainReads, IsChain, IsHeadFault}
+use Rattle.wg_random.specs.Spot.{SpotAnswers, OfSpot}
 use Rattle.wg_random.specs.Unread.{spot_error}
 use Rattle.wg_random.proofs.ChainLemmas.{pushed_length}
 

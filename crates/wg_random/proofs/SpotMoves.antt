@@ -24,7 +24,7 @@ use Rattle.wg_decoder.specs.Apart.{page_over, HeadStands}
 use Rattle.wg_decoder.specs.Head.{of_outdegree}
 use Rattle.wg_decoder.proofs.HeadLemmas.{outdegree_due, reference_due}
 use Rattle.wg_decoder.proofs.ApartLemmas.{no_reference_stands}
-use Rattle.wg_random.specs.Spot.{endless}
+use Rattle.wg_decoder.specs.Chains.{endless}
 
 -- ---- the reference is read once, and is near
 

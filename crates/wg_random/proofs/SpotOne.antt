@@ -15,7 +15,7 @@ use Rattle.wg_grammar.proofs.OneRecord.{stands_one, stands_or_refused, refused_o
 use Rattle.wg_decoder.specs.Apart.{page_over, RefersNext, OutdegreeStands, ReferenceStands, HeadStands, ReferenceFails, HeadFails}
 use Rattle.wg_decoder.specs.Head.{of_outdegree}
 use Rattle.wg_decoder.proofs.HeadLemmas.{outdegree_due}
-use Rattle.wg_random.specs.Spot.{endless, start_of, HeadReads, RecordReads, EndReads, OverReads, ChainReads}
+use Rattle.wg_decoder.specs.Chains.{endless, start_of, HeadReads, RecordReads, EndReads, OverReads, ChainReads}
 
 -- ---- the head of a record, with these parameters and in this context
 

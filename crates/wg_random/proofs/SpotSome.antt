@@ -23,7 +23,7 @@ use Rattle.wg_decoder.specs.Apart.{page_over, RefersNext, OutdegreeStands, HeadS
 use Rattle.wg_decoder.specs.Head.{of_outdegree}
 use Rattle.wg_decoder.proofs.HeadLemmas.{reference_due}
 use Rattle.wg_decoder.proofs.ApartLemmas.{no_reference_stands}
-use Rattle.wg_random.specs.Spot.{endless, start_of, HeadReads, RecordReads, OverReads, SpotReads}
+use Rattle.wg_decoder.specs.Chains.{endless, start_of, HeadReads, RecordReads, OverReads, SpotReads}
 use Rattle.wg_random.proofs.SpotLemmas.{refers_falls}
 use Rattle.wg_random.proofs.SpotOne.{outdegree_coded, reference_coded, endless_limits}
 

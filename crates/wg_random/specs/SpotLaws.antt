@@ -4,7 +4,7 @@ use Rattle.wg_params.specs.Parameters.{Parameters, IsWithinLimits}
 use Rattle.wg_grammar.specs.declared.fault.ArchiveFault.{ArchiveFault}
 use Rattle.wg_grammar.specs.Archive.{Accepted, ReadsGraph}
 use Rattle.wg_grammar.specs.Context.{Known}
-use Rattle.wg_random.specs.Spot.{SpotReads}
+use Rattle.wg_decoder.specs.Chains.{SpotReads}
 
 -- A page has at most one list, or at most one fault, and never both.
 abbrev pub SpotIsOne : Type 0

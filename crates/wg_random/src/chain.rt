@@ -4,7 +4,8 @@ ghost use Rattle.wg_io.specs.declared.limits.TheConstants.{MOST_BYTES};
 ghost use Rattle.wg_bits.specs.Bits.{bits_of};
 ghost use Rattle.wg_grammar.specs.Context.{Known};
 ghost use Rattle.wg_random.specs.Chain.{ArePages};
-ghost use Rattle.wg_random.specs.Spot.{HeadReads, ChainReads, IsChain, SpotAnswers, OfSpot};
+ghost use Rattle.wg_decoder.specs.Chains.{HeadReads, ChainReads, IsChain};
+ghost use Rattle.wg_random.specs.Spot.{SpotAnswers, OfSpot};
 
 use crate::unchecked::Unchecked;
 use crate::{SpotError, Steps};

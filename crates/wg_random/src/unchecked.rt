@@ -8,7 +8,8 @@ ghost use Rattle.wg_grammar.specs.declared.fault.Kind.{Kind};
 ghost use Rattle.wg_grammar.specs.declared.fault.ArchiveFault.{ArchiveFault};
 ghost use Rattle.wg_grammar.specs.Context.{Known};
 ghost use Rattle.wg_decoder.specs.Remembered.{known_of};
-ghost use Rattle.wg_random.specs.Spot.{endless, start_of, HeadReads, RecordReads, OfSpot, IsHeadFault};
+ghost use Rattle.wg_decoder.specs.Chains.{endless, start_of, HeadReads, RecordReads, IsHeadFault};
+ghost use Rattle.wg_random.specs.Spot.{OfSpot};
 
 use crate::SpotError;
 use wg_bits::{Bits, Cursor};

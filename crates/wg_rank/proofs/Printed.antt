@@ -2,9 +2,9 @@
 use Rattle.std.proofs.Common.{◌≡◌, ℕ, zero, suc, ◌+◌, ◌<◌, List, [], ◌∷◌, ◌++◌, length, take, drop, get_or, refl, sym, ap, subst, ◌∙◌, arith, add-one, append_assoc, append-nil, Result, Ok, Err, OnOk, OnErr}
 use Rattle.wg_io.specs.Outside.{Files, appended, content}
 use Rattle.wg_io.specs.Puts.{Puts}
-use Rattle.wg_io.specs.Printing.{HasPrinted, HasPrintedLess, Prints}
+use Rattle.wg_lines.specs.Printing.{HasPrinted, HasPrintedLess, Prints}
 use Rattle.wg_io.proofs.FilesLemmas.{file_grown}
-use Rattle.wg_io.proofs.PrintLemmas.{printed_more, less_after, less_before}
+use Rattle.wg_lines.proofs.PrintLemmas.{printed_more, less_after, less_before}
 use Rattle.wg_rank.specs.CertificateText.{bound_line, bound_lines}
 
 -- a text is printed, and then another one is

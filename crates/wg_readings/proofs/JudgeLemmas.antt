@@ -1,10 +1,10 @@
 -- How the judging of an archive's files ends.
 use Rattle.wg_readings.proofs.PassLemmas.{graph_goes}
 use Rattle.wg_readings.proofs.ReadingsLaws.{the_readings}
-use Rattle.wg_readings.proofs.Statuses.{never_done}
-use Rattle.wg_readings.specs.Judged.{Judged, accepted}
-use Rattle.wg_readings.specs.declared.status.Status.{Status}
-use Rattle.wg_readings.specs.declared.status.Status.TheVariants.{Done}
+use Rattle.wg_outcomes.proofs.Statuses.{never_done, IsOwn, own_caused}
+use Rattle.wg_outcomes.specs.Judged.{Judged, accepted, with_lengths, offsets_then}
+use Rattle.wg_outcomes.specs.declared.status.Status.{Status}
+use Rattle.wg_outcomes.specs.declared.status.Status.TheVariants.{Done, Memory}
 use Rattle.wg_grammar.specs.Archive.{Accepted}
 use Rattle.std.proofs.Common.{◌≡◌, ◌∙◌, inl, inr, ℕ, Bool, List, Result, Ok, Err, refl, sym, subst, []}
 use Rattle.std.specs.Bool.{IsTrue}
@@ -16,18 +16,15 @@ use Rattle.wg_params.specs.Parameters.{Parameters, IsWithinLimits}
 use Rattle.wg_grammar.specs.Record.{Whole}
 use Rattle.wg_offsets.specs.Places.{last_place}
 use Rattle.wg_stream.specs.Reading.{Reading}
-use Rattle.wg_readings.specs.Answers.{Answers, IsHindrance, Steps, status_in}
-use Rattle.wg_readings.specs.Judged.{with_lengths}
-use Rattle.wg_readings.specs.Causes.{HasCause}
+use Rattle.wg_outcomes.specs.Answers.{Answers, IsHindrance, Steps, status_in}
+use Rattle.wg_outcomes.specs.Causes.{HasCause}
 use Rattle.wg_readings.specs.Loading.{JudgesFiles, JudgesGraph, JudgesOffsets, lengths_then}
-use Rattle.wg_readings.specs.Names.{file_of, held_by, no_outputs}
-use Rattle.wg_readings.specs.Pairing.{offsets_then}
-use Rattle.wg_readings.specs.Passes.{Advances, IsGraphFile, IsStopAt, graph_then}
-use Rattle.wg_readings.specs.Readings.{Readings}
-use Rattle.wg_readings.specs.declared.ending.Ending.{Ending}
-use Rattle.wg_readings.specs.declared.status.Input.TheVariants as input
-use Rattle.wg_readings.specs.declared.status.Status.TheVariants.{Memory}
-use Rattle.wg_readings.proofs.Statuses.{IsOwn, own_caused}
+use Rattle.wg_outcomes.specs.Names.{file_of, held_by, no_outputs}
+use Rattle.wg_readings.specs.Passes.{Advances, IsGraphFile, graph_then}
+use Rattle.wg_outcomes.specs.Promised.{IsStopAt}
+use Rattle.wg_outcomes.specs.Readings.{Readings}
+use Rattle.wg_outcomes.specs.declared.ending.Ending.{Ending}
+use Rattle.wg_outcomes.specs.declared.status.Input.TheVariants as input
 use Rattle.wg_readings.proofs.UnderWay.{IsUnderWay, ends_caused, ends_told}
 
 -- ---- the exit of a `?`

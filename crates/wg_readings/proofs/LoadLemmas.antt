@@ -10,17 +10,17 @@ use Rattle.wg_graph.specs.Digraph.{Digraph}
 use Rattle.wg_arcs.specs.declared.fault.ArcsKind.{ArcsKind}
 use Rattle.wg_properties.specs.Judged.{properties_of}
 use Rattle.wg_properties.specs.declared.fault.PropFault.{PropFault}
-use Rattle.wg_readings.specs.Answers.{Answers, IsHindrance, Steps}
-use Rattle.wg_readings.specs.Judged.{Judged, with_digraph, with_file, with_list, with_parameters}
+use Rattle.wg_outcomes.specs.Answers.{Answers, IsHindrance, Steps}
+use Rattle.wg_outcomes.specs.Judged.{Judged, with_digraph, with_file, with_list, with_parameters}
 use Rattle.wg_readings.specs.Loading.{Loads, LoadsGraph, LoadsList, LoadsParams, Reads}
-use Rattle.wg_readings.specs.Names.{IsOfInput, file_of, held_by, list_named}
-use Rattle.wg_readings.specs.Promised.{IsBadFile}
-use Rattle.wg_readings.specs.Readings.{Readings}
-use Rattle.wg_readings.specs.declared.ending.Ending.{Ending}
-use Rattle.wg_readings.specs.declared.status.Input.{Input}
-use Rattle.wg_readings.specs.declared.status.Input.TheVariants.{Properties, Graph, ArcList}
-use Rattle.wg_readings.specs.declared.status.Status.TheVariants.{Memory, BadArcs, BadProperties}
-use Rattle.wg_readings.proofs.Statuses.{IsOwn, bad_own, own_caused}
+use Rattle.wg_outcomes.specs.Names.{IsOfInput, file_of, held_by, list_named}
+use Rattle.wg_outcomes.specs.Promised.{IsBadFile}
+use Rattle.wg_outcomes.specs.Readings.{Readings}
+use Rattle.wg_outcomes.specs.declared.ending.Ending.{Ending}
+use Rattle.wg_outcomes.specs.declared.status.Input.{Input}
+use Rattle.wg_outcomes.specs.declared.status.Input.TheVariants.{Properties, Graph, ArcList}
+use Rattle.wg_outcomes.specs.declared.status.Status.TheVariants.{Memory, BadArcs, BadProperties}
+use Rattle.wg_outcomes.proofs.Statuses.{IsOwn, bad_own, own_caused}
 
 -- memory was out before the file was asked for
 pub loads_none : (names : Input → Option (List ℕ)) (i : Input) (td : Bool) (files : Files) (counts : List ℕ → Counts) (r : Result (List ℕ) Ending) (e : Ending) → IsErrAnd r (λ x. x ≡ e) → e.status ≡ Memory

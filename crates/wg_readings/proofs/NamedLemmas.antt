@@ -7,16 +7,16 @@ use Rattle.wg_io.proofs.FilesLemmas.{none_falls-refl}
 use Rattle.wg_io.proofs.PutsLemmas.{is_that_err}
 use Rattle.wg_rank.specs.Weights.{AreWeights}
 use Rattle.wg_rank.proofs.Weighing.{ones}
-use Rattle.wg_readings.specs.Answers.{Answers, Steps}
-use Rattle.wg_readings.specs.Judged.{Judged, weights_then, with_file, with_weights}
+use Rattle.wg_outcomes.specs.Answers.{Answers, Steps}
+use Rattle.wg_outcomes.specs.Judged.{Judged, weights_then, with_file, with_weights}
 use Rattle.wg_readings.specs.Loading.{IsBadCertificate, IsBadMap, IsBadWeights, Loads, LoadsWeights, ReadsNamed}
-use Rattle.wg_readings.specs.Names.{IsOfInput, weights_named}
-use Rattle.wg_readings.specs.declared.ending.Ending.{Ending}
-use Rattle.wg_readings.specs.declared.status.Input.{Input}
-use Rattle.wg_readings.specs.declared.status.Input.TheVariants.{Weights}
-use Rattle.wg_readings.specs.declared.status.Status.{Status}
-use Rattle.wg_readings.specs.declared.status.Status.TheVariants.{Done, Memory}
-use Rattle.wg_readings.proofs.Statuses.{IsOwn, own_caused}
+use Rattle.wg_outcomes.specs.Names.{IsOfInput, weights_named}
+use Rattle.wg_outcomes.specs.declared.ending.Ending.{Ending}
+use Rattle.wg_outcomes.specs.declared.status.Input.{Input}
+use Rattle.wg_outcomes.specs.declared.status.Input.TheVariants.{Weights}
+use Rattle.wg_outcomes.specs.declared.status.Status.{Status}
+use Rattle.wg_outcomes.specs.declared.status.Status.TheVariants.{Done, Memory}
+use Rattle.wg_outcomes.proofs.Statuses.{IsOwn, own_caused}
 
 pub weights_own : (s : Status) → IsBadWeights s → IsOwn s
 weights_own s fault = subst IsOwn (sym fault.1) tt

@@ -24,21 +24,21 @@ use Rattle.wg_offsets.specs.declared.error.WordError.{WordError}
 use Rattle.wg_offsets.specs.declared.error.WordError.TheVariants as words
 use Rattle.wg_stream.specs.Held.{Held, IsHeldOf}
 use Rattle.wg_stream.specs.Stepping.{HasCause as HasReadCause}
-use Rattle.wg_readings.specs.Answers.{Answers, Steps, status_in}
-use Rattle.wg_readings.specs.Causes.{HasCause, IncreasedAt}
-use Rattle.wg_readings.specs.Judged.{Judged, status_of, with_lengths, with_offsets}
-use Rattle.wg_readings.specs.Promised.{IsBadFile}
-use Rattle.wg_readings.specs.Names.{no_outputs}
-use Rattle.wg_readings.specs.Pairing.{ComesWith, EndsPairing, HasCome, IsPaired, IsPairedWith, IsStopped, IsUnread, files_then, load_ending, offsets_then, word_ending}
-use Rattle.wg_readings.specs.declared.ending.Ending.{Ending}
+use Rattle.wg_outcomes.specs.Answers.{Answers, Steps, status_in}
+use Rattle.wg_outcomes.specs.Causes.{HasCause, IncreasedAt}
+use Rattle.wg_outcomes.specs.Judged.{Judged, status_of, with_lengths, with_offsets, offsets_then}
+use Rattle.wg_outcomes.specs.Promised.{IsBadFile, IsStopAt}
+use Rattle.wg_outcomes.specs.Names.{no_outputs}
+use Rattle.wg_readings.specs.Pairing.{ComesWith, EndsPairing, HasCome, IsPaired, IsPairedWith, IsStopped, IsUnread, files_then, load_ending, word_ending}
+use Rattle.wg_outcomes.specs.declared.ending.Ending.{Ending}
 use Rattle.wg_readings.specs.declared.pairing.Pairing.{Pairing}
-use Rattle.wg_readings.specs.Passes.{IsGraphFile, IsStopAt, accepted_of}
-use Rattle.wg_readings.specs.Readings.{Readings}
-use Rattle.wg_readings.specs.declared.status.Input.{Input}
-use Rattle.wg_readings.specs.declared.status.Input.TheVariants.{Graph, Offsets}
-use Rattle.wg_readings.specs.declared.status.Status.TheVariants.{Done, Memory, BadArchive, OverLimit}
+use Rattle.wg_readings.specs.Passes.{IsGraphFile, accepted_of}
+use Rattle.wg_outcomes.specs.Readings.{Readings}
+use Rattle.wg_outcomes.specs.declared.status.Input.{Input}
+use Rattle.wg_outcomes.specs.declared.status.Input.TheVariants.{Graph, Offsets}
+use Rattle.wg_outcomes.specs.declared.status.Status.TheVariants.{Done, Memory, BadArchive, OverLimit}
 use Rattle.wg_readings.proofs.PassLemmas.{file_goes, file_long, graph_goes}
-use Rattle.wg_readings.proofs.Statuses.{absent_caused, bad_own, failed_caused, own_caused}
+use Rattle.wg_outcomes.proofs.Statuses.{absent_caused, bad_own, failed_caused, own_caused}
 use Rattle.wg_readings.proofs.UnderWay.{cause_later}
 use Rattle.wg_readings.proofs.ReadingsLemmas.{goes_on_from, offsets_refused}
 

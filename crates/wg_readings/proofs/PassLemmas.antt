@@ -19,18 +19,19 @@ use Rattle.wg_stream.specs.declared.state.State.TheVariants.{Open, Closed}
 use Rattle.wg_stream.specs.declared.stream_error.StreamError.TheVariants as errors
 use Rattle.wg_stream.specs.Reading.{Reading, AgreesIn, IsInStep, IsJudged}
 use Rattle.wg_stream.specs.Stepping.{HasCause as HasReadCause}
-use Rattle.wg_readings.specs.Answers.{Answers}
-use Rattle.wg_readings.specs.Causes.{HasCause}
-use Rattle.wg_readings.specs.Judged.{Judged, refused, status_of, with_file, with_graph}
-use Rattle.wg_readings.specs.Names.{no_outputs}
-use Rattle.wg_readings.specs.Passes.{Advances, IsGraphFile, IsStopAt, ending_at, first_in, graph_then}
-use Rattle.wg_readings.specs.Readings.{Readings}
-use Rattle.wg_readings.specs.declared.ending.Ending.{Ending}
-use Rattle.wg_readings.specs.declared.status.Input.{Input}
-use Rattle.wg_readings.specs.declared.status.Input.TheVariants.{Graph}
-use Rattle.wg_readings.specs.declared.status.Status.TheVariants.{Memory, BadArchive, OverLimit}
+use Rattle.wg_outcomes.specs.Answers.{Answers}
+use Rattle.wg_outcomes.specs.Causes.{HasCause}
+use Rattle.wg_outcomes.specs.Judged.{Judged, refused, status_of, with_file, with_graph}
+use Rattle.wg_outcomes.specs.Names.{no_outputs}
+use Rattle.wg_readings.specs.Passes.{Advances, IsGraphFile, ending_at, first_in, graph_then}
+use Rattle.wg_outcomes.specs.Promised.{IsStopAt}
+use Rattle.wg_outcomes.specs.Readings.{Readings}
+use Rattle.wg_outcomes.specs.declared.ending.Ending.{Ending}
+use Rattle.wg_outcomes.specs.declared.status.Input.{Input}
+use Rattle.wg_outcomes.specs.declared.status.Input.TheVariants.{Graph}
+use Rattle.wg_outcomes.specs.declared.status.Status.TheVariants.{Memory, BadArchive, OverLimit}
 use Rattle.wg_readings.proofs.ReadingsLemmas.{goes_on, is_refused}
-use Rattle.wg_readings.proofs.Statuses.{absent_caused, failed_caused, own_caused}
+use Rattle.wg_outcomes.proofs.Statuses.{absent_caused, failed_caused, own_caused}
 
 pub first_again : (f : First) → first_in (of_first f) ≡ f
 first_again (first.Fault f) = refl

@@ -13,12 +13,12 @@ use Rattle.wg_grammar.specs.declared.fault.OffsetWord.TheVariants.{First}
 use Rattle.wg_offsets.specs.Words.{ReadsOffsets}
 use Rattle.wg_offsets.proofs.OneFile.{offsets_one, offsets_some}
 use Rattle.wg_properties.proofs.Limits.{none_bad}
-use Rattle.wg_random.specs.Spot.{SpotReads}
+use Rattle.wg_decoder.specs.Chains.{SpotReads}
 use Rattle.wg_random.proofs.SpotSome.{page_some}
 use Rattle.wg_arcs.proofs.SomeGraph.{texts_are_some}
 use Rattle.wg_arcs.proofs.Unique.{listed_one}
 use Rattle.wg_ascii.proofs.Some as ascii
-use Rattle.wg_readings.specs.Readings.{Readings, ReadingsAreOne}
+use Rattle.wg_outcomes.specs.Readings.{Readings, ReadingsAreOne}
 use Rattle.wg_order.proofs.OneRanking.{ranking_some, ranking_one}
 use Rattle.wg_readings.proofs.LimitsLemmas.{within_limits, coded}
 use Rattle.wg_readings.proofs.ReadingsLemmas.{decided_one, pages_one}

@@ -14,7 +14,7 @@ use Rattle.wg_offsets.specs.Places.{AgreeInLengths, IsFirstMismatch, record_leng
 use Rattle.wg_offsets.specs.Words.{ReadsOffsets}
 use Rattle.wg_offsets.proofs.OneFile.{offsets_one}
 use Rattle.wg_random.specs.Checking.{IsLengthFault}
-use Rattle.wg_random.specs.Spot.{SpotReads}
+use Rattle.wg_decoder.specs.Chains.{SpotReads}
 use Rattle.wg_random.proofs.SpotOne.{chain_one}
 use Rattle.wg_offsets.proofs.Differences.{none_differ, first_differs}
 use Rattle.wg_num.specs.Lines.{lines_of}
@@ -26,12 +26,12 @@ use Rattle.wg_ascii.specs.declared.fault.AsciiKind.{AsciiKind}
 use Rattle.wg_ascii.specs.Reading as ascii
 use Rattle.wg_ascii.proofs.Unique.{texts_are_one}
 use Rattle.wg_readings.specs.Loading.{IsBadPage}
-use Rattle.wg_readings.specs.Names.{file_of_fault}
-use Rattle.wg_readings.specs.declared.ending.Ending.{Ending}
-use Rattle.wg_readings.specs.declared.status.Input.TheVariants as input
-use Rattle.wg_readings.specs.Readings.{Readings}
-use Rattle.wg_readings.specs.Judged.{Judged, refused, with_graph, with_offsets, with_lengths, with_list, with_pages, with_successors, with_text, unless_bad_chain, unless_bad_graph, unless_bad_offsets, unless_bad_list, unless_bad_text, unless_no_page, unless_some_differ}
-use Rattle.wg_readings.specs.declared.status.Status.TheVariants.{BadArcs, BadArchive, BadText, NoPage}
+use Rattle.wg_outcomes.specs.Names.{file_of_fault}
+use Rattle.wg_outcomes.specs.declared.ending.Ending.{Ending}
+use Rattle.wg_outcomes.specs.declared.status.Input.TheVariants as input
+use Rattle.wg_outcomes.specs.Readings.{Readings}
+use Rattle.wg_outcomes.specs.Judged.{Judged, refused, with_graph, with_offsets, with_lengths, with_list, with_pages, with_successors, with_text, unless_bad_chain, unless_bad_graph, unless_bad_offsets, unless_bad_list, unless_bad_text, unless_no_page, unless_some_differ}
+use Rattle.wg_outcomes.specs.declared.status.Status.TheVariants.{BadArcs, BadArchive, BadText, NoPage}
 use Rattle.wg_readings.proofs.LimitsLemmas.{coded}
 
 -- a fault of a graph file lies there

@@ -3,18 +3,18 @@ use Rattle.std.proofs.Common.{◌≡◌, ◌⊎◌, ℕ, Bool, List, Result, Ok,
 use Rattle.std.specs.Result.{IfErr, IsErrAnd}
 use Rattle.wg_io.specs.Outside.{Files, Counts}
 use Rattle.wg_graph.specs.Digraph.{Digraph}
-use Rattle.wg_readings.specs.Answers.{Steps}
-use Rattle.wg_readings.specs.Judged.{text_then, with_text}
+use Rattle.wg_outcomes.specs.Answers.{Steps}
+use Rattle.wg_outcomes.specs.Judged.{text_then, with_text}
 use Rattle.wg_readings.specs.Loading.{IsBadText, Loads, LoadsText, ReadsNamed}
-use Rattle.wg_readings.specs.Names.{text_named}
-use Rattle.wg_readings.specs.Readings.{Readings}
-use Rattle.wg_readings.specs.declared.ending.Ending.{Ending}
-use Rattle.wg_readings.specs.declared.status.Input.TheVariants.{Text}
-use Rattle.wg_readings.specs.declared.status.Status.{Status}
-use Rattle.wg_readings.specs.declared.status.Status.TheVariants.{Memory}
+use Rattle.wg_outcomes.specs.Names.{text_named}
+use Rattle.wg_outcomes.specs.Readings.{Readings}
+use Rattle.wg_outcomes.specs.declared.ending.Ending.{Ending}
+use Rattle.wg_outcomes.specs.declared.status.Input.TheVariants.{Text}
+use Rattle.wg_outcomes.specs.declared.status.Status.{Status}
+use Rattle.wg_outcomes.specs.declared.status.Status.TheVariants.{Memory}
 use Rattle.wg_readings.proofs.NamedLemmas.{named_exit, named_loaded, named_unloaded}
 use Rattle.wg_readings.proofs.ReadingsLaws.{the_readings}
-use Rattle.wg_readings.proofs.Statuses.{IsOwn}
+use Rattle.wg_outcomes.proofs.Statuses.{IsOwn}
 
 text_own : (s : Status) → IsBadText s → IsOwn s
 text_own s fault = subst IsOwn (sym fault.2) tt

@@ -15,15 +15,15 @@ use Rattle.wg_grammar.specs.Record.{Whole}
 use Rattle.wg_stream.specs.declared.state.State.TheVariants.{Open}
 use Rattle.wg_stream.specs.declared.state.State.{State}
 use Rattle.wg_stream.specs.Reading.{Reading, AgreesIn, IsInStep, IsJudged, StaysInStep}
-use Rattle.wg_readings.specs.Answers.{Steps}
-use Rattle.wg_readings.specs.Causes.{HasCause, IncreasedAt}
-use Rattle.wg_readings.specs.Names.{file_of, held_by, no_outputs}
+use Rattle.wg_outcomes.specs.Answers.{Steps}
+use Rattle.wg_outcomes.specs.Causes.{HasCause, IncreasedAt}
+use Rattle.wg_outcomes.specs.Names.{file_of, held_by, no_outputs}
 use Rattle.wg_readings.specs.Passes.{Advances, FollowsFile, IsFound, IsFresh, IsGraphFile, accepted_of, graph_then}
-use Rattle.wg_readings.specs.Readings.{Readings}
-use Rattle.wg_readings.specs.declared.ending.Ending.{Ending}
-use Rattle.wg_readings.specs.declared.status.Input.{Input}
-use Rattle.wg_readings.specs.declared.status.Input.TheVariants.{Graph}
-use Rattle.wg_readings.specs.declared.status.Status.{Status}
+use Rattle.wg_outcomes.specs.Readings.{Readings}
+use Rattle.wg_outcomes.specs.declared.ending.Ending.{Ending}
+use Rattle.wg_outcomes.specs.declared.status.Input.{Input}
+use Rattle.wg_outcomes.specs.declared.status.Input.TheVariants.{Graph}
+use Rattle.wg_outcomes.specs.declared.status.Status.{Status}
 use Rattle.wg_readings.proofs.FirstRecords.{first_of, ok_accepted}
 
 -- So many records were read, of which this holds; no file has changed.

@@ -1,11 +1,3 @@
-pub mod Answers
-pub mod Causes
-pub mod Codes
-pub mod Judged
 pub mod Loading
-pub mod Names
 pub mod Pairing
 pub mod Passes
-pub mod Promised
-pub mod Readings
-pub mod Second

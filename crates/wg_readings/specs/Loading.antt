@@ -15,20 +15,20 @@ use Rattle.wg_ascii.specs.declared.fault.AsciiKind.{AsciiKind}
 use Rattle.wg_rank.specs.Weights.{AreWeights, weights_of}
 use Rattle.wg_rank.specs.Claims.{Claim}
 use Rattle.wg_rank.specs.declared.fault.CertFault.{CertFault}
-use Rattle.wg_readings.specs.Answers.{Steps, status_in}
-use Rattle.wg_readings.specs.Causes.{HasCause}
-use Rattle.wg_readings.specs.Judged.{Judged, claim_then, map_then, text_then, weights_then, with_arcs, with_digraph, with_file, with_lengths, with_parameters}
-use Rattle.wg_readings.specs.Names.{IsOfInput, certificate_named, file_of, held_by, list_named, map_named, no_outputs, text_named, weights_named}
-use Rattle.wg_readings.specs.Pairing.{files_then, offsets_then}
-use Rattle.wg_readings.specs.Passes.{IsGraphFile, IsStopAt, graph_then}
-use Rattle.wg_readings.specs.Promised.{IsBadFile}
-use Rattle.wg_readings.specs.Readings.{Readings}
-use Rattle.wg_readings.specs.declared.ending.Ending.{Ending}
-use Rattle.wg_readings.specs.declared.status.Input.{Input}
-use Rattle.wg_readings.specs.declared.status.Input.TheVariants as input
-use Rattle.wg_readings.specs.declared.status.Status.{Status}
-use Rattle.wg_readings.specs.declared.status.Status.TheVariants.{BadArcs, BadCertificate, BadMap, BadProperties, BadText, BadWeights, NoPage}
-use Rattle.wg_readings.specs.declared.status.WeightsFault.{WeightsFault}
+use Rattle.wg_outcomes.specs.Answers.{Steps, status_in}
+use Rattle.wg_outcomes.specs.Causes.{HasCause}
+use Rattle.wg_outcomes.specs.Judged.{Judged, claim_then, map_then, text_then, weights_then, with_arcs, with_digraph, with_file, with_lengths, with_parameters, offsets_then}
+use Rattle.wg_outcomes.specs.Names.{IsOfInput, certificate_named, file_of, held_by, list_named, map_named, no_outputs, text_named, weights_named}
+use Rattle.wg_readings.specs.Pairing.{files_then}
+use Rattle.wg_readings.specs.Passes.{IsGraphFile, graph_then}
+use Rattle.wg_outcomes.specs.Promised.{IsStopAt, IsBadFile}
+use Rattle.wg_outcomes.specs.Readings.{Readings}
+use Rattle.wg_outcomes.specs.declared.ending.Ending.{Ending}
+use Rattle.wg_outcomes.specs.declared.status.Input.{Input}
+use Rattle.wg_outcomes.specs.declared.status.Input.TheVariants as input
+use Rattle.wg_outcomes.specs.declared.status.Status.{Status}
+use Rattle.wg_outcomes.specs.declared.status.Status.TheVariants.{BadArcs, BadCertificate, BadMap, BadProperties, BadText, BadWeights, NoPage}
+use Rattle.wg_outcomes.specs.declared.status.WeightsFault.{WeightsFault}
 
 -- A file of this name was read whole, as this input.
 pub record Loads (names : Input → Option (List ℕ)) (i : Input) (told : Bool) (files files' : Files) (counts counts' : List ℕ → Counts) (result : Result (List ℕ) Ending) : Type 0 where

@@ -13,21 +13,18 @@ use Rattle.wg_offsets.specs.Stages.{AreRead}
 use Rattle.wg_offsets.specs.declared.error.WordError.{WordError}
 use Rattle.wg_offsets.specs.declared.error.WordError.TheVariants as words
 use Rattle.wg_stream.specs.Held.{IsHeldOf}
-use Rattle.wg_readings.specs.Answers.{Steps, status_in}
-use Rattle.wg_readings.specs.Causes.{HasCause}
-use Rattle.wg_readings.specs.Judged.{Judged, with_file, with_lengths, with_offsets}
-use Rattle.wg_readings.specs.Names.{no_outputs}
-use Rattle.wg_readings.specs.Passes.{IsStopAt, graph_then}
-use Rattle.wg_readings.specs.Readings.{Readings}
-use Rattle.wg_readings.specs.declared.ending.Ending.{Ending}
+use Rattle.wg_outcomes.specs.Answers.{Steps, status_in}
+use Rattle.wg_outcomes.specs.Causes.{HasCause}
+use Rattle.wg_outcomes.specs.Judged.{Judged, with_lengths}
+use Rattle.wg_outcomes.specs.Names.{no_outputs}
+use Rattle.wg_outcomes.specs.Promised.{IsStopAt}
+use Rattle.wg_readings.specs.Passes.{graph_then}
+use Rattle.wg_outcomes.specs.Readings.{Readings}
+use Rattle.wg_outcomes.specs.declared.ending.Ending.{Ending}
 use Rattle.wg_readings.specs.declared.pairing.Pairing.{Pairing}
-use Rattle.wg_readings.specs.declared.status.Input.{Input}
-use Rattle.wg_readings.specs.declared.status.Input.TheVariants as input
-use Rattle.wg_readings.specs.declared.status.Status.TheVariants.{Memory, ReadFault, Missing, BadArchive, OverLimit}
-
--- goes on with the offsets that the offsets file stores
-abbrev pub offsets_then : Readings → Parameters → Option (List ℕ) → (List ℕ → Judged) → Judged
-offsets_then r p held next = with_file input.Offsets held (λ more. with_offsets r p more next)
+use Rattle.wg_outcomes.specs.declared.status.Input.{Input}
+use Rattle.wg_outcomes.specs.declared.status.Input.TheVariants as input
+use Rattle.wg_outcomes.specs.declared.status.Status.TheVariants.{Memory, ReadFault, Missing, BadArchive, OverLimit}
 
 -- how a job ends whose offsets file is not read on
 abbrev pub load_ending : LoadError → Ending

@@ -1,5 +1,5 @@
 -- The files of an archive, as they are read in pieces.
-use Rattle.std.specs.Prelude.{◌≡◌, ◌⊎◌, ℕ, ◌≤◌, ◌++◌, Bool, true, List, [], Option, Some, Result, Ok, Err, IsTrue, OnOk, IfErr}
+use Rattle.std.specs.Prelude.{◌≡◌, ℕ, ◌≤◌, ◌++◌, Bool, true, List, [], Option, Some, Result, Ok, Err, IsTrue, OnOk, IfErr}
 use Rattle.std.specs.FinMap as map
 use Rattle.wg_io.specs.Outside.{Files, Counts, NonDecreasing}
 use Rattle.wg_io.specs.declared.suffixes.TheConstants.{GRAPH}
@@ -13,16 +13,15 @@ use Rattle.wg_stream.specs.declared.state.State.TheVariants.{Open}
 use Rattle.wg_stream.specs.declared.stream_error.StreamError.{StreamError}
 use Rattle.wg_stream.specs.declared.stream_error.StreamError.TheVariants as errors
 use Rattle.wg_stream.specs.Reading.{Reading, IsInStep, IsJudged}
-use Rattle.wg_readings.specs.Answers.{Steps, status_in}
-use Rattle.wg_readings.specs.Causes.{HasCause}
-use Rattle.wg_readings.specs.Judged.{Judged, with_file, with_graph}
-use Rattle.wg_readings.specs.Promised.{IsBadFile}
-use Rattle.wg_readings.specs.Names.{IsOfInput, no_outputs}
-use Rattle.wg_readings.specs.Readings.{Readings}
-use Rattle.wg_readings.specs.declared.ending.Ending.{Ending}
-use Rattle.wg_readings.specs.declared.status.Input.{Input}
-use Rattle.wg_readings.specs.declared.status.Input.TheVariants as input
-use Rattle.wg_readings.specs.declared.status.Status.TheVariants.{Memory, ReadFault, Missing, BadArchive, OverLimit}
+use Rattle.wg_outcomes.specs.Answers.{Steps, status_in}
+use Rattle.wg_outcomes.specs.Causes.{HasCause}
+use Rattle.wg_outcomes.specs.Judged.{Judged, with_file, with_graph}
+use Rattle.wg_outcomes.specs.Names.{no_outputs}
+use Rattle.wg_outcomes.specs.Readings.{Readings}
+use Rattle.wg_outcomes.specs.declared.ending.Ending.{Ending}
+use Rattle.wg_outcomes.specs.declared.status.Input.{Input}
+use Rattle.wg_outcomes.specs.declared.status.Input.TheVariants as input
+use Rattle.wg_outcomes.specs.declared.status.Status.TheVariants.{Memory, ReadFault, Missing, BadArchive, OverLimit}
 
 -- goes on with the graph of what the graph file holds
 abbrev pub graph_then : Readings → Parameters → Option (List ℕ) → (Accepted → Judged) → Judged
@@ -37,10 +36,6 @@ pub record IsGraphFile (held : Option (List ℕ)) (p : Parameters) (a : Accepted
 -- the graph of so many records, the last of them first
 abbrev pub accepted_of : List Whole → Accepted
 accepted_of behind = record { graph = lists_of behind; places = places_of behind }
-
--- an input was not read, or is at fault, and then the ending names the arcs that are promised
-abbrev pub IsStopAt : Input → ℕ → Ending → Type 0
-IsStopAt i promised e = IsOfInput i e.status ⊎ IsBadFile i promised e
 
 -- the first error of a reading, which each later one names
 abbrev pub first_in : StreamError → First

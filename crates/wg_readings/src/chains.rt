@@ -1,19 +1,18 @@
 //! A page of an archive that is not checked.
 ghost use Rattle.std.specs.Prelude.{◌≡◌, ◌<◌, ◌≤◌, ◌+◌, IfErr, length};
 ghost use Rattle.wg_io.specs.declared.limits.TheConstants.{MOST_BYTES};
-ghost use Rattle.wg_readings.specs.Answers.{Steps};
-ghost use Rattle.wg_readings.specs.Judged.{with_successors};
+ghost use Rattle.wg_outcomes.specs.Answers.{Steps};
+ghost use Rattle.wg_outcomes.specs.Judged.{with_successors};
 ghost use Rattle.wg_readings.specs.Loading.{IsBadPage};
-ghost use Rattle.wg_readings.specs.Readings.{Readings};
+ghost use Rattle.wg_outcomes.specs.Readings.{Readings};
 
-use crate::Status;
 use crate::archive::bad_archive;
-use crate::ending::Ending;
 use std::alloc::Global;
 use std::marker::Brand;
 use std::sync::ledger::{Blank, Ledger};
 use wg_graph::List;
 use wg_offsets::Offsets;
+use wg_outcomes::{Ending, Status};
 use wg_params::Params;
 use wg_random::{SpotError, Steps as Ticks, spot};
 

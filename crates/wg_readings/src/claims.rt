@@ -1,13 +1,12 @@
 //! What a certificate claims.
 ghost use Rattle.std.specs.Prelude.{◌≡◌, ◌≤◌, ◌⊎◌, IfErr, IfOk, length};
 ghost use Rattle.wg_params.specs.declared.limits.TheConstants.{MOST_PAGES};
-ghost use Rattle.wg_readings.specs.Answers.{Steps};
-ghost use Rattle.wg_readings.specs.Judged.{with_claim};
+ghost use Rattle.wg_outcomes.specs.Answers.{Steps};
+ghost use Rattle.wg_outcomes.specs.Judged.{with_claim};
 ghost use Rattle.wg_readings.specs.Loading.{IsBadCertificate};
 
-use crate::Status;
-use crate::ending::Ending;
 use std::alloc::Global;
+use wg_outcomes::{Ending, Status};
 use wg_rank::{CertError, Certificate, read_certificate};
 
 /// What a certificate's text claims of so many pages.

@@ -1,15 +1,14 @@
 //! The classes of pages.
 ghost use Rattle.std.specs.Prelude.{◌≡◌, ◌⊎◌, IfErr, IfOk, length};
 ghost use Rattle.wg_graph.specs.Ascending.{Below};
-ghost use Rattle.wg_readings.specs.Answers.{Steps};
-ghost use Rattle.wg_readings.specs.Judged.{with_map};
+ghost use Rattle.wg_outcomes.specs.Answers.{Steps};
+ghost use Rattle.wg_outcomes.specs.Judged.{with_map};
 ghost use Rattle.wg_readings.specs.Loading.{IsBadMap};
 
-use crate::Status;
-use crate::ending::Ending;
 use std::alloc::Global;
 use wg_arcs::{NumbersError, read_numbers};
 use wg_graph::List;
+use wg_outcomes::{Ending, Status};
 
 /// The classes of so many pages that a text gives, each below the limit.
 pub fn classes_of_text(alloc: Global, bytes: &[u8], nodes: u64, limit: u64) -> Result<List, Ending>

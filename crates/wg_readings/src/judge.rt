@@ -2,11 +2,11 @@
 ghost use Rattle.std.specs.Prelude.{◌≡◌};
 ghost use Rattle.wg_readings.specs.Loading.{JudgesFilesBy, JudgesGraphBy, JudgesOffsetsBy};
 
-use crate::ending::Ending;
 use crate::pairing::{begin_pairing, end_pairing, open_offsets, pair_next};
 use crate::records::{end_records, next_record, open_graph};
 use std::alloc::Global;
 use wg_io::Depot;
+use wg_outcomes::Ending;
 use wg_params::Params;
 use wg_random::Records;
 use wg_words::Name;

@@ -2,16 +2,13 @@
 //! and judged, and the job goes on with what it holds, or ends.
 //!
 //! [`load_params`], [`load_graph`], [`load_offsets`], [`load_list`], [`load_text`], [`load_weights`],
-//! [`load_certificate`] and
-//! [`load_map`] read a file whole; [`judge_graph`], [`judge_files`] and [`judge_offsets`] go through the files
-//! in
-//! pieces, and so do [`open_graph`], [`next_record`] and [`end_records`], record by record. [`successors_of_page`]
-//! judges the records that one page refers to, and no others. Each promises that it is a
-//! step of a judgement
-//! (`Judged`): it goes on with a value whatever comes next, or it ends with a [`Status`] whatever would have come next,
-//! unless running out of memory or a fault of the outside came in its place (`Steps`). A fault or an absence is told
-//! only where its count rose, and no file changes. Which steps a job takes, and what it prints and writes, is said
-//! above, in `wg_jobs`.
+//! [`load_certificate`] and [`load_map`] read a file whole; [`judge_graph`], [`judge_files`] and [`judge_offsets`] go
+//! through the files in pieces, and so do [`open_graph`], [`next_record`] and [`end_records`], record by record.
+//! [`successors_of_page`] judges the records that one page refers to, and no others. Each promises that it is a step of
+//! a judgement (`Judged`): it either yields a value or ends the job with a [`Status`](wg_outcomes::Status), and later
+//! inputs do not matter, unless running out of memory or a fault of the outside came in its place (`Steps`). A fault or
+//! an absence is reported only where its count rose, and no file changes. Which steps a job takes, and what it prints
+//! and writes, is said in `wg_outcomes`; the lemmas here on steps of jobs are what the commands are proved by.
 //!
 //! The parameters of an archive, and how a job ends whose archive is not there:
 //!
@@ -32,38 +29,27 @@
 //! ```
 //!
 //! A judgement takes the graph of a file from a function that reads all graph files (`Readings`); the grammar leaves
-//! exactly one such function.
-//!
-//! Public for `wg_jobs` alone are all items but [`Ending`], [`Input`], [`SecondFault`], [`Status`] and
-//! [`WeightsFault`], which it hands on. The second archive of a job is read as a first is, and [`as_second`] turns the
-//! ending that this gives.
+//! exactly one such function. The second archive of a job is read as a first is, and [`as_second`](wg_outcomes::as_second)
+//! turns the ending that this gives.
 #![tactic(auto)]
 
 mod archive;
 mod chains;
 mod claims;
 mod classes;
-mod ending;
 mod judge;
 mod listed;
 mod loading;
-mod names;
 mod pairing;
 mod plain;
 mod records;
-mod second;
-mod status;
 mod weights;
 
 pub use archive::{find_pages, lists_of_records, records_of_graph};
 pub use chains::successors_of_page;
-pub use ending::Ending;
 pub use judge::{judge_files, judge_graph, judge_offsets};
 pub use loading::{
     load, load_certificate, load_graph, load_list, load_map, load_offsets, load_params, load_text,
     load_weights,
 };
-pub use names::file_name;
 pub use records::{end_records, next_record, open_graph};
-pub use second::{as_second, second_input};
-pub use status::{Input, SecondFault, Status, WeightsFault};

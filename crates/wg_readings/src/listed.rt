@@ -2,15 +2,14 @@
 ghost use Rattle.std.specs.Prelude.{◌≡◌, ◌≤◌, ◌⊎◌, ℕ, IfErr, IfOk};
 ghost use Rattle.wg_arcs.specs.declared.fault.ArcsKind.{ArcsKind};
 ghost use Rattle.wg_params.specs.declared.limits.TheConstants.{MOST_PAGES};
-ghost use Rattle.wg_readings.specs.Answers.{Steps};
-ghost use Rattle.wg_readings.specs.Judged.{with_list};
-ghost use Rattle.wg_readings.specs.Readings.{Readings};
+ghost use Rattle.wg_outcomes.specs.Answers.{Steps};
+ghost use Rattle.wg_outcomes.specs.Judged.{with_list};
+ghost use Rattle.wg_outcomes.specs.Readings.{Readings};
 
-use crate::Status;
-use crate::ending::Ending;
 use std::alloc::Global;
 use wg_arcs::ArcsError;
 use wg_graph::Graph;
+use wg_outcomes::{Ending, Status};
 
 /// The graph of so many pages that an arc list stands for.
 pub fn graph_of_list(alloc: Global, bytes: &[u8], nodes: u64) -> Result<Graph, Ending>

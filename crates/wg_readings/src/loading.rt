@@ -3,22 +3,20 @@ ghost use Rattle.std.specs.Prelude.{◌≡◌, ◌≤◌, ℕ, List, Option, IsS
 ghost use Rattle.wg_params.specs.declared.limits.TheConstants.{MOST_PAGES};
 ghost use Rattle.wg_readings.specs.Loading.{LoadsBy, LoadsCertificateBy, LoadsGraphBy, LoadsListBy, LoadsOffsetsBy, LoadsParamsBy};
 ghost use Rattle.wg_readings.specs.Loading.{LoadsMapBy, LoadsTextBy, LoadsWeightsBy};
-ghost use Rattle.wg_readings.specs.Names.{file_of, suffix_of};
-ghost use Rattle.wg_readings.specs.declared.status.Input.{Input};
+ghost use Rattle.wg_outcomes.specs.Names.{file_of, suffix_of};
+ghost use Rattle.wg_outcomes.specs.declared.status.Input.{Input};
 
 use crate::archive::{graph_of_records, offsets_of_file, parameters};
 use crate::claims::claim_of_text;
 use crate::classes::classes_of_text;
-use crate::ending::Ending;
 use crate::listed::graph_of_list;
-use crate::names::{file_name, suffix};
 use crate::plain::graph_of_text;
 use crate::weights::weights_of_text;
-use crate::{Input, Status};
 use std::alloc::Global;
 use wg_graph::{Graph, List as Numbers};
 use wg_io::{Depot, List8, LoadError, read_whole};
 use wg_offsets::Offsets;
+use wg_outcomes::{Ending, Input, Status, file_name, suffix};
 use wg_params::Params;
 use wg_rank::Certificate;
 use wg_words::Name;

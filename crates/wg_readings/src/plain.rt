@@ -1,15 +1,14 @@
 //! The plain text of a graph.
 ghost use Rattle.std.specs.Prelude.{◌≡◌, ◌⊎◌, IfErr};
-ghost use Rattle.wg_readings.specs.Answers.{Steps};
-ghost use Rattle.wg_readings.specs.Judged.{with_text};
+ghost use Rattle.wg_outcomes.specs.Answers.{Steps};
+ghost use Rattle.wg_outcomes.specs.Judged.{with_text};
 ghost use Rattle.wg_readings.specs.Loading.{IsBadText};
-ghost use Rattle.wg_readings.specs.Readings.{Readings};
+ghost use Rattle.wg_outcomes.specs.Readings.{Readings};
 
-use crate::Status;
-use crate::ending::Ending;
 use std::alloc::Global;
 use wg_ascii::AsciiError;
 use wg_graph::Graph;
+use wg_outcomes::{Ending, Status};
 
 /// The graph that a plain text stands for.
 pub fn graph_of_text(alloc: Global, bytes: &[u8]) -> Result<Graph, Ending>

@@ -10,11 +10,10 @@ ghost use Rattle.wg_stream.specs.declared.state.State.TheVariants.{Open};
 ghost use Rattle.wg_stream.specs.Reading.{IsInStep, IsJudged, StaysInStep};
 ghost use Rattle.wg_readings.specs.Passes.{Advances, IsFresh, ending_at, first_in};
 
-use crate::ending::Ending;
-use crate::{Input, Status};
 use std::alloc::Global;
 use wg_grammar::ArchiveFault;
 use wg_io::{Depot, GRAPH};
+use wg_outcomes::{Ending, Input, Status};
 use wg_params::Params;
 use wg_stream::{First, Reader, StreamError};
 use wg_words::Name;

@@ -3,15 +3,14 @@ ghost use Rattle.std.specs.Prelude.{◌≡◌, ◌⊎◌, nat_eq, IfErr, IfOk, l
 ghost use Rattle.wg_rank.specs.Sum.{sum_below};
 ghost use Rattle.wg_rank.specs.Intervals.{by_page};
 ghost use Rattle.wg_rank.specs.Weights.{AreWeights};
-ghost use Rattle.wg_readings.specs.Answers.{Steps};
-ghost use Rattle.wg_readings.specs.Judged.{with_weights};
+ghost use Rattle.wg_outcomes.specs.Answers.{Steps};
+ghost use Rattle.wg_outcomes.specs.Judged.{with_weights};
 ghost use Rattle.wg_readings.specs.Loading.{IsBadWeights};
 
-use crate::ending::Ending;
-use crate::{Status, WeightsFault};
 use std::alloc::Global;
 use wg_arcs::{NumbersError, read_numbers};
 use wg_graph::List;
+use wg_outcomes::{Ending, Status, WeightsFault};
 use wg_rank::MOST_WEIGHT;
 
 // Whether no weight is above 0.

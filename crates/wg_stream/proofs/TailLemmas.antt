@@ -5,7 +5,7 @@ use Rattle.wg_bits.specs.Bits.{bits_of}
 use Rattle.wg_bits.proofs.Words.{length-bits_of}
 use Rattle.wg_bits.proofs.Writes.{bits_of-append}
 use Rattle.wg_grammar.specs.Archive.{IsTail, IsTailFault}
-use Rattle.wg_source.specs.Standing.{IsTailAt}
+use Rattle.wg_grammar.specs.Standing.{IsTailAt}
 use Rattle.wg_stream.specs.declared.stretch.TheConstants.{WORD}
 use Rattle.wg_stream.specs.Held.{Held, IsHeldOf, IsInside, HoldsNext}
 use Rattle.wg_stream.proofs.FillLemmas.{no_bits}

@@ -4,7 +4,7 @@ ghost use Rattle.std.specs.FinMap as map;
 ghost use Rattle.wg_bits.specs.Bits.{bits_of};
 ghost use Rattle.wg_params.specs.Codes.{IsCode};
 ghost use Rattle.wg_params.specs.declared.code.Code.TheVariants as codes;
-ghost use Rattle.wg_source.specs.Standing.{IsReadAt, IsTailAt};
+ghost use Rattle.wg_grammar.specs.Standing.{IsReadAt, IsTailAt};
 ghost use Rattle.wg_stream.specs.Held.{HoldsNext, IsHeldOf, IsInside};
 ghost use Rattle.wg_stream.specs.Stepping.{Steps, HasCause};
 ghost use Rattle.wg_stream.specs.declared.stretch.TheConstants.{WORD};

@@ -13,10 +13,9 @@ use std::alloc::{AllocError, Global};
 use std::marker::Model;
 use std::mem;
 use wg_decoder::{Decoded, Spares, Window, decode_from};
-use wg_grammar::ArchiveFault;
+use wg_grammar::{ArchiveFault, Source};
 use wg_graph::List;
 use wg_params::Params;
-use wg_source::Source;
 
 /// Reads the records of an archive page by page, as `wg_encoder::Encoder` writes them: it owns all that has to be known
 /// of the pages before, and stands at the page that comes next.
@@ -157,46 +156,6 @@ impl Pages {
         if self.arcs < self.params.arcs() {
             return Err(PagesError::Fault(ArchiveFault::ArcsShort(self.arcs)));
         }
-        Ok(())
-    }
-}
-
-#[cfg(test)]
-mod tests {
-    use super::*;
-    use std::convert::Infallible;
-    use std::test::Fail;
-    use wg_bits::{Bits, Cursor};
-    use wg_vectors::{bytes_of, usual};
-
-    // Page 0 has all 1,000 pages as successors, in one interval, and page 1 copies the first of them.
-    const ONE_OF_MANY: &str = "0000000001111101001 1 010 1 0000000001111100101  010 01 010 010";
-
-    // Bits in memory refuse no word, and these are in order.
-    fn why_stopped(error: PagesError<Infallible>) -> &'static str {
-        match error {
-            PagesError::Fault(_fault) => "a fault",
-            PagesError::Memory => "out of memory",
-            PagesError::Refused(never) => match never {},
-        }
-    }
-
-    #[test]
-    fn a_list_is_kept_without_the_room_that_it_was_read_in(rt: HostRuntime) -> Result<(), Fail> {
-        let bytes = bytes_of(rt.alloc(), ONE_OF_MANY)?;
-        assert!(rt; bytes.len() <= 1 << 46);
-        let mut source = Cursor::new(Bits::of(&bytes), 0);
-        let mut pages = Pages::new(rt.alloc(), usual(1000, 1001, 7, 3, 4)?);
-        pages.next(&mut source).map_err(why_stopped)?;
-        assert_eq!(rt; pages.list().len(), 1000);
-        pages.next(&mut source).map_err(why_stopped)?;
-        assert_eq!(rt; pages.list(), [0].as_slice());
-        let kept = pages.window.get(1).ok_or("page 1 is not kept")?;
-        assert!(rt;
-            kept.as_slice() == [0].as_slice() && kept.room() <= 32,
-            "{}",
-            kept.room()
-        );
         Ok(())
     }
 }

@@ -9,7 +9,7 @@ use std::alloc::Global;
 use wg_graph::{Graph, GraphBuilder};
 use wg_offsets::Offsets;
 use wg_params::Params;
-use wg_source::Source;
+use wg_grammar::Source;
 
 /// Judges the records of all pages, the tail and the number of arcs, and answers the offset of each record and the end
 /// of the last. The source stands at its first bit. Besides what [`Pages`] holds it takes 8 bytes a page, as the

@@ -9,7 +9,7 @@ ghost use Rattle.wg_codes.specs.Words.{word, top};
 ghost use Rattle.wg_codes.specs.Reading.{Reads};
 ghost use Rattle.wg_codes.specs.declared.outcome.Read.TheVariants.{Cut, Value};
 ghost use Rattle.wg_grammar.specs.Archive.{IsTail, IsTailFault};
-ghost use Rattle.wg_source.specs.Standing.{StopsAt};
+ghost use Rattle.wg_grammar.specs.Standing.{StopsAt};
 ghost use Rattle.wg_stream.specs.Held.{HoldsNext, IsInside, ahead};
 ghost use Rattle.wg_stream.specs.Stepping.{Steps, HasCause};
 ghost use Rattle.wg_stream.specs.declared.stretch.TheConstants.{WORD, ROOM};

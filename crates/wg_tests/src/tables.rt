@@ -1,17 +1,10 @@
-//! Worked values, and files and sinks that are tried, of crates whose proof is long.
+//! What neither a contract says nor the program prints: worked values of codes and graphs, laws, errors that are named
+//! again, files of the system, and the memory that is kept. What the program prints of files stands in the rows of
+//! `wg_cli`.
 
-mod arcs;
-mod ascii;
-mod decoder;
-mod encoder;
+mod codes;
+mod files;
 mod graphs;
-mod io;
-mod order;
-mod pieces;
-mod properties;
-mod random;
-mod rank;
-mod shape;
-mod spot;
-mod stream;
+mod rankings;
+mod readings;
 mod words;

@@ -32,6 +32,3 @@ mod placing;
 mod transposing;
 
 pub use transposing::transpose;
-
-#[cfg(test)]
-mod tests;

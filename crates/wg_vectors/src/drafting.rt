@@ -182,14 +182,3 @@ impl Draft {
         self.extend(pages);
     }
 }
-
-#[cfg(test)]
-mod tests {
-    use super::*;
-
-    #[test]
-    fn the_first_draw(rt: HostRuntime) {
-        // 1442695040888963407 / 2^33
-        assert_eq!(rt; Draft::new(0).draw(), 167951807);
-    }
-}

@@ -2,14 +2,13 @@
 //! descriptions and not from a program. And graphs as large as one likes, which follow from a seed.
 //!
 //! [`VECTORS`] has words of the five codes, [`NO_WORDS`] bits that are no word, and [`FOLDS`] numbers of either sign
-//! with their values. The tests of this crate run each of them through `wg_codes`, both ways.
+//! with their values. `wg_tests` runs each of them through `wg_codes`, both ways.
 //!
 //! [`ARCHIVES`] has worked archives, bit by bit, with the list of each page and the offset of each record. [`LONGER`]
 //! has legal archives that are not the shortest, and [`BAD_GRAPHS`] and [`BAD_OFFSETS`] have archives with a fault. An
 //! archive that a test needs by itself has a name of its own, as [`ONE_ARC`] or [`TWICE`]; those of which pages are
 //! read before the whole is checked are in [`unchecked`]. [`bytes_of`] turns the text of some bits into bytes, and
-//! [`usual`] makes parameters in the usual codes. The crates above read, write and refuse these archives in their
-//! tests.
+//! [`usual`] makes parameters in the usual codes. The tests above read, write and refuse these archives.
 //!
 //! One of the worked archives, bit by bit, and a graph that is generated from the seed 7:
 //!
@@ -24,8 +23,8 @@
 //! Ok(())
 //! ```
 //!
-//! [`generate`] draws a graph of up to [`MOST_GENERATED`] pages that is like a web graph: lists share members with
-//! lists close before them, and have intervals. The definition says each list, and so the same seed gives the same
+//! [`generate`] draws a graph of up to [`wg_params::MOST_GENERATED`] pages that is like a web graph: lists share members
+//! with lists close before them, and have intervals. The definition says each list, and so the same seed gives the same
 //! graph in any program that follows it.
 //!
 //! ```text
@@ -56,9 +55,6 @@ pub use faults::{
     OFFSETS_NO_WORD, OFFSETS_NOT_FROM_0, OFFSETS_TOO_FAR, Refused, TOO_FEW_ARCS, TOO_LONG_A_CHAIN,
     TWICE,
 };
-pub use generating::{MOST_GENERATED, generate};
+pub use generating::generate;
 pub use longer::LONGER;
 pub use shapes::{PLAIN, Shape, usual};
-
-#[cfg(test)]
-mod tests;

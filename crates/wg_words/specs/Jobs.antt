@@ -3,8 +3,7 @@ use Rattle.std.specs.Prelude.{◌≤◌, ⊤, List, Option, Some, None, option_a
 use Rattle.std.specs.Str.{bytes_eq}
 use Rattle.clap.specs.Words.{Row, Text}
 use Rattle.wg_params.specs.Parameters.{IsWithinLimits, params_of}
-use Rattle.wg_params.specs.declared.limits.TheConstants.{MOST_PAGES, MOST_DAMPING, MOST_ROUNDS}
-use Rattle.wg_vectors.specs.declared.generating.TheConstants.{MOST_GENERATED}
+use Rattle.wg_params.specs.declared.limits.TheConstants.{MOST_PAGES, MOST_DAMPING, MOST_ROUNDS, MOST_GENERATED}
 use Rattle.wg_words.specs.Commands.{parsed}
 use Rattle.wg_words.specs.Files.{is_file_of, overwrites, IsNoFileOf, KeepsInputs, ShareNoFile}
 use Rattle.wg_words.specs.Layouts.{layout_in}

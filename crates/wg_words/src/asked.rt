@@ -12,8 +12,7 @@ use crate::{DEFAULT_DAMPING, DEFAULT_ROUNDS, DEFAULT_TOP, Job, JobError, Name, W
 use clap::ArgMatches;
 use clap::error::ErrorKind;
 use std::alloc::{AllocError, Global};
-use wg_params::{MOST_DAMPING, MOST_PAGES, MOST_ROUNDS};
-use wg_vectors::MOST_GENERATED;
+use wg_params::{MOST_DAMPING, MOST_GENERATED, MOST_PAGES, MOST_ROUNDS};
 
 /// The job of the words. It takes memory for `clap`'s tables and for the names of the job.
 pub fn job(alloc: Global, words: &Words) -> Result<Job, JobError>

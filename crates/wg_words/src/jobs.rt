@@ -104,7 +104,7 @@ pub enum Job {
         layout: Layout,
     },
     /// `bulk SEED N`: what an archive of the generated graph of so many pages comes to. The seed is any number below
-    /// 2^64, the pages are at most `wg_vectors::MOST_GENERATED`. No file is read or written.
+    /// 2^64, the pages are at most `wg_params::MOST_GENERATED`. No file is read or written.
     Bulk {
         seed: u64,
         pages: u64,

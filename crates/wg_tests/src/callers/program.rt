@@ -1,10 +1,12 @@
 use std::test::Fail;
+use wg_builds::build::build;
 use wg_cli::run_in_memory;
 use wg_io::{SteadyDepot, SteadySink};
-use wg_jobs::perform;
-use wg_readings::{Input, Status, load_params};
+use wg_outcomes::{Ending, Input, Status, as_second};
+use wg_queries::printing::{Listing, print_records};
+use wg_readings::load_params;
 use wg_vectors::usual;
-use wg_words::{Job, Name, Words};
+use wg_words::{Job, Name, Words, usual_layout};
 
 // In the overview of wg_words.
 #[test]
@@ -41,7 +43,16 @@ fn parameters_of_an_archive(rt: HostRuntime) -> Result<(), Fail> {
     Ok(())
 }
 
-// In the overview of wg_jobs.
+// In the overview of wg_outcomes.
+#[test]
+fn endings_of_a_job(rt: HostRuntime) {
+    let missing = Ending::of(Status::Missing(Input::Properties));
+    assert_eq!(rt; missing.status.code(), 6);
+    let second = as_second(missing);
+    assert_eq!(rt; second.status, Status::Missing(Input::SecondProperties));
+}
+
+// In the overview of wg_queries.
 #[test]
 fn arcs_of_an_archive(rt: HostRuntime) -> Result<(), Fail> {
     let mut depot = SteadyDepot::new(rt.alloc(), 4096);
@@ -50,10 +61,32 @@ fn arcs_of_an_archive(rt: HostRuntime) -> Result<(), Fail> {
     depot.put_file("web.graph", b"\x7D\xC6\xE0")?;
     let base = Name::new(rt.alloc(), "web")?;
     let mut out = SteadySink::new(rt.alloc(), 4096);
-    let ending = perform(rt.alloc(), &Job::Arcs { base }, &mut depot, &mut out);
-    assert_eq!(rt; ending.status, Status::Done);
+    let done = print_records(rt.alloc(), &base, Listing::Arcs, &mut depot, &mut out);
+    assert!(rt; done.is_ok());
     assert_eq!(rt; out.bytes(), b"0 1\n0 2\n1 1\n1 2\n".as_slice());
     Ok(())
+}
+
+// In the overview of wg_builds.
+#[test]
+fn an_archive_of_one_arc(rt: HostRuntime) -> Result<(), Fail> {
+    let mut depot = SteadyDepot::new(rt.alloc(), 4096);
+    depot.put_file("a", b"0 1\n")?;
+    let list = Name::new(rt.alloc(), "a")?;
+    let base = Name::new(rt.alloc(), "g")?;
+    let layout = usual_layout();
+    let mut out = SteadySink::new(rt.alloc(), 4096);
+    let done = build(rt.alloc(), &list, &base, 2, &layout, &mut depot, &mut out);
+    assert!(rt; done.is_ok());
+    assert_eq!(rt; out.bytes(), b"ok nodes=2 arcs=1 bits=10\n".as_slice());
+    Ok(())
+}
+
+// In the overview of wg_laws.
+#[test]
+fn laws_of_readings_and_archives(_rt: HostRuntime) {
+    wg_laws::readings();
+    wg_laws::built_archives();
 }
 
 // In the overview of wg_cli.

@@ -8,18 +8,17 @@ use std::test::Fail;
 use wg_bits::{Bits, Cursor};
 use wg_codes::Read;
 use wg_decoder::{Window, decode};
-use wg_grammar::OffsetWord;
+use wg_grammar::{OffsetWord, Source};
 use wg_graph::{List, Lists};
 use wg_io::SteadyDepot;
 use wg_offsets::OffsetsError;
 use wg_params::Code;
 use wg_random::{Archive, Records, Steps};
 use wg_shape::{quotient, union};
-use wg_source::Source;
 use wg_stream::Reader;
 use wg_vectors::usual;
 
-// In the overview of wg_source.
+// A cursor over two bytes is a source.
 #[test]
 fn words_and_a_tail(rt: HostRuntime) {
     // 010 and 00101 in gamma, and then zeros

@@ -1,8 +1,23 @@
 use std::test::Fail;
 use wg_encoder::encode;
 use wg_graph::GraphBuilder;
-use wg_io::{Depot, SteadyDepot, read_whole};
+use wg_io::{Depot, SteadyDepot, SteadySink, read_whole};
+use wg_lines::Lines;
 use wg_vectors::usual;
+
+// In the overview of wg_lines.
+#[test]
+fn two_lines(rt: HostRuntime) -> Result<(), Fail> {
+    let mut sink = SteadySink::new(rt.alloc(), 4096);
+    let mut lines = Lines::new();
+    lines.text(&mut sink, b"# pages ")?;
+    lines.number(&mut sink, 12)?;
+    lines.byte(&mut sink, b'\n')?;
+    lines.pair(&mut sink, 0, 345)?;
+    lines.flush(&mut sink)?;
+    assert!(rt; sink.bytes() == b"# pages 12\n0 345\n");
+    Ok(())
+}
 
 // In the overview of wg_encoder.
 #[test]

@@ -1,37 +1,73 @@
-//! Graphs of lists.
-use std::alloc::{AllocError, Global};
-use std::process::Abort;
-use wg_graph::{Graph, GraphBuilder};
+// Graphs and lists: what another program draws, numbers of three lists, and the memory that is kept.
+use std::test::Fail;
+use wg_decoder::Spares;
+use wg_encoder::record_cost;
+use wg_graph::List;
+use wg_shape::{Coming, ListWalk, Merge};
+use wg_vectors::{generate, usual};
 
-// Adds the arcs of a page.
-fn add_list(
-    rt: &impl Abort,
-    builder: &mut GraphBuilder,
-    page: u64,
-    list: &[u64],
-) -> Result<(), AllocError> {
-    for target in list {
-        assert!(rt; builder.fits(page, *target), "{page} {target}");
-        builder.push(page, *target)?;
+// The lists of the graph of 12 pages from the seed 3, which another program drew.
+const DRAWN: [&[u64]; 12] = [
+    &[7, 10, 11],
+    &[7, 10, 11],
+    &[7, 10, 11],
+    &[1, 6, 7, 10, 11],
+    &[3, 7, 8, 9, 10, 11],
+    &[3, 5, 7, 8, 9, 10, 11],
+    &[7, 10, 11],
+    &[1, 6, 7, 10, 11],
+    &[2, 11],
+    &[2, 7],
+    &[1, 9],
+    &[],
+];
+
+#[test]
+fn a_graph_that_another_program_draws(rt: HostRuntime) -> Result<(), Fail> {
+    let graph = generate(rt.alloc(), 3, 12)?;
+    for page in 0..12_u64 {
+        assert!(rt; graph.list(page) == DRAWN[page as usize], "{page}");
     }
     Ok(())
 }
 
-/// The graph of these lists.
-pub fn graph_of(rt: &impl Abort, alloc: Global, lists: &[&[u64]]) -> Result<Graph, AllocError> {
-    assert!(rt; lists.len() < 1000);
-    let mut builder = GraphBuilder::new(alloc, lists.len() as u64)?;
-    for (page, list) in lists.iter().enumerate() {
-        add_list(rt, &mut builder, page as u64, list)?;
+#[test]
+fn three_lists_number_by_number(rt: HostRuntime) {
+    let two = Merge::new(ListWalk::new(&[1, 5, 9]), ListWalk::new(&[1, 2, 9, 12]));
+    let mut three = Merge::new(two, ListWalk::new(&[0, 5]));
+    for number in [0, 1, 2, 5, 9, 12] {
+        assert!(rt; three.next() == Some(number), "{number}");
     }
-    builder.finish()
+    assert!(rt; three.next().is_none());
+    assert!(rt; three.next().is_none());
 }
 
-/// Holds the graph to these lists.
-pub fn check_lists(rt: &impl Abort, graph: &Graph, lists: &[&[u64]]) {
-    assert_eq!(rt; graph.nodes(), lists.len() as u64);
-    for (page, list) in lists.iter().enumerate() {
-        assert!(rt; (page as u64) < graph.nodes());
-        assert_eq!(rt; graph.list(page as u64), *list);
+// What is kept of a short list has no room for the long one that left the window before.
+#[test]
+fn a_short_list_is_kept_in_little_memory(rt: HostRuntime) -> Result<(), Fail> {
+    let mut spares = Spares::new(rt.alloc());
+    spares.take_furthest(List::with_room(rt.alloc(), 1000)?);
+    let copy = spares.copy_of(&[7])?;
+    assert!(rt; copy.as_slice() == [7].as_slice());
+    assert!(rt; copy.room() <= 32);
+    Ok(())
+}
+
+// A list and the one that it refers to, if it does, and the bits that the record of page 0 or 1 has.
+const COSTS: [(u64, u64, &[u64], &[u64], u64); 5] = [
+    (1, 0, &[], &[], 1),
+    (0, 0, &[], &[1], 9),
+    (0, 0, &[], &[1, 2, 4, 5], 15),
+    (1, 1, &[1, 2], &[1, 2], 6),
+    (1, 1, &[1, 3, 5, 7], &[1, 5, 7], 14),
+];
+
+#[test]
+fn bits_of_small_records(rt: HostRuntime) -> Result<(), Fail> {
+    let params = usual(8, 16, 7, 3, 2)?;
+    for (page, reference, referenced, list, bits) in COSTS {
+        let cost = record_cost(&params, page, reference, referenced, list, u64::MAX);
+        assert!(rt; cost == Some(bits), "{bits}");
     }
+    Ok(())
 }

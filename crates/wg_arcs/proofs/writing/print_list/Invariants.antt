@@ -1,5 +1,5 @@
 use Rattle.std.proofs.Common.{take, IsTrue}
-use Rattle.wg_io.specs.Printing.{HasPrinted}
+use Rattle.wg_lines.specs.Printing.{HasPrinted}
 use Rattle.wg_arcs.specs.Text.{page_lines}
 use Rattle.wg_arcs.proofs.writing.print_list.Given as goal
 

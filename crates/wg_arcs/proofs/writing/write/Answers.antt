@@ -4,8 +4,8 @@ use Rattle.wg_io.proofs.RefusalLemmas.{sink_after, sink_exit}
 use Rattle.wg_io.proofs.PutsLemmas.{is_that_err}
 use Rattle.wg_io.specs.declared.depot.WriteError.{WriteError}
 use Rattle.wg_arcs.specs.Text.{page_lines, lines_from, text_of_graph}
-use Rattle.wg_io.specs.Printing.{HasPrinted, HasPrintedLess}
-use Rattle.wg_io.proofs.PrintLemmas.{puts_of_less, puts_in_the_end}
+use Rattle.wg_lines.specs.Printing.{HasPrinted, HasPrintedLess}
+use Rattle.wg_lines.proofs.PrintLemmas.{puts_of_less, puts_in_the_end}
 use Rattle.wg_arcs.proofs.Texts.{page_printed, page_less}
 use Rattle.wg_arcs.proofs.writing.write.Goals as goal
 

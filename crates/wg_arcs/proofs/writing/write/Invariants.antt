@@ -1,5 +1,5 @@
 use Rattle.std.proofs.Common.{[], take, IsTrue}
-use Rattle.wg_io.specs.Printing.{HasPrinted}
+use Rattle.wg_lines.specs.Printing.{HasPrinted}
 use Rattle.wg_arcs.specs.Text.{lines_from}
 use Rattle.wg_arcs.proofs.writing.write.Given as goal
 

@@ -1,5 +1,5 @@
 use Rattle.std.proofs.Common.{[], take, IsTrue}
-use Rattle.wg_io.specs.Printing.{HasPrinted}
+use Rattle.wg_lines.specs.Printing.{HasPrinted}
 use Rattle.wg_ascii.specs.Text.{word_after}
 use Rattle.wg_ascii.proofs.Texts.{texts}
 use Rattle.wg_ascii.proofs.writing.print_after.Given as goal

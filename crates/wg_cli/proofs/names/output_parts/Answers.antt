@@ -1,5 +1,5 @@
 use Rattle.std.proofs.Common.{◌∙◌, ap, sym}
-use Rattle.wg_jobs.specs.Names.{output_name}
+use Rattle.wg_outcomes.specs.JobFiles.{output_name}
 use Rattle.wg_cli.proofs.NameLemmas.{certificate_named}
 use Rattle.wg_cli.proofs.names.output_parts.Goals as goal
 

@@ -1,16 +1,16 @@
 use Rattle.std.proofs.Common.{◌∙◌, subst}
 use Rattle.wg_words.specs.Jobs.{job_of}
 use Rattle.wg_words.specs.declared.jobs.Job.TheVariants.{Rank, Verify}
-use Rattle.wg_readings.specs.Answers.{Answers, HasOutput}
-use Rattle.wg_readings.specs.Judged.{output_of}
-use Rattle.wg_jobs.specs.Names.{held_for}
-use Rattle.wg_jobs.specs.Performs.{judged_on}
+use Rattle.wg_outcomes.specs.Answers.{Answers, HasOutput}
+use Rattle.wg_outcomes.specs.Judged.{output_of}
+use Rattle.wg_outcomes.specs.JobFiles.{held_for}
+use Rattle.wg_outcomes.specs.Performs.{judged_on}
 use Rattle.wg_cli.proofs.LineLemmas.{nothing_promised}
 use Rattle.wg_words.proofs.JobLemmas.{rank_within}
-use Rattle.wg_jobs.proofs.PerformsLemmas.{unhindered}
+use Rattle.wg_outcomes.proofs.PerformsLemmas.{unhindered}
 use Rattle.wg_cli.proofs.ProvenLemmas.{proven_ranking, when_done}
-use Rattle.wg_jobs.proofs.RankLemmas.{proven}
-use Rattle.wg_jobs.proofs.VerifiedLemmas.{proven_gap}
+use Rattle.wg_outcomes.proofs.RankLemmas.{proven}
+use Rattle.wg_laws.proofs.VerifiedLemmas.{proven_gap}
 use Rattle.wg_cli.proofs.program.run.Goals as goal
 
 pub returns-in_default-clause-line : goal.returns-in_default-clause-line

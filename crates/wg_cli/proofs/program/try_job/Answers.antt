@@ -1,5 +1,5 @@
 use Rattle.std.proofs.Common.{◌≡◌, refl}
-use Rattle.wg_jobs.proofs.PerformsLemmas.{performs_at}
+use Rattle.wg_outcomes.proofs.PerformsLemmas.{performs_at}
 use Rattle.wg_cli.proofs.program.try_job.Goals as goal
 
 pub returns-in-Some-clause-performs : goal.returns-in-Some-clause-performs

@@ -1,7 +1,7 @@
 use Rattle.std.proofs.Common.{rules, ◌≡◌, ◌+◌, ◌-◌, ◌<◌, ◌++◌, ◌∷◌, [], length, refl, arith}
 use Rattle.std.proofs.lemmas.Result.{err_from_is_err_and}
 use Rattle.wg_bits.specs.Bits.{bits_of}
-use Rattle.wg_random.specs.Spot.{RefersTo}
+use Rattle.wg_decoder.specs.Chains.{RefersTo}
 use Rattle.wg_random.proofs.ChainLemmas.{pushed_length, pushed_pages}
 use Rattle.wg_random.proofs.SpotLemmas.{pushed_chain, pushed_here, head_error}
 use Rattle.wg_random.proofs.chain.chain.Goals as goal

@@ -2,7 +2,7 @@ use Rattle.std.proofs.Common.{◌≡◌, ◌+◌, ◌-◌, ◌<◌, length}
 use Rattle.std.specs.Prelude.{get_or}
 use Rattle.wg_bits.specs.Bits.{bits_of}
 use Rattle.wg_random.specs.Chain.{ArePages}
-use Rattle.wg_random.specs.Spot.{IsChain}
+use Rattle.wg_decoder.specs.Chains.{IsChain}
 use Rattle.wg_random.proofs.chain.chain.Given as goal
 
 abbrev pub invariant-down : goal.invariant-down

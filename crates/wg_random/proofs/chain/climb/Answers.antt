@@ -5,7 +5,7 @@ use Rattle.wg_bits.specs.Bits.{bits_of}
 use Rattle.wg_graph.specs.Ascending.{Ascends, Below}
 use Rattle.wg_decoder.specs.declared.decoded.Decoded.{Decoded}
 use Rattle.wg_decoder.specs.Remembered.{known_of}
-use Rattle.wg_random.specs.Spot.{ChainReads}
+use Rattle.wg_decoder.specs.Chains.{ChainReads}
 use Rattle.wg_random.proofs.SpotLemmas.{faults_weaker, refers_falls, carried, last_reads, up_one, lent_reads}
 use Rattle.wg_random.proofs.chain.climb.Goals as goal
 

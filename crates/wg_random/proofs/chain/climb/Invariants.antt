@@ -3,7 +3,7 @@ use Rattle.std.specs.Prelude.{get_or}
 use Rattle.wg_bits.specs.Bits.{bits_of}
 use Rattle.wg_decoder.specs.Remembered.{known_of}
 use Rattle.wg_graph.specs.Ascending.{Ascends, Below}
-use Rattle.wg_random.specs.Spot.{ChainReads}
+use Rattle.wg_decoder.specs.Chains.{ChainReads}
 use Rattle.wg_random.proofs.chain.climb.Given as goal
 
 abbrev pub invariant-up : goal.invariant-up

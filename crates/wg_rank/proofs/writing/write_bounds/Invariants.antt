@@ -1,5 +1,5 @@
 use Rattle.std.proofs.Common.{take, IsTrue}
-use Rattle.wg_io.specs.Printing.{HasPrinted}
+use Rattle.wg_lines.specs.Printing.{HasPrinted}
 use Rattle.wg_rank.specs.CertificateText.{bound_lines}
 use Rattle.wg_rank.proofs.writing.write_bounds.Given as goal
 

@@ -2,7 +2,7 @@ use Rattle.std.proofs.Common.{◌≡◌, ◌∙◌, ℕ, ap, sym, subst, inl, in
 use Rattle.wg_bits.specs.Bits.{bits_of, Position}
 use Rattle.wg_grammar.specs.Archive.{Accepted, ReadsGraph}
 use Rattle.wg_stream.specs.Errors.{OfFault}
-use Rattle.wg_readings.specs.Judged.{status_of}
+use Rattle.wg_outcomes.specs.Judged.{status_of}
 use Rattle.wg_readings.proofs.ReadingsLemmas.{goes_on, is_refused, of_graph}
 use Rattle.wg_readings.proofs.archive.graph_of_records.Goals as goal
 

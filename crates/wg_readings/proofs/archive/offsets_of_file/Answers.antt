@@ -1,9 +1,9 @@
 use Rattle.std.proofs.Common.{sym, ap, subst, inl, inr, refl, Ok, Err}
 use Rattle.wg_bits.specs.Bits.{bits_of}
-use Rattle.wg_readings.specs.Answers.{Answers}
-use Rattle.wg_readings.specs.Judged.{status_of, with_offsets}
-use Rattle.wg_readings.specs.declared.ending.Ending.{Ending}
-use Rattle.wg_readings.specs.declared.status.Status.{Status}
+use Rattle.wg_outcomes.specs.Answers.{Answers}
+use Rattle.wg_outcomes.specs.Judged.{status_of, with_offsets}
+use Rattle.wg_outcomes.specs.declared.ending.Ending.{Ending}
+use Rattle.wg_outcomes.specs.declared.status.Status.{Status}
 use Rattle.wg_readings.proofs.ReadingsLemmas.{by_params, goes_on_from, offsets_refused}
 use Rattle.wg_readings.proofs.archive.offsets_of_file.Goals as goal
 

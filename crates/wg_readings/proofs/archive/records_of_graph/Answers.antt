@@ -3,10 +3,10 @@ use Rattle.wg_bits.specs.Bits.{bits_of}
 use Rattle.wg_grammar.specs.Archive.{ReadsGraph}
 use Rattle.wg_random.specs.Checking.{OfArchive}
 use Rattle.wg_random.specs.declared.error.CheckError.{CheckError}
-use Rattle.wg_readings.specs.Answers.{Answers}
-use Rattle.wg_readings.specs.Judged.{status_of, with_graph}
-use Rattle.wg_readings.specs.declared.ending.Ending.{Ending}
-use Rattle.wg_readings.specs.declared.status.Status.{Status}
+use Rattle.wg_outcomes.specs.Answers.{Answers}
+use Rattle.wg_outcomes.specs.Judged.{status_of, with_graph}
+use Rattle.wg_outcomes.specs.declared.ending.Ending.{Ending}
+use Rattle.wg_outcomes.specs.declared.status.Status.{Status}
 use Rattle.wg_readings.proofs.ReadingsLemmas.{is_refused, of_graph}
 use Rattle.wg_readings.proofs.archive.records_of_graph.Goals as goal
 

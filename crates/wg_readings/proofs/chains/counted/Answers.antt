@@ -1,8 +1,8 @@
 use Rattle.std.proofs.Common.{◌∙◌, sym, ap, subst, inl}
-use Rattle.wg_readings.specs.Answers.{Answers}
-use Rattle.wg_readings.specs.Judged.{status_of, with_successors}
-use Rattle.wg_readings.specs.declared.ending.Ending.{Ending}
-use Rattle.wg_readings.specs.declared.status.Status.{Status}
+use Rattle.wg_outcomes.specs.Answers.{Answers}
+use Rattle.wg_outcomes.specs.Judged.{status_of, with_successors}
+use Rattle.wg_outcomes.specs.declared.ending.Ending.{Ending}
+use Rattle.wg_outcomes.specs.declared.status.Status.{Status}
 use Rattle.wg_readings.proofs.ReadingsLemmas.{bad_chain, chain_refused, page_refused, successors_go_on}
 use Rattle.wg_readings.proofs.chains.counted.Goals as goal
 

@@ -6,7 +6,7 @@ use Rattle.wg_grammar.specs.Archive.{places_of}
 use Rattle.wg_offsets.specs.Places.{last_place}
 use Rattle.wg_offsets.proofs.WordsLemmas.{last_more}
 use Rattle.wg_stream.proofs.PrefixLemmas.{places_more}
-use Rattle.wg_readings.specs.Names.{file_of, held_by}
+use Rattle.wg_outcomes.specs.Names.{file_of, held_by}
 use Rattle.wg_readings.specs.Pairing.{ComesWith}
 use Rattle.wg_readings.proofs.PairingLemmas.{both_done, both_stop, come_at, come_until, ready_done, ready_here, ready_more, ready_paired}
 use Rattle.wg_readings.proofs.UnderWay.{all_read, begins, goes_further, judged_by, way_later}

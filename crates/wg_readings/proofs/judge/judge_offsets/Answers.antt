@@ -6,9 +6,9 @@ use Rattle.std.proofs.lemmas.List.{take_all}
 use Rattle.wg_io.specs.declared.suffixes.TheConstants.{OFFSETS}
 use Rattle.wg_io.proofs.FilesLemmas.{none_falls-trans}
 use Rattle.wg_params.specs.Parameters.{Parameters}
-use Rattle.wg_readings.specs.Answers.{Steps}
+use Rattle.wg_outcomes.specs.Answers.{Steps}
 use Rattle.wg_readings.specs.Loading.{lengths_then}
-use Rattle.wg_readings.specs.Names.{file_of}
+use Rattle.wg_outcomes.specs.Names.{file_of}
 use Rattle.wg_readings.specs.Pairing.{ComesWith}
 use Rattle.wg_readings.proofs.PairingLemmas.{come_at, ready_done, ready_here, ready_more, ready_paired}
 use Rattle.wg_readings.proofs.JudgeLemmas.{offsets_exit, offsets_judged, offsets_unread}

@@ -1,8 +1,8 @@
 use Rattle.std.proofs.Common.{rules, ap, sym, Some}
-use Rattle.wg_readings.specs.Judged.{with_claim}
+use Rattle.wg_outcomes.specs.Judged.{with_claim}
 use Rattle.wg_readings.specs.Loading.{IsBadCertificate}
-use Rattle.wg_readings.specs.Names.{certificate_named}
-use Rattle.wg_readings.specs.declared.status.Input.TheVariants.{Certificate}
+use Rattle.wg_outcomes.specs.Names.{certificate_named}
+use Rattle.wg_outcomes.specs.declared.status.Input.TheVariants.{Certificate}
 use Rattle.wg_readings.proofs.NamedLemmas.{certificate_own, named_exit, named_loaded, named_unloaded}
 use Rattle.wg_readings.proofs.loading.load_certificate.Goals as goal
 

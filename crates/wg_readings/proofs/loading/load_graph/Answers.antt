@@ -1,5 +1,5 @@
-use Rattle.wg_readings.specs.Judged.{with_digraph}
-use Rattle.wg_readings.specs.declared.status.Input.TheVariants as input
+use Rattle.wg_outcomes.specs.Judged.{with_digraph}
+use Rattle.wg_outcomes.specs.declared.status.Input.TheVariants as input
 use Rattle.wg_readings.proofs.LoadLemmas.{read_loaded, read_unloaded}
 use Rattle.wg_readings.proofs.loading.load_graph.Goals as goal
 

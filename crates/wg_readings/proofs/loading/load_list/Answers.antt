@@ -1,5 +1,5 @@
 use Rattle.std.proofs.Common.{ap, sym, Some}
-use Rattle.wg_readings.specs.Names.{list_named}
+use Rattle.wg_outcomes.specs.Names.{list_named}
 use Rattle.wg_readings.proofs.LoadLemmas.{list_loaded, list_unloaded}
 use Rattle.wg_readings.proofs.loading.load_list.Goals as goal
 

@@ -1,8 +1,8 @@
 use Rattle.std.proofs.Common.{rules, ap, sym, Some}
-use Rattle.wg_readings.specs.Judged.{with_map}
+use Rattle.wg_outcomes.specs.Judged.{with_map}
 use Rattle.wg_readings.specs.Loading.{IsBadMap}
-use Rattle.wg_readings.specs.Names.{map_named}
-use Rattle.wg_readings.specs.declared.status.Input.TheVariants.{Map}
+use Rattle.wg_outcomes.specs.Names.{map_named}
+use Rattle.wg_outcomes.specs.declared.status.Input.TheVariants.{Map}
 use Rattle.wg_readings.proofs.NamedLemmas.{map_own, named_exit, named_loaded, named_unloaded}
 use Rattle.wg_readings.proofs.loading.load_map.Goals as goal
 

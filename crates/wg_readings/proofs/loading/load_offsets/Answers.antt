@@ -1,6 +1,6 @@
 use Rattle.std.proofs.Common.{rules}
-use Rattle.wg_readings.specs.Judged.{with_offsets}
-use Rattle.wg_readings.specs.declared.status.Input.TheVariants as input
+use Rattle.wg_outcomes.specs.Judged.{with_offsets}
+use Rattle.wg_outcomes.specs.declared.status.Input.TheVariants as input
 use Rattle.wg_readings.proofs.LoadLemmas.{read_loaded, read_unloaded}
 use Rattle.wg_readings.proofs.loading.load_offsets.Goals as goal
 

@@ -1,5 +1,5 @@
 use Rattle.std.proofs.Common.{ap, sym, Some}
-use Rattle.wg_readings.specs.Names.{text_named}
+use Rattle.wg_outcomes.specs.Names.{text_named}
 use Rattle.wg_readings.proofs.TextLemmas.{text_loaded, text_unloaded}
 use Rattle.wg_readings.proofs.loading.load_text.Goals as goal
 

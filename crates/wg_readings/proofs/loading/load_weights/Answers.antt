@@ -1,5 +1,5 @@
 use Rattle.std.proofs.Common.{◌∙◌, ap, refl, sym, Some}
-use Rattle.wg_readings.specs.Names.{weights_named}
+use Rattle.wg_outcomes.specs.Names.{weights_named}
 use Rattle.wg_readings.proofs.NamedLemmas.{weights_bad, weights_read, weights_unread}
 use Rattle.wg_readings.proofs.loading.load_weights.Goals as goal
 

@@ -1,5 +1,5 @@
 use Rattle.std.proofs.Common.{ap, sym, inl}
-use Rattle.wg_readings.specs.Judged.{status_of}
+use Rattle.wg_outcomes.specs.Judged.{status_of}
 use Rattle.wg_readings.proofs.ReadingsLemmas.{all_agree, one_differs}
 use Rattle.wg_readings.proofs.pairing.same_lengths.Goals as goal
 

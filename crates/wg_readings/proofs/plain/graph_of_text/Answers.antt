@@ -1,5 +1,5 @@
 use Rattle.std.proofs.Common.{◌∙◌, inl, sym, ap}
-use Rattle.wg_readings.specs.Judged.{status_of}
+use Rattle.wg_outcomes.specs.Judged.{status_of}
 use Rattle.wg_readings.proofs.ReadingsLemmas.{text_goes_on, text_refused}
 use Rattle.wg_readings.proofs.plain.graph_of_text.Goals as goal
 

@@ -10,8 +10,8 @@ use Rattle.wg_stream.specs.declared.stream_error.StreamError.TheVariants as erro
 use Rattle.wg_stream.specs.FirstError.{of_first}
 use Rattle.wg_stream.specs.Reading.{AgreesIn, IsInStep, IsJudged, StaysInStep}
 use Rattle.wg_readings.specs.Passes.{ending_at, first_in}
-use Rattle.wg_readings.proofs.Statuses.{own_caused}
-use Rattle.wg_readings.specs.declared.status.Status.TheVariants.{Done}
+use Rattle.wg_outcomes.proofs.Statuses.{own_caused}
+use Rattle.wg_outcomes.specs.declared.status.Status.TheVariants.{Done}
 use Rattle.wg_readings.proofs.PassLemmas.{absent_after, advances_at, cause_at, error_of, error_steps, first_again, found_after, only_at}
 use Rattle.wg_readings.proofs.records.go_on.Goals as goal
 

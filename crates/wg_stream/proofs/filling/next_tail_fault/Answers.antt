@@ -1,6 +1,6 @@
 use Rattle.std.proofs.Common.{ℕ, subst}
 use Rattle.wg_bits.specs.Bits.{bits_of}
-use Rattle.wg_source.specs.Standing.{IsTailAt}
+use Rattle.wg_grammar.specs.Standing.{IsTailAt}
 use Rattle.wg_stream.proofs.TailLemmas.{judged_of_file}
 use Rattle.wg_stream.proofs.filling.next_tail_fault.Goals as goal
 

@@ -2,7 +2,7 @@ use Rattle.std.proofs.Common.{◌≡◌, ap, sym, subst, ℕ}
 use Rattle.std.specs.Result.{IfOk}
 use Rattle.wg_bits.specs.Bits.{bits_of}
 use Rattle.wg_codes.specs.declared.outcome.Read.TheVariants.{Value, Cut}
-use Rattle.wg_source.specs.Standing.{IsReadAt}
+use Rattle.wg_grammar.specs.Standing.{IsReadAt}
 use Rattle.wg_stream.proofs.FillLemmas.{whole_of_file}
 use Rattle.wg_stream.specs.Held.{Held, IsHeldOf}
 use Rattle.wg_stream.proofs.filling.next_word.Goals as goal

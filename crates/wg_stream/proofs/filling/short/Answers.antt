@@ -1,5 +1,5 @@
 use Rattle.std.proofs.Common.{subst, ℕ, arith}
-use Rattle.wg_source.specs.Standing.{StopsAt}
+use Rattle.wg_grammar.specs.Standing.{StopsAt}
 use Rattle.wg_stream.specs.StepLaws.{then_moved}
 use Rattle.wg_stream.proofs.FillLemmas.{read_of_file}
 use Rattle.wg_stream.proofs.filling.short.Goals as goal

@@ -2,7 +2,7 @@ use Rattle.std.proofs.Common.{sym, subst}
 use Rattle.std.specs.Result.{IfOk}
 use Rattle.wg_bits.specs.Bits.{bits_of}
 use Rattle.wg_params.specs.declared.code.Code.{Code}
-use Rattle.wg_source.specs.Standing.{IsReadAt}
+use Rattle.wg_grammar.specs.Standing.{IsReadAt}
 use Rattle.wg_stream.proofs.filling.word_in_pieces.Goals as goal
 
 pub returns-in-Unary-clause-found : goal.returns-in-Unary-clause-found

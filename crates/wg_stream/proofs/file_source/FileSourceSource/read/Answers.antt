@@ -1,6 +1,6 @@
 use Rattle.std.proofs.Common.{List, Bool, subst}
 use Rattle.std.specs.Result.{IfOk}
-use Rattle.wg_source.specs.Standing.{IsReadAt}
+use Rattle.wg_grammar.specs.Standing.{IsReadAt}
 use Rattle.wg_stream.proofs.file_source.FileSourceSource.read.Goals as goal
 
 pub returns-clause-found : goal.returns-clause-found

@@ -4,7 +4,7 @@ use Rattle.wg_bits.specs.Bits.{Position, rest}
 use Rattle.wg_bits.proofs.Words.{length-bits_of}
 use Rattle.wg_codes.specs.Reading.{Reads}
 use Rattle.wg_codes.specs.Words.{word, top}
-use Rattle.wg_source.proofs.CursorLemmas.{after_later}
+use Rattle.wg_grammar.proofs.CursorLemmas.{after_later}
 use Rattle.wg_stream.specs.Held.{Held}
 use Rattle.wg_stream.proofs.stretch.Stretch.read.Goals as goal
 

@@ -1,0 +1,178 @@
+-- The archive that was built of a generated graph is in order, and has this graph.
+use Rattle.std.proofs.Common.{◌≡◌, ◌≤◌, ◌∙◌, Bool, true, inr, ℕ, List, [], ◌∷◌, length, get_or, Option, None, Result, Ok, Err, refl, sym, ap, subst, arith}
+use Rattle.std.proofs.lemmas.Option.{same_Some}
+use Rattle.wg_io.specs.Outside.{Files, Counts}
+use Rattle.wg_params.specs.Parameters.{Parameters, IsWithinLimits, params_of}
+use Rattle.wg_params.specs.declared.limits.TheConstants.{MOST_ARCS, MOST_PAGES}
+use Rattle.wg_properties.specs.Judged.{properties_of}
+use Rattle.wg_properties.specs.Text.{text_of}
+use Rattle.wg_properties.specs.declared.fault.PropFault.{PropFault}
+use Rattle.wg_properties.proofs.Readback.{read_again}
+use Rattle.wg_properties.proofs.ShortTexts.{text_short}
+use Rattle.wg_graph.specs.Digraph.{Digraph, IsGraph, arc_count}
+use Rattle.wg_grammar.specs.Archive.{Accepted}
+use Rattle.wg_offsets.specs.Places.{last_place}
+use Rattle.wg_offsets.specs.Words.{places_of}
+use Rattle.wg_encoder.specs.Archive.{graph_bits, graph_file, offset_values, offsets_file, referring_pages, summary_of}
+use Rattle.wg_encoder.specs.declared.summary.Summary.{Summary}
+use Rattle.wg_encoder.specs.Laws.{IsAcceptedArchive}
+use Rattle.wg_encoder.proofs.Accepted.{greedy_accepted}
+use Rattle.wg_encoder.proofs.ProperRecord.{canonical_proper}
+use Rattle.wg_words.specs.Layouts.{default_layout}
+use Rattle.wg_params.specs.declared.layout.Layout.{Layout}
+use Rattle.wg_words.proofs.LayoutLemmas.{layout_for_any}
+use Rattle.wg_outcomes.specs.Answers.{IsHindrance}
+use Rattle.wg_outcomes.specs.Causes.{AreFaultless}
+use Rattle.wg_outcomes.specs.Judged.{Judged, accepted, output_of, unless_bad_properties, with_graph, with_lengths, with_offsets, with_parameters, offsets_then}
+use Rattle.wg_readings.specs.Loading.{IsPropertiesFile, JudgesFiles, LoadsGraph, LoadsParams, digraph_then, params_then}
+use Rattle.wg_outcomes.specs.Names.{file_of, held_by, no_outputs}
+use Rattle.wg_readings.specs.Pairing.{files_then}
+use Rattle.wg_readings.specs.Passes.{graph_then}
+use Rattle.wg_outcomes.specs.Promised.{ArePromised}
+use Rattle.wg_outcomes.specs.Readings.{Readings}
+use Rattle.wg_outcomes.specs.declared.ending.Ending.{Ending}
+use Rattle.wg_outcomes.specs.declared.status.Input.TheVariants as input
+use Rattle.wg_outcomes.specs.declared.status.Status.{Status}
+use Rattle.wg_outcomes.specs.declared.status.Status.TheVariants.{Memory}
+use Rattle.wg_readings.proofs.ReadingsLaws.{the_readings}
+use Rattle.wg_readings.proofs.ReadingsLemmas.{all_agree, goes_on, goes_on_from}
+use Rattle.wg_outcomes.specs.Bulk.{IsBuilt, bulk_params}
+use Rattle.wg_outcomes.specs.Ranked.{bounds_after}
+use Rattle.wg_outcomes.specs.Written.{AreWhole, archive_in, greedy_archive}
+use Rattle.wg_outcomes.proofs.FileLemmas.{file_goes_on, last_bit}
+use Rattle.wg_io.proofs.FilesLemmas.{none_falls-refl}
+use Rattle.std.specs.Bool.{IsTrue}
+use Rattle.wg_words.specs.declared.jobs.Job.{Job}
+use Rattle.wg_outcomes.proofs.Statuses.{IsOwn, own_caused}
+use Rattle.wg_outcomes.specs.JobFiles.{can_end, input_name}
+use Rattle.wg_outcomes.specs.Performs.{Performs, outside}
+use Rattle.wg_outcomes.proofs.PerformsLemmas.{IsStop, stopped}
+use Rattle.wg_outcomes.proofs.SteadyLemmas.{by_memory, hindered}
+
+-- what goes on alike, whatever comes next, goes on with what gives the same text
+same_text : {B : Type 0} (step : (B → Judged) → Judged) (b d : B) (text : B → List ℕ) → ((next : B → Judged) → step next ≡ next b) → ((next : B → Judged) → step next ≡ next d) → text b ≡ text d
+same_text step b d text one two = ap output_of (sym (one (λ x. accepted (text x))) ∙ two (λ x. accepted (text x)))
+
+abbrev given : Parameters → Result Parameters PropFault
+given p = Ok p
+
+-- ---- what was written
+
+module _ (l : Layout) (n m : ℕ) (q : Parameters) (d g : Digraph) (is : q ≡ params_of l n m) (usual : l ≡ default_layout) (pages : n ≡ d.nodes) (arcs : m ≡ arc_count d) (drawn : d ≡ g) where
+  params_written : q ≡ bulk_params d
+  params_written = is ∙ (λ i. params_of (usual i) (pages i) (arcs i))
+
+  pub built : (base : List ℕ) (files : Files) → IsGraph d → n ≤ MOST_PAGES → m ≤ MOST_ARCS → IsWithinLimits (params_of l 0 0) → AreWhole (greedy_archive q d) (archive_in base files) → IsBuilt g base files
+  built base files proper few_pages few_arcs within whole =
+      subst (λ (x : Digraph). IsBuilt x base files) drawn (record {
+        proper = proper;
+        limits = subst IsWithinLimits (sym is ∙ params_written) (layout_for_any l n m 0 0 within few_pages few_arcs);
+        whole = subst (λ (x : Parameters). AreWhole (greedy_archive x d) (archive_in base files)) params_written whole;
+      })
+
+  pub referring_written : (s : Summary) → s ≡ summary_of q d.lists → s.referring ≡ referring_pages (bulk_params g) g.lists
+  referring_written s h =
+      ap (λ (x : Summary). x.referring) h ∙ ap (λ (x : Parameters). referring_pages x d.lists) params_written ∙ ap (λ (x : Digraph). referring_pages (bulk_params x) x.lists) drawn
+
+-- ---- what is read of it
+
+module _ (g : Digraph) (base : List ℕ) (files : Files) (is : IsBuilt g base files) where
+  abbrev p : Parameters
+  p = bulk_params g
+
+  abbrev places : List ℕ
+  places = places_of (offset_values p g.lists)
+
+  abbrev whole_graph : Accepted
+  whole_graph = record { graph = g.lists; places = places }
+
+  in_order : IsAcceptedArchive p g.lists
+  in_order = greedy_accepted canonical_proper p g is.limits is.proper refl refl
+
+  -- ---- what each file leads to
+  params_go_on : (next : Parameters → Judged) → params_then (held_by (file_of base) files input.Properties) next ≡ next p
+  params_go_on next =
+      ap (λ (o : Option (List ℕ)). params_then o next) is.whole.0
+      ∙ file_goes_on input.Properties (text_of p) (omega (arith, text_short p is.limits)) (λ text. with_parameters text next)
+      ∙ ap (λ (w : Result Parameters PropFault). unless_bad_properties w next) (read_again p is.limits)
+
+  graph_goes_on : (r : Readings) (next : Accepted → Judged) → graph_then r p (held_by (file_of base) files input.Graph) next ≡ next whole_graph
+  graph_goes_on r next =
+      ap (λ (o : Option (List ℕ)). graph_then r p o next) is.whole.1
+      ∙ file_goes_on input.Graph (graph_file p g.lists) (omega (arith, in_order.short_graph)) (λ bytes. with_graph r p bytes next)
+      ∙ goes_on r p is.limits (graph_file p g.lists) g.lists places in_order.graph next
+
+  offsets_go_on : (r : Readings) (next : List ℕ → Judged) → offsets_then r p (held_by (file_of base) files input.Offsets) next ≡ next places
+  offsets_go_on r next =
+      ap (λ (o : Option (List ℕ)). offsets_then r p o next) is.whole.2
+      ∙ file_goes_on input.Offsets (offsets_file p g.lists) (omega (arith, in_order.short_offsets)) (λ more. with_offsets r p more next)
+      ∙ goes_on_from r p is.limits (offsets_file p g.lists) places in_order.offsets next
+
+  files_go_on : (r : Readings) (next : ℕ → Judged) → files_then r p (held_by (file_of base) files) next ≡ next (length (graph_bits p g.lists))
+  files_go_on r next =
+      graph_goes_on r (λ a. offsets_then r p (held_by (file_of base) files input.Offsets) (λ stored. with_lengths a.places stored (λ same. next (last_place a.places))))
+      ∙ offsets_go_on r (λ stored. with_lengths places stored (λ same. next (last_place places)))
+      ∙ all_agree places places (λ x lt. refl) (λ same. next (last_place places))
+      ∙ ap next (last_bit p g.lists)
+
+  digraph_goes_on : (r : Readings) (next : Digraph → Judged) → digraph_then r p (held_by (file_of base) files input.Graph) next ≡ next g
+  digraph_goes_on r next = graph_goes_on r (λ a. next (record { nodes = p.nodes; lists = a.graph }))
+
+  -- ---- the parameters
+  pub params_are : (q : Parameters) → IsPropertiesFile (held_by (file_of base) files input.Properties) q → q ≡ p
+  params_are q file =
+      let same : file.text ≡ text_of p = same_Some file.text (text_of p) (sym file.is ∙ is.whole.0) in
+      let one : given q ≡ given p = sym file.gives ∙ ap properties_of same ∙ read_again p is.limits in
+      cc
+
+  pub no_params : (files' : Files) (counts counts' : List ℕ → Counts) (e : Ending) → AreFaultless counts counts' 0 0 → LoadsParams base true files files' counts counts' (Err e) → e.status ≡ Memory
+  no_params files' counts counts' e none l =
+      by_memory (file_of base) no_outputs counts counts' none e.status l.causes (hindered (params_then (held_by (file_of base) files input.Properties)) p e params_go_on (l.steps refl))
+
+  -- ---- graph and offsets, beside each other
+  module _ (files' : Files) (counts counts' : List ℕ → Counts) (q : Parameters) (same : q ≡ p) where
+    pub bits_are : (n : ℕ) → JudgesFiles base q true files files' counts counts' (Ok n) → n ≡ length (graph_bits p g.lists)
+    bits_are n j =
+        let r : Readings = the_readings in
+        let k = subst (λ (x : Parameters). JudgesFiles base x true files files' counts counts' (Ok n)) same j in
+        ap (λ (text : List ℕ). get_or text 0 0)
+        (same_text (files_then r p (held_by (file_of base) files)) n (length (graph_bits p g.lists)) (λ x. x ∷ []) (k.steps refl r) (files_go_on r))
+
+    pub no_bits : (e : Ending) → AreFaultless counts counts' 0 0 → JudgesFiles base q true files files' counts counts' (Err e) → e.status ≡ Memory
+    no_bits e none j =
+        let r : Readings = the_readings in
+        let k = subst (λ (x : Parameters). JudgesFiles base x true files files' counts counts' (Err e)) same j in
+        by_memory (file_of base) no_outputs counts counts' none e.status k.causes (hindered (files_then r p (held_by (file_of base) files)) (length (graph_bits p g.lists)) e (files_go_on r) (k.steps refl r))
+
+    -- ---- the graph alone
+    pub no_graph : (e : Ending) → AreFaultless counts counts' 0 0 → LoadsGraph base q true files files' counts counts' (Err e) → e.status ≡ Memory
+    no_graph e none l =
+        let r : Readings = the_readings in
+        let k = subst (λ (x : Parameters). LoadsGraph base x true files files' counts counts' (Err e)) same l in
+        by_memory (file_of base) no_outputs counts counts' none e.status k.reads.ends.causes
+        (hindered (digraph_then r p (held_by (file_of base) files input.Graph)) g e (digraph_goes_on r) (k.reads.ends.refused refl r))
+
+    -- the bounds of what was read are those of the graph
+    pub bounds_of_graph : (h : Digraph) (damping rounds : ℕ) → LoadsGraph base q true files files' counts counts' (Ok h) → bounds_after h None damping rounds ≡ bounds_after g None damping rounds
+    bounds_of_graph h damping rounds l =
+        let r : Readings = the_readings in
+        let k = subst (λ (x : Parameters). LoadsGraph base x true files files' counts counts' (Ok h)) same l in
+        let text : (f : Digraph → List ℕ) → f h ≡ f g =
+        λ f. same_text (digraph_then r p (held_by (file_of base) files input.Graph)) h g f (k.goes refl r) (digraph_goes_on r) in
+        λ i. record {
+          damping = damping;
+          rounds = rounds;
+          weights = text (λ d. (bounds_after d None damping rounds).weights) i;
+          low = text (λ d. (bounds_after d None damping rounds).low) i;
+          high = text (λ d. (bounds_after d None damping rounds).high) i;
+        }
+
+-- ---- a command without files ended for want of memory
+
+pub ends_alone : (job : Job) (told_files told_out : Bool) (files : Files) (counts : List ℕ → Counts) (taken : List ℕ) (faults : ℕ) (e : Ending) → e.status ≡ Memory
+    → Performs job told_files told_out (outside files counts taken faults) (outside files counts taken faults) e.status e.arcs
+ends_alone job told_files told_out files counts taken faults e want =
+    let own : IsOwn e.status = subst IsOwn (sym want) tt in
+    stopped job told_files told_out (outside files counts taken faults) (outside files counts taken faults) e.status e.arcs (subst IsStop (sym want) tt) refl refl
+    (λ t r. inr (subst IsHindrance (sym want) tt)) (subst (λ (s : Status). IsTrue (can_end job s)) (sym want) refl) (own_caused _ _ _ _ _ _ e.status own) (λ t r i is. absurd (subst IsOwn is own))
+    (none_falls-refl counts) (λ t. subst (λ (s : Status). ArePromised (held_by (input_name job) files) s e.arcs) (sym want) tt)

@@ -1,0 +1,151 @@
+//! The archive of a generated graph, in memory.
+ghost use Rattle.std.specs.Prelude.{◌≡◌, ◌≤◌, length, OnOk, IfOk, IfErr, None};
+ghost use Rattle.wg_graph.specs.Digraph.{Digraph};
+ghost use Rattle.wg_vectors.specs.Generated.{generated};
+ghost use Rattle.wg_params.specs.declared.limits.TheConstants.{MOST_GENERATED};
+ghost use Rattle.wg_encoder.specs.Archive.{graph_bits, referring_pages};
+ghost use Rattle.wg_words.specs.declared.defaults.TheConstants.{DEFAULT_DAMPING};
+ghost use Rattle.wg_outcomes.specs.Readings.{Readings};
+ghost use Rattle.wg_outcomes.specs.Bulk.{IsBuilt, bulk_params, outcome_of};
+ghost use Rattle.wg_outcomes.specs.Ranked.{bounds_after};
+ghost use Rattle.wg_outcomes.specs.declared.outcome.TheConstants.{BULK_ROUNDS};
+
+use crate::writing::write_archive;
+use std::alloc::Global;
+use wg_graph::{Graph, GraphLists};
+use wg_io::SteadyDepot;
+use wg_order::Summary;
+use wg_outcomes::{BULK_ROUNDS, Ending, Outcome, Status, last_bounds, params_of, room_for};
+use wg_params::Params;
+use wg_rank::Bounds;
+use wg_readings::{judge_files, load_graph, load_params};
+use wg_vectors::generate;
+use wg_words::{DEFAULT_DAMPING, Name, usual_layout};
+
+// The most bytes that a call moves.
+const PIECE: u64 = 1 << 16;
+
+// The name of the archive.
+const NAME: &str = "g";
+
+fn out_of_memory() -> Ending
+    ensures { result.status ≡ Status.Memory }
+{
+    Ending::of(Status::Memory)
+}
+
+fn archive_name(alloc: Global) -> Result<Name, Ending>
+    ensures { IfErr result (λ e. e.status ≡ Status.Memory) }
+{
+    match Name::new(alloc, NAME) {
+        Ok(name) => Ok(name),
+        Err(_) => Err(out_of_memory()),
+    }
+}
+
+fn drawn(alloc: Global, seed: u64, pages: u64) -> Result<Graph, Ending>
+    requires { pages ≤ MOST_GENERATED }
+    ensures exact { IfOk result (λ g. g ≡ generated seed pages) }
+    ensures only { IfErr result (λ e. e.status ≡ Status.Memory) }
+{
+    match generate(alloc, seed, pages) {
+        Ok(graph) => Ok(graph),
+        Err(_) => Err(out_of_memory()),
+    }
+}
+
+// Writes the archive of the graph, and answers how many of its records have a reference. The graph is let go.
+fn build(
+    alloc: Global,
+    seed: u64,
+    pages: u64,
+    base: &Name,
+    depot: &mut SteadyDepot,
+) -> Result<u64, Ending>
+    requires { pages ≤ MOST_GENERATED }
+    ensures built { OnOk result (IsBuilt (generated seed pages) base.now depot.new.files) }
+    ensures referring { let g = generated seed pages in IfOk result (λ n. n ≡ referring_pages (bulk_params g) g.lists) }
+    ensures only { IfErr result (λ e. e.status ≡ Status.Memory) }
+{
+    let graph = drawn(alloc, seed, pages)?;
+    let params = params_of(&usual_layout(), graph.nodes(), graph.arcs());
+    let summary = write_archive(alloc, &params, &graph, base, depot)?;
+    Ok(summary.referring)
+}
+
+// An archive that was judged.
+#[derive(Drop)]
+struct Checked {
+    params: Params,
+    bits: u64,
+}
+
+// Judges the archive as `check` does.
+fn judge(alloc: Global, base: &Name, depot: &mut SteadyDepot) -> Result<Checked, Ending>
+    ensures same { depot.new.files ≡ depot.old.files }
+    ensures params { (g : Digraph) → IsBuilt g base.now depot.old.files → IfOk result (λ j. j.params ≡ bulk_params g) }
+    ensures bits { (g : Digraph) → IsBuilt g base.now depot.old.files
+        → IfOk result (λ j. j.bits ≡ length (graph_bits (bulk_params g) g.lists)) }
+    ensures only { (g : Digraph) → IsBuilt g base.now depot.old.files
+        → IfErr result (λ e. e.status ≡ Status.Memory) }
+{
+    let params = load_params(alloc, depot, base)?;
+    let bits = judge_files(alloc, &params, depot, base)?;
+    Ok(Checked { params, bits })
+}
+
+// Bounds of the pages after the last round, along the lists of the graph that is read from the archive's graph file.
+// The depot is let go once the graph is there.
+fn rounded(
+    alloc: Global,
+    params: &Params,
+    base: &Name,
+    mut depot: SteadyDepot,
+) -> Result<Bounds, Ending>
+    ensures value { (g : Digraph) → IsBuilt g base.now depot.files → params.now ≡ bulk_params g
+        → IfOk result (λ b. b ≡ bounds_after g None DEFAULT_DAMPING BULK_ROUNDS) }
+    ensures only { (g : Digraph) → IsBuilt g base.now depot.files → params.now ≡ bulk_params g
+        → IfErr result (λ e. e.status ≡ Status.Memory) }
+{
+    let graph = load_graph(alloc, params, &mut depot, base)?;
+    drop(depot);
+    // tells the limit
+    graph.nodes();
+    let mut lists = GraphLists::new(&graph);
+    let first = room_for(alloc, &lists, None, DEFAULT_DAMPING)?;
+    Ok(last_bounds(first, &mut lists, BULK_ROUNDS))
+}
+
+// What comes of an archive that was judged, by the bounds of its pages.
+fn summed(checked: &Checked, referring: u64, bounds: Bounds) -> Outcome
+    ensures { (r : Readings) (g : Digraph) → checked.now.params ≡ bulk_params g
+        → checked.now.bits ≡ length (graph_bits (bulk_params g) g.lists)
+        → referring ≡ referring_pages (bulk_params g) g.lists
+        → bounds ≡ bounds_after g None DEFAULT_DAMPING BULK_ROUNDS → result ≡ outcome_of r g }
+{
+    let ranking = Summary::of(bounds);
+    Outcome {
+        pages: checked.params.nodes(),
+        arcs: checked.params.arcs(),
+        bits: checked.bits,
+        referring,
+        first: ranking.first,
+        sure: ranking.sure,
+    }
+}
+
+/// Writes the archive of the generated graph of so many pages in memory, judges it, ranks the pages of the graph that
+/// its bytes stand for, and answers what comes of this. Out of memory alone can stop it: what was written is not
+/// refused.
+pub fn try_generated(alloc: Global, seed: u64, pages: u64) -> Result<Outcome, Ending>
+    requires { pages ≤ MOST_GENERATED }
+    ensures value { (r : Readings) → IfOk result (λ o. o ≡ outcome_of r (generated seed pages)) }
+    ensures only { IfErr result (λ e. e.status ≡ Status.Memory) }
+{
+    let base = archive_name(alloc)?;
+    let mut depot = SteadyDepot::new(alloc, PIECE);
+    let referring = build(alloc, seed, pages, &base, &mut depot)?;
+    let checked = judge(alloc, &base, &mut depot)?;
+    let bounds = rounded(alloc, &checked.params, &base, depot)?;
+    Ok(summed(&checked, referring, bounds))
+}

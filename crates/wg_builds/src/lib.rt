@@ -1,0 +1,39 @@
+//! The commands that write an archive: `build`, `import`, `recode`, `transpose`, `union`, `quotient`; and `bulk`, which
+//! builds one in memory.
+//!
+//! Each is a function over any outside, with one clause: `DoesOrEnds` of its job (`wg_outcomes`); `bulk`, which makes no
+//! call of a depot, has it of any depot by `DoesAlone`. A command is a chain of steps: those of `wg_readings`, which read
+//! its inputs and judge them, and last [`building`](building::build_archive), which writes the greedy archive of a graph
+//! and prints its line.
+//!
+//! The archive of an arc list, in memory:
+//!
+//! ```rust
+//! let mut depot = SteadyDepot::new(rt.alloc(), 4096);
+//! depot.put_file("a", b"0 1\n")?;
+//! let list = Name::new(rt.alloc(), "a")?;
+//! let base = Name::new(rt.alloc(), "g")?;
+//! let layout = usual_layout();
+//! let mut out = SteadySink::new(rt.alloc(), 4096);
+//! let done = build(rt.alloc(), &list, &base, 2, &layout, &mut depot, &mut out);
+//! assert!(rt; done.is_ok());
+//! assert_eq!(rt; out.bytes(), b"ok nodes=2 arcs=1 bits=10\n".as_slice());
+//! Ok(())
+//! ```
+//!
+//! `recode` reads the graph in pieces; all other inputs are held whole until they are read. `union` holds the bytes of
+//! two graph files, and goes through their lists side by side.
+#![tactic(auto)]
+
+pub mod build;
+pub mod building;
+pub mod bulk;
+mod copying;
+mod generated;
+pub mod import;
+mod loaded;
+pub mod quotient;
+pub mod recode;
+pub mod transpose;
+pub mod union;
+mod writing;

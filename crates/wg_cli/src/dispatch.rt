@@ -1,0 +1,108 @@
+ghost use Rattle.std.specs.Prelude.{◌≡◌};
+ghost use Rattle.wg_words.specs.Jobs.{IsWithin};
+ghost use Rattle.wg_outcomes.specs.Answers.{status_in};
+ghost use Rattle.wg_outcomes.specs.Promised.{arcs_in};
+ghost use Rattle.wg_outcomes.specs.Performs.{Does};
+
+use std::alloc::Global;
+use wg_builds::build::build;
+use wg_builds::bulk::bulk;
+use wg_builds::import::import;
+use wg_builds::quotient::quotient;
+use wg_builds::recode::recode;
+use wg_builds::transpose::transpose;
+use wg_builds::union::union;
+use wg_io::{Depot, Sink};
+use wg_outcomes::{Ending, Status};
+use wg_queries::check::check;
+use wg_queries::printing::{Listing, print_records};
+use wg_queries::rank::{Asked, rank};
+use wg_queries::show::show;
+use wg_queries::spot::spot;
+use wg_queries::verify::verify;
+use wg_words::Job;
+
+// How what was done or has ended is reported.
+fn ending_of(done: Result<(), Ending>) -> Ending
+    ensures status { result.status ≡ status_in done }
+    ensures arcs { result.arcs ≡ arcs_in done }
+{
+    match done {
+        Ok(()) => Ending::of(Status::Done),
+        Err(ending) => ending,
+    }
+}
+
+/// Does the job, and says how it ended.
+pub fn perform<D: Depot, O: Sink>(alloc: Global, job: &Job, depot: &mut D, out: &mut O) -> Ending
+    requires { IsWithin job.now }
+    ensures { Does ⟦<D as Depot>⟧ ⟦<O as Sink>⟧ job.now depot.old depot.new out.old out.new result.status result.arcs }
+{
+    match job {
+        Job::Check { base } => ending_of(check(alloc, base, depot, out)),
+        Job::Arcs { base } => ending_of(print_records(alloc, base, Listing::Arcs, depot, out)),
+        Job::Ascii { base } => ending_of(print_records(alloc, base, Listing::Ascii, depot, out)),
+        Job::Offsets { base } => ending_of(print_records(
+            alloc,
+            base,
+            Listing::Offsets,
+            depot,
+            out,
+        )),
+        Job::Show { base, pages } => ending_of(show(alloc, base, pages, depot, out)),
+        Job::Spot { base, page } => ending_of(spot(alloc, base, *page, depot, out)),
+        Job::Rank {
+            base,
+            rounds,
+            damping,
+            top,
+            weights,
+            certificate,
+        } => {
+            let asked = Asked {
+                rounds: *rounds,
+                damping: *damping,
+                top: *top,
+            };
+            ending_of(rank(alloc, base, asked, weights, certificate, depot, out))
+        }
+        Job::Verify {
+            base,
+            certificate,
+            weights,
+        } => ending_of(verify(alloc, base, certificate, weights, depot, out)),
+        Job::Build {
+            arcs,
+            base,
+            nodes,
+            layout,
+        } => ending_of(build(alloc, arcs, base, *nodes, layout, depot, out)),
+        Job::Import { text, base, layout } => {
+            ending_of(import(alloc, text, base, layout, depot, out))
+        }
+        Job::Quotient {
+            input,
+            map,
+            output,
+            classes,
+            layout,
+        } => ending_of(quotient(alloc, input, map, output, *classes, layout, depot, out)),
+        Job::Recode {
+            input,
+            output,
+            layout,
+        } => ending_of(recode(alloc, input, output, layout, depot, out)),
+        Job::Union {
+            first,
+            second,
+            output,
+            layout,
+        } => ending_of(union(alloc, first, second, output, layout, depot, out)),
+        Job::Transpose {
+            input,
+            output,
+            layout,
+        } => ending_of(transpose(alloc, input, output, layout, depot, out)),
+        Job::Bulk { seed, pages } => ending_of(bulk(alloc, *seed, *pages, out)),
+    }
+}

@@ -1,6 +1,0 @@
-use Rattle.std.specs.Prelude.{decimal}
-use Rattle.wg_io.proofs.PrintLemmas.{less_held}
-use Rattle.wg_io.proofs.lines.Lines.number.Goals as goal
-
-pub returns-in-Err-clause-prints : goal.returns-in-Err-clause-prints
-returns-in-Err-clause-prints g c t = less_held _ _ c.args.self.now (decimal c.args.number) (c.in-Err.ensures.prints t)

@@ -1,5 +1,0 @@
-use Rattle.wg_jobs.proofs.UnionLaws.{unions_accepted}
-use Rattle.wg_jobs.proofs.laws.joined_archives.Goals as goal
-
-pub returns : goal.returns
-returns c = unions_accepted

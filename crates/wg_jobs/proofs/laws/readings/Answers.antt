@@ -1,8 +1,0 @@
-use Rattle.wg_readings.proofs.ReadingsLaws.{the_readings, readings_one}
-use Rattle.wg_jobs.proofs.laws.readings.Goals as goal
-
-pub returns-clause-some : goal.returns-clause-some
-returns-clause-some c = the_readings
-
-pub returns-clause-one : goal.returns-clause-one
-returns-clause-one c = readings_one

@@ -1,5 +1,0 @@
-use Rattle.wg_jobs.proofs.SpottedLemmas.{spots_shown}
-use Rattle.wg_jobs.proofs.laws.spotted_pages.Goals as goal
-
-pub returns : goal.returns
-returns c = spots_shown

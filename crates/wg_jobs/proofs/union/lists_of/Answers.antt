@@ -1,7 +1,0 @@
-use Rattle.std.proofs.Common.{ℕ, List, Ok, subst, sym}
-use Rattle.wg_bits.specs.Bits.{bits_of}
-use Rattle.wg_grammar.specs.Archive.{ReadsGraph}
-use Rattle.wg_jobs.proofs.union.lists_of.Goals as goal
-
-pub returns-in-Ok-clause-graph : goal.returns-in-Ok-clause-graph
-returns-in-Ok-clause-graph c = λ a is. c.in-Ok.ensures.graph a (subst (λ (x : List ℕ). ReadsGraph c.args.archive.now.params (bits_of x) (Ok a)) (sym c.as_slice.ensures) is.2)

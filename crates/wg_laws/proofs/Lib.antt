@@ -1,0 +1,11 @@
+pub mod BuiltLemmas
+pub mod ClaimLemmas
+pub mod ConversionLemmas
+pub mod HeldLemmas
+pub mod ImportLemmas
+pub mod QuotientLemmas
+pub mod SpottedLemmas
+pub mod UnionLaws
+pub mod VerifiedLemmas
+pub mod WeightsLemmas
+pub mod WrittenLemmas

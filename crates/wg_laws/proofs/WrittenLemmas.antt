@@ -1,0 +1,114 @@
+-- The certificate that a ranking writes is accepted.
+use Rattle.std.proofs.Common.{◌≡◌, ◌∙◌, ◌<◌, ◌≤◌, ◌+◌, ◌*◌, ◌^◌, ℕ, Bool, List, [], ◌∷◌, ◌++◌, length, codes, decimal, if◌then◌else◌, Option, Some, None, Result, refl, sym, ap, subst, arith}
+use Rattle.std.proofs.lemmas.Fmt.{length-decimal-le}
+use Rattle.std.proofs.lemmas.List.{length-append}
+use Rattle.wg_io.specs.declared.limits.TheConstants.{MOST_BYTES}
+use Rattle.wg_num.specs.Units.{text_of_units}
+use Rattle.wg_num.proofs.UnitsRead.{text_length}
+use Rattle.wg_params.specs.declared.limits.TheConstants.{MOST_DAMPING, MOST_PAGES, MOST_ROUNDS}
+use Rattle.wg_params.specs.Parameters.{Parameters}
+use Rattle.wg_graph.specs.Digraph.{Digraph}
+use Rattle.wg_rank.specs.Rank.{gap}
+use Rattle.wg_rank.specs.Sum.{sum_below}
+use Rattle.wg_rank.specs.Intervals.{AreBounds, Holds, Intervals, by_page}
+use Rattle.wg_rank.specs.Claims.{Claim, IsClaim, Rises, claim_of_bounds}
+use Rattle.wg_rank.specs.Weights.{weights_of}
+use Rattle.wg_rank.specs.CertificateText.{bound_line, bound_lines, claim_of, named_line, text_of_claim}
+use Rattle.wg_rank.specs.declared.fault.CertFault.{CertFault}
+use Rattle.wg_rank.specs.declared.limits.TheConstants.{UNITS}
+use Rattle.wg_rank.proofs.Certificates.{complete}
+use Rattle.wg_rank.proofs.WrittenBack.{written_back}
+use Rattle.wg_words.specs.declared.jobs.Job.TheVariants.{Rank, Verify}
+use Rattle.wg_outcomes.specs.Judged.{Judged, accepted, certified, claim_then, refused, status_of, unless_bad_claim, weights_then, with_claim, with_digraph, with_file, with_parameters, with_records}
+use Rattle.wg_outcomes.specs.Readings.{Readings}
+use Rattle.wg_outcomes.specs.declared.status.Input.{Input}
+use Rattle.wg_outcomes.specs.declared.status.Input.TheVariants as input
+use Rattle.wg_outcomes.specs.declared.status.Status.TheVariants.{OverLimit}
+use Rattle.wg_laws.specs.Certificates.{AreStill}
+use Rattle.wg_outcomes.specs.Commands.{judged, ranks}
+use Rattle.wg_outcomes.specs.Ranked.{bounds_after, certificate_text, ranking_text}
+use Rattle.wg_outcomes.specs.Verified.{first_fall, unless_falls, verified_line, with_gap}
+use Rattle.wg_laws.proofs.ClaimLemmas.{right}
+use Rattle.wg_laws.proofs.HeldLemmas.{graph_behind}
+use Rattle.wg_outcomes.proofs.RankLemmas.{are_bounds, bounds_hold}
+use Rattle.wg_outcomes.proofs.VerifyLemmas.{none_falls, not_less}
+use Rattle.wg_laws.proofs.WeightsLemmas.{weights_behind}
+
+-- ---- the text of a claim is no longer than a file may be
+lines_length : (low : List ℕ) → length (bound_lines low) ≡ 27 * length low
+lines_length [] = refl
+lines_length (x ∷ low) =
+    let one = text_length x in
+    let end = length-append (text_of_units x) (codes "\n") in
+    let all = length-append (bound_line x) (bound_lines low) in
+    omega (arith, one, end, all, lines_length low)
+
+short_line : (word : List ℕ) (number : ℕ) → number < 10 ^ 11 → length (named_line word number) ≤ length word + 12
+short_line word number small =
+    let digits = length-decimal-le 11 number (omega arith) small (omega (arith, small)) in
+    let first : length (named_line word number) ≡ length (word ++ decimal number) + 1 = length-append (word ++ decimal number) (codes "\n") in
+    let second : length (word ++ decimal number) ≡ length word + length (decimal number) = length-append word (decimal number) in
+    omega (arith, digits, first, second)
+
+three_parts : (a b c : List ℕ) → length (a ++ b ++ c) ≡ length a + length b + length c
+three_parts a b c = length-append (a ++ b) c ∙ ap (λ (n : ℕ). n + length c) (length-append a b)
+
+in_all : (all first second lines pages : ℕ) → all ≡ first + second + lines → first ≤ 20 → second ≤ 18 → lines ≡ 27 * pages → pages ≤ MOST_PAGES → all ≤ MOST_BYTES
+in_all all first second lines pages is a b c few = omega (arith, is, a, b, c, few)
+
+short_text : (c : Claim) → IsClaim c → length (text_of_claim c) ≤ MOST_BYTES
+short_text c is =
+    in_all _ _ _ _ (length c.low) (three_parts (named_line (codes "damping ") c.damping) (named_line (codes "pages ") (length c.low)) (bound_lines c.low))
+    (short_line (codes "damping ") c.damping (omega (arith, is.damped))) (short_line (codes "pages ") (length c.low) (omega (arith, is.few))) (lines_length c.low) is.few
+
+-- ---- a file that is there, and not too long
+read_whole : (i : Input) (text : List ℕ) (next : List ℕ → Judged) → length text ≤ MOST_BYTES → with_file i (Some text) next ≡ next text
+read_whole i text next short = ap (λ (b : Bool). if b then refused (OverLimit i) else next text) (not_less MOST_BYTES (length text) short)
+
+same_text : (text out text' out' : List ℕ) → certified text out ≡ certified text' out' → text ≡ text'
+same_text text out text' out' is = cc is
+
+module _ (r : Readings) (held after : Input → Option (List ℕ)) (still : AreStill held after) where
+  same_records : (next : Parameters → List ℕ → Judged) → with_records after next ≡ with_records held next
+  same_records next =
+      ap (λ (o : Option (List ℕ)). with_file input.Properties o (λ t. with_parameters t (λ p. with_file input.Graph (after input.Graph) (λ b. next p b)))) still.properties
+      ∙ ap (λ (o : Option (List ℕ)). with_file input.Properties (held input.Properties) (λ t. with_parameters t (λ p. with_file input.Graph o (λ b. next p b)))) still.graph
+
+  module _ (base certificate : List ℕ) (rounds damping top : ℕ) (weights : Option (List ℕ)) (text out : List ℕ) (few : rounds ≤ MOST_ROUNDS) (damped : damping ≤ MOST_DAMPING)
+      (is : judged r (Rank base rounds damping top weights (Some certificate)) held ≡ certified text out) (there : after input.Certificate ≡ Some text) where
+    pub written_accepted : (line : List ℕ) × (judged r (Verify base certificate weights) after ≡ accepted line)
+    written_accepted =
+        let then_ranks : Digraph → Option (List ℕ) → Judged = λ g given. ranks r (Some certificate) top (bounds_after g given damping rounds) in
+        let last : Digraph → Judged = λ g. weights_then weights g.nodes (held input.Weights) (then_ranks g) in
+        let behind = graph_behind r held last (ap status_of is) in
+        let g = behind.graph in
+        let heavy = weights_behind weights held g.nodes (then_ranks g) (ap status_of (sym (behind.goes_on last) ∙ is)) in
+        let given = heavy.given in
+        let b : Intervals = bounds_after g given damping rounds in
+        let claim : Claim = claim_of_bounds b in
+        let same : text ≡ certificate_text b = same_text text out (certificate_text b) (ranking_text r b top) (sym is ∙ behind.goes_on last ∙ heavy.goes_on (then_ranks g)) in
+        let bounds : AreBounds b = are_bounds g given rounds damping few damped behind.few_pages heavy.proper in
+        let holds : Holds b g = bounds_hold g given rounds damping in
+        let rises = complete b g behind.proper bounds holds in
+        let count : length b.low ≡ g.nodes = holds.low_is.counted in
+        let proper : IsClaim claim =
+        record { few = bounds.few; damped = bounds.damped; within = subst (λ (n : ℕ). sum_below n (by_page b.low) ≤ UNITS) (sym count) rises.1 } in
+        let read : claim_of g.nodes text ≡ right claim =
+        ap (λ (t : List ℕ). claim_of g.nodes t) same ∙ subst (λ (n : ℕ). claim_of n (text_of_claim claim) ≡ right claim) count (written_back claim proper) in
+        let none : first_fall g claim given ≡ None =
+        none_falls g claim given (subst (λ (n : ℕ). Rises g damping (by_page (weights_of n given)) (by_page b.low)) (sym count) rises.0) in
+        let short : length text ≤ MOST_BYTES = subst (λ (t : List ℕ). length t ≤ MOST_BYTES) (sym same) (short_text claim proper) in
+        let on_gap : Claim → ℕ → Judged = λ c left. accepted (verified_line c left) in
+        let on_claim : Claim → Judged = λ c. with_gap g c given (on_gap c) in
+        let on_given : Digraph → Option (List ℕ) → Judged = λ h ws. claim_then h.nodes (after input.Certificate) (λ c. with_gap h c ws (on_gap c)) in
+        let on_graph : Digraph → Judged = λ h. weights_then weights h.nodes (after input.Weights) (on_given h) in (
+          verified_line claim (gap g (by_page b.low)),
+          same_records (λ p bytes. with_digraph r p bytes on_graph)
+              ∙ behind.goes_on on_graph
+              ∙ ap (λ (o : Option (List ℕ)). weights_then weights g.nodes o (on_given g)) still.weights
+              ∙ heavy.goes_on (on_given g)
+              ∙ ap (λ (o : Option (List ℕ)). claim_then g.nodes o on_claim) there
+              ∙ read_whole input.Certificate text (λ bytes. with_claim g.nodes bytes on_claim) short
+              ∙ ap (λ (w : Result Claim CertFault). unless_bad_claim w on_claim) read
+              ∙ ap (λ (o : Option ℕ). unless_falls o (gap g (by_page b.low)) (on_gap claim)) none,
+        )

@@ -1,0 +1,10 @@
+use Rattle.wg_laws.proofs.VerifiedLemmas.{accepted_proven}
+use Rattle.wg_laws.proofs.WrittenLemmas.{written_accepted}
+use Rattle.wg_laws.proofs.laws.certificates.Goals as goal
+
+pub returns-clause-proven : goal.returns-clause-proven
+returns-clause-proven c = λ r held base certificate weights out old is. accepted_proven r held base certificate weights out old is
+
+pub returns-clause-accepted : goal.returns-clause-accepted
+returns-clause-accepted c = λ r held after base certificate rounds damping top weights text out few damped is still there.
+    written_accepted r held after still base certificate rounds damping top weights text out few damped is there

@@ -1,0 +1,27 @@
+-- What is proved of certificates that are written and judged.
+use Rattle.std.specs.Prelude.{ℕ, ◌≡◌, ◌≤◌, List, ◌++◌, Option, Some}
+use Rattle.wg_params.specs.declared.limits.TheConstants.{MOST_DAMPING, MOST_ROUNDS}
+use Rattle.wg_words.specs.declared.jobs.Job.TheVariants.{Rank, Verify}
+use Rattle.wg_outcomes.specs.Judged.{accepted, certified}
+use Rattle.wg_outcomes.specs.Readings.{Readings}
+use Rattle.wg_outcomes.specs.declared.status.Input.{Input}
+use Rattle.wg_outcomes.specs.declared.status.Input.TheVariants as input
+use Rattle.wg_outcomes.specs.Commands.{judged}
+use Rattle.wg_outcomes.specs.Verified.{PrintsProvenGap}
+
+-- What is printed of a certificate that is accepted is proved, whoever made it.
+abbrev pub AcceptedAreProven : Readings → Type 0
+AcceptedAreProven r = (held : Input → Option (List ℕ)) (base certificate : List ℕ) (weights : Option (List ℕ)) (out old : List ℕ)
+    → judged r (Verify base certificate weights) held ≡ accepted out → PrintsProvenGap r held weights old (old ++ out)
+
+-- the files of an archive's records and of the weights hold what they held
+pub record AreStill (held after : Input → Option (List ℕ)) : Type 0 where
+  pub properties : after input.Properties ≡ held input.Properties
+  pub graph : after input.Graph ≡ held input.Graph
+  pub weights : after input.Weights ≡ held input.Weights
+
+-- The certificate that a ranking writes is accepted over the same graph and the same weights.
+abbrev pub WrittenAreAccepted : Readings → Type 0
+WrittenAreAccepted r = (held after : Input → Option (List ℕ)) (base certificate : List ℕ) (rounds damping top : ℕ) (weights : Option (List ℕ)) (text out : List ℕ)
+    → rounds ≤ MOST_ROUNDS → damping ≤ MOST_DAMPING → judged r (Rank base rounds damping top weights (Some certificate)) held ≡ certified text out
+    → AreStill held after → after input.Certificate ≡ Some text → (line : List ℕ) × (judged r (Verify base certificate weights) after ≡ accepted line)

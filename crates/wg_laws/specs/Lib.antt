@@ -1,0 +1,4 @@
+pub mod Built
+pub mod Certificates
+pub mod Spotted
+pub mod Unions

@@ -1,0 +1,74 @@
+//! What the contract of a job rests on.
+ghost use Rattle.std.specs.Prelude.{ℕ};
+ghost use Rattle.wg_laws.specs.Built.{BuildsAreAccepted, BuiltAreAccepted, ConversionsAreAccepted, ImportsAreAccepted, QuotientsAreAccepted};
+ghost use Rattle.wg_laws.specs.Certificates.{AcceptedAreProven, WrittenAreAccepted};
+ghost use Rattle.wg_outcomes.specs.Readings.{Readings, ReadingsAreOne};
+ghost use Rattle.wg_outcomes.specs.Ranked.{RankingIsProven};
+ghost use Rattle.wg_laws.specs.Spotted.{SpotsAreShown};
+ghost use Rattle.wg_laws.specs.Unions.{UnionsAreAccepted};
+
+/// There are functions that give for all parameters and all bytes the graph or the places that they stand for or
+/// their first fault, for all pages what they are by their chain of references alone, for all bounds their ranking, and
+/// for all arc lists and all plain texts their graph or their first faulty line; within the limits of the parameters
+/// there is only one of each. So a clause about each such six speaks of these, and is never empty.
+pub fn readings()
+    ensures some { Readings }
+    ensures one { ReadingsAreOne }
+{}
+
+/// What is proved of every ranking: its intervals enclose each exact iterate from its rounds on, within the stated
+/// width.
+pub fn rankings()
+    ensures { (r : Readings) (rounds damping : ℕ) → RankingIsProven r rounds damping }
+{}
+
+/// Of an archive that `check` accepts, `spot` prints the line that `show` prints of the page, or refuses the page as
+/// `show` does, although it judges the records of one chain alone.
+pub fn spotted_pages()
+    ensures { (r : Readings) → SpotsAreShown r }
+{}
+
+/// What is built is accepted. Of the archive of any graph within the limits, `check` prints the pages, the arcs and
+/// the bits of the records, `arcs` the arcs of the graph, `ascii` its plain text, `offsets` the places of the records
+/// that were written, `show` the successors that pages have in the graph, and `rank` the ranking of the graph. And
+/// whatever arc list `build` took, with pages and a layout within the limits, `check` accepts the three files that it
+/// wrote, and prints the very line that it printed.
+pub fn built_archives()
+    ensures accepted { (r : Readings) → BuiltAreAccepted r }
+    ensures builds { (r : Readings) → BuildsAreAccepted r }
+{}
+
+/// What is imported is accepted, whatever plain text was read, with a layout within the limits: `check` prints of the
+/// three files the very line that was printed, and `ascii` a text of the same words, line by line. And to import what
+/// `ascii` prints of an archive, where a file may be so long, is to recode the archive.
+pub fn imported_archives()
+    ensures { (r : Readings) → ImportsAreAccepted r }
+{}
+
+/// What `quotient` writes is accepted, whatever archive and whatever map were read, with classes and a layout within
+/// the limits: `check` prints of the three files the very line that was printed.
+pub fn quotients()
+    ensures { (r : Readings) → QuotientsAreAccepted r }
+{}
+
+/// What is recoded or transposed is accepted, whatever archive was read, with a layout within the limits: `check`
+/// prints of the three files the very line that was printed. Of a recoded archive `arcs` prints what it prints of
+/// the one that was read, and to transpose an archive twice is to recode it.
+pub fn converted_archives()
+    ensures { (r : Readings) → ConversionsAreAccepted r }
+{}
+
+/// What is joined is accepted, whatever two archives were read, with a layout within the limits: `check` prints of the
+/// three files the very line that was printed, and their graph, whose arcs `arcs` prints, is the union of the graphs of
+/// both archives.
+pub fn joined_archives()
+    ensures { (r : Readings) → UnionsAreAccepted r }
+{}
+
+/// What `verify` accepts holds, whoever made the certificate: each stationary vector of the graph lies between the
+/// bounds and those with the gap that is printed more, page by page, with teleport by the weights that were read or to
+/// each page alike. And it accepts each certificate that `rank` wrote over the same graph and the same weights.
+pub fn certificates()
+    ensures proven { (r : Readings) → AcceptedAreProven r }
+    ensures accepted { (r : Readings) → WrittenAreAccepted r }
+{}

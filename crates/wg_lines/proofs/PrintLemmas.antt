@@ -1,0 +1,80 @@
+-- Texts that are printed one after the other, and what of them is out.
+use Rattle.std.proofs.Common.{◌≡◌, ℕ, List, [], ◌++◌, length, take, drop, refl, sym, ap, subst, ◌∙◌, arith, append_assoc, length-append, length-drop, Result, Ok, Err}
+use Rattle.std.proofs.lemmas.List.{append-nil, take_at, take-append-drop}
+use Rattle.wg_io.specs.Puts.{Puts}
+use Rattle.wg_io.proofs.PutsLemmas.{puts_more}
+use Rattle.wg_lines.specs.Printing.{HasPrinted, HasPrintedLess, Prints}
+
+-- ---- nothing goes out
+
+pub none_printed : (old : List ℕ) → HasPrinted old old [] [] []
+none_printed old = record { out = []; taken = sym (append-nil old); bytes = refl }
+
+pub kept : (old waited text waits : List ℕ) → waits ≡ waited ++ text → HasPrinted old old waited text waits
+kept old waited text waits is = record { out = []; taken = sym (append-nil old); bytes = sym is }
+
+-- ---- all goes out
+
+pub all_out : (old new waited : List ℕ) → new ≡ old ++ waited → HasPrinted old new waited [] []
+all_out old new waited is = record { out = waited; taken = is; bytes = refl }
+
+-- ---- one text after the other
+
+pub printed_more : (a b c waited mid waits t u : List ℕ) → HasPrinted a b waited t mid → HasPrinted b c mid u waits → HasPrinted a c waited (t ++ u) waits
+printed_more a b c waited mid waits t u h g = record {
+  out = h.out ++ g.out;
+  taken = g.taken ∙ ap (λ (l : List ℕ). l ++ g.out) h.taken ∙ append_assoc a h.out g.out;
+  bytes = sym (append_assoc waited t u) ∙ ap (λ (l : List ℕ). l ++ u) h.bytes ∙ append_assoc h.out mid u ∙ ap (λ (l : List ℕ). h.out ++ l) g.bytes ∙ sym (append_assoc h.out g.out waits);
+}
+
+pub less_after : (a b c waited mid t u : List ℕ) → HasPrinted a b waited t mid → HasPrintedLess b c mid u → HasPrintedLess a c waited (t ++ u)
+less_after a b c waited mid t u h g = record {
+  out = h.out ++ g.out;
+  left = g.left;
+  some = g.some;
+  taken = g.taken ∙ ap (λ (l : List ℕ). l ++ g.out) h.taken ∙ append_assoc a h.out g.out;
+  bytes = sym (append_assoc waited t u) ∙ ap (λ (l : List ℕ). l ++ u) h.bytes ∙ append_assoc h.out mid u ∙ ap (λ (l : List ℕ). h.out ++ l) g.bytes ∙ sym (append_assoc h.out g.out g.left);
+}
+
+-- whatever would have followed
+pub less_before : (a c waited t u : List ℕ) → HasPrintedLess a c waited t → HasPrintedLess a c waited (t ++ u)
+less_before a c waited t u h = record {
+  out = h.out;
+  left = h.left ++ u;
+  some = let some = h.some in omega (arith, length-append h.left u);
+  taken = h.taken;
+  bytes = sym (append_assoc waited t u) ∙ ap (λ (l : List ℕ). l ++ u) h.bytes ∙ append_assoc h.out h.left u;
+}
+
+-- room is made for a text, which waits then
+pub held : (a b waited mid waits t : List ℕ) → HasPrinted a b waited [] mid → waits ≡ mid ++ t → HasPrinted a b waited t waits
+held a b waited mid waits t h is = printed_more a b b waited mid waits [] t h (kept b mid t waits is)
+
+pub less_held : (a c waited t : List ℕ) → HasPrintedLess a c waited [] → HasPrintedLess a c waited t
+less_held a c waited t h = less_before a c waited [] t h
+
+-- ---- what a sink has taken
+
+pub less_of_puts : {E : Type 0} (old new waited : List ℕ) (e : E) → Puts waited old new (Err e) → HasPrintedLess old new waited []
+less_of_puts old new waited e put = record {
+  out = take put.0 waited;
+  left = drop put.0 waited;
+  some = omega (arith, put.1, length-drop put.0 waited);
+  taken = put.2;
+  bytes = append-nil waited ∙ sym (take-append-drop put.0 waited);
+}
+
+pub prints_of_puts : {E : Type 0} (old new waited waits : List ℕ) (r : Result (Unit {0}) E) → waits ≡ [] → Puts waited old new r → Prints [] old new waited waits r
+prints_of_puts old new waited waits (Ok done) none put = subst (HasPrinted old new waited []) (sym none) (all_out old new waited put)
+prints_of_puts old new waited waits (Err e) none put = less_of_puts old new waited e put
+
+pub puts_of_less : {E : Type 0} (old new t : List ℕ) (e : E) → HasPrintedLess old new [] t → Puts t old new (Err e)
+puts_of_less old new t e h = (
+  length h.out,
+  (let some = h.some in omega (arith, ap length h.bytes, length-append h.out h.left)),
+  h.taken ∙ ap (λ (l : List ℕ). old ++ l) (sym (ap (take (length h.out)) h.bytes ∙ take_at h.out h.left (length h.out) refl)),
+)
+
+-- all is printed, and then what waits goes out
+pub puts_in_the_end : {E : Type 0} (a b c t waits : List ℕ) (r : Result (Unit {0}) E) → HasPrinted a b [] t waits → Puts waits b c r → Puts t a c r
+puts_in_the_end a b c t waits r h put = subst (λ (l : List ℕ). Puts l a c r) (sym h.bytes) (puts_more h.out waits a b c r h.taken put)

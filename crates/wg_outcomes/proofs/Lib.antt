@@ -1,0 +1,7 @@
+pub mod FileLemmas
+pub mod PerformsLemmas
+pub mod RankLemmas
+pub mod Statuses
+pub mod SteadyLemmas
+pub mod VerifyLemmas
+pub mod WritingLemmas

@@ -1,0 +1,315 @@
+-- How a job is shown to have been done, or to have ended.
+use Rattle.std.proofs.Common.{◌≡◌, ◌≢◌, ◌⊎◌, inl, inr, ℕ, Bool, true, false, if◌then◌else◌, List, ◌++◌, take, refl, sym, ◌∙◌, ap, subst, Option, Some, None, Result, Ok, Err}
+use Rattle.std.specs.Bool.{IsTrue}
+use Rattle.std.specs.Result.{IfErr}
+use Rattle.std.proofs.lemmas.List.{append-nil}
+use Rattle.std.specs.FinMap as map
+use Rattle.wg_io.specs.Outside.{Files, Counts, NonDecreasing, Increased}
+use Rattle.wg_io.specs.Puts.{Puts}
+use Rattle.wg_io.specs.declared.output.Output.{Output}
+use Rattle.wg_io.specs.declared.output.Output.TheVariants.{Out, Properties, Graph, Offsets, Certificate}
+use Rattle.wg_words.specs.declared.jobs.Job.{Job}
+use Rattle.wg_outcomes.specs.Reached.{Reaches}
+use Rattle.wg_outcomes.specs.Answers.{Answers, HasOutput, IsUnput, status_in}
+use Rattle.wg_outcomes.specs.Causes.{AreFaultless, HasCause, IncreasedAt}
+use Rattle.wg_outcomes.specs.Commands.{judged, written_by}
+use Rattle.wg_outcomes.specs.Judged.{Judged, accepted, files_of, output_of, status_of, Archive, Written, an_archive, a_certificate}
+use Rattle.wg_outcomes.specs.Promised.{ArePromised, arcs_in}
+use Rattle.wg_outcomes.specs.JobFiles.{can_end, has_input, input_name, output_name, reads_again, writes_files}
+use Rattle.wg_outcomes.specs.Names.{held_by, no_outputs, IsOfInput}
+use Rattle.wg_outcomes.specs.Performs.{Outside, Performs, judged_on}
+use Rattle.wg_outcomes.specs.Readings.{Readings}
+use Rattle.wg_outcomes.specs.Written.{ArchiveFiles, CertificateAfter, FilesAfter, FilesLeft, HasFiles, archive_at, content_of}
+use Rattle.wg_outcomes.specs.declared.ending.Ending.{Ending}
+use Rattle.wg_outcomes.specs.declared.status.Input.{Input}
+use Rattle.wg_outcomes.specs.declared.status.Input.TheVariants as input
+use Rattle.wg_outcomes.specs.declared.status.Status.{Status}
+use Rattle.wg_outcomes.specs.declared.status.Status.TheVariants.{Done, Usage, Memory, ReadFault, WriteFault, Missing, BadArcs, BadProperties, BadArchive, BadSecond, TooManyArcs, NoPage, OverLimit, BadWeights, BadText, BadMap, BadCertificate}
+use Rattle.wg_outcomes.proofs.Statuses.{cause_named, unput_cause}
+
+-- ---- what is said of a job is said of an equal one
+pub performs_at : (j k : Job) (td to : Bool) (before after : Outside) (s t : Status) (a b : ℕ) → j ≡ k → s ≡ t → a ≡ b
+    → Performs k td to before after t b → Performs j td to before after s a
+performs_at j k td to before after s t a b same is count h =
+    subst (λ (x : Job). Performs x td to before after s a) (sym same)
+    (subst (λ (x : Status). Performs k td to before after x a) (sym is)
+    (subst (λ (x : ℕ). Performs k td to before after t x) (sym count) h))
+
+-- ---- a job that writes no file
+written_none : (r : Readings) (job : Job) (held : Input → Option (List ℕ)) → writes_files job ≡ false → written_by r job held ≡ None
+written_none r job held none = ap (λ (b : Bool). if b then files_of (judged r job held) else None) none
+
+pub files_same : (job : Job) → writes_files job ≡ false → (before after : Outside) (s : Status) → after.files ≡ before.files → (r : Readings)
+    → HasFiles (output_name job) (reads_again job) (written_by r job (held_by (input_name job) before.files)) before.files after.files s
+files_same job none before after s same r =
+    subst (λ (a : Option Written). HasFiles (output_name job) (reads_again job) a before.files after.files s) (sym (written_none r job (held_by (input_name job) before.files) none)) same
+
+-- a status before any output
+abbrev pub IsStop : Status → Type 0
+IsStop Done = ⊥
+IsStop (WriteFault o) = ⊥
+IsStop _ = Unit {0}
+
+pub stop_output : (due old new : List ℕ) (s : Status) → IsStop s → new ≡ old → HasOutput due old new s
+stop_output due old new Done stop same = absurd stop
+stop_output due old new (WriteFault o) stop same = absurd stop
+stop_output due old new Memory stop same = (0, same ∙ sym (append-nil old))
+stop_output due old new (ReadFault i) stop same = (0, same ∙ sym (append-nil old))
+stop_output due old new Usage stop same = same
+stop_output due old new (Missing i) stop same = same
+stop_output due old new (BadArcs line kind) stop same = same
+stop_output due old new (BadProperties f) stop same = same
+stop_output due old new (BadArchive f) stop same = same
+stop_output due old new (BadSecond f) stop same = same
+stop_output due old new TooManyArcs stop same = same
+stop_output due old new (NoPage page) stop same = same
+stop_output due old new (OverLimit i) stop same = same
+stop_output due old new (BadWeights f) stop same = same
+stop_output due old new (BadText line kind) stop same = same
+stop_output due old new (BadMap f pages) stop same = same
+stop_output due old new (BadCertificate f) stop same = same
+
+-- the files before any of them was touched
+kept_after : (a : Archive) (old new : ArchiveFiles) (s : Status) → IsStop s → new ≡ old → FilesAfter a old new s
+kept_after a old new Done stop same = absurd stop
+kept_after a old new (WriteFault o) stop same = absurd stop
+kept_after a old new Memory stop same = inl (inl same)
+kept_after a old new (ReadFault i) stop same = same
+kept_after a old new Usage stop same = same
+kept_after a old new (Missing i) stop same = same
+kept_after a old new (BadArcs line kind) stop same = same
+kept_after a old new (BadProperties f) stop same = same
+kept_after a old new (BadArchive f) stop same = same
+kept_after a old new (BadSecond f) stop same = same
+kept_after a old new TooManyArcs stop same = same
+kept_after a old new (NoPage page) stop same = same
+kept_after a old new (OverLimit i) stop same = same
+kept_after a old new (BadWeights f) stop same = same
+kept_after a old new (BadText line kind) stop same = same
+kept_after a old new (BadMap f pages) stop same = same
+kept_after a old new (BadCertificate f) stop same = same
+
+-- what stands at an end that is not a read fault while the archive was written
+pub left_by : (again : Bool) (a : Archive) (old new : ArchiveFiles) (s : Status) → FilesAfter a old new s → FilesLeft again a old new s
+left_by false a old new s h = h
+left_by true a old new (ReadFault input.Graph) h = inl h
+left_by true a old new (ReadFault input.Properties) h = h
+left_by true a old new (ReadFault input.Offsets) h = h
+left_by true a old new (ReadFault input.SecondProperties) h = h
+left_by true a old new (ReadFault input.SecondGraph) h = h
+left_by true a old new (ReadFault input.SecondOffsets) h = h
+left_by true a old new (ReadFault input.ArcList) h = h
+left_by true a old new (ReadFault input.Weights) h = h
+left_by true a old new (ReadFault input.Certificate) h = h
+left_by true a old new (ReadFault input.Text) h = h
+left_by true a old new (ReadFault input.Map) h = h
+left_by true a old new Done h = h
+left_by true a old new Usage h = h
+left_by true a old new Memory h = h
+left_by true a old new (WriteFault o) h = h
+left_by true a old new (Missing i) h = h
+left_by true a old new (BadArcs line kind) h = h
+left_by true a old new (BadProperties f) h = h
+left_by true a old new (BadArchive f) h = h
+left_by true a old new (BadSecond f) h = h
+left_by true a old new TooManyArcs h = h
+left_by true a old new (NoPage page) h = h
+left_by true a old new (OverLimit i) h = h
+left_by true a old new (BadWeights f) h = h
+left_by true a old new (BadText line kind) h = h
+left_by true a old new (BadMap f pages) h = h
+left_by true a old new (BadCertificate f) h = h
+
+-- a certificate before it was touched
+certificate_kept : (text : List ℕ) (old new : Option (List ℕ)) (s : Status) → IsStop s → new ≡ old → CertificateAfter text old new s
+certificate_kept text old new Done stop same = absurd stop
+certificate_kept text old new (WriteFault o) stop same = absurd stop
+certificate_kept text old new Memory stop same = inl same
+certificate_kept text old new (ReadFault i) stop same = same
+certificate_kept text old new Usage stop same = same
+certificate_kept text old new (Missing i) stop same = same
+certificate_kept text old new (BadArcs line kind) stop same = same
+certificate_kept text old new (BadProperties f) stop same = same
+certificate_kept text old new (BadArchive f) stop same = same
+certificate_kept text old new (BadSecond f) stop same = same
+certificate_kept text old new TooManyArcs stop same = same
+certificate_kept text old new (NoPage page) stop same = same
+certificate_kept text old new (OverLimit i) stop same = same
+certificate_kept text old new (BadWeights f) stop same = same
+certificate_kept text old new (BadText line kind) stop same = same
+certificate_kept text old new (BadMap f pages) stop same = same
+certificate_kept text old new (BadCertificate f) stop same = same
+
+files_kept : (names : Output → Option (List ℕ)) (again : Bool) (a : Option Written) (old new : Files) (s : Status) → IsStop s → new ≡ old → HasFiles names again a old new s
+files_kept names again None old new s stop same = same
+files_kept names again (Some (a_certificate text)) old new s stop same =
+    (λ name other. ap (λ (f : Files). map.get f name) same, certificate_kept text _ _ s stop (ap (λ (f : Files). content_of f (names Certificate)) same))
+files_kept names again (Some (an_archive a)) old new s stop same = (λ name other. ap (λ (f : Files). map.get f name) same, left_by again a _ _ s (kept_after a _ _ s stop (ap (archive_at names) same)))
+
+no_fault : (s : Status) (o : Output) → IsStop s → s ≡ WriteFault o → ⊥
+no_fault s o stop is = subst IsStop is stop
+
+-- a job that was stopped before it wrote anything
+pub stopped : (job : Job) (td to : Bool) (before after : Outside) (s : Status) (a : ℕ)
+    → IsStop s → after.taken ≡ before.taken → after.files ≡ before.files
+    → (IsTrue td → (r : Readings) → Answers (judged_on r job before.files) s)
+    → IsTrue (can_end job s)
+    → HasCause (input_name job) (output_name job) before.counts after.counts before.faults after.faults s
+    → (IsTrue td → (r : Readings) (i : Input) → s ≡ ReadFault i → Reaches r job (held_by (input_name job) before.files) i)
+    → NonDecreasing before.counts after.counts
+    → (IsTrue td → ArePromised (held_by (input_name job) before.files) s a)
+    → Performs job td to before after s a
+stopped job td to before after s a stop silent same answers possible causes reached later promised = record {
+  answers = answers;
+  possible = possible;
+  causes = causes;
+  reached = reached;
+  needed = λ t r o is. absurd (no_fault s o stop is);
+  output = λ t o r. stop_output _ before.taken after.taken s stop silent;
+  silent = λ is. silent;
+  files = λ t r. files_kept (output_name job) (reads_again job) _ before.files after.files s stop same;
+  same = λ is. same;
+  later = later;
+  promised = promised;
+}
+
+-- ---- a job whose last step is its output
+
+-- the output of a job whose last step puts all of what is due
+pub output_put : (due text old new : List ℕ) (r : Result (Unit {0}) Ending) → text ≡ due → Puts text old new r → IfErr r (λ e. IsUnput e.status) → HasOutput due old new (status_in r)
+output_put due text old new (Ok done) is put only = put ∙ ap (λ (l : List ℕ). old ++ l) is
+output_put due text old new (Err e) is put (inl fault) = subst (λ (s : Status). HasOutput due old new s) (sym fault) (put.0, put.2 ∙ ap (λ (l : List ℕ). old ++ take put.0 l) is)
+output_put due text old new (Err e) is put (inr want) = subst (λ (s : Status). HasOutput due old new s) (sym want) (put.0, put.2 ∙ ap (λ (l : List ℕ). old ++ take put.0 l) is)
+
+put_possible : (job : Job) (r : Result (Unit {0}) Ending) → IfErr r (λ e. IsUnput e.status) → IsTrue (can_end job (status_in r))
+put_possible job (Ok done) only = refl
+put_possible job (Err e) (inl fault) = subst (λ (s : Status). IsTrue (can_end job s)) (sym fault) refl
+put_possible job (Err e) (inr want) = subst (λ (s : Status). IsTrue (can_end job s)) (sym want) refl
+
+put_answers : (j : Judged) (text : List ℕ) (r : Result (Unit {0}) Ending) → j ≡ accepted text → IfErr r (λ e. IsUnput e.status) → Answers j (status_in r)
+put_answers j text (Ok done) is only = inl (sym (ap status_of is))
+put_answers j text (Err e) is (inl fault) = subst (λ (s : Status). Answers j s) (sym fault) (inr tt)
+put_answers j text (Err e) is (inr want) = subst (λ (s : Status). Answers j s) (sym want) (inr tt)
+
+put_promised : (held : Input → Option (List ℕ)) (r : Result (Unit {0}) Ending) → IfErr r (λ e. IsUnput e.status) → ArePromised held (status_in r) (arcs_in r)
+put_promised held (Ok done) only = tt
+put_promised held (Err e) (inl fault) = subst (λ (s : Status). ArePromised held s e.arcs) (sym fault) tt
+put_promised held (Err e) (inr want) = subst (λ (s : Status). ArePromised held s e.arcs) (sym want) tt
+
+-- no file is at fault
+pub unput_written : (r : Result (Unit {0}) Ending) (o : Output) → IfErr r (λ e. IsUnput e.status) → o ≢ Out → status_in r ≡ WriteFault o → ⊥
+unput_written (Ok done) o only other is = let no : Done ≡ WriteFault o = is in cc
+unput_written (Err e) o (inl fault) other is = other (let same : WriteFault o ≡ WriteFault Out = sym is ∙ fault in cc)
+unput_written (Err e) o (inr want) other is = let no : Memory ≡ WriteFault o = sym want ∙ is in cc
+
+put_reads : (r : Result (Unit {0}) Ending) (i : Input) → IfErr r (λ e. IsUnput e.status) → status_in r ≡ ReadFault i → ⊥
+put_reads (Ok done) i only is = let no : Done ≡ ReadFault i = is in cc
+put_reads (Err e) i (inl fault) is = let no : WriteFault Out ≡ ReadFault i = sym fault ∙ is in cc
+put_reads (Err e) i (inr want) is = let no : Memory ≡ ReadFault i = sym want ∙ is in cc
+
+-- all was judged, and this text is put out
+pub printed_by : (job : Job) (td to : Bool) (before after : Outside) (text : Readings → List ℕ) (r : Result (Unit {0}) Ending) → writes_files job ≡ false
+    → (IsTrue td → (q : Readings) → judged_on q job before.files ≡ accepted (text q))
+    → after.files ≡ before.files
+    → NonDecreasing before.counts after.counts
+    → (IsTrue to → (q : Readings) → Puts (text q) before.taken after.taken r)
+    → IfErr r (λ e. IsUnput e.status)
+    → (status_in r ≡ WriteFault Out → Increased before.faults after.faults)
+    → Performs job td to before after (status_in r) (arcs_in r)
+printed_by job td to before after text r none is same later puts only cause = record {
+  answers = λ t q. put_answers _ (text q) r (is t q) only;
+  possible = put_possible job r only;
+  causes = unput_cause _ _ _ _ _ _ r only cause;
+  reached = λ t q i fault. absurd (put_reads r i only fault);
+  needed = λ t q o fault. ap status_of (is t q);
+  output = λ t o q. output_put _ (text q) _ _ r (sym (ap output_of (is t q))) (puts o q) only;
+  silent = λ is. absurd (unput_written r Certificate only (λ same. cc) is);
+  files = λ t q. files_same job none before after (status_in r) same q;
+  same = λ is. same;
+  later = later;
+  promised = λ t. put_promised (held_by (input_name job) before.files) r only;
+}
+
+-- the same, where the text is one whatever the readings are
+pub printed : (job : Job) (td to : Bool) (before after : Outside) (text : List ℕ) (r : Result (Unit {0}) Ending) → writes_files job ≡ false
+    → (IsTrue td → (q : Readings) → judged_on q job before.files ≡ accepted text)
+    → after.files ≡ before.files
+    → NonDecreasing before.counts after.counts
+    → (IsTrue to → Puts text before.taken after.taken r)
+    → IfErr r (λ e. IsUnput e.status)
+    → (status_in r ≡ WriteFault Out → Increased before.faults after.faults)
+    → Performs job td to before after (status_in r) (arcs_in r)
+printed job td to before after text r none is same later puts only cause =
+    printed_by job td to before after (λ q. text) r none is same later (λ o q. puts o) only cause
+
+-- ---- a job that was stopped where it reads an input
+abbrev pub Names : Type 0
+Names = Input → Option (List ℕ)
+
+unread_stop : (i : Input) (s : Status) → IsOfInput i s → IsStop s
+unread_stop i s (inl want) = subst IsStop (sym want) tt
+unread_stop i s (inr (inl fault)) = subst IsStop (sym fault) tt
+unread_stop i s (inr (inr (inl gone))) = subst IsStop (sym gone) tt
+unread_stop i s (inr (inr (inr long))) = subst IsStop (sym long) tt
+
+pub unread_possible : (job : Job) (i : Input) (s : Status) → IsTrue (has_input job i) → IsOfInput i s → IsTrue (can_end job s)
+unread_possible job i s has (inl want) = subst (λ (x : Status). IsTrue (can_end job x)) (sym want) refl
+unread_possible job i s has (inr (inl fault)) = subst (λ (x : Status). IsTrue (can_end job x)) (sym fault) has
+unread_possible job i s has (inr (inr (inl gone))) = subst (λ (x : Status). IsTrue (can_end job x)) (sym gone) has
+unread_possible job i s has (inr (inr (inr long))) = subst (λ (x : Status). IsTrue (can_end job x)) (sym long) has
+
+-- its line names no arcs
+pub unread_promised : (held : Names) (i : Input) (s : Status) (a : ℕ) → IsOfInput i s → ArePromised held s a
+unread_promised held i s a (inl want) = subst (λ (x : Status). ArePromised held x a) (sym want) tt
+unread_promised held i s a (inr (inl fault)) = subst (λ (x : Status). ArePromised held x a) (sym fault) tt
+unread_promised held i s a (inr (inr (inl gone))) = subst (λ (x : Status). ArePromised held x a) (sym gone) tt
+unread_promised held i s a (inr (inr (inr long))) = subst (λ (x : Status). ArePromised held x a) (sym long) tt
+
+-- an input was not read, which is named by this naming too
+pub unread : (names : Names) (i : Input) (job : Job) (td to : Bool) (before after : Outside) (s : Status) (a : ℕ)
+    → IsTrue (has_input job i) → input_name job i ≡ names i → after.taken ≡ before.taken
+    → IsOfInput i s
+    → HasCause names no_outputs before.counts after.counts 0 0 s
+    → after.files ≡ before.files
+    → NonDecreasing before.counts after.counts
+    → (IsTrue td → (r : Readings) → Answers (judged_on r job before.files) s)
+    → (IsTrue td → (r : Readings) (j : Input) → s ≡ ReadFault j → Reaches r job (held_by (input_name job) before.files) j)
+    → Performs job td to before after s a
+unread names i job td to before after s a has named silent only cause same later answers reached =
+    stopped job td to before after s a (unread_stop i s only) silent same answers (unread_possible job i s has only)
+    (cause_named i s names (input_name job) (output_name job) before.counts after.counts before.faults after.faults only named cause)
+    reached later (λ t. unread_promised (held_by (input_name job) before.files) i s a only)
+
+-- ---- a job that nothing outside hinders
+pub not_at : (count : Counts → ℕ) (name : Option (List ℕ)) (old new : List ℕ → Counts) → ((n : List ℕ) → ¬ Increased (count (old n)) (count (new n))) → ¬ IncreasedAt count name old new
+not_at count None old new none more = more
+not_at count (Some n) old new none more = none n more
+
+module _ (inputs : Names) (outputs : Output → Option (List ℕ)) (old new : List ℕ → Counts) (faults faults' : ℕ) (none : AreFaultless old new faults faults') where
+  pub no_fault_in : (o : Output) → HasCause inputs outputs old new faults faults' (WriteFault o) → ⊥
+  no_fault_in Out cause = none.output (cause.out_fault refl)
+  no_fault_in Properties cause = not_at (λ c. c.write_faults) (outputs Properties) old new none.writes (cause.write_fault Properties (λ same. cc) refl)
+  no_fault_in Graph cause = not_at (λ c. c.write_faults) (outputs Graph) old new none.writes (cause.write_fault Graph (λ same. cc) refl)
+  no_fault_in Offsets cause = not_at (λ c. c.write_faults) (outputs Offsets) old new none.writes (cause.write_fault Offsets (λ same. cc) refl)
+  no_fault_in Certificate cause = not_at (λ c. c.write_faults) (outputs Certificate) old new none.writes (cause.write_fault Certificate (λ same. cc) refl)
+
+  -- memory alone comes in the place of the judgement
+  pub unhindered : (j : Judged) (s : Status) → HasCause inputs outputs old new faults faults' s → Answers j s → (s ≡ status_of j) ⊎ (s ≡ Memory)
+  unhindered j s cause (inl is) = inl is
+  unhindered j Memory cause (inr hinders) = inr refl
+  unhindered j (ReadFault i) cause (inr hinders) = absurd (not_at (λ c. c.read_faults) (inputs i) old new none.reads (cause.read_fault i refl))
+  unhindered j (WriteFault o) cause (inr hinders) = absurd (no_fault_in o cause)
+  unhindered j Done cause (inr hinders) = absurd hinders
+  unhindered j Usage cause (inr hinders) = absurd hinders
+  unhindered j (Missing i) cause (inr hinders) = absurd hinders
+  unhindered j (BadArcs line kind) cause (inr hinders) = absurd hinders
+  unhindered j (BadProperties f) cause (inr hinders) = absurd hinders
+  unhindered j (BadArchive f) cause (inr hinders) = absurd hinders
+  unhindered j (BadSecond f) cause (inr hinders) = absurd hinders
+  unhindered j TooManyArcs cause (inr hinders) = absurd hinders
+  unhindered j (NoPage page) cause (inr hinders) = absurd hinders
+  unhindered j (OverLimit i) cause (inr hinders) = absurd hinders
+  unhindered j (BadWeights f) cause (inr hinders) = absurd hinders
+  unhindered j (BadText line kind) cause (inr hinders) = absurd hinders
+  unhindered j (BadMap f pages) cause (inr hinders) = absurd hinders
+  unhindered j (BadCertificate f) cause (inr hinders) = absurd hinders

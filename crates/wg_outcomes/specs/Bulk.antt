@@ -1,0 +1,50 @@
+-- What comes of a generated graph.
+use Rattle.std.specs.Prelude.{ℕ, List, ◌++◌, length, slice_get, codes, decimal, Option, Some, None}
+use Rattle.wg_io.specs.Outside.{Files}
+use Rattle.wg_params.specs.Parameters.{Parameters, IsWithinLimits}
+use Rattle.wg_graph.specs.Digraph.{Digraph, IsGraph, arc_count}
+use Rattle.wg_encoder.specs.Archive.{graph_bits, referring_pages}
+use Rattle.wg_order.specs.Order.{Positions}
+use Rattle.wg_order.specs.Summary.{sure_pages}
+use Rattle.wg_words.specs.Layouts.{default_layout}
+use Rattle.wg_words.specs.declared.defaults.TheConstants.{DEFAULT_DAMPING}
+use Rattle.wg_outcomes.specs.Readings.{Readings}
+use Rattle.wg_outcomes.specs.Ranked.{bounds_after, positions_of}
+use Rattle.wg_outcomes.specs.Written.{AreWhole, archive_in, greedy_archive, params_for}
+use Rattle.wg_outcomes.specs.declared.outcome.Outcome.{Outcome}
+use Rattle.wg_outcomes.specs.declared.outcome.TheConstants.{BULK_ROUNDS}
+
+-- the parameters of its archive, which is written as if no option were given
+abbrev pub bulk_params : Digraph → Parameters
+bulk_params g = params_for default_layout g
+
+-- the ranking of its pages
+abbrev pub bulk_positions : Readings → Digraph → Positions
+bulk_positions r g = positions_of r (bounds_after g None DEFAULT_DAMPING BULK_ROUNDS)
+
+-- what its archive and the ranking of its pages come to
+abbrev pub outcome_of : Readings → Digraph → Outcome
+outcome_of r g = record {
+  pages = g.nodes;
+  arcs = arc_count g;
+  bits = length (graph_bits (bulk_params g) g.lists);
+  referring = referring_pages (bulk_params g) g.lists;
+  first = slice_get (bulk_positions r g).pages 0;
+  sure = sure_pages (bulk_positions r g);
+}
+
+abbrev pub page_or_dash : Option ℕ → List ℕ
+page_or_dash None = codes "-"
+page_or_dash (Some v) = decimal v
+
+-- the six lines
+abbrev pub outcome_text : Outcome → List ℕ
+outcome_text o =
+    codes "nodes " ++ decimal o.pages ++ codes "\narcs " ++ decimal o.arcs ++ codes "\nbits " ++ decimal o.bits ++ codes "\nreferring " ++ decimal o.referring
+    ++ codes "\nfirst " ++ page_or_dash o.first ++ codes "\nsure " ++ decimal o.sure ++ codes "\n"
+
+-- the archive of a graph within the limits is whole in these files
+pub record IsBuilt (g : Digraph) (base : List ℕ) (files : Files) : Type 0 where
+  pub proper : IsGraph g
+  pub limits : IsWithinLimits (bulk_params g)
+  pub whole : AreWhole (greedy_archive (bulk_params g) g) (archive_in base files)

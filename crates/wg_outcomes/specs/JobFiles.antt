@@ -1,0 +1,98 @@
+-- The files of a job.
+use Rattle.wg_outcomes.specs.Names.{name_of_input, name_of_output, record_files, archive_files, second_files, list_file, text_file, weights_file, certificate_file, map_file, archive_outputs, certificate_output, held_by, file_of_fault}
+use Rattle.std.specs.Prelude.{ℕ, Bool, true, false, nat_lt, List, [], ◌++◌, length, Option, Some, is_some}
+use Rattle.wg_io.specs.Outside.{Files}
+use Rattle.wg_io.specs.declared.output.Output.{Output}
+use Rattle.wg_io.specs.declared.output.Output.TheVariants as output
+use Rattle.wg_words.specs.declared.jobs.Job.{Job}
+use Rattle.wg_words.specs.declared.jobs.Job.TheVariants.{Check, Arcs, Ascii, Offsets, Show, Spot, Rank, Verify, Build, Import, Quotient, Recode, Union, Transpose, Bulk}
+use Rattle.wg_outcomes.specs.declared.status.Input.{Input}
+use Rattle.wg_outcomes.specs.declared.status.Input.TheVariants as input
+use Rattle.wg_outcomes.specs.declared.status.Status.{Status}
+use Rattle.wg_outcomes.specs.declared.status.Status.TheVariants.{Done, Usage, Memory, ReadFault, WriteFault, Missing, BadArcs, BadProperties, BadArchive, BadSecond, TooManyArcs, NoPage, OverLimit, BadWeights, BadText, BadMap, BadCertificate}
+use Rattle.wg_outcomes.specs.declared.status.SecondFault.TheVariants as second
+use Rattle.wg_outcomes.specs.Second.{second_input}
+
+-- what each job reads, in its order, and what it writes
+abbrev pub inputs_of : Job → List (Input × List ℕ)
+inputs_of (Check base) = archive_files base
+inputs_of (Arcs base) = record_files base
+inputs_of (Ascii base) = record_files base
+inputs_of (Offsets base) = record_files base
+inputs_of (Show base pages) = archive_files base
+inputs_of (Spot base page) = archive_files base
+inputs_of (Rank base rounds damping top weights certificate) = record_files base ++ weights_file weights
+inputs_of (Verify base certificate weights) = record_files base ++ weights_file weights ++ certificate_file certificate
+inputs_of (Build arcs base nodes layout) = list_file arcs
+inputs_of (Import text base layout) = text_file text
+inputs_of (Quotient base map to classes layout) = record_files base ++ map_file map
+inputs_of (Recode base to layout) = record_files base
+inputs_of (Union first second output layout) = archive_files first ++ second_files second
+inputs_of (Transpose base to layout) = record_files base
+inputs_of (Bulk seed pages) = []
+
+abbrev pub outputs_of : Job → List (Output × List ℕ)
+outputs_of (Build arcs base nodes layout) = archive_outputs base
+outputs_of (Import text base layout) = archive_outputs base
+outputs_of (Quotient from map base classes layout) = archive_outputs base
+outputs_of (Recode from base layout) = archive_outputs base
+outputs_of (Union first second output layout) = archive_outputs output
+outputs_of (Transpose from base layout) = archive_outputs base
+outputs_of (Rank base rounds damping top weights (Some certificate)) = certificate_output certificate
+outputs_of _ = []
+
+abbrev pub input_name : Job → Input → Option (List ℕ)
+input_name job i = name_of_input (inputs_of job) i
+
+-- the name of a file that a job writes
+abbrev pub output_name : Job → Output → Option (List ℕ)
+output_name job o = name_of_output (outputs_of job) o
+
+-- what the inputs of a job hold
+abbrev pub held_for : Job → Files → Input → Option (List ℕ)
+held_for job files = held_by (input_name job) files
+
+-- the inputs that a job reads
+abbrev pub has_input : Job → Input → Bool
+has_input job i = is_some (input_name job i)
+
+-- whether a job writes files
+abbrev pub writes_files : Job → Bool
+writes_files job = nat_lt 0 (length (outputs_of job))
+
+-- whether a job goes through its graph file again while it writes
+abbrev pub reads_again : Job → Bool
+reads_again (Recode base to layout) = true
+reads_again _ = false
+
+-- what a job writes
+abbrev pub has_output : Job → Output → Bool
+has_output job output.Out = true
+has_output job o = is_some (output_name job o)
+
+-- whether a job asks for pages by their numbers
+abbrev pub names_pages : Job → Bool
+names_pages (Show base pages) = true
+names_pages (Spot base page) = true
+names_pages _ = false
+
+-- how a job can end at all
+abbrev pub can_end : Job → Status → Bool
+can_end job Done = true
+can_end job Usage = false
+can_end job Memory = true
+can_end job (ReadFault i) = has_input job i
+can_end job (WriteFault o) = has_output job o
+can_end job (Missing i) = has_input job i
+can_end job (BadArcs line kind) = has_input job input.ArcList
+can_end job (BadProperties f) = has_input job input.Properties
+can_end job (BadArchive f) = has_input job (file_of_fault f)
+can_end job (BadSecond (second.Properties f)) = has_input job input.SecondProperties
+can_end job (BadSecond (second.Archive f)) = has_input job (second_input (file_of_fault f))
+can_end job TooManyArcs = has_input job input.SecondGraph
+can_end job (NoPage page) = names_pages job
+can_end job (OverLimit i) = has_input job i
+can_end job (BadWeights f) = has_input job input.Weights
+can_end job (BadText line kind) = has_input job input.Text
+can_end job (BadMap f pages) = has_input job input.Map
+can_end job (BadCertificate f) = has_input job input.Certificate

@@ -1,0 +1,16 @@
+pub mod Answers
+pub mod Bulk
+pub mod Causes
+pub mod Codes
+pub mod Commands
+pub mod JobFiles
+pub mod Judged
+pub mod Names
+pub mod Performs
+pub mod Promised
+pub mod Ranked
+pub mod Reached
+pub mod Readings
+pub mod Second
+pub mod Verified
+pub mod Written

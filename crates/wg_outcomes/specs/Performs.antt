@@ -1,0 +1,116 @@
+-- What stands where a job has ended.
+use Rattle.std.specs.Prelude.{◌≡◌, ℕ, Bool, false, List, Option, Some, Result, IsTrue, IfErr}
+use Rattle.wg_io.specs.Outside.{Files, Counts, NonDecreasing}
+use Rattle.wg_io.specs.declared.depot.Depot as depot
+use Rattle.wg_io.specs.declared.sink.Sink as sink
+use Rattle.wg_io.specs.declared.output.Output.{Output}
+use Rattle.wg_io.specs.declared.output.Output.TheVariants.{Certificate}
+use Rattle.wg_graph.specs.Digraph.{Digraph}
+use Rattle.wg_rank.specs.Intervals.{Intervals}
+use Rattle.wg_words.specs.declared.jobs.Job.{Job}
+use Rattle.wg_params.specs.declared.layout.Layout.{Layout}
+use Rattle.wg_outcomes.specs.Reached.{Reaches}
+use Rattle.wg_outcomes.specs.Answers.{Answers, HasOutput, status_in}
+use Rattle.wg_outcomes.specs.Causes.{HasCause}
+use Rattle.wg_outcomes.specs.Commands.{greedy_line, judged, written_by}
+use Rattle.wg_outcomes.specs.Judged.{Judged, Written, an_archive, a_certificate, output_of, status_of}
+use Rattle.wg_outcomes.specs.Promised.{ArePromised, arcs_in}
+use Rattle.wg_outcomes.specs.JobFiles.{can_end, input_name, output_name, reads_again, writes_files}
+use Rattle.wg_outcomes.specs.Names.{archive_named, certificate_to, held_by}
+use Rattle.wg_outcomes.specs.Ranked.{certificate_text, ranking_text}
+use Rattle.wg_outcomes.specs.Readings.{Readings}
+use Rattle.wg_outcomes.specs.Written.{HasFiles, IsStopped, greedy_archive, params_for}
+use Rattle.wg_outcomes.specs.declared.ending.Ending.{Ending}
+use Rattle.wg_outcomes.specs.declared.status.Input.{Input}
+use Rattle.wg_outcomes.specs.declared.status.Status.{Status}
+use Rattle.wg_outcomes.specs.declared.status.Status.TheVariants.{Done, ReadFault, WriteFault}
+
+-- the outside of a job at one moment: the files of the depot and its counts, what the output has taken, and how often
+-- the output failed
+pub record Outside : Type 0 where
+  pub files : Files
+  pub counts : List ℕ → Counts
+  pub taken : List ℕ
+  pub faults : ℕ
+
+abbrev pub outside : Files → (List ℕ → Counts) → List ℕ → ℕ → Outside
+outside files counts taken faults = record { files = files; counts = counts; taken = taken; faults = faults }
+
+-- what a job comes to on these files
+abbrev pub judged_on : Readings → Job → Files → Judged
+judged_on r job files = judged r job (held_by (input_name job) files)
+
+-- The job was done or has ended with this status, where the properties promise so many arcs. What the files or the
+-- output hold is told only of a depot and an output whose ghosts are told.
+pub record Performs (job : Job) (told_files told_out : Bool) (before after : Outside) (status : Status) (arcs : ℕ) : Type 0 where
+  -- the status is the one that the job and its inputs lead to, or a fault of the outside or want of memory came in its
+  -- place
+  pub answers : IsTrue told_files → (r : Readings) → Answers (judged_on r job before.files) status
+  -- it is one of those that this job can have at all
+  pub possible : IsTrue (can_end job status)
+  -- a fault or an absence is told only where the outside counted it
+  pub causes : HasCause (input_name job) (output_name job) before.counts after.counts before.faults after.faults status
+  -- a fault of an input is told only where the job had come so far
+  pub reached : IsTrue told_files → (r : Readings) (i : Input) → status ≡ ReadFault i → Reaches r job (held_by (input_name job) before.files) i
+  -- a fault of an output is told only where nothing was to be refused
+  pub needed : IsTrue told_files → (r : Readings) (o : Output) → status ≡ WriteFault o → status_of (judged_on r job before.files) ≡ Done
+  -- what stands on the output
+  pub output : IsTrue told_files → IsTrue told_out → (r : Readings) → HasOutput (output_of (judged_on r job before.files)) before.taken after.taken status
+  -- nothing is printed where a certificate could not be written
+  pub silent : status ≡ WriteFault Certificate → after.taken ≡ before.taken
+  -- what stands in the files
+  pub files : IsTrue told_files → (r : Readings) → HasFiles (output_name job) (reads_again job) (written_by r job (held_by (input_name job) before.files)) before.files after.files status
+  -- a job that writes no file leaves them all, told or not
+  pub same : writes_files job ≡ false → after.files ≡ before.files
+  -- no count of the depot falls
+  pub later : NonDecreasing before.counts after.counts
+  -- the arcs are those that the line of the status names
+  pub promised : IsTrue told_files → ArePromised (held_by (input_name job) before.files) status arcs
+
+-- the same, of a depot and an output that a function changes
+abbrev pub Does : {D O : Type 0} → depot.Ghosts D → sink.Ghosts O → Job → D → D → O → O → Status → ℕ → Type 0
+Does d o job before after out out' status arcs =
+    Performs job d.told o.told (outside (d.files before) (d.counts before) (o.taken out) (o.faults out)) (outside (d.files after) (d.counts after) (o.taken out') (o.faults out')) status arcs
+
+-- the same of a command, which was done or has ended
+abbrev pub DoesOrEnds : {D O : Type 0} → depot.Ghosts D → sink.Ghosts O → Job → D → D → O → O → Result (Unit {0}) Ending → Type 0
+DoesOrEnds d o job before after out out' result = Does d o job before after out out' (status_in result) (arcs_in result)
+
+-- the same of a command without files: it makes no call of a depot, whatever the depot holds
+abbrev pub DoesAlone : {O : Type 0} → sink.Ghosts O → Job → O → O → Result (Unit {0}) Ending → Type 0
+DoesAlone o job out out' result =
+    (told : Bool) (files : Files) (counts : List ℕ → Counts)
+    → Performs job told o.told (outside files counts (o.taken out) (o.faults out)) (outside files counts (o.taken out') (o.faults out')) (status_in result) (arcs_in result)
+
+-- What a job writes was written to files of these names, and its text printed; or what was left where this stopped.
+pub record Produces (names : Output → Option (List ℕ)) (what : Written) (text : Readings → List ℕ) (told_files told_out : Bool) (before after : Outside) (result : Result (Unit {0}) Ending) : Type 0 where
+  -- a file, the output or memory alone can stop it
+  pub only : IfErr result (λ e. IsStopped e.status)
+  -- a fault is told only where the outside counted it
+  pub causes : (inputs : Input → Option (List ℕ)) → HasCause inputs names before.counts after.counts before.faults after.faults (status_in result)
+  -- what stands on the output
+  pub output : IsTrue told_files → IsTrue told_out → (r : Readings) → HasOutput (text r) before.taken after.taken (status_in result)
+  pub silent : status_in result ≡ WriteFault Certificate → after.taken ≡ before.taken
+  -- what stands in the files
+  pub files : IsTrue told_files → HasFiles names false (Some what) before.files after.files (status_in result)
+  -- no count of the depot falls
+  pub later : NonDecreasing before.counts after.counts
+
+-- The greedy archive of a graph, in a layout, and its line.
+abbrev pub BuildsArchive : Layout → Digraph → List ℕ → Bool → Bool → Outside → Outside → Result (Unit {0}) Ending → Type 0
+BuildsArchive l g base told_files told_out before after result =
+    Produces (archive_named base) (an_archive (greedy_archive (params_for l g) g)) (λ r. greedy_line (params_for l g) g) told_files told_out before after result
+
+-- The certificate of bounds, and the first lines of the ranking by them.
+abbrev pub CertifiesRanking : Intervals → List ℕ → ℕ → Bool → Bool → Outside → Outside → Result (Unit {0}) Ending → Type 0
+CertifiesRanking b name top told_files told_out before after result =
+    Produces (certificate_to name) (a_certificate (certificate_text b)) (λ r. ranking_text r b top) told_files told_out before after result
+
+-- the same, of a depot and an output that a function changes
+abbrev pub Builds : {D O : Type 0} → depot.Ghosts D → sink.Ghosts O → Layout → Digraph → List ℕ → D → D → O → O → Result (Unit {0}) Ending → Type 0
+Builds d o l g base before after out out' result =
+    BuildsArchive l g base d.told o.told (outside (d.files before) (d.counts before) (o.taken out) (o.faults out)) (outside (d.files after) (d.counts after) (o.taken out') (o.faults out')) result
+
+abbrev pub Certifies : {D O : Type 0} → depot.Ghosts D → sink.Ghosts O → Intervals → List ℕ → ℕ → D → D → O → O → Result (Unit {0}) Ending → Type 0
+Certifies d o b name top before after out out' result =
+    CertifiesRanking b name top d.told o.told (outside (d.files before) (d.counts before) (o.taken out) (o.faults out)) (outside (d.files after) (d.counts after) (o.taken out') (o.faults out')) result

@@ -1,0 +1,119 @@
+-- The ranking of a graph's pages, and its text.
+use Rattle.std.specs.Prelude.{ℕ, ◌≡◌, ◌≤◌, true, List, ◌++◌, length, map, take, codes, decimal, Option, Some, None, Ok}
+use Rattle.std.specs.List.{range_with_len}
+use Rattle.wg_io.specs.Puts.{joined}
+use Rattle.wg_num.specs.Units.{text_of_units}
+use Rattle.wg_params.specs.declared.limits.TheConstants.{MOST_PAGES, MOST_DAMPING, MOST_ROUNDS}
+use Rattle.wg_params.specs.Parameters.{Parameters}
+use Rattle.wg_properties.specs.Judged.{properties_of}
+use Rattle.wg_graph.specs.Digraph.{Digraph, IsGraph}
+use Rattle.wg_grammar.specs.Archive.{Accepted}
+use Rattle.wg_grammar.specs.Laws.{graph_of}
+use Rattle.wg_rank.specs.Rank.{low, high}
+use Rattle.wg_rank.specs.Intervals.{Intervals, Holds, by_page}
+use Rattle.wg_rank.specs.Certified.{IsCertified}
+use Rattle.wg_rank.specs.Claims.{claim_of_bounds}
+use Rattle.wg_rank.specs.CertificateText.{text_of_claim}
+use Rattle.wg_rank.specs.Weights.{AreWeights, weights_of}
+use Rattle.wg_order.specs.Order.{Positions, IsRanking, best, worst}
+use Rattle.wg_order.specs.Surely.{IsSurely}
+use Rattle.wg_outcomes.specs.Judged.{weights_in}
+use Rattle.wg_outcomes.specs.Readings.{Readings}
+use Rattle.wg_outcomes.specs.declared.status.Input.{Input}
+use Rattle.wg_outcomes.specs.declared.status.Input.TheVariants as input
+
+-- f of each page
+abbrev pub of_pages : Digraph → (ℕ → ℕ) → List ℕ
+of_pages g f = map f (range_with_len 0 g.nodes)
+
+-- the bounds of a graph's pages after so many rounds, with teleport by the weights that are given, or to each page
+-- alike
+abbrev pub bounds_after : Digraph → Option (List ℕ) → ℕ → ℕ → Intervals
+bounds_after g given damping rounds = let w = weights_of g.nodes given in record {
+  damping = damping;
+  rounds = rounds;
+  weights = w;
+  low = of_pages g (low g damping (by_page w) rounds);
+  high = of_pages g (high g damping (by_page w) rounds);
+}
+
+abbrev pub pages_of : Readings → Intervals → List ℕ
+pages_of r b = r.ranking.value b.low b.high
+
+-- the pages as they are ranked, and the positions that their bounds leave to them
+abbrev pub positions_of : Readings → Intervals → Positions
+positions_of r b = record { filled = true; low = b.low; high = b.high; pages = pages_of r b }
+
+-- the line of page v: its bounds as parts of 1, and its first and last position
+abbrev pub rank_line : Positions → ℕ → List ℕ
+rank_line s v =
+    decimal v ++ codes " " ++ text_of_units (by_page s.low v) ++ codes " " ++ text_of_units (by_page s.high v) ++ codes " " ++ decimal (best s v) ++ codes " "
+    ++ decimal (worst s v) ++ codes "\n"
+
+-- the lines of the first pages of a ranking
+abbrev pub rank_lines : Positions → List ℕ → List ℕ
+rank_lines s pages = joined (map (rank_line s) pages)
+
+-- the first lines of the ranking by these bounds
+abbrev pub ranking_text : Readings → Intervals → ℕ → List ℕ
+ranking_text r b top = let s = positions_of r b in rank_lines s (take top s.pages)
+
+-- the certificate of these bounds: the damping, the pages, and the lower bound of each
+abbrev pub certificate_text : Intervals → List ℕ
+certificate_text b = text_of_claim (claim_of_bounds b)
+
+-- bounds of the graph before the first round
+pub record AreReady (g : Digraph) (b : Intervals) : Type 0 where
+  pub holds : Holds b g
+  pub before : b.rounds ≡ 0
+  pub bounded : length b.low ≡ g.nodes
+
+-- the ranking by these bounds
+pub record Ranks (b : Intervals) (s : Positions) : Type 0 where
+  pub filled : s.filled ≡ true
+  pub low_is : s.low ≡ b.low
+  pub high_is : s.high ≡ b.high
+  pub ranked : IsRanking s.low s.high s.pages
+
+-- What the bounds and positions that are printed say: they enclose every exact iterate from these rounds on and every
+-- stationary vector, within the stated width; and pages whose intervals are disjoint are in the order of their exact
+-- shares.
+pub record IsProvenRanking (r : Readings) (b : Intervals) (g : Digraph) : Type 0 where
+  pub certified : IsCertified b g
+  pub surely : IsSurely (positions_of r b) b g
+
+-- They do, whatever the graph and the weights that are given.
+abbrev pub RankingIsProven : Readings → ℕ → ℕ → Type 0
+RankingIsProven r rounds damping =
+    rounds ≤ MOST_ROUNDS → damping ≤ MOST_DAMPING → (g : Digraph) → IsGraph g → g.nodes ≤ MOST_PAGES
+    → (given : Option (List ℕ)) → AreWeights g.nodes (weights_of g.nodes given) → IsProvenRanking r (bounds_after g given damping rounds) g
+
+-- The files of an archive stand for this graph: the bytes of its graph file do, by the parameters of its properties
+-- text.
+pub record HoldGraph (r : Readings) (held : Input → Option (List ℕ)) (g : Digraph) : Type 0 where
+  pub text : List ℕ
+  pub parameters : Parameters
+  pub bytes : List ℕ
+  pub read : Accepted
+  pub text_is : held input.Properties ≡ Some text
+  pub parameters_are : properties_of text ≡ Ok parameters
+  pub bytes_are : held input.Graph ≡ Some bytes
+  pub read_is : r.graph.value parameters bytes ≡ Ok read
+  pub graph_is : g ≡ graph_of parameters read
+
+-- The files hold these weights of so many pages, if a file of them is named; without one, none are given.
+abbrev pub HoldWeights : Option (List ℕ) → (Input → Option (List ℕ)) → ℕ → Option (List ℕ) → Type 0
+HoldWeights None held n given = given ≡ None
+HoldWeights (Some name) held n given =
+    (bytes : List ℕ) × (ws : List ℕ) × (held input.Weights ≡ Some bytes) × (weights_in n bytes ≡ Ok ws) × (given ≡ Some ws)
+
+-- What is printed is the ranking of the graph that the files stand for, by the weights that they hold, and this much is
+-- proved of its bounds and positions.
+pub record PrintsProvenRanking (r : Readings) (held : Input → Option (List ℕ)) (weights : Option (List ℕ)) (rounds damping top : ℕ) (old new : List ℕ) : Type 0 where
+  pub graph : Digraph
+  pub given : Option (List ℕ)
+  pub stored : HoldGraph r held graph
+  pub weighed : HoldWeights weights held graph.nodes given
+  pub proper : IsGraph graph
+  pub printed : new ≡ old ++ ranking_text r (bounds_after graph given damping rounds) top
+  pub proven : IsProvenRanking r (bounds_after graph given damping rounds) graph

@@ -1,0 +1,138 @@
+-- What stands of the files of a job that writes an archive or a certificate.
+use Rattle.std.specs.Prelude.{◌≡◌, ◌≢◌, ◌⊎◌, ℕ, Bool, true, List, [], Option, Some, None}
+use Rattle.std.specs.FinMap as map
+use Rattle.wg_io.specs.Outside.{Files, Counts}
+use Rattle.wg_io.specs.declared.output.Output.{Output}
+use Rattle.wg_io.specs.declared.output.Output.TheVariants as output
+use Rattle.wg_params.specs.Parameters.{Parameters, params_of}
+use Rattle.wg_properties.specs.Text.{text_of}
+use Rattle.wg_graph.specs.Digraph.{Digraph, arc_count}
+use Rattle.wg_encoder.specs.Archive.{graph_file, offsets_file}
+use Rattle.wg_encoder.specs.Gone.{HoldsFront, HoldsLess}
+use Rattle.wg_encoder.specs.declared.error.EncodeError.{EncodeError}
+use Rattle.wg_encoder.specs.declared.error.EncodeError.TheVariants as error
+use Rattle.wg_params.specs.declared.layout.Layout.{Layout}
+use Rattle.wg_outcomes.specs.Causes.{IncreasedAt}
+use Rattle.wg_outcomes.specs.Judged.{Archive, Written, an_archive, a_certificate}
+use Rattle.wg_outcomes.specs.Names.{archive_named}
+use Rattle.wg_outcomes.specs.declared.status.Input.TheVariants as input
+use Rattle.wg_outcomes.specs.declared.status.Status.{Status}
+use Rattle.wg_outcomes.specs.declared.status.Status.TheVariants.{Done, Memory, ReadFault, WriteFault}
+
+-- the parameters of an archive of a graph in this layout
+abbrev pub params_for : Layout → Digraph → Parameters
+params_for l g = params_of l g.nodes (arc_count g)
+
+-- the greedy archive of a graph
+abbrev pub greedy_archive : Parameters → Digraph → Archive
+greedy_archive p g = record { properties = text_of p; graph = graph_file p g.lists; offsets = offsets_file p g.lists }
+
+-- what the three files of an archive hold, each where it is there
+pub record ArchiveFiles : Type 0 where
+  pub properties : Option (List ℕ)
+  pub graph : Option (List ℕ)
+  pub offsets : Option (List ℕ)
+
+abbrev pub content_of : Files → Option (List ℕ) → Option (List ℕ)
+content_of files None = None
+content_of files (Some name) = map.get files name
+
+-- the files of these names
+abbrev pub archive_at : (Output → Option (List ℕ)) → Files → ArchiveFiles
+archive_at names files = record {
+  properties = content_of files (names output.Properties);
+  graph = content_of files (names output.Graph);
+  offsets = content_of files (names output.Offsets);
+}
+
+-- what the three files of an archive of this name hold
+abbrev pub archive_in : List ℕ → Files → ArchiveFiles
+archive_in base files = archive_at (archive_named base) files
+
+-- no other file has changed
+abbrev pub OthersStay : (Output → Option (List ℕ)) → Files → Files → Type 0
+OthersStay names old new = (name : List ℕ) → ((o : Output) → names o ≢ Some name) → map.get new name ≡ map.get old name
+
+-- all of the archive
+abbrev pub AreWhole : Archive → ArchiveFiles → Type 0
+AreWhole a new = (new.properties ≡ Some a.properties) × (new.graph ≡ Some a.graph) × (new.offsets ≡ Some a.offsets)
+
+-- nothing, or all but the end of the properties
+abbrev pub StopAtProperties : Archive → ArchiveFiles → ArchiveFiles → Type 0
+StopAtProperties a old new = (new ≡ old) ⊎ ((new.graph ≡ Some a.graph) × (new.offsets ≡ Some a.offsets) × HoldsLess new.properties a.properties)
+
+-- the properties are empty; the others are as before, or prefixes of the archive's, and the graph file lacks something
+abbrev pub StopAtGraph : Archive → ArchiveFiles → ArchiveFiles → Type 0
+StopAtGraph a old new =
+    (new.properties ≡ Some []) × (((new.graph ≡ old.graph) × (new.offsets ≡ old.offsets)) ⊎ (HoldsLess new.graph a.graph × HoldsFront new.offsets a.offsets))
+
+-- the properties are empty; the graph file is and the offsets are as before, or both are prefixes of the archive's, and
+-- the offsets lack something
+abbrev pub StopAtOffsets : Archive → ArchiveFiles → ArchiveFiles → Type 0
+StopAtOffsets a old new =
+    (new.properties ≡ Some []) × (((new.graph ≡ Some []) × (new.offsets ≡ old.offsets)) ⊎ (HoldsFront new.graph a.graph × HoldsLess new.offsets a.offsets))
+
+-- the properties are empty, both others are prefixes of the archive's, and the offsets lack something
+abbrev pub StopAtInput : Archive → ArchiveFiles → Type 0
+StopAtInput a new = (new.properties ≡ Some []) × HoldsFront new.graph a.graph × HoldsLess new.offsets a.offsets
+
+-- the three files are there, and empty
+abbrev pub emptied : ArchiveFiles
+emptied = record { properties = Some []; graph = Some []; offsets = Some [] }
+
+-- only the properties are missing
+abbrev pub unnamed : Archive → ArchiveFiles
+unnamed a = record { properties = Some []; graph = Some a.graph; offsets = Some a.offsets }
+
+-- a call on this file failed, or memory was wanting
+abbrev pub IsStoppedAt : Output → Status → Type 0
+IsStoppedAt o status = (status ≡ WriteFault o) ⊎ (status ≡ Memory)
+
+-- a call on one of the files failed, or memory was wanting
+abbrev pub IsStopped : Status → Type 0
+IsStopped status = ((o : Output) × (status ≡ WriteFault o)) ⊎ (status ≡ Memory)
+
+-- how a job ends whose records or offsets were not written whole
+abbrev pub status_of_error : EncodeError → Status
+status_of_error (error.Failed o) = WriteFault o
+status_of_error error.Memory = Memory
+
+-- What stands once the job has ended so. A fault names the file that it stopped at; want of memory may stop it
+-- anywhere; and nothing has changed where it was refused or its input could not be read.
+abbrev pub FilesAfter : Archive → ArchiveFiles → ArchiveFiles → Status → Type 0
+FilesAfter a old new Done = AreWhole a new
+FilesAfter a old new (WriteFault output.Out) = AreWhole a new
+FilesAfter a old new (WriteFault output.Properties) = StopAtProperties a old new
+FilesAfter a old new (WriteFault output.Graph) = StopAtGraph a old new
+FilesAfter a old new (WriteFault output.Offsets) = StopAtOffsets a old new
+FilesAfter a old new Memory = StopAtProperties a old new ⊎ StopAtGraph a old new ⊎ StopAtOffsets a old new ⊎ AreWhole a new
+FilesAfter a old new _ = new ≡ old
+
+-- the same of the files of an archive of this name
+abbrev pub LeavesAfter : Archive → List ℕ → Files → Files → Status → Type 0
+LeavesAfter a base old new status = FilesAfter a (archive_in base old) (archive_in base new) status
+
+-- a fault of one of these files is told only where the count of that file rose
+abbrev pub FaultsRose : List ℕ → (List ℕ → Counts) → (List ℕ → Counts) → Status → Type 0
+FaultsRose base old new status = (o : Output) → status ≡ WriteFault o → IncreasedAt (λ c. c.write_faults) (archive_named base o) old new
+
+-- The same of a job that may go through its graph file again while it writes: a read fault may come then.
+abbrev pub FilesLeft : Bool → Archive → ArchiveFiles → ArchiveFiles → Status → Type 0
+FilesLeft true a old new (ReadFault input.Graph) = (new ≡ old) ⊎ StopAtInput a new
+FilesLeft again a old new status = FilesAfter a old new status
+
+-- What stands of the file of a certificate once the job has ended so. It is as before, or lacks something, where a call
+-- on it failed; it is whole before anything is printed.
+abbrev pub CertificateAfter : List ℕ → Option (List ℕ) → Option (List ℕ) → Status → Type 0
+CertificateAfter text old new Done = new ≡ Some text
+CertificateAfter text old new (WriteFault output.Out) = new ≡ Some text
+CertificateAfter text old new (WriteFault output.Certificate) = (new ≡ old) ⊎ HoldsLess new text
+CertificateAfter text old new Memory = (new ≡ old) ⊎ HoldsFront new text
+CertificateAfter text old new _ = new ≡ old
+
+-- The files of a job of these names that writes this, or nothing.
+abbrev pub HasFiles : (Output → Option (List ℕ)) → Bool → Option Written → Files → Files → Status → Type 0
+HasFiles names again None old new status = new ≡ old
+HasFiles names again (Some (an_archive a)) old new status = OthersStay names old new × FilesLeft again a (archive_at names old) (archive_at names new) status
+HasFiles names again (Some (a_certificate text)) old new status =
+    OthersStay names old new × CertificateAfter text (content_of old (names output.Certificate)) (content_of new (names output.Certificate)) status

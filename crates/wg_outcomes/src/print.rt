@@ -1,0 +1,43 @@
+//! What goes to the output in one call.
+ghost use Rattle.std.specs.Prelude.{◌≡◌, IsTrue};
+ghost use Rattle.wg_io.specs.Puts.{Puts};
+ghost use Rattle.wg_outcomes.specs.Answers.{PrintRefusals};
+ghost use Rattle.wg_outcomes.specs.Commands.{ok_line};
+
+use crate::Ending;
+use crate::outputs::output_ending;
+use crate::text::Text;
+use wg_io::{Sink, write_all};
+use wg_params::Params;
+
+/// A piece of the output, in one call where the output takes it whole.
+pub fn print_piece<O: Sink>(out: &mut O, piece: &[u8]) -> Result<(), Ending>
+    ensures puts { IsTrue O.told → Puts piece.now (O.taken out.old) (O.taken out.new) result }
+    ensures refusals { PrintRefusals ⟦<O as Sink>⟧ out.old out.new result }
+{
+    match write_all(out, piece) {
+        Ok(()) => Ok(()),
+        Err(error) => Err(output_ending(error)),
+    }
+}
+
+fn ok_line(params: &Params, bits: u64) -> Text
+    ensures { result ≡ ok_line params.now bits }
+{
+    Text::new()
+        .with("ok nodes=")
+        .with_number(params.nodes())
+        .with(" arcs=")
+        .with_number(params.arcs())
+        .with(" bits=")
+        .with_number(bits)
+        .with("\n")
+}
+
+/// Prints the line of an accepted archive, in one call where the output takes it whole.
+pub fn print_ok<O: Sink>(out: &mut O, params: &Params, bits: u64) -> Result<(), Ending>
+    ensures puts { IsTrue O.told → Puts (ok_line params.now bits) (O.taken out.old) (O.taken out.new) result }
+    ensures refusals { PrintRefusals ⟦<O as Sink>⟧ out.old out.new result }
+{
+    print_piece(out, ok_line(params, bits).as_bytes())
+}

@@ -1,0 +1,11 @@
+pub mod CertifyLemmas
+pub mod CheckLemmas
+pub mod NumberLemmas
+pub mod PrintedJobs
+pub mod PrintedLines
+pub mod PrintedPass
+pub mod RankJobs
+pub mod ShowJobs
+pub mod ShownLemmas
+pub mod SpotJobs
+pub mod VerifyJobs

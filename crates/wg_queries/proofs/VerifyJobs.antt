@@ -1,0 +1,103 @@
+-- How each step of `verify` leads on or ends it.
+use Rattle.std.proofs.Common.{◌≡◌, ◌⊎◌, ℕ, Bool, List, [], ◌∷◌, Option, Some, None, Result, Ok, Err, refl, subst}
+use Rattle.std.specs.Bool.{IsTrue}
+use Rattle.std.specs.Result.{IfErr}
+use Rattle.wg_io.specs.Outside.{Files, Counts, Increased}
+use Rattle.wg_io.specs.Puts.{Puts}
+use Rattle.wg_io.specs.declared.output.Output.TheVariants.{Out}
+use Rattle.wg_params.specs.Parameters.{Parameters}
+use Rattle.wg_graph.specs.Digraph.{Digraph}
+use Rattle.wg_rank.specs.Claims.{Claim}
+use Rattle.wg_words.specs.declared.jobs.Job.{Job}
+use Rattle.wg_words.specs.declared.jobs.Job.TheVariants.{Verify}
+use Rattle.wg_outcomes.specs.Answers.{IsUnput, Steps, status_in}
+use Rattle.wg_outcomes.specs.Judged.{Judged, accepted, claim_then}
+use Rattle.wg_readings.specs.Loading.{IsBadCertificate, LoadsCertificate, LoadsGraph, LoadsParams, LoadsWeights}
+use Rattle.wg_outcomes.specs.Names.{certificate_named, weights_named}
+use Rattle.wg_outcomes.specs.Promised.{arcs_in}
+use Rattle.wg_outcomes.specs.Readings.{Readings}
+use Rattle.wg_outcomes.specs.declared.ending.Ending.{Ending}
+use Rattle.wg_outcomes.specs.declared.status.Input.{Input}
+use Rattle.wg_outcomes.specs.declared.status.Input.TheVariants.{Properties, Graph, Weights, Certificate}
+use Rattle.wg_outcomes.specs.declared.status.Status.TheVariants.{Memory, WriteFault}
+use Rattle.wg_outcomes.specs.JobFiles.{has_input, input_name}
+use Rattle.wg_outcomes.specs.Performs.{Outside, Performs, outside}
+use Rattle.wg_outcomes.specs.Verified.{verified_line, with_gap}
+use Rattle.wg_readings.proofs.JobSteps.{ComesTo, prints}
+use Rattle.wg_readings.proofs.NamedSteps.{certificate_refused, comes_on_named, ends_named, refuses_own}
+use Rattle.wg_readings.proofs.WeightedJobs as weighted
+
+module _ (base certificate : List ℕ) where
+  pub weights_are : (given : Option (List ℕ)) → input_name (Verify base certificate given) Weights ≡ weights_named given Weights
+  weights_are None = refl
+  weights_are (Some name) = refl
+
+  pub certificate_is : (given : Option (List ℕ)) → input_name (Verify base certificate given) Certificate ≡ certificate_named certificate Certificate
+  certificate_is None = refl
+  certificate_is (Some name) = refl
+
+  pub has_certificate : (given : Option (List ℕ)) → IsTrue (has_input (Verify base certificate given) Certificate)
+  has_certificate None = refl
+  has_certificate (Some name) = refl
+
+-- a claim of as many pages
+pub claim_of_graph : (name : List ℕ) (n m : ℕ) (td : Bool) (files files' : Files) (counts counts' : List ℕ → Counts) (r : Result Claim Ending) → n ≡ m
+    → LoadsCertificate name n td files files' counts counts' r → LoadsCertificate name m td files files' counts counts' r
+claim_of_graph name n m td files files' counts counts' r count h = subst (λ (k : ℕ). LoadsCertificate name k td files files' counts counts' r) count h
+
+-- what is left to do with the claim
+abbrev pub behind_claim : Digraph → Option (List ℕ) → Claim → Readings → (Input → Option (List ℕ)) → Judged
+behind_claim g ws c r h = with_gap g c ws (λ left. accepted (verified_line c left))
+
+abbrev pub behind_weights : Parameters → Digraph → Option (List ℕ) → Readings → (Input → Option (List ℕ)) → Judged
+behind_weights p g ws r h = claim_then g.nodes (h Certificate) (λ c. behind_claim g ws c r h)
+
+module _ (base certificate : List ℕ) (given : Option (List ℕ)) (td to : Bool) (before : Outside) where
+  abbrev job : Job
+  job = Verify base certificate given
+
+  pub no_params : (after : Outside) (e : Ending) → after.taken ≡ before.taken → LoadsParams base td before.files after.files before.counts after.counts (Err e)
+      → Performs job td to before after e.status e.arcs
+  no_params after e silent l = weighted.no_params job base given td to before refl refl (weights_are base certificate given) behind_weights (λ r h. refl) after e silent l
+
+  module _ (p : Parameters) (files : Files) (counts : List ℕ → Counts) (l : LoadsParams base td before.files files before.counts counts (Ok p)) where
+    pub no_graph : (after : Outside) (e : Ending) → after.taken ≡ before.taken → LoadsGraph base p td files after.files counts after.counts (Err e) → Performs job td to before after e.status e.arcs
+    no_graph after e silent g = weighted.no_graph job base given td to before refl refl (weights_are base certificate given) behind_weights (λ r h. refl) p files counts l after e silent g
+
+    module _ (files1 : Files) (counts1 : List ℕ → Counts) (graph : Digraph) (g : LoadsGraph base p td files files1 counts counts1 (Ok graph)) where
+      pub no_weights : (after : Outside) (e : Ending) → after.taken ≡ before.taken → LoadsWeights given graph.nodes td files1 after.files counts1 after.counts (Err e)
+          → Performs job td to before after e.status e.arcs
+      no_weights after e silent w =
+          weighted.no_weights job base given td to before refl refl (weights_are base certificate given) behind_weights (λ r h. refl) p files counts l files1 counts1 graph g after e silent w
+
+      module _ (files2 : Files) (counts2 : List ℕ → Counts) (ws : Option (List ℕ)) (w : LoadsWeights given graph.nodes td files1 files2 counts1 counts2 (Ok ws)) where
+        come : ComesTo job p td before files2 counts2 (Weights ∷ Graph ∷ Properties ∷ []) (λ r h. claim_then graph.nodes (h Certificate) (λ c. behind_claim graph ws c r h))
+        come = weighted.has_weights job base given td to before refl refl (weights_are base certificate given) behind_weights (λ r h. refl) p files counts l files1 counts1 graph g files2 counts2 ws w
+
+        pub no_claim : (after : Outside) (e : Ending) → after.taken ≡ before.taken → LoadsCertificate certificate graph.nodes td files2 after.files counts2 after.counts (Err e)
+            → Performs job td to before after e.status e.arcs
+        no_claim after e silent c =
+            ends_named job base td to before p files2 counts2 (Weights ∷ Graph ∷ Properties ∷ []) Certificate (certificate_named certificate) (certificate_is base certificate given) IsBadCertificate
+            (claim_then graph.nodes) (λ x r h. behind_claim graph ws x r h) come (λ h holds. holds) (λ n. refl) (certificate_refused job (has_certificate base certificate given))
+            (has_certificate base certificate given) after e silent c.reads
+
+        module _ (files3 : Files) (counts3 : List ℕ → Counts) (claim : Claim) (c : LoadsCertificate certificate graph.nodes td files2 files3 counts2 counts3 (Ok claim)) where
+          come_to_claim : ComesTo job p td before files3 counts3 (Certificate ∷ Weights ∷ Graph ∷ Properties ∷ []) (behind_claim graph ws claim)
+          come_to_claim =
+              comes_on_named job base td to before p files2 counts2 (Weights ∷ Graph ∷ Properties ∷ []) Certificate (certificate_named certificate) (certificate_is base certificate given) IsBadCertificate
+              (claim_then graph.nodes) (λ x r h. behind_claim graph ws x r h) come files3 counts3 claim c.reads
+
+          -- the claim does not hold
+          pub no_gap : (taken : List ℕ) (faults : ℕ) (e : Ending) → taken ≡ before.taken → (e.status ≡ Memory) ⊎ IsBadCertificate e.status
+              → Steps {B = ℕ} (with_gap graph claim ws) (Err e) → Performs job td to before (outside files3 counts3 taken faults) e.status e.arcs
+          no_gap taken faults e silent only steps =
+              refuses_own job base td to before p files3 counts3 (Certificate ∷ Weights ∷ Graph ∷ Properties ∷ []) IsBadCertificate (certificate_refused job (has_certificate base certificate given))
+              (behind_claim graph ws claim) come_to_claim taken faults e silent only (λ t r. steps (λ left. accepted (verified_line claim left)))
+
+          -- it does
+          pub verifies : (left : ℕ) → Steps {B = ℕ} (with_gap graph claim ws) (Ok left) → (taken : List ℕ) (faults : ℕ) (r : Result (Unit {0}) Ending)
+              → (IsTrue to → Puts (verified_line claim left) before.taken taken r) → IfErr r (λ e. IsUnput e.status)
+              → (status_in r ≡ WriteFault Out → Increased before.faults faults) → Performs job td to before (outside files3 counts3 taken faults) (status_in r) (arcs_in r)
+          verifies left steps taken faults r puts only rose =
+              prints job base td to before p files3 counts3 (Certificate ∷ Weights ∷ Graph ∷ Properties ∷ []) (behind_claim graph ws claim) come_to_claim
+              (λ q. verified_line claim left) (λ q. steps (λ x. accepted (verified_line claim x))) refl taken faults r (λ o q. puts o) only rose

@@ -1,0 +1,35 @@
+use Rattle.std.proofs.Common.{◌∙◌, List, ℕ, [], take, ap}
+use Rattle.std.specs.FinMap as map
+use Rattle.wg_io.specs.Outside.{Files, appended}
+use Rattle.wg_encoder.proofs.Sent.{get_more, get_other}
+use Rattle.wg_outcomes.specs.Ranked.{certificate_text}
+use Rattle.wg_queries.proofs.certificate.append.Goals as goal
+
+pub returns-in-Ok-clause-ok : goal.returns-in-Ok-clause-ok
+returns-in-Ok-clause-ok g c = λ t empty.
+    let old = g.D.Depot.files c.args.depot.now in
+    let text = certificate_text c.args.bounds.now in
+    ap (λ (x : Files). map.get x c.args.name.now) (c.in-Ok.ensures.ok t ∙ ap (λ (m : List ℕ). appended old m text) c.as_str.ensures)
+    ∙ get_more old c.args.name.now [] text empty
+
+pub returns-in-Ok-clause-others : goal.returns-in-Ok-clause-others
+returns-in-Ok-clause-others g c = λ t q other.
+    ap (λ (x : Files). map.get x q) (c.in-Ok.ensures.ok t)
+    ∙ get_other (g.D.Depot.files c.args.depot.now) c.as_str.result.now (certificate_text c.args.bounds.now) q (λ same. other (same ∙ c.as_str.ensures))
+
+pub returns-in-Err-clause-err : goal.returns-in-Err-clause-err
+returns-in-Err-clause-err g c = λ t empty.
+    let old = g.D.Depot.files c.args.depot.now in
+    let text = certificate_text c.args.bounds.now in
+    let e = c.in-Err.ensures.err t in (
+      e.0,
+      e.1,
+      ap (λ (x : Files). map.get x c.args.name.now) (e.2 ∙ ap (λ (m : List ℕ). appended old m (take e.0 text)) c.as_str.ensures)
+          ∙ get_more old c.args.name.now [] (take e.0 text) empty,
+    )
+
+pub returns-in-Err-clause-others : goal.returns-in-Err-clause-others
+returns-in-Err-clause-others g c = λ t q other.
+    let e = c.in-Err.ensures.err t in
+    ap (λ (x : Files). map.get x q) e.2
+    ∙ get_other (g.D.Depot.files c.args.depot.now) c.as_str.result.now (take e.0 (certificate_text c.args.bounds.now)) q (λ same. other (same ∙ c.as_str.ensures))

@@ -1,0 +1,14 @@
+use Rattle.std.proofs.Common.{[], Ok, map, take, IsTrue}
+use Rattle.wg_lines.specs.Printing.{HasPrinted}
+use Rattle.wg_io.specs.Puts.{joined}
+use Rattle.wg_grammar.specs.Archive.{Accepted, ReadsGraph}
+use Rattle.wg_outcomes.specs.Commands.{line_in}
+use Rattle.wg_queries.proofs.show.print_pages.Given as goal
+
+-- the lines of the pages so far are printed
+abbrev pub invariant-loop-page : goal.invariant-loop-page
+invariant-loop-page g l = let s = g.O.Sink in record {
+  printed : IsTrue s.told → (a : Accepted) → ReadsGraph l.archive.params l.archive.bits (Ok a)
+      → HasPrinted (s.taken l.fn.out) (s.taken l.out) [] (joined (map (line_in a.graph) (take l.page-index l.pages))) l.lines;
+  later : s.later l.fn.out l.out;
+}

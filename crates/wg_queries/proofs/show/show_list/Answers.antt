@@ -1,0 +1,20 @@
+use Rattle.std.proofs.Common.{◌∙◌}
+use Rattle.wg_random.specs.Reading.{known_at}
+use Rattle.wg_queries.proofs.ShownLemmas.{line_by_list, line_unbegun, page_listed, reading_of}
+use Rattle.wg_queries.proofs.show.show_list.Goals as goal
+
+pub unreachable-requires : goal.unreachable-requires
+unreachable-requires g c =
+    let h = c.args.archive.now in
+    let s = c.requires.stands in
+    let r = reading_of h.params h.bits s.0 s.1 in
+    page_listed h.params.nodes c.args.page (known_at r.records c.args.page) c.in-Err-NoPage.field-0 c.requires.page c.in-Err-NoPage.field-0-is (c.in-Err-NoPage.ensures.answer r)
+
+pub returns-in-Ok : goal.returns-in-Ok
+returns-in-Ok g c =
+    let e = c.print_list.ensures in
+    line_by_list g.O.Sink c.args.archive.now c.args.page c.args.out.now c.print_list.new.out c.args.lines.now c.print_list.new.lines c.as_slice.result.now c.print_list.result
+    (λ a read. c.as_slice.ensures ∙ c.in-Ok.ensures.graph a read) e.prints e.later e.refusals
+
+pub returns-in-Err-Memory : goal.returns-in-Err-Memory
+returns-in-Err-Memory g c = line_unbegun g.O.Sink c.args.archive.now c.args.page c.args.out.now c.args.lines.now c.args.lines.now _ (g.met.O.Sink.stays _) c.of.ensures.status

@@ -1,0 +1,69 @@
+//! A certificate on its way into its file.
+ghost use Rattle.std.specs.Prelude.{◌≡◌, ◌≢◌, ◌⊎◌, ℕ, List, [], IsTrue, OnOk, IfErr, Some};
+ghost use Rattle.std.specs.FinMap as map;
+ghost use Rattle.wg_io.specs.Outside.{NonDecreasing};
+ghost use Rattle.wg_encoder.specs.Gone.{HoldsLess};
+ghost use Rattle.wg_outcomes.specs.Answers.{status_in};
+ghost use Rattle.wg_outcomes.specs.Causes.{IncreasedAt};
+ghost use Rattle.wg_outcomes.specs.Ranked.{certificate_text};
+ghost use Rattle.wg_outcomes.specs.Written.{IsStoppedAt};
+
+use wg_io::{Depot, Output};
+use wg_outcomes::{Ending, Status, writing_ending};
+use wg_rank::{Bounds, write_certificate};
+use wg_words::Name;
+
+// Leaves an empty file of the certificate.
+fn create<D: Depot>(name: &Name, depot: &mut D) -> Result<(), Ending>
+    ensures ok { IsTrue D.told → OnOk result (map.get (D.files depot.new) name.now ≡ Some []) }
+    ensures err { IfErr result (λ e. D.files depot.new ≡ D.files depot.old) }
+    ensures others { IsTrue D.told → (q : List ℕ) → q ≢ name.now
+        → map.get (D.files depot.new) q ≡ map.get (D.files depot.old) q }
+    ensures only { IfErr result (λ e. IsStoppedAt Output.Certificate e.status) }
+    ensures cause { status_in result ≡ Status.WriteFault Output.Certificate
+        → IncreasedAt (λ c. c.write_faults) (Some name.now) (D.counts depot.old) (D.counts depot.new) }
+    ensures later { NonDecreasing (D.counts depot.old) (D.counts depot.new) }
+{
+    match depot.create(name.as_str()) {
+        Ok(()) => Ok(()),
+        Err(error) => Err(writing_ending(Output::Certificate, error)),
+    }
+}
+
+// Appends the text of the certificate to its empty file.
+fn append<D: Depot>(bounds: &Bounds, name: &Name, depot: &mut D) -> Result<(), Ending>
+    ensures ok { IsTrue D.told → map.get (D.files depot.old) name.now ≡ Some []
+        → OnOk result (map.get (D.files depot.new) name.now ≡ Some (certificate_text bounds.now)) }
+    ensures err { IsTrue D.told → map.get (D.files depot.old) name.now ≡ Some []
+        → IfErr result (λ e. HoldsLess (map.get (D.files depot.new) name.now) (certificate_text bounds.now)) }
+    ensures others { IsTrue D.told → (q : List ℕ) → q ≢ name.now
+        → map.get (D.files depot.new) q ≡ map.get (D.files depot.old) q }
+    ensures only { IfErr result (λ e. IsStoppedAt Output.Certificate e.status) }
+    ensures cause { status_in result ≡ Status.WriteFault Output.Certificate
+        → IncreasedAt (λ c. c.write_faults) (Some name.now) (D.counts depot.old) (D.counts depot.new) }
+    ensures later { NonDecreasing (D.counts depot.old) (D.counts depot.new) }
+{
+    match write_certificate(bounds, depot, name.as_str()) {
+        Ok(()) => Ok(()),
+        Err(error) => Err(writing_ending(Output::Certificate, error)),
+    }
+}
+
+/// Writes the certificate of these bounds: creates its file, and appends its text. It takes no memory. After an error
+/// the file is as before or holds a prefix of the text, and never all of it. No other file changes.
+pub fn write_file<D: Depot>(bounds: &Bounds, name: &Name, depot: &mut D) -> Result<(), Ending>
+    ensures ok { IsTrue D.told
+        → OnOk result (map.get (D.files depot.new) name.now ≡ Some (certificate_text bounds.now)) }
+    ensures err { IsTrue D.told
+        → IfErr result (λ e. (map.get (D.files depot.new) name.now ≡ map.get (D.files depot.old) name.now)
+        ⊎ HoldsLess (map.get (D.files depot.new) name.now) (certificate_text bounds.now)) }
+    ensures others { IsTrue D.told → (q : List ℕ) → q ≢ name.now
+        → map.get (D.files depot.new) q ≡ map.get (D.files depot.old) q }
+    ensures only { IfErr result (λ e. IsStoppedAt Output.Certificate e.status) }
+    ensures cause { status_in result ≡ Status.WriteFault Output.Certificate
+        → IncreasedAt (λ c. c.write_faults) (Some name.now) (D.counts depot.old) (D.counts depot.new) }
+    ensures later { NonDecreasing (D.counts depot.old) (D.counts depot.new) }
+{
+    create(name, depot)?;
+    append(bounds, name, depot)
+}

@@ -1,0 +1,177 @@
+//! What goes to the output.
+ghost use Rattle.std.specs.Prelude.{◌≡◌, ◌≤◌, ◌<◌, true, length, take, IsTrue, IsErrOf, IfErr, Err};
+ghost use Rattle.wg_io.specs.Puts.{Puts};
+ghost use Rattle.wg_io.specs.Refusals.{SinkRefusals};
+ghost use Rattle.wg_outcomes.specs.Answers.{IsUnput, PrintRefusals};
+ghost use Rattle.wg_lines.specs.Printing.{Prints};
+ghost use Rattle.wg_arcs.specs.Text.{page_lines};
+ghost use Rattle.wg_ascii.specs.Text.{list_line, nodes_line};
+ghost use Rattle.wg_lines.specs.declared.lines.TheConstants.{MOST_PIECE};
+ghost use Rattle.wg_outcomes.specs.Ranked.{rank_line, rank_lines};
+ghost use Rattle.wg_rank.specs.declared.limits.TheConstants.{UNITS};
+ghost use Rattle.wg_outcomes.specs.Commands.{number_line, ok_line};
+ghost use Rattle.wg_outcomes.specs.Verified.{verified_line};
+ghost use Rattle.wg_io.specs.declared.output.Output.TheVariants.{Out};
+
+use crate::ranked::Ranked;
+use wg_io::{Sink, WriteError};
+use wg_lines::Lines;
+use wg_num::units_text;
+use wg_outcomes::{Ending, Text, output_ending, print_piece};
+use wg_rank::Certificate;
+
+fn verified_line(certificate: &Certificate, left: u128) -> Text
+    requires { left ≤ UNITS }
+    ensures { result ≡ verified_line certificate.now left }
+{
+    Text::new()
+        .with("ok pages=")
+        .with_number(certificate.as_slice().len() as u64)
+        .with(" damping=")
+        .with_number(certificate.damping())
+        .with(" gap=")
+        .with_bytes(units_text(left).as_slice())
+        .with("\n")
+}
+
+/// Prints the line of a certificate that holds, in one call where the output takes it whole.
+pub fn print_verified<O: Sink>(
+    out: &mut O,
+    certificate: &Certificate,
+    left: u128,
+) -> Result<(), Ending>
+    requires { left ≤ UNITS }
+    ensures puts { IsTrue O.told → Puts (verified_line certificate.now left) (O.taken out.old) (O.taken out.new)
+        result }
+    ensures refusals { PrintRefusals ⟦<O as Sink>⟧ out.old out.new result }
+{
+    print_piece(out, verified_line(certificate, left).as_bytes())
+}
+
+// A line of one number.
+fn write_line<S: Sink>(lines: &mut Lines, sink: &mut S, number: u64) -> Result<(), WriteError>
+    ensures prints { IsTrue S.told → Prints (number_line number) (S.taken sink.old)
+        (S.taken sink.new) lines.old lines.new result }
+    ensures later { S.later sink.old sink.new }
+    ensures refusals { SinkRefusals ⟦<S as Sink>⟧ sink.old sink.new result }
+{
+    lines.number(sink, number)?;
+    lines.byte(sink, b'\n')
+}
+
+/// Prints a line of one number.
+pub fn print_number<O: Sink>(lines: &mut Lines, out: &mut O, number: u64) -> Result<(), Ending>
+    ensures prints { IsTrue O.told → Prints (number_line number) (O.taken out.old)
+        (O.taken out.new) lines.old lines.new result }
+    ensures later { O.later out.old out.new }
+    ensures refusals { PrintRefusals ⟦<O as Sink>⟧ out.old out.new result }
+{
+    match write_line(lines, out, number) {
+        Ok(()) => Ok(()),
+        Err(error) => Err(output_ending(error)),
+    }
+}
+
+/// Prints the lines of the arcs of a page.
+pub fn print_page<O: Sink>(
+    lines: &mut Lines,
+    out: &mut O,
+    page: u64,
+    list: &[u64],
+) -> Result<(), Ending>
+    ensures prints { IsTrue O.told → Prints (page_lines page list.now) (O.taken out.old)
+        (O.taken out.new) lines.old lines.new result }
+    ensures later { O.later out.old out.new }
+    ensures refusals { PrintRefusals ⟦<O as Sink>⟧ out.old out.new result }
+{
+    match wg_arcs::print_list(lines, out, page, list) {
+        Ok(()) => Ok(()),
+        Err(error) => Err(output_ending(error)),
+    }
+}
+
+/// Prints the first line of a plain text.
+pub fn print_nodes<O: Sink>(lines: &mut Lines, out: &mut O, nodes: u64) -> Result<(), Ending>
+    ensures prints { IsTrue O.told → Prints (nodes_line nodes) (O.taken out.old)
+        (O.taken out.new) lines.old lines.new result }
+    ensures later { O.later out.old out.new }
+    ensures refusals { PrintRefusals ⟦<O as Sink>⟧ out.old out.new result }
+{
+    match wg_ascii::print_nodes(lines, out, nodes) {
+        Ok(()) => Ok(()),
+        Err(error) => Err(output_ending(error)),
+    }
+}
+
+/// Prints the line of a page with these successors in a plain text.
+pub fn print_list<O: Sink>(lines: &mut Lines, out: &mut O, list: &[u64]) -> Result<(), Ending>
+    ensures prints { IsTrue O.told → Prints (list_line list.now) (O.taken out.old)
+        (O.taken out.new) lines.old lines.new result }
+    ensures later { O.later out.old out.new }
+    ensures refusals { PrintRefusals ⟦<O as Sink>⟧ out.old out.new result }
+{
+    match wg_ascii::print_list(lines, out, list) {
+        Ok(()) => Ok(()),
+        Err(error) => Err(output_ending(error)),
+    }
+}
+
+/// Sends out what waits to be printed.
+pub fn print_rest<O: Sink>(lines: &mut Lines, out: &mut O) -> Result<(), Ending>
+    ensures puts { IsTrue O.told → Puts lines.old (O.taken out.old) (O.taken out.new) result }
+    ensures later { O.later out.old out.new }
+    ensures refusals { PrintRefusals ⟦<O as Sink>⟧ out.old out.new result }
+{
+    match lines.flush(out) {
+        Ok(()) => Ok(()),
+        Err(error) => Err(output_ending(error)),
+    }
+}
+
+// The line of a page of the ranking.
+fn rank_line(ranked: &Ranked, page: u64) -> Text
+    requires { page < length ranked.now.ranking.low }
+    ensures text { result ≡ rank_line ranked.now.ranking page }
+    ensures short { length result ≤ MOST_PIECE }
+{
+    Text::new()
+        .with_number(page)
+        .with(" ")
+        .with_bytes(units_text(ranked.ranking.low(page)).as_slice())
+        .with(" ")
+        .with_bytes(units_text(ranked.ranking.high(page)).as_slice())
+        .with(" ")
+        .with_number(ranked.ranking.best(page))
+        .with(" ")
+        .with_number(ranked.ranking.worst(page))
+        .with("\n")
+}
+
+// Writes the lines of the first pages of the ranking through a fixed buffer.
+fn write_ranking<S: Sink>(sink: &mut S, ranked: &Ranked, count: u64) -> Result<(), WriteError>
+    requires { count ≤ length ranked.now.ranking.low }
+    ensures puts { IsTrue S.told → Puts (rank_lines ranked.now.ranking (take count ranked.now.ranking.pages))
+        (S.taken sink.old) (S.taken sink.new) result }
+    ensures later { S.later sink.old sink.new }
+    ensures refusals { SinkRefusals ⟦<S as Sink>⟧ sink.old sink.new result }
+{
+    let mut lines = Lines::new();
+    for place in 0..count {
+        let line = rank_line(ranked, ranked.ranking.page(place));
+        lines.text(sink, line.as_bytes())?;
+    }
+    lines.flush(sink)
+}
+
+/// Prints the lines of the first pages of the ranking.
+pub fn print_ranking<O: Sink>(out: &mut O, ranked: &Ranked, count: u64) -> Result<(), Ending>
+    requires { count ≤ length ranked.now.ranking.low }
+    ensures puts { IsTrue O.told → Puts (rank_lines ranked.now.ranking (take count ranked.now.ranking.pages))
+        (O.taken out.old) (O.taken out.new) result }
+    ensures refusals { PrintRefusals ⟦<O as Sink>⟧ out.old out.new result }
+{
+    match write_ranking(out, ranked, count) {
+        Ok(()) => Ok(()),
+        Err(error) => Err(output_ending(error)),
+    }
+}

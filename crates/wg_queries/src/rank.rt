@@ -1,0 +1,86 @@
+//! The command `rank`: the pages by their PageRank, with bounds that enclose it.
+ghost use Rattle.std.specs.Prelude.{◌≤◌, IsTrue};
+ghost use Rattle.wg_io.specs.Puts.{Puts};
+ghost use Rattle.wg_params.specs.declared.limits.TheConstants.{MOST_DAMPING, MOST_ROUNDS};
+ghost use Rattle.wg_words.specs.declared.jobs.Job.TheVariants.{Rank};
+ghost use Rattle.wg_outcomes.specs.Answers.{PrintRefusals};
+ghost use Rattle.wg_outcomes.specs.Performs.{Certifies, DoesOrEnds};
+ghost use Rattle.wg_outcomes.specs.Ranked.{ranking_text};
+ghost use Rattle.wg_outcomes.specs.Readings.{Readings};
+
+use crate::certificate::write_file;
+use crate::print::print_ranking;
+use crate::ranked::Ranked;
+use std::alloc::Global;
+use wg_graph::Lists;
+use wg_io::{Depot, Sink};
+use wg_outcomes::{Ending, Input, last_bounds, room_for};
+use wg_rank::Bounds;
+use wg_readings::{lists_of_records, load, load_params, load_weights};
+use wg_words::Name;
+
+/// How many rounds are done, at which damping in thousandths, and how many pages are printed.
+#[derive(Clone, Copy, Debug)]
+pub struct Asked {
+    pub rounds: u64,
+    pub damping: u64,
+    pub top: u64,
+}
+
+/// Prints the first pages of the ranking, with their bounds and positions, with teleport by the weights that are named
+/// or to each page alike. If a certificate is named, the lower bounds are written to it before anything is printed. It
+/// judges the whole graph and the weights before that, and takes all its memory before the first round: the bytes of
+/// the graph file, a row of the greatest outdegree for each page that a reference reaches and one more, and 64 bytes a
+/// page for bounds and ranking, 8 more with weights. Each round decodes all lists again.
+pub fn rank<D: Depot, O: Sink>(
+    alloc: Global,
+    base: &Name,
+    asked: Asked,
+    weights: &Option<Name>,
+    certificate: &Option<Name>,
+    depot: &mut D,
+    out: &mut O,
+) -> Result<(), Ending>
+    requires rounds { asked.rounds ≤ MOST_ROUNDS }
+    requires damping { asked.damping ≤ MOST_DAMPING }
+    ensures { DoesOrEnds ⟦<D as Depot>⟧ ⟦<O as Sink>⟧
+        (Rank base.now asked.rounds asked.damping asked.top weights.now certificate.now)
+        depot.old depot.new out.old out.new result }
+{
+    let params = load_params(alloc, depot, base)?;
+    let bytes = load(alloc, depot, base, Input::Graph)?;
+    let mut lists = lists_of_records(alloc, &params, bytes.as_slice())?;
+    let given = load_weights(alloc, lists.nodes(), depot, weights)?;
+    let first = room_for(alloc, &lists, given, asked.damping)?;
+    let bounds = last_bounds(first, &mut lists, asked.rounds);
+    match certificate {
+        None => print_ranks(out, bounds, asked.top),
+        Some(name) => certify(bounds, name, asked.top, depot, out),
+    }
+}
+
+// Prints the first pages of the ranking by these bounds. It takes no memory, so that the output alone can stop it.
+fn print_ranks<O: Sink>(out: &mut O, bounds: Bounds, top: u64) -> Result<(), Ending>
+    ensures puts { IsTrue O.told → (r : Readings)
+        → Puts (ranking_text r bounds top) (O.taken out.old) (O.taken out.new) result }
+    ensures refusals { PrintRefusals ⟦<O as Sink>⟧ out.old out.new result }
+{
+    let pages = bounds.lower().len() as u64;
+    let ranked = Ranked::of(bounds);
+    print_ranking(out, &ranked, top.min(pages))
+}
+
+// Writes the certificate of these bounds, and then prints the first pages of the ranking by them. It takes no memory,
+// so that the certificate's file and the output alone can stop it.
+fn certify<D: Depot, O: Sink>(
+    bounds: Bounds,
+    name: &Name,
+    top: u64,
+    depot: &mut D,
+    out: &mut O,
+) -> Result<(), Ending>
+    ensures { Certifies ⟦<D as Depot>⟧ ⟦<O as Sink>⟧ bounds name.now top depot.old depot.new out.old out.new result }
+{
+    write_file(&bounds, name, depot)?;
+    print_ranks(out, bounds, top)
+}

@@ -1,0 +1,51 @@
+//! The command `spot`: the successors of one page of an archive that is not checked.
+ghost use Rattle.std.specs.Prelude.{◌≡◌, IsTrue, IfErr};
+ghost use Rattle.wg_io.specs.Outside.{Increased};
+ghost use Rattle.wg_io.specs.Puts.{Puts};
+ghost use Rattle.wg_io.specs.declared.output.Output.TheVariants.{Out};
+ghost use Rattle.wg_words.specs.declared.jobs.Job.TheVariants.{Spot};
+ghost use Rattle.wg_outcomes.specs.Answers.{IsUnput, status_in};
+ghost use Rattle.wg_outcomes.specs.declared.status.Status.TheVariants.{WriteFault};
+ghost use Rattle.wg_outcomes.specs.Commands.{successors_line};
+ghost use Rattle.wg_outcomes.specs.Performs.{DoesOrEnds};
+
+use crate::print::print_rest;
+use crate::shown::print_list;
+use std::alloc::Global;
+use wg_io::{Depot, Sink};
+use wg_lines::Lines;
+use wg_outcomes::{Ending, Input};
+use wg_readings::{load, load_offsets, load_params, successors_of_page};
+use wg_words::Name;
+
+/// Prints the successors of a page, by its chain of references alone: of the graph file no other record is judged, and
+/// the offsets are held against the records of the chain and no others. It holds the bytes of the graph file and 8
+/// bytes a page for the offsets, and the bytes of their file while it is read; then a number for each page of the
+/// chain and a few of its lists.
+pub fn spot<D: Depot, O: Sink>(
+    alloc: Global,
+    base: &Name,
+    page: u64,
+    depot: &mut D,
+    out: &mut O,
+) -> Result<(), Ending>
+    ensures { DoesOrEnds ⟦<D as Depot>⟧ ⟦<O as Sink>⟧
+        (Spot base.now page) depot.old depot.new out.old out.new result }
+{
+    let params = load_params(alloc, depot, base)?;
+    let bytes = load(alloc, depot, base, Input::Graph)?;
+    let offsets = load_offsets(alloc, &params, depot, base)?;
+    let list = successors_of_page(alloc, &params, bytes.as_slice(), &offsets, page)?;
+    print_line(out, page, list.as_slice())
+}
+
+// Prints the line of a page, and nothing else.
+fn print_line<O: Sink>(out: &mut O, page: u64, list: &[u64]) -> Result<(), Ending>
+    ensures puts { IsTrue O.told → Puts (successors_line page list.now) (O.taken out.old) (O.taken out.new) result }
+    ensures only { IfErr result (λ e. IsUnput e.status) }
+    ensures failed { status_in result ≡ WriteFault Out → Increased (O.faults out.old) (O.faults out.new) }
+{
+    let mut lines = Lines::new();
+    print_list(&mut lines, out, page, list)?;
+    print_rest(&mut lines, out)
+}

@@ -1,0 +1,102 @@
+-- A job that judges a graph file in pieces, and reads it again to print a text of its graph.
+use Rattle.std.proofs.Common.{◌≡◌, ◌⊎◌, inl, inr, ℕ, Bool, List, ◌++◌, take, refl, sym, ◌∙◌, subst, Option, Result, Ok, Err}
+use Rattle.std.specs.Bool.{IsTrue}
+use Rattle.std.specs.Result.{IfErr}
+use Rattle.wg_io.specs.Outside.{Files, Counts}
+use Rattle.wg_io.specs.declared.output.Output.TheVariants.{Out}
+use Rattle.wg_params.specs.Parameters.{Parameters}
+use Rattle.wg_grammar.specs.Archive.{Accepted}
+use Rattle.wg_words.specs.declared.jobs.Job.{Job}
+use Rattle.wg_outcomes.specs.Answers.{HasOutput, IsHindrance, IsUnput, status_in}
+use Rattle.wg_outcomes.specs.Judged.{Judged}
+use Rattle.wg_readings.specs.Loading.{JudgesGraph}
+use Rattle.wg_outcomes.specs.Promised.{ArePromised, IsStopAt}
+use Rattle.wg_outcomes.specs.JobFiles.{can_end, has_input, input_name}
+use Rattle.wg_outcomes.specs.Names.{file_of, held_by}
+use Rattle.wg_readings.specs.Passes.{IsGraphFile, graph_then}
+use Rattle.wg_outcomes.specs.Performs.{Outside, judged_on}
+use Rattle.wg_outcomes.specs.Readings.{Readings}
+use Rattle.wg_outcomes.specs.declared.ending.Ending.{Ending}
+use Rattle.wg_outcomes.specs.declared.status.Input.{Input}
+use Rattle.wg_outcomes.specs.declared.status.Input.TheVariants.{Graph}
+use Rattle.wg_outcomes.specs.declared.status.Status.{Status}
+use Rattle.wg_outcomes.specs.declared.status.Status.TheVariants.{Done, Usage, Memory, ReadFault, WriteFault, Missing, BadArcs, BadProperties, BadArchive, BadSecond, TooManyArcs, NoPage, OverLimit, BadWeights, BadText, BadMap, BadCertificate}
+use Rattle.wg_readings.proofs.JobSteps.{ComesTo, bad_possible, judges_here}
+use Rattle.wg_readings.proofs.PassLemmas.{graph_goes}
+use Rattle.wg_outcomes.proofs.PerformsLemmas.{unread_possible}
+use Rattle.wg_outcomes.proofs.Statuses.{bad_unread, own_read}
+
+-- what was put out where something hindered
+pub hindered_output : (due old new : List ℕ) (s : Status) → IsHindrance s → (k : ℕ) × (new ≡ old ++ take k due) → HasOutput due old new s
+hindered_output due old new Memory h put = put
+hindered_output due old new (ReadFault i) h put = put
+hindered_output due old new (WriteFault o) h put = put
+hindered_output due old new Done h put = absurd h
+hindered_output due old new Usage h put = absurd h
+hindered_output due old new (Missing i) h put = absurd h
+hindered_output due old new (BadArcs line kind) h put = absurd h
+hindered_output due old new (BadProperties f) h put = absurd h
+hindered_output due old new (BadArchive f) h put = absurd h
+hindered_output due old new (BadSecond f) h put = absurd h
+hindered_output due old new TooManyArcs h put = absurd h
+hindered_output due old new (NoPage page) h put = absurd h
+hindered_output due old new (OverLimit i) h put = absurd h
+hindered_output due old new (BadWeights f) h put = absurd h
+hindered_output due old new (BadText line kind) h put = absurd h
+hindered_output due old new (BadMap f pages) h put = absurd h
+hindered_output due old new (BadCertificate f) h put = absurd h
+
+pub hindered_promised : (held : Input → Option (List ℕ)) (s : Status) (n : ℕ) → IsHindrance s → ArePromised held s n
+hindered_promised held Memory n h = tt
+hindered_promised held (ReadFault i) n h = tt
+hindered_promised held (WriteFault o) n h = tt
+hindered_promised held Done n h = tt
+hindered_promised held Usage n h = tt
+hindered_promised held (Missing i) n h = tt
+hindered_promised held (BadArcs line kind) n h = tt
+hindered_promised held (BadProperties f) n h = tt
+hindered_promised held (BadArchive f) n h = absurd h
+hindered_promised held (BadSecond f) n h = absurd h
+hindered_promised held TooManyArcs n h = tt
+hindered_promised held (NoPage page) n h = tt
+hindered_promised held (OverLimit i) n h = tt
+hindered_promised held (BadWeights f) n h = tt
+hindered_promised held (BadText line kind) n h = tt
+hindered_promised held (BadMap f pages) n h = tt
+hindered_promised held (BadCertificate f) n h = tt
+
+-- a status at which a pass ends that prints
+abbrev pub StopsOrUnput : ℕ → Ending → Type 0
+StopsOrUnput n e = IsStopAt Graph n e ⊎ IsUnput e.status
+
+pub pass_possible : (job : Job) (n : ℕ) (r : Result (Unit {0}) Ending) → IsTrue (has_input job Graph) → IfErr r (StopsOrUnput n) → IsTrue (can_end job (status_in r))
+pass_possible job n (Ok done) has only = refl
+pass_possible job n (Err e) has (inl (inl only)) = unread_possible job Graph e.status has only
+pass_possible job n (Err e) has (inl (inr bad)) = bad_possible job Graph n e has bad
+pass_possible job n (Err e) has (inr (inl fault)) = subst (λ (s : Status). IsTrue (can_end job s)) (sym fault) refl
+pass_possible job n (Err e) has (inr (inr want)) = subst (λ (s : Status). IsTrue (can_end job s)) (sym want) refl
+
+unput_unread : (s : Status) (j : Input) → IsUnput s → s ≡ ReadFault j → ⊥
+unput_unread s j (inl fault) is = let no : WriteFault Out ≡ ReadFault j = sym fault ∙ is in cc
+unput_unread s j (inr want) is = let no : Memory ≡ ReadFault j = sym want ∙ is in cc
+
+pub pass_read : (n : ℕ) (r : Result (Unit {0}) Ending) (j : Input) → IfErr r (StopsOrUnput n) → status_in r ≡ ReadFault j → Graph ≡ j
+pass_read n (Ok done) j only is = absurd (let no : Done ≡ ReadFault j = is in cc)
+pass_read n (Err e) j (inl (inl only)) is = own_read Graph e.status j only is
+pass_read n (Err e) j (inl (inr bad)) is = absurd (bad_unread Graph n e j bad is)
+pass_read n (Err e) j (inr unput) is = absurd (unput_unread e.status j unput is)
+
+-- what is known of a graph file that was judged, and of the judgement of the job
+pub graph_known : (job : Job) (base : List ℕ) (td : Bool) (before : Outside) (p : Parameters) (files files' : Files) (counts counts' : List ℕ → Counts) (read : List Input)
+    (next : Accepted → Readings → (Input → Option (List ℕ)) → Judged) → input_name job Graph ≡ file_of base Graph
+    → ComesTo job p td before files counts read (λ q h. graph_then q p (h Graph) (λ a. next a q h))
+    → JudgesGraph base p td files files' counts counts' (Ok tt)
+    → IsTrue td → (a : Accepted) × IsGraphFile (held_by (file_of base) files' Graph) p a × ((q : Readings) → judged_on q job before.files ≡ next a q (held_by (input_name job) before.files))
+graph_known job base td before p files files' counts counts' read next named k j t =
+    let a = j.accepted t in (
+      a.0,
+      subst (λ (f : Files). IsGraphFile (held_by (file_of base) f Graph) p a.0) (sym j.reads.same) a.1,
+      λ q.
+          judges_here job base td td before p files counts read Graph named (λ r. graph_then r p) next k t q
+          ∙ graph_goes q p j.limits (held_by (file_of base) files Graph) a.0 a.1 (λ x. next x q (held_by (input_name job) before.files)),
+    )
