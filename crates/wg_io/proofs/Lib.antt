@@ -6,3 +6,4 @@ pub mod RefusalLemmas
 pub mod HeldLemmas
 pub mod SuffixLemmas
 pub mod ReadFilesLemmas
+pub mod LoadLemmas
