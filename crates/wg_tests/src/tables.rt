@@ -1,6 +1,4 @@
-//! What neither a contract says nor the program prints: worked values of codes and graphs, laws, errors that are named
-//! again, files of the system, and the memory that is kept. What the program prints of files stands in the rows of
-//! `wg_cli`.
+//! Worked values of codes and graphs, laws, errors that are named again, files of the system, and memory that is kept.
 
 mod codes;
 mod files;

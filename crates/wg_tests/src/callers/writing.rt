@@ -15,7 +15,7 @@ fn two_lines(rt: HostRuntime) -> Result<(), Fail> {
     lines.byte(&mut sink, b'\n')?;
     lines.pair(&mut sink, 0, 345)?;
     lines.flush(&mut sink)?;
-    assert!(rt; sink.bytes() == b"# pages 12\n0 345\n");
+    assert!(rt; sink.bytes() == b"# pages 12\n0 345\n".as_slice());
     Ok(())
 }
 

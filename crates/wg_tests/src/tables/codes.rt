@@ -40,7 +40,10 @@ fn tried(code: Code) -> Option<Code>
 // What stands at the bits of a text, after which there are none, and how far the cursor goes.
 fn found(code: Code, text: &[u8]) -> Option<(Read, u64)> {
     let code = tried(code)?;
-    let before = 128_u64.checked_sub(text.len() as u64)?;
+    if text.len() > 128 {
+        return None;
+    }
+    let before = (128 - text.len()) as u64;
     let bytes = packed(text);
     let mut cursor = Cursor::new(Bits::of(&bytes), before);
     let result = read(code, &mut cursor);
