@@ -1,12 +1,16 @@
 //! A graph file that has lost its end when it is read again.
 ghost use Rattle.std.specs.Prelude.{◌≤◌, length};
 
-use super::*;
-use wg_io::{ReadError, WriteError};
+use super::ending::{Ending, words_of};
+use std::alloc::{AllocError, Global};
+use std::process::Abort;
+use std::test::Fail;
+use wg_io::{Depot, MemorySink, ReadError, WriteError};
 
 // 4000 pages, each with itself as its one successor: a record of 4 bits, so that a byte holds two.
 const PROPERTIES: &[u8] =
-    b"graphclass=it.unimi.dsi.webgraph.BVGraph\nversion=0\nnodes=4000\narcs=4000\nwindowsize=0\nmaxrefcount=3\nminintervallength=0\ncompressionflags=RESIDUALS_GAMMA\n";
+    b"graphclass=it.unimi.dsi.webgraph.BVGraph\nversion=0\nnodes=4000\narcs=4000\n\
+    windowsize=0\nmaxrefcount=3\nminintervallength=0\ncompressionflags=RESIDUALS_GAMMA\n";
 
 // The first reading of the graph file gives other bytes than all later ones. It tells no bytes, and each of its counts
 // stands at its last value.
@@ -14,6 +18,7 @@ const PROPERTIES: &[u8] =
 struct ShrinkingDepot<'a> {
     first: Option<&'a [u8]>,
     later: &'a [u8],
+    is_begun: bool,
 }
 
 impl<'a> Depot for ShrinkingDepot<'a> {
@@ -38,7 +43,8 @@ impl<'a> Depot for ShrinkingDepot<'a> {
     }
 
     fn create(&mut self, _name: &str) -> Result<(), WriteError> {
-        Err(WriteError::Failed)
+        self.is_begun = true;
+        Ok(())
     }
 
     fn append(&mut self, _name: &str, _piece: &[u8]) -> Result<usize, WriteError> {
@@ -57,28 +63,43 @@ fn copy_piece(file: &[u8], at: u64, buf: &mut [u8]) -> usize
     count
 }
 
+fn ending(alloc: Global, line: &str, depot: &mut ShrinkingDepot) -> Result<Ending, AllocError> {
+    let words = words_of(alloc, line)?;
+    let (out, err) = (MemorySink::new(alloc, 4096), MemorySink::new(alloc, 4096));
+    Ok(Ending::of(alloc, &words, depot, out, err))
+}
+
+const GRAPH: [u8; 2000] = [0b0101_0101; 2000];
+
+const REFUSAL: &[u8] = b"wg: g.graph: page 3000 bit 12000 outdegree cut\n";
+
 // Whether a line that goes through the graph file twice prints a part of its text, and tells the fault that the second
 // reading met.
-fn stops_in_the_middle(alloc: Global, line: &str) -> Result<bool, Fail> {
-    let graph = [0b0101_0101; 2000];
+fn stops_in_the_middle(alloc: Global, line: &str) -> Result<bool, AllocError> {
     let mut steady = ShrinkingDepot {
         first: None,
-        later: &graph,
+        later: &GRAPH,
+        is_begun: false,
     };
     let mut shrinking = ShrinkingDepot {
-        first: Some(&graph),
-        later: &graph[..1500],
+        first: Some(&GRAPH),
+        later: &GRAPH[..1500],
+        is_begun: false,
     };
-    let (whole_code, whole, _) = told(alloc, line, &mut steady)?;
-    let (code, part, err) = told(alloc, line, &mut shrinking)?;
+    let whole = ending(alloc, line, &mut steady)?;
+    let part = ending(alloc, line, &mut shrinking)?;
     Ok(
-        whole_code == 0
-            && code == 9
-            && err.bytes() == b"wg: g.graph: page 3000 bit 12000 outdegree cut\n".as_slice()
-            && !part.bytes().is_empty()
-            && part.bytes().len() < whole.bytes().len()
-            && whole.bytes().starts_with(part.bytes()),
+        whole.is_done()
+            && part.status() == 9
+            && part.reported() == REFUSAL
+            && is_front(&part, &whole),
     )
+}
+
+// Whether a part was printed, and not all.
+fn is_front(part: &Ending, whole: &Ending) -> bool {
+    let (part, whole) = (part.printed(), whole.printed());
+    !part.is_empty() && part.len() < whole.len() && whole.starts_with(part)
 }
 
 #[test]
@@ -86,5 +107,19 @@ fn a_graph_file_that_shrinks(rt: HostRuntime) -> Result<(), Fail> {
     for line in ["arcs g", "offsets g"] {
         assert!(rt; stops_in_the_middle(rt.alloc(), line)?, "{line}");
     }
+    Ok(())
+}
+
+// The files of the new archive are begun and nothing is in them, since an append would fail otherwise.
+#[test]
+fn a_graph_file_that_shrinks_while_it_is_recoded(rt: HostRuntime) -> Result<(), Fail> {
+    let mut depot = ShrinkingDepot {
+        first: Some(&GRAPH),
+        later: &GRAPH[..1500],
+        is_begun: false,
+    };
+    let ending = ending(rt.alloc(), "recode g h", &mut depot)?;
+    assert!(rt; ending.status() == 9 && ending.reported() == REFUSAL);
+    assert!(rt; ending.printed().is_empty() && depot.is_begun);
     Ok(())
 }
