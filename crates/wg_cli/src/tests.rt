@@ -5,7 +5,6 @@ use std::test::Fail;
 mod bench;
 mod cases;
 mod ending;
-mod rounds;
 mod rows;
 mod shrinking;
 mod spelling;

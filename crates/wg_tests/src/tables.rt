@@ -5,4 +5,5 @@ mod files;
 mod graphs;
 mod rankings;
 mod readings;
+mod rounds;
 mod words;

@@ -1,9 +1,9 @@
 //! Rounds of a graph in memory, and of the archive that is built of it.
 
-use crate::{Status, run_in_memory};
 use std::alloc::Global;
 use std::process::Abort;
 use std::test::Fail;
+use wg_cli::{Status, run_in_memory};
 use wg_graph::{Graph, GraphLists, Lists};
 use wg_io::{SteadyDepot, SteadySink, read_whole};
 use wg_params::MOST_PAGES;
