@@ -31,6 +31,7 @@ pub mod Standing
 pub mod Accepted
 pub mod Texts
 pub mod Sent
+pub mod Failed
 pub mod Pages
 pub mod Chosen
 pub mod Stopped

@@ -1,7 +1,7 @@
 -- An encoder of a graph is one of its lists.
 use Rattle.std.proofs.Common.{◌≡◌, ℕ, ◌+◌, ◌<◌, ◌≤◌, List, [], ◌∷◌, ◌++◌, length, take, drop, sym, ap, subst, ◌∙◌, arith}
 use Rattle.std.specs.List.{sum_by}
-use Rattle.std.proofs.lemmas.List.{take_more, take-append-drop, drop_more}
+use Rattle.std.proofs.lemmas.List.{append-nil, take_more, take-append-drop, drop_more, drop_all}
 use Rattle.std.proofs.lemmas.List.Sums.{sum_by_more, sum_by-take-le}
 use Rattle.wg_graph.specs.Digraph.{Digraph, IsGraph, successors, arc_count}
 use Rattle.wg_grammar.specs.Context.{Context}
@@ -35,3 +35,8 @@ arcs_fit e g list is here same arcs written =
     let more : sum_by size (front g (e.next.page + 1)) ≡ sum_by size (front g e.next.page) + length (successors g e.next.page) = sum_by_more size g.lists e.next.page [] (omega (arith, is.counted, here)) in
     let all : sum_by size (front g (e.next.page + 1)) ≤ arc_count g = sum_by-take-le size g.lists (e.next.page + 1) in
     omega (arith, more, all, arcs, ap (λ (c : Context). c.arcs_before) written.context, ap (λ (l : List ℕ). length l) same)
+
+-- once all pages are written, their lists are those of the graph
+pub whole_front : (g : Digraph) (page : ℕ) → IsGraph g → page ≡ g.nodes → front g page ≡ g.lists
+whole_front g page is all =
+    sym (append-nil (front g page)) ∙ ap (λ (ls : List (List ℕ)). front g page ++ ls) (sym (drop_all page g.lists (omega (arith, is.counted, all)))) ∙ take-append-drop page g.lists

@@ -3,7 +3,7 @@ use Rattle.std.proofs.lemmas.Result.{err_from_is_err_and, IfOk-weaker}
 use Rattle.wg_grammar.specs.Context.{Known}
 use Rattle.wg_decoder.specs.Apart.{page_over}
 use Rattle.wg_decoder.specs.Remembered.{known_of}
-use Rattle.wg_decoder.proofs.Faults.{fault_weaker, faults_weaker}
+use Rattle.wg_decoder.proofs.Faults.{fault_weaker, faults_weaker, refusals_weaker}
 use Rattle.wg_decoder.proofs.ApartLemmas.{rest_reads, head_is, head_refused, ascends_short, over_list, over_depth, none_list, none_depth}
 use Rattle.wg_decoder.proofs.apart.decode_over.Goals as goal
 
@@ -72,3 +72,15 @@ returns-clause-fault g c = λ bits r.
     faults_weaker c.decode_members-2.result _ _
     (λ e rest. rest_reads _ _ _ _ _ _ _ _ _ _ (Err e) 0 here.behind c.at-start.ensures.value rest (over_list p k h.reference some near) (over_depth p k h.reference some near) stands)
     (c.decode_members-2.ensures.fault bits on)
+
+pub returns-then-head-eq0-clause-later : goal.returns-then-head-eq0-clause-later
+returns-then-head-eq0-clause-later g c = g.met.S.Source.goes_on _ _ _ c.in_ok-head.ensures.later c.decode_members.ensures.later
+
+pub returns-then-head-eq0-clause-refused : goal.returns-then-head-eq0-clause-refused
+returns-then-head-eq0-clause-refused g c = refusals_weaker c.decode_members.result _ _ (λ x h. g.met.S.Source.still_caused _ _ _ x c.in_ok-head.ensures.later h) c.decode_members.ensures.refused
+
+pub returns-clause-later : goal.returns-clause-later
+returns-clause-later g c = g.met.S.Source.goes_on _ _ _ c.in_ok-head.ensures.later c.decode_members-2.ensures.later
+
+pub returns-clause-refused : goal.returns-clause-refused
+returns-clause-refused g c = refusals_weaker c.decode_members-2.result _ _ (λ x h. g.met.S.Source.still_caused _ _ _ x c.in_ok-head.ensures.later h) c.decode_members-2.ensures.refused

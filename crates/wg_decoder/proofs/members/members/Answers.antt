@@ -1,7 +1,7 @@
 use Rattle.std.proofs.Common.{◌≡◌, ◌-◌, length, refl, ap, arith}
 use Rattle.std.proofs.lemmas.Result.{err_from_is_err_and, IfOk-weaker}
 use Rattle.wg_decoder.specs.Answer.{context_at}
-use Rattle.wg_decoder.proofs.Faults.{fault_weaker, refusal_weaker, faults_weaker}
+use Rattle.wg_decoder.proofs.Faults.{fault_weaker, refusal_weaker, faults_weaker, refusals_weaker}
 use Rattle.wg_decoder.proofs.MemberLemmas.{inside_reached}
 use Rattle.wg_decoder.proofs.WholeLemmas.{no_copies, no_intervals, no_residuals, to_copies, all_read, union_ascends, union_below, union_short}
 use Rattle.wg_decoder.proofs.members.members.Goals as goal
@@ -113,3 +113,15 @@ returns-clause-few g c =
     let all = union_short n c.in_ok-others.others j.residuals list j.union in
     omega (arith, few, all, j.all, c.in_ok-copied.ensures.fits, c.in_ok-inside.ensures.fits, ap length c.as_slice.ensures, ap length c.as_slice-2.ensures))
     c.with_residuals.ensures.ok
+
+pub returns-clause-later : goal.returns-clause-later
+returns-clause-later g c = g.met.S.Source.goes_on _ _ _ c.in_ok-copied.ensures.later (g.met.S.Source.goes_on _ _ _ c.in_ok-inside.ensures.later c.with_residuals.ensures.later)
+
+pub returns-clause-refused : goal.returns-clause-refused
+returns-clause-refused g c =
+    refusals_weaker c.with_residuals.result _ _
+    (λ x h. g.met.S.Source.still_caused _ _ _ x c.in_ok-copied.ensures.later (g.met.S.Source.still_caused _ _ _ x c.in_ok-inside.ensures.later h))
+    c.with_residuals.ensures.refused
+
+pub returns-in_err-others-clause-later : goal.returns-in_err-others-clause-later
+returns-in_err-others-clause-later g c = g.met.S.Source.goes_on _ _ _ c.in_ok-copied.ensures.later c.in_ok-inside.ensures.later

@@ -36,3 +36,15 @@ returns-clause-reads g c = λ bits r arcs behind named deep stands.
     let all = c.in_ok-list.ensures.reads bits r arcs c.args.start behind named (stands.some some) in
     whole_reads c.args.params.now (context_at c.args.page arcs behind) bits c.args.start h.outdegree h.reference c.args.depth c.in_ok-list.list
     (s.offset c.members.new.source) all (omega (arith, ap length c.as_slice.ensures)) (sym deep)
+
+pub returns-in_err-list-clause-later : goal.returns-in_err-list-clause-later
+returns-in_err-list-clause-later g c = c.in_err-list.ensures.later
+
+pub returns-in_err-list-clause-refused : goal.returns-in_err-list-clause-refused
+returns-in_err-list-clause-refused g c = let p = err_from_is_err_and c.from_residual.result c.from_residual.ensures.1 in rw (p.1, p.2) c.in_err-list.ensures.refused
+
+pub returns-then-as_slice-head-clause-later : goal.returns-then-as_slice-head-clause-later
+returns-then-as_slice-head-clause-later g c = c.in_ok-list.ensures.later
+
+pub returns-clause-later : goal.returns-clause-later
+returns-clause-later g c = c.in_ok-list.ensures.later

@@ -1,6 +1,8 @@
 use Rattle.std.proofs.Common.{◌≡◌, ◌∙◌, Err, ap}
 use Rattle.std.proofs.lemmas.Result.{err_from_is_err_and}
+use Rattle.wg_io.proofs.FilesLemmas.{none_falls-trans}
 use Rattle.wg_io.specs.Suffixes.{graph_name, offsets_name}
+use Rattle.wg_encoder.proofs.Failed.{failed_by_memory, failed_on_graph, failed_on_offsets, failed_since}
 use Rattle.wg_encoder.proofs.Sent.{other_put, other_less}
 use Rattle.wg_encoder.proofs.Stopped.{word_put, word_less, if_err, all_stopped_by_memory, all_stopped_on_offsets}
 use Rattle.wg_encoder.proofs.Finished.{all_gone, finished, stopped_at_graph, stopped_at_offsets}
@@ -73,3 +75,38 @@ returns-clause-only_two g c t name graph offsets =
     let second : c.graph.result.now ≡ graph_name c.args.base.now = c.graph.ensures ∙ ap graph_name (c.deref-2.ensures ∙ c.in_ok-names.ensures.names) in
     let last : c.offsets-2.result.now ≡ offsets_name c.args.base.now = c.offsets-2.ensures ∙ ap offsets_name (c.deref-3.ensures ∙ c.in_ok-names.ensures.names) in
     other_put _ _ _ name _ _ _ (rw last at c.in_ok-close-2.ensures.ok t) offsets ∙ other_put _ _ _ name _ _ _ (rw second at c.in_ok-close.ensures.ok t) graph ∙ other_put _ _ _ name _ _ _ (rw first at c.in_ok-put.ensures.sends.ok t) offsets
+
+pub returns-in_err-names-clause-fault : goal.returns-in_err-names-clause-fault
+returns-in_err-names-clause-fault g c =
+    let e = err_from_is_err_and c.from_residual.result c.from_residual.ensures.1 in
+    if_err _ _ e.0 e.1 (failed_by_memory c.args.base.now (g.D.Depot.counts c.args.depot.now) (g.D.Depot.counts c.args.depot.now) e.0 e.2)
+
+pub returns-in_err-put-clause-fault : goal.returns-in_err-put-clause-fault
+returns-in_err-put-clause-fault g c =
+    let e = err_from_is_err_and c.from_residual-in_err-put.result c.from_residual-in_err-put.ensures.1 in
+    let offsets : c.offsets.result.now ≡ offsets_name c.args.base.now = c.offsets.ensures ∙ ap offsets_name (c.deref.ensures ∙ c.in_ok-names.ensures.names) in
+    if_err _ _ c.in_err-put.field-0.0 (e.1 ∙ ap Err e.2) (failed_on_offsets c.args.base.now (g.D.Depot.counts c.args.depot.now) (g.D.Depot.counts c.put_offset.new.depot) _ (rw offsets at c.in_err-put.ensures.sends.fault))
+
+pub returns-in_err-close-clause-fault : goal.returns-in_err-close-clause-fault
+returns-in_err-close-clause-fault g c =
+    let e = err_from_is_err_and c.from_residual-in_err-close.result c.from_residual-in_err-close.ensures.1 in
+    let graph : c.graph.result.now ≡ graph_name c.args.base.now = c.graph.ensures ∙ ap graph_name (c.deref-2.ensures ∙ c.in_ok-names.ensures.names) in
+    if_err _ _ c.in_err-close.field-0.0 (e.1 ∙ ap Err e.2) (failed_since c.args.base.now (g.D.Depot.counts c.args.depot.now) (g.D.Depot.counts c.put_offset.new.depot) (g.D.Depot.counts c.close.new.depot) _ c.in_ok-put.ensures.sends.later (failed_on_graph c.args.base.now (g.D.Depot.counts c.put_offset.new.depot) (g.D.Depot.counts c.close.new.depot) _ (rw graph at c.in_err-close.ensures.fault)))
+
+pub returns-in_err-close-2-clause-fault : goal.returns-in_err-close-2-clause-fault
+returns-in_err-close-2-clause-fault g c =
+    let e = err_from_is_err_and c.from_residual-in_err-close-2.result c.from_residual-in_err-close-2.ensures.1 in
+    let last : c.offsets-2.result.now ≡ offsets_name c.args.base.now = c.offsets-2.ensures ∙ ap offsets_name (c.deref-3.ensures ∙ c.in_ok-names.ensures.names) in
+    if_err _ _ c.in_err-close-2.field-0.0 (e.1 ∙ ap Err e.2) (failed_since c.args.base.now (g.D.Depot.counts c.args.depot.now) (g.D.Depot.counts c.close.new.depot) (g.D.Depot.counts c.close-2.new.depot) _ (none_falls-trans _ _ _ c.in_ok-put.ensures.sends.later c.in_ok-close.ensures.later) (failed_on_offsets c.args.base.now (g.D.Depot.counts c.close.new.depot) (g.D.Depot.counts c.close-2.new.depot) _ (rw last at c.in_err-close-2.ensures.fault)))
+
+pub returns-in_err-put-clause-later : goal.returns-in_err-put-clause-later
+returns-in_err-put-clause-later g c = c.in_err-put.ensures.sends.later
+
+pub returns-in_err-close-clause-later : goal.returns-in_err-close-clause-later
+returns-in_err-close-clause-later g c = none_falls-trans _ _ _ c.in_ok-put.ensures.sends.later c.in_err-close.ensures.later
+
+pub returns-in_err-close-2-clause-later : goal.returns-in_err-close-2-clause-later
+returns-in_err-close-2-clause-later g c = none_falls-trans _ _ _ c.in_ok-put.ensures.sends.later (none_falls-trans _ _ _ c.in_ok-close.ensures.later c.in_err-close-2.ensures.later)
+
+pub returns-clause-later : goal.returns-clause-later
+returns-clause-later g c = none_falls-trans _ _ _ c.in_ok-put.ensures.sends.later (none_falls-trans _ _ _ c.in_ok-close.ensures.later c.in_ok-close-2.ensures.later)
