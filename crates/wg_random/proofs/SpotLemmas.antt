@@ -204,3 +204,8 @@ answer_of p bits offsets x chain from to (Ok list) lt h ticks good bad =
 answer_of p bits offsets x chain from to (Err errors.NoPage) lt h ticks good bad = absurd bad
 answer_of p bits offsets x chain from to (Err (errors.Archive f)) lt h ticks good bad = (lt, drop 1 chain, from_first p bits offsets x chain (Err f) h bad, counted chain from to h.some ticks)
 answer_of p bits offsets x chain from to (Err errors.Memory) lt h ticks good bad = (lt, chain, h, (let le : to ≤ from + length chain = omega (arith, ticks) in le))
+
+-- the answer of the same archive
+pub answers_same : (p q : Parameters) (bits cits : List Bool) (offsets places : List ℕ) (x from to : ℕ) (result : Result (List ℕ) SpotError) → p ≡ q → bits ≡ cits → offsets ≡ places →
+    SpotAnswers p bits offsets x from to result → SpotAnswers q cits places x from to result
+answers_same p q bits cits offsets places x from to result e1 e2 e3 h = rw (← e1, ← e2, ← e3) h
