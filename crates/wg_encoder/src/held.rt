@@ -13,7 +13,7 @@ use wg_io::{Depot, WriteError};
 use wg_params::Code;
 
 /// A field with its code and its stored value.
-#[derive(Clone, Copy, Debug)]
+#[derive(Clone, Copy)]
 pub(crate) struct HeldField {
     pub field: Field,
     pub code: Code,
@@ -21,8 +21,8 @@ pub(crate) struct HeldField {
 }
 
 /// The fields of a record, in their order: 24 bytes each.
-#[derive(Debug, Drop)]
-pub struct HeldRecord {
+#[derive(Drop)]
+pub(crate) struct HeldRecord {
     fields: Vec<HeldField>,
 }
 
@@ -68,7 +68,7 @@ impl HeldRecord {
     /// Puts the words of the fields, one after the other. After an error the writer has failed, and the file's bits are
     /// a prefix of what it would have got.
     #[inline(always)]
-    pub fn write<D: Depot>(
+    pub(crate) fn write<D: Depot>(
         &self,
         writer: &mut Writer,
         depot: &mut D,

@@ -13,9 +13,6 @@
 //! [`Encoder`] does the same for the pages of a graph, and stands on it; a copy of each list is what it costs. No
 //! record has 2 ^ 64 bits or more.
 //!
-//! [`make_record`] makes a canonical record from the two lists as a [`HeldRecord`], 24 bytes for each field, and
-//! [`HeldRecord::write`] puts its words through a writer, where each value has one.
-//!
 //! [`ListEncoder::next`] and [`Encoder::next`] write a list, and `finish` ends the two files once all are written;
 //! [`encode`] does both for a whole graph, and answers the [`Summary`] of its records. All take the archive's name, and
 //! write the files of its suffixes. The words of the offsets file are 0 and the length of each record. An encoder has a
@@ -69,8 +66,6 @@ mod summary;
 pub use archive::encode;
 pub use encoder::Encoder;
 pub use error::EncodeError;
-pub use held::HeldRecord;
 pub use list_encoder::ListEncoder;
-pub use making::make_record;
 pub use record::record_cost;
 pub use summary::Summary;

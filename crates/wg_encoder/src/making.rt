@@ -1,5 +1,5 @@
 // A whole record, made from the two lists.
-ghost use Rattle.std.specs.Prelude.{◌≡◌, ◌<◌, ◌^◌, ◌++◌, length, OnOk, IfOk};
+ghost use Rattle.std.specs.Prelude.{◌≡◌, ◌<◌, ◌^◌, ◌++◌, length, OnOk};
 ghost use Rattle.wg_graph.specs.Ascending.{Ascends, Below};
 ghost use Rattle.wg_encoder.specs.Fields.{count_fields, extra_fields, reference_fields, copy_fields, list_fields, record_fields};
 
@@ -136,8 +136,8 @@ impl Draft {
         )
     }
 
-    /// Makes the canonical record of a page by a reference, as [`make_record`] does, in place of the one before. After
-    /// an error it is of no use.
+    /// Makes the canonical record of a page by a reference, where `referenced` is the list that this names, empty for
+    /// 0, in place of the record before. It takes two passes over the two lists. After an error it is of no use.
     pub(crate) fn fill(
         &mut self,
         params: &Params,
@@ -166,26 +166,4 @@ impl Draft {
     {
         &self.record
     }
-}
-
-/// The canonical record of a page by a reference, where `referenced` is the list that this names, empty for 0. It takes
-/// two passes over the two lists. Beside the record it holds 8 bytes for each block, or for each successor that is not
-/// copied 8 bytes and up to 16 more, until it returns.
-pub fn make_record(
-    alloc: Global,
-    params: &Params,
-    page: u64,
-    reference: u64,
-    referenced: &[u64],
-    list: &[u64],
-) -> Result<HeldRecord, AllocError>
-    requires page { page < 2 ^ 62 }
-    requires list { Ascends 0 list.now }
-    requires low { Below (2 ^ 62) list.now }
-    requires referenced { Ascends 0 referenced.now }
-    ensures { IfOk result (λ made. made ≡ record_fields params.now page reference referenced.now list.now) }
-{
-    let mut draft = Draft::new(alloc);
-    draft.fill(params, page, reference, referenced, list)?;
-    Ok(draft.record)
 }

@@ -5,3 +5,4 @@ pub mod RefusalLemmas
 pub mod HeldLemmas
 pub mod SuffixLemmas
 pub mod ReadFilesLemmas
+pub mod LoadLemmas

@@ -64,7 +64,7 @@ impl<R: Files<File = File> + AllocGlobal + Drop> Depot for FolderDepot<R> {
     ghost counts = { λ d _. d };
 
     fn read(&mut self, name: &str, at: u64, buf: &mut [u8]) -> Result<usize, ReadError> {
-        let error = match read_at(
+        match read_at(
             &self.rt,
             &mut self.read_last,
             &mut self.read_files,
@@ -72,22 +72,10 @@ impl<R: Files<File = File> + AllocGlobal + Drop> Depot for FolderDepot<R> {
             at,
             buf,
         ) {
-            Ok(count) => return Ok(count),
-            Err(error) => error,
-        };
-        self.read_last = None;
-        match error.kind() {
-            ErrorKind::NotFound => {
-                self.tally.absent();
-                Err(ReadError::Absent)
-            }
-            ErrorKind::OutOfMemory => {
-                self.tally.wanted();
-                Err(ReadError::Memory)
-            }
-            _ => {
-                self.tally.read_failed();
-                Err(ReadError::Failed)
+            Ok(count) => Ok(count),
+            Err(error) => {
+                self.read_last = None;
+                Err(self.tally.refused_read(error.kind()))
             }
         }
     }

@@ -2,7 +2,7 @@
 ghost use Rattle.std.specs.Prelude.{◌≡◌, ◌≤◌, ◌↔◌};
 ghost use Rattle.wg_io.specs.Outside.{risen, NonDecreasing};
 
-use crate::WriteError;
+use crate::{ReadError, WriteError};
 use std::io::ErrorKind;
 use std::marker::Model;
 
@@ -65,6 +65,31 @@ impl Tally {
         ensures later { NonDecreasing (λ _. self.old) (λ _. self.new) }
     {
         self.wants = self.wants.saturating_add(1);
+    }
+
+    /// Counts a refused read, and answers why it was refused.
+    pub fn refused_read(&mut self, kind: ErrorKind) -> ReadError
+        ensures absent { result ≡ ReadError.Absent
+            → self.new ≡ record self.old { absences = risen self.old.absences } }
+        ensures failed { result ≡ ReadError.Failed
+            → self.new ≡ record self.old { read_faults = risen self.old.read_faults } }
+        ensures memory { result ≡ ReadError.Memory → self.new ≡ record self.old { wants = risen self.old.wants } }
+        ensures later { NonDecreasing (λ _. self.old) (λ _. self.new) }
+    {
+        match kind {
+            ErrorKind::NotFound => {
+                self.absent();
+                ReadError::Absent
+            }
+            ErrorKind::OutOfMemory => {
+                self.wanted();
+                ReadError::Memory
+            }
+            _ => {
+                self.read_failed();
+                ReadError::Failed
+            }
+        }
     }
 
     /// Counts a refused write, and answers why it was refused.

@@ -20,7 +20,8 @@ use Rattle.wg_outcomes.specs.declared.status.Status.TheVariants.{BadText}
 use Rattle.wg_readings.proofs.ReadingsLemmas.{text_goes_on}
 use Rattle.wg_laws.specs.Built.{ImportsAreAccepted, IsAcceptedImport}
 use Rattle.wg_outcomes.specs.Commands.{builds, judged}
-use Rattle.wg_laws.proofs.BuiltLemmas.{file_behind, file_goes_on, none_built}
+use Rattle.wg_laws.proofs.BuiltLemmas.{file_behind, none_built}
+use Rattle.wg_outcomes.proofs.FileLemmas.{file_goes_on}
 use Rattle.wg_laws.proofs.ConversionLemmas.{read_again}
 use Rattle.wg_laws.proofs.HeldLemmas.{graph_behind}
 

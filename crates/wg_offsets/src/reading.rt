@@ -12,8 +12,8 @@ use crate::{Offsets, OffsetsError, ReadError, Words};
 use std::alloc::Global;
 use std::convert::Infallible;
 use wg_bits::{Bits, Cursor};
-use wg_params::Code;
 use wg_grammar::Source;
+use wg_params::Code;
 
 /// Reads the places of `n` records, whose offsets file these bytes are. It takes one pass, and 8 bytes of memory for
 /// each word that it has read.

@@ -1,4 +1,4 @@
-ghost use Rattle.std.specs.Prelude.{◌≡◌, ◌∷◌, ◌++◌, decimal, OnOk, IfOk, if◌then◌else◌};
+ghost use Rattle.std.specs.Prelude.{◌≡◌, [], ◌∷◌, ◌++◌, decimal, OnOk, IfOk, if◌then◌else◌};
 ghost use Rattle.wg_params.specs.declared.key.Key.TheVariants as key;
 ghost use Rattle.wg_properties.specs.Text.{outdegree_flag, block_flag, reference_flag, block_count_flag, residual_flag, offset_flag, flags_of, flags_text, chain_text, pair, ended, text_of};
 ghost use Rattle.wg_properties.specs.Words.{word_of};
@@ -144,21 +144,30 @@ fn add_codes(text: &mut List8, params: &Params) -> Result<(), AllocError>
     text.extend(b"\n")
 }
 
+// All lines, in order. The class comes last.
+fn add_all(text: &mut List8, params: &Params) -> Result<(), AllocError>
+    requires { text.old ≡ [] }
+    ensures { OnOk result (text.new ≡ text_of params.now) }
+{
+    text.extend(b"#BVGraph properties\n")?;
+    add_line(text, Key::Version, b"0")?;
+    add_number(text, Key::Nodes, params.nodes())?;
+    add_number(text, Key::Arcs, params.arcs())?;
+    add_number(text, Key::WindowSize, params.window())?;
+    add_chain(text, params.chain())?;
+    add_number(text, Key::MinIntervalLength, params.interval())?;
+    add_number(text, Key::ZetaK, u64::from(params.zeta()))?;
+    add_codes(text, params)?;
+    add_line(text, Key::GraphClass, b"it.unimi.dsi.webgraph.BVGraph")?;
+    Ok(())
+}
+
 /// The properties text of parameters, which [`read`](crate::read) reads again. Each key has its line, and of the codes
 /// those that are not the defaults are written. The class comes last, so that no text that was cut short is read.
 pub fn write(alloc: Global, params: &Params) -> Result<List8, AllocError>
     ensures { IfOk result (λ text. text ≡ text_of params.now) }
 {
     let mut text = List8::new(alloc);
-    text.extend(b"#BVGraph properties\n")?;
-    add_line(&mut text, Key::Version, b"0")?;
-    add_number(&mut text, Key::Nodes, params.nodes())?;
-    add_number(&mut text, Key::Arcs, params.arcs())?;
-    add_number(&mut text, Key::WindowSize, params.window())?;
-    add_chain(&mut text, params.chain())?;
-    add_number(&mut text, Key::MinIntervalLength, params.interval())?;
-    add_number(&mut text, Key::ZetaK, u64::from(params.zeta()))?;
-    add_codes(&mut text, params)?;
-    add_line(&mut text, Key::GraphClass, b"it.unimi.dsi.webgraph.BVGraph")?;
+    add_all(&mut text, params)?;
     Ok(text)
 }

@@ -15,7 +15,7 @@ use Rattle.wg_offsets.specs.declared.error.WordError.TheVariants as words
 use Rattle.wg_stream.specs.Held.{IsHeldOf}
 use Rattle.wg_outcomes.specs.Answers.{Steps, status_in}
 use Rattle.wg_outcomes.specs.Causes.{HasCause}
-use Rattle.wg_outcomes.specs.Judged.{Judged, with_lengths}
+use Rattle.wg_outcomes.specs.Judged.{Judged, offsets_then, with_lengths}
 use Rattle.wg_outcomes.specs.Names.{no_outputs}
 use Rattle.wg_outcomes.specs.Promised.{IsStopAt}
 use Rattle.wg_readings.specs.Passes.{graph_then}

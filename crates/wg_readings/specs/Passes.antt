@@ -16,6 +16,7 @@ use Rattle.wg_stream.specs.Reading.{Reading, IsInStep, IsJudged}
 use Rattle.wg_outcomes.specs.Answers.{Steps, status_in}
 use Rattle.wg_outcomes.specs.Causes.{HasCause}
 use Rattle.wg_outcomes.specs.Judged.{Judged, with_file, with_graph}
+use Rattle.wg_outcomes.specs.Promised.{IsStopAt}
 use Rattle.wg_outcomes.specs.Names.{no_outputs}
 use Rattle.wg_outcomes.specs.Readings.{Readings}
 use Rattle.wg_outcomes.specs.declared.ending.Ending.{Ending}

@@ -1,8 +1,10 @@
 -- A fault or a refusal of a part as one of the whole.
+use Rattle.std.proofs.Common.{Result, Ok, Err}
+use Rattle.std.specs.Result.{OnOk}
 use Rattle.wg_grammar.specs.declared.fault.ArchiveFault.{ArchiveFault}
 use Rattle.wg_stream.specs.declared.error.PagesError.{PagesError}
 use Rattle.wg_stream.specs.declared.error.PagesError.TheVariants.{Fault, Memory, Refused}
-use Rattle.wg_stream.specs.Errors.{OfFault, OfRefusal}
+use Rattle.wg_stream.specs.Errors.{OfFault, OfRefusal, OnFault, OnRefusal}
 
 pub fault_weaker : {R : Type 0} (x : PagesError R) (P Q : ArchiveFault → Type 0) → ((f : ArchiveFault) → P f → Q f) → OfFault x P → OfFault x Q
 fault_weaker (Fault f) P Q on h = on f h
@@ -13,3 +15,20 @@ pub refusal_weaker : {R : Type 0} (x : PagesError R) (P Q : R → Type 0) → ((
 refusal_weaker (Fault f) P Q on h = tt
 refusal_weaker Memory P Q on h = tt
 refusal_weaker (Refused r) P Q on h = on r h
+
+-- the same of what a call answers, which may be no error
+pub on_fault : {A R : Type 0} (x : Result A (PagesError R)) (P Q : ArchiveFault → Type 0) → ((f : ArchiveFault) → P f → Q f) → OnFault x P → OnFault x Q
+on_fault (Ok a) P Q on h = tt
+on_fault (Err e) P Q on h = fault_weaker e P Q on h
+
+pub on_refusal : {A R : Type 0} (x : Result A (PagesError R)) (P Q : R → Type 0) → ((r : R) → P r → Q r) → OnRefusal x P → OnRefusal x Q
+on_refusal (Ok a) P Q on h = tt
+on_refusal (Err e) P Q on h = refusal_weaker e P Q on h
+
+pub on_ok : {A E : Type 0} (x : Result A E) (P Q : Type 0) → (P → Q) → OnOk x P → OnOk x Q
+on_ok (Ok a) P Q on h = on h
+on_ok (Err e) P Q on h = tt
+
+pub holds_ok : {A E : Type 0} (x : Result A E) → OnOk x (Unit {0})
+holds_ok (Ok a) = tt
+holds_ok (Err e) = tt

@@ -57,3 +57,12 @@ graph_weaker first.Failed P Q w h = tt
 graph_weaker first.Absent P Q w h = tt
 graph_weaker first.TooLong P Q w h = tt
 graph_weaker first.Memory P Q w h = tt
+
+pub outside_weaker : (e : First) (P Q : LoadError → Type 0) → ((l : LoadError) → P l → Q l) → OfOutside e P → OfOutside e Q
+outside_weaker first.Failed P Q w h = w load.Failed h
+outside_weaker first.Absent P Q w h = w load.Absent h
+outside_weaker first.TooLong P Q w h = w load.TooLong h
+outside_weaker first.Memory P Q w h = tt
+outside_weaker (first.Fault f) P Q w h = tt
+outside_weaker (first.Tail offset) P Q w h = tt
+outside_weaker (first.ArcsShort total) P Q w h = tt

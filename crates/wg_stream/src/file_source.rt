@@ -10,9 +10,9 @@ ghost use Rattle.std.proofs.Common.{refl, ◌∙◌};
 use crate::Stretch;
 use crate::filling::{next_tail_fault, next_word};
 use wg_codes::Read;
+use wg_grammar::Source;
 use wg_io::{Depot, LoadError};
 use wg_params::Code;
-use wg_grammar::Source;
 
 /// A file of a depot, of which a stretch is held. It reads on in pieces of at most 4096 bytes.
 ///

@@ -1,9 +1,8 @@
 //! The records of an archive, all of them in order: from any source of words, or from a file that is read in pieces.
 //!
 //! [`Pages`] reads record after record, and judges what follows the last: the tail and the number of arcs. It keeps the
-//! lists that a reference may reach, and lends each page's list in turn. [`read_offsets`] and [`read_graph`] are loops
-//! over it that keep where each record ends, and what list it has; whoever reads an archive in another way writes a
-//! loop of its own.
+//! lists that a reference may reach, and lends each page's list in turn. [`read_graph`] is a loop over it that keeps
+//! the lists; whoever reads an archive in another way writes a loop of its own.
 //!
 //! [`Reader`] lends the lists of a graph file of a depot, which need not fit into memory. It owns a [`Pages`] and a
 //! [`Stretch`], the bytes that are held; a [`FileSource`] over these is the source of its words.
@@ -56,6 +55,6 @@ pub use file_source::FileSource;
 pub use first::First;
 pub use pages::Pages;
 pub use reader::Reader;
-pub use records::{read_graph, read_offsets};
+pub use records::read_graph;
 pub use stream_error::StreamError;
 pub use stretch::Stretch;

@@ -1,49 +1,73 @@
 //! All records of an archive, and what is kept of them.
-ghost use Rattle.std.specs.Prelude.{◌≡◌, ◌+◌, ℕ, Bool, List, Ok, Err, length, IfOk};
+ghost use Rattle.std.specs.Prelude.{◌≡◌, ℕ, Bool, List, [], Ok, Err, length, IfOk, OnOk};
 ghost use Rattle.wg_params.specs.Parameters.{IsWithinLimits};
 ghost use Rattle.wg_grammar.specs.Archive.{ReadsGraph};
 ghost use Rattle.wg_stream.specs.Errors.{OnFault, OnRefusal};
+ghost use Rattle.wg_stream.specs.Prefix.{AreBehind};
 
 use crate::{Pages, PagesError};
 use std::alloc::Global;
-use wg_graph::{Graph, GraphBuilder};
-use wg_offsets::Offsets;
-use wg_params::Params;
 use wg_grammar::Source;
+use wg_graph::{Graph, GraphBuilder};
+use wg_params::Params;
 
-/// Judges the records of all pages, the tail and the number of arcs, and answers the offset of each record and the end
-/// of the last. The source stands at its first bit. Besides what [`Pages`] holds it takes 8 bytes a page, as the
-/// records come.
-pub fn read_offsets<S: Source>(
-    alloc: Global,
-    params: Params,
+// Reads the records of all pages into a graph that has no list yet, and judges what follows them.
+fn read_lists<S: Source>(
+    pages: &mut Pages,
+    graph: &mut GraphBuilder,
     source: &mut S,
-) -> Result<Offsets, PagesError<S::Refusal>>
-    requires { S.offset source.old ≡ 0 }
-    ensures limits { IsWithinLimits params }
-    ensures count { IfOk result (λ offsets. length offsets ≡ params.nodes + 1) }
+) -> Result<(), PagesError<S::Refusal>>
+    requires limits { IsWithinLimits pages.old.params }
+    requires page { pages.old.page ≡ 0 }
+    requires arcs { pages.old.arcs ≡ 0 }
+    requires nodes { graph.old.nodes ≡ pages.old.params.nodes }
+    requires none { graph.old.lists ≡ [] }
+    ensures nodes { graph.new.nodes ≡ graph.old.nodes }
     ensures later { S.later source.old source.new }
     ensures refused { OnRefusal result (S.caused source.old source.new) }
+    ensures all { OnOk result (length graph.new.lists ≡ graph.old.nodes) }
     ensures reads { (bits : List Bool) → S.reads_from source.old bits
-        → IfOk result (λ offsets. (graph : List (List ℕ))
-        × ReadsGraph params bits (Ok (record { graph = graph; places = offsets }))) }
+        → AreBehind bits pages.old (S.offset source.old) []
+        → OnOk result ((places : List ℕ) × ReadsGraph pages.old.params bits
+        (Ok (record { graph = graph.new.lists; places = places }))) }
+    ensures fault { (bits : List Bool) → S.reads_from source.old bits
+        → AreBehind bits pages.old (S.offset source.old) []
+        → OnFault result (λ f. ReadsGraph pages.old.params bits (Err f)) }
+{
+    let nodes = graph.nodes();
+    for _page in 0..nodes {
+        pages.next(source)?;
+        graph.push_list(pages.list())?;
+    }
+    pages.finish(source)
+}
+
+// The same, from the first page on.
+fn read_into<S: Source>(
+    alloc: Global,
+    params: Params,
+    graph: &mut GraphBuilder,
+    source: &mut S,
+) -> Result<(), PagesError<S::Refusal>>
+    requires start { S.offset source.old ≡ 0 }
+    requires nodes { graph.old.nodes ≡ params.nodes }
+    requires none { graph.old.lists ≡ [] }
+    ensures nodes { graph.new.nodes ≡ graph.old.nodes }
+    ensures later { S.later source.old source.new }
+    ensures refused { OnRefusal result (S.caused source.old source.new) }
+    ensures all { OnOk result (length graph.new.lists ≡ graph.old.nodes) }
+    ensures reads { (bits : List Bool) → S.reads_from source.old bits
+        → OnOk result ((places : List ℕ) × ReadsGraph params bits
+        (Ok (record { graph = graph.new.lists; places = places }))) }
     ensures fault { (bits : List Bool) → S.reads_from source.old bits
         → OnFault result (λ f. ReadsGraph params bits (Err f)) }
 {
-    let nodes = params.nodes();
     let mut pages = Pages::new(alloc, params);
-    let mut offsets = Offsets::new(alloc);
-    offsets.push(0)?;
-    for _page in 0..nodes {
-        pages.next(source)?;
-        offsets.push(source.at())?;
-    }
-    pages.finish(source)?;
-    Ok(offsets)
+    read_lists(&mut pages, graph, source)
 }
 
-/// Judges the same, and answers the graph. Besides what [`Pages`] holds it takes 8 bytes an arc and 8 a page, as they
-/// come.
+/// Judges the records of all pages, the tail and the number of arcs, and answers the graph. The source stands at its
+/// first bit. Besides what [`Pages`] holds it takes 8 bytes an arc and 8 a page, as they come.
 pub fn read_graph<S: Source>(
     alloc: Global,
     params: Params,
@@ -60,13 +84,7 @@ pub fn read_graph<S: Source>(
     ensures fault { (bits : List Bool) → S.reads_from source.old bits
         → OnFault result (λ f. ReadsGraph params bits (Err f)) }
 {
-    let nodes = params.nodes();
-    let mut pages = Pages::new(alloc, params);
-    let mut graph = GraphBuilder::new(alloc, nodes)?;
-    for _page in 0..nodes {
-        pages.next(source)?;
-        graph.push_list(pages.list())?;
-    }
-    pages.finish(source)?;
+    let mut graph = GraphBuilder::new(alloc, params.nodes())?;
+    read_into(alloc, params, &mut graph, source)?;
     Ok(graph.finish()?)
 }

@@ -1,11 +1,16 @@
 //! The commands of the program with their options and positionals: a function each, as the definitions have an `App`
 //! each.
+//!
+//! A step adds one argument or one command to what is [`Made`], so that a function is a list of steps.
 ghost use Rattle.std.specs.Prelude.{◌≡◌, IfOk, false};
-ghost use Rattle.clap.specs.Words.{App, rule_of};
+ghost use Rattle.clap.specs.Words.{App, new_app, rule_of, with_rule};
 ghost use Rattle.wg_words.specs.Commands.{IsApp, positional_rule, several_rule, base_rule, archive_app, option_rule, required_rule, show_app, spot_app, plain_rank_app, rank_app, verify_app, with_option, with_limits, with_codes, with_layout, plain_build_app, build_app, plain_import_app, import_app, three_files_app, plain_quotient_app, quotient_app, two_archives_app, conversion_app, union_app, bulk_app, program_app, plain_app, with_command, command_app};
 
 use clap::{Arg, Command};
 use std::alloc::{AllocError, Global};
+
+// A command as far as it is made, unless memory ran out.
+type Made<'a> = Result<Command<'a>, AllocError>;
 
 // A word that must be there.
 fn positional<'a>(alloc: Global, name: &'a str) -> Arg<'a>
@@ -31,13 +36,6 @@ fn base<'a>(alloc: Global) -> Arg<'a>
     positional(alloc, "base")
 }
 
-// A command on one archive.
-fn on_archive<'a>(alloc: Global, name: &'a str) -> Result<Command<'a>, AllocError>
-    ensures { IfOk result (IsApp (archive_app name.now)) }
-{
-    Command::new(alloc, name).arg(base(alloc))
-}
-
 // An option of one value, which may be absent.
 fn option<'a>(alloc: Global, name: &'a str) -> Arg<'a>
     ensures rule { rule_of result ≡ option_rule name.now }
@@ -54,178 +52,192 @@ fn required<'a>(alloc: Global, name: &'a str) -> Arg<'a>
     option(alloc, name).required(true)
 }
 
-fn show<'a>(alloc: Global) -> Result<Command<'a>, AllocError>
-    ensures { IfOk result (IsApp show_app) }
+// A command on one archive.
+fn on_archive<'a>(alloc: Global, name: &'a str) -> Made<'a>
+    ensures { IfOk result (IsApp (archive_app name.now)) }
 {
-    on_archive(alloc, "show")?.arg(several(alloc, "page"))
+    Command::new(alloc, name).arg(base(alloc))
 }
 
-fn spot<'a>(alloc: Global) -> Result<Command<'a>, AllocError>
+// A command that begins with another word.
+fn on_word<'a>(alloc: Global, name: &'a str, word: &'a str) -> Made<'a>
+    ensures { IfOk result (IsApp (with_rule (new_app name.now) (positional_rule word.now))) }
+{
+    Command::new(alloc, name).arg(positional(alloc, word))
+}
+
+// The command with one argument more.
+fn with_argument<'a>(command: Made<'a>, argument: Arg<'a>) -> Made<'a>
+    ensures { (a : App) → IfOk command.entry (IsApp a) → argument.entry.global ≡ false
+        → IfOk result (IsApp (with_rule a (rule_of argument.entry))) }
+{
+    command?.arg(argument)
+}
+
+// The command with one word more.
+fn with_positional<'a>(alloc: Global, command: Made<'a>, name: &'a str) -> Made<'a>
+    ensures { (a : App) → IfOk command.entry (IsApp a) → IfOk result (IsApp (with_rule a (positional_rule name.now))) }
+{
+    with_argument(command, positional(alloc, name))
+}
+
+// The command with one option more, which may be absent.
+fn with_option<'a>(alloc: Global, command: Made<'a>, name: &'a str) -> Made<'a>
+    ensures { (a : App) → IfOk command.entry (IsApp a) → IfOk result (IsApp (with_option a name.now)) }
+{
+    with_argument(command, option(alloc, name))
+}
+
+// The command with one option more, which must be there.
+fn with_required<'a>(alloc: Global, command: Made<'a>, name: &'a str) -> Made<'a>
+    ensures { (a : App) → IfOk command.entry (IsApp a) → IfOk result (IsApp (with_rule a (required_rule name.now))) }
+{
+    with_argument(command, required(alloc, name))
+}
+
+fn show<'a>(alloc: Global) -> Made<'a>
+    ensures { IfOk result (IsApp show_app) }
+{
+    with_argument(on_archive(alloc, "show"), several(alloc, "page"))
+}
+
+fn spot<'a>(alloc: Global) -> Made<'a>
     ensures { IfOk result (IsApp spot_app) }
 {
-    on_archive(alloc, "spot")?.arg(positional(alloc, "page"))
+    with_positional(alloc, on_archive(alloc, "spot"), "page")
 }
 
 // `rank` without the options that name files.
-fn plain_rank<'a>(alloc: Global) -> Result<Command<'a>, AllocError>
+fn plain_rank<'a>(alloc: Global) -> Made<'a>
     ensures { IfOk result (IsApp plain_rank_app) }
 {
-    on_archive(alloc, "rank")?
-        .arg(option(alloc, "rounds"))?
-        .arg(option(alloc, "damping"))?
-        .arg(option(alloc, "top"))
+    let command = on_archive(alloc, "rank");
+    let command = with_option(alloc, command, "rounds");
+    let command = with_option(alloc, command, "damping");
+    with_option(alloc, command, "top")
 }
 
-fn rank<'a>(alloc: Global) -> Result<Command<'a>, AllocError>
+fn rank<'a>(alloc: Global) -> Made<'a>
     ensures { IfOk result (IsApp rank_app) }
 {
-    let command = plain_rank(alloc)?;
-    let command = with_option(alloc, command, "weights")?;
+    let command = plain_rank(alloc);
+    let command = with_option(alloc, command, "weights");
     with_option(alloc, command, "certificate")
 }
 
-fn verify<'a>(alloc: Global) -> Result<Command<'a>, AllocError>
+fn verify<'a>(alloc: Global) -> Made<'a>
     ensures { IfOk result (IsApp verify_app) }
 {
-    on_archive(alloc, "verify")?
-        .arg(positional(alloc, "certificate"))?
-        .arg(option(alloc, "weights"))
-}
-
-// The command with one option more.
-fn with_option<'a>(
-    alloc: Global,
-    command: Command<'a>,
-    name: &'a str,
-) -> Result<Command<'a>, AllocError>
-    ensures { (a : App) → IsApp a command.entry → IfOk result (IsApp (with_option a name.now)) }
-{
-    command.arg(option(alloc, name))
+    let command = on_archive(alloc, "verify");
+    let command = with_positional(alloc, command, "certificate");
+    with_option(alloc, command, "weights")
 }
 
 // The command with the options of an archive's numbers.
-fn with_limits<'a>(alloc: Global, command: Command<'a>) -> Result<Command<'a>, AllocError>
-    ensures { (a : App) → IsApp a command.entry → IfOk result (IsApp (with_limits a)) }
+fn with_limits<'a>(alloc: Global, command: Made<'a>) -> Made<'a>
+    ensures { (a : App) → IfOk command.entry (IsApp a) → IfOk result (IsApp (with_limits a)) }
 {
-    let command = with_option(alloc, command, "window")?;
-    let command = with_option(alloc, command, "chain")?;
-    let command = with_option(alloc, command, "interval")?;
+    let command = with_option(alloc, command, "window");
+    let command = with_option(alloc, command, "chain");
+    let command = with_option(alloc, command, "interval");
     with_option(alloc, command, "zeta")
 }
 
 // The command with the options of an archive's codes.
-fn with_codes<'a>(alloc: Global, command: Command<'a>) -> Result<Command<'a>, AllocError>
-    ensures { (a : App) → IsApp a command.entry → IfOk result (IsApp (with_codes a)) }
+fn with_codes<'a>(alloc: Global, command: Made<'a>) -> Made<'a>
+    ensures { (a : App) → IfOk command.entry (IsApp a) → IfOk result (IsApp (with_codes a)) }
 {
-    let command = with_option(alloc, command, "outdegrees")?;
-    let command = with_option(alloc, command, "references")?;
-    let command = with_option(alloc, command, "blockcounts")?;
-    let command = with_option(alloc, command, "blocks")?;
-    let command = with_option(alloc, command, "residuals")?;
+    let command = with_option(alloc, command, "outdegrees");
+    let command = with_option(alloc, command, "references");
+    let command = with_option(alloc, command, "blockcounts");
+    let command = with_option(alloc, command, "blocks");
+    let command = with_option(alloc, command, "residuals");
     with_option(alloc, command, "offsets")
 }
 
 // The command with the options that say how an archive is written.
-fn with_layout<'a>(alloc: Global, command: Command<'a>) -> Result<Command<'a>, AllocError>
-    ensures { (a : App) → IsApp a command.entry → IfOk result (IsApp (with_layout a)) }
+fn with_layout<'a>(alloc: Global, command: Made<'a>) -> Made<'a>
+    ensures { (a : App) → IfOk command.entry (IsApp a) → IfOk result (IsApp (with_layout a)) }
 {
-    let command = with_limits(alloc, command)?;
-    with_codes(alloc, command)
+    with_codes(alloc, with_limits(alloc, command))
 }
 
 // `build` without the options that say how the archive is written.
-fn plain_build<'a>(alloc: Global) -> Result<Command<'a>, AllocError>
+fn plain_build<'a>(alloc: Global) -> Made<'a>
     ensures { IfOk result (IsApp plain_build_app) }
 {
-    Command::new(alloc, "build")
-        .arg(positional(alloc, "arcs"))?
-        .arg(base(alloc))?
-        .arg(required(alloc, "nodes"))
+    let command = on_word(alloc, "build", "arcs");
+    let command = with_positional(alloc, command, "base");
+    with_required(alloc, command, "nodes")
 }
 
-fn build<'a>(alloc: Global) -> Result<Command<'a>, AllocError>
+fn build<'a>(alloc: Global) -> Made<'a>
     ensures { IfOk result (IsApp build_app) }
 {
-    let command = plain_build(alloc)?;
-    with_layout(alloc, command)
+    with_layout(alloc, plain_build(alloc))
 }
 
 // `import` without the options that say how the archive is written.
-fn plain_import<'a>(alloc: Global) -> Result<Command<'a>, AllocError>
+fn plain_import<'a>(alloc: Global) -> Made<'a>
     ensures { IfOk result (IsApp plain_import_app) }
 {
-    Command::new(alloc, "import")
-        .arg(positional(alloc, "text"))?
-        .arg(base(alloc))
+    with_positional(alloc, on_word(alloc, "import", "text"), "base")
 }
 
-fn import<'a>(alloc: Global) -> Result<Command<'a>, AllocError>
+fn import<'a>(alloc: Global) -> Made<'a>
     ensures { IfOk result (IsApp import_app) }
 {
-    let command = plain_import(alloc)?;
-    with_layout(alloc, command)
+    with_layout(alloc, plain_import(alloc))
 }
 
 // A command that reads an archive and one input more, and writes an archive.
-fn on_three_files<'a>(
-    alloc: Global,
-    name: &'a str,
-    second: &'a str,
-) -> Result<Command<'a>, AllocError>
+fn on_three_files<'a>(alloc: Global, name: &'a str, second: &'a str) -> Made<'a>
     ensures { IfOk result (IsApp (three_files_app name.now second.now)) }
 {
-    Command::new(alloc, name)
-        .arg(positional(alloc, "in"))?
-        .arg(positional(alloc, second))?
-        .arg(positional(alloc, "out"))
+    let command = on_word(alloc, name, "in");
+    let command = with_positional(alloc, command, second);
+    with_positional(alloc, command, "out")
 }
 
 // `quotient` without the options that say how the archive is written.
-fn plain_quotient<'a>(alloc: Global) -> Result<Command<'a>, AllocError>
+fn plain_quotient<'a>(alloc: Global) -> Made<'a>
     ensures { IfOk result (IsApp plain_quotient_app) }
 {
-    on_three_files(alloc, "quotient", "map")?.arg(required(alloc, "classes"))
+    with_required(alloc, on_three_files(alloc, "quotient", "map"), "classes")
 }
 
-fn quotient<'a>(alloc: Global) -> Result<Command<'a>, AllocError>
+fn quotient<'a>(alloc: Global) -> Made<'a>
     ensures { IfOk result (IsApp quotient_app) }
 {
-    let command = plain_quotient(alloc)?;
-    with_layout(alloc, command)
+    with_layout(alloc, plain_quotient(alloc))
 }
 
 // A command on two archives.
-fn on_two_archives<'a>(alloc: Global, name: &'a str) -> Result<Command<'a>, AllocError>
+fn on_two_archives<'a>(alloc: Global, name: &'a str) -> Made<'a>
     ensures { IfOk result (IsApp (two_archives_app name.now)) }
 {
-    Command::new(alloc, name)
-        .arg(positional(alloc, "in"))?
-        .arg(positional(alloc, "out"))
+    with_positional(alloc, on_word(alloc, name, "in"), "out")
 }
 
 // A command that reads one archive and writes another.
-fn conversion<'a>(alloc: Global, name: &'a str) -> Result<Command<'a>, AllocError>
+fn conversion<'a>(alloc: Global, name: &'a str) -> Made<'a>
     ensures { IfOk result (IsApp (conversion_app name.now)) }
 {
-    let command = on_two_archives(alloc, name)?;
-    with_layout(alloc, command)
+    with_layout(alloc, on_two_archives(alloc, name))
 }
 
 // A command that reads two archives and writes a third.
-fn union_command<'a>(alloc: Global) -> Result<Command<'a>, AllocError>
+fn union_command<'a>(alloc: Global) -> Made<'a>
     ensures { IfOk result (IsApp union_app) }
 {
-    let command = on_three_files(alloc, "union", "second")?;
-    with_layout(alloc, command)
+    with_layout(alloc, on_three_files(alloc, "union", "second"))
 }
 
 // A command on a generated graph, which reads and writes no file.
-fn bulk<'a>(alloc: Global) -> Result<Command<'a>, AllocError>
+fn bulk<'a>(alloc: Global) -> Made<'a>
     ensures { IfOk result (IsApp bulk_app) }
 {
-    Command::new(alloc, "bulk")
-        .arg(positional(alloc, "seed"))?
-        .arg(positional(alloc, "pages"))
+    with_positional(alloc, on_word(alloc, "bulk", "seed"), "pages")
 }
 
 fn program<'a>(alloc: Global) -> Command<'a>
@@ -236,53 +248,39 @@ fn program<'a>(alloc: Global) -> Command<'a>
         .subcommand_required(true)
 }
 
-// Commands that take an archive and no option.
-fn plain<'a>(alloc: Global) -> Result<Command<'a>, AllocError>
-    ensures { IfOk result (IsApp plain_app) }
+// The command line with one command more.
+fn with_command<'a>(line: Made<'a>, command: Made<'a>) -> Made<'a>
+    ensures { (a b : App) → IfOk line.entry (IsApp a) → IfOk command.entry (IsApp b)
+        → IfOk result (IsApp (with_command a b)) }
 {
-    let check = on_archive(alloc, "check")?;
-    let arcs = on_archive(alloc, "arcs")?;
-    let offsets = on_archive(alloc, "offsets")?;
-    program(alloc)
-        .subcommand(check)?
-        .subcommand(arcs)?
-        .subcommand(offsets)
+    line?.subcommand(command?)
 }
 
-// The command line with one command more.
-fn with_command<'a>(line: Command<'a>, command: Command<'a>) -> Result<Command<'a>, AllocError>
-    ensures { (a b : App) → IsApp a line.entry → IsApp b command.entry → IfOk result (IsApp (with_command a b)) }
+// Commands that take an archive and no option.
+fn plain<'a>(alloc: Global) -> Made<'a>
+    ensures { IfOk result (IsApp plain_app) }
 {
-    line.subcommand(command)
+    let line = Ok(program(alloc));
+    let line = with_command(line, on_archive(alloc, "check"));
+    let line = with_command(line, on_archive(alloc, "arcs"));
+    with_command(line, on_archive(alloc, "offsets"))
 }
 
 /// The command line of the program: the words begin with the subcommand, which is required.
 pub fn command<'a>(alloc: Global) -> Result<Command<'a>, AllocError>
     ensures { IfOk result (IsApp command_app) }
 {
-    let line = plain(alloc)?;
-    let ascii = on_archive(alloc, "ascii")?;
-    let line = with_command(line, ascii)?;
-    let show = show(alloc)?;
-    let line = with_command(line, show)?;
-    let spot = spot(alloc)?;
-    let line = with_command(line, spot)?;
-    let rank = rank(alloc)?;
-    let line = with_command(line, rank)?;
-    let verify = verify(alloc)?;
-    let line = with_command(line, verify)?;
-    let build = build(alloc)?;
-    let line = with_command(line, build)?;
-    let import = import(alloc)?;
-    let line = with_command(line, import)?;
-    let quotient = quotient(alloc)?;
-    let line = with_command(line, quotient)?;
-    let recode = conversion(alloc, "recode")?;
-    let line = with_command(line, recode)?;
-    let union = union_command(alloc)?;
-    let line = with_command(line, union)?;
-    let transpose = conversion(alloc, "transpose")?;
-    let line = with_command(line, transpose)?;
-    let bulk = bulk(alloc)?;
-    with_command(line, bulk)
+    let line = plain(alloc);
+    let line = with_command(line, on_archive(alloc, "ascii"));
+    let line = with_command(line, show(alloc));
+    let line = with_command(line, spot(alloc));
+    let line = with_command(line, rank(alloc));
+    let line = with_command(line, verify(alloc));
+    let line = with_command(line, build(alloc));
+    let line = with_command(line, import(alloc));
+    let line = with_command(line, quotient(alloc));
+    let line = with_command(line, conversion(alloc, "recode"));
+    let line = with_command(line, union_command(alloc));
+    let line = with_command(line, conversion(alloc, "transpose"));
+    with_command(line, bulk(alloc))
 }

@@ -32,3 +32,18 @@ pub returns-else-v-least-clause-sends : goal.returns-else-v-least-clause-sends
 returns-else-v-least-clause-sends g c =
     let z = zeta_field c.args.k c.args.v c.over-head.result c.requires.k.0 c.requires.k.1 c.requires.value (c.over-head.ensures ∙ ap (λ m. m / c.args.k) c.highest_one.ensures.index) in
     sends_as _ _ _ _ _ _ _ _ _ (z.3 c.if-v-least.false).1 c.put_headed-else-v-least.ensures.sends
+
+pub overflow_mul-width : goal.overflow_mul-width
+overflow_mul-width g c = let z = zeta_field c.args.k c.args.v c.over-head.result c.requires.k.0 c.requires.k.1 c.requires.value (c.over-head.ensures ∙ ap (λ m. m / c.args.k) c.highest_one.ensures.index) in omega (arith, z.1)
+
+pub overflow_shl-least : goal.overflow_shl-least
+overflow_shl-least g c = let z = zeta_field c.args.k c.args.v c.over-head.result c.requires.k.0 c.requires.k.1 c.requires.value (c.over-head.ensures ∙ ap (λ m. m / c.args.k) c.highest_one.ensures.index) in omega (arith, z.1)
+
+pub returns-then-v-least-clause-failed : goal.returns-then-v-least-clause-failed
+returns-then-v-least-clause-failed g c = c.put_headed.ensures.failed
+
+pub returns-else-v-least-clause-failed : goal.returns-else-v-least-clause-failed
+returns-else-v-least-clause-failed g c = c.put_headed-else-v-least.ensures.failed
+
+pub overflow_add-width : goal.overflow_add-width
+overflow_add-width g c = let z = zeta_field c.args.k c.args.v c.over-head.result c.requires.k.0 c.requires.k.1 c.requires.value (c.over-head.ensures ∙ ap (λ m. m / c.args.k) c.highest_one.ensures.index) in omega (arith, z.1)

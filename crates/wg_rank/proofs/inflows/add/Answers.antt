@@ -22,3 +22,9 @@ bounds-inflows-at-3 c = omega (arith, within c.args.inflows.now, c.requires.page
 
 pub bounds-inflows-at-4 : goal.bounds-inflows-at-4
 bounds-inflows-at-4 c = omega (arith, within c.args.inflows.now, c.requires.page, length-set c.args.inflows.now (2 * c.args.page) (get_or c.args.inflows.now (2 * c.args.page) 0 + c.args.below))
+
+pub bounds-inflows-at : goal.bounds-inflows-at
+bounds-inflows-at c = omega (arith, within c.args.inflows.now, c.requires.page)
+
+pub bounds-inflows-at-2 : goal.bounds-inflows-at-2
+bounds-inflows-at-2 c = omega (arith, within c.args.inflows.now, c.requires.page)

@@ -1,4 +1,4 @@
-use Rattle.std.proofs.Common.{arith, ◌≡◌, ◌*◌, ◌≤◌, length, refl, ap, ◌∙◌}
+use Rattle.std.proofs.Common.{arith, ◌≡◌, ◌+◌, ◌*◌, ◌≤◌, length, refl, ap, ◌∙◌}
 use Rattle.std.specs.Int.{div_ceil}
 use Rattle.std.proofs.lemmas.List.{length-set}
 use Rattle.std.proofs.lemmas.List.Elements.{All-set, All-from_get_or}
@@ -8,6 +8,8 @@ use Rattle.wg_rank.specs.Inflows.{high_flows}
 use Rattle.wg_rank.proofs.Settled.{table_more, table_left, least_from}
 use Rattle.wg_rank.proofs.SideBySide.{high_count, low_count, high_cleared, cleared_more}
 use Rattle.wg_rank.proofs.Weighing.{given_small}
+use Rattle.wg_rank.proofs.Room.{damped_room}
+use Rattle.wg_rank.proofs.Flow.{div_ceil_le}
 use Rattle.wg_rank.proofs.settling.settle_high.Goals as goal
 
 pub loop-v-preserved : goal.loop-v-preserved
@@ -47,3 +49,38 @@ clear-requires c = omega (arith, low_count (length c.args.high.now) c.loop-v.inf
 
 pub returns-clause-empty : goal.returns-clause-empty
 returns-clause-empty c = All-from_get_or (λ x. x ≡ 0) c.loop-v.inflows 0 (λ k w. c.loop-v.invariant.empty k (omega arith))
+
+pub overflow_mul-damping-in-loop-v : goal.overflow_mul-damping-in-loop-v
+overflow_mul-damping-in-loop-v c =
+    let small : c.high_flow.result ≤ MOST_PAGES * UNITS = rw c.high_flow.ensures (c.loop-v.invariant.room c.loop-v.v 0 (omega arith)) in
+    omega (arith, damped_room c.args.damping c.high_flow.result c.requires.damped small)
+
+pub overflow_add-above : goal.overflow_add-above
+overflow_add-above c =
+    omega (arith, div_ceil_le (c.args.damping * c.args.dangling) (1000 * length c.args.high.now), damped_room c.args.damping c.args.dangling c.requires.damped c.requires.dangling_room, c.div_ceil-rest.ensures, c.part_above-part.ensures.room)
+
+pub overflow_add-above-in-loop-v : goal.overflow_add-above-in-loop-v
+overflow_add-above-in-loop-v c =
+    let small : c.high_flow.result ≤ MOST_PAGES * UNITS = rw c.high_flow.ensures (c.loop-v.invariant.room c.loop-v.v 0 (omega arith)) in
+    omega (
+      arith,
+      div_ceil_le (c.args.damping * c.high_flow.result) 1000,
+      damped_room c.args.damping c.high_flow.result c.requires.damped small,
+      c.quotient_up.ensures,
+      div_ceil_le (c.args.damping * c.args.dangling) (1000 * length c.args.high.now),
+      damped_room c.args.damping c.args.dangling c.requires.damped c.requires.dangling_room,
+      c.div_ceil-rest.ensures,
+      c.part_above-part.ensures.room,
+    )
+
+pub overflow_mul-damping : goal.overflow_mul-damping
+overflow_mul-damping c = omega (arith, damped_room c.args.damping c.args.dangling c.requires.damped c.requires.dangling_room)
+
+pub overflow_mul-parts : goal.overflow_mul-parts
+overflow_mul-parts c = omega (arith, c.total_weight-parts.ensures.room)
+
+pub overflow_add-low : goal.overflow_add-low
+overflow_add-low c = omega (arith, c.requires.low_room c.loop-v.v 0 (omega arith), c.requires.gap_room)
+
+pub returns-clause-each : goal.returns-clause-each
+returns-clause-each c = λ v l. c.loop-v.invariant.done v (omega arith)

@@ -1,7 +1,7 @@
 use Rattle.std.proofs.Common.{Err, refl, rules}
 use Rattle.wg_bits.specs.Bits.{bits_of}
 use Rattle.wg_grammar.specs.Archive.{ReadsGraph}
-use Rattle.wg_stream.proofs.FirstErrorLemmas.{says_graph}
+use Rattle.wg_stream.proofs.FirstErrorLemmas.{says_graph, says_outside}
 use Rattle.wg_stream.proofs.PrefixLemmas.{read_to}
 use Rattle.wg_stream.proofs.parts.next_record.Goals as goal
 
@@ -21,3 +21,28 @@ returns-in-Err-clause-fault g c = λ t file is i behind r.
     let n = c.new-source.ensures.name in
     let x = c.in-Err.ensures.fault (bits_of file) behind (rw (d, h, n) (t, (file, is, i, refl))) (rw h r) in
     says_graph c.in-Err.error c.first_of.result (λ f. ReadsGraph c.args.pages.now.params (bits_of file) (Err f)) c.first_of.ensures x
+
+pub returns-in-Ok-clause-steps : goal.returns-in-Ok-clause-steps
+returns-in-Ok-clause-steps g c =
+    let d = c.new-source.ensures.depot in
+    let h = c.new-source.ensures.held in
+    let n = c.new-source.ensures.name in
+    let steps = rw (d, h, n) at c.in-Ok.ensures.later.3 in
+    search (rules, steps)
+
+pub returns-in-Err-clause-steps : goal.returns-in-Err-clause-steps
+returns-in-Err-clause-steps g c =
+    let d = c.new-source.ensures.depot in
+    let h = c.new-source.ensures.held in
+    let n = c.new-source.ensures.name in
+    let steps = rw (d, h, n) at c.in-Err.ensures.later.3 in
+    search (rules, steps)
+
+pub returns-in-Err-clause-cause : goal.returns-in-Err-clause-cause
+returns-in-Err-clause-cause g c =
+    let d = c.new-source.ensures.depot in
+    let h = c.new-source.ensures.held in
+    let n = c.new-source.ensures.name in
+    let refused = rw (d, h, n) at c.in-Err.ensures.refused in
+    let said = says_outside c.in-Err.error c.first_of.result _ c.first_of.ensures refused in
+    search (rules, said)

@@ -1,135 +1,18 @@
-use Rattle.std.proofs.Common.{◌≡◌, ◌+◌, ◌-◌, ◌∙◌, ℕ, List, [], ◌∷◌, ◌++◌, Ok, Err, length, replicate, sym, ap, subst, arith}
-use Rattle.std.proofs.lemmas.List.{append-nil, length-append}
+use Rattle.std.proofs.Common.{◌≡◌, ◌-◌, ◌∙◌, ℕ, List, [], ◌++◌, Ok, length, replicate, sym, ap, subst, arith}
+use Rattle.std.proofs.lemmas.List.{append-nil}
 use Rattle.std.proofs.lemmas.Result.{err_from_is_err_and}
-use Rattle.wg_params.specs.Parameters.{Parameters}
-use Rattle.wg_graph.specs.Ascending.{Below}
-use Rattle.wg_grammar.specs.Archive.{lists_of, places_of, ReadsGraph}
-use Rattle.wg_stream.specs.Prefix.{AreBehind}
-use Rattle.wg_stream.proofs.ErrorLemmas.{fault_weaker, refusal_weaker}
-use Rattle.wg_stream.proofs.PrefixLemmas.{no_arcs, lists_more, arcs_more}
+use Rattle.wg_grammar.specs.Archive.{ReadsGraph}
 use Rattle.wg_stream.proofs.records.read_graph.Goals as goal
-
-pub loop-page-init : goal.loop-page-init
-loop-page-init g c =
-    let start = c.requires in
-    record {
-      same_params = c.new-pages.ensures.params;
-      same_page = c.new-pages.ensures.none.0;
-      same_nodes = c.in_ok-graph.ensures.nodes ∙ c.nodes-nodes.ensures.value;
-      counted = no_arcs c.in_ok-graph.graph c.in_ok-graph.ensures.lists ∙ sym c.new-pages.ensures.none.1;
-      begun = ap length c.in_ok-graph.ensures.lists;
-      later = g.met.S.Source.stays _;
-      read = λ bits r. ([], subst (λ (n : ℕ). AreBehind bits c.new-pages.result n []) (sym start) (c.new-pages.ensures.behind bits), c.in_ok-graph.ensures.lists);
-    }
-
-pub next-requires : goal.next-requires
-next-requires g c =
-    let h = c.loop-page.invariant in
-    omega (arith, h.same_page, ap (λ (q : Parameters). q.nodes) h.same_params, c.loop-page-test.true, c.nodes-nodes.ensures.value)
-
-pub returns-in_err-next-clause-later : goal.returns-in_err-next-clause-later
-returns-in_err-next-clause-later g c = g.met.S.Source.goes_on _ _ _ c.loop-page.invariant.later c.in_err-next.ensures.later
-
-pub returns-in_err-next-clause-refused : goal.returns-in_err-next-clause-refused
-returns-in_err-next-clause-refused g c =
-    let p = err_from_is_err_and c.from_residual-in_err-next.result c.from_residual-in_err-next.ensures.1 in
-    rw (p.1, p.2) (refusal_weaker c.in_err-next.field-0.0 _ _ (λ x h. g.met.S.Source.still_caused _ _ _ x c.loop-page.invariant.later h) c.in_err-next.ensures.refused)
-
-pub returns-in_err-next-clause-fault : goal.returns-in_err-next-clause-fault
-returns-in_err-next-clause-fault g c = λ bits r.
-    let l = c.loop-page in
-    let k = l.invariant.read bits r in
-    let on = g.met.S.Source.same_bits _ _ bits l.invariant.later r in
-    let p = err_from_is_err_and c.from_residual-in_err-next.result c.from_residual-in_err-next.ensures.1 in
-    rw (p.1, p.2) (fault_weaker c.in_err-next.field-0.0 _ _
-    (λ f h. subst (λ (q : Parameters). ReadsGraph q bits (Err f)) l.invariant.same_params h)
-    (c.in_err-next.ensures.fault bits k.0 on k.1))
-
-pub push_list-requires-clause-page : goal.push_list-requires-clause-page
-push_list-requires-clause-page g c =
-    let h = c.loop-page.invariant in
-    omega (arith, h.begun, h.same_nodes, c.loop-page-test.true, c.nodes-nodes.ensures.value)
-
-pub push_list-requires-clause-below : goal.push_list-requires-clause-below
-push_list-requires-clause-below g c =
-    let h = c.loop-page.invariant in
-    let nodes = ap (λ (q : Parameters). q.nodes) (c.in_ok-next.ensures.params ∙ h.same_params) ∙ sym h.same_nodes in
-    subst (λ (n : ℕ). Below n c.list.result.now) nodes c.list.ensures.below
-
-pub push_list-requires-clause-room : goal.push_list-requires-clause-room
-push_list-requires-clause-room g c =
-    let h = c.loop-page.invariant in
-    let n = c.in_ok-next.ensures in
-    omega (arith, h.counted, n.arcs, ap length c.list.ensures.value, c.list.ensures.arcs, ap (λ (q : Parameters). q.arcs) (n.params ∙ h.same_params), c.new-pages.ensures.limits.arcs)
-
-pub returns-in_err-push_list-clause-later : goal.returns-in_err-push_list-clause-later
-returns-in_err-push_list-clause-later g c = g.met.S.Source.goes_on _ _ _ c.loop-page.invariant.later c.in_ok-next.ensures.later
-
-pub loop-page-preserved : goal.loop-page-preserved
-loop-page-preserved g c =
-    let s = g.S.Source in
-    let l = c.loop-page in
-    let h = l.invariant in
-    let n = c.in_ok-next.ensures in
-    let pushed : c.push_list.new.self.lists ≡ l.graph.lists ++ c.next.new.self.list ∷ [] = c.in_ok-push_list.ensures.ok ∙ ap (λ (s : List ℕ). l.graph.lists ++ s ∷ []) c.list.ensures.value in
-    record {
-      same_params = n.params ∙ h.same_params;
-      same_page = n.page ∙ ap (λ (k : ℕ). k + 1) h.same_page;
-      same_nodes = c.push_list.ensures.nodes ∙ h.same_nodes;
-      counted = omega (arith, arcs_more l.graph c.push_list.new.self c.next.new.self.list pushed, h.counted, n.arcs);
-      begun = omega (arith, ap length pushed, length-append l.graph.lists (c.next.new.self.list ∷ []), h.begun);
-      later = g.met.S.Source.goes_on _ _ _ h.later n.later;
-      read = λ bits r.
-          let k = h.read bits r in
-          let on = g.met.S.Source.same_bits _ _ bits h.later r in
-          let more = n.reads bits k.0 on k.1 in (
-            more.0 ∷ k.0,
-            more.3,
-            pushed ∙ ap (λ (s : List (List ℕ)). s ++ c.next.new.self.list ∷ []) k.2 ∙ ap (λ (xs : List ℕ). lists_of k.0 ++ xs ∷ []) (sym more.1) ∙ sym (lists_more more.0 k.0),
-          );
-    }
-
-pub finish-requires : goal.finish-requires
-finish-requires g c =
-    let l = c.loop-page in
-    let h = l.invariant in
-    omega (arith, h.same_page, ap (λ (q : Parameters). q.nodes) h.same_params, c.loop-page-test.false, c.nodes-nodes.ensures.value, l.auto._page-end)
-
-pub returns-in_err-finish-clause-later : goal.returns-in_err-finish-clause-later
-returns-in_err-finish-clause-later g c = g.met.S.Source.goes_on _ _ _ c.loop-page.invariant.later c.in_err-finish.ensures.later
-
-pub returns-in_err-finish-clause-refused : goal.returns-in_err-finish-clause-refused
-returns-in_err-finish-clause-refused g c =
-    let p = err_from_is_err_and c.from_residual-in_err-finish.result c.from_residual-in_err-finish.ensures.1 in
-    rw (p.1, p.2) (refusal_weaker c.in_err-finish.field-0.0 _ _ (λ x h. g.met.S.Source.still_caused _ _ _ x c.loop-page.invariant.later h) c.in_err-finish.ensures.refused)
-
-pub returns-in_err-finish-clause-fault : goal.returns-in_err-finish-clause-fault
-returns-in_err-finish-clause-fault g c = λ bits r.
-    let l = c.loop-page in
-    let k = l.invariant.read bits r in
-    let on = g.met.S.Source.same_bits _ _ bits l.invariant.later r in
-    let p = err_from_is_err_and c.from_residual-in_err-finish.result c.from_residual-in_err-finish.ensures.1 in
-    rw (p.1, p.2) (fault_weaker c.in_err-finish.field-0.0 _ _
-    (λ f h. subst (λ (q : Parameters). ReadsGraph q bits (Err f)) l.invariant.same_params h)
-    (c.in_err-finish.ensures.fault bits k.0 on k.1))
-
-pub returns-in_err-finish-2-clause-later : goal.returns-in_err-finish-2-clause-later
-returns-in_err-finish-2-clause-later g c = g.met.S.Source.goes_on _ _ _ c.loop-page.invariant.later c.in_ok-finish.ensures.later
-
-pub returns-clause-later : goal.returns-clause-later
-returns-clause-later g c = g.met.S.Source.goes_on _ _ _ c.loop-page.invariant.later c.in_ok-finish.ensures.later
 
 pub returns-clause-reads : goal.returns-clause-reads
 returns-clause-reads g c = λ bits r.
-    let l = c.loop-page in
-    let h = l.invariant in
-    let k = h.read bits r in
-    let on = g.met.S.Source.same_bits _ _ bits h.later r in
-    let all : l._page ≡ c.args.params.nodes = omega (arith, c.loop-page-test.false, c.nodes-nodes.ensures.value, l.auto._page-end) in
-    let full : l.graph.nodes - length l.graph.lists ≡ 0 = omega (arith, h.same_nodes, h.begun, all) in
-    let lists : c.in_ok-finish-2.field-0.lists ≡ lists_of k.0 =
-    c.in_ok-finish-2.ensures.lists ∙ ap (λ (n : ℕ). l.graph.lists ++ replicate n []) full ∙ append-nil l.graph.lists ∙ k.2 in
-    let ends = subst (λ (q : Parameters). ReadsGraph q bits (Ok (record { graph = lists_of k.0; places = places_of k.0 }))) h.same_params (c.in_ok-finish.ensures.reads bits k.0 on k.1) in (
-      places_of k.0,
-      subst (λ (s : List (List ℕ)). ReadsGraph c.args.params bits (Ok (record { graph = s; places = places_of k.0 }))) (sym lists) ends,
-    )
+    let made = c.read_into.new.graph in
+    let k = c.in_ok-read_into.ensures.reads bits r in
+    let full : made.nodes - length made.lists ≡ 0 = omega (arith, c.in_ok-read_into.ensures.all, c.read_into.ensures.nodes) in
+    let lists : c.in_ok-finish.field-0.lists ≡ made.lists = c.in_ok-finish.ensures.lists ∙ ap (λ (n : ℕ). made.lists ++ replicate n []) full ∙ append-nil made.lists in
+    (k.0, subst (λ (s : List (List ℕ)). ReadsGraph c.args.params bits (Ok (record { graph = s; places = k.0 }))) (sym lists) k.1)
+
+pub returns-in_err-read_into-clause-fault : goal.returns-in_err-read_into-clause-fault
+returns-in_err-read_into-clause-fault g c = λ bits r.
+    let p = err_from_is_err_and c.from_residual-in_err-read_into.result c.from_residual-in_err-read_into.ensures.1 in
+    rw (p.1, p.2) (c.in_err-read_into.ensures.fault bits r)

@@ -5,14 +5,14 @@ use Rattle.wg_params.specs.declared.key.Key.TheVariants as key
 use Rattle.wg_properties.specs.Words.{class_name}
 use Rattle.wg_properties.specs.Text.{pair, ended, chain_text, flags_text, flags_of, written_lines}
 use Rattle.wg_properties.proofs.Lined.{line_more}
-use Rattle.wg_properties.proofs.writing.write.Goals as goal
+use Rattle.wg_properties.proofs.writing.add_all.Goals as goal
 
 pub returns : goal.returns
 unfolding written_lines class_name
 returns c =
     let p = c.args.params.now in
     let head : List (List ℕ) = codes "#BVGraph properties" ∷ [] in
-    let t1 : c.extend.new.self ≡ flat_map ended head = line_more [] c.new-text.result c.extend.new.self (codes "#BVGraph properties") _ c.new-text.ensures c.in_ok-extend.ensures.ok refl in
+    let t1 : c.extend.new.self ≡ flat_map ended head = line_more [] c.args.text.now c.extend.new.self (codes "#BVGraph properties") _ c.requires c.in_ok-extend.ensures.ok refl in
     let l2 : List (List ℕ) = head ++ pair key.Version (codes "0") ∷ [] in
     let t2 = line_more head _ _ (pair key.Version (codes "0")) _ t1 c.in_ok-add_line.ensures refl in
     let l3 : List (List ℕ) = l2 ++ pair key.Nodes (decimal p.nodes) ∷ [] in

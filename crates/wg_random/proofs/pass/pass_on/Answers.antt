@@ -3,7 +3,6 @@ use Rattle.std.specs.Prelude.{max}
 use Rattle.std.proofs.lemmas.List.{length-append}
 use Rattle.std.proofs.lemmas.Result.{err_from_is_err_and}
 use Rattle.wg_params.specs.Parameters.{Parameters}
-use Rattle.wg_bits.specs.Bits.{bits_of}
 use Rattle.wg_grammar.specs.Archive.{lists_of, places_of, ReadsGraph}
 use Rattle.wg_offsets.specs.Places.{last_place}
 use Rattle.wg_offsets.proofs.WordsLemmas.{last_more}
@@ -11,30 +10,30 @@ use Rattle.wg_stream.specs.Prefix.{AreBehind}
 use Rattle.wg_stream.proofs.ErrorLemmas.{fault_weaker}
 use Rattle.wg_stream.proofs.PrefixLemmas.{places_more}
 use Rattle.wg_random.proofs.SweepLemmas.{none_greater, one_greater}
-use Rattle.wg_random.proofs.pass.pass.Goals as goal
+use Rattle.wg_random.proofs.pass.pass_on.Goals as goal
 
 pub loop-page-init : goal.loop-page-init
 loop-page-init c =
-    let one : c.push.new.self ≡ 0 ∷ [] = c.in_ok-push.ensures.ok ∙ ap (λ (l : List ℕ). l ++ 0 ∷ []) c.new-offsets.ensures in
-    let start : c.new-source.result.at ≡ 0 = search rules in
+    let one : c.push.new.self ≡ 0 ∷ [] = c.in_ok-push.ensures.ok ∙ ap (λ (l : List ℕ). l ++ 0 ∷ []) c.requires.empty in
+    let start = c.requires.start in
     record {
-      same_params = c.new-pages.ensures.params;
-      same_page = c.new-pages.ensures.none.0;
-      same_bits = search rules;
+      same_params = refl;
+      same_page = c.requires.none;
+      same_bits = refl;
       counted = ap length one;
       last = ap last_place one ∙ sym start;
-      read = ([], subst (λ (n : ℕ). AreBehind (bits_of c.args.bytes.now) c.new-pages.result n []) (sym start) (c.new-pages.ensures.behind (bits_of c.args.bytes.now)), one, none_greater 0);
+      read = ([], subst (λ (n : ℕ). AreBehind c.args.source.now.bits c.args.pages.now n []) (sym start) c.requires.behind, one, none_greater 0);
     }
 
 pub next-requires : goal.next-requires
 next-requires c =
     let h = c.loop-page.invariant in
-    omega (arith, h.same_page, ap (λ (q : Parameters). q.nodes) h.same_params, c.loop-page-test.true, c.nodes-nodes.ensures.value)
+    omega (arith, h.same_page, ap (λ (q : Parameters). q.nodes) h.same_params, c.loop-page-test.true, c.requires.nodes)
 
 pub returns-in_err-next-clause-fault : goal.returns-in_err-next-clause-fault
 returns-in_err-next-clause-fault c =
     let h = c.loop-page.invariant in
-    let bits = bits_of c.args.bytes.now in
+    let bits = c.args.source.now.bits in
     let p = err_from_is_err_and c.from_residual-in_err-next.result c.from_residual-in_err-next.ensures.1 in
     rw (p.1, p.2) (fault_weaker c.in_err-next.field-0.0 _ _
     (λ f k. subst (λ (q : Parameters). ReadsGraph q bits (Err f)) h.same_params k)
@@ -47,7 +46,7 @@ loop-page-preserved c =
     let n = c.in_ok-next.ensures in
     let end = c.next.new.source.at in
     let pushed : c.push-in-loop-page.new.self ≡ l.offsets ++ end ∷ [] = c.in_ok-push-2.ensures.ok ∙ ap (λ (e : ℕ). l.offsets ++ e ∷ []) c.at.ensures.offset in
-    let more = n.reads (bits_of c.args.bytes.now) h.read.0 h.same_bits h.read.1 in
+    let more = n.reads c.args.source.now.bits h.read.0 h.same_bits h.read.1 in
     let most : c.max-greatest.result ≡ max l.greatest (length c.list.result.now) = search rules in
     record {
       same_params = n.params ∙ h.same_params;
@@ -67,12 +66,12 @@ pub finish-requires : goal.finish-requires
 finish-requires c =
     let l = c.loop-page in
     let h = l.invariant in
-    omega (arith, h.same_page, ap (λ (q : Parameters). q.nodes) h.same_params, c.loop-page-test.false, c.nodes-nodes.ensures.value, l.auto._page-end)
+    omega (arith, h.same_page, ap (λ (q : Parameters). q.nodes) h.same_params, c.loop-page-test.false, c.requires.nodes, l.auto._page-end)
 
 pub returns-in_err-finish-clause-fault : goal.returns-in_err-finish-clause-fault
 returns-in_err-finish-clause-fault c =
     let h = c.loop-page.invariant in
-    let bits = bits_of c.args.bytes.now in
+    let bits = c.args.source.now.bits in
     let p = err_from_is_err_and c.from_residual-in_err-finish.result c.from_residual-in_err-finish.ensures.1 in
     rw (p.1, p.2) (fault_weaker c.in_err-finish.field-0.0 _ _
     (λ f k. subst (λ (q : Parameters). ReadsGraph q bits (Err f)) h.same_params k)
@@ -81,9 +80,9 @@ returns-in_err-finish-clause-fault c =
 pub returns-clause-finds : goal.returns-clause-finds
 returns-clause-finds c =
     let h = c.loop-page.invariant in
-    let bits = bits_of c.args.bytes.now in
+    let bits = c.args.source.now.bits in
     let ends = subst (λ (q : Parameters). ReadsGraph q bits (Ok (record { graph = lists_of h.read.0; places = places_of h.read.0 }))) h.same_params (c.in_ok-finish.ensures.reads bits h.read.0 h.same_bits h.read.1) in (
       lists_of h.read.0,
-      subst (λ (s : List ℕ). ReadsGraph c.args.params bits (Ok (record { graph = lists_of h.read.0; places = s }))) (sym h.read.2) ends,
+      subst (λ (s : List ℕ). ReadsGraph c.args.pages.now.params bits (Ok (record { graph = lists_of h.read.0; places = s }))) (sym h.read.2) ends,
       h.read.3,
     )

@@ -1,0 +1,9 @@
+use Rattle.std.proofs.Common.{arith, ℕ, ◌≤◌, length, below_more, get_or, refl, sym, subst}
+use Rattle.wg_rank.proofs.Settled.{low_from}
+use Rattle.wg_rank.proofs.judging.first_smaller.Goals as goal
+
+pub loop-v-preserved : goal.loop-v-preserved
+loop-v-preserved c =
+    let o = c.of-parts.ensures in
+    let e = low_from _ _ _ _ _ _ _ _ _ _ _ _ _ (c.bound.ensures (length c.args.low.now) (omega arith)) refl o.damping o.dangling o.shared o.parts o.weights in
+    below_more _ _ c.loop-v.invariant (omega (arith, e))
