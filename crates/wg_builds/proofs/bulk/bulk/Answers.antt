@@ -15,7 +15,7 @@ returns-in_err-outcome g c = λ told files counts.
 
 pub returns : goal.returns
 returns g c = λ told files counts.
-    let o = c.print.ensures in
-    printed_by (Bulk c.args.seed c.args.pages) told g.O.Sink.told _ _ (λ q. outcome_text (outcome_of q (generated c.args.seed c.args.pages))) c.print.result refl (λ t q. refl) refl (none_falls-refl counts)
-    (λ t q. subst (λ text. Puts text (g.O.Sink.taken c.args.out.now) (g.O.Sink.taken c.print.new.out) c.print.result) (c.as_bytes.ensures ∙ c.text.ensures ∙ ap outcome_text (c.in_ok-outcome.ensures.value q)) (o.puts t))
+    let o = c.print_piece.ensures in
+    printed_by (Bulk c.args.seed c.args.pages) told g.O.Sink.told _ _ (λ q. outcome_text (outcome_of q (generated c.args.seed c.args.pages))) c.print_piece.result refl (λ t q. refl) refl (none_falls-refl counts)
+    (λ t q. subst (λ text. Puts text (g.O.Sink.taken c.args.out.now) (g.O.Sink.taken c.print_piece.new.out) c.print_piece.result) (c.as_bytes.ensures ∙ c.text.ensures ∙ ap outcome_text (c.in_ok-outcome.ensures.value q)) (o.puts t))
     o.refusals.only o.refusals.failed

@@ -5,7 +5,7 @@ use Rattle.wg_readings.specs.Passes.{graph_then}
 use Rattle.wg_outcomes.specs.Performs.{Outside, outside}
 use Rattle.wg_queries.specs.Printed.{job_of, listed}
 use Rattle.wg_outcomes.specs.declared.status.Input.TheVariants as input
-use Rattle.wg_readings.proofs.JobPasses.{printed_again}
+use Rattle.wg_queries.proofs.PrintedJobs.{printed_again}
 use Rattle.wg_readings.proofs.JobSteps.{ends_reading, loaded, performs_exit, unloaded}
 use Rattle.wg_queries.proofs.PrintedLines.{judges, named_graph, named_properties, none_written, told}
 use Rattle.wg_queries.proofs.printing.print_records.Goals as goal
