@@ -22,6 +22,7 @@ ghost use Rattle.wg_outcomes.specs.Written.{HasFiles};
 ghost use Rattle.wg_outcomes.specs.declared.status.Input.{Input};
 
 use crate::Status;
+use crate::dispatch::perform;
 use crate::report::report;
 use std::alloc::{AllocError, Global};
 use wg_io::{Depot, Sink};
