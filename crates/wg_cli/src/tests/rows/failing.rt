@@ -13,6 +13,16 @@ each read 7 to 9 refuses 4 wg: read failed: g.graph|
 failing read 10
 prints ok nodes=3 arcs=4 bits=19|
 
+case a check whose second read or first write fails
+use one-arc g
+run check g
+failing read 2
+refuses 4 wg: read failed: g.properties|
+failing write 1
+refuses 5 wg: write failed: -|
+failing write 1000
+prints ok nodes=2 arcs=1 bits=10|
+
 case each read of arcs fails once
 pieces 4096
 use copied g
@@ -62,15 +72,15 @@ prints 0 1 2|
 
 case each read of rank fails once
 pieces 4096
-use one-arc g
-text w 1|1|
-run rank g --weights w --rounds 1
+use copied g
+text w 1|1|1|
+run rank g --weights w
 each read 1 to 3 refuses 4 wg: read failed: g.properties|
 each read 4 to 6 refuses 4 wg: read failed: g.graph|
 each read 7 to 9 refuses 4 wg: read failed: w|
 failing read 10
-prints 1 0.075000000000000000000000 0.925000000000000000000000 1 2|\
-    0 0.075000000000000000000000 0.500000000000000000000000 1 2|
+status 0
+reports
 
 case each read of verify fails once
 pieces 4096

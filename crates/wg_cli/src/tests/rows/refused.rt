@@ -38,6 +38,11 @@ use plain g nodes=1|arcs=0|compressionflags=RESIDUALS_GAMMA
 bits g.graph *8 00000000*1 11111111
 use bad-graph g page 0 bit 0 outdegree noword
 
+case too many zeros for gamma, where intervals may be
+use default g nodes=1|arcs=0
+bits g.graph *8 00000000*1 11111111
+use bad-graph g page 0 bit 0 outdegree noword
+
 case too many zeros for nibble
 use plain g nodes=2|arcs=1|compressionflags=RESIDUALS_NIBBLE
 bits g.graph 010 0000  0 10000000

@@ -3,9 +3,8 @@
 /// What `spot` prints of a page, and what it refuses: faults of the offsets, and of the page's chain alone.
 pub const SPOTTED: &str = r"
 case a page before a record that is cut
-use default g nodes=3|arcs=4|maxrefcount=-1
+use copied g
 bits g.graph 011 1 1 1011 100  011 01 1  000000
-bits g.offsets 1 0001101 00111 010
 run spot g 1
 prints 1 1 2|
 run spot g 2
@@ -22,8 +21,7 @@ run spot g 2
 prints 2|
 
 case a record that is longer than its offsets say
-use default g nodes=2|arcs=1|maxrefcount=-1
-bits g.graph 010 1 1 1011  1
+use one-arc g
 bits g.offsets 1 0001001 010
 run spot g 1
 prints 1|
