@@ -1,9 +1,13 @@
-use Rattle.std.proofs.Common.{◌≡◌, ◌+◌, ◌<◌, ◌∙◌, ℕ, List, ◌∷◌, length, take, refl, sym, ap, subst}
+use Rattle.std.proofs.Common.{◌≡◌, ◌+◌, ◌<◌, ◌∙◌, ℕ, List, ◌∷◌, length, take, Err, refl, sym, ap, subst}
 use Rattle.wg_grammar.specs.Context.{Known}
 use Rattle.wg_grammar.specs.Record.{Whole}
 use Rattle.wg_decoder.specs.Remembered.{known_of}
 use Rattle.wg_stream.specs.Prefix.{PagesRead, PrefixRead}
-use Rattle.wg_stream.proofs.PrefixLemmas.{one_more}
+use Rattle.std.proofs.lemmas.Result.{err_from_is_err_and}
+use Rattle.wg_grammar.specs.Archive.{ReadsGraph}
+use Rattle.wg_grammar.specs.declared.fault.ArchiveFault.TheVariants as archive
+use Rattle.wg_stream.proofs.ErrorLemmas.{unread_of_graph, unread_fault, unread_refusal}
+use Rattle.wg_stream.proofs.PrefixLemmas.{one_more, one_refused}
 use Rattle.wg_stream.proofs.pages.Pages.next.Goals as goal
 
 pub returns-clause-reads : goal.returns-clause-reads
@@ -25,3 +29,24 @@ returns-clause-reads g c = λ bits behind r h.
       subst (λ (kept : List Known). PrefixRead i.params bits (i.page + 1) (i.arcs + length c.as_slice.result.now) end kept (w ∷ behind)) nearest
           (subst (λ (n : ℕ). PrefixRead i.params bits (i.page + 1) n end (take i.params.window (w.known ∷ i.window.behind)) (w ∷ behind)) counted more),
     )
+
+pub returns-in_err-decoded-clause-graph : goal.returns-in_err-decoded-clause-graph
+returns-in_err-decoded-clause-graph g c =
+    let e = err_from_is_err_and c.from_residual.result c.from_residual.ensures.1 in
+    rw (e.1, e.2) (unread_of_graph c.in_err-decoded.field-0.0)
+
+pub returns-in_err-decoded-clause-refused : goal.returns-in_err-decoded-clause-refused
+returns-in_err-decoded-clause-refused g c =
+    let e = err_from_is_err_and c.from_residual.result c.from_residual.ensures.1 in
+    rw (e.1, e.2) (unread_refusal c.in_err-decoded.field-0.0 _ c.in_err-decoded.ensures.refused)
+
+pub returns-in_err-decoded-clause-fault : goal.returns-in_err-decoded-clause-fault
+returns-in_err-decoded-clause-fault g c = λ bits behind r h.
+    let i = c.self.inside in
+    let at = g.S.Source.offset c.args.source.now in
+    let here = subst (λ (s : PagesRead). PrefixRead s.params bits s.page s.arcs at s.kept behind) (sym c.self.view_is) h in
+    let next = subst (λ (s : PagesRead). s.page < s.params.nodes) (sym c.self.view_is) c.requires.more in
+    let e = err_from_is_err_and c.from_residual.result c.from_residual.ensures.1 in
+    rw (e.1, e.2) (unread_fault c.in_err-decoded.field-0.0 _ _
+    (λ f refused. subst (λ (s : PagesRead). ReadsGraph s.params bits (Err (archive.Record f))) c.self.view_is (one_refused i.params bits i.page i.arcs at i.window.behind behind f here next refused))
+    (c.in_err-decoded.ensures.fault bits r))
