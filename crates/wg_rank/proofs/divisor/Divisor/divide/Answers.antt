@@ -25,3 +25,9 @@ returns-else-rest-self-clause-rest c =
     let near = near_above c.args.value c.args.self.now.by c.args.self.now.inverse 18446744073709551616 (omega arith) c.args.self.now.inverted in
     let below = near_below c.args.value c.args.self.now.by c.args.self.now.inverse 18446744073709551616 c.args.self.now.some c.ranges.value.fits c.args.self.now.inverted in
     omega (arith, rest_near c.args.value c.args.self.now.by (n + 1) (omega (arith, near, c.if-rest-self.false)) (omega (arith, near, below, c.if-rest-self.false)))
+
+pub overflow_mul-rest : goal.overflow_mul-rest
+overflow_mul-rest c = omega (arith, near_above c.args.value c.args.self.now.by c.args.self.now.inverse 18446744073709551616 (omega arith) c.args.self.now.inverted)
+
+pub overflow_sub-result : goal.overflow_sub-result
+overflow_sub-result c = omega (arith, c.if-rest-self.false)

@@ -1,0 +1,23 @@
+use Rattle.std.proofs.Common.{arith, ◌*◌, sym, ◌∙◌}
+use Rattle.std.proofs.Math.Nat.{div-le_self}
+use Rattle.std.proofs.lemmas.Bool.{eqb-false}
+use Rattle.wg_rank.proofs.Weighing.{weighted_room}
+use Rattle.wg_rank.specs.declared.limits.TheConstants.{UNITS, MOST_WEIGHT}
+use Rattle.wg_rank.proofs.teleport.part_below.Goals as goal
+
+pub overflow_mul-result : goal.overflow_mul-result
+overflow_mul-result c =
+    omega (
+      arith,
+      c.from.ensures,
+      weighted_room c.args.shared c.from.result (1000 * UNITS) MOST_WEIGHT (omega (arith, c.requires.few)) (omega (arith, c.from.ensures, c.requires.small c.args.v 0 (c.requires.page (omega (arith, eqb-false _ _ (sym c.is_empty.ensures ∙ c.if-is_empty.false)))))),
+    )
+
+pub returns-clause-room : goal.returns-clause-room
+returns-clause-room c =
+    omega (
+      arith,
+      c.from.ensures,
+      div-le_self (c.args.shared * c.from.result) c.args.parts,
+      weighted_room c.args.shared c.from.result (1000 * UNITS) MOST_WEIGHT (omega (arith, c.requires.few)) (omega (arith, c.from.ensures, c.requires.small c.args.v 0 (c.requires.page (omega (arith, eqb-false _ _ (sym c.is_empty.ensures ∙ c.if-is_empty.false)))))),
+    )
