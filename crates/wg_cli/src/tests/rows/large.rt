@@ -16,7 +16,7 @@ prints-file a
 # The tenth digit of page 0 becomes a 9.
 case a certificate of a thousand pages
 pieces 4096
-lists a 1000 10 100 7
+lists a 1000 100 10 7
 run build a g --nodes 1000
 status 0
 run rank g --certificate c
