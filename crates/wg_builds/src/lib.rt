@@ -1,10 +1,10 @@
-//! The commands that write an archive: `build`, `import`, `recode`, `transpose`, `union`, `quotient`; and `bulk`, which
-//! builds one in memory.
+//! The commands that write an archive: `build`, `import`, `recode`, `transpose`, `union`, `quotient`; and `bulk`,
+//! which builds one in memory.
 //!
-//! Each is a function over any outside, with one clause: `DoesOrEnds` of its job (`wg_outcomes`); `bulk`, which makes no
-//! call of a depot, has it of any depot by `DoesAlone`. A command is a chain of steps: those of `wg_readings`, which read
-//! its inputs and judge them, and last [`building`](building::build_archive), which writes the greedy archive of a graph
-//! and prints its line.
+//! Each is a function over any outside, with one clause: `DoesOrEnds` of its job (`wg_outcomes`); `bulk`, which makes
+//! no call of a depot, has it of any depot by `DoesAlone`. A command is a chain of steps: those of `wg_readings`,
+//! which read its inputs and judge them, and last [`building`](building::build_archive), which writes the greedy
+//! archive of a graph and prints its line.
 //!
 //! The archive of an arc list, in memory:
 //!
@@ -21,8 +21,8 @@
 //! Ok(())
 //! ```
 //!
-//! `recode` reads the graph in pieces; all other inputs are held whole until they are read. `union` holds the bytes of
-//! two graph files, and goes through their lists side by side.
+//! `recode` reads the graph in pieces; all other inputs are held whole until they are read. `union` holds the bytes
+//! of two graph files, and goes through their lists side by side.
 #![tactic(auto)]
 
 pub mod build;

@@ -1,11 +1,12 @@
 //! What a job comes to: which of its inputs are judged in which order, what it prints and writes, how it may end, and
 //! what stands on its output and in its files then.
 //!
-//! `Commands` has an equation for each command: from what its inputs hold to its output or its first fault. `Performs`
-//! is the whole contract of a job: the status is the one of that equation, or running out of memory or a fault of the
-//! outside came in its place; faults are reported only where their counts rose; and for each status it says what stands
-//! on the output, in the three files of a written archive and in a written certificate. `DoesOrEnds` says the same of a
-//! command that is a function with a [`Result`], and `DoesAlone` of one that makes no call of a depot.
+//! `Commands` has an equation for each command: from what its inputs hold to its output or its first fault.
+//! `Performs` is the whole contract of a job: the status is the one of that equation, or running out of memory or a
+//! fault of the outside came in its place; faults are reported only where their counts rose; and for each status it
+//! says what stands on the output, in the three files of a written archive and in a written certificate. `DoesOrEnds`
+//! says the same of a command that is a function with a [`Result`], and `DoesAlone` of one that makes no call of a
+//! depot.
 //!
 //! A [`Status`] is how a run ended, an [`Ending`] a status with the number of arcs that its error line names:
 //!
@@ -16,9 +17,9 @@
 //! assert_eq!(rt; second.status, Status::Missing(Input::SecondProperties));
 //! ```
 //!
-//! The equations take the graph of a file from a function that reads all graph files (`Readings`); `wg_laws` states that
-//! the grammar leaves exactly one. Besides, the crate has what commands of both kinds share: short texts, what is printed
-//! in one call, and bounds before the first round and after the last.
+//! The equations take the graph of a file from a function that reads all graph files (`Readings`); `wg_laws` states
+//! that the grammar leaves exactly one. Besides, the crate has what commands of both kinds share: short texts, what
+//! is printed in one call, and bounds before the first round and after the last.
 #![tactic(auto)]
 
 mod bounds;

@@ -1,10 +1,11 @@
-//! The commands that read an archive and print: `check`, `arcs`, `ascii`, `offsets`, `show`, `spot`, `rank`, `verify`.
+//! The commands that read an archive and print: `check`, `arcs`, `ascii`, `offsets`, `show`, `spot`, `rank`,
+//! `verify`.
 //!
-//! Each is a function over any outside, with one clause: `DoesOrEnds` of its job (`wg_outcomes`). A command is a chain
-//! of steps: those of `wg_readings`, which read the files of an archive and judge them, and last one that prints. `rank`
-//! writes a certificate too, if it is asked for one. A command more is an equation of `judged`, the lists of its inputs
-//! and outputs, and a module beside [`check`] with that clause; its proof is a line for each exit, by the lemmas of
-//! `wg_readings` on steps of jobs.
+//! Each is a function over any outside, with one clause: `DoesOrEnds` of its job (`wg_outcomes`). A command is a
+//! chain of steps: those of `wg_readings`, which read the files of an archive and judge them, and last one that
+//! prints. `rank` writes a certificate too, if it is asked for one. A command more is an equation of `judged`, the
+//! lists of its inputs and outputs, and a module beside [`check`] with that clause; its proof is a line for each
+//! exit, by the lemmas of `wg_readings` on steps of jobs.
 //!
 //! The arcs of an archive in memory are printed:
 //!
@@ -21,10 +22,10 @@
 //! Ok(())
 //! ```
 //!
-//! [`check`] and [`printing`] read the graph in pieces, and [`check`] and [`show`] the offsets, so that an archive need
-//! not fit into memory; all other inputs are held whole until they are read. [`show`] opens pages by their offsets, and
-//! prints their successors as they come. [`spot`] holds the graph file and goes through the offsets, and judges no record
-//! but those that one page refers to.
+//! [`check`] and [`printing`] read the graph in pieces, and [`check`] and [`show`] the offsets, so that an archive
+//! need not fit into memory; all other inputs are held whole until they are read. [`show`] opens pages by their
+//! offsets, and prints their successors as they come. [`spot`] holds the graph file and goes through the offsets, and
+//! judges no record but those that one page refers to.
 #![tactic(auto)]
 
 mod certificate;

@@ -4,11 +4,12 @@
 //! [`load_params`], [`load_graph`], [`load_offsets`], [`load_list`], [`load_text`], [`load_weights`],
 //! [`load_certificate`] and [`load_map`] read a file whole; [`judge_graph`], [`judge_files`] and [`judge_offsets`] go
 //! through the files in pieces, and so do [`open_graph`], [`next_record`] and [`end_records`], record by record.
-//! [`successors_of_page`] judges the records that one page refers to, and no others. Each promises that it is a step of
-//! a judgement (`Judged`): it either yields a value or ends the job with a [`Status`](wg_outcomes::Status), and later
-//! inputs do not matter, unless running out of memory or a fault of the outside came in its place (`Steps`). A fault or
-//! an absence is reported only where its count rose, and no file changes. Which steps a job takes, and what it prints
-//! and writes, is said in `wg_outcomes`; the lemmas here on steps of jobs are what the commands are proved by.
+//! [`successors_of_page`] judges the records that one page refers to, and no others. Each promises that it is a step
+//! of a judgement (`Judged`): it either yields a value or ends the job with a [`Status`](wg_outcomes::Status), and
+//! later inputs do not matter, unless running out of memory or a fault of the outside came in its place (`Steps`). A
+//! fault or an absence is reported only where its count rose, and no file changes. Which steps a job takes, and what
+//! it prints and writes, is said in `wg_outcomes`; the lemmas here on steps of jobs are what the commands are proved
+//! by.
 //!
 //! The parameters of an archive, and how a job ends whose archive is not there:
 //!
@@ -29,8 +30,8 @@
 //! ```
 //!
 //! A judgement takes the graph of a file from a function that reads all graph files (`Readings`); the grammar leaves
-//! exactly one such function. The second archive of a job is read as a first is, and [`as_second`](wg_outcomes::as_second)
-//! turns the ending that this gives.
+//! exactly one such function. The second archive of a job is read as a first is, and
+//! [`as_second`](wg_outcomes::as_second) turns the ending that this gives.
 #![tactic(auto)]
 
 mod archive;
