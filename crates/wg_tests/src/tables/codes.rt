@@ -45,7 +45,11 @@ fn found(code: Code, text: &[u8]) -> Option<(Read, u64)> {
     }
     let before = (128 - text.len()) as u64;
     let bytes = packed(text);
-    let mut cursor = Cursor::new(Bits::of(&bytes), before);
+    let mut cursor = Cursor::new(Bits::of(&bytes), 0);
+    if cursor.remaining() < before {
+        return None;
+    }
+    cursor.advance(before);
     let result = read(code, &mut cursor);
     Some((result, cursor.at().saturating_sub(before)))
 }
