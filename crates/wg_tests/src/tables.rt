@@ -5,5 +5,3 @@ mod files;
 mod graphs;
 mod rankings;
 mod readings;
-mod rounds;
-mod words;

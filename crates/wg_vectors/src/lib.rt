@@ -4,11 +4,10 @@
 //! [`VECTORS`] has words of the five codes, [`NO_WORDS`] bits that are no word, and [`FOLDS`] numbers of either sign
 //! with their values. `wg_tests` runs each of them through `wg_codes`, both ways.
 //!
-//! [`ARCHIVES`] has worked archives, bit by bit, with the list of each page and the offset of each record. [`LONGER`]
-//! has legal archives that are not the shortest, and [`BAD_GRAPHS`] and [`BAD_OFFSETS`] have archives with a fault. An
-//! archive that a test needs by itself has a name of its own, as [`ONE_ARC`] or [`TWICE`]; those of which pages are
-//! read before the whole is checked are in [`unchecked`]. [`bytes_of`] turns the text of some bits into bytes, and
-//! [`usual`] makes parameters in the usual codes. The tests above read, write and refuse these archives.
+//! [`COPIED`] is an archive bit by bit, with the list of each page and the offset of each record, and [`TWICE`],
+//! [`BAD_TAIL`] and [`TOO_FEW_ARCS`] are archives with a fault. All other worked archives are rows of `wg_cli`, over
+//! which the program runs. [`bytes_of`] turns the text of some bits into bytes, and [`usual`] makes parameters in the
+//! usual codes.
 //!
 //! One of the worked archives, bit by bit, and a graph that is generated from the seed 7:
 //!
@@ -37,24 +36,12 @@ mod archives;
 mod bits;
 mod codes;
 mod drafting;
-mod faults;
 mod generating;
 pub mod laws;
-mod longer;
-mod shapes;
-pub mod unchecked;
+mod parameters;
 
-pub use archives::{
-    ARCHIVES, Archive, BLOCKS, CHAIN, COPIED, COPIED_DELTA, COPIED_GRAPH, COPIED_OFFSETS,
-    INTERVALS, LOOP, NO_PAGES, ONE_ARC, ONE_PAGE, PLAIN_ARC,
-};
+pub use archives::{Archive, BAD_TAIL, COPIED, Refused, TOO_FEW_ARCS, TWICE};
 pub use bits::bytes_of;
 pub use codes::{FOLDS, Folded, NO_WORDS, NoWord, VECTORS, Vector};
-pub use faults::{
-    BAD_GRAPHS, BAD_OFFSETS, BAD_TAIL, BLOCK_TOO_LONG, OFFSETS_BAD_TAIL, OFFSETS_CUT,
-    OFFSETS_NO_WORD, OFFSETS_NOT_FROM_0, OFFSETS_TOO_FAR, Refused, TOO_FEW_ARCS, TOO_LONG_A_CHAIN,
-    TWICE,
-};
 pub use generating::generate;
-pub use longer::LONGER;
-pub use shapes::{PLAIN, Shape, usual};
+pub use parameters::usual;

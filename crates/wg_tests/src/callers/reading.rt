@@ -23,10 +23,10 @@ use wg_vectors::usual;
 fn words_and_a_tail(rt: HostRuntime) {
     // 010 and 00101 in gamma, and then zeros
     let mut source = Cursor::new(Bits::of(b"\x45\x00"), 0);
-    assert_eq!(rt; source.read(Code::Gamma).ok(), Some(Read::Value(1)));
-    assert_eq!(rt; source.read(Code::Gamma).ok(), Some(Read::Value(4)));
-    assert_eq!(rt; Source::at(&source), 8);
-    assert_eq!(rt; source.tail_fault().ok(), Some(None));
+    assert!(rt; source.read(Code::Gamma).ok() == Some(Read::Value(1)));
+    assert!(rt; source.read(Code::Gamma).ok() == Some(Read::Value(4)));
+    assert!(rt; Source::at(&source) == 8);
+    assert!(rt; source.tail_fault().ok() == Some(None));
 }
 
 // In the overview of wg_decoder.
@@ -37,12 +37,12 @@ fn two_records(rt: HostRuntime) -> Result<(), Fail> {
     let params = usual(3, 4, 7, 3, 4)?;
     let mut window = Window::new(rt.alloc(), &params);
     let first = decode(rt.alloc(), &params, 0, 0, &window, &mut cursor)?;
-    assert_eq!(rt; first.list.as_slice(), [1, 2].as_slice());
+    assert!(rt; first.list.as_slice() == [1, 2].as_slice());
     window.push(first.list, first.depth)?;
     // page 1 copies the list of page 0
     let second = decode(rt.alloc(), &params, 1, 2, &window, &mut cursor)?;
-    assert_eq!(rt; second.list.as_slice(), [1, 2].as_slice());
-    assert_eq!(rt; (second.depth, cursor.at()), (1, 18));
+    assert!(rt; second.list.as_slice() == [1, 2].as_slice());
+    assert!(rt; second.depth == 1 && cursor.at() == 18);
     Ok(())
 }
 
@@ -51,12 +51,12 @@ fn two_records(rt: HostRuntime) -> Result<(), Fail> {
 fn offsets_of_three_records(rt: HostRuntime) -> Result<(), Fail> {
     // 1 0001101 00111 010: the words of 0, 12, 6 and 1
     let offsets = wg_offsets::read(rt.alloc(), b"\x8D\x3A", 3, Code::Gamma)?;
-    assert_eq!(rt; offsets.len(), 4);
-    assert_eq!(rt; (offsets.place(1), offsets.place(2)), (12, 18));
-    assert_eq!(rt; offsets.end(), 19);
+    assert!(rt; offsets.len() == 4);
+    assert!(rt; offsets.place(1) == 12 && offsets.place(2) == 18);
+    assert!(rt; offsets.end() == 19);
     let cut = wg_offsets::read(rt.alloc(), b"\x8D", 3, Code::Gamma);
     let word = OffsetWord::Cut(2);
-    assert_eq!(rt; cut.err(), Some(OffsetsError::Word(word)));
+    assert!(rt; cut.err() == Some(OffsetsError::Word(word)));
     Ok(())
 }
 
@@ -66,11 +66,11 @@ fn lists_of_a_graph_file(rt: HostRuntime) -> Result<(), Fail> {
     let mut depot = SteadyDepot::new(rt.alloc(), 4096);
     depot.put_file("web.graph", b"\x7D\xC6\xE0")?;
     let mut reader = Reader::new(rt.alloc(), usual(3, 4, 7, 3, 4)?, "web.graph")?;
-    assert_eq!(rt; reader.next(&mut depot)?, Some([1, 2].as_slice()));
-    assert_eq!(rt; reader.next(&mut depot)?, Some([1, 2].as_slice()));
-    assert_eq!(rt; reader.next(&mut depot)?, Some([].as_slice()));
-    assert_eq!(rt; reader.next(&mut depot)?, None);
-    assert_eq!(rt; reader.at(), 19);
+    assert!(rt; reader.next(&mut depot)? == Some([1, 2].as_slice()));
+    assert!(rt; reader.next(&mut depot)? == Some([1, 2].as_slice()));
+    assert!(rt; reader.next(&mut depot)? == Some([].as_slice()));
+    assert!(rt; reader.next(&mut depot)?.is_none());
+    assert!(rt; reader.at() == 19);
     Ok(())
 }
 
@@ -82,10 +82,10 @@ fn successors_one_by_one<L: Ledger>(
     steps: &mut Steps<L>,
 ) -> Result<(), Fail> {
     let mut successors = archive.open(alloc, 1, steps)?;
-    assert_eq!(rt; successors.outdegree(), 2);
-    assert_eq!(rt; successors.next(), Some(1));
-    assert_eq!(rt; successors.next(), Some(2));
-    assert_eq!(rt; successors.next(), None);
+    assert!(rt; successors.outdegree() == 2);
+    assert!(rt; successors.next() == Some(1));
+    assert!(rt; successors.next() == Some(2));
+    assert!(rt; successors.next().is_none());
     Ok(())
 }
 
@@ -109,14 +109,14 @@ fn successors_of_an_opened_page(rt: HostRuntime) -> Result<(), Fail> {
 #[test]
 fn records_are_checked_and_swept(rt: HostRuntime) -> Result<(), Fail> {
     let records = Records::check(rt.alloc(), b"\x7D\xC6\xE0", usual(3, 4, 7, 3, 4)?)?;
-    assert_eq!(rt; records.offset(1), 12);
+    assert!(rt; records.offset(1) == 12);
     let mut lists = records.sweep(rt.alloc())?;
-    assert_eq!(rt; lists.next_list(), Some([1, 2].as_slice()));
-    assert_eq!(rt; lists.next_list(), Some([1, 2].as_slice()));
-    assert_eq!(rt; lists.next_list(), Some([].as_slice()));
-    assert_eq!(rt; lists.next_list(), None);
+    assert!(rt; lists.next_list() == Some([1, 2].as_slice()));
+    assert!(rt; lists.next_list() == Some([1, 2].as_slice()));
+    assert!(rt; lists.next_list() == Some([].as_slice()));
+    assert!(rt; lists.next_list().is_none());
     lists.begin();
-    assert_eq!(rt; lists.next_list(), Some([1, 2].as_slice()));
+    assert!(rt; lists.next_list() == Some([1, 2].as_slice()));
     Ok(())
 }
 
@@ -126,12 +126,12 @@ fn a_union_and_its_quotient(rt: HostRuntime) -> Result<(), Fail> {
     let first = wg_arcs::read(rt.alloc(), b"0 1\n", 2)?;
     let second = wg_arcs::read(rt.alloc(), b"0 2\n1 2\n", 3)?;
     let both = union(rt.alloc(), &first, &second)?;
-    assert_eq!(rt; both.nodes(), 3);
-    assert_eq!(rt; both.list(0), [1, 2].as_slice());
+    assert!(rt; both.nodes() == 3);
+    assert!(rt; both.list(0) == [1, 2].as_slice());
     // pages 0 and 1 are class 0, and page 2 is class 1
     let mut classes = List::new(rt.alloc());
     classes.extend(&[0, 0, 1])?;
     let graph = quotient(rt.alloc(), &both, &classes, 2)?;
-    assert_eq!(rt; (graph.nodes(), graph.arcs()), (2, 2));
+    assert!(rt; graph.nodes() == 2 && graph.arcs() == 2);
     Ok(())
 }

@@ -57,7 +57,7 @@ fn readings_that_a_fault_closes(rt: HostRuntime) -> Result<(), Fail> {
     for (refused, first) in FAULTS {
         let mut depot = MemoryDepot::new(rt.alloc(), 3);
         depot.put_file("g", &bytes_of(rt.alloc(), refused.graph)?)?;
-        let params = refused.shape.params(refused.nodes, refused.arcs)?;
+        let params = usual(refused.nodes, refused.arcs, 7, 3, refused.interval)?;
         closes(&rt, rt.alloc(), &mut depot, params, first)?;
     }
     Ok(())
