@@ -11,7 +11,7 @@ pub fn params_of(layout: &Layout, nodes: u64, arcs: u64) -> Params
     requires arcs { arcs ≤ MOST_ARCS }
     ensures { result ≡ params_of layout.now nodes arcs }
 {
-    match Params::new(nodes, arcs, *layout) {
+    match Params::with_layout(nodes, arcs, *layout) {
         Ok(params) => params,
         Err(_) => unreachable!(),
     }

@@ -3,36 +3,36 @@
 //!
 //! [`Code`] names a code for whole numbers. A [`Layout`] says how an archive is written, whatever graph it holds, and may
 //! be anything. [`Params`] keeps one archive's parameters within their limits, the constants of this crate;
-//! [`Params::new`] is the one way to make it, and names the first [`Key`] that is out of its limits. Whoever holds a
-//! `Params` can rely on the limits: each call that reads a field ensures them.
+//! [`Params::new`] makes it of all parameters one by one, and [`Params::with_layout`] of a layout. Both name the first
+//! [`Key`] that is out of its limits. Whoever holds a `Params` can rely on the limits: each call that reads a field
+//! ensures them.
 //!
 //! Parameters of an archive in the usual codes, and some that are refused:
 //!
 //! ```rust
-//! let codes = Codes {
-//!     outdegrees: Code::Gamma,
-//!     references: Code::Unary,
-//!     block_counts: Code::Gamma,
-//!     blocks: Code::Gamma,
-//!     residuals: Code::Zeta(3),
-//!     offsets: Code::Gamma,
-//! };
-//! let layout = Layout {
-//!     window: 7,
-//!     chain: None,
-//!     interval: 4,
-//!     zeta: 3,
-//!     codes,
-//! };
-//! let params = Params::new(3, 4, layout)?;
+//! let params = Params::new(
+//!     3,
+//!     4,
+//!     7,
+//!     None,
+//!     4,
+//!     3,
+//!     Code::Gamma,
+//!     Code::Unary,
+//!     Code::Gamma,
+//!     Code::Gamma,
+//!     Code::Zeta(3),
+//!     Code::Gamma,
+//! )?;
 //! assert_eq!(rt; params.nodes(), 3);
 //! assert_eq!(rt; params.residuals(), Code::Zeta(3));
 //! // offsets are in gamma or delta
+//! let layout = params.layout();
 //! let codes = Codes {
 //!     offsets: Code::Unary,
-//!     ..codes
+//!     ..layout.codes
 //! };
-//! let other = Params::new(3, 4, Layout { codes, ..layout });
+//! let other = Params::with_layout(3, 4, Layout { codes, ..layout });
 //! assert_eq!(rt; other.err().map(|bad| bad.key), Some(Key::CompressionFlags));
 //! Ok(())
 //! ```

@@ -5,7 +5,7 @@ ghost use Rattle.wg_params.specs.Parameters.{AreCodes, IsWithinLimits, params_of
 ghost use Rattle.wg_params.specs.declared.limits.TheConstants.{MOST_PAGES, MOST_ARCS, MOST_WINDOW, MOST_CHAIN, MOST_INTERVAL, MOST_ZETA};
 
 use crate::limits::{MOST_ARCS, MOST_CHAIN, MOST_INTERVAL, MOST_PAGES, MOST_WINDOW, MOST_ZETA};
-use crate::{BadParam, Code, Key, Layout};
+use crate::{BadParam, Code, Codes, Key, Layout};
 use std::marker::Model;
 
 /// The parameters of one archive, within their limits.
@@ -96,9 +96,74 @@ fn has_its_codes(layout: &Layout) -> bool
 }
 
 impl Params {
-    /// The parameters of an archive of so many pages and arcs in this layout, if each is within its limits; a code that
-    /// its field may not have counts as the compression flags.
-    pub fn new(nodes: u64, arcs: u64, layout: Layout) -> Result<Params, BadParam>
+    /// The parameters of an archive, one by one: its pages and arcs, how many pages back a reference may reach, how many
+    /// references may lead from one page to the next (`None` for any number), the least length of an interval (0 for no
+    /// intervals), the shrinking factor of zeta, and the code of each field. The first that is out of its limits is
+    /// refused by its key; a code that its field may not have counts as the compression flags. It takes no memory.
+    pub fn new(
+        nodes: u64,
+        arcs: u64,
+        window: u64,
+        chain: Option<u64>,
+        interval: u64,
+        zeta: u32,
+        outdegrees: Code,
+        references: Code,
+        block_counts: Code,
+        blocks: Code,
+        residuals: Code,
+        offsets: Code,
+    ) -> Result<Params, BadParam>
+        ensures ok { IfOk result (λ p. p ≡ record {
+          nodes = nodes;
+          arcs = arcs;
+          window = window;
+          chain = chain;
+          interval = interval;
+          zeta = zeta;
+          outdegrees = outdegrees;
+          references = references;
+          block_counts = block_counts;
+          blocks = blocks;
+          residuals = residuals;
+          offsets = offsets;
+        }) }
+        ensures within { IfOk result (λ p. first_bad p ≡ None) }
+        ensures bad { IfErr result (λ e. first_bad (record {
+          nodes = nodes;
+          arcs = arcs;
+          window = window;
+          chain = chain;
+          interval = interval;
+          zeta = zeta;
+          outdegrees = outdegrees;
+          references = references;
+          block_counts = block_counts;
+          blocks = blocks;
+          residuals = residuals;
+          offsets = offsets;
+        }) ≡ Some e.key) }
+    {
+        let codes = Codes {
+            outdegrees,
+            references,
+            block_counts,
+            blocks,
+            residuals,
+            offsets,
+        };
+        let layout = Layout {
+            window,
+            chain,
+            interval,
+            zeta,
+            codes,
+        };
+        Params::with_layout(nodes, arcs, layout)
+    }
+
+    /// The parameters of an archive of so many pages and arcs in this layout, under the same limits.
+    pub fn with_layout(nodes: u64, arcs: u64, layout: Layout) -> Result<Params, BadParam>
         ensures ok { IfOk result (λ p. p ≡ params_of layout nodes arcs) }
         ensures within { IfOk result (λ p. first_bad p ≡ None) }
         ensures bad { IfErr result (λ e. first_bad (params_of layout nodes arcs) ≡ Some e.key) }

@@ -138,7 +138,7 @@ fn judge(values: &Values) -> Result<Params, PropFault>
         zeta,
         codes,
     };
-    match Params::new(nodes, arcs, layout) {
+    match Params::with_layout(nodes, arcs, layout) {
         Ok(params) => Ok(params),
         Err(bad) => Err(PropFault::Range(bad.key)),
     }

@@ -26,7 +26,7 @@ fn endless(params: &Params) -> Params
         chain: None,
         ..params.layout()
     };
-    match Params::new(params.nodes(), params.arcs(), layout) {
+    match Params::with_layout(params.nodes(), params.arcs(), layout) {
         Ok(params) => params,
         Err(_) => unreachable!(),
     }

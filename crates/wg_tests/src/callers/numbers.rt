@@ -3,7 +3,7 @@ use wg_bits::{Bits, Cursor};
 use wg_codes::{Read, fold, length, unfold};
 use wg_io::{LoadError, SteadyDepot, append_all, read_whole};
 use wg_num::{UNITS, decimal_into, read_decimal, units_text};
-use wg_params::{Code, Codes, Key, Layout, Params};
+use wg_params::{BadParam, Code, Codes, Key, Layout, Params};
 
 // In the overview of wg_num.
 #[test]
@@ -20,31 +20,30 @@ fn a_number_and_its_digits(rt: HostRuntime) {
 // In the overview of wg_params.
 #[test]
 fn parameters_within_their_limits(rt: HostRuntime) -> Result<(), Fail> {
-    let codes = Codes {
-        outdegrees: Code::Gamma,
-        references: Code::Unary,
-        block_counts: Code::Gamma,
-        blocks: Code::Gamma,
-        residuals: Code::Zeta(3),
-        offsets: Code::Gamma,
-    };
-    let layout = Layout {
-        window: 7,
-        chain: None,
-        interval: 4,
-        zeta: 3,
-        codes,
-    };
-    let params = Params::new(3, 4, layout)?;
-    assert!(rt; params.nodes() == 3);
-    assert!(rt; params.residuals() == Code::Zeta(3));
+    let params = Params::new(
+        3,
+        4,
+        7,
+        None,
+        4,
+        3,
+        Code::Gamma,
+        Code::Unary,
+        Code::Gamma,
+        Code::Gamma,
+        Code::Zeta(3),
+        Code::Gamma,
+    )?;
+    assert!(rt; params.nodes() == 3 && params.residuals() == Code::Zeta(3));
     // offsets are in gamma or delta
+    let layout = params.layout();
     let codes = Codes {
         offsets: Code::Unary,
-        ..codes
+        ..layout.codes
     };
-    let other = Params::new(3, 4, Layout { codes, ..layout });
-    assert!(rt; other.err().map(|bad| bad.key) == Some(Key::CompressionFlags));
+    let other = Params::with_layout(3, 4, Layout { codes, ..layout });
+    let key = Key::CompressionFlags;
+    assert!(rt; other.err() == Some(BadParam { key }));
     Ok(())
 }
 

@@ -1,6 +1,6 @@
 use Rattle.std.proofs.Common.{rules, sym, ◌∙◌, ap, if◌then◌else◌, None, Some, false}
 use Rattle.wg_params.specs.declared.key.Key.TheVariants as key
-use Rattle.wg_params.proofs.params.Params.new.Goals as goal
+use Rattle.wg_params.proofs.params.Params.with_layout.Goals as goal
 
 -- no number is out of its limits, and so the codes decide
 pub returns-then-not-has_its_codes-clause-bad : goal.returns-then-not-has_its_codes-clause-bad
