@@ -9,7 +9,7 @@ ghost use Rattle.wg_rank.specs.declared.limits.TheConstants.{UNITS};
 use crate::{CertError, CertFault, CertKind, Certificate};
 use std::alloc::{AllocError, Global};
 use wg_num::{first_line, read_decimal, read_units};
-use wg_params::MOST_DAMPING;
+use wg_params::{MOST_DAMPING, MOST_PAGES};
 
 // The first line and what comes after it, if there is one.
 fn next_line(rest: &[u8]) -> Option<(&[u8], &[u8])>
@@ -118,17 +118,20 @@ fn keep(low: &mut Vec<u128>, units: u128) -> Result<(), AllocError>
     Ok(())
 }
 
-// The bounds of `n` pages, from the third line on.
+// The bounds of `n` pages, from the third line on. There is room for those of MOST_PAGES pages at most.
 fn read_bounds(alloc: Global, bytes: &[u8], n: u64) -> Result<Vec<u128>, CertError>
-    requires { n ≤ MOST_PAGES }
     ensures read { AreRead (bounds_of 3 n (lines_of bytes.now)) result }
     ensures count { IfOk result (λ low. vec_len low ≡ n) }
+    ensures few { IfOk result (λ low. vec_len low ≤ MOST_PAGES) }
     ensures within { IfOk result (λ low. All (λ x. x ≤ UNITS) low.items) }
 {
     let mut low = Vec::new(alloc);
     let mut rest = bytes;
     for i in 0..n {
         let (units, after) = read_bound(rest, 3 + i)?;
+        if i >= MOST_PAGES {
+            return Err(CertError::Memory);
+        }
         keep(&mut low, units)?;
         rest = after;
     }
@@ -142,9 +145,9 @@ fn read_bounds(alloc: Global, bytes: &[u8], n: u64) -> Result<Vec<u128>, CertErr
 }
 
 /// Reads a certificate of `n` pages, or names its first fault. It takes 16 bytes for each bound as the lines come, and
-/// one pass over the text.
+/// one pass over the text. A certificate holds at most 2^36 - 1 bounds; a text with more of them is answered as if there
+/// were no memory for the next.
 pub fn read_certificate(alloc: Global, bytes: &[u8], n: u64) -> Result<Certificate, CertError>
-    requires { n ≤ MOST_PAGES }
     ensures read { IsRead (claim_of n bytes.now) result }
     ensures pages { IfOk result (λ c. length c.low ≡ n) }
 {
