@@ -13,13 +13,13 @@
 //!
 //! ```rust
 //! let graph = wg_arcs::read(rt.alloc(), b"# two arcs\n0 1\n 1\t2", 3)?;
-//! assert_eq!(rt; graph.arcs(), 2);
+//! assert!(rt; graph.arcs() == 2);
 //! let mut sink = SteadySink::new(rt.alloc(), 4096);
 //! wg_arcs::write(&graph, &mut sink)?;
-//! assert_eq!(rt; sink.bytes(), b"0 1\n1 2\n".as_slice());
+//! assert!(rt; sink.bytes() == b"0 1\n1 2\n".as_slice());
 //! let twice = wg_arcs::read(rt.alloc(), b"0 1\n0 1\n", 3);
 //! let kind = ArcsKind::Order;
-//! assert_eq!(rt; twice.err(), Some(ArcsError::Line { line: 2, kind }));
+//! assert!(rt; twice.err() == Some(ArcsError::Line { line: 2, kind }));
 //! Ok(())
 //! ```
 //!

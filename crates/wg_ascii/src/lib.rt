@@ -22,13 +22,13 @@
 //!
 //! ```rust
 //! let graph = wg_ascii::read(rt.alloc(), b" 3\n1  2\n2\n\n")?;
-//! assert_eq!(rt; graph.arcs(), 3);
+//! assert!(rt; graph.arcs() == 3);
 //! let mut sink = SteadySink::new(rt.alloc(), 4096);
 //! wg_ascii::write(&graph, &mut sink)?;
-//! assert_eq!(rt; sink.bytes(), b"3\n1 2\n2\n\n".as_slice());
+//! assert!(rt; sink.bytes() == b"3\n1 2\n2\n\n".as_slice());
 //! let short = wg_ascii::read(rt.alloc(), b"3\n1 2\n2\n");
 //! let kind = AsciiKind::Missing;
-//! assert_eq!(rt; short.err(), Some(AsciiError::Line { line: 4, kind }));
+//! assert!(rt; short.err() == Some(AsciiError::Line { line: 4, kind }));
 //! Ok(())
 //! ```
 //!

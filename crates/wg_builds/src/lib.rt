@@ -17,7 +17,7 @@
 //! let mut out = SteadySink::new(rt.alloc(), 4096);
 //! let done = build(rt.alloc(), &list, &base, 2, &layout, &mut depot, &mut out);
 //! assert!(rt; done.is_ok());
-//! assert_eq!(rt; out.bytes(), b"ok nodes=2 arcs=1 bits=10\n".as_slice());
+//! assert!(rt; out.bytes() == b"ok nodes=2 arcs=1 bits=10\n".as_slice());
 //! Ok(())
 //! ```
 //!

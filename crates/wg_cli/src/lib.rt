@@ -19,7 +19,7 @@
 //! let mut out = SteadySink::new(rt.alloc(), 4096);
 //! let mut err = SteadySink::new(rt.alloc(), 4096);
 //! let status = run_in_memory(rt.alloc(), &words, &mut depot, &mut out, &mut err);
-//! assert_eq!(rt; status, Status::Done);
+//! assert!(rt; status == Status::Done);
 //! assert!(rt; depot.holds("web.graph"));
 //! Ok(())
 //! ```

@@ -29,9 +29,9 @@
 //! let params = usual(graph.nodes(), graph.arcs(), 7, 3, 4)?;
 //! let mut depot = SteadyDepot::new(rt.alloc(), 4096);
 //! let summary = encode(rt.alloc(), params, &graph, &mut depot, "web")?;
-//! assert_eq!(rt; (summary.bits, summary.referring), (19, 1));
+//! assert!(rt; summary.bits == 19 && summary.referring == 1);
 //! let bytes = read_whole(rt.alloc(), &mut depot, "web.graph")?;
-//! assert_eq!(rt; bytes.as_slice(), b"\x7D\xC6\xE0".as_slice());
+//! assert!(rt; bytes.as_slice() == b"\x7D\xC6\xE0".as_slice());
 //! Ok(())
 //! ```
 //!

@@ -30,13 +30,13 @@
 //! // page 2 is the last, and each of the 4 arcs stands before it
 //! let mut progress = Progress::start(&params, 2, 4);
 //! if let Need::Read(field, code) = progress.need() {
-//!     assert_eq!(rt; (field, code), (Field::Outdegree, Code::Gamma));
-//!     assert_eq!(rt; progress.accept(1, None), Err(Kind::Total));
+//!     assert!(rt; field == Field::Outdegree && code == Code::Gamma);
+//!     assert!(rt; progress.accept(1, None) == Err(Kind::Total));
 //! }
 //! if let Need::Read(_, _) = progress.need() {
-//!     assert_eq!(rt; progress.accept(0, None), Ok(()));
+//!     assert!(rt; progress.accept(0, None) == Ok(()));
 //! }
-//! assert_eq!(rt; progress.need(), Need::End);
+//! assert!(rt; progress.need() == Need::End);
 //! Ok(())
 //! ```
 //!

@@ -12,11 +12,11 @@
 //! assert!(rt; builder.fits(1, 2) && !builder.fits(0, 2));
 //! builder.push(1, 2)?;
 //! let graph = builder.finish()?;
-//! assert_eq!(rt; graph.arcs(), 3);
-//! assert_eq!(rt; graph.list(0), [1, 2].as_slice());
+//! assert!(rt; graph.arcs() == 3);
+//! assert!(rt; graph.list(0) == [1, 2].as_slice());
 //! let mut lists = GraphLists::new(&graph);
-//! assert_eq!(rt; lists.next_list(), Some([1, 2].as_slice()));
-//! assert_eq!(rt; lists.next_list(), Some([2].as_slice()));
+//! assert!(rt; lists.next_list() == Some([1, 2].as_slice()));
+//! assert!(rt; lists.next_list() == Some([2].as_slice()));
 //! Ok(())
 //! ```
 //!

@@ -16,8 +16,8 @@
 //! ```rust
 //! // runs of at least 3 numbers are intervals: a left end, and a length
 //! let parts = split(rt.alloc(), &[0, 1, 2, 4, 5, 9], 3)?;
-//! assert_eq!(rt; parts.intervals.as_slice(), [0, 3].as_slice());
-//! assert_eq!(rt; parts.residuals.as_slice(), [4, 5, 9].as_slice());
+//! assert!(rt; parts.intervals.as_slice() == [0, 3].as_slice());
+//! assert!(rt; parts.residuals.as_slice() == [4, 5, 9].as_slice());
 //! Ok(())
 //! ```
 //!

@@ -21,9 +21,9 @@
 //! depot.put_file("arcs", b"0 1\n")?;
 //! append_all(&mut depot, "arcs", b"1 0\n")?;
 //! let bytes = read_whole(rt.alloc(), &mut depot, "arcs")?;
-//! assert_eq!(rt; bytes.as_slice(), b"0 1\n1 0\n".as_slice());
+//! assert!(rt; bytes.as_slice() == b"0 1\n1 0\n".as_slice());
 //! let other = read_whole(rt.alloc(), &mut depot, "weights");
-//! assert_eq!(rt; other.err(), Some(LoadError::Absent));
+//! assert!(rt; other.err() == Some(LoadError::Absent));
 //! Ok(())
 //! ```
 //!

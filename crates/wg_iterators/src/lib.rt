@@ -16,10 +16,10 @@
 //!
 //! ```rust
 //! let mut successors = archive.open(alloc, 1, steps)?;
-//! assert_eq!(rt; successors.outdegree(), 2);
-//! assert_eq!(rt; successors.next(), Some(1));
-//! assert_eq!(rt; successors.next(), Some(2));
-//! assert_eq!(rt; successors.next(), None);
+//! assert!(rt; successors.outdegree() == 2);
+//! assert!(rt; successors.next() == Some(1));
+//! assert!(rt; successors.next() == Some(2));
+//! assert!(rt; successors.next().is_none());
 //! Ok(())
 //! ```
 //!

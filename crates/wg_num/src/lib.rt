@@ -10,16 +10,13 @@
 //! A number and its digits, and a quarter in units:
 //!
 //! ```rust
-//! assert_eq!(rt; read_decimal(b"1024"), Some(1024));
-//! assert_eq!(rt; read_decimal(b"01024"), None);
+//! assert!(rt; read_decimal(b"1024") == Some(1024));
+//! assert!(rt; read_decimal(b"01024").is_none());
 //! let mut buffer = [0; 20];
 //! let count = decimal_into(1024, &mut buffer);
-//! assert_eq!(rt; &buffer[..count], b"1024".as_slice());
+//! assert!(rt; &buffer[..count] == b"1024".as_slice());
 //! let quarter = units_text(UNITS / 4);
-//! assert_eq!(rt;
-//!     quarter.as_slice(),
-//!     b"0.250000000000000000000000".as_slice()
-//! );
+//! assert!(rt; quarter.as_slice() == b"0.250000000000000000000000".as_slice());
 //! ```
 #![tactic(auto)]
 

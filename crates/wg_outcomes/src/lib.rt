@@ -12,9 +12,9 @@
 //!
 //! ```rust
 //! let missing = Ending::of(Status::Missing(Input::Properties));
-//! assert_eq!(rt; missing.status.code(), 6);
+//! assert!(rt; missing.status.code() == 6);
 //! let second = as_second(missing);
-//! assert_eq!(rt; second.status, Status::Missing(Input::SecondProperties));
+//! assert!(rt; second.status == Status::Missing(Input::SecondProperties));
 //! ```
 //!
 //! The equations take the graph of a file from a function that reads all graph files (`Readings`); `wg_laws` states

@@ -24,8 +24,7 @@
 //!     Code::Zeta(3),
 //!     Code::Gamma,
 //! )?;
-//! assert_eq!(rt; params.nodes(), 3);
-//! assert_eq!(rt; params.residuals(), Code::Zeta(3));
+//! assert!(rt; params.nodes() == 3 && params.residuals() == Code::Zeta(3));
 //! // offsets are in gamma or delta
 //! let layout = params.layout();
 //! let codes = Codes {
@@ -33,7 +32,8 @@
 //!     ..layout.codes
 //! };
 //! let other = Params::with_layout(3, 4, Layout { codes, ..layout });
-//! assert_eq!(rt; other.err().map(|bad| bad.key), Some(Key::CompressionFlags));
+//! let key = Key::CompressionFlags;
+//! assert!(rt; other.err() == Some(BadParam { key }));
 //! Ok(())
 //! ```
 #![tactic(auto)]

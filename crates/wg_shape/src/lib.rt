@@ -31,13 +31,13 @@
 //! let first = wg_arcs::read(rt.alloc(), b"0 1\n", 2)?;
 //! let second = wg_arcs::read(rt.alloc(), b"0 2\n1 2\n", 3)?;
 //! let both = union(rt.alloc(), &first, &second)?;
-//! assert_eq!(rt; both.nodes(), 3);
-//! assert_eq!(rt; both.list(0), [1, 2].as_slice());
+//! assert!(rt; both.nodes() == 3);
+//! assert!(rt; both.list(0) == [1, 2].as_slice());
 //! // pages 0 and 1 are class 0, and page 2 is class 1
 //! let mut classes = List::new(rt.alloc());
 //! classes.extend(&[0, 0, 1])?;
 //! let graph = quotient(rt.alloc(), &both, &classes, 2)?;
-//! assert_eq!(rt; (graph.nodes(), graph.arcs()), (2, 2));
+//! assert!(rt; graph.nodes() == 2 && graph.arcs() == 2);
 //! Ok(())
 //! ```
 //!

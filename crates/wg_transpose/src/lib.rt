@@ -15,9 +15,8 @@
 //! ```rust
 //! let graph = wg_arcs::read(rt.alloc(), b"0 1\n0 2\n1 2\n", 3)?;
 //! let transposed = transpose(rt.alloc(), &graph)?;
-//! assert_eq!(rt; transposed.nodes(), 3);
-//! assert_eq!(rt; transposed.list(0), [].as_slice());
-//! assert_eq!(rt; transposed.list(2), [0, 1].as_slice());
+//! assert!(rt; transposed.list(0) == [].as_slice());
+//! assert!(rt; transposed.list(2) == [0, 1].as_slice());
 //! Ok(())
 //! ```
 //!

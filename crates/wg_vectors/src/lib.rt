@@ -12,13 +12,12 @@
 //! One of the worked archives, bit by bit, and a graph that is generated from the seed 7:
 //!
 //! ```rust
-//! assert_eq!(rt; COPIED.graph, "011 1 1 1011 100  011 01 1  1");
+//! // 011 1 1 1011 100  011 01 1  1
 //! let bytes = bytes_of(rt.alloc(), COPIED.graph)?;
-//! assert_eq!(rt; bytes.as_slice(), b"\x7D\xC6\xE0".as_slice());
-//! assert_eq!(rt; COPIED.lists.first(), Some(&[1, 2].as_slice()));
-//! assert_eq!(rt; COPIED.places, [0, 12, 18, 19].as_slice());
+//! assert!(rt; bytes.as_slice() == b"\x7D\xC6\xE0".as_slice());
+//! assert!(rt; COPIED.places == [0, 12, 18, 19].as_slice());
 //! let graph = generate(rt.alloc(), 7, 1000)?;
-//! assert_eq!(rt; graph.nodes(), 1000);
+//! assert!(rt; graph.nodes() == 1000);
 //! Ok(())
 //! ```
 //!

@@ -15,8 +15,8 @@
 //! }
 //! match wg_words::job(rt.alloc(), &words)? {
 //!     Job::Show { base, pages } => {
-//!         assert_eq!(rt; base.as_str(), "web");
-//!         assert_eq!(rt; pages.as_slice(), [7, 0].as_slice());
+//!         assert!(rt; base.as_str() == "web");
+//!         assert!(rt; pages.as_slice() == [7, 0].as_slice());
 //!     }
 //!     _ => return Err("another job".into()),
 //! }

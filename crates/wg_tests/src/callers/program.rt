@@ -32,14 +32,15 @@ fn parameters_of_an_archive(rt: HostRuntime) -> Result<(), Fail> {
     let text = wg_properties::write(rt.alloc(), &usual(3, 4, 7, 3, 4)?)?;
     depot.put_file("web.properties", text.as_slice())?;
     let web = Name::new(rt.alloc(), "web")?;
-    let arcs = load_params(rt.alloc(), &mut depot, &web)
-        .ok()
-        .map(|params| params.arcs());
-    assert!(rt; arcs == Some(4));
+    let Ok(params) = load_params(rt.alloc(), &mut depot, &web) else {
+        return Err("no parameters".into());
+    };
+    assert!(rt; params.arcs() == 4);
     let other = Name::new(rt.alloc(), "other")?;
-    let ending = load_params(rt.alloc(), &mut depot, &other).err();
-    let missing = Status::Missing(Input::Properties);
-    assert!(rt; ending.map(|ending| ending.status) == Some(missing));
+    let Err(ending) = load_params(rt.alloc(), &mut depot, &other) else {
+        return Err("parameters of no file".into());
+    };
+    assert!(rt; ending.status == Status::Missing(Input::Properties));
     Ok(())
 }
 
