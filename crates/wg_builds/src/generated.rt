@@ -14,7 +14,7 @@ use crate::writing::write_archive;
 use std::alloc::Global;
 use wg_graph::{Graph, GraphLists};
 use wg_io::SteadyDepot;
-use wg_order::Summary;
+use wg_order::RankingSummary;
 use wg_outcomes::{BULK_ROUNDS, Ending, Outcome, Status, last_bounds, params_of, room_for};
 use wg_params::Params;
 use wg_rank::Bounds;
@@ -123,7 +123,7 @@ fn summed(checked: &Checked, referring: u64, bounds: Bounds) -> Outcome
         → referring ≡ referring_pages (bulk_params g) g.lists
         → bounds ≡ bounds_after g None DEFAULT_DAMPING BULK_ROUNDS → result ≡ outcome_of r g }
 {
-    let ranking = Summary::of(bounds);
+    let ranking = RankingSummary::of(bounds);
     Outcome {
         pages: checked.params.nodes(),
         arcs: checked.params.arcs(),

@@ -2,8 +2,8 @@
 use Rattle.wg_grammar.specs.declared.fault.OffsetWord.{OffsetWord}
 use Rattle.wg_offsets.specs.declared.error.WordError.{WordError}
 use Rattle.wg_offsets.specs.declared.error.WordError.TheVariants as words
-use Rattle.wg_offsets.specs.declared.error.ReadError.{ReadError}
-use Rattle.wg_offsets.specs.declared.error.ReadError.TheVariants as reads
+use Rattle.wg_offsets.specs.declared.error.PlacesError.{PlacesError}
+use Rattle.wg_offsets.specs.declared.error.PlacesError.TheVariants as reads
 use Rattle.wg_offsets.specs.Errors.{OfWord, OfRefusal, of_word, IfWordOf, IfRefusalOf, known_error}
 use Rattle.wg_offsets.specs.Stages.{IfWord}
 
@@ -15,7 +15,7 @@ pub refusal_of_file : {R : Type 0} (x : WordError R) (P Q : R → Type 0) → ((
 refusal_of_file (words.Word w) P Q on h = tt
 refusal_of_file (words.Refused r) P Q on h = on r h
 
-pub word_of_bits : {R : Type 0} (x : ReadError R) (P : OffsetWord → Type 0) → IfWordOf x P → IfWord (known_error x) P
+pub word_of_bits : {R : Type 0} (x : PlacesError R) (P : OffsetWord → Type 0) → IfWordOf x P → IfWord (known_error x) P
 word_of_bits (reads.Word w) P h = h
 word_of_bits (reads.Refused r) P h = tt
 word_of_bits reads.Memory P h = tt

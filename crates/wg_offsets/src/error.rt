@@ -51,7 +51,7 @@ impl<R> From<OffsetWord> for WordError<R> {
 }
 
 /// Why the offsets were not read from a source.
-pub enum ReadError<R> {
+pub enum PlacesError<R> {
     /// The first fault of its words, or of the tail after them.
     Word(OffsetWord),
     /// The source refused to read on.
@@ -60,25 +60,25 @@ pub enum ReadError<R> {
     Memory,
 }
 
-impl<R> From<WordError<R>> for ReadError<R> {
+impl<R> From<WordError<R>> for PlacesError<R> {
     ghost use Rattle.wg_offsets.specs.Errors.{of_word};
 
     ghost from_gives = { λ w e. e ≡ of_word w };
 
     fn from(error: WordError<R>) -> Self {
         match error {
-            WordError::Word(word) => ReadError::Word(word),
-            WordError::Refused(refusal) => ReadError::Refused(refusal),
+            WordError::Word(word) => PlacesError::Word(word),
+            WordError::Refused(refusal) => PlacesError::Refused(refusal),
         }
     }
 }
 
-impl<R> From<AllocError> for ReadError<R> {
-    ghost use Rattle.wg_offsets.specs.declared.error.ReadError.TheVariants as reads;
+impl<R> From<AllocError> for PlacesError<R> {
+    ghost use Rattle.wg_offsets.specs.declared.error.PlacesError.TheVariants as reads;
 
     ghost from_gives = { λ _ e. e ≡ reads.Memory };
 
     fn from(_error: AllocError) -> Self {
-        ReadError::Memory
+        PlacesError::Memory
     }
 }

@@ -36,7 +36,7 @@ mod reading;
 mod words;
 
 pub use comparing::Comparison;
-pub use error::{OffsetsError, ReadError, WordError};
+pub use error::{OffsetsError, PlacesError, WordError};
 pub use places::{MOST_PLACE, Offsets};
 pub use reading::{read, read_from};
 pub use words::Words;

@@ -8,7 +8,7 @@ ghost use Rattle.wg_offsets.specs.Errors.{IfWordOf, IfRefusalOf, known_error};
 ghost use Rattle.wg_offsets.specs.Words.{ReadsOffsets};
 ghost use Rattle.wg_offsets.specs.Stages.{IfWord};
 
-use crate::{Offsets, OffsetsError, ReadError, Words};
+use crate::{Offsets, OffsetsError, PlacesError, Words};
 use std::alloc::Global;
 use std::convert::Infallible;
 use wg_bits::{Bits, Cursor};
@@ -33,13 +33,13 @@ pub fn read(alloc: Global, bytes: &[u8], n: u64, code: Code) -> Result<Offsets, 
 }
 
 // Why bits in memory were not read. They refuse no word.
-fn error_of(error: ReadError<Infallible>) -> OffsetsError
+fn error_of(error: PlacesError<Infallible>) -> OffsetsError
     ensures { result ≡ known_error error }
 {
     match error {
-        ReadError::Word(word) => OffsetsError::Word(word),
-        ReadError::Memory => OffsetsError::Memory,
-        ReadError::Refused(never) => match never {},
+        PlacesError::Word(word) => OffsetsError::Word(word),
+        PlacesError::Memory => OffsetsError::Memory,
+        PlacesError::Refused(never) => match never {},
     }
 }
 
@@ -49,7 +49,7 @@ pub fn read_from<S: Source>(
     source: &mut S,
     n: u64,
     code: Code,
-) -> Result<Offsets, ReadError<S::Refusal>>
+) -> Result<Offsets, PlacesError<S::Refusal>>
     requires start { S.offset source.old ≡ 0 }
     requires pages { n ≤ MOST_PAGES }
     requires code { is_gamma_or_delta code ≡ true }

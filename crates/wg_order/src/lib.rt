@@ -11,7 +11,7 @@
 //!                    \---> rising (upper bounds) --> worst
 //! ```
 //!
-//! A [`Summary`] says what a ranking comes to, and needs less time for it: both bounds are sorted by themselves.
+//! A [`RankingSummary`] says what a ranking comes to, and needs less time for it: both bounds are sorted by themselves.
 //!
 //! Two rounds at a low damping settle the ranking of the graph with the arc from page 0 to page 1:
 //!
@@ -33,9 +33,9 @@
 //! The function of [`laws`] states that any bounds have one ranking.
 //!
 //! [`Ranking::of`] takes the bounds over and sorts in the room of their rounds, so it takes no memory: bounds and
-//! ranking together hold the 64 bytes for each page that the bounds held. [`Summary::of`] does so too. [`Ranking::new`] takes as many of its own,
-//! for any number of [`Ranking::fill`], which copies bounds and leaves them as they are; with those bounds that is 128
-//! for each page.
+//! ranking together hold the 64 bytes for each page that the bounds held. [`RankingSummary::of`] does so too.
+//! [`Ranking::new`] takes as many of its own, for any number of [`Ranking::fill`], which copies bounds and leaves them
+//! as they are; with those bounds that is 128 for each page.
 #![tactic(auto)]
 
 mod arranging;
@@ -46,4 +46,4 @@ mod sorting;
 mod summary;
 
 pub use ranking::Ranking;
-pub use summary::Summary;
+pub use summary::RankingSummary;

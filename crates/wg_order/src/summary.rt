@@ -9,17 +9,17 @@ use wg_rank::Bounds;
 
 /// What a ranking of pages comes to.
 #[derive(Clone, Copy, Drop)]
-pub struct Summary {
+pub struct RankingSummary {
     /// The first page, if there is any.
     pub first: Option<u64>,
     /// How many pages have one position alone.
     pub sure: u64,
 }
 
-impl Summary {
+impl RankingSummary {
     /// That of the ranking by these bounds, which it takes over. The pages need not be ranked for it: it takes time for
     /// two sorts of numbers, and no memory, as these are sorted where rounds added up what flows to the pages.
-    pub fn of(bounds: Bounds) -> Summary
+    pub fn of(bounds: Bounds) -> RankingSummary
         ensures { (s : Positions) → s.low ≡ bounds.low → s.high ≡ bounds.high → IsRanking s.low s.high s.pages
             → result ≡ summary_of s }
     {
@@ -27,7 +27,7 @@ impl Summary {
         let (falling, rising) = sorted.split_at_mut(low.len());
         sort_falling(falling, &low);
         sort_rising(rising, &high);
-        Summary {
+        RankingSummary {
             first: first_page(&low, &high),
             sure: count_sure(&low, &high, falling, rising),
         }

@@ -3,7 +3,7 @@ use Rattle.wg_params.specs.Parameters.{Parameters}
 use Rattle.wg_rank.specs.Intervals.{Intervals}
 use Rattle.wg_order.specs.Order.{Positions}
 use Rattle.wg_order.specs.Summary.{summary_of}
-use Rattle.wg_order.specs.declared.summary.Summary.{Summary}
+use Rattle.wg_order.specs.declared.summary.RankingSummary.{RankingSummary}
 use Rattle.wg_outcomes.specs.Bulk.{bulk_positions}
 use Rattle.wg_builds.proofs.generated.summed.Goals as goal
 
@@ -18,6 +18,6 @@ returns c = λ r g params bits referring is.
       arcs = (c.arcs.ensures.value ∙ ap (λ (p : Parameters). p.arcs) params) i;
       bits = bits i;
       referring = referring i;
-      first = ap (λ (x : Summary). x.first) ranking i;
-      sure = ap (λ (x : Summary). x.sure) ranking i;
+      first = ap (λ (x : RankingSummary). x.first) ranking i;
+      sure = ap (λ (x : RankingSummary). x.sure) ranking i;
     }

@@ -1,6 +1,6 @@
 use Rattle.std.proofs.Common.{true, [], sym, ◌∙◌}
 use Rattle.wg_order.specs.Summary.{sure_pages}
-use Rattle.wg_order.proofs.summary.Summary.of.Goals as goal
+use Rattle.wg_order.proofs.summary.RankingSummary.of.Goals as goal
 
 pub returns : goal.returns
 returns c = λ s low_is high_is ranked.
