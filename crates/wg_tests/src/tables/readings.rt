@@ -62,19 +62,3 @@ fn readings_that_a_fault_closes(rt: HostRuntime) -> Result<(), Fail> {
     }
     Ok(())
 }
-
-// Of 200 pages without successors each has one bit. The first read looks at the limit, 25 move a byte, and the last
-// finds the end.
-#[test]
-fn readings_that_a_read_closes(rt: HostRuntime) -> Result<(), Fail> {
-    let params = usual(200, 0, 7, 3, 4)?;
-    let mut none = MemoryDepot::new(rt.alloc(), 1);
-    closes(&rt, rt.alloc(), &mut none, params, First::Absent)?;
-    for k in 1..28_u64 {
-        let mut depot = MemoryDepot::new(rt.alloc(), 1);
-        depot.put_file("g", &[255; 25])?;
-        depot.fail_read(k);
-        closes(&rt, rt.alloc(), &mut depot, params, First::Failed)?;
-    }
-    Ok(())
-}
