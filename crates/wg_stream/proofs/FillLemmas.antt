@@ -1,5 +1,5 @@
 -- Words of the bytes that are held, and of the file.
-use Rattle.std.proofs.Common.{◌≡◌, ◌⊎◌, ℕ, ◌+◌, ◌-◌, ◌/◌, ◌<◌, ◌≤◌, Bool, true, false, List, [], ◌∷◌, ◌++◌, length, drop, refl, sym, ◌∙◌, ap, subst, ⊎_elim, inl, inr, arith, append_assoc, length-append}
+use Rattle.std.proofs.Common.{◌≡◌, ◌⊎◌, ℕ, ◌+◌, ◌-◌, ◌/◌, ◌<◌, ◌≤◌, Bool, true, false, List, [], ◌∷◌, ◌++◌, length, drop, refl, sym, ◌∙◌, ap, subst, ⊎_elim, inl, inr, arith, append_assoc, length-append, length-drop}
 use Rattle.std.proofs.Math.ListN.{replicate}
 use Rattle.std.proofs.lemmas.List.{replicate-append-replicate, length-replicate}
 use Rattle.wg_bits.specs.Bits.{bits_of, BeginsWithNoZero}
@@ -14,7 +14,7 @@ use Rattle.wg_codes.specs.Reading.{Reads}
 use Rattle.wg_codes.specs.Words.{word, top}
 use Rattle.wg_codes.specs.declared.outcome.Read.{Read}
 use Rattle.wg_stream.specs.declared.stretch.TheConstants.{WORD}
-use Rattle.wg_stream.specs.Held.{Held, IsHeldOf, IsInside, ahead, HoldsNext}
+use Rattle.wg_stream.specs.Held.{Held, IsHeldOf, IsInside, IsSmall, ahead, HoldsNext}
 use Rattle.wg_stream.proofs.HeldLemmas.{rest_of_file, length-ahead, dropped}
 
 -- how many reads may still be needed: one for the end, and one for each byte that a word lacks
@@ -49,6 +49,10 @@ pub passed_dropped : (file : List ℕ) (g h : Held) → IsInside g → h ≡ rec
 passed_dropped file g h inside e i =
     dropped file g h (g.at / 8 - g.first) (omega (arith, inside.to, inside.from)) (ap (λ (x : Held). x.bytes) e)
     (omega (arith, ap (λ (x : Held). x.first) e, inside.from)) (ap (λ (x : Held). x.ended) e) (ap (λ (x : Held). x.looked) e) i
+
+-- fewer bytes are held then, from the byte of the next bit on
+pub dropped_small : (g h : Held) → h ≡ record g { bytes = drop (g.at / 8 - g.first) g.bytes; first = g.at / 8 } → IsSmall g → IsSmall h
+dropped_small g h e s = subst IsSmall (sym e) (record { few = omega (arith, length-drop (g.at / 8 - g.first) g.bytes, s.few); from = omega arith })
 
 -- ---- a word of a code other than unary
 pub no_bits : (bytes : List ℕ) → bytes ≡ [] → bits_of bytes ≡ []

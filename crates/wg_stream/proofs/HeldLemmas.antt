@@ -9,7 +9,8 @@ use Rattle.wg_bits.specs.Bits.{bits_of, Position, rest, moved}
 use Rattle.wg_io.specs.Reads.{Reads, IsPieceOf}
 use Rattle.wg_bits.proofs.Words.{length-bits_of}
 use Rattle.wg_bits.proofs.Writes.{bits_of-append}
-use Rattle.wg_stream.specs.Held.{Held, IsHeldOf, IsInside, ahead}
+use Rattle.wg_stream.specs.Held.{Held, IsHeldOf, IsInside, IsSmall, ahead}
+use Rattle.wg_stream.specs.declared.stretch.TheConstants.{MOST_HELD}
 
 -- the bits of the file from the next one on
 pub rest_of_file : (file : List ℕ) (h : Held) (i : IsHeldOf file h) → IsInside h → drop h.at (bits_of file) ≡ ahead h ++ bits_of i.behind
@@ -73,6 +74,13 @@ added file h1 h2 buf count piece bytes first more looked i =
       ended = λ e. absurd (more e);
       short = λ e. i.short (sym looked ∙ e);
     }
+
+-- few bytes are held with one piece more, and where there is none
+pub added_small : (g h : Held) (piece : List ℕ) → length g.bytes + length piece ≤ MOST_HELD → h ≡ record g { bytes = g.bytes ++ piece } → IsSmall g → IsSmall h
+added_small g h piece room e s = subst IsSmall (sym e) (record { few = omega (arith, length-append g.bytes piece, room); from = s.from })
+
+pub end_small : (g h : Held) → h ≡ record g { ended = true } → IsSmall g → IsSmall h
+end_small g h e s = subst IsSmall (sym e) (record { few = s.few; from = s.from })
 
 -- the file has no more bytes
 pub at_end : (file : List ℕ) (h1 h2 : Held) → length file ≤ h1.first + length h1.bytes → h2 ≡ record h1 { ended = true } → IsHeldOf file h1 → IsHeldOf file h2

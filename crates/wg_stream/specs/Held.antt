@@ -2,6 +2,7 @@
 use Rattle.std.specs.Prelude.{◌≡◌, ◌⊎◌, ℕ, ◌+◌, ◌-◌, ◌*◌, ◌/◌, ◌≤◌, Bool, true, List, [], ◌++◌, length, drop}
 use Rattle.wg_io.specs.declared.limits.TheConstants.{MOST_BYTES}
 use Rattle.wg_bits.specs.Bits.{bits_of}
+use Rattle.wg_stream.specs.declared.stretch.TheConstants.{MOST_HELD}
 
 -- some bytes; the offset of the first of them in the file; the offset of the next bit; whether the file has no more
 -- bytes; and whether the file was found to be no longer than the limit
@@ -33,3 +34,8 @@ HoldsNext most h = (h.ended ≡ true) ⊎ (h.at / 8 + most ≤ h.first + length 
 pub record IsInside (h : Held) : Type 0 where
   pub from : 8 * h.first ≤ h.at
   pub to : h.at ≤ 8 * (h.first + length h.bytes)
+
+-- no more bytes are held than that, and they begin no later than the next bit
+pub record IsSmall (h : Held) : Type 0 where
+  pub few : length h.bytes ≤ MOST_HELD
+  pub from : 8 * h.first ≤ h.at

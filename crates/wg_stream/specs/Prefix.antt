@@ -25,6 +25,7 @@ pub record AreSound (r : PagesRead) : Type 0 where
   pub serves : Serves r.params r.page r.kept
   pub ascends : Ascends 0 r.list
   pub below : Below r.params.nodes r.list
+  pub near : length r.kept ≤ r.params.window
 
 -- the records of so many pages with so many arcs stand from the first bit to the bit at, and these pages are kept of
 -- them

@@ -10,7 +10,7 @@ use Rattle.wg_stream.specs.declared.state.State.{State}
 use Rattle.wg_stream.specs.declared.state.State.TheVariants.{Open, Done, Closed}
 use Rattle.wg_stream.specs.declared.stream_error.StreamError.{StreamError}
 use Rattle.wg_stream.specs.FirstError.{OfGraph}
-use Rattle.wg_stream.specs.Held.{Held, IsHeldOf}
+use Rattle.wg_stream.specs.Held.{Held, IsHeldOf, IsSmall}
 use Rattle.wg_stream.specs.Prefix.{PagesRead, AreBehind}
 
 -- what was read of the records; the name of the file; the end of the last record; what is held of the file; and
@@ -22,8 +22,8 @@ pub record Reading : Type 0 where
   pub held : Held
   pub state : State
 
--- what holds whatever the bytes are: the next record begins at the end of the last; and at the end all pages were read,
--- with the promised arcs
+-- what holds whatever the bytes are: the next record begins at the end of the last; at the end all pages were read, with
+-- the promised arcs; and no more lists are kept than the window has, and few bytes are held
 abbrev pub Stands : Reading → State → Type 0
 Stands r Open = r.held.at ≡ r.at
 Stands r Done = (r.pages.page ≡ r.pages.params.nodes) × (r.pages.arcs ≡ r.pages.params.arcs)
@@ -32,6 +32,8 @@ Stands r (Closed e) = Unit {0}
 pub record IsSteady (r : Reading) : Type 0 where
   pub bound : r.at ≤ 8 * MOST_BYTES
   pub stands : Stands r r.state
+  pub few : length r.pages.kept ≤ r.pages.params.window
+  pub small : IsSmall r.held
 
 -- these are the records of the file that were read, the last of them first, and what is held is a part of the file
 pub record AreReadOf (file : List ℕ) (r : Reading) (whole : List Whole) : Type 0 where

@@ -4,7 +4,7 @@ use Rattle.std.specs.FinMap as map
 use Rattle.wg_io.specs.Outside.{Files, Counts, Increased}
 use Rattle.wg_io.specs.declared.whole.LoadError.{LoadError}
 use Rattle.wg_io.proofs.FilesLemmas.{none_falls-trans}
-use Rattle.wg_stream.specs.Held.{Held, IsHeldOf}
+use Rattle.wg_stream.specs.Held.{Held, IsHeldOf, IsSmall}
 use Rattle.wg_stream.specs.Stepping.{Steps, HasCause}
 
 pub no_step : (told : Bool) (name : List ℕ) (f : Files) (c : List ℕ → Counts) (h : Held) → Steps told name f f c c h h
@@ -14,6 +14,7 @@ no_step told name f c h = record {
   onward = omega arith;
   looked = λ e. e;
   in_step = λ t file is i. i;
+  small = λ s. s;
 }
 
 -- the file that is there stays there
@@ -29,6 +30,7 @@ two_steps told name1 name2 f1 f2 f3 c1 c2 c3 h1 h2 h3 same a b = record {
   onward = omega (arith, a.onward, b.onward);
   looked = λ e. b.looked (a.looked e);
   in_step = λ t file is i. b.in_step t file (still_there told name1 name2 f1 f2 c1 c2 h1 h2 file same a is) (a.in_step t file is i);
+  small = λ s. b.small (a.small s);
 }
 
 increased_later : (a b c : ℕ) → a ≤ b → Increased b c → Increased a c
@@ -46,6 +48,10 @@ later_cause told name1 name2 f1 f2 c1 c2 c3 h1 h2 e same a b =
       long = λ t file is i x. here.long t file (still_there told name1 name1 f1 f2 c1 c2 h1 h2 file refl a is) (a.in_step t file is i) x;
     }
 
+-- as few bytes are held after a move
+moved_small : (g h : Held) (n : ℕ) → g.at ≤ n → h ≡ record g { at = n } → IsSmall g → IsSmall h
+moved_small g h n on e s = subst IsSmall (sym e) (record { few = s.few; from = omega (arith, s.from, on) })
+
 -- the same bytes are held, and the offset is a later one
 pub then_moved : (told : Bool) (name : List ℕ) (f1 f2 : Files) (c1 c2 : List ℕ → Counts) (h1 h2 h3 : Held) (n : ℕ)
     → h2.at ≤ n → Steps told name f1 f2 c1 c2 h1 h2 → h3 ≡ record h2 { at = n } → Steps told name f1 f2 c1 c2 h1 h3
@@ -57,4 +63,5 @@ then_moved told name f1 f2 c1 c2 h1 h2 h3 n on a e = record {
   in_step = λ t file is i.
       let j = a.in_step t file is i in
       subst (IsHeldOf file) (sym e) (record { before = j.before; behind = j.behind; whole = j.whole; offset = j.offset; ended = j.ended; short = j.short });
+  small = λ s. moved_small h2 h3 n on e (a.small s);
 }

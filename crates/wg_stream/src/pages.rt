@@ -21,9 +21,9 @@ use wg_params::Params;
 /// of the pages before, and stands at the page that comes next.
 ///
 /// It is seen as its parameters, how many pages and arcs were read, what is kept of the pages before, and the list of
-/// the page that was read last. It holds the lists of the window, each with room for at most twice its numbers, and a
-/// few lists with room for as many as the longest. Hand in the same source at each call: the clauses on bits are of one
-/// that was.
+/// the page that was read last. It keeps no more lists than the window of the parameters has, each with room for at most
+/// twice its numbers, and four lists at most with room for as many as the longest, and one that has left the window. Hand
+/// in the same source at each call: the clauses on bits are of one that was.
 #[derive(Drop)]
 pub struct Pages {
     params: Params,
@@ -52,6 +52,7 @@ fn keep(window: &mut Window, spares: &mut Spares, decoded: &Decoded) -> Result<(
     ensures window { window.new.window ≡ window.old.window }
     ensures ok { OnOk result (window.new.behind ≡ take window.old.window (known_of decoded.now ∷ window.old.behind)) }
     ensures err { OnErr result (window.new ≡ window.old) }
+    ensures few { OnOk result (length window.new.behind ≤ window.new.window) }
 {
     let copy = spares.copy_of(decoded.list.as_slice())?;
     if let Some(furthest) = window.exchange(copy, decoded.depth)? {
@@ -67,6 +68,7 @@ impl Pages {
         ensures limits { IsWithinLimits params }
         ensures none { (result.page ≡ 0) × (result.arcs ≡ 0) × (result.list ≡ []) }
         ensures behind { (bits : ListOf Bool) → AreBehind bits result 0 [] }
+        ensures kept { result.kept ≡ [] }
     {
         Pages {
             params,
@@ -114,6 +116,7 @@ impl Pages {
         ensures fault { (bits : ListOf Bool) (behind : ListOf Whole) → S.reads_from source.old bits
             → AreBehind bits self.old (S.offset source.old) behind
             → OnFault result (λ f. ReadsGraph self.old.params bits (Err f)) }
+        ensures few { length self.new.kept ≤ self.new.params.window }
     {
         let decoded = decode_from(
             &self.params,

@@ -64,6 +64,7 @@ pub fn next_record<D: Depot>(
         → IsHeldOf file held.old
         → (behind : ListOf Whole) → AreBehind (bits_of file) pages.old held.old.at behind
         → IfErr result (λ e. OfGraph e (λ f. ReadsGraph pages.old.params (bits_of file) (Err f))) }
+    ensures few { length pages.new.kept ≤ pages.new.params.window }
 {
     let mut source = FileSource::new(depot, name, held);
     match pages.next(&mut source) {
@@ -134,6 +135,8 @@ pub fn go_on<D: Depot>(
         → IsHeldOf file held.old
         → (behind : ListOf Whole) → AreBehind (bits_of file) pages.old held.old.at behind
         → IfErr result (λ e. OfGraph e (λ f. IsJudged file pages.old.params (Err f))) }
+    ensures few { length pages.old.kept ≤ pages.old.params.window
+        → length pages.new.kept ≤ pages.new.params.window }
 {
     held.look(depot, name)?;
     if pages.is_done() {

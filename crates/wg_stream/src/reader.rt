@@ -1,5 +1,5 @@
 //! A graph file, read list after list.
-ghost use Rattle.std.specs.Prelude.{◌≡◌, ◌+◌, ◌*◌, ◌≤◌, ℕ, true, false, List as ListOf, [], ◌∷◌, Some, None, Ok, Err, length, string_bytes, IsTrue, OnOk, IfOk, IfErr, IfSome, MatchOption};
+ghost use Rattle.std.specs.Prelude.{◌≡◌, ◌+◌, ◌*◌, ◌/◌, ◌≤◌, ℕ, true, false, List as ListOf, [], ◌∷◌, Some, None, Ok, Err, length, string_bytes, IsTrue, OnOk, IfOk, IfErr, IfSome, MatchOption};
 ghost use Rattle.std.specs.FinMap as map;
 ghost use Rattle.wg_io.specs.declared.limits.TheConstants.{MOST_BYTES};
 ghost use Rattle.wg_io.specs.Outside.{NonDecreasing};
@@ -12,6 +12,7 @@ ghost use Rattle.wg_stream.specs.declared.stream_error.StreamError.TheVariants a
 ghost use Rattle.wg_stream.specs.FirstError.{of_first, OfOutside};
 ghost use Rattle.wg_stream.specs.Reading.{IsInStep, StaysInStep};
 ghost use Rattle.wg_stream.specs.Stepping.{HasCause};
+ghost use Rattle.wg_stream.specs.declared.stretch.TheConstants.{MOST_HELD};
 
 use crate::parts::go_on;
 use crate::state::State;
@@ -22,6 +23,11 @@ use wg_io::Depot;
 use wg_params::Params;
 
 /// A graph file that is read list after list, in pieces of at most 4096 bytes.
+///
+/// It keeps no more lists of the pages before than the window of the parameters has, and the list that it lends. Five
+/// lists more at most wait for their memory to be used again, of which no clause speaks. Of the file it holds at most
+/// [`MOST_HELD`](crate::MOST_HELD) bytes, however long a record is: behind the record of a list that it has lent it has
+/// read no further than that. All this holds after each call, after an error too, and whatever the depot answers.
 #[derive(Drop)]
 pub struct Reader {
     pages: Pages,
@@ -46,7 +52,7 @@ impl Reader {
     ghost use Rattle.std.specs.Borrow.{sem};
     ghost use Rattle.wg_stream.specs.Lending.{RestsSo, KeepsOn, IsDone, HasLent, HasRead, IsClosed};
 
-    /// A reading of the file of this name, before its first page. It reads nothing yet.
+    /// A reading of the file of this name, before its first page. It reads nothing yet, and keeps and holds nothing.
     pub fn new(alloc: Global, params: Params, name: &str) -> Result<Reader, AllocError>
         ensures limits { IsWithinLimits params }
         ensures params { IfOk result (λ r. r.pages.params ≡ params) }
@@ -55,6 +61,8 @@ impl Reader {
         ensures none { IfOk result (λ r. (r.pages.page ≡ 0) × (r.pages.arcs ≡ 0) × (r.at ≡ 0)) }
         ensures unlooked { IfOk result (λ r. r.held.looked ≡ false) }
         ensures in_step { IfOk result (λ r. (file : ListOf ℕ) → IsInStep file r []) }
+        ensures kept { IfOk result (λ r. r.pages.kept ≡ []) }
+        ensures held { IfOk result (λ r. r.held.bytes ≡ []) }
     {
         let name = String::from_str(alloc, name)?;
         Ok(Reader {
@@ -111,6 +119,10 @@ impl Reader {
         ensures in_step { IsTrue D.told → (file : ListOf ℕ) → map.get (D.files depot.old) self.old.name ≡ Some file
             → (whole : ListOf Whole) → IsInStep file self.old whole
             → StaysInStep file self.new whole result }
+        ensures few { length self.new.pages.kept ≤ self.new.pages.params.window }
+        ensures small { length self.new.held.bytes ≤ MOST_HELD }
+        ensures near { result ≡ Ok true → self.new.held.first + length self.new.held.bytes
+            ≤ self.new.at / 8 + MOST_HELD }
     {
         match self.state {
             State::Closed(first) => Err(StreamError::Closed(first)),

@@ -12,7 +12,7 @@ ghost use Rattle.wg_grammar.specs.Archive.{IsTail, IsTailFault};
 ghost use Rattle.wg_grammar.specs.Standing.{StopsAt};
 ghost use Rattle.wg_stream.specs.Held.{HoldsNext, IsInside, ahead};
 ghost use Rattle.wg_stream.specs.Stepping.{Steps, HasCause};
-ghost use Rattle.wg_stream.specs.declared.stretch.TheConstants.{WORD, ROOM};
+ghost use Rattle.wg_stream.specs.declared.stretch.TheConstants.{WORD, MOST_HELD};
 
 use std::marker::Model;
 use wg_bits::{Bits, Cursor};
@@ -26,12 +26,13 @@ const PIECE: usize = 4096;
 // No word but those of unary has more bytes, wherever in a byte it begins.
 pub const WORD: usize = 17;
 
-const ROOM: usize = PIECE + WORD;
+/// The most bytes of a file that are held at a time: one piece, and what a word may need of the next.
+pub const MOST_HELD: usize = 4096 + 17;
 
 /// The bytes of a file from some offset on, as far as they were read and are not passed, and the bit that comes next.
 #[derive(Drop)]
 pub struct Stretch {
-    bytes: [u8; ROOM],
+    bytes: [u8; MOST_HELD],
     length: usize,
     // the offset of the first of them in the file
     first: u64,
@@ -45,13 +46,13 @@ impl Model for Stretch {
     ghost use Rattle.std.specs.Prelude.{ℕ, ◌+◌, ◌*◌, ◌≤◌, take};
     ghost use Rattle.wg_io.specs.declared.limits.TheConstants.{MOST_BYTES};
     ghost use Rattle.wg_stream.specs.Held.{Held};
-    ghost use Rattle.wg_stream.specs.declared.stretch.TheConstants.{ROOM};
+    ghost use Rattle.wg_stream.specs.declared.stretch.TheConstants.{MOST_HELD};
 
     ghost Value = { Held };
 
     ghost view = { λ s. record { bytes = take s.length s.bytes; first = s.first; at = 8 * s.first + s.here; ended = s.ended; looked = s.looked } };
 
-    ghost invariant = { λ s. (s.length ≤ ROOM) × (s.here ≤ 8 * s.length) × (s.first + s.length ≤ MOST_BYTES) };
+    ghost invariant = { λ s. (s.length ≤ MOST_HELD) × (s.here ≤ 8 * s.length) × (s.first + s.length ≤ MOST_BYTES) };
 }
 
 impl Stretch {
@@ -60,7 +61,7 @@ impl Stretch {
         ensures { result ≡ record { bytes = []; first = 0; at = 0; ended = false; looked = false } }
     {
         Stretch {
-            bytes: [0; ROOM],
+            bytes: [0; MOST_HELD],
             length: 0,
             first: 0,
             here: 0,
@@ -137,7 +138,7 @@ impl Stretch {
 
     // Holds some bytes more.
     fn extend(&mut self, piece: &[u8])
-        requires room { length self.old.bytes + length piece.now ≤ ROOM }
+        requires room { length self.old.bytes + length piece.now ≤ MOST_HELD }
         requires short { self.old.first + length self.old.bytes + length piece.now ≤ MOST_BYTES }
         ensures { self.new ≡ record self.old { bytes = self.old.bytes ++ piece.now } }
     {

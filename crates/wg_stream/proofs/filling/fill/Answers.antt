@@ -1,7 +1,7 @@
 use Rattle.std.proofs.Common.{◌∙◌, ◌/◌, sym, ap, refl, arith}
 use Rattle.wg_stream.specs.Held.{Held}
 use Rattle.wg_stream.specs.StepLaws.{no_step}
-use Rattle.wg_stream.proofs.FillLemmas.{fewer_waits, passed_dropped}
+use Rattle.wg_stream.proofs.FillLemmas.{fewer_waits, passed_dropped, dropped_small}
 use Rattle.wg_stream.proofs.filling.fill.Goals as goal
 
 pub loop-held-init : goal.loop-held-init
@@ -15,6 +15,7 @@ loop-held-init g c =
         onward = omega (arith, ap (λ (h : Held). h.at) c.drop_passed.ensures);
         looked = λ e. ap (λ (h : Held). h.looked) c.drop_passed.ensures ∙ e;
         in_step = λ t file is i. passed_dropped file _ _ c.is_ready.ensures.inside c.drop_passed.ensures i;
+        small = λ s. dropped_small _ _ c.drop_passed.ensures s;
       };
       at = ap (λ (h : Held). h.at) c.drop_passed.ensures;
       first = ap (λ (h : Held). h.first) c.drop_passed.ensures ∙ ap (λ n. n / 8) (sym (ap (λ (h : Held). h.at) c.drop_passed.ensures));
