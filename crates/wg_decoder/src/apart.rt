@@ -7,13 +7,12 @@ ghost use Rattle.wg_params.specs.Parameters.{Parameters};
 ghost use Rattle.wg_grammar.specs.declared.fault.Field.{Field};
 ghost use Rattle.wg_grammar.specs.declared.need.Need.{Need};
 ghost use Rattle.wg_grammar.specs.Context.{Known, Context};
-ghost use Rattle.wg_grammar.specs.Follow.{Follows, tally_of};
 ghost use Rattle.wg_grammar.specs.Judging.{Gives, named};
 ghost use Rattle.wg_grammar.specs.Next.{next};
 ghost use Rattle.wg_grammar.specs.Record.{ReadsRecord, Stands, Refused};
 ghost use Rattle.wg_grammar.specs.Refusal.{refusal};
 ghost use Rattle.wg_grammar.specs.SoFar.{SoFar, after};
-ghost use Rattle.wg_grammar.specs.Tally.{need_of};
+ghost use Rattle.wg_grammar.specs.Tally.{Follows, need_of};
 ghost use Rattle.wg_decoder.specs.Answer.{OnFault, OnRefusal};
 ghost use Rattle.wg_decoder.specs.Apart.{page_over, told, ReferenceStands, ReferenceFails, HeadStands, HeadFails};
 ghost use Rattle.wg_decoder.specs.Head.{of_outdegree};
@@ -35,9 +34,9 @@ fn accepted<R>(
     value: u64,
     named: Option<Referenced>,
 ) -> Result<(), Unread<R>>
-    requires due { (code : Code) × (need_of (tally_of progress.old) ≡ Need.Read field code) }
-    requires length { ForSome named (λ r. r.length ≤ (tally_of progress.old).params.nodes) }
-    requires depth { ForSome named (λ r. r.depth < (tally_of progress.old).page) }
+    requires due { (code : Code) × (need_of progress.old ≡ Need.Read field code) }
+    requires length { ForSome named (λ r. r.length ≤ progress.old.params.nodes) }
+    requires depth { ForSome named (λ r. r.depth < progress.old.page) }
     ensures ok { IfOk result (λ done. (p : Parameters) (c : Context) (s : SoFar) (code : Code)
         → Follows progress.old p c s → next p c s ≡ Need.Read field code → Gives named p c field value
         → (refusal p c s field value ≡ None) × Follows progress.new p c (after p c s field value)) }

@@ -11,22 +11,21 @@ use Rattle.wg_grammar.specs.declared.fault.Field.TheVariants as field
 use Rattle.wg_grammar.specs.declared.fault.Kind.{Kind}
 use Rattle.wg_grammar.specs.declared.fault.Kind.TheVariants as kind
 use Rattle.wg_grammar.specs.declared.need.Need.TheVariants as need
-use Rattle.wg_grammar.specs.declared.progress.Progress.{Progress}
 use Rattle.wg_grammar.specs.declared.progress.Referenced.{Referenced}
 use Rattle.wg_grammar.specs.Context.{Context, referenced, depth_of}
 use Rattle.wg_grammar.specs.SoFar.{SoFar, value_or_0, last_of, source, own_block, own_left, own_residual, after}
 use Rattle.wg_grammar.specs.Next.{next}
 use Rattle.wg_grammar.specs.Refusal.{passes, refusal}
-use Rattle.wg_grammar.specs.Tally.{Tally, tally, need_of}
-use Rattle.wg_grammar.specs.Judging.{named, Gives, given_length, given_depth, refusal_of, after_of, Due}
-use Rattle.wg_grammar.specs.Follow.{tally_of, Follows}
+use Rattle.wg_grammar.specs.Tally.{Tally, tally, Follows, need_of}
+use Rattle.wg_grammar.specs.Judging.{named, Gives}
+use Rattle.wg_grammar.specs.Steps.{given_length, given_depth, refusal_of, after_of, Due}
 use Rattle.wg_grammar.proofs.Chain.{field_of, tests, tested}
 
 pub next_by_numbers : (p : Parameters) (c : Context) (s : SoFar) → next p c s ≡ need_of (tally p c s)
 unfolding next need_of
 next_by_numbers p c s = refl
 
-pub need_follows : (q : Progress) (p : Parameters) (c : Context) (s : SoFar) → Follows q p c s → need_of (tally_of q) ≡ next p c s
+pub need_follows : (q : Tally) (p : Parameters) (c : Context) (s : SoFar) → Follows q p c s → need_of q ≡ next p c s
 need_follows q p c s f = ap need_of f ∙ sym (next_by_numbers p c s)
 
 -- ---- what is so where a field is next
@@ -112,63 +111,19 @@ after_by_numbers p c s given field.Record v g early fine = refl
 
 -- ---- one call
 
+-- the numbers judge a value as the record does
+pub refusal_follows : (q : Tally) (p : Parameters) (c : Context) (s : SoFar) (given : Option Referenced) (f : Field) (v : ℕ) →
+    Follows q p c s → Gives given p c f v → refusal p c s f v ≡ refusal_of q given f v
+refusal_follows q p c s given f v follows gives = sym (ap (λ (t : Tally). refusal_of t given f v) follows ∙ refusal_by_numbers p c s given f v gives)
+
 -- a value that is taken
-pub accepted : (q q' : Progress) (p : Parameters) (c : Context) (s : SoFar) (given : Option Referenced) (f : Field) (v : ℕ) →
-    Follows q p c s → Gives given p c f v → (f ≡ field.Reference → q.blocks ≡ 0) →
-    refusal_of (tally_of q) given f v ≡ None → tally_of q' ≡ after_of (tally_of q) given f v →
+pub accepted : (q q' : Tally) (p : Parameters) (c : Context) (s : SoFar) (given : Option Referenced) (f : Field) (v : ℕ) →
+    Follows q p c s → Gives given p c f v → (f ≡ field.Reference → q.blocks ≡ 0) → refusal_of q given f v ≡ None → q' ≡ after_of q given f v →
     (refusal p c s f v ≡ None) × Follows q' p c (after p c s f v)
 accepted q q' p c s given f v follows gives early fine new =
-    let e : refusal_of (tally_of q) given f v ≡ refusal p c s f v = ap (λ (t : Tally). refusal_of t given f v) follows ∙ refusal_by_numbers p c s given f v gives in
-    let allowed : refusal p c s f v ≡ None = sym e ∙ fine in
+    let allowed : refusal p c s f v ≡ None = refusal_follows q p c s given f v follows gives ∙ fine in
     let none : f ≡ field.Reference → s.blocks ≡ [] = λ h. nil_from_length s.blocks (sym (ap (λ (t : Tally). t.blocks) follows) ∙ early h) in
     (allowed, new ∙ ap (λ (t : Tally). after_of t given f v) follows ∙ sym (after_by_numbers p c s given f v gives none allowed))
 
--- a value that is refused
-pub refused : (q : Progress) (p : Parameters) (c : Context) (s : SoFar) (given : Option Referenced) (f : Field) (v : ℕ) (k : Kind) →
-    Follows q p c s → Gives given p c f v → refusal_of (tally_of q) given f v ≡ Some k → refusal p c s f v ≡ Some k
-refused q p c s given f v k follows gives e =
-    let same : refusal_of (tally_of q) given f v ≡ refusal p c s f v = ap (λ (t : Tally). refusal_of t given f v) follows ∙ refusal_by_numbers p c s given f v gives in
-    sym same ∙ e
-
 pub same_field : (f g : Field) (code other : Code) → need.Read f code ≡ need.Read g other → f ≡ g
 same_field f g code other e = cc
-
--- no block is read before the reference
-pub early_blocks : (q : Progress) (f : Field) → Due (tally_of q) f → f ≡ field.Reference → q.blocks ≡ 0
-early_blocks q field.Reference d e = omega (arith, q.early d)
-early_blocks q field.Outdegree d e = absurd cc
-early_blocks q field.BlockCount d e = absurd cc
-early_blocks q field.Block d e = absurd cc
-early_blocks q field.Copied d e = absurd cc
-early_blocks q field.IntervalCount d e = absurd cc
-early_blocks q field.Left d e = absurd cc
-early_blocks q field.Length d e = absurd cc
-early_blocks q field.Residual d e = absurd cc
-early_blocks q field.Record d e = absurd cc
-
--- no value changes the parameters or the page
-pub params_stay : (t : Tally) (given : Option Referenced) (f : Field) (v : ℕ) → (after_of t given f v).params ≡ t.params
-unfolding after_of
-params_stay t given field.Outdegree v = refl
-params_stay t given field.Reference v = refl
-params_stay t given field.BlockCount v = refl
-params_stay t given field.Block v = refl
-params_stay t given field.Copied v = refl
-params_stay t given field.IntervalCount v = refl
-params_stay t given field.Left v = refl
-params_stay t given field.Length v = refl
-params_stay t given field.Residual v = refl
-params_stay t given field.Record v = refl
-
-pub page_stays : (t : Tally) (given : Option Referenced) (f : Field) (v : ℕ) → (after_of t given f v).page ≡ t.page
-unfolding after_of
-page_stays t given field.Outdegree v = refl
-page_stays t given field.Reference v = refl
-page_stays t given field.BlockCount v = refl
-page_stays t given field.Block v = refl
-page_stays t given field.Copied v = refl
-page_stays t given field.IntervalCount v = refl
-page_stays t given field.Left v = refl
-page_stays t given field.Length v = refl
-page_stays t given field.Residual v = refl
-page_stays t given field.Record v = refl

@@ -8,6 +8,6 @@ pub mod Archive
 pub mod Laws
 pub mod Tally
 pub mod Judging
-pub mod Follow
+pub mod Steps
 pub mod Standing
 pub mod Moving

@@ -1,5 +1,5 @@
--- What a `Progress` keeps of a record: numbers of what has been read. What comes next can be told from them.
-use Rattle.std.specs.Prelude.{ℕ, ◌+◌, ◌-◌, Bool, not, ◌&&◌, ◌==◌, nat_lt, if◌then◌else◌, length, sum, Option, is_none}
+-- What a `Progress` is seen as: numbers of what has been read of a record. What comes next can be told from them.
+use Rattle.std.specs.Prelude.{◌≡◌, ℕ, ◌+◌, ◌-◌, Bool, not, ◌&&◌, ◌==◌, nat_lt, if◌then◌else◌, length, sum, Option, is_none}
 use Rattle.wg_params.specs.Parameters.{Parameters}
 use Rattle.wg_params.specs.declared.code.Code.TheVariants.{Gamma}
 use Rattle.wg_grammar.specs.declared.fault.Field.TheVariants as field
@@ -8,7 +8,8 @@ use Rattle.wg_grammar.specs.declared.need.Need.TheVariants as need
 use Rattle.wg_grammar.specs.Context.{Context}
 use Rattle.wg_grammar.specs.SoFar.{SoFar, value_or_0, last_of, source, copied}
 
--- lists by how many numbers they have, their sum, or their last number
+-- Lists are kept by how many numbers they have, their sum, or their last number: source is how many members the
+-- referenced list has, copied how many of these are copied, and covered how many numbers lie inside the intervals.
 pub record Tally : Type 0 where
   pub params : Parameters
   pub page : ℕ
@@ -54,6 +55,10 @@ tally p c s = record {
   last_residual = last_of s.residuals;
 }
 
+-- the numbers are those of a record of which s has been read
+abbrev pub Follows : Tally → Parameters → Context → SoFar → Type 0
+Follows t p c s = t ≡ tally p c s
+
 -- how many successors are not copied, and how many of these are missing still
 abbrev pub extra_of : Tally → ℕ
 extra_of t = value_or_0 t.outdegree - t.copied
@@ -61,7 +66,7 @@ extra_of t = value_or_0 t.outdegree - t.copied
 abbrev pub missing_of : Tally → ℕ
 missing_of t = extra_of t - (t.covered + t.residuals)
 
--- the next field, by the numbers
+-- what is needed next, by the numbers
 unfoldable pub need_of : Tally → Need
 need_of t =
     if is_none t.outdegree then need.Read field.Outdegree t.params.outdegrees

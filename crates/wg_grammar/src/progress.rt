@@ -1,10 +1,11 @@
-ghost use Rattle.std.specs.Prelude.{◌≡◌, ◌≢◌, ◌≤◌, ◌<◌, ◌+◌, ◌^◌, ◌%◌, min, unwrap_or};
+ghost use Rattle.std.specs.Prelude.{◌≡◌, ◌≤◌, ◌<◌, OnErr, OnOk};
 ghost use Rattle.std.specs.Option.{ForSome, ForNone};
 
 mod refusal;
 mod taking;
 
 use crate::{Field, Kind, Need};
+use std::marker::Model;
 use wg_params::{Code, Params};
 
 /// What a record has to know of the page that its reference names.
@@ -21,7 +22,10 @@ pub struct Referenced {
 /// It keeps numbers alone and no lists, so it takes no memory, and each call takes constant time. Whoever reads a
 /// record asks for the next need, reads one word in its code, and hands the value over; a refused value changes
 /// nothing.
-#[derive(Clone, Copy, Debug)]
+///
+/// It is seen as the parameters, the page, the arcs before it, and a tally of what has been read: each field that comes
+/// once, and of the fields that come again and again how many were read, what they add to, or the last of them.
+#[derive(Clone, Debug, Drop)]
 pub struct Progress {
     params: Params,
     page: u64,
@@ -47,43 +51,64 @@ pub struct Progress {
     covered: u64,
     residuals: u64,
     last_residual: u64,
-    ghost page_limit: { page < params.nodes },
-    ghost before_limit: { arcs_before ≤ params.arcs },
-    ghost outdegree_limit: { unwrap_or outdegree 0 ≤ params.nodes },
-    ghost source_limit: { source ≤ params.nodes },
-    ghost sum_limit: { blocks_sum ≤ source },
-    ghost copied_limit: { copied ≤ source },
-    ghost skipping_limit: { blocks % 2 ≡ 1 → copied ≤ blocks_sum },
-    ghost left_limit: { last_left ≤ params.nodes },
-    ghost length_limit: { last_length ≤ params.nodes },
-    ghost covered_limit: { covered ≤ params.nodes },
-    ghost count_limit: { residuals ≤ params.nodes },
-    ghost residual_limit: { last_residual ≤ params.nodes },
-    ghost reference_limit: { unwrap_or reference 0 ≤ min params.window page },
-    ghost early: { ForNone reference (blocks + blocks_sum + unwrap_or block_count 0 ≡ 0) },
+}
+
+impl Model for Progress {
+    ghost use Rattle.std.specs.Prelude.{◌≡◌, ◌≤◌, ◌<◌, ◌+◌, ◌%◌, unwrap_or};
+    ghost use Rattle.std.specs.Option.{ForNone};
+    ghost use Rattle.wg_grammar.specs.Tally.{Tally};
+
+    ghost Value = { Tally };
+
+    ghost view = { λ q. record {
+      params = q.params;
+      page = q.page;
+      arcs_before = q.arcs_before;
+      outdegree = q.outdegree;
+      reference = q.reference;
+      source = q.source;
+      block_count = q.block_count;
+      blocks = q.blocks;
+      blocks_sum = q.blocks_sum;
+      copied = q.copied;
+      checked = q.checked;
+      interval_count = q.interval_count;
+      lefts = q.lefts;
+      last_left = q.last_left;
+      lengths = q.lengths;
+      last_length = q.last_length;
+      covered = q.covered;
+      residuals = q.residuals;
+      last_residual = q.last_residual;
+    } };
+
+    ghost invariant = { λ q. (q.page < q.params.nodes) × (q.arcs_before ≤ q.params.arcs)
+        × (unwrap_or q.outdegree 0 ≤ q.params.nodes) × (q.source ≤ q.params.nodes) × (q.blocks_sum ≤ q.source)
+        × (q.copied ≤ q.source) × (q.blocks % 2 ≡ 1 → q.copied ≤ q.blocks_sum) × (q.last_left ≤ q.params.nodes)
+        × (q.last_length ≤ q.params.nodes) × (q.covered ≤ q.params.nodes) × (q.residuals ≤ q.params.nodes)
+        × (q.last_residual ≤ q.params.nodes)
+        × ForNone q.reference (q.blocks + q.blocks_sum + unwrap_or q.block_count 0 ≡ 0) };
 }
 
 impl Progress {
-    ghost use Rattle.wg_grammar.specs.Tally.{need_of, extra_of, missing_of};
+    ghost use Rattle.wg_grammar.specs.Tally.{Follows, need_of, extra_of, missing_of};
     ghost use Rattle.wg_grammar.specs.Judging.{Gives, Judges};
-    ghost use Rattle.wg_grammar.specs.Follow.{tally_of, Follows};
     ghost use Rattle.wg_grammar.specs.Context.{Context};
-    ghost use Rattle.wg_grammar.specs.SoFar.{SoFar, nothing_yet, value_or_0, after};
+    ghost use Rattle.wg_grammar.specs.SoFar.{SoFar, nothing_yet, after};
     ghost use Rattle.wg_grammar.specs.Next.{next};
     ghost use Rattle.wg_grammar.specs.Refusal.{refusal};
     ghost use Rattle.wg_grammar.specs.declared.fault.Field.{Field};
     ghost use Rattle.wg_grammar.specs.declared.need.Need.{Need};
     ghost use Rattle.wg_params.specs.declared.code.Code.{Code};
     ghost use Rattle.wg_params.specs.Parameters.{Parameters};
-    ghost use Rattle.std.specs.Prelude.{OnErr, OnOk};
 
     /// The progress at a record's first bit. `arcs_before` is the sum of the outdegrees of the pages before.
     #[tactic(auto, unfolding(wg_graph::specs::Copied::copied_members))]
     pub fn start(params: &Params, page: u64, arcs_before: u64) -> Progress
         requires page { page < params.now.nodes }
         requires before { arcs_before ≤ params.now.arcs }
-        ensures params { (tally_of result).params ≡ params.now }
-        ensures page { (tally_of result).page ≡ page }
+        ensures params { result.params ≡ params.now }
+        ensures page { result.page ≡ page }
         ensures exact { (c : Context) → c.page ≡ page → c.arcs_before ≡ arcs_before
             → Follows result params.now c nothing_yet }
     {
@@ -112,7 +137,7 @@ impl Progress {
 
     /// What is read next.
     pub fn need(&self) -> Need
-        ensures by_numbers { result ≡ need_of (tally_of self.now) }
+        ensures value { result ≡ need_of self.now }
         ensures exact { (p : Parameters) (c : Context) (s : SoFar) → Follows self.now p c s → result ≡ next p c s }
     {
         self.next_field()
@@ -120,7 +145,8 @@ impl Progress {
 
     #[tactic(auto, unfolding(crate::specs::Tally::need_of))]
     fn next_field(&self) -> Need
-        ensures { result ≡ need_of (tally_of self.now) }
+        ensures value { result ≡ need_of self.now }
+        ensures early { ForNone self.now.reference (self.now.blocks ≡ 0) }
     {
         let degree = match self.outdegree {
             None => return Need::Read(Field::Outdegree, self.params.outdegrees()),
@@ -159,30 +185,30 @@ impl Progress {
 
     // How many successors are not copied.
     fn extra(&self) -> u64
-        ensures { result ≡ extra_of (tally_of self.now) }
+        ensures { result ≡ extra_of self.now }
     {
         self.outdegree.unwrap_or(0).saturating_sub(self.copied)
     }
 
     // How many of these are missing still.
     fn missing(&self) -> u64
-        ensures { result ≡ missing_of (tally_of self.now) }
+        ensures { result ≡ missing_of self.now }
     {
         self.extra()
             .saturating_sub(self.covered)
             .saturating_sub(self.residuals)
     }
 
-    /// Takes a value of the field that is needed, or answers the first reason to refuse it. `referenced` is the page
-    /// that the value names, where the value is a reference, is not 0, and does not pass the window or the first page;
-    /// else none.
+    /// Takes a value of the field that [`need`](Progress::need) says to read, or answers the first reason to refuse it.
+    /// `referenced` is the page that the value names, where the value is a reference, is not 0, and does not pass the
+    /// window or the first page; else none.
     pub fn accept(&mut self, value: u64, referenced: Option<Referenced>) -> Result<(), Kind>
-        requires reads { (f : Field) × (code : Code) × (need_of (tally_of self.old) ≡ Need.Read f code) }
-        requires length { ForSome referenced (λ r. r.length ≤ (tally_of self.old).params.nodes) }
-        requires depth { ForSome referenced (λ r. r.depth < (tally_of self.old).page) }
+        requires reads { (f : Field) × (code : Code) × (need_of self.old ≡ Need.Read f code) }
+        requires length { ForSome referenced (λ r. r.length ≤ self.old.params.nodes) }
+        requires depth { ForSome referenced (λ r. r.depth < self.old.page) }
         ensures refused { OnErr result (self.new ≡ self.old) }
-        ensures params { (tally_of self.new).params ≡ (tally_of self.old).params }
-        ensures page { (tally_of self.new).page ≡ (tally_of self.old).page }
+        ensures params { self.new.params ≡ self.old.params }
+        ensures page { self.new.page ≡ self.old.page }
         ensures exact { (p : Parameters) (c : Context) (s : SoFar) (f : Field) (code : Code) → Follows self.old p c s
             → next p c s ≡ Need.Read f code
             → Gives referenced p c f value → Judges result (refusal p c s f value)
@@ -201,12 +227,13 @@ impl Progress {
         }
     }
 
-    /// Passes the check after the blocks, or answers that more members are copied than the page has successors.
+    /// Passes the check after the blocks, where [`need`](Progress::need) says to make it, or answers that more members
+    /// are copied than the page has successors.
     pub fn check_copied(&mut self) -> Result<(), Kind>
-        requires { need_of (tally_of self.old) ≡ Need.Check }
+        requires checks { need_of self.old ≡ Need.Check }
         ensures refused { OnErr result (self.new ≡ self.old) }
-        ensures params { (tally_of self.new).params ≡ (tally_of self.old).params }
-        ensures page { (tally_of self.new).page ≡ (tally_of self.old).page }
+        ensures params { self.new.params ≡ self.old.params }
+        ensures page { self.new.page ≡ self.old.page }
         ensures exact { (p : Parameters) (c : Context) (s : SoFar) → Follows self.old p c s
             → Judges result (refusal p c s Field.Copied 0)
             × OnOk result (Follows self.new p c (after p c s Field.Copied 0)) }
@@ -218,56 +245,5 @@ impl Progress {
                 Ok(())
             }
         }
-    }
-
-    /// The outdegree, or 0 before it has been read.
-    pub fn outdegree(&self) -> u64
-        ensures { result ≡ value_or_0 (tally_of self.now).outdegree }
-    {
-        self.outdegree.unwrap_or(0)
-    }
-
-    /// The reference, or 0 before it has been read.
-    pub fn reference(&self) -> u64
-        ensures value { result ≡ value_or_0 (tally_of self.now).reference }
-        ensures within { result ≤ min (tally_of self.now).params.window (tally_of self.now).page }
-    {
-        self.reference.unwrap_or(0)
-    }
-
-    /// How many blocks have been read.
-    pub fn blocks(&self) -> u64
-        ensures { result ≡ (tally_of self.now).blocks }
-    {
-        self.blocks
-    }
-
-    /// How many members of the referenced list the blocks read so far are about.
-    pub fn blocks_sum(&self) -> u64
-        ensures value { result ≡ (tally_of self.now).blocks_sum }
-        ensures within { result ≤ (tally_of self.now).source }
-    {
-        self.blocks_sum
-    }
-
-    /// The left end that was read last, or 0.
-    pub fn last_left(&self) -> u64
-        ensures { result ≡ (tally_of self.now).last_left }
-    {
-        self.last_left
-    }
-
-    /// The length of an interval that was read last, or 0.
-    pub fn last_length(&self) -> u64
-        ensures { result ≡ (tally_of self.now).last_length }
-    {
-        self.last_length
-    }
-
-    /// The residual that was read last, or 0.
-    pub fn last_residual(&self) -> u64
-        ensures { result ≡ (tally_of self.now).last_residual }
-    {
-        self.last_residual
     }
 }

@@ -6,8 +6,7 @@ use crate::{Field, Kind};
 
 impl Progress {
     ghost use Rattle.wg_codes.specs.Fold.{unfolded_from};
-    ghost use Rattle.wg_grammar.specs.Judging.{within, left_of, residual_of, refusal_of};
-    ghost use Rattle.wg_grammar.specs.Follow.{tally_of};
+    ghost use Rattle.wg_grammar.specs.Steps.{within, left_of, residual_of, refusal_of};
     ghost use Rattle.wg_grammar.specs.declared.fault.Field.{Field};
 
     // The number, where it is a page.
@@ -40,7 +39,7 @@ impl Progress {
 
     // The left end that the value stands for, where it is a page.
     pub(super) fn left(&self, value: u64) -> Option<u64>
-        ensures { result ≡ within self.now.params (left_of (tally_of self.now) value) }
+        ensures { result ≡ within self.now.params (left_of self.now value) }
     {
         if self.lefts == 0 {
             return self.page_from(value);
@@ -53,7 +52,7 @@ impl Progress {
 
     // The residual that the value stands for, where it is a page.
     pub(super) fn residual(&self, value: u64) -> Option<u64>
-        ensures { result ≡ within self.now.params (residual_of (tally_of self.now) value) }
+        ensures { result ≡ within self.now.params (residual_of self.now value) }
     {
         if self.residuals == 0 {
             return self.page_from(value);
@@ -65,7 +64,7 @@ impl Progress {
     }
 
     // The first reason to refuse a value. Codes have values of up to 64 bits, so each is compared before it is added.
-    #[tactic(auto, unfolding(crate::specs::Judging::refusal_of))]
+    #[tactic(auto, unfolding(crate::specs::Steps::refusal_of))]
     pub(super) fn refusal(
         &self,
         field: Field,
@@ -73,14 +72,14 @@ impl Progress {
         referenced: Option<Referenced>,
     ) -> Option<Kind>
         requires { ForSome referenced (λ r. r.depth < self.now.page) }
-        ensures { result ≡ refusal_of (tally_of self.now) referenced field value }
+        ensures { result ≡ refusal_of self.now referenced field value }
     {
         match field {
             Field::Outdegree => self.refuse_outdegree(value),
             Field::Reference => self.refuse_reference(value, referenced),
             Field::BlockCount => (value.saturating_sub(1) > self.source).then_some(Kind::Range),
             Field::Block => self.refuse_block(value),
-            Field::Copied => (self.copied > self.outdegree()).then_some(Kind::Copied),
+            Field::Copied => (self.copied > self.outdegree.unwrap_or(0)).then_some(Kind::Copied),
             Field::IntervalCount => self.refuse_interval_count(value),
             Field::Left => self.left(value).is_none().then_some(Kind::Range),
             Field::Length => self.refuse_length(value),
@@ -89,9 +88,9 @@ impl Progress {
         }
     }
 
-    #[tactic(auto, unfolding(crate::specs::Judging::refusal_of))]
+    #[tactic(auto, unfolding(crate::specs::Steps::refusal_of))]
     fn refuse_outdegree(&self, value: u64) -> Option<Kind>
-        ensures { result ≡ refusal_of (tally_of self.now) None Field.Outdegree value }
+        ensures { result ≡ refusal_of self.now None Field.Outdegree value }
     {
         if value > self.params.nodes() {
             return Some(Kind::Range);
@@ -100,10 +99,10 @@ impl Progress {
         (self.arcs_before + value > arcs).then_some(Kind::Total)
     }
 
-    #[tactic(auto, unfolding(crate::specs::Judging::refusal_of))]
+    #[tactic(auto, unfolding(crate::specs::Steps::refusal_of))]
     fn refuse_reference(&self, value: u64, referenced: Option<Referenced>) -> Option<Kind>
         requires { ForSome referenced (λ r. r.depth < self.now.page) }
-        ensures { result ≡ refusal_of (tally_of self.now) referenced Field.Reference value }
+        ensures { result ≡ refusal_of self.now referenced Field.Reference value }
     {
         if value > self.params.window().min(self.page) {
             return Some(Kind::Range);
@@ -118,9 +117,9 @@ impl Progress {
         }
     }
 
-    #[tactic(auto, unfolding(crate::specs::Judging::refusal_of))]
+    #[tactic(auto, unfolding(crate::specs::Steps::refusal_of))]
     fn refuse_block(&self, value: u64) -> Option<Kind>
-        ensures { result ≡ refusal_of (tally_of self.now) None Field.Block value }
+        ensures { result ≡ refusal_of self.now None Field.Block value }
     {
         let left = self.source - self.blocks_sum;
         let passes = if self.blocks == 0 {
@@ -131,17 +130,17 @@ impl Progress {
         passes.then_some(Kind::Range)
     }
 
-    #[tactic(auto, unfolding(crate::specs::Judging::refusal_of))]
+    #[tactic(auto, unfolding(crate::specs::Steps::refusal_of))]
     fn refuse_interval_count(&self, value: u64) -> Option<Kind>
-        ensures { result ≡ refusal_of (tally_of self.now) None Field.IntervalCount value }
+        ensures { result ≡ refusal_of self.now None Field.IntervalCount value }
     {
         let numbers = value as u128 * self.params.interval() as u128;
         (numbers > self.extra() as u128).then_some(Kind::Range)
     }
 
-    #[tactic(auto, unfolding(crate::specs::Judging::refusal_of))]
+    #[tactic(auto, unfolding(crate::specs::Steps::refusal_of))]
     fn refuse_length(&self, value: u64) -> Option<Kind>
-        ensures { result ≡ refusal_of (tally_of self.now) None Field.Length value }
+        ensures { result ≡ refusal_of self.now None Field.Length value }
     {
         let nodes = self.params.nodes();
         if value > nodes {

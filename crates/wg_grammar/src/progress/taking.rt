@@ -1,20 +1,22 @@
-ghost use Rattle.std.specs.Prelude.{◌≡◌, ◌≢◌, ◌≤◌, ◌<◌, ◌+◌, ◌^◌, None};
+ghost use Rattle.std.specs.Prelude.{◌≡◌, ◌≤◌, ◌<◌, ◌+◌, None};
 ghost use Rattle.std.specs.Option.{ForSome};
 
 use super::{Progress, Referenced};
 use crate::Field;
 
 impl Progress {
-    ghost use Rattle.wg_grammar.specs.Judging.{refusal_of, after_of, block_of, copied_after, Due};
-    ghost use Rattle.wg_grammar.specs.Follow.{tally_of};
+    ghost use Rattle.wg_grammar.specs.SoFar.{value_or_0};
+    ghost use Rattle.wg_grammar.specs.Steps.{refusal_of, after_of, block_of, copied_after, Due};
 
     // Takes a value that is not refused.
-    #[tactic(auto, unfolding(crate::specs::Judging::refusal_of, crate::specs::Judging::after_of))]
+    #[tactic(auto, unfolding(crate::specs::Steps::refusal_of, crate::specs::Steps::after_of))]
     pub(super) fn take(&mut self, field: Field, value: u64, referenced: Option<Referenced>)
-        requires due { Due (tally_of self.old) field }
-        requires allowed { refusal_of (tally_of self.old) referenced field value ≡ None }
+        requires due { Due self.old field }
+        requires allowed { refusal_of self.old referenced field value ≡ None }
         requires known { ForSome referenced (λ r. r.length ≤ self.old.params.nodes) }
-        ensures { tally_of self.new ≡ after_of (tally_of self.old) referenced field value }
+        ensures params { self.new.params ≡ self.old.params }
+        ensures page { self.new.page ≡ self.old.page }
+        ensures after { self.new ≡ after_of self.old referenced field value }
     {
         match field {
             Field::Outdegree => self.outdegree = Some(value),
@@ -50,13 +52,12 @@ impl Progress {
 
     // Takes a block. What lies past it was counted as copied or skipped, and is the other now.
     fn take_block(&mut self, value: u64)
-        requires fits { self.old.blocks_sum + block_of (tally_of self.old) value ≤ self.old.source }
-        requires count { self.old.blocks + 1 < 2 ^ 64 }
-        requires refers { self.old.reference ≢ None }
-        ensures { tally_of self.new ≡ record (tally_of self.old) {
+        requires due { self.old.blocks < value_or_0 self.old.block_count }
+        requires fits { self.old.blocks_sum + block_of self.old value ≤ self.old.source }
+        ensures { self.new ≡ record self.old {
           blocks = self.old.blocks + 1;
-          blocks_sum = self.old.blocks_sum + block_of (tally_of self.old) value;
-          copied = copied_after (tally_of self.old) (self.old.blocks_sum + block_of (tally_of self.old) value);
+          blocks_sum = self.old.blocks_sum + block_of self.old value;
+          copied = copied_after self.old (self.old.blocks_sum + block_of self.old value);
         } }
     {
         let block = if self.blocks == 0 { value } else { value + 1 };

@@ -2,7 +2,7 @@ use Rattle.std.proofs.Common.{◌<◌, ◌∙◌, inl, inr, refl, subst, arith}
 use Rattle.std.proofs.lemmas.Result.{err_from_is_err_and}
 use Rattle.wg_grammar.specs.declared.fault.Field.TheVariants as field
 use Rattle.wg_grammar.specs.Context.{no_page}
-use Rattle.wg_grammar.specs.Follow.{Follows}
+use Rattle.wg_grammar.specs.Tally.{Follows}
 use Rattle.wg_grammar.specs.SoFar.{SoFar, nothing_yet}
 use Rattle.wg_grammar.proofs.Tallies.{need_follows}
 use Rattle.wg_decoder.specs.Apart.{page_over}
