@@ -1,5 +1,8 @@
+pub mod Asked
 pub mod Commands
 pub mod Files
+pub mod Forms
 pub mod Jobs
 pub mod Layouts
+pub mod Pairs
 pub mod Values

@@ -1,6 +1,7 @@
-ghost use Rattle.std.specs.Prelude.{◌≡◌, IfOk};
+ghost use Rattle.std.specs.Prelude.{◌≡◌, IfOk, option_map};
 ghost use Rattle.clap.specs.Words.{rows_of, found_of};
-ghost use Rattle.wg_words.specs.Jobs.{conversion_in, conversion_from};
+ghost use Rattle.wg_words.specs.Jobs.{conversion_in};
+ghost use Rattle.wg_words.specs.Pairs.{converted};
 
 use crate::Name;
 use crate::options::layout_at;
@@ -20,33 +21,39 @@ pub struct Conversion {
     pub layout: Layout,
 }
 
-/// The conversion that the words ask for: none if the two archives have the same name.
-pub fn conversion_at(
-    alloc: Global,
-    found: &ArgMatches<'_>,
-) -> Result<Option<Conversion>, AllocError>
-    ensures { IfOk result (λ c. c ≡ conversion_in (rows_of (found_of found.now))) }
-{
-    let Some(input) = name_at(alloc, found, "in")? else {
-        return Ok(None);
-    };
-    let Some(output) = name_at(alloc, found, "out")? else {
-        return Ok(None);
-    };
-    if input.as_str() == output.as_str() {
-        return Ok(None);
-    }
-    Ok(conversion_from(found, input, output))
+/// A conversion as the words give it, before its names are copied.
+#[derive(Clone, Copy)]
+pub struct Pair<'a> {
+    pub input: &'a str,
+    pub output: &'a str,
+    pub layout: Layout,
 }
 
-// The conversion between two archives, with the layout that the options give.
-fn conversion_from(found: &ArgMatches<'_>, input: Name, output: Name) -> Option<Conversion>
-    ensures { result ≡ conversion_from (rows_of (found_of found.now)) input output }
+/// The conversion that the words ask for: none if the two archives have the same name.
+pub fn pair_at<'a>(found: &ArgMatches<'a>) -> Option<Pair<'a>>
+    ensures { option_map converted result ≡ conversion_in (rows_of (found_of found.now)) }
 {
+    let input = name_at(found, "in")?;
+    let output = name_at(found, "out")?;
+    if input == output {
+        return None;
+    }
     let layout = layout_at(found)?;
-    Some(Conversion {
+    Some(Pair {
         input,
         output,
         layout,
+    })
+}
+
+/// The conversion with names of its own.
+pub fn copied(alloc: Global, pair: Pair<'_>) -> Result<Conversion, AllocError>
+    ensures { IfOk result (λ c. c ≡ converted pair.entry) }
+{
+    let input = Name::new(alloc, pair.input)?;
+    Ok(Conversion {
+        input,
+        output: Name::new(alloc, pair.output)?,
+        layout: pair.layout,
     })
 }

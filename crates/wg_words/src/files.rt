@@ -1,8 +1,7 @@
-ghost use Rattle.std.specs.Prelude.{◌≡◌, ◌++◌, option_copied};
+ghost use Rattle.std.specs.Prelude.{◌≡◌, ◌++◌, option_map};
 ghost use Rattle.std.specs.Str.{bytes_eq};
 ghost use Rattle.wg_words.specs.Files.{is_file_of, is_given, overwrites};
 
-use crate::Name;
 use wg_io::{GRAPH, OFFSETS, PROPERTIES};
 
 // Whether the name is the first text with the second at its end.
@@ -25,21 +24,21 @@ pub fn is_file_of(base: &str, name: &str) -> bool
 }
 
 // Whether the name is the one that is given, if one is.
-fn is_given(name: &str, given: Option<&Name>) -> bool
-    ensures { result ≡ is_given name.now (option_copied given.entry) }
+fn is_given(name: &str, given: Option<&str>) -> bool
+    ensures { result ≡ is_given name.now (option_map (λ s. s.now) given.entry) }
 {
     match given {
         None => false,
-        Some(given) => name == given.as_str(),
+        Some(given) => name == given,
     }
 }
 
 /// Whether a certificate would be written over a file of the archive or over the weights.
-pub fn overwrites(base: &Name, weights: Option<&Name>, certificate: Option<&Name>) -> bool
-    ensures { result ≡ overwrites base.now (option_copied weights.entry) (option_copied certificate.entry) }
+pub fn overwrites(base: &str, weights: Option<&str>, certificate: Option<&str>) -> bool
+    ensures { result ≡ overwrites base.now (option_map (λ s. s.now) weights.entry) (option_map (λ s. s.now) certificate.entry) }
 {
     let Some(certificate) = certificate else {
         return false;
     };
-    is_file_of(base.as_str(), certificate.as_str()) || is_given(certificate.as_str(), weights)
+    is_file_of(base, certificate) || is_given(certificate, weights)
 }

@@ -1,4 +1,8 @@
+ghost use Rattle.std.specs.Prelude.{◌≡◌};
+ghost use Rattle.wg_words.specs.declared.jobs.JobError.TheVariants as errors;
+
 use crate::Name;
+use std::alloc::AllocError;
 use thiserror::Error;
 use wg_graph::List;
 use wg_params::Layout;
@@ -118,4 +122,12 @@ pub enum JobError {
     Usage,
     #[error("out of memory")]
     Memory,
+}
+
+impl From<AllocError> for JobError {
+    ghost from_gives = { λ _ e. e ≡ errors.Memory };
+
+    fn from(_error: AllocError) -> Self {
+        JobError::Memory
+    }
 }

@@ -1,7 +1,7 @@
 //! The job that the words of a command line ask for.
 //!
 //! [`Words`] holds the words after the program's name. [`job`] reads them with `clap`, by the one table of commands and
-//! options in `commands`, and answers the [`Job`]: an enum with a variant for each command, which owns the names and
+//! options in `forms`, and answers the [`Job`]: an enum with a variant for each command, which owns the names and
 //! numbers that the words give. There is no job where `clap` refuses the words, a request for help being such a
 //! refusal, or where a value is out of its range. The definition of the job, `job_of`, is over the matches that `clap`
 //! defines for these words.
@@ -35,8 +35,7 @@
 //! list of such numbers, of which each below 2^64 will do: which pages there are is known only when the archive has
 //! been read.
 //!
-//! A command more is a variant of `Job`, a function in `commands` with its twin in the definitions, and an arm of
-//! `asked`.
+//! A command more is a variant of `Job`, an entry of the table with its twin in the definitions, and an arm of `asked`.
 #![tactic(auto)]
 
 mod asked;
@@ -45,6 +44,7 @@ mod commands;
 mod conversion;
 mod defaults;
 mod files;
+mod forms;
 mod jobs;
 mod layout;
 mod name;

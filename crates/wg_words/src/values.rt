@@ -2,7 +2,6 @@ ghost use Rattle.std.specs.Prelude.{◌≡◌, IfOk, map, option_map};
 ghost use Rattle.clap.specs.Words.{rows_of, found_of, all_of, first_of};
 ghost use Rattle.wg_words.specs.Values.{nonempty_of, name_in, name_or_none, optional_name_in, limited, number_up_to, number_or, number_in, numbers_of, numbers_in, required_in, unlimited_in, word_in};
 
-use crate::Name;
 use clap::ArgMatches;
 use std::alloc::{AllocError, Global};
 use wg_graph::List;
@@ -16,41 +15,34 @@ pub fn text_at<'a>(found: &ArgMatches<'a>, id: &str) -> Option<&'a str>
 }
 
 /// The name that an argument gives: none where the argument is absent or empty.
-pub fn name_at(alloc: Global, found: &ArgMatches<'_>, id: &str) -> Result<Option<Name>, AllocError>
-    ensures { IfOk result (λ name. name ≡ name_in (rows_of (found_of found.now)) id.now) }
+pub fn name_at<'a>(found: &ArgMatches<'a>, id: &str) -> Option<&'a str>
+    ensures { option_map (λ s. s.now) result ≡ name_in (rows_of (found_of found.now)) id.now }
 {
-    match text_at(found, id) {
-        None => Ok(None),
-        Some(text) => nonempty(alloc, text),
-    }
+    nonempty(text_at(found, id)?)
 }
 
-fn nonempty(alloc: Global, text: &str) -> Result<Option<Name>, AllocError>
-    ensures { IfOk result (λ name. name ≡ nonempty_of text.now) }
+fn nonempty(text: &str) -> Option<&str>
+    ensures { option_map (λ s. s.now) result ≡ nonempty_of text.now }
 {
     if text.is_empty() {
-        return Ok(None);
+        return None;
     }
-    Ok(Some(Name::new(alloc, text)?))
+    Some(text)
 }
 
 /// The name that an option gives, if it is there: outside, none where the name is empty.
-pub fn optional_name_at(
-    alloc: Global,
-    found: &ArgMatches<'_>,
-    id: &str,
-) -> Result<Option<Option<Name>>, AllocError>
-    ensures { IfOk result (λ name. name ≡ optional_name_in (rows_of (found_of found.now)) id.now) }
+pub fn optional_name_at<'a>(found: &ArgMatches<'a>, id: &str) -> Option<Option<&'a str>>
+    ensures { option_map (option_map (λ s. s.now)) result ≡ optional_name_in (rows_of (found_of found.now)) id.now }
 {
-    name_or_none(alloc, text_at(found, id))
+    name_or_none(text_at(found, id))
 }
 
-fn name_or_none(alloc: Global, text: Option<&str>) -> Result<Option<Option<Name>>, AllocError>
-    ensures { IfOk result (λ name. name ≡ name_or_none (option_map (λ s. s.now) text.entry)) }
+fn name_or_none(text: Option<&str>) -> Option<Option<&str>>
+    ensures { option_map (option_map (λ s. s.now)) result ≡ name_or_none (option_map (λ s. s.now) text.entry) }
 {
     match text {
-        None => Ok(Some(None)),
-        Some(text) => Ok(nonempty(alloc, text)?.map(Some)),
+        None => Some(None),
+        Some(text) => Some(Some(nonempty(text)?)),
     }
 }
 

@@ -1,6 +1,10 @@
-use Rattle.std.proofs.Common.{rules}
-use Rattle.wg_words.proofs.JobLemmas.{job_within}
+use Rattle.std.proofs.Common.{◌∙◌, ap, option_and_then}
+use Rattle.wg_words.specs.Commands.{parsed}
+use Rattle.wg_words.specs.Jobs.{job_from}
+use Rattle.wg_words.proofs.JobLemmas.{asked_within}
 use Rattle.wg_words.proofs.asked.job.Goals as goal
 
-pub returns-in-Ok-Some-clause-within : goal.returns-in-Ok-Some-clause-within
-returns-in-Ok-Some-clause-within c = job_within c.args.words.now c.in-Ok-Some.job (search rules)
+pub returns-clause-within : goal.returns-clause-within
+returns-clause-within c =
+    asked_within c.args.words.now _ c.job_in.result
+    (ap (option_and_then job_from) (c.in_ok-matches.ensures.found ∙ ap parsed c.as_slice.ensures)) c.job_in.ensures
