@@ -1,0 +1,28 @@
+use Rattle.std.proofs.Common.{◌+◌, ◌∙◌, ap, sym, drop}
+use Rattle.std.proofs.lemmas.List.{at_drop_more, at_drop_all}
+use Rattle.clap.specs.Words.{App, app_of}
+use Rattle.wg_words.specs.Commands.{program_app}
+use Rattle.wg_words.specs.Forms.{with_forms}
+use Rattle.wg_words.proofs.commands.command.Goals as goal
+
+pub loop-form-init : goal.loop-form-init
+loop-form-init c = record {
+  local = c.program-line.ensures.local;
+  app = ap (λ (a : App). with_forms a c.as_slice-forms.result.now) c.program-line.ensures.app ∙ ap (with_forms program_app) c.as_slice-forms.ensures;
+}
+
+pub loop-form-preserved : goal.loop-form-preserved
+loop-form-preserved c =
+    let rest = drop (c.loop-form.form-index + 1) c.as_slice-forms.result.now in
+    record {
+      local = c.in_ok-line.ensures.local;
+      app = ap (λ (a : App). with_forms a rest) c.in_ok-line.ensures.app
+        ∙ sym (at_drop_more (with_forms (app_of c.loop-form.line)) c.as_slice-forms.result.now c.loop-form.form-index _ c.loop-form-test.true)
+        ∙ c.loop-form.invariant.app;
+    }
+
+pub returns : goal.returns
+returns c = record {
+  app = sym (at_drop_all (with_forms (app_of c.loop-form.line)) c.as_slice-forms.result.now c.loop-form.form-index c.loop-form-test.false) ∙ c.loop-form.invariant.app;
+  local = c.loop-form.invariant.local;
+}
