@@ -9,7 +9,7 @@ use crate::{BadParam, Code, Codes, Key, Layout};
 use std::marker::Model;
 
 /// The parameters of one archive, within their limits.
-#[derive(Clone, Copy, Debug)]
+#[derive(Clone, Copy, Debug, PartialEq, Eq)]
 pub struct Params {
     nodes: u64,
     arcs: u64,
