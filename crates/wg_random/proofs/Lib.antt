@@ -1,3 +1,4 @@
+pub mod Depths
 pub mod Readings
 pub mod ArchiveLemmas
 pub mod ChainLemmas
@@ -8,3 +9,4 @@ pub mod SpotOne
 pub mod SpotSome
 pub mod SpotMoves
 pub mod SpotAgree
+pub mod SpotFew

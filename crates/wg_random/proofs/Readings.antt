@@ -13,6 +13,7 @@ use Rattle.wg_grammar.proofs.OneRecord.{record_one}
 use Rattle.wg_grammar.proofs.OneGraph.{record_within}
 use Rattle.wg_iterators.specs.Proper.{IsRecord}
 use Rattle.wg_iterators.proofs.Transfer.{below_of, Judged, judged_of}
+use Rattle.wg_random.proofs.Depths.{record_limited}
 use Rattle.wg_random.specs.Reading.{Reading, no_record, known_at, offset_at}
 use Rattle.wg_random.specs.Chain.{below_at, depth_at, Refers}
 
@@ -100,6 +101,21 @@ unfolding earlier
 earlier_length ws first zero le = omega arith
 earlier_length [] first (suc x) le = absurd (omega (arith, le))
 earlier_length (w ∷ ws) first (suc x) le = omega (arith, earlier_length ws (w ∷ first) x (omega (arith, le)))
+
+-- ---- how deep a page is
+
+depth_within : (p : Parameters) (bits : List Bool) (first : List Whole) (at : ℕ) (ws last : List Whole) (end x limit : ℕ) → p.chain ≡ Some limit → Pages p bits first at ws last end → (known_at ws x).depth ≤ limit
+depth_within p bits first at [] last end x limit has h = let none : (known_at [] x).depth ≡ 0 = refl in omega (arith, none)
+depth_within p bits first at (w ∷ ws) last end zero limit has h = record_limited p (context_of p first) bits at limit w has h.1
+depth_within p bits first at (w ∷ ws) last end (suc x) limit has h = depth_within p bits (w ∷ first) w.end ws last end x limit has h.2
+
+-- no deeper than chains may be
+pub depth_limited : (p : Parameters) (bits : List Bool) (r : Reading p bits) (x limit : ℕ) → p.chain ≡ Some limit → (known_at r.records x).depth ≤ limit
+depth_limited p bits r x limit has = depth_within p bits [] 0 r.records r.behind r.end x limit has r.pages
+
+-- so few records are read where as many are read as its chain has
+pub few_opened : (p : Parameters) (bits : List Bool) (x from to : ℕ) → Reading p bits → ((r : Reading p bits) → to ≤ from + (known_at r.records x).depth + 1) → (limit : ℕ) → p.chain ≡ Some limit → to ≤ from + limit + 1
+few_opened p bits x from to r most limit has = omega (arith, most r, depth_limited p bits r x limit has)
 
 -- ---- the places
 

@@ -202,6 +202,7 @@ names_same p c (suc r) near =
 pub record Apart (p : Parameters) (c : Context) (bits : List Bool) (at : ℕ) (w : Whole) : Type 0 where
   pub r : ℕ
   pub near : r ≤ min p.window c.page
+  pub depth : w.known.depth ≡ depth_of c.behind r
   pub reads : ReadsRecord p (page_over p c.page (named_page c r)) bits at (Ok w)
   pub head : (d : ℕ) × (end : ℕ) × HeadStands (endless p) (page_over p c.page no_page) bits at d r end
 
@@ -289,6 +290,7 @@ apart_of p c bits at w h =
     record {
       r = r;
       near = near;
+      depth = h.4.3;
       reads = (
         h.0,
         t,

@@ -145,7 +145,7 @@ module _ (p : Parameters) (limits : IsWithinLimits p) (bits : List Bool) (offset
   goes_or_ends : (y r : ℕ) (h : Result ℕ Fault) (w : Result Known ArchiveFault) → 0 < r → HeadReads p bits offsets y (Ok r) → HeadReads p bits offsets y h → EndReads p bits offsets y h w → ⊥
   goes_or_ends y r h w some head end a = no_end y r w some (subst (λ (x : Result ℕ Fault). EndReads p bits offsets y x w) (head_one y h (Ok r) end head) a)
 
-  same_reference : (y r s : ℕ) → HeadReads p bits offsets y (Ok r) → HeadReads p bits offsets y (Ok s) → r ≡ s
+  pub same_reference : (y r s : ℕ) → HeadReads p bits offsets y (Ok r) → HeadReads p bits offsets y (Ok s) → r ≡ s
   same_reference y r s h k = ok_is r s (head_one y (Ok r) (Ok s) h k)
     where
       ok_is : (r s : ℕ) → (let x : Result ℕ Fault = Ok r in x) ≡ Ok s → r ≡ s

@@ -1,16 +1,19 @@
 //! Pages by their offsets.
-ghost use Rattle.std.specs.Prelude.{◌≡◌, ◌+◌, ◌<◌, ◌≤◌, ℕ, List, [], length, get_or, Ok, IfOk, IfErr, OnOk, OnErr, option_copied};
+ghost use Rattle.std.specs.Prelude.{◌≡◌, ◌≢◌, ◌+◌, ◌<◌, ◌≤◌, ℕ, List, [], length, get_or, Some, Ok, Err, IfOk, IfErr, OnOk, OnErr, option_copied};
 ghost use Rattle.wg_graph.specs.Ascending.{Ascends};
 ghost use Rattle.wg_grammar.specs.Archive.{Accepted, ReadsGraph};
 ghost use Rattle.wg_iterators.specs.declared.below.TheConstants.{CHAIN_PAGES};
 ghost use Rattle.wg_iterators.specs.Below.{depth_of, listed, IsFresh};
 ghost use Rattle.wg_iterators.specs.Laid.{list_or_none};
-ghost use Rattle.wg_random.specs.Checking.{IsLengthFault};
+ghost use Rattle.wg_random.specs.declared.error.CheckError.{CheckError};
+ghost use Rattle.wg_random.specs.declared.error.OpenError.{OpenError};
+ghost use Rattle.wg_random.specs.Held.{StandsForGraph};
+ghost use Rattle.wg_random.specs.Checking.{OfArchive, IsLengthFault};
 ghost use Rattle.wg_random.specs.Reading.{Reading, known_at, offset_at};
 ghost use Rattle.wg_random.specs.Chain.{ArePages, StandsOn, Refers, Ended};
 ghost use Rattle.wg_random.specs.Answer.{all_of, Opens};
 
-use crate::{OpenError, Records, Steps};
+use crate::{CheckError, OpenError, Records, Steps};
 use std::alloc::{AllocError, Global};
 use std::marker::Model;
 use std::sync::ledger::Ledger;
@@ -31,18 +34,17 @@ pub struct Archive<'a> {
 }
 
 impl<'a> Model for Archive<'a> {
-    ghost use Rattle.std.specs.Prelude.{◌≡◌, ◌≤◌, ◌∷◌, map, length};
+    ghost use Rattle.std.specs.Prelude.{◌≤◌, length};
     ghost use Rattle.wg_io.specs.declared.limits.TheConstants.{MOST_BYTES};
     ghost use Rattle.wg_bits.specs.Bits.{bits_of};
-    ghost use Rattle.wg_random.specs.Held.{Held};
-    ghost use Rattle.wg_random.specs.Reading.{Reading};
+    ghost use Rattle.wg_random.specs.Held.{Held, StandsForGraph};
 
     ghost Value = { Held };
 
     ghost view = { λ a. record { params = a.params; bits = bits_of a.bytes.now; offsets = a.offsets.now } };
 
     ghost invariant = { λ a. (length a.bytes.now ≤ MOST_BYTES)
-        × ((r : Reading a.params (bits_of a.bytes.now)) × (a.offsets.now ≡ 0 ∷ map (λ w. w.end) r.records)) };
+        × StandsForGraph (record { params = a.params; bits = bits_of a.bytes.now; offsets = a.offsets.now }) };
 }
 
 // Holds the offsets of a file against those of the records.
@@ -66,12 +68,17 @@ fn compare(records: &Offsets, file: &Offsets) -> Result<(), ArchiveFault>
 
 impl<'a> Archive<'a> {
     /// The archive of these records, if the offsets are those of the records; else the first record that has another
-    /// length by the offsets. It takes one pass over the offsets.
-    pub fn check(records: Records<'a>, offsets: &'a Offsets) -> Result<Archive<'a>, ArchiveFault>
+    /// length by the offsets. It takes one pass over the offsets, and no memory.
+    pub fn check(
+        _alloc: Global,
+        records: Records<'a>,
+        offsets: &'a Offsets,
+    ) -> Result<Archive<'a>, CheckError>
         requires { length offsets.now ≡ records.params.nodes + 1 }
         ensures held { IfOk result (λ archive. archive ≡ records.entry) }
         ensures same { OnOk result (offsets.now ≡ records.entry.offsets) }
-        ensures refused { IfErr result (IsLengthFault records.entry.offsets offsets.now) }
+        ensures refused { IfErr result (λ e. OfArchive e (IsLengthFault records.entry.offsets offsets.now)) }
+        ensures never_memory { result ≢ Err CheckError.Memory }
     {
         let Records {
             bytes,
@@ -79,12 +86,23 @@ impl<'a> Archive<'a> {
             offsets: found,
             ..
         } = records;
-        compare(&found, offsets)?;
-        Ok(Archive {
-            bytes,
-            params,
-            offsets,
-        })
+        match compare(&found, offsets) {
+            Ok(()) => Ok(Archive {
+                bytes,
+                params,
+                offsets,
+            }),
+            Err(fault) => Err(CheckError::Archive(fault)),
+        }
+    }
+
+    // How many pages there are. The bits stand for a graph, and so there is a record of each page.
+    pub(crate) fn nodes(&self) -> u64
+        ensures count { result ≡ self.now.params.nodes }
+        ensures stands { StandsForGraph self.now }
+        ensures records { Reading self.now.params self.now.bits }
+    {
+        self.params.nodes()
     }
 
     // A cursor at the record of a page.
@@ -211,8 +229,13 @@ impl<'a> Archive<'a> {
         ensures most { (r : Reading self.now.params self.now.bits)
             → steps.new ≤ steps.old + (known_at r.records x).depth + 1 }
         ensures none { self.now.params.nodes ≤ x → steps.new ≡ steps.old }
+        ensures stands { StandsForGraph self.now }
+        ensures records { Reading self.now.params self.now.bits }
+        ensures no_page { self.now.params.nodes ≤ x → result ≡ Err OpenError.NoPage }
+        ensures no_page_only_then { result ≡ Err OpenError.NoPage → self.now.params.nodes ≤ x }
+        ensures few { (limit : ℕ) → self.now.params.chain ≡ Some limit → steps.new ≤ steps.old + limit + 1 }
     {
-        if x >= self.params.nodes() {
+        if x >= self.nodes() {
             return Err(OpenError::NoPage);
         }
         let mut chain = [0; CHAIN_PAGES];

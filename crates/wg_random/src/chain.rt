@@ -1,5 +1,5 @@
 //! The list of a page of an archive that was not checked.
-ghost use Rattle.std.specs.Prelude.{◌≡◌, ◌+◌, ◌-◌, ◌<◌, ◌≤◌, ℕ, length, drop, get_or, Ok, Err, IfOk, IfErr};
+ghost use Rattle.std.specs.Prelude.{◌≡◌, ◌+◌, ◌-◌, ◌<◌, ◌≤◌, ℕ, length, drop, get_or, Some, Ok, Err, IfOk, IfErr, OnOk};
 ghost use Rattle.wg_io.specs.declared.limits.TheConstants.{MOST_BYTES};
 ghost use Rattle.wg_bits.specs.Bits.{bits_of};
 ghost use Rattle.wg_grammar.specs.Context.{Known};
@@ -86,9 +86,10 @@ fn climb(archive: &Unchecked, alloc: Global, chain: &[u64]) -> Result<List, Spot
 /// first fault in this order is answered. No other record is read, nor the tail, nor the number of arcs; where the
 /// archive is accepted, the list is that of its graph.
 ///
-/// Each page of the chain is counted by a tick. It takes time in proportion to the words and the lists of these
-/// records, and holds a number for each page of the chain and a few lists. Memory is taken as pages and successors
-/// come.
+/// Each page of the chain is counted by a tick. Where chains have a limit, a page with a list has no more references
+/// than that; one with a fault may have more, since the heads are judged with no limit. It takes time in proportion to
+/// the words and the lists of these records, and holds a number for each page of the chain and a few lists. Memory is
+/// taken as pages and successors come.
 pub fn spot<L: Ledger>(
     alloc: Global,
     bytes: &[u8],
@@ -99,7 +100,9 @@ pub fn spot<L: Ledger>(
 ) -> Result<List, SpotError>
     requires short { length bytes.now ≤ MOST_BYTES }
     requires many { length offsets.now ≡ params.now.nodes + 1 }
-    ensures { SpotAnswers params.now (bits_of bytes.now) offsets.now page steps.old steps.new result }
+    ensures answer { SpotAnswers params.now (bits_of bytes.now) offsets.now page steps.old steps.new result }
+    ensures few { (limit : ℕ) → params.now.chain ≡ Some limit
+        → OnOk result (steps.new ≤ steps.old + limit + 1) }
 {
     if page >= params.nodes() {
         return Err(SpotError::NoPage);

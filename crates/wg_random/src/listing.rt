@@ -1,8 +1,10 @@
 //! The whole list of a page, however long its chain of references is.
-ghost use Rattle.std.specs.Prelude.{◌≡◌, ◌+◌, ◌-◌, ◌<◌, ◌≤◌, ◌++◌, ℕ, [], length, get_or, Ok, IfOk, OnOk, option_copied};
+ghost use Rattle.std.specs.Prelude.{◌≡◌, ◌+◌, ◌-◌, ◌<◌, ◌≤◌, ◌++◌, ℕ, [], length, get_or, Some, Ok, Err, IfOk, OnOk, option_copied};
 ghost use Rattle.wg_graph.specs.Ascending.{Ascends};
 ghost use Rattle.wg_grammar.specs.Archive.{Accepted, ReadsGraph};
 ghost use Rattle.wg_iterators.specs.Laid.{list_or_none};
+ghost use Rattle.wg_random.specs.declared.error.ListError.{ListError};
+ghost use Rattle.wg_random.specs.Held.{StandsForGraph};
 ghost use Rattle.wg_random.specs.Reading.{Reading, known_at};
 ghost use Rattle.wg_random.specs.Chain.{ArePages, StandsOn, Ended};
 ghost use Rattle.wg_random.specs.Answer.{Lists};
@@ -116,8 +118,13 @@ impl<'a> Archive<'a> {
         ensures most { (r : Reading self.now.params self.now.bits)
             → steps.new ≤ steps.old + (known_at r.records x).depth + 1 }
         ensures none { self.now.params.nodes ≤ x → steps.new ≡ steps.old }
+        ensures stands { StandsForGraph self.now }
+        ensures records { Reading self.now.params self.now.bits }
+        ensures no_page { self.now.params.nodes ≤ x → result ≡ Err ListError.NoPage }
+        ensures no_page_only_then { result ≡ Err ListError.NoPage → self.now.params.nodes ≤ x }
+        ensures few { (limit : ℕ) → self.now.params.chain ≡ Some limit → steps.new ≤ steps.old + limit + 1 }
     {
-        if x >= self.params.nodes() {
+        if x >= self.nodes() {
             return Err(ListError::NoPage);
         }
         let chain = self.chain(alloc, x, steps)?;

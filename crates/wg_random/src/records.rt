@@ -5,6 +5,7 @@ ghost use Rattle.wg_bits.specs.Bits.{bits_of};
 ghost use Rattle.wg_grammar.specs.Archive.{Accepted, ReadsGraph};
 ghost use Rattle.wg_grammar.specs.Laws.{graph_of};
 ghost use Rattle.wg_offsets.specs.Places.{ArePlaces};
+ghost use Rattle.wg_random.specs.Held.{StandsForGraph};
 ghost use Rattle.wg_random.specs.Checking.{OfArchive};
 
 use crate::pass::pass;
@@ -72,6 +73,7 @@ impl<'a> Records<'a> {
         ensures graph { (a : Accepted) → ReadsGraph self.now.params self.now.bits (Ok a)
             → IfOk result (λ s. s.graph ≡ graph_of self.now.params a) }
         ensures place { IfOk result (λ s. s.place ≡ 0) }
+        ensures stands { StandsForGraph self.now }
     {
         Sweep::with_room(alloc, self.bytes, self.params, self.greatest)
     }
@@ -82,6 +84,7 @@ impl<'a> Records<'a> {
         ensures value { result ≡ get_or self.now.offsets page 0 }
         ensures count { length self.now.offsets ≡ self.now.params.nodes + 1 }
         ensures places { ArePlaces self.now.offsets }
+        ensures stands { StandsForGraph self.now }
     {
         // tells that they are places
         self.offsets.len();

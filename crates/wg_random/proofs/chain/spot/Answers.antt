@@ -2,11 +2,12 @@ use Rattle.std.proofs.Common.{ℕ, List, ◌<◌, Err, ap, arith}
 use Rattle.std.proofs.lemmas.Result.{err_from_is_err_and}
 use Rattle.wg_params.specs.Parameters.{Parameters}
 use Rattle.wg_bits.specs.Bits.{bits_of}
+use Rattle.wg_random.proofs.SpotFew.{few_spotted}
 use Rattle.wg_random.proofs.SpotLemmas.{answer_of, answers_same}
 use Rattle.wg_random.proofs.chain.spot.Goals as goal
 
-pub returns : goal.returns
-returns g c =
+pub returns-clause-answer : goal.returns-clause-answer
+returns-clause-answer g c =
     let a = c.of-archive.result in
     let o = c.of-archive.ensures in
     let h = c.in_ok-chain.ensures in
@@ -16,8 +17,12 @@ returns g c =
     answers_same _ _ _ _ _ _ _ _ _ _ o.params (ap (λ (l : List ℕ). bits_of l) o.bytes) o.offsets
     (answer_of a.params (bits_of a.bytes.now) a.offsets.now c.args.page c.in_ok-chain.chain c.args.steps.now c.chain.new.steps c.climb.result lt h.chain h.ticks good bad)
 
-pub returns-in_err-chain : goal.returns-in_err-chain
-returns-in_err-chain g c =
+pub returns-in_err-chain-clause-answer : goal.returns-in_err-chain-clause-answer
+returns-in_err-chain-clause-answer g c =
     let o = c.of-archive.ensures in
     let q = err_from_is_err_and c.from_residual.result c.from_residual.ensures.1 in
     rw (q.1, q.2) (answers_same _ _ _ _ _ _ c.args.page c.args.steps.now c.chain.new.steps (Err c.in_err-chain.field-0.0) o.params (ap (λ (l : List ℕ). bits_of l) o.bytes) o.offsets c.in_err-chain.ensures.error)
+
+pub returns-clause-few : goal.returns-clause-few
+returns-clause-few g c limit has =
+    few_spotted c.args.params.now c.nodes.ensures.limits (bits_of c.args.bytes.now) c.args.offsets.now c.args.page c.args.steps.now c.chain.new.steps limit c.climb.result has (returns-clause-answer g c)

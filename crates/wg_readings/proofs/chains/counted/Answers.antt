@@ -8,20 +8,20 @@ use Rattle.wg_readings.proofs.chains.counted.Goals as goal
 
 pub returns-in-Ok-clause-steps : goal.returns-in-Ok-clause-steps
 returns-in-Ok-clause-steps g c = λ r next.
-    let h = c.in-Ok.ensures in
+    let h = c.in-Ok.ensures.answer in
     successors_go_on r c.args.params.now c.nodes.ensures.limits c.args.bytes.now c.args.offsets.now c.args.page h.0 h.2 (h.1, h.3) next ∙ ap next (sym h.4)
 
 pub returns-in-Err-NoPage-clause-steps : goal.returns-in-Err-NoPage-clause-steps
 returns-in-Err-NoPage-clause-steps g c = λ r next.
     let p = c.args.params.now in
-    let h = rw c.in-Err-NoPage.field-0-is at c.in-Err-NoPage.ensures in
+    let h = rw c.in-Err-NoPage.field-0-is at c.in-Err-NoPage.ensures.answer in
     subst (λ (s : Status). Answers (with_successors r p c.args.bytes.now c.args.offsets.now c.args.page next) s) (sym c.of.ensures.status)
     (inl (sym (ap status_of (page_refused r p c.nodes.ensures.limits c.args.bytes.now c.args.offsets.now c.args.page h.0 next))))
 
 pub returns-in-Err-Archive-clause-steps : goal.returns-in-Err-Archive-clause-steps
 returns-in-Err-Archive-clause-steps g c = λ r next.
     let p = c.args.params.now in
-    let h = rw c.in-Err-Archive.field-0-is at c.in-Err-Archive.ensures in
+    let h = rw c.in-Err-Archive.field-0-is at c.in-Err-Archive.ensures.answer in
     subst (λ (s : Status). Answers (with_successors r p c.args.bytes.now c.args.offsets.now c.args.page next) s) (sym (ap (λ (e : Ending). e.status) c.bad_archive.ensures))
     (inl (sym (ap status_of (chain_refused r p c.nodes.ensures.limits c.args.bytes.now c.args.offsets.now c.args.page h.0 c.in-Err-Archive.fault (h.1, h.2) next))))
 

@@ -1,13 +1,14 @@
 use Rattle.wg_bits.specs.Bits.{bits_of}
 use Rattle.wg_iterators.specs.Below.{depth_of, listed}
 use Rattle.wg_random.specs.Held.{Held}
+use Rattle.wg_random.proofs.Matching.{read_of}
 use Rattle.wg_random.proofs.ArchiveLemmas.{proper_back, whole_back, fresh_back, depth_back}
 use Rattle.wg_random.proofs.archive.Archive.stand.Goals as goal
 
 pub begin-requires-clause-proper : goal.begin-requires-clause-proper
 begin-requires-clause-proper c =
     let h : Held = record { params = c.self.inside.params; bits = bits_of c.self.inside.bytes.now; offsets = c.self.inside.offsets.now } in
-    proper_back h _ c.self.view_is c.args.page c.cursor.result (listed c.args.below) c.cursor.ensures c.requires.ready c.self.invariant.1.0
+    proper_back h _ c.self.view_is c.args.page c.cursor.result (listed c.args.below) c.cursor.ensures c.requires.ready (read_of c.self.inside.params (bits_of c.self.inside.bytes.now) _ c.self.invariant.1.1).reading
 
 pub returns-clause-whole : goal.returns-clause-whole
 returns-clause-whole c =
@@ -17,9 +18,9 @@ returns-clause-whole c =
 pub returns-clause-fresh : goal.returns-clause-fresh
 returns-clause-fresh c =
     let h : Held = record { params = c.self.inside.params; bits = bits_of c.self.inside.bytes.now; offsets = c.self.inside.offsets.now } in
-    fresh_back h _ c.self.view_is c.args.page c.cursor.result (listed c.args.below) (depth_of c.args.below) c.begin.result c.cursor.ensures c.requires.ready c.begin.ensures c.self.invariant.1.0
+    fresh_back h _ c.self.view_is c.args.page c.cursor.result (listed c.args.below) (depth_of c.args.below) c.begin.result c.cursor.ensures c.requires.ready c.begin.ensures (read_of c.self.inside.params (bits_of c.self.inside.bytes.now) _ c.self.invariant.1.1).reading
 
 pub returns-clause-depth : goal.returns-clause-depth
 returns-clause-depth c =
     let h : Held = record { params = c.self.inside.params; bits = bits_of c.self.inside.bytes.now; offsets = c.self.inside.offsets.now } in
-    depth_back h _ c.self.view_is c.args.page c.cursor.result (listed c.args.below) (depth_of c.args.below) c.begin.result c.cursor.ensures c.requires.ready c.begin.ensures c.self.invariant.1.0
+    depth_back h _ c.self.view_is c.args.page c.cursor.result (listed c.args.below) (depth_of c.args.below) c.begin.result c.cursor.ensures c.requires.ready c.begin.ensures (read_of c.self.inside.params (bits_of c.self.inside.bytes.now) _ c.self.invariant.1.1).reading
