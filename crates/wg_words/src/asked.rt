@@ -1,11 +1,11 @@
 ghost use Rattle.std.specs.Prelude.{◌≡◌, Some, None, IfOk, option_and_then, option_map, map, string_bytes};
 ghost use Rattle.clap.specs.Words.{subcommand_rows_of, rows_of, found_of};
-ghost use Rattle.wg_words.specs.Asked.{IsAsked};
+ghost use Rattle.wg_words.specs.Asked.{IsAsked, more_on};
 ghost use Rattle.wg_words.specs.Commands.{parsed};
 ghost use Rattle.wg_words.specs.Jobs.{job_of, job_from, job_on_base, job_on, show_on, spot_on, rank_from, rank_on, verify_on, build_on, import_on, quotient_in, conversion_in, recoding, union_in, transposing, bulk_in, IsWithin};
 
 use crate::commands::command;
-use crate::conversion::{copied, pair_at};
+use crate::conversion::{copied, pair_at, two_names};
 use crate::files::{is_file_of, overwrites};
 use crate::options::layout_at;
 use crate::values::{name_at, number_at, numbers_at, optional_name_at, required_at, unlimited_at};
@@ -181,6 +181,20 @@ fn job_on(alloc: Global, command: &str, found: &ArgMatches<'_>, base: &str) -> R
         "offsets" => Ok(Job::Offsets {
             base: Name::new(alloc, base)?,
         }),
+        _ => more_on(alloc, command, found, base),
+    }
+}
+
+// The job of a command that takes more than the archive.
+fn more_on(
+    alloc: Global,
+    command: &str,
+    found: &ArgMatches<'_>,
+    base: &str,
+) -> Result<Job, JobError>
+    ensures { IsAsked (more_on command.now (rows_of (found_of found.now)) base.now) result }
+{
+    match command {
         "show" => show_on(alloc, found, base),
         "spot" => spot_on(alloc, found, base),
         "rank" => rank_on(alloc, found, base),
@@ -285,8 +299,7 @@ fn verify_on(alloc: Global, found: &ArgMatches<'_>, base: &str) -> Result<Job, J
     let Some(weights) = optional_name_at(found, "weights") else {
         return Err(JobError::Usage);
     };
-    let base = Name::new(alloc, base)?;
-    let certificate = Name::new(alloc, certificate)?;
+    let (base, certificate) = two_names(alloc, base, certificate)?;
     Ok(Job::Verify {
         base,
         certificate,
@@ -311,10 +324,10 @@ fn build_on(alloc: Global, found: &ArgMatches<'_>, base: &str) -> Result<Job, Jo
     let Some(layout) = layout_at(found) else {
         return Err(JobError::Usage);
     };
-    let arcs = Name::new(alloc, arcs)?;
+    let (arcs, base) = two_names(alloc, arcs, base)?;
     Ok(Job::Build {
         arcs,
-        base: Name::new(alloc, base)?,
+        base,
         nodes,
         layout,
     })
@@ -333,10 +346,6 @@ fn import_on(alloc: Global, found: &ArgMatches<'_>, base: &str) -> Result<Job, J
     let Some(layout) = layout_at(found) else {
         return Err(JobError::Usage);
     };
-    let text = Name::new(alloc, text)?;
-    Ok(Job::Import {
-        text,
-        base: Name::new(alloc, base)?,
-        layout,
-    })
+    let (text, base) = two_names(alloc, text, base)?;
+    Ok(Job::Import { text, base, layout })
 }

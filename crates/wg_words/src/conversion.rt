@@ -50,10 +50,19 @@ pub fn pair_at<'a>(found: &ArgMatches<'a>) -> Option<Pair<'a>>
 pub fn copied(alloc: Global, pair: Pair<'_>) -> Result<Conversion, AllocError>
     ensures { IfOk result (λ c. c ≡ converted pair.entry) }
 {
-    let input = Name::new(alloc, pair.input)?;
+    let (input, output) = two_names(alloc, pair.input, pair.output)?;
     Ok(Conversion {
         input,
-        output: Name::new(alloc, pair.output)?,
+        output,
         layout: pair.layout,
     })
+}
+
+/// Copies of two names.
+pub fn two_names(alloc: Global, first: &str, second: &str) -> Result<(Name, Name), AllocError>
+    ensures { IfOk result (λ names. names ≡ (first.now, second.now)) }
+{
+    let first = Name::new(alloc, first)?;
+    let second = Name::new(alloc, second)?;
+    Ok((first, second))
 }

@@ -1,6 +1,6 @@
-ghost use Rattle.std.specs.Prelude.{◌≡◌, option_map};
+ghost use Rattle.std.specs.Prelude.{◌≡◌};
 ghost use Rattle.clap.specs.Words.{rows_of, found_of};
-ghost use Rattle.wg_words.specs.Layouts.{chain_of, chain_or, chain_in, factor_of, zeta_in, codes_in, layout_in};
+ghost use Rattle.wg_words.specs.Layouts.{chain_of, chain_in, zeta_in, codes_in, layout_in};
 
 use crate::codes::{gamma_or_delta, residual_code, unary_gamma_or_delta};
 use crate::defaults::{
@@ -33,16 +33,10 @@ pub fn layout_at(found: &ArgMatches<'_>) -> Option<Layout>
 fn chain_at(found: &ArgMatches<'_>) -> Option<Option<u64>>
     ensures { result ≡ chain_in (rows_of (found_of found.now)) }
 {
-    chain_or(text_at(found, "chain"))
-}
-
-fn chain_or(text: Option<&str>) -> Option<Option<u64>>
-    ensures { result ≡ chain_or (option_map (λ s. s.now) text.entry) }
-{
-    let Some(text) = text else {
-        return Some(Some(DEFAULT_CHAIN));
-    };
-    chain_of(text)
+    match text_at(found, "chain") {
+        None => Some(Some(DEFAULT_CHAIN)),
+        Some(text) => chain_of(text),
+    }
 }
 
 fn chain_of(text: &str) -> Option<Option<u64>>
@@ -59,16 +53,10 @@ fn zeta_at(found: &ArgMatches<'_>) -> Option<u32>
     ensures { result ≡ zeta_in (rows_of (found_of found.now)) }
 {
     let zeta = number_at(found, "zeta", u64::from(DEFAULT_ZETA), u64::from(MOST_ZETA))?;
-    factor_of(u32::try_from(zeta).ok()?)
-}
-
-fn factor_of(zeta: u32) -> Option<u32>
-    ensures { result ≡ factor_of zeta }
-{
     if zeta == 0 {
         return None;
     }
-    Some(zeta)
+    u32::try_from(zeta).ok()
 }
 
 // The codes that the options give, with this shrinking factor: none where a word is unknown.

@@ -1,6 +1,6 @@
 ghost use Rattle.std.specs.Prelude.{◌≡◌, IfOk, map, option_map};
 ghost use Rattle.clap.specs.Words.{rows_of, found_of, all_of, first_of};
-ghost use Rattle.wg_words.specs.Values.{nonempty_of, name_in, name_or_none, optional_name_in, limited, number_up_to, number_or, number_in, numbers_of, numbers_in, required_in, unlimited_in, word_in};
+ghost use Rattle.wg_words.specs.Values.{nonempty_of, name_in, optional_name_in, limited, number_up_to, number_in, numbers_of, numbers_in, required_in, unlimited_in, word_in};
 
 use clap::ArgMatches;
 use std::alloc::{AllocError, Global};
@@ -34,13 +34,7 @@ fn nonempty(text: &str) -> Option<&str>
 pub fn optional_name_at<'a>(found: &ArgMatches<'a>, id: &str) -> Option<Option<&'a str>>
     ensures { option_map (option_map (λ s. s.now)) result ≡ optional_name_in (rows_of (found_of found.now)) id.now }
 {
-    name_or_none(text_at(found, id))
-}
-
-fn name_or_none(text: Option<&str>) -> Option<Option<&str>>
-    ensures { option_map (option_map (λ s. s.now)) result ≡ name_or_none (option_map (λ s. s.now) text.entry) }
-{
-    match text {
+    match text_at(found, id) {
         None => Some(None),
         Some(text) => Some(Some(nonempty(text)?)),
     }
@@ -50,16 +44,10 @@ fn name_or_none(text: Option<&str>) -> Option<Option<&str>>
 pub fn number_at(found: &ArgMatches<'_>, id: &str, default: u64, most: u64) -> Option<u64>
     ensures { result ≡ number_in (rows_of (found_of found.now)) id.now default most }
 {
-    number_or(text_at(found, id), default, most)
-}
-
-fn number_or(text: Option<&str>, default: u64, most: u64) -> Option<u64>
-    ensures { result ≡ number_or default most (option_map (λ s. s.now) text.entry) }
-{
-    let Some(text) = text else {
-        return Some(default);
-    };
-    number_up_to(text, most)
+    match text_at(found, id) {
+        None => Some(default),
+        Some(text) => number_up_to(text, most),
+    }
 }
 
 /// The number whose decimal the text is, if it is at most its limit.

@@ -17,8 +17,8 @@ loop-form-preserved c =
     record {
       local = c.in_ok-line.ensures.local;
       app = ap (λ (a : App). with_forms a rest) c.in_ok-line.ensures.app
-        ∙ sym (at_drop_more (with_forms (app_of c.loop-form.line)) c.as_slice-forms.result.now c.loop-form.form-index _ c.loop-form-test.true)
-        ∙ c.loop-form.invariant.app;
+          ∙ sym (at_drop_more (with_forms (app_of c.loop-form.line)) c.as_slice-forms.result.now c.loop-form.form-index _ c.loop-form-test.true)
+          ∙ c.loop-form.invariant.app;
     }
 
 pub returns : goal.returns

@@ -11,9 +11,9 @@ loop-argument-preserved c =
     record {
       local = search rules;
       app = c.loop-argument.invariant.app
-        ∙ at_drop_more (with_rules before) c.args.arguments.now c.loop-argument.argument-index _ c.loop-argument-test.true
-        ∙ ap (λ (r : Rule). with_rules (with_rule before r) rest) (sym c.made_argument.ensures.rule)
-        ∙ ap (λ (a : App). with_rules a rest) (search rules);
+          ∙ at_drop_more (with_rules before) c.args.arguments.now c.loop-argument.argument-index _ c.loop-argument-test.true
+          ∙ ap (λ (r : Rule). with_rules (with_rule before r) rest) (sym c.made_argument.ensures.rule)
+          ∙ ap (λ (a : App). with_rules a rest) (search rules);
     }
 
 pub returns : goal.returns
