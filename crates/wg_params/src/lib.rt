@@ -1,8 +1,8 @@
 //! The parameters of an archive: how many pages and arcs it has, how far its references reach, and in which codes its
 //! fields are written.
 //!
-//! [`Code`] names a code for whole numbers. A [`Layout`] says how an archive is written, whatever graph it holds, and may
-//! be anything. [`Params`] keeps one archive's parameters within their limits, the constants of this crate;
+//! [`Code`] names a code for whole numbers. A [`Layout`] says how an archive is written, whatever graph it holds, and
+//! may be anything. [`Params`] keeps one archive's parameters within their limits, the constants of this crate;
 //! [`Params::new`] makes it of all parameters one by one, and [`Params::with_layout`] of a layout. Both name the first
 //! [`Key`] that is out of its limits. Whoever holds a `Params` can rely on the limits: each call that reads a field
 //! ensures them.

@@ -96,7 +96,7 @@ fn has_its_codes(layout: &Layout) -> bool
 }
 
 impl Params {
-    /// The parameters of an archive, one by one: its pages and arcs, how many pages back a reference may reach, how many
+    /// The parameters of an archive, one by one: pages and arcs, how many pages back a reference may reach, how many
     /// references may lead from one page to the next (`None` for any number), the least length of an interval (0 for no
     /// intervals), the shrinking factor of zeta, and the code of each field. The first that is out of its limits is
     /// refused by its key; a code that its field may not have counts as the compression flags. It takes no memory.

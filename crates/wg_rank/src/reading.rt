@@ -145,8 +145,8 @@ fn read_bounds(alloc: Global, bytes: &[u8], n: u64) -> Result<Vec<u128>, CertErr
 }
 
 /// Reads a certificate of `n` pages, or names its first fault. It takes 16 bytes for each bound as the lines come, and
-/// one pass over the text. A certificate holds at most 2^36 - 1 bounds; a text with more of them is answered as if there
-/// were no memory for the next.
+/// one pass over the text. A certificate holds at most 2^36 - 1 bounds; a text with more of them is answered as if
+/// there were no memory for the next.
 pub fn read_certificate(alloc: Global, bytes: &[u8], n: u64) -> Result<Certificate, CertError>
     ensures read { IsRead (claim_of n bytes.now) result }
     ensures pages { IfOk result (λ c. length c.low ≡ n) }
