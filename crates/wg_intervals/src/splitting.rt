@@ -1,5 +1,5 @@
 //! The split of ascending numbers into intervals and residuals.
-ghost use Rattle.std.specs.Prelude.{◌≡◌, OnOk, IfOk};
+ghost use Rattle.std.specs.Prelude.{◌≡◌, [], OnOk, OnErr, IfOk};
 ghost use Rattle.wg_graph.specs.Ascending.{Ascends};
 ghost use Rattle.wg_intervals.specs.Canonical.{intervals_of, residuals_of, ends_and_lengths};
 
@@ -7,8 +7,23 @@ use crate::{Run, Split};
 use std::alloc::{AllocError, Global};
 
 impl Split {
-    /// Splits other numbers, in the memory of those that are here. After an error the two lists are of no use.
+    /// Splits other numbers, in the memory of those that are here. After an error there are none.
     pub fn fill(&mut self, extras: &[u64], interval: u64) -> Result<(), AllocError>
+        requires { Ascends 0 extras.now }
+        ensures intervals { OnOk result (self.new.intervals ≡ ends_and_lengths (intervals_of interval extras.now)) }
+        ensures residuals { OnOk result (self.new.residuals ≡ residuals_of interval extras.now) }
+        ensures err { OnErr result ((self.new.intervals ≡ []) × (self.new.residuals ≡ [])) }
+    {
+        let made = self.refill(extras, interval);
+        if made.is_err() {
+            self.intervals.clear();
+            self.residuals.clear();
+        }
+        made
+    }
+
+    // The same, but an error leaves the first of the parts.
+    fn refill(&mut self, extras: &[u64], interval: u64) -> Result<(), AllocError>
         requires { Ascends 0 extras.now }
         ensures intervals { OnOk result (self.new.intervals ≡ ends_and_lengths (intervals_of interval extras.now)) }
         ensures residuals { OnOk result (self.new.residuals ≡ residuals_of interval extras.now) }

@@ -1,6 +1,6 @@
 use Rattle.std.proofs.Common.{◌+◌, ◌^◌, ◌≤◌}
 use Rattle.wg_intervals.proofs.Splits.{Splitting}
-use Rattle.wg_intervals.proofs.parts.Split.fill.Given as goal
+use Rattle.wg_intervals.proofs.parts.Split.refill.Given as goal
 
 abbrev pub invariant-loop-number : goal.invariant-loop-number
 invariant-loop-number l = record {

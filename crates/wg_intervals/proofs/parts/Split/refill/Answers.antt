@@ -1,7 +1,7 @@
 use Rattle.std.proofs.Common.{arith}
 use Rattle.std.proofs.lemmas.Result.{on_ok_weaker}
 use Rattle.wg_intervals.proofs.Splits.{begun, first_above, more, intervals_done, residuals_done, ends_low}
-use Rattle.wg_intervals.proofs.parts.Split.fill.Goals as goal
+use Rattle.wg_intervals.proofs.parts.Split.refill.Goals as goal
 
 pub loop-number-init : goal.loop-number-init
 loop-number-init c = record {

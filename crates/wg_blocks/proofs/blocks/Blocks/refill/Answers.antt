@@ -1,6 +1,6 @@
 use Rattle.std.proofs.Common.{arith}
 use Rattle.wg_blocks.proofs.Made.{begun, done}
-use Rattle.wg_blocks.proofs.blocks.Blocks.fill.Goals as goal
+use Rattle.wg_blocks.proofs.blocks.Blocks.refill.Goals as goal
 
 pub loop-y-init : goal.loop-y-init
 loop-y-init c = record {
