@@ -15,6 +15,7 @@ use Rattle.wg_words.specs.declared.defaults.TheConstants.{DEFAULT_DAMPING, DEFAU
 use Rattle.wg_words.specs.declared.jobs.Job.{Job}
 use Rattle.wg_words.specs.declared.jobs.Job.TheVariants.{Check, Arcs, Ascii, Offsets, Show, Spot, Rank, Verify, Build, Import, Quotient, Recode, Union, Transpose, Bulk}
 use Rattle.wg_words.specs.declared.jobs.JobError.{JobError}
+use Rattle.wg_words.specs.declared.jobs.JobError.TheVariants.{Usage}
 use Rattle.wg_params.specs.declared.layout.Layout.{Layout}
 use Rattle.wg_words.proofs.FileLemmas.{no_file, keeps_inputs, no_file_shared_unless}
 use Rattle.wg_words.proofs.LayoutLemmas.{layout_in_within}
@@ -182,10 +183,18 @@ pub job_within : (words : List Text) (job : Job) → job_of words ≡ Some job �
 job_within words job is =
     option_and_then_some job_from (parsed words) job is (λ found _ from. job_from_within found.0 found.1 job from)
 
--- a job that is answered
+-- a job that is answered is that of the words, and within its limits
+pub asked_job : (words : List Text) (wanted : Option Job) (answer : Result Job JobError) → wanted ≡ job_of words → IsAsked wanted answer → IfOk answer (λ job. job_of words ≡ Some job)
+asked_job words wanted (Ok job) is asked = sym is ∙ asked
+asked_job words wanted (Err e) is asked = tt
+
 pub asked_within : (words : List Text) (wanted : Option Job) (answer : Result Job JobError) → wanted ≡ job_of words → IsAsked wanted answer → IfOk answer (λ job. IsWithin job)
 asked_within words wanted (Ok job) is asked = job_within words job (sym is ∙ asked)
 asked_within words wanted (Err e) is asked = tt
+
+-- where the answer is that there is none, there is none
+pub asked_none : (words : List Text) (wanted : Option Job) (answer : Result Job JobError) → wanted ≡ job_of words → IsAsked wanted answer → answer ≡ Err Usage → job_of words ≡ None
+asked_none words wanted answer is asked usage = sym is ∙ subst (IsAsked wanted) usage asked
 
 -- what a caller knows of the numbers and the files of a ranking
 pub rank_within : (words : List Text) (base : Text) (rounds damping top : ℕ) (weights certificate : Option Text) → job_of words ≡ Some (Rank base rounds damping top weights certificate) → (rounds ≤ MOST_ROUNDS) × (damping ≤ MOST_DAMPING) × (top ≤ MOST_PAGES) × KeepsInputs base weights certificate

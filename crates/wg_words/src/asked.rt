@@ -1,7 +1,6 @@
-ghost use Rattle.std.specs.Prelude.{◌≡◌, Some, None, IfOk, option_and_then, option_map, map, string_bytes};
+ghost use Rattle.std.specs.Prelude.{◌≡◌, Some, None, IfOk, option_and_then, option_map};
 ghost use Rattle.clap.specs.Words.{subcommand_rows_of, rows_of, found_of};
 ghost use Rattle.wg_words.specs.Asked.{IsAsked, more_on};
-ghost use Rattle.wg_words.specs.Commands.{parsed};
 ghost use Rattle.wg_words.specs.Jobs.{job_of, job_from, job_on_base, job_on, show_on, spot_on, rank_from, rank_on, verify_on, build_on, import_on, quotient_in, conversion_in, recoding, union_in, transposing, bulk_in, IsWithin};
 
 use crate::commands::command;
@@ -21,17 +20,8 @@ pub fn job(alloc: Global, words: &Words) -> Result<Job, JobError>
     ensures within { IfOk result (λ job. IsWithin job) }
     ensures usage { result ≡ Err JobError.Usage → job_of words.now ≡ None }
 {
-    let matches = matches(alloc, words.as_slice())?;
-    job_in(alloc, &matches)
-}
-
-// What clap matches in the words: there is no job where it refuses them.
-fn matches<'a>(alloc: Global, words: &'a [String]) -> Result<ArgMatches<'a>, JobError>
-    ensures found { IfOk result (λ m. subcommand_rows_of m ≡ parsed (map string_bytes words.now)) }
-    ensures usage { result ≡ Err JobError.Usage → parsed (map string_bytes words.now) ≡ None }
-{
-    match command(alloc)?.try_get_matches_from(words) {
-        Ok(matches) => Ok(matches),
+    match command(alloc)?.try_get_matches_from(words.as_slice()) {
+        Ok(matches) => job_in(alloc, &matches),
         Err(error) => match error.kind() {
             ErrorKind::OutOfMemory => Err(JobError::Memory),
             _ => Err(JobError::Usage),

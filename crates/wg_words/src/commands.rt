@@ -2,7 +2,7 @@
 ghost use Rattle.std.specs.Prelude.{◌≡◌, IfOk, false};
 ghost use Rattle.clap.specs.Words.{app_of, rule_of};
 ghost use Rattle.clap.specs.declared.builder.command.Command.TheViews.{out-Command};
-ghost use Rattle.wg_words.specs.Commands.{IsApp, program_app, with_command, command_app};
+ghost use Rattle.wg_words.specs.Commands.{IsApp, program_app, command_app};
 ghost use Rattle.wg_words.specs.Forms.{rule_in, with_rules, app_in};
 
 use crate::forms::{Argument, FORMS, Form};
@@ -53,20 +53,6 @@ fn program<'a>(alloc: Global) -> Command<'a>
         .subcommand_required(true)
 }
 
-// The command line with the command of one form more.
-fn with_form<'a>(alloc: Global, line: Command<'a>, form: &Form) -> Made<'a>
-    requires local { (out-Command line).has_globals ≡ false }
-    ensures { IfOk result (IsApp (with_command (app_of line.entry) (app_in form.now))) }
-{
-    match made_command(alloc, form) {
-        Ok(command) => line.subcommand(command),
-        Err(error) => {
-            drop(line);
-            Err(error)
-        }
-    }
-}
-
 /// The command line of the program: the words begin with the subcommand, which is required.
 pub fn command<'a>(alloc: Global) -> Result<Command<'a>, AllocError>
     ensures { IfOk result (IsApp command_app) }
@@ -74,7 +60,14 @@ pub fn command<'a>(alloc: Global) -> Result<Command<'a>, AllocError>
     let forms = FORMS.as_slice();
     let mut line = program(alloc);
     for form in forms {
-        line = with_form(alloc, line, form)?;
+        match made_command(alloc, form) {
+            Ok(command) => line = line.subcommand(command)?,
+            Err(error) => {
+                // by the call, whose steps are proved once
+                drop(line);
+                return Err(error);
+            }
+        }
     }
     Ok(line)
 }

@@ -1,7 +1,7 @@
-use Rattle.std.proofs.Common.{◌+◌, ◌∙◌, ap, sym, drop}
+use Rattle.std.proofs.Common.{rules, ◌+◌, ◌∙◌, ap, sym, drop}
 use Rattle.std.proofs.lemmas.List.{at_drop_more, at_drop_all}
 use Rattle.clap.specs.Words.{App, app_of}
-use Rattle.wg_words.specs.Commands.{program_app}
+use Rattle.wg_words.specs.Commands.{program_app, with_command}
 use Rattle.wg_words.specs.Forms.{with_forms}
 use Rattle.wg_words.proofs.commands.command.Goals as goal
 
@@ -14,10 +14,12 @@ loop-form-init c = record {
 pub loop-form-preserved : goal.loop-form-preserved
 loop-form-preserved c =
     let rest = drop (c.loop-form.form-index + 1) c.as_slice-forms.result.now in
+    let before = app_of c.loop-form.line in
+    let added = c.in_ok-line-in-Ok.ensures in
     record {
-      local = c.in_ok-line.ensures.local;
-      app = ap (λ (a : App). with_forms a rest) c.in_ok-line.ensures.app
-          ∙ sym (at_drop_more (with_forms (app_of c.loop-form.line)) c.as_slice-forms.result.now c.loop-form.form-index _ c.loop-form-test.true)
+      local = search rules;
+      app = ap (λ (a : App). with_forms a rest) (added.shape c.in-Ok.ensures.local ∙ ap (with_command before) c.in-Ok.ensures.app)
+          ∙ sym (at_drop_more (with_forms before) c.as_slice-forms.result.now c.loop-form.form-index _ c.loop-form-test.true)
           ∙ c.loop-form.invariant.app;
     }
 
