@@ -1,5 +1,7 @@
 pub mod Climbing
 pub mod FewArcs
+pub mod NumberLines
+pub mod NumbersBack
 pub mod Order
 pub mod Parted
 pub mod ReadBack

@@ -36,7 +36,7 @@ bare_high a s t =
     All-append (λ b. 32 ≤ b) (decimal a.0) (32 ∷ decimal a.1) (decimal_plain a.0 s)
     (All-cons (λ b. 32 ≤ b) 32 (decimal a.1) (omega arith) (decimal_plain a.1 t))
 
-not_blank : (b : ℕ) → 48 ≤ b → is_blank b ≡ false
+pub not_blank : (b : ℕ) → 48 ≤ b → is_blank b ≡ false
 not_blank b h = rw (ne_eqb b 32 (λ e. omega arith), ne_eqb b 9 (λ e. omega arith)) refl
 
 words_of_bare : (a : Arc) → a.0 < 2 ^ 64 → a.1 < 2 ^ 64 → words_of (bare a) ≡ decimal a.0 ∷ decimal a.1 ∷ []

@@ -1,6 +1,7 @@
 // A text of numbers, each on a line of its own.
 
 ghost use Rattle.std.specs.Prelude.{◌≡◌, ◌<◌, ◌≤◌, All, Some, OnOk, IfOk, IfErr, length};
+ghost use Rattle.wg_arcs.specs.NumberTexts.{AreListed};
 ghost use Rattle.wg_arcs.specs.Numbers.{judged, numbers_on, numbers_of, AreRead, AreAdded, IsRefused};
 
 use crate::words::{entry, sole_number};
@@ -64,6 +65,7 @@ fn read_line(
 /// pass over the text.
 pub fn read_numbers(alloc: Global, bytes: &[u8], n: u64, limit: u64) -> Result<List, NumbersError>
     ensures read { AreRead (numbers_of n limit bytes.now) result }
+    ensures listed { AreListed n limit bytes.now result }
     ensures count { IfOk result (λ list. length list ≡ n) }
     ensures below { IfOk result (λ list. All (λ v. v < limit) list) }
 {
