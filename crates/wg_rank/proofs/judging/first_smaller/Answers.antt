@@ -1,4 +1,4 @@
-use Rattle.std.proofs.Common.{arith, ℕ, ◌≤◌, length, below_more, get_or, refl, sym, subst}
+use Rattle.std.proofs.Common.{arith, length, below_more, refl}
 use Rattle.wg_rank.proofs.Settled.{low_from}
 use Rattle.wg_rank.proofs.judging.first_smaller.Goals as goal
 

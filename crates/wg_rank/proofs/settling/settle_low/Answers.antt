@@ -1,5 +1,4 @@
-use Rattle.std.proofs.Common.{arith, ℕ, length}
-use Rattle.wg_rank.specs.Inflows.{low_flows}
+use Rattle.std.proofs.Common.{arith, length}
 use Rattle.wg_rank.proofs.Settled.{table_more, low_from}
 use Rattle.wg_rank.proofs.settling.settle_low.Goals as goal
 
