@@ -8,4 +8,5 @@ pub mod OneGraph
 pub mod Tallies
 pub mod Tails
 pub mod ProperGraphs
+pub mod Depths
 pub mod CursorLemmas

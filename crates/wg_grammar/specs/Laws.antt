@@ -1,5 +1,5 @@
 -- What holds of all records and all graph files.
-use Rattle.std.specs.Prelude.{◌≡◌, ℕ, ◌+◌, ◌≤◌, Bool, List, length, Result, Ok}
+use Rattle.std.specs.Prelude.{◌≡◌, ℕ, ◌+◌, ◌≤◌, Bool, List, [], length, All, Some, Result, Ok}
 use Rattle.wg_graph.specs.Ascending.{Ascends, Below}
 use Rattle.wg_graph.specs.Digraph.{Digraph, IsGraph, arc_count}
 use Rattle.wg_params.specs.Parameters.{Parameters, IsWithinLimits}
@@ -11,7 +11,7 @@ use Rattle.wg_grammar.specs.SoFar.{SoFar, nothing_yet, value_or_0}
 use Rattle.wg_grammar.specs.Next.{next}
 use Rattle.wg_grammar.specs.Members.{list_of}
 use Rattle.wg_grammar.specs.Record.{Fields, Whole, ReadsRecord}
-use Rattle.wg_grammar.specs.Archive.{Accepted, ReadsGraph}
+use Rattle.wg_grammar.specs.Archive.{Pages, Accepted, ReadsGraph}
 
 -- Bits from an offset on are at most one record, or have at most one first fault, and never both.
 abbrev pub RecordIsOne : Type 0
@@ -36,6 +36,18 @@ abbrev pub NeverTooMany : Type 0
 NeverTooMany =
     (p : Parameters) (c : Context) (bits : List Bool) (start : ℕ) (vs : List ℕ) (s : SoFar) (at : ℕ) → Fields p c bits nothing_yet start vs s at
     → next p c s ≡ End → length (list_of p c s) ≤ value_or_0 s.outdegree
+
+-- Where chains of references have a limit, no more references than that lead on from the page of a record.
+abbrev pub ChainsAreLimited : Type 0
+ChainsAreLimited =
+    (p : Parameters) (c : Context) (bits : List Bool) (start limit : ℕ) (w : Whole) → p.chain ≡ Some limit → ReadsRecord p c bits start (Ok w)
+    → w.known.depth ≤ limit
+
+-- So it is of each page of a graph file.
+abbrev pub PagesAreLimited : Type 0
+PagesAreLimited =
+    (p : Parameters) (bits : List Bool) (ws behind : List Whole) (end limit : ℕ) → p.chain ≡ Some limit → Pages p bits [] 0 ws behind end
+    → All (λ w. w.known.depth ≤ limit) ws
 
 -- Bits stand for at most one graph, or have at most one first fault, and never both.
 abbrev pub GraphIsOne : Type 0

@@ -1,4 +1,4 @@
-ghost use Rattle.wg_grammar.specs.Laws.{RecordIsOne, RecordIsSome, ListsAscend, NeverTooMany, GraphIsOne, GraphIsSome, GraphIsProper, ArcsAreAsPromised, OffsetsAreAll};
+ghost use Rattle.wg_grammar.specs.Laws.{RecordIsOne, RecordIsSome, ListsAscend, NeverTooMany, ChainsAreLimited, PagesAreLimited, GraphIsOne, GraphIsSome, GraphIsProper, ArcsAreAsPromised, OffsetsAreAll};
 
 /// Bits are one record or have one first fault.
 pub fn one_record()
@@ -10,6 +10,13 @@ pub fn one_record()
 pub fn lists()
     ensures ascend { ListsAscend }
     ensures never_too_many { NeverTooMany }
+{}
+
+/// Where chains of references have a limit, no page of an archive is deeper: no more references than that lead on from
+/// it, one after the other.
+pub fn chains_are_limited()
+    ensures records { ChainsAreLimited }
+    ensures pages { PagesAreLimited }
 {}
 
 /// Bits stand for one graph or have one first fault.

@@ -1,4 +1,3 @@
-pub mod Depths
 pub mod Readings
 pub mod ArchiveLemmas
 pub mod ChainLemmas

@@ -9,7 +9,7 @@ use Rattle.wg_decoder.specs.Apart.{page_over}
 use Rattle.wg_decoder.specs.Chains.{start_of, HeadReads, RecordReads, RefersTo, OverReads, ChainReads}
 use Rattle.wg_random.specs.declared.error.SpotError.{SpotError}
 use Rattle.wg_random.specs.Spot.{SpotAnswers}
-use Rattle.wg_random.proofs.Depths.{record_limited}
+use Rattle.wg_grammar.proofs.Depths.{record_limited}
 use Rattle.wg_random.proofs.SpotMoves.{Apart, apart_of}
 use Rattle.wg_random.proofs.SpotOne.{same_reference}
 
