@@ -16,4 +16,5 @@ pub mod Certificates
 pub mod Judgements
 pub mod ReadBounds
 pub mod WrittenBack
+pub mod CertificateLines
 pub mod Printed

@@ -1,10 +1,13 @@
 -- What holds of exact iterates and of bounds, for every graph.
-use Rattle.std.specs.Prelude.{ℕ, ◌≡◌, ◌<◌, ◌≤◌, length, Ok}
+use Rattle.std.specs.Prelude.{ℕ, ◌≡◌, ◌<◌, ◌≤◌, ◌↔◌, List, length, Result, Ok, Err}
+use Rattle.wg_num.specs.Lines.{lines_of}
 use Rattle.wg_graph.specs.Digraph.{Digraph, IsGraph}
 use Rattle.wg_rank.specs.Rank.{total, gap, numerator, denominator, EnclosesStationary}
 use Rattle.wg_rank.specs.Intervals.{Intervals, AreBounds, Holds, by_page}
 use Rattle.wg_rank.specs.Claims.{Claim, IsClaim, Rises}
 use Rattle.wg_rank.specs.CertificateText.{text_of_claim, claim_of}
+use Rattle.wg_rank.specs.CertificateLines.{IsClaimed, IsFirstFault, IsOutcome}
+use Rattle.wg_rank.specs.declared.fault.CertFault.{CertFault}
 use Rattle.wg_rank.specs.Certified.{IsCertified}
 use Rattle.wg_params.specs.declared.limits.TheConstants.{MOST_DAMPING}
 use Rattle.wg_rank.specs.declared.limits.TheConstants.{UNITS}
@@ -40,3 +43,16 @@ LowerBoundsRise =
 -- The text of a claim stands for the claim.
 abbrev pub ClaimsReadBack : Type 0
 ClaimsReadBack = (c : Claim) → IsClaim c → claim_of (length c.low) (text_of_claim c) ≡ Ok c
+
+-- A text gives this claim exactly where no line is faulty and it is that of the lines.
+abbrev pub ClaimsAreThose : Type 0
+ClaimsAreThose = (n : ℕ) (bytes : List ℕ) (c : Claim) → (claim_of n bytes ≡ Ok c) ↔ IsClaimed n (lines_of bytes) c
+
+-- It gives this fault exactly where this is its first one.
+abbrev pub FaultsAreFirst : Type 0
+FaultsAreFirst = (n : ℕ) (bytes : List ℕ) (f : CertFault) → (claim_of n bytes ≡ Err f) ↔ IsFirstFault n (lines_of bytes) f
+
+-- Some lines have a claim or a first fault, and not two of these.
+pub record OutcomesAreOne : Type 0 where
+  pub some : (n : ℕ) (lines : List (List ℕ)) → (w : Result Claim CertFault) × IsOutcome n lines w
+  pub one : (n : ℕ) (lines : List (List ℕ)) (w x : Result Claim CertFault) → IsOutcome n lines w → IsOutcome n lines x → w ≡ x

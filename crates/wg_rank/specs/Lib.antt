@@ -1,5 +1,6 @@
 pub mod BoundsInside
 pub mod Certified
+pub mod CertificateLines
 pub mod CertificateText
 pub mod Claims
 pub mod ClaimsInside

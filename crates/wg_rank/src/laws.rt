@@ -1,4 +1,4 @@
-ghost use Rattle.wg_rank.specs.Laws.{SharesAddUp, BoundsAreCertified, BoundsAreOne, RisingBoundsEnclose, LowerBoundsRise, ClaimsReadBack};
+ghost use Rattle.wg_rank.specs.Laws.{SharesAddUp, BoundsAreCertified, BoundsAreOne, RisingBoundsEnclose, LowerBoundsRise, ClaimsReadBack, ClaimsAreThose, FaultsAreFirst, OutcomesAreOne};
 
 /// The shares of each exact iterate add up to 1.
 pub fn iterates()
@@ -18,4 +18,12 @@ pub fn certificates()
     ensures enclose { RisingBoundsEnclose }
     ensures complete { LowerBoundsRise }
     ensures read_back { ClaimsReadBack }
+{}
+
+/// The text of a certificate gives a claim exactly where no line is faulty and the claim is that of the lines, and a
+/// fault exactly where it is the first one; so each text has one outcome.
+pub fn certificate_texts()
+    ensures claim { ClaimsAreThose }
+    ensures fault { FaultsAreFirst }
+    ensures one { OutcomesAreOne }
 {}

@@ -43,7 +43,8 @@
 //! ```
 //!
 //! Each line ends in LF, which the last may lack, and before which one CR is no part of the line. No line may be empty
-//! or come after the last bound, and the bounds add up to at most 1.
+//! or come after the last bound, and the bounds add up to at most 1. Each text gives either one certificate or one
+//! fault ([`laws::certificate_texts`]).
 //!
 //! Bounds take memory by [`Bounds::new`] alone: four numbers of 16 bytes for each page; [`Bounds::weighted`], by which
 //! teleport goes to the pages by weights, takes 8 bytes more. The two sums of what flows to a page lie side by side, so

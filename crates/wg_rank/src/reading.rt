@@ -3,6 +3,7 @@
 ghost use Rattle.std.specs.Prelude.{◌≡◌, ℕ, ◌+◌, ◌<◌, ◌≤◌, All, Ok, Err, IfOk, IfErr, OnOk, MatchOption, [], ◌∷◌, ◌++◌, length, drop, codes, vec_len};
 ghost use Rattle.wg_params.specs.declared.limits.TheConstants.{MOST_PAGES, MOST_DAMPING};
 ghost use Rattle.wg_num.specs.Lines.{lines_of};
+ghost use Rattle.wg_rank.specs.CertificateLines.{StandsFor};
 ghost use Rattle.wg_rank.specs.CertificateText.{number_after, before, damping_of, pages_of, bounds_of, claim_of, IsRead, AreRead};
 ghost use Rattle.wg_rank.specs.declared.limits.TheConstants.{UNITS};
 
@@ -149,6 +150,7 @@ fn read_bounds(alloc: Global, bytes: &[u8], n: u64) -> Result<Vec<u128>, CertErr
 /// there were no memory for the next.
 pub fn read_certificate(alloc: Global, bytes: &[u8], n: u64) -> Result<Certificate, CertError>
     ensures read { IsRead (claim_of n bytes.now) result }
+    ensures stands { StandsFor n bytes.now result }
     ensures pages { IfOk result (λ c. length c.low ≡ n) }
 {
     let (damping, rest) = read_damping(bytes)?;
