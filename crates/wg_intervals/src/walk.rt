@@ -83,3 +83,18 @@ impl<'a> IntervalWalk<'a> {
         Some(number)
     }
 }
+
+impl<'a> Iterator for IntervalWalk<'a> {
+    ghost use Rattle.std.specs.Iterator.{YieldsFirst, item_count};
+
+    type Item = u64;
+
+    ghost next_gives = { YieldsFirst (λ w. w) };
+
+    ghost remaining = { item_count (λ w. w) };
+
+    #[inline(always)]
+    fn next(&mut self) -> Option<u64> {
+        IntervalWalk::next(self)
+    }
+}

@@ -65,7 +65,7 @@ impl<'a> Below<'a> {
     {
         match self {
             Below::Nothing => None,
-            Below::Page(page) => page.next(),
+            Below::Page(page) => Successors::next(page),
             Below::Lent(members) => members.next(),
         }
     }

@@ -251,3 +251,18 @@ impl<'a> Successors<'a> {
         }
     }
 }
+
+impl<'a> Iterator for Successors<'a> {
+    ghost use Rattle.std.specs.Iterator.{YieldsFirst, item_count};
+
+    type Item = u64;
+
+    ghost next_gives = { YieldsFirst (λ s. s.list) };
+
+    ghost remaining = { item_count (λ s. s.list) };
+
+    #[inline(always)]
+    fn next(&mut self) -> Option<u64> {
+        Successors::next(self)
+    }
+}

@@ -27,7 +27,7 @@ pub fn add_union<A: Coming, B: Coming>(
         → MOST_ARCS < arc_count builder.old + length numbers) }
 {
     let mut room = MOST_ARCS - builder.arcs();
-    'numbers: while let Some(number) = numbers.next() {
+    'numbers: while let Some(number) = Coming::next(&mut numbers) {
         if room == 0 {
             return Err(ShapeError::TooManyArcs);
         }

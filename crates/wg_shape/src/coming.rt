@@ -57,3 +57,18 @@ impl<'a> Coming for ListWalk<'a> {
         }
     }
 }
+
+impl<'a> Iterator for ListWalk<'a> {
+    ghost use Rattle.std.specs.Iterator.{YieldsFirst, item_count};
+
+    type Item = u64;
+
+    ghost next_gives = { YieldsFirst (λ w. w) };
+
+    ghost remaining = { item_count (λ w. w) };
+
+    #[inline(always)]
+    fn next(&mut self) -> Option<u64> {
+        Coming::next(self)
+    }
+}

@@ -74,3 +74,17 @@ impl<A: Coming, B: Coming> Coming for Merge<A, B> {
         }
     }
 }
+
+impl<A: Coming, B: Coming> Iterator for Merge<A, B> {
+    ghost use Rattle.std.specs.Iterator.{YieldsFirst, item_count};
+
+    type Item = u64;
+
+    ghost next_gives = { YieldsFirst (λ m. m) };
+
+    ghost remaining = { item_count (λ m. m) };
+
+    fn next(&mut self) -> Option<u64> {
+        Coming::next(self)
+    }
+}
