@@ -63,7 +63,7 @@ pub fn command<'a>(alloc: Global) -> Result<Command<'a>, AllocError>
         match made_command(alloc, form) {
             Ok(command) => line = line.subcommand(command)?,
             Err(error) => {
-                // by the call, whose steps are proved once
+                // a call, since falling out of scope would be a step for each of its fields
                 drop(line);
                 return Err(error);
             }
