@@ -4,11 +4,13 @@ use Rattle.std.proofs.lemmas.Bool.{le-leb, lt-leb, le-ltb, lt-ltb, ltb-true, ltb
 use Rattle.std.proofs.lemmas.List.{get_or-replicate, length-replicate}
 use Rattle.wg_params.specs.declared.code.Code.{Code}
 use Rattle.wg_params.specs.Parameters.{Parameters}
+use Rattle.wg_codes.specs.declared.outcome.Read.{Read}
 use Rattle.wg_codes.specs.declared.outcome.Read.TheVariants as reads
 use Rattle.wg_graph.specs.Ascending.{Ascends, Below}
 use Rattle.wg_grammar.specs.declared.fault.Fault.{Fault}
 use Rattle.wg_grammar.specs.declared.fault.Field.{Field}
 use Rattle.wg_grammar.specs.declared.fault.Field.TheVariants as field
+use Rattle.wg_grammar.specs.declared.fault.Kind.{Kind}
 use Rattle.wg_grammar.specs.declared.fault.Kind.TheVariants as kind
 use Rattle.wg_grammar.specs.declared.need.Need.{Need}
 use Rattle.wg_grammar.specs.declared.need.Need.TheVariants as need
@@ -18,12 +20,13 @@ use Rattle.wg_grammar.specs.Judging.{named}
 use Rattle.wg_grammar.specs.SoFar.{SoFar, nothing_yet, after}
 use Rattle.wg_grammar.specs.Next.{next}
 use Rattle.wg_grammar.specs.Record.{Whole, Stands, Refused, ReadsRecord}
-use Rattle.wg_grammar.specs.Refusal.{refusal}
+use Rattle.wg_grammar.specs.Refusal.{refusal, judged}
 use Rattle.wg_grammar.specs.Tally.{Tally, tally, need_of}
 use Rattle.wg_grammar.proofs.Chain.{field_of, tested, tests}
 use Rattle.wg_grammar.proofs.Tallies.{next_by_numbers}
 use Rattle.wg_decoder.specs.Answer.{context_at}
-use Rattle.wg_decoder.specs.Apart.{page_over, told, RefersNext, OutdegreeStands, ReferenceStands, HeadStands, ReferenceFails, HeadFails, IsRest}
+use Rattle.wg_decoder.specs.Apart.{page_on, told, RefersNext, OutdegreeStands, ReferenceStands, HeadStands, ReferenceFails, HeadFails, IsRest}
+use Rattle.wg_decoder.specs.Chains.{endless}
 use Rattle.wg_decoder.specs.Head.{of_outdegree, of_head}
 use Rattle.wg_decoder.specs.Members.{IsHead}
 use Rattle.wg_decoder.specs.Stages.{LeadsTo, IsWordAt, IsNoWordAt}
@@ -40,17 +43,17 @@ rest_reads p page begin start d r list depth bits at w arcs_before behind e rest
 
 -- ---- the page that a reference names
 
-pub named_zero : (p : Parameters) (page : ℕ) (k : Known) (r : ℕ) → r ≡ 0 → None ≡ named p (page_over p page k) r
-named_zero p page k zero e = refl
-named_zero p page k (suc r) e = absurd (omega (arith, e))
+pub named_zero : (p : Parameters) (page arcs_before : ℕ) (k : Known) (r : ℕ) → r ≡ 0 → None ≡ named p (page_on p page arcs_before k) r
+named_zero p page arcs_before k zero e = refl
+named_zero p page arcs_before k (suc r) e = absurd (omega (arith, e))
 
-pub named_far : (p : Parameters) (page : ℕ) (k : Known) (r : ℕ) → min p.window page < r → None ≡ named p (page_over p page k) r
-named_far p page k zero far = refl
-named_far p page k (suc r) far = rw (lt-leb (suc r) (min p.window page) far) refl
+pub named_far : (p : Parameters) (page arcs_before : ℕ) (k : Known) (r : ℕ) → min p.window page < r → None ≡ named p (page_on p page arcs_before k) r
+named_far p page arcs_before k zero far = refl
+named_far p page arcs_before k (suc r) far = rw (lt-leb (suc r) (min p.window page) far) refl
 
-pub named_near : (p : Parameters) (page : ℕ) (k : Known) (below : Referenced) (r : ℕ) → 0 < r → r ≤ min p.window page → below ≡ told k → Some below ≡ named p (page_over p page k) r
-named_near p page k below zero some near e = absurd (omega (arith, some))
-named_near p page k below (suc r) some near e = rw (le-leb (suc r) (min p.window page) near, get_or-replicate p.window r k no_page (omega (arith, near))) (ap (λ (x : Referenced). Some x) e)
+pub named_near : (p : Parameters) (page arcs_before : ℕ) (k : Known) (below : Referenced) (r : ℕ) → 0 < r → r ≤ min p.window page → below ≡ told k → Some below ≡ named p (page_on p page arcs_before k) r
+named_near p page arcs_before k below zero some near e = absurd (omega (arith, some))
+named_near p page arcs_before k below (suc r) some near e = rw (le-leb (suc r) (min p.window page) near, get_or-replicate p.window r k no_page (omega (arith, near))) (ap (λ (x : Referenced). Some x) e)
 
 pub over_list : (p : Parameters) (k : Known) (r : ℕ) → 0 < r → r ≤ p.window → referenced (replicate p.window k) r ≡ k.list
 over_list p k zero some near = absurd (omega (arith, some))
@@ -184,3 +187,67 @@ head_refused p c bits start e h = of_part h.0 h.1
     of_part (inr k) page =
         let read = outdegree_leads p c bits start k.0 k.1 k.2 in
         (read.0, of_outdegree k.0, k.1, read.1, (subst (λ (m : Need). Refused m p c bits start (of_outdegree k.0) k.1 e) (sym k.3.0) k.3.1, page))
+
+-- ---- whatever the pages before are, where chains may have any length
+
+pub stands_anywhere : (p : Parameters) (page arcs_before : ℕ) (behind others : List Known) (bits : List Bool) (start d r end : ℕ) → HeadStands (endless p) (context_at page arcs_before behind) bits start d r end →
+    HeadStands (endless p) (context_at page arcs_before others) bits start d r end
+unfolding next refusal after
+stands_anywhere p page arcs_before behind others bits start d r end h = h
+
+judged_anywhere : (p : Parameters) (page arcs_before d : ℕ) (behind others : List Known) (x : Read) (k : Kind) → judged (endless p) (context_at page arcs_before behind) (of_outdegree d) field.Reference x ≡ Some k →
+    judged (endless p) (context_at page arcs_before others) (of_outdegree d) field.Reference x ≡ Some k
+unfolding refusal
+judged_anywhere p page arcs_before d behind others (reads.Value v) k h = h
+judged_anywhere p page arcs_before d behind others reads.Cut k h = h
+judged_anywhere p page arcs_before d behind others reads.NoWord k h = h
+
+outdegree_anywhere : (p : Parameters) (page arcs_before : ℕ) (behind others : List Known) (x : Read) (k : Kind) → judged p (context_at page arcs_before behind) nothing_yet field.Outdegree x ≡ Some k →
+    judged p (context_at page arcs_before others) nothing_yet field.Outdegree x ≡ Some k
+unfolding refusal
+outdegree_anywhere p page arcs_before behind others (reads.Value v) k h = h
+outdegree_anywhere p page arcs_before behind others reads.Cut k h = h
+outdegree_anywhere p page arcs_before behind others reads.NoWord k h = h
+
+outdegree_stands_anywhere : (p : Parameters) (page arcs_before : ℕ) (behind others : List Known) (bits : List Bool) (start d mid : ℕ) → OutdegreeStands p (context_at page arcs_before behind) bits start d mid →
+    OutdegreeStands p (context_at page arcs_before others) bits start d mid
+unfolding refusal after
+outdegree_stands_anywhere p page arcs_before behind others bits start d mid h = h
+
+refers_anywhere : (p : Parameters) (page arcs_before : ℕ) (behind others : List Known) (d : ℕ) → RefersNext p (context_at page arcs_before behind) d → RefersNext p (context_at page arcs_before others) d
+unfolding next
+refers_anywhere p page arcs_before behind others d h = h
+
+part_anywhere : (p : Parameters) (page arcs_before : ℕ) (behind others : List Known) (bits : List Bool) (start : ℕ) (e : Fault) →
+    (Refused (need.Read field.Outdegree p.outdegrees) (endless p) (context_at page arcs_before behind) bits start nothing_yet start e
+    ⊎ ((d : ℕ) × (mid : ℕ) × OutdegreeStands (endless p) (context_at page arcs_before behind) bits start d mid × ReferenceFails (endless p) (context_at page arcs_before behind) bits start d mid e)) →
+    (Refused (need.Read field.Outdegree p.outdegrees) (endless p) (context_at page arcs_before others) bits start nothing_yet start e
+    ⊎ ((d : ℕ) × (mid : ℕ) × OutdegreeStands (endless p) (context_at page arcs_before others) bits start d mid × ReferenceFails (endless p) (context_at page arcs_before others) bits start d mid e))
+part_anywhere p page arcs_before behind others bits start e (inl bad) = inl (bad.0, bad.1, outdegree_anywhere (endless p) page arcs_before behind others bad.0 e.kind bad.2, bad.3, bad.4)
+part_anywhere p page arcs_before behind others bits start e (inr k) =
+    let bad = k.3.1 in
+    inr (
+      k.0,
+      k.1,
+      outdegree_stands_anywhere (endless p) page arcs_before behind others bits start k.0 k.1 k.2,
+      (
+        refers_anywhere (endless p) page arcs_before behind others k.0 k.3.0,
+        (bad.0, bad.1, judged_anywhere p page arcs_before k.0 behind others bad.0 e.kind bad.2, bad.3, bad.4),
+      ),
+    )
+
+pub fails_anywhere : (p : Parameters) (page arcs_before : ℕ) (behind others : List Known) (bits : List Bool) (start : ℕ) (e : Fault) → HeadFails (endless p) (context_at page arcs_before behind) bits start e →
+    HeadFails (endless p) (context_at page arcs_before others) bits start e
+fails_anywhere p page arcs_before behind others bits start e h = (part_anywhere p page arcs_before behind others bits start e h.0, h.1)
+
+pub head_stands_at : (p q : Parameters) (page arcs_before : ℕ) (behind : List Known) (bits : List Bool) (start d r end : ℕ) → q ≡ endless p → HeadStands q (page_on q page arcs_before no_page) bits start d r end →
+    HeadStands (endless p) (context_at page arcs_before behind) bits start d r end
+head_stands_at p q page arcs_before behind bits start d r end is h =
+    stands_anywhere p page arcs_before (replicate p.window no_page) behind bits start d r end
+    (subst (λ (x : Parameters). HeadStands x (page_on x page arcs_before no_page) bits start d r end) is h)
+
+pub head_fails_at : (p q : Parameters) (page arcs_before : ℕ) (behind : List Known) (bits : List Bool) (start : ℕ) (e : Fault) → q ≡ endless p → HeadFails q (page_on q page arcs_before no_page) bits start e →
+    HeadFails (endless p) (context_at page arcs_before behind) bits start e
+head_fails_at p q page arcs_before behind bits start e is h =
+    fails_anywhere p page arcs_before (replicate p.window no_page) behind bits start e
+    (subst (λ (x : Parameters). HeadFails x (page_on x page arcs_before no_page) bits start e) is h)

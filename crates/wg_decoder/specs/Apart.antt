@@ -13,9 +13,13 @@ use Rattle.wg_decoder.specs.Answer.{context_at}
 use Rattle.wg_decoder.specs.Head.{of_outdegree}
 use Rattle.wg_decoder.specs.Members.{IsHead}
 
+-- a page with so many arcs before it, where each reference names this page
+abbrev pub page_on : Parameters → ℕ → ℕ → Known → Context
+page_on p page arcs_before k = context_at page arcs_before (replicate p.window k)
+
 -- No arcs come before the page, and each reference names this one.
 abbrev pub page_over : Parameters → ℕ → Known → Context
-page_over p page k = context_at page 0 (replicate p.window k)
+page_over p page k = page_on p page 0 k
 
 -- what is told of a page that a reference names
 abbrev pub told : Known → Referenced

@@ -13,12 +13,12 @@ ghost use Rattle.wg_grammar.specs.Record.{ReadsRecord, Stands, Refused};
 ghost use Rattle.wg_grammar.specs.Refusal.{refusal};
 ghost use Rattle.wg_grammar.specs.SoFar.{SoFar, after};
 ghost use Rattle.wg_grammar.specs.Tally.{Follows, need_of};
-ghost use Rattle.wg_decoder.specs.Answer.{OnFault, OnRefusal};
-ghost use Rattle.wg_decoder.specs.Apart.{page_over, told, ReferenceStands, ReferenceFails, HeadStands, HeadFails};
+ghost use Rattle.wg_decoder.specs.Answer.{OnFault, OnRefusal, WantsNoMemory};
+ghost use Rattle.wg_decoder.specs.Apart.{page_on, told, ReferenceStands, ReferenceFails, HeadStands, HeadFails};
 ghost use Rattle.wg_decoder.specs.Head.{of_outdegree};
 ghost use Rattle.wg_decoder.specs.Remembered.{known_of};
 
-use crate::head::Head;
+use crate::heads::Head;
 use crate::reading::decode_members;
 use crate::value::value;
 use crate::{Decoded, Spares, Unread};
@@ -44,6 +44,7 @@ fn accepted<R>(
         → Follows progress.old p c s → next p c s ≡ Need.Read field code → Gives named p c field value
         → (refusal p c s field value ≡ Some e.kind) × (e.field ≡ field) × (e.at ≡ at) × (e.page ≡ page)) }
     ensures refused { OnRefusal result (λ r. ⊥) }
+    ensures no_memory { WantsNoMemory result }
 {
     match progress.accept(value, named) {
         Ok(()) => Ok(()),
@@ -58,8 +59,8 @@ fn accepted<R>(
 
 // What is known of the page that a reference names, where it names one.
 fn known_named(params: &Params, page: u64, below: Referenced, reference: u64) -> Option<Referenced>
-    ensures named { (k : Known) → below ≡ told k
-        → result ≡ named params.now (page_over params.now page k) reference }
+    ensures named { (arcs_before : ℕ) (k : Known) → below ≡ told k
+        → result ≡ named params.now (page_on params.now page arcs_before k) reference }
     ensures is { ForSome result (λ r. r ≡ below) }
     ensures back { ForSome result (λ r. 0 < page) }
 {
@@ -77,25 +78,27 @@ fn reference_over<S: Source>(
     progress: &mut Progress,
     params: &Params,
     page: u64,
+    arcs_before: u64,
     below: Referenced,
     source: &mut S,
 ) -> Result<u64, Unread<S::Refusal>>
     requires follows { (k : Known) × (d : ℕ) × (0 < d)
-        × Follows progress.old params.now (page_over params.now page k) (of_outdegree d) }
+        × Follows progress.old params.now (page_on params.now page arcs_before k) (of_outdegree d) }
     requires length { below.length ≤ params.now.nodes }
     requires depth { 0 < page → below.depth < page }
     ensures later { S.later source.old source.new }
+    ensures no_memory { WantsNoMemory result }
     ensures refused { OnRefusal result (S.caused source.old source.new) }
     ensures there { IfOk result (λ r. r ≤ min params.now.window page) }
     ensures ok { (bits : ListOf Bool) → S.reads_from source.old bits
         → IfOk result (λ r. (k : Known) (d : ℕ) → below ≡ told k → 0 < d
-        → Follows progress.old params.now (page_over params.now page k) (of_outdegree d)
-        → ReferenceStands params.now (page_over params.now page k) bits d (S.offset source.old)
+        → Follows progress.old params.now (page_on params.now page arcs_before k) (of_outdegree d)
+        → ReferenceStands params.now (page_on params.now page arcs_before k) bits d (S.offset source.old)
         r (S.offset source.new)) }
     ensures fault { (bits : ListOf Bool) → S.reads_from source.old bits
         → OnFault result (λ e. (k : Known) (d start : ℕ) → below ≡ told k → 0 < d
-        → Follows progress.old params.now (page_over params.now page k) (of_outdegree d)
-        → ReferenceFails params.now (page_over params.now page k) bits start d (S.offset source.old) e
+        → Follows progress.old params.now (page_on params.now page arcs_before k) (of_outdegree d)
+        → ReferenceFails params.now (page_on params.now page arcs_before k) bits start d (S.offset source.old) e
         × (e.page ≡ page)) }
 {
     if params.window() == 0 {
@@ -108,28 +111,31 @@ fn reference_over<S: Source>(
     Ok(reference)
 }
 
-/// The head of a record whose reference, where it has one, names a page of which this is told. Where the outdegree is
-/// 0, nothing follows it. It reads two words at most.
+/// The head of the record of a page with `arcs_before` arcs before it, whose reference, where it has one, names a page
+/// of which this is told. Where the outdegree is 0, nothing follows it. It reads two words at most.
 pub fn read_head_over<S: Source>(
     params: &Params,
     page: u64,
+    arcs_before: u64,
     below: Referenced,
     source: &mut S,
 ) -> Result<Head, Unread<S::Refusal>>
     requires page { page < params.now.nodes }
+    requires before { arcs_before ≤ params.now.arcs }
     requires length { below.length ≤ params.now.nodes }
     requires depth { 0 < page → below.depth < page }
     ensures later { S.later source.old source.new }
+    ensures no_memory { WantsNoMemory result }
     ensures refused { OnRefusal result (S.caused source.old source.new) }
     ensures ok { (bits : ListOf Bool) → S.reads_from source.old bits → IfOk result (λ h. (k : Known) → below ≡ told k
-        → HeadStands params.now (page_over params.now page k) bits (S.offset source.old)
+        → HeadStands params.now (page_on params.now page arcs_before k) bits (S.offset source.old)
         h.outdegree h.reference (S.offset source.new)) }
     ensures fault { (bits : ListOf Bool) → S.reads_from source.old bits
         → OnFault result (λ e. (k : Known) → below ≡ told k
-        → HeadFails params.now (page_over params.now page k) bits (S.offset source.old) e) }
+        → HeadFails params.now (page_on params.now page arcs_before k) bits (S.offset source.old) e) }
     ensures there { IfOk result (λ h. h.reference ≤ min params.now.window page) }
 {
-    let mut progress = Progress::start(params, page, 0);
+    let mut progress = Progress::start(params, page, arcs_before);
     let at = source.at();
     let outdegree = value(page, Field::Outdegree, params.outdegrees(), source)?;
     accepted(&mut progress, page, at, Field::Outdegree, outdegree, None)?;
@@ -139,25 +145,27 @@ pub fn read_head_over<S: Source>(
             reference: 0,
         });
     }
-    let reference = reference_over(&mut progress, params, page, below, source)?;
+    let reference = reference_over(&mut progress, params, page, arcs_before, below, source)?;
     Ok(Head {
         outdegree,
         reference,
     })
 }
 
-/// The record that comes next from a source. Nothing is known of the pages before but one, which its reference names,
-/// where it has one: its list and its depth. No outdegrees come before it. The source moves over the record, and may
-/// stand anywhere in it where it is refused, memory is wanting or a word was refused.
+/// The record that comes next from a source, of a page with `arcs_before` arcs before it. Nothing is known of the pages
+/// before but one, which its reference names, where it has one: its list and its depth. The source moves over the
+/// record, and may stand anywhere in it where it is refused, memory is wanting or a word was refused.
 pub fn decode_over<S: Source>(
     params: &Params,
     page: u64,
+    arcs_before: u64,
     named: &[u64],
     depth: u64,
     spares: &mut Spares,
     source: &mut S,
 ) -> Result<Decoded, Unread<S::Refusal>>
     requires page { page < params.now.nodes }
+    requires before { arcs_before ≤ params.now.arcs }
     requires ascends { Ascends 0 named.now }
     requires below { Below params.now.nodes named.now }
     requires depth { 0 < page → depth < page }
@@ -165,11 +173,11 @@ pub fn decode_over<S: Source>(
     ensures refused { OnRefusal result (S.caused source.old source.new) }
     ensures reads { (bits : ListOf Bool) → S.reads_from source.old bits
         → IfOk result (λ d. let k : Known = record { list = named.now; depth = depth } in
-        ReadsRecord params.now (page_over params.now page k) bits (S.offset source.old)
+        ReadsRecord params.now (page_on params.now page arcs_before k) bits (S.offset source.old)
         (Ok (record { known = known_of d; end = S.offset source.new }))) }
     ensures fault { (bits : ListOf Bool) → S.reads_from source.old bits
         → OnFault result (λ e. let k : Known = record { list = named.now; depth = depth } in
-        ReadsRecord params.now (page_over params.now page k) bits (S.offset source.old) (Err e)) }
+        ReadsRecord params.now (page_on params.now page arcs_before k) bits (S.offset source.old) (Err e)) }
     ensures deep { IfOk result (λ d. d.depth ≤ page) }
     ensures ascends { IfOk result (λ d. Ascends 0 d.list) }
     ensures below { IfOk result (λ d. Below params.now.nodes d.list) }
@@ -179,7 +187,7 @@ pub fn decode_over<S: Source>(
         length: named.len() as u64,
         depth,
     };
-    let head = read_head_over(params, page, below, source)?;
+    let head = read_head_over(params, page, arcs_before, below, source)?;
     if head.reference == 0 {
         return decode_members(params, page, start, head, &[], 0, spares, source);
     }

@@ -6,7 +6,7 @@ ghost use Rattle.wg_decoder.specs.Members.{AreMembers, AreNoMembers};
 
 use crate::Unread;
 use crate::copying::copied;
-use crate::head::Head;
+use crate::heads::Head;
 use crate::intervals::intervals;
 use crate::residuals::with_residuals;
 use crate::spares::Spares;

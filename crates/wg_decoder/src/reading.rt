@@ -6,7 +6,7 @@ ghost use Rattle.wg_decoder.specs.Apart.{IsRest};
 ghost use Rattle.wg_decoder.specs.Answer.{context_at, known_error, IfFault, OnFault, OnRefusal};
 ghost use Rattle.wg_decoder.specs.Remembered.{known_of, Serves};
 
-use crate::head::{Head, depth_at, list_at, read_head};
+use crate::heads::{Head, depth_at, list_at, read_head};
 use crate::members::members;
 use crate::{DecodeError, Decoded, Spares, Unread, Window};
 use std::alloc::Global;

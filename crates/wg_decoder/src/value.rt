@@ -2,7 +2,7 @@
 ghost use Rattle.std.specs.Prelude.{◌≡◌, ◌+◌, ◌^◌, ◌<◌, ◌≤◌, Bool, List, Some, IfOk};
 ghost use Rattle.wg_params.specs.Codes.{IsCode};
 ghost use Rattle.wg_codes.specs.Fold.{unfolded_from};
-ghost use Rattle.wg_decoder.specs.Answer.{OnFault, OnRefusal};
+ghost use Rattle.wg_decoder.specs.Answer.{OnFault, OnRefusal, WantsNoMemory};
 ghost use Rattle.wg_decoder.specs.Stages.{IsWordAt, IsNoWordAt, IsNumberAt, IsNoNumberAt};
 
 use crate::Unread;
@@ -20,6 +20,7 @@ pub fn value<S: Source>(
 ) -> Result<u64, Unread<S::Refusal>>
     requires { IsCode code }
     ensures later { S.later source.old source.new }
+    ensures no_memory { WantsNoMemory result }
     ensures refused { OnRefusal result (S.caused source.old source.new) }
     ensures ok { (bits : List Bool) → S.reads_from source.old bits
         → IfOk result (λ v. IsWordAt code bits (S.offset source.old) v (S.offset source.new)) }

@@ -13,24 +13,10 @@ ghost use Rattle.wg_random.specs.Spot.{OfSpot};
 
 use crate::SpotError;
 use wg_bits::{Bits, Cursor};
-use wg_decoder::{Decoded, Spares, decode_over, read_head_over};
+use wg_decoder::{Decoded, Spares, decode_over, endless, read_head_over};
 use wg_grammar::{ArchiveFault, Fault, Field, Kind, Referenced};
 use wg_offsets::Offsets;
-use wg_params::{Layout, Params};
-
-// The same parameters without a limit on chains.
-fn endless(params: &Params) -> Params
-    ensures { result ≡ endless params.now }
-{
-    let layout = Layout {
-        chain: None,
-        ..params.layout()
-    };
-    match Params::with_layout(params.nodes(), params.arcs(), layout) {
-        Ok(params) => params,
-        Err(_) => unreachable!(),
-    }
-}
+use wg_params::Params;
 
 /// The bytes of a graph file that may be anything, and the offsets that an offsets file gives for its records.
 #[derive(Drop)]
@@ -103,7 +89,7 @@ impl<'a> Unchecked<'a> {
             length: 0,
             depth: 0,
         };
-        let head = read_head_over(&self.endless, page, nothing, &mut cursor)?;
+        let head = read_head_over(&self.endless, page, 0, nothing, &mut cursor)?;
         Ok(head.reference)
     }
 
@@ -156,7 +142,7 @@ impl<'a> Unchecked<'a> {
             Ok(cursor) => cursor,
             Err(cut) => return Err(SpotError::Archive(ArchiveFault::Record(cut))),
         };
-        let decoded = decode_over(&self.params, page, named, depth, spares, &mut cursor)?;
+        let decoded = decode_over(&self.params, page, 0, named, depth, spares, &mut cursor)?;
         match self.compare(page, cursor.at()) {
             Ok(()) => Ok(decoded),
             Err(fault) => Err(SpotError::Archive(fault)),

@@ -1,7 +1,7 @@
 use Rattle.std.proofs.Common.{◌<◌, ◌≤◌, Ok, Err, refl, arith}
 use Rattle.std.proofs.lemmas.Result.{err_from_is_err_and, IfOk-weaker}
 use Rattle.wg_grammar.specs.Context.{Known}
-use Rattle.wg_decoder.specs.Apart.{page_over}
+use Rattle.wg_decoder.specs.Apart.{page_on}
 use Rattle.wg_decoder.specs.Remembered.{known_of}
 use Rattle.wg_decoder.proofs.Faults.{fault_weaker, faults_weaker, refusals_weaker}
 use Rattle.wg_decoder.proofs.ApartLemmas.{rest_reads, head_is, head_refused, ascends_short, over_list, over_depth, none_list, none_depth}
@@ -16,39 +16,39 @@ returns-in_err-head-clause-fault g c = λ bits r.
     let k : Known = record { list = c.args.named.now; depth = c.args.depth } in
     let q = err_from_is_err_and c.from_residual.result c.from_residual.ensures.1 in
     rw (q.1, q.2) (fault_weaker c.in_err-head.field-0.0 _ _
-    (λ e h. head_refused p (page_over p c.args.page k) bits (g.S.Source.offset c.args.source.now) e (h k refl))
+    (λ e h. head_refused p (page_on p c.args.page c.args.arcs_before k) bits (g.S.Source.offset c.args.source.now) e (h k refl))
     (c.in_err-head.ensures.fault bits r))
 
 pub returns-then-head-eq0-clause-reads : goal.returns-then-head-eq0-clause-reads
 returns-then-head-eq0-clause-reads g c = λ bits r.
     let p = c.args.params.now in
     let k : Known = record { list = c.args.named.now; depth = c.args.depth } in
-    let here = page_over p c.args.page k in
+    let here = page_on p c.args.page c.args.arcs_before k in
     let h = c.in_ok-head.head in
     let on = g.met.S.Source.same_bits _ _ bits c.in_ok-head.ensures.later r in
     let stands = head_is p here bits (g.S.Source.offset c.args.source.now) h.outdegree h.reference (g.S.Source.offset c.read_head_over.new.source) (c.in_ok-head.ensures.ok bits r k refl) in
     let end = g.S.Source.offset c.decode_members.new.source in
     IfOk-weaker c.decode_members.result _ _
-    (λ d rest. rest_reads _ _ _ _ _ _ _ _ _ _ (Ok (record { known = known_of d; end = end })) 0 here.behind c.at-start.ensures.value rest (none_list p k h.reference c.if-head-eq0.true) (none_depth p k h.reference c.if-head-eq0.true) stands)
+    (λ d rest. rest_reads _ _ _ _ _ _ _ _ _ _ (Ok (record { known = known_of d; end = end })) c.args.arcs_before here.behind c.at-start.ensures.value rest (none_list p k h.reference c.if-head-eq0.true) (none_depth p k h.reference c.if-head-eq0.true) stands)
     (c.decode_members.ensures.reads bits on)
 
 pub returns-then-head-eq0-clause-fault : goal.returns-then-head-eq0-clause-fault
 returns-then-head-eq0-clause-fault g c = λ bits r.
     let p = c.args.params.now in
     let k : Known = record { list = c.args.named.now; depth = c.args.depth } in
-    let here = page_over p c.args.page k in
+    let here = page_on p c.args.page c.args.arcs_before k in
     let h = c.in_ok-head.head in
     let on = g.met.S.Source.same_bits _ _ bits c.in_ok-head.ensures.later r in
     let stands = head_is p here bits (g.S.Source.offset c.args.source.now) h.outdegree h.reference (g.S.Source.offset c.read_head_over.new.source) (c.in_ok-head.ensures.ok bits r k refl) in
     faults_weaker c.decode_members.result _ _
-    (λ e rest. rest_reads _ _ _ _ _ _ _ _ _ _ (Err e) 0 here.behind c.at-start.ensures.value rest (none_list p k h.reference c.if-head-eq0.true) (none_depth p k h.reference c.if-head-eq0.true) stands)
+    (λ e rest. rest_reads _ _ _ _ _ _ _ _ _ _ (Err e) c.args.arcs_before here.behind c.at-start.ensures.value rest (none_list p k h.reference c.if-head-eq0.true) (none_depth p k h.reference c.if-head-eq0.true) stands)
     (c.decode_members.ensures.fault bits on)
 
 pub returns-clause-reads : goal.returns-clause-reads
 returns-clause-reads g c = λ bits r.
     let p = c.args.params.now in
     let k : Known = record { list = c.args.named.now; depth = c.args.depth } in
-    let here = page_over p c.args.page k in
+    let here = page_on p c.args.page c.args.arcs_before k in
     let h = c.in_ok-head.head in
     let on = g.met.S.Source.same_bits _ _ bits c.in_ok-head.ensures.later r in
     let some : 0 < h.reference = omega arith in
@@ -56,21 +56,21 @@ returns-clause-reads g c = λ bits r.
     let stands = head_is p here bits (g.S.Source.offset c.args.source.now) h.outdegree h.reference (g.S.Source.offset c.read_head_over.new.source) (c.in_ok-head.ensures.ok bits r k refl) in
     let end = g.S.Source.offset c.decode_members-2.new.source in
     IfOk-weaker c.decode_members-2.result _ _
-    (λ d rest. rest_reads _ _ _ _ _ _ _ _ _ _ (Ok (record { known = known_of d; end = end })) 0 here.behind c.at-start.ensures.value rest (over_list p k h.reference some near) (over_depth p k h.reference some near) stands)
+    (λ d rest. rest_reads _ _ _ _ _ _ _ _ _ _ (Ok (record { known = known_of d; end = end })) c.args.arcs_before here.behind c.at-start.ensures.value rest (over_list p k h.reference some near) (over_depth p k h.reference some near) stands)
     (c.decode_members-2.ensures.reads bits on)
 
 pub returns-clause-fault : goal.returns-clause-fault
 returns-clause-fault g c = λ bits r.
     let p = c.args.params.now in
     let k : Known = record { list = c.args.named.now; depth = c.args.depth } in
-    let here = page_over p c.args.page k in
+    let here = page_on p c.args.page c.args.arcs_before k in
     let h = c.in_ok-head.head in
     let on = g.met.S.Source.same_bits _ _ bits c.in_ok-head.ensures.later r in
     let some : 0 < h.reference = omega arith in
     let near : h.reference ≤ p.window = omega (arith, c.in_ok-head.ensures.there) in
     let stands = head_is p here bits (g.S.Source.offset c.args.source.now) h.outdegree h.reference (g.S.Source.offset c.read_head_over.new.source) (c.in_ok-head.ensures.ok bits r k refl) in
     faults_weaker c.decode_members-2.result _ _
-    (λ e rest. rest_reads _ _ _ _ _ _ _ _ _ _ (Err e) 0 here.behind c.at-start.ensures.value rest (over_list p k h.reference some near) (over_depth p k h.reference some near) stands)
+    (λ e rest. rest_reads _ _ _ _ _ _ _ _ _ _ (Err e) c.args.arcs_before here.behind c.at-start.ensures.value rest (over_list p k h.reference some near) (over_depth p k h.reference some near) stands)
     (c.decode_members-2.ensures.fault bits on)
 
 pub returns-then-head-eq0-clause-later : goal.returns-then-head-eq0-clause-later

@@ -5,7 +5,7 @@ use Rattle.wg_grammar.specs.Context.{no_page}
 use Rattle.wg_grammar.specs.Tally.{Follows}
 use Rattle.wg_grammar.specs.SoFar.{SoFar, nothing_yet}
 use Rattle.wg_grammar.proofs.Tallies.{need_follows}
-use Rattle.wg_decoder.specs.Apart.{page_over}
+use Rattle.wg_decoder.specs.Apart.{page_on}
 use Rattle.wg_decoder.proofs.Faults.{fault_weaker, refusal_weaker}
 use Rattle.wg_decoder.proofs.HeadLemmas.{outdegree_due}
 use Rattle.wg_decoder.proofs.ApartLemmas.{unread, bad_value, after_outdegree, outdegree_stands, no_reference_stands}
@@ -17,13 +17,13 @@ returns-in_err-outdegree-clause-fault g c = λ bits r.
     let at = g.S.Source.offset c.args.source.now in
     let q = err_from_is_err_and c.from_residual.result c.from_residual.ensures.1 in
     rw (q.1, q.2) (fault_weaker c.in_err-outdegree.field-0.0 _ _
-    (λ e h k told. (inl (unread field.Outdegree p.outdegrees p (page_over p c.args.page k) bits at nothing_yet at c.args.page e h), h.of_page))
+    (λ e h k told. (inl (unread field.Outdegree p.outdegrees p (page_on p c.args.page c.args.arcs_before k) bits at nothing_yet at c.args.page e h), h.of_page))
     (rw c.outdegrees.ensures.value at (c.in_err-outdegree.ensures.fault bits r)))
 
 pub accepted-requires-clause-due : goal.accepted-requires-clause-due
 accepted-requires-clause-due g c =
     let p = c.args.params.now in
-    let here = page_over p c.args.page no_page in
+    let here = page_on p c.args.page c.args.arcs_before no_page in
     (p.outdegrees, need_follows c.start-progress.result p here nothing_yet (c.start-progress.ensures.exact here refl refl) ∙ outdegree_due p here)
 
 pub returns-in_err-accepted-clause-fault : goal.returns-in_err-accepted-clause-fault
@@ -34,7 +34,7 @@ returns-in_err-accepted-clause-fault g c = λ bits r.
     let q = err_from_is_err_and c.from_residual-in_err-accepted.result c.from_residual-in_err-accepted.ensures.1 in
     rw (q.1, q.2) (fault_weaker c.in_err-accepted.field-0.0 _ _
     (λ e h k told.
-    let here = page_over p c.args.page k in
+    let here = page_on p c.args.page c.args.arcs_before k in
     let x = h p here nothing_yet p.outdegrees (c.start-progress.ensures.exact here refl refl) (outdegree_due p here) (λ same. absurd cc) in
     (inl (bad_value field.Outdegree p.outdegrees p here bits at nothing_yet at c.in_ok-outdegree.outdegree end e (rw c.outdegrees.ensures.value at (c.in_ok-outdegree.ensures.ok bits r)) x.0 x.1 (x.2 ∙ c.at-at.ensures.value)), x.3))
     c.in_err-accepted.ensures.fault)
@@ -45,7 +45,7 @@ returns-then-outdegree-eq0-clause-ok g c = λ bits r k told.
     let at = g.S.Source.offset c.args.source.now in
     let end = g.S.Source.offset c.value.new.source in
     let d = c.in_ok-outdegree.outdegree in
-    let here = page_over p c.args.page k in
+    let here = page_on p c.args.page c.args.arcs_before k in
     let x = c.in_ok-accepted.ensures.ok p here nothing_yet p.outdegrees (c.start-progress.ensures.exact here refl refl) (outdegree_due p here) (λ same. absurd cc) in
     (end, outdegree_stands p here bits at d end (rw c.outdegrees.ensures.value at (c.in_ok-outdegree.ensures.ok bits r)) x.0, no_reference_stands p here bits d end (inl (omega arith)))
 
@@ -53,7 +53,7 @@ pub reference_over-requires-clause-follows : goal.reference_over-requires-clause
 reference_over-requires-clause-follows g c =
     let p = c.args.params.now in
     let d = c.in_ok-outdegree.outdegree in
-    let here = page_over p c.args.page no_page in
+    let here = page_on p c.args.page c.args.arcs_before no_page in
     let x = c.in_ok-accepted.ensures.ok p here nothing_yet p.outdegrees (c.start-progress.ensures.exact here refl refl) (outdegree_due p here) (λ same. absurd cc) in
     (no_page, d, (let some : 0 < d = omega arith in some), subst (λ (s : SoFar). Follows c.accepted.new.progress p here s) (after_outdegree p here d) x.1)
 
@@ -67,7 +67,7 @@ returns-in_err-reference-clause-fault g c = λ bits r.
     let q = err_from_is_err_and c.from_residual-in_err-reference.result c.from_residual-in_err-reference.ensures.1 in
     rw (q.1, q.2) (fault_weaker c.in_err-reference.field-0.0 _ _
     (λ e h k told.
-    let here = page_over p c.args.page k in
+    let here = page_on p c.args.page c.args.arcs_before k in
     let x = c.in_ok-accepted.ensures.ok p here nothing_yet p.outdegrees (c.start-progress.ensures.exact here refl refl) (outdegree_due p here) (λ same. absurd cc) in
     let follows = subst (λ (s : SoFar). Follows c.accepted.new.progress p here s) (after_outdegree p here d) x.1 in
     let bad = h k d at told (omega arith) follows in
@@ -80,7 +80,7 @@ returns-clause-ok g c = λ bits r k told.
     let at = g.S.Source.offset c.args.source.now in
     let end = g.S.Source.offset c.value.new.source in
     let d = c.in_ok-outdegree.outdegree in
-    let here = page_over p c.args.page k in
+    let here = page_on p c.args.page c.args.arcs_before k in
     let on = g.met.S.Source.same_bits _ _ bits c.in_ok-outdegree.ensures.later r in
     let x = c.in_ok-accepted.ensures.ok p here nothing_yet p.outdegrees (c.start-progress.ensures.exact here refl refl) (outdegree_due p here) (λ same. absurd cc) in
     let follows = subst (λ (s : SoFar). Follows c.accepted.new.progress p here s) (after_outdegree p here d) x.1 in

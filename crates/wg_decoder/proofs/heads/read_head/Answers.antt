@@ -3,7 +3,7 @@ use Rattle.std.proofs.lemmas.Result.{err_from_is_err_and}
 use Rattle.wg_decoder.specs.Answer.{context_at}
 use Rattle.wg_decoder.proofs.Faults.{fault_weaker, refusal_weaker}
 use Rattle.wg_decoder.proofs.WholeLemmas.{reads_fault, no_reference, to_head}
-use Rattle.wg_decoder.proofs.head.read_head.Goals as goal
+use Rattle.wg_decoder.proofs.heads.read_head.Goals as goal
 
 pub returns-in_err-outdegree-clause-fault : goal.returns-in_err-outdegree-clause-fault
 returns-in_err-outdegree-clause-fault g c = λ bits r.
