@@ -1,52 +1,98 @@
 //! Records at a cursor, where the page that they refer to is handed in.
-ghost use Rattle.std.specs.Prelude.{◌≡◌, ◌<◌, ◌≤◌, ℕ, List as ListOf, min, IfOk, IfErr};
-ghost use Rattle.wg_grammar.specs.Context.{Known};
-ghost use Rattle.wg_decoder.specs.Answer.{context_at};
-ghost use Rattle.wg_decoder.specs.Apart.{HeadStands, HeadFails};
-ghost use Rattle.wg_decoder.specs.Chains.{endless};
+ghost use Rattle.std.specs.Prelude.{◌≡◌, ◌<◌, ◌≤◌, Ok, Err, IfOk, OnErr};
+ghost use Rattle.std.specs.Option.{ForSome};
+ghost use Rattle.wg_graph.specs.Ascending.{Ascends, Below};
+ghost use Rattle.wg_grammar.specs.Record.{ReadsRecord};
+ghost use Rattle.wg_decoder.specs.Answer.{IfFault};
+ghost use Rattle.wg_decoder.specs.Apart.{page_on};
+ghost use Rattle.wg_decoder.specs.Handed.{page_of, handed};
+ghost use Rattle.wg_decoder.specs.Remembered.{known_of};
 
-use crate::{Head, Unread, read_head_over};
+use crate::reading::error_of;
+use crate::{DecodeError, Decoded, Spares, decode_over};
+use std::alloc::Global;
 use wg_bits::Cursor;
-use wg_grammar::{Fault, Referenced};
-use wg_params::{Layout, Params};
+use wg_graph::List;
+use wg_params::Params;
 
-/// The same parameters without a limit on chains.
-pub fn endless(params: &Params) -> Params
-    ensures { result ≡ endless params.now }
+/// A page that a reference names: its successors, and how many references lead on from it, one after the other.
+#[derive(Clone, Copy)]
+pub struct Known<'a> {
+    pub list: &'a List,
+    pub depth: u64,
+}
+
+// The record at the cursor over this list and depth. The cursor stands still where there is an error.
+fn decode_at(
+    alloc: Global,
+    params: &Params,
+    page: u64,
+    arcs_before: u64,
+    named: &[u64],
+    depth: u64,
+    cursor: &mut Cursor<'_>,
+) -> Result<Decoded, DecodeError>
+    requires page { page < params.now.nodes }
+    requires before { arcs_before ≤ params.now.arcs }
+    requires ascends { Ascends 0 named.now }
+    requires below { Below params.now.nodes named.now }
+    requires depth { 0 < page → depth < page }
+    ensures bits { cursor.new.bits ≡ cursor.old.bits }
+    ensures reads { IfOk result (λ d. ReadsRecord params.now
+        (page_on params.now page arcs_before (page_of named.now depth)) cursor.old.bits cursor.old.at
+        (Ok (record { known = known_of d; end = cursor.new.at }))) }
+    ensures fault { IfFault result (λ e. ReadsRecord params.now
+        (page_on params.now page arcs_before (page_of named.now depth)) cursor.old.bits cursor.old.at (Err e)) }
+    ensures still { OnErr result (cursor.new ≡ cursor.old) }
+    ensures ascends { IfOk result (λ d. Ascends 0 d.list) }
+    ensures below { IfOk result (λ d. Below params.now.nodes d.list) }
+    ensures deep { IfOk result (λ d. d.depth ≤ page) }
 {
-    let layout = Layout {
-        chain: None,
-        ..params.layout()
-    };
-    match Params::with_layout(params.nodes(), params.arcs(), layout) {
-        Ok(params) => params,
-        Err(_) => unreachable!(),
+    let start = cursor.at();
+    let mut spares = Spares::new(alloc);
+    match decode_over(params, page, arcs_before, named, depth, &mut spares, cursor) {
+        Ok(decoded) => Ok(decoded),
+        Err(unread) => {
+            cursor.seek_back(start);
+            Err(error_of(unread))
+        }
     }
 }
 
-/// The head of the record at the cursor, of a page with `arcs_before` arcs before it; or the fault that its outdegree
-/// or its reference has. Chains may have any length, so it is the same whatever the pages before are. It takes no
-/// memory, and reads two words at most.
-pub fn head(params: &Params, page: u64, arcs_before: u64, cursor: Cursor<'_>) -> Result<Head, Fault>
+/// The record at the cursor, of a page with `arcs_before` arcs before it, which refers to the page that is handed in;
+/// none is where it refers to none, as [`head`](crate::head) tells. Where none is handed in all the same, it is read
+/// over a page without successors. The cursor moves over the record, and stands still where it is refused or memory is
+/// wanting. Memory is taken as successors come, and not by the outdegree; it costs a word of each field, and a pass
+/// over the list that is handed in.
+pub fn decode_on(
+    alloc: Global,
+    params: &Params,
+    page: u64,
+    arcs_before: u64,
+    known: Option<Known<'_>>,
+    cursor: &mut Cursor<'_>,
+) -> Result<Decoded, DecodeError>
     requires page { page < params.now.nodes }
     requires before { arcs_before ≤ params.now.arcs }
-    ensures stands { (behind : ListOf Known) → IfOk result (λ h. (end : ℕ) × HeadStands (endless params.now)
-        (context_at page arcs_before behind) cursor.entry.bits cursor.entry.at h.outdegree h.reference end) }
-    ensures fault { (behind : ListOf Known) → IfErr result (λ e. HeadFails (endless params.now)
-        (context_at page arcs_before behind) cursor.entry.bits cursor.entry.at e) }
-    ensures there { IfOk result (λ h. h.reference ≤ min params.now.window page) }
+    requires ascends { ForSome known (λ k. Ascends 0 k.list.now) }
+    requires below { ForSome known (λ k. Below params.now.nodes k.list.now) }
+    requires depth { ForSome known (λ k. k.depth < page) }
+    ensures bits { cursor.new.bits ≡ cursor.old.bits }
+    ensures reads { IfOk result (λ d. ReadsRecord params.now
+        (page_on params.now page arcs_before (handed known.entry)) cursor.old.bits cursor.old.at
+        (Ok (record { known = known_of d; end = cursor.new.at }))) }
+    ensures fault { IfFault result (λ e. ReadsRecord params.now
+        (page_on params.now page arcs_before (handed known.entry)) cursor.old.bits cursor.old.at (Err e)) }
+    ensures still { OnErr result (cursor.new ≡ cursor.old) }
+    ensures ascends { IfOk result (λ d. Ascends 0 d.list) }
+    ensures below { IfOk result (λ d. Below params.now.nodes d.list) }
+    ensures depth { IfOk result (λ d. d.depth ≤ page) }
 {
-    let nothing = Referenced {
-        length: 0,
-        depth: 0,
-    };
-    let mut ahead = cursor;
-    match read_head_over(&endless(params), page, arcs_before, nothing, &mut ahead) {
-        Ok(head) => Ok(head),
-        Err(unread) => match unread {
-            Unread::Fault(fault) => Err(fault),
-            Unread::Memory => unreachable!(),
-            Unread::Refused(never) => match never {},
-        },
+    match known {
+        Some(known) => {
+            let list = known.list.as_slice();
+            decode_at(alloc, params, page, arcs_before, list, known.depth, cursor)
+        }
+        None => decode_at(alloc, params, page, arcs_before, &[], 0, cursor),
     }
 }

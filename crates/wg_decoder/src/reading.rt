@@ -97,7 +97,7 @@ pub fn decode_from<S: Source>(
 }
 
 // Bits in memory refuse no word.
-fn error_of(unread: Unread<Infallible>) -> DecodeError
+pub(crate) fn error_of(unread: Unread<Infallible>) -> DecodeError
     ensures { result ≡ known_error unread }
 {
     match unread {

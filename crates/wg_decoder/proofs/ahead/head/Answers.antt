@@ -2,7 +2,7 @@ use Rattle.std.proofs.Common.{refl}
 use Rattle.wg_grammar.specs.Context.{no_page}
 use Rattle.wg_decoder.proofs.Faults.{fault_is}
 use Rattle.wg_decoder.proofs.ApartLemmas.{head_stands_at, head_fails_at}
-use Rattle.wg_decoder.proofs.handed.head.Goals as goal
+use Rattle.wg_decoder.proofs.ahead.head.Goals as goal
 
 pub returns-in-Ok-clause-stands : goal.returns-in-Ok-clause-stands
 returns-in-Ok-clause-stands c = λ behind.
