@@ -2,14 +2,7 @@
 use Rattle.std.proofs.Common.{◌≡◌, ◌∙◌, ◌<◌, ◌≤◌, inr, get_or, ℕ, List, [], ◌++◌, map, length, codes, decimal, Bool, Result, Ok, Err, arith, refl, sym, append-nil, length-append, subst}
 use Rattle.wg_params.specs.Parameters.{Parameters}
 use Rattle.wg_grammar.specs.Archive.{Accepted, ReadsGraph}
-use Rattle.wg_grammar.specs.Context.{Known}
-use Rattle.wg_random.specs.Answer.{Lists, Opens}
 use Rattle.wg_random.specs.Held.{Held}
-use Rattle.wg_random.specs.Reading.{Reading}
-use Rattle.wg_random.specs.declared.error.ListError.{ListError}
-use Rattle.wg_random.specs.declared.error.ListError.TheVariants as lists
-use Rattle.wg_random.specs.declared.error.OpenError.{OpenError}
-use Rattle.wg_random.specs.declared.error.OpenError.TheVariants.{NoPage}
 use Rattle.wg_io.specs.Puts.{joined}
 use Rattle.wg_lines.specs.Printing.{HasPrinted, HasPrintedLess, Prints}
 use Rattle.wg_lines.proofs.PrintLemmas.{printed_more, less_after, less_before}
@@ -42,26 +35,11 @@ prints_third a b c d waited mid next waits t u v r h g k = prints_after a c d wa
 
 -- ---- a page that is not opened
 
--- the records of a graph
-pub reading_of : (p : Parameters) (bits : List Bool) (a : Accepted) → ReadsGraph p bits (Ok a) → Reading p bits
-reading_of p bits a read = record { records = read.0; behind = read.1; end = read.2; pages = read.3; all = read.4.0 }
-
 -- an archive stands for the graph of the records that it is made of
 pub archive_reads : (archive records : Held) (p : Parameters) (bits : List Bool) (a : Accepted) → archive ≡ records → records.params ≡ p → records.bits ≡ bits → ReadsGraph p bits (Ok a) → ReadsGraph archive.params archive.bits (Ok a)
 archive_reads archive records p bits a same params is read =
     subst (λ (h : Held). ReadsGraph h.params h.bits (Ok a)) (sym same)
     (subst (λ (q : Parameters). ReadsGraph q records.bits (Ok a)) (sym params) (subst (λ (b : List Bool). ReadsGraph p b (Ok a)) (sym is) read))
-
--- a page that is there is found
-pub page_found : (nodes x : ℕ) (k : Known) (e : OpenError) → x < nodes → e ≡ NoPage → Opens nodes x k (Err e) → ⊥
-page_found nodes x k e there is opens =
-    let none : nodes ≤ x = subst (λ (o : OpenError). Opens nodes x k (Err o)) is opens in
-    omega (arith, there, none)
-
-pub page_listed : (nodes x : ℕ) (k : Known) (e : ListError) → x < nodes → e ≡ lists.NoPage → Lists nodes x k (Err e) → ⊥
-page_listed nodes x k e there is made =
-    let none : nodes ≤ x = subst (λ (o : ListError). Lists nodes x k (Err o)) is made in
-    omega (arith, there, none)
 
 -- no line is empty, and so where nothing was printed of it something is left out
 pub none_of_line : (old waited : List ℕ) (page : ℕ) (list : List ℕ) → HasPrintedLess old old waited (successors_line page list)

@@ -61,8 +61,7 @@ fn show_page<L: Ledger, O: Sink>(
     out: &mut O,
     steps: &mut Steps<L>,
 ) -> Result<(), Ending>
-    requires page { page < archive.now.params.nodes }
-    requires stands { (a : Accepted) × ReadsGraph archive.now.params archive.now.bits (Ok a) }
+    requires { page < archive.now.params.nodes }
     ensures { PrintsLine ⟦<O as Sink>⟧ archive.now page out.old out.new lines.old lines.new result }
 {
     match archive.open(alloc, page, steps) {
@@ -82,8 +81,7 @@ fn show_list<L: Ledger, O: Sink>(
     out: &mut O,
     steps: &mut Steps<L>,
 ) -> Result<(), Ending>
-    requires page { page < archive.now.params.nodes }
-    requires stands { (a : Accepted) × ReadsGraph archive.now.params archive.now.bits (Ok a) }
+    requires { page < archive.now.params.nodes }
     ensures { PrintsLine ⟦<O as Sink>⟧ archive.now page out.old out.new lines.old lines.new result }
 {
     match archive.list(alloc, page, steps) {
@@ -105,7 +103,6 @@ fn print_pages<L: Ledger, O: Sink>(
     requires parts { blank.parts ≡ L.parts }
     requires some { 0 < blank.parts }
     requires pages { All (λ page. page < archive.now.params.nodes) pages.now }
-    requires stands { (a : Accepted) × ReadsGraph archive.now.params archive.now.bits (Ok a) }
     ensures puts { IsTrue O.told → (a : Accepted) → ReadsGraph archive.now.params archive.now.bits (Ok a)
         → Puts (successors_lines a.graph pages.now) (O.taken out.old) (O.taken out.new) result }
     ensures only { IfErr result (λ e. IsUnput e.status) }

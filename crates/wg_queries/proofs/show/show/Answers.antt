@@ -40,12 +40,6 @@ returns-in_err-find_pages g c =
     r.limits (record { graph = r.accepted.0; places = c.in_ok-records.records.offsets }) r.accepted.1 _ _ c.in_ok-judge_offsets.ensures
     _ c.as_slice-2.ensures _ _ _ refl e.only e.steps)
 
-pub print_pages-requires-clause-stands : goal.print_pages-requires-clause-stands
-print_pages-requires-clause-stands g c =
-    let read = c.in_ok-records.ensures in
-    let a : Accepted = record { graph = read.accepted.0; places = c.in_ok-records.records.offsets } in
-    (a, archive_reads c.archive.result c.in_ok-records.records c.in_ok-params.params (bits_of c.as_slice.result.now) a c.archive.ensures read.params read.bits read.accepted.1)
-
 pub returns : goal.returns
 returns g c =
     let p : Parameters = c.in_ok-params.params in

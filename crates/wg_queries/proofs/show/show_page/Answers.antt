@@ -1,13 +1,9 @@
-use Rattle.wg_random.specs.Reading.{known_at}
-use Rattle.wg_queries.proofs.ShownLemmas.{line_by_list, line_unbegun, page_found, reading_of}
+use Rattle.std.proofs.Common.{Err, ap, arith}
+use Rattle.wg_queries.proofs.ShownLemmas.{line_by_list, line_unbegun}
 use Rattle.wg_queries.proofs.show.show_page.Goals as goal
 
 pub unreachable-requires : goal.unreachable-requires
-unreachable-requires g c =
-    let h = c.args.archive.now in
-    let s = c.requires.stands in
-    let r = reading_of h.params h.bits s.0 s.1 in
-    page_found h.params.nodes c.args.page (known_at r.records c.args.page) c.in-Err-NoPage.field-0 c.requires.page c.in-Err-NoPage.field-0-is (c.in-Err-NoPage.ensures.answer r)
+unreachable-requires g c = omega (arith, c.requires, c.in-Err-NoPage.ensures.no_page_only_then (ap (λ e. Err e) c.in-Err-NoPage.field-0-is))
 
 pub returns-in-Ok : goal.returns-in-Ok
 returns-in-Ok g c =
