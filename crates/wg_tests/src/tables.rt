@@ -1,7 +1,9 @@
-//! Worked values of codes and graphs, laws, errors that are named again, files of the system, and memory that is kept.
+//! Worked values of codes, graphs and records, laws, errors that are named again, files of the system, and memory that is
+//! kept.
 
 mod codes;
 mod files;
 mod graphs;
 mod rankings;
 mod readings;
+mod records;

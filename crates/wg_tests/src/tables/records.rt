@@ -1,0 +1,40 @@
+// Records over a page that is handed in, and an archive of records and offsets.
+use std::test::Fail;
+use wg_bits::{Bits, Cursor};
+use wg_decoder::{Known, decode_on, head};
+use wg_graph::List;
+use wg_params::Code;
+use wg_random::{Archive, Records};
+use wg_vectors::usual;
+
+// 011 1 1 1011 100  011 01 1  1: page 1 copies the list of page 0
+const COPIED: &[u8] = b"\x7D\xC6\xE0";
+
+#[test]
+fn a_record_over_a_page_that_is_handed_in(rt: HostRuntime) -> Result<(), Fail> {
+    let params = usual(3, 4, 7, 3, 4)?;
+    let mut cursor = Cursor::new(Bits::of(COPIED), 12);
+    let Ok(told) = head(&params, 1, 2, Cursor::new(Bits::of(COPIED), 12)) else {
+        return Err("no head".into());
+    };
+    assert!(rt; told.outdegree == 2 && told.reference == 1);
+    let mut list = List::new(rt.alloc());
+    list.extend(&[1, 2])?;
+    let known = Known {
+        list: &list,
+        depth: 0,
+    };
+    let second = decode_on(rt.alloc(), &params, 1, 2, Some(known), &mut cursor)?;
+    assert!(rt; second.list.as_slice() == [1, 2].as_slice());
+    assert!(rt; second.depth == 1 && cursor.at() == 18);
+    Ok(())
+}
+
+#[test]
+fn records_and_their_offsets(rt: HostRuntime) -> Result<(), Fail> {
+    let records = Records::check(rt.alloc(), COPIED, usual(3, 4, 7, 3, 4)?)?;
+    // 1 0001101 00111 010: the words of 0, 12, 6 and 1
+    let offsets = wg_offsets::read(rt.alloc(), b"\x8D\x3A", 3, Code::Gamma)?;
+    assert!(rt; Archive::check(rt.alloc(), records, &offsets).is_ok());
+    Ok(())
+}
