@@ -2,7 +2,6 @@
 use std::test::Fail;
 use wg_bits::{Bits, Cursor};
 use wg_decoder::{Known, decode_on, head};
-use wg_graph::List;
 use wg_params::Code;
 use wg_random::{Archive, Records};
 use wg_vectors::usual;
@@ -13,16 +12,15 @@ const COPIED: &[u8] = b"\x7D\xC6\xE0";
 #[test]
 fn a_record_over_a_page_that_is_handed_in(rt: HostRuntime) -> Result<(), Fail> {
     let params = usual(3, 4, 7, 3, 4)?;
-    let mut cursor = Cursor::new(Bits::of(COPIED), 12);
-    let Ok(told) = head(&params, 1, 2, Cursor::new(Bits::of(COPIED), 12)) else {
+    let mut cursor = Cursor::new(Bits::of(COPIED), 0);
+    let first = decode_on(rt.alloc(), &params, 0, 0, None, &mut cursor)?;
+    let Ok(told) = head(&params, 1, 2, cursor.again()) else {
         return Err("no head".into());
     };
     assert!(rt; told.outdegree == 2 && told.reference == 1);
-    let mut list = List::new(rt.alloc());
-    list.extend(&[1, 2])?;
     let known = Known {
-        list: &list,
-        depth: 0,
+        list: &first.list,
+        depth: first.depth,
     };
     let second = decode_on(rt.alloc(), &params, 1, 2, Some(known), &mut cursor)?;
     assert!(rt; second.list.as_slice() == [1, 2].as_slice());
