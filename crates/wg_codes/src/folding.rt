@@ -1,6 +1,6 @@
 //! Numbers of either sign as numbers that are not negative.
-ghost use Rattle.std.specs.Prelude.{◌≡◌, ◌^◌, ◌≤◌};
-ghost use Rattle.wg_codes.specs.Fold.{folded, unfolded, unfolded_from};
+ghost use Rattle.std.specs.Prelude.{◌≡◌, ℕ, ◌^◌, ◌≤◌, Some};
+ghost use Rattle.wg_codes.specs.Fold.{folded, unfolded, unfolded_from, number_of_gap};
 
 /// A whole number as a value, those near 0 first: 0, -1, 1, -2, 2 become 0, 1, 2, 3, 4.
 ///
@@ -35,5 +35,22 @@ pub fn unfold_from(from: u64, value: u64) -> Option<u64>
         Some(from + half)
     } else {
         from.checked_sub(half + 1)
+    }
+}
+
+/// The number that a stored gap means, where it is known to mean one: by its distance from `from`, where nothing comes
+/// before it; else by its distance from `before`, less 1.
+#[inline(always)]
+pub fn number_of_gap(from: u64, before: Option<u64>, gap: u64) -> u64
+    requires from { from ≤ 2 ^ 62 }
+    requires means { (y : ℕ) × (y ≤ 2 ^ 62) × (number_of_gap from before gap ≡ Some y) }
+    ensures { number_of_gap from before gap ≡ Some result }
+{
+    match before {
+        Some(before) => before + 1 + gap,
+        None => match unfold_from(from, gap) {
+            Some(number) => number,
+            None => unreachable!(),
+        },
     }
 }

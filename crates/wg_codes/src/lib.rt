@@ -39,6 +39,6 @@ mod unary;
 mod zeta;
 
 pub use any::{holds, length, read, word_in, write};
-pub use folding::{fold, unfold, unfold_from};
+pub use folding::{fold, number_of_gap, unfold, unfold_from};
 pub use law::laws;
 pub use outcome::{Read, Word};

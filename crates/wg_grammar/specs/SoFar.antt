@@ -1,7 +1,7 @@
 -- What has been read of a record, each number as it is meant and not as it is stored.
 use Rattle.std.specs.Prelude.{ℕ, ◌+◌, ◌-◌, Bool, true, false, ◌==◌, if◌then◌else◌, List, [], ◌∷◌, ◌++◌, length, get_or, sum, Option, Some, None, unwrap_or}
-use Rattle.wg_codes.specs.Fold.{unfolded_from}
-use Rattle.wg_graph.specs.Copied.{copied_members}
+use Rattle.wg_codes.specs.Fold.{number_of_gap}
+use Rattle.wg_graph.specs.Copied.{block_at, copied_members}
 use Rattle.wg_params.specs.Parameters.{Parameters}
 use Rattle.wg_grammar.specs.declared.fault.Field.{Field}
 use Rattle.wg_grammar.specs.declared.fault.Field.TheVariants as field
@@ -55,17 +55,17 @@ missing c s = extra c s - (sum s.lengths + length s.residuals)
 
 -- A stored value's own: the first block is stored as it is, later ones less 1.
 abbrev pub own_block : SoFar → ℕ → ℕ
-own_block s v = if length s.blocks == 0 then v else v + 1
+own_block s v = block_at (length s.blocks) v
 
 -- The first left end is stored as the fold of its distance from the page, a later one as its distance from the end of
 -- the interval before, less 1, where the end is one past the last number; none where the number would be below 0.
 abbrev pub own_left : Context → SoFar → ℕ → Option ℕ
-own_left c s v = if length s.lefts == 0 then unfolded_from c.page v else Some (last_of s.lefts + last_of s.lengths + 1 + v)
+own_left c s v = if length s.lefts == 0 then number_of_gap c.page None v else number_of_gap c.page (Some (last_of s.lefts + last_of s.lengths)) v
 
 -- The first residual is stored as the fold of its distance from the page, a later one as the distance from the one
 -- before it, less 1.
 abbrev pub own_residual : Context → SoFar → ℕ → Option ℕ
-own_residual c s v = if length s.residuals == 0 then unfolded_from c.page v else Some (last_of s.residuals + 1 + v)
+own_residual c s v = if length s.residuals == 0 then number_of_gap c.page None v else number_of_gap c.page (Some (last_of s.residuals)) v
 
 -- what has been read after one more stored value
 unfoldable pub after : Parameters → Context → SoFar → Field → ℕ → SoFar

@@ -1,6 +1,7 @@
 -- How the private steps of a `Progress` judge and take a value, by the numbers that it keeps.
 use Rattle.std.specs.Prelude.{◌≡◌, ℕ, suc, ◌+◌, ◌-◌, ◌*◌, ◌%◌, ◌<◌, min, ◌||◌, true, ◌==◌, nat_lt, if◌then◌else◌, Option, Some, None}
-use Rattle.wg_codes.specs.Fold.{unfolded_from}
+use Rattle.wg_codes.specs.Fold.{number_of_gap}
+use Rattle.wg_graph.specs.Copied.{block_at}
 use Rattle.wg_params.specs.Parameters.{Parameters}
 use Rattle.wg_grammar.specs.declared.fault.Field.{Field}
 use Rattle.wg_grammar.specs.declared.fault.Field.TheVariants as field
@@ -25,13 +26,13 @@ within p o = if is_page p o then o else None
 
 -- a stored value's own number
 abbrev pub block_of : Tally → ℕ → ℕ
-block_of t v = if t.blocks == 0 then v else v + 1
+block_of t v = block_at t.blocks v
 
 abbrev pub left_of : Tally → ℕ → Option ℕ
-left_of t v = if t.lefts == 0 then unfolded_from t.page v else Some (t.last_left + t.last_length + 1 + v)
+left_of t v = if t.lefts == 0 then number_of_gap t.page None v else number_of_gap t.page (Some (t.last_left + t.last_length)) v
 
 abbrev pub residual_of : Tally → ℕ → Option ℕ
-residual_of t v = if t.residuals == 0 then unfolded_from t.page v else Some (t.last_residual + 1 + v)
+residual_of t v = if t.residuals == 0 then number_of_gap t.page None v else number_of_gap t.page (Some t.last_residual) v
 
 -- the first reason to refuse a value, if there is one
 unfoldable pub refusal_of : Tally → Option Referenced → Field → ℕ → Option Kind

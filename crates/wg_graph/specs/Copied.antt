@@ -2,6 +2,10 @@
 -- copied, skipped, copied and so on, and what lies past the last block is one more run of the other kind.
 use Rattle.std.specs.Prelude.{ℕ, ◌+◌, ◌%◌, Bool, ◌==◌, nat_le, if◌then◌else◌, List, [], ◌∷◌, count_by}
 
+-- The block that is stored as v, where so many come before it: the first is stored as it is, later ones less 1.
+abbrev pub block_at : ℕ → ℕ → ℕ
+block_at before v = if before == 0 then v else v + 1
+
 -- where each block ends, when n positions come before the first
 abbrev pub ends_of : ℕ → List ℕ → List ℕ
 ends_of n [] = []
