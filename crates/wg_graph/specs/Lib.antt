@@ -8,3 +8,4 @@ pub mod Joined
 pub mod Listing
 pub mod Numbers
 pub mod Pieces
+pub mod Unions

@@ -3,9 +3,10 @@ use Rattle.std.proofs.Common.{◌≡◌, ℕ, List}
 use Rattle.wg_iterators.specs.declared.below.Below.{Below}
 use Rattle.wg_iterators.specs.declared.below.Below.TheVariants.{Nothing, Page, Lent}
 use Rattle.wg_iterators.specs.declared.fields.Fronts.{Fronts}
-use Rattle.wg_iterators.specs.Coming.{Coming, union_of}
+use Rattle.wg_iterators.specs.Coming.{Coming}
+use Rattle.wg_graph.specs.Unions.{union_of}
 use Rattle.wg_iterators.specs.Fronts.{copied_of}
-use Rattle.wg_iterators.specs.Apart.{AreApart}
+use Rattle.wg_decoder.specs.Proper.Disjoint.{AreApart}
 use Rattle.wg_iterators.specs.Fields.{AreFronts}
 use Rattle.wg_iterators.specs.Below.{list_on, list_below}
 

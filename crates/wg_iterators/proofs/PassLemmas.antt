@@ -1,32 +1,20 @@
 -- Blocks and intervals that are passed.
-use Rattle.std.proofs.Common.{◌≡◌, ℕ, zero, suc, ◌+◌, ◌-◌, ◌%◌, ◌^◌, ◌<◌, ◌≤◌, Bool, true, false, cond, eqb, List, [], ◌∷◌, ◌++◌, length, replicate, drop, Option, Some, refl, sym, ap, subst, ◌∙◌, arith}
+use Rattle.std.proofs.Common.{◌≡◌, ℕ, suc, ◌+◌, ◌-◌, ◌%◌, ◌^◌, ◌<◌, ◌≤◌, Bool, true, false, cond, eqb, List, [], ◌∷◌, ◌++◌, length, replicate, drop, Option, Some, refl, sym, ap, subst, ◌∙◌, arith}
 use Rattle.std.specs.Prelude.{sum}
 use Rattle.std.proofs.lemmas.Bool.{eq-eqb, ne_eqb}
 use Rattle.std.proofs.lemmas.List.{length_push, length-append, length-drop, length-replicate, append_assoc}
-use Rattle.std.proofs.lemmas.List.Sums.{sum_by-append}
 use Rattle.wg_params.specs.declared.code.Code.{Code}
 use Rattle.wg_params.specs.declared.code.Code.TheVariants.{Gamma}
-use Rattle.wg_bits.specs.Bits.{Position, rest}
 use Rattle.wg_graph.specs.Copied.{copied_members, is_copied}
-use Rattle.wg_graph.proofs.Copies.{at_positions_all, length-at_positions, sum_cons, sum_push, copied_before, copied_count, copied_front}
+use Rattle.wg_graph.proofs.Copies.{length-at_positions, sum_cons, sum_push, copied_before, copied_count, copied_front}
 use Rattle.wg_blocks.specs.Stored.{blocks_of}
 use Rattle.wg_intervals.specs.Stored.{IsInterval}
 use Rattle.wg_codes.specs.Standing.{IsWord}
-use Rattle.wg_iterators.specs.Laid.{WordsTo, IntervalsTo}
-use Rattle.wg_iterators.specs.Passing.{blocks_after, Passing, Covering}
-
--- what the reader of a value answers for the word that stands first
-abbrev pub Takes : Code → List Bool → List Bool → ℕ → Type 0
-Takes c old new w = (v : ℕ) (behind : List Bool) → IsWord c v old behind → (v ≡ w) × (behind ≡ new)
-
-pub takes_from : (c : Code) (p q : Position) (new : List Bool) (w : ℕ) → q ≡ p → Takes c (rest q) new w → Takes c (rest p) new w
-takes_from c p q new w e takes = subst (λ x. Takes c (rest x) new w) e takes
+use Rattle.wg_decoder.specs.Proper.Laid.{WordsTo, IntervalsTo, blocks_after}
+use Rattle.wg_iterators.specs.Passing.{Passing, Covering}
+use Rattle.wg_decoder.proofs.ProperLemmas.Taking.{Takes, all_copied, parts_on, fits_on, no_blocks}
 
 -- ---- blocks
-
-pub all_copied : (list : List ℕ) → copied_members [] list ≡ list
-unfolding copied_members
-all_copied list = at_positions_all (is_copied []) 0 list (λ q le. refl)
 
 pub passing_none : (code : Code) (count source : ℕ) (values : List ℕ) (behind z : List Bool) → length values ≡ count → WordsTo code values z behind → Passing code count source values behind 0 source source z
 passing_none code count source values behind z len stand = record {
@@ -39,18 +27,6 @@ passing_none code count source values behind z len stand = record {
   left_is = omega arith;
   copied_is = λ list is. sym (ap length (all_copied list) ∙ is);
 }
-
-pub block_first : (i v : ℕ) (vs : List ℕ) → blocks_after i (v ∷ vs) ≡ cond (eqb i 0) v (v + 1) ∷ blocks_after (suc i) vs
-block_first zero v vs = refl
-block_first (suc i) v vs = rw (ne_eqb (suc i) 0 (λ e. omega (arith, e))) refl
-
-pub parts_on : (values done vs : List ℕ) (index v stored b : ℕ) → blocks_of values ≡ done ++ blocks_after index (v ∷ vs) → v ≡ stored → b ≡ cond (eqb index 0) stored (stored + 1) → blocks_of values ≡ done ++ (b ∷ blocks_after (suc index) vs)
-parts_on values done vs index v stored b parts same is =
-    parts ∙ ap (λ (l : List ℕ). done ++ l) (block_first index v vs ∙ ap (λ (k : ℕ). cond (eqb index 0) k (k + 1) ∷ blocks_after (suc index) vs) same ∙ ap (λ (k : ℕ). k ∷ blocks_after (suc index) vs) (sym is))
-
-pub fits_on : (values done more : List ℕ) (source b : ℕ) → blocks_of values ≡ done ++ (b ∷ more) → sum (blocks_of values) ≤ source → sum done + b ≤ source
-fits_on values done more source b parts fits =
-    omega (arith, fits, ap (λ (l : List ℕ). sum l) parts, sum_by-append (λ (e : ℕ). e) done (b ∷ more), sum_cons b more)
 
 -- there is room for the block, and for what it turns
 pub record Room (index left copied b : ℕ) : Type 0 where
@@ -132,10 +108,6 @@ pub passed : (code : Code) (count source : ℕ) (values : List ℕ) (behind : Li
     → now ≡ cond (eqb (index % 2) 0) (copied - (left - b)) (copied + (left - b)) → sum (blocks_of values) ≤ source → Passing code count source values behind index left copied old → Passing code count source values behind (index + 1) (left - b) now new
 passed code count source values behind index left copied now old new stored b takes is lt now_is total h =
     passed_at code count source values behind index left copied now old new stored b h.done h.todo takes is lt now_is total h.count_done h.count_todo h.parts h.stands h.left_is h.copied_is
-
-pub no_blocks : (index : ℕ) → blocks_after index [] ≡ []
-no_blocks zero = refl
-no_blocks (suc n) = refl
 
 append_nothing : (xs : List ℕ) → xs ++ [] ≡ xs
 append_nothing [] = refl

@@ -1,10 +1,10 @@
 -- The three fronts of a record, from which its list comes.
 use Rattle.std.specs.Prelude.{◌≡◌, ℕ, List, length, Option}
 use Rattle.wg_iterators.specs.declared.fields.Fronts.{Fronts}
-use Rattle.wg_iterators.specs.Coming.{union_of}
+use Rattle.wg_graph.specs.Unions.{union_of}
 use Rattle.wg_iterators.specs.Fronts.{copied_of, IsOfBlocks}
-use Rattle.wg_iterators.specs.Apart.{AreApart}
-use Rattle.wg_iterators.specs.Laid.{list_or_none}
+use Rattle.wg_decoder.specs.Proper.Disjoint.{AreApart}
+use Rattle.wg_decoder.specs.Proper.Laid.{list_or_none}
 
 -- These are the fronts of a record with this list, which refers to the list below: no number comes in two of them, and
 -- together they are the list.

@@ -1,14 +1,11 @@
--- The copied members and the residuals of a record, as the lists that are still to come. Each is told from what stands
--- at its own offset of the bits.
-use Rattle.std.specs.Prelude.{ℕ, zero, suc, ◌+◌, Bool, not, if◌then◌else◌, List, [], ◌∷◌, Option, Some, None}
-use Rattle.wg_params.specs.declared.code.Code.{Code}
+-- The copied members of a record, as the list that is still to come. It is told from what stands at the mask's offset of
+-- the bits.
+use Rattle.std.specs.Prelude.{ℕ, Bool, not, if◌then◌else◌, List}
 use Rattle.wg_params.specs.Codes.{IsCode}
-use Rattle.wg_codes.specs.Fold.{unfolded_from}
 use Rattle.wg_bits.specs.Bits.{rest}
 use Rattle.wg_graph.specs.Copied.{is_copied, at_positions}
 use Rattle.wg_blocks.specs.Follow.{runs, Seen as MaskSeen, Follows as MaskFollows}
-use Rattle.wg_grammar.specs.SoFar.{value_or_0}
-use Rattle.wg_codes.specs.Standing.{value_at, behind_value, values_at}
+use Rattle.wg_codes.specs.Standing.{values_at}
 
 -- whether the mask copies the position q places on
 abbrev pub copies : MaskSeen → ℕ → Bool
@@ -23,25 +20,3 @@ copied_of m xs = at_positions (copies m) 0 xs
 -- the mask is that of some blocks, some positions on
 abbrev pub IsOfBlocks : MaskSeen → Type 0
 IsOfBlocks m = IsCode m.code × ((blocks : List ℕ) × (p : ℕ) × MaskFollows m blocks p)
-
--- what a stored residual means, at first and after another
-abbrev pub residual_of : ℕ → Option ℕ → ℕ → Option ℕ
-residual_of page None v = unfolded_from page v
-residual_of page (Some last) v = Some (last + 1 + v)
-
--- the residuals that are still to come, and the bits behind the last of them
-pub record Remaining : Type 0 where
-  pub list : List ℕ
-  pub behind : List Bool
-
--- the n residuals that stand at the bits
-unfoldable pub residuals_at : Code → ℕ → Option ℕ → ℕ → List Bool → List ℕ
-residuals_at c page last zero z = []
-residuals_at c page last (suc n) z =
-    let y : ℕ = value_or_0 (residual_of page last (value_at c z)) in
-    y ∷ residuals_at c page (Some y) n (behind_value c z)
-
--- the bits behind the n words that stand at the bits
-unfoldable pub behind_values : Code → ℕ → List Bool → List Bool
-behind_values c zero z = z
-behind_values c (suc n) z = behind_values c n (behind_value c z)

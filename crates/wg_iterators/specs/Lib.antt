@@ -1,13 +1,7 @@
 pub mod Coming
 pub mod Fronts
 pub mod Ahead
-pub mod Apart
 pub mod Least
-pub mod Laid
 pub mod Passing
-pub mod Proper
 pub mod Fields
 pub mod Below
-pub mod Joining
-pub mod Headed
-pub mod Near

@@ -1,15 +1,14 @@
 //! The fields of a record, passed once to find where its three fronts begin.
 ghost use Rattle.std.specs.Prelude.{◌≡◌, ◌<◌, ℕ, List, Option, drop};
 ghost use Rattle.wg_graph.specs.Ascending.{Ascends};
-ghost use Rattle.wg_iterators.specs.Laid.{list_or_none, length_of};
-ghost use Rattle.wg_iterators.specs.Proper.{IsRecord};
+ghost use Rattle.wg_decoder.specs.Proper.Laid.{list_or_none, length_of};
+ghost use Rattle.wg_decoder.specs.Proper.{IsRecord};
 ghost use Rattle.wg_iterators.specs.Fields.{AreFronts};
 
 use crate::passing::{pass_blocks, pass_intervals};
-use crate::residuals::Residuals;
-use crate::value::{Lookahead, value, value_where};
 use wg_bits::Cursor;
 use wg_blocks::Mask;
+use wg_decoder::proper::{Lookahead, Residuals, value, value_where};
 use wg_intervals::IntervalWalk;
 use wg_params::{Code, Params};
 

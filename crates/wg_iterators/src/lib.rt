@@ -24,14 +24,9 @@
 //! ```
 //!
 //! [`find_fronts`] passes the words of a record once, to find where its fronts begin; an iterator is made of them and
-//! of what is below. So the words of blocks and intervals are read twice, and no others. Whoever walks down to the
-//! referenced page first asks [`reference`], which reads the two words at the head of a record.
-//!
-//! [`decode_into`] puts the whole list of a record into a [`Row`](wg_graph::Row) at once, over a lent list, and moves
-//! the cursor over the record. So whoever reads all records in order needs no offsets, and takes no memory while it
-//! reads. [`read_head`] reads the head before, so that the list that is referred to can be found. There are no fronts:
-//! each word is read once, in the order of the record; runs of members are copied while their blocks come, intervals
-//! are joined to them as runs, and then the residuals, from one row to another.
+//! of what is below. So the words of blocks and intervals are read twice, and no others. Words and residuals are read
+//! by the calls of [`wg_decoder::proper`]. Whoever walks down to the referenced page first asks
+//! [`reference`](wg_decoder::proper::reference), which reads the two words at the head of a record.
 //!
 //! **Memory** is that of the values themselves: an iterator holds three cursors, one of them with 64 bits at hand, and
 //! three numbers, no list, and one box for each page below, which the caller makes. No call takes memory.
@@ -46,20 +41,12 @@
 #![tactic(auto)]
 
 mod below;
-mod copying;
-mod decoding;
+mod coming;
 mod fields;
 mod front;
-mod head;
-mod joining;
 mod passing;
-mod residuals;
 mod successors;
-mod value;
 
 pub use below::CHAIN_PAGES;
-pub use decoding::decode_into;
 pub use fields::{Fronts, find_fronts};
-pub use head::{RecordHead, read_head, reference};
-pub use residuals::Residuals;
 pub use successors::Successors;

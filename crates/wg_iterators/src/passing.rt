@@ -4,19 +4,10 @@ ghost use Rattle.wg_params.specs.Codes.{IsCode};
 ghost use Rattle.wg_bits.specs.Bits.{rest};
 ghost use Rattle.wg_graph.specs.Copied.{copied_members};
 ghost use Rattle.wg_blocks.specs.Stored.{blocks_of};
-ghost use Rattle.wg_iterators.specs.Laid.{WordsTo, IntervalsTo};
+ghost use Rattle.wg_decoder.specs.Proper.Laid.{WordsTo, IntervalsTo};
 
-use crate::value::{Lookahead, value};
+use wg_decoder::proper::{Lookahead, block_of, value};
 use wg_params::Code;
-
-// A block's length: the first is stored as it is, later ones less 1.
-#[inline(always)]
-pub(crate) fn block_of(index: u64, stored: u64) -> u64
-    requires { stored < 2 ^ 63 }
-    ensures { result ≡ (if index == 0 then stored else stored + 1) }
-{
-    if index == 0 { stored } else { stored + 1 }
-}
 
 // The number copied, when `left` members past a block change from copied to skipped, or the other way round.
 #[inline(always)]

@@ -3,18 +3,18 @@ ghost use Rattle.std.specs.Prelude.{◌≡◌, ℕ, ◌<◌, List, length, optio
 ghost use Rattle.wg_graph.specs.Ascending.{Ascends};
 ghost use Rattle.wg_intervals.specs.Coming.{Gives};
 ghost use Rattle.wg_iterators.specs.Fronts.{copied_of, IsOfBlocks};
-ghost use Rattle.wg_iterators.specs.Laid.{list_or_none, length_of};
-ghost use Rattle.wg_iterators.specs.Proper.{IsRecord};
+ghost use Rattle.wg_decoder.specs.Proper.Laid.{list_or_none, length_of};
+ghost use Rattle.wg_decoder.specs.Proper.{IsRecord};
 ghost use Rattle.wg_iterators.specs.Below.{depth_on, list_on, list_below, depth_of, listed, IsFresh};
 ghost use Rattle.wg_iterators.specs.Ahead.{ahead, head_of};
 
 use crate::below::{Below, Lent};
 use crate::fields::find_fronts;
 use crate::front::{Front, Head, least};
-use crate::residuals::Residuals;
 use std::marker::Model;
 use wg_bits::Cursor;
 use wg_blocks::Mask;
+use wg_decoder::proper::Residuals;
 use wg_intervals::IntervalWalk;
 use wg_params::Params;
 
@@ -39,9 +39,10 @@ pub struct Successors<'a> {
 
 impl<'a> Model for Successors<'a> {
     ghost use Rattle.std.specs.Prelude.{ℕ, List};
-    ghost use Rattle.wg_iterators.specs.Coming.{Coming, union_of};
+    ghost use Rattle.wg_iterators.specs.Coming.{Coming};
+    ghost use Rattle.wg_graph.specs.Unions.{union_of};
     ghost use Rattle.wg_iterators.specs.Fronts.{copied_of, IsOfBlocks};
-    ghost use Rattle.wg_iterators.specs.Apart.{AreApart};
+    ghost use Rattle.wg_decoder.specs.Proper.Disjoint.{AreApart};
 
     ghost Value = { Coming };
 

@@ -6,7 +6,7 @@ use Rattle.wg_bits.specs.Bits.{Position}
 use Rattle.wg_grammar.specs.SoFar.{value_or_0}
 use Rattle.wg_grammar.specs.Record.{Whole}
 use Rattle.wg_iterators.specs.Coming.{Coming}
-use Rattle.wg_iterators.specs.Proper.{IsRecord}
+use Rattle.wg_decoder.specs.Proper.{IsRecord}
 use Rattle.wg_random.specs.Held.{Held}
 use Rattle.wg_random.specs.Reading.{Reading, known_at, offset_at}
 use Rattle.wg_random.specs.Chain.{StandsOn, below_at, Refers}

@@ -11,8 +11,8 @@ use Rattle.wg_grammar.specs.Record.{Whole, ReadsRecord}
 use Rattle.wg_grammar.specs.Archive.{context_of, Pages}
 use Rattle.wg_grammar.proofs.OneRecord.{record_one}
 use Rattle.wg_grammar.proofs.OneGraph.{record_within}
-use Rattle.wg_iterators.specs.Proper.{IsRecord}
-use Rattle.wg_iterators.proofs.Transfer.{below_of, Judged, judged_of}
+use Rattle.wg_decoder.specs.Proper.{IsRecord}
+use Rattle.wg_decoder.proofs.ProperLemmas.Transfer.{below_of, Judged, judged_of}
 use Rattle.wg_grammar.proofs.Depths.{record_limited}
 use Rattle.wg_random.specs.Reading.{Reading, no_record, known_at, offset_at}
 use Rattle.wg_random.specs.Chain.{below_at, depth_at, Refers}

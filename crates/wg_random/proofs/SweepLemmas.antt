@@ -14,8 +14,8 @@ use Rattle.wg_grammar.specs.SoFar.{value_or_0}
 use Rattle.wg_grammar.specs.Record.{Whole}
 use Rattle.wg_grammar.specs.Archive.{Accepted, ReadsGraph, lists_of}
 use Rattle.wg_grammar.proofs.OneGraph.{graph_one, lists_ascend}
-use Rattle.wg_iterators.specs.Laid.{list_or_none}
-use Rattle.wg_iterators.specs.Proper.{IsRecord}
+use Rattle.wg_decoder.specs.Proper.Laid.{list_or_none}
+use Rattle.wg_decoder.specs.Proper.{IsRecord}
 use Rattle.wg_stream.proofs.PrefixLemmas.{lists_more}
 use Rattle.wg_random.specs.Reading.{Reading, no_record, known_at, offset_at}
 use Rattle.wg_random.specs.Chain.{below_at}

@@ -2,7 +2,7 @@
 use Rattle.std.specs.Prelude.{◌≡◌, ℕ, zero, suc, ◌+◌, ◌-◌, ◌<◌, ◌≤◌, Bool, List, Option, Some, None, length, get_or}
 use Rattle.wg_params.specs.Parameters.{Parameters}
 use Rattle.wg_grammar.specs.Record.{Whole}
-use Rattle.wg_iterators.specs.Proper.{IsRecord}
+use Rattle.wg_decoder.specs.Proper.{IsRecord}
 use Rattle.wg_random.specs.Reading.{known_at, offset_at}
 
 -- The record of page x is proper against the list below.

@@ -2,7 +2,7 @@
 ghost use Rattle.std.specs.Prelude.{◌≡◌, ◌+◌, ◌-◌, ◌<◌, ◌≤◌, ◌++◌, ℕ, [], length, get_or, Some, Ok, Err, IfOk, OnOk, option_copied};
 ghost use Rattle.wg_graph.specs.Ascending.{Ascends};
 ghost use Rattle.wg_grammar.specs.Archive.{Accepted, ReadsGraph};
-ghost use Rattle.wg_iterators.specs.Laid.{list_or_none};
+ghost use Rattle.wg_decoder.specs.Proper.Laid.{list_or_none};
 ghost use Rattle.wg_random.specs.declared.error.ListError.{ListError};
 ghost use Rattle.wg_random.specs.Held.{StandsForGraph};
 ghost use Rattle.wg_random.specs.Reading.{Reading, known_at};

@@ -6,7 +6,7 @@ ghost use Rattle.wg_graph.specs.Digraph.{successors};
 ghost use Rattle.wg_grammar.specs.Record.{Whole};
 ghost use Rattle.wg_grammar.specs.Archive.{Accepted, ReadsGraph};
 ghost use Rattle.wg_grammar.specs.Laws.{graph_of};
-ghost use Rattle.wg_iterators.specs.Laid.{list_or_none};
+ghost use Rattle.wg_decoder.specs.Proper.Laid.{list_or_none};
 ghost use Rattle.wg_random.specs.Reading.{Reading, known_at, offset_at};
 ghost use Rattle.wg_random.specs.Chain.{below_at};
 ghost use Rattle.wg_random.specs.Sweeping.{AreKept, IsBack, IsNext, PassFinds};
@@ -17,8 +17,8 @@ use std::alloc::{AllocError, Global};
 use std::marker::Model;
 use std::mem::swap;
 use wg_bits::{Bits, Cursor};
+use wg_decoder::proper::{decode_into, read_head};
 use wg_graph::{Lists, Row, RowSlice};
-use wg_iterators::{decode_into, read_head};
 use wg_params::Params;
 use wg_stream::PagesError;
 

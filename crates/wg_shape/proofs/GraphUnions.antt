@@ -13,10 +13,10 @@ use Rattle.wg_graph.specs.Growing.{padded}
 use Rattle.wg_graph.proofs.Sets.{below_more}
 use Rattle.wg_graph.proofs.Prefixes.{padded_at, length-padded}
 use Rattle.wg_transpose.proofs.Reversed.{list_ascends, list_below}
-use Rattle.wg_iterators.specs.Coming.{union_of}
+use Rattle.wg_graph.specs.Unions.{union_of}
 use Rattle.wg_shape.specs.Added.{Added}
 use Rattle.wg_shape.specs.Graphs.{IsUnion, both, lists_of, union_graph, UnionSoFar}
-use Rattle.wg_iterators.proofs.Unions.{union_ascends}
+use Rattle.wg_graph.proofs.NumberByNumber.{union_ascends}
 use Rattle.wg_shape.proofs.Unions.{union_below, in_union}
 use Rattle.wg_shape.proofs.Quotients.{same_graph}
 

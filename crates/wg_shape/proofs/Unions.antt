@@ -3,8 +3,8 @@ use Rattle.std.proofs.Common.{◌≡◌, ℕ, suc, ◌<◌, Bool, eqb, ◌||◌,
 use Rattle.std.proofs.lemmas.Bool.{cases_Bool, cases_order, lt-ltb, le-ltb, ne_eqb, eq-eqb}
 use Rattle.wg_graph.specs.Ascending.{Ascends, Below}
 use Rattle.wg_graph.specs.Numbers.{is_in}
-use Rattle.wg_iterators.specs.Coming.{front, with_number, union_of}
-use Rattle.wg_iterators.proofs.Unions.{union_ascends, union_first, union_second}
+use Rattle.wg_graph.specs.Unions.{front, with_number, union_of}
+use Rattle.wg_graph.proofs.NumberByNumber.{union_ascends, union_first, union_second}
 use Rattle.wg_shape.specs.Gives.{Gives}
 
 with_same : (x : ℕ) (ys : List ℕ) → with_number x (x ∷ ys) ≡ x ∷ ys

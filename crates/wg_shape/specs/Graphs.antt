@@ -3,7 +3,7 @@ use Rattle.std.specs.Prelude.{◌≡◌, ℕ, ◌<◌, ◌≤◌, max, ◌||◌,
 use Rattle.std.specs.List.{sum_by, range_with_len}
 use Rattle.wg_graph.specs.Digraph.{Digraph, IsGraph, successors, arc_count}
 use Rattle.wg_graph.specs.Arcs.{has_arc}
-use Rattle.wg_iterators.specs.Coming.{union_of}
+use Rattle.wg_graph.specs.Unions.{union_of}
 
 -- the graph u has as many pages as the larger of the two, and an arc exactly where one of them has it
 pub record IsUnion (g h u : Digraph) : Type 0 where

@@ -5,7 +5,7 @@ use Rattle.wg_graph.specs.Ascending.{Ascends, Below}
 use Rattle.wg_graph.specs.Numbers.{is_in}
 use Rattle.wg_graph.specs.Digraph.{Digraph, IsGraph}
 use Rattle.wg_transpose.specs.Transposed.{transposed}
-use Rattle.wg_iterators.specs.Coming.{union_of}
+use Rattle.wg_graph.specs.Unions.{union_of}
 use Rattle.wg_shape.specs.Graphs.{IsUnion, union_graph}
 use Rattle.wg_shape.specs.Quotient.{IsQuotient, quotient_of}
 

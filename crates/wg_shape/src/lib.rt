@@ -4,7 +4,8 @@
 //! page after page: each list comes number by number, as a [`Coming`] does; [`Merge`] gives the numbers of two, which
 //! are never held side by side; [`add_union`] makes them the successors of a page. [`union_of_lists`] does so for all
 //! pages of two graphs whose lists are lent one by one, wherever they come from, and [`union`] for two graphs in
-//! memory. The successors of a page of an archive come from its bits, by [`Successors`](wg_iterators::Successors).
+//! memory. The successors of a page of an archive come from its bits: `Successors` of `wg_iterators` is a [`Coming`],
+//! too.
 //!
 //! ```text
 //! ListWalk, Successors --\
@@ -54,7 +55,6 @@ mod joining;
 pub mod laws;
 mod merge;
 mod placing;
-mod successors;
 mod uniting;
 
 pub use adding::add_union;

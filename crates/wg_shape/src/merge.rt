@@ -1,6 +1,6 @@
 //! Two ascending lists that are joined number by number.
 ghost use Rattle.std.specs.Prelude.{◌≡◌};
-ghost use Rattle.wg_iterators.specs.Coming.{union_of};
+ghost use Rattle.wg_graph.specs.Unions.{union_of};
 
 use crate::Coming;
 use std::marker::Model;
@@ -19,7 +19,7 @@ pub struct Merge<A: Coming, B: Coming> {
 impl<A: Coming, B: Coming> Model for Merge<A, B> {
     ghost use Rattle.std.specs.Prelude.{List, ℕ};
     ghost use Rattle.wg_graph.specs.Ascending.{Ascends};
-    ghost use Rattle.wg_iterators.specs.Coming.{front, union_of};
+    ghost use Rattle.wg_graph.specs.Unions.{front, union_of};
 
     ghost Value = { List ℕ };
 

@@ -4,10 +4,11 @@ use Rattle.wg_params.specs.Codes.{IsCode}
 use Rattle.wg_bits.specs.Bits.{rest}
 use Rattle.wg_blocks.specs.Stored.{blocks_of}
 use Rattle.wg_intervals.specs.Stored.{numbers_inside}
-use Rattle.wg_iterators.proofs.LaidOut.{laid_of, laid_with}
-use Rattle.wg_iterators.proofs.Counting.{blocks_stand, intervals_stand}
-use Rattle.wg_iterators.proofs.PassLemmas.{takes_from}
-use Rattle.wg_iterators.proofs.Beginning.{outdegree_word, outdegree_read, reference_word, reference_read, count_word, count_read, mask_words, pass_words, blocks_passed, copied_fits, interval_count_word, interval_count_read, walk_words, cover_words, intervals_passed, covered_fits, residual_words, some_source, source_long, copied_front, laid_parts, apart_fronts, union_fronts, blocks_words, intervals_words, residuals_given}
+use Rattle.wg_decoder.proofs.ProperLemmas.LaidOut.{laid_of, laid_with}
+use Rattle.wg_iterators.proofs.FrontLemmas.{blocks_stand, mask_words, blocks_passed, walk_words, cover_words, intervals_passed, covered_fits, residual_words, source_long, copied_front, apart_fronts, union_fronts}
+use Rattle.wg_decoder.proofs.ProperLemmas.Counting.{intervals_stand}
+use Rattle.wg_decoder.proofs.ProperLemmas.Taking.{takes_from}
+use Rattle.wg_decoder.proofs.ProperLemmas.Beginning.{outdegree_word, outdegree_read, reference_word, reference_read, count_word, count_read, pass_words, copied_fits, interval_count_word, interval_count_read, some_source, laid_parts, blocks_words, intervals_words, residuals_given}
 use Rattle.wg_iterators.proofs.fields.find_fronts.Goals as goal
 
 pub value-outdegree-requires-clause-stands : goal.value-outdegree-requires-clause-stands

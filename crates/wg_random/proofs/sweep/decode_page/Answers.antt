@@ -1,6 +1,6 @@
 use Rattle.std.proofs.Common.{◌≡◌, ◌+◌, suc, Bool, List, length, ap, subst, ◌∙◌, arith}
 use Rattle.wg_bits.specs.Bits.{Position}
-use Rattle.wg_iterators.specs.Headed.{IsHead}
+use Rattle.wg_decoder.specs.Proper.Headed.{IsHead}
 use Rattle.wg_random.specs.Reading.{known_at, offset_at}
 use Rattle.wg_random.specs.Chain.{below_at}
 use Rattle.wg_random.proofs.Readings.{offset_within}

@@ -1,4 +1,4 @@
-use Rattle.wg_iterators.proofs.Unions.{union_ascends}
+use Rattle.wg_graph.proofs.NumberByNumber.{union_ascends}
 use Rattle.wg_shape.proofs.Unions.{in_union}
 use Rattle.wg_shape.proofs.GraphUnions.{is_union, one_union, either_way, with_itself}
 use Rattle.wg_shape.proofs.laws.unions.Goals as goal

@@ -1,0 +1,179 @@
+-- Numbers that are joined to ascending members.
+use Rattle.std.proofs.Common.{◌≡◌, ℕ, zero, suc, ◌+◌, ◌<◌, ◌≤◌, true, false, ◌||◌, inl, inr, List, [], ◌∷◌, ◌++◌, length, refl, sym, ap, subst, ◌∙◌, arith}
+use Rattle.std.specs.List.{range_with_len}
+use Rattle.std.proofs.lemmas.Bool.{cases_Bool, cases_lt, cases_eq, lt-ltb, le-ltb, ne_eqb, eq-eqb}
+use Rattle.std.proofs.lemmas.List.{length-append, append_assoc, append-nil}
+use Rattle.wg_graph.specs.Ascending.{Ascends}
+use Rattle.wg_graph.specs.Numbers.{is_in}
+use Rattle.wg_graph.proofs.Sets.{ascends_more, in_below}
+use Rattle.wg_intervals.specs.Stored.{numbers_inside}
+use Rattle.wg_decoder.specs.Proper.Disjoint.{ShareNone}
+use Rattle.wg_graph.specs.Unions.{with_number, union_of}
+use Rattle.wg_decoder.specs.Proper.Joining.{AreJoinable, Joining}
+use Rattle.wg_graph.proofs.NumberByNumber.{union_ascends, union_first, union_second}
+use Rattle.wg_decoder.proofs.ProperLemmas.Disjoint.{share_head, share_tail, head_shared, tail_shared}
+use Rattle.wg_decoder.proofs.ProperLemmas.Counting.{Parts, in_union}
+
+pub all_fit : (row u : List ℕ) (room : ℕ) → length row + length u ≤ room → length (row ++ u) ≤ room
+all_fit row u room le = omega (arith, le, length-append row u)
+
+-- ---- a member that is below all others
+
+pub first_joined : (all row new members others left : List ℕ) (x bound : ℕ) → members ≡ x ∷ left → x < bound → Ascends bound others → new ≡ row ++ x ∷ [] → Joining all row members others → Joining all new left others
+first_joined all row new members others left x bound is lt up more h =
+    let g : Joining all row (x ∷ left) others = subst (λ (l : List ℕ). Joining all row l others) is h in
+    let first : union_of (x ∷ left) others ≡ x ∷ union_of left others = union_first x left others g.joinable.members_ascend.1 (ascends_more (suc x) bound others (omega (arith, lt)) up) in
+    record {
+      joinable = record {
+        members_ascend = ascends_more 0 (suc x) left (omega arith) g.joinable.members_ascend.1;
+        others_ascend = g.joinable.others_ascend;
+        apart = share_tail x left others g.joinable.apart;
+      };
+      list = ap (λ (l : List ℕ). l ++ union_of left others) more ∙ append_assoc row (x ∷ []) (union_of left others) ∙ ap (λ (l : List ℕ). row ++ l) (sym first) ∙ g.list;
+    }
+
+-- there is room for it
+pub first_fits : (all row members others left : List ℕ) (x bound room : ℕ) → members ≡ x ∷ left → x < bound → Ascends bound others → length all ≤ room → Joining all row members others → length row < room
+first_fits all row members others left x bound room is lt up fits h =
+    let g = first_joined all row (row ++ x ∷ []) members others left x bound is lt up refl h in
+    omega (arith, fits, ap (λ (l : List ℕ). length l) g.list, length-append (row ++ x ∷ []) (union_of left others), length-append row (x ∷ []))
+
+-- where the first is not below the bound, none is
+pub none_below : (all row members others left : List ℕ) (x bound : ℕ) → members ≡ x ∷ left → bound ≤ x → Joining all row members others → Ascends bound members
+none_below all row members others left x bound is le h =
+    let g : Joining all row (x ∷ left) others = subst (λ (l : List ℕ). Joining all row l others) is h in
+    subst (Ascends bound) (sym is) (le, g.joinable.members_ascend.1)
+
+pub none_left : (members : List ℕ) (bound : ℕ) → members ≡ [] → Ascends bound members
+none_left members bound is = subst (Ascends bound) (sym is) tt
+
+-- ---- another number, where no member is below it
+
+pub given_number : (all row members coming left : List ℕ) (x : ℕ) → coming ≡ x ∷ left → Joining all row members coming → Joining all row members (x ∷ left)
+given_number all row members coming left x is h = subst (λ (l : List ℕ). Joining all row members l) is h
+
+pub given_up : (all row members left : List ℕ) (x : ℕ) → Joining all row members (x ∷ left) → Ascends x (x ∷ left)
+given_up all row members left x h = (omega arith, h.joinable.others_ascend.1)
+
+above : (y : ℕ) (xs : List ℕ) → is_in y xs ≡ false → Ascends y xs → Ascends (suc y) xs
+above y [] out up = tt
+above y (x ∷ xs) out up =
+    let ne : y ≡ x → ⊥ = λ e. (let there : is_in y (x ∷ xs) ≡ true = rw (eq-eqb y x e) refl in let f : true ≡ false = sym there ∙ out in absurd cc) in
+    (omega (arith, up.0, ne), up.1)
+
+pub record Added (all new members others : List ℕ) (past : ℕ) : Type 0 where
+  pub on : Joining all new members others
+  pub up : Ascends past members
+
+pub number_joined : (all row new members others : List ℕ) (y : ℕ) → Ascends y members → new ≡ row ++ y ∷ [] → Joining all row members (y ∷ others) → Added all new members others (suc y)
+number_joined all row new members others y up more h =
+    let past : Ascends (suc y) members = above y members (head_shared y members others h.joinable.apart) up in
+    let second : union_of members (y ∷ others) ≡ y ∷ union_of members others = union_second y members others past in
+    record {
+      on = record {
+        joinable = record {
+          members_ascend = h.joinable.members_ascend;
+          others_ascend = ascends_more 0 (suc y) others (omega arith) h.joinable.others_ascend.1;
+          apart = tail_shared y members others h.joinable.apart;
+        };
+        list = ap (λ (l : List ℕ). l ++ union_of members others) more ∙ append_assoc row (y ∷ []) (union_of members others) ∙ ap (λ (l : List ℕ). row ++ l) (sym second) ∙ h.list;
+      };
+      up = past;
+    }
+
+pub number_fits : (all row members others : List ℕ) (y room : ℕ) → Ascends y members → length all ≤ room → Joining all row members (y ∷ others) → length row < room
+number_fits all row members others y room up fits h =
+    let g = number_joined all row (row ++ y ∷ []) members others y up refl h in
+    omega (arith, fits, ap (λ (l : List ℕ). length l) g.on.list, length-append (row ++ y ∷ []) (union_of members others), length-append row (y ∷ []))
+
+-- ---- a run of numbers
+
+pub run_joined : (n : ℕ) (all row members others : List ℕ) (l : ℕ) → Ascends l members → Joining all row members (range_with_len l n ++ others) → Added all (row ++ range_with_len l n) members others (l + n)
+run_joined zero all row members others l up h =
+    let same : l ≡ l + 0 = omega arith in
+    record {
+      on = subst (λ (r : List ℕ). Joining all r members others) (sym (append-nil row)) h;
+      up = subst (λ (k : ℕ). Ascends k members) same up;
+    }
+run_joined (suc n) all row members others l up h =
+    let g = number_joined all row (row ++ l ∷ []) members (range_with_len (l + 1) n ++ others) l up refl h in
+    let next : suc l ≡ l + 1 = omega arith in
+    let end : l + 1 + n ≡ l + suc n = omega arith in
+    let r = run_joined n all (row ++ l ∷ []) members others (l + 1) (subst (λ (k : ℕ). Ascends k members) next g.up) g.on in
+    record {
+      on = subst (λ (k : List ℕ). Joining all k members others) (append_assoc row (l ∷ []) (range_with_len (l + 1) n)) r.on;
+      up = subst (λ (k : ℕ). Ascends k members) end r.up;
+    }
+
+pub range_long : (n l : ℕ) → length (range_with_len l n) ≡ n
+range_long zero l = refl
+range_long (suc n) l = ap (λ (k : ℕ). suc k) (range_long n (l + 1))
+
+pub run_fits : (all row members others : List ℕ) (l n room : ℕ) → Ascends l members → length all ≤ room → Joining all row members (range_with_len l n ++ others) → length row + n ≤ room
+run_fits all row members others l n room up fits h =
+    let g = run_joined n all row members others l up h in
+    omega (arith, fits, ap (λ (r : List ℕ). length r) g.on.list, length-append (row ++ range_with_len l n) (union_of members others), length-append row (range_with_len l n), range_long n l)
+
+-- ---- the end
+
+pub union_none : (n : ℕ) (xs : List ℕ) → Ascends n xs → union_of xs [] ≡ xs
+union_none n [] up = refl
+union_none n (x ∷ xs) up = union_first x xs [] up.1 tt ∙ ap (λ (l : List ℕ). x ∷ l) (union_none (suc x) xs up.1)
+
+pub rest_joined : (all row new members others : List ℕ) → others ≡ [] → new ≡ row ++ members → Joining all row members others → new ≡ all
+rest_joined all row new members others none more h =
+    let g : Joining all row members [] = subst (λ (l : List ℕ). Joining all row members l) none h in
+    more ∙ ap (λ (l : List ℕ). row ++ l) (sym (union_none 0 members g.joinable.members_ascend)) ∙ g.list
+
+pub rest_fits : (all row members others : List ℕ) (room : ℕ) → others ≡ [] → length all ≤ room → Joining all row members others → length row + length members ≤ room
+rest_fits all row members others room none fits h =
+    omega (arith, fits, ap (λ (l : List ℕ). length l) (rest_joined all row (row ++ members) members others none refl h), length-append row members)
+
+-- no other number
+pub none_joined : (row others : List ℕ) → others ≡ [] → AreJoinable row others → row ≡ union_of row others
+none_joined row others none h = sym (ap (λ (l : List ℕ). union_of row l) none ∙ union_none 0 row h.members_ascend)
+
+pub no_numbers : (lefts lengths : List ℕ) (count : ℕ) → count ≡ 0 → length lefts ≡ count → numbers_inside lefts lengths ≡ []
+no_numbers [] lengths count none len = refl
+no_numbers (l ∷ ls) lengths count none len = absurd (omega (arith, none, len))
+
+pub no_residuals : (ys : List ℕ) (count : ℕ) → count ≡ 0 → length ys ≡ count → ys ≡ []
+no_residuals [] count none len = refl
+no_residuals (y ∷ ys) count none len = absurd (omega (arith, none, len))
+
+-- ---- how many they are
+
+with_long : (x : ℕ) (ys : List ℕ) → is_in x ys ≡ false → length (with_number x ys) ≡ suc (length ys)
+with_long x [] out = refl
+with_long x (y ∷ ys) out = elim (cases_lt x y) [
+  | inl lt ↦ rw (lt-ltb x y lt) refl
+  | inr ge ↦ elim (cases_eq x y) [
+    | inl e ↦ absurd (let there : is_in x (y ∷ ys) ≡ true = rw (eq-eqb x y e) refl in let f : true ≡ false = sym there ∙ out in cc)
+    | inr ne ↦ rw (le-ltb x y ge, ne_eqb x y ne) (ap (λ (k : ℕ). suc k) (with_long x ys (rw (ne_eqb x y ne) at out)))
+  ]
+]
+
+pub union_long : (n : ℕ) (xs ys : List ℕ) → Ascends n xs → ShareNone xs ys → length (union_of xs ys) ≡ length xs + length ys
+union_long n [] ys up apart = omega arith
+union_long n (x ∷ xs) ys up apart =
+    let out : is_in x (union_of xs ys) ≡ false = rw (in_union x xs ys, in_below (suc x) x xs up.1 (omega arith), share_head x xs ys apart) refl in
+    let more : length (union_of (x ∷ xs) ys) ≡ suc (length (union_of xs ys)) = with_long x (union_of xs ys) out in
+    omega (arith, more, union_long (suc x) xs ys up.1 (share_tail x xs ys apart))
+
+-- ---- the three parts of a list
+
+pub first_two : (xs ys zs list : List ℕ) → Parts xs ys zs list → AreJoinable xs ys
+first_two xs ys zs list h = record { members_ascend = h.apart.copied_ascend; others_ascend = h.apart.inside_ascend; apart = h.apart.copied_inside }
+
+pub with_third : (xs ys zs list : List ℕ) → Parts xs ys zs list → AreJoinable (union_of xs ys) zs
+with_third xs ys zs list h = record {
+  members_ascend = union_ascends 0 xs ys h.apart.copied_ascend h.apart.inside_ascend;
+  others_ascend = h.apart.residuals_ascend;
+  apart = λ y there. elim (cases_Bool (is_in y xs)) [
+    | inl e ↦ h.apart.copied_residuals y e
+    | inr e ↦ h.apart.inside_residuals y (let g : (is_in y xs || is_in y ys) ≡ true = sym (in_union y xs ys) ∙ there in rw e at g)
+  ];
+}
+
+pub joined_long : (xs ys : List ℕ) → AreJoinable xs ys → length (union_of xs ys) ≡ length xs + length ys
+joined_long xs ys h = union_long 0 xs ys h.members_ascend h.apart

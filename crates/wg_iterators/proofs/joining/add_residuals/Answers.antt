@@ -1,6 +1,0 @@
-use Rattle.std.proofs.Common.{arith}
-use Rattle.wg_iterators.proofs.JoinLemmas.{none_joined, no_residuals}
-use Rattle.wg_iterators.proofs.joining.add_residuals.Goals as goal
-
-pub returns-then-count-eq0-clause-list : goal.returns-then-count-eq0-clause-list
-returns-then-count-eq0-clause-list c residuals behind len stand h = none_joined c.args.row.now.list residuals (no_residuals residuals c.args.count (omega arith) len) h

@@ -1,0 +1,16 @@
+//! The successors of a page, as a list whose numbers come one by one.
+ghost use Rattle.std.specs.Prelude.{◌≡◌};
+
+use crate::Successors;
+use wg_shape::Coming;
+
+impl<'a> Coming for Successors<'a> {
+    ghost coming = { λ s. s.list };
+
+    #[inline(always)]
+    fn next(&mut self) -> Option<u64> {
+        // tells proofs that what is to come ascends
+        let _outdegree = self.outdegree();
+        Successors::next(self)
+    }
+}
