@@ -17,8 +17,8 @@ use wg_graph::Graph;
 use wg_io::{Depot, Sink};
 use wg_outcomes::{Ending, Status};
 use wg_params::Layout;
-use wg_random::Sweep;
 use wg_shape::{ShapeError, union_of_lists};
+use wg_stream::Sweep;
 use wg_words::Name;
 
 /// Writes the greedy archive of the union of two archives' graphs, in the layout that is given, and prints the line of

@@ -15,7 +15,7 @@ use Rattle.wg_grammar.proofs.OneGraph.{record_onward}
 use Rattle.wg_offsets.specs.Places.{AgreeInLengths, ArePlaces, last_place, pages_that_differ, record_length}
 use Rattle.wg_offsets.specs.Words.{ReadsOffsets}
 use Rattle.wg_offsets.proofs.PlacesLemmas.{places_within}
-use Rattle.wg_random.proofs.Matching.{read_of}
+use Rattle.wg_stream.proofs.AcceptedRecords.{read_of}
 use Rattle.wg_random.proofs.SpotAgree.{agrees}
 use Rattle.wg_outcomes.specs.Judged.{Judged, accepted, status_of, unless_bad_offsets, unless_some_differ, with_file, with_graph, with_lengths, with_offsets, with_pages, with_parameters, with_records, with_successors, offsets_then}
 use Rattle.wg_outcomes.specs.Readings.{Readings}

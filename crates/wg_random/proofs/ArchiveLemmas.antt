@@ -8,9 +8,11 @@ use Rattle.wg_grammar.specs.Record.{Whole}
 use Rattle.wg_iterators.specs.Coming.{Coming}
 use Rattle.wg_decoder.specs.Proper.{IsRecord}
 use Rattle.wg_random.specs.Held.{Held}
-use Rattle.wg_random.specs.Reading.{Reading, known_at, offset_at}
-use Rattle.wg_random.specs.Chain.{StandsOn, below_at, Refers}
-use Rattle.wg_random.proofs.Readings.{one_reading, offset_is, Found, found_of}
+use Rattle.wg_stream.specs.AllRecords.{Reading, known_at, offset_at}
+use Rattle.wg_stream.specs.References.{StandsOn, below_at, Refers}
+use Rattle.wg_random.proofs.Readings.{one_reading, offset_is}
+use Rattle.wg_stream.proofs.AllRecords.{Found, found_of}
+use Rattle.wg_stream.proofs.SweepLemmas.{ReadsReference}
 
 -- the cursor stands where the record begins, in each reading
 abbrev pub StandsAt : Held → ℕ → Position → Type 0
@@ -36,10 +38,6 @@ pub record_here : (h : Held) (page : ℕ) (c : Position) → page < h.params.nod
 record_here h page c lt q f =
     let g = found_of h.params h.bits q page lt in
     (page, below_at q.records page g.r, (known_at q.records page).list, (found_here h.params h.bits q page c g (f q)).0)
-
--- what the reader of a reference answers
-abbrev pub ReadsReference : Parameters → Position → ℕ → Type 0
-ReadsReference p c result = (page : ℕ) (below : Option (List ℕ)) (list : List ℕ) (h : IsRecord p page below c list) → result ≡ value_or_0 h.whole.reference
 
 pub refers_here : (h : Held) (page : ℕ) (c : Position) (result : ℕ) → page < h.params.nodes → StandsAt h page c → ReadsReference h.params c result → (q : Reading h.params h.bits) → Refers h.params h.bits q.records page result
 refers_here h page c result lt f reads q =

@@ -5,8 +5,9 @@ use Rattle.std.proofs.lemmas.Bool.{cases_lt}
 use Rattle.std.proofs.lemmas.List.{length-set, length-append, get_or-set_same, get_or-set_other, get_or_append_left, get_or-append_right}
 use Rattle.wg_params.specs.Parameters.{Parameters}
 use Rattle.wg_grammar.specs.Record.{Whole}
-use Rattle.wg_random.specs.Reading.{known_at}
-use Rattle.wg_random.specs.Chain.{ArePages, StandsOn, Refers, Link, Going, Ended}
+use Rattle.wg_stream.specs.AllRecords.{known_at}
+use Rattle.wg_random.specs.Chain.{ArePages, Link, Going, Ended}
+use Rattle.wg_stream.specs.References.{StandsOn, Refers}
 
 pub ended_of : (p : Parameters) (bits : List Bool) (ws : List Whole) (chain : List ℕ) (x page depth back : ℕ) → back ≡ 0 → Refers p bits ws page back → Going p bits ws chain x page depth → Ended p bits ws chain x depth
 ended_of p bits ws chain x page depth back none h g =

@@ -2,7 +2,6 @@ pub mod Readings
 pub mod ArchiveLemmas
 pub mod ChainLemmas
 pub mod Matching
-pub mod SweepLemmas
 pub mod SpotLemmas
 pub mod SpotOne
 pub mod SpotSome

@@ -6,10 +6,11 @@ use Rattle.wg_grammar.specs.Archive.{Accepted, ReadsGraph, context_of}
 use Rattle.wg_grammar.specs.Context.{Known, no_page}
 use Rattle.wg_grammar.specs.Record.{Whole, ReadsRecord}
 use Rattle.wg_decoder.specs.Apart.{page_over, HeadStands}
-use Rattle.wg_random.specs.Reading.{no_record, known_at}
+use Rattle.wg_stream.specs.AllRecords.{no_record, known_at}
 use Rattle.wg_decoder.specs.Chains.{endless, start_of, HeadReads, RecordReads, SpotReads}
-use Rattle.wg_random.proofs.Matching.{Read, read_of, list_at}
-use Rattle.wg_random.proofs.Readings.{all_records, earlier, start_at, record_at, earlier_length, start_is, offset_is, behind_get}
+use Rattle.wg_stream.proofs.AcceptedRecords.{Read, read_of, list_at}
+use Rattle.wg_stream.proofs.AllRecords.{all_records, earlier, start_at, record_at, earlier_length, start_is, behind_get}
+use Rattle.wg_random.proofs.Readings.{offset_is}
 use Rattle.wg_random.proofs.SpotMoves.{Apart, apart_of, named_page}
 
 abbrev below_page : List Whole → ℕ → ℕ → Known

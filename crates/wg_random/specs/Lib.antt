@@ -1,10 +1,7 @@
 pub mod Held
-pub mod Reading
 pub mod Chain
 pub mod Answer
 pub mod Checking
-pub mod Sweeping
-pub mod OneStands
 pub mod Unread
 pub mod Spot
 pub mod SpotLaws

@@ -9,8 +9,9 @@ ghost use Rattle.wg_random.specs.declared.error.CheckError.{CheckError};
 ghost use Rattle.wg_random.specs.declared.error.OpenError.{OpenError};
 ghost use Rattle.wg_random.specs.Held.{StandsForGraph};
 ghost use Rattle.wg_random.specs.Checking.{OfArchive, IsLengthFault};
-ghost use Rattle.wg_random.specs.Reading.{Reading, known_at, offset_at};
-ghost use Rattle.wg_random.specs.Chain.{ArePages, StandsOn, Refers, Ended};
+ghost use Rattle.wg_stream.specs.AllRecords.{Reading, known_at, offset_at};
+ghost use Rattle.wg_random.specs.Chain.{ArePages, Ended};
+ghost use Rattle.wg_stream.specs.References.{StandsOn, Refers};
 ghost use Rattle.wg_random.specs.Answer.{all_of, Opens};
 
 use crate::{CheckError, OpenError, Records, Steps};

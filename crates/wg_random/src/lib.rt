@@ -1,4 +1,4 @@
-//! Pages of an archive by their offsets, and all of them in order.
+//! Pages of an archive by their offsets.
 //!
 //! [`Records`] are the bits of a graph file that were checked and stand for one graph, with the offset of each record.
 //! An [`Archive`] is made of them, by their own offsets or by those of an offsets file that agrees. A page is read in
@@ -27,14 +27,8 @@
 //! and answers the list of the page or the first fault. The functions of [`laws`] state that there is one answer, and
 //! that it is the page's list of the graph where the archive is accepted.
 //!
-//! [`Records::sweep`] needs no offsets: a [`Sweep`] goes over all pages in order, as often as one likes, and decodes
-//! each list from the bits again. It takes all its memory when it is made, so that no list can be wanting later.
-//!
-//! ```text
-//! record of page x --decode_into--> row --lent--> list of x        then the row is kept in the place of that of x - W - 1
-//!                                    ^
-//! rows of the W pages before --------+  the list that the record refers to
-//! ```
+//! [`Records::sweep`] needs no offsets: it makes a [`Sweep`](wg_stream::Sweep) over the lists of all pages, for which
+//! the records are not passed over again.
 //!
 //! A graph file of three bytes, checked, and its lists in order and again:
 //!
@@ -57,7 +51,6 @@
 //! | [`Archive::list`] | a number for each page of the chain, and two of its lists | that of the words and the lists of the chain's records |
 //! | [`spot`] | a number for each page of the chain, and at most 6 lists | that of the words and the lists of the chain's records |
 //! | [`Records::sweep`] | a row for each page that a reference reaches, and two | that of the rows |
-//! | a list of a [`Sweep`] | none | that of the words of its record and of the lists that it has and refers to |
 //!
 //! A page that does not exist, a chain that is too long to be opened, and want of memory are answered by [`OpenError`]
 //! and [`ListError`]; there is no other reason, since the archive was checked. Why a file is no archive is told by
@@ -70,11 +63,8 @@ mod chain;
 mod error;
 pub mod laws;
 mod listing;
-mod pass;
 mod records;
-mod standing;
 mod steps;
-mod sweep;
 mod unchecked;
 
 pub use archive::Archive;
@@ -82,4 +72,3 @@ pub use chain::spot;
 pub use error::{CheckError, ListError, OpenError, SpotError};
 pub use records::Records;
 pub use steps::Steps;
-pub use sweep::Sweep;

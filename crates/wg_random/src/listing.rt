@@ -5,8 +5,9 @@ ghost use Rattle.wg_grammar.specs.Archive.{Accepted, ReadsGraph};
 ghost use Rattle.wg_decoder.specs.Proper.Laid.{list_or_none};
 ghost use Rattle.wg_random.specs.declared.error.ListError.{ListError};
 ghost use Rattle.wg_random.specs.Held.{StandsForGraph};
-ghost use Rattle.wg_random.specs.Reading.{Reading, known_at};
-ghost use Rattle.wg_random.specs.Chain.{ArePages, StandsOn, Ended};
+ghost use Rattle.wg_stream.specs.AllRecords.{Reading, known_at};
+ghost use Rattle.wg_random.specs.Chain.{ArePages, Ended};
+ghost use Rattle.wg_stream.specs.References.{StandsOn};
 ghost use Rattle.wg_random.specs.Answer.{Lists};
 
 use crate::{Archive, ListError, Steps};

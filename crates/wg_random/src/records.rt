@@ -8,13 +8,12 @@ ghost use Rattle.wg_offsets.specs.Places.{ArePlaces};
 ghost use Rattle.wg_random.specs.Held.{StandsForGraph};
 ghost use Rattle.wg_random.specs.Checking.{OfArchive};
 
-use crate::pass::pass;
-use crate::{Archive, CheckError, Sweep};
+use crate::{Archive, CheckError};
 use std::alloc::{AllocError, Global};
 use std::marker::Model;
 use wg_offsets::Offsets;
 use wg_params::Params;
-use wg_stream::PagesError;
+use wg_stream::{PagesError, Sweep, pass};
 
 /// The bits of a graph file that stand for one graph, and where their records are.
 ///
@@ -33,7 +32,7 @@ impl<'a> Model for Records<'a> {
     ghost use Rattle.wg_io.specs.declared.limits.TheConstants.{MOST_BYTES};
     ghost use Rattle.wg_bits.specs.Bits.{bits_of};
     ghost use Rattle.wg_random.specs.Held.{Held};
-    ghost use Rattle.wg_random.specs.Sweeping.{PassFinds};
+    ghost use Rattle.wg_stream.specs.Sweeping.{PassFinds};
 
     ghost Value = { Held };
 

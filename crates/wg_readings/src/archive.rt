@@ -21,8 +21,8 @@ use wg_graph::Graph;
 use wg_offsets::{Offsets, OffsetsError};
 use wg_outcomes::{Ending, Input, Status};
 use wg_params::Params;
-use wg_random::{CheckError, Records, Sweep};
-use wg_stream::{PagesError, read_graph};
+use wg_random::{CheckError, Records};
+use wg_stream::{PagesError, Sweep, read_graph};
 
 /// The parameters that a properties text gives.
 pub fn parameters(text: &[u8]) -> Result<Params, Ending>

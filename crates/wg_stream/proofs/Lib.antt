@@ -6,3 +6,6 @@ pub mod FillLemmas
 pub mod TailLemmas
 pub mod FirstErrorLemmas
 pub mod ReadingLemmas
+pub mod AllRecords
+pub mod AcceptedRecords
+pub mod SweepLemmas

@@ -6,3 +6,7 @@ pub mod StepLaws
 pub mod FirstError
 pub mod Reading
 pub mod Lending
+pub mod AllRecords
+pub mod References
+pub mod Sweeping
+pub mod OneStands

@@ -14,6 +14,17 @@
 //!                                              window of the lists before
 //! ```
 //!
+//! A [`Sweep`] goes over the lists of bytes that are known to stand for a graph, in order and as often as one likes,
+//! and decodes each list from the bits again. It takes all its memory when it is made, so that no list can be wanting
+//! later: rows for the pages that a reference reaches, and two. [`pass`] finds how long they have to be, in one pass
+//! over all records.
+//!
+//! ```text
+//! record of page x --decode_into--> row --lent--> list of x        then the row is kept in the place of that of x - W - 1
+//!                                    ^
+//! rows of the W pages before --------+  the list that the record refers to
+//! ```
+//!
 //! A graph file of three bytes, list after list:
 //!
 //! ```rust
@@ -43,17 +54,22 @@ mod filling;
 mod first;
 mod pages;
 mod parts;
+mod passed;
 mod reader;
 mod records;
+mod standing;
 mod state;
 mod stream_error;
 mod stretch;
+mod sweep;
 
 pub use error::PagesError;
 pub use file_source::FileSource;
 pub use first::First;
 pub use pages::Pages;
+pub use passed::{Passed, pass};
 pub use reader::Reader;
 pub use records::read_graph;
 pub use stream_error::StreamError;
 pub use stretch::{MOST_HELD, Stretch};
+pub use sweep::Sweep;

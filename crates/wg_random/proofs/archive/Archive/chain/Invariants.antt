@@ -1,5 +1,5 @@
 use Rattle.std.proofs.Common.{◌≡◌, ◌+◌, ◌-◌, ◌<◌, length}
-use Rattle.wg_random.specs.Reading.{Reading}
+use Rattle.wg_stream.specs.AllRecords.{Reading}
 use Rattle.wg_random.specs.Chain.{ArePages, Going}
 use Rattle.wg_random.proofs.archive.Archive.chain.Given as goal
 

@@ -1,7 +1,7 @@
 use Rattle.std.proofs.Common.{◌≡◌, ◌<◌, length}
 use Rattle.std.specs.Prelude.{get_or}
 use Rattle.wg_graph.specs.Ascending.{Ascends}
-use Rattle.wg_random.specs.Reading.{Reading, known_at}
+use Rattle.wg_stream.specs.AllRecords.{Reading, known_at}
 use Rattle.wg_random.proofs.archive.Archive.climb.Given as goal
 
 abbrev pub invariant-up : goal.invariant-up

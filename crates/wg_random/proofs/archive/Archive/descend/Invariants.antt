@@ -1,6 +1,6 @@
 use Rattle.std.proofs.Common.{◌≡◌, ◌+◌, ◌<◌, ◌≤◌, length}
 use Rattle.wg_iterators.specs.declared.below.TheConstants.{CHAIN_PAGES}
-use Rattle.wg_random.specs.Reading.{Reading}
+use Rattle.wg_stream.specs.AllRecords.{Reading}
 use Rattle.wg_random.specs.Chain.{ArePages, Going}
 use Rattle.wg_random.proofs.archive.Archive.descend.Given as goal
 

@@ -1,8 +1,8 @@
 use Rattle.std.proofs.Common.{subst}
 use Rattle.wg_bits.specs.Bits.{bits_of}
 use Rattle.wg_random.specs.Held.{Held, StandsForGraph}
-use Rattle.wg_random.specs.Reading.{Reading}
-use Rattle.wg_random.proofs.Matching.{read_of}
+use Rattle.wg_stream.specs.AllRecords.{Reading}
+use Rattle.wg_stream.proofs.AcceptedRecords.{read_of}
 use Rattle.wg_random.proofs.archive.Archive.nodes.Goals as goal
 
 pub returns-clause-stands : goal.returns-clause-stands

@@ -1,7 +1,7 @@
 use Rattle.wg_random.proofs.ArchiveLemmas.{same_nodes, stands_back, record_here, refers_back, refers_here}
 use Rattle.wg_bits.specs.Bits.{bits_of}
 use Rattle.wg_random.specs.Held.{Held}
-use Rattle.wg_random.proofs.Matching.{read_of}
+use Rattle.wg_stream.proofs.AcceptedRecords.{read_of}
 use Rattle.wg_random.proofs.archive.Archive.reference.Goals as goal
 
 pub reference-requires : goal.reference-requires

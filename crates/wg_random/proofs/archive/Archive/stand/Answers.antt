@@ -1,7 +1,7 @@
 use Rattle.wg_bits.specs.Bits.{bits_of}
 use Rattle.wg_iterators.specs.Below.{depth_of, listed}
 use Rattle.wg_random.specs.Held.{Held}
-use Rattle.wg_random.proofs.Matching.{read_of}
+use Rattle.wg_stream.proofs.AcceptedRecords.{read_of}
 use Rattle.wg_random.proofs.ArchiveLemmas.{proper_back, whole_back, fresh_back, depth_back}
 use Rattle.wg_random.proofs.archive.Archive.stand.Goals as goal
 

@@ -3,7 +3,7 @@ use Rattle.std.specs.Prelude.{option_copied}
 use Rattle.wg_bits.specs.Bits.{bits_of}
 use Rattle.wg_iterators.specs.Coming.{Coming}
 use Rattle.wg_random.specs.Held.{Held}
-use Rattle.wg_random.proofs.Matching.{read_of}
+use Rattle.wg_stream.proofs.AcceptedRecords.{read_of}
 use Rattle.wg_random.proofs.ArchiveLemmas.{proper_back, whole_back}
 use Rattle.wg_random.proofs.archive.Archive.stand_on.Goals as goal
 
