@@ -1,7 +1,7 @@
 //! The value of one field, and the page that it means.
-ghost use Rattle.std.specs.Prelude.{◌≡◌, ◌+◌, ◌^◌, ◌<◌, ◌≤◌, Bool, List, Some, IfOk};
+ghost use Rattle.std.specs.Prelude.{◌≡◌, ◌+◌, ◌^◌, ◌<◌, ◌≤◌, Bool, List, None, Some, IfOk};
 ghost use Rattle.wg_params.specs.Codes.{IsCode};
-ghost use Rattle.wg_codes.specs.Fold.{unfolded_from};
+ghost use Rattle.wg_codes.specs.Fold.{number_of_gap};
 ghost use Rattle.wg_decoder.specs.Answer.{OnFault, OnRefusal, WantsNoMemory};
 ghost use Rattle.wg_decoder.specs.Stages.{IsWordAt, IsNoWordAt, IsNumberAt, IsNoNumberAt};
 
@@ -64,9 +64,11 @@ pub fn first_number<S: Source>(
     ensures refused { OnRefusal result (S.caused source.old source.new) }
     ensures below { IfOk result (λ y. y < nodes) }
     ensures ok { (bits : List Bool) → S.reads_from source.old bits
-        → IfOk result (λ y. IsNumberAt code (unfolded_from page) bits (S.offset source.old) y (S.offset source.new)) }
+        → IfOk result (λ y. IsNumberAt code (number_of_gap page None) bits (S.offset source.old) y
+        (S.offset source.new)) }
     ensures fault { (bits : List Bool) → S.reads_from source.old bits
-        → OnFault result (λ e. IsNoNumberAt field code (unfolded_from page) nodes bits (S.offset source.old) page e) }
+        → OnFault result (λ e. IsNoNumberAt field code (number_of_gap page None) nodes bits (S.offset source.old) page
+        e) }
 {
     let at = source.at();
     let value = value(page, field, code, source)?;
@@ -82,28 +84,30 @@ pub fn first_number<S: Source>(
     }
 }
 
-/// The page that the word that comes next means by its distance from `least`.
+/// The page that the word that comes next means by its distance from `before`, less 1.
 #[inline(always)]
 pub fn later_number<S: Source>(
     nodes: u64,
     page: u64,
     field: Field,
     code: Code,
-    least: u64,
+    before: u64,
     source: &mut S,
 ) -> Result<u64, Unread<S::Refusal>>
-    requires { IsCode code }
+    requires code { IsCode code }
+    requires before { before < 2 ^ 63 }
     ensures later { S.later source.old source.new }
     ensures refused { OnRefusal result (S.caused source.old source.new) }
     ensures below { IfOk result (λ y. y < nodes) }
-    ensures above { IfOk result (λ y. least ≤ y) }
+    ensures above { IfOk result (λ y. before < y) }
     ensures ok { (bits : List Bool) → S.reads_from source.old bits
-        → IfOk result (λ y. IsNumberAt code (λ v. Some (least + v)) bits (S.offset source.old) y
+        → IfOk result (λ y. IsNumberAt code (number_of_gap page (Some before)) bits (S.offset source.old) y
         (S.offset source.new)) }
     ensures fault { (bits : List Bool) → S.reads_from source.old bits
-        → OnFault result (λ e. IsNoNumberAt field code (λ v. Some (least + v)) nodes bits (S.offset source.old) page
-        e) }
+        → OnFault result (λ e. IsNoNumberAt field code (number_of_gap page (Some before)) nodes bits
+        (S.offset source.old) page e) }
 {
+    let least = before + 1;
     let at = source.at();
     let value = value(page, field, code, source)?;
     if value >= nodes.saturating_sub(least) {

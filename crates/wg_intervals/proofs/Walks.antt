@@ -7,7 +7,8 @@ use Rattle.wg_codes.specs.Standing.{value_at, behind_value}
 use Rattle.wg_codes.proofs.Standing.{value_is, behind_is}
 use Rattle.wg_intervals.specs.declared.run.Run.{Run}
 use Rattle.wg_intervals.specs.Canonical.{numbers_of}
-use Rattle.wg_intervals.specs.Stored.{left_of, IsInterval, StandAt, IntervalsStandAt, numbers_inside, numbers_at}
+use Rattle.wg_codes.specs.Fold.{number_of_gap}
+use Rattle.wg_intervals.specs.Stored.{IsInterval, StandAt, IntervalsStandAt, numbers_inside, numbers_at}
 
 -- what the reader of an interval answers at these bits, and which it leaves
 abbrev pub Takes : List Bool → List Bool → ℕ → ℕ → Option ℕ → ℕ → ℕ → Type 0
@@ -43,8 +44,8 @@ one_at : (page least : ℕ) (past : Option ℕ) (count l n : ℕ) (bits behind :
 unfolding numbers_at
 one_at page least past count l n bits behind h =
     let between : behind_value Gamma bits ≡ h.between = behind_is Gamma tt h.v bits h.between h.left_word in
-    let left : unwrap_or (left_of page past (value_at Gamma bits)) 0 ≡ l =
-    ap (λ (k : ℕ). unwrap_or (left_of page past k) 0) (value_is Gamma tt h.v bits h.between h.left_word) ∙ ap (λ (o : Option ℕ). unwrap_or o 0) h.left_is in
+    let left : unwrap_or (number_of_gap page past (value_at Gamma bits)) 0 ≡ l =
+    ap (λ (k : ℕ). unwrap_or (number_of_gap page past k) 0) (value_is Gamma tt h.v bits h.between h.left_word) ∙ ap (λ (o : Option ℕ). unwrap_or o 0) h.left_is in
     let long : value_at Gamma h.between + least ≡ n = ap (λ (k : ℕ). k + least) (value_is Gamma tt h.w h.between behind h.length_word) ∙ sym h.length_is in
     let after : behind_value Gamma h.between ≡ behind = behind_is Gamma tt h.w h.between behind h.length_word in
     rw (between, left, long, after) refl

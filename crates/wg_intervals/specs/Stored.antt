@@ -5,12 +5,7 @@ use Rattle.std.specs.Prelude.{◌≡◌, ℕ, zero, suc, ◌+◌, ◌^◌, ◌�
 use Rattle.std.specs.List.{range_with_len}
 use Rattle.wg_params.specs.declared.code.Code.TheVariants.{Gamma}
 use Rattle.wg_codes.specs.Standing.{IsWord, value_at, behind_value}
-use Rattle.wg_codes.specs.Fold.{unfolded_from}
-
--- what a stored left end means, at first and after an interval
-abbrev pub left_of : ℕ → Option ℕ → ℕ → Option ℕ
-left_of page None v = unfolded_from page v
-left_of page (Some past) v = Some (past + 1 + v)
+use Rattle.wg_codes.specs.Fold.{number_of_gap}
 
 -- An interval with this left end and length stands at the bits, with others behind it. Its end is within 2 ^ 62.
 pub record IsInterval (page least : ℕ) (past : Option ℕ) (left len : ℕ) (bits behind : List Bool) : Type 0 where
@@ -19,7 +14,7 @@ pub record IsInterval (page least : ℕ) (past : Option ℕ) (left len : ℕ) (b
   pub between : List Bool
   pub left_word : IsWord Gamma v bits between
   pub length_word : IsWord Gamma w between behind
-  pub left_is : left_of page past v ≡ Some left
+  pub left_is : number_of_gap page past v ≡ Some left
   pub length_is : len ≡ w + least
   pub low : left + len ≤ 2 ^ 62
 
@@ -47,6 +42,6 @@ unfoldable pub numbers_at : ℕ → ℕ → Option ℕ → ℕ → List Bool →
 numbers_at page least past zero bits = []
 numbers_at page least past (suc n) bits =
     let behind_left : List Bool = behind_value Gamma bits in
-    let left : ℕ = unwrap_or (left_of page past (value_at Gamma bits)) 0 in
+    let left : ℕ = unwrap_or (number_of_gap page past (value_at Gamma bits)) 0 in
     let len : ℕ = value_at Gamma behind_left + least in
     range_with_len left len ++ numbers_at page least (Some (left + len)) n (behind_value Gamma behind_left)

@@ -1,13 +1,13 @@
 //! One interval, as it is stored.
-ghost use Rattle.std.specs.Prelude.{◌≡◌, ℕ, ◌+◌, ◌≤◌, ◌^◌, List, Bool, Some};
+ghost use Rattle.std.specs.Prelude.{◌≡◌, ℕ, ◌+◌, ◌≤◌, ◌^◌, List, Bool};
 ghost use Rattle.wg_params.specs.declared.code.Code.TheVariants.{Gamma};
 ghost use Rattle.wg_bits.specs.Bits.{rest};
 ghost use Rattle.wg_codes.specs.Standing.{IsWord};
-ghost use Rattle.wg_intervals.specs.Stored.{left_of, IsInterval};
+ghost use Rattle.wg_intervals.specs.Stored.{IsInterval};
 
 use crate::Run;
 use wg_bits::Cursor;
-use wg_codes::{Read, read, unfold_from};
+use wg_codes::{Read, number_of_gap, read};
 use wg_params::Code;
 
 // Reads a value whose word stands at the cursor.
@@ -24,22 +24,6 @@ fn value(cursor: &mut Cursor<'_>) -> u64
     }
 }
 
-// The left end that is stored as this value.
-#[inline(always)]
-fn left_end(page: u64, past: Option<u64>, value: u64) -> u64
-    requires page { page ≤ 2 ^ 62 }
-    requires left { (left : ℕ) × (left ≤ 2 ^ 62) × (left_of page past value ≡ Some left) }
-    ensures { left_of page past value ≡ Some result }
-{
-    match past {
-        Some(past) => past + 1 + value,
-        None => match unfold_from(page, value) {
-            Some(left) => left,
-            None => unreachable!(),
-        },
-    }
-}
-
 // Reads an interval that stands at the cursor.
 #[inline(always)]
 pub(crate) fn interval_at(cursor: &mut Cursor<'_>, page: u64, least: u64, past: Option<u64>) -> Run
@@ -51,7 +35,7 @@ pub(crate) fn interval_at(cursor: &mut Cursor<'_>, page: u64, least: u64, past: 
         → IsInterval page least past left len (rest cursor.old) behind
         → (left ≡ result.left) × (len ≡ result.length) × (behind ≡ rest cursor.new) }
 {
-    let left = left_end(page, past, value(cursor));
+    let left = number_of_gap(page, past, value(cursor));
     let length = value(cursor) + least;
     Run { left, length }
 }

@@ -7,7 +7,7 @@ use Rattle.wg_intervals.specs.Stored.{IsInterval, numbers_inside}
 use Rattle.wg_intervals.proofs.Order.{range_ascends}
 use Rattle.wg_codes.specs.Standing.{IsWord}
 use Rattle.wg_graph.specs.Unions.{union_of}
-use Rattle.wg_decoder.specs.Proper.Remaining.{residual_of}
+use Rattle.wg_codes.specs.Fold.{number_of_gap}
 use Rattle.wg_decoder.specs.Proper.Joining.{AreJoinable, Joining, Covered}
 use Rattle.wg_decoder.specs.Proper.Laid.{IntervalsTo}
 use Rattle.wg_decoder.proofs.ProperLemmas.Taking.{Takes}
@@ -37,9 +37,9 @@ covered_none page least count row members lefts lengths behind z len stand h = r
   on = record { joinable = h; list = refl };
 }
 
-same_means : (page : ℕ) (past : Option ℕ) (l v w : ℕ) → v ≡ w → (least n : ℕ) (z mid : List Bool) (i : IsInterval page least past l n z mid) → i.v ≡ v → residual_of page past w ≡ Some l
-same_means page None l v w is least n z mid i same = ap (residual_of page None) (sym (same ∙ is)) ∙ i.left_is
-same_means page (Some p) l v w is least n z mid i same = ap (residual_of page (Some p)) (sym (same ∙ is)) ∙ i.left_is
+same_means : (page : ℕ) (past : Option ℕ) (l v w : ℕ) → v ≡ w → (least n : ℕ) (z mid : List Bool) (i : IsInterval page least past l n z mid) → i.v ≡ v → number_of_gap page past w ≡ Some l
+same_means page None l v w is least n z mid i same = ap (number_of_gap page None) (sym (same ∙ is)) ∙ i.left_is
+same_means page (Some p) l v w is least n z mid i same = ap (number_of_gap page (Some p)) (sym (same ∙ is)) ∙ i.left_is
 
 -- the next interval, where the words of its two values were read
 pub record Interval (page least count : ℕ) (all : List ℕ) (behind : List Bool) (index : ℕ) (past : Option ℕ) (row members : List ℕ) (z : List Bool) : Type 0 where
@@ -76,12 +76,12 @@ pub first_word : (page least count : ℕ) (all : List ℕ) (behind : List Bool) 
 first_word page least count all behind index past row members z h = (h.interval.v, h.interval.between, h.interval.left_word)
 
 -- what its first value means
-pub first_means : (page least count : ℕ) (all : List ℕ) (behind : List Bool) (index : ℕ) (past : Option ℕ) (row members : List ℕ) (z mid : List Bool) (v : ℕ) → Takes Gamma z mid v → (h : Interval page least count all behind index past row members z) → residual_of page past v ≡ Some h.left
+pub first_means : (page least count : ℕ) (all : List ℕ) (behind : List Bool) (index : ℕ) (past : Option ℕ) (row members : List ℕ) (z mid : List Bool) (v : ℕ) → Takes Gamma z mid v → (h : Interval page least count all behind index past row members z) → number_of_gap page past v ≡ Some h.left
 first_means page least count all behind index past row members z mid v takes h =
     let e = takes h.interval.v h.interval.between h.interval.left_word in
     same_means page past h.left h.interval.v v e.0 least h.len z h.mid h.interval refl
 
-pub left_low : (page least count : ℕ) (all : List ℕ) (behind : List Bool) (index : ℕ) (past : Option ℕ) (row members : List ℕ) (z mid : List Bool) (v : ℕ) → Takes Gamma z mid v → Interval page least count all behind index past row members z → (y : ℕ) × (y ≤ 2 ^ 62) × (residual_of page past v ≡ Some y)
+pub left_low : (page least count : ℕ) (all : List ℕ) (behind : List Bool) (index : ℕ) (past : Option ℕ) (row members : List ℕ) (z mid : List Bool) (v : ℕ) → Takes Gamma z mid v → Interval page least count all behind index past row members z → (y : ℕ) × (y ≤ 2 ^ 62) × (number_of_gap page past v ≡ Some y)
 left_low page least count all behind index past row members z mid v takes h =
     (h.left, omega (arith, h.interval.low), first_means page least count all behind index past row members z mid v takes h)
 
@@ -100,7 +100,7 @@ pub record Taken (page least count : ℕ) (all : List ℕ) (behind : List Bool) 
   pub on : Joining all row members (range_with_len first run ++ numbers_inside lefts lengths)
   pub up : Ascends first (range_with_len first run ++ numbers_inside lefts lengths)
 
-pub interval_taken : (page least count : ℕ) (all : List ℕ) (behind : List Bool) (index : ℕ) (past : Option ℕ) (row members : List ℕ) (z mid new : List Bool) (v w first : ℕ) → Takes Gamma z mid v → Takes Gamma mid new w → residual_of page past v ≡ Some first → Interval page least count all behind index past row members z
+pub interval_taken : (page least count : ℕ) (all : List ℕ) (behind : List Bool) (index : ℕ) (past : Option ℕ) (row members : List ℕ) (z mid new : List Bool) (v w first : ℕ) → Takes Gamma z mid v → Takes Gamma mid new w → number_of_gap page past v ≡ Some first → Interval page least count all behind index past row members z
     → Taken page least count all behind index row members new first (w + least)
 unfolding number_in
 interval_taken page least count all behind index past row members z mid new v w first takes then means h =

@@ -5,14 +5,15 @@ use Rattle.wg_params.specs.Codes.{IsCode}
 use Rattle.wg_grammar.specs.SoFar.{value_or_0}
 use Rattle.wg_codes.specs.Standing.{value_at, behind_value, IsWord}
 use Rattle.wg_codes.proofs.Standing.{value_is, behind_is}
-use Rattle.wg_decoder.specs.Proper.Remaining.{residual_of, residuals_at, behind_values}
+use Rattle.wg_codes.specs.Fold.{number_of_gap}
+use Rattle.wg_decoder.specs.Proper.Remaining.{residuals_at, behind_values}
 use Rattle.wg_decoder.specs.Proper.Laid.{IsResidual, ResidualsTo}
 
 -- the first of them, and the others
 first_at : (c : Code) → IsCode c → (page : ℕ) (last : Option ℕ) (n y : ℕ) (z behind : List Bool) → IsResidual c page last y z behind → residuals_at c page last (suc n) z ≡ y ∷ residuals_at c page (Some y) n behind
 unfolding residuals_at
 first_at c is page last n y z behind r =
-    let own : value_or_0 (residual_of page last (value_at c z)) ≡ y = ap (λ (k : ℕ). value_or_0 (residual_of page last k)) (value_is c is r.v z behind r.word) ∙ ap value_or_0 r.means in
+    let own : value_or_0 (number_of_gap page last (value_at c z)) ≡ y = ap (λ (k : ℕ). value_or_0 (number_of_gap page last k)) (value_is c is r.v z behind r.word) ∙ ap value_or_0 r.means in
     let after : behind_value c z ≡ behind = behind_is c is r.v z behind r.word in
     ap (λ (k : ℕ). k ∷ residuals_at c page (Some k) n (behind_value c z)) own ∙ ap (λ (l : List Bool). y ∷ residuals_at c page (Some y) n l) after
 
@@ -51,28 +52,28 @@ first_word c page last n z some (y ∷ ys, end, len, h) = (h.1.v, h.0, h.1.word)
 abbrev pub Takes : Code → List Bool → List Bool → ℕ → Type 0
 Takes c old new w = (v : ℕ) (behind : List Bool) → IsWord c v old behind → (v ≡ w) × (behind ≡ new)
 
-pub means_page : (c : Code) (page : ℕ) (last : Option ℕ) (n : ℕ) (old new : List Bool) (w : ℕ) → Takes c old new w → 0 < n → Left c page last n old → (y : ℕ) × (y ≤ 2 ^ 62) × (residual_of page last w ≡ Some y)
+pub means_page : (c : Code) (page : ℕ) (last : Option ℕ) (n : ℕ) (old new : List Bool) (w : ℕ) → Takes c old new w → 0 < n → Left c page last n old → (y : ℕ) × (y ≤ 2 ^ 62) × (number_of_gap page last w ≡ Some y)
 means_page c page last n old new w takes some ([], end, len, h) = absurd (omega (arith, some, len))
 means_page c page last n old new w takes some (y ∷ ys, end, len, h) =
-    let e = takes h.1.v h.0 h.1.word in (y, omega (arith, h.1.low), ap (residual_of page last) (sym e.0) ∙ h.1.means)
+    let e = takes h.1.v h.0 h.1.word in (y, omega (arith, h.1.low), ap (number_of_gap page last) (sym e.0) ∙ h.1.means)
 
 number_in : Option ℕ → ℕ
 number_in None = 0
 number_in (Some n) = n
 
-same_number : (c : Code) (page : ℕ) (last : Option ℕ) (y number : ℕ) (old new behind : List Bool) (w : ℕ) → Takes c old new w → residual_of page last w ≡ Some number → IsResidual c page last y old behind → y ≡ number
+same_number : (c : Code) (page : ℕ) (last : Option ℕ) (y number : ℕ) (old new behind : List Bool) (w : ℕ) → Takes c old new w → number_of_gap page last w ≡ Some number → IsResidual c page last y old behind → y ≡ number
 unfolding number_in
 same_number c page last y number old new behind w takes is r =
     let e = takes r.v behind r.word in
-    ap number_in (sym r.means ∙ ap (residual_of page last) e.0 ∙ is)
+    ap number_in (sym r.means ∙ ap (number_of_gap page last) e.0 ∙ is)
 
-pub left_behind : (c : Code) (page : ℕ) (last : Option ℕ) (n : ℕ) (old new : List Bool) (w number : ℕ) → Takes c old new w → 0 < n → residual_of page last w ≡ Some number → Left c page last n old → Left c page (Some number) (n - 1) new
+pub left_behind : (c : Code) (page : ℕ) (last : Option ℕ) (n : ℕ) (old new : List Bool) (w number : ℕ) → Takes c old new w → 0 < n → number_of_gap page last w ≡ Some number → Left c page last n old → Left c page (Some number) (n - 1) new
 left_behind c page last n old new w number takes some is ([], end, len, h) = absurd (omega (arith, some, len))
 left_behind c page last n old new w number takes some is (y ∷ ys, end, len, h) =
     let e = takes h.1.v h.0 h.1.word in
     (ys, end, omega (arith, len), subst (λ (k : ℕ). ResidualsTo c page (Some k) ys new end) (same_number c page last y number old new h.0 w takes is h.1) (subst (λ (l : List Bool). ResidualsTo c page (Some y) ys l end) e.1 h.2))
 
-pub given : (c : Code) → IsCode c → (page : ℕ) (last : Option ℕ) (n : ℕ) (old new : List Bool) (w number : ℕ) → Takes c old new w → 0 < n → residual_of page last w ≡ Some number → Left c page last n old
+pub given : (c : Code) → IsCode c → (page : ℕ) (last : Option ℕ) (n : ℕ) (old new : List Bool) (w number : ℕ) → Takes c old new w → 0 < n → number_of_gap page last w ≡ Some number → Left c page last n old
     → residuals_at c page last n old ≡ number ∷ residuals_at c page (Some number) (n - 1) new
 given c is page last n old new w number takes some is_number ([], end, len, h) = absurd (omega (arith, some, len))
 given c is page last n old new w number takes some is_number (y ∷ ys, end, len, h) =

@@ -14,8 +14,8 @@ use Rattle.wg_grammar.specs.Next.{next}
 use Rattle.wg_grammar.specs.Refusal.{refusal}
 use Rattle.wg_grammar.proofs.Tallies.{last_push}
 use Rattle.wg_graph.proofs.Copies.{sum_push}
-use Rattle.wg_intervals.specs.Stored.{left_of, IsInterval}
-use Rattle.wg_decoder.specs.Proper.Remaining.{residual_of}
+use Rattle.wg_codes.specs.Fold.{number_of_gap}
+use Rattle.wg_intervals.specs.Stored.{IsInterval}
 use Rattle.wg_decoder.specs.Proper.Laid.{ResidualsTo, IntervalsTo}
 use Rattle.wg_decoder.proofs.ProperLemmas.Going.{Leads, step_of, stop_of, end_of, state, copy, Settled, NoCount, Filled, next_length, next_left, next_residual, page_of, one_reason}
 
@@ -30,7 +30,7 @@ last_one_push : (xs : List ℕ) (y : ℕ) → last_one (xs ++ y ∷ []) ≡ Some
 last_one_push [] y = refl
 last_one_push (x ∷ xs) y = ap (λ (k : ℕ). Some k) (last_push (x ∷ xs) y)
 
-own_is : (c : Context) (d : ℕ) (r n : Option ℕ) (bs : List ℕ) (k : Bool) (i : Option ℕ) (ls ns xs : List ℕ) (v : ℕ) → own_residual c (state d r n bs k i ls ns xs) v ≡ residual_of c.page (last_one xs) v
+own_is : (c : Context) (d : ℕ) (r n : Option ℕ) (bs : List ℕ) (k : Bool) (i : Option ℕ) (ls ns xs : List ℕ) (v : ℕ) → own_residual c (state d r n bs k i ls ns xs) v ≡ number_of_gap c.page (last_one xs) v
 own_is c d r n bs k i ls ns [] v = refl
 own_is c d r n bs k i ls ns (x ∷ xs) v = rw (ne_eqb (length (x ∷ xs)) 0 (λ e. omega (arith, e))) refl
 
@@ -74,7 +74,7 @@ past_push : (ls ns : List ℕ) (l n : ℕ) → past_of (ls ++ l ∷ []) (ns ++ n
 past_push [] ns l n = ap (λ (k : ℕ). Some (l + k)) (last_push ns n)
 past_push (x ∷ ls) ns l n = ap (λ (k : ℕ). Some (k + last_of (ns ++ n ∷ []))) (last_push (x ∷ ls) l) ∙ ap (λ (k : ℕ). Some (l + k)) (last_push ns n)
 
-left_is : (c : Context) (d : ℕ) (r n : Option ℕ) (bs : List ℕ) (k : Bool) (i : Option ℕ) (ls ns xs : List ℕ) (v : ℕ) → own_left c (state d r n bs k i ls ns xs) v ≡ left_of c.page (past_of ls ns) v
+left_is : (c : Context) (d : ℕ) (r n : Option ℕ) (bs : List ℕ) (k : Bool) (i : Option ℕ) (ls ns xs : List ℕ) (v : ℕ) → own_left c (state d r n bs k i ls ns xs) v ≡ number_of_gap c.page (past_of ls ns) v
 left_is c d r n bs k i [] ns xs v = refl
 left_is c d r n bs k i (l ∷ ls) ns xs v = rw (ne_eqb (length (l ∷ ls)) 0 (λ e. omega (arith, e))) refl
 

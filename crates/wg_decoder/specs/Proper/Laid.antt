@@ -9,7 +9,7 @@ use Rattle.wg_blocks.specs.Stored.{blocks_of, later_blocks}
 use Rattle.wg_intervals.specs.Stored.{IsInterval}
 use Rattle.wg_grammar.specs.Members.{is_covered}
 use Rattle.wg_codes.specs.Standing.{IsWord}
-use Rattle.wg_decoder.specs.Proper.Remaining.{residual_of}
+use Rattle.wg_codes.specs.Fold.{number_of_gap}
 
 -- if it is there, the word of v stands at the bits, with these behind it; else v is 0 and has no bits
 abbrev pub MaybeWord : Bool → Code → ℕ → List Bool → List Bool → Type 0
@@ -38,7 +38,7 @@ IntervalsTo page least past (l ∷ ls) (n ∷ ns) z behind =
 pub record IsResidual (c : Code) (page : ℕ) (last : Option ℕ) (y : ℕ) (z behind : List Bool) : Type 0 where
   pub v : ℕ
   pub word : IsWord c v z behind
-  pub means : residual_of page last v ≡ Some y
+  pub means : number_of_gap page last v ≡ Some y
   pub low : y < 2 ^ 62
 
 -- these residuals

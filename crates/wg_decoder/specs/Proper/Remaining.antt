@@ -2,14 +2,9 @@
 -- bits.
 use Rattle.std.specs.Prelude.{ℕ, zero, suc, ◌+◌, Bool, List, [], ◌∷◌, Option, Some, None}
 use Rattle.wg_params.specs.declared.code.Code.{Code}
-use Rattle.wg_codes.specs.Fold.{unfolded_from}
+use Rattle.wg_codes.specs.Fold.{number_of_gap}
 use Rattle.wg_codes.specs.Standing.{value_at, behind_value}
 use Rattle.wg_grammar.specs.SoFar.{value_or_0}
-
--- what a stored residual means, at first and after another
-abbrev pub residual_of : ℕ → Option ℕ → ℕ → Option ℕ
-residual_of page None v = unfolded_from page v
-residual_of page (Some last) v = Some (last + 1 + v)
 
 -- the residuals that are still to come, and the bits behind the last of them
 pub record Remaining : Type 0 where
@@ -20,7 +15,7 @@ pub record Remaining : Type 0 where
 unfoldable pub residuals_at : Code → ℕ → Option ℕ → ℕ → List Bool → List ℕ
 residuals_at c page last zero z = []
 residuals_at c page last (suc n) z =
-    let y : ℕ = value_or_0 (residual_of page last (value_at c z)) in
+    let y : ℕ = value_or_0 (number_of_gap page last (value_at c z)) in
     y ∷ residuals_at c page (Some y) n (behind_value c z)
 
 -- the bits behind the n words that stand at the bits

@@ -9,8 +9,9 @@ ghost use Rattle.wg_decoder.specs.Proper.Joining.{AreJoinable, Joining};
 ghost use Rattle.wg_decoder.specs.Proper.Laid.{IntervalsTo, ResidualsTo};
 
 use super::lookahead::{Lookahead, value};
-use super::residuals::{Residuals, page_of};
+use super::residuals::Residuals;
 use std::mem::swap;
+use wg_codes::number_of_gap;
 use wg_graph::{Row, RowSlice};
 use wg_params::Code;
 
@@ -62,7 +63,7 @@ fn join_intervals(
     let mut past = None;
     let mut left = members;
     'intervals: for _index in 0..count {
-        let first = page_of(page, past, value(Code::Gamma, cursor));
+        let first = number_of_gap(page, past, value(Code::Gamma, cursor));
         let run = value(Code::Gamma, cursor) + least;
         left = push_below(left, first, row);
         row.extend_run(first, run);

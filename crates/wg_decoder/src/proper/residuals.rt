@@ -3,12 +3,11 @@ ghost use Rattle.std.specs.Prelude.{◌≡◌, ℕ, ◌^◌, ◌<◌, ◌≤◌,
 ghost use Rattle.wg_params.specs.Codes.{IsCode};
 ghost use Rattle.wg_bits.specs.Bits.{rest};
 ghost use Rattle.wg_intervals.specs.Coming.{Gives};
-ghost use Rattle.wg_decoder.specs.Proper.Remaining.{residual_of};
 ghost use Rattle.wg_decoder.specs.Proper.Laid.{ResidualsTo};
 
 use super::lookahead::{Lookahead, value};
 use std::marker::Model;
-use wg_codes::unfold_from;
+use wg_codes::number_of_gap;
 use wg_params::Code;
 
 /// Gives the residuals of a record, ascending. Contracts see it as the list of those to come, and the bits behind the
@@ -44,22 +43,6 @@ impl<'a> Model for Residuals<'a> {
         × ResidualsTo r.code r.page r.last ys (rest r.cursor) behind) };
 }
 
-// The page that is stored as this value.
-#[inline(always)]
-pub(crate) fn page_of(page: u64, last: Option<u64>, value: u64) -> u64
-    requires page { page < 2 ^ 62 }
-    requires means { (y : ℕ) × (y ≤ 2 ^ 62) × (residual_of page last value ≡ Some y) }
-    ensures { residual_of page last value ≡ Some result }
-{
-    match last {
-        Some(last) => last + 1 + value,
-        None => match unfold_from(page, value) {
-            Some(page) => page,
-            None => unreachable!(),
-        },
-    }
-}
-
 impl<'a> Residuals<'a> {
     /// The residuals that stand at the cursor, so many.
     #[inline(always)]
@@ -91,7 +74,7 @@ impl<'a> Residuals<'a> {
         if self.unread == 0 {
             return None;
         }
-        let number = page_of(self.page, self.last, value(self.code, &mut self.cursor));
+        let number = number_of_gap(self.page, self.last, value(self.code, &mut self.cursor));
         self.last = Some(number);
         self.unread -= 1;
         Some(number)

@@ -14,8 +14,8 @@ value-requires-clause-stands c =
     let i = next_interval c.args.page c.args.least c.args.count all s.2 c.intervals._index c.intervals.past c.intervals.row.list c.intervals.left (rest c.intervals.cursor) (omega arith) (c.intervals.invariant.on s.0 s.1 s.2 s.3 s.4 s.5) in
     first_word c.args.page c.args.least c.args.count all s.2 c.intervals._index c.intervals.past c.intervals.row.list c.intervals.left (rest c.intervals.cursor) i
 
-pub page_of-first-requires-clause-means : goal.page_of-first-requires-clause-means
-page_of-first-requires-clause-means c =
+pub number_of_gap-first-requires-clause-means : goal.number_of_gap-first-requires-clause-means
+number_of_gap-first-requires-clause-means c =
     let s = c.requires.stand in
     let all : List ℕ = c.args.row.now.list ++ union_of c.args.members (numbers_inside s.0 s.1) in
     let i = next_interval c.args.page c.args.least c.args.count all s.2 c.intervals._index c.intervals.past c.intervals.row.list c.intervals.left (rest c.intervals.cursor) (omega arith) (c.intervals.invariant.on s.0 s.1 s.2 s.3 s.4 s.5) in
@@ -33,7 +33,7 @@ overflow_add-run c =
     let s = c.requires.stand in
     let all : List ℕ = c.args.row.now.list ++ union_of c.args.members (numbers_inside s.0 s.1) in
     let i = next_interval c.args.page c.args.least c.args.count all s.2 c.intervals._index c.intervals.past c.intervals.row.list c.intervals.left (rest c.intervals.cursor) (omega arith) (c.intervals.invariant.on s.0 s.1 s.2 s.3 s.4 s.5) in
-    let t = interval_taken c.args.page c.args.least c.args.count all s.2 c.intervals._index c.intervals.past c.intervals.row.list c.intervals.left (rest c.intervals.cursor) (rest c.value.new.cursor) (rest c.value-in-intervals.new.cursor) c.value.result c.value-in-intervals.result c.page_of-first.result c.value.ensures.exact c.value-in-intervals.ensures.exact c.page_of-first.ensures i in
+    let t = interval_taken c.args.page c.args.least c.args.count all s.2 c.intervals._index c.intervals.past c.intervals.row.list c.intervals.left (rest c.intervals.cursor) (rest c.value.new.cursor) (rest c.value-in-intervals.new.cursor) c.value.result c.value-in-intervals.result c.number_of_gap-first.result c.value.ensures.exact c.value-in-intervals.ensures.exact c.number_of_gap-first.ensures i in
     omega (arith, t.low)
 
 pub push_below-left-requires : goal.push_below-left-requires
@@ -41,24 +41,24 @@ push_below-left-requires c =
     let s = c.requires.stand in
     let all : List ℕ = c.args.row.now.list ++ union_of c.args.members (numbers_inside s.0 s.1) in
     let i = next_interval c.args.page c.args.least c.args.count all s.2 c.intervals._index c.intervals.past c.intervals.row.list c.intervals.left (rest c.intervals.cursor) (omega arith) (c.intervals.invariant.on s.0 s.1 s.2 s.3 s.4 s.5) in
-    let t = interval_taken c.args.page c.args.least c.args.count all s.2 c.intervals._index c.intervals.past c.intervals.row.list c.intervals.left (rest c.intervals.cursor) (rest c.value.new.cursor) (rest c.value-in-intervals.new.cursor) c.value.result c.value-in-intervals.result c.page_of-first.result c.value.ensures.exact c.value-in-intervals.ensures.exact c.page_of-first.ensures i in
+    let t = interval_taken c.args.page c.args.least c.args.count all s.2 c.intervals._index c.intervals.past c.intervals.row.list c.intervals.left (rest c.intervals.cursor) (rest c.value.new.cursor) (rest c.value-in-intervals.new.cursor) c.value.result c.value-in-intervals.result c.number_of_gap-first.result c.value.ensures.exact c.value-in-intervals.ensures.exact c.number_of_gap-first.ensures i in
     let fits = all_fit c.args.row.now.list _ c.args.row.now.room s.6 in
-    (all, range_with_len c.page_of-first.result (c.value-in-intervals.result + c.args.least) ++ numbers_inside t.lefts t.lengths, t.on, t.up, omega (arith, fits, c.intervals.invariant.room))
+    (all, range_with_len c.number_of_gap-first.result (c.value-in-intervals.result + c.args.least) ++ numbers_inside t.lefts t.lengths, t.on, t.up, omega (arith, fits, c.intervals.invariant.room))
 
 pub extend_run-requires-clause-room : goal.extend_run-requires-clause-room
 extend_run-requires-clause-room c =
     let s = c.requires.stand in
     let all : List ℕ = c.args.row.now.list ++ union_of c.args.members (numbers_inside s.0 s.1) in
     let i = next_interval c.args.page c.args.least c.args.count all s.2 c.intervals._index c.intervals.past c.intervals.row.list c.intervals.left (rest c.intervals.cursor) (omega arith) (c.intervals.invariant.on s.0 s.1 s.2 s.3 s.4 s.5) in
-    let t = interval_taken c.args.page c.args.least c.args.count all s.2 c.intervals._index c.intervals.past c.intervals.row.list c.intervals.left (rest c.intervals.cursor) (rest c.value.new.cursor) (rest c.value-in-intervals.new.cursor) c.value.result c.value-in-intervals.result c.page_of-first.result c.value.ensures.exact c.value-in-intervals.ensures.exact c.page_of-first.ensures i in
-    omega (arith, c.push_below-left.ensures.room, c.intervals.invariant.room, run_fits all c.push_below-left.new.row.list c.push_below-left.result (numbers_inside t.lefts t.lengths) c.page_of-first.result (c.value-in-intervals.result + c.args.least) c.args.row.now.room c.push_below-left.ensures.ascends (all_fit c.args.row.now.list _ c.args.row.now.room s.6) (c.push_below-left.ensures.joining all _ t.on t.up))
+    let t = interval_taken c.args.page c.args.least c.args.count all s.2 c.intervals._index c.intervals.past c.intervals.row.list c.intervals.left (rest c.intervals.cursor) (rest c.value.new.cursor) (rest c.value-in-intervals.new.cursor) c.value.result c.value-in-intervals.result c.number_of_gap-first.result c.value.ensures.exact c.value-in-intervals.ensures.exact c.number_of_gap-first.ensures i in
+    omega (arith, c.push_below-left.ensures.room, c.intervals.invariant.room, run_fits all c.push_below-left.new.row.list c.push_below-left.result (numbers_inside t.lefts t.lengths) c.number_of_gap-first.result (c.value-in-intervals.result + c.args.least) c.args.row.now.room c.push_below-left.ensures.ascends (all_fit c.args.row.now.list _ c.args.row.now.room s.6) (c.push_below-left.ensures.joining all _ t.on t.up))
 
 pub extend_run-requires-clause-short : goal.extend_run-requires-clause-short
 extend_run-requires-clause-short c =
     let s = c.requires.stand in
     let all : List ℕ = c.args.row.now.list ++ union_of c.args.members (numbers_inside s.0 s.1) in
     let i = next_interval c.args.page c.args.least c.args.count all s.2 c.intervals._index c.intervals.past c.intervals.row.list c.intervals.left (rest c.intervals.cursor) (omega arith) (c.intervals.invariant.on s.0 s.1 s.2 s.3 s.4 s.5) in
-    let t = interval_taken c.args.page c.args.least c.args.count all s.2 c.intervals._index c.intervals.past c.intervals.row.list c.intervals.left (rest c.intervals.cursor) (rest c.value.new.cursor) (rest c.value-in-intervals.new.cursor) c.value.result c.value-in-intervals.result c.page_of-first.result c.value.ensures.exact c.value-in-intervals.ensures.exact c.page_of-first.ensures i in
+    let t = interval_taken c.args.page c.args.least c.args.count all s.2 c.intervals._index c.intervals.past c.intervals.row.list c.intervals.left (rest c.intervals.cursor) (rest c.value.new.cursor) (rest c.value-in-intervals.new.cursor) c.value.result c.value-in-intervals.result c.number_of_gap-first.result c.value.ensures.exact c.value-in-intervals.ensures.exact c.number_of_gap-first.ensures i in
     omega (arith, t.low)
 
 pub overflow_add-past : goal.overflow_add-past
@@ -66,7 +66,7 @@ overflow_add-past c =
     let s = c.requires.stand in
     let all : List ℕ = c.args.row.now.list ++ union_of c.args.members (numbers_inside s.0 s.1) in
     let i = next_interval c.args.page c.args.least c.args.count all s.2 c.intervals._index c.intervals.past c.intervals.row.list c.intervals.left (rest c.intervals.cursor) (omega arith) (c.intervals.invariant.on s.0 s.1 s.2 s.3 s.4 s.5) in
-    let t = interval_taken c.args.page c.args.least c.args.count all s.2 c.intervals._index c.intervals.past c.intervals.row.list c.intervals.left (rest c.intervals.cursor) (rest c.value.new.cursor) (rest c.value-in-intervals.new.cursor) c.value.result c.value-in-intervals.result c.page_of-first.result c.value.ensures.exact c.value-in-intervals.ensures.exact c.page_of-first.ensures i in
+    let t = interval_taken c.args.page c.args.least c.args.count all s.2 c.intervals._index c.intervals.past c.intervals.row.list c.intervals.left (rest c.intervals.cursor) (rest c.value.new.cursor) (rest c.value-in-intervals.new.cursor) c.value.result c.value-in-intervals.result c.number_of_gap-first.result c.value.ensures.exact c.value-in-intervals.ensures.exact c.number_of_gap-first.ensures i in
     omega (arith, t.low)
 
 pub intervals-preserved : goal.intervals-preserved
@@ -74,8 +74,8 @@ intervals-preserved c = record {
   on = λ lefts lengths behind len words h.
       let all : List ℕ = c.args.row.now.list ++ union_of c.args.members (numbers_inside lefts lengths) in
       let i = next_interval c.args.page c.args.least c.args.count all behind c.intervals._index c.intervals.past c.intervals.row.list c.intervals.left (rest c.intervals.cursor) (omega arith) (c.intervals.invariant.on lefts lengths behind len words h) in
-      let t = interval_taken c.args.page c.args.least c.args.count all behind c.intervals._index c.intervals.past c.intervals.row.list c.intervals.left (rest c.intervals.cursor) (rest c.value.new.cursor) (rest c.value-in-intervals.new.cursor) c.value.result c.value-in-intervals.result c.page_of-first.result c.value.ensures.exact c.value-in-intervals.ensures.exact c.page_of-first.ensures i in
-      covered_more c.args.page c.args.least c.args.count all behind c.intervals._index c.intervals.row.list c.intervals.left c.push_below-left.new.row.list c.push_below-left.result c.extend_run.new.self.list (rest c.value-in-intervals.new.cursor) c.page_of-first.result (c.value-in-intervals.result + c.args.least) (λ others. c.push_below-left.ensures.joining all others) c.push_below-left.ensures.ascends c.extend_run.ensures.list t;
+      let t = interval_taken c.args.page c.args.least c.args.count all behind c.intervals._index c.intervals.past c.intervals.row.list c.intervals.left (rest c.intervals.cursor) (rest c.value.new.cursor) (rest c.value-in-intervals.new.cursor) c.value.result c.value-in-intervals.result c.number_of_gap-first.result c.value.ensures.exact c.value-in-intervals.ensures.exact c.number_of_gap-first.ensures i in
+      covered_more c.args.page c.args.least c.args.count all behind c.intervals._index c.intervals.row.list c.intervals.left c.push_below-left.new.row.list c.push_below-left.result c.extend_run.new.self.list (rest c.value-in-intervals.new.cursor) c.number_of_gap-first.result (c.value-in-intervals.result + c.args.least) (λ others. c.push_below-left.ensures.joining all others) c.push_below-left.ensures.ascends c.extend_run.ensures.list t;
   room = c.extend_run.ensures.room ∙ c.push_below-left.ensures.room ∙ c.intervals.invariant.room;
 }
 

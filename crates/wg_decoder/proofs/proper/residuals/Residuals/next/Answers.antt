@@ -10,14 +10,14 @@ returns-then-self-eq0-clause-gives c =
 pub value-requires-clause-stands : goal.value-requires-clause-stands
 value-requires-clause-stands c = first_word c.self.inside.code c.self.inside.page c.self.inside.last c.self.inside.unread _ (omega arith) c.self.invariant.2
 
-pub page_of-number-requires-clause-means : goal.page_of-number-requires-clause-means
-page_of-number-requires-clause-means c = means_page c.self.inside.code c.self.inside.page c.self.inside.last c.self.inside.unread _ _ c.value.result c.value.ensures.exact (omega arith) c.self.invariant.2
+pub number_of_gap-number-requires-clause-means : goal.number_of_gap-number-requires-clause-means
+number_of_gap-number-requires-clause-means c = means_page c.self.inside.code c.self.inside.page c.self.inside.last c.self.inside.unread _ _ c.value.result c.value.ensures.exact (omega arith) c.self.invariant.2
 
 pub invariant_of-self : goal.invariant_of-self
-invariant_of-self c = (c.self.invariant.0, c.self.invariant.1, left_behind c.self.inside.code c.self.inside.page c.self.inside.last c.self.inside.unread _ _ c.value.result c.page_of-number.result c.value.ensures.exact (omega arith) c.page_of-number.ensures c.self.invariant.2)
+invariant_of-self c = (c.self.invariant.0, c.self.invariant.1, left_behind c.self.inside.code c.self.inside.page c.self.inside.last c.self.inside.unread _ _ c.value.result c.number_of_gap-number.result c.value.ensures.exact (omega arith) c.number_of_gap-number.ensures c.self.invariant.2)
 
 pub returns-clause-gives : goal.returns-clause-gives
-returns-clause-gives c = sym (ap (λ (r : Remaining). r.list) c.self.view_is) ∙ given c.self.inside.code c.self.invariant.0 c.self.inside.page c.self.inside.last c.self.inside.unread _ _ c.value.result c.page_of-number.result c.value.ensures.exact (omega arith) c.page_of-number.ensures c.self.invariant.2
+returns-clause-gives c = sym (ap (λ (r : Remaining). r.list) c.self.view_is) ∙ given c.self.inside.code c.self.invariant.0 c.self.inside.page c.self.inside.last c.self.inside.unread _ _ c.value.result c.number_of_gap-number.result c.value.ensures.exact (omega arith) c.number_of_gap-number.ensures c.self.invariant.2
 
 pub returns-clause-behind : goal.returns-clause-behind
 returns-clause-behind c = sym (behind_same c.self.inside.code c.self.invariant.0 c.self.inside.page c.self.inside.last c.self.inside.unread _ _ c.value.result c.value.ensures.exact (omega arith) c.self.invariant.2) ∙ ap (λ (r : Remaining). r.behind) c.self.view_is
