@@ -1,8 +1,7 @@
 -- Records that are known to be proper.
-pub mod Words
 pub mod Disjoint
-pub mod StandingResiduals
 pub mod Taking
+pub mod StandingResiduals
 pub mod Going
 pub mod Tails
 pub mod Heads

@@ -7,10 +7,10 @@ use Rattle.wg_params.specs.declared.code.Code.{Code}
 use Rattle.wg_params.specs.declared.code.Code.TheVariants.{Gamma}
 use Rattle.wg_graph.specs.Copied.{copied_members, is_copied}
 use Rattle.wg_graph.proofs.Copies.{length-at_positions, sum_cons, sum_push, copied_before, copied_count, copied_front}
-use Rattle.wg_blocks.specs.Stored.{blocks_of}
+use Rattle.wg_blocks.specs.Stored.{blocks_of, blocks_after}
 use Rattle.wg_intervals.specs.Stored.{IsInterval}
 use Rattle.wg_codes.specs.Standing.{IsWord}
-use Rattle.wg_decoder.specs.Proper.Laid.{WordsTo, IntervalsTo, blocks_after}
+use Rattle.wg_decoder.specs.Proper.Laid.{WordsTo, IntervalsTo}
 use Rattle.wg_iterators.specs.Passing.{Passing, Covering}
 use Rattle.wg_decoder.proofs.ProperLemmas.Taking.{Takes, all_copied, parts_on, fits_on, no_blocks}
 

@@ -1,15 +1,15 @@
 -- Members that are copied, block by block.
-use Rattle.std.proofs.Common.{◌≡◌, ℕ, zero, suc, ◌+◌, ◌%◌, ◌<◌, ◌≤◌, Bool, cond, eqb, List, [], ◌∷◌, ◌++◌, length, take, drop, refl, sym, ap, subst, ◌∙◌, arith}
+use Rattle.std.proofs.Common.{◌≡◌, ℕ, suc, ◌+◌, ◌%◌, ◌<◌, ◌≤◌, Bool, cond, eqb, List, [], ◌∷◌, ◌++◌, length, take, drop, refl, sym, ap, subst, ◌∙◌, arith}
 use Rattle.std.specs.Prelude.{sum}
 use Rattle.std.proofs.lemmas.List.{length_push, append_assoc, append-nil}
 use Rattle.wg_params.specs.declared.code.Code.{Code}
 use Rattle.wg_graph.specs.Copied.{is_copied, at_positions, copied_members}
 use Rattle.wg_graph.proofs.Copies.{kept_more, copied_split, sum_push}
-use Rattle.wg_blocks.specs.Stored.{blocks_of}
+use Rattle.wg_blocks.specs.Stored.{blocks_of, blocks_after}
 use Rattle.wg_codes.specs.Standing.{IsWord}
 use Rattle.wg_decoder.specs.Proper.Joining.{Copying}
-use Rattle.wg_decoder.specs.Proper.Laid.{WordsTo, blocks_after}
-use Rattle.wg_decoder.proofs.ProperLemmas.Taking.{Takes, parts_on, fits_on}
+use Rattle.wg_decoder.specs.Proper.Laid.{WordsTo}
+use Rattle.wg_decoder.proofs.ProperLemmas.Taking.{Takes, parts_on, fits_on, no_blocks}
 
 pub copying_none : (code : Code) (count : ℕ) (members values : List ℕ) (behind : List Bool) (old : List ℕ) (z : List Bool) → length values ≡ count → WordsTo code values z behind → Copying code count members values behind old 0 0 old z
 copying_none code count members values behind old z len stand = record {
@@ -77,13 +77,9 @@ all_at : (code : Code) (count : ℕ) (members values : List ℕ) (behind : List 
 all_at code count members values behind old index done row more z blocks (v ∷ vs) all fits more_is len todo parts stand total added = absurd (omega (arith, all, todo))
 all_at code count members values behind old index done row more z blocks [] all fits more_is len todo parts stand total added =
     let rest : List ℕ = cond (eqb (count % 2) 0) (drop done members) [] in
-    let whole : blocks_of values ≡ blocks = parts ∙ ap (λ (l : List ℕ). blocks ++ l) (none_after index) ∙ append-nil blocks in
+    let whole : blocks_of values ≡ blocks = parts ∙ ap (λ (l : List ℕ). blocks ++ l) (no_blocks index) ∙ append-nil blocks in
     let split : copied_members blocks members ≡ at_positions (is_copied blocks) 0 (take done members) ++ rest = rw (len ∙ all) at (copied_split blocks members done (omega (arith, total)) fits) in
     (more_is ∙ ap (λ (l : List ℕ). l ++ rest) added ∙ append_assoc old (at_positions (is_copied blocks) 0 (take done members)) rest ∙ ap (λ (l : List ℕ). old ++ l) (sym split) ∙ ap (λ (bs : List ℕ). old ++ copied_members bs members) (sym whole), stand)
-  where
-    none_after : (i : ℕ) → blocks_after i [] ≡ []
-    none_after zero = refl
-    none_after (suc i) = refl
 
 -- and what lies past the last
 pub all_copied : (code : Code) (count : ℕ) (members values : List ℕ) (behind : List Bool) (old : List ℕ) (index done : ℕ) (row more : List ℕ) (z : List Bool) → index ≡ count → done ≤ length members → more ≡ row ++ cond (eqb (count % 2) 0) (drop done members) []

@@ -1,8 +1,8 @@
 -- Three lists whose numbers together are as many as there are: they share none.
-use Rattle.std.proofs.Common.{◌≡◌, ℕ, zero, suc, ◌+◌, ◌-◌, ◌<◌, ◌≤◌, Bool, true, false, cond, eqb, ltb, leb, ◌&&◌, ◌||◌, inl, inr, List, [], ◌∷◌, ◌++◌, length, Option, Some, None, refl, sym, ap, subst, ◌∙◌, arith}
+use Rattle.std.proofs.Common.{◌≡◌, ℕ, suc, ◌+◌, ◌-◌, ◌<◌, ◌≤◌, Bool, true, false, cond, eqb, ltb, leb, ◌&&◌, ◌||◌, inl, inr, List, [], ◌∷◌, length, Option, Some, None, refl, sym, ap, subst, ◌∙◌, arith}
 use Rattle.std.specs.Prelude.{sum}
 use Rattle.std.specs.List.{range_with_len}
-use Rattle.std.proofs.lemmas.Bool.{cases_Bool, cases_lt, cases_eq, lt-ltb, le-ltb, le-leb, lt-leb, ne_eqb, eq-eqb, eqb-true}
+use Rattle.std.proofs.lemmas.Bool.{cases_Bool, cases_lt, cases_eq, lt-ltb, le-ltb, ne_eqb, eq-eqb, eqb-true}
 use Rattle.std.proofs.lemmas.List.{length-append}
 use Rattle.wg_params.specs.declared.code.Code.{Code}
 use Rattle.wg_graph.specs.Ascending.{Ascends, Below}
@@ -18,6 +18,9 @@ use Rattle.wg_graph.specs.Unions.{with_number, union_of}
 use Rattle.wg_decoder.specs.Proper.Disjoint.{AreApart}
 use Rattle.wg_decoder.specs.Proper.Laid.{IntervalsTo, ResidualsTo}
 use Rattle.wg_graph.proofs.NumberByNumber.{union_ascends}
+use Rattle.wg_grammar.specs.SoFar.{value_or_0}
+use Rattle.wg_decoder.proofs.InsideLists.{in_append, in_range}
+use Rattle.std.proofs.lemmas.List.FromFn.{length-range_with_len}
 
 -- ---- one number less
 
@@ -206,13 +209,8 @@ intervals_stand page least past [] (n ∷ ns) z behind h = absurd h
 intervals_stand page least past (l ∷ ls) [] z behind h = absurd h
 intervals_stand page least past (l ∷ ls) (n ∷ ns) z behind h = (h.0, h.1, intervals_stand page least (Some (l + n)) ls ns h.0 behind h.2)
 
-number_in : Option ℕ → ℕ
-number_in None = 0
-number_in (Some n) = n
-
 later_above : (last v y : ℕ) → Some (last + 1 + v) ≡ Some y → suc last ≤ y
-unfolding number_in
-later_above last v y is = let e : last + 1 + v ≡ y = ap number_in is in omega (arith, e)
+later_above last v y is = let e : last + 1 + v ≡ y = ap value_or_0 is in omega (arith, e)
 
 later_residuals : (c : Code) (page last : ℕ) (ys : List ℕ) (z behind : List Bool) → ResidualsTo c page (Some last) ys z behind → Ascends (suc last) ys
 later_residuals c page last [] z behind h = tt
@@ -226,38 +224,17 @@ pub copied_ascend : (bs list : List ℕ) → Ascends 0 list → Ascends 0 (copie
 unfolding copied_members
 copied_ascend bs list up = ascends-at_positions (is_copied bs) 0 0 list up
 
-in_append : (y : ℕ) (xs ys : List ℕ) → is_in y (xs ++ ys) ≡ (is_in y xs || is_in y ys)
-in_append y [] ys = refl
-in_append y (x ∷ xs) ys = ap (λ (b : Bool). eqb y x || b) (in_append y xs ys) ∙ sym (group_first (eqb y x) (is_in y xs) (is_in y ys))
-
-in_range : (y l n : ℕ) → is_in y (range_with_len l n) ≡ (leb l y && ltb y (l + n))
-in_range y l zero = elim (cases_lt y l) [
-  | inl lt ↦ rw (lt-leb l y lt) refl
-  | inr ge ↦ rw (le-leb l y ge, le-ltb y (l + 0) (omega (arith, ge))) refl
-]
-in_range y l (suc n) = elim (cases_eq y l) [
-  | inl e ↦ rw (eq-eqb y l e, le-leb l y (omega (arith, e)), lt-ltb y (l + suc n) (omega (arith, e))) refl
-  | inr ne ↦ elim (cases_lt y l) [
-    | inl lt ↦ rw (ne_eqb y l ne, lt-leb l y lt) (in_range y (l + 1) n ∙ rw (lt-leb (l + 1) y (omega (arith, lt))) refl)
-    | inr ge ↦ let place : l + 1 + n ≡ l + suc n = omega arith in rw (ne_eqb y l ne, le-leb l y ge) (in_range y (l + 1) n ∙ rw (le-leb (l + 1) y (omega (arith, ge, ne)), place) refl)
-  ]
-]
-
 covered_in : (y : ℕ) (ls ns : List ℕ) → is_covered ls ns y ≡ is_in y (numbers_inside ls ns)
 covered_in y [] ns = refl
 covered_in y (l ∷ ls) [] = refl
 covered_in y (l ∷ ls) (n ∷ ns) = ap (λ (b : Bool). (leb l y && ltb y (l + n)) || b) (covered_in y ls ns) ∙ ap (λ (b : Bool). b || is_in y (numbers_inside ls ns)) (sym (in_range y l n)) ∙ sym (in_append y (range_with_len l n) (numbers_inside ls ns))
-
-length_range : (l n : ℕ) → length (range_with_len l n) ≡ n
-length_range l zero = refl
-length_range l (suc n) = ap (λ (k : ℕ). suc k) (length_range (l + 1) n)
 
 pub inside_count : (page least : ℕ) (past : Option ℕ) (ls ns : List ℕ) (z behind : List Bool) → IntervalsTo page least past ls ns z behind → length (numbers_inside ls ns) ≡ sum ns
 inside_count page least past [] [] z behind h = refl
 inside_count page least past [] (n ∷ ns) z behind h = absurd h
 inside_count page least past (l ∷ ls) [] z behind h = absurd h
 inside_count page least past (l ∷ ls) (n ∷ ns) z behind h =
-    omega (arith, length-append (range_with_len l n) (numbers_inside ls ns), length_range l n, inside_count page least (Some (l + n)) ls ns h.0 behind h.2, sum_cons n ns)
+    omega (arith, length-append (range_with_len l n) (numbers_inside ls ns), length-range_with_len l n, inside_count page least (Some (l + n)) ls ns h.0 behind h.2, sum_cons n ns)
 
 -- the list of the record, and its parts
 pub record Parts (xs ys zs list : List ℕ) : Type 0 where

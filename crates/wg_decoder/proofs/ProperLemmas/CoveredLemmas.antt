@@ -12,14 +12,10 @@ use Rattle.wg_decoder.specs.Proper.Joining.{AreJoinable, Joining, Covered}
 use Rattle.wg_decoder.specs.Proper.Laid.{IntervalsTo}
 use Rattle.wg_decoder.proofs.ProperLemmas.Taking.{Takes}
 use Rattle.wg_decoder.proofs.ProperLemmas.JoinLemmas.{run_joined}
-
-number_in : Option ℕ → ℕ
-number_in None = 0
-number_in (Some n) = n
+use Rattle.wg_grammar.specs.SoFar.{value_or_0}
 
 past_left : (past v l : ℕ) → Some (past + 1 + v) ≡ Some l → past ≤ l
-unfolding number_in
-past_left past v l is = let e : past + 1 + v ≡ l = ap number_in is in omega (arith, e)
+past_left past v l is = let e : past + 1 + v ≡ l = ap value_or_0 is in omega (arith, e)
 
 later_ascend : (page least past : ℕ) (ls ns : List ℕ) (z behind : List Bool) → IntervalsTo page least (Some past) ls ns z behind → Ascends past (numbers_inside ls ns)
 later_ascend page least past [] ns z behind stand = tt
@@ -102,12 +98,11 @@ pub record Taken (page least count : ℕ) (all : List ℕ) (behind : List Bool) 
 
 pub interval_taken : (page least count : ℕ) (all : List ℕ) (behind : List Bool) (index : ℕ) (past : Option ℕ) (row members : List ℕ) (z mid new : List Bool) (v w first : ℕ) → Takes Gamma z mid v → Takes Gamma mid new w → number_of_gap page past v ≡ Some first → Interval page least count all behind index past row members z
     → Taken page least count all behind index row members new first (w + least)
-unfolding number_in
 interval_taken page least count all behind index past row members z mid new v w first takes then means h =
     let e = takes h.interval.v h.interval.between h.interval.left_word in
     let second : IsWord Gamma h.interval.w mid h.mid = subst (λ (y : List Bool). IsWord Gamma h.interval.w y h.mid) e.1 h.interval.length_word in
     let f = then h.interval.w h.mid second in
-    let is_left : h.left ≡ first = ap number_in (sym (first_means page least count all behind index past row members z mid v takes h) ∙ means) in
+    let is_left : h.left ≡ first = ap value_or_0 (sym (first_means page least count all behind index past row members z mid v takes h) ∙ means) in
     let is_len : h.len ≡ w + least = h.interval.length_is ∙ ap (λ (k : ℕ). k + least) f.0 in
     let place : h.left + h.len ≡ first + (w + least) = omega (arith, is_left, is_len) in
     let numbers : range_with_len h.left h.len ++ numbers_inside h.lefts h.lengths ≡ range_with_len first (w + least) ++ numbers_inside h.lefts h.lengths =

@@ -20,9 +20,7 @@ use Rattle.wg_grammar.specs.Refusal.{refusal, is_page}
 use Rattle.wg_grammar.specs.Record.{Stands, Fields}
 use Rattle.wg_graph.specs.Copied.{copied_members}
 use Rattle.wg_codes.specs.Standing.{IsWord}
-
-abbrev pub Leads : Parameters → Context → List Bool → SoFar → ℕ → SoFar → ℕ → Type 0
-Leads p c bits s at t end = (vs : List ℕ) × Fields p c bits s at vs t end
+use Rattle.wg_decoder.specs.Stages.{LeadsTo}
 
 -- a field stands at the bit at, and the record goes on from there
 pub record Step (p : Parameters) (c : Context) (bits : List Bool) (s : SoFar) (at : ℕ) (f : Field) (code : Code) (t : SoFar) (end : ℕ) : Type 0 where
@@ -30,13 +28,13 @@ pub record Step (p : Parameters) (c : Context) (bits : List Bool) (s : SoFar) (a
   pub mid : ℕ
   pub stands : IsWord code v (drop at bits) (drop mid bits)
   pub fine : refusal p c s f v ≡ None
-  pub on : Leads p c bits (after p c s f v) mid t end
+  pub on : LeadsTo p c bits (after p c s f v) mid t end
 
 behind_at : (bits w y : List Bool) (at mid : ℕ) → mid ≡ at + length w → drop at bits ≡ w ++ y → drop mid bits ≡ y
 behind_at bits w y at mid is found =
     ap (λ (k : ℕ). drop k bits) is ∙ sym (drop-drop (length w) at bits) ∙ ap (λ (l : List Bool). drop (length w) l) found ∙ drop_at w y (length w) refl
 
-pub step_of : (p : Parameters) (c : Context) (bits : List Bool) (s : SoFar) (at : ℕ) (f : Field) (code : Code) (t : SoFar) (end : ℕ) → next p c s ≡ need.Read f code → next p c t ≡ need.End → Leads p c bits s at t end → Step p c bits s at f code t end
+pub step_of : (p : Parameters) (c : Context) (bits : List Bool) (s : SoFar) (at : ℕ) (f : Field) (code : Code) (t : SoFar) (end : ℕ) → next p c s ≡ need.Read f code → next p c t ≡ need.End → LeadsTo p c bits s at t end → Step p c bits s at f code t end
 step_of p c bits s at f code t end due ends ([], h) = absurd (let e : need.Read f code ≡ need.End = sym due ∙ ap (next p c) (sym h.0) ∙ ends in cc)
 step_of p c bits s at f code t end due ends (v ∷ vs, h) =
     let x : Stands (need.Read f code) p c bits s at v h.1 h.0 = subst (λ (m : Need). Stands m p c bits s at v h.1 h.0) due h.2 in
@@ -49,19 +47,19 @@ step_of p c bits s at f code t end due ends (v ∷ vs, h) =
     }
 
 -- the check of what is copied
-pub check_of : (p : Parameters) (c : Context) (bits : List Bool) (s : SoFar) (at : ℕ) (t : SoFar) (end : ℕ) → next p c s ≡ need.Check → next p c t ≡ need.End → Leads p c bits s at t end
-    → (refusal p c s field.Copied 0 ≡ None) × Leads p c bits (after p c s field.Copied 0) at t end
+pub check_of : (p : Parameters) (c : Context) (bits : List Bool) (s : SoFar) (at : ℕ) (t : SoFar) (end : ℕ) → next p c s ≡ need.Check → next p c t ≡ need.End → LeadsTo p c bits s at t end
+    → (refusal p c s field.Copied 0 ≡ None) × LeadsTo p c bits (after p c s field.Copied 0) at t end
 check_of p c bits s at t end due ends ([], h) = absurd (let e : need.Check ≡ need.End = sym due ∙ ap (next p c) (sym h.0) ∙ ends in cc)
 check_of p c bits s at t end due ends (v ∷ vs, h) =
     let x : Stands need.Check p c bits s at v h.1 h.0 = subst (λ (m : Need). Stands m p c bits s at v h.1 h.0) due h.2 in
     (ap (refusal p c s field.Copied) (sym x.0) ∙ x.2, (vs, subst (λ (k : ℕ). Fields p c bits (after p c s field.Copied 0) k vs t end) x.1 (subst (λ (u : SoFar). Fields p c bits u h.1 vs t end) (x.3 ∙ ap (after p c s field.Copied) x.0) h.3)))
 
 -- the end
-pub stop_of : (p : Parameters) (c : Context) (bits : List Bool) (s : SoFar) (at : ℕ) (t : SoFar) (end : ℕ) → next p c s ≡ need.End → Leads p c bits s at t end → t ≡ s
+pub stop_of : (p : Parameters) (c : Context) (bits : List Bool) (s : SoFar) (at : ℕ) (t : SoFar) (end : ℕ) → next p c s ≡ need.End → LeadsTo p c bits s at t end → t ≡ s
 stop_of p c bits s at t end due ([], h) = h.0
 stop_of p c bits s at t end due (v ∷ vs, h) = absurd (subst (λ (m : Need). Stands m p c bits s at v h.1 h.0) due h.2)
 
-pub end_of : (p : Parameters) (c : Context) (bits : List Bool) (s : SoFar) (at : ℕ) (t : SoFar) (end : ℕ) → next p c s ≡ need.End → Leads p c bits s at t end → end ≡ at
+pub end_of : (p : Parameters) (c : Context) (bits : List Bool) (s : SoFar) (at : ℕ) (t : SoFar) (end : ℕ) → next p c s ≡ need.End → LeadsTo p c bits s at t end → end ≡ at
 end_of p c bits s at t end due ([], h) = h.1
 end_of p c bits s at t end due (v ∷ vs, h) = absurd (subst (λ (m : Need). Stands m p c bits s at v h.1 h.0) due h.2)
 

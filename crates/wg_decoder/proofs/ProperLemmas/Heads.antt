@@ -14,11 +14,13 @@ use Rattle.wg_grammar.specs.Next.{next}
 use Rattle.wg_grammar.specs.Refusal.{refusal}
 use Rattle.wg_graph.proofs.Copies.{sum_push}
 use Rattle.wg_codes.specs.Standing.{IsWord}
-use Rattle.wg_decoder.specs.Proper.Laid.{MaybeWord, blocks_after, WordsTo, IntervalsTo, ResidualsTo, list_or_none}
+use Rattle.wg_decoder.specs.Proper.Laid.{MaybeWord, WordsTo, IntervalsTo, ResidualsTo, list_or_none}
+use Rattle.wg_blocks.specs.Stored.{blocks_after}
 use Rattle.wg_decoder.specs.Proper.{behind_of}
 use Rattle.wg_decoder.proofs.ProperLemmas.Taking.{block_first, no_blocks}
-use Rattle.wg_decoder.proofs.ProperLemmas.Going.{Leads, step_of, state, copy, HasHead, Settled, NoCount, Filled, next_block, next_interval_count, one_reason}
+use Rattle.wg_decoder.proofs.ProperLemmas.Going.{step_of, state, copy, HasHead, Settled, NoCount, Filled, next_block, next_interval_count, one_reason}
 use Rattle.wg_decoder.proofs.ProperLemmas.Tails.{residuals_go, intervals_go}
+use Rattle.wg_decoder.specs.Stages.{LeadsTo}
 
 -- ---- blocks
 
@@ -28,7 +30,7 @@ pub record Blocks (p : Parameters) (c : Context) (bits : List Bool) (d : ℕ) (r
   pub all : length values ≡ count
   pub stand : WordsTo p.blocks values (drop at bits) (drop mid bits)
   pub within : sum (bs ++ blocks_after (length bs) values) ≤ length (referenced c.behind (value_or_0 r))
-  pub on : Leads p c bits (state d r (Some n) (bs ++ blocks_after (length bs) values) false None [] [] []) mid t end
+  pub on : LeadsTo p c bits (state d r (Some n) (bs ++ blocks_after (length bs) values) false None [] [] []) mid t end
 
 blocks_end : (bs : List ℕ) → bs ++ blocks_after (length bs) [] ≡ bs
 blocks_end bs = ap (λ (l : List ℕ). bs ++ l) (no_blocks (length bs)) ∙ append-nil bs
@@ -42,7 +44,7 @@ blocks_more bs vs v b is =
     ∙ ap (λ (l : List ℕ). bs ++ l) (sym (block_first (length bs) v vs))
 
 pub blocks_go : (count : ℕ) (p : Parameters) (c : Context) (bits : List Bool) (d : ℕ) (r : Option ℕ) (n : ℕ) (bs : List ℕ) (at : ℕ) (t : SoFar) (end : ℕ) → HasHead p d r → ltb 0 (value_or_0 r) ≡ true → next p c t ≡ need.End → length bs + count ≡ n → sum bs ≤ length (referenced c.behind (value_or_0 r))
-    → Leads p c bits (state d r (Some n) bs false None [] [] []) at t end → Blocks p c bits d r n bs at count t end
+    → LeadsTo p c bits (state d r (Some n) bs false None [] [] []) at t end → Blocks p c bits d r n bs at count t end
 unfolding after refusal
 blocks_go zero p c bits d r n bs at t end h refers ends total fits on = record {
   mid = at;
@@ -50,7 +52,7 @@ blocks_go zero p c bits d r n bs at t end h refers ends total fits on = record {
   all = refl;
   stand = refl;
   within = subst (λ (l : List ℕ). sum l ≤ length (referenced c.behind (value_or_0 r))) (sym (blocks_end bs)) fits;
-  on = subst (λ (l : List ℕ). Leads p c bits (state d r (Some n) l false None [] [] []) at t end) (sym (blocks_end bs)) on;
+  on = subst (λ (l : List ℕ). LeadsTo p c bits (state d r (Some n) l false None [] [] []) at t end) (sym (blocks_end bs)) on;
 }
 blocks_go (suc count) p c bits d r n bs at t end h refers ends total fits on =
     let f = step_of p c bits (state d r (Some n) bs false None [] [] []) at field.Block p.blocks t end (next_block p c d r n bs h refers (lt-ltb (length bs) n (omega (arith, total)))) ends on in
@@ -64,7 +66,7 @@ blocks_go (suc count) p c bits d r n bs at t end h refers ends total fits on =
       all = ap (λ (k : ℕ). suc k) g.all;
       stand = (drop f.mid bits, f.stands, g.stand);
       within = subst (λ (l : List ℕ). sum l ≤ length (referenced c.behind (value_or_0 r))) same g.within;
-      on = subst (λ (l : List ℕ). Leads p c bits (state d r (Some n) l false None [] [] []) g.mid t end) same g.on;
+      on = subst (λ (l : List ℕ). LeadsTo p c bits (state d r (Some n) l false None [] [] []) g.mid t end) same g.on;
     }
 
 -- ---- what comes after the blocks
@@ -91,7 +93,7 @@ maybe_false : (b : Bool) (z : List Bool) → b ≡ false → MaybeWord b Gamma 0
 maybe_false true z e = absurd cc
 maybe_false false z e = (refl, refl)
 
-pub tail_of : (p : Parameters) (c : Context) (bits : List Bool) (d : ℕ) (r n : Option ℕ) (bs : List ℕ) (k : Bool) (at : ℕ) (t : SoFar) (end : ℕ) → Settled p d r n bs k → p.nodes ≤ 2 ^ 62 → next p c t ≡ need.End → Leads p c bits (state d r n bs k None [] [] []) at t end → Tail p c bits d r n bs k at t end
+pub tail_of : (p : Parameters) (c : Context) (bits : List Bool) (d : ℕ) (r n : Option ℕ) (bs : List ℕ) (k : Bool) (at : ℕ) (t : SoFar) (end : ℕ) → Settled p d r n bs k → p.nodes ≤ 2 ^ 62 → next p c t ≡ need.End → LeadsTo p c bits (state d r n bs k None [] [] []) at t end → Tail p c bits d r n bs k at t end
 unfolding after
 tail_of p c bits d r n bs k at t end h few ends on =
     elim (cases_Bool (ltb 0 (d - length (copy c r bs)) && ltb 0 p.interval)) [
@@ -167,7 +169,7 @@ pub record Head (p : Parameters) (c : Context) (bits : List Bool) (at : ℕ) (t 
   pub r_is : value_or_0 r ≡ reference
   pub has : eqb d 0 ≡ false → HasHead p d r
   pub none : eqb d 0 ≡ true → r ≡ None
-  pub on : Leads p c bits (state d r None [] false None [] [] []) last t end
+  pub on : LeadsTo p c bits (state d r None [] false None [] [] []) last t end
 
 maybe_there : (b : Bool) (p : Parameters) (v : ℕ) (z y : List Bool) → b ≡ true → IsWord p.references v z y → MaybeWord b p.references v z y
 maybe_there true p v z y e h = h
@@ -185,7 +187,7 @@ reference_due : (p : Parameters) (c : Context) (d : ℕ) → eqb d 0 ≡ false �
 unfolding next
 reference_due p c d some window = rw (some, window) refl
 
-pub head_of : (p : Parameters) (c : Context) (bits : List Bool) (at : ℕ) (t : SoFar) (end : ℕ) → next p c t ≡ need.End → Leads p c bits nothing_yet at t end → Head p c bits at t end
+pub head_of : (p : Parameters) (c : Context) (bits : List Bool) (at : ℕ) (t : SoFar) (end : ℕ) → next p c t ≡ need.End → LeadsTo p c bits nothing_yet at t end → Head p c bits at t end
 unfolding after refusal
 head_of p c bits at t end ends on =
     let f = step_of p c bits nothing_yet at field.Outdegree p.outdegrees t end (first_due p c) ends on in

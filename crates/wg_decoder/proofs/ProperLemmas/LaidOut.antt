@@ -19,8 +19,9 @@ use Rattle.wg_codes.specs.Standing.{IsWord}
 use Rattle.wg_decoder.specs.Proper.Laid.{MaybeWord, WordsTo, list_or_none, Laid}
 use Rattle.wg_decoder.specs.Proper.{unlimited, context_on, IsRecord}
 use Rattle.wg_decoder.proofs.ProperLemmas.Taking.{all_copied}
-use Rattle.wg_decoder.proofs.ProperLemmas.Going.{Leads, step_of, check_of, stop_of, end_of, state, copy, HasHead, Settled, next_block_count, next_check, one_reason}
+use Rattle.wg_decoder.proofs.ProperLemmas.Going.{step_of, check_of, stop_of, end_of, state, copy, HasHead, Settled, next_block_count, next_check, one_reason}
 use Rattle.wg_decoder.proofs.ProperLemmas.Heads.{blocks_go, Tail, tail_of, source_is, Head, head_of}
+use Rattle.wg_decoder.specs.Stages.{LeadsTo}
 
 yes_word : (b : Bool) (code : Code) (v : ℕ) (z y : List Bool) → b ≡ true → IsWord code v z y → MaybeWord b code v z y
 yes_word true code v z y e h = h
@@ -57,7 +58,7 @@ unfolding next
 ends_empty p c d r empty = rw empty refl
 
 middle_empty : (p : Parameters) (page : ℕ) (below : Option (List ℕ)) (bits : List Bool) (d : ℕ) (r : Option ℕ) (last : ℕ) (t : SoFar) (end : ℕ) → eqb d 0 ≡ true → r ≡ None → ltb 0 (value_or_0 t.reference) ≡ is_some below
-    → Leads (unlimited p) (context_on p page below) bits (state d r None [] false None [] [] []) last t end → Middle p page below bits d r last t end
+    → LeadsTo (unlimited p) (context_on p page below) bits (state d r None [] false None [] [] []) last t end → Middle p page below bits d r last t end
 middle_empty p page below bits d r last t end empty none refers on =
     let zero_d : d ≡ 0 = eqb-true d 0 empty in
     let whole : t ≡ state d r None [] false None [] [] [] = stop_of (unlimited p) (context_on p page below) bits (state d r None [] false None [] [] []) last t end (ends_empty (unlimited p) (context_on p page below) d r empty) on in
@@ -94,7 +95,7 @@ middle_empty p page below bits d r last t end empty none refers on =
     }
 
 middle_plain : (p : Parameters) (page : ℕ) (below : Option (List ℕ)) (bits : List Bool) (d : ℕ) (r : Option ℕ) (last : ℕ) (t : SoFar) (end : ℕ) → HasHead (unlimited p) d r → ltb 0 (value_or_0 r) ≡ false → p.nodes ≤ 2 ^ 62 → next (unlimited p) (context_on p page below) t ≡ need.End
-    → ltb 0 (value_or_0 t.reference) ≡ is_some below → Leads (unlimited p) (context_on p page below) bits (state d r None [] false None [] [] []) last t end → Middle p page below bits d r last t end
+    → ltb 0 (value_or_0 t.reference) ≡ is_some below → LeadsTo (unlimited p) (context_on p page below) bits (state d r None [] false None [] [] []) last t end → Middle p page below bits d r last t end
 middle_plain p page below bits d r last t end h none few ends refers on =
     let settled : Settled (unlimited p) d r None [] false = record { some = h.some; reference = h.reference; count = rw none refl; blocks = refl; checked = rw none refl } in
     let tail = tail_of (unlimited p) (context_on p page below) bits d r None [] false last t end settled few ends on in
@@ -117,7 +118,7 @@ middle_plain p page below bits d r last t end h none few ends refers on =
     }
 
 middle_referring : (p : Parameters) (page : ℕ) (below : Option (List ℕ)) (bits : List Bool) (d : ℕ) (r : Option ℕ) (last : ℕ) (t : SoFar) (end : ℕ) → HasHead (unlimited p) d r → ltb 0 (value_or_0 r) ≡ true → p.nodes ≤ 2 ^ 62 → next (unlimited p) (context_on p page below) t ≡ need.End
-    → ltb 0 (value_or_0 t.reference) ≡ is_some below → Leads (unlimited p) (context_on p page below) bits (state d r None [] false None [] [] []) last t end → Middle p page below bits d r last t end
+    → ltb 0 (value_or_0 t.reference) ≡ is_some below → LeadsTo (unlimited p) (context_on p page below) bits (state d r None [] false None [] [] []) last t end → Middle p page below bits d r last t end
 unfolding after refusal
 middle_referring p page below bits d r last t end h some few ends refers on =
     let c = context_on p page below in

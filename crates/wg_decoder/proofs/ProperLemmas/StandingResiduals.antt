@@ -1,5 +1,5 @@
 -- The residuals that stand at bits.
-use Rattle.std.proofs.Common.{◌≡◌, ℕ, zero, suc, ◌-◌, ◌^◌, ◌<◌, ◌≤◌, Bool, List, [], ◌∷◌, length, Option, Some, None, refl, sym, ap, subst, ◌∙◌, arith}
+use Rattle.std.proofs.Common.{◌≡◌, ℕ, zero, suc, ◌-◌, ◌^◌, ◌<◌, ◌≤◌, Bool, List, [], ◌∷◌, length, Option, Some, refl, sym, ap, subst, ◌∙◌, arith}
 use Rattle.wg_params.specs.declared.code.Code.{Code}
 use Rattle.wg_params.specs.Codes.{IsCode}
 use Rattle.wg_grammar.specs.SoFar.{value_or_0}
@@ -8,6 +8,7 @@ use Rattle.wg_codes.proofs.Standing.{value_is, behind_is}
 use Rattle.wg_codes.specs.Fold.{number_of_gap}
 use Rattle.wg_decoder.specs.Proper.Remaining.{residuals_at, behind_values}
 use Rattle.wg_decoder.specs.Proper.Laid.{IsResidual, ResidualsTo}
+use Rattle.wg_decoder.proofs.ProperLemmas.Taking.{Takes}
 
 -- the first of them, and the others
 first_at : (c : Code) → IsCode c → (page : ℕ) (last : Option ℕ) (n y : ℕ) (z behind : List Bool) → IsResidual c page last y z behind → residuals_at c page last (suc n) z ≡ y ∷ residuals_at c page (Some y) n behind
@@ -48,24 +49,15 @@ pub first_word : (c : Code) (page : ℕ) (last : Option ℕ) (n : ℕ) (z : List
 first_word c page last n z some ([], end, len, h) = absurd (omega (arith, some, len))
 first_word c page last n z some (y ∷ ys, end, len, h) = (h.1.v, h.0, h.1.word)
 
--- what the reader of a value answers for the word that stands first
-abbrev pub Takes : Code → List Bool → List Bool → ℕ → Type 0
-Takes c old new w = (v : ℕ) (behind : List Bool) → IsWord c v old behind → (v ≡ w) × (behind ≡ new)
-
 pub means_page : (c : Code) (page : ℕ) (last : Option ℕ) (n : ℕ) (old new : List Bool) (w : ℕ) → Takes c old new w → 0 < n → Left c page last n old → (y : ℕ) × (y ≤ 2 ^ 62) × (number_of_gap page last w ≡ Some y)
 means_page c page last n old new w takes some ([], end, len, h) = absurd (omega (arith, some, len))
 means_page c page last n old new w takes some (y ∷ ys, end, len, h) =
     let e = takes h.1.v h.0 h.1.word in (y, omega (arith, h.1.low), ap (number_of_gap page last) (sym e.0) ∙ h.1.means)
 
-number_in : Option ℕ → ℕ
-number_in None = 0
-number_in (Some n) = n
-
 same_number : (c : Code) (page : ℕ) (last : Option ℕ) (y number : ℕ) (old new behind : List Bool) (w : ℕ) → Takes c old new w → number_of_gap page last w ≡ Some number → IsResidual c page last y old behind → y ≡ number
-unfolding number_in
 same_number c page last y number old new behind w takes is r =
     let e = takes r.v behind r.word in
-    ap number_in (sym r.means ∙ ap (number_of_gap page last) e.0 ∙ is)
+    ap value_or_0 (sym r.means ∙ ap (number_of_gap page last) e.0 ∙ is)
 
 pub left_behind : (c : Code) (page : ℕ) (last : Option ℕ) (n : ℕ) (old new : List Bool) (w number : ℕ) → Takes c old new w → 0 < n → number_of_gap page last w ≡ Some number → Left c page last n old → Left c page (Some number) (n - 1) new
 left_behind c page last n old new w number takes some is ([], end, len, h) = absurd (omega (arith, some, len))

@@ -17,7 +17,8 @@ use Rattle.wg_graph.proofs.Copies.{sum_push}
 use Rattle.wg_codes.specs.Fold.{number_of_gap}
 use Rattle.wg_intervals.specs.Stored.{IsInterval}
 use Rattle.wg_decoder.specs.Proper.Laid.{ResidualsTo, IntervalsTo}
-use Rattle.wg_decoder.proofs.ProperLemmas.Going.{Leads, step_of, stop_of, end_of, state, copy, Settled, NoCount, Filled, next_length, next_left, next_residual, page_of, one_reason}
+use Rattle.wg_decoder.proofs.ProperLemmas.Going.{step_of, stop_of, end_of, state, copy, Settled, NoCount, Filled, next_length, next_left, next_residual, page_of, one_reason}
+use Rattle.wg_decoder.specs.Stages.{LeadsTo}
 
 -- ---- residuals
 
@@ -42,7 +43,7 @@ pub record Rest (p : Parameters) (c : Context) (bits : List Bool) (d : ℕ) (r n
   pub whole : t ≡ state d r n bs k i ls ns (xs ++ ys)
 
 pub residuals_go : (count : ℕ) (p : Parameters) (c : Context) (bits : List Bool) (d : ℕ) (r n : Option ℕ) (bs : List ℕ) (k : Bool) (i : Option ℕ) (ls ns xs : List ℕ) (at : ℕ) (t : SoFar) (end : ℕ) → Filled p c d r n bs k i ls ns → p.nodes ≤ 2 ^ 62 → next p c t ≡ need.End
-    → d - length (copy c r bs) - (sum ns + length xs) ≡ count → Leads p c bits (state d r n bs k i ls ns xs) at t end → Rest p c bits d r n bs k i ls ns xs at count t end
+    → d - length (copy c r bs) - (sum ns + length xs) ≡ count → LeadsTo p c bits (state d r n bs k i ls ns xs) at t end → Rest p c bits d r n bs k i ls ns xs at count t end
 unfolding after refusal
 residuals_go zero p c bits d r n bs k i ls ns xs at t end h few ends left on =
     let done : next p c (state d r n bs k i ls ns xs) ≡ need.End = next_residual p c d r n bs k i ls ns xs h false (ap (λ (j : ℕ). ltb 0 j) left) in
@@ -54,7 +55,7 @@ residuals_go (suc count) p c bits d r n bs k i ls ns xs at t end h few ends left
     let y : ℕ = own.0 in
     let same : value_or_0 (own_residual c (state d r n bs k i ls ns xs) f.v) ≡ y = ap value_or_0 own.1 in
     let low : y < p.nodes = ltb-true _ _ own.2 in
-    let on_more : Leads p c bits (state d r n bs k i ls ns (xs ++ y ∷ [])) f.mid t end = subst (λ (j : ℕ). Leads p c bits (state d r n bs k i ls ns (xs ++ j ∷ [])) f.mid t end) same f.on in
+    let on_more : LeadsTo p c bits (state d r n bs k i ls ns (xs ++ y ∷ [])) f.mid t end = subst (λ (j : ℕ). LeadsTo p c bits (state d r n bs k i ls ns (xs ++ j ∷ [])) f.mid t end) same f.on in
     let g = residuals_go count p c bits d r n bs k i ls ns (xs ++ y ∷ []) f.mid t end h few ends (omega (arith, left, length_push xs y)) on_more in
     record {
       ys = y ∷ g.ys;
@@ -95,10 +96,10 @@ pub record Inside (p : Parameters) (c : Context) (bits : List Bool) (d : ℕ) (r
   pub each : length lengths ≡ count
   pub stand : IntervalsTo c.page p.interval (past_of ls ns) lefts lengths (drop at bits) (drop mid bits)
   pub fit : sum (ns ++ lengths) ≤ d - length (copy c r bs)
-  pub on : Leads p c bits (state d r n bs k i (ls ++ lefts) (ns ++ lengths) []) mid t end
+  pub on : LeadsTo p c bits (state d r n bs k i (ls ++ lefts) (ns ++ lengths) []) mid t end
 
 pub intervals_go : (count : ℕ) (p : Parameters) (c : Context) (bits : List Bool) (d : ℕ) (r n : Option ℕ) (bs : List ℕ) (k : Bool) (i : Option ℕ) (ls ns : List ℕ) (at : ℕ) (t : SoFar) (end : ℕ) → Settled p d r n bs k → NoCount p c d r bs i → p.nodes ≤ 2 ^ 62 → next p c t ≡ need.End → 0 < p.interval
-    → length ls ≡ length ns → length ls + count ≡ value_or_0 i → sum ns ≤ d - length (copy c r bs) → Leads p c bits (state d r n bs k i ls ns []) at t end → Inside p c bits d r n bs k i ls ns at count t end
+    → length ls ≡ length ns → length ls + count ≡ value_or_0 i → sum ns ≤ d - length (copy c r bs) → LeadsTo p c bits (state d r n bs k i ls ns []) at t end → Inside p c bits d r n bs k i ls ns at count t end
 unfolding after refusal
 intervals_go zero p c bits d r n bs k i ls ns at t end h no_count few ends some same total fit on = record {
   mid = at;
@@ -108,7 +109,7 @@ intervals_go zero p c bits d r n bs k i ls ns at t end h no_count few ends some 
   each = refl;
   stand = refl;
   fit = subst (λ (l : List ℕ). sum l ≤ d - length (copy c r bs)) (sym (append-nil ns)) fit;
-  on = subst (λ (l : List ℕ). Leads p c bits (state d r n bs k i (ls ++ []) l []) at t end) (sym (append-nil ns)) (subst (λ (l : List ℕ). Leads p c bits (state d r n bs k i l ns []) at t end) (sym (append-nil ls)) on);
+  on = subst (λ (l : List ℕ). LeadsTo p c bits (state d r n bs k i (ls ++ []) l []) at t end) (sym (append-nil ns)) (subst (λ (l : List ℕ). LeadsTo p c bits (state d r n bs k i l ns []) at t end) (sym (append-nil ls)) on);
 }
 intervals_go (suc count) p c bits d r n bs k i ls ns at t end h no_count few ends some same total fit on =
     let left_due : next p c (state d r n bs k i ls ns []) ≡ need.Read field.Left Gamma = next_left p c d r n bs k i ls ns [] h no_count (le-ltb (length ns) (length ls) (omega (arith, same))) (lt-ltb (length ls) (value_or_0 i) (omega (arith, total))) in
@@ -116,7 +117,7 @@ intervals_go (suc count) p c bits d r n bs k i ls ns at t end h no_count few end
     let own = page_of p (own_left c (state d r n bs k i ls ns []) f.v) f.fine in
     let l : ℕ = own.0 in
     let left_same : value_or_0 (own_left c (state d r n bs k i ls ns []) f.v) ≡ l = ap value_or_0 own.1 in
-    let on_left : Leads p c bits (state d r n bs k i (ls ++ l ∷ []) ns []) f.mid t end = subst (λ (j : ℕ). Leads p c bits (state d r n bs k i (ls ++ j ∷ []) ns []) f.mid t end) left_same f.on in
+    let on_left : LeadsTo p c bits (state d r n bs k i (ls ++ l ∷ []) ns []) f.mid t end = subst (λ (j : ℕ). LeadsTo p c bits (state d r n bs k i (ls ++ j ∷ []) ns []) f.mid t end) left_same f.on in
     let length_due : next p c (state d r n bs k i (ls ++ l ∷ []) ns []) ≡ need.Read field.Length Gamma = next_length p c d r n bs k i (ls ++ l ∷ []) ns [] h no_count (lt-ltb (length ns) (length (ls ++ l ∷ [])) (omega (arith, same, length_push ls l))) in
     let g = step_of p c bits (state d r n bs k i (ls ++ l ∷ []) ns []) f.mid field.Length Gamma t end length_due ends on_left in
     let neither = one_reason _ kind.Range g.fine in
@@ -143,5 +144,5 @@ intervals_go (suc count) p c bits d r n bs k i ls ns at t end h no_count few end
       each = ap (λ (j : ℕ). suc j) rests.each;
       stand = (drop g.mid bits, one, subst (λ (o : Option ℕ). IntervalsTo c.page p.interval o rests.lefts rests.lengths (drop g.mid bits) (drop rests.mid bits)) (past_push ls ns l m) rests.stand);
       fit = subst (λ (js : List ℕ). sum js ≤ d - length (copy c r bs)) (append_assoc ns (m ∷ []) rests.lengths) rests.fit;
-      on = subst (λ (js : List ℕ). Leads p c bits (state d r n bs k i (ls ++ l ∷ rests.lefts) js []) rests.mid t end) (append_assoc ns (m ∷ []) rests.lengths) (subst (λ (js : List ℕ). Leads p c bits (state d r n bs k i js ((ns ++ m ∷ []) ++ rests.lengths) []) rests.mid t end) (append_assoc ls (l ∷ []) rests.lefts) rests.on);
+      on = subst (λ (js : List ℕ). LeadsTo p c bits (state d r n bs k i (ls ++ l ∷ rests.lefts) js []) rests.mid t end) (append_assoc ns (m ∷ []) rests.lengths) (subst (λ (js : List ℕ). LeadsTo p c bits (state d r n bs k i js ((ns ++ m ∷ []) ++ rests.lengths) []) rests.mid t end) (append_assoc ls (l ∷ []) rests.lefts) rests.on);
     }

@@ -7,9 +7,8 @@ use Rattle.wg_params.specs.declared.code.Code.{Code}
 use Rattle.wg_bits.specs.Bits.{Position, rest}
 use Rattle.wg_graph.specs.Copied.{copied_members, is_copied}
 use Rattle.wg_graph.proofs.Copies.{at_positions_all, sum_cons}
-use Rattle.wg_blocks.specs.Stored.{blocks_of}
+use Rattle.wg_blocks.specs.Stored.{blocks_of, blocks_after}
 use Rattle.wg_codes.specs.Standing.{IsWord}
-use Rattle.wg_decoder.specs.Proper.Laid.{blocks_after}
 
 -- what the reader of a value answers for the word that stands first
 abbrev pub Takes : Code → List Bool → List Bool → ℕ → Type 0

@@ -3,11 +3,11 @@ use Rattle.std.specs.Prelude.{◌≡◌, ℕ, ◌+◌, Bool, List, ◌++◌, len
 use Rattle.wg_params.specs.declared.code.Code.{Code}
 use Rattle.wg_graph.specs.Ascending.{Ascends}
 use Rattle.wg_graph.specs.Copied.{is_copied, at_positions}
-use Rattle.wg_blocks.specs.Stored.{blocks_of}
+use Rattle.wg_blocks.specs.Stored.{blocks_of, blocks_after}
 use Rattle.wg_intervals.specs.Stored.{numbers_inside}
 use Rattle.wg_decoder.specs.Proper.Disjoint.{ShareNone}
 use Rattle.wg_graph.specs.Unions.{union_of}
-use Rattle.wg_decoder.specs.Proper.Laid.{WordsTo, IntervalsTo, blocks_after}
+use Rattle.wg_decoder.specs.Proper.Laid.{WordsTo, IntervalsTo}
 
 -- both ascend, and they share no number
 pub record AreJoinable (members others : List ℕ) : Type 0 where

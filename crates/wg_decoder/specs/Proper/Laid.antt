@@ -1,11 +1,11 @@
 -- The words of a record, one field after the other, with what stands behind each.
-use Rattle.std.specs.Prelude.{◌≡◌, ℕ, zero, suc, ◌+◌, ◌-◌, ◌^◌, ◌<◌, ◌≤◌, Bool, true, false, ◌&&◌, ◌||◌, nat_lt, List, [], ◌∷◌, length, sum, is_some, Option, Some, None}
+use Rattle.std.specs.Prelude.{◌≡◌, ℕ, ◌+◌, ◌-◌, ◌^◌, ◌<◌, ◌≤◌, Bool, true, false, ◌&&◌, ◌||◌, nat_lt, List, [], ◌∷◌, length, sum, is_some, Option, Some, None}
 use Rattle.wg_params.specs.declared.code.Code.{Code}
 use Rattle.wg_params.specs.declared.code.Code.TheVariants.{Gamma}
 use Rattle.wg_params.specs.Parameters.{Parameters}
 use Rattle.wg_graph.specs.Numbers.{is_in, numbers_where}
 use Rattle.wg_graph.specs.Copied.{copied_members}
-use Rattle.wg_blocks.specs.Stored.{blocks_of, later_blocks}
+use Rattle.wg_blocks.specs.Stored.{blocks_of}
 use Rattle.wg_intervals.specs.Stored.{IsInterval}
 use Rattle.wg_grammar.specs.Members.{is_covered}
 use Rattle.wg_codes.specs.Standing.{IsWord}
@@ -20,11 +20,6 @@ MaybeWord false c v z behind = (v ≡ 0) × (behind ≡ z)
 abbrev pub WordsTo : Code → List ℕ → List Bool → List Bool → Type 0
 WordsTo c [] z behind = behind ≡ z
 WordsTo c (v ∷ vs) z behind = (mid : List Bool) × IsWord c v z mid × WordsTo c vs mid behind
-
--- the blocks that are stored as these values, where so many come before them
-abbrev pub blocks_after : ℕ → List ℕ → List ℕ
-blocks_after zero vs = blocks_of vs
-blocks_after (suc n) vs = later_blocks vs
 
 -- the intervals with these left ends and lengths
 abbrev pub IntervalsTo : ℕ → ℕ → Option ℕ → List ℕ → List ℕ → List Bool → List Bool → Type 0
