@@ -9,3 +9,4 @@ pub mod Listing
 pub mod Numbers
 pub mod Pieces
 pub mod Unions
+pub mod Coming

@@ -3,7 +3,7 @@ ghost use Rattle.std.specs.Prelude.{◌≡◌, ℕ, ◌^◌, ◌≤◌, List, le
 ghost use Rattle.wg_bits.specs.Bits.{rest};
 ghost use Rattle.wg_graph.specs.Ascending.{Ascends};
 ghost use Rattle.wg_intervals.specs.Stored.{StandAt, IntervalsStandAt, numbers_inside};
-ghost use Rattle.wg_intervals.specs.Coming.{Gives};
+ghost use Rattle.wg_graph.specs.Coming.{Gives};
 
 use crate::Run;
 use crate::interval::interval_at;

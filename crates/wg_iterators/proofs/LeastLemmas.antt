@@ -4,7 +4,8 @@ use Rattle.std.proofs.lemmas.Bool.{eq-eqb}
 use Rattle.wg_graph.specs.Ascending.{Ascends}
 use Rattle.wg_graph.specs.Numbers.{is_in}
 use Rattle.wg_graph.proofs.Sets.{ascends_more}
-use Rattle.wg_graph.specs.Unions.{front, union_of}
+use Rattle.wg_graph.specs.Coming.{front}
+use Rattle.wg_graph.specs.Unions.{union_of}
 use Rattle.wg_iterators.specs.declared.front.Front.{Front}
 use Rattle.wg_iterators.specs.declared.front.Head.{Head}
 use Rattle.wg_iterators.specs.Ahead.{ahead, head_of}

@@ -12,7 +12,7 @@ use Rattle.wg_intervals.specs.Stored.{IsInterval}
 use Rattle.wg_codes.specs.Standing.{IsWord}
 use Rattle.wg_decoder.specs.Proper.Laid.{WordsTo, IntervalsTo}
 use Rattle.wg_iterators.specs.Passing.{Passing, Covering}
-use Rattle.wg_decoder.proofs.ProperLemmas.Taking.{Takes, all_copied, parts_on, fits_on, no_blocks}
+use Rattle.wg_decoder.proofs.ProperLemmas.Taking.{Takes, word_at, all_copied, parts_on, fits_on, no_blocks}
 
 -- ---- blocks
 
@@ -125,10 +125,7 @@ pub all_passed : (code : Code) (count source : ℕ) (values : List ℕ) (behind 
 all_passed code count source values behind index left copied z ge h = all_passed_at code count source values behind index copied z h.done h.todo ge h.count_todo h.parts h.stands h.copied_is
 
 pub next_word : (code : Code) (count source : ℕ) (values : List ℕ) (behind : List Bool) (index left copied : ℕ) (z : List Bool) → index < count → Passing code count source values behind index left copied z → (v : ℕ) × (y : List Bool) × IsWord code v z y
-next_word code count source values behind index left copied z lt h = word_at code count behind index z h.todo lt h.count_todo h.stands where
-  word_at : (code : Code) (count : ℕ) (behind : List Bool) (index : ℕ) (z : List Bool) (todo : List ℕ) → index < count → length todo + index ≡ count → WordsTo code todo z behind → (v : ℕ) × (y : List Bool) × IsWord code v z y
-  word_at code count behind index z [] lt more stand = absurd (omega (arith, lt, more))
-  word_at code count behind index z (v ∷ vs) lt more stand = (v, stand.0, stand.1)
+next_word code count source values behind index left copied z lt h = word_at code count behind index z h.todo lt h.count_todo h.stands
 
 -- ---- intervals
 

@@ -1,6 +1,6 @@
 //! What stands below a record: the page that it refers to, or that page's list.
 ghost use Rattle.std.specs.Prelude.{◌≡◌};
-ghost use Rattle.wg_intervals.specs.Coming.{Gives};
+ghost use Rattle.wg_graph.specs.Coming.{Gives};
 ghost use Rattle.wg_iterators.specs.Below.{depth_on, list_on};
 
 use crate::Successors;

@@ -1,7 +1,7 @@
 //! The successors of one page.
 ghost use Rattle.std.specs.Prelude.{◌≡◌, ℕ, ◌<◌, List, length, option_copied};
 ghost use Rattle.wg_graph.specs.Ascending.{Ascends};
-ghost use Rattle.wg_intervals.specs.Coming.{Gives};
+ghost use Rattle.wg_graph.specs.Coming.{Gives};
 ghost use Rattle.wg_iterators.specs.Fronts.{copied_of, IsOfBlocks};
 ghost use Rattle.wg_decoder.specs.Proper.Laid.{list_or_none, length_of};
 ghost use Rattle.wg_decoder.specs.Proper.{IsRecord};

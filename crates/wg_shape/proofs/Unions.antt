@@ -3,9 +3,9 @@ use Rattle.std.proofs.Common.{◌≡◌, ℕ, suc, ◌<◌, Bool, eqb, ◌||◌,
 use Rattle.std.proofs.lemmas.Bool.{cases_Bool, cases_order, lt-ltb, le-ltb, ne_eqb, eq-eqb}
 use Rattle.wg_graph.specs.Ascending.{Ascends, Below}
 use Rattle.wg_graph.specs.Numbers.{is_in}
-use Rattle.wg_graph.specs.Unions.{front, with_number, union_of}
+use Rattle.wg_graph.specs.Coming.{front, Gives}
+use Rattle.wg_graph.specs.Unions.{with_number, union_of}
 use Rattle.wg_graph.proofs.NumberByNumber.{union_ascends, union_first, union_second}
-use Rattle.wg_shape.specs.Gives.{Gives}
 
 with_same : (x : ℕ) (ys : List ℕ) → with_number x (x ∷ ys) ≡ x ∷ ys
 with_same x ys = rw (le-ltb x x (omega arith), eq-eqb x x refl) refl

@@ -1,7 +1,6 @@
 pub mod Quotient
 pub mod Classes
 pub mod SoFar
-pub mod Gives
 pub mod Added
 pub mod Graphs
 pub mod Laws

@@ -1,7 +1,7 @@
 //! Ascending numbers that come one by one.
 ghost use Rattle.std.specs.Prelude.{◌≡◌, ℕ, List};
 ghost use Rattle.wg_graph.specs.Ascending.{Ascends};
-ghost use Rattle.wg_shape.specs.Gives.{Gives};
+ghost use Rattle.wg_graph.specs.Coming.{Gives};
 
 use std::marker::Model;
 

@@ -19,7 +19,8 @@ pub struct Merge<A: Coming, B: Coming> {
 impl<A: Coming, B: Coming> Model for Merge<A, B> {
     ghost use Rattle.std.specs.Prelude.{List, ℕ};
     ghost use Rattle.wg_graph.specs.Ascending.{Ascends};
-    ghost use Rattle.wg_graph.specs.Unions.{front, union_of};
+    ghost use Rattle.wg_graph.specs.Coming.{front};
+    ghost use Rattle.wg_graph.specs.Unions.{union_of};
 
     ghost Value = { List ℕ };
 

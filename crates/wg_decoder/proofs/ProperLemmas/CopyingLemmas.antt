@@ -9,7 +9,7 @@ use Rattle.wg_blocks.specs.Stored.{blocks_of, blocks_after}
 use Rattle.wg_codes.specs.Standing.{IsWord}
 use Rattle.wg_decoder.specs.Proper.Joining.{Copying}
 use Rattle.wg_decoder.specs.Proper.Laid.{WordsTo}
-use Rattle.wg_decoder.proofs.ProperLemmas.Taking.{Takes, parts_on, fits_on, no_blocks}
+use Rattle.wg_decoder.proofs.ProperLemmas.Taking.{Takes, word_at, parts_on, fits_on, no_blocks}
 
 pub copying_none : (code : Code) (count : ℕ) (members values : List ℕ) (behind : List Bool) (old : List ℕ) (z : List Bool) → length values ≡ count → WordsTo code values z behind → Copying code count members values behind old 0 0 old z
 copying_none code count members values behind old z len stand = record {
@@ -24,10 +24,7 @@ copying_none code count members values behind old z len stand = record {
 }
 
 pub next_block : (code : Code) (count : ℕ) (members values : List ℕ) (behind : List Bool) (old : List ℕ) (index done : ℕ) (row : List ℕ) (z : List Bool) → index < count → Copying code count members values behind old index done row z → (v : ℕ) × (y : List Bool) × IsWord code v z y
-next_block code count members values behind old index done row z lt h = word_at code count behind index z h.todo lt h.count_todo h.stands where
-  word_at : (code : Code) (count : ℕ) (behind : List Bool) (index : ℕ) (z : List Bool) (todo : List ℕ) → index < count → length todo + index ≡ count → WordsTo code todo z behind → (v : ℕ) × (y : List Bool) × IsWord code v z y
-  word_at code count behind index z [] lt more stand = absurd (omega (arith, lt, more))
-  word_at code count behind index z (v ∷ vs) lt more stand = (v, stand.0, stand.1)
+next_block code count members values behind old index done row z lt h = word_at code count behind index z h.todo lt h.count_todo h.stands
 
 fits_at : (code : Code) (count most : ℕ) (values : List ℕ) (behind : List Bool) (index : ℕ) (old new : List Bool) (stored b : ℕ) (blocks todo : List ℕ) → Takes code old new stored → b ≡ cond (eqb index 0) stored (stored + 1) → index < count
     → sum (blocks_of values) ≤ most → length todo + index ≡ count → blocks_of values ≡ blocks ++ blocks_after index todo → WordsTo code todo old behind → sum blocks + b ≤ most

@@ -1,5 +1,5 @@
 -- Words that are taken, and the blocks that are stored as their values.
-use Rattle.std.proofs.Common.{◌≡◌, ℕ, zero, suc, ◌+◌, ◌≤◌, Bool, cond, eqb, List, [], ◌∷◌, ◌++◌, refl, sym, ap, subst, ◌∙◌, arith}
+use Rattle.std.proofs.Common.{◌≡◌, ℕ, zero, suc, ◌+◌, ◌<◌, ◌≤◌, Bool, cond, eqb, List, [], ◌∷◌, ◌++◌, length, refl, sym, ap, subst, ◌∙◌, arith}
 use Rattle.std.specs.Prelude.{sum}
 use Rattle.std.proofs.lemmas.Bool.{ne_eqb}
 use Rattle.std.proofs.lemmas.List.Sums.{sum_by-append}
@@ -9,6 +9,7 @@ use Rattle.wg_graph.specs.Copied.{copied_members, is_copied}
 use Rattle.wg_graph.proofs.Copies.{at_positions_all, sum_cons}
 use Rattle.wg_blocks.specs.Stored.{blocks_of, blocks_after}
 use Rattle.wg_codes.specs.Standing.{IsWord}
+use Rattle.wg_decoder.specs.Proper.Laid.{WordsTo}
 
 -- what the reader of a value answers for the word that stands first
 abbrev pub Takes : Code → List Bool → List Bool → ℕ → Type 0
@@ -16,6 +17,11 @@ Takes c old new w = (v : ℕ) (behind : List Bool) → IsWord c v old behind →
 
 pub takes_from : (c : Code) (p q : Position) (new : List Bool) (w : ℕ) → q ≡ p → Takes c (rest q) new w → Takes c (rest p) new w
 takes_from c p q new w e takes = subst (λ x. Takes c (rest x) new w) e takes
+
+-- where not all of the words that stand there were taken, one comes next
+pub word_at : (code : Code) (count : ℕ) (behind : List Bool) (index : ℕ) (z : List Bool) (todo : List ℕ) → index < count → length todo + index ≡ count → WordsTo code todo z behind → (v : ℕ) × (y : List Bool) × IsWord code v z y
+word_at code count behind index z [] lt more stand = absurd (omega (arith, lt, more))
+word_at code count behind index z (v ∷ vs) lt more stand = (v, stand.0, stand.1)
 
 pub all_copied : (list : List ℕ) → copied_members [] list ≡ list
 unfolding copied_members

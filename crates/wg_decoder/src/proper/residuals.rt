@@ -2,7 +2,7 @@
 ghost use Rattle.std.specs.Prelude.{◌≡◌, ℕ, ◌^◌, ◌<◌, ◌≤◌, List, [], Bool, length, None, Some};
 ghost use Rattle.wg_params.specs.Codes.{IsCode};
 ghost use Rattle.wg_bits.specs.Bits.{rest};
-ghost use Rattle.wg_intervals.specs.Coming.{Gives};
+ghost use Rattle.wg_graph.specs.Coming.{Gives};
 ghost use Rattle.wg_decoder.specs.Proper.Laid.{ResidualsTo};
 
 use super::lookahead::{Lookahead, value};

@@ -1,7 +1,0 @@
--- How the numbers of an ascending list are given one by one.
-use Rattle.std.specs.Prelude.{◌≡◌, ℕ, List, [], ◌∷◌, Option, Some, None}
-
--- the first of those to come is given, and the others are still to come; none is given only if none is to come
-abbrev pub Gives : List ℕ → Option ℕ → List ℕ → Type 0
-Gives old None new = (old ≡ []) × (new ≡ [])
-Gives old (Some x) new = old ≡ x ∷ new
