@@ -1,5 +1,6 @@
 //! The value of one field, and the page that it means.
 ghost use Rattle.std.specs.Prelude.{◌≡◌, ◌+◌, ◌^◌, ◌<◌, ◌≤◌, Bool, List, None, Some, IfOk};
+ghost use Rattle.std.specs.Option.{ForSome};
 ghost use Rattle.wg_params.specs.Codes.{IsCode};
 ghost use Rattle.wg_codes.specs.Fold.{number_of_gap};
 ghost use Rattle.wg_decoder.specs.Answer.{OnFault, OnRefusal, WantsNoMemory};
@@ -46,6 +47,37 @@ pub fn value<S: Source>(
             field,
             kind: Kind::NoWord,
         })),
+    }
+}
+
+/// The page that the word that comes next means: by its distance from `page`, where nothing comes before it; else by
+/// its distance from `before`, less 1.
+#[inline(always)]
+pub fn number<S: Source>(
+    nodes: u64,
+    page: u64,
+    before: Option<u64>,
+    field: Field,
+    code: Code,
+    source: &mut S,
+) -> Result<u64, Unread<S::Refusal>>
+    requires page { page < 2 ^ 36 }
+    requires code { IsCode code }
+    requires before { ForSome before (λ b. b < 2 ^ 63) }
+    ensures later { S.later source.old source.new }
+    ensures refused { OnRefusal result (S.caused source.old source.new) }
+    ensures below { IfOk result (λ y. y < nodes) }
+    ensures above { IfOk result (λ y. ForSome before (λ b. b < y)) }
+    ensures ok { (bits : List Bool) → S.reads_from source.old bits
+        → IfOk result (λ y. IsNumberAt code (number_of_gap page before) bits (S.offset source.old) y
+        (S.offset source.new)) }
+    ensures fault { (bits : List Bool) → S.reads_from source.old bits
+        → OnFault result (λ e. IsNoNumberAt field code (number_of_gap page before) nodes bits (S.offset source.old)
+        page e) }
+{
+    match before {
+        None => first_number(nodes, page, field, code, source),
+        Some(before) => later_number(nodes, page, field, code, before, source),
     }
 }
 

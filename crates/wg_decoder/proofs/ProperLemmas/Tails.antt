@@ -19,6 +19,7 @@ use Rattle.wg_intervals.specs.Stored.{IsInterval}
 use Rattle.wg_decoder.specs.Proper.Laid.{ResidualsTo, IntervalsTo}
 use Rattle.wg_decoder.proofs.ProperLemmas.Going.{step_of, stop_of, end_of, state, copy, Settled, NoCount, Filled, next_length, next_left, next_residual, page_of, one_reason}
 use Rattle.wg_decoder.specs.Stages.{LeadsTo}
+use Rattle.wg_decoder.proofs.InsideLists.{past_of, past_push}
 
 -- ---- residuals
 
@@ -65,15 +66,6 @@ residuals_go (suc count) p c bits d r n bs k i ls ns xs at t end h few ends left
     }
 
 -- ---- intervals
-
--- one past the last interval, where there is one
-abbrev pub past_of : List ℕ → List ℕ → Option ℕ
-past_of [] ns = None
-past_of (l ∷ ls) ns = Some (last_of (l ∷ ls) + last_of ns)
-
-past_push : (ls ns : List ℕ) (l n : ℕ) → past_of (ls ++ l ∷ []) (ns ++ n ∷ []) ≡ Some (l + n)
-past_push [] ns l n = ap (λ (k : ℕ). Some (l + k)) (last_push ns n)
-past_push (x ∷ ls) ns l n = ap (λ (k : ℕ). Some (k + last_of (ns ++ n ∷ []))) (last_push (x ∷ ls) l) ∙ ap (λ (k : ℕ). Some (l + k)) (last_push ns n)
 
 left_is : (c : Context) (d : ℕ) (r n : Option ℕ) (bs : List ℕ) (k : Bool) (i : Option ℕ) (ls ns xs : List ℕ) (v : ℕ) → own_left c (state d r n bs k i ls ns xs) v ≡ number_of_gap c.page (past_of ls ns) v
 left_is c d r n bs k i [] ns xs v = refl
