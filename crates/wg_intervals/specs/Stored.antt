@@ -1,7 +1,7 @@
 -- How a record stores its intervals. By BVGraph's documentation an interval is stored as its left end and its length,
 -- each a word of gamma: the first left end by its distance from the page, a later one by its distance, less 1, from
 -- past, which is one past the last number of the interval before; and a length less the least length.
-use Rattle.std.specs.Prelude.{◌≡◌, ℕ, zero, suc, ◌+◌, ◌^◌, ◌≤◌, Bool, List, [], ◌∷◌, ◌++◌, length, Option, Some, None, unwrap_or}
+use Rattle.std.specs.Prelude.{◌≡◌, ℕ, zero, suc, ◌+◌, ◌^◌, ◌≤◌, Bool, List, [], ◌∷◌, ◌++◌, length, Option, Some, unwrap_or}
 use Rattle.std.specs.List.{range_with_len}
 use Rattle.wg_params.specs.declared.code.Code.TheVariants.{Gamma}
 use Rattle.wg_codes.specs.Standing.{IsWord, value_at, behind_value}

@@ -11,7 +11,7 @@ use Rattle.wg_codes.specs.Standing.{IsWord}
 use Rattle.wg_decoder.specs.Proper.Laid.{MaybeWord, WordsTo, IntervalsTo, ResidualsTo, list_or_none, length_of, Laid}
 use Rattle.wg_decoder.specs.Proper.Headed.{TakesHead}
 use Rattle.wg_decoder.proofs.ProperLemmas.Taking.{Takes}
-use Rattle.wg_decoder.proofs.ProperLemmas.Counting.{intervals_stand, Parts, parts_of, copied_ascend}
+use Rattle.wg_decoder.proofs.ProperLemmas.Counting.{Parts, parts_of, copied_ascend}
 
 -- what the reader of a word that may be there answers
 abbrev pub MaybeTakes : Bool → Code → List Bool → List Bool → ℕ → Type 0

@@ -1,6 +1,6 @@
 -- The residuals of a record, as the list that is still to come. Each is told from what stands at its own offset of the
 -- bits.
-use Rattle.std.specs.Prelude.{ℕ, zero, suc, ◌+◌, Bool, List, [], ◌∷◌, Option, Some, None}
+use Rattle.std.specs.Prelude.{ℕ, zero, suc, Bool, List, [], ◌∷◌, Option, Some}
 use Rattle.wg_params.specs.declared.code.Code.{Code}
 use Rattle.wg_codes.specs.Fold.{number_of_gap}
 use Rattle.wg_codes.specs.Standing.{value_at, behind_value}

@@ -1,4 +1,4 @@
-use Rattle.std.proofs.Common.{arith, rules, ℕ, replicate, ap, sym, ◌∙◌}
+use Rattle.std.proofs.Common.{arith, rules, ℕ, replicate, ap, ◌∙◌}
 use Rattle.std.proofs.lemmas.List.{with_items_is}
 use Rattle.std.specs.Vec.{with_items}
 use Rattle.wg_shape.proofs.gathering.gather.Goals as goal
