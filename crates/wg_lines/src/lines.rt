@@ -1,5 +1,5 @@
 // Numbers and texts into a sink, through a buffer.
-ghost use Rattle.std.specs.Prelude.{◌≡◌, ◌+◌, ◌≤◌, [], ◌∷◌, ◌++◌, length, take, codes, decimal, IsTrue, OnOk};
+ghost use Rattle.std.specs.Prelude.{◌≡◌, ◌+◌, ◌≤◌, [], ◌∷◌, ◌++◌, length, take, codes, decimal, IsTrue, OnOk, OnErr};
 ghost use Rattle.wg_io.specs.Puts.{Puts};
 ghost use Rattle.wg_lines.specs.Printing.{Prints, pair_line};
 ghost use Rattle.wg_io.specs.Refusals.{SinkRefusals};
@@ -21,8 +21,8 @@ pub const MOST_START: usize = 24;
 /// Numbers and bytes on their way into a sink: those that were printed and have not gone out yet.
 ///
 /// It holds up to 8192 bytes itself and takes no memory. They go out when there is no room for another line, and all
-/// that is left with [`flush`](Lines::flush). The sink is that of each call: always hand in the same one. After an
-/// error what waits is lost.
+/// that is left with [`flush`](Lines::flush). The sink is that of each call: always hand in the same one. A call that
+/// answers an error leaves nothing that waits: what the sink did not take is lost.
 #[derive(Drop)]
 pub struct Lines {
     // the bytes that wait are the first `len`
@@ -101,6 +101,7 @@ impl Lines {
     fn make_room<S: Sink>(&mut self, sink: &mut S) -> Result<(), WriteError>
         ensures room { OnOk result (length self.new + MOST_PIECE ≤ BUFFER) }
         ensures prints { IsTrue S.told → Prints [] (S.taken sink.old) (S.taken sink.new) self.old self.new result }
+        ensures empty { OnErr result (self.new ≡ []) }
         ensures later { S.later sink.old sink.new }
         ensures refusals { SinkRefusals ⟦<S as Sink>⟧ sink.old sink.new result }
     {
@@ -115,6 +116,7 @@ impl Lines {
     pub fn number<S: Sink>(&mut self, sink: &mut S, number: u64) -> Result<(), WriteError>
         ensures prints { IsTrue S.told → Prints (decimal number) (S.taken sink.old) (S.taken sink.new) self.old self.new
             result }
+        ensures empty { OnErr result (self.new ≡ []) }
         ensures later { S.later sink.old sink.new }
         ensures refusals { SinkRefusals ⟦<S as Sink>⟧ sink.old sink.new result }
     {
@@ -131,6 +133,7 @@ impl Lines {
     pub fn byte<S: Sink>(&mut self, sink: &mut S, byte: u8) -> Result<(), WriteError>
         ensures prints { IsTrue S.told → Prints (byte ∷ []) (S.taken sink.old) (S.taken sink.new) self.old self.new
             result }
+        ensures empty { OnErr result (self.new ≡ []) }
         ensures later { S.later sink.old sink.new }
         ensures refusals { SinkRefusals ⟦<S as Sink>⟧ sink.old sink.new result }
     {
@@ -148,6 +151,7 @@ impl Lines {
         requires { length text.now ≤ MOST_PIECE }
         ensures prints { IsTrue S.told → Prints text.now (S.taken sink.old) (S.taken sink.new) self.old self.new
             result }
+        ensures empty { OnErr result (self.new ≡ []) }
         ensures later { S.later sink.old sink.new }
         ensures refusals { SinkRefusals ⟦<S as Sink>⟧ sink.old sink.new result }
     {
@@ -165,6 +169,7 @@ impl Lines {
     pub fn pair<S: Sink>(&mut self, sink: &mut S, first: u64, second: u64) -> Result<(), WriteError>
         ensures prints { IsTrue S.told → Prints (pair_line (first, second)) (S.taken sink.old) (S.taken sink.new)
             self.old self.new result }
+        ensures empty { OnErr result (self.new ≡ []) }
         ensures later { S.later sink.old sink.new }
         ensures refusals { SinkRefusals ⟦<S as Sink>⟧ sink.old sink.new result }
     {
@@ -190,6 +195,7 @@ impl Lines {
         requires { count ≤ MOST_START }
         ensures prints { IsTrue S.told → Prints (take count start.now ++ decimal second ++ codes "\n")
             (S.taken sink.old) (S.taken sink.new) self.old self.new result }
+        ensures empty { OnErr result (self.new ≡ []) }
         ensures later { S.later sink.old sink.new }
         ensures refusals { SinkRefusals ⟦<S as Sink>⟧ sink.old sink.new result }
     {
