@@ -8,7 +8,7 @@ use crate::cutting::piece;
 use std::marker::Model;
 
 /// A graph of pages: 8 bytes for each arc, and 8 for each page. Each call takes constant time, and no memory.
-#[derive(Debug, Drop)]
+#[derive(Clone, Debug, Drop)]
 pub struct Graph {
     // The end of each list; it begins where the one before it ends.
     pub(crate) ends: Vec<u64>,

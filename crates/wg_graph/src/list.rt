@@ -4,7 +4,7 @@ use std::alloc::{AllocError, Global};
 use std::marker::Model;
 
 /// Numbers in order: 8 bytes each.
-#[derive(Debug, Drop)]
+#[derive(Clone, Debug, Drop)]
 pub struct List {
     numbers: Vec<u64>,
 }
