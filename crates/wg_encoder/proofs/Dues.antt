@@ -6,7 +6,7 @@ use Rattle.std.proofs.lemmas.Bool.{cases_Bool, ne_eqb, not_from_true, not_from_f
 use Rattle.std.proofs.lemmas.List.{append-nil}
 use Rattle.wg_params.specs.Parameters.{Parameters}
 use Rattle.wg_params.specs.declared.code.Code.TheVariants.{Gamma}
-use Rattle.wg_blocks.specs.Canonical.{mask_of, runs_of as runs_of_mask, without_last, canonical_blocks, blocks_from}
+use Rattle.wg_blocks.specs.Canonical.{mask_of, mask_runs, without_last, canonical_blocks, blocks_from}
 use Rattle.wg_intervals.specs.declared.run.Run.{Run}
 use Rattle.wg_intervals.specs.Canonical.{is_long, numbers_of, runs_of, runs_from}
 use Rattle.wg_intervals.proofs.Maximal.{no_runs, first_run}
@@ -49,10 +49,10 @@ pub blocks_end : (t : BlockTally) → t.is_written ≡ true → written field.Bl
 blocks_end t is = sym (dues_written t [] is ∙ (λ i. written field.BlockCount t.counts (let e : t.count + 0 ≡ t.count = omega arith in e i) ∷ map (written field.Block t.code) (none_stored t.count i)))
 
 pub blocks_begin : (p : Parameters) (t : BlockTally) (reference : ℕ) (referenced list : List ℕ) → t.is_written ≡ ltb 0 reference → t.counts ≡ p.block_counts → t.code ≡ p.blocks → t.count ≡ 0
-    → blocks_from t.run (mask_of list referenced) ≡ without_last (runs_of_mask true (mask_of list referenced)) → block_dues t (mask_of list referenced) ≡ copy_fields p reference referenced list
+    → blocks_from t.run (mask_of list referenced) ≡ without_last (mask_runs true (mask_of list referenced)) → block_dues t (mask_of list referenced) ≡ copy_fields p reference referenced list
 unfolding canonical_blocks
 blocks_begin p t reference referenced list is counts code none first =
-    let all : t.count + length (blocks_from t.run (mask_of list referenced)) ≡ length (without_last (runs_of_mask true (mask_of list referenced))) = omega (arith, none, ap length first) in
+    let all : t.count + length (blocks_from t.run (mask_of list referenced)) ≡ length (without_last (mask_runs true (mask_of list referenced))) = omega (arith, none, ap length first) in
     (λ i. cond (is i) (written field.BlockCount (counts i) (all i) ∷ map (written field.Block (code i)) (stored_after (none i) (first i))) [])
 
 -- ---- what is not copied

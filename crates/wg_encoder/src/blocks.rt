@@ -7,7 +7,7 @@ ghost use Rattle.wg_encoder.specs.Cost.{room_after};
 ghost use Rattle.wg_encoder.specs.Dues.{dues_of_blocks, block_dues, IsWithin};
 
 use crate::cost::room_after;
-use wg_blocks::Run;
+use wg_blocks::MaskRun;
 use wg_params::{Code, Params};
 
 /// How many blocks there are so far, and the run that goes on. Without a reference none is written.
@@ -17,7 +17,7 @@ pub(crate) struct BlockTally {
     pub counts: Code,
     pub code: Code,
     pub count: u64,
-    pub run: Run,
+    pub run: MaskRun,
 }
 
 impl BlockTally {
@@ -31,7 +31,7 @@ impl BlockTally {
             counts: params.block_counts(),
             code: params.blocks(),
             count: 0,
-            run: Run::first(),
+            run: MaskRun::first(),
         }
     }
 
