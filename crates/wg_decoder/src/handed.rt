@@ -16,7 +16,7 @@ use wg_graph::List;
 use wg_params::Params;
 
 /// A page that a reference names: its successors, and how many references lead on from it, one after the other.
-#[derive(Clone, Copy)]
+#[derive(Clone, Copy, Debug)]
 pub struct Known<'a> {
     pub list: &'a List,
     pub depth: u64,
