@@ -2,6 +2,7 @@ ghost use Rattle.std.specs.Prelude.{◌≡◌};
 ghost use Rattle.wg_offsets.specs.declared.error.OffsetsError.TheVariants as errors;
 
 use std::alloc::AllocError;
+use std::fmt::Display;
 use thiserror::Error;
 use wg_grammar::OffsetWord;
 
@@ -9,7 +10,7 @@ use wg_grammar::OffsetWord;
 #[derive(Clone, Copy, Debug, PartialEq, Eq, Error)]
 pub enum OffsetsError {
     /// The first fault of its words, or of the tail after them.
-    #[error("{0:?}")]
+    #[error("{0}")]
     Word(OffsetWord),
     /// There was no memory for its places.
     #[error("out of memory")]
@@ -33,10 +34,14 @@ impl From<AllocError> for OffsetsError {
 }
 
 /// Why a word of an offsets file was not read.
+#[derive(Clone, Copy, Debug, Drop, PartialEq, Eq, Error)]
+#[error_bound(R: Display)]
 pub enum WordError<R> {
     /// It is refused, or the tail after the words.
+    #[error("{0}")]
     Word(OffsetWord),
     /// The source refused to read on.
+    #[error("{0}")]
     Refused(R),
 }
 
@@ -51,12 +56,17 @@ impl<R> From<OffsetWord> for WordError<R> {
 }
 
 /// Why the offsets were not read from a source.
+#[derive(Clone, Copy, Debug, Drop, PartialEq, Eq, Error)]
+#[error_bound(R: Display)]
 pub enum PlacesError<R> {
     /// The first fault of its words, or of the tail after them.
+    #[error("{0}")]
     Word(OffsetWord),
     /// The source refused to read on.
+    #[error("{0}")]
     Refused(R),
     /// There was no memory for the places.
+    #[error("out of memory")]
     Memory,
 }
 

@@ -10,7 +10,7 @@ use wg_io::MOST_BYTES;
 pub const MOST_PLACE: u64 = 8 * MOST_BYTES;
 
 /// The offsets of records, in bits, and last the offset after them.
-#[derive(Debug, Drop)]
+#[derive(Clone, Debug, Drop)]
 pub struct Offsets {
     places: Vec<u64>,
 }

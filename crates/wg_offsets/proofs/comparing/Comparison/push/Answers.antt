@@ -1,4 +1,4 @@
-use Rattle.std.proofs.Common.{◌≡◌, ◌⊎◌, ◌≢◌, ℕ, ◌-◌, [], ◌∷◌, length, Some, None, IfSome, IfNone, sym, subst, arith, length-append}
+use Rattle.std.proofs.Common.{◌≡◌, ◌⊎◌, ◌≢◌, ℕ, ◌-◌, [], ◌∷◌, Some, None, IfSome, IfNone, sym, subst, arith, length-append}
 use Rattle.wg_offsets.specs.Places.{last_place}
 use Rattle.wg_offsets.specs.Comparing.{Compared, AreCompared}
 use Rattle.wg_offsets.proofs.WordsLemmas.{last_more}
