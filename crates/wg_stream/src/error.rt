@@ -2,16 +2,23 @@
 ghost use Rattle.std.specs.Prelude.{◌≡◌};
 
 use std::alloc::AllocError;
+use std::fmt::Display;
+use thiserror::Error;
 use wg_decoder::Unread;
 use wg_grammar::ArchiveFault;
 
 /// Why the records of an archive were not read to their end.
+#[derive(Clone, Copy, Debug, Drop, PartialEq, Eq, Error)]
+#[error_bound(R: Display)]
 pub enum PagesError<R> {
     /// The archive is refused.
+    #[error("{0}")]
     Fault(ArchiveFault),
     /// There was no memory for a list.
+    #[error("out of memory")]
     Memory,
     /// The source refused to read on.
+    #[error("{0}")]
     Refused(R),
 }
 

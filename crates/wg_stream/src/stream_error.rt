@@ -8,7 +8,7 @@ use wg_grammar::Fault;
 #[derive(Clone, Copy, Debug, PartialEq, Eq, Error)]
 pub enum StreamError {
     /// A record is refused.
-    #[error("{0:?}")]
+    #[error("{0}")]
     Fault(Fault),
     /// The bit after the records that is a one, or the 128th there.
     #[error("no tail at bit {0}")]
