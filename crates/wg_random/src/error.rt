@@ -11,7 +11,7 @@ use wg_grammar::ArchiveFault;
 /// Why a graph file is refused.
 #[derive(Clone, Copy, Debug, PartialEq, Eq, Error)]
 pub enum CheckError {
-    #[error("{0:?}")]
+    #[error("{0}")]
     Archive(ArchiveFault),
     #[error("out of memory")]
     Memory,
@@ -52,7 +52,7 @@ pub enum SpotError {
     #[error("no such page")]
     NoPage,
     /// The first fault of the page's chain of references.
-    #[error("{0:?}")]
+    #[error("{0}")]
     Archive(ArchiveFault),
     #[error("out of memory")]
     Memory,
