@@ -5,13 +5,14 @@ ghost use Rattle.wg_decoder.specs.Answer.{context_at};
 ghost use Rattle.wg_decoder.specs.Apart.{HeadStands, HeadFails};
 ghost use Rattle.wg_decoder.specs.Chains.{endless};
 
-use crate::{Head, Unread, read_head_over};
+use crate::apart::read_head_over;
+use crate::{Head, Unread};
 use wg_bits::Cursor;
 use wg_grammar::{Fault, Referenced};
 use wg_params::{Layout, Params};
 
-/// The same parameters without a limit on chains.
-pub fn endless(params: &Params) -> Params
+// The same parameters without a limit on chains.
+fn endless(params: &Params) -> Params
     ensures { result ≡ endless params.now }
 {
     let layout = Layout {

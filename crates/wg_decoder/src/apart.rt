@@ -111,9 +111,9 @@ fn reference_over<S: Source>(
     Ok(reference)
 }
 
-/// The head of the record of a page with `arcs_before` arcs before it, whose reference, where it has one, names a page
-/// of which this is told. Where the outdegree is 0, nothing follows it. It reads two words at most.
-pub fn read_head_over<S: Source>(
+// The head of the record of a page with `arcs_before` arcs before it, whose reference, where it has one, names a page
+// of which this is told. Where the outdegree is 0, nothing follows it. It reads two words at most.
+pub(crate) fn read_head_over<S: Source>(
     params: &Params,
     page: u64,
     arcs_before: u64,

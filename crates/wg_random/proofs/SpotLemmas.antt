@@ -8,6 +8,7 @@ use Rattle.std.proofs.lemmas.Bool.{cases_lt}
 use Rattle.std.proofs.lemmas.List.{length-drop, get_or_append_left}
 use Rattle.wg_params.specs.declared.code.Code.{Code}
 use Rattle.wg_params.specs.Parameters.{Parameters}
+use Rattle.wg_bits.specs.Bits.{Position}
 use Rattle.wg_codes.specs.Reading.{Reads}
 use Rattle.wg_codes.specs.Words.{word, top}
 use Rattle.wg_codes.specs.declared.outcome.Read.TheVariants as reads
@@ -19,9 +20,6 @@ use Rattle.wg_grammar.specs.declared.fault.Field.TheVariants as field
 use Rattle.wg_grammar.specs.declared.fault.Kind.TheVariants as kind
 use Rattle.wg_grammar.specs.Context.{Known, Context, no_page}
 use Rattle.wg_grammar.specs.Record.{Whole, ReadsRecord}
-use Rattle.wg_decoder.specs.declared.decoded.Unread.{Unread}
-use Rattle.wg_decoder.specs.declared.decoded.Unread.TheVariants as unread
-use Rattle.wg_decoder.specs.Answer.{OfUnread}
 use Rattle.wg_decoder.specs.Apart.{page_over, ReferenceStands, HeadStands, HeadFails}
 use Rattle.wg_decoder.specs.Head.{of_outdegree}
 use Rattle.wg_decoder.proofs.ApartLemmas.{head_refused, reference_near}
@@ -29,7 +27,6 @@ use Rattle.wg_random.specs.declared.error.SpotError.{SpotError}
 use Rattle.wg_random.specs.declared.error.SpotError.TheVariants as errors
 use Rattle.wg_decoder.specs.Chains.{endless, start_of, HeadReads, RecordReads, RefersTo, OverReads, ChainReads, IsChain, IsHeadFault}
 use Rattle.wg_random.specs.Spot.{SpotAnswers, OfSpot}
-use Rattle.wg_random.specs.Unread.{spot_error}
 use Rattle.wg_random.proofs.ChainLemmas.{pushed_length}
 
 -- ---- a record that begins past the last bit
@@ -55,24 +52,16 @@ record_cut p bits offsets page below e past is =
 
 -- ---- a record
 
--- a fault of a record that was read from bits in memory
-pub spot_weaker : {R : Type 0} (x : Unread R) (P : Fault → Type 0) (Q : ArchiveFault → Type 0) → ((e : Fault) → P e → Q (faults.Record e)) → OfUnread x P → OfSpot (spot_error x) Q
-spot_weaker (unread.Fault e) P Q f h = f e h
-spot_weaker unread.Memory P Q f h = tt
-spot_weaker (unread.Refused r) P Q f h = tt
-
 pub faults_weaker : (x : SpotError) (P Q : ArchiveFault → Type 0) → ((f : ArchiveFault) → P f → Q f) → OfSpot x P → OfSpot x Q
 faults_weaker errors.NoPage P Q f h = h
 faults_weaker (errors.Archive e) P Q f h = f e h
 faults_weaker errors.Memory P Q f h = tt
 
-pub head_fault : (p q : Parameters) (bits : List Bool) (offsets : List ℕ) (page at : ℕ) (e : Fault) → q ≡ endless p → at ≡ start_of offsets page → HeadFails q (page_over q page no_page) bits at e → IsHeadFault p bits offsets page (faults.Record e)
-head_fault p q bits offsets page at e is place h =
-    (e, refl, subst (λ (k : ℕ). HeadFails (endless p) (page_over p page no_page) bits k e) place (subst (λ (r : Parameters). HeadFails r (page_over r page no_page) bits at e) is h))
+pub head_fault : (p : Parameters) (bits : List Bool) (offsets : List ℕ) (page : ℕ) (c : Position) (e : Fault) → c ≡ record { bits = bits; at = start_of offsets page } → HeadFails (endless p) (page_over p page no_page) c.bits c.at e → IsHeadFault p bits offsets page (faults.Record e)
+head_fault p bits offsets page c e is h = (e, refl, subst (λ (q : Position). HeadFails (endless p) (page_over p page no_page) q.bits q.at e) is h)
 
-pub head_reads : (p q : Parameters) (bits : List Bool) (offsets : List ℕ) (page at d r end : ℕ) → q ≡ endless p → at ≡ start_of offsets page → HeadStands q (page_over q page no_page) bits at d r end → HeadReads p bits offsets page (Ok r)
-head_reads p q bits offsets page at d r end is place h =
-    (d, end, subst (λ (k : ℕ). HeadStands (endless p) (page_over p page no_page) bits k d r end) place (subst (λ (x : Parameters). HeadStands x (page_over x page no_page) bits at d r end) is h))
+pub head_reads : (p : Parameters) (bits : List Bool) (offsets : List ℕ) (page : ℕ) (c : Position) (d r end : ℕ) → c ≡ record { bits = bits; at = start_of offsets page } → HeadStands (endless p) (page_over p page no_page) c.bits c.at d r end → HeadReads p bits offsets page (Ok r)
+head_reads p bits offsets page c d r end is h = (d, end, subst (λ (q : Position). HeadStands (endless p) (page_over p page no_page) q.bits q.at d r end) is h)
 
 pub length_fault : (p : Parameters) (bits : List Bool) (offsets : List ℕ) (page : ℕ) (below : Known) (at end stop : ℕ) (k : Known) (f : ArchiveFault) → at ≡ start_of offsets page →
     ReadsRecord p (page_over p page below) bits at (Ok (record { known = k; end = end })) → stop ≡ end → stop ≢ start_of offsets (page + 1) →

@@ -1,5 +1,5 @@
 //! Single records of an archive that was not checked.
-ghost use Rattle.std.specs.Prelude.{◌≡◌, ◌≢◌, ◌+◌, ◌-◌, ◌<◌, ◌≤◌, length, None, Ok, Err, IfOk, IfErr};
+ghost use Rattle.std.specs.Prelude.{◌≡◌, ◌≢◌, ◌+◌, ◌-◌, ◌<◌, ◌≤◌, length, Ok, Err, IfOk, IfErr};
 ghost use Rattle.wg_io.specs.declared.limits.TheConstants.{MOST_BYTES};
 ghost use Rattle.wg_bits.specs.Bits.{bits_of};
 ghost use Rattle.wg_graph.specs.Ascending.{Ascends, Below};
@@ -8,13 +8,13 @@ ghost use Rattle.wg_grammar.specs.declared.fault.Kind.{Kind};
 ghost use Rattle.wg_grammar.specs.declared.fault.ArchiveFault.{ArchiveFault};
 ghost use Rattle.wg_grammar.specs.Context.{Known};
 ghost use Rattle.wg_decoder.specs.Remembered.{known_of};
-ghost use Rattle.wg_decoder.specs.Chains.{endless, start_of, HeadReads, RecordReads, IsHeadFault};
+ghost use Rattle.wg_decoder.specs.Chains.{start_of, HeadReads, RecordReads, IsHeadFault};
 ghost use Rattle.wg_random.specs.Spot.{OfSpot};
 
 use crate::SpotError;
 use wg_bits::{Bits, Cursor};
-use wg_decoder::{Decoded, Spares, decode_over, endless, read_head_over};
-use wg_grammar::{ArchiveFault, Fault, Field, Kind, Referenced};
+use wg_decoder::{Decoded, Spares, decode_over, head};
+use wg_grammar::{ArchiveFault, Fault, Field, Kind};
 use wg_offsets::Offsets;
 use wg_params::Params;
 
@@ -23,12 +23,9 @@ use wg_params::Params;
 pub struct Unchecked<'a> {
     bytes: &'a [u8],
     params: Params,
-    // the same without a limit on chains
-    endless: Params,
     offsets: &'a Offsets,
     ghost short: { length bytes.now ≤ MOST_BYTES },
     ghost many: { length offsets.now ≡ params.nodes + 1 },
-    ghost no_limit: { endless ≡ record params { chain = None } },
 }
 
 impl<'a> Unchecked<'a> {
@@ -42,7 +39,6 @@ impl<'a> Unchecked<'a> {
         Unchecked {
             bytes,
             params: *params,
-            endless: endless(params),
             offsets,
         }
     }
@@ -81,16 +77,14 @@ impl<'a> Unchecked<'a> {
             OfSpot e (IsHeadFault self.now.params (bits_of self.now.bytes.now) self.now.offsets.now page)) }
         ensures near { IfOk result (λ r. r ≤ page) }
     {
-        let mut cursor = match self.cursor(page) {
+        let cursor = match self.cursor(page) {
             Ok(cursor) => cursor,
-            Err(fault) => return Err(SpotError::Archive(ArchiveFault::Record(fault))),
+            Err(cut) => return Err(SpotError::Archive(ArchiveFault::Record(cut))),
         };
-        let nothing = Referenced {
-            length: 0,
-            depth: 0,
-        };
-        let head = read_head_over(&self.endless, page, 0, nothing, &mut cursor)?;
-        Ok(head.reference)
+        match head(&self.params, page, 0, cursor) {
+            Ok(head) => Ok(head.reference),
+            Err(fault) => Err(SpotError::Archive(ArchiveFault::Record(fault))),
+        }
     }
 
     // Compares where the record of a page ends with where the next one begins.
