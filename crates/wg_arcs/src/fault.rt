@@ -2,6 +2,7 @@ ghost use Rattle.std.specs.Prelude.{◌≡◌};
 ghost use Rattle.wg_arcs.specs.declared.fault.ArcsError.TheVariants as errors;
 
 use std::alloc::AllocError;
+use std::fmt;
 use thiserror::Error;
 
 /// Why a line of a text of arcs is refused.
@@ -17,11 +18,22 @@ pub enum ArcsKind {
     TooMany,
 }
 
+impl fmt::Display for ArcsKind {
+    fn fmt<W: fmt::Write>(&self, f: &mut fmt::Formatter<W>) -> fmt::Result {
+        f.write_str(match self {
+            ArcsKind::Shape => "not two decimal numbers",
+            ArcsKind::Range => "a number that is no page",
+            ArcsKind::Order => "an arc that does not come after the one before it",
+            ArcsKind::TooMany => "more arcs than an archive may have",
+        })
+    }
+}
+
 /// Why a text of arcs was not read.
 #[derive(Clone, Copy, Debug, PartialEq, Eq, Error)]
 pub enum ArcsError {
     /// The first faulty line, counted from 1.
-    #[error("line {line}: {kind:?}")]
+    #[error("line {line}: {kind}")]
     Line { line: u64, kind: ArcsKind },
     /// There was no memory for the graph.
     #[error("out of memory")]
