@@ -1,8 +1,10 @@
 -- The text of arcs, one after the other.
-use Rattle.std.proofs.Common.{◌≡◌, ℕ, ◌+◌, ◌<◌, List, [], ◌∷◌, ◌++◌, map, length, take, drop, get_or, codes, decimal, refl, sym, ap, subst, ◌∙◌, append_assoc, append-nil}
+use Rattle.std.proofs.Common.{◌≡◌, ℕ, ◌+◌, ◌<◌, List, [], ◌∷◌, ◌++◌, map, length, take, drop, get_or, codes, decimal, refl, sym, ap, subst, ◌∙◌, append_assoc, append-nil, Result, Err}
 use Rattle.std.proofs.lemmas.List.{map-append, take_more, take-append-drop}
 use Rattle.wg_lines.specs.Printing.{HasPrinted, HasPrintedLess}
-use Rattle.wg_io.specs.Puts.{joined}
+use Rattle.std.specs.Result.{IsErrAnd}
+use Rattle.wg_io.specs.Puts.{Puts, joined}
+use Rattle.wg_io.proofs.PutsLemmas.{puts_more, puts_front}
 use Rattle.wg_lines.proofs.PrintLemmas.{printed_more, less_after, less_before}
 use Rattle.wg_graph.specs.Digraph.{Digraph, successors}
 use Rattle.wg_graph.specs.Arcs.{arcs_from, arcs_of}
@@ -84,16 +86,18 @@ lines_from_split lists i =
 abbrev pub first_lines : Digraph → ℕ → List ℕ
 first_lines g i = lines_from 0 (take i g.lists)
 
--- one page more is printed
-pub page_printed : (a b c waited mid waits : List ℕ) (g : Digraph) (i : ℕ) → i < length g.lists → HasPrinted a b waited (first_lines g i) mid → HasPrinted b c mid (page_lines i (successors g i)) waits →
-    HasPrinted a c waited (first_lines g (i + 1)) waits
-page_printed a b c waited mid waits g i lt h k =
-    subst (λ (t : List ℕ). HasPrinted a c waited t waits) (sym (lines_from_more g.lists i lt)) (printed_more a b c waited mid waits (first_lines g i) (page_lines i (successors g i)) h k)
+-- the lines of one page more are out
+pub page_out : (a b c : List ℕ) (g : Digraph) (i : ℕ) → i < length g.lists → b ≡ a ++ first_lines g i → c ≡ b ++ page_lines i (successors g i) → c ≡ a ++ first_lines g (i + 1)
+page_out a b c g i lt first more =
+    more ∙ ap (λ (l : List ℕ). l ++ page_lines i (successors g i)) first ∙ append_assoc a (first_lines g i) (page_lines i (successors g i))
+    ∙ ap (λ (l : List ℕ). a ++ l) (sym (lines_from_more g.lists i lt))
 
-pub page_less : (a b c waited mid : List ℕ) (g : Digraph) (i : ℕ) → i < length g.lists → HasPrinted a b waited (first_lines g i) mid → HasPrintedLess b c mid (page_lines i (successors g i)) →
-    HasPrintedLess a c waited (text_of_graph g)
-page_less a b c waited mid g i lt h k =
+-- the lines of a page are cut off
+pub page_cut_off : {E : Type 0} (a b c : List ℕ) (g : Digraph) (i : ℕ) (r : Result (Unit {0}) E) (e : E) → i < length g.lists → b ≡ a ++ first_lines g i → IsErrAnd r (λ x. x ≡ e) → Puts {E = E} (page_lines i (successors g i)) b c (Err e) →
+    Puts (text_of_graph g) a c r
+page_cut_off a b c g i r e lt first is put =
+    let page : List ℕ = page_lines i (successors g i) in
     let rest = lines_from_split g.lists (i + 1) in
-    let more : HasPrintedLess a c waited (first_lines g (i + 1)) =
-    subst (λ (t : List ℕ). HasPrintedLess a c waited t) (sym (lines_from_more g.lists i lt)) (less_after a b c waited mid (first_lines g i) (page_lines i (successors g i)) h k) in
-    subst (λ (t : List ℕ). HasPrintedLess a c waited t) (sym rest.1) (less_before a c waited (first_lines g (i + 1)) rest.0 more)
+    let all : text_of_graph g ≡ first_lines g i ++ (page ++ rest.0) =
+    rest.1 ∙ ap (λ (l : List ℕ). l ++ rest.0) (lines_from_more g.lists i lt) ∙ append_assoc (first_lines g i) page rest.0 in
+    subst (λ (l : List ℕ). Puts l a c r) (sym all) (puts_more (first_lines g i) (page ++ rest.0) a b c r first (puts_front page rest.0 b c r e is put))

@@ -20,7 +20,8 @@ fn write_start(page: u64, start: &mut [u8; MOST_START]) -> usize
     count + 1
 }
 
-/// Prints the lines of a page, in the order of its list; their beginning is written once.
+/// Prints the lines of a page, in the order of its list, through a buffer that serves for other pages too; their
+/// beginning is written once.
 pub fn print_list<S: Sink>(
     lines: &mut Lines,
     sink: &mut S,
@@ -40,7 +41,8 @@ pub fn print_list<S: Sink>(
     Ok(())
 }
 
-/// Writes the lines of a page. It takes no memory, and one call of the sink for some hundred arcs.
+/// Writes the lines of a page: prints them through a buffer of its own, and sends all out. It takes no memory, and one
+/// call of the sink for some hundred arcs.
 pub fn write_list<S: Sink>(page: u64, list: &[u64], sink: &mut S) -> Result<(), WriteError>
     ensures puts { IsTrue S.told → Puts (page_lines page list.now) (S.taken sink.old) (S.taken sink.new) result }
     ensures later { S.later sink.old sink.new }
@@ -51,15 +53,15 @@ pub fn write_list<S: Sink>(page: u64, list: &[u64], sink: &mut S) -> Result<(), 
     lines.flush(sink)
 }
 
-/// Writes the text of a graph. It takes no memory, and one call of the sink for some hundred arcs.
+/// Writes the text of a graph, by [`write_list`] for each page in turn. It takes no memory. The sink is called for each
+/// page that has arcs, and for each some hundred arcs of a page that has more.
 pub fn write<S: Sink>(graph: &Graph, sink: &mut S) -> Result<(), WriteError>
     ensures puts { IsTrue S.told → Puts (text_of_graph graph.now) (S.taken sink.old) (S.taken sink.new) result }
     ensures later { S.later sink.old sink.new }
     ensures refusals { SinkRefusals ⟦<S as Sink>⟧ sink.old sink.new result }
 {
-    let mut lines = Lines::new();
     for page in 0..graph.nodes() {
-        print_list(&mut lines, sink, page, graph.list(page))?;
+        write_list(page, graph.list(page), sink)?;
     }
-    lines.flush(sink)
+    Ok(())
 }

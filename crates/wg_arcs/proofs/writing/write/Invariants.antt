@@ -1,11 +1,10 @@
-use Rattle.std.proofs.Common.{[], take, IsTrue}
-use Rattle.wg_lines.specs.Printing.{HasPrinted}
-use Rattle.wg_arcs.specs.Text.{lines_from}
+use Rattle.std.proofs.Common.{◌≡◌, ◌++◌, IsTrue}
+use Rattle.wg_arcs.proofs.Texts.{first_lines}
 use Rattle.wg_arcs.proofs.writing.write.Given as goal
 
--- the pages so far are printed
+-- the pages so far are out
 abbrev pub invariant-loop-page : goal.invariant-loop-page
 invariant-loop-page g l = let s = g.S.Sink in record {
-  printed : IsTrue s.told → HasPrinted (s.taken l.fn.sink) (s.taken l.sink) [] (lines_from 0 (take l.page l.graph.lists)) l.lines;
+  out : IsTrue s.told → s.taken l.sink ≡ s.taken l.fn.sink ++ first_lines l.graph l.page;
   later : s.later l.fn.sink l.sink;
 }
