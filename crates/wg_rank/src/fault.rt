@@ -3,6 +3,7 @@ ghost use Rattle.wg_rank.specs.declared.fault.CertError.TheVariants as errors;
 ghost use Rattle.wg_rank.specs.declared.fault.JudgeError.TheVariants as judge_errors;
 
 use std::alloc::AllocError;
+use std::fmt;
 use thiserror::Error;
 
 /// Why a line of a certificate is refused.
@@ -18,14 +19,25 @@ pub enum CertKind {
     Extra,
 }
 
+impl fmt::Display for CertKind {
+    fn fmt<W: fmt::Write>(&self, f: &mut fmt::Formatter<W>) -> fmt::Result {
+        f.write_str(match self {
+            CertKind::Shape => "not what has to stand there",
+            CertKind::Pages => "another number of pages",
+            CertKind::Missing => "not there",
+            CertKind::Extra => "a line after the last",
+        })
+    }
+}
+
 /// What is wrong with a certificate.
 #[derive(Clone, Copy, Debug, PartialEq, Eq, Error)]
 pub enum CertFault {
     /// The first faulty line, counted from 1.
-    #[error("line {line}: {kind:?}")]
+    #[error("line {line}: {kind}")]
     Line { line: u64, kind: CertKind },
     /// The bounds add up to more than 1.
-    #[error("sum")]
+    #[error("the bounds add up to more than 1")]
     Sum,
     /// The first page whose bound a round lowers. Reading never finds this.
     #[error("page {0} falls")]
