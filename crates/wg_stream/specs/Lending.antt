@@ -17,7 +17,7 @@ abbrev pub RestsSo : MutBor Reading → (Reading → Type 0) → Fml
 RestsSo s P = Rests the_row s P
 
 -- the same file by the same parameters, and an offset that does not fall; no more lists are kept than the window has, and
--- no more bytes of the file are held than one piece and what a word may need of the next
+-- no more bytes of the file are held than one piece
 pub record KeepsOn (old after : Reading) : Type 0 where
   pub params : after.pages.params ≡ old.pages.params
   pub name : after.name ≡ old.name

@@ -38,11 +38,11 @@
 //! ```
 //!
 //! Memory is held for the lists of the window, each with room for at most twice its numbers, and for a few lists more
-//! while a record is read. A stretch is one piece of 4096 bytes and what a word may need of the next; no bytes of a
-//! record are kept, however long it is. That a [`Reader`] keeps no more lists than the window has, and holds at most
-//! [`MOST_HELD`] bytes, is said by clauses of its calls. The zeros of a long unary word are counted piece by piece, and a
-//! word that the end of a piece cuts is read when the next piece is there. A word that is held costs a comparison more
-//! than one from bytes in memory.
+//! while a record is read. A stretch is one piece of 4096 bytes; no bytes of a record are kept, however long it is. That
+//! a [`Reader`] keeps no more lists than the window has, that few wait, and that it holds at most [`MOST_HELD`] bytes, is
+//! said by clauses of its calls. The zeros of a long unary word are counted piece by piece, and a word that the end of a
+//! piece cuts is read when what follows it is there. A word that is held costs a comparison more than one from bytes in
+//! memory.
 //!
 //! Of a source that cannot tell its bits it is still known that each list ascends, that its numbers are pages, and that
 //! all lists together have no more numbers than arcs are promised.

@@ -5,6 +5,7 @@ ghost use Rattle.wg_graph.specs.Ascending.{Ascends, Below};
 ghost use Rattle.wg_grammar.specs.Record.{Whole};
 ghost use Rattle.wg_grammar.specs.Archive.{lists_of, places_of, ReadsGraph};
 ghost use Rattle.wg_decoder.specs.Remembered.{known_of};
+ghost use Rattle.wg_decoder.specs.declared.spares.TheConstants.{MOST_SPARES};
 ghost use Rattle.wg_stream.specs.Errors.{OnFault, OnRefusal, IsOfGraph};
 ghost use Rattle.wg_stream.specs.Prefix.{AreBehind, IsOneMore};
 
@@ -89,6 +90,13 @@ impl Pages {
         ensures arcs { self.now.arcs ≤ self.now.params.arcs }
     {
         self.list.as_slice()
+    }
+
+    /// How many lists more it holds, whose memory serves for later ones.
+    pub fn spare_lists(&self) -> usize
+        ensures few { result ≤ MOST_SPARES + 1 }
+    {
+        self.spares.len()
     }
 
     /// Whether the records of all pages were read.

@@ -12,6 +12,7 @@ ghost use Rattle.wg_stream.specs.declared.stream_error.StreamError.TheVariants a
 ghost use Rattle.wg_stream.specs.FirstError.{of_first, OfOutside};
 ghost use Rattle.wg_stream.specs.Reading.{IsInStep, StaysInStep};
 ghost use Rattle.wg_stream.specs.Stepping.{HasCause};
+ghost use Rattle.wg_decoder.specs.declared.spares.TheConstants.{MOST_SPARES};
 ghost use Rattle.wg_stream.specs.declared.stretch.TheConstants.{MOST_HELD};
 
 use crate::parts::go_on;
@@ -24,8 +25,8 @@ use wg_params::Params;
 
 /// A graph file that is read list after list, in pieces of at most 4096 bytes.
 ///
-/// It keeps no more lists of the pages before than the window of the parameters has, and the list that it lends. Five
-/// lists more at most wait for their memory to be used again, of which no clause speaks. Of the file it holds at most
+/// It keeps no more lists of the pages before than the window of the parameters has, the list that it lends, and few
+/// lists more, whose memory is used again ([`spare_lists`](Reader::spare_lists)). Of the file it holds at most
 /// [`MOST_HELD`](crate::MOST_HELD) bytes, however long a record is: behind the record of a list that it has lent it has
 /// read no further than that. All this holds after each call, after an error too, and whatever the depot answers.
 #[derive(Drop)]
@@ -90,6 +91,14 @@ impl Reader {
         ensures within { self.now.pages.arcs ≤ self.now.pages.params.arcs }
     {
         self.pages.list()
+    }
+
+    /// How many lists it holds besides those of the window and the one that it lends: their memory serves for later
+    /// lists, so that few records take any of their own.
+    pub fn spare_lists(&self) -> usize
+        ensures few { result ≤ MOST_SPARES + 1 }
+    {
+        self.pages.spare_lists()
     }
 
     /// Reads the record that comes next, or judges the end, if there is none; from then on, and after an error, it

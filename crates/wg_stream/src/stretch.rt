@@ -20,14 +20,11 @@ use wg_codes::Read;
 use wg_io::{Depot, LoadError, MOST_BYTES};
 use wg_params::Code;
 
-// The most bytes that one call reads.
-const PIECE: usize = 4096;
-
 // No word but those of unary has more bytes, wherever in a byte it begins.
 pub const WORD: usize = 17;
 
-/// The most bytes of a file that are held at a time: one piece, and what a word may need of the next.
-pub const MOST_HELD: usize = 4096 + 17;
+/// The most bytes of a file that are held at a time, and that one call reads.
+pub const MOST_HELD: usize = 4096;
 
 /// The bytes of a file from some offset on, as far as they were read and are not passed, and the bit that comes next.
 #[derive(Drop)]
@@ -147,6 +144,13 @@ impl Stretch {
         self.length = end;
     }
 
+    // How many bytes are held.
+    fn count(&self) -> usize
+        ensures { result ≡ length self.now.bytes }
+    {
+        self.length
+    }
+
     // The offset after the last byte that is held.
     fn last(&self) -> u64
         ensures offset { result ≡ self.now.first + length self.now.bytes }
@@ -194,7 +198,7 @@ impl Stretch {
         Ok(())
     }
 
-    /// Reads one piece more.
+    /// Reads one piece more, as long as there is room for.
     pub(crate) fn read_piece<D: Depot>(
         &mut self,
         depot: &mut D,
@@ -212,8 +216,9 @@ impl Stretch {
         ensures at { self.new.at ≡ self.old.at }
     {
         let end = self.last();
-        let mut piece = [0u8; PIECE];
-        let count = depot.read(name, end, &mut piece)?;
+        let mut room = [0u8; MOST_HELD];
+        let piece = &mut room[self.count()..];
+        let count = depot.read(name, end, piece)?;
         if count == 0 {
             self.end();
             return Ok(());
