@@ -4,7 +4,7 @@
 //! [`write`] puts a word through a writer, [`length`] counts its bits without writing it, and [`holds`] tells which
 //! values have one; [`word_in`] tells a word by the 64 bits that it is at the front of. [`fold`] and [`unfold`] turn
 //! whole numbers of either sign into values and back; [`unfold_from`] gives the number that is so far from another.
-//! [`laws`] does nothing: its contract says what holds of the words themselves, whoever reads them.
+//! The function of [`laws`] does nothing: its contract says what holds of the words themselves, whoever reads them.
 //!
 //! Two words that stand at a cursor, and a third that the end of the bits cuts off:
 //!
@@ -32,7 +32,7 @@ mod delta;
 mod folding;
 mod gamma;
 mod headed;
-mod law;
+pub mod laws;
 mod nibble;
 mod outcome;
 mod unary;
@@ -40,5 +40,4 @@ mod zeta;
 
 pub use any::{holds, length, read, word_in, write};
 pub use folding::{fold, number_of_gap, unfold, unfold_from};
-pub use law::laws;
 pub use outcome::{Read, Word};

@@ -11,6 +11,7 @@ use crate::arranging::arrange;
 use crate::counting::{count_above, count_below};
 use std::alloc::{AllocError, Global};
 use std::marker::Model;
+use wg_params::MOST_PAGES;
 use wg_rank::Bounds;
 
 /// Pages ranked by bounds. It holds 64 bytes for each page; those of a ranking that took bounds over are the bounds'
@@ -36,12 +37,15 @@ impl Model for Ranking {
 }
 
 impl Ranking {
-    /// A ranking of `n` pages that is still to be filled. All memory of later calls is taken here.
+    /// A ranking of `n` pages that is still to be filled. All memory of later calls is taken here. For more pages than a
+    /// graph may have there is none.
     pub fn new(alloc: Global, n: u64) -> Result<Ranking, AllocError>
-        requires { n ≤ MOST_PAGES }
         ensures filled { IfOk result (λ r. r.filled ≡ false) }
         ensures pages { IfOk result (λ r. length r.low ≡ n) }
     {
+        if n > MOST_PAGES {
+            return Err(AllocError);
+        }
         let n = n as usize;
         Ok(Ranking {
             filled: false,

@@ -2,7 +2,7 @@ use Rattle.wg_codes.proofs.Folds.{folds_back, unfolds_from}
 use Rattle.wg_codes.proofs.Exists.{one_case_holds, no_word_begins_another, zeta_one_is_gamma}
 use Rattle.wg_codes.proofs.ShortWords.{words_are_short}
 use Rattle.wg_codes.proofs.PrefixReads.{prefixes_tell, long_prefixes_tell}
-use Rattle.wg_codes.proofs.law.laws.Goals as goal
+use Rattle.wg_codes.proofs.laws.words_and_folds.Goals as goal
 
 pub returns-clause-one_case : goal.returns-clause-one_case
 returns-clause-one_case c = one_case_holds

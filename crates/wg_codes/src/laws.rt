@@ -2,8 +2,9 @@
 ghost use Rattle.wg_codes.specs.Laws.{OneCaseHolds, NoWordBeginsAnother, WordsAreShort, PrefixesTell, LongPrefixesTell};
 ghost use Rattle.wg_codes.specs.Laws.{ZetaOneIsGamma, FoldsBack, UnfoldsFrom};
 
-/// The laws of the codes and of the fold. It does nothing.
-pub fn laws()
+/// No word begins another; what a prefix of some bits tells holds of all of them; zeta of 1 is gamma; the fold and its
+/// inverse undo each other.
+pub fn words_and_folds()
     ensures one_case { OneCaseHolds }
     ensures no_word_begins_another { NoWordBeginsAnother }
     ensures short { WordsAreShort }
