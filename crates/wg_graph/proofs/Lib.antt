@@ -10,3 +10,4 @@ pub mod Growth
 pub mod Arcs
 pub mod Asked
 pub mod Written
+pub mod Moved

@@ -1,6 +1,7 @@
 //! Numbers that are written in whole pieces, past the last of them, where what stands behind has no meaning.
-ghost use Rattle.std.specs.Prelude.{◌≡◌, ◌+◌, ◌-◌, ◌^◌, ◌<◌, ◌≤◌, ◌++◌, length, take, slice_range};
+ghost use Rattle.std.specs.Prelude.{◌≡◌, ℕ, List, ◌+◌, ◌-◌, ◌^◌, ◌<◌, ◌≤◌, ◌∷◌, ◌++◌, length, take, drop, slice_range};
 ghost use Rattle.std.specs.List.{range_with_len};
+ghost use Rattle.wg_graph.specs.Ascending.{Below};
 ghost use Rattle.wg_graph.specs.declared.pieces.TheConstants.{PIECE};
 
 // How many numbers are written at a time.
@@ -13,22 +14,42 @@ fn copy_piece(to: &mut [u64], at: usize, from: &[u64], start: usize)
     requires from { start + PIECE ≤ length from.now }
     ensures length { length to.new ≡ length to.old }
     ensures copied { take (at + PIECE) to.new ≡ take at to.old ++ slice_range from.now start (start + PIECE) }
+    ensures kept { drop (at + PIECE) to.new ≡ drop (at + PIECE) to.old }
 {
     to[at..at + PIECE].copy_from_slice(&from[start..start + PIECE]);
+}
+
+// Copies a piece to this place, or one number if there is no whole piece, and tells how many numbers these are.
+#[inline(always)]
+fn copy_some(to: &mut [u64], at: usize, from: &[u64], start: usize) -> usize
+    requires to { at + PIECE ≤ length to.old }
+    requires from { start < length from.now }
+    ensures some { 0 < result }
+    ensures within { start + result ≤ length from.now }
+    ensures length { length to.new ≡ length to.old }
+    ensures copied { take (at + result) to.new ≡ take at to.old ++ slice_range from.now start (start + result) }
+    ensures kept { drop (at + PIECE) to.new ≡ drop (at + PIECE) to.old }
+{
+    if from.len() - start < PIECE {
+        to[at] = from[start];
+        return 1;
+    }
+    copy_piece(to, at, from, start);
+    PIECE
 }
 
 // Copies the first numbers, so many, to this place and on.
 #[inline(always)]
 pub(crate) fn copy(to: &mut [u64], at: usize, from: &[u64], count: usize)
     requires to { at + count + PIECE ≤ length to.old }
-    requires from { count + PIECE ≤ length from.now }
+    requires from { count ≤ length from.now }
     ensures length { length to.new ≡ length to.old }
     ensures copied { take (at + count) to.new ≡ take at to.old ++ take count from.now }
+    ensures kept { drop (at + count + PIECE) to.new ≡ drop (at + count + PIECE) to.old }
 {
     let mut done = 0;
     'pieces: while done < count {
-        copy_piece(to, at + done, from, done);
-        done += PIECE;
+        done += copy_some(to, at + done, from, done);
     }
 }
 
@@ -39,6 +60,7 @@ fn write_piece(to: &mut [u64], at: usize, first: u64)
     requires short { first < 2 ^ 64 - PIECE }
     ensures length { length to.new ≡ length to.old }
     ensures written { take (at + PIECE) to.new ≡ take at to.old ++ range_with_len first PIECE }
+    ensures kept { drop (at + PIECE) to.new ≡ drop (at + PIECE) to.old }
 {
     'piece: for index in 0..PIECE {
         to[at + index] = first + index as u64;
@@ -52,10 +74,31 @@ pub(crate) fn write_run(to: &mut [u64], at: usize, first: u64, count: usize)
     requires short { first + count ≤ 2 ^ 63 }
     ensures length { length to.new ≡ length to.old }
     ensures written { take (at + count) to.new ≡ take at to.old ++ range_with_len first count }
+    ensures kept { drop (at + count + PIECE) to.new ≡ drop (at + count + PIECE) to.old }
 {
     let mut done = 0;
     'pieces: while done < count {
         write_piece(to, at + done, first + done as u64);
         done += PIECE;
     }
+}
+
+// Copies numbers from one place to another before it, up to one that is not below the bound, and tells how many.
+#[inline(always)]
+pub(crate) fn copy_below(numbers: &mut [u64], to: usize, from: usize, bound: u64) -> usize
+    requires order { to < from }
+    requires from { from ≤ length numbers.old }
+    ensures length { length numbers.new ≡ length numbers.old }
+    ensures within { from + result ≤ length numbers.old }
+    ensures below { Below bound (take result (drop from numbers.old)) }
+    ensures last { (x : ℕ) (others : List ℕ) → drop (from + result) numbers.old ≡ x ∷ others → bound ≤ x }
+    ensures copied { take (to + result) numbers.new ≡ take to numbers.old ++ take result (drop from numbers.old) }
+    ensures kept { drop (from + result) numbers.new ≡ drop (from + result) numbers.old }
+{
+    let mut done = 0;
+    'below: while from + done < numbers.len() && numbers[from + done] < bound {
+        numbers[to + done] = numbers[from + done];
+        done += 1;
+    }
+    done
 }
