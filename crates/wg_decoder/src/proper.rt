@@ -5,9 +5,9 @@
 //!
 //! [`decode_into`] puts the whole list of a record into a [`Row`](wg_graph::Row) at once, over a lent list, and moves
 //! the cursor over the record. So whoever reads all records in order needs no offsets, and takes no memory while it
-//! reads. [`read_head`] reads the head before, so that the list that is referred to can be found. Each word is read
-//! once, in the order of the record; runs of members are copied while their blocks come, intervals are joined to them
-//! as runs, and then the residuals, from one row to another.
+//! reads; [`reference`] is asked before, so that the list that is referred to can be found. Each word is read once, in
+//! the order of the record; runs of members are copied while their blocks come, intervals are joined to them as runs,
+//! and then the residuals, all in the one row, where the members wait meanwhile.
 
 mod block;
 mod copying;

@@ -8,7 +8,7 @@ ghost use Rattle.wg_iterators.specs.Fields.{AreFronts};
 use crate::passing::{pass_blocks, pass_intervals};
 use wg_bits::Cursor;
 use wg_blocks::Mask;
-use wg_decoder::proper::{Lookahead, Residuals, value, value_where};
+use wg_decoder::proper::{RecordHead, Residuals, read_head, value_where};
 use wg_intervals::IntervalWalk;
 use wg_params::{Code, Params};
 
@@ -41,10 +41,11 @@ pub fn find_fronts<'a>(
 {
     // tells the limits
     params.nodes();
-    let mut cursor = Lookahead::new(cursor);
-    let outdegree = value(params.outdegrees(), &mut cursor);
-    let refers = (outdegree > 0) & (params.window() > 0);
-    value_where(refers, params.references(), &mut cursor);
+    let RecordHead {
+        outdegree,
+        reference: _,
+        words: mut cursor,
+    } = read_head(params, cursor);
     let count = value_where(source.is_some(), params.block_counts(), &mut cursor);
     let mask = Mask::new(cursor.again(), params.blocks(), count);
     let copied = pass_blocks(params.blocks(), count, source.unwrap_or(0), &mut cursor);

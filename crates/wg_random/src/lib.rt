@@ -50,7 +50,7 @@
 //! | [`Archive::open`] | a box for each reference of the chain | that of the words of the chain's records |
 //! | [`Archive::list`] | a number for each page of the chain, and two of its lists | that of the words and the lists of the chain's records |
 //! | [`spot`] | a number for each page of the chain, and at most 6 lists | that of the words and the lists of the chain's records |
-//! | [`Records::sweep`] | a row for each page that a reference reaches, and two | that of the rows |
+//! | [`Records::sweep`] | a row for each page that a reference reaches, and one | that of the rows |
 //!
 //! A page that does not exist, a chain that is too long to be opened, and want of memory are answered by [`OpenError`]
 //! and [`ListError`]; there is no other reason, since the archive was checked. Why a file is no archive is told by

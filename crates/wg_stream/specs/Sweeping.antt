@@ -26,7 +26,7 @@ abbrev pub HaveGraph : Parameters → List Bool → Type 0
 HaveGraph p bits = (graph : List (List ℕ)) × ∥ StandFor p bits graph ∥₁
 
 abbrev pub no_row : Filled
-no_row = record { list = []; room = 0 }
+no_row = record { list = []; waiting = []; room = 0 }
 
 -- Of n rows in a circle, going back so many from the one comes to the other.
 abbrev pub IsBack : ℕ → ℕ → ℕ → ℕ → Type 0

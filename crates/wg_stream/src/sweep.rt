@@ -1,12 +1,11 @@
 //! The lists of an archive in the order of the pages, as often as one likes, from its bits.
-ghost use Rattle.std.specs.Prelude.{◌≡◌, ◌+◌, ◌-◌, ◌<◌, ◌≤◌, ℕ, List as ListOf, Ok, All, length, min, IfOk};
+ghost use Rattle.std.specs.Prelude.{◌≡◌, ◌+◌, ◌-◌, ◌<◌, ◌≤◌, ℕ, List as ListOf, Ok, All, length, min, option_copied, IfOk};
 ghost use Rattle.wg_io.specs.declared.limits.TheConstants.{MOST_BYTES};
 ghost use Rattle.wg_bits.specs.Bits.{bits_of};
 ghost use Rattle.wg_graph.specs.Digraph.{successors};
 ghost use Rattle.wg_grammar.specs.Record.{Whole};
 ghost use Rattle.wg_grammar.specs.Archive.{Accepted, ReadsGraph};
 ghost use Rattle.wg_grammar.specs.Laws.{graph_of};
-ghost use Rattle.wg_decoder.specs.Proper.Laid.{list_or_none};
 ghost use Rattle.wg_stream.specs.AllRecords.{Reading, known_at, offset_at};
 ghost use Rattle.wg_stream.specs.References.{below_at};
 ghost use Rattle.wg_stream.specs.Sweeping.{AreKept, IsBack, IsNext, PassFinds};
@@ -18,14 +17,14 @@ use std::alloc::{AllocError, Global};
 use std::marker::Model;
 use std::mem::swap;
 use wg_bits::{Bits, Cursor};
-use wg_decoder::proper::{decode_into, read_head};
-use wg_graph::{Lists, Row, RowSlice};
+use wg_decoder::proper::{decode_into, reference};
+use wg_graph::{Lists, Row};
 use wg_params::Params;
 
 /// The lists of an archive that was checked, decoded from its bits page after page, as often as one likes.
 ///
 /// It is seen as the graph of the archive, and the page whose list comes next. It holds rows for the lists that a
-/// reference may reach and for two lists more, each with room for the greatest outdegree, 8 bytes a number, and 64 more;
+/// reference may reach and for one list more, each with room for the greatest outdegree, 8 bytes a number, and 64 more;
 /// all are taken when it is made. A list then takes the time of its record's words and of the lists that it has and
 /// refers to.
 #[derive(Drop)]
@@ -40,8 +39,6 @@ pub struct Sweep<'a> {
     turn: u64,
     // the list of the last page
     list: Row,
-    // another row, at hand while a list is made
-    spare: Row,
 }
 
 impl<'a> Model for Sweep<'a> {
@@ -57,7 +54,7 @@ impl<'a> Model for Sweep<'a> {
     } };
 
     ghost invariant = { λ s. Sweeping s.archive.params s.archive.bytes.now s.archive.graph.0 s.page s.at
-        s.kept.items s.turn s.list × (s.spare.room ≡ s.list.room) };
+        s.kept.items s.turn s.list };
 }
 
 // So many rows, each with this room.
@@ -120,19 +117,17 @@ fn keep(kept: &mut [Row], turn: u64, list: &mut Row) -> u64
 
 // The list of the page so many pages before the one that comes next, which is as many rows back; none for 0.
 #[inline(always)]
-fn list_back(kept: &[Row], turn: u64, back: u64) -> Option<RowSlice<'_>>
+fn list_back(kept: &[Row], turn: u64, back: u64) -> Option<&[u64]>
     requires turn { 0 < length kept.now → turn < length kept.now }
     requires reach { back ≤ length kept.now }
     ensures below { (records : ListOf Whole) (page : ℕ) → back ≤ page → AreKept records page kept.now turn
-        → result ≡ below_at records page back }
-    ensures within { (room : ℕ) → All (λ r. r.room ≡ room) kept.now
-        → length (list_or_none result) ≤ room }
+        → option_copied result ≡ below_at records page back }
 {
     if back == 0 {
         return None;
     }
     let row = row_back(turn, kept.len() as u64, back);
-    Some(kept[row as usize].as_row_slice())
+    Some(kept[row as usize].as_slice())
 }
 
 // Decodes the record of a page, which begins at the bit `at`, into the row, and tells where it ends.
@@ -143,14 +138,11 @@ fn decode_page(
     at: u64,
     kept: &[Row],
     turn: u64,
-    spare: &mut Row,
     list: &mut Row,
 ) -> u64
     requires short { length archive.now.bytes.now ≤ MOST_BYTES }
     requires page { page < archive.now.params.nodes }
     requires turn { 0 < length kept.now → turn < length kept.now }
-    requires rooms { All (λ r. r.room ≡ list.old.room) kept.now }
-    requires room { spare.old.room ≡ list.old.room }
     requires next { (r : Reading archive.now.params (bits_of archive.now.bytes.now))
         × IsNext archive.now.params (bits_of archive.now.bytes.now) r page at kept.now turn
         × (length (known_at r.records page).list ≤ list.old.room) }
@@ -161,15 +153,13 @@ fn decode_page(
         → IsNext archive.now.params (bits_of archive.now.bytes.now) r page at kept.now turn
         → result ≡ offset_at r.records (page + 1) }
     ensures room { list.new.room ≡ list.old.room }
-    ensures spare { spare.new.room ≡ spare.old.room }
 {
     let params = &archive.params;
     // tells the limits
     params.nodes();
     let mut cursor = Cursor::new(Bits::of(archive.bytes), at);
-    let head = read_head(params, cursor.again());
-    let below = list_back(kept, turn, head.reference);
-    decode_into(params, page, head, below, &mut cursor, spare, list);
+    let below = list_back(kept, turn, reference(params, cursor.again()));
+    decode_into(params, page, below, &mut cursor, list);
     cursor.at()
 }
 
@@ -208,7 +198,6 @@ impl<'a> Sweep<'a> {
     {
         let kept = rows(alloc, params.window().min(params.nodes()), room)?;
         let list = Row::new(alloc, room)?;
-        let spare = Row::new(alloc, room)?;
         Ok(Sweep {
             archive: Standing::of(bytes, params),
             page: 0,
@@ -216,7 +205,6 @@ impl<'a> Sweep<'a> {
             kept,
             turn: 0,
             list,
-            spare,
         })
     }
 
@@ -234,7 +222,6 @@ impl<'a> Sweep<'a> {
             self.at,
             self.kept.as_slice(),
             self.turn,
-            &mut self.spare,
             &mut self.list,
         );
         self.page += 1;

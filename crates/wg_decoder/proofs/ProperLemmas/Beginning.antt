@@ -44,10 +44,6 @@ pub reference_word : (p : Parameters) (page : ℕ) (below : Option (List ℕ)) (
     → (l : Laid p page below z list) → (l.outdegree ≡ d) × (l.after_outdegree ≡ z1) → (v : ℕ) × (behind : List Bool) × MaybeWord b code v z1 behind
 reference_word p page below z list z1 d w b code flag window is l e = (l.reference, l.after_reference, reference_stands p page below z list z1 d w b code flag window is l e.0 e.1)
 
-pub reference_read : (p : Parameters) (page : ℕ) (below : Option (List ℕ)) (z : List Bool) (list : List ℕ) (z1 z2 : List Bool) (d w r : ℕ) (b : Bool) (code : Code) → b ≡ (ltb 0 d && ltb 0 w) → w ≡ p.window → code ≡ p.references → MaybeTakes b code z1 z2 r
-    → (l : Laid p page below z list) → (l.outdegree ≡ d) × (l.after_outdegree ≡ z1) → l.after_reference ≡ z2
-reference_read p page below z list z1 z2 d w r b code flag window is takes l e = (takes l.reference l.after_reference (reference_stands p page below z list z1 d w b code flag window is l e.0 e.1)).1
-
 pub reference_value : (p : Parameters) (page : ℕ) (below : Option (List ℕ)) (z : List Bool) (list : List ℕ) (z1 z2 : List Bool) (d w r : ℕ) (b : Bool) (code : Code) → b ≡ (ltb 0 d && ltb 0 w) → w ≡ p.window → code ≡ p.references → MaybeTakes b code z1 z2 r
     → (l : Laid p page below z list) → (l.outdegree ≡ d) × (l.after_outdegree ≡ z1) → l.reference ≡ r
 reference_value p page below z list z1 z2 d w r b code flag window is takes l e = (takes l.reference l.after_reference (reference_stands p page below z list z1 d w b code flag window is l e.0 e.1)).0

@@ -11,7 +11,7 @@ use Rattle.wg_codes.specs.Fold.{number_of_gap}
 use Rattle.wg_decoder.specs.Proper.Joining.{AreJoinable, Joining, Covered}
 use Rattle.wg_decoder.specs.Proper.Laid.{IntervalsTo}
 use Rattle.wg_decoder.proofs.ProperLemmas.Taking.{Takes}
-use Rattle.wg_decoder.proofs.ProperLemmas.JoinLemmas.{run_joined}
+use Rattle.wg_decoder.proofs.ProperLemmas.JoinLemmas.{Added, run_joined}
 use Rattle.wg_grammar.specs.SoFar.{value_or_0}
 
 past_left : (past v l : ℕ) → Some (past + 1 + v) ≡ Some l → past ≤ l
@@ -120,10 +120,11 @@ interval_taken page least count all behind index past row members z mid new v w 
     }
 
 -- where the members below it and its numbers were added
-pub covered_more : (page least count : ℕ) (all : List ℕ) (behind : List Bool) (index : ℕ) (row members mid left more : List ℕ) (new : List Bool) (first run : ℕ) → ((others : List ℕ) → Joining all row members others → Ascends first others → Joining all mid left others) → Ascends first left → more ≡ mid ++ range_with_len first run
+pub covered_more : (page least count : ℕ) (all : List ℕ) (behind : List Bool) (index : ℕ) (row members mid left more : List ℕ) (new : List Bool) (first run : ℕ) → ((others : List ℕ) → Ascends first others → Joining all row members others → Added all mid left others first) → more ≡ mid ++ range_with_len first run
     → Taken page least count all behind index row members new first run → Covered page least count all behind (index + 1) (Some (first + run)) more left new
-covered_more page least count all behind index row members mid left more new first run moves up more_is h =
-    let g = run_joined run all mid left (numbers_inside h.lefts h.lengths) first up (moves (range_with_len first run ++ numbers_inside h.lefts h.lengths) h.on h.up) in
+covered_more page least count all behind index row members mid left more new first run moves more_is h =
+    let moved = moves (range_with_len first run ++ numbers_inside h.lefts h.lengths) h.up h.on in
+    let g = run_joined run all mid left (numbers_inside h.lefts h.lengths) first moved.up moved.on in
     record {
       lefts = h.lefts;
       lengths = h.lengths;

@@ -31,6 +31,15 @@ members_copied p page below z list z3 z4 n members row new code code_is is empty
       copies.1 l.values l.after_blocks e.0 fits words,
     )
 
+-- the words that stand there, and room for what they copy
+pub members_stand : (p : Parameters) (page : ℕ) (below : Option (List ℕ)) (z : List Bool) (list : List ℕ) (z3 : List Bool) (n room : ℕ) (members row waiting : List ℕ) (code : Code) → code ≡ p.blocks → members ≡ list_or_none below → row ≡ [] → waiting ≡ [] → length list ≤ room
+    → (l : Laid p page below z list) → (length l.values ≡ n) × (l.after_count ≡ z3)
+    → (values : List ℕ) × (behind : List Bool) × (length values ≡ n) × (sum (blocks_of values) ≤ length members) × WordsTo code values z3 behind × (length row + length waiting + length (copied_members (blocks_of values) members) ≤ room)
+members_stand p page below z list z3 n room members row waiting code code_is is empty none fits l e =
+    let long : length members ≡ length (list_or_none below) = ap (λ (xs : List ℕ). length xs) is in
+    let copied : length (copied_members (blocks_of l.values) members) ≡ length l.copied = ap (λ (xs : List ℕ). length (copied_members (blocks_of l.values) xs)) is ∙ sym (ap (λ (xs : List ℕ). length xs) l.copied_is) in
+    (l.values, l.after_blocks, e.0, omega (arith, l.within, long), blocks_words p page below z list z3 code code_is l e.1, omega (arith, copied, l.copied_fit, l.all, fits, ap (λ (xs : List ℕ). length xs) empty, ap (λ (xs : List ℕ). length xs) none))
+
 -- their number, taken from the row
 pub copied_long : (row copied : List ℕ) (k : ℕ) (old new : List Bool) → k ≡ length row → (row ≡ copied) × (old ≡ new) → (length copied ≡ k) × (old ≡ new)
 copied_long row copied k old new is e = (sym (is ∙ ap (λ (xs : List ℕ). length xs) e.0), e.1)

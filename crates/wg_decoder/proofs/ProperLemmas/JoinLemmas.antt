@@ -3,7 +3,7 @@ use Rattle.std.proofs.Common.{◌≡◌, ℕ, zero, suc, ◌+◌, ◌<◌, ◌�
 use Rattle.std.specs.List.{range_with_len}
 use Rattle.std.proofs.lemmas.Bool.{cases_Bool, cases_lt, cases_eq, lt-ltb, le-ltb, ne_eqb, eq-eqb}
 use Rattle.std.proofs.lemmas.List.{length-append, append_assoc, append-nil}
-use Rattle.wg_graph.specs.Ascending.{Ascends}
+use Rattle.wg_graph.specs.Ascending.{Ascends, Below}
 use Rattle.wg_graph.specs.Numbers.{is_in}
 use Rattle.wg_graph.proofs.Sets.{ascends_more, in_below}
 use Rattle.wg_intervals.specs.Stored.{numbers_inside}
@@ -14,38 +14,64 @@ use Rattle.wg_graph.proofs.NumberByNumber.{union_ascends, union_first, union_sec
 use Rattle.wg_decoder.proofs.ProperLemmas.Disjoint.{share_head, share_tail, head_shared, tail_shared}
 use Rattle.wg_decoder.proofs.ProperLemmas.Counting.{Parts, in_union}
 
+-- ---- how many they are
+
+with_long : (x : ℕ) (ys : List ℕ) → is_in x ys ≡ false → length (with_number x ys) ≡ suc (length ys)
+with_long x [] out = refl
+with_long x (y ∷ ys) out = elim (cases_lt x y) [
+  | inl lt ↦ rw (lt-ltb x y lt) refl
+  | inr ge ↦ elim (cases_eq x y) [
+    | inl e ↦ absurd (let there : is_in x (y ∷ ys) ≡ true = rw (eq-eqb x y e) refl in let f : true ≡ false = sym there ∙ out in cc)
+    | inr ne ↦ rw (le-ltb x y ge, ne_eqb x y ne) (ap (λ (k : ℕ). suc k) (with_long x ys (rw (ne_eqb x y ne) at out)))
+  ]
+]
+
+pub union_long : (n : ℕ) (xs ys : List ℕ) → Ascends n xs → ShareNone xs ys → length (union_of xs ys) ≡ length xs + length ys
+union_long n [] ys up apart = omega arith
+union_long n (x ∷ xs) ys up apart =
+    let out : is_in x (union_of xs ys) ≡ false = rw (in_union x xs ys, in_below (suc x) x xs up.1 (omega arith), share_head x xs ys apart) refl in
+    let more : length (union_of (x ∷ xs) ys) ≡ suc (length (union_of xs ys)) = with_long x (union_of xs ys) out in
+    omega (arith, more, union_long (suc x) xs ys up.1 (share_tail x xs ys apart))
+
+pub joined_long : (xs ys : List ℕ) → AreJoinable xs ys → length (union_of xs ys) ≡ length xs + length ys
+joined_long xs ys h = union_long 0 xs ys h.members_ascend h.apart
+
 pub all_fit : (row u : List ℕ) (room : ℕ) → length row + length u ≤ room → length (row ++ u) ≤ room
 all_fit row u room le = omega (arith, le, length-append row u)
 
--- ---- a member that is below all others
+-- ---- members that are below all others
 
-pub first_joined : (all row new members others left : List ℕ) (x bound : ℕ) → members ≡ x ∷ left → x < bound → Ascends bound others → new ≡ row ++ x ∷ [] → Joining all row members others → Joining all new left others
-first_joined all row new members others left x bound is lt up more h =
-    let g : Joining all row (x ∷ left) others = subst (λ (l : List ℕ). Joining all row l others) is h in
-    let first : union_of (x ∷ left) others ≡ x ∷ union_of left others = union_first x left others g.joinable.members_ascend.1 (ascends_more (suc x) bound others (omega (arith, lt)) up) in
+first_joined : (all row left others : List ℕ) (x bound : ℕ) → x < bound → Ascends bound others → Joining all row (x ∷ left) others → Joining all (row ++ x ∷ []) left others
+first_joined all row left others x bound lt up h =
+    let first : union_of (x ∷ left) others ≡ x ∷ union_of left others = union_first x left others h.joinable.members_ascend.1 (ascends_more (suc x) bound others (omega (arith, lt)) up) in
     record {
       joinable = record {
-        members_ascend = ascends_more 0 (suc x) left (omega arith) g.joinable.members_ascend.1;
-        others_ascend = g.joinable.others_ascend;
-        apart = share_tail x left others g.joinable.apart;
+        members_ascend = ascends_more 0 (suc x) left (omega arith) h.joinable.members_ascend.1;
+        others_ascend = h.joinable.others_ascend;
+        apart = share_tail x left others h.joinable.apart;
       };
-      list = ap (λ (l : List ℕ). l ++ union_of left others) more ∙ append_assoc row (x ∷ []) (union_of left others) ∙ ap (λ (l : List ℕ). row ++ l) (sym first) ∙ g.list;
+      list = append_assoc row (x ∷ []) (union_of left others) ∙ ap (λ (l : List ℕ). row ++ l) (sym first) ∙ h.list;
     }
 
--- there is room for it
-pub first_fits : (all row members others left : List ℕ) (x bound room : ℕ) → members ≡ x ∷ left → x < bound → Ascends bound others → length all ≤ room → Joining all row members others → length row < room
-first_fits all row members others left x bound room is lt up fits h =
-    let g = first_joined all row (row ++ x ∷ []) members others left x bound is lt up refl h in
-    omega (arith, fits, ap (λ (l : List ℕ). length l) g.list, length-append (row ++ x ∷ []) (union_of left others), length-append row (x ∷ []))
+below_joined : (taken all row left others : List ℕ) (bound : ℕ) → Below bound taken → Ascends bound others → Joining all row (taken ++ left) others → Joining all (row ++ taken) left others
+below_joined [] all row left others bound low up h = subst (λ (r : List ℕ). Joining all r left others) (sym (append-nil row)) h
+below_joined (x ∷ taken) all row left others bound low up h =
+    subst (λ (r : List ℕ). Joining all r left others) (append_assoc row (x ∷ []) taken) (below_joined taken all (row ++ x ∷ []) left others bound low.1 up (first_joined all row (taken ++ left) others x bound low.0 up h))
 
--- where the first is not below the bound, none is
-pub none_below : (all row members others left : List ℕ) (x bound : ℕ) → members ≡ x ∷ left → bound ≤ x → Joining all row members others → Ascends bound members
-none_below all row members others left x bound is le h =
-    let g : Joining all row (x ∷ left) others = subst (λ (l : List ℕ). Joining all row l others) is h in
-    subst (Ascends bound) (sym is) (le, g.joinable.members_ascend.1)
+ascends_from : (bound : ℕ) (members : List ℕ) → ((x : ℕ) (rest : List ℕ) → members ≡ x ∷ rest → bound ≤ x) → Ascends 0 members → Ascends bound members
+ascends_from bound [] first up = tt
+ascends_from bound (x ∷ xs) first up = (first x xs refl, up.1)
 
-pub none_left : (members : List ℕ) (bound : ℕ) → members ≡ [] → Ascends bound members
-none_left members bound is = subst (Ascends bound) (sym is) tt
+pub record Added (all new members others : List ℕ) (past : ℕ) : Type 0 where
+  pub on : Joining all new members others
+  pub up : Ascends past members
+
+-- those that were taken were put behind the row, and the first one that is left is not below the bound
+pub members_joined : (all row new members left others : List ℕ) (bound : ℕ) → ((taken : List ℕ) × Below bound taken × (members ≡ taken ++ left) × (new ≡ row ++ taken)) → ((x : ℕ) (rest : List ℕ) → left ≡ x ∷ rest → bound ≤ x)
+    → Ascends bound others → Joining all row members others → Added all new left others bound
+members_joined all row new members left others bound t first up h =
+    let g = below_joined t.0 all row left others bound t.1 up (subst (λ (l : List ℕ). Joining all row l others) t.2 h) in
+    record { on = subst (λ (r : List ℕ). Joining all r left others) (sym t.3) g; up = ascends_from bound left first g.joinable.members_ascend }
 
 -- ---- another number, where no member is below it
 
@@ -60,10 +86,6 @@ above y [] out up = tt
 above y (x ∷ xs) out up =
     let ne : y ≡ x → ⊥ = λ e. (let there : is_in y (x ∷ xs) ≡ true = rw (eq-eqb y x e) refl in let f : true ≡ false = sym there ∙ out in absurd cc) in
     (omega (arith, up.0, ne), up.1)
-
-pub record Added (all new members others : List ℕ) (past : ℕ) : Type 0 where
-  pub on : Joining all new members others
-  pub up : Ascends past members
 
 pub number_joined : (all row new members others : List ℕ) (y : ℕ) → Ascends y members → new ≡ row ++ y ∷ [] → Joining all row members (y ∷ others) → Added all new members others (suc y)
 number_joined all row new members others y up more h =
@@ -81,10 +103,10 @@ number_joined all row new members others y up more h =
       up = past;
     }
 
-pub number_fits : (all row members others : List ℕ) (y room : ℕ) → Ascends y members → length all ≤ room → Joining all row members (y ∷ others) → length row < room
-number_fits all row members others y room up fits h =
-    let g = number_joined all row (row ++ y ∷ []) members others y up refl h in
-    omega (arith, fits, ap (λ (l : List ℕ). length l) g.on.list, length-append (row ++ y ∷ []) (union_of members others), length-append row (y ∷ []))
+-- there is room for it beside the members
+pub number_fits : (all row members others : List ℕ) (y room : ℕ) → length all ≤ room → Joining all row members (y ∷ others) → length row + length members < room
+number_fits all row members others y room fits h =
+    omega (arith, fits, ap (λ (l : List ℕ). length l) h.list, length-append row (union_of members (y ∷ others)), joined_long members (y ∷ others) h.joinable)
 
 -- ---- a run of numbers
 
@@ -109,10 +131,9 @@ pub range_long : (n l : ℕ) → length (range_with_len l n) ≡ n
 range_long zero l = refl
 range_long (suc n) l = ap (λ (k : ℕ). suc k) (range_long n (l + 1))
 
-pub run_fits : (all row members others : List ℕ) (l n room : ℕ) → Ascends l members → length all ≤ room → Joining all row members (range_with_len l n ++ others) → length row + n ≤ room
-run_fits all row members others l n room up fits h =
-    let g = run_joined n all row members others l up h in
-    omega (arith, fits, ap (λ (r : List ℕ). length r) g.on.list, length-append (row ++ range_with_len l n) (union_of members others), length-append row (range_with_len l n), range_long n l)
+pub run_fits : (all row members others : List ℕ) (l n room : ℕ) → length all ≤ room → Joining all row members (range_with_len l n ++ others) → length row + length members + n ≤ room
+run_fits all row members others l n room fits h =
+    omega (arith, fits, ap (λ (r : List ℕ). length r) h.list, length-append row (union_of members (range_with_len l n ++ others)), joined_long members (range_with_len l n ++ others) h.joinable, length-append (range_with_len l n) others, range_long n l)
 
 -- ---- the end
 
@@ -125,10 +146,6 @@ rest_joined all row new members others none more h =
     let g : Joining all row members [] = subst (λ (l : List ℕ). Joining all row members l) none h in
     more ∙ ap (λ (l : List ℕ). row ++ l) (sym (union_none 0 members g.joinable.members_ascend)) ∙ g.list
 
-pub rest_fits : (all row members others : List ℕ) (room : ℕ) → others ≡ [] → length all ≤ room → Joining all row members others → length row + length members ≤ room
-rest_fits all row members others room none fits h =
-    omega (arith, fits, ap (λ (l : List ℕ). length l) (rest_joined all row (row ++ members) members others none refl h), length-append row members)
-
 -- no other number
 pub none_joined : (row others : List ℕ) → others ≡ [] → AreJoinable row others → row ≡ union_of row others
 none_joined row others none h = sym (ap (λ (l : List ℕ). union_of row l) none ∙ union_none 0 row h.members_ascend)
@@ -140,25 +157,6 @@ no_numbers (l ∷ ls) lengths count none len = absurd (omega (arith, none, len))
 pub no_residuals : (ys : List ℕ) (count : ℕ) → count ≡ 0 → length ys ≡ count → ys ≡ []
 no_residuals [] count none len = refl
 no_residuals (y ∷ ys) count none len = absurd (omega (arith, none, len))
-
--- ---- how many they are
-
-with_long : (x : ℕ) (ys : List ℕ) → is_in x ys ≡ false → length (with_number x ys) ≡ suc (length ys)
-with_long x [] out = refl
-with_long x (y ∷ ys) out = elim (cases_lt x y) [
-  | inl lt ↦ rw (lt-ltb x y lt) refl
-  | inr ge ↦ elim (cases_eq x y) [
-    | inl e ↦ absurd (let there : is_in x (y ∷ ys) ≡ true = rw (eq-eqb x y e) refl in let f : true ≡ false = sym there ∙ out in cc)
-    | inr ne ↦ rw (le-ltb x y ge, ne_eqb x y ne) (ap (λ (k : ℕ). suc k) (with_long x ys (rw (ne_eqb x y ne) at out)))
-  ]
-]
-
-pub union_long : (n : ℕ) (xs ys : List ℕ) → Ascends n xs → ShareNone xs ys → length (union_of xs ys) ≡ length xs + length ys
-union_long n [] ys up apart = omega arith
-union_long n (x ∷ xs) ys up apart =
-    let out : is_in x (union_of xs ys) ≡ false = rw (in_union x xs ys, in_below (suc x) x xs up.1 (omega arith), share_head x xs ys apart) refl in
-    let more : length (union_of (x ∷ xs) ys) ≡ suc (length (union_of xs ys)) = with_long x (union_of xs ys) out in
-    omega (arith, more, union_long (suc x) xs ys up.1 (share_tail x xs ys apart))
 
 -- ---- the three parts of a list
 
@@ -174,6 +172,3 @@ with_third xs ys zs list h = record {
     | inr e ↦ h.apart.inside_residuals y (let g : (is_in y xs || is_in y ys) ≡ true = sym (in_union y xs ys) ∙ there in rw e at g)
   ];
 }
-
-pub joined_long : (xs ys : List ℕ) → AreJoinable xs ys → length (union_of xs ys) ≡ length xs + length ys
-joined_long xs ys h = union_long 0 xs ys h.members_ascend h.apart

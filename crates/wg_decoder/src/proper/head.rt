@@ -1,5 +1,5 @@
 //! The head of a record: its outdegree, and where it refers to.
-ghost use Rattle.std.specs.Prelude.{◌≡◌, ℕ, List, Option};
+ghost use Rattle.std.specs.Prelude.{◌≡◌, ◌^◌, ◌<◌, ℕ, List, Option};
 ghost use Rattle.wg_grammar.specs.SoFar.{value_or_0};
 ghost use Rattle.wg_decoder.specs.Proper.Headed.{IsHead};
 ghost use Rattle.wg_decoder.specs.Proper.{IsRecord};
@@ -15,8 +15,8 @@ pub struct RecordHead<'a> {
     pub outdegree: u64,
     /// How many pages back the record refers; 0, if it has no reference.
     pub reference: u64,
-    // stands behind the head
-    pub(crate) words: Lookahead<'a>,
+    /// Stands behind the head.
+    pub words: Lookahead<'a>,
 }
 
 /// Reads the head of the record at the cursor: two words at most.
@@ -24,6 +24,7 @@ pub struct RecordHead<'a> {
 pub fn read_head<'a>(params: &Params, cursor: Cursor<'a>) -> RecordHead<'a>
     requires { (page : ℕ) × (below : Option (List ℕ)) × (list : List ℕ)
         × IsRecord params.now page below cursor list }
+    ensures short { result.outdegree < 2 ^ 63 }
     ensures head { IsHead params.now cursor.entry result }
     ensures reference { (page : ℕ) (below : Option (List ℕ)) (list : List ℕ)
         (h : IsRecord params.now page below cursor.entry list) → result.reference ≡ value_or_0 h.whole.reference }

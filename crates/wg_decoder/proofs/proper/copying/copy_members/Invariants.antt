@@ -1,4 +1,4 @@
-use Rattle.std.proofs.Common.{◌≡◌, ℕ, ◌+◌, ◌≤◌, Bool, List, length}
+use Rattle.std.proofs.Common.{◌≡◌, ℕ, ◌≤◌, Bool, List, length}
 use Rattle.std.specs.Prelude.{sum}
 use Rattle.wg_bits.specs.Bits.{rest}
 use Rattle.wg_blocks.specs.Stored.{blocks_of}
@@ -11,6 +11,6 @@ invariant-copies l = record {
   on : (values : List ℕ) (behind : List Bool) → length values ≡ l.count → sum (blocks_of values) ≤ length l.members → WordsTo l.code values (rest l.fn.cursor) behind
       → Copying l.code l.count l.members values behind l.fn.row.list l.index l.done l.row.list (rest l.cursor);
   fits : l.done ≤ length l.members;
-  long : length l.row.list ≤ length l.fn.row.list + l.done;
+  waiting : l.row.waiting ≡ l.fn.row.waiting;
   room : l.row.room ≡ l.fn.row.room;
 }

@@ -3,8 +3,8 @@ use Rattle.std.proofs.Common.{◌-◌, ◌^◌, ◌≤◌, ℕ, Bool, List, leng
 use Rattle.wg_bits.specs.Bits.{rest}
 use Rattle.wg_graph.specs.Ascending.{Ascends}
 use Rattle.wg_decoder.proofs.ProperLemmas.LaidOut.{laid_of, laid_with}
-use Rattle.wg_decoder.proofs.ProperLemmas.Beginning.{count_word, count_read, pass_words, copied_fits, interval_count_word, interval_count_read, some_source}
-use Rattle.wg_decoder.proofs.ProperLemmas.DecodeLemmas.{members_copied, copied_long, intervals_join, intervals_joined, joined_fits, remaining, residuals_join}
+use Rattle.wg_decoder.proofs.ProperLemmas.Beginning.{count_word, count_read, copied_fits, interval_count_word, interval_count_read, some_source}
+use Rattle.wg_decoder.proofs.ProperLemmas.DecodeLemmas.{members_stand, members_copied, copied_long, intervals_join, intervals_joined, joined_fits, remaining, residuals_join}
 use Rattle.wg_decoder.proofs.ProperLemmas.Ending.{fewer_behind, end_there}
 use Rattle.wg_decoder.proofs.proper.decoding.decode_on.Goals as goal
 
@@ -25,7 +25,7 @@ copy_members-requires-clause-stand c =
     let l = laid_of c.args.params.now c.args.page c.requires.proper.0 c.args.cursor.now c.requires.proper.1 few c.requires.proper.2 in
     let e = c.requires.head l.outdegree l.reference l.after_outdegree l.after_reference l.outdegree_stands l.reference_stands in
     let e3 = count_read c.args.params.now c.args.page c.requires.proper.0 (rest c.args.cursor.now) c.requires.proper.1 (rest c.args.head.words) (rest c.value_where-count.new.cursor) c.value_where-count.result c.is_some.result c.block_counts.result (c.is_some.ensures ∙ some_source c.args.source c.requires.proper.0 s.source_is) c.block_counts.ensures.value c.value_where-count.ensures.exact l e.2 in
-    pass_words c.args.params.now c.args.page c.requires.proper.0 (rest c.args.cursor.now) c.requires.proper.1 (rest c.value_where-count.new.cursor) c.value_where-count.result (length c.args.members.now) c.blocks-2.result c.blocks-2.ensures.value (ap (λ (xs : List ℕ). length xs) s.members_are) l e3
+    members_stand c.args.params.now c.args.page c.requires.proper.0 (rest c.args.cursor.now) c.requires.proper.1 (rest c.value_where-count.new.cursor) c.value_where-count.result c.clear.new.self.room c.args.members.now c.clear.new.self.list c.clear.new.self.waiting c.blocks-2.result c.blocks-2.ensures.value s.members_are c.clear.ensures.list c.clear.ensures.waiting (omega (arith, c.requires.proper.4, c.clear.ensures.room)) l e3
 
 pub overflow_sub-extra : goal.overflow_sub-extra
 overflow_sub-extra c =

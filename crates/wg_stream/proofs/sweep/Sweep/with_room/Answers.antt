@@ -29,12 +29,10 @@ invariant_of-result c =
       last = λ some. absurd (omega (arith, some));
       turns = λ some. some;
       before = kept_none g.reading.records _ _ _ (omega arith);
-    } in (
-      subst (λ (p : Parameters). Sweeping p c.of.result.bytes.now c.of.result.graph.0 0 0 c.in_ok-kept.kept.items 0 c.in_ok-list.list) (sym c.of.ensures.params)
-          (subst (λ (b : List ℕ). Sweeping c.args.params b c.of.result.graph.0 0 0 c.in_ok-kept.kept.items 0 c.in_ok-list.list) (sym c.of.ensures.bytes)
-          (subst (λ (l : List (List ℕ)). Sweeping c.args.params c.args.bytes.now l 0 0 c.in_ok-kept.kept.items 0 c.in_ok-list.list) (sym one) whole)),
-      c.in_ok-spare.ensures.room ∙ sym c.in_ok-list.ensures.room,
-    )
+    } in
+    subst (λ (p : Parameters). Sweeping p c.of.result.bytes.now c.of.result.graph.0 0 0 c.in_ok-kept.kept.items 0 c.in_ok-list.list) (sym c.of.ensures.params)
+    (subst (λ (b : List ℕ). Sweeping c.args.params b c.of.result.graph.0 0 0 c.in_ok-kept.kept.items 0 c.in_ok-list.list) (sym c.of.ensures.bytes)
+    (subst (λ (l : List (List ℕ)). Sweeping c.args.params c.args.bytes.now l 0 0 c.in_ok-kept.kept.items 0 c.in_ok-list.list) (sym one) whole))
 
 pub returns-clause-graph : goal.returns-clause-graph
 returns-clause-graph c a reads =
