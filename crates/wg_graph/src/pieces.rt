@@ -19,7 +19,7 @@ fn copy_piece(to: &mut [u64], at: usize, from: &[u64], start: usize)
     to[at..at + PIECE].copy_from_slice(&from[start..start + PIECE]);
 }
 
-// Copies a piece to this place, or one number if there is no whole piece, and tells how many numbers these are.
+// Copies a piece to this place, or what is left if that is no whole piece, and tells how many numbers these are.
 #[inline(always)]
 fn copy_some(to: &mut [u64], at: usize, from: &[u64], start: usize) -> usize
     requires to { at + PIECE ≤ length to.old }
@@ -30,9 +30,10 @@ fn copy_some(to: &mut [u64], at: usize, from: &[u64], start: usize) -> usize
     ensures copied { take (at + result) to.new ≡ take at to.old ++ slice_range from.now start (start + result) }
     ensures kept { drop (at + PIECE) to.new ≡ drop (at + PIECE) to.old }
 {
-    if from.len() - start < PIECE {
-        to[at] = from[start];
-        return 1;
+    let left = from.len() - start;
+    if left < PIECE {
+        to[at..at + left].copy_from_slice(&from[start..]);
+        return left;
     }
     copy_piece(to, at, from, start);
     PIECE
