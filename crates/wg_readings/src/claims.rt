@@ -1,6 +1,5 @@
 //! What a certificate claims.
-ghost use Rattle.std.specs.Prelude.{◌≡◌, ◌≤◌, ◌⊎◌, IfErr, IfOk, length};
-ghost use Rattle.wg_params.specs.declared.limits.TheConstants.{MOST_PAGES};
+ghost use Rattle.std.specs.Prelude.{◌≡◌, ◌⊎◌, IfErr, IfOk, length};
 ghost use Rattle.wg_outcomes.specs.Answers.{Steps};
 ghost use Rattle.wg_outcomes.specs.Judged.{with_claim};
 ghost use Rattle.wg_readings.specs.Loading.{IsBadCertificate};
@@ -11,7 +10,6 @@ use wg_rank::{CertError, Certificate, read_certificate};
 
 /// What a certificate's text claims of so many pages.
 pub fn claim_of_text(alloc: Global, bytes: &[u8], nodes: u64) -> Result<Certificate, Ending>
-    requires { nodes ≤ MOST_PAGES }
     ensures steps { Steps (with_claim nodes bytes.now) result }
     ensures only { IfErr result (λ e. (e.status ≡ Status.Memory) ⊎ IsBadCertificate e.status) }
     ensures pages { IfOk result (λ c. length c.low ≡ nodes) }

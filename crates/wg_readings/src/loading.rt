@@ -141,7 +141,6 @@ pub fn load_certificate<D: Depot>(
     depot: &mut D,
     name: &Name,
 ) -> Result<Certificate, Ending>
-    requires { nodes ≤ MOST_PAGES }
     ensures { LoadsCertificateBy ⟦<D as Depot>⟧ name.now nodes depot.old depot.new result }
 {
     let bytes = load_file(alloc, depot, name.as_str(), Input::Certificate)?;
