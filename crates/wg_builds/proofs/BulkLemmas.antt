@@ -170,9 +170,9 @@ module _ (g : Digraph) (base : List ℕ) (files : Files) (is : IsBuilt g base fi
 -- ---- a command without files ended for want of memory
 
 pub ends_alone : (job : Job) (told_files told_out : Bool) (files : Files) (counts : List ℕ → Counts) (taken : List ℕ) (faults : ℕ) (e : Ending) → e.status ≡ Memory
-    → Performs job told_files told_out (outside files counts taken faults) (outside files counts taken faults) e.status e.arcs
+    → Performs job told_files told_out (outside files counts taken faults) (outside files counts taken faults) e.status e.promised
 ends_alone job told_files told_out files counts taken faults e want =
     let own : IsOwn e.status = subst IsOwn (sym want) tt in
-    stopped job told_files told_out (outside files counts taken faults) (outside files counts taken faults) e.status e.arcs (subst IsStop (sym want) tt) refl refl
+    stopped job told_files told_out (outside files counts taken faults) (outside files counts taken faults) e.status e.promised (subst IsStop (sym want) tt) refl refl
     (λ t r. inr (subst IsHindrance (sym want) tt)) (subst (λ (s : Status). IsTrue (can_end job s)) (sym want) refl) (own_caused _ _ _ _ _ _ e.status own) (λ t r i is. absurd (subst IsOwn is own))
-    (none_falls-refl counts) (λ t. subst (λ (s : Status). ArePromised (held_by (input_name job) files) s e.arcs) (sym want) tt)
+    (none_falls-refl counts) (λ t. subst (λ (s : Status). ArePromised (held_by (input_name job) files) s e.promised) (sym want) tt)

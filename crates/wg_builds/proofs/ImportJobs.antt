@@ -21,18 +21,18 @@ use Rattle.wg_outcomes.proofs.PerformsLemmas.{IsStop, stopped, unread}
 
 -- a plain text that was not read
 pub text_unread : (text base : List ℕ) (l : Layout) (td to : Bool) (before after : Outside) (e : Ending) → after.taken ≡ before.taken → LoadsText text td before.files after.files before.counts after.counts (Err e)
-    → Performs (Import text base l) td to before after e.status e.arcs
+    → Performs (Import text base l) td to before after e.status e.promised
 text_unread text base l td to before after e silent h = by_only h.only
   where
     answers : IsTrue td → (r : Readings) → Answers (judged_on r (Import text base l) before.files) e.status
     answers t r = h.steps t r (λ g. builds l g)
 
-    by_only : (IsOfInput Text e.status ⊎ IsBadText e.status) → Performs (Import text base l) td to before after e.status e.arcs
+    by_only : (IsOfInput Text e.status ⊎ IsBadText e) → Performs (Import text base l) td to before after e.status e.promised
     by_only (inl only) =
-        unread (text_named text) Text (Import text base l) td to before after e.status e.arcs refl refl silent only h.causes h.same h.later answers
+        unread (text_named text) Text (Import text base l) td to before after e.status e.promised refl refl silent only h.causes h.same h.later answers
         (λ t r i is. subst (λ (k : Input). Reaches r (Import text base l) (held_by (input_name (Import text base l)) before.files) k) (own_read Text e.status i only is) refl)
     by_only (inr fault) =
         let own : IsOwn e.status = subst IsOwn (sym fault.2) tt in
-        stopped (Import text base l) td to before after e.status e.arcs (subst IsStop (sym fault.2) tt) silent h.same answers
+        stopped (Import text base l) td to before after e.status e.promised (subst IsStop (sym fault.2) tt) silent h.same answers
         (subst (λ (s : Status). IsTrue (can_end (Import text base l) s)) (sym fault.2) refl) (own_caused _ _ _ _ _ _ e.status own)
-        (λ t r i is. absurd (subst IsOwn is own)) h.later (λ t. subst (λ (s : Status). ArePromised (held_by (input_name (Import text base l)) before.files) s e.arcs) (sym fault.2) tt)
+        (λ t r i is. absurd (subst IsOwn is own)) h.later (λ t. subst (λ (s : Status). ArePromised (held_by (input_name (Import text base l)) before.files) s e.promised) (sym fault.2) tt)

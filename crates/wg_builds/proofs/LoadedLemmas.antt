@@ -76,9 +76,9 @@ module _ (base : List ℕ) (td : Bool) (files : Files) (counts : List ℕ → Co
   abbrev behind_params : Readings → (Input → Option (List ℕ)) → Next → Parameters → Judged
   behind_params r h next p = with_file Graph (h Graph) (λ bytes. behind_bytes r h next p bytes)
 
-  not_params : (held' : Input → Option (List ℕ)) (e : Ending) → (IsOfInput Properties e.status ⊎ ((f : PropFault) × (e.status ≡ BadProperties f))) → ArePromised held' e.status e.arcs
-  not_params held' e (inl only) = unread_promised held' Properties e.status e.arcs only
-  not_params held' e (inr fault) = subst (λ (s : Status). ArePromised held' s e.arcs) (sym fault.1) tt
+  not_params : (held' : Input → Option (List ℕ)) (e : Ending) → (IsOfInput Properties e.status ⊎ ((f : PropFault) × (e.status ≡ BadProperties f))) → ArePromised held' e.status e.promised
+  not_params held' e (inl only) = unread_promised held' Properties e.status e.promised only
+  not_params held' e (inr fault) = subst (λ (s : Status). ArePromised held' s e.promised) (sym fault.1) tt
 
   of_params : (e : Ending) → (IsOfInput Properties e.status ⊎ ((f : PropFault) × (e.status ≡ BadProperties f))) → IsOfArchive e.status
   of_params e (inl only) = of_input Properties e.status tt only
@@ -118,7 +118,7 @@ module _ (base : List ℕ) (td : Bool) (files : Files) (counts : List ℕ → Co
       only = of_input Graph e.status tt b.mine;
       causes = cause_later (file_of base) counts counts1 counts' e.status l.later b.causes;
       reached = λ t r i is next. subst (λ (k : Input). with_archive r (without k held) next ≡ refused (Missing k)) (own_read Graph e.status i b.mine is) (k1 t r (without Graph held) refl next);
-      promised = λ t. unread_promised held Graph e.status e.arcs b.mine;
+      promised = λ t. unread_promised held Graph e.status e.promised b.mine;
       same = b.same ∙ l.same;
       later = none_falls-trans _ _ _ l.later b.later;
     }
@@ -163,8 +163,8 @@ module _ (base : List ℕ) (td : Bool) (files : Files) (counts : List ℕ → Co
           later = none_falls-trans _ _ _ (none_falls-trans _ _ _ l.later b.later) o.reads.later;
         }
           where
-            stop_promised : IsTrue td → IsStopAt Offsets p.arcs e → ArePromised held e.status e.arcs
-            stop_promised t (inl only) = unread_promised held Offsets e.status e.arcs only
+            stop_promised : IsTrue td → IsStopAt Offsets p.arcs e → ArePromised held e.status e.promised
+            stop_promised t (inl only) = unread_promised held Offsets e.status e.promised only
             stop_promised t (inr bad) = bad_promised held p Offsets e (l.given t) bad
 
         loads_all : (files' : Files) (counts' : List ℕ → Counts) (loaded : Loaded) → JudgesOffsets base p a.places td files2 files' counts2 counts' (Ok tt) → loaded.params ≡ p → loaded.bytes ≡ bytes

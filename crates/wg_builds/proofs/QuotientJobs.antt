@@ -11,7 +11,7 @@ use Rattle.wg_outcomes.specs.Answers.{status_in}
 use Rattle.wg_outcomes.specs.Judged.{Judged, map_then}
 use Rattle.wg_readings.specs.Loading.{IsBadMap, LoadsGraph, LoadsMap, LoadsParams}
 use Rattle.wg_outcomes.specs.Names.{map_named}
-use Rattle.wg_outcomes.specs.Promised.{arcs_in}
+use Rattle.wg_outcomes.specs.Promised.{promised_in}
 use Rattle.wg_outcomes.specs.Readings.{Readings}
 use Rattle.wg_outcomes.specs.declared.ending.Ending.{Ending}
 use Rattle.wg_outcomes.specs.declared.status.Input.{Input}
@@ -40,11 +40,11 @@ module _ (input map output : List ℕ) (classes : ℕ) (layout : Layout) (td to 
   behind_graph p g r h = map_then g.nodes classes (h Map) (λ list. behind_map g list r h)
 
   pub no_params : (after : Outside) (e : Ending) → after.taken ≡ before.taken → LoadsParams input td before.files after.files before.counts after.counts (Err e)
-      → Performs job td to before after e.status e.arcs
+      → Performs job td to before after e.status e.promised
   no_params after e silent l = graphs.no_params job input td to before refl refl behind_graph (λ r h. refl) after e silent l
 
   module _ (p : Parameters) (files : Files) (counts : List ℕ → Counts) (l : LoadsParams input td before.files files before.counts counts (Ok p)) where
-    pub no_graph : (after : Outside) (e : Ending) → after.taken ≡ before.taken → LoadsGraph input p td files after.files counts after.counts (Err e) → Performs job td to before after e.status e.arcs
+    pub no_graph : (after : Outside) (e : Ending) → after.taken ≡ before.taken → LoadsGraph input p td files after.files counts after.counts (Err e) → Performs job td to before after e.status e.promised
     no_graph after e silent g = graphs.no_graph job input td to before refl refl behind_graph (λ r h. refl) p files counts l after e silent g
 
     module _ (files1 : Files) (counts1 : List ℕ → Counts) (graph : Digraph) (g : LoadsGraph input p td files files1 counts counts1 (Ok graph)) where
@@ -52,25 +52,25 @@ module _ (input map output : List ℕ) (classes : ℕ) (layout : Layout) (td to 
       come = graphs.has_graph job input td to before refl refl behind_graph (λ r h. refl) p files counts l files1 counts1 graph g
 
       pub no_map : (after : Outside) (e : Ending) → after.taken ≡ before.taken → LoadsMap map graph.nodes classes td files1 after.files counts1 after.counts (Err e)
-          → Performs job td to before after e.status e.arcs
+          → Performs job td to before after e.status e.promised
       no_map after e silent m =
-          ends_named job input td to before p files1 counts1 (Graph ∷ Properties ∷ []) Map (map_named map) refl IsBadMap (map_then graph.nodes classes) (behind_map graph) come
-          (λ h holds. holds) (λ n. refl) (map_refused job refl) refl after e silent m.reads
+          ends_named job input td to before p files1 counts1 (Graph ∷ Properties ∷ []) Map (map_named map) refl (IsBadMap graph.nodes) (map_then graph.nodes classes) (behind_map graph) come
+          (λ h holds. holds) (λ n. refl) (map_refused job p graph.nodes g.nodes refl) refl after e silent m.reads
 
       module _ (files2 : Files) (counts2 : List ℕ → Counts) (list : List ℕ) (m : LoadsMap map graph.nodes classes td files1 files2 counts1 counts2 (Ok list)) where
         come_to_map : ComesTo job p td before files2 counts2 (Map ∷ Graph ∷ Properties ∷ []) (behind_map graph list)
         come_to_map =
-            comes_on_named job input td to before p files1 counts1 (Graph ∷ Properties ∷ []) Map (map_named map) refl IsBadMap (map_then graph.nodes classes) (behind_map graph) come
+            comes_on_named job input td to before p files1 counts1 (Graph ∷ Properties ∷ []) Map (map_named map) refl (IsBadMap graph.nodes) (map_then graph.nodes classes) (behind_map graph) come
             files2 counts2 list m.reads
 
         -- there was no memory for the quotient
-        pub no_quotient : (taken : List ℕ) (faults : ℕ) (e : Ending) → taken ≡ before.taken → e.status ≡ Memory → Performs job td to before (outside files2 counts2 taken faults) e.status e.arcs
+        pub no_quotient : (taken : List ℕ) (faults : ℕ) (e : Ending) → taken ≡ before.taken → e.status ≡ Memory → Performs job td to before (outside files2 counts2 taken faults) e.status e.promised
         no_quotient taken faults e silent want =
             ends_without job input td to before p files2 counts2 (Map ∷ Graph ∷ Properties ∷ []) (behind_map graph list) come_to_map taken faults e silent want
 
         -- it was made
         pub writes_quotient : (q : Digraph) → q ≡ quotient_of graph list classes → (after : Outside) (r : Result (Unit {0}) Ending)
-            → BuildsArchive layout q output td to (outside files2 counts2 before.taken before.faults) after r → Performs job td to before after (status_in r) (arcs_in r)
+            → BuildsArchive layout q output td to (outside files2 counts2 before.taken before.faults) after r → Performs job td to before after (status_in r) (promised_in r)
         writes_quotient q is after r b =
             writes job input td to before p files2 counts2 (Map ∷ Graph ∷ Properties ∷ []) (behind_map graph list) come_to_map
             layout q output (λ o. ap (λ x. builds layout x) (sym is)) refl refl after r b

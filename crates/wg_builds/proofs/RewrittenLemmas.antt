@@ -26,7 +26,7 @@ use Rattle.wg_readings.specs.Loading.{JudgesGraph}
 use Rattle.wg_outcomes.specs.JobFiles.{can_end, has_output, input_name}
 use Rattle.wg_outcomes.specs.Names.{archive_named, file_of, held_by}
 use Rattle.wg_readings.specs.Passes.{IsGraphFile, graph_then}
-use Rattle.wg_outcomes.specs.Promised.{IsStopAt, arcs_in}
+use Rattle.wg_outcomes.specs.Promised.{IsStopAt, promised_in}
 use Rattle.wg_outcomes.specs.Performs.{BuildsArchive, Outside, Performs, judged_on, outside}
 use Rattle.wg_outcomes.specs.Readings.{Readings}
 use Rattle.wg_outcomes.specs.Written.{AreWhole, FilesLeft, HasFiles, IsStopped, OthersStay, archive_at, greedy_archive, params_for}
@@ -88,7 +88,7 @@ module _ (input output : List ℕ) (l : Layout) (p : Parameters) (td to : Bool) 
         → Copies {A = ℕ} td input output p seen seen_counts after.counts (Err e)
         → (IsTrue td → (a : Accepted) → IsGraphFile (held_by (file_of input) seen Graph) p a
         → FilesLeft true (greedy_archive made (graph_of p a)) (archive_at (archive_named output) seen) (archive_at (archive_named output) after.files) e.status)
-        → Performs job td to before after e.status e.arcs
+        → Performs job td to before after e.status e.promised
     rewriting_stopped e silent h left = record {
       answers = λ t q. let a = known t in inr (h.hindered t a.0 a.1);
       possible = rewriting_possible job p.arcs e refl (has_each job (archive_named output) refl _ _ _ _ _ e.status (h.causes (input_name job) refl)) h.only;
@@ -108,7 +108,7 @@ module _ (input output : List ℕ) (l : Layout) (p : Parameters) (td to : Bool) 
           ));
       same = λ none. absurd (let no : true ≡ false = none in cc);
       later = none_falls-trans _ _ _ later h.later;
-      promised = λ t. let a = known t in hindered_promised held e.status e.arcs (h.hindered t a.0 a.1);
+      promised = λ t. let a = known t in hindered_promised held e.status e.promised (h.hindered t a.0 a.1);
     }
 
     -- the files are whole, and the line is printed
@@ -117,7 +117,7 @@ module _ (input output : List ℕ) (l : Layout) (p : Parameters) (td to : Bool) 
         → AreWhole (greedy_archive made (graph_of p a)) (archive_at (archive_named output) after.files) × (bits ≡ length (graph_bits made a.graph)))
         → NonDecreasing seen_counts after.counts
         → (IsTrue to → Puts (ok_line made bits) before.taken after.taken r) → IfErr r (λ e. IsUnput e.status) → (status_in r ≡ WriteFault Out → Increased before.faults after.faults)
-        → Performs job td to before after (status_in r) (arcs_in r)
+        → Performs job td to before after (status_in r) (promised_in r)
     rewritten bits r whole later2 puts only cause = at_graph td refl
       where
         -- the archive of a graph that the file stands for, if it is told
@@ -139,13 +139,13 @@ module _ (input output : List ℕ) (l : Layout) (p : Parameters) (td to : Bool) 
         }
 
         by_graph : (g : Digraph) → (IsTrue td → made ≡ params_for l g) → (IsTrue td → AreWhole (greedy_archive made g) (archive_at (archive_named output) after.files) × (bits ≡ length (graph_bits made g.lists)))
-            → (IsTrue td → (q : Readings) → judged_on q job before.files ≡ builds l g) → Performs job td to before after (status_in r) (arcs_in r)
+            → (IsTrue td → (q : Readings) → judged_on q job before.files ≡ builds l g) → Performs job td to before after (status_in r) (promised_in r)
         by_graph g is all goes = written job td to before after seen seen_counts l g output r refl refl goes same later (builds_here g is all)
 
         never : td ≡ false → IsTrue td → ⊥
         never is t = let no : false ≡ true = sym is ∙ t in cc
 
-        at_graph : (b : Bool) → td ≡ b → Performs job td to before after (status_in r) (arcs_in r)
+        at_graph : (b : Bool) → td ≡ b → Performs job td to before after (status_in r) (promised_in r)
         at_graph true is =
             let a = known is in
             by_graph (graph_of p a.0) (λ t. made_is ∙ made_for l (held_by (file_of input) seen Graph) p a.0 a.1) (λ t. whole t a.0 a.1)

@@ -21,7 +21,7 @@ use Rattle.wg_outcomes.specs.Answers.{Answers, IsHindrance, status_in, without}
 use Rattle.wg_outcomes.specs.Causes.{HasCause, IncreasedAt}
 use Rattle.wg_outcomes.specs.Judged.{Judged, accepted, built, certified, refused, status_of, with_archive}
 use Rattle.wg_outcomes.specs.Names.{file_of, file_of_fault, held_by, no_outputs}
-use Rattle.wg_outcomes.specs.Promised.{ArePromised, arcs_in}
+use Rattle.wg_outcomes.specs.Promised.{ArePromised, promised_in}
 use Rattle.wg_outcomes.specs.Readings.{Readings}
 use Rattle.wg_outcomes.specs.Second.{as_second, of_second, second_ending, second_held, second_input}
 use Rattle.wg_outcomes.specs.declared.ending.Ending.{Ending}
@@ -59,7 +59,7 @@ archive_cases P memory failed absent long properties bad TooManyArcs only = absu
 archive_cases P memory failed absent long properties bad (NoPage page) only = absurd only
 archive_cases P memory failed absent long properties bad (BadWeights f) only = absurd only
 archive_cases P memory failed absent long properties bad (BadText line kind) only = absurd only
-archive_cases P memory failed absent long properties bad (BadMap f pages) only = absurd only
+archive_cases P memory failed absent long properties bad (BadMap f) only = absurd only
 archive_cases P memory failed absent long properties bad (BadCertificate f) only = absurd only
 
 archive_inputs : (P : Input → Type 0) → P input.Properties → P input.Graph → P input.Offsets → (i : Input) → IsArchiveFile i → P i
@@ -163,10 +163,10 @@ module _ (first second output : List ℕ) (layout : Layout) (td to : Bool) (befo
       archive_inputs (λ i. ((next : Parameters → Accepted → Judged) → with_archive r (without i in_first) next ≡ refused (Missing i)) → Reaches r job held i)
       (λ missing. missing (behind_first r (without input.Properties held))) (λ missing. missing (behind_first r (without input.Graph held))) (λ missing. missing (behind_first r (without input.Offsets held)))
 
-  pub no_first : (after : Outside) (e : Ending) → after.taken ≡ before.taken → LoadsArchive first td before.files after.files before.counts after.counts (Err e) → Performs job td to before after e.status e.arcs
+  pub no_first : (after : Outside) (e : Ending) → after.taken ≡ before.taken → LoadsArchive first td before.files after.files before.counts after.counts (Err e) → Performs job td to before after e.status e.promised
   no_first after e silent l =
-      stopped job td to before after e.status e.arcs (first_stop e.status l.only) silent l.same (λ t r. l.ends t r (behind_first r held)) (first_possible e.status l.only)
-      (first_caused _ _ _ _ e.status l.only l.causes) (λ t r i is. first_reached r i (subst IsOfArchive is l.only) (l.reached t r i is)) l.later (λ t. first_promised e.arcs e.status l.only (l.promised t))
+      stopped job td to before after e.status e.promised (first_stop e.status l.only) silent l.same (λ t r. l.ends t r (behind_first r held)) (first_possible e.status l.only)
+      (first_caused _ _ _ _ e.status l.only l.causes) (λ t r i is. first_reached r i (subst IsOfArchive is l.only) (l.reached t r i is)) l.later (λ t. first_promised e.promised e.status l.only (l.promised t))
 
   -- ---- the second archive ends it
   second_stop : (s : Status) → IsOfArchive s → IsStop (as_second s)
@@ -240,19 +240,19 @@ module _ (first second output : List ℕ) (layout : Layout) (td to : Bool) (befo
         (λ f reach j is. absurd (let no : as_second (BadArchive f) ≡ ReadFault j = is in cc))
 
     second_ends : (after : Outside) (e : Ending) → after.taken ≡ before.taken → LoadsArchive second td before.files after.files counts1 after.counts (Err e)
-        → Performs job td to before after (as_second e.status) e.arcs
+        → Performs job td to before after (as_second e.status) e.promised
     second_ends after e silent h =
-        stopped job td to before after (as_second e.status) e.arcs (second_stop e.status h.only) silent h.same
+        stopped job td to before after (as_second e.status) e.promised (second_stop e.status h.only) silent h.same
         (λ t r. subst (λ (j : Judged). Answers j (as_second e.status)) (sym (l.goes.2 t r (behind_first r held))) (second_answers _ e.status h.only (h.ends t r (behind_second one.params a))))
         (second_possible e.status h.only) (second_caused _ _ _ _ e.status h.only (cause_later (file_of second) before.counts counts1 after.counts e.status l.later h.causes))
-        (λ t r j is. second_reached t r e.status h.only (λ i at. h.reached t r i at) j is) (none_falls-trans _ _ _ l.later h.later) (λ t. second_promised e.arcs e.status h.only (h.promised t))
+        (λ t r j is. second_reached t r e.status h.only (λ i at. h.reached t r i at) j is) (none_falls-trans _ _ _ l.later h.later) (λ t. second_promised e.promised e.status h.only (h.promised t))
 
     pub no_second : (after : Outside) (read : Result Loaded Ending) (e : Ending) → after.taken ≡ before.taken → LoadsArchive second td files1 after.files counts1 after.counts read
-        → Err e ≡ result_of_second read → Performs job td to before after e.status e.arcs
+        → Err e ≡ result_of_second read → Performs job td to before after e.status e.promised
     no_second after (Ok other) e silent h is = absurd (false≢true (ap went_on is))
     no_second after (Err was) e silent h is =
         let same : e ≡ second_ending was = ap (λ (r : Result Loaded Ending). end_of r e) is in
-        subst (λ (x : Ending). Performs job td to before after x.status x.arcs) (sym same)
+        subst (λ (x : Ending). Performs job td to before after x.status x.promised) (sym same)
         (second_ends after was silent (subst (λ (f : Files). LoadsArchive second td f after.files counts1 after.counts (Err was)) l.same h))
 
     module _ (other : Loaded) (files2 : Files) (counts2 : List ℕ → Counts) (h : LoadsArchive second td files1 files2 counts1 counts2 (Ok other)) where
@@ -273,25 +273,25 @@ module _ (first second output : List ℕ) (layout : Layout) (td to : Bool) (befo
 
       -- the union was not made
       pub no_union : (taken : List ℕ) (faults : ℕ) (e : Ending) → taken ≡ before.taken → (e.status ≡ Memory) ⊎ (e.status ≡ TooManyArcs) → (e.status ≡ TooManyArcs → MOST_ARCS < arc_count both)
-          → Performs job td to before (outside files2 counts2 taken faults) e.status e.arcs
+          → Performs job td to before (outside files2 counts2 taken faults) e.status e.promised
       no_union taken faults e silent only many = by_only only
         where
-          ends : (s : Status) → IsStop s → IsOwn s → IsTrue (can_end job s) → (IsTrue td → (r : Readings) → Answers (judged_on r job before.files) s) → ArePromised held s e.arcs
-              → Performs job td to before (outside files2 counts2 taken faults) s e.arcs
+          ends : (s : Status) → IsStop s → IsOwn s → IsTrue (can_end job s) → (IsTrue td → (r : Readings) → Answers (judged_on r job before.files) s) → ArePromised held s e.promised
+              → Performs job td to before (outside files2 counts2 taken faults) s e.promised
           ends s stop own possible answers told =
-              stopped job td to before (outside files2 counts2 taken faults) s e.arcs stop silent same answers possible (own_caused _ _ _ _ _ _ s own)
+              stopped job td to before (outside files2 counts2 taken faults) s e.promised stop silent same answers possible (own_caused _ _ _ _ _ _ s own)
               (λ t r i is. absurd (subst IsOwn is own)) (none_falls-trans _ _ _ l.later h.later) (λ t. told)
 
-          by_only : ((e.status ≡ Memory) ⊎ (e.status ≡ TooManyArcs)) → Performs job td to before (outside files2 counts2 taken faults) e.status e.arcs
+          by_only : ((e.status ≡ Memory) ⊎ (e.status ≡ TooManyArcs)) → Performs job td to before (outside files2 counts2 taken faults) e.status e.promised
           by_only (inl want) =
-              subst (λ (s : Status). Performs job td to before (outside files2 counts2 taken faults) s e.arcs) (sym want) (ends Memory tt tt refl (λ t r. inr tt) tt)
+              subst (λ (s : Status). Performs job td to before (outside files2 counts2 taken faults) s e.promised) (sym want) (ends Memory tt tt refl (λ t r. inr tt) tt)
           by_only (inr many_is) =
-              subst (λ (s : Status). Performs job td to before (outside files2 counts2 taken faults) s e.arcs) (sym many_is)
+              subst (λ (s : Status). Performs job td to before (outside files2 counts2 taken faults) s e.promised) (sym many_is)
               (ends TooManyArcs tt tt refl (λ t r. inl (sym (ap status_of (goes t r ∙ ap (λ (x : Bool). of_second (if x then refused TooManyArcs else builds layout both)) (lt-ltb MOST_ARCS (arc_count both) (many many_is)))))) tt)
 
       -- it was, and is written
       pub unites : (g : Digraph) → g ≡ both → arc_count g ≤ MOST_ARCS → (after : Outside) (r : Result (Unit {0}) Ending) → BuildsArchive layout g output td to (outside files2 counts2 before.taken before.faults) after r
-          → Performs job td to before after (status_in r) (arcs_in r)
+          → Performs job td to before after (status_in r) (promised_in r)
       unites g is few after r h' =
           written job td to before after files2 counts2 layout g output r refl refl
           (λ t q. goes t q ∙ ap (λ (x : Bool). of_second (if x then refused TooManyArcs else builds layout both)) (le-ltb MOST_ARCS (arc_count both) (subst (λ (x : Digraph). arc_count x ≤ MOST_ARCS) is few))

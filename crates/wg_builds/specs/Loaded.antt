@@ -11,7 +11,7 @@ use Rattle.wg_outcomes.specs.Causes.{HasCause}
 use Rattle.wg_outcomes.specs.Judged.{Judged, refused, with_archive, with_graph}
 use Rattle.wg_readings.specs.Loading.{JudgesOffsets}
 use Rattle.wg_outcomes.specs.Names.{file_of, held_by, no_outputs}
-use Rattle.wg_outcomes.specs.Promised.{ArePromised, IsBadFile, arcs_in}
+use Rattle.wg_outcomes.specs.Promised.{ArePromised, IsBadFile, promised_in}
 use Rattle.wg_outcomes.specs.Readings.{Readings}
 use Rattle.wg_outcomes.specs.Second.{second_ending}
 use Rattle.wg_outcomes.specs.declared.ending.Ending.{Ending}
@@ -68,7 +68,7 @@ pub record LoadsArchive (base : List ℕ) (told : Bool) (files files' : Files) (
   pub reached : IsTrue told → (r : Readings) (i : Input) → status_in result ≡ ReadFault i
       → (next : Parameters → Accepted → Judged) → with_archive r (without i (held_by (file_of base) files)) next ≡ refused (Missing i)
   -- the arcs are those that the line of the status names
-  pub promised : IsTrue told → ArePromised (held_by (file_of base) files) (status_in result) (arcs_in result)
+  pub promised : IsTrue told → ArePromised (held_by (file_of base) files) (status_in result) (promised_in result)
   -- no file has changed, and no count of the depot falls
   pub same : files' ≡ files
   pub later : NonDecreasing counts counts'

@@ -1,4 +1,4 @@
--- The arcs that a line names.
+-- What a line names as promised.
 use Rattle.std.proofs.Common.{ℕ, Option, Some, None}
 use Rattle.wg_io.specs.Outside.{Files}
 use Rattle.wg_words.specs.declared.jobs.Job.{Job}

@@ -33,7 +33,7 @@ abbrev pub certificate_in : Option (List ℕ) → Output → Option (List ℕ)
 certificate_in None o = None
 certificate_in (Some name) o = certificate_to name o
 
--- The line of a status, where the properties promise so many arcs.
+-- The line of a status, where the properties promise so many arcs or pages.
 abbrev pub line_of : Option Job → ℕ → Status → List ℕ
 line_of job promised Done = []
 line_of job promised Usage = codes "wg: bad command line\n"
@@ -49,9 +49,9 @@ line_of job promised (BadSecond (second.Archive f)) = naming (codes "wg: ") (nam
 line_of job promised TooManyArcs = codes "wg: too many arcs\n"
 line_of job promised (NoPage page) = no_page_line page
 line_of job promised (OverLimit i) = naming (codes "wg: too long: ") (name_in job i) []
-line_of job promised (BadWeights f) = naming (codes "wg: ") (name_in job input.Weights) (codes ": " ++ text_of_weights f)
+line_of job promised (BadWeights f) = naming (codes "wg: ") (name_in job input.Weights) (codes ": " ++ text_of_weights promised f)
 line_of job promised (BadText line kind) = naming (codes "wg: ") (name_in job input.Text) (codes ": " ++ text_of_plain line kind)
-line_of job promised (BadMap f pages) = naming (codes "wg: ") (name_in job input.Map) (codes ": " ++ text_of_numbers pages f)
+line_of job promised (BadMap f) = naming (codes "wg: ") (name_in job input.Map) (codes ": " ++ text_of_numbers promised f)
 line_of job promised (BadCertificate f) = naming (codes "wg: ") (name_in job input.Certificate) (codes ": " ++ text_of_certificate f)
 
 -- the line is there, or a prefix of it, and this only where the sink failed

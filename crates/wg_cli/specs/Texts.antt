@@ -95,9 +95,9 @@ abbrev pub text_of_numbers : ℕ → NumbersFault → List ℕ
 text_of_numbers pages (fault.Line line k) = codes "line " ++ decimal line ++ codes ": " ++ text_of_number_kind k
 text_of_numbers pages (fault.Count found) = codes "count " ++ decimal found ++ codes " of " ++ decimal pages
 
-abbrev pub text_of_weights : WeightsFault → List ℕ
-text_of_weights (weights.Numbers f pages) = text_of_numbers pages f
-text_of_weights weights.Zero = codes "sum zero"
+abbrev pub text_of_weights : ℕ → WeightsFault → List ℕ
+text_of_weights pages (weights.Numbers f) = text_of_numbers pages f
+text_of_weights pages weights.Zero = codes "sum zero"
 
 abbrev pub text_of_plain_kind : AsciiKind → List ℕ
 text_of_plain_kind plain.Shape = codes "shape"

@@ -12,7 +12,7 @@ abbrev pub some_writes_files : Option Job → Bool
 some_writes_files None = false
 some_writes_files (Some job) = writes_files job
 
--- the arcs that its properties promise, where the line of the status names them
+-- what its properties promise, where the line of the status names it
 abbrev pub ArePromisedBy : Option Job → Files → Status → ℕ → Type 0
 ArePromisedBy None files status promised = Unit {0}
 ArePromisedBy (Some job) files status promised = ArePromised (held_by (input_name job) files) status promised

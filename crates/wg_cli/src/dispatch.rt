@@ -1,7 +1,7 @@
 ghost use Rattle.std.specs.Prelude.{◌≡◌};
 ghost use Rattle.wg_words.specs.Jobs.{IsWithin};
 ghost use Rattle.wg_outcomes.specs.Answers.{status_in};
-ghost use Rattle.wg_outcomes.specs.Promised.{arcs_in};
+ghost use Rattle.wg_outcomes.specs.Promised.{promised_in};
 ghost use Rattle.wg_outcomes.specs.Performs.{Does};
 
 use std::alloc::Global;
@@ -25,7 +25,7 @@ use wg_words::Job;
 // How what was done or has ended is reported.
 fn ending_of(done: Result<(), Ending>) -> Ending
     ensures status { result.status ≡ status_in done }
-    ensures arcs { result.arcs ≡ arcs_in done }
+    ensures promised { result.promised ≡ promised_in done }
 {
     match done {
         Ok(()) => Ending::of(Status::Done),
@@ -36,7 +36,8 @@ fn ending_of(done: Result<(), Ending>) -> Ending
 /// Does the job, and says how it ended.
 pub fn perform<D: Depot, O: Sink>(alloc: Global, job: &Job, depot: &mut D, out: &mut O) -> Ending
     requires { IsWithin job.now }
-    ensures { Does ⟦<D as Depot>⟧ ⟦<O as Sink>⟧ job.now depot.old depot.new out.old out.new result.status result.arcs }
+    ensures { Does ⟦<D as Depot>⟧ ⟦<O as Sink>⟧ job.now depot.old depot.new out.old out.new result.status
+        result.promised }
 {
     match job {
         Job::Check { base } => ending_of(check(alloc, base, depot, out)),

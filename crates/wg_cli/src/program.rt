@@ -104,7 +104,7 @@ pub fn run<D: Depot, O: Sink, E: Sink>(
         return Status::Memory;
     };
     let ending = try_job(alloc, &wanted, depot, out);
-    report(err, &wanted, ending.arcs, ending.status);
+    report(err, &wanted, ending.promised, ending.status);
     ending.status
 }
 
@@ -132,8 +132,8 @@ fn try_job<D: Depot, O: Sink>(
     ensures no_job { wanted.now ≡ None → result.status ≡ Status.Usage }
     ensures no_output { wanted.now ≡ None → O.taken out.new ≡ O.taken out.old }
     ensures performs { (job : Job) → wanted.now ≡ Some job
-        → Does ⟦<D as Depot>⟧ ⟦<O as Sink>⟧ job depot.old depot.new out.old out.new result.status result.arcs }
-    ensures promised { IsTrue D.told → ArePromisedBy wanted.now (D.files depot.old) result.status result.arcs }
+        → Does ⟦<D as Depot>⟧ ⟦<O as Sink>⟧ job depot.old depot.new out.old out.new result.status result.promised }
+    ensures promised { IsTrue D.told → ArePromisedBy wanted.now (D.files depot.old) result.status result.promised }
     ensures same { some_writes_files wanted.now ≡ false → D.files depot.new ≡ D.files depot.old }
 {
     match wanted {

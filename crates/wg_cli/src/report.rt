@@ -149,12 +149,14 @@ fn write_line<S: Sink>(
         Status::TooManyArcs => write_all(sink, b"wg: too many arcs\n"),
         Status::NoPage(page) => write_all(sink, texts::no_page(page).as_bytes()),
         Status::OverLimit(input) => about(sink, "wg: too long: ", job, input, b""),
-        Status::BadWeights(fault) => fault_in(sink, job, Input::Weights, &texts::weights(fault)),
+        Status::BadWeights(fault) => {
+            fault_in(sink, job, Input::Weights, &texts::weights(promised, fault))
+        }
         Status::BadText { line, kind } => {
             fault_in(sink, job, Input::Text, &texts::plain(line, kind))
         }
-        Status::BadMap { fault, pages } => {
-            fault_in(sink, job, Input::Map, &texts::numbers(pages, fault))
+        Status::BadMap(fault) => {
+            fault_in(sink, job, Input::Map, &texts::numbers(promised, fault))
         }
         Status::BadCertificate(fault) => {
             fault_in(sink, job, Input::Certificate, &texts::certificate(fault))

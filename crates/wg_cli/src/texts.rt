@@ -169,12 +169,12 @@ pub fn numbers(wanted: u64, fault: NumbersFault) -> Text
     }
 }
 
-/// A fault of the weights of pages.
-pub fn weights(fault: WeightsFault) -> Text
-    ensures { result ≡ text_of_weights fault }
+/// A fault of the weights of so many pages.
+pub fn weights(wanted: u64, fault: WeightsFault) -> Text
+    ensures { result ≡ text_of_weights wanted fault }
 {
     match fault {
-        WeightsFault::Numbers { fault, pages } => numbers(pages, fault),
+        WeightsFault::Numbers(fault) => numbers(wanted, fault),
         WeightsFault::Zero => Text::new().with("sum zero"),
     }
 }

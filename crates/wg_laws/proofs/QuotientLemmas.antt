@@ -24,10 +24,10 @@ abbrev told : List ℕ → Result (List ℕ) NumbersFault
 told xs = Ok xs
 
 -- from what was built back to the classes
-classes_behind : (a : Archive) (out : List ℕ) (n : ℕ) (w : Result (List ℕ) NumbersFault) (next : List ℕ → Judged) → unless_bad_map n w next ≡ built a out
+classes_behind : (a : Archive) (out : List ℕ) (w : Result (List ℕ) NumbersFault) (next : List ℕ → Judged) → unless_bad_map w next ≡ built a out
     → (list : List ℕ) × (w ≡ told list) × (next list ≡ built a out)
-classes_behind a out n (Ok list) next is = (list, refl, is)
-classes_behind a out n (Err f) next is = absurd (none_built (BadMap f n) a out is)
+classes_behind a out (Ok list) next is = (list, refl, is)
+classes_behind a out (Err f) next is = absurd (none_built (BadMap f) a out is)
 
 pub quotients_accepted : (r : Readings) → QuotientsAreAccepted r
 quotients_accepted r input map output classes layout held a out few within is =
@@ -36,7 +36,7 @@ quotients_accepted r input map output classes layout held a out few within is =
     let g : Digraph = behind.graph in
     let next : List ℕ → Judged = λ list. builds layout (quotient_of g list classes) in
     let file = file_behind a out Map (held Map) (λ bytes. with_map g.nodes classes bytes next) (sym (behind.goes_on last) ∙ is) in
-    let found = classes_behind a out g.nodes (numbers_of g.nodes classes file.0) next file.2 in
+    let found = classes_behind a out (numbers_of g.nodes classes file.0) next file.2 in
     let list : List ℕ = found.0 in
     let fit = numbers_fit g.nodes classes file.0 list found.1 in
     let below : Below classes list = each_below classes list fit.1 in

@@ -112,7 +112,7 @@ weights_read n bytes ws is = by_result (numbers_of n (MOST_WEIGHT + 1) bytes) re
     }
 
     by_result : (r : Result (List ℕ) NumbersFault) → numbers_of n (MOST_WEIGHT + 1) bytes ≡ r → unless_zero n r ≡ given_by ws → AreWeights n ws
-    by_result (Err f) e none = absurd (let never : unless (Numbers f n) ≡ given_by ws = none in cc)
+    by_result (Err f) e none = absurd (let never : unless (Numbers f) ≡ given_by ws = none in cc)
     by_result (Ok xs) e some =
         elim (cases_Bool (nat_lt 0 n && nat_eq (sum_below n (by_page xs)) 0)) [
           | inl zero_sum ↦ absurd (let never : unless Zero ≡ given_by ws = rw zero_sum at some in cc)

@@ -14,7 +14,7 @@ use Rattle.wg_outcomes.specs.Answers.{Answers, HasOutput, IsUnput, status_in}
 use Rattle.wg_outcomes.specs.Causes.{AreFaultless, HasCause, IncreasedAt}
 use Rattle.wg_outcomes.specs.Commands.{judged, written_by}
 use Rattle.wg_outcomes.specs.Judged.{Judged, accepted, files_of, output_of, status_of, Archive, Written, an_archive, a_certificate}
-use Rattle.wg_outcomes.specs.Promised.{ArePromised, arcs_in}
+use Rattle.wg_outcomes.specs.Promised.{ArePromised, promised_in}
 use Rattle.wg_outcomes.specs.JobFiles.{can_end, has_input, input_name, output_name, reads_again, writes_files}
 use Rattle.wg_outcomes.specs.Names.{held_by, no_outputs, IsOfInput}
 use Rattle.wg_outcomes.specs.Performs.{Outside, Performs, judged_on}
@@ -66,7 +66,7 @@ stop_output due old new (NoPage page) stop same = same
 stop_output due old new (OverLimit i) stop same = same
 stop_output due old new (BadWeights f) stop same = same
 stop_output due old new (BadText line kind) stop same = same
-stop_output due old new (BadMap f pages) stop same = same
+stop_output due old new (BadMap f) stop same = same
 stop_output due old new (BadCertificate f) stop same = same
 
 -- the files before any of them was touched
@@ -86,7 +86,7 @@ kept_after a old new (NoPage page) stop same = same
 kept_after a old new (OverLimit i) stop same = same
 kept_after a old new (BadWeights f) stop same = same
 kept_after a old new (BadText line kind) stop same = same
-kept_after a old new (BadMap f pages) stop same = same
+kept_after a old new (BadMap f) stop same = same
 kept_after a old new (BadCertificate f) stop same = same
 
 -- what stands at an end that is not a read fault while the archive was written
@@ -117,7 +117,7 @@ left_by true a old new (NoPage page) h = h
 left_by true a old new (OverLimit i) h = h
 left_by true a old new (BadWeights f) h = h
 left_by true a old new (BadText line kind) h = h
-left_by true a old new (BadMap f pages) h = h
+left_by true a old new (BadMap f) h = h
 left_by true a old new (BadCertificate f) h = h
 
 -- a certificate before it was touched
@@ -137,7 +137,7 @@ certificate_kept text old new (NoPage page) stop same = same
 certificate_kept text old new (OverLimit i) stop same = same
 certificate_kept text old new (BadWeights f) stop same = same
 certificate_kept text old new (BadText line kind) stop same = same
-certificate_kept text old new (BadMap f pages) stop same = same
+certificate_kept text old new (BadMap f) stop same = same
 certificate_kept text old new (BadCertificate f) stop same = same
 
 files_kept : (names : Output → Option (List ℕ)) (again : Bool) (a : Option Written) (old new : Files) (s : Status) → IsStop s → new ≡ old → HasFiles names again a old new s
@@ -191,10 +191,10 @@ put_answers j text (Ok done) is only = inl (sym (ap status_of is))
 put_answers j text (Err e) is (inl fault) = subst (λ (s : Status). Answers j s) (sym fault) (inr tt)
 put_answers j text (Err e) is (inr want) = subst (λ (s : Status). Answers j s) (sym want) (inr tt)
 
-put_promised : (held : Input → Option (List ℕ)) (r : Result (Unit {0}) Ending) → IfErr r (λ e. IsUnput e.status) → ArePromised held (status_in r) (arcs_in r)
+put_promised : (held : Input → Option (List ℕ)) (r : Result (Unit {0}) Ending) → IfErr r (λ e. IsUnput e.status) → ArePromised held (status_in r) (promised_in r)
 put_promised held (Ok done) only = tt
-put_promised held (Err e) (inl fault) = subst (λ (s : Status). ArePromised held s e.arcs) (sym fault) tt
-put_promised held (Err e) (inr want) = subst (λ (s : Status). ArePromised held s e.arcs) (sym want) tt
+put_promised held (Err e) (inl fault) = subst (λ (s : Status). ArePromised held s e.promised) (sym fault) tt
+put_promised held (Err e) (inr want) = subst (λ (s : Status). ArePromised held s e.promised) (sym want) tt
 
 -- no file is at fault
 pub unput_written : (r : Result (Unit {0}) Ending) (o : Output) → IfErr r (λ e. IsUnput e.status) → o ≢ Out → status_in r ≡ WriteFault o → ⊥
@@ -215,7 +215,7 @@ pub printed_by : (job : Job) (td to : Bool) (before after : Outside) (text : Rea
     → (IsTrue to → (q : Readings) → Puts (text q) before.taken after.taken r)
     → IfErr r (λ e. IsUnput e.status)
     → (status_in r ≡ WriteFault Out → Increased before.faults after.faults)
-    → Performs job td to before after (status_in r) (arcs_in r)
+    → Performs job td to before after (status_in r) (promised_in r)
 printed_by job td to before after text r none is same later puts only cause = record {
   answers = λ t q. put_answers _ (text q) r (is t q) only;
   possible = put_possible job r only;
@@ -238,7 +238,7 @@ pub printed : (job : Job) (td to : Bool) (before after : Outside) (text : List �
     → (IsTrue to → Puts text before.taken after.taken r)
     → IfErr r (λ e. IsUnput e.status)
     → (status_in r ≡ WriteFault Out → Increased before.faults after.faults)
-    → Performs job td to before after (status_in r) (arcs_in r)
+    → Performs job td to before after (status_in r) (promised_in r)
 printed job td to before after text r none is same later puts only cause =
     printed_by job td to before after (λ q. text) r none is same later (λ o q. puts o) only cause
 
@@ -258,7 +258,7 @@ unread_possible job i s has (inr (inl fault)) = subst (λ (x : Status). IsTrue (
 unread_possible job i s has (inr (inr (inl gone))) = subst (λ (x : Status). IsTrue (can_end job x)) (sym gone) has
 unread_possible job i s has (inr (inr (inr long))) = subst (λ (x : Status). IsTrue (can_end job x)) (sym long) has
 
--- its line names no arcs
+-- its line names nothing that is promised
 pub unread_promised : (held : Names) (i : Input) (s : Status) (a : ℕ) → IsOfInput i s → ArePromised held s a
 unread_promised held i s a (inl want) = subst (λ (x : Status). ArePromised held x a) (sym want) tt
 unread_promised held i s a (inr (inl fault)) = subst (λ (x : Status). ArePromised held x a) (sym fault) tt
@@ -311,5 +311,5 @@ module _ (inputs : Names) (outputs : Output → Option (List ℕ)) (old new : Li
   unhindered j (OverLimit i) cause (inr hinders) = absurd hinders
   unhindered j (BadWeights f) cause (inr hinders) = absurd hinders
   unhindered j (BadText line kind) cause (inr hinders) = absurd hinders
-  unhindered j (BadMap f pages) cause (inr hinders) = absurd hinders
+  unhindered j (BadMap f) cause (inr hinders) = absurd hinders
   unhindered j (BadCertificate f) cause (inr hinders) = absurd hinders

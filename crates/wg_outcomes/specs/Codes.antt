@@ -21,5 +21,5 @@ code_of (NoPage page) = 10
 code_of (OverLimit i) = 11
 code_of (BadWeights f) = 12
 code_of (BadText line kind) = 13
-code_of (BadMap f pages) = 15
+code_of (BadMap f) = 15
 code_of (BadCertificate f) = 16

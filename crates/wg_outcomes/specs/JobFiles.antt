@@ -94,5 +94,5 @@ can_end job (NoPage page) = names_pages job
 can_end job (OverLimit i) = has_input job i
 can_end job (BadWeights f) = has_input job input.Weights
 can_end job (BadText line kind) = has_input job input.Text
-can_end job (BadMap f pages) = has_input job input.Map
+can_end job (BadMap f) = has_input job input.Map
 can_end job (BadCertificate f) = has_input job input.Certificate

@@ -167,7 +167,7 @@ with_archive r held next =
 -- weights of n pages, which may not add up to 0 where there are pages
 abbrev pub unless_zero : ℕ → Result (List ℕ) NumbersFault → Result (List ℕ) WeightsFault
 unless_zero n (Ok ws) = if nat_lt 0 n && nat_eq (sum_below n (by_page ws)) 0 then Err weights.Zero else Ok ws
-unless_zero n (Err f) = Err (weights.Numbers f n)
+unless_zero n (Err f) = Err (weights.Numbers f)
 
 -- the weights of n pages that a text gives, or what is wrong with them
 abbrev pub weights_in : ℕ → List ℕ → Result (List ℕ) WeightsFault
@@ -198,13 +198,13 @@ with_claim n bytes next = unless_bad_claim (claim_of n bytes) next
 abbrev pub claim_then : ℕ → Option (List ℕ) → (Claim → Judged) → Judged
 claim_then n held next = with_file input.Certificate held (λ bytes. with_claim n bytes next)
 
-abbrev pub unless_bad_map : ℕ → Result (List ℕ) NumbersFault → (List ℕ → Judged) → Judged
-unless_bad_map n (Ok classes) next = next classes
-unless_bad_map n (Err f) next = refused (BadMap f n)
+abbrev pub unless_bad_map : Result (List ℕ) NumbersFault → (List ℕ → Judged) → Judged
+unless_bad_map (Ok classes) next = next classes
+unless_bad_map (Err f) next = refused (BadMap f)
 
 -- goes on with the classes of n pages that a text gives, each below the limit
 abbrev pub with_map : ℕ → ℕ → List ℕ → (List ℕ → Judged) → Judged
-with_map n limit bytes next = unless_bad_map n (numbers_of n limit bytes) next
+with_map n limit bytes next = unless_bad_map (numbers_of n limit bytes) next
 
 -- goes on with the classes of n pages that a file gives
 abbrev pub map_then : ℕ → ℕ → Option (List ℕ) → (List ℕ → Judged) → Judged

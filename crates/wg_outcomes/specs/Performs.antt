@@ -14,7 +14,7 @@ use Rattle.wg_outcomes.specs.Answers.{Answers, HasOutput, status_in}
 use Rattle.wg_outcomes.specs.Causes.{HasCause}
 use Rattle.wg_outcomes.specs.Commands.{greedy_line, judged, written_by}
 use Rattle.wg_outcomes.specs.Judged.{Judged, Written, an_archive, a_certificate, output_of, status_of}
-use Rattle.wg_outcomes.specs.Promised.{ArePromised, arcs_in}
+use Rattle.wg_outcomes.specs.Promised.{ArePromised, promised_in}
 use Rattle.wg_outcomes.specs.JobFiles.{can_end, input_name, output_name, reads_again, writes_files}
 use Rattle.wg_outcomes.specs.Names.{archive_named, certificate_to, held_by}
 use Rattle.wg_outcomes.specs.Ranked.{certificate_text, ranking_text}
@@ -40,9 +40,9 @@ outside files counts taken faults = record { files = files; counts = counts; tak
 abbrev pub judged_on : Readings → Job → Files → Judged
 judged_on r job files = judged r job (held_by (input_name job) files)
 
--- The job was done or has ended with this status, where the properties promise so many arcs. What the files or the
--- output hold is told only of a depot and an output whose ghosts are told.
-pub record Performs (job : Job) (told_files told_out : Bool) (before after : Outside) (status : Status) (arcs : ℕ) : Type 0 where
+-- The job was done or has ended with this status and this promised number. What the files or the output hold is told
+-- only of a depot and an output whose ghosts are told.
+pub record Performs (job : Job) (told_files told_out : Bool) (before after : Outside) (status : Status) (number : ℕ) : Type 0 where
   -- the status is the one that the job and its inputs lead to, or a fault of the outside or want of memory came in its
   -- place
   pub answers : IsTrue told_files → (r : Readings) → Answers (judged_on r job before.files) status
@@ -64,23 +64,23 @@ pub record Performs (job : Job) (told_files told_out : Bool) (before after : Out
   pub same : writes_files job ≡ false → after.files ≡ before.files
   -- no count of the depot falls
   pub later : NonDecreasing before.counts after.counts
-  -- the arcs are those that the line of the status names
-  pub promised : IsTrue told_files → ArePromised (held_by (input_name job) before.files) status arcs
+  -- the number is promised, where the line of the status names it
+  pub promised : IsTrue told_files → ArePromised (held_by (input_name job) before.files) status number
 
 -- the same, of a depot and an output that a function changes
 abbrev pub Does : {D O : Type 0} → depot.Ghosts D → sink.Ghosts O → Job → D → D → O → O → Status → ℕ → Type 0
-Does d o job before after out out' status arcs =
-    Performs job d.told o.told (outside (d.files before) (d.counts before) (o.taken out) (o.faults out)) (outside (d.files after) (d.counts after) (o.taken out') (o.faults out')) status arcs
+Does d o job before after out out' status number =
+    Performs job d.told o.told (outside (d.files before) (d.counts before) (o.taken out) (o.faults out)) (outside (d.files after) (d.counts after) (o.taken out') (o.faults out')) status number
 
 -- the same of a command, which was done or has ended
 abbrev pub DoesOrEnds : {D O : Type 0} → depot.Ghosts D → sink.Ghosts O → Job → D → D → O → O → Result (Unit {0}) Ending → Type 0
-DoesOrEnds d o job before after out out' result = Does d o job before after out out' (status_in result) (arcs_in result)
+DoesOrEnds d o job before after out out' result = Does d o job before after out out' (status_in result) (promised_in result)
 
 -- the same of a command without files: it makes no call of a depot, whatever the depot holds
 abbrev pub DoesAlone : {O : Type 0} → sink.Ghosts O → Job → O → O → Result (Unit {0}) Ending → Type 0
 DoesAlone o job out out' result =
     (told : Bool) (files : Files) (counts : List ℕ → Counts)
-    → Performs job told o.told (outside files counts (o.taken out) (o.faults out)) (outside files counts (o.taken out') (o.faults out')) (status_in result) (arcs_in result)
+    → Performs job told o.told (outside files counts (o.taken out) (o.faults out)) (outside files counts (o.taken out') (o.faults out')) (status_in result) (promised_in result)
 
 -- What a job writes was written to files of these names, and its text printed; or what was left where this stopped.
 pub record Produces (names : Output → Option (List ℕ)) (what : Written) (text : Readings → List ℕ) (told_files told_out : Bool) (before after : Outside) (result : Result (Unit {0}) Ending) : Type 0 where

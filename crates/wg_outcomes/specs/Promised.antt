@@ -1,4 +1,4 @@
--- The arcs that an ending names.
+-- What the properties promise, as an ending names it.
 use Rattle.std.specs.Prelude.{◌≡◌, ◌⊎◌, ℕ, List, Option, Some, Result, Ok, Err}
 use Rattle.wg_params.specs.Parameters.{Parameters}
 use Rattle.wg_properties.specs.Judged.{properties_of}
@@ -9,24 +9,31 @@ use Rattle.wg_outcomes.specs.declared.ending.Ending.{Ending}
 use Rattle.wg_outcomes.specs.declared.status.Input.{Input}
 use Rattle.wg_outcomes.specs.declared.status.Input.TheVariants as input
 use Rattle.wg_outcomes.specs.declared.status.Status.{Status}
-use Rattle.wg_outcomes.specs.declared.status.Status.TheVariants.{Memory, BadArchive, BadSecond}
+use Rattle.wg_outcomes.specs.declared.status.Status.TheVariants.{Memory, BadArchive, BadMap, BadSecond, BadWeights}
 use Rattle.wg_outcomes.specs.declared.status.SecondFault.TheVariants as second
+use Rattle.wg_outcomes.specs.declared.status.WeightsFault.TheVariants as weights
 
--- the arcs that the properties promise, where the line of the status names them
+-- the properties text that is held, if it is in order, promises this number
+abbrev pub IsPromised : Option (List ℕ) → (Parameters → ℕ) → ℕ → Type 0
+IsPromised held number promised = (text : List ℕ) (p : Parameters) → held ≡ Some text → properties_of text ≡ Ok p → promised ≡ number p
+
+-- what the properties promise, where the line of the status names it: arcs beside fewer, or pages beside numbers
 abbrev pub ArePromised : (Input → Option (List ℕ)) → Status → ℕ → Type 0
-ArePromised held (BadArchive (archive.ArcsShort total)) promised = (text : List ℕ) (p : Parameters) → held input.Properties ≡ Some text → properties_of text ≡ Ok p → promised ≡ p.arcs
-ArePromised held (BadSecond (second.Archive (archive.ArcsShort total))) promised = (text : List ℕ) (p : Parameters) → held input.SecondProperties ≡ Some text → properties_of text ≡ Ok p → promised ≡ p.arcs
+ArePromised held (BadArchive (archive.ArcsShort total)) promised = IsPromised (held input.Properties) (λ p. p.arcs) promised
+ArePromised held (BadSecond (second.Archive (archive.ArcsShort total))) promised = IsPromised (held input.SecondProperties) (λ p. p.arcs) promised
+ArePromised held (BadWeights (weights.Numbers f)) promised = IsPromised (held input.Properties) (λ p. p.nodes) promised
+ArePromised held (BadMap f) promised = IsPromised (held input.Properties) (λ p. p.nodes) promised
 ArePromised held status promised = Unit {0}
 
--- memory was wanting, or this file is at fault, and the ending names the arcs that are promised
+-- memory was wanting, or this file is at fault, and the ending names what is promised
 abbrev pub IsBadFile : Input → ℕ → Ending → Type 0
-IsBadFile i promised e = (e.status ≡ Memory) ⊎ ((f : ArchiveFault) × (file_of_fault f ≡ i) × (e.status ≡ BadArchive f) × (e.arcs ≡ promised))
+IsBadFile i promised e = (e.status ≡ Memory) ⊎ ((f : ArchiveFault) × (file_of_fault f ≡ i) × (e.status ≡ BadArchive f) × (e.promised ≡ promised))
 
--- the arcs that an ending names
-abbrev pub arcs_in : {B : Type 0} → Result B Ending → ℕ
-arcs_in (Ok b) = 0
-arcs_in (Err e) = e.arcs
+-- what an ending names as promised
+abbrev pub promised_in : {B : Type 0} → Result B Ending → ℕ
+promised_in (Ok b) = 0
+promised_in (Err e) = e.promised
 
--- an input was not read, or is at fault, and then the ending names the arcs that are promised
+-- an input was not read, or is at fault, and then the ending names what is promised
 abbrev pub IsStopAt : Input → ℕ → Ending → Type 0
 IsStopAt i promised e = IsOfInput i e.status ⊎ IsBadFile i promised e

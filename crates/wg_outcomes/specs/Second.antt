@@ -26,7 +26,7 @@ as_second (BadArchive f) = BadSecond (second.Archive f)
 as_second status = status
 
 abbrev pub second_ending : Ending → Ending
-second_ending e = record { status = as_second e.status; arcs = e.arcs }
+second_ending e = record { status = as_second e.status; promised = e.promised }
 
 -- what the files of the second archive hold
 abbrev pub second_held : (Input → Option (List ℕ)) → Input → Option (List ℕ)

@@ -2,19 +2,23 @@ ghost use Rattle.std.specs.Prelude.{◌≡◌};
 
 use crate::Status;
 
-/// The status that ends a job, with the arcs that the properties promise where the line on standard error names them.
+/// The status that ends a job, with what the properties promise if the line on standard error names it: the number of
+/// arcs beside fewer that were found, or of pages beside fewer numbers.
 #[derive(Clone, Copy, Debug)]
 pub struct Ending {
     pub status: Status,
-    pub arcs: u64,
+    pub promised: u64,
 }
 
 impl Ending {
-    /// An ending whose line names no number of arcs.
+    /// An ending whose line names nothing that is promised.
     pub fn of(status: Status) -> Ending
         ensures status { result.status ≡ status }
-        ensures arcs { result.arcs ≡ 0 }
+        ensures promised { result.promised ≡ 0 }
     {
-        Ending { status, arcs: 0 }
+        Ending {
+            status,
+            promised: 0,
+        }
     }
 }

@@ -36,6 +36,6 @@ pub fn as_second(ending: Ending) -> Ending
 {
     Ending {
         status: second_status(ending.status),
-        arcs: ending.arcs,
+        promised: ending.promised,
     }
 }

@@ -31,8 +31,8 @@ pub enum Input {
 /// What is wrong with the weights of pages.
 #[derive(Clone, Copy, Debug, PartialEq, Eq)]
 pub enum WeightsFault {
-    /// They are not one number for each of so many pages, each within the limit.
-    Numbers { fault: NumbersFault, pages: u64 },
+    /// They are not one number for each page, each within the limit.
+    Numbers(NumbersFault),
     /// There are pages, and each weight is 0.
     Zero,
 }
@@ -70,8 +70,8 @@ pub enum Status {
     BadWeights(WeightsFault),
     /// The plain text's first faulty line, counted from 1.
     BadText { line: u64, kind: AsciiKind },
-    /// The classes are not one number for each of so many pages, each below the limit.
-    BadMap { fault: NumbersFault, pages: u64 },
+    /// The classes are not one number for each page, each below the limit.
+    BadMap(NumbersFault),
     BadCertificate(CertFault),
 }
 
@@ -97,7 +97,7 @@ impl Status {
             Status::OverLimit(_) => 11,
             Status::BadWeights(_) => 12,
             Status::BadText { .. } => 13,
-            Status::BadMap { .. } => 15,
+            Status::BadMap(_) => 15,
             Status::BadCertificate(_) => 16,
         }
     }

@@ -70,10 +70,10 @@ module _ (base : List ℕ) (p : Parameters) (td to : Bool) (before : Outside) (f
   }
 
   -- one of them is not
-  pub check_stops : (after : Outside) (e : Ending) → after.taken ≡ before.taken → JudgesFiles base p td files after.files counts after.counts (Err e) → Performs (Check base) td to before after e.status e.arcs
+  pub check_stops : (after : Outside) (e : Ending) → after.taken ≡ before.taken → JudgesFiles base p td files after.files counts after.counts (Err e) → Performs (Check base) td to before after e.status e.promised
   check_stops after e silent j = by_file j.only
     where
-      by_file : (IsStopAt Graph p.arcs e ⊎ (IsStopAt Offsets p.arcs e × IsWithinLimits p × (IsTrue td → (a : Accepted) × IsGraphFile (held_by (file_of base) files Graph) p a))) → Performs (Check base) td to before after e.status e.arcs
+      by_file : (IsStopAt Graph p.arcs e ⊎ (IsStopAt Offsets p.arcs e × IsWithinLimits p × (IsTrue td → (a : Accepted) × IsGraphFile (held_by (file_of base) files Graph) p a))) → Performs (Check base) td to before after e.status e.promised
       by_file (inl stop) =
           ends (Check base) base td to before p files counts _ {B = ℕ} Graph refl (λ r o next. both r o (held_by (file_of base) files Offsets) next) (λ n r h. line n) by_graph (λ h holds. holds) (λ t r n. refl)
           refl after e silent j.same j.later (record { only = stop; causes = j.causes; refused = j.steps })

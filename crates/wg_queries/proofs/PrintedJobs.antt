@@ -13,7 +13,7 @@ use Rattle.wg_outcomes.specs.Answers.{Answers, HasOutput, IsHindrance, status_in
 use Rattle.wg_outcomes.specs.Causes.{HasCause}
 use Rattle.wg_outcomes.specs.Judged.{Judged, accepted, output_of, status_of}
 use Rattle.wg_readings.specs.Loading.{JudgesGraph}
-use Rattle.wg_outcomes.specs.Promised.{ArePromised, arcs_in}
+use Rattle.wg_outcomes.specs.Promised.{ArePromised, promised_in}
 use Rattle.wg_outcomes.specs.JobFiles.{input_name, output_name, writes_files}
 use Rattle.wg_outcomes.specs.Names.{file_of, held_by, no_outputs}
 use Rattle.wg_readings.specs.Passes.{graph_then}
@@ -32,9 +32,9 @@ output_up_to : (due old new : List ℕ) (r : Result (Unit {0}) Ending) → IfErr
 output_up_to due old new (Ok done) hindered put = put
 output_up_to due old new (Err e) hindered put = hindered_output due old new e.status hindered put
 
-promised_in : (held : Input → Option (List ℕ)) (r : Result (Unit {0}) Ending) → IfErr r (λ e. IsHindrance e.status) → ArePromised held (status_in r) (arcs_in r)
-promised_in held (Ok done) h = tt
-promised_in held (Err e) h = hindered_promised held e.status e.arcs h
+pass_promised : (held : Input → Option (List ℕ)) (r : Result (Unit {0}) Ending) → IfErr r (λ e. IsHindrance e.status) → ArePromised held (status_in r) (promised_in r)
+pass_promised held (Ok done) h = tt
+pass_promised held (Err e) h = hindered_promised held e.status e.promised h
 
 answers_in : (j : Judged) (text : List ℕ) (r : Result (Unit {0}) Ending) → j ≡ accepted text → IfErr r (λ e. IsHindrance e.status) → Answers j (status_in r)
 answers_in j text (Ok done) is h = inl (sym (ap status_of is))
@@ -63,7 +63,7 @@ pub printed_again : (base : List ℕ) (p : Parameters) (print : Accepted → Lis
     → ComesTo job p td before files counts read (λ q h. graph_then q p (h Graph) (λ a. accepted (print a)))
     → JudgesGraph base p td files mid.files counts mid.counts (Ok tt)
     → PrintsGraph base p print td to mid after r
-    → Performs job td to before after (status_in r) (arcs_in r)
+    → Performs job td to before after (status_in r) (promised_in r)
 printed_again base p print job td to before mid after read files counts r none named silent faults apart k j h =
     let known = graph_known job base td before p files mid.files counts mid.counts read (λ a q h. accepted (print a)) named k j in record {
       answers = λ t q. let a = known t in answers_in (judged_on q job before.files) (print a.0) r (a.2 q) (h.hindered t a.0 a.1);
@@ -81,5 +81,5 @@ printed_again base p print job td to before mid after read files counts r none n
       files = λ t q. files_same job none before after (status_in r) (h.same ∙ j.reads.same ∙ k.same) q;
       same = λ is. h.same ∙ j.reads.same ∙ k.same;
       later = none_falls-trans _ _ _ (none_falls-trans _ _ _ k.later j.reads.later) h.later;
-      promised = λ t. let a = known t in promised_in (held_by (input_name job) before.files) r (h.hindered t a.0 a.1);
+      promised = λ t. let a = known t in pass_promised (held_by (input_name job) before.files) r (h.hindered t a.0 a.1);
     }

@@ -14,7 +14,7 @@ use Rattle.wg_outcomes.specs.Answers.{IsUnput, status_in}
 use Rattle.wg_outcomes.specs.Judged.{Judged, a_certificate, files_of, output_of, status_of}
 use Rattle.wg_readings.specs.Loading.{LoadsGraph, LoadsParams, LoadsWeights}
 use Rattle.wg_outcomes.specs.Names.{certificate_to, weights_named}
-use Rattle.wg_outcomes.specs.Promised.{arcs_in}
+use Rattle.wg_outcomes.specs.Promised.{promised_in}
 use Rattle.wg_outcomes.specs.Readings.{Readings}
 use Rattle.wg_outcomes.specs.declared.ending.Ending.{Ending}
 use Rattle.wg_outcomes.specs.declared.status.Input.{Input}
@@ -46,16 +46,16 @@ module _ (base : List ℕ) (rounds damping top : ℕ) (name certificate : Option
   behind p g given r h = ranks r certificate top (bounds_after g given damping rounds)
 
   pub no_params : (after : Outside) (e : Ending) → after.taken ≡ before.taken → LoadsParams base td before.files after.files before.counts after.counts (Err e)
-      → Performs job td to before after e.status e.arcs
+      → Performs job td to before after e.status e.promised
   no_params after e silent l = weighted.no_params job base name td to before refl refl (weights_are base rounds damping top name certificate) behind (λ r h. refl) after e silent l
 
   module _ (p : Parameters) (files : Files) (counts : List ℕ → Counts) (l : LoadsParams base td before.files files before.counts counts (Ok p)) where
-    pub no_graph : (after : Outside) (e : Ending) → after.taken ≡ before.taken → LoadsGraph base p td files after.files counts after.counts (Err e) → Performs job td to before after e.status e.arcs
+    pub no_graph : (after : Outside) (e : Ending) → after.taken ≡ before.taken → LoadsGraph base p td files after.files counts after.counts (Err e) → Performs job td to before after e.status e.promised
     no_graph after e silent g = weighted.no_graph job base name td to before refl refl (weights_are base rounds damping top name certificate) behind (λ r h. refl) p files counts l after e silent g
 
     module _ (files1 : Files) (counts1 : List ℕ → Counts) (graph : Digraph) (g : LoadsGraph base p td files files1 counts counts1 (Ok graph)) where
       pub no_weights : (after : Outside) (e : Ending) → after.taken ≡ before.taken → LoadsWeights name graph.nodes td files1 after.files counts1 after.counts (Err e)
-          → Performs job td to before after e.status e.arcs
+          → Performs job td to before after e.status e.promised
       no_weights after e silent w =
           weighted.no_weights job base name td to before refl refl (weights_are base rounds damping top name certificate) behind (λ r h. refl) p files counts l files1 counts1 graph g after e silent w
 
@@ -64,14 +64,14 @@ module _ (base : List ℕ) (rounds damping top : ℕ) (name certificate : Option
         come = weighted.has_weights job base name td to before refl refl (weights_are base rounds damping top name certificate) behind (λ r h. refl) p files counts l files1 counts1 graph g files2 counts2 given w
 
         -- memory was out before the first round
-        pub no_room : (taken : List ℕ) (faults : ℕ) (e : Ending) → taken ≡ before.taken → e.status ≡ Memory → Performs job td to before (outside files2 counts2 taken faults) e.status e.arcs
+        pub no_room : (taken : List ℕ) (faults : ℕ) (e : Ending) → taken ≡ before.taken → e.status ≡ Memory → Performs job td to before (outside files2 counts2 taken faults) e.status e.promised
         no_room taken faults e silent want =
             ends_without job base td to before p files2 counts2 (Weights ∷ Graph ∷ Properties ∷ []) (behind p graph given) come taken faults e silent want
 
         module _ (b : Intervals) (is : b ≡ bounds_after graph given damping rounds) where
           -- the ranking is printed, and nothing is written
           pub only_prints : certificate ≡ None → (taken : List ℕ) (faults : ℕ) (r : Result (Unit {0}) Ending) → (IsTrue to → (q : Readings) → Puts (ranking_text q b top) before.taken taken r)
-              → IfErr r (λ e. IsUnput e.status) → (status_in r ≡ WriteFault Out → Increased before.faults faults) → Performs job td to before (outside files2 counts2 taken faults) (status_in r) (arcs_in r)
+              → IfErr r (λ e. IsUnput e.status) → (status_in r ≡ WriteFault Out → Increased before.faults faults) → Performs job td to before (outside files2 counts2 taken faults) (status_in r) (promised_in r)
           only_prints none taken faults r puts only rose =
               prints job base td to before p files2 counts2 (Weights ∷ Graph ∷ Properties ∷ []) (behind p graph given) come (λ q. ranking_text q b top)
               (λ q. ap (λ (x : Intervals). ranks q certificate top x) (sym is) ∙ ap (λ (o : Option (List ℕ)). ranks q o top b) none)
@@ -79,7 +79,7 @@ module _ (base : List ℕ) (rounds damping top : ℕ) (name certificate : Option
 
           -- the certificate is written before
           pub certifies : (to_name : List ℕ) → certificate ≡ Some to_name → (after : Outside) (r : Result (Unit {0}) Ending)
-              → CertifiesRanking b to_name top td to (outside files2 counts2 before.taken before.faults) after r → Performs job td to before after (status_in r) (arcs_in r)
+              → CertifiesRanking b to_name top td to (outside files2 counts2 before.taken before.faults) after r → Performs job td to before after (status_in r) (promised_in r)
           certifies to_name some after r h =
               produced job td to before after files2 counts2 (certificate_to to_name) (a_certificate (certificate_text b)) (λ q. ranking_text q b top) r
               (ap (λ (o : Option (List ℕ)). writes_files (Rank base rounds damping top name o)) some)

@@ -16,7 +16,7 @@ use Rattle.wg_outcomes.specs.Judged.{Judged, accepted, with_file, with_graph, wi
 use Rattle.wg_readings.specs.Loading.{JudgesOffsets, Loads, LoadsParams, lengths_then}
 use Rattle.wg_outcomes.specs.Names.{file_of}
 use Rattle.wg_outcomes.specs.Performs.{Outside, Performs, outside}
-use Rattle.wg_outcomes.specs.Promised.{IsBadFile, arcs_in}
+use Rattle.wg_outcomes.specs.Promised.{IsBadFile, promised_in}
 use Rattle.wg_outcomes.specs.Readings.{Readings}
 use Rattle.wg_outcomes.specs.declared.ending.Ending.{Ending}
 use Rattle.wg_outcomes.specs.declared.status.Input.{Input}
@@ -42,7 +42,7 @@ module _ (base pages : List ℕ) (td to : Bool) (before : Outside) where
   abbrev behind_params : Parameters → Readings → (Input → Option (List ℕ)) → Judged
   behind_params p r h = with_file Graph (h Graph) (λ bytes. with_graph r p bytes (λ a. behind_graph p a r h))
 
-  pub no_params : (after : Outside) (e : Ending) → after.taken ≡ before.taken → LoadsParams base td before.files after.files before.counts after.counts (Err e) → Performs job td to before after e.status e.arcs
+  pub no_params : (after : Outside) (e : Ending) → after.taken ≡ before.taken → LoadsParams base td before.files after.files before.counts after.counts (Err e) → Performs job td to before after e.status e.promised
   no_params after e silent l = unloaded job base td to before refl behind_params (λ r h. refl) after e silent l
 
   module _ (p : Parameters) (files : Files) (counts : List ℕ → Counts) (l : LoadsParams base td before.files files before.counts counts (Ok p)) where
@@ -52,7 +52,7 @@ module _ (base pages : List ℕ) (td to : Bool) (before : Outside) where
     abbrev next1 : List ℕ → Readings → (Input → Option (List ℕ)) → Judged
     next1 bytes r h = with_graph r p bytes (λ a. behind_graph p a r h)
 
-    pub no_bytes : (after : Outside) (e : Ending) → after.taken ≡ before.taken → Loads (file_of base) Graph td files after.files counts after.counts (Err e) → Performs job td to before after e.status e.arcs
+    pub no_bytes : (after : Outside) (e : Ending) → after.taken ≡ before.taken → Loads (file_of base) Graph td files after.files counts after.counts (Err e) → Performs job td to before after e.status e.promised
     no_bytes after e silent b =
         ends job base td to before p files counts (Properties ∷ []) Graph refl (λ r. with_file Graph) next1 k1 (λ h holds. holds) (λ t r n. refl)
         refl after e silent b.same b.later (record { only = inl b.mine; causes = b.causes; refused = λ t r. b.steps t })
@@ -63,7 +63,7 @@ module _ (base pages : List ℕ) (td to : Bool) (before : Outside) where
           (comes_on job base td to before p files counts (Properties ∷ []) Graph refl (λ r. with_file Graph) next1 k1 files1 counts1 bytes (λ t r. b.steps t) b.same b.later)
 
       pub no_records : (taken : List ℕ) (faults : ℕ) (e : Ending) → taken ≡ before.taken → IsBadFile Graph p.arcs e → ((r : Readings) → Steps {B = Accepted} (with_graph r p slice) (Err e))
-          → Performs job td to before (outside files1 counts1 taken faults) e.status e.arcs
+          → Performs job td to before (outside files1 counts1 taken faults) e.status e.promised
       no_records taken faults e silent bad steps =
           refuses job base td to before p files1 counts1 (Graph ∷ Properties ∷ []) (next1 slice) k2 Graph refl taken faults e silent bad (λ t r. steps r _)
 
@@ -76,7 +76,7 @@ module _ (base pages : List ℕ) (td to : Bool) (before : Outside) where
           later = k2.later;
         }
 
-        pub no_offsets : (after : Outside) (e : Ending) → after.taken ≡ before.taken → JudgesOffsets base p a.places td files1 after.files counts1 after.counts (Err e) → Performs job td to before after e.status e.arcs
+        pub no_offsets : (after : Outside) (e : Ending) → after.taken ≡ before.taken → JudgesOffsets base p a.places td files1 after.files counts1 after.counts (Err e) → Performs job td to before after e.status e.promised
         no_offsets after e silent o =
             ends_reading job base td to before p files1 counts1 (Graph ∷ Properties ∷ []) Offsets refl (λ r. lengths_then r p a.places) (λ same r h. behind_lengths p a) k3
             (λ h holds. holds) (λ t r n. refl) refl after e silent o.reads
@@ -89,13 +89,13 @@ module _ (base pages : List ℕ) (td to : Bool) (before : Outside) where
 
           module _ (asked : List ℕ) (asked_is : asked ≡ pages) where
             pub no_page : (taken : List ℕ) (faults : ℕ) (e : Ending) → taken ≡ before.taken → ((page : ℕ) × (e.status ≡ NoPage page)) → Steps {B = Unit {0}} (with_pages p.nodes asked) (Err e)
-                → Performs job td to before (outside files2 counts2 taken faults) e.status e.arcs
+                → Performs job td to before (outside files2 counts2 taken faults) e.status e.promised
             no_page taken faults e silent bad steps =
                 refuses_page job base td to before p files2 counts2 (Offsets ∷ Graph ∷ Properties ∷ []) (λ r h. behind_lengths p a) k4 refl taken faults e silent bad
                 (λ t r. subst (λ (x : List ℕ). Answers (with_pages p.nodes x (λ all. lines a)) e.status) asked_is (steps (λ all. lines a)))
 
             pub shows : Steps (with_pages p.nodes asked) (Ok tt) → (taken : List ℕ) (faults : ℕ) (r : Result (Unit {0}) Ending) → (IsTrue to → Puts (successors_lines a.graph pages) before.taken taken r)
-                → IfErr r (λ e. IsUnput e.status) → (status_in r ≡ WriteFault Out → Increased before.faults faults) → Performs job td to before (outside files2 counts2 taken faults) (status_in r) (arcs_in r)
+                → IfErr r (λ e. IsUnput e.status) → (status_in r ≡ WriteFault Out → Increased before.faults faults) → Performs job td to before (outside files2 counts2 taken faults) (status_in r) (promised_in r)
             shows all taken faults r puts only rose =
                 prints job base td to before p files2 counts2 (Offsets ∷ Graph ∷ Properties ∷ []) (λ r h. behind_lengths p a) k4 (λ q. successors_lines a.graph pages)
                 (λ q. subst (λ (x : List ℕ). with_pages p.nodes x (λ every. lines a) ≡ lines a) asked_is (all (λ every. lines a)))

@@ -14,7 +14,7 @@ use Rattle.wg_outcomes.specs.Judged.{Judged, accepted, with_file, with_successor
 use Rattle.wg_readings.specs.Loading.{IsBadPage, Loads, LoadsOffsets, LoadsParams}
 use Rattle.wg_outcomes.specs.Names.{file_of}
 use Rattle.wg_outcomes.specs.Performs.{Outside, Performs, outside}
-use Rattle.wg_outcomes.specs.Promised.{arcs_in}
+use Rattle.wg_outcomes.specs.Promised.{promised_in}
 use Rattle.wg_outcomes.specs.Readings.{Readings}
 use Rattle.wg_outcomes.specs.declared.ending.Ending.{Ending}
 use Rattle.wg_outcomes.specs.declared.status.Input.{Input}
@@ -39,14 +39,14 @@ module _ (base : List ℕ) (page : ℕ) (td to : Bool) (before : Outside) where
   abbrev behind_params : Parameters → Readings → (Input → Option (List ℕ)) → Judged
   behind_params p r h = with_file Graph (h Graph) (λ bytes. behind_graph p bytes r h)
 
-  pub no_params : (after : Outside) (e : Ending) → after.taken ≡ before.taken → LoadsParams base td before.files after.files before.counts after.counts (Err e) → Performs job td to before after e.status e.arcs
+  pub no_params : (after : Outside) (e : Ending) → after.taken ≡ before.taken → LoadsParams base td before.files after.files before.counts after.counts (Err e) → Performs job td to before after e.status e.promised
   no_params after e silent l = unloaded job base td to before refl behind_params (λ r h. refl) after e silent l
 
   module _ (p : Parameters) (files : Files) (counts : List ℕ → Counts) (l : LoadsParams base td before.files files before.counts counts (Ok p)) where
     k1 : ComesTo job p td before files counts (Properties ∷ []) (behind_params p)
     k1 = loaded job base td to before refl behind_params (λ r h. refl) p files counts l
 
-    pub no_bytes : (after : Outside) (e : Ending) → after.taken ≡ before.taken → Loads (file_of base) Graph td files after.files counts after.counts (Err e) → Performs job td to before after e.status e.arcs
+    pub no_bytes : (after : Outside) (e : Ending) → after.taken ≡ before.taken → Loads (file_of base) Graph td files after.files counts after.counts (Err e) → Performs job td to before after e.status e.promised
     no_bytes after e silent b =
         ends job base td to before p files counts (Properties ∷ []) Graph refl (λ r. with_file Graph) (behind_graph p) k1 (λ h holds. holds) (λ t r n. refl)
         refl after e silent b.same b.later (record { only = inl b.mine; causes = b.causes; refused = λ t r. b.steps t })
@@ -56,7 +56,7 @@ module _ (base : List ℕ) (page : ℕ) (td to : Bool) (before : Outside) where
       k2 = subst (λ (x : List ℕ). ComesTo job p td before files1 counts1 (Graph ∷ Properties ∷ []) (behind_graph p x)) (sym is)
           (comes_on job base td to before p files counts (Properties ∷ []) Graph refl (λ r. with_file Graph) (behind_graph p) k1 files1 counts1 bytes (λ t r. b.steps t) b.same b.later)
 
-      pub no_offsets : (after : Outside) (e : Ending) → after.taken ≡ before.taken → LoadsOffsets base p td files1 after.files counts1 after.counts (Err e) → Performs job td to before after e.status e.arcs
+      pub no_offsets : (after : Outside) (e : Ending) → after.taken ≡ before.taken → LoadsOffsets base p td files1 after.files counts1 after.counts (Err e) → Performs job td to before after e.status e.promised
       no_offsets after e silent o =
           ends_reading job base td to before p files1 counts1 (Graph ∷ Properties ∷ []) Offsets refl (λ r. offsets_then r p) (behind_offsets p slice) k2
           (λ h holds. holds) (λ t r n. refl) refl after e silent o.reads
@@ -69,7 +69,7 @@ module _ (base : List ℕ) (page : ℕ) (td to : Bool) (before : Outside) where
 
         -- the page is not there, or its chain is at fault
         pub no_list : (taken : List ℕ) (faults : ℕ) (e : Ending) → taken ≡ before.taken → IsBadPage page p.arcs e → ((r : Readings) → Steps {B = List ℕ} (with_successors r p slice places page) (Err e))
-            → Performs job td to before (outside files2 counts2 taken faults) e.status e.arcs
+            → Performs job td to before (outside files2 counts2 taken faults) e.status e.promised
         no_list taken faults e silent (inl none) steps =
             refuses_page job base td to before p files2 counts2 (Offsets ∷ Graph ∷ Properties ∷ []) (behind_offsets p slice places) k3 refl taken faults e silent (page, none) (λ t r. steps r line)
         no_list taken faults e silent (inr (inl bad)) steps =
@@ -80,7 +80,7 @@ module _ (base : List ℕ) (page : ℕ) (td to : Bool) (before : Outside) where
         -- it has this list
         pub spots : (list : List ℕ) → ((r : Readings) → Steps {B = List ℕ} (with_successors r p slice places page) (Ok list)) → (shown : List ℕ) → shown ≡ list
             → (taken : List ℕ) (faults : ℕ) (r : Result (Unit {0}) Ending) → (IsTrue to → Puts (successors_line page shown) before.taken taken r)
-            → IfErr r (λ e. IsUnput e.status) → (status_in r ≡ WriteFault Out → Increased before.faults faults) → Performs job td to before (outside files2 counts2 taken faults) (status_in r) (arcs_in r)
+            → IfErr r (λ e. IsUnput e.status) → (status_in r ≡ WriteFault Out → Increased before.faults faults) → Performs job td to before (outside files2 counts2 taken faults) (status_in r) (promised_in r)
         spots list steps shown same taken faults r puts only rose =
             prints job base td to before p files2 counts2 (Offsets ∷ Graph ∷ Properties ∷ []) (behind_offsets p slice places) k3 (λ q. successors_line page list)
             (λ q. steps q line) refl taken faults r (λ t q. subst (λ (x : List ℕ). Puts (successors_line page x) before.taken taken r) same (puts t)) only rose

@@ -14,7 +14,7 @@ use Rattle.wg_outcomes.specs.Answers.{IsUnput, Steps, status_in}
 use Rattle.wg_outcomes.specs.Judged.{Judged, accepted, claim_then}
 use Rattle.wg_readings.specs.Loading.{IsBadCertificate, LoadsCertificate, LoadsGraph, LoadsParams, LoadsWeights}
 use Rattle.wg_outcomes.specs.Names.{certificate_named, weights_named}
-use Rattle.wg_outcomes.specs.Promised.{arcs_in}
+use Rattle.wg_outcomes.specs.Promised.{promised_in}
 use Rattle.wg_outcomes.specs.Readings.{Readings}
 use Rattle.wg_outcomes.specs.declared.ending.Ending.{Ending}
 use Rattle.wg_outcomes.specs.declared.status.Input.{Input}
@@ -57,16 +57,16 @@ module _ (base certificate : List ℕ) (given : Option (List ℕ)) (td to : Bool
   job = Verify base certificate given
 
   pub no_params : (after : Outside) (e : Ending) → after.taken ≡ before.taken → LoadsParams base td before.files after.files before.counts after.counts (Err e)
-      → Performs job td to before after e.status e.arcs
+      → Performs job td to before after e.status e.promised
   no_params after e silent l = weighted.no_params job base given td to before refl refl (weights_are base certificate given) behind_weights (λ r h. refl) after e silent l
 
   module _ (p : Parameters) (files : Files) (counts : List ℕ → Counts) (l : LoadsParams base td before.files files before.counts counts (Ok p)) where
-    pub no_graph : (after : Outside) (e : Ending) → after.taken ≡ before.taken → LoadsGraph base p td files after.files counts after.counts (Err e) → Performs job td to before after e.status e.arcs
+    pub no_graph : (after : Outside) (e : Ending) → after.taken ≡ before.taken → LoadsGraph base p td files after.files counts after.counts (Err e) → Performs job td to before after e.status e.promised
     no_graph after e silent g = weighted.no_graph job base given td to before refl refl (weights_are base certificate given) behind_weights (λ r h. refl) p files counts l after e silent g
 
     module _ (files1 : Files) (counts1 : List ℕ → Counts) (graph : Digraph) (g : LoadsGraph base p td files files1 counts counts1 (Ok graph)) where
       pub no_weights : (after : Outside) (e : Ending) → after.taken ≡ before.taken → LoadsWeights given graph.nodes td files1 after.files counts1 after.counts (Err e)
-          → Performs job td to before after e.status e.arcs
+          → Performs job td to before after e.status e.promised
       no_weights after e silent w =
           weighted.no_weights job base given td to before refl refl (weights_are base certificate given) behind_weights (λ r h. refl) p files counts l files1 counts1 graph g after e silent w
 
@@ -75,10 +75,10 @@ module _ (base certificate : List ℕ) (given : Option (List ℕ)) (td to : Bool
         come = weighted.has_weights job base given td to before refl refl (weights_are base certificate given) behind_weights (λ r h. refl) p files counts l files1 counts1 graph g files2 counts2 ws w
 
         pub no_claim : (after : Outside) (e : Ending) → after.taken ≡ before.taken → LoadsCertificate certificate graph.nodes td files2 after.files counts2 after.counts (Err e)
-            → Performs job td to before after e.status e.arcs
+            → Performs job td to before after e.status e.promised
         no_claim after e silent c =
             ends_named job base td to before p files2 counts2 (Weights ∷ Graph ∷ Properties ∷ []) Certificate (certificate_named certificate) (certificate_is base certificate given) IsBadCertificate
-            (claim_then graph.nodes) (λ x r h. behind_claim graph ws x r h) come (λ h holds. holds) (λ n. refl) (certificate_refused job (has_certificate base certificate given))
+            (claim_then graph.nodes) (λ x r h. behind_claim graph ws x r h) come (λ h holds. holds) (λ n. refl) (certificate_refused job p (has_certificate base certificate given))
             (has_certificate base certificate given) after e silent c.reads
 
         module _ (files3 : Files) (counts3 : List ℕ → Counts) (claim : Claim) (c : LoadsCertificate certificate graph.nodes td files2 files3 counts2 counts3 (Ok claim)) where
@@ -88,16 +88,16 @@ module _ (base certificate : List ℕ) (given : Option (List ℕ)) (td to : Bool
               (claim_then graph.nodes) (λ x r h. behind_claim graph ws x r h) come files3 counts3 claim c.reads
 
           -- the claim does not hold
-          pub no_gap : (taken : List ℕ) (faults : ℕ) (e : Ending) → taken ≡ before.taken → (e.status ≡ Memory) ⊎ IsBadCertificate e.status
-              → Steps {B = ℕ} (with_gap graph claim ws) (Err e) → Performs job td to before (outside files3 counts3 taken faults) e.status e.arcs
+          pub no_gap : (taken : List ℕ) (faults : ℕ) (e : Ending) → taken ≡ before.taken → (e.status ≡ Memory) ⊎ IsBadCertificate e
+              → Steps {B = ℕ} (with_gap graph claim ws) (Err e) → Performs job td to before (outside files3 counts3 taken faults) e.status e.promised
           no_gap taken faults e silent only steps =
-              refuses_own job base td to before p files3 counts3 (Certificate ∷ Weights ∷ Graph ∷ Properties ∷ []) IsBadCertificate (certificate_refused job (has_certificate base certificate given))
+              refuses_own job base td to before p files3 counts3 (Certificate ∷ Weights ∷ Graph ∷ Properties ∷ []) IsBadCertificate (certificate_refused job p (has_certificate base certificate given))
               (behind_claim graph ws claim) come_to_claim taken faults e silent only (λ t r. steps (λ left. accepted (verified_line claim left)))
 
           -- it does
           pub verifies : (left : ℕ) → Steps {B = ℕ} (with_gap graph claim ws) (Ok left) → (taken : List ℕ) (faults : ℕ) (r : Result (Unit {0}) Ending)
               → (IsTrue to → Puts (verified_line claim left) before.taken taken r) → IfErr r (λ e. IsUnput e.status)
-              → (status_in r ≡ WriteFault Out → Increased before.faults faults) → Performs job td to before (outside files3 counts3 taken faults) (status_in r) (arcs_in r)
+              → (status_in r ≡ WriteFault Out → Increased before.faults faults) → Performs job td to before (outside files3 counts3 taken faults) (status_in r) (promised_in r)
           verifies left steps taken faults r puts only rose =
               prints job base td to before p files3 counts3 (Certificate ∷ Weights ∷ Graph ∷ Properties ∷ []) (behind_claim graph ws claim) come_to_claim
               (λ q. verified_line claim left) (λ q. steps (λ x. accepted (verified_line claim x))) refl taken faults r (λ o q. puts o) only rose

@@ -54,7 +54,7 @@ fn judge_bounds<L: Lists>(
     requires pages { (L.graph lists.old).nodes ≡ length certificate.now.low }
     requires weights { AreWeights (length certificate.now.low) (weights_for certificate.now weights.now) }
     ensures steps { Steps (with_gap (L.graph lists.old) certificate.now weights.now) result }
-    ensures only { IfErr result (λ e. (e.status ≡ Status.Memory) ⊎ IsBadCertificate e.status) }
+    ensures only { IfErr result (λ e. (e.status ≡ Status.Memory) ⊎ IsBadCertificate e) }
     ensures within { IfOk result (λ left. left ≤ UNITS) }
 {
     match judge(alloc, certificate, weights.as_ref(), lists) {

@@ -19,7 +19,7 @@ use Rattle.wg_params.specs.declared.layout.Layout.{Layout}
 use Rattle.wg_outcomes.specs.Commands.{builds, greedy_line, written_by}
 use Rattle.wg_outcomes.specs.Judged.{Judged, Written, an_archive, a_certificate, files_of, output_of, status_of, Archive}
 use Rattle.wg_readings.specs.Loading.{LoadsList}
-use Rattle.wg_outcomes.specs.Promised.{ArePromised, arcs_in}
+use Rattle.wg_outcomes.specs.Promised.{ArePromised, promised_in}
 use Rattle.wg_outcomes.specs.JobFiles.{can_end, has_output, input_name, output_name, reads_again, writes_files}
 use Rattle.wg_outcomes.specs.Names.{IsOfInput, archive_named, held_by, list_named}
 use Rattle.wg_outcomes.specs.Performs.{BuildsArchive, Outside, Performs, Produces, judged_on, outside}
@@ -108,10 +108,10 @@ built_possible job (Ok done) has only = refl
 built_possible job (Err e) has (inl fault) = subst (λ (s : Status). IsTrue (can_end job s)) (sym fault.1) (has fault.0 fault.1)
 built_possible job (Err e) has (inr want) = subst (λ (s : Status). IsTrue (can_end job s)) (sym want) refl
 
-built_promised : (held : Input → Option (List ℕ)) (r : Result (Unit {0}) Ending) → IfErr r (λ e. IsStopped e.status) → ArePromised held (status_in r) (arcs_in r)
+built_promised : (held : Input → Option (List ℕ)) (r : Result (Unit {0}) Ending) → IfErr r (λ e. IsStopped e.status) → ArePromised held (status_in r) (promised_in r)
 built_promised held (Ok done) only = tt
-built_promised held (Err e) (inl fault) = subst (λ (s : Status). ArePromised held s e.arcs) (sym fault.1) tt
-built_promised held (Err e) (inr want) = subst (λ (s : Status). ArePromised held s e.arcs) (sym want) tt
+built_promised held (Err e) (inl fault) = subst (λ (s : Status). ArePromised held s e.promised) (sym fault.1) tt
+built_promised held (Err e) (inr want) = subst (λ (s : Status). ArePromised held s e.promised) (sym want) tt
 
 cause_since : (inputs : Input → Option (List ℕ)) (names : Output → Option (List ℕ)) (old mid new : List ℕ → Counts) (faults faults' : ℕ) (r : Result (Unit {0}) Ending) → IfErr r (λ e. IsStopped e.status)
     → NonDecreasing old mid → HasCause inputs names mid new faults faults' (status_in r) → HasCause inputs names old new faults faults' (status_in r)
@@ -136,7 +136,7 @@ pub produced : (job : Job) (td to : Bool) (before after : Outside) (files : File
     → files ≡ before.files
     → NonDecreasing before.counts counts
     → Produces names what text td to (outside files counts before.taken before.faults) after r
-    → Performs job td to before after (status_in r) (arcs_in r)
+    → Performs job td to before after (status_in r) (promised_in r)
 produced job td to before after files counts names what text r writes named is same later h = record {
   answers = λ t q. built_answers (judged_on q job before.files) r (is t q).0 h.only;
   possible = built_possible job r (has_each job names named _ _ _ _ _ (status_in r) (h.causes (input_name job))) h.only;
@@ -165,25 +165,25 @@ pub written : (job : Job) (td to : Bool) (before after : Outside) (files : Files
     → files ≡ before.files
     → NonDecreasing before.counts counts
     → BuildsArchive l g base td to (outside files counts before.taken before.faults) after r
-    → Performs job td to before after (status_in r) (arcs_in r)
+    → Performs job td to before after (status_in r) (promised_in r)
 written job td to before after files counts l g base r writes names is same later h =
     produced job td to before after files counts (archive_named base) (an_archive (greedy_archive (params_for l g) g)) (λ q. greedy_line (params_for l g) g) r writes names
     (λ t q. (ap status_of (is t q), ap output_of (is t q), ap files_of (is t q))) same later h
 
 -- ---- an arc list that was not read
 pub list_unread : (arcs base : List ℕ) (n : ℕ) (l : Layout) (td to : Bool) (before after : Outside) (e : Ending) → after.taken ≡ before.taken → LoadsList arcs n td before.files after.files before.counts after.counts (Err e)
-    → Performs (Build arcs base n l) td to before after e.status e.arcs
+    → Performs (Build arcs base n l) td to before after e.status e.promised
 list_unread arcs base n l td to before after e silent h = by_only h.only
   where
     answers : IsTrue td → (r : Readings) → Answers (judged_on r (Build arcs base n l) before.files) e.status
     answers t r = h.steps t r (λ g. builds l g)
 
-    by_only : (IsOfInput input.ArcList e.status ⊎ ((line : ℕ) × (kind : ArcsKind) × (e.status ≡ BadArcs line kind))) → Performs (Build arcs base n l) td to before after e.status e.arcs
+    by_only : (IsOfInput input.ArcList e.status ⊎ ((line : ℕ) × (kind : ArcsKind) × (e.status ≡ BadArcs line kind))) → Performs (Build arcs base n l) td to before after e.status e.promised
     by_only (inl only) =
-        unread (list_named arcs) input.ArcList (Build arcs base n l) td to before after e.status e.arcs refl refl silent only h.causes h.same h.later answers
+        unread (list_named arcs) input.ArcList (Build arcs base n l) td to before after e.status e.promised refl refl silent only h.causes h.same h.later answers
         (λ t r i is. subst (λ (k : Input). Reaches r (Build arcs base n l) (held_by (input_name (Build arcs base n l)) before.files) k) (own_read input.ArcList e.status i only is) refl)
     by_only (inr fault) =
         let own : IsOwn e.status = subst IsOwn (sym fault.2) tt in
-        stopped (Build arcs base n l) td to before after e.status e.arcs (subst IsStop (sym fault.2) tt) silent h.same answers
+        stopped (Build arcs base n l) td to before after e.status e.promised (subst IsStop (sym fault.2) tt) silent h.same answers
         (subst (λ (s : Status). IsTrue (can_end (Build arcs base n l) s)) (sym fault.2) refl) (own_caused _ _ _ _ _ _ e.status own)
-        (λ t r i is. absurd (subst IsOwn is own)) h.later (λ t. subst (λ (s : Status). ArePromised (held_by (input_name (Build arcs base n l)) before.files) s e.arcs) (sym fault.2) tt)
+        (λ t r i is. absurd (subst IsOwn is own)) h.later (λ t. subst (λ (s : Status). ArePromised (held_by (input_name (Build arcs base n l)) before.files) s e.promised) (sym fault.2) tt)

@@ -20,7 +20,7 @@ module _ (job : Job) (base : List ℕ) (td to : Bool) (before : Outside) (text_n
     (next : Parameters → Digraph → Readings → (Input → Option (List ℕ)) → Judged) (judges : (r : Readings) (h : Input → Option (List ℕ)) → judged r job h ≡ params_then (h Properties) (λ p. digraph_then r p (h Graph) (λ g. next p g r h))) where
   -- the parameters were not read
   pub no_params : (after : Outside) (e : Ending) → after.taken ≡ before.taken → LoadsParams base td before.files after.files before.counts after.counts (Err e)
-      → Performs job td to before after e.status e.arcs
+      → Performs job td to before after e.status e.promised
   no_params after e silent l = unloaded job base td to before text_named (λ p r h. digraph_then r p (h Graph) (λ g. next p g r h)) judges after e silent l
 
   module _ (p : Parameters) (files : Files) (counts : List ℕ → Counts) (l : LoadsParams base td before.files files before.counts counts (Ok p)) where
@@ -28,7 +28,7 @@ module _ (job : Job) (base : List ℕ) (td to : Bool) (before : Outside) (text_n
     come = loaded job base td to before text_named (λ q r h. digraph_then r q (h Graph) (λ g. next q g r h)) judges p files counts l
 
     -- the graph was not
-    pub no_graph : (after : Outside) (e : Ending) → after.taken ≡ before.taken → LoadsGraph base p td files after.files counts after.counts (Err e) → Performs job td to before after e.status e.arcs
+    pub no_graph : (after : Outside) (e : Ending) → after.taken ≡ before.taken → LoadsGraph base p td files after.files counts after.counts (Err e) → Performs job td to before after e.status e.promised
     no_graph after e silent g =
         ends_reading job base td to before p files counts (Properties ∷ []) Graph graph_named (λ r. digraph_then r p) (λ x r h. next p x r h) come
         (λ h holds. holds) (λ t r n. refl) refl after e silent g.reads

@@ -43,7 +43,7 @@ hindered_output due old new (NoPage page) h put = absurd h
 hindered_output due old new (OverLimit i) h put = absurd h
 hindered_output due old new (BadWeights f) h put = absurd h
 hindered_output due old new (BadText line kind) h put = absurd h
-hindered_output due old new (BadMap f pages) h put = absurd h
+hindered_output due old new (BadMap f) h put = absurd h
 hindered_output due old new (BadCertificate f) h put = absurd h
 
 pub hindered_promised : (held : Input → Option (List ℕ)) (s : Status) (n : ℕ) → IsHindrance s → ArePromised held s n
@@ -60,9 +60,9 @@ hindered_promised held (BadSecond f) n h = absurd h
 hindered_promised held TooManyArcs n h = tt
 hindered_promised held (NoPage page) n h = tt
 hindered_promised held (OverLimit i) n h = tt
-hindered_promised held (BadWeights f) n h = tt
+hindered_promised held (BadWeights f) n h = absurd h
 hindered_promised held (BadText line kind) n h = tt
-hindered_promised held (BadMap f pages) n h = tt
+hindered_promised held (BadMap f) n h = absurd h
 hindered_promised held (BadCertificate f) n h = tt
 
 -- a status at which a pass ends that prints

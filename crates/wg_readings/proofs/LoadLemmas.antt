@@ -154,10 +154,11 @@ module _ (base : List ℕ) (p : Parameters) (td : Bool) (files files' : Files) (
   pub graph_unloaded : (e : Ending) → Loads (file_of base) Graph td files files' counts counts' (Err e) → LoadsGraph base p td files files' counts counts' (Err e)
   graph_unloaded e l =
       let k = read_unloaded base td files files' counts counts' Graph p.arcs (λ r. with_digraph r p) (Err e) e refl l in
-      record { reads = k.reads; goes = k.goes }
+      record { reads = k.reads; goes = k.goes; nodes = tt }
 
   pub graph_loaded : (bytes slice : List ℕ) → slice ≡ bytes → Loads (file_of base) Graph td files files' counts counts' (Ok bytes)
-      → (r : Result Digraph Ending) → ((q : Readings) → Steps (with_digraph q p slice) r) → IfErr r (IsBadFile Graph p.arcs) → LoadsGraph base p td files files' counts counts' r
-  graph_loaded bytes slice is l r steps bad =
+      → (r : Result Digraph Ending) → ((q : Readings) → Steps (with_digraph q p slice) r) → IfErr r (IsBadFile Graph p.arcs) → IfOk r (λ g. g.nodes ≡ p.nodes)
+      → LoadsGraph base p td files files' counts counts' r
+  graph_loaded bytes slice is l r steps bad nodes =
       let k = read_loaded base td files files' counts counts' Graph p.arcs (λ q. with_digraph q p) bytes slice is l r steps bad in
-      record { reads = k.reads; goes = k.goes }
+      record { reads = k.reads; goes = k.goes; nodes = nodes }

@@ -9,7 +9,7 @@ use Rattle.wg_words.specs.declared.jobs.Job.{Job}
 use Rattle.wg_outcomes.specs.Reached.{Reaches}
 use Rattle.wg_outcomes.specs.Answers.{Answers, without}
 use Rattle.wg_outcomes.specs.Judged.{Judged, refused}
-use Rattle.wg_readings.specs.Loading.{IsBadCertificate, IsBadMap, IsBadWeights, ReadsNamed}
+use Rattle.wg_readings.specs.Loading.{IsBadCertificate, IsBadMap, IsBadWeights, IsPropertiesFile, ReadsNamed}
 use Rattle.wg_outcomes.specs.JobFiles.{can_end, has_input, input_name}
 use Rattle.wg_outcomes.specs.Names.{held_by, IsOfInput}
 use Rattle.wg_outcomes.specs.Performs.{Outside, Performs, judged_on, outside}
@@ -17,50 +17,57 @@ use Rattle.wg_outcomes.specs.Promised.{ArePromised}
 use Rattle.wg_outcomes.specs.Readings.{Readings}
 use Rattle.wg_outcomes.specs.declared.ending.Ending.{Ending}
 use Rattle.wg_outcomes.specs.declared.status.Input.{Input}
-use Rattle.wg_outcomes.specs.declared.status.Input.TheVariants.{Weights, Certificate, Map}
+use Rattle.wg_outcomes.specs.declared.status.Input.TheVariants.{Properties, Weights, Certificate, Map}
 use Rattle.wg_outcomes.specs.declared.status.Status.{Status}
-use Rattle.wg_outcomes.specs.declared.status.Status.TheVariants.{Memory, Missing}
-use Rattle.wg_readings.proofs.JobSteps.{ComesTo, Hold, ends_without, gone, hold_all, judges_rest}
+use Rattle.wg_outcomes.specs.declared.status.Status.TheVariants.{BadMap, BadWeights, Memory, Missing}
+use Rattle.wg_outcomes.specs.declared.status.WeightsFault.{WeightsFault}
+use Rattle.wg_outcomes.specs.declared.status.WeightsFault.TheVariants.{Numbers, Zero}
+use Rattle.wg_readings.proofs.JobSteps.{ComesTo, Hold, ends_without, gone, hold_all, judges_rest, of_properties}
 use Rattle.wg_outcomes.proofs.PerformsLemmas.{IsStop, stopped, unread}
 use Rattle.wg_outcomes.proofs.Statuses.{IsOwn, own_caused, own_read}
 use Rattle.wg_readings.proofs.UnderWay.{cause_later}
 
--- faults of what a file holds, with which the job can end
-pub record AreRefusals (job : Job) (IsFault : Status → Type 0) : Type 0 where
-  pub own : (s : Status) → IsFault s → IsOwn s
-  pub stop : (s : Status) → IsFault s → IsStop s
-  pub possible : (s : Status) → IsFault s → IsTrue (can_end job s)
-  pub promised : (held : Input → Option (List ℕ)) (s : Status) (n : ℕ) → IsFault s → ArePromised held s n
+-- faults of what a file holds, with which the job can end where its archive has these parameters
+pub record AreRefusals (job : Job) (p : Parameters) (IsFault : Ending → Type 0) : Type 0 where
+  pub own : (e : Ending) → IsFault e → IsOwn e.status
+  pub stop : (e : Ending) → IsFault e → IsStop e.status
+  pub possible : (e : Ending) → IsFault e → IsTrue (can_end job e.status)
+  pub promised : (held : Input → Option (List ℕ)) (e : Ending) → IsPropertiesFile (held Properties) p → IsFault e → ArePromised held e.status e.promised
 
-pub weights_refused : (job : Job) → IsTrue (has_input job Weights) → AreRefusals job IsBadWeights
-weights_refused job has = record {
-  own = λ s f. subst IsOwn (sym f.1) tt;
-  stop = λ s f. subst IsStop (sym f.1) tt;
-  possible = λ s f. subst (λ (x : Status). IsTrue (can_end job x)) (sym f.1) has;
-  promised = λ held s n f. subst (λ (x : Status). ArePromised held x n) (sym f.1) tt;
+weights_promised : (held : Input → Option (List ℕ)) (p : Parameters) (n : ℕ) → IsPropertiesFile (held Properties) p → n ≡ p.nodes → (f : WeightsFault) → ArePromised held (BadWeights f) n
+weights_promised held p n file is (Numbers f) = of_properties (held Properties) p (λ q. q.nodes) n file is
+weights_promised held p n file is Zero = tt
+
+pub weights_refused : (job : Job) (p : Parameters) (n : ℕ) → n ≡ p.nodes → IsTrue (has_input job Weights) → AreRefusals job p (IsBadWeights n)
+weights_refused job p n pages has = record {
+  own = λ e f. subst IsOwn (sym f.1) tt;
+  stop = λ e f. subst IsStop (sym f.1) tt;
+  possible = λ e f. subst (λ (s : Status). IsTrue (can_end job s)) (sym f.1) has;
+  promised = λ held e file f. subst (λ (s : Status). ArePromised held s e.promised) (sym f.1) (weights_promised held p e.promised file (f.2 ∙ pages) f.0);
 }
 
-pub certificate_refused : (job : Job) → IsTrue (has_input job Certificate) → AreRefusals job IsBadCertificate
-certificate_refused job has = record {
-  own = λ s f. subst IsOwn (sym f.1) tt;
-  stop = λ s f. subst IsStop (sym f.1) tt;
-  possible = λ s f. subst (λ (x : Status). IsTrue (can_end job x)) (sym f.1) has;
-  promised = λ held s n f. subst (λ (x : Status). ArePromised held x n) (sym f.1) tt;
+pub certificate_refused : (job : Job) (p : Parameters) → IsTrue (has_input job Certificate) → AreRefusals job p IsBadCertificate
+certificate_refused job p has = record {
+  own = λ e f. subst IsOwn (sym f.1) tt;
+  stop = λ e f. subst IsStop (sym f.1) tt;
+  possible = λ e f. subst (λ (s : Status). IsTrue (can_end job s)) (sym f.1) has;
+  promised = λ held e file f. subst (λ (s : Status). ArePromised held s e.promised) (sym f.1) tt;
 }
 
-pub map_refused : (job : Job) → IsTrue (has_input job Map) → AreRefusals job IsBadMap
-map_refused job has = record {
-  own = λ s f. subst IsOwn (sym f.2) tt;
-  stop = λ s f. subst IsStop (sym f.2) tt;
-  possible = λ s f. subst (λ (x : Status). IsTrue (can_end job x)) (sym f.2) has;
-  promised = λ held s n f. subst (λ (x : Status). ArePromised held x n) (sym f.2) tt;
+pub map_refused : (job : Job) (p : Parameters) (n : ℕ) → n ≡ p.nodes → IsTrue (has_input job Map) → AreRefusals job p (IsBadMap n)
+map_refused job p n pages has = record {
+  own = λ e f. subst IsOwn (sym f.1) tt;
+  stop = λ e f. subst IsStop (sym f.1) tt;
+  possible = λ e f. subst (λ (s : Status). IsTrue (can_end job s)) (sym f.1) has;
+  promised = λ held e file f.
+      subst (λ (s : Status). ArePromised held s e.promised) (sym f.1) (of_properties (held Properties) p (λ q. q.nodes) e.promised file (f.2 ∙ pages));
 }
 
 module _ (job : Job) (base : List ℕ) (td to : Bool) (before : Outside) (p : Parameters) (files : Files) (counts : List ℕ → Counts) (read : List Input) where
   abbrev held : Input → Option (List ℕ)
   held = held_by (input_name job) before.files
 
-  module _ {B : Type 0} (i : Input) (names : Input → Option (List ℕ)) (named : input_name job i ≡ names i) (IsFault : Status → Type 0)
+  module _ {B : Type 0} (i : Input) (names : Input → Option (List ℕ)) (named : input_name job i ≡ names i) (IsFault : Ending → Type 0)
       (step : Option (List ℕ) → (B → Judged) → Judged) (next : B → Readings → (Input → Option (List ℕ)) → Judged)
       (k : ComesTo job p td before files counts read (λ r h. step (h i) (λ b. next b r h))) where
     here : held_by (input_name job) before.files i ≡ held_by names files i
@@ -78,14 +85,14 @@ module _ (job : Job) (base : List ℕ) (td to : Bool) (before : Outside) (p : Pa
 
     -- or it ends the job
     module _ (apart : (h : Input → Option (List ℕ)) → Hold (input_name job) before.files read h → Hold (input_name job) before.files read (without i h))
-        (nothing : (n : B → Judged) → step None n ≡ refused (Missing i)) (refusals : AreRefusals job IsFault) where
+        (nothing : (n : B → Judged) → step None n ≡ refused (Missing i)) (refusals : AreRefusals job p IsFault) where
       reaches_named : IsTrue td → (r : Readings) → Reaches r job held i
       reaches_named t r =
           k.goes t r (without i held) (apart held (hold_all (input_name job) before.files read))
           ∙ ap (λ (o : Option (List ℕ)). step o (λ b. next b r (without i held))) (gone i held) ∙ nothing (λ b. next b r (without i held))
 
       pub ends_named : IsTrue (has_input job i) → (after : Outside) (e : Ending) → after.taken ≡ before.taken
-          → ReadsNamed {B = B} i names IsFault step td files after.files counts after.counts (Err e) → Performs job td to before after e.status e.arcs
+          → ReadsNamed {B = B} i names IsFault step td files after.files counts after.counts (Err e) → Performs job td to before after e.status e.promised
       ends_named has after e silent h = by_only h.only
         where
           answers : IsTrue td → (r : Readings) → Answers (judged_on r job before.files) e.status
@@ -94,23 +101,23 @@ module _ (job : Job) (base : List ℕ) (td to : Bool) (before : Outside) (p : Pa
               (sym (k.goes t r held (hold_all (input_name job) before.files read) ∙ ap (λ (o : Option (List ℕ)). step o (λ b. next b r held)) here))
               (h.steps t (λ b. next b r held))
 
-          by_only : (IsOfInput i e.status ⊎ IsFault e.status) → Performs job td to before after e.status e.arcs
+          by_only : (IsOfInput i e.status ⊎ IsFault e) → Performs job td to before after e.status e.promised
           by_only (inl only) =
-              unread names i job td to before after e.status e.arcs has named silent only
+              unread names i job td to before after e.status e.promised has named silent only
               (cause_later names before.counts counts after.counts e.status k.later h.causes) (h.same ∙ k.same) (none_falls-trans _ _ _ k.later h.later) answers
               (λ t r j is. subst (λ (x : Input). Reaches r job held x) (own_read i e.status j only is) (reaches_named t r))
           by_only (inr fault) =
-              stopped job td to before after e.status e.arcs (refusals.stop e.status fault) silent (h.same ∙ k.same) answers (refusals.possible e.status fault)
-              (own_caused _ _ _ _ _ _ e.status (refusals.own e.status fault)) (λ t r j is. absurd (subst IsOwn is (refusals.own e.status fault)))
-              (none_falls-trans _ _ _ k.later h.later) (λ t. refusals.promised held e.status e.arcs fault)
+              stopped job td to before after e.status e.promised (refusals.stop e fault) silent (h.same ∙ k.same) answers (refusals.possible e fault)
+              (own_caused _ _ _ _ _ _ e.status (refusals.own e fault)) (λ t r j is. absurd (subst IsOwn is (refusals.own e fault)))
+              (none_falls-trans _ _ _ k.later h.later) (λ t. refusals.promised held e (k.given t) fault)
 
   -- a step that reads nothing ends it, with such a fault or since memory was out
-  module _ (IsFault : Status → Type 0) (refusals : AreRefusals job IsFault) (rest : Readings → (Input → Option (List ℕ)) → Judged) (k : ComesTo job p td before files counts read rest) where
-    pub refuses_own : (taken : List ℕ) (faults : ℕ) (e : Ending) → taken ≡ before.taken → (e.status ≡ Memory) ⊎ IsFault e.status
-        → (IsTrue td → (r : Readings) → Answers (rest r held) e.status) → Performs job td to before (outside files counts taken faults) e.status e.arcs
+  module _ (IsFault : Ending → Type 0) (refusals : AreRefusals job p IsFault) (rest : Readings → (Input → Option (List ℕ)) → Judged) (k : ComesTo job p td before files counts read rest) where
+    pub refuses_own : (taken : List ℕ) (faults : ℕ) (e : Ending) → taken ≡ before.taken → (e.status ≡ Memory) ⊎ IsFault e
+        → (IsTrue td → (r : Readings) → Answers (rest r held) e.status) → Performs job td to before (outside files counts taken faults) e.status e.promised
     refuses_own taken faults e silent (inl want) answers = ends_without job base td to before p files counts read rest k taken faults e silent want
     refuses_own taken faults e silent (inr fault) answers =
-        stopped job td to before (outside files counts taken faults) e.status e.arcs (refusals.stop e.status fault) silent k.same
+        stopped job td to before (outside files counts taken faults) e.status e.promised (refusals.stop e fault) silent k.same
         (λ t r. subst (λ (j : Judged). Answers j e.status) (sym (judges_rest job base td to before p files counts read rest k t r)) (answers t r))
-        (refusals.possible e.status fault) (own_caused _ _ _ _ _ _ e.status (refusals.own e.status fault))
-        (λ t r j is. absurd (subst IsOwn is (refusals.own e.status fault))) k.later (λ t. refusals.promised held e.status e.arcs fault)
+        (refusals.possible e fault) (own_caused _ _ _ _ _ _ e.status (refusals.own e fault))
+        (λ t r j is. absurd (subst IsOwn is (refusals.own e fault))) k.later (λ t. refusals.promised held e (k.given t) fault)

@@ -99,7 +99,7 @@ module _ (r : Readings) (p : Parameters) (limits : IsWithinLimits p) (bytes plac
   page_refused le next = page_absent p.nodes page le (λ t. unless_bad_chain (r.page.value p bytes places page) next)
 
 -- a fault of the chain lies in the graph file or in the offsets file
-pub bad_chain : (page promised : ℕ) (f : ArchiveFault) (e : Ending) → e.status ≡ BadArchive f → e.arcs ≡ promised → IsBadPage page promised e
+pub bad_chain : (page promised : ℕ) (f : ArchiveFault) (e : Ending) → e.status ≡ BadArchive f → e.promised ≡ promised → IsBadPage page promised e
 bad_chain page promised (archive.Record x) e is names = inr (inl (inr (archive.Record x, refl, is, names)))
 bad_chain page promised (archive.Tail at) e is names = inr (inl (inr (archive.Tail at, refl, is, names)))
 bad_chain page promised (archive.ArcsShort total) e is names = inr (inl (inr (archive.ArcsShort total, refl, is, names)))

@@ -10,14 +10,13 @@ use Rattle.wg_outcomes.specs.Names.{text_named}
 use Rattle.wg_outcomes.specs.Readings.{Readings}
 use Rattle.wg_outcomes.specs.declared.ending.Ending.{Ending}
 use Rattle.wg_outcomes.specs.declared.status.Input.TheVariants.{Text}
-use Rattle.wg_outcomes.specs.declared.status.Status.{Status}
 use Rattle.wg_outcomes.specs.declared.status.Status.TheVariants.{Memory}
 use Rattle.wg_readings.proofs.NamedLemmas.{named_exit, named_loaded, named_unloaded}
 use Rattle.wg_readings.proofs.ReadingsLaws.{the_readings}
 use Rattle.wg_outcomes.proofs.Statuses.{IsOwn}
 
-text_own : (s : Status) → IsBadText s → IsOwn s
-text_own s fault = subst IsOwn (sym fault.2) tt
+text_own : (e : Ending) → IsBadText e → IsOwn e.status
+text_own e fault = subst IsOwn (sym fault.2) tt
 
 module _ (name : List ℕ) (td : Bool) (files files' : Files) (counts counts' : List ℕ → Counts) where
   abbrev HasRead : Result Digraph Ending → Readings → Type 0
@@ -40,7 +39,7 @@ module _ (name : List ℕ) (td : Bool) (files files' : Files) (counts counts' : 
       (named_unloaded Text (text_named name) IsBadText text_own (with_text q) td files files' counts counts' e l))
 
   pub text_loaded : (bytes slice : List ℕ) → slice ≡ bytes → Loads (text_named name) Text td files files' counts counts' (Ok bytes)
-      → (r : Result Digraph Ending) → ((q : Readings) → Steps (with_text q slice) r) → IfErr r (λ e. (e.status ≡ Memory) ⊎ IsBadText e.status)
+      → (r : Result Digraph Ending) → ((q : Readings) → Steps (with_text q slice) r) → IfErr r (λ e. (e.status ≡ Memory) ⊎ IsBadText e)
       → LoadsText name td files files' counts counts' r
   text_loaded bytes slice is l r steps only =
       of_each r (λ q. named_loaded Text (text_named name) IsBadText text_own (with_text q) td files files' counts counts' bytes slice is l r (steps q) only)

@@ -26,7 +26,6 @@ use Rattle.wg_outcomes.specs.Readings.{Readings}
 use Rattle.wg_outcomes.specs.declared.ending.Ending.{Ending}
 use Rattle.wg_outcomes.specs.declared.status.Input.{Input}
 use Rattle.wg_outcomes.specs.declared.status.Input.TheVariants as input
-use Rattle.wg_outcomes.specs.declared.status.Status.{Status}
 use Rattle.wg_outcomes.specs.declared.status.Status.TheVariants.{BadArcs, BadCertificate, BadMap, BadProperties, BadText, BadWeights, NoPage}
 use Rattle.wg_outcomes.specs.declared.status.WeightsFault.{WeightsFault}
 
@@ -96,6 +95,7 @@ pub record JudgesGraph (base : List ℕ) (p : Parameters) (told : Bool) (files f
 pub record LoadsGraph (base : List ℕ) (p : Parameters) (told : Bool) (files files' : Files) (counts counts' : List ℕ → Counts) (result : Result Digraph Ending) : Type 0 where
   pub reads : Reads base input.Graph p.arcs (λ r. digraph_then r p) told files files' counts counts' result
   pub goes : IsTrue told → (r : Readings) → Steps (digraph_then r p (held_by (file_of base) files input.Graph)) result
+  pub nodes : IfOk result (λ g. g.nodes ≡ p.nodes)
 
 -- goes on if the offsets file stores the lengths of the records with these places
 abbrev pub lengths_then : Readings → Parameters → List ℕ → Option (List ℕ) → (Unit {0} → Judged) → Judged
@@ -129,13 +129,13 @@ pub record LoadsList (name : List ℕ) (n : ℕ) (told : Bool) (files files' : F
   pub same : files' ≡ files
   pub later : NonDecreasing counts counts'
 
-abbrev pub IsBadText : Status → Type 0
-IsBadText status = (line : ℕ) × (kind : AsciiKind) × (status ≡ BadText line kind)
+abbrev pub IsBadText : Ending → Type 0
+IsBadText e = (line : ℕ) × (kind : AsciiKind) × (e.status ≡ BadText line kind)
 
 -- The graph that a plain text holds was read whole, or the job ends at the text.
 pub record LoadsText (name : List ℕ) (told : Bool) (files files' : Files) (counts counts' : List ℕ → Counts) (result : Result Digraph Ending) : Type 0 where
   pub steps : IsTrue told → (r : Readings) → Steps (text_then r (held_by (text_named name) files input.Text)) result
-  pub only : IfErr result (λ e. IsOfInput input.Text e.status ⊎ IsBadText e.status)
+  pub only : IfErr result (λ e. IsOfInput input.Text e.status ⊎ IsBadText e)
   -- an absence or a fault is told only where the outside counted it
   pub causes : HasCause (text_named name) no_outputs counts counts' 0 0 (status_in result)
   -- no file has changed, and no count of the depot falls
@@ -144,24 +144,25 @@ pub record LoadsText (name : List ℕ) (told : Bool) (files files' : Files) (cou
 
 -- A file that is no archive's was read whole and judged, as this input, or the job ends at it, at last with a fault of
 -- what it holds.
-pub record ReadsNamed {B : Type 0} (i : Input) (names : Input → Option (List ℕ)) (IsFault : Status → Type 0) (step : Option (List ℕ) → (B → Judged) → Judged) (told : Bool) (files files' : Files) (counts counts' : List ℕ → Counts) (result : Result B Ending) : Type 0 where
+pub record ReadsNamed {B : Type 0} (i : Input) (names : Input → Option (List ℕ)) (IsFault : Ending → Type 0) (step : Option (List ℕ) → (B → Judged) → Judged) (told : Bool) (files files' : Files) (counts counts' : List ℕ → Counts) (result : Result B Ending) : Type 0 where
   pub steps : IsTrue told → Steps (step (held_by names files i)) result
-  pub only : IfErr result (λ e. IsOfInput i e.status ⊎ IsFault e.status)
+  pub only : IfErr result (λ e. IsOfInput i e.status ⊎ IsFault e)
   -- an absence or a fault is told only where the outside counted it
   pub causes : HasCause names no_outputs counts counts' 0 0 (status_in result)
   -- no file has changed, and no count of the depot falls
   pub same : files' ≡ files
   pub later : NonDecreasing counts counts'
 
-abbrev pub IsBadWeights : Status → Type 0
-IsBadWeights status = (f : WeightsFault) × (status ≡ BadWeights f)
+-- the weights of so many pages are at fault, and the ending names the pages
+abbrev pub IsBadWeights : ℕ → Ending → Type 0
+IsBadWeights n e = (f : WeightsFault) × (e.status ≡ BadWeights f) × (e.promised ≡ n)
 
-abbrev pub IsBadCertificate : Status → Type 0
-IsBadCertificate status = (f : CertFault) × (status ≡ BadCertificate f)
+abbrev pub IsBadCertificate : Ending → Type 0
+IsBadCertificate e = (f : CertFault) × (e.status ≡ BadCertificate f)
 
 -- The weights of so many pages were read, where a file of them is named; or the job ends at this file.
 pub record LoadsWeights (given : Option (List ℕ)) (n : ℕ) (told : Bool) (files files' : Files) (counts counts' : List ℕ → Counts) (result : Result (Option (List ℕ)) Ending) : Type 0 where
-  pub reads : ReadsNamed input.Weights (weights_named given) IsBadWeights (weights_then given n) told files files' counts counts' result
+  pub reads : ReadsNamed input.Weights (weights_named given) (IsBadWeights n) (weights_then given n) told files files' counts counts' result
   pub some : IfErr result (λ e. IsSome given)
   -- by the weights, or by 1 for each page, teleport can be shared out
   pub weights : IfOk result (λ ws. AreWeights n (weights_of n ws))
@@ -171,12 +172,13 @@ pub record LoadsCertificate (name : List ℕ) (n : ℕ) (told : Bool) (files fil
   pub reads : ReadsNamed input.Certificate (certificate_named name) IsBadCertificate (claim_then n) told files files' counts counts' result
   pub pages : IfOk result (λ c. length c.low ≡ n)
 
-abbrev pub IsBadMap : Status → Type 0
-IsBadMap status = (f : NumbersFault) × (n : ℕ) × (status ≡ BadMap f n)
+-- the classes of so many pages are at fault, and the ending names the pages
+abbrev pub IsBadMap : ℕ → Ending → Type 0
+IsBadMap n e = (f : NumbersFault) × (e.status ≡ BadMap f) × (e.promised ≡ n)
 
 -- The classes of so many pages, each below the limit, were read, or the job ends at their file.
 pub record LoadsMap (name : List ℕ) (n limit : ℕ) (told : Bool) (files files' : Files) (counts counts' : List ℕ → Counts) (result : Result (List ℕ) Ending) : Type 0 where
-  pub reads : ReadsNamed input.Map (map_named name) IsBadMap (map_then n limit) told files files' counts counts' result
+  pub reads : ReadsNamed input.Map (map_named name) (IsBadMap n) (map_then n limit) told files files' counts counts' result
   pub each : IfOk result (λ classes. length classes ≡ n)
   pub below : IfOk result (λ classes. Below limit classes)
 

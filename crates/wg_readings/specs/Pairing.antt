@@ -28,14 +28,14 @@ use Rattle.wg_outcomes.specs.declared.status.Status.TheVariants.{Memory, ReadFau
 
 -- how a job ends whose offsets file is not read on
 abbrev pub load_ending : LoadError → Ending
-load_ending load.Absent = record { status = Missing input.Offsets; arcs = 0 }
-load_ending load.Failed = record { status = ReadFault input.Offsets; arcs = 0 }
-load_ending load.TooLong = record { status = OverLimit input.Offsets; arcs = 0 }
-load_ending load.Memory = record { status = Memory; arcs = 0 }
+load_ending load.Absent = record { status = Missing input.Offsets; promised = 0 }
+load_ending load.Failed = record { status = ReadFault input.Offsets; promised = 0 }
+load_ending load.TooLong = record { status = OverLimit input.Offsets; promised = 0 }
+load_ending load.Memory = record { status = Memory; promised = 0 }
 
 -- how it ends at a word, where the properties promise so many arcs
 abbrev pub word_ending : ℕ → WordError LoadError → Ending
-word_ending promised (words.Word w) = record { status = BadArchive (archive.Offsets w); arcs = promised }
+word_ending promised (words.Word w) = record { status = BadArchive (archive.Offsets w); promised = promised }
 word_ending promised (words.Refused e) = load_ending e
 
 -- before the first word

@@ -51,13 +51,13 @@ first_in (errors.Closed f) = f
 
 -- how a job ends at the first error of its graph file, where the properties promise so many arcs
 abbrev pub ending_at : ℕ → First → Ending
-ending_at promised (first.Fault f) = record { status = BadArchive (archive.Record f); arcs = promised }
-ending_at promised (first.Tail offset) = record { status = BadArchive (archive.Tail offset); arcs = promised }
-ending_at promised (first.ArcsShort total) = record { status = BadArchive (archive.ArcsShort total); arcs = promised }
-ending_at promised first.Failed = record { status = ReadFault input.Graph; arcs = 0 }
-ending_at promised first.Absent = record { status = Missing input.Graph; arcs = 0 }
-ending_at promised first.TooLong = record { status = OverLimit input.Graph; arcs = 0 }
-ending_at promised first.Memory = record { status = Memory; arcs = 0 }
+ending_at promised (first.Fault f) = record { status = BadArchive (archive.Record f); promised = promised }
+ending_at promised (first.Tail offset) = record { status = BadArchive (archive.Tail offset); promised = promised }
+ending_at promised (first.ArcsShort total) = record { status = BadArchive (archive.ArcsShort total); promised = promised }
+ending_at promised first.Failed = record { status = ReadFault input.Graph; promised = 0 }
+ending_at promised first.Absent = record { status = Missing input.Graph; promised = 0 }
+ending_at promised first.TooLong = record { status = OverLimit input.Graph; promised = 0 }
+ending_at promised first.Memory = record { status = Memory; promised = 0 }
 
 -- a reading of the graph file of an archive, before its first page
 pub record IsFresh (base : List ℕ) (p : Parameters) (r : Reading) : Type 0 where

@@ -40,13 +40,14 @@ pub fn parameters(text: &[u8]) -> Result<Params, Ending>
 pub fn graph_of_records(alloc: Global, params: &Params, bytes: &[u8]) -> Result<Graph, Ending>
     requires { length bytes.now ≤ MOST_BYTES }
     ensures steps { (r : Readings) → Steps (with_digraph r params.now bytes.now) result }
+    ensures nodes { IfOk result (λ g. g.nodes ≡ params.now.nodes) }
     ensures only { IfErr result (λ e. IsBadFile Input.Graph params.now.arcs e) }
 {
     match read_graph(alloc, *params, &mut Cursor::new(Bits::of(bytes), 0)) {
         Ok(graph) => Ok(graph),
         Err(PagesError::Fault(fault)) => Err(Ending {
             status: Status::BadArchive(fault),
-            arcs: params.arcs(),
+            promised: params.arcs(),
         }),
         Err(PagesError::Memory) => Err(Ending::of(Status::Memory)),
         Err(PagesError::Refused(never)) => match never {},
@@ -55,11 +56,11 @@ pub fn graph_of_records(alloc: Global, params: &Params, bytes: &[u8]) -> Result<
 
 /// How a job ends whose archive is refused.
 pub fn bad_archive(fault: ArchiveFault, params: &Params) -> Ending
-    ensures { result ≡ record { status = Status.BadArchive fault; arcs = params.now.arcs } }
+    ensures { result ≡ record { status = Status.BadArchive fault; promised = params.now.arcs } }
 {
     Ending {
         status: Status::BadArchive(fault),
-        arcs: params.arcs(),
+        promised: params.arcs(),
     }
 }
 
@@ -110,6 +111,7 @@ pub fn lists_of_records<'a>(
     bytes: &'a [u8],
 ) -> Result<Sweep<'a>, Ending>
     requires { length bytes.now ≤ MOST_BYTES }
+    ensures nodes { IfOk result (λ s. s.graph.nodes ≡ params.now.nodes) }
     ensures few { IfOk result (λ s. s.graph.nodes ≤ MOST_PAGES) }
     ensures goes { (r : Readings) → IfOk result (λ s. Steps (with_digraph r params.now bytes.now) (Ok s.graph)) }
     ensures refused { (r : Readings) → IfErr result (λ e. Steps {B = Digraph}

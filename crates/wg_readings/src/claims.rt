@@ -11,7 +11,7 @@ use wg_rank::{CertError, Certificate, read_certificate};
 /// What a certificate's text claims of so many pages.
 pub fn claim_of_text(alloc: Global, bytes: &[u8], nodes: u64) -> Result<Certificate, Ending>
     ensures steps { Steps (with_claim nodes bytes.now) result }
-    ensures only { IfErr result (λ e. (e.status ≡ Status.Memory) ⊎ IsBadCertificate e.status) }
+    ensures only { IfErr result (λ e. (e.status ≡ Status.Memory) ⊎ IsBadCertificate e) }
     ensures pages { IfOk result (λ c. length c.low ≡ nodes) }
 {
     match read_certificate(alloc, bytes, nodes) {

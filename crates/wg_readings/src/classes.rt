@@ -13,16 +13,16 @@ use wg_outcomes::{Ending, Status};
 /// The classes of so many pages that a text gives, each below the limit.
 pub fn classes_of_text(alloc: Global, bytes: &[u8], nodes: u64, limit: u64) -> Result<List, Ending>
     ensures steps { Steps (with_map nodes limit bytes.now) result }
-    ensures only { IfErr result (λ e. (e.status ≡ Status.Memory) ⊎ IsBadMap e.status) }
+    ensures only { IfErr result (λ e. (e.status ≡ Status.Memory) ⊎ IsBadMap nodes e) }
     ensures each { IfOk result (λ classes. length classes ≡ nodes) }
     ensures below { IfOk result (λ classes. Below limit classes) }
 {
     match read_numbers(alloc, bytes, nodes, limit) {
         Ok(classes) => Ok(classes),
-        Err(NumbersError::Fault(fault)) => Err(Ending::of(Status::BadMap {
-            fault,
-            pages: nodes,
-        })),
+        Err(NumbersError::Fault(fault)) => Err(Ending {
+            status: Status::BadMap(fault),
+            promised: nodes,
+        }),
         Err(NumbersError::Memory) => Err(Ending::of(Status::Memory)),
     }
 }

@@ -53,7 +53,7 @@ fn word_ending(error: WordError<LoadError>, params: &Params) -> Ending
     match error {
         WordError::Word(word) => Ending {
             status: Status::BadArchive(ArchiveFault::Offsets(word)),
-            arcs: params.arcs(),
+            promised: params.arcs(),
         },
         WordError::Refused(error) => load_ending(error),
     }
@@ -255,7 +255,7 @@ fn same_lengths(pairing: &Pairing, params: &Params) -> Result<(), Ending>
                 found,
                 stored,
             }),
-            arcs: params.arcs(),
+            promised: params.arcs(),
         }),
     }
 }

@@ -13,7 +13,7 @@ use wg_outcomes::{Ending, Status};
 /// The graph that a plain text stands for.
 pub fn graph_of_text(alloc: Global, bytes: &[u8]) -> Result<Graph, Ending>
     ensures steps { (r : Readings) → Steps (with_text r bytes.now) result }
-    ensures only { IfErr result (λ e. (e.status ≡ Status.Memory) ⊎ IsBadText e.status) }
+    ensures only { IfErr result (λ e. (e.status ≡ Status.Memory) ⊎ IsBadText e) }
 {
     match wg_ascii::read(alloc, bytes) {
         Ok(graph) => Ok(graph),

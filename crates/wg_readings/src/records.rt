@@ -50,11 +50,11 @@ fn ending_at(first: First, params: &Params) -> Ending
 }
 
 fn bad_graph(fault: ArchiveFault, params: &Params) -> Ending
-    ensures { result ≡ record { status = Status.BadArchive fault; arcs = params.now.arcs } }
+    ensures { result ≡ record { status = Status.BadArchive fault; promised = params.now.arcs } }
 {
     Ending {
         status: Status::BadArchive(fault),
-        arcs: params.arcs(),
+        promised: params.arcs(),
     }
 }
 

@@ -28,25 +28,28 @@ fn all_zero(weights: &[u64]) -> bool
 /// The weights of so many pages that a text gives.
 pub fn weights_of_text(alloc: Global, bytes: &[u8], nodes: u64) -> Result<List, Ending>
     ensures steps { Steps (with_weights nodes bytes.now) result }
-    ensures only { IfErr result (λ e. (e.status ≡ Status.Memory) ⊎ IsBadWeights e.status) }
+    ensures only { IfErr result (λ e. (e.status ≡ Status.Memory) ⊎ IsBadWeights nodes e) }
     ensures weights { IfOk result (AreWeights nodes) }
 {
     let weights = match read_numbers(alloc, bytes, nodes, MOST_WEIGHT + 1) {
         Ok(weights) => weights,
-        Err(NumbersError::Fault(fault)) => return Err(bad_weights(WeightsFault::Numbers {
-            fault,
-            pages: nodes,
-        })),
+        Err(NumbersError::Fault(fault)) => {
+            return Err(bad_weights(WeightsFault::Numbers(fault), nodes));
+        }
         Err(NumbersError::Memory) => return Err(Ending::of(Status::Memory)),
     };
     if nodes > 0 && all_zero(weights.as_slice()) {
-        return Err(bad_weights(WeightsFault::Zero));
+        return Err(bad_weights(WeightsFault::Zero, nodes));
     }
     Ok(weights)
 }
 
-fn bad_weights(fault: WeightsFault) -> Ending
-    ensures { result ≡ record { status = Status.BadWeights fault; arcs = 0 } }
+// How a job ends whose weights, of so many pages, are refused.
+fn bad_weights(fault: WeightsFault, nodes: u64) -> Ending
+    ensures { result ≡ record { status = Status.BadWeights fault; promised = nodes } }
 {
-    Ending::of(Status::BadWeights(fault))
+    Ending {
+        status: Status::BadWeights(fault),
+        promised: nodes,
+    }
 }

@@ -26,7 +26,7 @@ returns-in_err-lists g c =
     let e = c.in_err-lists.ensures in
     performs_exit _ _ _ _ _ _ _ c.from_residual-in_err-lists.ensures.1
     (no_graph c.args.base.now asked.rounds asked.damping asked.top c.args.weights.now c.args.certificate.now _ _ _ p _ _ c.in_ok-params.ensures _ _ refl
-    (graph_loaded c.args.base.now p _ _ _ _ _ c.in_ok-bytes.bytes _ c.as_slice.ensures c.in_ok-bytes.ensures (Err c.in_err-lists.field-0.0) e.refused e.only))
+    (graph_loaded c.args.base.now p _ _ _ _ _ c.in_ok-bytes.bytes _ c.as_slice.ensures c.in_ok-bytes.ensures (Err c.in_err-lists.field-0.0) e.refused e.only tt))
 
 pub returns-in_err-given : goal.returns-in_err-given
 returns-in_err-given g c =
@@ -34,7 +34,7 @@ returns-in_err-given g c =
     let p = c.in_ok-params.params in
     performs_exit _ _ _ _ _ _ _ c.from_residual-in_err-given.ensures.1
     (no_weights c.args.base.now asked.rounds asked.damping asked.top c.args.weights.now c.args.certificate.now _ _ _ p _ _ c.in_ok-params.ensures _ _ c.in_ok-lists.lists.graph
-    (graph_loaded c.args.base.now p _ _ _ _ _ c.in_ok-bytes.bytes _ c.as_slice.ensures c.in_ok-bytes.ensures (Ok c.in_ok-lists.lists.graph) c.in_ok-lists.ensures.goes tt)
+    (graph_loaded c.args.base.now p _ _ _ _ _ c.in_ok-bytes.bytes _ c.as_slice.ensures c.in_ok-bytes.ensures (Ok c.in_ok-lists.lists.graph) c.in_ok-lists.ensures.goes tt c.in_ok-lists.ensures.nodes)
     _ _ refl (weights_of_graph _ _ _ _ _ _ _ _ _ c.nodes.ensures.count c.in_err-given.ensures))
 
 pub returns-in_err-first : goal.returns-in_err-first
@@ -43,7 +43,7 @@ returns-in_err-first g c =
     let p = c.in_ok-params.params in
     performs_exit _ _ _ _ _ _ _ c.from_residual-in_err-first.ensures.1
     (no_room c.args.base.now asked.rounds asked.damping asked.top c.args.weights.now c.args.certificate.now _ g.O.Sink.told _ p _ _ c.in_ok-params.ensures _ _ c.in_ok-lists.lists.graph
-    (graph_loaded c.args.base.now p _ _ _ _ _ c.in_ok-bytes.bytes _ c.as_slice.ensures c.in_ok-bytes.ensures (Ok c.in_ok-lists.lists.graph) c.in_ok-lists.ensures.goes tt)
+    (graph_loaded c.args.base.now p _ _ _ _ _ c.in_ok-bytes.bytes _ c.as_slice.ensures c.in_ok-bytes.ensures (Ok c.in_ok-lists.lists.graph) c.in_ok-lists.ensures.goes tt c.in_ok-lists.ensures.nodes)
     _ _ c.in_ok-given.given (weights_of_graph _ _ _ _ _ _ _ _ _ c.nodes.ensures.count c.in_ok-given.ensures)
     _ _ _ refl c.in_err-first.ensures.only)
 
@@ -57,7 +57,7 @@ returns-in-None g c =
     let is : c.last_bounds-bounds.result ≡ bounds_after graph c.in_ok-given.given asked.damping asked.rounds =
     c.last_bounds-bounds.ensures c.in_ok-given.given f.weights ∙ ap (λ d. bounds_after graph c.in_ok-given.given d asked.rounds) f.damping in
     only_prints c.args.base.now asked.rounds asked.damping asked.top c.args.weights.now c.args.certificate.now _ g.O.Sink.told _ p _ _ c.in_ok-params.ensures _ _ graph
-    (graph_loaded c.args.base.now p _ _ _ _ _ c.in_ok-bytes.bytes _ c.as_slice.ensures c.in_ok-bytes.ensures (Ok graph) c.in_ok-lists.ensures.goes tt)
+    (graph_loaded c.args.base.now p _ _ _ _ _ c.in_ok-bytes.bytes _ c.as_slice.ensures c.in_ok-bytes.ensures (Ok graph) c.in_ok-lists.ensures.goes tt c.in_ok-lists.ensures.nodes)
     _ _ c.in_ok-given.given (weights_of_graph _ _ _ _ _ _ _ _ _ c.nodes.ensures.count c.in_ok-given.ensures)
     c.last_bounds-bounds.result is c.in-None.is _ _ c.print_ranks.result o.puts o.refusals.only o.refusals.failed
 
@@ -70,6 +70,6 @@ returns g c =
     let is : c.last_bounds-bounds.result ≡ bounds_after graph c.in_ok-given.given asked.damping asked.rounds =
     c.last_bounds-bounds.ensures c.in_ok-given.given f.weights ∙ ap (λ d. bounds_after graph c.in_ok-given.given d asked.rounds) f.damping in
     certifies c.args.base.now asked.rounds asked.damping asked.top c.args.weights.now c.args.certificate.now _ g.O.Sink.told _ p _ _ c.in_ok-params.ensures _ _ graph
-    (graph_loaded c.args.base.now p _ _ _ _ _ c.in_ok-bytes.bytes _ c.as_slice.ensures c.in_ok-bytes.ensures (Ok graph) c.in_ok-lists.ensures.goes tt)
+    (graph_loaded c.args.base.now p _ _ _ _ _ c.in_ok-bytes.bytes _ c.as_slice.ensures c.in_ok-bytes.ensures (Ok graph) c.in_ok-lists.ensures.goes tt c.in_ok-lists.ensures.nodes)
     _ _ c.in_ok-given.given (weights_of_graph _ _ _ _ _ _ _ _ _ c.nodes.ensures.count c.in_ok-given.ensures)
     c.last_bounds-bounds.result is c.in-Some.name c.in-Some.is _ c.certify.result c.certify.ensures

@@ -23,14 +23,14 @@ returns-in_err-lists g c =
     let e = c.in_err-lists.ensures in
     performs_exit _ _ _ _ _ _ _ c.from_residual-in_err-lists.ensures.1
     (no_graph c.args.base.now c.args.certificate.now c.args.weights.now _ _ _ p _ _ c.in_ok-params.ensures _ _ refl
-    (graph_loaded c.args.base.now p _ _ _ _ _ c.in_ok-bytes.bytes _ c.as_slice.ensures c.in_ok-bytes.ensures (Err c.in_err-lists.field-0.0) e.refused e.only))
+    (graph_loaded c.args.base.now p _ _ _ _ _ c.in_ok-bytes.bytes _ c.as_slice.ensures c.in_ok-bytes.ensures (Err c.in_err-lists.field-0.0) e.refused e.only tt))
 
 pub returns-in_err-weighed : goal.returns-in_err-weighed
 returns-in_err-weighed g c =
     let p = c.in_ok-params.params in
     performs_exit _ _ _ _ _ _ _ c.from_residual-in_err-weighed.ensures.1
     (no_weights c.args.base.now c.args.certificate.now c.args.weights.now _ _ _ p _ _ c.in_ok-params.ensures _ _ c.in_ok-lists.lists.graph
-    (graph_loaded c.args.base.now p _ _ _ _ _ c.in_ok-bytes.bytes _ c.as_slice.ensures c.in_ok-bytes.ensures (Ok c.in_ok-lists.lists.graph) c.in_ok-lists.ensures.goes tt)
+    (graph_loaded c.args.base.now p _ _ _ _ _ c.in_ok-bytes.bytes _ c.as_slice.ensures c.in_ok-bytes.ensures (Ok c.in_ok-lists.lists.graph) c.in_ok-lists.ensures.goes tt c.in_ok-lists.ensures.nodes)
     _ _ refl (weights_of_graph _ _ _ _ _ _ _ _ _ c.nodes-pages.ensures.count c.in_err-weighed.ensures))
 
 pub returns-in_err-claimed : goal.returns-in_err-claimed
@@ -38,7 +38,7 @@ returns-in_err-claimed g c =
     let p = c.in_ok-params.params in
     performs_exit _ _ _ _ _ _ _ c.from_residual-in_err-claimed.ensures.1
     (no_claim c.args.base.now c.args.certificate.now c.args.weights.now _ _ _ p _ _ c.in_ok-params.ensures _ _ c.in_ok-lists.lists.graph
-    (graph_loaded c.args.base.now p _ _ _ _ _ c.in_ok-bytes.bytes _ c.as_slice.ensures c.in_ok-bytes.ensures (Ok c.in_ok-lists.lists.graph) c.in_ok-lists.ensures.goes tt)
+    (graph_loaded c.args.base.now p _ _ _ _ _ c.in_ok-bytes.bytes _ c.as_slice.ensures c.in_ok-bytes.ensures (Ok c.in_ok-lists.lists.graph) c.in_ok-lists.ensures.goes tt c.in_ok-lists.ensures.nodes)
     _ _ c.in_ok-weighed.weighed (weights_of_graph _ _ _ _ _ _ _ _ _ c.nodes-pages.ensures.count c.in_ok-weighed.ensures)
     _ _ refl (claim_of_graph _ _ _ _ _ _ _ _ _ c.nodes-pages.ensures.count c.in_err-claimed.ensures))
 
@@ -47,7 +47,7 @@ returns-in_err-left g c =
     let p = c.in_ok-params.params in
     performs_exit _ _ _ _ _ _ _ c.from_residual-in_err-left.ensures.1
     (no_gap c.args.base.now c.args.certificate.now c.args.weights.now _ g.O.Sink.told _ p _ _ c.in_ok-params.ensures _ _ c.in_ok-lists.lists.graph
-    (graph_loaded c.args.base.now p _ _ _ _ _ c.in_ok-bytes.bytes _ c.as_slice.ensures c.in_ok-bytes.ensures (Ok c.in_ok-lists.lists.graph) c.in_ok-lists.ensures.goes tt)
+    (graph_loaded c.args.base.now p _ _ _ _ _ c.in_ok-bytes.bytes _ c.as_slice.ensures c.in_ok-bytes.ensures (Ok c.in_ok-lists.lists.graph) c.in_ok-lists.ensures.goes tt c.in_ok-lists.ensures.nodes)
     _ _ c.in_ok-weighed.weighed (weights_of_graph _ _ _ _ _ _ _ _ _ c.nodes-pages.ensures.count c.in_ok-weighed.ensures)
     _ _ c.in_ok-claimed.claimed (claim_of_graph _ _ _ _ _ _ _ _ _ c.nodes-pages.ensures.count c.in_ok-claimed.ensures)
     _ _ _ refl c.in_err-left.ensures.only c.in_err-left.ensures.steps)
@@ -57,7 +57,7 @@ returns g c =
     let p = c.in_ok-params.params in
     let o = c.print_verified.ensures in
     verifies c.args.base.now c.args.certificate.now c.args.weights.now _ g.O.Sink.told _ p _ _ c.in_ok-params.ensures _ _ c.in_ok-lists.lists.graph
-    (graph_loaded c.args.base.now p _ _ _ _ _ c.in_ok-bytes.bytes _ c.as_slice.ensures c.in_ok-bytes.ensures (Ok c.in_ok-lists.lists.graph) c.in_ok-lists.ensures.goes tt)
+    (graph_loaded c.args.base.now p _ _ _ _ _ c.in_ok-bytes.bytes _ c.as_slice.ensures c.in_ok-bytes.ensures (Ok c.in_ok-lists.lists.graph) c.in_ok-lists.ensures.goes tt c.in_ok-lists.ensures.nodes)
     _ _ c.in_ok-weighed.weighed (weights_of_graph _ _ _ _ _ _ _ _ _ c.nodes-pages.ensures.count c.in_ok-weighed.ensures)
     _ _ c.in_ok-claimed.claimed (claim_of_graph _ _ _ _ _ _ _ _ _ c.nodes-pages.ensures.count c.in_ok-claimed.ensures)
     c.in_ok-left.left c.in_ok-left.ensures.steps _ _ c.print_verified.result o.puts o.refusals.only o.refusals.failed

@@ -16,6 +16,7 @@ returns-in-Ok c =
     let graph : Digraph = c.in-Ok.sweep.graph in
     let is : graph ≡ graph_of p a = graph_is c.in_ok-records.records p bytes a graph r.params r.bits r.accepted.1 c.in-Ok.ensures.graph in
     record {
+      nodes = ap (λ (g : Digraph). g.nodes) is;
       few = subst (λ (g : Digraph). g.nodes ≤ MOST_PAGES) (sym is) r.limits.nodes;
       goes = λ q next. goes_on q p r.limits bytes a.graph a.places r.accepted.1 (λ x. next (graph_of p x)) ∙ ap next (sym is);
       refused = λ q. tt;

@@ -24,4 +24,4 @@ returns-in-Err-Word-clause-steps c = λ r next.
     (inl (sym (ap status_of (offsets_refused r p c.nodes.ensures.limits bytes c.in-Err-Word.word fault next))))
 
 pub returns-in-Err-Word-clause-only : goal.returns-in-Err-Word-clause-only
-returns-in-Err-Word-clause-only c = inr (_, refl, ap (λ (e : Ending). e.status) c.bad_archive.ensures, ap (λ (e : Ending). e.arcs) c.bad_archive.ensures)
+returns-in-Err-Word-clause-only c = inr (_, refl, ap (λ (e : Ending). e.status) c.bad_archive.ensures, ap (λ (e : Ending). e.promised) c.bad_archive.ensures)

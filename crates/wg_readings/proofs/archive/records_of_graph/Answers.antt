@@ -23,4 +23,4 @@ returns-in-Err-Archive-clause-only c =
     let p = c.args.params.now in
     let bits = bits_of c.args.bytes.now in
     let fault = subst (λ (e : CheckError). OfArchive e (λ f. ReadsGraph p bits (Err f))) c.in-Err-Archive.field-0-is c.in-Err-Archive.ensures.refused in
-    inr (c.in-Err-Archive.fault, of_graph p bits c.in-Err-Archive.fault fault, ap (λ (e : Ending). e.status) c.bad_archive.ensures, ap (λ (e : Ending). e.arcs) c.bad_archive.ensures)
+    inr (c.in-Err-Archive.fault, of_graph p bits c.in-Err-Archive.fault fault, ap (λ (e : Ending). e.status) c.bad_archive.ensures, ap (λ (e : Ending). e.promised) c.bad_archive.ensures)

@@ -27,4 +27,4 @@ returns-in-Err-Archive-clause-steps g c = λ r next.
 
 pub returns-in-Err-Archive-clause-only : goal.returns-in-Err-Archive-clause-only
 returns-in-Err-Archive-clause-only g c =
-    bad_chain c.args.page c.args.params.now.arcs c.in-Err-Archive.fault c.bad_archive.result (ap (λ (e : Ending). e.status) c.bad_archive.ensures) (ap (λ (e : Ending). e.arcs) c.bad_archive.ensures)
+    bad_chain c.args.page c.args.params.now.arcs c.in-Err-Archive.fault c.bad_archive.result (ap (λ (e : Ending). e.status) c.bad_archive.ensures) (ap (λ (e : Ending). e.promised) c.bad_archive.ensures)
