@@ -7,10 +7,13 @@
 //! files, and that faults of the outside are reported only where their counts rose. Besides it says which line is
 //! reported (`line_of`). [`run_in_memory`] is the same over files and outputs in memory, which are never at fault.
 //!
+//! Besides this crate a caller needs `wg_io` alone, for its depot and its sinks: the words, the status and all that a
+//! status names are exported here.
+//!
 //! A plain text in memory is imported as an archive:
 //!
 //! ```rust
-//! let mut words = Words::new(rt.alloc());
+//! let mut words = wg_cli::Words::new(rt.alloc());
 //! for word in ["import", "web.txt", "web"] {
 //!     words.push(word)?;
 //! }
@@ -19,7 +22,7 @@
 //! let mut out = SteadySink::new(rt.alloc(), 4096);
 //! let mut err = SteadySink::new(rt.alloc(), 4096);
 //! let status = run_in_memory(rt.alloc(), &words, &mut depot, &mut out, &mut err);
-//! assert!(rt; status == Status::Done);
+//! assert!(rt; status == wg_cli::Status::Done);
 //! assert!(rt; depot.holds("web.graph"));
 //! Ok(())
 //! ```
@@ -35,7 +38,15 @@ mod texts;
 pub use dispatch::perform;
 pub use program::run;
 pub use steady::run_in_memory;
-pub use wg_outcomes::{Input, Status};
+pub use wg_arcs::{ArcsKind, NumbersFault, NumbersKind};
+pub use wg_ascii::AsciiKind;
+pub use wg_grammar::{ArchiveFault, Fault, Field, Kind, OffsetWord};
+pub use wg_io::Output;
+pub use wg_outcomes::{Input, SecondFault, Status, WeightsFault};
+pub use wg_params::Key;
+pub use wg_properties::PropFault;
+pub use wg_rank::{CertFault, CertKind};
+pub use wg_words::Words;
 
 #[cfg(test)]
 mod tests;

@@ -93,7 +93,7 @@ fn laws_of_readings_and_archives(_rt: HostRuntime) {
 // In the overview of wg_cli.
 #[test]
 fn a_text_is_imported(rt: HostRuntime) -> Result<(), Fail> {
-    let mut words = Words::new(rt.alloc());
+    let mut words = wg_cli::Words::new(rt.alloc());
     for word in ["import", "web.txt", "web"] {
         words.push(word)?;
     }
@@ -102,7 +102,7 @@ fn a_text_is_imported(rt: HostRuntime) -> Result<(), Fail> {
     let mut out = SteadySink::new(rt.alloc(), 4096);
     let mut err = SteadySink::new(rt.alloc(), 4096);
     let status = run_in_memory(rt.alloc(), &words, &mut depot, &mut out, &mut err);
-    assert!(rt; status == Status::Done);
+    assert!(rt; status == wg_cli::Status::Done);
     assert!(rt; depot.holds("web.graph"));
     Ok(())
 }
