@@ -6,9 +6,8 @@
 use std::env;
 use std::io::{ErrorKind, Write};
 use std::process::ExitCode;
-use wg_cli::{Status, run};
+use wg_cli::{Status, Words, run};
 use wg_io::{FolderDepot, StdSink};
-use wg_words::Words;
 
 // The words after the program's name, or why there are none: a word that is not UTF-8 is no word of a command.
 fn words(rt: &HostRuntime) -> Result<Words, Status> {
