@@ -3,8 +3,9 @@
 //! [`read`] tells what stands at a cursor: a whole word, which it moves over, or one of two faults ([`Read`]).
 //! [`write`] puts a word through a writer, [`length`] counts its bits without writing it, and [`holds`] tells which
 //! values have one; [`word_in`] tells a word by the 64 bits that it is at the front of. [`fold`] and [`unfold`] turn
-//! whole numbers of either sign into values and back; [`unfold_from`] gives the number that is so far from another.
-//! The function of [`laws`] does nothing: its contract says what holds of the words themselves, whoever reads them.
+//! whole numbers of either sign into values and back; [`unfold_from`] gives the number that is so far from another, and
+//! [`number_of_gap`] the one that a stored gap means, whether something comes before it or not. The function of
+//! [`laws`] does nothing: its contract says what holds of the words themselves, whoever reads them.
 //!
 //! Two words that stand at a cursor, and a third that the end of the bits cuts off:
 //!
