@@ -1,5 +1,5 @@
-//! Worked values of codes, graphs and records, laws, errors that are named again, files of the system, and memory that is
-//! kept.
+//! Worked values of codes, graphs and records, laws, errors that are named again or shown in words, files of the system,
+//! and memory that is kept.
 
 mod codes;
 mod files;

@@ -1,9 +1,12 @@
-// Records over a page that is handed in, and an archive of records and offsets.
+// Records over a page that is handed in, an archive of records and offsets, and a fault in words.
 use std::test::Fail;
 use wg_bits::{Bits, Cursor};
 use wg_decoder::{Known, decode_on, head};
+use wg_grammar::{ArchiveFault, Fault, Field, Kind};
+use wg_io::LoadError;
 use wg_params::Code;
 use wg_random::{Archive, Records};
+use wg_stream::PagesError;
 use wg_vectors::usual;
 
 // 011 1 1 1011 100  011 01 1  1: page 1 copies the list of page 0
@@ -34,5 +37,19 @@ fn records_and_their_offsets(rt: HostRuntime) -> Result<(), Fail> {
     // 1 0001101 00111 010: the words of 0, 12, 6 and 1
     let offsets = wg_offsets::read(rt.alloc(), b"\x8D\x3A", 3, Code::Gamma)?;
     assert!(rt; Archive::check(rt.alloc(), records, &offsets).is_ok());
+    Ok(())
+}
+
+#[test]
+fn a_fault_in_words(rt: HostRuntime) -> Result<(), Fail> {
+    let fault = Fault {
+        page: 3,
+        at: 17,
+        field: Field::Residual,
+        kind: Kind::Range,
+    };
+    let error = PagesError::<LoadError>::Fault(ArchiveFault::Record(fault));
+    let text = format!(in rt.alloc(); "{error}")?;
+    assert!(rt; text.as_str() == "page 3: the residual at bit 17 is out of range");
     Ok(())
 }
