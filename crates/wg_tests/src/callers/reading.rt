@@ -14,7 +14,7 @@ use wg_io::SteadyDepot;
 use wg_offsets::OffsetsError;
 use wg_params::Code;
 use wg_random::{Archive, Records, Steps};
-use wg_shape::{quotient, union};
+use wg_shape::{Coming, quotient, union};
 use wg_stream::Reader;
 use wg_vectors::usual;
 
@@ -86,6 +86,22 @@ fn successors_one_by_one<L: Ledger>(
     Ok(())
 }
 
+fn first<C: Coming>(coming: &mut C) -> Option<u64> {
+    coming.next()
+}
+
+// The successors of an opened page come one by one, as the numbers of a list do.
+fn first_of_an_opened_page<L: Ledger>(
+    rt: &impl Abort,
+    alloc: Global,
+    archive: &Archive<'_>,
+    steps: &mut Steps<L>,
+) -> Result<(), Fail> {
+    let mut successors = archive.open(alloc, 1, steps)?;
+    assert!(rt; first(&mut successors) == Some(1));
+    Ok(())
+}
+
 fn counted<L: Ledger>(rt: &impl Abort, alloc: Global, blank: Blank) -> Result<(), Fail>
     requires name { blank.name ≡ L.name }
     requires parts { blank.parts ≡ L.parts }
@@ -94,6 +110,7 @@ fn counted<L: Ledger>(rt: &impl Abort, alloc: Global, blank: Blank) -> Result<()
     let (book, share) = blank.open::<L>();
     let mut steps = Steps::new(book, share);
     let records = Records::check(alloc, b"\x7D\xC6\xE0", usual(3, 4, 7, 3, 4)?)?;
+    first_of_an_opened_page(rt, alloc, &records.archive(), &mut steps)?;
     successors_one_by_one(rt, alloc, &records.archive(), &mut steps)
 }
 
