@@ -5,9 +5,10 @@
 //!
 //! [`decode_into`] puts the whole list of a record into a [`Row`](wg_graph::Row) at once, over a lent list, and moves
 //! the cursor over the record. So whoever reads all records in order needs no offsets, and takes no memory while it
-//! reads; [`reference`] is asked before, so that the list that is referred to can be found. Each word is read once, in
-//! the order of the record; runs of members are copied while their blocks come, intervals are joined to them as runs,
-//! and then the residuals, all in the one row, where the members wait meanwhile.
+//! reads; [`reference`] is asked before, so that the list that is referred to can be found. [`decode_behind`] takes the
+//! head that [`read_head`] has read for this. Each word is read once, in the order of the record; runs of members are
+//! copied while their blocks come, intervals are joined to them as runs, and then the residuals, all in the one row,
+//! where the members wait meanwhile.
 
 mod block;
 mod copying;
@@ -18,7 +19,7 @@ mod lookahead;
 mod residuals;
 
 pub use block::block_of;
-pub use decoding::decode_into;
+pub use decoding::{decode_behind, decode_into};
 pub use head::{RecordHead, read_head, reference};
 pub use lookahead::{Lookahead, value, value_where};
 pub use residuals::Residuals;

@@ -17,7 +17,7 @@ use std::alloc::{AllocError, Global};
 use std::marker::Model;
 use std::mem::swap;
 use wg_bits::{Bits, Cursor};
-use wg_decoder::proper::{decode_into, reference};
+use wg_decoder::proper::{decode_behind, read_head};
 use wg_graph::{Lists, Row};
 use wg_params::Params;
 
@@ -158,8 +158,9 @@ fn decode_page(
     // tells the limits
     params.nodes();
     let mut cursor = Cursor::new(Bits::of(archive.bytes), at);
-    let below = list_back(kept, turn, reference(params, cursor.again()));
-    decode_into(params, page, below, &mut cursor, list);
+    let head = read_head(params, cursor.again());
+    let below = list_back(kept, turn, head.reference);
+    decode_behind(params, page, head, below, &mut cursor, list);
     cursor.at()
 }
 

@@ -13,8 +13,8 @@ use wg_bits::Cursor;
 use wg_graph::Row;
 use wg_params::{Code, Params};
 
-// The same as `decode_into`, where `head` is the record's head, `members` are those of the list below, and `source` is
-// their number, if it is there.
+// The same as `decode_behind`, where `members` are those of the list below, and `source` is their number, if it is
+// there.
 fn decode_on<'a>(
     params: &Params,
     page: u64,
@@ -58,9 +58,41 @@ fn decode_on<'a>(
     cursor.advance(cursor.remaining() - behind);
 }
 
+/// The same as [`decode_into`](crate::proper::decode_into), where the record's head has been read: whoever asks for the
+/// reference first has it at hand.
+pub fn decode_behind<'a>(
+    params: &Params,
+    page: u64,
+    head: RecordHead<'a>,
+    below: Option<&[u64]>,
+    cursor: &mut Cursor<'a>,
+    row: &mut Row,
+)
+    requires page { page < params.now.nodes }
+    requires head { IsHead params.now cursor.old head }
+    requires ascends { Ascends 0 (list_or_none (option_copied below)) }
+    requires proper { (list : List ℕ) × IsRecord params.now page (option_copied below) cursor.old list
+        × (length list ≤ row.old.room) }
+    ensures list { (list : List ℕ) → IsRecord params.now page (option_copied below.entry) cursor.old list
+        → row.new.list ≡ list }
+    ensures waiting { row.new.waiting ≡ [] }
+    ensures room { row.new.room ≡ row.old.room }
+    ensures bits { cursor.new.bits ≡ cursor.old.bits }
+    ensures end { (list : List ℕ) (h : IsRecord params.now page (option_copied below.entry) cursor.old list)
+        → cursor.new.at ≡ h.end }
+{
+    match below {
+        None => decode_on(params, page, head, None, &[], cursor, row),
+        Some(list) => {
+            let source = Some(list.len() as u64);
+            decode_on(params, page, head, source, list, cursor, row)
+        }
+    }
+}
+
 /// Puts the list of the record of `page`, which stands at the cursor, into the row, in place of what it held, and moves
 /// over the record. `below` is the list of the page that it refers to, if it has a reference
-/// ([`reference`](crate::reference) tells). The row has room for the list.
+/// ([`reference`](crate::proper::reference) tells). The row has room for the list.
 ///
 /// It takes no memory, and the time of the record's words, of the members that are copied, and of the list: a number of
 /// it is written five times at most, since it waits and is put back where intervals or residuals are joined to it. Each
@@ -85,11 +117,5 @@ pub fn decode_into(
         → cursor.new.at ≡ h.end }
 {
     let head = read_head(params, cursor.again());
-    match below {
-        None => decode_on(params, page, head, None, &[], cursor, row),
-        Some(list) => {
-            let source = Some(list.len() as u64);
-            decode_on(params, page, head, source, list, cursor, row)
-        }
-    }
+    decode_behind(params, page, head, below, cursor, row);
 }
