@@ -19,7 +19,7 @@ use Rattle.wg_outcomes.specs.declared.ending.Ending.{Ending}
 use Rattle.wg_outcomes.specs.declared.status.Input.{Input}
 use Rattle.wg_outcomes.specs.declared.status.Input.TheVariants.{Properties, Weights, Certificate, Map}
 use Rattle.wg_outcomes.specs.declared.status.Status.{Status}
-use Rattle.wg_outcomes.specs.declared.status.Status.TheVariants.{BadMap, BadWeights, Memory, Missing}
+use Rattle.wg_outcomes.specs.declared.status.Status.TheVariants.{BadWeights, Memory, Missing}
 use Rattle.wg_outcomes.specs.declared.status.WeightsFault.{WeightsFault}
 use Rattle.wg_outcomes.specs.declared.status.WeightsFault.TheVariants.{Numbers, Zero}
 use Rattle.wg_readings.proofs.JobSteps.{ComesTo, Hold, ends_without, gone, hold_all, judges_rest, of_properties}
