@@ -1,7 +1,7 @@
 //! Numbers that are written in whole pieces, past the last of them, where what stands behind has no meaning.
 ghost use Rattle.std.specs.Prelude.{◌≡◌, ℕ, List, ◌+◌, ◌-◌, ◌^◌, ◌<◌, ◌≤◌, ◌∷◌, ◌++◌, length, take, drop, slice_range};
 ghost use Rattle.std.specs.List.{range_with_len};
-ghost use Rattle.wg_graph.specs.Ascending.{Below};
+ghost use Rattle.wg_graph.specs.Ascending.{Ascends, Below};
 ghost use Rattle.wg_graph.specs.declared.pieces.TheConstants.{PIECE};
 
 // How many numbers are written at a time.
@@ -99,6 +99,29 @@ pub(crate) fn copy_below(numbers: &mut [u64], to: usize, from: usize, bound: u64
     let mut done = 0;
     'below: while from + done < numbers.len() && numbers[from + done] < bound {
         numbers[to + done] = numbers[from + done];
+        done += 1;
+    }
+    done
+}
+
+// Copies numbers before one place to before another, from the last down to one that is below the bound, and tells how
+// many.
+#[inline(always)]
+pub(crate) fn copy_above(numbers: &mut [u64], from: usize, to: usize, bound: u64) -> usize
+    requires order { from < to }
+    requires to { to ≤ length numbers.old }
+    requires ascends { Ascends 0 (take from numbers.old) }
+    ensures length { length numbers.new ≡ length numbers.old }
+    ensures within { result ≤ from }
+    ensures below { Below bound (take (from - result) numbers.old) }
+    ensures above { Ascends bound (drop (from - result) (take from numbers.old)) }
+    ensures kept { take (from - result) numbers.new ≡ take (from - result) numbers.old }
+    ensures copied { drop (to - result) numbers.new
+        ≡ drop (from - result) (take from numbers.old) ++ drop to numbers.old }
+{
+    let mut done = 0;
+    'above: while done < from && numbers[from - 1 - done] >= bound {
+        numbers[to - 1 - done] = numbers[from - 1 - done];
         done += 1;
     }
     done

@@ -1,8 +1,8 @@
 ghost use Rattle.std.specs.Prelude.{◌≡◌, ℕ, List as ListOf, ◌<◌, ◌≤◌, ◌+◌, ◌^◌, [], ◌∷◌, ◌++◌, length, take, IfOk};
 ghost use Rattle.std.specs.List.{range_with_len};
-ghost use Rattle.wg_graph.specs.Ascending.{Below};
+ghost use Rattle.wg_graph.specs.Ascending.{Ascends, Below};
 
-use crate::pieces::{PIECE, copy, copy_below, write_run};
+use crate::pieces::{PIECE, copy, copy_above, copy_below, write_run};
 use std::alloc::{AllocError, Global};
 use std::marker::Model;
 
@@ -100,17 +100,18 @@ impl Row {
         self.len += count as usize;
     }
 
-    /// Lets all numbers of the list wait, before those that wait already: each is moved once.
+    /// Lets the last numbers of the list wait, before those that wait already: those that are not below the bound.
     #[inline(always)]
-    pub fn hold(&mut self)
-        ensures list { self.new.list ≡ [] }
-        ensures waiting { self.new.waiting ≡ self.old.list ++ self.old.waiting }
+    pub fn hold(&mut self, bound: u64)
+        requires { Ascends 0 self.old.list }
+        ensures held { (held : ListOf ℕ) × Ascends bound held × (self.old.list ≡ self.new.list ++ held)
+            × (self.new.waiting ≡ held ++ self.old.waiting) }
+        ensures left { Below bound self.new.list }
         ensures room { self.new.room ≡ self.old.room }
     {
-        let start = self.start - self.len;
-        self.numbers.copy_within(0..self.len, start);
-        self.start = start;
-        self.len = 0;
+        let count = copy_above(&mut self.numbers, self.len, self.start, bound);
+        self.len -= count;
+        self.start -= count;
     }
 
     /// Puts the first of the numbers that wait at the end of the list, up to one that is not below the bound.

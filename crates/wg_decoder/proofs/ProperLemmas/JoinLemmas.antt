@@ -108,6 +108,23 @@ pub number_fits : (all row members others : List ℕ) (y room : ℕ) → length 
 number_fits all row members others y room fits h =
     omega (arith, fits, ap (λ (l : List ℕ). length l) h.list, length-append row (union_of members (y ∷ others)), joined_long members (y ∷ others) h.joinable)
 
+-- the first number of all, before which the members that are not below it were made to wait
+pub first_joins : (list front held waiting others : List ℕ) (y : ℕ) → list ≡ front ++ held → waiting ≡ held → Below y front → AreJoinable list (y ∷ others) → Joining (union_of list (y ∷ others)) front waiting (y ∷ others)
+first_joins list front held waiting others y is waits low h =
+    let whole : Joining (union_of list (y ∷ others)) [] (front ++ held) (y ∷ others) = record {
+      joinable = subst (λ (l : List ℕ). AreJoinable l (y ∷ others)) is h;
+      list = ap (λ (l : List ℕ). union_of l (y ∷ others)) (sym is);
+    } in
+    subst (λ (l : List ℕ). Joining (union_of list (y ∷ others)) front l (y ∷ others)) (sym waits) (below_joined front (union_of list (y ∷ others)) [] held (y ∷ others) y low (omega arith, h.others_ascend.1) whole)
+
+pub first_joined_to : (list front held waiting others new : List ℕ) (y : ℕ) → list ≡ front ++ held → waiting ≡ held → Below y front → Ascends y held → new ≡ front ++ y ∷ [] → AreJoinable list (y ∷ others) → Joining (union_of list (y ∷ others)) new waiting others
+first_joined_to list front held waiting others new y is waits low up more h =
+    (number_joined (union_of list (y ∷ others)) front new waiting others y (subst (Ascends y) (sym waits) up) more (first_joins list front held waiting others y is waits low h)).on
+
+pub none_below : (xs : List ℕ) → Below 0 xs → xs ≡ []
+none_below [] low = refl
+none_below (x ∷ xs) low = absurd (omega (arith, low.0))
+
 -- ---- a run of numbers
 
 pub run_joined : (n : ℕ) (all row members others : List ℕ) (l : ℕ) → Ascends l members → Joining all row members (range_with_len l n ++ others) → Added all (row ++ range_with_len l n) members others (l + n)
@@ -153,10 +170,6 @@ none_joined row others none h = sym (ap (λ (l : List ℕ). union_of row l) none
 pub no_numbers : (lefts lengths : List ℕ) (count : ℕ) → count ≡ 0 → length lefts ≡ count → numbers_inside lefts lengths ≡ []
 no_numbers [] lengths count none len = refl
 no_numbers (l ∷ ls) lengths count none len = absurd (omega (arith, none, len))
-
-pub no_residuals : (ys : List ℕ) (count : ℕ) → count ≡ 0 → length ys ≡ count → ys ≡ []
-no_residuals [] count none len = refl
-no_residuals (y ∷ ys) count none len = absurd (omega (arith, none, len))
 
 -- ---- the three parts of a list
 

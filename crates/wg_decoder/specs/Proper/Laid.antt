@@ -51,11 +51,6 @@ abbrev pub length_of : Option (List ℕ) → Option ℕ
 length_of None = None
 length_of (Some list) = Some (length list)
 
--- that length, if the list is there, and its members
-pub record StandsBelow (below : Option (List ℕ)) (source : Option ℕ) (members : List ℕ) : Type 0 where
-  pub source_is : source ≡ length_of below
-  pub members_are : members ≡ list_or_none below
-
 -- A record whose words stand at the bits z: all fields, each with what stands behind it.
 pub record Laid (p : Parameters) (page : ℕ) (below : Option (List ℕ)) (z : List Bool) (list : List ℕ) : Type 0 where
   pub outdegree : ℕ

@@ -1,8 +1,8 @@
 //! The whole list of a record, at once.
-ghost use Rattle.std.specs.Prelude.{◌≡◌, ◌<◌, ◌≤◌, ℕ, List, [], Option, length, option_copied};
+ghost use Rattle.std.specs.Prelude.{◌≡◌, ◌<◌, ◌≤◌, ℕ, List, [], Option, length, is_some, option_copied};
 ghost use Rattle.wg_graph.specs.Ascending.{Ascends};
 ghost use Rattle.wg_decoder.specs.Proper.Headed.{IsHead};
-ghost use Rattle.wg_decoder.specs.Proper.Laid.{list_or_none, StandsBelow};
+ghost use Rattle.wg_decoder.specs.Proper.Laid.{list_or_none};
 ghost use Rattle.wg_decoder.specs.Proper.{IsRecord};
 
 use super::copying::copy_members;
@@ -13,49 +13,26 @@ use wg_bits::Cursor;
 use wg_graph::Row;
 use wg_params::{Code, Params};
 
-// The same as `decode_behind`, where `members` are those of the list below, and `source` is their number, if it is
-// there.
-fn decode_on<'a>(
-    params: &Params,
-    page: u64,
-    head: RecordHead<'a>,
-    source: Option<u64>,
-    members: &[u64],
-    cursor: &mut Cursor<'a>,
-    row: &mut Row,
-)
-    requires page { page < params.now.nodes }
-    requires head { IsHead params.now cursor.old head }
-    requires ascends { Ascends 0 members.now }
-    requires proper { (below : Option (List ℕ)) × (list : List ℕ) × IsRecord params.now page below cursor.old list
-        × StandsBelow below source members.now × (length list ≤ row.old.room) }
-    ensures list { (below : Option (List ℕ)) (list : List ℕ) → IsRecord params.now page below cursor.old list
-        → StandsBelow below source members.now → row.new.list ≡ list }
-    ensures waiting { row.new.waiting ≡ [] }
-    ensures room { row.new.room ≡ row.old.room }
-    ensures bits { cursor.new.bits ≡ cursor.old.bits }
-    ensures end { (below : Option (List ℕ)) (list : List ℕ) (h : IsRecord params.now page below cursor.old list)
-        → StandsBelow below source members.now → cursor.new.at ≡ h.end }
+// The list that is lent; no members if there is none.
+#[inline(always)]
+fn members_of(below: Option<&[u64]>) -> &[u64]
+    ensures { result.now ≡ list_or_none (option_copied below.entry) }
 {
-    // tells that it is inside its bits
-    cursor.at();
-    // tells the limits
-    params.nodes();
-    let RecordHead {
-        outdegree,
-        reference: _,
-        mut words,
-    } = head;
-    let count = value_where(source.is_some(), params.block_counts(), &mut words);
-    row.clear();
-    copy_members(params.blocks(), count, members, &mut words, row);
-    let extra = outdegree - row.as_slice().len() as u64;
-    let has_intervals = (extra > 0) & (params.interval() > 0);
-    let intervals = value_where(has_intervals, Code::Gamma, &mut words);
-    add_intervals(page, params.interval(), intervals, &mut words, row);
-    let left = outdegree - row.as_slice().len() as u64;
-    let behind = add_residuals(params.residuals(), page, left, words, row);
-    cursor.advance(cursor.remaining() - behind);
+    match below {
+        None => &[],
+        Some(list) => list,
+    }
+}
+
+// Whether a list is lent.
+#[inline(always)]
+fn is_lent(below: Option<&[u64]>) -> bool
+    ensures { result ≡ is_some (option_copied below.entry) }
+{
+    match below {
+        None => false,
+        Some(_) => true,
+    }
 }
 
 /// The same as [`decode_into`](crate::proper::decode_into), where the record's head has been read: whoever asks for the
@@ -81,13 +58,25 @@ pub fn decode_behind<'a>(
     ensures end { (list : List ℕ) (h : IsRecord params.now page (option_copied below.entry) cursor.old list)
         → cursor.new.at ≡ h.end }
 {
-    match below {
-        None => decode_on(params, page, head, None, &[], cursor, row),
-        Some(list) => {
-            let source = Some(list.len() as u64);
-            decode_on(params, page, head, source, list, cursor, row)
-        }
-    }
+    // tells that it is inside its bits
+    cursor.at();
+    // tells the limits
+    params.nodes();
+    let RecordHead {
+        outdegree,
+        reference: _,
+        mut words,
+    } = head;
+    let count = value_where(is_lent(below), params.block_counts(), &mut words);
+    row.clear();
+    copy_members(params.blocks(), count, members_of(below), &mut words, row);
+    let extra = outdegree - row.as_slice().len() as u64;
+    let has_intervals = (extra > 0) & (params.interval() > 0);
+    let intervals = value_where(has_intervals, Code::Gamma, &mut words);
+    add_intervals(page, params.interval(), intervals, &mut words, row);
+    let left = outdegree - row.as_slice().len() as u64;
+    let behind = add_residuals(params.residuals(), page, left, words, row);
+    cursor.advance(cursor.remaining() - behind);
 }
 
 /// Puts the list of the record of `page`, which stands at the cursor, into the row, in place of what it held, and moves

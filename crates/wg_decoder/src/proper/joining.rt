@@ -89,7 +89,7 @@ pub(crate) fn add_intervals(
     if count == 0 {
         return;
     }
-    row.hold();
+    row.hold(0);
     join_intervals(page, least, count, cursor, row);
 }
 
@@ -117,10 +117,11 @@ pub(crate) fn add_residuals(
     ensures waiting { row.new.waiting ≡ [] }
     ensures room { row.new.room ≡ row.old.room }
 {
-    if count == 0 {
-        return cursor.remaining();
-    }
-    let residuals = Residuals::new(cursor, code, page, count);
-    row.hold();
+    let mut residuals = Residuals::new(cursor, code, page, count);
+    let Some(first) = residuals.next() else {
+        return residuals.left_behind();
+    };
+    row.hold(first);
+    row.push(first);
     join_residuals(residuals, row)
 }
