@@ -38,12 +38,12 @@ impl Model for Row {
 
 impl Row {
     /// No numbers, and memory for `room` of them.
-    pub fn new(alloc: Global, room: usize) -> Result<Row, AllocError>
+    pub fn new(alloc: Global, room: u64) -> Result<Row, AllocError>
         ensures list { IfOk result (λ row. row.list ≡ []) }
         ensures waiting { IfOk result (λ row. row.waiting ≡ []) }
         ensures room { IfOk result (λ row. row.room ≡ room) }
     {
-        let all = room.checked_add(PIECE).ok_or(AllocError)?;
+        let all = (room as usize).checked_add(PIECE).ok_or(AllocError)?;
         Ok(Row {
             numbers: vec![in alloc; 0; all]?,
             len: 0,

@@ -24,7 +24,7 @@ pub struct Records<'a> {
     pub(crate) params: Params,
     pub(crate) offsets: Offsets,
     // at least the outdegree of each page
-    pub(crate) greatest: usize,
+    pub(crate) greatest: u64,
 }
 
 impl<'a> Model for Records<'a> {

@@ -20,7 +20,7 @@ pub struct Passed {
     /// The offset of each record, and last the end of the last one.
     pub offsets: Offsets,
     /// The greatest outdegree, 0 if there are no pages.
-    pub greatest: usize,
+    pub greatest: u64,
 }
 
 /// Judges the records of all pages, the tail and the number of arcs. It takes the time of all bits and lists, holds the
@@ -44,7 +44,7 @@ fn pass_on(
     source: &mut Cursor<'_>,
     pages: &mut Pages,
     offsets: &mut Offsets,
-) -> Result<usize, PagesError<Infallible>>
+) -> Result<u64, PagesError<Infallible>>
     requires nodes { nodes ≡ pages.old.params.nodes }
     requires none { pages.old.page ≡ 0 }
     requires start { source.old.at ≡ 0 }
@@ -58,7 +58,7 @@ fn pass_on(
     for _page in 0..nodes {
         pages.next(source)?;
         offsets.push(source.at())?;
-        greatest = greatest.max(pages.list().len());
+        greatest = greatest.max(pages.list().len() as u64);
     }
     pages.finish(source)?;
     Ok(greatest)

@@ -58,7 +58,7 @@ impl<'a> Model for Sweep<'a> {
 }
 
 // So many rows, each with this room.
-fn rows(alloc: Global, count: u64, room: usize) -> Result<Vec<Row>, AllocError>
+fn rows(alloc: Global, count: u64, room: u64) -> Result<Vec<Row>, AllocError>
     ensures count { IfOk result (λ rows. length rows.items ≡ count) }
     ensures rooms { IfOk result (λ rows. All (λ r. r.room ≡ room) rows.items) }
 {
@@ -189,7 +189,7 @@ impl<'a> Sweep<'a> {
         alloc: Global,
         bytes: &'a [u8],
         params: Params,
-        room: usize,
+        room: u64,
     ) -> Result<Sweep<'a>, AllocError>
         requires short { length bytes.now ≤ MOST_BYTES }
         requires finds { (offsets : ListOf ℕ) × PassFinds params (bits_of bytes.now) offsets room }
