@@ -12,20 +12,20 @@ use wg_decoder::proper::{RecordHead, Residuals, read_head, value_where};
 use wg_intervals::IntervalWalk;
 use wg_params::{Code, Params};
 
-/// What the list of a record is read from: a mask over the members of the list that it refers to, the numbers inside
-/// its intervals, and its residuals.
+// What the list of a record is read from: a mask over the members of the list that it refers to, the numbers inside its
+// intervals, and its residuals.
 #[derive(Drop)]
-pub struct Fronts<'a> {
-    pub outdegree: u64,
-    pub mask: Mask<'a>,
-    pub intervals: IntervalWalk<'a>,
-    pub residuals: Residuals<'a>,
+pub(crate) struct Fronts<'a> {
+    pub(crate) outdegree: u64,
+    pub(crate) mask: Mask<'a>,
+    pub(crate) intervals: IntervalWalk<'a>,
+    pub(crate) residuals: Residuals<'a>,
 }
 
-/// The fronts of the record of `page`, which stands at the cursor. `source` is the length of the list that the record
-/// refers to; none, if it has no reference. The words before the residuals are read, each once.
+// The fronts of the record of `page`, which stands at the cursor. `source` is the length of the list that the record
+// refers to; none, if it has no reference. The words before the residuals are read, each once.
 #[inline(always)]
-pub fn find_fronts<'a>(
+pub(crate) fn find_fronts<'a>(
     params: &Params,
     page: u64,
     cursor: Cursor<'a>,

@@ -23,7 +23,7 @@
 //! Ok(())
 //! ```
 //!
-//! [`find_fronts`] passes the words of a record once, to find where its fronts begin; an iterator is made of them and
+//! To begin is to pass the words of a record once, and to find where its fronts begin; an iterator is made of them and
 //! of what is below. So the words of blocks and intervals are read twice, and no others. Words and residuals are read
 //! by the calls of [`wg_decoder::proper`]. Whoever walks down to the referenced page first asks
 //! [`reference`](wg_decoder::proper::reference), which reads the two words at the head of a record.
@@ -48,5 +48,4 @@ mod passing;
 mod successors;
 
 pub use below::CHAIN_PAGES;
-pub use fields::{Fronts, find_fronts};
 pub use successors::Successors;

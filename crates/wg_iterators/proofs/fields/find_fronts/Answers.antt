@@ -7,7 +7,6 @@ use Rattle.wg_intervals.specs.Stored.{numbers_inside}
 use Rattle.wg_decoder.proofs.ProperLemmas.LaidOut.{laid_of, laid_with}
 use Rattle.wg_iterators.proofs.FrontLemmas.{blocks_stand, mask_words, blocks_passed, walk_words, cover_words, intervals_passed, covered_fits, residual_words, source_long, copied_front, apart_fronts, union_fronts}
 use Rattle.wg_decoder.proofs.ProperLemmas.Counting.{intervals_stand}
-use Rattle.wg_decoder.proofs.ProperLemmas.Taking.{takes_from}
 use Rattle.wg_decoder.proofs.ProperLemmas.Beginning.{count_word, count_read, pass_words, copied_fits, interval_count_word, interval_count_read, some_source, laid_parts, blocks_words, intervals_words, residuals_given}
 use Rattle.wg_iterators.proofs.fields.find_fronts.Goals as goal
 
