@@ -7,7 +7,8 @@ use Rattle.wg_params.specs.declared.code.Code.TheVariants.{Gamma}
 use Rattle.wg_codes.specs.Standing.{IsWord, value_at, behind_value}
 use Rattle.wg_codes.specs.Fold.{number_of_gap}
 
--- An interval with this left end and length stands at the bits, with others behind it. Its end is within 2 ^ 62.
+-- An interval with this left end and length stands at the bits, with others behind it. Its left end and its numbers
+-- are within 2 ^ 62.
 pub record IsInterval (page least : ℕ) (past : Option ℕ) (left len : ℕ) (bits behind : List Bool) : Type 0 where
   pub v : ℕ
   pub w : ℕ
@@ -16,7 +17,8 @@ pub record IsInterval (page least : ℕ) (past : Option ℕ) (left len : ℕ) (b
   pub length_word : IsWord Gamma w between behind
   pub left_is : number_of_gap page past v ≡ Some left
   pub length_is : len ≡ w + least
-  pub low : left + len ≤ 2 ^ 62
+  pub left_low : left ≤ 2 ^ 62
+  pub low : left + len ≤ 2 ^ 62 + 1
 
 -- intervals with these left ends and lengths stand at the bits, one after the other
 abbrev pub StandAt : ℕ → ℕ → Option ℕ → List ℕ → List ℕ → List Bool → Type 0

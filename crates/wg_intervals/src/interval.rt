@@ -30,7 +30,7 @@ pub(crate) fn interval_at(cursor: &mut Cursor<'_>, page: u64, least: u64, past: 
     requires page { page ≤ 2 ^ 62 }
     requires stands { (left : ℕ) × (len : ℕ) × (behind : List Bool)
         × IsInterval page least past left len (rest cursor.old) behind }
-    ensures fits { result.left + result.length ≤ 2 ^ 62 }
+    ensures fits { result.left + result.length ≤ 2 ^ 62 + 1 }
     ensures exact { (left len : ℕ) (behind : List Bool)
         → IsInterval page least past left len (rest cursor.old) behind
         → (left ≡ result.left) × (len ≡ result.length) × (behind ≡ rest cursor.new) }

@@ -38,7 +38,7 @@ impl<'a> Model for IntervalWalk<'a> {
 
     ghost view = { λ m. numbers_of m.current ++ numbers_at m.page m.least m.past m.unread (rest m.cursor) };
 
-    ghost invariant = { λ m. (m.page ≤ 2 ^ 62) × (m.current.left + m.current.length ≤ 2 ^ 62)
+    ghost invariant = { λ m. (m.page ≤ 2 ^ 62) × (m.current.left + m.current.length ≤ 2 ^ 62 + 1)
         × IntervalsStandAt m.page m.least m.past m.unread (rest m.cursor) };
 }
 

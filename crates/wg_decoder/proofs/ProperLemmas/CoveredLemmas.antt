@@ -79,7 +79,7 @@ first_means page least count all behind index past row members z mid v takes h =
 
 pub left_low : (page least count : ℕ) (all : List ℕ) (behind : List Bool) (index : ℕ) (past : Option ℕ) (row members : List ℕ) (z mid : List Bool) (v : ℕ) → Takes Gamma z mid v → Interval page least count all behind index past row members z → (y : ℕ) × (y ≤ 2 ^ 62) × (number_of_gap page past v ≡ Some y)
 left_low page least count all behind index past row members z mid v takes h =
-    (h.left, omega (arith, h.interval.low), first_means page least count all behind index past row members z mid v takes h)
+    (h.left, h.interval.left_low, first_means page least count all behind index past row members z mid v takes h)
 
 pub second_word : (page least count : ℕ) (all : List ℕ) (behind : List Bool) (index : ℕ) (past : Option ℕ) (row members : List ℕ) (z mid : List Bool) (v : ℕ) → Takes Gamma z mid v → Interval page least count all behind index past row members z → (w : ℕ) × (y : List Bool) × IsWord Gamma w mid y
 second_word page least count all behind index past row members z mid v takes h =
@@ -91,7 +91,7 @@ pub record Taken (page least count : ℕ) (all : List ℕ) (behind : List Bool) 
   pub lefts : List ℕ
   pub lengths : List ℕ
   pub count_todo : length lefts + (index + 1) ≡ count
-  pub low : first + run ≤ 2 ^ 62
+  pub low : first + run ≤ 2 ^ 62 + 1
   pub stand : IntervalsTo page least (Some (first + run)) lefts lengths new behind
   pub on : Joining all row members (range_with_len first run ++ numbers_inside lefts lengths)
   pub up : Ascends first (range_with_len first run ++ numbers_inside lefts lengths)

@@ -126,6 +126,7 @@ intervals_go (suc count) p c bits d r n bs k i ls ns at t end h no_count few end
       length_word = g.stands;
       left_is = sym (left_is c d r n bs k i ls ns [] f.v) ∙ own.1;
       length_is = refl;
+      left_low = omega (arith, within, few, last_push ls l);
       low = omega (arith, within, few, last_push ls l);
     } in
     record {

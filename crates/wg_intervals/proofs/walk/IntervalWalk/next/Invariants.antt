@@ -6,7 +6,7 @@ use Rattle.wg_intervals.proofs.walk.IntervalWalk.next.Given as goal
 
 abbrev pub invariant-loop-self : goal.invariant-loop-self
 invariant-loop-self l = let m = l.self-inside in
-    (m.page ≤ 2 ^ 62) × (m.current.left + m.current.length ≤ 2 ^ 62) × IntervalsStandAt m.page m.least m.past m.unread (rest m.cursor)
+    (m.page ≤ 2 ^ 62) × (m.current.left + m.current.length ≤ 2 ^ 62 + 1) × IntervalsStandAt m.page m.least m.past m.unread (rest m.cursor)
     × (numbers_of m.current ++ numbers_at m.page m.least m.past m.unread (rest m.cursor) ≡ l.fn.self)
 
 abbrev pub decreases-loop-self : goal.decreases-loop-self
