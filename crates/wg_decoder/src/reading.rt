@@ -63,7 +63,8 @@ pub(crate) fn decode_members<S: Source>(
 }
 
 /// The record that comes next from a source, of a page with `arcs_before` arcs before it. The source moves over the
-/// record, and may stand anywhere in it where it is refused, memory is wanting or a word was refused.
+/// record, and may stand anywhere in it where it is refused, memory is wanting or a word was refused. Of the window only
+/// the pages count that a reference may name.
 #[inline(always)]
 pub fn decode_from<S: Source>(
     params: &Params,
@@ -109,7 +110,8 @@ pub(crate) fn error_of(unread: Unread<Infallible>) -> DecodeError
 
 /// The record at the cursor, of a page with `arcs_before` arcs before it. The cursor moves over the record, and stands
 /// still where it is refused or memory is wanting. Memory is taken as successors come, and not by the outdegree; it
-/// costs a word of each field, and a pass over the list that is referred to.
+/// costs a word of each field, and a pass over the list that is referred to. Of the window only the pages count that a
+/// reference may name.
 pub fn decode(
     alloc: Global,
     params: &Params,

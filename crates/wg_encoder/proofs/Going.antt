@@ -1,11 +1,9 @@
 -- From one list to the next: what an encoder knows is what the greedy archive has.
-use Rattle.std.proofs.Common.{◌≡◌, ℕ, zero, suc, ◌+◌, ◌<◌, ◌≤◌, Bool, true, false, cond, List, [], ◌∷◌, ◌++◌, length, length-append, take, refl, sym, ap, ◌∙◌, arith}
-use Rattle.std.proofs.lemmas.List.{length-take}
-use Rattle.std.proofs.lemmas.List.Elements.{All-cons, All-same, All-take, All-weaker}
+use Rattle.std.proofs.Common.{◌≡◌, ℕ, zero, suc, ◌+◌, ◌≤◌, Bool, true, false, cond, List, [], ◌∷◌, ◌++◌, length, length-append, take, refl, sym, ap, subst, ◌∙◌, arith}
 use Rattle.wg_params.specs.Parameters.{Parameters}
-use Rattle.wg_graph.specs.Ascending.{Ascends, Below}
 use Rattle.wg_grammar.specs.Context.{Known, Context}
 use Rattle.wg_decoder.specs.Remembered.{Serves}
+use Rattle.wg_decoder.proofs.Serving.{serves_next}
 use Rattle.wg_encoder.specs.Archive.{graph_bits, refers, referring_pages}
 use Rattle.wg_encoder.specs.Laws.{IsList}
 use Rattle.wg_encoder.specs.Encoding.{Encoded, next_context, context_on, chosen_size, encoded_on, HasWritten}
@@ -41,12 +39,4 @@ none_kept (suc w) behind more none few = absurd (omega (arith, none))
 -- what is kept serves the next page
 pub serves_on : (p : Parameters) (page d : ℕ) (list : List ℕ) (behind now : List Known) → Serves p page behind → IsList p list → d ≤ page → now ≡ take p.window (record { list = list; depth = d } ∷ behind) → Serves p (page + 1) now
 serves_on p page d list behind now s is low taken =
-    let k : Known = record { list = list; depth = d } in record {
-      far = omega (arith, s.far, ap (λ (ks : List Known). length ks) taken, length-take p.window (k ∷ behind));
-      ascend = All-same (λ (x : Known). Ascends 0 x.list) now (take p.window (k ∷ behind)) taken (All-take (λ (x : Known). Ascends 0 x.list) p.window (k ∷ behind) (All-cons (λ (x : Known). Ascends 0 x.list) k behind is.ascends s.ascend));
-      below = All-same (λ (x : Known). Below p.nodes x.list) now (take p.window (k ∷ behind)) taken
-          (All-take (λ (x : Known). Below p.nodes x.list) p.window (k ∷ behind) (All-cons (λ (x : Known). Below p.nodes x.list) k behind is.below s.below));
-      depths = All-same (λ (x : Known). x.depth < page + 1) now (take p.window (k ∷ behind)) taken
-          (All-take (λ (x : Known). x.depth < page + 1) p.window (k ∷ behind)
-          (All-cons (λ (x : Known). x.depth < page + 1) k behind (omega arith) (All-weaker (λ (x : Known). x.depth < page) (λ (x : Known). x.depth < page + 1) (λ x lt. omega arith) behind s.depths)));
-    }
+    subst (Serves p (page + 1)) (sym taken) (serves_next p page behind (record { list = list; depth = d }) s is.ascends is.below low)
