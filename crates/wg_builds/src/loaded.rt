@@ -7,7 +7,7 @@ use std::alloc::Global;
 use wg_io::{Depot, List8};
 use wg_outcomes::{Ending, Input, as_second};
 use wg_params::Params;
-use wg_readings::{judge_offsets, load, load_params, records_of_graph};
+use wg_readings::{judge_offsets, load, load_params, passed_of_graph};
 use wg_words::Name;
 
 /// The parameters of an archive and the bytes of its graph file.
@@ -28,8 +28,8 @@ fn judge_archive<D: Depot>(
     requires { length bytes.now ≤ MOST_BYTES }
     ensures { JudgesArchiveBy ⟦<D as Depot>⟧ base.now params.now bytes.now depot.old depot.new result }
 {
-    let records = records_of_graph(alloc, params, bytes)?;
-    judge_offsets(alloc, params, &records, depot, base)
+    let found = passed_of_graph(alloc, params, bytes)?;
+    judge_offsets(alloc, params, &found.offsets, depot, base)
 }
 
 /// Reads and judges the three files of an archive, as `check` does, and keeps the bytes of its graph file. Until the

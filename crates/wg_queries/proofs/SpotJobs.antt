@@ -6,12 +6,14 @@ use Rattle.wg_io.specs.Outside.{Files, Counts, Increased}
 use Rattle.wg_io.specs.Puts.{Puts}
 use Rattle.wg_io.specs.declared.output.Output.TheVariants.{Out}
 use Rattle.wg_params.specs.Parameters.{Parameters}
+use Rattle.wg_grammar.specs.declared.fault.ArchiveFault.{ArchiveFault}
+use Rattle.wg_grammar.specs.declared.fault.ArchiveFault.TheVariants as archive
 use Rattle.wg_words.specs.declared.jobs.Job.{Job}
 use Rattle.wg_words.specs.declared.jobs.Job.TheVariants.{Spot}
 use Rattle.wg_outcomes.specs.Answers.{IsUnput, Steps, status_in}
 use Rattle.wg_outcomes.specs.Commands.{successors_line}
 use Rattle.wg_outcomes.specs.Judged.{Judged, accepted, with_file, with_successors, offsets_then}
-use Rattle.wg_readings.specs.Loading.{IsBadPage, Loads, LoadsOffsets, LoadsParams}
+use Rattle.wg_readings.specs.Loading.{Loads, LoadsOffsets, LoadsParams}
 use Rattle.wg_outcomes.specs.Names.{file_of}
 use Rattle.wg_outcomes.specs.Performs.{Outside, Performs, outside}
 use Rattle.wg_outcomes.specs.Promised.{promised_in}
@@ -19,8 +21,17 @@ use Rattle.wg_outcomes.specs.Readings.{Readings}
 use Rattle.wg_outcomes.specs.declared.ending.Ending.{Ending}
 use Rattle.wg_outcomes.specs.declared.status.Input.{Input}
 use Rattle.wg_outcomes.specs.declared.status.Input.TheVariants.{Properties, Graph, Offsets}
-use Rattle.wg_outcomes.specs.declared.status.Status.TheVariants.{WriteFault}
+use Rattle.wg_outcomes.specs.declared.status.Status.TheVariants.{BadArchive, WriteFault}
 use Rattle.wg_readings.proofs.JobSteps.{ComesTo, comes_on, ends, ends_reading, loaded, prints, refuses, refuses_page, unloaded}
+use Rattle.wg_queries.specs.Showing.{IsBadPage}
+
+-- a fault of the chain lies in the graph file or in the offsets file
+pub bad_chain : (page promised : ℕ) (f : ArchiveFault) (e : Ending) → e.status ≡ BadArchive f → e.promised ≡ promised → IsBadPage page promised e
+bad_chain page promised (archive.Record x) e is names = inr (inl (inr (archive.Record x, refl, is, names)))
+bad_chain page promised (archive.Tail at) e is names = inr (inl (inr (archive.Tail at, refl, is, names)))
+bad_chain page promised (archive.ArcsShort total) e is names = inr (inl (inr (archive.ArcsShort total, refl, is, names)))
+bad_chain page promised (archive.Offsets w) e is names = inr (inr (inr (archive.Offsets w, refl, is, names)))
+bad_chain page promised (archive.Length x found stored) e is names = inr (inr (inr (archive.Length x found stored, refl, is, names)))
 
 module _ (base : List ℕ) (page : ℕ) (td to : Bool) (before : Outside) where
   abbrev job : Job

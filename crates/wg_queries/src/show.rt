@@ -19,8 +19,8 @@ use wg_graph::List;
 use wg_io::{Depot, Sink};
 use wg_lines::Lines;
 use wg_outcomes::{Ending, Input, Status};
-use wg_random::{Archive, ListError, OpenError, Steps};
-use wg_readings::{find_pages, judge_offsets, load, load_params, records_of_graph};
+use wg_random::{Archive, ListError, OpenError, Records, Steps};
+use wg_readings::{find_pages, judge_offsets, load, load_params, passed_of_graph};
 use wg_words::Name;
 
 /// Prints the successors of pages, a line for each. It judges the three files before it prints, and looks whether all
@@ -39,9 +39,11 @@ pub fn show<D: Depot, O: Sink>(
 {
     let params = load_params(alloc, depot, base)?;
     let bytes = load(alloc, depot, base, Input::Graph)?;
-    let records = records_of_graph(alloc, &params, bytes.as_slice())?;
-    judge_offsets(alloc, &params, &records, depot, base)?;
+    let graph = bytes.as_slice();
+    let found = passed_of_graph(alloc, &params, graph)?;
+    judge_offsets(alloc, &params, &found.offsets, depot, base)?;
     find_pages(&params, pages.as_slice())?;
+    let records = Records::of_pass(graph, params, found);
     print_pages::<Brand, O>(
         alloc,
         &records.archive(),

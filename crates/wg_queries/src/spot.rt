@@ -9,13 +9,14 @@ ghost use Rattle.wg_outcomes.specs.declared.status.Status.TheVariants.{WriteFaul
 ghost use Rattle.wg_outcomes.specs.Commands.{successors_line};
 ghost use Rattle.wg_outcomes.specs.Performs.{DoesOrEnds};
 
+use crate::chains::successors_of_page;
 use crate::print::print_rest;
 use crate::shown::print_list;
 use std::alloc::Global;
 use wg_io::{Depot, Sink};
 use wg_lines::Lines;
 use wg_outcomes::{Ending, Input};
-use wg_readings::{load, load_offsets, load_params, successors_of_page};
+use wg_readings::{load, load_offsets, load_params};
 use wg_words::Name;
 
 /// Prints the successors of a page, by its chain of references alone: of the graph file no other record is judged, and

@@ -3,8 +3,6 @@ pub mod ArchiveLemmas
 pub mod ChainLemmas
 pub mod Matching
 pub mod SpotLemmas
-pub mod SpotOne
-pub mod SpotSome
 pub mod SpotMoves
 pub mod SpotAgree
 pub mod SpotFew

@@ -1,7 +1,6 @@
 -- There is one reading, and its records have these places and depths.
 use Rattle.std.proofs.Common.{◌≡◌, ℕ, zero, suc, ◌+◌, ◌≤◌, Bool, List, [], ◌∷◌, length, map, Some, Ok, Result, refl, sym, ap, subst, ◌∙◌, arith}
 use Rattle.std.specs.Prelude.{get_or}
-use Rattle.std.proofs.lemmas.List.{length-map}
 use Rattle.wg_params.specs.Parameters.{Parameters, IsWithinLimits}
 use Rattle.wg_grammar.specs.declared.fault.Fault.{Fault}
 use Rattle.wg_grammar.specs.Record.{Whole}
@@ -57,6 +56,3 @@ places_at ws (suc x) = end_at ws x
 
 pub offset_is : (places : List ℕ) (ws : List Whole) (x : ℕ) → places ≡ 0 ∷ map (λ w. w.end) ws → get_or places x 0 ≡ offset_at ws x
 offset_is places ws x e = ap (λ (l : List ℕ). get_or l x 0) e ∙ places_at ws x
-
-pub offsets_count : (p : Parameters) (bits : List Bool) (r : Reading p bits) (places : List ℕ) → places ≡ 0 ∷ map (λ w. w.end) r.records → length places ≡ p.nodes + 1
-offsets_count p bits r places e = omega (arith, ap (λ (l : List ℕ). length l) e, length-map r.records (λ (w : Whole). w.end), all_records p bits r)

@@ -11,7 +11,7 @@ use Rattle.wg_random.specs.declared.error.SpotError.{SpotError}
 use Rattle.wg_random.specs.Spot.{SpotAnswers}
 use Rattle.wg_grammar.proofs.Depths.{record_limited}
 use Rattle.wg_random.proofs.SpotMoves.{Apart, apart_of}
-use Rattle.wg_random.proofs.SpotOne.{same_reference}
+use Rattle.wg_stream.proofs.SpotOne.{same_reference}
 
 deep_over : (n r : ℕ) (k : Known) → 0 < r → r ≤ n → depth_of (replicate n k) r ≡ suc k.depth
 deep_over n zero k some near = absurd (omega (arith, some))

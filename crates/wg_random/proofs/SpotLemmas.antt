@@ -20,9 +20,8 @@ use Rattle.wg_grammar.specs.declared.fault.Field.TheVariants as field
 use Rattle.wg_grammar.specs.declared.fault.Kind.TheVariants as kind
 use Rattle.wg_grammar.specs.Context.{Known, Context, no_page}
 use Rattle.wg_grammar.specs.Record.{Whole, ReadsRecord}
-use Rattle.wg_decoder.specs.Apart.{page_over, ReferenceStands, HeadStands, HeadFails}
-use Rattle.wg_decoder.specs.Head.{of_outdegree}
-use Rattle.wg_decoder.proofs.ApartLemmas.{head_refused, reference_near}
+use Rattle.wg_decoder.specs.Apart.{page_over, HeadStands, HeadFails}
+use Rattle.wg_decoder.proofs.ApartLemmas.{head_refused}
 use Rattle.wg_random.specs.declared.error.SpotError.{SpotError}
 use Rattle.wg_random.specs.declared.error.SpotError.TheVariants as errors
 use Rattle.wg_decoder.specs.Chains.{endless, start_of, HeadReads, RecordReads, RefersTo, OverReads, ChainReads, IsChain, IsHeadFault}
@@ -72,18 +71,6 @@ length_fault p bits offsets page below at end stop k f place h same differ is =
     let there : ReadsRecord p (page_over p page below) bits (start_of offsets page) (Ok w) =
     subst (λ (i : ℕ). ReadsRecord p (page_over p page below) bits (start_of offsets page) (Ok (record { known = k; end = i }))) (sym same) here in
     subst (λ (g : ArchiveFault). RecordReads p bits offsets page below (Err g)) (sym is) (w, there, differ, refl, refl, refl)
-
--- ---- a reference leads to a lower page
-
-near_of : (p : Parameters) (c : Context) (bits : List Bool) (d at r end : ℕ) → 0 < r → ReferenceStands p c bits d at r end → r ≤ c.page
-near_of p c bits d at r end some (inl h) = omega (arith, reference_near p c (of_outdegree d) r h.1.2)
-near_of p c bits d at r end some (inr h) = absurd (omega (arith, some, h.1))
-
-pub refers_falls : (p : Parameters) (bits : List Bool) (offsets : List ℕ) (y z : ℕ) → RefersTo p bits offsets y z → z < y
-refers_falls p bits offsets y z h =
-    let s = h.2.2 in
-    let near : h.0 ≤ y = near_of (endless p) (page_over p y no_page) bits h.2.0 s.0 h.0 h.2.1 h.1 s.2 in
-    omega (arith, h.1, near, h.3)
 
 -- ---- the chain grows
 

@@ -1,6 +1,7 @@
 //! Pages of an archive by their offsets.
 //!
-//! [`Records`] are the bits of a graph file that were checked and stand for one graph, with the offset of each record.
+//! [`Records`] are the bits of a graph file that were checked and stand for one graph, with the offset of each record:
+//! by a pass of their own, or with what one that was made has found ([`Records::of_pass`]).
 //! An [`Archive`] is made of them, by their own offsets or by those of an offsets file that agrees. A page is read in
 //! two ways. Both follow the references down, with a tick of [`Steps`] for each record of the chain, and then go up the
 //! same chain again.
@@ -46,7 +47,7 @@
 //! |---|---|---|
 //! | [`Records::check`] | an offset, 8 bytes, for each page; while it runs, the lists of a window | that of all bits and lists |
 //! | [`Archive::check`] | none | that of the offsets |
-//! | [`Records::archive`] | none | constant |
+//! | [`Records::of_pass`], [`Records::archive`] | none | constant |
 //! | [`Archive::open`] | a box for each reference of the chain | that of the words of the chain's records |
 //! | [`Archive::list`] | a number for each page of the chain, and two of its lists | that of the words and the lists of the chain's records |
 //! | [`spot`] | a number for each page of the chain, and at most 6 lists | that of the words and the lists of the chain's records |

@@ -6,6 +6,7 @@ ghost use Rattle.wg_grammar.specs.Archive.{Accepted, ReadsGraph};
 ghost use Rattle.wg_grammar.specs.Laws.{graph_of};
 ghost use Rattle.wg_offsets.specs.Places.{ArePlaces};
 ghost use Rattle.wg_random.specs.Held.{StandsForGraph};
+ghost use Rattle.wg_stream.specs.Sweeping.{PassFinds};
 ghost use Rattle.wg_random.specs.Checking.{OfArchive};
 
 use crate::{Archive, CheckError};
@@ -13,7 +14,7 @@ use std::alloc::{AllocError, Global};
 use std::marker::Model;
 use wg_offsets::Offsets;
 use wg_params::Params;
-use wg_stream::{PagesError, Sweep, pass};
+use wg_stream::{PagesError, Passed, Sweep, pass};
 
 /// The bits of a graph file that stand for one graph, and where their records are.
 ///
@@ -54,15 +55,26 @@ impl<'a> Records<'a> {
         ensures refused { IfErr result (λ e. OfArchive e (λ f. ReadsGraph params (bits_of bytes.now) (Err f))) }
     {
         match pass(alloc, bytes, params) {
-            Ok(found) => Ok(Records {
-                bytes,
-                params,
-                offsets: found.offsets,
-                greatest: found.greatest,
-            }),
+            Ok(found) => Ok(Records::of_pass(bytes, params, found)),
             Err(PagesError::Fault(fault)) => Err(CheckError::Archive(fault)),
             Err(PagesError::Memory) => Err(CheckError::Memory),
             Err(PagesError::Refused(never)) => match never {},
+        }
+    }
+
+    /// The records that a pass has judged, with what it found. It takes no memory, and constant time.
+    pub fn of_pass(bytes: &'a [u8], params: Params, found: Passed) -> Records<'a>
+        requires short { length bytes.now ≤ MOST_BYTES }
+        requires finds { PassFinds params (bits_of bytes.now) found.offsets found.greatest }
+        ensures params { result.params ≡ params }
+        ensures bits { result.bits ≡ bits_of bytes.now }
+        ensures offsets { result.offsets ≡ found.offsets }
+    {
+        Records {
+            bytes,
+            params,
+            offsets: found.offsets,
+            greatest: found.greatest,
         }
     }
 

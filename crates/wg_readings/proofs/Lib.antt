@@ -6,7 +6,6 @@ pub mod JobPasses
 pub mod JobSteps
 pub mod JudgeLemmas
 pub mod LimitsLemmas
-pub mod ListsLemmas
 pub mod LoadLemmas
 pub mod NamedLemmas
 pub mod NamedSteps

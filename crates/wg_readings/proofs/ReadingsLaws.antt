@@ -14,7 +14,7 @@ use Rattle.wg_offsets.specs.Words.{ReadsOffsets}
 use Rattle.wg_offsets.proofs.OneFile.{offsets_one, offsets_some}
 use Rattle.wg_properties.proofs.Limits.{none_bad}
 use Rattle.wg_decoder.specs.Chains.{SpotReads}
-use Rattle.wg_random.proofs.SpotSome.{page_some}
+use Rattle.wg_stream.proofs.SpotSome.{page_some}
 use Rattle.wg_arcs.proofs.SomeGraph.{texts_are_some}
 use Rattle.wg_arcs.proofs.Unique.{listed_one}
 use Rattle.wg_ascii.proofs.Some as ascii

@@ -1,5 +1,5 @@
 -- Files that were read, in a judgement.
-use Rattle.std.proofs.Common.{◌≡◌, ◌∙◌, ◌<◌, ◌≤◌, inl, inr, ℕ, Bool, if◌then◌else◌, refl, List, [], ◌∷◌, ap, sym, subst, Some, None, Ok, Err, Result}
+use Rattle.std.proofs.Common.{◌≡◌, ◌∙◌, ◌<◌, ◌≤◌, ℕ, Bool, if◌then◌else◌, refl, List, [], ◌∷◌, ap, subst, Some, None, Ok, Err, Result}
 use Rattle.std.proofs.lemmas.Bool.{le-leb, lt-leb}
 use Rattle.wg_bits.specs.Bits.{bits_of}
 use Rattle.wg_params.specs.Parameters.{Parameters, IsWithinLimits}
@@ -10,12 +10,11 @@ use Rattle.wg_grammar.specs.declared.fault.OffsetWord.{OffsetWord}
 use Rattle.wg_grammar.specs.Archive.{Accepted, ReadsGraph}
 use Rattle.wg_grammar.specs.Context.{Known}
 use Rattle.wg_grammar.proofs.OneGraph.{graph_one}
-use Rattle.wg_offsets.specs.Places.{AgreeInLengths, IsFirstMismatch, record_length}
+use Rattle.wg_offsets.specs.Places.{AgreeInLengths, IsFirstMismatch}
 use Rattle.wg_offsets.specs.Words.{ReadsOffsets}
 use Rattle.wg_offsets.proofs.OneFile.{offsets_one}
-use Rattle.wg_random.specs.Checking.{IsLengthFault}
 use Rattle.wg_decoder.specs.Chains.{SpotReads}
-use Rattle.wg_random.proofs.SpotOne.{chain_one}
+use Rattle.wg_stream.proofs.SpotOne.{chain_one}
 use Rattle.wg_offsets.proofs.Differences.{none_differ, first_differs}
 use Rattle.wg_num.specs.Lines.{lines_of}
 use Rattle.wg_graph.specs.Digraph.{Digraph}
@@ -25,9 +24,7 @@ use Rattle.wg_arcs.proofs.Unique.{listed_one}
 use Rattle.wg_ascii.specs.declared.fault.AsciiKind.{AsciiKind}
 use Rattle.wg_ascii.specs.Reading as ascii
 use Rattle.wg_ascii.proofs.Unique.{texts_are_one}
-use Rattle.wg_readings.specs.Loading.{IsBadPage}
 use Rattle.wg_outcomes.specs.Names.{file_of_fault}
-use Rattle.wg_outcomes.specs.declared.ending.Ending.{Ending}
 use Rattle.wg_outcomes.specs.declared.status.Input.TheVariants as input
 use Rattle.wg_outcomes.specs.Readings.{Readings}
 use Rattle.wg_outcomes.specs.Judged.{Judged, refused, with_graph, with_offsets, with_lengths, with_list, with_pages, with_successors, with_text, unless_bad_chain, unless_bad_graph, unless_bad_offsets, unless_bad_list, unless_bad_text, unless_no_page, unless_some_differ}
@@ -98,14 +95,6 @@ module _ (r : Readings) (p : Parameters) (limits : IsWithinLimits p) (bytes plac
   pub page_refused : p.nodes ≤ page → (next : List ℕ → Judged) → with_successors r p bytes places page next ≡ refused (NoPage page)
   page_refused le next = page_absent p.nodes page le (λ t. unless_bad_chain (r.page.value p bytes places page) next)
 
--- a fault of the chain lies in the graph file or in the offsets file
-pub bad_chain : (page promised : ℕ) (f : ArchiveFault) (e : Ending) → e.status ≡ BadArchive f → e.promised ≡ promised → IsBadPage page promised e
-bad_chain page promised (archive.Record x) e is names = inr (inl (inr (archive.Record x, refl, is, names)))
-bad_chain page promised (archive.Tail at) e is names = inr (inl (inr (archive.Tail at, refl, is, names)))
-bad_chain page promised (archive.ArcsShort total) e is names = inr (inl (inr (archive.ArcsShort total, refl, is, names)))
-bad_chain page promised (archive.Offsets w) e is names = inr (inr (inr (archive.Offsets w, refl, is, names)))
-bad_chain page promised (archive.Length x found stored) e is names = inr (inr (inr (archive.Length x found stored, refl, is, names)))
-
 -- an arc list that was read
 module _ (r : Readings) (n : ℕ) (bytes : List ℕ) where
   lists_as : (w : Result Digraph (ℕ × ArcsKind)) → IsListed n bytes w → r.arc_list.value n bytes ≡ w
@@ -146,21 +135,3 @@ pub one_differs : (found stored : List ℕ) (page here there : ℕ) → IsFirstM
 one_differs found stored page here there h next =
     let first = first_differs found stored page here there h in
     rw (h.here_is, h.there_is) (ap (λ (l : List ℕ). unless_some_differ l found stored next) first.1)
-
-pub length_refused : (found stored : List ℕ) (f : ArchiveFault) → IsLengthFault found stored f → (next : Unit {0} → Judged) → with_lengths found stored next ≡ refused (BadArchive f)
-length_refused found stored (archive.Length page here there) h next = one_differs found stored page here there h next
-length_refused found stored (archive.Record e) h next = absurd h
-length_refused found stored (archive.Tail at) h next = absurd h
-length_refused found stored (archive.ArcsShort total) h next = absurd h
-length_refused found stored (archive.Offsets w) h next = absurd h
-
-pub of_length : (found stored : List ℕ) (f : ArchiveFault) → IsLengthFault found stored f → file_of_fault f ≡ input.Offsets
-of_length found stored (archive.Length page here there) h = refl
-of_length found stored (archive.Record e) h = absurd h
-of_length found stored (archive.Tail at) h = absurd h
-of_length found stored (archive.ArcsShort total) h = absurd h
-of_length found stored (archive.Offsets w) h = absurd h
-
--- the same offsets tell the same lengths
-pub same_agree : (found stored : List ℕ) → stored ≡ found → (next : Unit {0} → Judged) → with_lengths found stored next ≡ next tt
-same_agree found stored same next = all_agree found stored (λ x inside. ap (λ (l : List ℕ). record_length l x) (sym same)) next

@@ -21,12 +21,12 @@ use Rattle.wg_outcomes.specs.Judged.{Judged, claim_then, map_then, text_then, we
 use Rattle.wg_outcomes.specs.Names.{IsOfInput, certificate_named, file_of, held_by, list_named, map_named, no_outputs, text_named, weights_named}
 use Rattle.wg_readings.specs.Pairing.{files_then}
 use Rattle.wg_readings.specs.Passes.{IsGraphFile, graph_then}
-use Rattle.wg_outcomes.specs.Promised.{IsStopAt, IsBadFile}
+use Rattle.wg_outcomes.specs.Promised.{IsStopAt}
 use Rattle.wg_outcomes.specs.Readings.{Readings}
 use Rattle.wg_outcomes.specs.declared.ending.Ending.{Ending}
 use Rattle.wg_outcomes.specs.declared.status.Input.{Input}
 use Rattle.wg_outcomes.specs.declared.status.Input.TheVariants as input
-use Rattle.wg_outcomes.specs.declared.status.Status.TheVariants.{BadArcs, BadCertificate, BadMap, BadProperties, BadText, BadWeights, NoPage}
+use Rattle.wg_outcomes.specs.declared.status.Status.TheVariants.{BadArcs, BadCertificate, BadMap, BadProperties, BadText, BadWeights}
 use Rattle.wg_outcomes.specs.declared.status.WeightsFault.{WeightsFault}
 
 -- A file of this name was read whole, as this input.
@@ -112,11 +112,6 @@ pub record LoadsOffsets (base : List ℕ) (p : Parameters) (told : Bool) (files 
   pub reads : Reads base input.Offsets p.arcs (λ r. offsets_then r p) told files files' counts counts' result
   pub goes : IsTrue told → (r : Readings) → Steps (offsets_then r p (held_by (file_of base) files input.Offsets)) result
   pub count : IfOk result (λ places. length places ≡ p.nodes + 1)
-
--- The successors of a page were not read: there is no such page, or memory was wanting, or one of these files is at
--- fault.
-abbrev pub IsBadPage : ℕ → ℕ → Ending → Type 0
-IsBadPage page promised e = (e.status ≡ NoPage page) ⊎ IsBadFile input.Graph promised e ⊎ IsBadFile input.Offsets promised e
 
 -- The graph of so many pages that an arc list holds was read whole, or the job ends at the list.
 pub record LoadsList (name : List ℕ) (n : ℕ) (told : Bool) (files files' : Files) (counts counts' : List ℕ → Counts) (result : Result Digraph Ending) : Type 0 where

@@ -1,14 +1,15 @@
 //! The files of an archive that are held whole, each judged as far as it goes by itself.
-ghost use Rattle.std.specs.Prelude.{◌≡◌, ◌⊎◌, ◌<◌, ◌≤◌, ℕ, All, List as ListOf, IfErr, IfOk, OnOk, Ok, Err, length, ◌+◌};
+ghost use Rattle.std.specs.Prelude.{◌≡◌, ◌<◌, ◌≤◌, ℕ, All, IfErr, IfOk, OnOk, Ok, Err, length, ◌+◌};
 ghost use Rattle.wg_io.specs.declared.limits.TheConstants.{MOST_BYTES};
 ghost use Rattle.wg_bits.specs.Bits.{bits_of};
 ghost use Rattle.wg_params.specs.Parameters.{IsWithinLimits};
 ghost use Rattle.wg_params.specs.declared.limits.TheConstants.{MOST_PAGES};
 ghost use Rattle.wg_properties.specs.Judged.{properties_of};
 ghost use Rattle.wg_properties.specs.declared.fault.PropFault.{PropFault};
-ghost use Rattle.wg_grammar.specs.Archive.{Accepted, ReadsGraph};
+ghost use Rattle.wg_grammar.specs.Archive.{Accepted};
 ghost use Rattle.wg_graph.specs.Digraph.{Digraph};
 ghost use Rattle.wg_grammar.specs.declared.fault.ArchiveFault.{ArchiveFault};
+ghost use Rattle.wg_stream.specs.Sweeping.{PassFinds};
 ghost use Rattle.wg_outcomes.specs.Answers.{Steps};
 ghost use Rattle.wg_outcomes.specs.Judged.{with_parameters, with_digraph, with_graph, with_offsets, with_pages};
 ghost use Rattle.wg_outcomes.specs.Promised.{IsBadFile};
@@ -21,8 +22,7 @@ use wg_graph::Graph;
 use wg_offsets::{Offsets, OffsetsError};
 use wg_outcomes::{Ending, Input, Status};
 use wg_params::Params;
-use wg_random::{CheckError, Records};
-use wg_stream::{PagesError, Sweep, read_graph};
+use wg_stream::{PagesError, Passed, Sweep, pass, read_graph};
 
 /// The parameters that a properties text gives.
 pub fn parameters(text: &[u8]) -> Result<Params, Ending>
@@ -64,28 +64,24 @@ pub fn bad_archive(fault: ArchiveFault, params: &Params) -> Ending
     }
 }
 
-/// The records of a graph file, and where they are.
-pub fn records_of_graph<'a>(
-    alloc: Global,
-    params: &Params,
-    bytes: &'a [u8],
-) -> Result<Records<'a>, Ending>
+/// Judges the records of a graph file, in one pass, and keeps where they are and the greatest outdegree. It takes 8
+/// bytes a page, and holds the lists of a window while it runs.
+pub fn passed_of_graph(alloc: Global, params: &Params, bytes: &[u8]) -> Result<Passed, Ending>
     requires { length bytes.now ≤ MOST_BYTES }
     ensures limits { IsWithinLimits params.now }
-    ensures params { IfOk result (λ records. records.params ≡ params.now) }
-    ensures bits { IfOk result (λ records. records.bits ≡ bits_of bytes.now) }
-    ensures accepted { IfOk result (λ records. (graph : ListOf (ListOf ℕ))
-        × ReadsGraph params.now (bits_of bytes.now) (Ok (record { graph = graph; places = records.offsets }))) }
+    ensures finds { IfOk result (λ found. PassFinds params.now (bits_of bytes.now) found.offsets found.greatest) }
+    ensures count { IfOk result (λ found. length found.offsets ≡ params.now.nodes + 1) }
     ensures refused { (r : Readings) → IfErr result (λ e. Steps {B = Accepted}
         (with_graph r params.now bytes.now) (Err e)) }
     ensures only { IfErr result (λ e. IsBadFile Input.Graph params.now.arcs e) }
 {
     // tells the limits
     params.nodes();
-    match Records::check(alloc, bytes, *params) {
-        Ok(records) => Ok(records),
-        Err(CheckError::Archive(fault)) => Err(bad_archive(fault, params)),
-        Err(CheckError::Memory) => Err(Ending::of(Status::Memory)),
+    match pass(alloc, bytes, *params) {
+        Ok(found) => Ok(found),
+        Err(PagesError::Fault(fault)) => Err(bad_archive(fault, params)),
+        Err(PagesError::Memory) => Err(Ending::of(Status::Memory)),
+        Err(PagesError::Refused(never)) => match never {},
     }
 }
 
@@ -118,8 +114,8 @@ pub fn lists_of_records<'a>(
         (with_digraph r params.now bytes.now) (Err e)) }
     ensures only { IfErr result (λ e. IsBadFile Input.Graph params.now.arcs e) }
 {
-    let records = records_of_graph(alloc, params, bytes)?;
-    match records.sweep(alloc) {
+    let found = passed_of_graph(alloc, params, bytes)?;
+    match Sweep::with_room(alloc, bytes, *params, found.greatest) {
         Ok(sweep) => Ok(sweep),
         Err(_) => Err(Ending::of(Status::Memory)),
     }

@@ -1,14 +1,14 @@
 //! The files of an archive, judged as they are read in pieces.
-ghost use Rattle.std.specs.Prelude.{◌≡◌};
+ghost use Rattle.std.specs.Prelude.{◌≡◌, ◌+◌, length};
 ghost use Rattle.wg_readings.specs.Loading.{JudgesFilesBy, JudgesGraphBy, JudgesOffsetsBy};
 
 use crate::pairing::{begin_pairing, end_pairing, open_offsets, pair_next};
 use crate::records::{end_records, next_record, open_graph};
 use std::alloc::Global;
 use wg_io::Depot;
+use wg_offsets::Offsets;
 use wg_outcomes::Ending;
 use wg_params::Params;
-use wg_random::Records;
 use wg_words::Name;
 
 /// Judges the records of a graph file, and what follows them.
@@ -52,24 +52,24 @@ pub fn judge_files<D: Depot>(
     Ok(bits)
 }
 
-/// Judges the offsets file of an archive, and whether it stores the lengths of these records. It goes through the file
-/// once, and holds a piece of it.
+/// Judges the offsets file of an archive, and whether it stores the lengths of the records with these offsets, of which
+/// there is one for each page and one more. It goes through the file once, and holds a piece of it.
 pub fn judge_offsets<D: Depot>(
     alloc: Global,
     params: &Params,
-    records: &Records<'_>,
+    offsets: &Offsets,
     depot: &mut D,
     base: &Name,
 ) -> Result<(), Ending>
-    requires { records.now.params ≡ params.now }
-    ensures { JudgesOffsetsBy ⟦<D as Depot>⟧ base.now params.now records.now.offsets depot.old depot.new result }
+    requires { length offsets.now ≡ params.now.nodes + 1 }
+    ensures { JudgesOffsetsBy ⟦<D as Depot>⟧ base.now params.now offsets.now depot.old depot.new result }
 {
     let mut pairing = open_offsets(alloc, params, base)?;
     // tells that they begin at 0 and never fall
-    records.offset(0);
+    offsets.len();
     let mut so_far = begin_pairing(&mut pairing, depot, params);
     for page in 0..params.nodes() {
-        let here = records.offset(page + 1);
+        let here = offsets.place(page + 1);
         so_far = pair_next(so_far, &mut pairing, depot, params, here);
     }
     end_pairing(so_far, &mut pairing, depot, params)

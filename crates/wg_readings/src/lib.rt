@@ -4,12 +4,12 @@
 //! [`load_params`], [`load_graph`], [`load_offsets`], [`load_list`], [`load_text`], [`load_weights`],
 //! [`load_certificate`] and [`load_map`] read a file whole; [`judge_graph`], [`judge_files`] and [`judge_offsets`] go
 //! through the files in pieces, and so do [`open_graph`], [`next_record`] and [`end_records`], record by record.
-//! [`successors_of_page`] judges the records that one page refers to, and no others. Each promises that it is a step
-//! of a judgement (`Judged`): it either yields a value or ends the job with a [`Status`](wg_outcomes::Status), and
-//! later inputs do not matter, unless running out of memory or a fault of the outside came in its place (`Steps`). A
-//! fault or an absence is reported only where its count rose, and no file changes. Which steps a job takes, and what
-//! it prints and writes, is said in `wg_outcomes`; the lemmas here on steps of jobs are what the commands are proved
-//! by.
+//! [`passed_of_graph`] finds where the records of a graph file are, and [`lists_of_records`] decodes their lists, as
+//! often as one likes. Each promises that it is a step of a judgement (`Judged`): it either yields a value or ends the
+//! job with a [`Status`](wg_outcomes::Status), and later inputs do not matter, unless running out of memory or a fault
+//! of the outside came in its place (`Steps`). A fault or an absence is reported only where its count rose, and no file
+//! changes. Which steps a job takes, and what it prints and writes, is said in `wg_outcomes`; the lemmas here on steps
+//! of jobs are what the commands are proved by.
 //!
 //! The parameters of an archive, and how a job ends whose archive is not there:
 //!
@@ -36,7 +36,6 @@
 #![tactic(auto)]
 
 mod archive;
-mod chains;
 mod claims;
 mod classes;
 mod judge;
@@ -47,8 +46,7 @@ mod plain;
 mod records;
 mod weights;
 
-pub use archive::{find_pages, lists_of_records, records_of_graph};
-pub use chains::successors_of_page;
+pub use archive::{find_pages, lists_of_records, passed_of_graph};
 pub use judge::{judge_files, judge_graph, judge_offsets};
 pub use loading::{
     load, load_certificate, load_graph, load_list, load_map, load_offsets, load_params, load_text,

@@ -2,6 +2,7 @@
 use Rattle.std.proofs.Common.{◌≡◌, ℕ, zero, suc, ◌+◌, ◌-◌, ◌<◌, ◌≤◌, Bool, inl, inr, List, [], ◌∷◌, length, take, map, Option, Some, Ok, refl, ap, subst, ◌∙◌, arith}
 use Rattle.std.specs.Prelude.{get_or}
 use Rattle.std.proofs.lemmas.Bool.{cases_lt}
+use Rattle.std.proofs.lemmas.List.{length-map}
 use Rattle.wg_params.specs.Parameters.{Parameters}
 use Rattle.wg_grammar.specs.Context.{Known, no_page, depth_of}
 use Rattle.wg_grammar.specs.SoFar.{value_or_0}
@@ -148,3 +149,7 @@ pub found_of : (p : Parameters) (bits : List Bool) (r : Reading p bits) (x : ℕ
 found_of p bits r x lt =
     let there : x < length r.records = omega (arith, lt, all_records p bits r) in
     found_on p bits r.records x (start_at 0 r.records x) there (start_is r.records x) (judged_of p (context_of p (earlier x r.records [])) bits (start_at 0 r.records x) (get_or r.records x no_record) (record_at p bits [] 0 r.records r.behind r.end x r.pages there))
+
+-- a place for each record, and one after the last
+pub offsets_count : (p : Parameters) (bits : List Bool) (r : Reading p bits) (places : List ℕ) → places ≡ 0 ∷ map (λ w. w.end) r.records → length places ≡ p.nodes + 1
+offsets_count p bits r places e = omega (arith, ap (λ (l : List ℕ). length l) e, length-map r.records (λ (w : Whole). w.end), all_records p bits r)

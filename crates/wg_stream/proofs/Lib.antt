@@ -9,3 +9,5 @@ pub mod ReadingLemmas
 pub mod AllRecords
 pub mod AcceptedRecords
 pub mod SweepLemmas
+pub mod SpotOne
+pub mod SpotSome

@@ -6,9 +6,9 @@ use Rattle.wg_builds.specs.Loaded.{JudgesArchive}
 use Rattle.wg_builds.proofs.LoadedLemmas.{judged_by}
 use Rattle.wg_builds.proofs.loaded.judge_archive.Goals as goal
 
-pub returns-in_err-records : goal.returns-in_err-records
-returns-in_err-records g c =
-    let r = c.in_err-records.ensures in
+pub returns-in_err-found : goal.returns-in_err-found
+returns-in_err-found g c =
+    let r = c.in_err-found.ensures in
     subst (JudgesArchive c.args.base.now c.args.params.now c.args.bytes.now g.D.Depot.told _ _ _ _) (sym (is_that_err _ _ c.from_residual.ensures.1)) (record {
       limits = r.limits;
       goes = tt;
@@ -17,6 +17,6 @@ returns-in_err-records g c =
 
 pub returns : goal.returns
 returns g c =
-    let r = c.in_ok-records.ensures in
-    let a : Accepted = record { graph = r.accepted.0; places = c.in_ok-records.records.offsets } in
-    judged_by c.args.base.now c.args.params.now c.args.bytes.now _ _ _ _ _ r.limits a r.accepted.1 c.judge_offsets.result c.judge_offsets.ensures
+    let r = c.in_ok-found.ensures in
+    let a : Accepted = record { graph = r.finds.0; places = c.in_ok-found.found.offsets } in
+    judged_by c.args.base.now c.args.params.now c.args.bytes.now _ _ _ _ _ r.limits a r.finds.1 c.judge_offsets.result c.judge_offsets.ensures

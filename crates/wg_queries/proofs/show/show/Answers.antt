@@ -17,37 +17,37 @@ returns-in_err-bytes g c =
     performs_exit _ _ _ _ _ _ _ c.from_residual-in_err-bytes.ensures.1
     (no_bytes c.args.base.now c.args.pages.now _ _ _ c.in_ok-params.params _ _ c.in_ok-params.ensures _ _ refl c.in_err-bytes.ensures)
 
-pub returns-in_err-records : goal.returns-in_err-records
-returns-in_err-records g c =
-    let r = c.in_err-records.ensures in
-    performs_exit _ _ _ _ _ _ _ c.from_residual-in_err-records.ensures.1
-    (no_records c.args.base.now c.args.pages.now _ _ _ c.in_ok-params.params _ _ c.in_ok-params.ensures _ _ c.in_ok-bytes.bytes c.in_ok-bytes.ensures _ c.as_slice.ensures
+pub returns-in_err-found : goal.returns-in_err-found
+returns-in_err-found g c =
+    let r = c.in_err-found.ensures in
+    performs_exit _ _ _ _ _ _ _ c.from_residual-in_err-found.ensures.1
+    (no_records c.args.base.now c.args.pages.now _ _ _ c.in_ok-params.params _ _ c.in_ok-params.ensures _ _ c.in_ok-bytes.bytes c.in_ok-bytes.ensures _ c.as_slice-graph.ensures
     _ _ _ refl r.only r.refused)
 
 pub returns-in_err-judge_offsets : goal.returns-in_err-judge_offsets
 returns-in_err-judge_offsets g c =
-    let r = c.in_ok-records.ensures in
+    let r = c.in_ok-found.ensures in
     performs_exit _ _ _ _ _ _ _ c.from_residual-in_err-judge_offsets.ensures.1
-    (no_offsets c.args.base.now c.args.pages.now _ _ _ c.in_ok-params.params _ _ c.in_ok-params.ensures _ _ c.in_ok-bytes.bytes c.in_ok-bytes.ensures _ c.as_slice.ensures
-    r.limits (record { graph = r.accepted.0; places = c.in_ok-records.records.offsets }) r.accepted.1 _ _ refl c.in_err-judge_offsets.ensures)
+    (no_offsets c.args.base.now c.args.pages.now _ _ _ c.in_ok-params.params _ _ c.in_ok-params.ensures _ _ c.in_ok-bytes.bytes c.in_ok-bytes.ensures _ c.as_slice-graph.ensures
+    r.limits (record { graph = r.finds.0; places = c.in_ok-found.found.offsets }) r.finds.1 _ _ refl c.in_err-judge_offsets.ensures)
 
 pub returns-in_err-find_pages : goal.returns-in_err-find_pages
 returns-in_err-find_pages g c =
-    let r = c.in_ok-records.ensures in
+    let r = c.in_ok-found.ensures in
     let e = c.in_err-find_pages.ensures in
     performs_exit _ _ _ _ _ _ _ c.from_residual-in_err-find_pages.ensures.1
-    (no_page c.args.base.now c.args.pages.now _ _ _ c.in_ok-params.params _ _ c.in_ok-params.ensures _ _ c.in_ok-bytes.bytes c.in_ok-bytes.ensures _ c.as_slice.ensures
-    r.limits (record { graph = r.accepted.0; places = c.in_ok-records.records.offsets }) r.accepted.1 _ _ c.in_ok-judge_offsets.ensures
-    _ c.as_slice-2.ensures _ _ _ refl e.only e.steps)
+    (no_page c.args.base.now c.args.pages.now _ _ _ c.in_ok-params.params _ _ c.in_ok-params.ensures _ _ c.in_ok-bytes.bytes c.in_ok-bytes.ensures _ c.as_slice-graph.ensures
+    r.limits (record { graph = r.finds.0; places = c.in_ok-found.found.offsets }) r.finds.1 _ _ c.in_ok-judge_offsets.ensures
+    _ c.as_slice.ensures _ _ _ refl e.only e.steps)
 
 pub returns : goal.returns
 returns g c =
     let p : Parameters = c.in_ok-params.params in
-    let read = c.in_ok-records.ensures in
-    let a : Accepted = record { graph = read.accepted.0; places = c.in_ok-records.records.offsets } in
-    let stands : ReadsGraph c.archive.result.params c.archive.result.bits (Ok a) = archive_reads c.archive.result c.in_ok-records.records p (bits_of c.as_slice.result.now) a c.archive.ensures read.params read.bits read.accepted.1 in
-    shows c.args.base.now c.args.pages.now _ _ _ p _ _ c.in_ok-params.ensures _ _ c.in_ok-bytes.bytes c.in_ok-bytes.ensures _ c.as_slice.ensures
-    read.limits a read.accepted.1 _ _ c.in_ok-judge_offsets.ensures
-    _ c.as_slice-2.ensures c.in_ok-find_pages.ensures.steps _ _ c.print_pages.result
-    (λ o. subst (λ (ps : List ℕ). Puts (successors_lines a.graph ps) (g.O.Sink.taken c.args.out.now) (g.O.Sink.taken c.print_pages.new.out) c.print_pages.result) c.as_slice-3.ensures (c.print_pages.ensures.puts o a stands))
+    let read = c.in_ok-found.ensures in
+    let a : Accepted = record { graph = read.finds.0; places = c.in_ok-found.found.offsets } in
+    let stands : ReadsGraph c.archive.result.params c.archive.result.bits (Ok a) = archive_reads c.archive.result c.of_pass-records.result p (bits_of c.as_slice-graph.result.now) a c.archive.ensures c.of_pass-records.ensures.params c.of_pass-records.ensures.bits read.finds.1 in
+    shows c.args.base.now c.args.pages.now _ _ _ p _ _ c.in_ok-params.ensures _ _ c.in_ok-bytes.bytes c.in_ok-bytes.ensures _ c.as_slice-graph.ensures
+    read.limits a read.finds.1 _ _ c.in_ok-judge_offsets.ensures
+    _ c.as_slice.ensures c.in_ok-find_pages.ensures.steps _ _ c.print_pages.result
+    (λ o. subst (λ (ps : List ℕ). Puts (successors_lines a.graph ps) (g.O.Sink.taken c.args.out.now) (g.O.Sink.taken c.print_pages.new.out) c.print_pages.result) c.as_slice-2.ensures (c.print_pages.ensures.puts o a stands))
     c.print_pages.ensures.only c.print_pages.ensures.failed

@@ -6,7 +6,8 @@ use Rattle.wg_graph.specs.Ascending.{Ascends, Below}
 use Rattle.wg_decoder.specs.declared.decoded.Decoded.{Decoded}
 use Rattle.wg_decoder.specs.Remembered.{known_of}
 use Rattle.wg_decoder.specs.Chains.{ChainReads}
-use Rattle.wg_random.proofs.SpotLemmas.{faults_weaker, refers_falls, carried, last_reads, up_one, lent_reads}
+use Rattle.wg_stream.proofs.SpotSome.{refers_falls}
+use Rattle.wg_random.proofs.SpotLemmas.{faults_weaker, carried, last_reads, up_one, lent_reads}
 use Rattle.wg_random.proofs.chain.climb.Goals as goal
 
 pub returns-in_err-known-clause-fault : goal.returns-in_err-known-clause-fault

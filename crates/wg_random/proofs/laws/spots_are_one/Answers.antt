@@ -1,5 +1,5 @@
-use Rattle.wg_random.proofs.SpotOne.{chain_one}
-use Rattle.wg_random.proofs.SpotSome.{page_some}
+use Rattle.wg_stream.proofs.SpotOne.{chain_one}
+use Rattle.wg_stream.proofs.SpotSome.{page_some}
 use Rattle.wg_random.proofs.laws.spots_are_one.Goals as goal
 
 pub returns-clause-one : goal.returns-clause-one

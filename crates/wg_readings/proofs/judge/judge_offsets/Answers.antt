@@ -5,7 +5,6 @@ use Rattle.std.proofs.Math.Seq.{take-suc}
 use Rattle.std.proofs.lemmas.List.{take_all}
 use Rattle.wg_io.specs.declared.suffixes.TheConstants.{OFFSETS}
 use Rattle.wg_io.proofs.FilesLemmas.{none_falls-trans}
-use Rattle.wg_params.specs.Parameters.{Parameters}
 use Rattle.wg_outcomes.specs.Answers.{Steps}
 use Rattle.wg_readings.specs.Loading.{lengths_then}
 use Rattle.wg_outcomes.specs.Names.{file_of}
@@ -21,11 +20,11 @@ taken l j lt = let next : suc (j + 1) ≡ j + 1 + 1 = omega arith in sym (take-s
 pub loop-page-init : goal.loop-page-init
 loop-page-init g c =
     let files = g.D.Depot.files c.args.depot.now in
-    let found : List ℕ = c.args.records.now.offsets in
+    let found : List ℕ = c.args.offsets.now in
     let named = c.in_ok-pairing.ensures.name in
     let b = c.begin_pairing-so_far.ensures in
-    let first = c.offset.ensures.places.first in
-    let some : 0 < length found = omega (arith, c.offset.ensures.count) in
+    let first = c.len.ensures.places.first in
+    let some : 0 < length found = omega (arith, c.requires) in
     record {
       name = b.name ∙ named;
       same = b.same;
@@ -45,21 +44,21 @@ pair_next-so_far-requires-clause-more g c = ready_more _ _ _ _ _ _ _ _ _ _ (omeg
 
 pub pair_next-so_far-requires-clause-here : goal.pair_next-so_far-requires-clause-here
 pair_next-so_far-requires-clause-here g c =
-    let o = c.offset-here.ensures in
+    let o = c.place-here.ensures in
     let page = c.loop-page.page in
-    let within : page + 1 < length c.args.records.now.offsets = omega (arith, o.count, ap (λ (q : Parameters). q.nodes) c.requires, c.loop-page-test.true, c.nodes-page-end.ensures.value) in
-    ready_here _ _ _ _ _ _ _ _ _ _ _ (omega (arith, o.value, o.places.never_fall page (page + 1) 0 (omega arith) within)) c.loop-page.invariant.come
+    let within : page + 1 < length c.args.offsets.now = omega (arith, c.requires, c.loop-page-test.true, c.nodes-page-end.ensures.value) in
+    ready_here _ _ _ _ _ _ _ _ _ _ _ (omega (arith, o.value, c.len.ensures.places.never_fall page (page + 1) 0 (omega arith) within)) c.loop-page.invariant.come
 
 pub loop-page-preserved : goal.loop-page-preserved
 loop-page-preserved g c =
     let files = g.D.Depot.files c.args.depot.now in
-    let found : List ℕ = c.args.records.now.offsets in
+    let found : List ℕ = c.args.offsets.now in
     let name = c.args.base.now ++ OFFSETS.now in
     let page = c.loop-page.page in
     let h = c.loop-page.invariant in
-    let o = c.offset-here.ensures in
+    let o = c.place-here.ensures in
     let s = c.pair_next-so_far.ensures in
-    let within : page + 1 < length found = omega (arith, o.count, ap (λ (q : Parameters). q.nodes) c.requires, c.loop-page-test.true, c.nodes-page-end.ensures.value) in
+    let within : page + 1 < length found = omega (arith, c.requires, c.loop-page-test.true, c.nodes-page-end.ensures.value) in
     record {
       name = s.name ∙ h.name;
       same = s.same ∙ h.same;
@@ -81,20 +80,20 @@ end_pairing-requires-clause-done g c =
 
 pub returns-in_err-pairing : goal.returns-in_err-pairing
 returns-in_err-pairing g c =
-    offsets_exit _ _ _ _ _ _ _ _ _ _ c.from_residual.ensures.1 (offsets_unread _ _ _ _ _ _ c.in_err-pairing.ensures.only c.args.records.now.offsets)
+    offsets_exit _ _ _ _ _ _ _ _ _ _ c.from_residual.ensures.1 (offsets_unread _ _ _ _ _ _ c.in_err-pairing.ensures.only c.args.offsets.now)
 
 pub returns : goal.returns
 returns g c =
     let files = g.D.Depot.files c.args.depot.now in
     let base = c.args.base.now in
     let p = c.args.params.now in
-    let found : List ℕ = c.args.records.now.offsets in
+    let found : List ℕ = c.args.offsets.now in
     let name = base ++ OFFSETS.now in
     let page = c.loop-page.page in
     let h = c.loop-page.invariant in
     let s = c.end_pairing.ensures in
     let all : length found ≤ page + 1 =
-    omega (arith, c.offset.ensures.count, ap (λ (q : Parameters). q.nodes) c.requires, c.loop-page-test.false, c.nodes-page-end.ensures.value, c.loop-page.auto.page-end)
+    omega (arith, c.requires, c.loop-page-test.false, c.nodes-page-end.ensures.value, c.loop-page.auto.page-end)
     in
     let e = s.ends files h.same _ h.later name h.name _ _ h.come (λ t file is. (take (page + 1) found, h.reads t file is)) in
     offsets_judged base p found _ files _ _ _ c.end_pairing.result e.only (e.causes (file_of base) refl)

@@ -8,7 +8,7 @@ use Rattle.wg_readings.proofs.judge.judge_offsets.Given as goal
 
 -- the words of the offsets file, as far as they were read, are those beside the records so far
 abbrev pub invariant-loop-page : goal.invariant-loop-page
-invariant-loop-page g l = let d = g.D.Depot in let stored = l.fn.base ++ OFFSETS.now in let found = l.fn.records.offsets in record {
+invariant-loop-page g l = let d = g.D.Depot in let stored = l.fn.base ++ OFFSETS.now in let found = l.fn.offsets in record {
   name : l.pairing.name ≡ stored;
   same : d.files l.depot ≡ d.files l.fn.depot;
   later : NonDecreasing (d.counts l.fn.depot) (d.counts l.depot);

@@ -1,8 +1,8 @@
 use Rattle.std.proofs.Common.{List, Bool, ap, ◌∙◌, arith}
 use Rattle.wg_bits.specs.Bits.{bits_of}
 use Rattle.wg_stream.proofs.AcceptedRecords.{read_of}
-use Rattle.wg_random.proofs.Readings.{offset_is, offsets_count}
-use Rattle.wg_stream.proofs.AllRecords.{offset_within}
+use Rattle.wg_random.proofs.Readings.{offset_is}
+use Rattle.wg_stream.proofs.AllRecords.{offset_within, offsets_count}
 use Rattle.wg_random.proofs.ArchiveLemmas.{cursor_is, same_nodes}
 use Rattle.wg_random.proofs.archive.Archive.cursor.Goals as goal
 

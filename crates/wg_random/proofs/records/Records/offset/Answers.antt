@@ -2,7 +2,7 @@ use Rattle.std.proofs.Common.{length, ap, subst, arith}
 use Rattle.wg_bits.specs.Bits.{bits_of}
 use Rattle.wg_random.specs.Held.{Held, StandsForGraph}
 use Rattle.wg_stream.proofs.AcceptedRecords.{read_of}
-use Rattle.wg_random.proofs.Readings.{offsets_count}
+use Rattle.wg_stream.proofs.AllRecords.{offsets_count}
 use Rattle.wg_random.proofs.records.Records.offset.Goals as goal
 
 pub place-requires : goal.place-requires

@@ -3,10 +3,9 @@ ghost use Rattle.std.specs.Prelude.{◌≡◌, ◌<◌, ◌≤◌, ◌+◌, IfEr
 ghost use Rattle.wg_io.specs.declared.limits.TheConstants.{MOST_BYTES};
 ghost use Rattle.wg_outcomes.specs.Answers.{Steps};
 ghost use Rattle.wg_outcomes.specs.Judged.{with_successors};
-ghost use Rattle.wg_readings.specs.Loading.{IsBadPage};
 ghost use Rattle.wg_outcomes.specs.Readings.{Readings};
+ghost use Rattle.wg_queries.specs.Showing.{IsBadPage};
 
-use crate::archive::bad_archive;
 use std::alloc::Global;
 use std::marker::Brand;
 use std::sync::ledger::{Blank, Ledger};
@@ -58,7 +57,10 @@ fn counted<L: Ledger>(
     match spot(alloc, bytes, offsets, params, page, &mut ticks) {
         Ok(list) => Ok(list),
         Err(SpotError::NoPage) => Err(Ending::of(Status::NoPage(page))),
-        Err(SpotError::Archive(fault)) => Err(bad_archive(fault, params)),
+        Err(SpotError::Archive(fault)) => Err(Ending {
+            status: Status::BadArchive(fault),
+            promised: params.arcs(),
+        }),
         Err(SpotError::Memory) => Err(Ending::of(Status::Memory)),
     }
 }

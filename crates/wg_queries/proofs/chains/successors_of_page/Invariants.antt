@@ -1,4 +1,4 @@
-use Rattle.wg_readings.proofs.chains.successors_of_page.Given as goal
+use Rattle.wg_queries.proofs.chains.successors_of_page.Given as goal
 
 -- the ledger of the records that are read
 abbrev pub ghosts-counted : goal.ghosts-counted

@@ -19,13 +19,24 @@ use Rattle.wg_grammar.specs.Record.{Whole, ReadsRecord}
 use Rattle.wg_grammar.specs.Refusal.{refusal, judged}
 use Rattle.wg_grammar.specs.SoFar.{nothing_yet, after}
 use Rattle.wg_grammar.proofs.SomeRecord.{record_some}
-use Rattle.wg_decoder.specs.Apart.{page_over, RefersNext, OutdegreeStands, HeadStands, HeadFails}
+use Rattle.wg_decoder.specs.Apart.{page_over, RefersNext, OutdegreeStands, ReferenceStands, HeadStands, HeadFails}
 use Rattle.wg_decoder.specs.Head.{of_outdegree}
 use Rattle.wg_decoder.proofs.HeadLemmas.{reference_due}
-use Rattle.wg_decoder.proofs.ApartLemmas.{no_reference_stands}
-use Rattle.wg_decoder.specs.Chains.{endless, start_of, HeadReads, RecordReads, OverReads, SpotReads}
-use Rattle.wg_random.proofs.SpotLemmas.{refers_falls}
-use Rattle.wg_random.proofs.SpotOne.{outdegree_coded, reference_coded, endless_limits}
+use Rattle.wg_decoder.proofs.ApartLemmas.{no_reference_stands, reference_near}
+use Rattle.wg_decoder.specs.Chains.{endless, start_of, HeadReads, RecordReads, RefersTo, OverReads, SpotReads}
+use Rattle.wg_stream.proofs.SpotOne.{outdegree_coded, reference_coded, endless_limits}
+
+-- ---- a reference leads to a lower page
+
+near_of : (p : Parameters) (c : Context) (bits : List Bool) (d at r end : ℕ) → 0 < r → ReferenceStands p c bits d at r end → r ≤ c.page
+near_of p c bits d at r end some (inl h) = omega (arith, reference_near p c (of_outdegree d) r h.1.2)
+near_of p c bits d at r end some (inr h) = absurd (omega (arith, some, h.1))
+
+pub refers_falls : (p : Parameters) (bits : List Bool) (offsets : List ℕ) (y z : ℕ) → RefersTo p bits offsets y z → z < y
+refers_falls p bits offsets y z h =
+    let s = h.2.2 in
+    let near : h.0 ≤ y = near_of (endless p) (page_over p y no_page) bits h.2.0 s.0 h.0 h.2.1 h.1 s.2 in
+    omega (arith, h.1, near, h.3)
 
 -- ---- the head of a record, with these parameters and in this context
 
