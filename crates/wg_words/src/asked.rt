@@ -246,7 +246,8 @@ fn rank_from(
     weights: Option<&str>,
     certificate: Option<&str>,
 ) -> Result<Job, JobError>
-    ensures { IsAsked (rank_from (rows_of (found_of found.now)) base.now (option_map (λ s. s.now) weights.entry) (option_map (λ s. s.now) certificate.entry)) result }
+    ensures { IsAsked (rank_from (rows_of (found_of found.now)) base.now
+        (option_map (λ s. s.now) weights.entry) (option_map (λ s. s.now) certificate.entry)) result }
 {
     let Some(rounds) = number_at(found, "rounds", DEFAULT_ROUNDS, MOST_ROUNDS) else {
         return Err(JobError::Usage);
