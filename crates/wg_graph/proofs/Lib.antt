@@ -2,6 +2,7 @@ pub mod Sets
 pub mod Copies
 pub mod Merged
 pub mod Unions
+pub mod Merges
 pub mod NumberByNumber
 pub mod Counts
 pub mod Ends

@@ -71,13 +71,13 @@ pub joined_none : (members : List ℕ) → Ascends 0 members → Joined members 
 joined_none members up = record { joined = refl; below = tt; ahead = up; behind = λ y low. refl }
 
 -- no number comes any more, and the rest of the members follows
-rest_follows : (members numbers xs out : List ℕ) (m n : ℕ) → Merging members numbers xs [] out m → m ≤ n → Below n xs → out ++ xs ≡ numbers_where (is_in_either members numbers) 0 n
+pub rest_follows : (members numbers xs out : List ℕ) (m n : ℕ) → Merging members numbers xs [] out m → m ≤ n → Below n xs → out ++ xs ≡ numbers_where (is_in_either members numbers) 0 n
 rest_follows members numbers [] out m n h le low =
     append-nil out ∙ h.out_is ∙ grow_end (is_in_either members numbers) m n le (λ y from to. rw (h.rest_a y from, h.rest_b y from) refl)
 rest_follows members numbers (x ∷ xs) out m n h le low =
     sym (append_assoc out (x ∷ []) xs) ∙ rest_follows members numbers xs (out ++ x ∷ []) (suc x) n (take_a members numbers xs [] out m x h tt) low.0 low.1
 
-below_drop : (n i : ℕ) (xs : List ℕ) → Below n xs → Below n (drop i xs)
+pub below_drop : (n i : ℕ) (xs : List ℕ) → Below n xs → Below n (drop i xs)
 below_drop n zero xs low = low
 below_drop n (suc i) [] low = tt
 below_drop n (suc i) (x ∷ xs) low = below_drop n i xs low.1

@@ -1,20 +1,9 @@
 //! A number joined to an ascending list.
-ghost use Rattle.std.specs.Prelude.{◌≡◌, ◌↔◌, ℕ, suc, ◌<◌, ◌≤◌, List as ListOf, [], ◌∷◌, ◌++◌, length, get_or, IfOk, IsTrue};
+ghost use Rattle.std.specs.Prelude.{ℕ, suc, ◌≤◌, List as ListOf, [], ◌∷◌, ◌++◌, length, IfOk};
 ghost use Rattle.wg_graph.specs.Joined.{Joined};
 
 use crate::List;
 use std::alloc::AllocError;
-
-// Whether the member with this index is the number.
-#[inline(always)]
-fn stands_at(members: &[u64], index: usize, number: u64) -> bool
-    ensures { IsTrue result ↔ ((index < length members.now) × (get_or members.now index 0 ≡ number)) }
-{
-    match members.get(index) {
-        Some(member) => *member == number,
-        None => false,
-    }
-}
 
 /// Adds to `out` the members from index `from` on that are below the number, and the number; answers how many members
 /// are not above it. So numbers that come one after the other, ascending, are joined to an ascending list; the members
@@ -27,14 +16,5 @@ pub fn join(out: &mut List, members: &[u64], from: usize, number: u64) -> Result
         → Joined members.now numbers from out.old m
         → Joined members.now (numbers ++ number ∷ []) to out.new (suc number)) }
 {
-    let mut taken = from;
-    'below: while taken < members.len() && members[taken] < number {
-        out.push(members[taken])?;
-        taken += 1;
-    }
-    out.push(number)?;
-    if stands_at(members, taken, number) {
-        return Ok(taken + 1);
-    }
-    Ok(taken)
+    out.join(members, from, number)
 }

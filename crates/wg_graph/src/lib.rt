@@ -22,11 +22,11 @@
 //!
 //! [`List`] holds numbers in order, as the successors of one page; a [`Row`] does so in memory that is taken once, and
 //! never wants more. The numbers of a row may wait at the end of its memory, so that others are joined to them where
-//! they stand. [`join`] joins to an ascending list the numbers of another that come one after the other. [`Members`]
-//! tells of one number after the other whether it stands in an ascending list, and gives the members below a number
-//! one by one. The definitions say what a graph is, which lists ascend, which ascending list a set of numbers has, and
-//! which members of a referenced list its copy blocks copy; the lemmas on them serve every crate that copies, joins or
-//! writes lists.
+//! they stand. [`join`] joins to an ascending list the numbers of another that come one after the other, and
+//! [`List::put_union`] merges two ascending lists. [`Members`] tells of one number after the other whether it stands in
+//! an ascending list, and gives the members below a number one by one. The definitions say what a graph is, which lists
+//! ascend, which ascending list a set of numbers has, and which members of a referenced list its copy blocks copy; the
+//! lemmas on them serve every crate that copies, joins or writes lists.
 //!
 //! A graph holds 8 bytes for each arc and 8 for each page, and lends any list in constant time. Building it takes time
 //! in proportion to its arcs and pages. Memory is taken as the arcs come, and never by the number of pages that is
@@ -40,6 +40,7 @@ mod joining;
 mod list;
 mod lists;
 mod members;
+mod merging;
 mod pieces;
 mod row;
 

@@ -1,20 +1,60 @@
-ghost use Rattle.std.specs.Prelude.{◌≡◌, ◌≤◌, [], ◌∷◌, ◌++◌, length, IfOk, OnOk, OnErr};
+ghost use Rattle.std.specs.Prelude.{◌≡◌, ℕ, suc, ◌+◌, ◌^◌, ◌≤◌, List as ListOf, [], ◌∷◌, ◌++◌, length, take, IfOk, OnOk, OnErr};
+ghost use Rattle.std.specs.List.{range_with_len};
+ghost use Rattle.wg_graph.specs.Ascending.{Ascends, Below};
+ghost use Rattle.wg_graph.specs.Numbers.{is_in_either, numbers_where};
+ghost use Rattle.wg_graph.specs.Joined.{Joined};
 
+use crate::merging::{write_joined, write_union};
+use crate::pieces::{PIECE, copy, write_run};
 use std::alloc::{AllocError, Global};
 use std::marker::Model;
 
 /// Numbers in order: 8 bytes each.
+///
+/// What stands behind them in their memory has no meaning, and is there to be written over. So one test of the room
+/// serves for many numbers.
 #[derive(Clone, Debug, Drop)]
 pub struct List {
+    // the numbers are the first `len`
     numbers: Vec<u64>,
+    len: usize,
 }
 
 impl Model for List {
-    ghost use Rattle.std.specs.Prelude.{List as Numbers, ℕ};
+    ghost use Rattle.std.specs.Prelude.{List as Numbers, ℕ, ◌≤◌, length, take};
 
     ghost Value = { Numbers ℕ };
 
-    ghost view = { λ a. a.numbers.items };
+    ghost view = { λ a. take a.len a.numbers.items };
+
+    ghost invariant = { λ a. a.len ≤ length a.numbers.items };
+}
+
+// Makes room for so many numbers behind the first `len`, and for twice as many as there was.
+#[cold]
+#[inline(never)]
+fn make_room(numbers: &mut Vec<u64>, len: usize, room: usize) -> Result<(), AllocError>
+    requires { len ≤ length numbers.old.items }
+    ensures room { OnOk result (len + room ≤ length numbers.new.items) }
+    ensures kept { take len numbers.new.items ≡ take len numbers.old.items }
+    ensures within { len ≤ length numbers.new.items }
+{
+    let least = len.checked_add(room).ok_or(AllocError)?;
+    numbers.resize(least.max(numbers.len().saturating_mul(2)), 0)
+}
+
+// Has room for so many numbers behind the first `len`.
+#[inline(always)]
+fn have_room(numbers: &mut Vec<u64>, len: usize, room: usize) -> Result<(), AllocError>
+    requires { len ≤ length numbers.old.items }
+    ensures room { OnOk result (len + room ≤ length numbers.new.items) }
+    ensures kept { take len numbers.new.items ≡ take len numbers.old.items }
+    ensures within { len ≤ length numbers.new.items }
+{
+    if numbers.len() - len < room {
+        make_room(numbers, len, room)?;
+    }
+    Ok(())
 }
 
 impl List {
@@ -24,6 +64,7 @@ impl List {
     {
         List {
             numbers: Vec::new(alloc),
+            len: 0,
         }
     }
 
@@ -31,30 +72,32 @@ impl List {
     pub fn with_room(alloc: Global, room: usize) -> Result<List, AllocError>
         ensures { IfOk result (λ list. list ≡ []) }
     {
-        Ok(List {
-            numbers: Vec::with_capacity(alloc, room)?,
-        })
+        let mut numbers = Vec::with_capacity(alloc, room)?;
+        numbers.resize(room, 0)?;
+        Ok(List { numbers, len: 0 })
     }
 
     /// For how many numbers it has memory.
     pub fn room(&self) -> usize
         ensures { length self.now ≤ result }
     {
-        self.numbers.capacity()
+        self.numbers.len()
     }
 
-    /// Makes room for so many numbers more, and for others where it is made anew.
+    /// Makes room for so many numbers more and a few besides, and for others where it is made anew.
+    #[inline(always)]
     pub fn reserve(&mut self, room: usize) -> Result<(), AllocError>
         ensures { self.new ≡ self.old }
     {
-        self.numbers.reserve(room)
+        have_room(&mut self.numbers, self.len, room.saturating_add(PIECE))
     }
 
     /// Drops all numbers, and keeps the memory for others.
+    #[inline(always)]
     pub fn clear(&mut self)
         ensures { self.new ≡ [] }
     {
-        self.numbers.clear();
+        self.len = 0;
     }
 
     /// Adds a number at the end, in constant time on average.
@@ -63,17 +106,84 @@ impl List {
         ensures ok { OnOk result (self.new ≡ self.old ++ number ∷ []) }
         ensures err { OnErr result (self.new ≡ self.old) }
     {
-        self.numbers.push(number)?;
+        have_room(&mut self.numbers, self.len, 1)?;
+        self.numbers[self.len] = number;
+        self.len += 1;
         Ok(())
     }
 
     /// Adds numbers at the end, in their order, in time in proportion to them on average.
+    #[inline(always)]
     pub fn extend(&mut self, numbers: &[u64]) -> Result<(), AllocError>
         ensures ok { OnOk result (self.new ≡ self.old ++ numbers.now) }
         ensures err { OnErr result (self.new ≡ self.old) }
     {
-        self.numbers.extend_from_slice(numbers)?;
+        have_room(&mut self.numbers, self.len, numbers.len())?;
+        let end = self.len + numbers.len();
+        self.numbers[self.len..end].copy_from_slice(numbers);
+        self.len = end;
         Ok(())
+    }
+
+    /// Adds the first of these numbers, so many, at the end: eight at a time, where there are eight.
+    #[inline(always)]
+    pub fn extend_first(&mut self, numbers: &[u64], count: usize) -> Result<(), AllocError>
+        requires { count ≤ length numbers.now }
+        ensures ok { OnOk result (self.new ≡ self.old ++ take count numbers.now) }
+        ensures err { OnErr result (self.new ≡ self.old) }
+    {
+        have_room(&mut self.numbers, self.len, count + PIECE)?;
+        copy(&mut self.numbers, self.len, numbers, count);
+        self.len += count;
+        Ok(())
+    }
+
+    /// Adds so many numbers that follow one another at the end, eight at a time.
+    #[inline(always)]
+    pub fn extend_run(&mut self, first: u64, count: u64) -> Result<(), AllocError>
+        requires { first + count ≤ 2 ^ 63 }
+        ensures ok { OnOk result (self.new ≡ self.old ++ range_with_len first count) }
+        ensures err { OnErr result (self.new ≡ self.old) }
+    {
+        let count = count as usize;
+        have_room(&mut self.numbers, self.len, count + PIECE)?;
+        write_run(&mut self.numbers, self.len, first, count);
+        self.len += count;
+        Ok(())
+    }
+
+    /// Puts the numbers of two ascending lists in place of its own: ascending, a number of both once.
+    #[inline(always)]
+    pub fn put_union(&mut self, members: &[u64], numbers: &[u64]) -> Result<(), AllocError>
+        requires members { Ascends 0 members.now }
+        requires numbers { Ascends 0 numbers.now }
+        ensures { OnOk result ((n : ℕ) → Below n members.now → Below n numbers.now
+            → self.new ≡ numbers_where (is_in_either members.now numbers.now) 0 n) }
+    {
+        self.len = 0;
+        have_room(&mut self.numbers, 0, members.len() + numbers.len())?;
+        self.len = write_union(&mut self.numbers, members, numbers);
+        Ok(())
+    }
+
+    // As `crate::join`.
+    #[inline(always)]
+    pub(crate) fn join(
+        &mut self,
+        members: &[u64],
+        from: usize,
+        number: u64,
+    ) -> Result<usize, AllocError>
+        requires { from ≤ length members.now }
+        ensures within { IfOk result (λ to. to ≤ length members.now) }
+        ensures joined { IfOk result (λ to. (numbers : ListOf ℕ) (m : ℕ) → m ≤ number
+            → Joined members.now numbers from self.old m
+            → Joined members.now (numbers ++ number ∷ []) to self.new (suc number)) }
+    {
+        have_room(&mut self.numbers, self.len, members.len() - from + 1)?;
+        let (end, taken) = write_joined(&mut self.numbers, self.len, members, from, number);
+        self.len = end;
+        Ok(taken)
     }
 
     /// The numbers.
@@ -81,6 +191,6 @@ impl List {
     pub fn as_slice(&self) -> &[u64]
         ensures { result.now ≡ self.now }
     {
-        self.numbers.as_slice()
+        &self.numbers[..self.len]
     }
 }
