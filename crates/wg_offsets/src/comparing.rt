@@ -29,26 +29,15 @@ impl Model for Comparison {
     ghost invariant = { λ c. c.page ≤ MOST_PAGES };
 }
 
-// The first mismatch, after this page too.
-fn first_of(
-    before: Option<(u64, u64, u64)>,
-    page: u64,
-    here: u64,
-    there: u64,
-) -> Option<(u64, u64, u64)>
-    ensures none { IfNone result ((before ≡ None) × (here ≡ there)) }
-    ensures some { IfSome result (λ m. (before ≡ Some m)
-        ⊎ ((before ≡ None) × (m ≡ (page, here, there)) × (here ≢ there))) }
+// Keeps the first mismatch, after this page too.
+#[inline(always)]
+fn keep_first(mismatch: &mut Option<(u64, u64, u64)>, page: u64, here: u64, there: u64)
+    ensures none { IfNone mismatch.new ((mismatch.old ≡ None) × (here ≡ there)) }
+    ensures some { IfSome mismatch.new (λ m. (mismatch.old ≡ Some m)
+        ⊎ ((mismatch.old ≡ None) × (m ≡ (page, here, there)) × (here ≢ there))) }
 {
-    match before {
-        Some(mismatch) => Some(mismatch),
-        None => {
-            if here == there {
-                None
-            } else {
-                Some((page, here, there))
-            }
-        }
+    if here != there && mismatch.is_none() {
+        *mismatch = Some((page, here, there));
     }
 }
 
@@ -67,6 +56,7 @@ impl Comparison {
     }
 
     /// Goes on to the offsets after one record more.
+    #[inline(always)]
     pub fn push(&mut self, here: u64, there: u64)
         requires more { self.old.page < MOST_PAGES }
         requires here { self.old.here ≤ here }
@@ -77,8 +67,8 @@ impl Comparison {
         ensures compared { (p q : List ℕ) → AreCompared self.old p q
             → AreCompared self.new (p ++ here ∷ []) (q ++ there ∷ []) }
     {
-        self.mismatch = first_of(
-            self.mismatch,
+        keep_first(
+            &mut self.mismatch,
             self.page,
             here - self.here,
             there - self.there,

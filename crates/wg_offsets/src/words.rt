@@ -41,8 +41,24 @@ impl Model for Words {
     ghost invariant = { λ w. IsCode w.code × (w.pages ≤ MOST_PAGES) × (w.count ≤ w.pages + 1) × (w.offset ≤ MOST_PLACE) };
 }
 
-// The offset that a word leads to from another, if so many words stand before it.
+// The offset that a word leads to from another, if so many words stand before it. Of a file that is in order, all words
+// but the first are told here.
+#[inline(always)]
 fn lead(count: u64, offset: u64, read: Read) -> Result<u64, OffsetWord>
+    requires { offset ≤ MOST_PLACE }
+    ensures leads { IfOk result (λ next. LeadsBy count offset read next) }
+    ensures refused { IfErr result (λ e. refusal count offset read ≡ Some e) }
+{
+    match read {
+        Read::Value(value) if count > 0 && value <= MOST_PLACE - offset => Ok(offset + value),
+        _ => lead_seldom(count, offset, read),
+    }
+}
+
+// The same of any word.
+#[cold]
+#[inline(never)]
+fn lead_seldom(count: u64, offset: u64, read: Read) -> Result<u64, OffsetWord>
     requires { offset ≤ MOST_PLACE }
     ensures leads { IfOk result (λ next. LeadsBy count offset read next) }
     ensures refused { IfErr result (λ e. refusal count offset read ≡ Some e) }
@@ -80,6 +96,7 @@ impl Words {
 
     /// Reads the word that comes next, and answers the offset that it leads to. If it is refused, it stays before this
     /// word.
+    #[inline(always)]
     pub fn next<S: Source>(&mut self, source: &mut S) -> Result<u64, WordError<S::Refusal>>
         requires more { self.old.count ≤ self.old.pages }
         ensures code { self.new.code ≡ self.old.code }

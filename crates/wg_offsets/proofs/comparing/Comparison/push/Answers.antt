@@ -8,9 +8,9 @@ use Rattle.wg_offsets.proofs.comparing.Comparison.push.Goals as goal
 pub returns-clause-compared : goal.returns-clause-compared
 returns-clause-compared c = λ p q h.
     let i = c.self.inside in
-    let n = c.first_of-self-inside.result in
+    let n = c.keep_first.new.mismatch in
     let a = subst (λ (x : Compared). AreCompared x p q) (sym c.self.view_is) h in
-    let f = c.first_of-self-inside.ensures in
+    let f = c.keep_first.ensures in
     let none = subst (λ (k : ℕ). IfNone n ((i.mismatch ≡ None) × (c.args.here - k ≡ c.args.there - last_place q))) (sym a.end_here)
     (subst (λ (k : ℕ). IfNone n ((i.mismatch ≡ None) × (c.args.here - i.here ≡ c.args.there - k))) (sym a.end_there) f.none) in
     let some = subst (λ (k : ℕ). IfSome n (λ x. (i.mismatch ≡ Some x) ⊎ ((i.mismatch ≡ None) × (x ≡ (i.page, c.args.here - k, c.args.there - last_place q)) × (c.args.here - k ≢ c.args.there - last_place q)))) (sym a.end_here)
