@@ -1,0 +1,18 @@
+use Rattle.std.proofs.Common.{arith}
+use Rattle.wg_num.proofs.Places.{at_front, front_is, rest_is}
+use Rattle.wg_num.proofs.decimal.decimal_into.Goals as goal
+
+pub write_digits-requires : goal.write_digits-requires
+write_digits-requires c = let d = c.digit_count-count.ensures in (omega (arith, d.digits), omega (arith, d.within, c.fits-buf))
+
+pub returns-clause-digits : goal.returns-clause-digits
+returns-clause-digits c =
+    let d = c.digit_count-count.ensures.digits in
+    let w = c.write_digits.ensures in
+    front_is _ _ _ _ d (at_front _ _ _ _ _ w.start d w.written)
+
+pub returns-clause-rest : goal.returns-clause-rest
+returns-clause-rest c =
+    let d = c.digit_count-count.ensures.digits in
+    let w = c.write_digits.ensures in
+    rest_is _ _ _ _ d (at_front _ _ _ _ _ w.start d w.written)
