@@ -9,7 +9,8 @@ use crate::copying::copied;
 use crate::heads::Head;
 use crate::intervals::intervals;
 use crate::residuals::with_residuals;
-use crate::spares::Spares;
+use crate::room::first_room;
+use crate::spares::{Spares, lend};
 use crate::uniting::union;
 use wg_grammar::Source;
 use wg_graph::List;
@@ -43,8 +44,8 @@ pub fn members<S: Source>(
     ensures below { IfOk result (λ list. Below params.now.nodes list) }
     ensures few { IfOk result (λ list. length list ≤ head.outdegree) }
 {
-    let copied = copied(
-        spares,
+    copied(
+        &mut spares.copied,
         params,
         page,
         head.outdegree,
@@ -52,9 +53,18 @@ pub fn members<S: Source>(
         named,
         source,
     )?;
-    let extra = head.outdegree - copied.as_slice().len() as u64;
-    let inside = intervals(spares, params, page, extra, source)?;
-    let missing = extra - inside.as_slice().len() as u64;
-    let others = union(spares, copied, inside)?;
-    with_residuals(spares, params, page, missing, others, source)
+    let members = spares.copied.as_slice();
+    let extra = head.outdegree - members.len() as u64;
+    intervals(&mut spares.inside, params, page, extra, source)?;
+    let inside = spares.inside.as_slice();
+    let missing = extra - inside.len() as u64;
+    let others = union(&mut spares.united, members, inside)?;
+    let room = others.len() + first_room(missing);
+    let list = lend(
+        &mut spares.furthest,
+        spares.alloc,
+        head.outdegree as usize,
+        room,
+    )?;
+    with_residuals(list, params, page, missing, others, source)
 }

@@ -8,6 +8,7 @@ ghost use Rattle.wg_decoder.specs.Remembered.{known_of, Serves};
 
 use crate::heads::{Head, depth_at, list_at, read_head};
 use crate::members::members;
+use crate::spares::lend;
 use crate::{DecodeError, Decoded, Spares, Unread, Window};
 use std::alloc::Global;
 use std::convert::Infallible;
@@ -45,8 +46,9 @@ pub(crate) fn decode_members<S: Source>(
     ensures few { IfOk result (λ d. length d.list ≤ head.outdegree) }
 {
     if head.outdegree == 0 {
+        let empty = lend(&mut spares.furthest, spares.alloc, 0, 0)?;
         return Ok(Decoded {
-            list: spares.nothing(),
+            list: empty,
             depth: 0,
         });
     }

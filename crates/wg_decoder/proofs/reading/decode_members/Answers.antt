@@ -9,12 +9,12 @@ pub returns-then-head-eq0-clause-reads : goal.returns-then-head-eq0-clause-reads
 returns-then-head-eq0-clause-reads g c = λ bits r arcs behind named deep stands.
     let here = context_at c.args.page arcs behind in
     let none : c.args.head.outdegree ≡ 0 = omega arith in
-    rw c.nothing.ensures (empty_reads c.args.params.now here bits c.args.start c.args.head.outdegree (g.S.Source.offset c.args.source.now) none (stands.none none))
+    rw c.in_ok-empty.ensures (empty_reads c.args.params.now here bits c.args.start c.args.head.outdegree (g.S.Source.offset c.args.source.now) none (stands.none none))
 
 pub returns-in_err-list-clause-fault : goal.returns-in_err-list-clause-fault
 returns-in_err-list-clause-fault g c = λ bits r.
     let some : 0 < c.args.head.outdegree = omega arith in
-    let p = err_from_is_err_and c.from_residual.result c.from_residual.ensures.1 in
+    let p = err_from_is_err_and c.from_residual-in_err-list.result c.from_residual-in_err-list.ensures.1 in
     rw (p.1, p.2) (fault_weaker c.in_err-list.field-0.0 _ _
     (λ e not_so arcs behind named deep stands. not_so arcs c.args.start behind named (stands.some some))
     (c.in_err-list.ensures.fault bits r))
@@ -41,7 +41,7 @@ pub returns-in_err-list-clause-later : goal.returns-in_err-list-clause-later
 returns-in_err-list-clause-later g c = c.in_err-list.ensures.later
 
 pub returns-in_err-list-clause-refused : goal.returns-in_err-list-clause-refused
-returns-in_err-list-clause-refused g c = let p = err_from_is_err_and c.from_residual.result c.from_residual.ensures.1 in rw (p.1, p.2) c.in_err-list.ensures.refused
+returns-in_err-list-clause-refused g c = let p = err_from_is_err_and c.from_residual-in_err-list.result c.from_residual-in_err-list.ensures.1 in rw (p.1, p.2) c.in_err-list.ensures.refused
 
 pub returns-then-as_slice-head-clause-later : goal.returns-then-as_slice-head-clause-later
 returns-then-as_slice-head-clause-later g c = c.in_ok-list.ensures.later
