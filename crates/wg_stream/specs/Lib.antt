@@ -1,5 +1,6 @@
 pub mod Errors
 pub mod Prefix
+pub mod Nearest
 pub mod Held
 pub mod Stepping
 pub mod StepLaws

@@ -7,6 +7,7 @@ ghost use Rattle.wg_grammar.specs.Archive.{lists_of, places_of, ReadsGraph};
 ghost use Rattle.wg_decoder.specs.Remembered.{known_of};
 ghost use Rattle.wg_decoder.specs.declared.spares.TheConstants.{MOST_SPARES};
 ghost use Rattle.wg_stream.specs.Errors.{OnFault, OnRefusal, IsOfGraph};
+ghost use Rattle.wg_stream.specs.Nearest.{nearest};
 ghost use Rattle.wg_stream.specs.Prefix.{AreBehind, IsOneMore};
 
 use crate::PagesError;
@@ -23,8 +24,8 @@ use wg_params::Params;
 ///
 /// It is seen as its parameters, how many pages and arcs were read, what is kept of the pages before, and the list of
 /// the page that was read last. It keeps no more lists than the window of the parameters has, each with room for at most
-/// twice its numbers, and four lists at most with room for as many as the longest, and one that has left the window. Hand
-/// in the same source at each call: the clauses on bits are of one that was.
+/// twice its numbers, or for few; three lists at most with room for as many as the longest; and two that have left the
+/// window. Hand in the same source at each call: the clauses on bits are of one that was.
 #[derive(Drop)]
 pub struct Pages {
     params: Params,
@@ -32,32 +33,41 @@ pub struct Pages {
     arcs: u64,
     window: Window,
     spares: Spares,
-    list: List,
+    past: List,
 }
 
 impl Model for Pages {
     ghost use Rattle.std.specs.Prelude.{◌≡◌};
     ghost use Rattle.wg_stream.specs.Prefix.{PagesRead, AreSound};
+    ghost use Rattle.wg_stream.specs.Nearest.{nearest};
 
     ghost Value = { PagesRead };
 
-    ghost view = { λ r. record { params = r.params; page = r.page; arcs = r.arcs; kept = r.window.behind; list = r.list } };
+    ghost view = { λ r. record { params = r.params; page = r.page; arcs = r.arcs; kept = r.window.behind; list = nearest r.window.behind r.past } };
 
     ghost invariant = { λ r. (r.window.window ≡ r.params.window)
-        × AreSound (record { params = r.params; page = r.page; arcs = r.arcs; kept = r.window.behind; list = r.list }) };
+        × AreSound (record { params = r.params; page = r.page; arcs = r.arcs; kept = r.window.behind; list = nearest r.window.behind r.past }) };
 }
 
-// Keeps a copy of the list in the window. The list that leaves it serves for the next copy.
+// Keeps the page in the window. The list that leaves it is the one past the window; where the window keeps none, that is
+// the page's own. What was past the window serves for a later list.
 #[inline(always)]
-fn keep(window: &mut Window, spares: &mut Spares, decoded: &Decoded) -> Result<(), AllocError>
+fn keep(
+    window: &mut Window,
+    spares: &mut Spares,
+    past: &mut List,
+    decoded: Decoded,
+) -> Result<(), AllocError>
     ensures window { window.new.window ≡ window.old.window }
-    ensures ok { OnOk result (window.new.behind ≡ take window.old.window (known_of decoded.now ∷ window.old.behind)) }
+    ensures ok { OnOk result (window.new.behind ≡ take window.old.window (known_of decoded ∷ window.old.behind)) }
+    ensures list { OnOk result (nearest window.new.behind past.new ≡ decoded.list) }
     ensures err { OnErr result (window.new ≡ window.old) }
+    ensures same { OnErr result (past.new ≡ past.old) }
     ensures few { OnOk result (length window.new.behind ≤ window.new.window) }
 {
-    let copy = spares.copy_of(decoded.list.as_slice())?;
-    if let Some(furthest) = window.exchange(copy, decoded.depth)? {
-        spares.take_furthest(furthest.list);
+    if let Some(furthest) = window.exchange(decoded.list, decoded.depth)? {
+        let before = mem::replace(past, furthest.list);
+        spares.take_furthest(before);
     }
     Ok(())
 }
@@ -77,7 +87,7 @@ impl Pages {
             arcs: 0,
             window: Window::new(alloc, &params),
             spares: Spares::new(alloc),
-            list: List::new(alloc),
+            past: List::new(alloc),
         }
     }
 
@@ -89,14 +99,17 @@ impl Pages {
         ensures below { Below self.now.params.nodes result.now }
         ensures arcs { self.now.arcs ≤ self.now.params.arcs }
     {
-        self.list.as_slice()
+        match self.window.get(1) {
+            Some(list) => list.as_slice(),
+            None => self.past.as_slice(),
+        }
     }
 
     /// How many lists more it holds, whose memory serves for later ones.
     pub fn spare_lists(&self) -> usize
         ensures few { result ≤ MOST_SPARES + 1 }
     {
-        self.spares.len()
+        self.spares.len() + 1
     }
 
     /// Whether the records of all pages were read.
@@ -134,11 +147,10 @@ impl Pages {
             &mut self.spares,
             source,
         )?;
-        keep(&mut self.window, &mut self.spares, &decoded)?;
+        let length = decoded.list.as_slice().len() as u64;
+        keep(&mut self.window, &mut self.spares, &mut self.past, decoded)?;
         self.page += 1;
-        self.arcs += decoded.list.as_slice().len() as u64;
-        let before = mem::replace(&mut self.list, decoded.list);
-        self.spares.take_back(before);
+        self.arcs += length;
         Ok(())
     }
 

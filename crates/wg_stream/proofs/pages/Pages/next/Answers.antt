@@ -24,7 +24,7 @@ returns-clause-reads g c = λ bits behind r h.
     let nearest : take i.params.window (w.known ∷ i.window.behind) ≡ c.keep.new.window.behind =
     ap (λ (n : ℕ). take n (w.known ∷ i.window.behind)) (sym c.self.invariant.0) ∙ sym c.in_ok-keep.ensures.ok in (
       w,
-      sym c.replace-before.ensures.after,
+      sym c.in_ok-keep.ensures.list,
       refl,
       subst (λ (kept : List Known). PrefixRead i.params bits (i.page + 1) (i.arcs + length c.as_slice.result.now) end kept (w ∷ behind)) nearest
           (subst (λ (n : ℕ). PrefixRead i.params bits (i.page + 1) n end (take i.params.window (w.known ∷ i.window.behind)) (w ∷ behind)) counted more),
