@@ -1,7 +1,7 @@
 -- An offsets file that is read in pieces, in a judgement.
 use Rattle.std.proofs.Common.{◌≡◌, ◌≢◌, inl, inr, ℕ, ◌+◌, ◌<◌, ◌≤◌, Bool, true, List, [], ◌∷◌, length, refl, sym, ◌∙◌, ap, subst, Option, Some, None, Result, Ok, Err, arith}
 use Rattle.std.specs.Bool.{IsTrue}
-use Rattle.std.specs.Result.{OnOk, IfErr}
+use Rattle.std.specs.Result.{OnOk, IfErr, MatchResult}
 use Rattle.std.specs.FinMap as map
 use Rattle.wg_io.specs.declared.limits.TheConstants.{MOST_BYTES}
 use Rattle.wg_io.specs.Outside.{Files, Counts, NonDecreasing}
@@ -29,7 +29,7 @@ use Rattle.wg_outcomes.specs.Causes.{HasCause, IncreasedAt}
 use Rattle.wg_outcomes.specs.Judged.{Judged, status_of, with_lengths, with_offsets, offsets_then}
 use Rattle.wg_outcomes.specs.Promised.{IsBadFile, IsStopAt}
 use Rattle.wg_outcomes.specs.Names.{no_outputs}
-use Rattle.wg_readings.specs.Pairing.{ComesWith, EndsPairing, HasCome, IsPaired, IsPairedWith, IsStopped, IsUnread, files_then, load_ending, word_ending}
+use Rattle.wg_readings.specs.Pairing.{ComesWith, EndsPairing, HasCome, IsAt, IsPaired, IsPairedWith, IsStopped, IsUnread, files_then, load_ending, word_ending}
 use Rattle.wg_outcomes.specs.declared.ending.Ending.{Ending}
 use Rattle.wg_readings.specs.declared.pairing.Pairing.{Pairing}
 use Rattle.wg_readings.specs.Passes.{IsGraphFile, accepted_of}
@@ -147,10 +147,23 @@ stopped_until told files c0 c1 c2 p n e later s = record {
   refused = s.refused;
 }
 
-pub come_until : (told : Bool) (files : Files) (c0 c1 c2 : List ℕ → Counts) (p : Parameters) (name : List ℕ) (n at : ℕ) (b : Pairing) (r : Result (Unit {0}) Ending) → NonDecreasing c1 c2
-    → HasCome told files c0 c1 p name n at b r → HasCome told files c0 c2 p name n at b r
-come_until told files c0 c1 c2 p name n at b (Ok done) later h = h
-come_until told files c0 c1 c2 p name n at b (Err e) later h = stopped_until told files c0 c1 c2 p name e later h
+-- ---- how far a pairing has come
+goes_on : (r : Result (Unit {0}) Ending) (P P' : Type 0) (Q : Ending → Type 0) → (P → P') → MatchResult r (λ done. P) Q → OnOk r P'
+goes_on (Ok done) P P' Q f h = f h
+goes_on (Err e) P P' Q f h = tt
+
+stays_so : (r : Result (Unit {0}) Ending) (P : Type 0) (Q Q' : Ending → Type 0) → ((e : Ending) → Q e → Q' e) → MatchResult r (λ done. P) Q → MatchResult r (λ done. P) Q'
+stays_so (Ok done) P Q Q' f h = h
+stays_so (Err e) P Q Q' f h = f e h
+
+pub come_until : (told : Bool) (files : Files) (c0 c1 c2 : List ℕ → Counts) (p : Parameters) (name : List ℕ) (n at : ℕ) (b : Pairing) → NonDecreasing c1 c2
+    → HasCome told files c0 c1 p name n at b → HasCome told files c0 c2 p name n at b
+come_until told files c0 c1 c2 p name n at b later h =
+    stays_so b.so_far (IsAt told files p name n at b) (IsStopped told files c0 c1 p name) (IsStopped told files c0 c2 p name) (λ e s. stopped_until told files c0 c1 c2 p name e later s) h
+
+-- no error came
+pub comes : (file : List ℕ) (b : Pairing) (here there : List ℕ) → b.so_far ≡ Ok tt → IsPairedWith file b here there → ComesWith file b here
+comes file b here there going h = subst (λ (r : Result (Unit {0}) Ending). OnOk r ((l : List ℕ) × IsPairedWith file b here l)) (sym going) (there, h)
 
 pub still_named : (files files' : Files) (m n : List ℕ) (file : List ℕ) → files' ≡ files → m ≡ n → map.get files n ≡ Some file → map.get files' m ≡ Some file
 still_named files files' m n file same named is = ap (λ (k : List ℕ). map.get files' k) named ∙ ap (λ (f : Files). map.get f n) same ∙ is
@@ -209,21 +222,10 @@ next_paired p a m b n here h page lengths code pages count looked words held mor
       omega (arith, more, before, page),
     )
 
--- ---- what comes after what
-pub come_next : (told : Bool) (files files' : Files) (c0 c1 c2 : List ℕ → Counts) (p : Parameters) (m name : List ℕ) (n here old : ℕ) (b : Pairing) (r : Result (Unit {0}) Ending) → files' ≡ files → NonDecreasing c0 c1
-    → m ≡ name → old ≡ n → (IsTrue told → (file : List ℕ) × (map.get files name ≡ Some file)) → OnOk r (IsPaired p b × (b.lengths.page ≡ old + 1) × (b.lengths.here ≡ here)) → IfErr r (IsStopped told files' c1 c2 p m)
-    → HasCome told files c0 c2 p name (n + 1) here b r
-come_next told files files' c0 c1 c2 p m name n here old b (Ok done) same later named page found ok err = (ok.0, ok.1 ∙ ap (λ (k : ℕ). k + 1) page, ok.2, found)
-come_next told files files' c0 c1 c2 p m name n here old b (Err e) same later named page found ok err = stopped_since told files files' c0 c1 c2 p m name e same later named err
-
-pub comes_next : (file : List ℕ) (b : Pairing) (places : List ℕ) (r : Result (Unit {0}) Ending) → OnOk r ((more : List ℕ) × IsPairedWith file b places more) → ComesWith file b places r
-comes_next file b places (Ok done) h = h
-comes_next file b places (Err e) h = tt
-
 -- a pairing that stopped before
-pub ends_stopped : (told : Bool) (files : Files) (c0 c1 : List ℕ → Counts) (p : Parameters) (name : List ℕ) (b : Pairing) (so_far : Result (Unit {0}) Ending) (e : Ending) → IsStopped told files c0 c1 p name e
-    → EndsPairing told files c0 c1 p name b so_far (Err e)
-ends_stopped told files c0 c1 p name b so_far e s = record {
+pub ends_stopped : (told : Bool) (files : Files) (c0 c1 : List ℕ → Counts) (p : Parameters) (name : List ℕ) (b : Pairing) (e : Ending) → IsStopped told files c0 c1 p name e
+    → EndsPairing told files c0 c1 p name b (Err e)
+ends_stopped told files c0 c1 p name b e s = record {
   only = s.only;
   causes = s.causes;
   steps = λ t limits places follows r next. s.refused t limits r (λ stored. with_lengths places stored next);
@@ -244,40 +246,37 @@ steps_by r p held places stored (Err e) go h = λ next. subst (λ (j : Judged). 
 
 -- all words were read, and then the lengths are compared
 pub ends_compared : (told : Bool) (files : Files) (c0 c1 : List ℕ → Counts) (p : Parameters) (name : List ℕ) (x : Result (Unit {0}) Ending) (a b : Pairing) → (IsTrue told → (file : List ℕ) × (map.get files name ≡ Some file))
-    → a.held.looked ≡ true → b.lengths ≡ a.lengths
+    → a.so_far ≡ Ok tt → a.held.looked ≡ true → b.lengths ≡ a.lengths
     → (IsTrue told → (file : List ℕ) → map.get files name ≡ Some file → (stored : List ℕ) → IsHeldOf file a.held → AreRead (bits_of file) a.words a.held.at stored → ReadsOffsets p.offsets p.nodes (bits_of file) (Ok stored))
-    → IfErr x (IsBadFile Offsets p.arcs) → ((here there : List ℕ) → AreCompared b.lengths here there → Steps (with_lengths here there) x) → EndsPairing told files c0 c1 p name a (Ok tt) x
-ends_compared told files c0 c1 p name x a b found looked same reads only steps = record {
+    → IfErr x (IsBadFile Offsets p.arcs) → ((here there : List ℕ) → AreCompared b.lengths here there → Steps (with_lengths here there) x) → EndsPairing told files c0 c1 p name a x
+ends_compared told files c0 c1 p name x a b found going looked same reads only steps = record {
   only = only_by p.arcs x only;
   causes = λ names named. caused_by names c0 c1 p.arcs x only;
   steps = λ t limits places with_file r.
       let f = found t in
-      let k = with_file f.0 f.1 in
+      let k = rw going at with_file f.0 f.1 in
       steps_by r p (map.get files name) places k.0 x (λ next. places_go r p limits (map.get files name) f.0 f.1 (k.1.held.short looked) k.0 (reads t f.0 f.1 k.0 k.1.held k.1.read) next)
       (steps places k.0 (subst (λ (c : Compared). AreCompared c places k.0) (sym same) k.1.compared));
 }
 
 -- ---- what a pairing that came so far allows
-pub ready_paired : (told : Bool) (files : Files) (c0 c1 : List ℕ → Counts) (p : Parameters) (name : List ℕ) (n at : ℕ) (b : Pairing) (r : Result (Unit {0}) Ending) → HasCome told files c0 c1 p name n at b r → OnOk r (IsPaired p b)
-ready_paired told files c0 c1 p name n at b (Ok done) h = h.0
-ready_paired told files c0 c1 p name n at b (Err e) h = tt
+module _ (told : Bool) (files : Files) (c0 c1 : List ℕ → Counts) (p : Parameters) (name : List ℕ) (n at : ℕ) (b : Pairing) where
+  pub ready_paired : HasCome told files c0 c1 p name n at b → OnOk b.so_far (IsPaired p b)
+  ready_paired h = goes_on b.so_far (IsAt told files p name n at b) _ (IsStopped told files c0 c1 p name) (λ k. k.0) h
 
-pub ready_more : (told : Bool) (files : Files) (c0 c1 : List ℕ → Counts) (p : Parameters) (name : List ℕ) (n at : ℕ) (b : Pairing) (r : Result (Unit {0}) Ending) → n < p.nodes → HasCome told files c0 c1 p name n at b r → OnOk r (b.lengths.page < p.nodes)
-ready_more told files c0 c1 p name n at b (Ok done) lt h = omega (arith, lt, h.1)
-ready_more told files c0 c1 p name n at b (Err e) lt h = tt
+  pub ready_more : n < p.nodes → HasCome told files c0 c1 p name n at b → OnOk b.so_far (b.lengths.page < p.nodes)
+  ready_more lt h = goes_on b.so_far (IsAt told files p name n at b) _ (IsStopped told files c0 c1 p name) (λ k. omega (arith, lt, k.1)) h
 
-pub ready_here : (told : Bool) (files : Files) (c0 c1 : List ℕ → Counts) (p : Parameters) (name : List ℕ) (n at here : ℕ) (b : Pairing) (r : Result (Unit {0}) Ending) → at ≤ here → HasCome told files c0 c1 p name n at b r → OnOk r (b.lengths.here ≤ here)
-ready_here told files c0 c1 p name n at here b (Ok done) le h = omega (arith, le, h.2)
-ready_here told files c0 c1 p name n at here b (Err e) le h = tt
+  pub ready_here : (here : ℕ) → at ≤ here → HasCome told files c0 c1 p name n at b → OnOk b.so_far (b.lengths.here ≤ here)
+  ready_here here le h = goes_on b.so_far (IsAt told files p name n at b) _ (IsStopped told files c0 c1 p name) (λ k. omega (arith, le, k.2)) h
 
-pub ready_done : (told : Bool) (files : Files) (c0 c1 : List ℕ → Counts) (p : Parameters) (name : List ℕ) (n at : ℕ) (b : Pairing) (r : Result (Unit {0}) Ending) → n ≡ p.nodes → HasCome told files c0 c1 p name n at b r → OnOk r (b.lengths.page ≡ p.nodes)
-ready_done told files c0 c1 p name n at b (Ok done) all h = h.1 ∙ all
-ready_done told files c0 c1 p name n at b (Err e) all h = tt
+  pub ready_done : n ≡ p.nodes → HasCome told files c0 c1 p name n at b → OnOk b.so_far (b.lengths.page ≡ p.nodes)
+  ready_done all h = goes_on b.so_far (IsAt told files p name n at b) _ (IsStopped told files c0 c1 p name) (λ k. k.1 ∙ all) h
 
-pub come_at : (told : Bool) (files : Files) (c0 c1 : List ℕ → Counts) (p : Parameters) (m name : List ℕ) (n at here : ℕ) (b : Pairing) (r : Result (Unit {0}) Ending) → m ≡ name → at ≡ here → HasCome told files c0 c1 p m n at b r
-    → HasCome told files c0 c1 p name n here b r
-come_at told files c0 c1 p m name n at here b r named same h =
-    subst (λ (k : ℕ). HasCome told files c0 c1 p name n k b r) same (subst (λ (x : List ℕ). HasCome told files c0 c1 p x n at b r) named h)
+pub come_at : (told : Bool) (files : Files) (c0 c1 : List ℕ → Counts) (p : Parameters) (m name : List ℕ) (n at here : ℕ) (b : Pairing) → m ≡ name → at ≡ here → HasCome told files c0 c1 p m n at b
+    → HasCome told files c0 c1 p name n here b
+come_at told files c0 c1 p m name n at here b named same h =
+    subst (λ (k : ℕ). HasCome told files c0 c1 p name n k b) same (subst (λ (x : List ℕ). HasCome told files c0 c1 p x n at b) named h)
 
 -- ---- both files
 module _ (r : Readings) (p : Parameters) (limits : IsWithinLimits p) (held : Input → Option (List ℕ)) (x : Accepted) (g : IsGraphFile (held Graph) p x) (whole : List Whole) (same : x ≡ accepted_of whole) where

@@ -1,5 +1,5 @@
 -- An offsets file that is read in pieces, beside the records of its graph.
-use Rattle.std.specs.Prelude.{◌≡◌, ℕ, ◌+◌, Bool, true, false, List, [], ◌∷◌, Option, Some, Result, Ok, Err, IsTrue, IfErr}
+use Rattle.std.specs.Prelude.{◌≡◌, ℕ, ◌+◌, Bool, true, false, List, [], ◌∷◌, Option, Some, Result, Ok, Err, IsTrue, IfErr, OnOk, MatchResult}
 use Rattle.std.specs.FinMap as map
 use Rattle.wg_io.specs.Outside.{Files, Counts}
 use Rattle.wg_io.specs.declared.whole.LoadError.{LoadError}
@@ -40,6 +40,7 @@ word_ending promised (words.Refused e) = load_ending e
 
 -- before the first word
 pub record IsUnread (p : Parameters) (b : Pairing) : Type 0 where
+  pub going : b.so_far ≡ Ok tt
   pub held : b.held ≡ record { bytes = []; first = 0; at = 0; ended = false; looked = false }
   pub words : b.words ≡ record { code = p.offsets; pages = p.nodes; count = 0; offset = 0 }
   pub none : (bits : List Bool) → AreRead bits b.words 0 []
@@ -69,23 +70,26 @@ pub record IsStopped (told : Bool) (files : Files) (counts counts' : List ℕ �
   pub causes : (names : Input → Option (List ℕ)) → names input.Offsets ≡ Some name → HasCause names no_outputs counts counts' 0 0 e.status
   pub refused : IsTrue told → IsWithinLimits p → (r : Readings) → Steps {B = List ℕ} (offsets_then r p (map.get files name)) (Err e)
 
--- How far the pairing has come: to the end of so many records, or to the first error of the offsets file, after which
--- no more is read.
-abbrev pub HasCome : Bool → Files → (List ℕ → Counts) → (List ℕ → Counts) → Parameters → List ℕ → ℕ → ℕ → Pairing → Result (Unit {0}) Ending → Type 0
-HasCome told files counts counts' p name n at b (Ok done) =
+-- the pairing has come to the end of so many records, the last of which ends at this bit
+abbrev pub IsAt : Bool → Files → Parameters → List ℕ → ℕ → ℕ → Pairing → Type 0
+IsAt told files p name n at b =
     IsPaired p b × (b.lengths.page ≡ n) × (b.lengths.here ≡ at) × (IsTrue told → (file : List ℕ) × (map.get files name ≡ Some file))
-HasCome told files counts counts' p name n at b (Err e) = IsStopped told files counts counts' p name e
 
-abbrev pub ComesWith : List ℕ → Pairing → List ℕ → Result (Unit {0}) Ending → Type 0
-ComesWith file b here (Ok done) = (there : List ℕ) × IsPairedWith file b here there
-ComesWith file b here (Err e) = Unit {0}
+-- How far it has come: to the end of so many records, or to the first error of the offsets file, after which no more is
+-- read.
+abbrev pub HasCome : Bool → Files → (List ℕ → Counts) → (List ℕ → Counts) → Parameters → List ℕ → ℕ → ℕ → Pairing → Type 0
+HasCome told files counts counts' p name n at b =
+    MatchResult b.so_far (λ done. IsAt told files p name n at b) (IsStopped told files counts counts' p name)
+
+abbrev pub ComesWith : List ℕ → Pairing → List ℕ → Type 0
+ComesWith file b here = OnOk b.so_far ((there : List ℕ) × IsPairedWith file b here there)
 
 -- What the end of a pairing is: the offsets file is judged to its end, and then the lengths that it tells are compared
 -- with those of the records.
-pub record EndsPairing (told : Bool) (files : Files) (counts counts' : List ℕ → Counts) (p : Parameters) (name : List ℕ) (b : Pairing) (so_far result : Result (Unit {0}) Ending) : Type 0 where
+pub record EndsPairing (told : Bool) (files : Files) (counts counts' : List ℕ → Counts) (p : Parameters) (name : List ℕ) (b : Pairing) (result : Result (Unit {0}) Ending) : Type 0 where
   pub only : IfErr result (IsStopAt input.Offsets p.arcs)
   pub causes : (names : Input → Option (List ℕ)) → names input.Offsets ≡ Some name → HasCause names no_outputs counts counts' 0 0 (status_in result)
-  pub steps : IsTrue told → IsWithinLimits p → (places : List ℕ) → ((file : List ℕ) → map.get files name ≡ Some file → ComesWith file b places so_far) → (r : Readings)
+  pub steps : IsTrue told → IsWithinLimits p → (places : List ℕ) → ((file : List ℕ) → map.get files name ≡ Some file → ComesWith file b places) → (r : Readings)
       → Steps (λ next. offsets_then r p (map.get files name) (λ stored. with_lengths places stored next)) result
 
 -- goes on with how many bits the records have, if graph and offsets are in order and tell the same lengths

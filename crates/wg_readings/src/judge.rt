@@ -41,14 +41,14 @@ pub fn judge_files<D: Depot>(
 {
     let mut reader = open_graph(alloc, params, base)?;
     let mut pairing = open_offsets(alloc, params, base)?;
-    let mut so_far = begin_pairing(&mut pairing, depot, params);
+    begin_pairing(&mut pairing, depot, params);
     for _page in 0..params.nodes() {
         next_record(&mut reader, depot, params)?;
-        so_far = pair_next(so_far, &mut pairing, depot, params, reader.at());
+        pair_next(&mut pairing, depot, params, reader.at());
     }
     let bits = reader.at();
     end_records(&mut reader, depot, params)?;
-    end_pairing(so_far, &mut pairing, depot, params)?;
+    end_pairing(&mut pairing, depot, params)?;
     Ok(bits)
 }
 
@@ -67,10 +67,10 @@ pub fn judge_offsets<D: Depot>(
     let mut pairing = open_offsets(alloc, params, base)?;
     // tells that they begin at 0 and never fall
     offsets.len();
-    let mut so_far = begin_pairing(&mut pairing, depot, params);
+    begin_pairing(&mut pairing, depot, params);
     for page in 0..params.nodes() {
         let here = offsets.place(page + 1);
-        so_far = pair_next(so_far, &mut pairing, depot, params, here);
+        pair_next(&mut pairing, depot, params, here);
     }
-    end_pairing(so_far, &mut pairing, depot, params)
+    end_pairing(&mut pairing, depot, params)
 }

@@ -25,13 +25,15 @@ use wg_params::Params;
 use wg_stream::{FileSource, Stretch};
 use wg_words::Name;
 
-/// An offsets file as far as it was read, and the lengths of the records as the graph file and this file tell them.
+/// An offsets file as far as it was read, and the lengths of the records as the graph file and this file tell them. The
+/// first error of the offsets file stays, and after it no more of that file is read.
 #[derive(Drop)]
 pub struct Pairing {
     pub name: Name,
     pub held: Stretch,
     pub words: Words,
     pub lengths: Comparison,
+    pub so_far: Result<(), Ending>,
 }
 
 // How a job ends whose offsets file is not read on.
@@ -47,6 +49,8 @@ fn load_ending(error: LoadError) -> Ending
 }
 
 // How a job ends at a word.
+#[cold]
+#[inline(never)]
 fn word_ending(error: WordError<LoadError>, params: &Params) -> Ending
     ensures { result ≡ word_ending params.now.arcs error }
 {
@@ -71,6 +75,7 @@ pub fn open_offsets(alloc: Global, params: &Params, base: &Name) -> Result<Pairi
             held: Stretch::new(),
             words: Words::new(params.nodes(), params.offsets()),
             lengths: Comparison::new(),
+            so_far: Ok(()),
         }),
         Err(_) => Err(Ending::of(Status::Memory)),
     }
@@ -80,7 +85,7 @@ pub fn open_offsets(alloc: Global, params: &Params, base: &Name) -> Result<Pairi
 fn look<D: Depot>(pairing: &mut Pairing, depot: &mut D, params: &Params) -> Result<(), Ending>
     requires { IsUnread params.now pairing.old }
     ensures kept { (pairing.new.name ≡ pairing.old.name) × (pairing.new.words ≡ pairing.old.words)
-        × (pairing.new.lengths ≡ pairing.old.lengths) }
+        × (pairing.new.lengths ≡ pairing.old.lengths) × (pairing.new.so_far ≡ pairing.old.so_far) }
     ensures looked { OnOk result (pairing.new.held ≡ record pairing.old.held { looked = true }) }
     ensures steps { StepsOn D.told pairing.old.name (D.files depot.old) (D.files depot.new) (D.counts depot.old)
         (D.counts depot.new) pairing.old.held pairing.new.held }
@@ -98,11 +103,13 @@ fn look<D: Depot>(pairing: &mut Pairing, depot: &mut D, params: &Params) -> Resu
 }
 
 // Reads the word that comes next.
+#[inline(always)]
 fn next_word<D: Depot>(pairing: &mut Pairing, depot: &mut D, params: &Params) -> Result<u64, Ending>
     requires code { pairing.old.words.code ≡ params.now.offsets }
     requires pages { pairing.old.words.pages ≡ params.now.nodes }
     requires more { pairing.old.words.count ≤ params.now.nodes }
-    ensures kept { (pairing.new.name ≡ pairing.old.name) × (pairing.new.lengths ≡ pairing.old.lengths) }
+    ensures kept { (pairing.new.name ≡ pairing.old.name) × (pairing.new.lengths ≡ pairing.old.lengths)
+        × (pairing.new.so_far ≡ pairing.old.so_far) }
     ensures words { (pairing.new.words.code ≡ pairing.old.words.code)
         × (pairing.new.words.pages ≡ pairing.old.words.pages)
         × (pairing.old.words.offset ≤ pairing.new.words.offset) }
@@ -160,84 +167,52 @@ fn end_words<D: Depot>(pairing: &mut Pairing, depot: &mut D, params: &Params) ->
 }
 
 /// Reads the first word, which is 0.
-pub fn begin_pairing<D: Depot>(
-    pairing: &mut Pairing,
-    depot: &mut D,
-    params: &Params,
-) -> Result<(), Ending>
+pub fn begin_pairing<D: Depot>(pairing: &mut Pairing, depot: &mut D, params: &Params)
     requires { IsUnread params.now pairing.old }
     ensures name { pairing.new.name ≡ pairing.old.name }
     ensures same { D.files depot.new ≡ D.files depot.old }
     ensures later { NonDecreasing (D.counts depot.old) (D.counts depot.new) }
     ensures come { HasCome D.told (D.files depot.old) (D.counts depot.old)
-        (D.counts depot.new) params.now pairing.old.name 0 0 pairing.new result }
+        (D.counts depot.new) params.now pairing.old.name 0 0 pairing.new }
     ensures reads { IsTrue D.told → (file : List ℕ) → map.get (D.files depot.old) pairing.old.name ≡ Some file
-        → ComesWith file pairing.new (0 ∷ []) result }
+        → ComesWith file pairing.new (0 ∷ []) }
 {
-    look(pairing, depot, params)?;
-    next_word(pairing, depot, params)?;
-    Ok(())
-}
-
-// Reads the word of one record more, and compares the length that it tells.
-fn pair<D: Depot>(
-    pairing: &mut Pairing,
-    depot: &mut D,
-    params: &Params,
-    here: u64,
-) -> Result<(), Ending>
-    requires limits { IsWithinLimits params.now }
-    requires paired { IsPaired params.now pairing.old }
-    requires more { pairing.old.lengths.page < params.now.nodes }
-    requires here { pairing.old.lengths.here ≤ here }
-    ensures name { pairing.new.name ≡ pairing.old.name }
-    ensures same { D.files depot.new ≡ D.files depot.old }
-    ensures later { NonDecreasing (D.counts depot.old) (D.counts depot.new) }
-    ensures paired { OnOk result (IsPaired params.now pairing.new
-        × (pairing.new.lengths.page ≡ pairing.old.lengths.page + 1) × (pairing.new.lengths.here ≡ here)) }
-    ensures reads { IsTrue D.told → (file : List ℕ) → map.get (D.files depot.old) pairing.old.name ≡ Some file
-        → (places stored : List ℕ) → IsPairedWith file pairing.old places stored
-        → OnOk result ((more : List ℕ) × IsPairedWith file pairing.new (places ++ here ∷ []) more) }
-    ensures stopped { (IsTrue D.told → (file : List ℕ) × (map.get (D.files depot.old) pairing.old.name ≡ Some file))
-        → (IsTrue D.told → (file : List ℕ) → map.get (D.files depot.old) pairing.old.name ≡ Some file
-        → (places : List ℕ) × (stored : List ℕ) × IsPairedWith file pairing.old places stored)
-        → IfErr result (IsStopped D.told (D.files depot.old) (D.counts depot.old)
-        (D.counts depot.new) params.now pairing.old.name) }
-{
-    let there = next_word(pairing, depot, params)?;
-    pairing.lengths.push(here, there);
-    Ok(())
+    match look(pairing, depot, params) {
+        Ok(()) => match next_word(pairing, depot, params) {
+            Ok(_first) => {}
+            Err(ending) => pairing.so_far = Err(ending),
+        },
+        Err(ending) => pairing.so_far = Err(ending),
+    }
 }
 
 /// Reads the word of one record more, if no error came before, and compares the length that it tells.
-pub fn pair_next<D: Depot>(
-    so_far: Result<(), Ending>,
-    pairing: &mut Pairing,
-    depot: &mut D,
-    params: &Params,
-    here: u64,
-) -> Result<(), Ending>
+#[inline(always)]
+pub fn pair_next<D: Depot>(pairing: &mut Pairing, depot: &mut D, params: &Params, here: u64)
     requires limits { IsWithinLimits params.now }
-    requires paired { OnOk so_far (IsPaired params.now pairing.old) }
-    requires more { OnOk so_far (pairing.old.lengths.page < params.now.nodes) }
-    requires here { OnOk so_far (pairing.old.lengths.here ≤ here) }
+    requires paired { OnOk pairing.old.so_far (IsPaired params.now pairing.old) }
+    requires more { OnOk pairing.old.so_far (pairing.old.lengths.page < params.now.nodes) }
+    requires here { OnOk pairing.old.so_far (pairing.old.lengths.here ≤ here) }
     ensures name { pairing.new.name ≡ pairing.old.name }
     ensures same { D.files depot.new ≡ D.files depot.old }
     ensures later { NonDecreasing (D.counts depot.old) (D.counts depot.new) }
     ensures come { (files : Files) → D.files depot.old ≡ files → (counts : List ℕ → Counts)
         → NonDecreasing counts (D.counts depot.old) → (name : List ℕ) → pairing.old.name ≡ name
-        → (n at : ℕ) → HasCome D.told files counts (D.counts depot.old) params.now name n at pairing.old so_far
+        → (n at : ℕ) → HasCome D.told files counts (D.counts depot.old) params.now name n at pairing.old
         → (IsTrue D.told → (file : List ℕ) → map.get files name ≡ Some file → (places : List ℕ)
-        × ComesWith file pairing.old places so_far)
-        → HasCome D.told files counts (D.counts depot.new) params.now name (n + 1) here pairing.new result }
+        × ComesWith file pairing.old places)
+        → HasCome D.told files counts (D.counts depot.new) params.now name (n + 1) here pairing.new }
     ensures reads { IsTrue D.told → (files : Files) → D.files depot.old ≡ files → (name : List ℕ)
         → pairing.old.name ≡ name → (file : List ℕ) → map.get files name ≡ Some file
-        → (places : List ℕ) → ComesWith file pairing.old places so_far
-        → ComesWith file pairing.new (places ++ here ∷ []) result }
+        → (places : List ℕ) → ComesWith file pairing.old places
+        → ComesWith file pairing.new (places ++ here ∷ []) }
 {
-    match so_far {
-        Ok(()) => pair(pairing, depot, params, here),
-        Err(ending) => Err(ending),
+    match pairing.so_far {
+        Ok(()) => match next_word(pairing, depot, params) {
+            Ok(there) => pairing.lengths.push(here, there),
+            Err(ending) => pairing.so_far = Err(ending),
+        },
+        Err(_stopped) => {}
     }
 }
 
@@ -262,23 +237,22 @@ fn same_lengths(pairing: &Pairing, params: &Params) -> Result<(), Ending>
 
 /// Judges what follows the words, and the lengths that they tell, if no error came before.
 pub fn end_pairing<D: Depot>(
-    so_far: Result<(), Ending>,
     pairing: &mut Pairing,
     depot: &mut D,
     params: &Params,
 ) -> Result<(), Ending>
-    requires paired { OnOk so_far (IsPaired params.now pairing.old) }
-    requires done { OnOk so_far (pairing.old.lengths.page ≡ params.now.nodes) }
+    requires paired { OnOk pairing.old.so_far (IsPaired params.now pairing.old) }
+    requires done { OnOk pairing.old.so_far (pairing.old.lengths.page ≡ params.now.nodes) }
     ensures same { D.files depot.new ≡ D.files depot.old }
     ensures later { NonDecreasing (D.counts depot.old) (D.counts depot.new) }
     ensures ends { (files : Files) → D.files depot.old ≡ files → (counts : List ℕ → Counts)
         → NonDecreasing counts (D.counts depot.old) → (name : List ℕ) → pairing.old.name ≡ name
-        → (n at : ℕ) → HasCome D.told files counts (D.counts depot.old) params.now name n at pairing.old so_far
+        → (n at : ℕ) → HasCome D.told files counts (D.counts depot.old) params.now name n at pairing.old
         → (IsTrue D.told → (file : List ℕ) → map.get files name ≡ Some file → (places : List ℕ)
-        × ComesWith file pairing.old places so_far)
-        → EndsPairing D.told files counts (D.counts depot.new) params.now name pairing.old so_far result }
+        × ComesWith file pairing.old places)
+        → EndsPairing D.told files counts (D.counts depot.new) params.now name pairing.old result }
 {
-    so_far?;
+    pairing.so_far?;
     end_words(pairing, depot, params)?;
     same_lengths(pairing, params)
 }

@@ -1,5 +1,5 @@
 //! The records of a graph file, read in pieces.
-ghost use Rattle.std.specs.Prelude.{◌≡◌, ◌+◌, ◌<◌, ℕ, true, false, List as ListOf, Ok, Err, Some, OnOk, IfOk};
+ghost use Rattle.std.specs.Prelude.{◌≡◌, ◌+◌, ◌<◌, ℕ, true, List as ListOf, Ok, Some, OnOk, IfOk};
 ghost use Rattle.std.specs.Prelude.{IfErr, IsTrue, length};
 ghost use Rattle.std.specs.FinMap as map;
 ghost use Rattle.wg_io.specs.Outside.{Files};
@@ -49,6 +49,15 @@ fn ending_at(first: First, params: &Params) -> Ending
     }
 }
 
+// How a job ends at an error of a reader.
+#[cold]
+#[inline(never)]
+fn ending_of(error: StreamError, params: &Params) -> Ending
+    ensures { result ≡ ending_at params.now.arcs (first_in error) }
+{
+    ending_at(first_in(error), params)
+}
+
 fn bad_graph(fault: ArchiveFault, params: &Params) -> Ending
     ensures { result ≡ record { status = Status.BadArchive fault; promised = params.now.arcs } }
 {
@@ -73,33 +82,35 @@ pub fn open_graph(alloc: Global, params: &Params, base: &Name) -> Result<Reader,
 }
 
 // Reads the record that comes next, or judges the end, if there is none.
-fn go_on<D: Depot>(reader: &mut Reader, depot: &mut D, params: &Params) -> Result<bool, Ending>
+#[inline(always)]
+fn go_on<D: Depot>(reader: &mut Reader, depot: &mut D, params: &Params) -> Result<(), Ending>
     requires open { reader.old.state ≡ Open }
     requires params { reader.old.pages.params ≡ params.now }
     ensures advances { Advances D.told (D.files depot.old) (D.files depot.new) (D.counts depot.old)
         (D.counts depot.new) params.now reader.old reader.new result }
-    ensures more { result ≡ Ok true → (reader.new.state ≡ Open)
+    ensures more { OnOk result (reader.old.pages.page < params.now.nodes → (reader.new.state ≡ Open)
         × (reader.new.pages.page ≡ reader.old.pages.page + 1)
-        × (reader.new.pages.arcs ≡ reader.old.pages.arcs + length reader.new.pages.list) }
-    ensures end { result ≡ Ok false → (reader.old.pages.page ≡ params.now.nodes)
-        × (reader.old.pages.arcs ≡ params.now.arcs) }
-    ensures few { result ≡ Ok true → reader.old.pages.page < params.now.nodes }
+        × (reader.new.pages.arcs ≡ reader.old.pages.arcs + length reader.new.pages.list)) }
+    ensures end { OnOk result (reader.old.pages.page ≡ params.now.nodes
+        → reader.old.pages.arcs ≡ params.now.arcs) }
     ensures in_step { IsTrue D.told → (held : Files) → D.files depot.old ≡ held → (file : ListOf ℕ)
         → map.get held reader.old.name ≡ Some file
         → (whole : ListOf Whole) → IsInStep file reader.old whole
-        → IfOk result (λ more. StaysInStep file reader.new whole (Ok more)) }
+        → OnOk result (reader.old.pages.page < params.now.nodes → StaysInStep file reader.new whole (Ok true)) }
     ensures judged { IsTrue D.told → (held : Files) → D.files depot.old ≡ held → (file : ListOf ℕ)
         → map.get held reader.old.name ≡ Some file
-        → (whole : ListOf Whole) → IsInStep file reader.old whole → result ≡ Ok false
-        → IsJudged file params.now (Ok (record { graph = lists_of whole; places = places_of whole })) }
+        → (whole : ListOf Whole) → IsInStep file reader.old whole
+        → OnOk result (reader.old.pages.page ≡ params.now.nodes
+        → IsJudged file params.now (Ok (record { graph = lists_of whole; places = places_of whole }))) }
 {
     match reader.advance(depot) {
-        Ok(more) => Ok(more),
-        Err(error) => Err(ending_at(first_in(error), params)),
+        Ok(_more) => Ok(()),
+        Err(error) => Err(ending_of(error, params)),
     }
 }
 
 /// Reads the record of the page that comes next.
+#[inline(always)]
 pub fn next_record<D: Depot>(
     reader: &mut Reader,
     depot: &mut D,
@@ -118,10 +129,8 @@ pub fn next_record<D: Depot>(
         → (whole : ListOf Whole) → IsInStep file reader.old whole
         → OnOk result (StaysInStep file reader.new whole (Ok true)) }
 {
-    if go_on(reader, depot, params)? {
-        return Ok(());
-    }
-    unreachable!()
+    go_on(reader, depot, params)?;
+    Ok(())
 }
 
 /// Judges what follows the records.
@@ -141,8 +150,6 @@ pub fn end_records<D: Depot>(
         → (whole : ListOf Whole) → IsInStep file reader.old whole
         → OnOk result (IsJudged file params.now (Ok (record { graph = lists_of whole; places = places_of whole }))) }
 {
-    if go_on(reader, depot, params)? {
-        unreachable!()
-    }
+    go_on(reader, depot, params)?;
     Ok(())
 }

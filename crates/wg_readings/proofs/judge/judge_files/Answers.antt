@@ -18,12 +18,12 @@ loop-page-init g c =
     let files = g.D.Depot.files c.args.depot.now in
     let u = c.in_ok-reader.ensures.fresh in
     let named = c.in_ok-pairing.ensures.name in
-    let b = c.begin_pairing-so_far.ensures in
+    let b = c.begin_pairing.ensures in
     record {
       way = way_later _ _ _ _ _ _ _ _ _ _ _ _ b.same b.later
           (begins _ _ _ _ _ _ _ u (sym u.at, λ t file is. b.reads t file (ap (λ (n : List ℕ). map.get files n) named ∙ is)));
       name = b.name ∙ named;
-      come = come_at _ _ _ _ _ _ _ _ _ _ _ _ named (sym u.at) b.come;
+      come = come_at _ _ _ _ _ _ _ _ _ _ c.begin_pairing.new.pairing named (sym u.at) b.come;
     }
 
 pub next_record-requires-clause-open : goal.next_record-requires-clause-open
@@ -40,18 +40,18 @@ returns-in_err-next_record g c =
     files_exit _ _ _ _ _ _ _ _ _ c.from_residual-in_err-next_record.ensures.1
     (files_stop _ _ _ _ _ _ _ _ _ _ _ _ _ c.loop-page.invariant.way c.nodes-page-end.ensures.limits _ c.in_err-next_record.ensures.advances)
 
-pub pair_next-so_far-requires-clause-limits : goal.pair_next-so_far-requires-clause-limits
-pair_next-so_far-requires-clause-limits g c = c.nodes-page-end.ensures.limits
+pub pair_next-requires-clause-limits : goal.pair_next-requires-clause-limits
+pair_next-requires-clause-limits g c = c.nodes-page-end.ensures.limits
 
-pub pair_next-so_far-requires-clause-paired : goal.pair_next-so_far-requires-clause-paired
-pair_next-so_far-requires-clause-paired g c = ready_paired _ _ _ _ _ _ _ _ _ _ c.loop-page.invariant.come
+pub pair_next-requires-clause-paired : goal.pair_next-requires-clause-paired
+pair_next-requires-clause-paired g c = ready_paired _ _ _ _ _ _ _ _ c.loop-page.pairing c.loop-page.invariant.come
 
-pub pair_next-so_far-requires-clause-more : goal.pair_next-so_far-requires-clause-more
-pair_next-so_far-requires-clause-more g c = ready_more _ _ _ _ _ _ _ _ _ _ (omega (arith, c.loop-page-test.true, c.nodes-page-end.ensures.value)) c.loop-page.invariant.come
+pub pair_next-requires-clause-more : goal.pair_next-requires-clause-more
+pair_next-requires-clause-more g c = ready_more _ _ _ _ _ _ _ _ c.loop-page.pairing (omega (arith, c.loop-page-test.true, c.nodes-page-end.ensures.value)) c.loop-page.invariant.come
 
-pub pair_next-so_far-requires-clause-here : goal.pair_next-so_far-requires-clause-here
-pair_next-so_far-requires-clause-here g c =
-    ready_here _ _ _ _ _ _ _ _ _ _ _ (omega (arith, c.in_ok-next_record.ensures.advances.onward, c.at.ensures.value)) c.loop-page.invariant.come
+pub pair_next-requires-clause-here : goal.pair_next-requires-clause-here
+pair_next-requires-clause-here g c =
+    ready_here _ _ _ _ _ _ _ _ c.loop-page.pairing _ (omega (arith, c.in_ok-next_record.ensures.advances.onward, c.at.ensures.value)) c.loop-page.invariant.come
 
 pub loop-page-preserved : goal.loop-page-preserved
 loop-page-preserved g c =
@@ -59,7 +59,7 @@ loop-page-preserved g c =
     let name = c.args.base.now ++ OFFSETS.now in
     let h = c.loop-page.invariant in
     let r = c.in_ok-next_record.ensures in
-    let s = c.pair_next-so_far.ensures in
+    let s = c.pair_next.ensures in
     let same = r.advances.same ∙ h.way.same in
     record {
       way = way_later _ _ _ _ _ _ _ _ _ _ _ _ s.same s.later
@@ -67,14 +67,14 @@ loop-page-preserved g c =
           (λ whole w count list end k. (
             ap last_place (places_more w whole) ∙ last_more (places_of whole) w.end ∙ end,
             λ t file is.
-                subst (λ (places : List ℕ). ComesWith file c.pair_next-so_far.new.pairing places c.pair_next-so_far.result)
+                subst (λ (places : List ℕ). ComesWith file c.pair_next.new.pairing places)
                 (ap (λ (e : ℕ). places_of whole ++ e ∷ []) (c.at.ensures.value ∙ sym end) ∙ sym (places_more w whole))
                 (s.reads t files same name h.name file is (places_of whole) (k.1 t file is)),
           )));
       name = s.name ∙ h.name;
-      come = come_at _ _ _ _ _ _ _ _ _ _ _ _ refl c.at.ensures.value
+      come = come_at _ _ _ _ _ _ _ _ _ _ c.pair_next.new.pairing refl c.at.ensures.value
           (s.come files same _ (none_falls-trans _ _ _ h.way.later r.advances.later) name h.name _ _
-          (come_until _ _ _ _ _ _ _ _ _ _ _ r.advances.later h.come)
+          (come_until _ _ _ _ _ _ _ _ _ c.loop-page.pairing r.advances.later h.come)
           (λ t file is.
           let f = r.advances.there t files h.way.same (h.way.found t) in
           let k = h.way.follows t f.0 (ap (λ (n : List ℕ). map.get files n) (sym h.way.name) ∙ f.1) in
@@ -102,11 +102,11 @@ pub returns-in_err-pairing : goal.returns-in_err-pairing
 returns-in_err-pairing g c = files_exit _ _ _ _ _ _ _ _ _ c.from_residual-in_err-pairing.ensures.1 (files_unread _ _ _ _ _ _ c.in_err-pairing.ensures.only)
 
 pub end_pairing-requires-clause-paired : goal.end_pairing-requires-clause-paired
-end_pairing-requires-clause-paired g c = ready_paired _ _ _ _ _ _ _ _ _ _ c.loop-page.invariant.come
+end_pairing-requires-clause-paired g c = ready_paired _ _ _ _ _ _ _ _ c.loop-page.pairing c.loop-page.invariant.come
 
 pub end_pairing-requires-clause-done : goal.end_pairing-requires-clause-done
 end_pairing-requires-clause-done g c =
-    ready_done _ _ _ _ _ _ _ _ _ _ (omega (arith, c.loop-page-test.false, c.nodes-page-end.ensures.value, c.loop-page.auto._page-end)) c.loop-page.invariant.come
+    ready_done _ _ _ _ _ _ _ _ c.loop-page.pairing (omega (arith, c.loop-page-test.false, c.nodes-page-end.ensures.value, c.loop-page.auto._page-end)) c.loop-page.invariant.come
 
 pub returns-in_err-end_pairing : goal.returns-in_err-end_pairing
 returns-in_err-end_pairing g c =
@@ -121,7 +121,7 @@ returns-in_err-end_pairing g c =
     let limits = c.nodes-page-end.ensures.limits in
     let s = c.in_err-end_pairing.ensures in
     let stands = judged_by _ _ _ _ _ _ _ _ _ _ _ _ _ h.way r.advances r.judged in
-    let e = s.ends files (r.advances.same ∙ h.way.same) _ (none_falls-trans _ _ _ h.way.later r.advances.later) name h.name _ _ (come_until _ _ _ _ _ _ _ _ _ _ _ r.advances.later h.come)
+    let e = s.ends files (r.advances.same ∙ h.way.same) _ (none_falls-trans _ _ _ h.way.later r.advances.later) name h.name _ _ (come_until _ _ _ _ _ _ _ _ _ c.loop-page.pairing r.advances.later h.come)
     (λ t file is. let x = stands t in let k = all_read _ _ _ _ _ _ files _ counts _ _ c.loop-page.reader _ h.way limits r.judged t x.0 x.1 in (places_of k.0, k.1.1 t file is)) in
     files_exit _ _ _ _ _ _ _ _ _ c.from_residual-in_err-end_pairing.ensures.1
     (record {
@@ -149,7 +149,7 @@ returns g c =
     let limits = c.nodes-page-end.ensures.limits in
     let s = c.in_ok-end_pairing.ensures in
     let stands = judged_by _ _ _ _ _ _ _ _ _ _ _ _ _ h.way r.advances r.judged in
-    let e = s.ends files (r.advances.same ∙ h.way.same) _ (none_falls-trans _ _ _ h.way.later r.advances.later) name h.name _ _ (come_until _ _ _ _ _ _ _ _ _ _ _ r.advances.later h.come)
+    let e = s.ends files (r.advances.same ∙ h.way.same) _ (none_falls-trans _ _ _ h.way.later r.advances.later) name h.name _ _ (come_until _ _ _ _ _ _ _ _ _ c.loop-page.pairing r.advances.later h.come)
     (λ t file is. let x = stands t in let k = all_read _ _ _ _ _ _ files _ counts _ _ c.loop-page.reader _ h.way limits r.judged t x.0 x.1 in (places_of k.0, k.1.1 t file is)) in
     record {
       limits = limits;

@@ -22,32 +22,32 @@ loop-page-init g c =
     let files = g.D.Depot.files c.args.depot.now in
     let found : List ℕ = c.args.offsets.now in
     let named = c.in_ok-pairing.ensures.name in
-    let b = c.begin_pairing-so_far.ensures in
+    let b = c.begin_pairing.ensures in
     let first = c.len.ensures.places.first in
     let some : 0 < length found = omega (arith, c.requires) in
     record {
       name = b.name ∙ named;
       same = b.same;
       later = b.later;
-      come = come_at _ _ _ _ _ _ _ _ _ _ _ _ named (sym first) b.come;
+      come = come_at _ _ _ _ _ _ _ _ _ _ c.begin_pairing.new.pairing named (sym first) b.come;
       reads = λ t file is.
-          subst (λ (places : List ℕ). ComesWith file c.begin_pairing-so_far.new.pairing places c.begin_pairing-so_far.result)
+          subst (λ (places : List ℕ). ComesWith file c.begin_pairing.new.pairing places)
           (ap (λ (v : ℕ). v ∷ []) (sym first) ∙ sym (take-suc found 0 0 some))
           (b.reads t file (ap (λ (n : List ℕ). map.get files n) named ∙ is));
     }
 
-pub pair_next-so_far-requires-clause-paired : goal.pair_next-so_far-requires-clause-paired
-pair_next-so_far-requires-clause-paired g c = ready_paired _ _ _ _ _ _ _ _ _ _ c.loop-page.invariant.come
+pub pair_next-requires-clause-paired : goal.pair_next-requires-clause-paired
+pair_next-requires-clause-paired g c = ready_paired _ _ _ _ _ _ _ _ c.loop-page.pairing c.loop-page.invariant.come
 
-pub pair_next-so_far-requires-clause-more : goal.pair_next-so_far-requires-clause-more
-pair_next-so_far-requires-clause-more g c = ready_more _ _ _ _ _ _ _ _ _ _ (omega (arith, c.loop-page-test.true, c.nodes-page-end.ensures.value)) c.loop-page.invariant.come
+pub pair_next-requires-clause-more : goal.pair_next-requires-clause-more
+pair_next-requires-clause-more g c = ready_more _ _ _ _ _ _ _ _ c.loop-page.pairing (omega (arith, c.loop-page-test.true, c.nodes-page-end.ensures.value)) c.loop-page.invariant.come
 
-pub pair_next-so_far-requires-clause-here : goal.pair_next-so_far-requires-clause-here
-pair_next-so_far-requires-clause-here g c =
+pub pair_next-requires-clause-here : goal.pair_next-requires-clause-here
+pair_next-requires-clause-here g c =
     let o = c.place-here.ensures in
     let page = c.loop-page.page in
     let within : page + 1 < length c.args.offsets.now = omega (arith, c.requires, c.loop-page-test.true, c.nodes-page-end.ensures.value) in
-    ready_here _ _ _ _ _ _ _ _ _ _ _ (omega (arith, o.value, c.len.ensures.places.never_fall page (page + 1) 0 (omega arith) within)) c.loop-page.invariant.come
+    ready_here _ _ _ _ _ _ _ _ c.loop-page.pairing _ (omega (arith, o.value, c.len.ensures.places.never_fall page (page + 1) 0 (omega arith) within)) c.loop-page.invariant.come
 
 pub loop-page-preserved : goal.loop-page-preserved
 loop-page-preserved g c =
@@ -57,26 +57,26 @@ loop-page-preserved g c =
     let page = c.loop-page.page in
     let h = c.loop-page.invariant in
     let o = c.place-here.ensures in
-    let s = c.pair_next-so_far.ensures in
+    let s = c.pair_next.ensures in
     let within : page + 1 < length found = omega (arith, c.requires, c.loop-page-test.true, c.nodes-page-end.ensures.value) in
     record {
       name = s.name ∙ h.name;
       same = s.same ∙ h.same;
       later = none_falls-trans _ _ _ h.later s.later;
-      come = come_at _ _ _ _ _ _ _ _ _ _ _ _ refl o.value
+      come = come_at _ _ _ _ _ _ _ _ _ _ c.pair_next.new.pairing refl o.value
           (s.come files h.same _ h.later name h.name _ _ h.come (λ t file is. (take (page + 1) found, h.reads t file is)));
       reads = λ t file is.
-          subst (λ (places : List ℕ). ComesWith file c.pair_next-so_far.new.pairing places c.pair_next-so_far.result)
+          subst (λ (places : List ℕ). ComesWith file c.pair_next.new.pairing places)
           (ap (λ (v : ℕ). take (page + 1) found ++ v ∷ []) o.value ∙ taken found page within)
           (s.reads t files h.same name h.name file is (take (page + 1) found) (h.reads t file is));
     }
 
 pub end_pairing-requires-clause-paired : goal.end_pairing-requires-clause-paired
-end_pairing-requires-clause-paired g c = ready_paired _ _ _ _ _ _ _ _ _ _ c.loop-page.invariant.come
+end_pairing-requires-clause-paired g c = ready_paired _ _ _ _ _ _ _ _ c.loop-page.pairing c.loop-page.invariant.come
 
 pub end_pairing-requires-clause-done : goal.end_pairing-requires-clause-done
 end_pairing-requires-clause-done g c =
-    ready_done _ _ _ _ _ _ _ _ _ _ (omega (arith, c.loop-page-test.false, c.nodes-page-end.ensures.value, c.loop-page.auto.page-end)) c.loop-page.invariant.come
+    ready_done _ _ _ _ _ _ _ _ c.loop-page.pairing (omega (arith, c.loop-page-test.false, c.nodes-page-end.ensures.value, c.loop-page.auto.page-end)) c.loop-page.invariant.come
 
 pub returns-in_err-pairing : goal.returns-in_err-pairing
 returns-in_err-pairing g c =

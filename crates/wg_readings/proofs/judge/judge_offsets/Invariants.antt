@@ -12,6 +12,6 @@ invariant-loop-page g l = let d = g.D.Depot in let stored = l.fn.base ++ OFFSETS
   name : l.pairing.name ≡ stored;
   same : d.files l.depot ≡ d.files l.fn.depot;
   later : NonDecreasing (d.counts l.fn.depot) (d.counts l.depot);
-  come : HasCome d.told (d.files l.fn.depot) (d.counts l.fn.depot) (d.counts l.depot) l.fn.params stored l.page (get_or found l.page 0) l.pairing l.so_far;
-  reads : IsTrue d.told → (file : List ℕ) → map.get (d.files l.fn.depot) stored ≡ Some file → ComesWith file l.pairing (take (l.page + 1) found) l.so_far;
+  come : HasCome d.told (d.files l.fn.depot) (d.counts l.fn.depot) (d.counts l.depot) l.fn.params stored l.page (get_or found l.page 0) l.pairing;
+  reads : IsTrue d.told → (file : List ℕ) → map.get (d.files l.fn.depot) stored ≡ Some file → ComesWith file l.pairing (take (l.page + 1) found);
 }

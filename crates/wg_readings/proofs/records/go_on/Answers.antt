@@ -1,8 +1,9 @@
-use Rattle.std.proofs.Common.{◌≡◌, ◌∙◌, Bool, false, Result, Ok, Err, ap, subst}
+use Rattle.std.proofs.Common.{◌≡◌, ◌∙◌, ℕ, ◌+◌, ◌<◌, ◌≤◌, Bool, true, false, Result, Ok, Err, refl, sym, ap, subst, arith}
 use Rattle.std.specs.FinMap as map
 use Rattle.wg_io.specs.Outside.{Files}
 use Rattle.wg_params.specs.Parameters.{Parameters}
 use Rattle.wg_grammar.specs.Archive.{lists_of, places_of}
+use Rattle.wg_stream.specs.Prefix.{PagesRead}
 use Rattle.wg_stream.specs.declared.first.First.{First}
 use Rattle.wg_stream.specs.declared.state.State.{State}
 use Rattle.wg_stream.specs.declared.stream_error.StreamError.{StreamError}
@@ -21,6 +22,15 @@ lent more = Ok more
 abbrev failed : StreamError → Result Bool StreamError
 failed e = Err e
 
+-- a record was read exactly while there are pages
+at_page : (more : Bool) (page page' nodes : ℕ) → (more ≡ false → (page' ≡ page) × (page' ≡ nodes)) → page < nodes → more ≡ true
+at_page true page page' nodes end lt = refl
+at_page false page page' nodes end lt = let e = end refl in absurd (omega (arith, lt, e.0, e.1))
+
+at_end : (more : Bool) (page page' nodes : ℕ) → (more ≡ true → (page' ≡ page + 1) × (page' ≤ nodes)) → page ≡ nodes → more ≡ false
+at_end false page page' nodes on done = refl
+at_end true page page' nodes on done = let e = on refl in absurd (omega (arith, done, e.0, e.1))
+
 pub returns-in-Ok-clause-advances : goal.returns-in-Ok-clause-advances
 returns-in-Ok-clause-advances g c =
     let e = c.in-Ok.ensures in
@@ -37,19 +47,41 @@ returns-in-Ok-clause-advances g c =
       refused = λ t limits held is found follows r. tt;
     }
 
+pub returns-in-Ok-clause-more : goal.returns-in-Ok-clause-more
+returns-in-Ok-clause-more g c = λ lt.
+    let e = c.in-Ok.ensures in
+    let nodes : c.advance.new.self.pages.params.nodes ≡ c.args.params.now.nodes = ap (λ (p : Parameters). p.nodes) (e.params ∙ c.requires.params) in
+    let more = at_page c.in-Ok._more _ _ _ (λ no. let k = e.end (ap Ok no) in (ap (λ (r : PagesRead). r.page) k.1, k.2 ∙ nodes)) lt in
+    let k = e.more (ap Ok more) in
+    (k.0, k.2, k.4)
+
+pub returns-in-Ok-clause-end : goal.returns-in-Ok-clause-end
+returns-in-Ok-clause-end g c = λ done.
+    let e = c.in-Ok.ensures in
+    let same = e.params ∙ c.requires.params in
+    let nodes : c.advance.new.self.pages.params.nodes ≡ c.args.params.now.nodes = ap (λ (p : Parameters). p.nodes) same in
+    let none = at_end c.in-Ok._more _ _ _ (λ yes. let k = e.more (ap Ok yes) in (k.2, omega (arith, k.3, nodes))) done in
+    let k = e.end (ap Ok none) in
+    ap (λ (r : PagesRead). r.arcs) (sym k.1) ∙ k.3 ∙ ap (λ (p : Parameters). p.arcs) same
+
 pub returns-in-Ok-clause-in_step : goal.returns-in-Ok-clause-in_step
-returns-in-Ok-clause-in_step g c = λ t held same file is whole s.
-    c.in-Ok.ensures.in_step t file (ap (λ (f : Files). map.get f c.args.reader.now.name) same ∙ is) whole s
+returns-in-Ok-clause-in_step g c = λ t held same file is whole s lt.
+    let e = c.in-Ok.ensures in
+    let nodes : c.advance.new.self.pages.params.nodes ≡ c.args.params.now.nodes = ap (λ (p : Parameters). p.nodes) (e.params ∙ c.requires.params) in
+    let more = at_page c.in-Ok._more _ _ _ (λ no. let k = e.end (ap Ok no) in (ap (λ (r : PagesRead). r.page) k.1, k.2 ∙ nodes)) lt in
+    subst (λ (b : Bool). StaysInStep file c.advance.new.self whole (lent b)) more
+    (e.in_step t file (ap (λ (f : Files). map.get f c.args.reader.now.name) same ∙ is) whole s)
 
 pub returns-in-Ok-clause-judged : goal.returns-in-Ok-clause-judged
-returns-in-Ok-clause-judged g c = λ t held same file is whole s end.
+returns-in-Ok-clause-judged g c = λ t held same file is whole s done.
     let e = c.in-Ok.ensures in
-    let none : c.in-Ok.more ≡ false = cc in
-    let after : StaysInStep file c.advance.new.self whole (lent c.in-Ok.more) = e.in_step t file (ap (λ (f : Files). map.get f c.args.reader.now.name) same ∙ is) whole s in
+    let params = e.params ∙ c.requires.params in
+    let nodes : c.advance.new.self.pages.params.nodes ≡ c.args.params.now.nodes = ap (λ (p : Parameters). p.nodes) params in
+    let none = at_end c.in-Ok._more _ _ _ (λ yes. let k = e.more (ap Ok yes) in (k.2, omega (arith, k.3, nodes))) done in
+    let after : StaysInStep file c.advance.new.self whole (lent c.in-Ok._more) = e.in_step t file (ap (λ (f : Files). map.get f c.args.reader.now.name) same ∙ is) whole s in
     let now : IsInStep file c.advance.new.self whole = subst (λ (b : Bool). StaysInStep file c.advance.new.self whole (lent b)) none after in
-    let done = (e.end (ap Ok none)).0 in
-    subst (λ (q : Parameters). IsJudged file q (Ok (record { graph = lists_of whole; places = places_of whole }))) (e.params ∙ c.requires.params)
-    (subst (λ (x : State). AgreesIn x file c.advance.new.self whole) done now).1
+    subst (λ (q : Parameters). IsJudged file q (Ok (record { graph = lists_of whole; places = places_of whole }))) params
+    (subst (λ (x : State). AgreesIn x file c.advance.new.self whole) (e.end (ap Ok none)).0 now).1
 
 pub returns-in-Err-clause-advances : goal.returns-in-Err-clause-advances
 returns-in-Err-clause-advances g c =
@@ -59,10 +91,11 @@ returns-in-Err-clause-advances g c =
     let closed = e.err c.requires.open in
     let f : First = closed.0 in
     let is : c.in-Err.error ≡ of_first f = closed.1 in
-    let first : c.first_in.result ≡ f = c.first_in.ensures ∙ ap first_in is ∙ first_again f in
-    let ending : c.ending_at.result ≡ ending_at p.arcs f = c.ending_at.ensures ∙ ap (ending_at p.arcs) first in
+    let ending : c.ending_of.result ≡ ending_at p.arcs f =
+    c.ending_of.ensures ∙ ap (λ (x : StreamError). ending_at p.arcs (first_in x)) is ∙ ap (ending_at p.arcs) (first_again f)
+    in
     let cause = e.cause c.requires.open f (ap failed is) in
-    advances_at {B = Bool} _ _ _ _ _ p old c.advance.new.self c.ending_at.result (ending_at p.arcs f) ending
+    advances_at {B = Unit {0}} _ _ _ _ _ p old c.advance.new.self c.ending_of.result (ending_at p.arcs f) ending
     (record {
       params = e.params;
       name = e.name;
