@@ -75,8 +75,7 @@ pub fn word_in(code: Code, window: u64) -> Option<Word>
         Code::Unary => unary::word_in(window, (1 << 32) - 1),
         Code::Gamma => gamma::word_in(window, 62),
         Code::Zeta(k) => zeta::word_in(window, k),
-        Code::Delta => None,
-        Code::Nibble => None,
+        _ => None,
     }
 }
 

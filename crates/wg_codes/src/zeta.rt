@@ -49,17 +49,17 @@ pub fn word_in(window: u64, k: u32) -> Option<Word>
     if head + 1 + width > 64 {
         return None;
     }
-    let least = 1u64 << (head * k);
-    // what stands behind the head, in as many bits as the long form has
-    let long = window << head << 1 >> (64 - width);
-    let low = long / 2;
-    let (next, bits) = if low < least {
-        (least + low, head + width)
+    // what stands behind the head, its first bit the highest; the short form has no one among the first k - 1 bits
+    let behind = window << head << 1;
+    let half = behind / 2;
+    let one = 1u64 << (64 - k);
+    let (number, bits) = if half < one {
+        (half + one, head + width)
     } else {
-        (long, head + width + 1)
+        (behind, head + width + 1)
     };
     Some(Word {
-        value: next - 1,
+        value: (number >> (64 - width)) - 1,
         bits: bits as u64,
     })
 }

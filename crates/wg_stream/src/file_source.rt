@@ -8,7 +8,7 @@ ghost use Rattle.wg_stream.specs.StepLaws.{no_step, two_steps, later_cause, stil
 ghost use Rattle.std.proofs.Common.{refl, ◌∙◌};
 
 use crate::Stretch;
-use crate::filling::{next_tail_fault, next_word};
+use crate::filling::{next_tail_fault, word_in_pieces};
 use wg_codes::Read;
 use wg_grammar::Source;
 use wg_io::{Depot, LoadError};
@@ -54,9 +54,13 @@ impl<'a, D: Depot> Source for FileSource<'a, D> {
         self.held.at()
     }
 
+    /// By far the most words are read from what is held, for which the depot and the name are not looked at.
     #[inline(always)]
     fn read(&mut self, code: Code) -> Result<Read, LoadError> {
-        next_word(self.held, self.depot, self.name, code)
+        match self.held.near_word(code) {
+            Some(value) => Ok(Read::Value(value)),
+            None => word_in_pieces(self.held, self.depot, self.name, code),
+        }
     }
 
     fn tail_fault(&mut self) -> Result<Option<u64>, LoadError> {

@@ -37,32 +37,10 @@ fn fill<D: Depot>(held: &mut Stretch, depot: &mut D, name: &str) -> Result<(), L
     Ok(())
 }
 
-/// What stands at the next bit. By far the most words are read here from what is held.
+/// What stands at the next bit, for which maybe more of the file has to be read. What it calls hands its result back in
+/// memory, which is cleared where this begins, so that it is inlined and they are not.
 #[inline(always)]
-pub fn next_word<D: Depot>(
-    held: &mut Stretch,
-    depot: &mut D,
-    name: &str,
-    code: Code,
-) -> Result<Read, LoadError>
-    requires code { IsCode code }
-    ensures steps { Steps D.told name.now (D.files depot.old) (D.files depot.new) (D.counts depot.old)
-        (D.counts depot.new) held.old held.new }
-    ensures cause { IfErr result (HasCause D.told name.now (D.files depot.old) (D.counts depot.old) (D.counts depot.new)
-        held.old) }
-    ensures found { IsTrue D.told → (file : List ℕ) → map.get (D.files depot.old) name.now ≡ Some file
-        → IsHeldOf file held.old → IfOk result (λ r. IsReadAt code (bits_of file) held.old.at r held.new.at) }
-{
-    match held.near_word(code) {
-        Some(value) => Ok(Read::Value(value)),
-        None => word_in_pieces(held, depot, name, code),
-    }
-}
-
-// The same, if maybe more of the file has to be read. What it calls hands its result back in memory, which is cleared
-// where this begins, so that it is inlined and they are not.
-#[inline(always)]
-fn word_in_pieces<D: Depot>(
+pub fn word_in_pieces<D: Depot>(
     held: &mut Stretch,
     depot: &mut D,
     name: &str,
