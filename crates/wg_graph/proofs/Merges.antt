@@ -2,10 +2,9 @@
 use Rattle.std.proofs.Common.{◌≡◌, ◌∙◌, ℕ, zero, suc, ◌+◌, ◌<◌, ◌≤◌, inl, inr, Bool, true, false, leb, List, [], ◌∷◌, ◌++◌, length, drop, get_or, refl, sym, subst, arith}
 use Rattle.std.specs.Prelude.{min}
 use Rattle.std.proofs.lemmas.Bool.{cases_order, le-leb, lt-leb}
-use Rattle.std.proofs.lemmas.List.{drop_more, drop_all, append-nil, append_assoc}
+use Rattle.std.proofs.lemmas.List.{drop_more, drop_all, append_assoc}
 use Rattle.wg_graph.specs.Ascending.{Ascends, Below}
 use Rattle.wg_graph.specs.Numbers.{is_in_either, numbers_where}
-use Rattle.wg_graph.proofs.Sets.{grow_end}
 use Rattle.wg_graph.proofs.Merged.{Merging, take_a, take_b, take_both}
 use Rattle.wg_graph.proofs.Unions.{rest_follows, below_drop}
 use mir.Val.{bool_byte}

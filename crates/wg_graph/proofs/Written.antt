@@ -1,7 +1,7 @@
 -- Numbers that are written in whole pieces.
-use Rattle.std.proofs.Common.{◌≡◌, ℕ, zero, suc, ◌+◌, ◌-◌, ◌≤◌, List, [], ◌∷◌, ◌++◌, length, take, drop, slice_range, slice_set, refl, sym, ap, ◌∙◌, arith}
+use Rattle.std.proofs.Common.{◌≡◌, ℕ, zero, suc, ◌+◌, ◌≤◌, List, [], ◌∷◌, ◌++◌, length, take, slice_set, refl, sym, ap, ◌∙◌, arith}
 use Rattle.std.specs.List.{range_with_len}
-use Rattle.std.proofs.lemmas.List.{append_assoc, length-take-le, take-take, take-append-drop, drop-take, take_more_set}
+use Rattle.std.proofs.lemmas.List.{append_assoc, length-take-le, take-take, take_more_set}
 use Rattle.std.proofs.Math.Seq.{take-append-add}
 
 -- ---- the front of what was written
@@ -13,18 +13,6 @@ front old to xs at done count fits le h =
     sym (take-take (at + count) (at + done) to less) ∙ ap (λ (l : List ℕ). take (at + count) l) h ∙ ap (λ (k : ℕ). take (k + count) (take at old ++ xs)) long ∙ take-append-add (take at old) xs count
 
 -- ---- copies
-
-take_both : (from : List ℕ) (m n : ℕ) → take m from ++ take n (drop m from) ≡ take (m + n) from
-take_both from m n =
-    let le : m ≤ m + n = omega arith in
-    ap (λ (l : List ℕ). l ++ take n (drop m from)) (sym (take-take m (m + n) from le)) ∙ ap (λ (l : List ℕ). take m (take (m + n) from) ++ l) (sym (drop-take m n from)) ∙ take-append-drop m (take (m + n) from)
-
-pub copied_on : (old from to now : List ℕ) (at done n : ℕ) → take (at + done) to ≡ take at old ++ take done from → take (at + done + n) now ≡ take (at + done) to ++ slice_range from done (done + n) → take (at + (done + n)) now ≡ take at old ++ take (done + n) from
-copied_on old from to now at done n before put =
-    let place : at + (done + n) ≡ at + done + n = omega arith in
-    let count : done + n - done ≡ n = omega arith in
-    ap (λ (k : ℕ). take k now) place ∙ put ∙ ap (λ (l : List ℕ). l ++ slice_range from done (done + n)) before ∙ append_assoc (take at old) (take done from) (slice_range from done (done + n))
-    ∙ ap (λ (l : List ℕ). take at old ++ l) (ap (λ (k : ℕ). take done from ++ take k (drop done from)) count ∙ take_both from done n)
 
 pub copied_all : (old from to : List ℕ) (at done count : ℕ) → at ≤ length old → count ≤ done → take (at + done) to ≡ take at old ++ take done from → take (at + count) to ≡ take at old ++ take count from
 copied_all old from to at done count fits le h = front old to (take done from) at done count fits le h ∙ ap (λ (l : List ℕ). take at old ++ l) (take-take count done from le)

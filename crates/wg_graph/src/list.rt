@@ -30,7 +30,8 @@ impl Model for List {
     ghost invariant = { λ a. a.len ≤ length a.numbers.items };
 }
 
-// Makes room for so many numbers behind the first `len`, and for twice as many as there was.
+// Makes room for so many numbers behind the first `len`: all that its memory has, with more memory if there is too
+// little.
 #[cold]
 #[inline(never)]
 fn make_room(numbers: &mut Vec<u64>, len: usize, room: usize) -> Result<(), AllocError>
@@ -40,7 +41,8 @@ fn make_room(numbers: &mut Vec<u64>, len: usize, room: usize) -> Result<(), Allo
     ensures within { len ≤ length numbers.new.items }
 {
     let least = len.checked_add(room).ok_or(AllocError)?;
-    numbers.resize(least.max(numbers.len().saturating_mul(2)), 0)
+    numbers.reserve(least.saturating_sub(numbers.len()))?;
+    numbers.resize(numbers.capacity(), 0)
 }
 
 // Has room for so many numbers behind the first `len`.
@@ -54,6 +56,33 @@ fn have_room(numbers: &mut Vec<u64>, len: usize, room: usize) -> Result<(), Allo
     if numbers.len() - len < room {
         make_room(numbers, len, room)?;
     }
+    Ok(())
+}
+
+// Puts numbers behind the first `len`, in place of all that stands there.
+#[inline(never)]
+fn put_anew(numbers: &mut Vec<u64>, len: usize, more: &[u64]) -> Result<(), AllocError>
+    requires { len ≤ length numbers.old.items }
+    ensures ok { OnOk result (numbers.new.items ≡ take len numbers.old.items ++ more.now) }
+    ensures err { OnErr result (numbers.new.items ≡ take len numbers.old.items) }
+{
+    numbers.truncate(len);
+    numbers.extend_from_slice(more)
+}
+
+// Puts numbers behind the first `len`, over what stands there if that is enough.
+#[inline(always)]
+fn put(numbers: &mut Vec<u64>, len: usize, more: &[u64]) -> Result<(), AllocError>
+    requires { len ≤ length numbers.old.items }
+    ensures ok { OnOk result (take (len + length more.now) numbers.new.items ≡ take len numbers.old.items ++ more.now) }
+    ensures room { OnOk result (len + length more.now ≤ length numbers.new.items) }
+    ensures err { OnErr result (take len numbers.new.items ≡ take len numbers.old.items) }
+    ensures within { len ≤ length numbers.new.items }
+{
+    if numbers.len() - len < more.len() {
+        return put_anew(numbers, len, more);
+    }
+    numbers[len..len + more.len()].copy_from_slice(more);
     Ok(())
 }
 
@@ -72,16 +101,17 @@ impl List {
     pub fn with_room(alloc: Global, room: usize) -> Result<List, AllocError>
         ensures { IfOk result (λ list. list ≡ []) }
     {
-        let mut numbers = Vec::with_capacity(alloc, room)?;
-        numbers.resize(room, 0)?;
-        Ok(List { numbers, len: 0 })
+        Ok(List {
+            numbers: Vec::with_capacity(alloc, room)?,
+            len: 0,
+        })
     }
 
     /// For how many numbers it has memory.
     pub fn room(&self) -> usize
         ensures { length self.now ≤ result }
     {
-        self.numbers.len()
+        self.numbers.capacity()
     }
 
     /// Makes room for so many numbers more and a few besides, and for others where it is made anew.
@@ -118,14 +148,12 @@ impl List {
         ensures ok { OnOk result (self.new ≡ self.old ++ numbers.now) }
         ensures err { OnErr result (self.new ≡ self.old) }
     {
-        have_room(&mut self.numbers, self.len, numbers.len())?;
-        let end = self.len + numbers.len();
-        self.numbers[self.len..end].copy_from_slice(numbers);
-        self.len = end;
+        put(&mut self.numbers, self.len, numbers)?;
+        self.len += numbers.len();
         Ok(())
     }
 
-    /// Adds the first of these numbers, so many, at the end: eight at a time, where there are eight.
+    /// Adds the first of these numbers, so many, at the end; up to eight without a call, where there are eight.
     #[inline(always)]
     pub fn extend_first(&mut self, numbers: &[u64], count: usize) -> Result<(), AllocError>
         requires { count ≤ length numbers.now }
@@ -153,7 +181,7 @@ impl List {
     }
 
     /// Puts the numbers of two ascending lists in place of its own: ascending, a number of both once.
-    #[inline(always)]
+    #[inline(never)]
     pub fn put_union(&mut self, members: &[u64], numbers: &[u64]) -> Result<(), AllocError>
         requires members { Ascends 0 members.now }
         requires numbers { Ascends 0 numbers.now }

@@ -1,5 +1,5 @@
 //! Numbers that are written in whole pieces, past the last of them, where what stands behind has no meaning.
-ghost use Rattle.std.specs.Prelude.{◌≡◌, ℕ, List, ◌+◌, ◌-◌, ◌^◌, ◌<◌, ◌≤◌, ◌∷◌, ◌++◌, length, take, drop, slice_range};
+ghost use Rattle.std.specs.Prelude.{◌≡◌, ℕ, List, ◌+◌, ◌-◌, ◌^◌, ◌<◌, ◌≤◌, ◌∷◌, ◌++◌, length, take, drop};
 ghost use Rattle.std.specs.List.{range_with_len};
 ghost use Rattle.wg_graph.specs.Ascending.{Ascends, Below};
 ghost use Rattle.wg_graph.specs.declared.pieces.TheConstants.{PIECE};
@@ -9,37 +9,17 @@ pub(crate) const PIECE: usize = 8;
 
 // Copies a piece to this place.
 #[inline(always)]
-fn copy_piece(to: &mut [u64], at: usize, from: &[u64], start: usize)
+fn copy_piece(to: &mut [u64], at: usize, from: &[u64])
     requires to { at + PIECE ≤ length to.old }
-    requires from { start + PIECE ≤ length from.now }
+    requires from { PIECE ≤ length from.now }
     ensures length { length to.new ≡ length to.old }
-    ensures copied { take (at + PIECE) to.new ≡ take at to.old ++ slice_range from.now start (start + PIECE) }
+    ensures copied { take (at + PIECE) to.new ≡ take at to.old ++ take PIECE from.now }
     ensures kept { drop (at + PIECE) to.new ≡ drop (at + PIECE) to.old }
 {
-    to[at..at + PIECE].copy_from_slice(&from[start..start + PIECE]);
+    to[at..at + PIECE].copy_from_slice(&from[..PIECE]);
 }
 
-// Copies a piece to this place, or what is left if that is no whole piece, and tells how many numbers these are.
-#[inline(always)]
-fn copy_some(to: &mut [u64], at: usize, from: &[u64], start: usize) -> usize
-    requires to { at + PIECE ≤ length to.old }
-    requires from { start < length from.now }
-    ensures some { 0 < result }
-    ensures within { start + result ≤ length from.now }
-    ensures length { length to.new ≡ length to.old }
-    ensures copied { take (at + result) to.new ≡ take at to.old ++ slice_range from.now start (start + result) }
-    ensures kept { drop (at + PIECE) to.new ≡ drop (at + PIECE) to.old }
-{
-    let left = from.len() - start;
-    if left < PIECE {
-        to[at..at + left].copy_from_slice(&from[start..]);
-        return left;
-    }
-    copy_piece(to, at, from, start);
-    PIECE
-}
-
-// Copies the first numbers, so many, to this place and on.
+// Copies the first numbers, so many, to this place and on: up to a piece without a call, where there is a piece.
 #[inline(always)]
 pub(crate) fn copy(to: &mut [u64], at: usize, from: &[u64], count: usize)
     requires to { at + count + PIECE ≤ length to.old }
@@ -48,10 +28,11 @@ pub(crate) fn copy(to: &mut [u64], at: usize, from: &[u64], count: usize)
     ensures copied { take (at + count) to.new ≡ take at to.old ++ take count from.now }
     ensures kept { drop (at + count + PIECE) to.new ≡ drop (at + count + PIECE) to.old }
 {
-    let mut done = 0;
-    'pieces: while done < count {
-        done += copy_some(to, at + done, from, done);
+    if count <= PIECE && PIECE <= from.len() {
+        copy_piece(to, at, from);
+        return;
     }
+    to[at..at + count].copy_from_slice(&from[..count]);
 }
 
 // Writes a piece of numbers that follow one another.
