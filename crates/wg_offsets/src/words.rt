@@ -41,24 +41,10 @@ impl Model for Words {
     ghost invariant = { λ w. IsCode w.code × (w.pages ≤ MOST_PAGES) × (w.count ≤ w.pages + 1) × (w.offset ≤ MOST_PLACE) };
 }
 
-// The offset that a word leads to from another, if so many words stand before it. Of a file that is in order, all words
-// but the first are told here.
+// The offset that a word leads to from another, if so many words stand before it. All of it is inlined, so that no
+// error takes room in memory that each word would clear.
 #[inline(always)]
 fn lead(count: u64, offset: u64, read: Read) -> Result<u64, OffsetWord>
-    requires { offset ≤ MOST_PLACE }
-    ensures leads { IfOk result (λ next. LeadsBy count offset read next) }
-    ensures refused { IfErr result (λ e. refusal count offset read ≡ Some e) }
-{
-    match read {
-        Read::Value(value) if count > 0 && value <= MOST_PLACE - offset => Ok(offset + value),
-        _ => lead_seldom(count, offset, read),
-    }
-}
-
-// The same of any word.
-#[cold]
-#[inline(never)]
-fn lead_seldom(count: u64, offset: u64, read: Read) -> Result<u64, OffsetWord>
     requires { offset ≤ MOST_PLACE }
     ensures leads { IfOk result (λ next. LeadsBy count offset read next) }
     ensures refused { IfErr result (λ e. refusal count offset read ≡ Some e) }

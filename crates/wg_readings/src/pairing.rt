@@ -37,6 +37,8 @@ pub struct Pairing {
 }
 
 // How a job ends whose offsets file is not read on.
+#[cold]
+#[inline(never)]
 fn load_ending(error: LoadError) -> Ending
     ensures { result ≡ load_ending error }
 {
@@ -48,9 +50,8 @@ fn load_ending(error: LoadError) -> Ending
     }
 }
 
-// How a job ends at a word.
-#[cold]
-#[inline(never)]
+// How a job ends at a word. It is inlined, so that an ending takes room in memory only where there is one.
+#[inline(always)]
 fn word_ending(error: WordError<LoadError>, params: &Params) -> Ending
     ensures { result ≡ word_ending params.now.arcs error }
 {

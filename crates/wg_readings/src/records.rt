@@ -19,6 +19,8 @@ use wg_stream::{First, Reader, StreamError};
 use wg_words::Name;
 
 // The first error of a reading, which each later one names.
+#[cold]
+#[inline(never)]
 fn first_in(error: StreamError) -> First
     ensures { result ≡ first_in error }
 {
@@ -35,6 +37,8 @@ fn first_in(error: StreamError) -> First
 }
 
 // How a job ends at an error of its graph file.
+#[cold]
+#[inline(never)]
 fn ending_at(first: First, params: &Params) -> Ending
     ensures { result ≡ ending_at params.now.arcs first }
 {
@@ -49,9 +53,8 @@ fn ending_at(first: First, params: &Params) -> Ending
     }
 }
 
-// How a job ends at an error of a reader.
-#[cold]
-#[inline(never)]
+// How a job ends at an error of a reader. It is inlined, so that an ending takes room in memory only where there is one.
+#[inline(always)]
 fn ending_of(error: StreamError, params: &Params) -> Ending
     ensures { result ≡ ending_at params.now.arcs (first_in error) }
 {
