@@ -50,7 +50,7 @@ fn load_ending(error: LoadError) -> Ending
     }
 }
 
-// How a job ends at a word. It is inlined, so that an ending takes room in memory only where there is one.
+// How a job ends at a word. It is inlined: an ending takes room in memory only where there is one.
 #[inline(always)]
 fn word_ending(error: WordError<LoadError>, params: &Params) -> Ending
     ensures { result ≡ word_ending params.now.arcs error }

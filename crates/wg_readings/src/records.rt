@@ -53,7 +53,7 @@ fn ending_at(first: First, params: &Params) -> Ending
     }
 }
 
-// How a job ends at an error of a reader. It is inlined, so that an ending takes room in memory only where there is one.
+// How a job ends at an error of a reader. It is inlined: an ending takes room in memory only where there is one.
 #[inline(always)]
 fn ending_of(error: StreamError, params: &Params) -> Ending
     ensures { result ≡ ending_at params.now.arcs (first_in error) }
