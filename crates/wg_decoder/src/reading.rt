@@ -45,14 +45,11 @@ pub(crate) fn decode_members<S: Source>(
     ensures below { IfOk result (λ d. Below params.now.nodes d.list) }
     ensures few { IfOk result (λ d. length d.list ≤ head.outdegree) }
 {
+    let mut list = lend(&mut spares.furthest, spares.alloc, head.outdegree as usize);
     if head.outdegree == 0 {
-        let empty = lend(&mut spares.furthest, spares.alloc, 0, 0)?;
-        return Ok(Decoded {
-            list: empty,
-            depth: 0,
-        });
+        return Ok(Decoded { list, depth: 0 });
     }
-    let list = members(spares, params, page, head, named, source)?;
+    members(&mut list, spares, params, page, head, named, source)?;
     if (list.as_slice().len() as u64) < head.outdegree {
         return Err(Unread::Fault(Fault {
             page,

@@ -4,8 +4,9 @@ use Rattle.std.proofs.lemmas.List.{take_rest}
 use Rattle.wg_codes.specs.Fold.{number_of_gap}
 use Rattle.wg_graph.specs.Joined.{Joined}
 use Rattle.wg_graph.proofs.Unions.{joined_none}
+use Rattle.wg_decoder.specs.Residuals.{ResidualsJoin}
 use Rattle.wg_decoder.proofs.Faults.{fault_weaker, refusal_weaker}
-use Rattle.wg_decoder.proofs.ResidualLemmas.{residuals_begin, residuals_fail, own_first, joining_first, joining_more, joining_fails, joining_all}
+use Rattle.wg_decoder.proofs.ResidualLemmas.{residuals_begin, residuals_fail, own_first, joining_first, joining_more, joining_fails, joining_all, joins_none}
 use Rattle.wg_decoder.proofs.residuals.residuals_in.Goals as goal
 
 pub returns-in_err-last-clause-fault : goal.returns-in_err-last-clause-fault
@@ -26,7 +27,7 @@ rest-init g c =
     let y = c.in_ok-last.last in
     let taken = c.in_ok-taken.taken in
     let fits : y < q.nodes = omega (arith, c.in_ok-last.ensures.below, c.nodes-nodes.ensures.value) in
-    let none : Joined members [] 0 c.args.empty 0 = subst (λ (out : List ℕ). Joined members [] 0 out 0) (sym c.requires.empty) (joined_none members c.requires.ascends) in
+    let none : Joined members [] 0 c.args.list.now 0 = subst (λ (out : List ℕ). Joined members [] 0 out 0) (sym c.requires.empty) (joined_none members c.requires.ascends) in
     record {
       later = c.in_ok-last.ensures.later;
       inside = fits;
