@@ -17,6 +17,8 @@ use wg_grammar::ArchiveFault;
 use wg_io::{Depot, LoadError};
 
 // The error of a reading. The records and the tail have no fault of the offsets.
+#[cold]
+#[inline(never)]
 fn first_of(error: PagesError<LoadError>) -> First
     requires { OfFault error IsOfGraph }
     ensures { Says error result }
@@ -74,6 +76,8 @@ pub fn next_record<D: Depot>(
 }
 
 /// Judges what follows the records.
+#[cold]
+#[inline(never)]
 pub fn judge_end<D: Depot>(
     pages: &Pages,
     held: &mut Stretch,
