@@ -1,10 +1,10 @@
 // An offset that moves over bits.
-ghost use Rattle.std.specs.Prelude.{◌≡◌, ℕ, ◌+◌, ◌-◌, ◌*◌, ◌^◌, ◌<◌, ◌≤◌, Bool, false, List, [], ◌∷◌, ◌++◌, length, replicate, IfSome, IfNone};
+ghost use Rattle.std.specs.Prelude.{◌≡◌, ℕ, ◌+◌, ◌-◌, ◌*◌, ◌^◌, ◌<◌, ◌≤◌, Bool, false, List, [], ◌∷◌, ◌++◌, length, get_or, replicate, IfSome, IfNone};
 ghost use Rattle.wg_io.specs.declared.limits.TheConstants.{MOST_BYTES};
 ghost use Rattle.wg_bits.specs.Bits.{bits_of, low_bits, front, Position, rest, moved, BeginsWithNoZero};
 
 use crate::Bits;
-use crate::window::window;
+use crate::window::{glance, window};
 use std::marker::Model;
 
 /// An offset in some bits, counted in bits from the first.
@@ -83,6 +83,15 @@ impl<'a> Cursor<'a> {
         ensures { low_bits 64 result ≡ front 64 (rest self.now) }
     {
         window(self.bytes, self.at)
+    }
+
+    /// The next 57 bits as the highest of a number, the first of them its highest. What stands behind them is not told, so
+    /// that it takes less than to [`peek`](Cursor::peek).
+    #[inline(always)]
+    pub fn glance(&self) -> u64
+        ensures { (i : ℕ) → i < 57 → get_or (low_bits 64 result) i false ≡ get_or (rest self.now) i false }
+    {
+        glance(self.bytes, self.at)
     }
 
     /// Moves over bits that are there.

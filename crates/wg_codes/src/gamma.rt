@@ -36,14 +36,14 @@ pub fn read(cursor: &mut Cursor<'_>, most: u64) -> Read
     read_in_steps(cursor, most)
 }
 
-// The word that 64 bits begin with, if all of it lies within them.
+// The word that 64 bits begin with, if all of it lies within the first 57 of them.
 #[inline(always)]
 pub fn word_in(window: u64, most: u64) -> Option<Word>
     requires { most ≤ 62 }
     ensures { IfSome result (Tells gamma (2 ^ (most + 1) - 2) window) }
 {
     let index = window.leading_zeros();
-    if index as u64 > most.min(31) {
+    if index as u64 > most.min(28) {
         return None;
     }
     Some(Word {

@@ -35,14 +35,14 @@ pub fn read(cursor: &mut Cursor<'_>, most: u64) -> Read
     read_in_steps(cursor, most)
 }
 
-// The word that 64 bits begin with, if all of it lies within them.
+// The word that 64 bits begin with, if all of it lies within the first 57 of them.
 #[inline(always)]
 pub fn word_in(window: u64, most: u64) -> Option<Word>
     requires { most < 2 ^ 32 }
     ensures { IfSome result (Tells unary most window) }
 {
     let zeros = window.leading_zeros() as u64;
-    if zeros >= 64 || zeros > most {
+    if zeros >= 57 || zeros > most {
         return None;
     }
     Some(Word {

@@ -38,7 +38,7 @@ pub fn read(cursor: &mut Cursor<'_>, k: u32) -> Read
     read_in_steps(cursor, k)
 }
 
-// The word that 64 bits begin with, if with its head the long form lies within them.
+// The word that 64 bits begin with, if with its head the long form lies within the first 57 of them.
 #[inline(always)]
 pub fn word_in(window: u64, k: u32) -> Option<Word>
     requires { (1 ≤ k) × (k ≤ 31) }
@@ -46,7 +46,7 @@ pub fn word_in(window: u64, k: u32) -> Option<Word>
 {
     let head = window.leading_zeros();
     let width = head * k + k;
-    if head + 1 + width > 64 {
+    if head + width + 1 > 57 {
         return None;
     }
     // what stands behind the head, its first bit the highest; the short form has no one among the first k - 1 bits

@@ -23,6 +23,9 @@ use wg_params::Code;
 // No word but those of unary has more bytes, wherever in a byte it begins.
 pub const WORD: usize = 17;
 
+// So many bits are seen at a glance. The words that are told by 64 bits have no more.
+const GLANCE: u64 = 57;
+
 /// The most bytes of a file that are held at a time, and that one call reads.
 pub const MOST_HELD: usize = 4096;
 
@@ -264,7 +267,10 @@ impl Stretch {
             return None;
         }
         let near = Cursor::new(Bits::of(&self.bytes[from..from + WORD]), self.here % 8);
-        let found = wg_codes::word_in(code, near.peek())?;
+        let found = wg_codes::word_in(code, near.glance())?;
+        if found.bits > GLANCE {
+            return None;
+        }
         self.here += found.bits;
         Some(found.value)
     }

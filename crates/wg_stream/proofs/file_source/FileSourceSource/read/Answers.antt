@@ -9,8 +9,7 @@ use Rattle.wg_stream.proofs.file_source.FileSourceSource.read.Goals as goal
 
 pub returns-in-Some-clause-found : goal.returns-in-Some-clause-found
 returns-in-Some-clause-found g c = λ bits r.
-    subst (λ (b : List Bool). IsReadAt c.args.code b c.args.self.now.held.now.at (Value c.in-Some.value) c.near_word.new.self.at) r.1.3
-    (
+    subst (λ (b : List Bool). IsReadAt c.args.code b c.args.self.now.held.now.at (Value c.in-Some.value) c.near_word.new.self.at) r.1.3 (
       whole_of_file c.args.code r.1.0 c.args.self.now.held.now (Value c.in-Some.value) (λ (e : Value c.in-Some.value ≡ Cut). cc e) c.near_word.ensures.inside r.1.2 c.in-Some.ensures.found,
       c.in-Some.ensures.stops,
     )

@@ -6,7 +6,7 @@ use Rattle.wg_codes.specs.declared.outcome.Read.TheVariants.{Value}
 use Rattle.wg_codes.proofs.PrefixReads.{prefix_value}
 use Rattle.wg_stream.specs.Held.{Held, ahead}
 use Rattle.wg_stream.specs.declared.stretch.TheConstants.{WORD}
-use Rattle.wg_stream.proofs.NearLemmas.{near_bits, length-near}
+use Rattle.wg_stream.proofs.NearLemmas.{near_bits, length-near, told_here}
 use Rattle.wg_stream.proofs.stretch.Stretch.near_word.Goals as goal
 
 pub new-near-requires : goal.new-near-requires
@@ -29,8 +29,8 @@ returns-clause-found c =
     ∙ ap (λ (h : Held). drop (8 * (s.here / 8) + s.here % 8) (bits_of h.bytes)) (sym c.self.view_is)
     ∙ near_bits s.bytes s.length (s.here / 8) (s.here % 8) m (omega arith) (omega (arith, c.self.invariant.0)) (omega arith)
     ∙ ap (λ (z : List Bool). z ++ behind) (sym near) in
-    let fits : c.in_ok-found.found.bits ≤ length (rest c.new-near.result) =
-    omega (arith, c.in_ok-found.ensures.few, ap length near, length-drop (s.here % 8) (bits_of (take m (drop (s.here / 8) s.bytes))), long) in
+    let fits : 57 ≤ length (rest c.new-near.result) =
+    omega (arith, ap length near, length-drop (s.here % 8) (bits_of (take m (drop (s.here / 8) s.bytes))), long) in
     subst (λ (z : List Bool). Reads (word c.args.code) (top c.args.code) z (Value c.in_ok-found.found.value)) (sym whole)
     (prefix_value (word c.args.code) (top c.args.code) c.in_ok-found.found.value (rest c.new-near.result) behind
-    (c.in_ok-found.ensures.read (rest c.new-near.result) c.peek.ensures fits))
+    (told_here (word c.args.code) (top c.args.code) c.glance.result 57 (rest c.new-near.result) fits c.glance.ensures c.in_ok-found.found c.in_ok-found.ensures (omega arith)))
