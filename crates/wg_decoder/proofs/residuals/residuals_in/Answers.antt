@@ -4,9 +4,8 @@ use Rattle.std.proofs.lemmas.List.{take_rest}
 use Rattle.wg_codes.specs.Fold.{number_of_gap}
 use Rattle.wg_graph.specs.Joined.{Joined}
 use Rattle.wg_graph.proofs.Unions.{joined_none}
-use Rattle.wg_decoder.specs.Residuals.{ResidualsJoin}
 use Rattle.wg_decoder.proofs.Faults.{fault_weaker, refusal_weaker}
-use Rattle.wg_decoder.proofs.ResidualLemmas.{residuals_begin, residuals_fail, own_first, joining_first, joining_more, joining_fails, joining_all, joins_none}
+use Rattle.wg_decoder.proofs.ResidualLemmas.{residuals_begin, residuals_fail, own_first, joining_first, joining_more, joining_fails, joining_all}
 use Rattle.wg_decoder.proofs.residuals.residuals_in.Goals as goal
 
 pub returns-in_err-last-clause-fault : goal.returns-in_err-last-clause-fault
