@@ -74,7 +74,8 @@ impl Row {
         self.len += 1;
     }
 
-    /// Adds the first of these numbers, so many, at the end of the list: eight at a time, where there are eight.
+    /// Adds the first of these numbers, so many, at the end of the list; up to eight without a call, where there are
+    /// eight.
     #[inline(always)]
     pub fn extend(&mut self, numbers: &[u64], count: usize)
         requires within { count ≤ length numbers.now }
