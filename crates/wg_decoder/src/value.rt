@@ -50,6 +50,30 @@ pub fn value<S: Source>(
     }
 }
 
+/// The same, where the code is most likely gamma: it is asked for first, so that its words need not be told from those of
+/// five.
+#[inline(always)]
+pub fn usual_value<S: Source>(
+    page: u64,
+    field: Field,
+    code: Code,
+    source: &mut S,
+) -> Result<u64, Unread<S::Refusal>>
+    requires { IsCode code }
+    ensures later { S.later source.old source.new }
+    ensures no_memory { WantsNoMemory result }
+    ensures refused { OnRefusal result (S.caused source.old source.new) }
+    ensures ok { (bits : List Bool) → S.reads_from source.old bits
+        → IfOk result (λ v. IsWordAt code bits (S.offset source.old) v (S.offset source.new)) }
+    ensures fault { (bits : List Bool) → S.reads_from source.old bits
+        → OnFault result (λ e. IsNoWordAt field code bits (S.offset source.old) page e) }
+{
+    match code {
+        Code::Gamma => value(page, field, Code::Gamma, source),
+        code => value(page, field, code, source),
+    }
+}
+
 /// The page that the word that comes next means: by its distance from `page`, where nothing comes before it; else by
 /// its distance from `before`, less 1.
 #[inline(always)]
