@@ -5,7 +5,7 @@ ghost use Rattle.wg_graph.specs.Numbers.{is_in_either, numbers_where};
 ghost use Rattle.wg_graph.specs.Joined.{Joined};
 
 use crate::merging::{write_joined, write_union};
-use crate::pieces::{PIECE, copy, write_run};
+use crate::pieces::{PIECE, copy_piece, write_run};
 use std::alloc::{AllocError, Global};
 use std::marker::Model;
 
@@ -86,6 +86,29 @@ fn put(numbers: &mut Vec<u64>, len: usize, more: &[u64]) -> Result<(), AllocErro
     Ok(())
 }
 
+// Puts the first of these numbers, so many, behind the first `len`: up to a piece without a call, where there is a piece
+// and room for it.
+#[inline(always)]
+fn put_first(
+    numbers: &mut Vec<u64>,
+    len: usize,
+    more: &[u64],
+    count: usize,
+) -> Result<(), AllocError>
+    requires len { len ≤ length numbers.old.items }
+    requires count { count ≤ length more.now }
+    ensures ok { OnOk result (take (len + count) numbers.new.items ≡ take len numbers.old.items ++ take count more.now) }
+    ensures room { OnOk result (len + count ≤ length numbers.new.items) }
+    ensures err { OnErr result (take len numbers.new.items ≡ take len numbers.old.items) }
+    ensures within { len ≤ length numbers.new.items }
+{
+    if count <= PIECE && PIECE <= more.len() && PIECE <= numbers.len() - len {
+        copy_piece(numbers, len, more);
+        return Ok(());
+    }
+    put(numbers, len, &more[..count])
+}
+
 impl List {
     /// No numbers, and no memory yet.
     pub fn new(alloc: Global) -> List
@@ -114,12 +137,12 @@ impl List {
         self.numbers.capacity()
     }
 
-    /// Makes room for so many numbers more and a few besides, and for others where it is made anew.
+    /// Makes room for so many numbers more, and for others where it is made anew.
     #[inline(always)]
     pub fn reserve(&mut self, room: usize) -> Result<(), AllocError>
         ensures { self.new ≡ self.old }
     {
-        have_room(&mut self.numbers, self.len, room.saturating_add(PIECE))
+        have_room(&mut self.numbers, self.len, room)
     }
 
     /// Drops all numbers, and keeps the memory for others.
@@ -153,15 +176,15 @@ impl List {
         Ok(())
     }
 
-    /// Adds the first of these numbers, so many, at the end; up to eight without a call, where there are eight.
+    /// Adds the first of these numbers, so many, at the end; up to eight without a call, where there are eight and room
+    /// for them.
     #[inline(always)]
     pub fn extend_first(&mut self, numbers: &[u64], count: usize) -> Result<(), AllocError>
         requires { count ≤ length numbers.now }
         ensures ok { OnOk result (self.new ≡ self.old ++ take count numbers.now) }
         ensures err { OnErr result (self.new ≡ self.old) }
     {
-        have_room(&mut self.numbers, self.len, count + PIECE)?;
-        copy(&mut self.numbers, self.len, numbers, count);
+        put_first(&mut self.numbers, self.len, numbers, count)?;
         self.len += count;
         Ok(())
     }

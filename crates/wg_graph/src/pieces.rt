@@ -9,7 +9,7 @@ pub(crate) const PIECE: usize = 8;
 
 // Copies a piece to this place.
 #[inline(always)]
-fn copy_piece(to: &mut [u64], at: usize, from: &[u64])
+pub(crate) fn copy_piece(to: &mut [u64], at: usize, from: &[u64])
     requires to { at + PIECE ≤ length to.old }
     requires from { PIECE ≤ length from.now }
     ensures length { length to.new ≡ length to.old }
