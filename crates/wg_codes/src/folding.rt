@@ -31,11 +31,13 @@ pub fn unfold_from(from: u64, value: u64) -> Option<u64>
     ensures { result ≡ unfolded_from from value }
 {
     let half = value / 2;
-    if value % 2 == 0 {
-        Some(from + half)
-    } else {
-        from.checked_sub(half + 1)
+    let below = value % 2 == 1;
+    if below && half >= from {
+        return None;
     }
+    // one of two numbers, and not one of two ways: on which side of `from` it lies can't be foreseen
+    let far = if below { u64::MAX - half } else { half };
+    Some(from.wrapping_add(far))
 }
 
 /// The number that a stored gap means, where it is known to mean one: by its distance from `from`, where nothing comes

@@ -50,10 +50,11 @@ pub fn value<S: Source>(
     }
 }
 
-/// The same, where the code is most likely gamma: it is asked for first, so that its words need not be told from those of
-/// five.
+/// The same, where the code is most likely the usual one: it is asked for first, so that its words need not be told from
+/// those of five.
 #[inline(always)]
 pub fn usual_value<S: Source>(
+    usual: Code,
     page: u64,
     field: Field,
     code: Code,
@@ -68,10 +69,10 @@ pub fn usual_value<S: Source>(
     ensures fault { (bits : List Bool) → S.reads_from source.old bits
         → OnFault result (λ e. IsNoWordAt field code bits (S.offset source.old) page e) }
 {
-    match code {
-        Code::Gamma => value(page, field, Code::Gamma, source),
-        code => value(page, field, code, source),
+    if code == usual {
+        return value(page, field, usual, source);
     }
+    value(page, field, code, source)
 }
 
 /// The page that the word that comes next means: by its distance from `page`, where nothing comes before it; else by
