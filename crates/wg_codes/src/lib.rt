@@ -24,7 +24,7 @@
 //! [`Code`] works for a `Zeta(k)` with `k` from 1 to 31 and for every other code.
 //!
 //! No call takes memory. A word is read and written by a fixed number of loads and shifts, and never bit by bit; a
-//! word of gamma or zeta that lies within 64 bits, as nearly all do, by one load. Two loops are left: unary goes over
+//! word of gamma or zeta that lies within 57 bits, as nearly all do, by one load. Two loops are left: unary goes over
 //! 64 zeros at a time, and nibble digit by digit, over at most 21.
 #![tactic(auto)]
 

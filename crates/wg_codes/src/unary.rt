@@ -19,7 +19,7 @@ use crate::{Read, Word};
 use wg_bits::{Cursor, Writer};
 use wg_io::{Depot, WriteError};
 
-// A word of at most `most`: by one load, if all of it lies within the next 64 bits.
+// A word of at most `most`: by one load, if all of it lies within the next 57 bits.
 #[inline(always)]
 pub fn read(cursor: &mut Cursor<'_>, most: u64) -> Read
     requires { most < 2 ^ 32 }

@@ -22,7 +22,7 @@ use crate::{Read, Word, unary};
 use wg_bits::{Cursor, Writer};
 use wg_io::{Depot, WriteError};
 
-// A word: by one load, if with its head the long form lies within the next 64 bits. Such a head is below 63 / k, too.
+// A word: by one load, if with its head the long form lies within the next 57 bits. Such a head is below 63 / k, too.
 #[inline(always)]
 pub fn read(cursor: &mut Cursor<'_>, k: u32) -> Read
     requires { (1 ≤ k) × (k ≤ 31) }
