@@ -4,5 +4,4 @@ pub mod PutsLemmas
 pub mod RefusalLemmas
 pub mod HeldLemmas
 pub mod SuffixLemmas
-pub mod ReadFilesLemmas
 pub mod LoadLemmas

@@ -7,4 +7,3 @@ pub mod Memory
 pub mod Later
 pub mod Held
 pub mod Suffixes
-pub mod ReadFiles

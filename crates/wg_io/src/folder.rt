@@ -1,13 +1,12 @@
 // Files of the system.
 ghost use Rattle.std.specs.Prelude.{◌≡◌, ◌<◌, ◌≤◌, ℕ, IfOk, length};
 
-use crate::read_files::{FileId, ReadFiles};
 use crate::stream::write_some;
 use crate::tally::Tally;
 use crate::{Depot, ReadError, WriteError};
 use std::alloc::Global;
-use std::fs::{self, File, OpenOptions};
-use std::io::{self, Error, ErrorKind};
+use std::fs::{File, OpenOptions};
+use std::io;
 use std::marker::Model;
 use std::os::unix::fs::FileExt;
 use std::rt::Files;
@@ -17,17 +16,12 @@ use std::rt::Files;
 /// The file that was read last stays open, and so does the one that was appended to last, so that a file that is read
 /// or written in pieces costs one call of the system a piece. Each holds a copy of its name; if there is no memory for
 /// it, the next call opens the file anew. A file that others put under the name of an open one goes unseen.
-///
-/// A file that was read is never emptied under another name: of each name that was read it remembers which file that
-/// was, and `create` of a second name of the same file fails, with nothing changed. If there is no memory to remember
-/// it, it is not read.
 #[derive(Drop)]
 pub struct FolderDepot<R: Files<File = File> + AllocGlobal + Drop> {
     rt: R,
     tally: Tally,
     read_last: Option<OpenFile>,
     appended_last: Option<OpenFile>,
-    read_files: ReadFiles,
 }
 
 impl<R: Files<File = File> + AllocGlobal + Drop> Model for FolderDepot<R> {
@@ -42,13 +36,11 @@ impl<R: Files<File = File> + AllocGlobal + Drop> FolderDepot<R> {
     pub fn new(rt: R) -> FolderDepot<R>
         ensures { result ≡ record { read_faults = 0; write_faults = 0; absences = 0; wants = 0 } }
     {
-        let read_files = ReadFiles::new(rt.alloc());
         FolderDepot {
             rt,
             tally: Tally::new(),
             read_last: None,
             appended_last: None,
-            read_files,
         }
     }
 }
@@ -64,14 +56,7 @@ impl<R: Files<File = File> + AllocGlobal + Drop> Depot for FolderDepot<R> {
     ghost counts = { λ d _. d };
 
     fn read(&mut self, name: &str, at: u64, buf: &mut [u8]) -> Result<usize, ReadError> {
-        match read_at(
-            &self.rt,
-            &mut self.read_last,
-            &mut self.read_files,
-            name,
-            at,
-            buf,
-        ) {
+        match read_at(&self.rt, &mut self.read_last, name, at, buf) {
             Ok(count) => Ok(count),
             Err(error) => {
                 self.read_last = None;
@@ -83,7 +68,7 @@ impl<R: Files<File = File> + AllocGlobal + Drop> Depot for FolderDepot<R> {
     fn create(&mut self, name: &str) -> Result<(), WriteError> {
         let_go(&mut self.read_last, name);
         let_go(&mut self.appended_last, name);
-        match create_at(&self.rt, &self.read_files, name) {
+        match create_at(&self.rt, name) {
             Ok(()) => Ok(()),
             Err(error) => Err(self.tally.refused_write(error.kind())),
         }
@@ -135,7 +120,6 @@ fn keep(alloc: Global, last: &mut Option<OpenFile>, name: &str, file: File) {
 fn read_at<R: Files<File = File> + AllocGlobal>(
     rt: &R,
     last: &mut Option<OpenFile>,
-    read_files: &mut ReadFiles,
     name: &str,
     at: u64,
     buf: &mut [u8],
@@ -148,19 +132,13 @@ fn read_at<R: Files<File = File> + AllocGlobal>(
         }
     }
     let file = File::open(rt, name)?;
-    read_files.remember(rt.alloc(), name, FileId::of(&file.metadata()?))?;
     let count = file.read_at(buf, at)?;
     keep(rt.alloc(), last, name, file);
     Ok(count)
 }
 
-// Makes a file anew, unless it was read by another name.
-fn create_at<R: Files<File = File>>(rt: &R, read_files: &ReadFiles, name: &str) -> io::Result<()> {
-    if let Ok(metadata) = fs::metadata(rt, name) {
-        if read_files.has_other_name(name, FileId::of(&metadata)) {
-            return Err(Error::from(ErrorKind::ResourceBusy));
-        }
-    }
+// Makes a file anew.
+fn create_at<R: Files<File = File>>(rt: &R, name: &str) -> io::Result<()> {
     File::create(rt, name)?;
     Ok(())
 }

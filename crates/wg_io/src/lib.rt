@@ -30,9 +30,8 @@
 //! An error is never made up: `Failed`, `Absent` and `Memory` come from an outside only where it counted them, which is
 //! how a contract far above can say that a failed job was the outside's fault. The counts stand still at 2^64 - 1.
 //!
-//! No call holds memory but for the bytes that it answers, the names of two open files of the system, and the names
-//! that files of the system were read by. The depots and sinks in memory hold their own bytes, and a depot looks a name
-//! up by going through all of them.
+//! No call holds memory but for the bytes that it answers, and the names of two open files of the system. The depots and
+//! sinks in memory hold their own bytes, and a depot looks a name up by going through all of them.
 #![tactic(auto)]
 
 mod appending;
@@ -46,7 +45,6 @@ mod memory_depot;
 mod memory_sink;
 mod output;
 mod pieces;
-mod read_files;
 mod sink;
 mod steady_depot;
 mod steady_sink;

@@ -9,7 +9,7 @@ use wg_io::{
 
 const TEXT: &[u8] = b"pages and their successors";
 
-// A file that is absent is made, added to, read at any place, and not emptied under another name.
+// A file that is absent is made, added to, and read at any place, by any of its names.
 #[test]
 fn a_file_of_the_system(rt: HostRuntime) -> Result<(), Fail> {
     let (name, other) = ("wg_io_file.tmp", "./wg_io_file.tmp");
@@ -23,7 +23,6 @@ fn a_file_of_the_system(rt: HostRuntime) -> Result<(), Fail> {
     assert!(rt; bytes.as_slice() == TEXT);
     assert!(rt; depot.read(name, 18, &mut buffer)? == 8 && &buffer == b"ccessors");
     assert!(rt; depot.read(name, MOST_BYTES, &mut buffer)? == 0);
-    assert!(rt; depot.create(other) == Err(WriteError::Failed));
     let again = read_whole(rt.alloc(), &mut depot, other)?;
     assert!(rt; again.as_slice() == TEXT);
     fs::remove_file(&rt, name)?;
