@@ -18,10 +18,10 @@
 //! each record. An encoder has a writer of 4096 bytes for each of the files. If a call of the depot fails, the
 //! [`EncodeError`] names the file, and both files are prefixes of those that were to be written.
 //!
-//! An [`ArchiveEncoder`] takes lists in the same way and writes no file: what will be the three files is held in memory,
-//! as an [`EncodedArchive`], with the [`Summary`] of its records. Out of memory alone can stop it. [`encode`] does so for
-//! a whole graph. The bytes are the same for each number of arcs that the archive is said to have, so this number may be
-//! told once all lists are encoded.
+//! An [`ArchiveEncoder`] takes lists in the same way and writes no file: what will be the three files is held in
+//! memory, as an [`EncodedArchive`], which tells how many bits its records have and how many of them refer to a page
+//! before. Out of memory alone can stop it. [`encode`] does so for a whole graph. The bytes are the same for each
+//! number of arcs that the archive is said to have, so this number may be told once all lists are encoded.
 //!
 //! The archive of a graph of three pages, in memory:
 //!
