@@ -1,10 +1,11 @@
 -- An encoder into files in memory is one of lists, and its files.
-use Rattle.std.proofs.Common.{◌≡◌, ◌≢◌, ℕ, List, [], length, refl, sym, ap, subst, ◌∙◌, arith}
+use Rattle.std.proofs.Common.{◌≡◌, ℕ, List, [], length, refl, sym, ap, subst, ◌∙◌}
 use Rattle.std.specs.Prelude.{unwrap_or, Option}
 use Rattle.std.specs.FinMap.{insert}
 use Rattle.wg_io.specs.Outside.{Files}
 use Rattle.wg_io.specs.Suffixes.{properties_name, graph_name, offsets_name}
 use Rattle.wg_io.proofs.FilesLemmas.{get-insert_same, get-insert_other}
+use Rattle.wg_encoder.proofs.FileNames.{properties_graph, properties_offsets}
 use Rattle.wg_params.specs.Parameters.{Parameters}
 use Rattle.wg_grammar.specs.Context.{Context}
 use Rattle.wg_encoder.specs.Archive.{Archive, graph_bits, referring_pages, encoded}
@@ -28,18 +29,12 @@ as_sent e files lists h = record { records = h.records; words = h.words }
 
 -- ---- the files once all is written
 
-properties_graph : properties_name [] ≢ graph_name []
-properties_graph same = let e : 11 ≡ 6 = ap (λ (s : List ℕ). length s) same in absurd (omega (arith, e))
-
-properties_offsets : properties_name [] ≢ offsets_name []
-properties_offsets same = let e : 11 ≡ 8 = ap (λ (s : List ℕ). length s) same in absurd (omega (arith, e))
-
 -- the properties beside the two files of the greedy archive
 pub whole_archive : (files : Files) (text : List ℕ) (p : Parameters) (lists : List (List ℕ)) → IsWritten files [] p lists → HoldsArchive (insert files (properties_name []) text) [] (encoded p text lists).files
 whole_archive files text p lists are = record {
   properties = get-insert_same files (properties_name []) text;
-  graph = get-insert_other files (properties_name []) text (graph_name []) (λ same. properties_graph (sym same)) ∙ are.0;
-  offsets = get-insert_other files (properties_name []) text (offsets_name []) (λ same. properties_offsets (sym same)) ∙ are.1;
+  graph = get-insert_other files (properties_name []) text (graph_name []) (λ same. properties_graph [] (sym same)) ∙ are.0;
+  offsets = get-insert_other files (properties_name []) text (offsets_name []) (λ same. properties_offsets [] (sym same)) ∙ are.1;
 }
 
 -- what is held is what the names hold

@@ -37,4 +37,5 @@ pub mod Chosen
 pub mod Stopped
 pub mod Finished
 pub mod AnyArcs
+pub mod FileNames
 pub mod InMemory
