@@ -11,7 +11,7 @@ use Rattle.wg_grammar.specs.Context.{Context}
 use Rattle.wg_encoder.specs.Archive.{Archive, graph_bits, referring_pages, encoded}
 use Rattle.wg_encoder.specs.Encoding.{Encoded, HasWritten}
 use Rattle.wg_encoder.specs.Gone.{HasSentAll, IsWritten}
-use Rattle.wg_encoder.specs.ArchiveInMemory.{so_far, HasEncoded, archive_at, HoldsArchive}
+use Rattle.wg_encoder.specs.ArchiveInMemory.{so_far, HasEncoded, archive_of, HoldsArchive}
 use Rattle.wg_encoder.proofs.AnyArcs.{with_arcs, same_encoded}
 
 pub as_encoded : (e : Encoded) (files : Files) (lists : List (List ℕ)) → HasWritten e lists → HasSentAll files [] e lists → HasEncoded (so_far e files) lists
@@ -38,18 +38,18 @@ whole_archive files text p lists are = record {
 }
 
 -- what is held is what the names hold
-pub archive_held : (files : Files) (base : List ℕ) (a : Archive) → HoldsArchive files base a → archive_at base files ≡ a
+pub archive_held : (files : Files) (base : List ℕ) (a : Archive) → HoldsArchive files base a → archive_of base files ≡ a
 archive_held files base a h =
     let held : Option (List ℕ) → List ℕ = λ o. unwrap_or o [] in
     (λ i. record { properties = held (h.properties i); graph = held (h.graph i); offsets = held (h.offsets i) })
 
-pub there : (files : Files) (base : List ℕ) (a : Archive) → HoldsArchive files base a → HoldsArchive files base (archive_at base files)
+pub there : (files : Files) (base : List ℕ) (a : Archive) → HoldsArchive files base a → HoldsArchive files base (archive_of base files)
 there files base a h = subst (HoldsArchive files base) (sym (archive_held files base a h)) h
 
 -- what is answered of them, by parameters that may tell another number of arcs
 pub answered : (p q : Parameters) (files : Files) (text : List ℕ) (lists : List (List ℕ)) (bits referring : ℕ) → HoldsArchive files [] (encoded q text lists).files → bits ≡ length (graph_bits q lists) → referring ≡ referring_pages q lists → p ≡ with_arcs q p.arcs
-    → record { files = archive_at [] files; summary = record { bits = bits; referring = referring } } ≡ encoded p text lists
+    → record { files = archive_of [] files; summary = record { bits = bits; referring = referring } } ≡ encoded p text lists
 answered p q files text lists bits referring h b r is =
-    let here : record { files = archive_at [] files; summary = record { bits = bits; referring = referring } } ≡ encoded q text lists =
+    let here : record { files = archive_of [] files; summary = record { bits = bits; referring = referring } } ≡ encoded q text lists =
     λ i. record { files = archive_held files [] (encoded q text lists).files h i; summary = record { bits = b i; referring = r i } } in
     here ∙ sym (same_encoded q p.arcs text lists) ∙ ap (λ (x : Parameters). encoded x text lists) (sym is)

@@ -19,13 +19,13 @@ pub struct EncodedArchive {
 impl Model for EncodedArchive {
     ghost use Rattle.std.specs.Prelude.{[]};
     ghost use Rattle.wg_encoder.specs.Archive.{Summarized};
-    ghost use Rattle.wg_encoder.specs.ArchiveInMemory.{archive_at, HoldsArchive};
+    ghost use Rattle.wg_encoder.specs.ArchiveInMemory.{archive_of, HoldsArchive};
 
     ghost Value = { Summarized };
 
-    ghost view = { λ a. record { files = archive_at [] a.depot.files; summary = a.summary } };
+    ghost view = { λ a. record { files = archive_of [] a.depot.files; summary = a.summary } };
 
-    ghost invariant = { λ a. HoldsArchive a.depot.files [] (archive_at [] a.depot.files) };
+    ghost invariant = { λ a. HoldsArchive a.depot.files [] (archive_of [] a.depot.files) };
 }
 
 impl EncodedArchive {
