@@ -8,9 +8,10 @@ use Rattle.wg_io.specs.Outside.{Files, Counts}
 use Rattle.wg_io.specs.Suffixes.{properties_name, graph_name, offsets_name}
 use Rattle.wg_io.proofs.FilesLemmas.{none_falls-refl, none_falls-trans}
 use Rattle.wg_io.proofs.PutsLemmas.{is_that_err}
-use Rattle.wg_io.proofs.SuffixLemmas.{graph_offsets, properties_graph, properties_offsets}
+use Rattle.wg_io.proofs.SuffixLemmas.{graph_offsets}
 use Rattle.wg_io.specs.declared.output.Output.{Output}
 use Rattle.wg_io.specs.declared.output.Output.TheVariants as output
+use Rattle.wg_encoder.proofs.FileNames.{properties_graph, properties_offsets}
 use Rattle.wg_encoder.specs.Archive.{Archive}
 use Rattle.wg_encoder.specs.Gone.{HoldsFront, HoldsLess}
 use Rattle.wg_outcomes.specs.Answers.{status_in}
