@@ -1,8 +1,8 @@
 -- Which arc comes after those of a graph.
-use Rattle.std.proofs.Common.{◌≡◌, ◌↔◌, ℕ, suc, ◌+◌, ◌-◌, ◌<◌, ◌≤◌, Bool, true, false, IsTrue, ltb, List, [], ◌∷◌, ◌++◌, map, length, take, get_or, Option, Some, None, refl, sym, ap, subst, ◌∙◌, arith, inl, inr, eq-eqb, ne_eqb}
+use Rattle.std.proofs.Common.{◌≡◌, ℕ, suc, ◌+◌, ◌-◌, ◌<◌, ◌≤◌, true, false, ltb, List, [], ◌∷◌, ◌++◌, map, length, take, get_or, Option, Some, None, refl, sym, ap, subst, ◌∙◌, arith, inl, inr, eq-eqb, ne_eqb}
 use Rattle.std.specs.List.{last_or}
-use Rattle.std.proofs.lemmas.Bool.{cases_Bool, cases_lt, cases_eq, lt-ltb, le-ltb, ltb-true, lt-leb}
-use Rattle.std.proofs.lemmas.List.{nil_from_length, get_or_past, length-take-le}
+use Rattle.std.proofs.lemmas.Bool.{cases_lt, cases_eq, lt-ltb, le-ltb, ltb-true, lt-leb}
+use Rattle.std.proofs.lemmas.List.{get_or_past, length-take-le}
 use Rattle.wg_params.specs.declared.limits.TheConstants.{MOST_ARCS}
 use Rattle.wg_graph.specs.Ascending.{Ascends, Below}
 use Rattle.wg_graph.specs.Digraph.{Digraph, successors}
@@ -11,8 +11,7 @@ use Rattle.wg_graph.specs.Growing.{ComesAfter}
 use Rattle.wg_graph.proofs.Arcs.{last_list, split_last}
 use Rattle.wg_graph.proofs.Growth.{past_last}
 use Rattle.wg_arcs.specs.declared.fault.ArcsKind.TheVariants as kind
-use Rattle.wg_arcs.specs.Reading.{is_before, is_after, refusal_of}
-use Rattle.wg_arcs.specs.Growing.{EndsInArc}
+use Rattle.wg_arcs.specs.Reading.{is_before, is_after, refusal_after}
 
 abbrev pub Arc : Type 0
 Arc = ℕ × ℕ
@@ -49,10 +48,10 @@ record EndsAtArc (g : Digraph) (m t : ℕ) : Type 0 where
   last : t ≡ get_or (successors g m) (length (successors g m) - 1) 0
   arc : last_or None (arcs_of g) ≡ Some (m, t)
 
-ends_at : (g : Digraph) (m : ℕ) → length g.lists ≡ m + 1 → EndsInArc g → EndsAtArc g m (get_or (successors g m) (length (successors g m) - 1) 0)
+ends_at : (g : Digraph) (m : ℕ) → length g.lists ≡ m + 1 → (0 < length g.lists → 0 < length (successors g (length g.lists - 1))) → EndsAtArc g m (get_or (successors g m) (length (successors g m) - 1) 0)
 ends_at g m size ends =
     let at : length g.lists - 1 ≡ m = omega arith in
-    let some : 0 < length (successors g m) = subst (λ (k : ℕ). 0 < length (get_or g.lists k [])) at (ends (omega arith)) in
+    let some : 0 < length (successors g m) = subst (λ (k : ℕ). 0 < length (successors g k)) at (ends (omega arith)) in
     let init : List (List ℕ) = take m g.lists in
     record {
       size = size;
@@ -62,49 +61,37 @@ ends_at g m size ends =
           ∙ last_or-append None (arcs_from 0 init) (map (λ v. (m, v)) (successors g m)) ∙ last_or-list (last_or None (arcs_from 0 init)) m (successors g m) some;
     }
 
-after_arc : (g : Digraph) (m t x v : ℕ) → ((y : ℕ) → Ascends 0 (successors g y)) → EndsAtArc g m t → (is_before (m, t) (x, v) ≡ true → ComesAfter g x v) × (ComesAfter g x v → is_before (m, t) (x, v) ≡ true)
-after_arc g m t x v up h =
+after_arc : (g : Digraph) (m t x v : ℕ) → ((y : ℕ) → Ascends 0 (successors g y)) → EndsAtArc g m t → is_before (m, t) (x, v) ≡ true → ComesAfter g x v
+after_arc g m t x v up h b =
     let size = h.size in
     let past = past_last (successors g m) t v (up m) h.some h.last in
     elim (cases_lt m x) [
-      | inl lt ↦ (λ b. record { not_past = omega arith; above = subst (Below v) (sym (get_or_past g.lists x [] (omega arith))) tt }, λ c. before_lower m t x v lt)
+      | inl lt ↦ record { not_past = omega arith; above = subst (Below v) (sym (get_or_past g.lists x [] (omega arith))) tt }
       | inr le ↦ elim (cases_eq m x) [
-        | inl e ↦ (
-          λ b. record { not_past = omega arith; above = subst (λ (k : ℕ). Below v (successors g k)) e (past.0 (ltb-true t v (sym (before_same m t x v e) ∙ b))) },
-          λ c. before_same m t x v e ∙ lt-ltb t v (past.1 (subst (λ (k : ℕ). Below v (successors g k)) (sym e) c.above)),
-        )
-        | inr ne ↦ (λ b. absurd (let no : is_before (m, t) (x, v) ≡ false = before_higher m t x v (omega arith) in cc), λ c. absurd (let low = c.not_past in omega arith))
+        | inl e ↦ record { not_past = omega arith; above = subst (λ (k : ℕ). Below v (successors g k)) e (past.0 (ltb-true t v (sym (before_same m t x v e) ∙ b))) }
+        | inr ne ↦ absurd (let no : is_before (m, t) (x, v) ≡ false = before_higher m t x v (omega arith) in cc)
       ]
     ]
 
-pub after_all : (g : Digraph) (x v : ℕ) → ((y : ℕ) → Ascends 0 (successors g y)) → EndsInArc g → (is_after (last_or None (arcs_of g)) (x, v) ≡ true → ComesAfter g x v) × (ComesAfter g x v → is_after (last_or None (arcs_of g)) (x, v) ≡ true)
-after_all g x v up ends =
+-- an arc that comes after the last one comes after all
+pub after_all : (g : Digraph) (x v : ℕ) → ((y : ℕ) → Ascends 0 (successors g y)) → (0 < length g.lists → 0 < length (successors g (length g.lists - 1))) → is_after (last_or None (arcs_of g)) (x, v) ≡ true → ComesAfter g x v
+after_all g x v up ends b =
     elim (cases_lt 0 (length g.lists)) [
       | inl some ↦
           let m : ℕ = length g.lists - 1 in
           let h = ends_at g m (omega arith) ends in
           let t : ℕ = get_or (successors g m) (length (successors g m) - 1) 0 in
-          subst (λ (o : Option Arc). (is_after o (x, v) ≡ true → ComesAfter g x v) × (ComesAfter g x v → is_after o (x, v) ≡ true)) (sym h.arc) (after_arc g m t x v up h)
-      | inr none ↦
-          let empty : g.lists ≡ [] = nil_from_length g.lists (omega arith) in
-          let gone : last_or None (arcs_of g) ≡ None = ap (λ (ls : List (List ℕ)). last_or None (arcs_from 0 ls)) empty in
-          (λ b. record { not_past = omega arith; above = subst (Below v) (sym (get_or_past g.lists x [] (omega arith))) tt }, λ c. ap (λ (o : Option Arc). is_after o (x, v)) gone)
+          after_arc g m t x v up h (ap (λ (o : Option Arc). is_after o (x, v)) (sym h.arc) ∙ b)
+      | inr none ↦ record { not_past = omega arith; above = subst (Below v) (sym (get_or_past g.lists x [] (omega arith))) tt }
     ]
 
 -- ---- why an arc is refused
 
-pub not_after : (g : Digraph) (x v : ℕ) (r : Bool) → ((y : ℕ) → Ascends 0 (successors g y)) → EndsInArc g → (IsTrue r ↔ ComesAfter g x v) → r ≡ false → is_after (last_or None (arcs_of g)) (x, v) ≡ false
-not_after g x v r up ends says no_more =
-    elim (cases_Bool (is_after (last_or None (arcs_of g)) (x, v))) [
-      | inl h ↦ absurd (let t : r ≡ true = says.1 ((after_all g x v up ends).0 h) in cc)
-      | inr h ↦ h
-    ]
+pub refused_for_order : (n u v count : ℕ) (last : Option Arc) → u < n → v < n → is_after last (u, v) ≡ false → refusal_after n last count (Some (u, v)) ≡ Some kind.Order
+refused_for_order n u v count last source target late = rw (lt-leb n u source, lt-leb n v target, late) refl
 
-pub refused_for_order : (n u v : ℕ) (before : List Arc) → u < n → v < n → is_after (last_or None before) (u, v) ≡ false → refusal_of n before (Some (u, v)) ≡ Some kind.Order
-refused_for_order n u v before source target late = rw (lt-leb n u source, lt-leb n v target, late) refl
+pub refused_for_number : (n u v count : ℕ) (last : Option Arc) → u < n → v < n → is_after last (u, v) ≡ true → MOST_ARCS ≤ count → refusal_after n last count (Some (u, v)) ≡ Some kind.TooMany
+refused_for_number n u v count last source target after many = rw (lt-leb n u source, lt-leb n v target, after, le-ltb count MOST_ARCS many) refl
 
-pub refused_for_number : (n u v : ℕ) (before : List Arc) → u < n → v < n → is_after (last_or None before) (u, v) ≡ true → MOST_ARCS ≤ length before → refusal_of n before (Some (u, v)) ≡ Some kind.TooMany
-refused_for_number n u v before source target after many = rw (lt-leb n u source, lt-leb n v target, after, le-ltb (length before) MOST_ARCS many) refl
-
-pub not_refused : (n u v : ℕ) (before : List Arc) → u < n → v < n → is_after (last_or None before) (u, v) ≡ true → length before < MOST_ARCS → refusal_of n before (Some (u, v)) ≡ None
-not_refused n u v before source target after few = rw (lt-leb n u source, lt-leb n v target, after, lt-ltb (length before) MOST_ARCS few) refl
+pub not_refused : (n u v count : ℕ) (last : Option Arc) → u < n → v < n → is_after last (u, v) ≡ true → count < MOST_ARCS → refusal_after n last count (Some (u, v)) ≡ None
+not_refused n u v count last source target after few = rw (lt-leb n u source, lt-leb n v target, after, lt-ltb count MOST_ARCS few) refl

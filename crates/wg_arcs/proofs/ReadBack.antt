@@ -1,6 +1,6 @@
 -- The text of a graph is read back.
-use Rattle.std.proofs.Common.{◌≡◌, ℕ, ◌^◌, ◌<◌, ◌≤◌, Bool, false, cond, eqb, List, [], ◌∷◌, ◌++◌, map, length, take, get_or, decimal, Some, None, zero, suc, refl, sym, ap, subst, ◌∙◌, arith, append_assoc}
-use Rattle.std.specs.List.{All, slice_split}
+use Rattle.std.proofs.Common.{◌≡◌, ℕ, ◌^◌, ◌<◌, ◌≤◌, false, eqb, List, [], ◌∷◌, ◌++◌, map, length, take, get_or, decimal, Option, Some, None, zero, suc, refl, sym, ap, subst, ◌∙◌, arith, append_assoc}
+use Rattle.std.specs.List.{All, last_or, slice_split}
 use Rattle.std.proofs.lemmas.Bool.{ne_eqb}
 use Rattle.std.proofs.lemmas.Fmt.{decimal_nonempty}
 use Rattle.std.proofs.lemmas.List.{take-map, get_or-map, length-map, length-take-le}
@@ -15,7 +15,7 @@ use Rattle.wg_graph.specs.Digraph.{arc_count}
 use Rattle.wg_graph.specs.Arcs.{arcs_of}
 use Rattle.wg_graph.proofs.Arcs.{length-arcs_from}
 use Rattle.wg_arcs.specs.Text.{arc_line, text_of_arcs, text_of_graph}
-use Rattle.wg_arcs.specs.Reading.{words_of, is_skipped, arc_in, arc_at, arcs_in, refusal_of, fault_of, fault_at, AreArcs}
+use Rattle.wg_arcs.specs.Reading.{words_of, is_skipped, arc_in, arc_at, arcs_in, refusal_after, fault_after, fault_of, fault_at, AreArcs}
 use Rattle.wg_arcs.proofs.Texts.{text_is_of_arcs}
 use Rattle.wg_arcs.proofs.Order.{Arc, not_refused}
 use Rattle.wg_arcs.proofs.Climbing.{Within, within_from, within_at, Climbs, climbs_from, climbs_at}
@@ -64,8 +64,8 @@ pub plain_line : (a : Arc) (rest : List ℕ) → a.0 < 2 ^ 64 → a.1 < 2 ^ 64 �
 plain_line a rest s t =
     ap lines_of (with_end a rest) ∙ line_read (bare a) rest (bare_high a s t)
 
-pub plain_fault : (n : ℕ) (before : List Arc) (a : Arc) → a.0 < 2 ^ 64 → a.1 < 2 ^ 64 → fault_of n before (bare a) ≡ refusal_of n before (Some a)
-plain_fault n before a s t = rw (not_skipped a s t, arc_in_bare a s t) refl
+pub plain_fault : (n count : ℕ) (last : Option Arc) (a : Arc) → a.0 < 2 ^ 64 → a.1 < 2 ^ 64 → fault_after n last count (bare a) ≡ refusal_after n last count (Some a)
+plain_fault n count last a s t = rw (not_skipped a s t, arc_in_bare a s t) refl
 
 -- ---- all lines
 
@@ -99,9 +99,9 @@ fine_at n arcs i nl few h climbs lt =
     let line : get_or (map bare arcs) i [] ≡ bare a = get_or-map bare arcs i d [] lt in
     let front : arcs_in (take i (map bare arcs)) ≡ take i arcs = ap arcs_in (take-map bare i arcs) ∙ arcs_back n n (take i arcs) nl nl (within_front n n arcs i h) in
     let size = length-take-le i arcs (omega arith) in
-    let fine : refusal_of n (take i arcs) (Some a) ≡ None = not_refused n a.0 a.1 (take i arcs) w.0 w.1 (climbs_at None arcs i d climbs lt) (omega arith) in
+    let fine : refusal_after n (last_or None (take i arcs)) (length (take i arcs)) (Some a) ≡ None = not_refused n a.0 a.1 (length (take i arcs)) (last_or None (take i arcs)) w.0 w.1 (climbs_at None arcs i d climbs lt) (omega arith) in
     ap (λ (l : List ℕ). fault_of n (arcs_in (take i (map bare arcs))) l) line ∙ ap (λ (l : List Arc). fault_of n l (bare a)) front
-    ∙ ap (λ (b : Bool). cond b None (refusal_of n (take i arcs) (arc_in (words_of (bare a))))) (not_skipped a s t) ∙ ap (refusal_of n (take i arcs)) (arc_in_bare a s t) ∙ fine
+    ∙ plain_fault n (length (take i arcs)) (last_or None (take i arcs)) a s t ∙ fine
 
 pub read_back : TextsReadBack
 read_back g proper pages few =

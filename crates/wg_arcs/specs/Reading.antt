@@ -47,15 +47,19 @@ abbrev pub is_after : Option (ℕ × ℕ) → ℕ × ℕ → Bool
 is_after None b = true
 is_after (Some a) b = is_before a b
 
--- why an arc is refused after these, if it is
-abbrev pub refusal_of : ℕ → List (ℕ × ℕ) → Option (ℕ × ℕ) → Option ArcsKind
-refusal_of n before None = Some kind.Shape
-refusal_of n before (Some arc) =
-    if nat_le n arc.0 || nat_le n arc.1 then Some kind.Range else if not (is_after (last_or None before) arc) then Some kind.Order else if nat_lt (length before) MOST_ARCS then None else Some kind.TooMany
+-- why an arc is refused after so many, of which this is the last one, if it is
+abbrev pub refusal_after : ℕ → Option (ℕ × ℕ) → ℕ → Option (ℕ × ℕ) → Option ArcsKind
+refusal_after n last count None = Some kind.Shape
+refusal_after n last count (Some arc) =
+    if nat_le n arc.0 || nat_le n arc.1 then Some kind.Range else if not (is_after last arc) then Some kind.Order else if nat_lt count MOST_ARCS then None else Some kind.TooMany
 
--- what is wrong with a line after these arcs, where n pages are given
+-- what is wrong with a line after so many arcs, of which this is the last one, where n pages are given
+abbrev pub fault_after : ℕ → Option (ℕ × ℕ) → ℕ → List ℕ → Option ArcsKind
+fault_after n last count line = if is_skipped (words_of line) then None else refusal_after n last count (arc_in (words_of line))
+
+-- what is wrong with a line after these arcs
 abbrev pub fault_of : ℕ → List (ℕ × ℕ) → List ℕ → Option ArcsKind
-fault_of n before line = if is_skipped (words_of line) then None else refusal_of n before (arc_in (words_of line))
+fault_of n before line = fault_after n (last_or None before) (length before) line
 
 -- the fault of line number i, counted from 0
 abbrev pub fault_at : ℕ → List (List ℕ) → ℕ → Option ArcsKind

@@ -10,7 +10,10 @@
 //! blanks between the numbers and round them, lines without words, comments that begin with `#`, and a CR before the
 //! end of a line. The arcs must ascend, and no page may be as large as the number of pages, which is given.
 //!
-//! A text that is read and written again, and one whose second line is faulty:
+//! [`ArcLines`] reads it line by line, by the same rules, for whoever has not the whole text at once: it takes the first
+//! line off a text, and keeps what says whether the next one is in order.
+//!
+//! A text that is read and written again, and one whose second line is faulty; and the first line of a third:
 //!
 //! ```rust
 //! let graph = wg_arcs::read(rt.alloc(), b"# two arcs\n0 1\n 1\t2", 3)?;
@@ -21,6 +24,9 @@
 //! let twice = wg_arcs::read(rt.alloc(), b"0 1\n0 1\n", 3);
 //! let kind = ArcsKind::Order;
 //! assert!(rt; twice.err() == Some(ArcsError::Line { line: 2, kind }));
+//! let mut lines = ArcLines::new(3);
+//! let (arc, rest) = lines.read_first(b"1 2\n# the end\n")?;
+//! assert!(rt; arc == Some((1, 2)) && rest == b"# the end\n".as_slice());
 //! Ok(())
 //! ```
 //!
@@ -33,6 +39,7 @@
 //! text once; it holds the graph or the numbers, 8 bytes each, and takes memory as they come.
 #![tactic(auto)]
 
+mod arc_lines;
 mod fault;
 pub mod laws;
 mod numbers;
@@ -42,6 +49,7 @@ mod reading;
 mod words;
 mod writing;
 
+pub use arc_lines::ArcLines;
 pub use fault::{ArcsError, ArcsKind};
 pub use numbers::read_numbers;
 pub use numbers_fault::{NumbersError, NumbersFault, NumbersKind};

@@ -1,10 +1,14 @@
-//! Numbers and short texts into any sink, through a fixed buffer, so that a sink is called once for some thousand bytes.
+//! Numbers and short texts into any sink, through a fixed buffer, so that a sink is called once for some thousand bytes;
+//! and files that are read in whole lines.
 //!
 //! [`Lines`] prints a number in decimal digits, a byte, a text of up to [`MOST_PIECE`] bytes, or a line of two numbers.
 //! What was printed goes out in order, and all of it once it is flushed; where the sink refuses a write, a proper prefix
 //! of it is out. An error comes from the sink alone.
 //!
-//! A line of a text and a number, and one of two numbers:
+//! [`LineReader`] reads a file in pieces, and lends the lines that end in a piece, each of them whole. The lines are
+//! those of the file, however the depot cuts it; an error is one that [`read_whole`](wg_io::read_whole) would give.
+//!
+//! A line of a text and a number, and one of two numbers; and a file of two lines, of which the last has no end:
 //!
 //! ```rust
 //! let mut sink = SteadySink::new(rt.alloc(), 4096);
@@ -15,13 +19,24 @@
 //! lines.pair(&mut sink, 0, 345)?;
 //! lines.flush(&mut sink)?;
 //! assert!(rt; sink.bytes() == b"# pages 12\n0 345\n".as_slice());
+//! let mut depot = SteadyDepot::new(rt.alloc(), 4096);
+//! depot.put_file("arcs", b"0 345\n1 2")?;
+//! let mut reader = LineReader::open(rt.alloc(), &mut depot, "arcs")?;
+//! assert!(rt; reader.advance(&mut depot, "arcs")?);
+//! assert!(rt; reader.lines() == b"0 345\n".as_slice());
+//! assert!(rt; reader.advance(&mut depot, "arcs")?);
+//! assert!(rt; reader.lines() == b"1 2".as_slice());
+//! assert!(rt; !reader.advance(&mut depot, "arcs")?);
 //! Ok(())
 //! ```
 //!
-//! It holds its buffer of 8192 bytes and takes no memory. Each call takes time in proportion to what it prints, and now
-//! and then to the buffer.
+//! `Lines` holds its buffer of 8192 bytes and takes no memory. Each call takes time in proportion to what it prints, and
+//! now and then to the buffer. A `LineReader` holds up to 65536 bytes and the line that they cut, and goes over each
+//! byte twice: to copy it, and to look for the last end of a line.
 #![tactic(auto)]
 
 mod lines;
+mod reading;
 
 pub use lines::{Lines, MOST_PIECE, MOST_START};
+pub use reading::LineReader;

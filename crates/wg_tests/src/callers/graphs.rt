@@ -1,5 +1,5 @@
 use std::test::Fail;
-use wg_arcs::{ArcsError, ArcsKind};
+use wg_arcs::{ArcLines, ArcsError, ArcsKind};
 use wg_ascii::{AsciiError, AsciiKind};
 use wg_graph::{GraphBuilder, GraphLists, Lists};
 use wg_io::SteadySink;
@@ -47,6 +47,9 @@ fn arcs_of_a_text(rt: HostRuntime) -> Result<(), Fail> {
     let twice = wg_arcs::read(rt.alloc(), b"0 1\n0 1\n", 3);
     let kind = ArcsKind::Order;
     assert!(rt; twice.err() == Some(ArcsError::Line { line: 2, kind }));
+    let mut lines = ArcLines::new(3);
+    let (arc, rest) = lines.read_first(b"1 2\n# the end\n")?;
+    assert!(rt; arc == Some((1, 2)) && rest == b"# the end\n".as_slice());
     Ok(())
 }
 

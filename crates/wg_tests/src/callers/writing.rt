@@ -1,8 +1,8 @@
 use std::test::Fail;
 use wg_encoder::encode;
 use wg_graph::GraphBuilder;
-use wg_io::SteadySink;
-use wg_lines::Lines;
+use wg_io::{SteadyDepot, SteadySink};
+use wg_lines::{LineReader, Lines};
 use wg_vectors::usual;
 
 // In the overview of wg_lines.
@@ -16,6 +16,14 @@ fn two_lines(rt: HostRuntime) -> Result<(), Fail> {
     lines.pair(&mut sink, 0, 345)?;
     lines.flush(&mut sink)?;
     assert!(rt; sink.bytes() == b"# pages 12\n0 345\n".as_slice());
+    let mut depot = SteadyDepot::new(rt.alloc(), 4096);
+    depot.put_file("arcs", b"0 345\n1 2")?;
+    let mut reader = LineReader::open(rt.alloc(), &mut depot, "arcs")?;
+    assert!(rt; reader.advance(&mut depot, "arcs")?);
+    assert!(rt; reader.lines() == b"0 345\n".as_slice());
+    assert!(rt; reader.advance(&mut depot, "arcs")?);
+    assert!(rt; reader.lines() == b"1 2".as_slice());
+    assert!(rt; !reader.advance(&mut depot, "arcs")?);
     Ok(())
 }
 

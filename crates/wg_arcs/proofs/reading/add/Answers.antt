@@ -1,24 +1,34 @@
-use Rattle.std.proofs.Common.{◌∙◌, ap, refl, arith}
+use Rattle.std.proofs.Common.{◌≡◌, ◌++◌, ℕ, Option, Some, None, length, ap, sym, subst, ◌∙◌}
+use Rattle.std.specs.List.{last_or}
+use Rattle.std.specs.Prelude.{IfSome, option_to_list}
+use Rattle.std.proofs.lemmas.Result.{on_ok_weaker}
 use Rattle.wg_graph.specs.Arcs.{arcs_of, arcs_from}
-use Rattle.wg_graph.proofs.Arcs.{with_arc_arcs, length-arcs_from}
-use Rattle.wg_graph.proofs.Prefixes.{prefix_ascends}
-use Rattle.wg_arcs.proofs.Order.{after_all, not_after, refused_for_order, refused_for_number, not_refused}
+use Rattle.wg_graph.specs.Digraph.{Digraph}
+use Rattle.wg_graph.specs.Growing.{FollowsOn, with_arc}
+use Rattle.wg_graph.proofs.Arcs.{with_arc_arcs}
+use Rattle.wg_arcs.specs.Growing.{Begins, MayCome}
+use Rattle.wg_arcs.proofs.Order.{Arc}
+use Rattle.wg_arcs.proofs.SomeGraph.{begins_more, follows_on}
 use Rattle.wg_arcs.proofs.reading.add.Goals as goal
 
-pub returns-then-not-is_after_all-clause-err : goal.returns-then-not-is_after_all-clause-err
-returns-then-not-is_after_all-clause-err c =
-    let g = c.args.builder.now in
-    (refl, refused_for_order g.nodes c.args.u c.args.v (arcs_of g) (omega arith) (omega arith) (not_after g c.args.u c.args.v c.is_after_all.result (prefix_ascends g c.is_after_all.ensures.prefix) c.requires c.is_after_all.ensures.value c.if-not-is_after_all.true))
+follows : (g : Digraph) (o : Option Arc) (a : Arc) → o ≡ Some a → Begins g.nodes g.lists → IfSome o (MayCome g.nodes (last_or None (arcs_of g)) (length (arcs_of g))) → FollowsOn g a.0 a.1
+follows g o a is begun comes = follows_on g a begun (subst (λ (p : Option Arc). IfSome p (MayCome g.nodes (last_or None (arcs_of g)) (length (arcs_of g)))) is comes)
 
-pub returns-then-arcs-ge-MOST_ARCS-clause-err : goal.returns-then-arcs-ge-MOST_ARCS-clause-err
-returns-then-arcs-ge-MOST_ARCS-clause-err c =
-    let g = c.args.builder.now in
-    (refl, refused_for_number g.nodes c.args.u c.args.v (arcs_of g) (omega arith) (omega arith) ((after_all g c.args.u c.args.v (prefix_ascends g c.is_after_all.ensures.prefix) c.requires).1 (c.is_after_all.ensures.value.0 c.if-not-is_after_all.false)) (omega (arith, length-arcs_from 0 g.lists)))
+pub push-requires : goal.push-requires
+push-requires c = follows c.args.builder.now c.args.arc (c.in-Some.u, c.in-Some.v) c.in-Some.is c.requires.begun c.requires.comes
 
-pub returns-clause-fine : goal.returns-clause-fine
-returns-clause-fine c =
+pub returns-in-Some-clause-begun : goal.returns-in-Some-clause-begun
+returns-in-Some-clause-begun c =
     let g = c.args.builder.now in
-    not_refused g.nodes c.args.u c.args.v (arcs_of g) (omega arith) (omega arith) ((after_all g c.args.u c.args.v (prefix_ascends g c.is_after_all.ensures.prefix) c.requires).1 (c.is_after_all.ensures.value.0 c.if-not-is_after_all.false)) (omega (arith, length-arcs_from 0 g.lists))
+    let u = c.in-Some.u in
+    let v = c.in-Some.v in
+    on_ok_weaker c.push.result (λ (is : c.push.new.self.lists ≡ with_arc g.lists u v).
+    subst (Begins c.push.new.self.nodes) (sym is) (subst (λ (n : ℕ). Begins n (with_arc g.lists u v)) (sym c.push.ensures.nodes) (begins_more g u v c.requires.begun (follows g c.args.arc (u, v) c.in-Some.is c.requires.begun c.requires.comes)))) c.push.ensures.ok
 
-pub returns-clause-arcs : goal.returns-clause-arcs
-returns-clause-arcs c = let after = c.is_after_all.ensures.value.0 c.if-not-is_after_all.false in ap (arcs_from 0) c.in_ok-push.ensures.ok ∙ with_arc_arcs c.args.builder.now.lists c.args.u c.args.v after.not_past
+pub returns-in-Some-clause-arcs : goal.returns-in-Some-clause-arcs
+returns-in-Some-clause-arcs c =
+    let g = c.args.builder.now in
+    let u = c.in-Some.u in
+    let v = c.in-Some.v in
+    on_ok_weaker c.push.result (λ (is : c.push.new.self.lists ≡ with_arc g.lists u v).
+    ap (arcs_from 0) is ∙ with_arc_arcs g.lists u v (follows g c.args.arc (u, v) c.in-Some.is c.requires.begun c.requires.comes).not_past ∙ ap (λ (o : Option Arc). arcs_of g ++ option_to_list o) (sym c.in-Some.is)) c.push.ensures.ok

@@ -1,0 +1,28 @@
+-- A file that is read in whole lines.
+use Rattle.std.specs.Prelude.{◌≡◌, ◌⊎◌, ℕ, ◌+◌, ◌≤◌, List, [], ◌∷◌, ◌++◌, length, drop, Option, Some, None}
+use Rattle.wg_io.specs.declared.limits.TheConstants.{MOST_BYTES}
+use Rattle.wg_num.specs.Lines.{lines_of}
+
+-- lines that are lent, and the bytes that were read behind them; they stand in the file one after the other, from this
+-- offset on
+pub record Held : Type 0 where
+  pub first : ℕ
+  pub lines : List ℕ
+  pub rest : List ℕ
+
+-- the offset of the first byte that was not read yet
+abbrev pub end_of : Held → ℕ
+end_of h = h.first + length h.lines + length h.rest
+
+-- the lines of a file that are lent, and all that come after them
+abbrev pub lines_ahead : List ℕ → Held → List (List ℕ)
+lines_ahead file h = lines_of h.lines ++ lines_of (h.rest ++ drop (end_of h) file)
+
+-- there is a file, and it has no more bytes than are read
+abbrev pub IsReadable : Option (List ℕ) → Type 0
+IsReadable None = ⊥
+IsReadable (Some file) = length file ≤ MOST_BYTES
+
+-- no bytes, or such that end in an LF
+abbrev pub IsWhole : List ℕ → Type 0
+IsWhole bytes = (bytes ≡ []) ⊎ ((front : List ℕ) × (bytes ≡ front ++ 10 ∷ []))
