@@ -28,11 +28,18 @@ none_past g ok x past = get_or_past g.lists x [] (omega (arith, ok.counted))
 ascends_any : (g : Digraph) → IsGraph g → (x : ℕ) → Ascends 0 (successors g x)
 ascends_any g ok x = elim (cases_lt x g.nodes) [ inl lt ↦ list_ascends g ok x lt | inr past ↦ subst (Ascends 0) (sym (none_past g ok x past)) tt ]
 
-pub below_any : (g : Digraph) → IsGraph g → (m x : ℕ) → g.nodes ≤ m → Below m (successors g x)
+below_any : (g : Digraph) → IsGraph g → (m x : ℕ) → g.nodes ≤ m → Below m (successors g x)
 below_any g ok m x le = elim (cases_lt x g.nodes) [
   | inl lt ↦ below_more g.nodes m (successors g x) le (list_below g ok x lt)
   | inr past ↦ subst (Below m) (sym (none_past g ok x past)) tt
 ]
+
+-- the list of a page in both is one of a graph with the pages of the larger
+pub both_ascends : (g h : Digraph) → IsGraph g → IsGraph h → (x : ℕ) → Ascends 0 (both g h x)
+both_ascends g h g_ok h_ok x = union_ascends 0 (successors g x) (successors h x) (ascends_any g g_ok x) (ascends_any h h_ok x)
+
+pub both_below : (g h : Digraph) → IsGraph g → IsGraph h → (m x : ℕ) → g.nodes ≤ m → h.nodes ≤ m → Below m (both g h x)
+both_below g h g_ok h_ok m x g_le h_le = union_below m (successors g x) (successors h x) (below_any g g_ok m x g_le) (below_any h h_ok m x h_le)
 
 -- ---- page after page
 
@@ -86,8 +93,8 @@ is_union g h g_ok h_ok =
       nodes = refl;
       proper = record {
         counted = size;
-        ascending = All-from_get_or (Ascends 0) lists [] (λ x lt. subst (Ascends 0) (sym (list_at g h x (omega arith))) (union_ascends 0 (successors g x) (successors h x) (ascends_any g g_ok x) (ascends_any h h_ok x)));
-        below = All-from_get_or (Below n) lists [] (λ x lt. subst (Below n) (sym (list_at g h x (omega arith))) (union_below n (successors g x) (successors h x) (below_any g g_ok n x (omega arith)) (below_any h h_ok n x (omega arith))));
+        ascending = All-from_get_or (Ascends 0) lists [] (λ x lt. subst (Ascends 0) (sym (list_at g h x (omega arith))) (both_ascends g h g_ok h_ok x));
+        below = All-from_get_or (Below n) lists [] (λ x lt. subst (Below n) (sym (list_at g h x (omega arith))) (both_below g h g_ok h_ok n x (omega arith) (omega arith)));
       };
       arcs = λ x v. elim (cases_lt x n) [
         | inl lt ↦ ap (is_in v) (list_at g h x lt) ∙ in_union v (successors g x) (successors h x)

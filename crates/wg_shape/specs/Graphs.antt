@@ -1,5 +1,5 @@
 -- The union of two graphs.
-use Rattle.std.specs.Prelude.{◌≡◌, ℕ, ◌<◌, ◌≤◌, max, ◌||◌, List, length, map}
+use Rattle.std.specs.Prelude.{◌≡◌, ℕ, ◌<◌, ◌≤◌, min, max, ◌||◌, List, length, map}
 use Rattle.std.specs.List.{sum_by, range_with_len}
 use Rattle.wg_graph.specs.Digraph.{Digraph, IsGraph, successors, arc_count}
 use Rattle.wg_graph.specs.Arcs.{has_arc}
@@ -21,6 +21,10 @@ lists_of g h n = map (both g h) (range_with_len 0 n)
 
 abbrev pub union_graph : Digraph → Digraph → Digraph
 union_graph g h = record { nodes = max g.nodes h.nodes; lists = lists_of g h (max g.nodes h.nodes) }
+
+-- the lists of page x come next, or all pages are behind
+abbrev pub AreAt : ℕ → Digraph → ℕ → Digraph → ℕ → Type 0
+AreAt x g a h b = (a ≡ min x g.nodes) × (b ≡ min x h.nodes)
 
 -- the lists of the pages below x are there, and no others
 pub record UnionSoFar (g h : Digraph) (x : ℕ) (b : Digraph) : Type 0 where

@@ -4,13 +4,13 @@
 //! page after page: each list comes number by number, as a [`Coming`] does; [`Merge`] gives the numbers of two, which
 //! are never held side by side; [`add_union`] makes them the successors of a page. [`union_of_lists`] does so for all
 //! pages of two graphs whose lists are lent one by one, wherever they come from, and [`union`] for two graphs in
-//! memory. The successors of a page of an archive come from its bits: `Successors` of `wg_iterators` is a [`Coming`],
-//! too.
+//! memory. [`next_union`] holds no graph: it puts the numbers of one page into a list. The successors of a page of an
+//! archive come from its bits: `Successors` of `wg_iterators` is a [`Coming`], too.
 //!
 //! ```text
-//! ListWalk, Successors --\
-//!                         Merge: each number once, ascending --> add_union --> GraphBuilder
-//! ListWalk, Successors --/
+//! ListWalk, Successors --\                                     /--> add_union --> GraphBuilder
+//!                         Merge: each number once, ascending --
+//! ListWalk, Successors --/                                     \--> next_union --> List
 //! ```
 //!
 //! The quotient of a graph by classes of its pages is the graph of the classes: an arc leads from class to class
@@ -54,6 +54,7 @@ mod grouping;
 mod joining;
 pub mod laws;
 mod merge;
+mod paging;
 mod placing;
 mod uniting;
 
@@ -63,4 +64,5 @@ pub use error::ShapeError;
 pub use gathering::quotient;
 pub use joining::union_of_lists;
 pub use merge::Merge;
+pub use paging::next_union;
 pub use uniting::union;

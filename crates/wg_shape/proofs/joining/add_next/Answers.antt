@@ -1,11 +1,10 @@
-use Rattle.std.proofs.Common.{◌≡◌, ℕ, ◌+◌, ◌<◌, ◌≤◌, List, length, IfErr, refl, subst, sym, arith}
+use Rattle.std.proofs.Common.{◌≡◌, ℕ, ◌+◌, ◌<◌, List, length, IfErr, refl, subst, sym, arith}
 use Rattle.wg_params.specs.declared.limits.TheConstants.{MOST_ARCS}
 use Rattle.wg_graph.specs.Ascending.{Below}
-use Rattle.wg_graph.specs.Digraph.{arc_count, successors}
+use Rattle.wg_graph.specs.Digraph.{arc_count}
 use Rattle.wg_shape.specs.Added.{Added}
 use Rattle.wg_shape.specs.declared.error.ShapeError.TheVariants.{TooManyArcs}
-use Rattle.wg_shape.proofs.Unions.{union_below}
-use Rattle.wg_shape.proofs.GraphUnions.{below_any, both_are, union_more}
+use Rattle.wg_shape.proofs.GraphUnions.{both_are, both_below, union_more}
 use Rattle.wg_shape.proofs.ListUnions.{lent_list, where_ok}
 use Rattle.wg_shape.proofs.joining.add_next.Goals as goal
 
@@ -18,9 +17,8 @@ add_union-requires-clause-below g c =
     let one = lent_list (λ s. s.now) _ first x _ c.next_list.result c.unwrap_or-one.result refl c.requires.first_proper c.requires.first_place c.next_list.ensures.lent c.unwrap_or-one.ensures in
     let other = lent_list (λ s. s.now) _ second x _ c.next_list-2.result c.unwrap_or-other.result refl c.requires.second_proper c.requires.second_place c.next_list-2.ensures.lent c.unwrap_or-other.ensures in
     let is = both_are first second x c.new-3.result c.new.result c.new-2.result c.unwrap_or-one.result.now c.unwrap_or-other.result.now c.new-3.ensures c.new.ensures c.new-2.ensures one other in
-    let first_le : first.nodes ≤ n = omega (arith, c.requires.so_far.nodes) in
-    let second_le : second.nodes ≤ n = omega (arith, c.requires.so_far.nodes) in
-    subst (Below n) (sym is) (union_below n (successors first x) (successors second x) (below_any first c.requires.first_proper n x first_le) (below_any second c.requires.second_proper n x second_le))
+    let nodes = c.requires.so_far.nodes in
+    subst (Below n) (sym is) (both_below first second c.requires.first_proper c.requires.second_proper n x (omega (arith, nodes)) (omega (arith, nodes)))
 
 pub returns-clause-added : goal.returns-clause-added
 returns-clause-added g c =
