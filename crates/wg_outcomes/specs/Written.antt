@@ -117,10 +117,6 @@ FilesAfter a old new (WriteFault output.Offsets) = StopAtOffsets a old new
 FilesAfter a old new Memory = StopAtProperties a old new ⊎ StopAtGraph a old new ⊎ StopAtOffsets a old new ⊎ AreWhole a new
 FilesAfter a old new _ = new ≡ old
 
--- the same of the files of an archive of this name
-abbrev pub LeavesAfter : Archive → List ℕ → Files → Files → Status → Type 0
-LeavesAfter a base old new status = FilesAfter a (archive_in base old) (archive_in base new) status
-
 -- a fault of one of these files is told only where the count of that file rose
 abbrev pub FaultsRose : List ℕ → (List ℕ → Counts) → (List ℕ → Counts) → Status → Type 0
 FaultsRose base old new status = (o : Output) → status ≡ WriteFault o → IncreasedAt (λ c. c.write_faults) (archive_named base o) old new

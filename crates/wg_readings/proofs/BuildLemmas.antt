@@ -1,13 +1,12 @@
 -- What a job that writes an archive leaves, by the archive's own names.
 use Rattle.std.proofs.Common.{◌≡◌, ◌⊎◌, inl, inr, ℕ, Bool, true, false, if◌then◌else◌, List, refl, sym, ap, subst, ◌∙◌, Option, Some, None, is_some, Result, Ok, Err}
 use Rattle.std.specs.Bool.{IsTrue}
-use Rattle.std.specs.Result.{IfErr, IsErrAnd}
+use Rattle.std.specs.Result.{IfErr}
 use Rattle.std.proofs.lemmas.List.{append-nil}
 use Rattle.wg_io.specs.Outside.{Files, Counts, NonDecreasing}
 use Rattle.wg_io.specs.declared.output.Output.{Output}
 use Rattle.wg_io.specs.declared.output.Output.TheVariants as output
 use Rattle.wg_io.proofs.FilesLemmas.{none_falls-trans}
-use Rattle.wg_io.proofs.PutsLemmas.{is_that_err}
 use Rattle.wg_outcomes.specs.Reached.{Reaches}
 use Rattle.wg_outcomes.specs.Answers.{Answers, HasOutput, IsUnput, status_in}
 use Rattle.wg_outcomes.specs.Causes.{HasCause, IncreasedAt}
@@ -37,10 +36,6 @@ use Rattle.wg_outcomes.proofs.Statuses.{IsOwn, fault_caused, own_caused, own_rea
 -- ---- steps of a writing
 pub others_twice : (names : Output → Option (List ℕ)) (f h k : Files) → OthersStay names f h → OthersStay names h k → OthersStay names f k
 others_twice names f h k one two q other = two q other ∙ one q other
-
--- the status of what ended so
-pub ended_by : {B : Type 0} (r : Result B Ending) (e : Ending) → IsErrAnd r (λ x. x ≡ e) → status_in r ≡ e.status
-ended_by r e is = ap status_in (is_that_err r e is)
 
 -- ---- a writing that was stopped
 pub stopped_cause : (inputs : Input → Option (List ℕ)) (names : Output → Option (List ℕ)) → names output.Out ≡ None → (old new : List ℕ → Counts) (faults faults' : ℕ) (s : Status) → IsStopped s
