@@ -6,3 +6,4 @@ pub mod LoadedLemmas
 pub mod QuotientJobs
 pub mod RecodedLemmas
 pub mod UnionJobs
+pub mod UnitingLemmas

@@ -37,4 +37,5 @@ pub mod quotient;
 pub mod recode;
 pub mod transpose;
 pub mod union;
+mod uniting;
 mod writing;
