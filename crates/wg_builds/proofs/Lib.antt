@@ -7,3 +7,4 @@ pub mod QuotientJobs
 pub mod RecodedLemmas
 pub mod TransposedLemmas
 pub mod UnionJobs
+pub mod UnitingLemmas

@@ -1,5 +1,5 @@
 -- How the three files of an archive are judged one after the other, and how one of them ends a job.
-use Rattle.std.proofs.Common.{◌≡◌, ◌∙◌, ◌≤◌, ◌⊎◌, inl, inr, length, ℕ, Bool, List, Option, Result, Ok, Err, refl, sym, ap, subst}
+use Rattle.std.proofs.Common.{◌≡◌, ◌∙◌, All, ◌≤◌, ◌⊎◌, inl, inr, length, ℕ, Bool, List, Option, Result, Ok, Err, refl, sym, ap, subst}
 use Rattle.std.specs.Bool.{IsTrue}
 use Rattle.std.specs.Result.{IsErrAnd}
 use Rattle.wg_io.specs.Outside.{Files, Counts, NonDecreasing}
@@ -53,11 +53,9 @@ pub loads_exit : (base : List ℕ) (td : Bool) (files files' : Files) (counts co
     → LoadsArchive base td files files' counts counts' (Err e) → LoadsArchive base td files files' counts counts' r
 loads_exit base td files files' counts counts' r e is h = subst (LoadsArchive base td files files' counts counts') (sym (is_that_err r e is)) h
 
--- the offsets are judged last
-pub judged_by : (base : List ℕ) (p : Parameters) (bytes : List ℕ) (td : Bool) (files files' : Files) (counts counts' : List ℕ → Counts) → IsWithinLimits p → (a : Accepted) → ReadsGraph p (bits_of bytes) (Ok a)
-    → (r : Result (Unit {0}) Ending) → JudgesOffsets base p a.places td files files' counts counts' r → JudgesArchive base p bytes td files files' counts counts' r
-judged_by base p bytes td files files' counts counts' limits a reads (Ok done) o = record { limits = limits; goes = (a, reads, o); ends = tt }
-judged_by base p bytes td files files' counts counts' limits a reads (Err e) o = record { limits = limits; goes = tt; ends = inr (a, reads, o) }
+pub judges_exit : (base : List ℕ) (p : Parameters) (bytes : List ℕ) (td : Bool) (files files' : Files) (counts counts' : List ℕ → Counts) (r : Result ℕ Ending) (e : Ending) → IsErrAnd r (λ x. x ≡ e)
+    → JudgesArchive base p bytes td files files' counts counts' (Err e) → JudgesArchive base p bytes td files files' counts counts' r
+judges_exit base p bytes td files files' counts counts' r e is h = subst (JudgesArchive base p bytes td files files' counts counts') (sym (is_that_err r e is)) h
 
 module _ (base : List ℕ) (td : Bool) (files : Files) (counts : List ℕ → Counts) where
   abbrev held : Input → Option (List ℕ)
@@ -167,15 +165,15 @@ module _ (base : List ℕ) (td : Bool) (files : Files) (counts : List ℕ → Co
             stop_promised t (inl only) = unread_promised held Offsets e.status e.promised only
             stop_promised t (inr bad) = bad_promised held p Offsets e (l.given t) bad
 
-        loads_all : (files' : Files) (counts' : List ℕ → Counts) (loaded : Loaded) → JudgesOffsets base p a.places td files2 files' counts2 counts' (Ok tt) → loaded.params ≡ p → loaded.bytes ≡ bytes
-            → LoadsArchive base td files files' counts counts' (Ok loaded)
-        loads_all files' counts' loaded o is_p is_bytes =
-            let made : Loaded = record { params = p; bytes = slice } in
-            let same : loaded ≡ made = λ i. record { params = is_p i; bytes = (is_bytes ∙ sym is_slice) i } in
+        loads_all : (files' : Files) (counts' : List ℕ → Counts) (loaded : Loaded) → All (λ list. length list ≤ loaded.greatest) a.graph → JudgesOffsets base p a.places td files2 files' counts2 counts' (Ok tt)
+            → loaded.params ≡ p → loaded.bytes ≡ bytes → LoadsArchive base td files files' counts counts' (Ok loaded)
+        loads_all files' counts' loaded greatest o is_p is_bytes =
+            let made : Loaded = record { params = p; bytes = slice; greatest = loaded.greatest } in
+            let same : loaded ≡ made = λ i. record { params = is_p i; bytes = (is_bytes ∙ sym is_slice) i; greatest = loaded.greatest } in
             subst (λ (x : Loaded). LoadsArchive base td files files' counts counts' (Ok x)) (sym same) (record {
               goes = (
                 a,
-                (limits, subst (λ (x : List ℕ). length x ≤ MOST_BYTES) (sym is_slice) b.short, reads),
+                record { limits = limits; short = subst (λ (x : List ℕ). length x ≤ MOST_BYTES) (sym is_slice) b.short; judged = (reads, greatest) },
                 λ t r next.
                     k3 t r held refl refl next ∙ ap (λ (x : Option (List ℕ)). lengths_then r p a.places x (λ same. next p a)) (here2 Offsets) ∙ o.goes t r (λ same. next p a),
               );
@@ -198,6 +196,6 @@ module _ (base : List ℕ) (td : Bool) (files : Files) (counts : List ℕ → Co
           by_file (inl bad) = no_records files' counts' e bad.0 bad.1 bad.2 bad.3
           by_file (inr bad) = no_offsets j.limits bad.0 bad.1 files' counts' e bad.2
 
-      pub all_judged : (files' : Files) (counts' : List ℕ → Counts) (loaded : Loaded) → JudgesArchive base p slice td files2 files' counts2 counts' (Ok tt) → loaded.params ≡ p → loaded.bytes ≡ bytes
+      pub all_judged : (files' : Files) (counts' : List ℕ → Counts) (loaded : Loaded) → JudgesArchive base p slice td files2 files' counts2 counts' (Ok loaded.greatest) → loaded.params ≡ p → loaded.bytes ≡ bytes
           → LoadsArchive base td files files' counts counts' (Ok loaded)
-      all_judged files' counts' loaded j is_p is_bytes = loads_all j.limits j.goes.0 j.goes.1 files' counts' loaded j.goes.2 is_p is_bytes
+      all_judged files' counts' loaded j is_p is_bytes = let g = j.goes in loads_all j.limits g.0 g.1.0 files' counts' loaded g.1.1 g.2 is_p is_bytes

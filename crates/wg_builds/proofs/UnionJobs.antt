@@ -290,12 +290,11 @@ module _ (first second output : List ℕ) (layout : Layout) (td to : Bool) (befo
               (ends TooManyArcs tt tt refl (λ t r. inl (sym (ap status_of (goes t r ∙ ap (λ (x : Bool). of_second (if x then refused TooManyArcs else builds layout both)) (lt-ltb MOST_ARCS (arc_count both) (many many_is)))))) tt)
 
       -- it was, and is written
-      pub unites : (g : Digraph) → g ≡ both → arc_count g ≤ MOST_ARCS → (after : Outside) (r : Result (Unit {0}) Ending) → BuildsArchive layout g output td to (outside files2 counts2 before.taken before.faults) after r
+      pub unites : arc_count both ≤ MOST_ARCS → (after : Outside) (r : Result (Unit {0}) Ending) → BuildsArchive layout both output td to (outside files2 counts2 before.taken before.faults) after r
           → Performs job td to before after (status_in r) (promised_in r)
-      unites g is few after r h' =
-          written job td to before after files2 counts2 layout g output r refl refl
-          (λ t q. goes t q ∙ ap (λ (x : Bool). of_second (if x then refused TooManyArcs else builds layout both)) (le-ltb MOST_ARCS (arc_count both) (subst (λ (x : Digraph). arc_count x ≤ MOST_ARCS) is few))
-          ∙ ap (λ (x : Digraph). builds layout x) (sym is))
+      unites few after r h' =
+          written job td to before after files2 counts2 layout both output r refl refl
+          (λ t q. goes t q ∙ ap (λ (x : Bool). of_second (if x then refused TooManyArcs else builds layout both)) (le-ltb MOST_ARCS (arc_count both) few))
           same (none_falls-trans _ _ _ l.later h.later) h'
 
 -- what was read of the second archive, where nothing ended it

@@ -1,5 +1,5 @@
 -- An archive whose three files are judged before a job goes on with its graph.
-use Rattle.std.specs.Prelude.{◌≡◌, ◌⊎◌, ℕ, ◌≤◌, Bool, List, length, Result, Ok, Err, IsTrue, OnOk, IfOk, IfErr}
+use Rattle.std.specs.Prelude.{◌≡◌, ◌⊎◌, ℕ, ◌≤◌, Bool, List, length, Result, Ok, Err, IsTrue, All, IfOk, IfErr}
 use Rattle.wg_io.specs.Outside.{Files, Counts, NonDecreasing}
 use Rattle.wg_io.specs.declared.depot.Depot as depot
 use Rattle.wg_io.specs.declared.limits.TheConstants.{MOST_BYTES}
@@ -38,20 +38,26 @@ IsOfArchive (BadProperties f) = Unit {0}
 IsOfArchive (BadArchive f) = Unit {0}
 IsOfArchive _ = ⊥
 
+-- the bytes stand for this graph, and no page of it has more successors than the greatest
+abbrev pub IsJudged : Parameters → List ℕ → ℕ → Accepted → Type 0
+IsJudged p bytes greatest a = ReadsGraph p (bits_of bytes) (Ok a) × All (λ list. length list ≤ greatest) a.graph
+
 -- the graph file that was read, by its parameters, stands for this graph
-abbrev pub IsLoaded : Loaded → Accepted → Type 0
-IsLoaded l a = IsWithinLimits l.params × (length l.bytes ≤ MOST_BYTES) × ReadsGraph l.params (bits_of l.bytes) (Ok a)
+pub record IsLoaded (l : Loaded) (a : Accepted) : Type 0 where
+  pub limits : IsWithinLimits l.params
+  pub short : length l.bytes ≤ MOST_BYTES
+  pub judged : IsJudged l.params l.bytes l.greatest a
 
 -- The graph file of an archive that is held, and its offsets file, were judged.
-pub record JudgesArchive (base : List ℕ) (p : Parameters) (bytes : List ℕ) (told : Bool) (files files' : Files) (counts counts' : List ℕ → Counts) (result : Result (Unit {0}) Ending) : Type 0 where
+pub record JudgesArchive (base : List ℕ) (p : Parameters) (bytes : List ℕ) (told : Bool) (files files' : Files) (counts counts' : List ℕ → Counts) (result : Result ℕ Ending) : Type 0 where
   pub limits : IsWithinLimits p
   -- the bytes stand for a graph, and the offsets file stores the lengths of its records
-  pub goes : OnOk result ((a : Accepted) × ReadsGraph p (bits_of bytes) (Ok a) × JudgesOffsets base p a.places told files files' counts counts' (Ok tt))
+  pub goes : IfOk result (λ greatest. (a : Accepted) × IsJudged p bytes greatest a × JudgesOffsets base p a.places told files files' counts counts' (Ok tt))
   -- or they do not, or the job ends at the offsets file
   pub ends : IfErr result (λ e. (IsBadFile Graph p.arcs e × ((r : Readings) → Steps {B = Accepted} (with_graph r p bytes) (Err e)) × (files' ≡ files) × NonDecreasing counts counts')
       ⊎ ((a : Accepted) × ReadsGraph p (bits_of bytes) (Ok a) × JudgesOffsets base p a.places told files files' counts counts' (Err e)))
 
-abbrev pub JudgesArchiveBy : {D : Type 0} → depot.Ghosts D → List ℕ → Parameters → List ℕ → D → D → Result (Unit {0}) Ending → Type 0
+abbrev pub JudgesArchiveBy : {D : Type 0} → depot.Ghosts D → List ℕ → Parameters → List ℕ → D → D → Result ℕ Ending → Type 0
 JudgesArchiveBy d base p bytes before after result = JudgesArchive base p bytes d.told (d.files before) (d.files after) (d.counts before) (d.counts after) result
 
 -- The three files of an archive were judged, and its graph file is held, or the job ends at one of them.

@@ -39,4 +39,5 @@ pub mod recode;
 pub mod transpose;
 mod transposing;
 pub mod union;
+mod uniting;
 mod writing;

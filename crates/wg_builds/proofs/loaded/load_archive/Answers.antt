@@ -10,11 +10,11 @@ returns-in_err-bytes g c =
     loads_exit _ _ _ _ _ _ _ _ c.from_residual-in_err-bytes.ensures.1
     (no_bytes c.args.base.now _ _ _ c.in_ok-params.params _ _ c.in_ok-params.ensures _ _ _ c.in_err-bytes.ensures)
 
-pub returns-in_err-judge_archive : goal.returns-in_err-judge_archive
-returns-in_err-judge_archive g c =
-    loads_exit _ _ _ _ _ _ _ _ c.from_residual-in_err-judge_archive.ensures.1
-    (not_judged c.args.base.now _ _ _ c.in_ok-params.params _ _ c.in_ok-params.ensures _ _ c.in_ok-bytes.bytes c.in_ok-bytes.ensures _ c.as_slice.ensures _ _ _ c.in_err-judge_archive.ensures)
+pub returns-in_err-greatest : goal.returns-in_err-greatest
+returns-in_err-greatest g c =
+    loads_exit _ _ _ _ _ _ _ _ c.from_residual-in_err-greatest.ensures.1
+    (not_judged c.args.base.now _ _ _ c.in_ok-params.params _ _ c.in_ok-params.ensures _ _ c.in_ok-bytes.bytes c.in_ok-bytes.ensures _ c.as_slice.ensures _ _ _ c.in_err-greatest.ensures)
 
 pub returns : goal.returns
 returns g c =
-    all_judged c.args.base.now _ _ _ c.in_ok-params.params _ _ c.in_ok-params.ensures _ _ c.in_ok-bytes.bytes c.in_ok-bytes.ensures _ c.as_slice.ensures _ _ _ c.in_ok-judge_archive.ensures refl refl
+    all_judged c.args.base.now _ _ _ c.in_ok-params.params _ _ c.in_ok-params.ensures _ _ c.in_ok-bytes.bytes c.in_ok-bytes.ensures _ c.as_slice.ensures _ _ _ c.in_ok-greatest.ensures refl refl

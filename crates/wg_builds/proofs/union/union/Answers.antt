@@ -23,13 +23,13 @@ united-requires-clause-second g c =
     let loaded = second_read _ _ _ _ _ _ read.0 c.in_ok-other.other read.1 read.2 in
     (loaded.goes.0, loaded.goes.1)
 
-pub returns-in_err-graph : goal.returns-in_err-graph
-returns-in_err-graph g c =
+pub returns-in_err-params : goal.returns-in_err-params
+returns-in_err-params g c =
     let read = c.in_ok-other.ensures in
     let one = c.in_ok-one.ensures in
     let other = second_read _ _ _ _ _ _ read.0 c.in_ok-other.other read.1 read.2 in
-    let e = c.in_err-graph.ensures in
-    performs_exit _ _ _ _ _ _ _ c.from_residual-in_err-graph.ensures.1
+    let e = c.in_err-params.ensures in
+    performs_exit _ _ _ _ _ _ _ c.from_residual-in_err-params.ensures.1
     (no_union c.args.first.now c.args.second.now c.args.output.now c.args.layout.now _ _ _ c.in_ok-one.one _ _ one c.in_ok-other.other _ _ other
     _ _ _ refl e.only (e.too_many one.goes.0 other.goes.0 one.goes.1 other.goes.1))
 
@@ -38,6 +38,7 @@ returns g c =
     let read = c.in_ok-other.ensures in
     let one = c.in_ok-one.ensures in
     let other = second_read _ _ _ _ _ _ read.0 c.in_ok-other.other read.1 read.2 in
-    let u = c.in_ok-graph.ensures in
+    let u = c.in_ok-params.ensures in
+    let made = u.made one.goes.0 other.goes.0 one.goes.1 other.goes.1 in
     unites c.args.first.now c.args.second.now c.args.output.now c.args.layout.now _ _ _ c.in_ok-one.one _ _ one c.in_ok-other.other _ _ other
-    c.in_ok-graph.graph (u.exact one.goes.0 other.goes.0 one.goes.1 other.goes.1) u.few _ c.build_graph.result c.build_graph.ensures
+    (u.few one.goes.0 other.goes.0 one.goes.1 other.goes.1) _ c.build_archive.result (c.build_archive.ensures c.args.layout.now _ made.0 made.1)
