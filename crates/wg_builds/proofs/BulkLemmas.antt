@@ -13,8 +13,8 @@ use Rattle.wg_graph.specs.Digraph.{Digraph, IsGraph, arc_count}
 use Rattle.wg_grammar.specs.Archive.{Accepted}
 use Rattle.wg_offsets.specs.Places.{last_place}
 use Rattle.wg_offsets.specs.Words.{places_of}
-use Rattle.wg_encoder.specs.Archive.{graph_bits, graph_file, offset_values, offsets_file, referring_pages, summary_of}
-use Rattle.wg_encoder.specs.declared.summary.Summary.{Summary}
+use Rattle.wg_encoder.specs.Archive.{Archive, Summarized, graph_bits, graph_file, offset_values, offsets_file, referring_pages}
+use Rattle.wg_encoder.specs.ArchiveInMemory.{HoldsArchive}
 use Rattle.wg_encoder.specs.Laws.{IsAcceptedArchive}
 use Rattle.wg_encoder.proofs.Accepted.{greedy_accepted}
 use Rattle.wg_encoder.proofs.ProperRecord.{canonical_proper}
@@ -42,6 +42,8 @@ use Rattle.wg_outcomes.specs.Written.{AreWhole, archive_in, greedy_archive}
 use Rattle.wg_outcomes.proofs.FileLemmas.{file_goes_on, last_bit}
 use Rattle.wg_io.proofs.FilesLemmas.{none_falls-refl}
 use Rattle.std.specs.Bool.{IsTrue}
+use Rattle.std.specs.Result.{IfOk}
+use Rattle.wg_builds.specs.Writing.{archive_of}
 use Rattle.wg_words.specs.declared.jobs.Job.{Job}
 use Rattle.wg_outcomes.proofs.Statuses.{IsOwn, own_caused}
 use Rattle.wg_outcomes.specs.JobFiles.{can_end, input_name}
@@ -62,7 +64,7 @@ module _ (l : Layout) (n m : ℕ) (q : Parameters) (d g : Digraph) (is : q ≡ p
   params_written : q ≡ bulk_params d
   params_written = is ∙ (λ i. params_of (usual i) (pages i) (arcs i))
 
-  pub built : (base : List ℕ) (files : Files) → IsGraph d → n ≤ MOST_PAGES → m ≤ MOST_ARCS → IsWithinLimits (params_of l 0 0) → AreWhole (greedy_archive q d) (archive_in base files) → IsBuilt g base files
+  built : (base : List ℕ) (files : Files) → IsGraph d → n ≤ MOST_PAGES → m ≤ MOST_ARCS → IsWithinLimits (params_of l 0 0) → AreWhole (greedy_archive q d) (archive_in base files) → IsBuilt g base files
   built base files proper few_pages few_arcs within whole =
       subst (λ (x : Digraph). IsBuilt x base files) drawn (record {
         proper = proper;
@@ -70,9 +72,17 @@ module _ (l : Layout) (n m : ℕ) (q : Parameters) (d g : Digraph) (is : q ≡ p
         whole = subst (λ (x : Parameters). AreWhole (greedy_archive x d) (archive_in base files)) params_written whole;
       })
 
-  pub referring_written : (s : Summary) → s ≡ summary_of q d.lists → s.referring ≡ referring_pages (bulk_params g) g.lists
-  referring_written s h =
-      ap (λ (x : Summary). x.referring) h ∙ ap (λ (x : Parameters). referring_pages x d.lists) params_written ∙ ap (λ (x : Digraph). referring_pages (bulk_params x) x.lists) drawn
+  -- the archive in memory, wherever its files are held
+  pub built_anywhere : IsGraph d → n ≤ MOST_PAGES → m ≤ MOST_ARCS → IsWithinLimits (params_of l 0 0) → (r : Result Summarized Ending) → IfOk r (λ a. a ≡ archive_of q d)
+      → IfOk r (λ a. (files : Files) → HoldsArchive files [] a.files → IsBuilt g [] files)
+  built_anywhere proper few_pages few_arcs within (Ok a) made = λ files h.
+      built [] files proper few_pages few_arcs within (subst (λ (x : Archive). AreWhole x (archive_in [] files)) (ap (λ (x : Summarized). x.files) made) (h.properties, h.graph, h.offsets))
+  built_anywhere proper few_pages few_arcs within (Err e) made = tt
+
+  pub referring_written : (r : Result Summarized Ending) → IfOk r (λ a. a ≡ archive_of q d) → IfOk r (λ a. a.summary.referring ≡ referring_pages (bulk_params g) g.lists)
+  referring_written (Ok a) made =
+      ap (λ (x : Summarized). x.summary.referring) made ∙ ap (λ (x : Parameters). referring_pages x d.lists) params_written ∙ ap (λ (x : Digraph). referring_pages (bulk_params x) x.lists) drawn
+  referring_written (Err e) made = tt
 
 -- ---- what is read of it
 

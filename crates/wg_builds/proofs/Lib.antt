@@ -1,7 +1,8 @@
+pub mod BuildingLemmas
 pub mod BulkLemmas
-pub mod CopyingLemmas
+pub mod FileSteps
 pub mod ImportJobs
 pub mod LoadedLemmas
 pub mod QuotientJobs
-pub mod RewrittenLemmas
+pub mod RecodedLemmas
 pub mod UnionJobs

@@ -1,2 +1,3 @@
-pub mod Copying
 pub mod Loaded
+pub mod Recoding
+pub mod Writing

@@ -5,7 +5,7 @@ ghost use Rattle.wg_params.specs.declared.limits.TheConstants.{MOST_PAGES};
 ghost use Rattle.wg_words.specs.declared.jobs.Job.TheVariants.{Build};
 ghost use Rattle.wg_outcomes.specs.Performs.{DoesOrEnds};
 
-use crate::building::build_archive;
+use crate::building::build_graph;
 use std::alloc::Global;
 use wg_io::{Depot, Sink};
 use wg_outcomes::Ending;
@@ -31,5 +31,5 @@ pub fn build<D: Depot, O: Sink>(
         depot.old depot.new out.old out.new result }
 {
     let graph = load_list(alloc, nodes, depot, arcs)?;
-    build_archive(alloc, layout, &graph, base, depot, out)
+    build_graph(alloc, layout, &graph, base, depot, out)
 }

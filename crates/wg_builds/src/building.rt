@@ -1,18 +1,43 @@
-//! The archive of a graph, in the layout that the options give, and the line of what it holds.
+//! The one way out of the commands that write an archive: from the archive in memory to its files, and the line of what
+//! it holds.
+ghost use Rattle.std.specs.Prelude.{◌≡◌};
 ghost use Rattle.wg_params.specs.Parameters.{IsWithinLimits, params_of};
+ghost use Rattle.wg_params.specs.declared.layout.Layout.{Layout};
+ghost use Rattle.wg_graph.specs.Digraph.{Digraph};
 ghost use Rattle.wg_outcomes.specs.Performs.{Builds};
+ghost use Rattle.wg_outcomes.specs.Written.{params_for};
+ghost use Rattle.wg_builds.specs.Writing.{archive_of};
 
+use crate::encoding::encode_graph;
 use crate::writing::write_archive;
 use std::alloc::Global;
+use wg_encoder::EncodedArchive;
 use wg_graph::Graph;
 use wg_io::{Depot, Sink};
 use wg_outcomes::{Ending, params_of, print_ok};
-use wg_params::Layout;
+use wg_params::{Layout, Params};
 use wg_words::Name;
 
-/// Writes the greedy archive of a graph, and prints the line of what it holds. Beside the graph it holds one record,
-/// and buffers of 8192 bytes.
+/// Writes an archive that is held in memory, of a graph with these parameters, and prints the line of what it holds.
+/// It takes the memory of three names.
 pub fn build_archive<D: Depot, O: Sink>(
+    alloc: Global,
+    params: &Params,
+    archive: &EncodedArchive,
+    base: &Name,
+    depot: &mut D,
+    out: &mut O,
+) -> Result<(), Ending>
+    ensures { (l : Layout) (g : Digraph) → params.now ≡ params_for l g → archive.now ≡ archive_of params.now g
+        → Builds ⟦<D as Depot>⟧ ⟦<O as Sink>⟧ l g base.now depot.old depot.new out.old out.new result }
+{
+    write_archive(alloc, archive, base, depot)?;
+    print_ok(out, params, archive.bits())
+}
+
+/// Encodes the archive of a graph in memory, writes it, and prints the line of what it holds. Beside the graph it holds
+/// the archive, in most graphs little more than a byte an arc and two a page, and up to twice that while it grows.
+pub fn build_graph<D: Depot, O: Sink>(
     alloc: Global,
     layout: &Layout,
     graph: &Graph,
@@ -25,6 +50,6 @@ pub fn build_archive<D: Depot, O: Sink>(
         ⟦<O as Sink>⟧ layout.now graph.now base.now depot.old depot.new out.old out.new result }
 {
     let params = params_of(layout, graph.nodes(), graph.arcs());
-    let summary = write_archive(alloc, &params, graph, base, depot)?;
-    print_ok(out, &params, summary.bits)
+    let archive = encode_graph(alloc, &params, graph)?;
+    build_archive(alloc, &params, &archive, base, depot, out)
 }

@@ -1,17 +1,20 @@
 //! The archive of a generated graph, in memory.
-ghost use Rattle.std.specs.Prelude.{◌≡◌, ◌≤◌, length, OnOk, IfOk, IfErr, None};
+ghost use Rattle.std.specs.Prelude.{◌≡◌, ◌≤◌, [], length, IfOk, IfErr, None};
+ghost use Rattle.wg_io.specs.Outside.{Files};
 ghost use Rattle.wg_graph.specs.Digraph.{Digraph};
 ghost use Rattle.wg_vectors.specs.Generated.{generated};
 ghost use Rattle.wg_params.specs.declared.limits.TheConstants.{MOST_GENERATED};
 ghost use Rattle.wg_encoder.specs.Archive.{graph_bits, referring_pages};
+ghost use Rattle.wg_encoder.specs.ArchiveInMemory.{HoldsArchive};
 ghost use Rattle.wg_words.specs.declared.defaults.TheConstants.{DEFAULT_DAMPING};
 ghost use Rattle.wg_outcomes.specs.Readings.{Readings};
 ghost use Rattle.wg_outcomes.specs.Bulk.{IsBuilt, bulk_params, outcome_of};
 ghost use Rattle.wg_outcomes.specs.Ranked.{bounds_after};
 ghost use Rattle.wg_outcomes.specs.declared.outcome.TheConstants.{BULK_ROUNDS};
 
-use crate::writing::write_archive;
+use crate::encoding::encode_graph;
 use std::alloc::Global;
+use wg_encoder::EncodedArchive;
 use wg_graph::{Graph, GraphLists};
 use wg_io::SteadyDepot;
 use wg_order::RankingSummary;
@@ -22,22 +25,18 @@ use wg_readings::{judge_files, load_graph, load_params};
 use wg_vectors::generate;
 use wg_words::{DEFAULT_DAMPING, Name, usual_layout};
 
-// The most bytes that a call moves.
-const PIECE: u64 = 1 << 16;
-
-// The name of the archive.
-const NAME: &str = "g";
-
 fn out_of_memory() -> Ending
     ensures { result.status ≡ Status.Memory }
 {
     Ending::of(Status::Memory)
 }
 
+// The name of an archive that is held in memory, which is empty.
 fn archive_name(alloc: Global) -> Result<Name, Ending>
-    ensures { IfErr result (λ e. e.status ≡ Status.Memory) }
+    ensures name { IfOk result (λ name. name ≡ []) }
+    ensures only { IfErr result (λ e. e.status ≡ Status.Memory) }
 {
-    match Name::new(alloc, NAME) {
+    match Name::new(alloc, "") {
         Ok(name) => Ok(name),
         Err(_) => Err(out_of_memory()),
     }
@@ -54,23 +53,18 @@ fn drawn(alloc: Global, seed: u64, pages: u64) -> Result<Graph, Ending>
     }
 }
 
-// Writes the archive of the graph, and answers how many of its records have a reference. The graph is let go.
-fn build(
-    alloc: Global,
-    seed: u64,
-    pages: u64,
-    base: &Name,
-    depot: &mut SteadyDepot,
-) -> Result<u64, Ending>
+// Encodes the archive of the graph, which is let go.
+fn build(alloc: Global, seed: u64, pages: u64) -> Result<EncodedArchive, Ending>
     requires { pages ≤ MOST_GENERATED }
-    ensures built { OnOk result (IsBuilt (generated seed pages) base.now depot.new.files) }
-    ensures referring { let g = generated seed pages in IfOk result (λ n. n ≡ referring_pages (bulk_params g) g.lists) }
+    ensures built { IfOk result (λ a. (files : Files) → HoldsArchive files [] a.files
+        → IsBuilt (generated seed pages) [] files) }
+    ensures referring { let g = generated seed pages in
+        IfOk result (λ a. a.summary.referring ≡ referring_pages (bulk_params g) g.lists) }
     ensures only { IfErr result (λ e. e.status ≡ Status.Memory) }
 {
     let graph = drawn(alloc, seed, pages)?;
     let params = params_of(&usual_layout(), graph.nodes(), graph.arcs());
-    let summary = write_archive(alloc, &params, &graph, base, depot)?;
-    Ok(summary.referring)
+    encode_graph(alloc, &params, &graph)
 }
 
 // An archive that was judged.
@@ -134,7 +128,7 @@ fn summed(checked: &Checked, referring: u64, bounds: Bounds) -> Outcome
     }
 }
 
-/// Writes the archive of the generated graph of so many pages in memory, judges it, ranks the pages of the graph that
+/// Encodes the archive of the generated graph of so many pages in memory, judges it, ranks the pages of the graph that
 /// its bytes stand for, and answers what comes of this. Out of memory alone can stop it: what was written is not
 /// refused.
 pub fn try_generated(alloc: Global, seed: u64, pages: u64) -> Result<Outcome, Ending>
@@ -143,8 +137,9 @@ pub fn try_generated(alloc: Global, seed: u64, pages: u64) -> Result<Outcome, En
     ensures only { IfErr result (λ e. e.status ≡ Status.Memory) }
 {
     let base = archive_name(alloc)?;
-    let mut depot = SteadyDepot::new(alloc, PIECE);
-    let referring = build(alloc, seed, pages, &base, &mut depot)?;
+    let archive = build(alloc, seed, pages)?;
+    let referring = archive.referring();
+    let mut depot = archive.into_depot();
     let checked = judge(alloc, &base, &mut depot)?;
     let bounds = rounded(alloc, &checked.params, &base, depot)?;
     Ok(summed(&checked, referring, bounds))

@@ -3,7 +3,7 @@ ghost use Rattle.wg_params.specs.Parameters.{IsWithinLimits, params_of};
 ghost use Rattle.wg_words.specs.declared.jobs.Job.TheVariants.{Import};
 ghost use Rattle.wg_outcomes.specs.Performs.{DoesOrEnds};
 
-use crate::building::build_archive;
+use crate::building::build_graph;
 use std::alloc::Global;
 use wg_io::{Depot, Sink};
 use wg_outcomes::Ending;
@@ -27,5 +27,5 @@ pub fn import<D: Depot, O: Sink>(
         depot.old depot.new out.old out.new result }
 {
     let graph = load_text(alloc, depot, text)?;
-    build_archive(alloc, layout, &graph, base, depot, out)
+    build_graph(alloc, layout, &graph, base, depot, out)
 }

@@ -3,8 +3,9 @@
 //!
 //! Each is a function over any outside, with one clause: `DoesOrEnds` of its job (`wg_outcomes`); `bulk`, which makes
 //! no call of a depot, has it of any depot by `DoesAlone`. A command is a chain of steps: those of `wg_readings`,
-//! which read its inputs and judge them, and last [`building`](building::build_archive), which writes the greedy
-//! archive of a graph and prints its line.
+//! which read its inputs and judge them, then the encoding of the greedy archive in memory, and last
+//! [`building`](building::build_archive), which writes that archive and prints its line. So no file is touched before
+//! all inputs are judged and the archive is whole.
 //!
 //! The archive of an arc list, in memory:
 //!
@@ -28,7 +29,7 @@
 pub mod build;
 pub mod building;
 pub mod bulk;
-mod copying;
+mod encoding;
 mod generated;
 pub mod import;
 mod loaded;

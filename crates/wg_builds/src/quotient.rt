@@ -7,7 +7,7 @@ ghost use Rattle.wg_shape.specs.Quotient.{quotient_of};
 ghost use Rattle.wg_words.specs.declared.jobs.Job.TheVariants.{Quotient};
 ghost use Rattle.wg_outcomes.specs.Performs.{DoesOrEnds};
 
-use crate::building::build_archive;
+use crate::building::build_graph;
 use std::alloc::Global;
 use wg_graph::{Graph, List};
 use wg_io::{Depot, Sink};
@@ -43,7 +43,7 @@ pub fn quotient<D: Depot, O: Sink>(
     let graph = load_graph(alloc, &params, depot, input)?;
     let classes_of = load_map(alloc, graph.nodes(), classes, depot, map)?;
     let made = grouped(alloc, &graph, &classes_of, classes)?;
-    build_archive(alloc, layout, &made, output, depot, out)
+    build_graph(alloc, layout, &made, output, depot, out)
 }
 
 // The graph of the classes of pages.

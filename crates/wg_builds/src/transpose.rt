@@ -5,7 +5,7 @@ ghost use Rattle.wg_transpose.specs.Transposed.{transposed};
 ghost use Rattle.wg_words.specs.declared.jobs.Job.TheVariants.{Transpose};
 ghost use Rattle.wg_outcomes.specs.Performs.{DoesOrEnds};
 
-use crate::building::build_archive;
+use crate::building::build_graph;
 use std::alloc::Global;
 use wg_graph::Graph;
 use wg_io::{Depot, Sink};
@@ -33,7 +33,7 @@ pub fn transpose<D: Depot, O: Sink>(
     let params = load_params(alloc, depot, input)?;
     let graph = load_graph(alloc, &params, depot, input)?;
     let reversed = transposed(alloc, &graph)?;
-    build_archive(alloc, layout, &reversed, output, depot, out)
+    build_graph(alloc, layout, &reversed, output, depot, out)
 }
 
 // The graph with each arc the other way round.

@@ -10,7 +10,7 @@ ghost use Rattle.wg_words.specs.declared.jobs.Job.TheVariants.{Union};
 ghost use Rattle.wg_builds.specs.Loaded.{IsLoaded};
 ghost use Rattle.wg_outcomes.specs.Performs.{DoesOrEnds};
 
-use crate::building::build_archive;
+use crate::building::build_graph;
 use crate::loaded::{Loaded, load_archive, load_second};
 use std::alloc::Global;
 use wg_graph::Graph;
@@ -42,7 +42,7 @@ pub fn union<D: Depot, O: Sink>(
     let one = load_archive(alloc, depot, first)?;
     let other = load_second(alloc, depot, second)?;
     let graph = united(alloc, one, other)?;
-    build_archive(alloc, layout, &graph, output, depot, out)
+    build_graph(alloc, layout, &graph, output, depot, out)
 }
 
 // The lists of an archive's graph.

@@ -1,4 +1,4 @@
-ghost use Rattle.std.specs.Prelude.{◌≡◌, ◌≤◌, ◌⊎◌, ℕ, false, List, Option, Some, None, IsTrue, IfOk, IfSome};
+ghost use Rattle.std.specs.Prelude.{◌≡◌, ◌≢◌, ◌≤◌, ◌⊎◌, ℕ, false, List, Option, Some, None, IsTrue, IfOk, IfSome};
 ghost use Rattle.wg_io.specs.Outside.{Increased};
 ghost use Rattle.wg_io.specs.declared.output.Output.{Output};
 ghost use Rattle.wg_params.specs.declared.limits.TheConstants.{MOST_PAGES};
@@ -12,13 +12,13 @@ ghost use Rattle.wg_outcomes.specs.Commands.{written_by};
 ghost use Rattle.wg_outcomes.specs.Judged.{output_of, status_of};
 ghost use Rattle.wg_cli.specs.Lines.{line_of, Reports};
 ghost use Rattle.wg_cli.specs.Wanted.{some_writes_files, ArePromisedBy};
-ghost use Rattle.wg_outcomes.specs.JobFiles.{can_end, held_for, input_name, output_name, reads_again};
+ghost use Rattle.wg_outcomes.specs.JobFiles.{can_end, held_for, input_name, output_name};
 ghost use Rattle.wg_outcomes.specs.Performs.{judged_on, Does};
 ghost use Rattle.wg_rank.specs.Weights.{AreWeights, weights_of};
 ghost use Rattle.wg_outcomes.specs.Ranked.{IsProvenRanking, PrintsProvenRanking, bounds_after};
 ghost use Rattle.wg_outcomes.specs.Verified.{PrintsProvenGap};
 ghost use Rattle.wg_outcomes.specs.Readings.{Readings};
-ghost use Rattle.wg_outcomes.specs.Written.{HasFiles};
+ghost use Rattle.wg_outcomes.specs.Written.{AreAllWhole, HasFiles};
 ghost use Rattle.wg_outcomes.specs.declared.status.Input.{Input};
 
 use crate::Status;
@@ -61,9 +61,13 @@ pub fn run<D: Depot, O: Sink, E: Sink>(
         → (o : Output) → result ≡ Status.WriteFault o
         → status_of (judged_on r job (D.files depot.old)) ≡ Status.Done }
 
-    // Nothing is printed if a certificate could not be written.
-    ensures silent { (job : Job) → job_of words.now ≡ Some job → result ≡ Status.WriteFault Output.Certificate
-        → O.taken out.new ≡ O.taken out.old }
+    // What is printed comes last: nothing is printed if a file could not be written, nor if memory was out before the
+    // files were whole.
+    ensures silent { (job : Job) → job_of words.now ≡ Some job → (o : Output) → o ≢ Output.Out
+        → result ≡ Status.WriteFault o → O.taken out.new ≡ O.taken out.old }
+    ensures printed_last { IsTrue D.told → (r : Readings) (job : Job) → job_of words.now ≡ Some job
+        → result ≡ Status.Memory → (O.taken out.new ≡ O.taken out.old)
+        ⊎ AreAllWhole (output_name job) (written_by r job (held_for job (D.files depot.old))) (D.files depot.new) }
 
     // What is printed of a ranking: intervals that enclose each exact iterate from the last round on, within the
     // stated width, with teleport by the weights that were read or to each page alike.
@@ -91,8 +95,8 @@ pub fn run<D: Depot, O: Sink, E: Sink>(
     ensures output { IsTrue D.told → IsTrue O.told → (r : Readings) (job : Job) → job_of words.now ≡ Some job
         → HasOutput (output_of (judged_on r job (D.files depot.old))) (O.taken out.old) (O.taken out.new) result }
     ensures files { IsTrue D.told → (r : Readings) (job : Job) → job_of words.now ≡ Some job
-        → HasFiles (output_name job) (reads_again job) (written_by r job (held_for job (D.files depot.old)))
-        (D.files depot.old) (D.files depot.new) result }
+        → HasFiles (output_name job) (written_by r job (held_for job (D.files depot.old))) (D.files depot.old)
+        (D.files depot.new) result }
     ensures same { some_writes_files (job_of words.now) ≡ false → D.files depot.new ≡ D.files depot.old }
     ensures line { IsTrue E.told
         → (promised : ℕ) × (IsTrue D.told → ArePromisedBy (job_of words.now) (D.files depot.old) result promised)

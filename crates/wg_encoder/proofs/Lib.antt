@@ -36,3 +36,5 @@ pub mod Pages
 pub mod Chosen
 pub mod Stopped
 pub mod Finished
+pub mod AnyArcs
+pub mod InMemory

@@ -4,10 +4,9 @@ use Rattle.std.specs.List.{sum_by}
 use Rattle.std.proofs.lemmas.List.{append-nil, take_more, take-append-drop, drop_more, drop_all}
 use Rattle.std.proofs.lemmas.List.Sums.{sum_by_more, sum_by-take-le}
 use Rattle.wg_graph.specs.Digraph.{Digraph, IsGraph, successors, arc_count}
-use Rattle.wg_grammar.specs.Context.{Context}
 use Rattle.wg_io.specs.Outside.{Files}
 use Rattle.wg_encoder.specs.declared.error.EncodeError.{EncodeError}
-use Rattle.wg_encoder.specs.Encoding.{Encoded, Encoding, HasWritten}
+use Rattle.wg_encoder.specs.Encoding.{Encoding}
 use Rattle.wg_encoder.specs.Gone.{HasStopped}
 
 abbrev pub front : Digraph → ℕ → List (List ℕ)
@@ -28,13 +27,13 @@ pub stopped : (files : Files) (base : List ℕ) (e v : Encoding) (list : List �
 stopped files base e v list why same is here list_is h =
     subst (λ (x : Encoding). HasStopped files base x.params x.graph.lists why) same (subst (λ ls. HasStopped files base v.params ls why) (split v.graph v.page list is here list_is) h)
 
--- how many arcs the lists have
-pub arcs_fit : (e : Encoded) (g : Digraph) (list : List ℕ) → IsGraph g → e.next.page < g.nodes → list ≡ successors g e.next.page → e.params.arcs ≡ arc_count g → HasWritten e (front g e.next.page) → e.next.arcs_before + length list ≤ e.params.arcs
-arcs_fit e g list is here same arcs written =
+-- how many arcs the lists have, with one more
+pub arcs_fit : (g : Digraph) (page arcs most : ℕ) (list : List ℕ) → IsGraph g → page < g.nodes → list ≡ successors g page → most ≡ arc_count g → arcs ≡ sum_by (λ l. length l) (front g page) → arcs + length list ≤ most
+arcs_fit g page arcs most list is here same all few =
     let size : List ℕ → ℕ = λ l. length l in
-    let more : sum_by size (front g (e.next.page + 1)) ≡ sum_by size (front g e.next.page) + length (successors g e.next.page) = sum_by_more size g.lists e.next.page [] (omega (arith, is.counted, here)) in
-    let all : sum_by size (front g (e.next.page + 1)) ≤ arc_count g = sum_by-take-le size g.lists (e.next.page + 1) in
-    omega (arith, more, all, arcs, ap (λ (c : Context). c.arcs_before) written.context, ap (λ (l : List ℕ). length l) same)
+    let more : sum_by size (front g (page + 1)) ≡ sum_by size (front g page) + length (successors g page) = sum_by_more size g.lists page [] (omega (arith, is.counted, here)) in
+    let within : sum_by size (front g (page + 1)) ≤ arc_count g = sum_by-take-le size g.lists (page + 1) in
+    omega (arith, more, within, all, few, ap (λ (l : List ℕ). length l) same)
 
 -- once all pages are written, their lists are those of the graph
 pub whole_front : (g : Digraph) (page : ℕ) → IsGraph g → page ≡ g.nodes → front g page ≡ g.lists

@@ -1,4 +1,4 @@
--- The graph file and the offsets file of a graph.
+-- The graph file and the offsets file of a graph, and its archive.
 use Rattle.std.specs.Prelude.{ℕ, ◌+◌, ◌*◌, ◌/◌, Bool, false, nat_lt, if◌then◌else◌, List, [], ◌∷◌, ◌++◌, length, take, drop, map, replicate, fold}
 use Rattle.std.specs.List.{flat_map, range_with_len, count_by}
 use Rattle.wg_bits.specs.Written.{padding}
@@ -53,3 +53,18 @@ graph_file p lists = bytes_of (filled (graph_bits p lists))
 
 unfoldable pub offsets_file : Parameters → List (List ℕ) → List ℕ
 offsets_file p lists = bytes_of (filled (offsets_bits p lists))
+
+-- the bytes of an archive's three files
+pub record Archive : Type 0 where
+  pub properties : List ℕ
+  pub graph : List ℕ
+  pub offsets : List ℕ
+
+-- an archive, and what its records come to
+pub record Summarized : Type 0 where
+  pub files : Archive
+  pub summary : Summary
+
+-- the greedy archive of these lists, with this properties text
+abbrev pub encoded : Parameters → List ℕ → List (List ℕ) → Summarized
+encoded p text lists = record { files = record { properties = text; graph = graph_file p lists; offsets = offsets_file p lists }; summary = summary_of p lists }

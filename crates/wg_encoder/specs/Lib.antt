@@ -8,3 +8,4 @@ pub mod Laws
 pub mod Encoding
 pub mod InMemory
 pub mod Gone
+pub mod ArchiveInMemory

@@ -1,49 +1,83 @@
-// A whole archive.
-ghost use Rattle.std.specs.Prelude.{◌≡◌, [], Some, OnOk, IfOk, IfErr, IsTrue};
-ghost use Rattle.std.specs.FinMap as fin;
-ghost use Rattle.wg_io.specs.Outside.{NonDecreasing};
-ghost use Rattle.wg_io.specs.Suffixes.{graph_name, offsets_name};
-ghost use Rattle.wg_graph.specs.Digraph.{arc_count};
-ghost use Rattle.wg_encoder.specs.Archive.{summary_of};
-ghost use Rattle.wg_encoder.specs.Gone.{IsWritten, HasStopped, HasFailed, OnlyTwo};
+//! An archive in memory.
+ghost use Rattle.std.specs.Prelude.{◌≡◌, []};
+ghost use Rattle.wg_io.specs.Outside.{content};
+ghost use Rattle.wg_encoder.specs.ArchiveInMemory.{HoldsArchive};
 
-use crate::encoder::Encoder;
-use crate::error::EncodeError;
 use crate::summary::Summary;
-use std::alloc::Global;
-use wg_graph::Graph;
-use wg_io::Depot;
-use wg_params::Params;
+use std::marker::Model;
+use wg_io::{GRAPH, OFFSETS, PROPERTIES, SteadyDepot};
 
-/// Writes the graph file and the offsets file of a graph, both of which are there and empty, and answers how many bits
-/// the records have, and how many of them a reference.
-pub fn encode<D: Depot>(
-    alloc: Global,
-    params: Params,
-    graph: &Graph,
-    depot: &mut D,
-    base: &str,
-) -> Result<Summary, EncodeError>
-    requires nodes { params.nodes ≡ graph.now.nodes }
-    requires arcs { params.arcs ≡ arc_count graph.now }
-    ensures summary { IfOk result (λ summary. summary ≡ summary_of params graph.now.lists) }
-    ensures ok { IsTrue D.told → fin.get (D.files depot.old) (graph_name base.now) ≡ Some []
-        → fin.get (D.files depot.old) (offsets_name base.now) ≡ Some []
-        → OnOk result (IsWritten (D.files depot.new) base.now params graph.now.lists) }
-    ensures err { IsTrue D.told → fin.get (D.files depot.old) (graph_name base.now) ≡ Some []
-        → fin.get (D.files depot.old) (offsets_name base.now) ≡ Some []
-        → IfErr result (HasStopped (D.files depot.new) base.now params graph.now.lists) }
-    ensures only_two { IsTrue D.told → OnlyTwo base.now (D.files depot.old) (D.files depot.new) }
-    ensures fault { IfErr result (HasFailed base.now (D.counts depot.old) (D.counts depot.new)) }
-    ensures later { NonDecreasing (D.counts depot.old) (D.counts depot.new) }
-{
-    let mut encoder = Encoder::new(alloc, params, graph)?;
-    while encoder.page() < graph.nodes() {
-        encoder = encoder.next(depot, base)?;
+/// What will be the three files of an archive, in memory, and what its records come to. It holds the bytes of the
+/// files, each with room for at most twice as many. No call takes memory.
+#[derive(Drop)]
+pub struct EncodedArchive {
+    // holds the files of the archive whose name is empty
+    pub(crate) depot: SteadyDepot,
+    pub(crate) summary: Summary,
+}
+
+impl Model for EncodedArchive {
+    ghost use Rattle.std.specs.Prelude.{[]};
+    ghost use Rattle.wg_encoder.specs.Archive.{Summarized};
+    ghost use Rattle.wg_encoder.specs.ArchiveInMemory.{archive_at, HoldsArchive};
+
+    ghost Value = { Summarized };
+
+    ghost view = { λ a. record { files = archive_at [] a.depot.files; summary = a.summary } };
+
+    ghost invariant = { λ a. HoldsArchive a.depot.files [] (archive_at [] a.depot.files) };
+}
+
+impl EncodedArchive {
+    /// The properties text.
+    pub fn properties(&self) -> &[u8]
+        ensures { result.now ≡ self.now.files.properties }
+    {
+        bytes(&self.depot, PROPERTIES)
     }
-    let referring = encoder.referring();
-    match encoder.finish(depot, base) {
-        Ok(bits) => Ok(Summary { bits, referring }),
-        Err(error) => Err(error),
+
+    /// The records, one after the other.
+    pub fn graph(&self) -> &[u8]
+        ensures { result.now ≡ self.now.files.graph }
+    {
+        bytes(&self.depot, GRAPH)
+    }
+
+    /// The words of the offsets.
+    pub fn offsets(&self) -> &[u8]
+        ensures { result.now ≡ self.now.files.offsets }
+    {
+        bytes(&self.depot, OFFSETS)
+    }
+
+    /// How many bits the records have.
+    pub fn bits(&self) -> u64
+        ensures { result ≡ self.now.summary.bits }
+    {
+        self.summary.bits
+    }
+
+    /// How many of the records refer to a page before.
+    pub fn referring(&self) -> u64
+        ensures { result ≡ self.now.summary.referring }
+    {
+        self.summary.referring
+    }
+
+    /// The files in a depot, as those of the archive whose name is empty. It takes no memory.
+    pub fn into_depot(self) -> SteadyDepot
+        ensures { HoldsArchive result.files [] self.files }
+    {
+        self.depot
+    }
+}
+
+// What a file holds, and nothing where there is none of this name.
+fn bytes<'a>(depot: &'a SteadyDepot, name: &str) -> &'a [u8]
+    ensures { result.now ≡ content depot.now.files name.now }
+{
+    match depot.file(name) {
+        Some(bytes) => bytes,
+        None => &[],
     }
 }

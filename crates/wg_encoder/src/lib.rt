@@ -13,13 +13,17 @@
 //! [`Encoder`] does the same for the pages of a graph, and stands on it; a copy of each list is what it costs. No
 //! record has 2 ^ 64 bits or more.
 //!
-//! [`ListEncoder::next`] and [`Encoder::next`] write a list, and `finish` ends the two files once all are written;
-//! [`encode`] does both for a whole graph, and answers the [`Summary`] of its records. All take the archive's name, and
-//! write the files of its suffixes. The words of the offsets file are 0 and the length of each record. An encoder has a
-//! writer of 4096 bytes for each of the files. If a call of the depot fails, the [`EncodeError`] names the file, and
-//! both files are prefixes of those that were to be written.
+//! [`ListEncoder::next`] and [`Encoder::next`] write a list, and `finish` ends the two files once all are written. Both
+//! take the archive's name, and write the files of its suffixes. The words of the offsets file are 0 and the length of
+//! each record. An encoder has a writer of 4096 bytes for each of the files. If a call of the depot fails, the
+//! [`EncodeError`] names the file, and both files are prefixes of those that were to be written.
 //!
-//! The files of a graph of three pages, in a depot in memory:
+//! An [`ArchiveEncoder`] takes lists in the same way and writes no file: what will be the three files is held in memory,
+//! as an [`EncodedArchive`], with the [`Summary`] of its records. Out of memory alone can stop it. [`encode`] does so for
+//! a whole graph. The bytes are the same for each number of arcs that the archive is said to have, so this number may be
+//! told once all lists are encoded.
+//!
+//! The archive of a graph of three pages, in memory:
 //!
 //! ```rust
 //! let mut builder = GraphBuilder::new(rt.alloc(), 3)?;
@@ -27,11 +31,9 @@
 //! builder.push_list(&[1, 2])?;
 //! let graph = builder.finish()?;
 //! let params = usual(graph.nodes(), graph.arcs(), 7, 3, 4)?;
-//! let mut depot = SteadyDepot::new(rt.alloc(), 4096);
-//! let summary = encode(rt.alloc(), params, &graph, &mut depot, "web")?;
-//! assert!(rt; summary.bits == 19 && summary.referring == 1);
-//! let bytes = read_whole(rt.alloc(), &mut depot, "web.graph")?;
-//! assert!(rt; bytes.as_slice() == b"\x7D\xC6\xE0".as_slice());
+//! let archive = encode(rt.alloc(), params, &graph, b"nodes=3\n")?;
+//! assert!(rt; archive.bits() == 19 && archive.referring() == 1);
+//! assert!(rt; archive.graph() == b"\x7D\xC6\xE0".as_slice());
 //! Ok(())
 //! ```
 //!
@@ -41,6 +43,7 @@
 #![tactic(auto)]
 
 mod archive;
+mod archive_encoder;
 mod blocks;
 mod choice;
 mod cost;
@@ -63,7 +66,8 @@ mod residuals;
 mod sharing;
 mod summary;
 
-pub use archive::encode;
+pub use archive::EncodedArchive;
+pub use archive_encoder::{ArchiveEncoder, encode};
 pub use encoder::Encoder;
 pub use error::EncodeError;
 pub use list_encoder::ListEncoder;

@@ -190,8 +190,7 @@ impl ListEncoder {
     /// Puts the last word of the offsets, the length of the last record, and fills up both files to whole bytes. It
     /// answers how many bits the records have.
     pub fn finish<D: Depot>(mut self, depot: &mut D, base: &str) -> Result<u64, EncodeError>
-        requires pages { self.next.page ≡ self.params.nodes }
-        requires arcs { self.next.arcs_before ≡ self.params.arcs }
+        requires { self.next.page ≡ self.params.nodes }
         ensures bits { IfOk result (λ bits. bits ≡ self.total) }
         ensures ok { (lists : ListOf (ListOf ℕ)) → HasWritten self lists → IsTrue D.told
             → HasSentAll (D.files depot.old) base.now self lists

@@ -1,5 +1,5 @@
 // A depot in memory.
-ghost use Rattle.std.specs.Prelude.{◌≡◌, ◌≢◌, ◌-◌, ◌<◌, ◌≤◌, ℕ, min, length, take, IfOk, IfErr, OnOk, OnErr, IsOk, IsErrOf};
+ghost use Rattle.std.specs.Prelude.{◌≡◌, ◌≢◌, ◌-◌, ◌<◌, ◌≤◌, ℕ, min, length, take, IfOk, IfErr, OnOk, OnErr, IsOk, IsErrOf, option_map};
 ghost use Rattle.std.specs.FinMap as map;
 ghost use Rattle.wg_io.specs.Memory.{steady_counts, SteadyFiles};
 ghost use Rattle.wg_io.specs.Outside.{NonDecreasing, appended, content, created, risen};
@@ -52,6 +52,13 @@ impl SteadyDepot {
         ensures err { OnErr result (self.new ≡ self.old) }
     {
         self.files.put(name, bytes)
+    }
+
+    /// Lends the bytes of a file, where there is one of this name.
+    pub fn file(&self, name: &str) -> Option<&[u8]>
+        ensures { option_map (λ bytes. bytes.now) result ≡ map.get self.now.files name.now }
+    {
+        self.files.get(name)
     }
 
     /// Whether there is such a file.

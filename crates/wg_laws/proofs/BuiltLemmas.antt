@@ -13,7 +13,7 @@ use Rattle.wg_graph.specs.Digraph.{Digraph, arc_count}
 use Rattle.wg_offsets.specs.Places.{last_place}
 use Rattle.wg_offsets.specs.Words.{places_of}
 use Rattle.wg_grammar.specs.Archive.{Accepted}
-use Rattle.wg_encoder.specs.Archive.{graph_bits, graph_file, offset_values, offsets_file}
+use Rattle.wg_encoder.specs.Archive.{Archive, graph_bits, graph_file, offset_values, offsets_file}
 use Rattle.wg_encoder.specs.Laws.{IsAcceptedArchive}
 use Rattle.wg_encoder.proofs.Accepted.{greedy_accepted}
 use Rattle.wg_encoder.proofs.ProperRecord.{canonical_proper}
@@ -28,7 +28,7 @@ use Rattle.wg_words.proofs.LayoutLemmas.{layout_for_any}
 use Rattle.wg_words.specs.declared.jobs.Job.TheVariants.{Check, Arcs}
 use Rattle.wg_laws.specs.Built.{holding, IsAcceptedAs, BuiltAreAccepted, BuildsAreAccepted}
 use Rattle.wg_outcomes.specs.Commands.{builds, judged, number_lines, ok_line, successors_lines}
-use Rattle.wg_outcomes.specs.Judged.{Judged, refused, accepted, built, certified, unless_bad_list, unless_bad_properties, with_archive, with_digraph, with_file, with_graph, with_lengths, with_list, with_offsets, with_pages, with_parameters, with_places, with_records, Archive}
+use Rattle.wg_outcomes.specs.Judged.{Judged, refused, accepted, built, certified, unless_bad_list, unless_bad_properties, with_archive, with_digraph, with_file, with_graph, with_lengths, with_list, with_offsets, with_pages, with_parameters, with_places, with_records}
 use Rattle.wg_outcomes.specs.Ranked.{bounds_after, ranking_text}
 use Rattle.wg_outcomes.specs.Readings.{Readings}
 use Rattle.wg_outcomes.specs.Written.{greedy_archive, params_for}

@@ -14,7 +14,8 @@ use Rattle.wg_params.specs.declared.layout.Layout.{Layout}
 use Rattle.wg_words.proofs.LayoutLemmas.{layout_for_any}
 use Rattle.wg_laws.specs.Built.{holding, ConversionsAreAccepted}
 use Rattle.wg_outcomes.specs.Commands.{builds, greedy_line, judged}
-use Rattle.wg_outcomes.specs.Judged.{Judged, accepted, built, status_of, with_digraph, with_records, Archive}
+use Rattle.wg_outcomes.specs.Judged.{Judged, accepted, built, status_of, with_digraph, with_records}
+use Rattle.wg_encoder.specs.Archive.{Archive}
 use Rattle.wg_outcomes.specs.Readings.{Readings}
 use Rattle.wg_outcomes.specs.Written.{greedy_archive, params_for}
 use Rattle.wg_laws.proofs.BuiltLemmas.{built_accepted, lists_go_on, same_built}

@@ -8,7 +8,8 @@ use Rattle.wg_arcs.specs.declared.numbers_fault.NumbersFault.{NumbersFault}
 use Rattle.wg_shape.specs.Quotient.{quotient_of}
 use Rattle.wg_shape.proofs.Fewer.{fewer}
 use Rattle.wg_shape.proofs.Quotients.{is_proper}
-use Rattle.wg_outcomes.specs.Judged.{Archive, Judged, built, map_then, status_of, unless_bad_map, with_map}
+use Rattle.wg_outcomes.specs.Judged.{Judged, built, map_then, status_of, unless_bad_map, with_map}
+use Rattle.wg_encoder.specs.Archive.{Archive}
 use Rattle.wg_outcomes.specs.Readings.{Readings}
 use Rattle.wg_outcomes.specs.declared.status.Input.TheVariants.{Map}
 use Rattle.wg_outcomes.specs.declared.status.Status.TheVariants.{BadMap}

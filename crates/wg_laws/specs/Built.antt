@@ -5,7 +5,7 @@ use Rattle.wg_params.specs.declared.limits.TheConstants.{MOST_PAGES}
 use Rattle.wg_params.specs.Parameters.{Parameters, IsWithinLimits, params_of}
 use Rattle.wg_graph.specs.Digraph.{Digraph, IsGraph, arc_count}
 use Rattle.wg_offsets.specs.Words.{places_of}
-use Rattle.wg_encoder.specs.Archive.{graph_bits, offset_values}
+use Rattle.wg_encoder.specs.Archive.{Archive, graph_bits, offset_values}
 use Rattle.wg_num.specs.Lines.{lines_of}
 use Rattle.wg_arcs.specs.Reading.{arcs_in}
 use Rattle.wg_arcs.specs.Text.{text_of_arcs, text_of_graph}
@@ -16,7 +16,7 @@ use Rattle.wg_params.specs.declared.layout.Layout.{Layout}
 use Rattle.wg_outcomes.specs.Readings.{Readings}
 use Rattle.wg_outcomes.specs.Ranked.{bounds_after, ranking_text}
 use Rattle.wg_outcomes.specs.Written.{greedy_archive}
-use Rattle.wg_outcomes.specs.Judged.{Archive, accepted, built, with_pages}
+use Rattle.wg_outcomes.specs.Judged.{accepted, built, with_pages}
 use Rattle.wg_outcomes.specs.Commands.{judged, number_lines, ok_line, successors_lines}
 use Rattle.wg_outcomes.specs.declared.status.Input.{Input}
 use Rattle.wg_outcomes.specs.declared.status.Input.TheVariants as input

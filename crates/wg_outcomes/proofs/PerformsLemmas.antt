@@ -1,5 +1,5 @@
 -- How a job is shown to have been done, or to have ended.
-use Rattle.std.proofs.Common.{◌≡◌, ◌≢◌, ◌⊎◌, inl, inr, ℕ, Bool, true, false, if◌then◌else◌, List, ◌++◌, take, refl, sym, ◌∙◌, ap, subst, Option, Some, None, Result, Ok, Err}
+use Rattle.std.proofs.Common.{◌≡◌, ◌≢◌, ◌⊎◌, inl, inr, ℕ, Bool, false, if◌then◌else◌, List, ◌++◌, take, refl, sym, ◌∙◌, ap, subst, Option, Some, None, Result, Ok, Err}
 use Rattle.std.specs.Bool.{IsTrue}
 use Rattle.std.specs.Result.{IfErr}
 use Rattle.std.proofs.lemmas.List.{append-nil}
@@ -13,16 +13,16 @@ use Rattle.wg_outcomes.specs.Reached.{Reaches}
 use Rattle.wg_outcomes.specs.Answers.{Answers, HasOutput, IsUnput, status_in}
 use Rattle.wg_outcomes.specs.Causes.{AreFaultless, HasCause, IncreasedAt}
 use Rattle.wg_outcomes.specs.Commands.{judged, written_by}
-use Rattle.wg_outcomes.specs.Judged.{Judged, accepted, files_of, output_of, status_of, Archive, Written, an_archive, a_certificate}
+use Rattle.wg_outcomes.specs.Judged.{Judged, accepted, files_of, output_of, status_of, Written, an_archive, a_certificate}
+use Rattle.wg_encoder.specs.Archive.{Archive}
 use Rattle.wg_outcomes.specs.Promised.{ArePromised, promised_in}
-use Rattle.wg_outcomes.specs.JobFiles.{can_end, has_input, input_name, output_name, reads_again, writes_files}
+use Rattle.wg_outcomes.specs.JobFiles.{can_end, has_input, input_name, output_name, writes_files}
 use Rattle.wg_outcomes.specs.Names.{held_by, no_outputs, IsOfInput}
 use Rattle.wg_outcomes.specs.Performs.{Outside, Performs, judged_on}
 use Rattle.wg_outcomes.specs.Readings.{Readings}
-use Rattle.wg_outcomes.specs.Written.{ArchiveFiles, CertificateAfter, FilesAfter, FilesLeft, HasFiles, archive_at, content_of}
+use Rattle.wg_outcomes.specs.Written.{AreAllWhole, ArchiveFiles, CertificateAfter, FilesAfter, HasFiles, archive_at, content_of}
 use Rattle.wg_outcomes.specs.declared.ending.Ending.{Ending}
 use Rattle.wg_outcomes.specs.declared.status.Input.{Input}
-use Rattle.wg_outcomes.specs.declared.status.Input.TheVariants as input
 use Rattle.wg_outcomes.specs.declared.status.Status.{Status}
 use Rattle.wg_outcomes.specs.declared.status.Status.TheVariants.{Done, Usage, Memory, ReadFault, WriteFault, Missing, BadArcs, BadProperties, BadArchive, BadSecond, TooManyArcs, NoPage, OverLimit, BadWeights, BadText, BadMap, BadCertificate}
 use Rattle.wg_outcomes.proofs.Statuses.{cause_named, unput_cause}
@@ -40,9 +40,12 @@ written_none : (r : Readings) (job : Job) (held : Input → Option (List ℕ)) �
 written_none r job held none = ap (λ (b : Bool). if b then files_of (judged r job held) else None) none
 
 pub files_same : (job : Job) → writes_files job ≡ false → (before after : Outside) (s : Status) → after.files ≡ before.files → (r : Readings)
-    → HasFiles (output_name job) (reads_again job) (written_by r job (held_by (input_name job) before.files)) before.files after.files s
+    → HasFiles (output_name job) (written_by r job (held_by (input_name job) before.files)) before.files after.files s
 files_same job none before after s same r =
-    subst (λ (a : Option Written). HasFiles (output_name job) (reads_again job) a before.files after.files s) (sym (written_none r job (held_by (input_name job) before.files) none)) same
+    subst (λ (a : Option Written). HasFiles (output_name job) a before.files after.files s) (sym (written_none r job (held_by (input_name job) before.files) none)) same
+
+pub nothing_whole : (job : Job) → writes_files job ≡ false → (r : Readings) (held : Input → Option (List ℕ)) (files : Files) → AreAllWhole (output_name job) (written_by r job held) files
+nothing_whole job none r held files = subst (λ (a : Option Written). AreAllWhole (output_name job) a files) (sym (written_none r job held none)) tt
 
 -- a status before any output
 abbrev pub IsStop : Status → Type 0
@@ -89,37 +92,6 @@ kept_after a old new (BadText line kind) stop same = same
 kept_after a old new (BadMap f) stop same = same
 kept_after a old new (BadCertificate f) stop same = same
 
--- what stands at an end that is not a read fault while the archive was written
-pub left_by : (again : Bool) (a : Archive) (old new : ArchiveFiles) (s : Status) → FilesAfter a old new s → FilesLeft again a old new s
-left_by false a old new s h = h
-left_by true a old new (ReadFault input.Graph) h = inl h
-left_by true a old new (ReadFault input.Properties) h = h
-left_by true a old new (ReadFault input.Offsets) h = h
-left_by true a old new (ReadFault input.SecondProperties) h = h
-left_by true a old new (ReadFault input.SecondGraph) h = h
-left_by true a old new (ReadFault input.SecondOffsets) h = h
-left_by true a old new (ReadFault input.ArcList) h = h
-left_by true a old new (ReadFault input.Weights) h = h
-left_by true a old new (ReadFault input.Certificate) h = h
-left_by true a old new (ReadFault input.Text) h = h
-left_by true a old new (ReadFault input.Map) h = h
-left_by true a old new Done h = h
-left_by true a old new Usage h = h
-left_by true a old new Memory h = h
-left_by true a old new (WriteFault o) h = h
-left_by true a old new (Missing i) h = h
-left_by true a old new (BadArcs line kind) h = h
-left_by true a old new (BadProperties f) h = h
-left_by true a old new (BadArchive f) h = h
-left_by true a old new (BadSecond f) h = h
-left_by true a old new TooManyArcs h = h
-left_by true a old new (NoPage page) h = h
-left_by true a old new (OverLimit i) h = h
-left_by true a old new (BadWeights f) h = h
-left_by true a old new (BadText line kind) h = h
-left_by true a old new (BadMap f) h = h
-left_by true a old new (BadCertificate f) h = h
-
 -- a certificate before it was touched
 certificate_kept : (text : List ℕ) (old new : Option (List ℕ)) (s : Status) → IsStop s → new ≡ old → CertificateAfter text old new s
 certificate_kept text old new Done stop same = absurd stop
@@ -140,11 +112,11 @@ certificate_kept text old new (BadText line kind) stop same = same
 certificate_kept text old new (BadMap f) stop same = same
 certificate_kept text old new (BadCertificate f) stop same = same
 
-files_kept : (names : Output → Option (List ℕ)) (again : Bool) (a : Option Written) (old new : Files) (s : Status) → IsStop s → new ≡ old → HasFiles names again a old new s
-files_kept names again None old new s stop same = same
-files_kept names again (Some (a_certificate text)) old new s stop same =
+files_kept : (names : Output → Option (List ℕ)) (a : Option Written) (old new : Files) (s : Status) → IsStop s → new ≡ old → HasFiles names a old new s
+files_kept names None old new s stop same = same
+files_kept names (Some (a_certificate text)) old new s stop same =
     (λ name other. ap (λ (f : Files). map.get f name) same, certificate_kept text _ _ s stop (ap (λ (f : Files). content_of f (names Certificate)) same))
-files_kept names again (Some (an_archive a)) old new s stop same = (λ name other. ap (λ (f : Files). map.get f name) same, left_by again a _ _ s (kept_after a _ _ s stop (ap (archive_at names) same)))
+files_kept names (Some (an_archive a)) old new s stop same = (λ name other. ap (λ (f : Files). map.get f name) same, kept_after a _ _ s stop (ap (archive_at names) same))
 
 no_fault : (s : Status) (o : Output) → IsStop s → s ≡ WriteFault o → ⊥
 no_fault s o stop is = subst IsStop is stop
@@ -166,8 +138,9 @@ stopped job td to before after s a stop silent same answers possible causes reac
   reached = reached;
   needed = λ t r o is. absurd (no_fault s o stop is);
   output = λ t o r. stop_output _ before.taken after.taken s stop silent;
-  silent = λ is. silent;
-  files = λ t r. files_kept (output_name job) (reads_again job) _ before.files after.files s stop same;
+  silent = λ o other is. silent;
+  printed_last = λ t r want. inl silent;
+  files = λ t r. files_kept (output_name job) _ before.files after.files s stop same;
   same = λ is. same;
   later = later;
   promised = promised;
@@ -223,7 +196,8 @@ printed_by job td to before after text r none is same later puts only cause = re
   reached = λ t q i fault. absurd (put_reads r i only fault);
   needed = λ t q o fault. ap status_of (is t q);
   output = λ t o q. output_put _ (text q) _ _ r (sym (ap output_of (is t q))) (puts o q) only;
-  silent = λ is. absurd (unput_written r Certificate only (λ same. cc) is);
+  silent = λ o other is. absurd (unput_written r o only other is);
+  printed_last = λ t q want. inr (nothing_whole job none q (held_by (input_name job) before.files) after.files);
   files = λ t q. files_same job none before after (status_in r) same q;
   same = λ is. same;
   later = later;

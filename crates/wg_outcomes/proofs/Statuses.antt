@@ -1,10 +1,10 @@
 -- What a status tells by itself, however the job has come to it.
-use Rattle.std.proofs.Common.{◌≡◌, ◌≢◌, inl, inr, ℕ, List, sym, ◌∙◌, subst, Option, Some, Result, Ok, Err}
+use Rattle.std.proofs.Common.{◌≡◌, ◌≢◌, ◌≤◌, inl, inr, ℕ, List, sym, ◌∙◌, subst, Option, Some, None, Result, Ok, Err, arith}
 use Rattle.std.specs.Result.{IfErr}
 use Rattle.wg_io.specs.Outside.{Counts, Increased}
 use Rattle.wg_io.specs.declared.output.Output.{Output}
 use Rattle.wg_io.specs.declared.output.Output.TheVariants.{Out}
-use Rattle.wg_io.proofs.PutsLemmas.{not_rose}
+use Rattle.wg_io.proofs.PutsLemmas.{not_rose, rose_on}
 use Rattle.wg_outcomes.specs.Answers.{IsHindrance, IsUnput, status_in}
 use Rattle.wg_outcomes.specs.Causes.{HasCause, IncreasedAt}
 use Rattle.wg_outcomes.specs.Names.{IsOfInput, no_outputs}
@@ -13,6 +13,11 @@ use Rattle.wg_outcomes.specs.declared.ending.Ending.{Ending}
 use Rattle.wg_outcomes.specs.declared.status.Input.{Input}
 use Rattle.wg_outcomes.specs.declared.status.Status.{Status}
 use Rattle.wg_outcomes.specs.declared.status.Status.TheVariants.{Done, Memory, ReadFault, WriteFault, Missing, BadArchive, OverLimit}
+
+-- a count that rose later rose
+pub rose_late : (count : Counts → ℕ) (name : Option (List ℕ)) (a b c : List ℕ → Counts) → ((n : List ℕ) → count (a n) ≤ count (b n)) → IncreasedAt count name b c → IncreasedAt count name a c
+rose_late count None a b c on h = h
+rose_late count (Some n) a b c on h = rose_on _ _ _ _ (on n) h (omega arith)
 
 -- ---- nothing outside is the cause
 
@@ -116,10 +121,6 @@ module _ (i : Input) (s : Status) where
 -- ---- by the counts of files alone
 pub any_faults : (names : Input → Option (List ℕ)) (outputs : Output → Option (List ℕ)) (old new : List ℕ → Counts) (f f' : ℕ) (s : Status) → HasCause names outputs old new 0 0 s → HasCause names outputs old new f f' s
 any_faults names outputs old new f f' s h = record { read_fault = h.read_fault; missing = h.missing; write_fault = h.write_fault; out_fault = λ is. not_rose (h.out_fault is) }
-
--- the outputs are none of what a reading is at fault for
-pub any_outputs : (names : Input → Option (List ℕ)) (outputs : Output → Option (List ℕ)) (old new : List ℕ → Counts) (s : Status) → HasCause names no_outputs old new 0 0 s → HasCause names outputs old new 0 0 s
-any_outputs names outputs old new s h = record { read_fault = h.read_fault; missing = h.missing; write_fault = λ o other is. absurd (h.write_fault o other is); out_fault = h.out_fault }
 
 -- ---- a stop at a file is not the end of a job that was done
 pub never_done : (i : Input) (n : ℕ) (e : Ending) → IsStopAt i n e → e.status ≡ Done → ⊥

@@ -60,11 +60,6 @@ has_input job i = is_some (input_name job i)
 abbrev pub writes_files : Job → Bool
 writes_files job = nat_lt 0 (length (outputs_of job))
 
--- whether a job goes through its graph file again while it writes
-abbrev pub reads_again : Job → Bool
-reads_again (Recode base to layout) = true
-reads_again _ = false
-
 -- what a job writes
 abbrev pub has_output : Job → Output → Bool
 has_output job output.Out = true

@@ -10,6 +10,7 @@ use Rattle.wg_grammar.specs.declared.fault.OffsetWord.{OffsetWord}
 use Rattle.wg_grammar.specs.Archive.{Accepted}
 use Rattle.wg_grammar.specs.Context.{Known}
 use Rattle.wg_graph.specs.Digraph.{Digraph}
+use Rattle.wg_encoder.specs.Archive.{Archive}
 use Rattle.wg_arcs.specs.declared.fault.ArcsKind.{ArcsKind}
 use Rattle.wg_arcs.specs.declared.numbers_fault.NumbersFault.{NumbersFault}
 use Rattle.wg_arcs.specs.Numbers.{numbers_of}
@@ -28,12 +29,6 @@ use Rattle.wg_outcomes.specs.declared.status.Status.{Status}
 use Rattle.wg_outcomes.specs.declared.status.Status.TheVariants.{Done, Missing, BadArcs, BadProperties, BadArchive, NoPage, OverLimit, BadWeights, BadText, BadMap, BadCertificate}
 use Rattle.wg_outcomes.specs.declared.status.WeightsFault.{WeightsFault}
 use Rattle.wg_outcomes.specs.declared.status.WeightsFault.TheVariants as weights
-
--- the bytes of an archive's three files
-pub record Archive : Type 0 where
-  pub properties : List ℕ
-  pub graph : List ℕ
-  pub offsets : List ℕ
 
 -- what a job writes: the files of an archive, or a certificate
 pub data Written : Type 0 where

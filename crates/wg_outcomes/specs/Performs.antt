@@ -1,10 +1,10 @@
 -- What stands where a job has ended.
-use Rattle.std.specs.Prelude.{◌≡◌, ℕ, Bool, false, List, Option, Some, Result, IsTrue, IfErr}
+use Rattle.std.specs.Prelude.{◌≡◌, ◌≢◌, ◌⊎◌, ℕ, Bool, false, List, Option, Some, Result, IsTrue, IfErr}
 use Rattle.wg_io.specs.Outside.{Files, Counts, NonDecreasing}
 use Rattle.wg_io.specs.declared.depot.Depot as depot
 use Rattle.wg_io.specs.declared.sink.Sink as sink
 use Rattle.wg_io.specs.declared.output.Output.{Output}
-use Rattle.wg_io.specs.declared.output.Output.TheVariants.{Certificate}
+use Rattle.wg_io.specs.declared.output.Output.TheVariants.{Out}
 use Rattle.wg_graph.specs.Digraph.{Digraph}
 use Rattle.wg_rank.specs.Intervals.{Intervals}
 use Rattle.wg_words.specs.declared.jobs.Job.{Job}
@@ -15,15 +15,15 @@ use Rattle.wg_outcomes.specs.Causes.{HasCause}
 use Rattle.wg_outcomes.specs.Commands.{greedy_line, judged, written_by}
 use Rattle.wg_outcomes.specs.Judged.{Judged, Written, an_archive, a_certificate, output_of, status_of}
 use Rattle.wg_outcomes.specs.Promised.{ArePromised, promised_in}
-use Rattle.wg_outcomes.specs.JobFiles.{can_end, input_name, output_name, reads_again, writes_files}
+use Rattle.wg_outcomes.specs.JobFiles.{can_end, input_name, output_name, writes_files}
 use Rattle.wg_outcomes.specs.Names.{archive_named, certificate_to, held_by}
 use Rattle.wg_outcomes.specs.Ranked.{certificate_text, ranking_text}
 use Rattle.wg_outcomes.specs.Readings.{Readings}
-use Rattle.wg_outcomes.specs.Written.{HasFiles, IsStopped, greedy_archive, params_for}
+use Rattle.wg_outcomes.specs.Written.{AreAllWhole, HasFiles, IsStopped, greedy_archive, params_for}
 use Rattle.wg_outcomes.specs.declared.ending.Ending.{Ending}
 use Rattle.wg_outcomes.specs.declared.status.Input.{Input}
 use Rattle.wg_outcomes.specs.declared.status.Status.{Status}
-use Rattle.wg_outcomes.specs.declared.status.Status.TheVariants.{Done, ReadFault, WriteFault}
+use Rattle.wg_outcomes.specs.declared.status.Status.TheVariants.{Done, Memory, ReadFault, WriteFault}
 
 -- the outside of a job at one moment: the files of the depot and its counts, what the output has taken, and how often
 -- the output failed
@@ -56,10 +56,13 @@ pub record Performs (job : Job) (told_files told_out : Bool) (before after : Out
   pub needed : IsTrue told_files → (r : Readings) (o : Output) → status ≡ WriteFault o → status_of (judged_on r job before.files) ≡ Done
   -- what stands on the output
   pub output : IsTrue told_files → IsTrue told_out → (r : Readings) → HasOutput (output_of (judged_on r job before.files)) before.taken after.taken status
-  -- nothing is printed where a certificate could not be written
-  pub silent : status ≡ WriteFault Certificate → after.taken ≡ before.taken
+  -- nothing is printed where a file could not be written
+  pub silent : (o : Output) → o ≢ Out → status ≡ WriteFault o → after.taken ≡ before.taken
+  -- nor where memory was out before the files were whole
+  pub printed_last : IsTrue told_files → (r : Readings) → status ≡ Memory
+      → (after.taken ≡ before.taken) ⊎ AreAllWhole (output_name job) (written_by r job (held_by (input_name job) before.files)) after.files
   -- what stands in the files
-  pub files : IsTrue told_files → (r : Readings) → HasFiles (output_name job) (reads_again job) (written_by r job (held_by (input_name job) before.files)) before.files after.files status
+  pub files : IsTrue told_files → (r : Readings) → HasFiles (output_name job) (written_by r job (held_by (input_name job) before.files)) before.files after.files status
   -- a job that writes no file leaves them all, told or not
   pub same : writes_files job ≡ false → after.files ≡ before.files
   -- no count of the depot falls
@@ -90,9 +93,12 @@ pub record Produces (names : Output → Option (List ℕ)) (what : Written) (tex
   pub causes : (inputs : Input → Option (List ℕ)) → HasCause inputs names before.counts after.counts before.faults after.faults (status_in result)
   -- what stands on the output
   pub output : IsTrue told_files → IsTrue told_out → (r : Readings) → HasOutput (text r) before.taken after.taken (status_in result)
-  pub silent : status_in result ≡ WriteFault Certificate → after.taken ≡ before.taken
+  -- nothing is printed where a file could not be written
+  pub silent : (o : Output) → o ≢ Out → status_in result ≡ WriteFault o → after.taken ≡ before.taken
+  -- nor where memory was out before the files were whole
+  pub printed_last : IsTrue told_files → status_in result ≡ Memory → (after.taken ≡ before.taken) ⊎ AreAllWhole names (Some what) after.files
   -- what stands in the files
-  pub files : IsTrue told_files → HasFiles names false (Some what) before.files after.files (status_in result)
+  pub files : IsTrue told_files → HasFiles names (Some what) before.files after.files (status_in result)
   -- no count of the depot falls
   pub later : NonDecreasing before.counts after.counts
 

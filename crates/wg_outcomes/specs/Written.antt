@@ -1,23 +1,23 @@
 -- What stands of the files of a job that writes an archive or a certificate.
-use Rattle.std.specs.Prelude.{◌≡◌, ◌≢◌, ◌⊎◌, ℕ, Bool, true, List, [], Option, Some, None}
+use Rattle.std.specs.Prelude.{◌≡◌, ◌≢◌, ◌⊎◌, ℕ, Bool, List, [], Option, Some, None, Result, IsTrue, IfErr}
 use Rattle.std.specs.FinMap as map
-use Rattle.wg_io.specs.Outside.{Files, Counts}
+use Rattle.wg_io.specs.Outside.{Files, Counts, NonDecreasing}
+use Rattle.wg_io.specs.declared.depot.Depot as depot
 use Rattle.wg_io.specs.declared.output.Output.{Output}
 use Rattle.wg_io.specs.declared.output.Output.TheVariants as output
 use Rattle.wg_params.specs.Parameters.{Parameters, params_of}
 use Rattle.wg_properties.specs.Text.{text_of}
 use Rattle.wg_graph.specs.Digraph.{Digraph, arc_count}
-use Rattle.wg_encoder.specs.Archive.{graph_file, offsets_file}
+use Rattle.wg_encoder.specs.Archive.{Archive, graph_file, offsets_file}
 use Rattle.wg_encoder.specs.Gone.{HoldsFront, HoldsLess}
-use Rattle.wg_encoder.specs.declared.error.EncodeError.{EncodeError}
-use Rattle.wg_encoder.specs.declared.error.EncodeError.TheVariants as error
 use Rattle.wg_params.specs.declared.layout.Layout.{Layout}
+use Rattle.wg_outcomes.specs.Answers.{status_in}
 use Rattle.wg_outcomes.specs.Causes.{IncreasedAt}
-use Rattle.wg_outcomes.specs.Judged.{Archive, Written, an_archive, a_certificate}
+use Rattle.wg_outcomes.specs.Judged.{Written, an_archive, a_certificate}
 use Rattle.wg_outcomes.specs.Names.{archive_named}
-use Rattle.wg_outcomes.specs.declared.status.Input.TheVariants as input
+use Rattle.wg_outcomes.specs.declared.ending.Ending.{Ending}
 use Rattle.wg_outcomes.specs.declared.status.Status.{Status}
-use Rattle.wg_outcomes.specs.declared.status.Status.TheVariants.{Done, Memory, ReadFault, WriteFault}
+use Rattle.wg_outcomes.specs.declared.status.Status.TheVariants.{Done, Memory, WriteFault}
 
 -- the parameters of an archive of a graph in this layout
 abbrev pub params_for : Layout → Digraph → Parameters
@@ -72,10 +72,6 @@ abbrev pub StopAtOffsets : Archive → ArchiveFiles → ArchiveFiles → Type 0
 StopAtOffsets a old new =
     (new.properties ≡ Some []) × (((new.graph ≡ Some []) × (new.offsets ≡ old.offsets)) ⊎ (HoldsFront new.graph a.graph × HoldsLess new.offsets a.offsets))
 
--- the properties are empty, both others are prefixes of the archive's, and the offsets lack something
-abbrev pub StopAtInput : Archive → ArchiveFiles → Type 0
-StopAtInput a new = (new.properties ≡ Some []) × HoldsFront new.graph a.graph × HoldsLess new.offsets a.offsets
-
 -- the three files are there, and empty
 abbrev pub emptied : ArchiveFiles
 emptied = record { properties = Some []; graph = Some []; offsets = Some [] }
@@ -88,14 +84,27 @@ unnamed a = record { properties = Some []; graph = Some a.graph; offsets = Some 
 abbrev pub IsStoppedAt : Output → Status → Type 0
 IsStoppedAt o status = (status ≡ WriteFault o) ⊎ (status ≡ Memory)
 
+-- no file but the one of this name has changed
+abbrev pub StayBeside : List ℕ → Files → Files → Type 0
+StayBeside name old new = (q : List ℕ) → q ≢ name → map.get new q ≡ map.get old q
+
+-- Calls on the file of this name, which is an output of a job, were done, or stopped the job.
+pub record Touches (o : Output) (name : List ℕ) (told : Bool) (files files' : Files) (counts counts' : List ℕ → Counts) (result : Result (Unit {0}) Ending) : Type 0 where
+  -- no other file has changed
+  pub others : IsTrue told → StayBeside name files files'
+  -- this file or memory alone can stop them
+  pub only : IfErr result (λ e. IsStoppedAt o e.status)
+  -- a fault is told only where the count of the file rose
+  pub cause : status_in result ≡ WriteFault o → IncreasedAt (λ c. c.write_faults) (Some name) counts counts'
+  -- no count of the depot falls
+  pub later : NonDecreasing counts counts'
+
+abbrev pub TouchesBy : {D : Type 0} → depot.Ghosts D → Output → List ℕ → D → D → Result (Unit {0}) Ending → Type 0
+TouchesBy d o name before after result = Touches o name d.told (d.files before) (d.files after) (d.counts before) (d.counts after) result
+
 -- a call on one of the files failed, or memory was wanting
 abbrev pub IsStopped : Status → Type 0
 IsStopped status = ((o : Output) × (status ≡ WriteFault o)) ⊎ (status ≡ Memory)
-
--- how a job ends whose records or offsets were not written whole
-abbrev pub status_of_error : EncodeError → Status
-status_of_error (error.Failed o) = WriteFault o
-status_of_error error.Memory = Memory
 
 -- What stands once the job has ended so. A fault names the file that it stopped at; want of memory may stop it
 -- anywhere; and nothing has changed where it was refused or its input could not be read.
@@ -108,18 +117,9 @@ FilesAfter a old new (WriteFault output.Offsets) = StopAtOffsets a old new
 FilesAfter a old new Memory = StopAtProperties a old new ⊎ StopAtGraph a old new ⊎ StopAtOffsets a old new ⊎ AreWhole a new
 FilesAfter a old new _ = new ≡ old
 
--- the same of the files of an archive of this name
-abbrev pub LeavesAfter : Archive → List ℕ → Files → Files → Status → Type 0
-LeavesAfter a base old new status = FilesAfter a (archive_in base old) (archive_in base new) status
-
 -- a fault of one of these files is told only where the count of that file rose
 abbrev pub FaultsRose : List ℕ → (List ℕ → Counts) → (List ℕ → Counts) → Status → Type 0
 FaultsRose base old new status = (o : Output) → status ≡ WriteFault o → IncreasedAt (λ c. c.write_faults) (archive_named base o) old new
-
--- The same of a job that may go through its graph file again while it writes: a read fault may come then.
-abbrev pub FilesLeft : Bool → Archive → ArchiveFiles → ArchiveFiles → Status → Type 0
-FilesLeft true a old new (ReadFault input.Graph) = (new ≡ old) ⊎ StopAtInput a new
-FilesLeft again a old new status = FilesAfter a old new status
 
 -- What stands of the file of a certificate once the job has ended so. It is as before, or lacks something, where a call
 -- on it failed; it is whole before anything is printed.
@@ -131,8 +131,14 @@ CertificateAfter text old new Memory = (new ≡ old) ⊎ HoldsFront new text
 CertificateAfter text old new _ = new ≡ old
 
 -- The files of a job of these names that writes this, or nothing.
-abbrev pub HasFiles : (Output → Option (List ℕ)) → Bool → Option Written → Files → Files → Status → Type 0
-HasFiles names again None old new status = new ≡ old
-HasFiles names again (Some (an_archive a)) old new status = OthersStay names old new × FilesLeft again a (archive_at names old) (archive_at names new) status
-HasFiles names again (Some (a_certificate text)) old new status =
+abbrev pub HasFiles : (Output → Option (List ℕ)) → Option Written → Files → Files → Status → Type 0
+HasFiles names None old new status = new ≡ old
+HasFiles names (Some (an_archive a)) old new status = OthersStay names old new × FilesAfter a (archive_at names old) (archive_at names new) status
+HasFiles names (Some (a_certificate text)) old new status =
     OthersStay names old new × CertificateAfter text (content_of old (names output.Certificate)) (content_of new (names output.Certificate)) status
+
+-- The files of these names hold all of this, or there is nothing to hold.
+abbrev pub AreAllWhole : (Output → Option (List ℕ)) → Option Written → Files → Type 0
+AreAllWhole names None files = Unit {0}
+AreAllWhole names (Some (an_archive a)) files = AreWhole a (archive_at names files)
+AreAllWhole names (Some (a_certificate text)) files = content_of files (names output.Certificate) ≡ Some text

@@ -25,6 +25,7 @@
 
 mod bounds;
 mod ending;
+mod files;
 mod layouts;
 mod names;
 mod outcome;
@@ -36,6 +37,7 @@ mod text;
 
 pub use bounds::{last_bounds, room_for};
 pub use ending::Ending;
+pub use files::{create_file, fill_file};
 pub use layouts::params_of;
 pub use names::{file_name, suffix};
 pub use outcome::{BULK_ROUNDS, Outcome};

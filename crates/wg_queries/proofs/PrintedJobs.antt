@@ -3,7 +3,7 @@ use Rattle.std.proofs.Common.{◌≡◌, inl, inr, ℕ, Bool, false, List, refl,
 use Rattle.std.specs.Result.{IfErr}
 use Rattle.wg_io.specs.Outside.{Files, Counts, NonDecreasing}
 use Rattle.wg_io.specs.declared.output.Output.{Output}
-use Rattle.wg_io.specs.declared.output.Output.TheVariants.{Certificate, Out}
+use Rattle.wg_io.specs.declared.output.Output.TheVariants.{Out}
 use Rattle.wg_io.proofs.FilesLemmas.{none_falls-trans}
 use Rattle.wg_params.specs.Parameters.{Parameters}
 use Rattle.wg_grammar.specs.Archive.{Accepted}
@@ -23,7 +23,7 @@ use Rattle.wg_outcomes.specs.declared.ending.Ending.{Ending}
 use Rattle.wg_outcomes.specs.declared.status.Input.{Input}
 use Rattle.wg_outcomes.specs.declared.status.Input.TheVariants.{Graph}
 use Rattle.wg_readings.proofs.JobSteps.{ComesTo, Hold, reaches}
-use Rattle.wg_outcomes.proofs.PerformsLemmas.{files_same}
+use Rattle.wg_outcomes.proofs.PerformsLemmas.{files_same, nothing_whole}
 use Rattle.wg_outcomes.proofs.Statuses.{bad_own, cause_named, no_write, own_caused, unput_cause}
 use Rattle.wg_readings.proofs.UnderWay.{cause_later}
 use Rattle.wg_readings.proofs.JobPasses.{StopsOrUnput, graph_known, hindered_output, hindered_promised, pass_possible, pass_read}
@@ -77,7 +77,8 @@ printed_again base p print job td to before mid after read files counts r none n
           subst (λ (due : List ℕ). HasOutput due before.taken after.taken (status_in r)) (sym (ap output_of (a.2 q)))
           (subst (λ (old : List ℕ). HasOutput (print a.0) old after.taken (status_in r)) silent
           (output_up_to (print a.0) mid.taken after.taken r (h.hindered t a.0 a.1) (h.puts t o a.0 a.1)));
-      silent = λ is. absurd (h.causes.write_fault Certificate (λ same. cc) is);
+      silent = λ o other is. absurd (h.causes.write_fault o other is);
+      printed_last = λ t q want. inr (nothing_whole job none q (held_by (input_name job) before.files) after.files);
       files = λ t q. files_same job none before after (status_in r) (h.same ∙ j.reads.same ∙ k.same) q;
       same = λ is. h.same ∙ j.reads.same ∙ k.same;
       later = none_falls-trans _ _ _ (none_falls-trans _ _ _ k.later j.reads.later) h.later;

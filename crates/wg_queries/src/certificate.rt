@@ -1,34 +1,14 @@
 //! A certificate on its way into its file.
-ghost use Rattle.std.specs.Prelude.{◌≡◌, ◌≢◌, ◌⊎◌, ℕ, List, [], IsTrue, OnOk, IfErr, Some};
+ghost use Rattle.std.specs.Prelude.{◌≡◌, ◌⊎◌, [], IsTrue, OnOk, IfErr, Some};
 ghost use Rattle.std.specs.FinMap as map;
-ghost use Rattle.wg_io.specs.Outside.{NonDecreasing};
 ghost use Rattle.wg_encoder.specs.Gone.{HoldsLess};
-ghost use Rattle.wg_outcomes.specs.Answers.{status_in};
-ghost use Rattle.wg_outcomes.specs.Causes.{IncreasedAt};
 ghost use Rattle.wg_outcomes.specs.Ranked.{certificate_text};
-ghost use Rattle.wg_outcomes.specs.Written.{IsStoppedAt};
+ghost use Rattle.wg_outcomes.specs.Written.{TouchesBy};
 
 use wg_io::{Depot, Output};
-use wg_outcomes::{Ending, Status, writing_ending};
+use wg_outcomes::{Ending, create_file, writing_ending};
 use wg_rank::{Bounds, write_certificate};
 use wg_words::Name;
-
-// Leaves an empty file of the certificate.
-fn create<D: Depot>(name: &Name, depot: &mut D) -> Result<(), Ending>
-    ensures ok { IsTrue D.told → OnOk result (map.get (D.files depot.new) name.now ≡ Some []) }
-    ensures err { IfErr result (λ e. D.files depot.new ≡ D.files depot.old) }
-    ensures others { IsTrue D.told → (q : List ℕ) → q ≢ name.now
-        → map.get (D.files depot.new) q ≡ map.get (D.files depot.old) q }
-    ensures only { IfErr result (λ e. IsStoppedAt Output.Certificate e.status) }
-    ensures cause { status_in result ≡ Status.WriteFault Output.Certificate
-        → IncreasedAt (λ c. c.write_faults) (Some name.now) (D.counts depot.old) (D.counts depot.new) }
-    ensures later { NonDecreasing (D.counts depot.old) (D.counts depot.new) }
-{
-    match depot.create(name.as_str()) {
-        Ok(()) => Ok(()),
-        Err(error) => Err(writing_ending(Output::Certificate, error)),
-    }
-}
 
 // Appends the text of the certificate to its empty file.
 fn append<D: Depot>(bounds: &Bounds, name: &Name, depot: &mut D) -> Result<(), Ending>
@@ -36,12 +16,7 @@ fn append<D: Depot>(bounds: &Bounds, name: &Name, depot: &mut D) -> Result<(), E
         → OnOk result (map.get (D.files depot.new) name.now ≡ Some (certificate_text bounds.now)) }
     ensures err { IsTrue D.told → map.get (D.files depot.old) name.now ≡ Some []
         → IfErr result (λ e. HoldsLess (map.get (D.files depot.new) name.now) (certificate_text bounds.now)) }
-    ensures others { IsTrue D.told → (q : List ℕ) → q ≢ name.now
-        → map.get (D.files depot.new) q ≡ map.get (D.files depot.old) q }
-    ensures only { IfErr result (λ e. IsStoppedAt Output.Certificate e.status) }
-    ensures cause { status_in result ≡ Status.WriteFault Output.Certificate
-        → IncreasedAt (λ c. c.write_faults) (Some name.now) (D.counts depot.old) (D.counts depot.new) }
-    ensures later { NonDecreasing (D.counts depot.old) (D.counts depot.new) }
+    ensures touches { TouchesBy ⟦<D as Depot>⟧ Output.Certificate name.now depot.old depot.new result }
 {
     match write_certificate(bounds, depot, name.as_str()) {
         Ok(()) => Ok(()),
@@ -57,13 +32,8 @@ pub fn write_file<D: Depot>(bounds: &Bounds, name: &Name, depot: &mut D) -> Resu
     ensures err { IsTrue D.told
         → IfErr result (λ e. (map.get (D.files depot.new) name.now ≡ map.get (D.files depot.old) name.now)
         ⊎ HoldsLess (map.get (D.files depot.new) name.now) (certificate_text bounds.now)) }
-    ensures others { IsTrue D.told → (q : List ℕ) → q ≢ name.now
-        → map.get (D.files depot.new) q ≡ map.get (D.files depot.old) q }
-    ensures only { IfErr result (λ e. IsStoppedAt Output.Certificate e.status) }
-    ensures cause { status_in result ≡ Status.WriteFault Output.Certificate
-        → IncreasedAt (λ c. c.write_faults) (Some name.now) (D.counts depot.old) (D.counts depot.new) }
-    ensures later { NonDecreasing (D.counts depot.old) (D.counts depot.new) }
+    ensures touches { TouchesBy ⟦<D as Depot>⟧ Output.Certificate name.now depot.old depot.new result }
 {
-    create(name, depot)?;
+    create_file(depot, name, Output::Certificate)?;
     append(bounds, name, depot)
 }

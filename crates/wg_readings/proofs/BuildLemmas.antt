@@ -1,13 +1,12 @@
 -- What a job that writes an archive leaves, by the archive's own names.
-use Rattle.std.proofs.Common.{◌≡◌, ◌⊎◌, inl, inr, ℕ, ◌≤◌, Bool, true, false, if◌then◌else◌, List, refl, sym, ap, subst, ◌∙◌, arith, Option, Some, None, is_some, Result, Ok, Err}
+use Rattle.std.proofs.Common.{◌≡◌, ◌⊎◌, inl, inr, ℕ, Bool, true, false, if◌then◌else◌, List, refl, sym, ap, subst, ◌∙◌, Option, Some, None, is_some, Result, Ok, Err}
 use Rattle.std.specs.Bool.{IsTrue}
-use Rattle.std.specs.Result.{IfErr, IsErrAnd}
+use Rattle.std.specs.Result.{IfErr}
 use Rattle.std.proofs.lemmas.List.{append-nil}
-use Rattle.wg_io.specs.Outside.{Files, Counts, NonDecreasing, Increased}
+use Rattle.wg_io.specs.Outside.{Files, Counts, NonDecreasing}
 use Rattle.wg_io.specs.declared.output.Output.{Output}
 use Rattle.wg_io.specs.declared.output.Output.TheVariants as output
 use Rattle.wg_io.proofs.FilesLemmas.{none_falls-trans}
-use Rattle.wg_io.proofs.PutsLemmas.{is_that_err}
 use Rattle.wg_outcomes.specs.Reached.{Reaches}
 use Rattle.wg_outcomes.specs.Answers.{Answers, HasOutput, IsUnput, status_in}
 use Rattle.wg_outcomes.specs.Causes.{HasCause, IncreasedAt}
@@ -17,43 +16,34 @@ use Rattle.wg_words.specs.declared.jobs.Job.TheVariants.{Build}
 use Rattle.wg_arcs.specs.declared.fault.ArcsKind.{ArcsKind}
 use Rattle.wg_params.specs.declared.layout.Layout.{Layout}
 use Rattle.wg_outcomes.specs.Commands.{builds, greedy_line, written_by}
-use Rattle.wg_outcomes.specs.Judged.{Judged, Written, an_archive, a_certificate, files_of, output_of, status_of, Archive}
+use Rattle.wg_outcomes.specs.Judged.{Judged, Written, an_archive, files_of, output_of, status_of}
+use Rattle.wg_encoder.specs.Archive.{Archive}
 use Rattle.wg_readings.specs.Loading.{LoadsList}
 use Rattle.wg_outcomes.specs.Promised.{ArePromised, promised_in}
-use Rattle.wg_outcomes.specs.JobFiles.{can_end, has_output, input_name, output_name, reads_again, writes_files}
+use Rattle.wg_outcomes.specs.JobFiles.{can_end, has_output, input_name, output_name, writes_files}
 use Rattle.wg_outcomes.specs.Names.{IsOfInput, archive_named, held_by, list_named}
 use Rattle.wg_outcomes.specs.Performs.{BuildsArchive, Outside, Performs, Produces, judged_on, outside}
 use Rattle.wg_outcomes.specs.Readings.{Readings}
-use Rattle.wg_outcomes.specs.Written.{ArchiveFiles, AreWhole, HasFiles, OthersStay, FilesAfter, IsStopped, archive_at, greedy_archive, params_for}
+use Rattle.wg_outcomes.specs.Written.{AreAllWhole, ArchiveFiles, AreWhole, HasFiles, OthersStay, FilesAfter, IsStopped, greedy_archive, params_for}
 use Rattle.wg_outcomes.specs.declared.ending.Ending.{Ending}
 use Rattle.wg_outcomes.specs.declared.status.Input.{Input}
 use Rattle.wg_outcomes.specs.declared.status.Input.TheVariants as input
 use Rattle.wg_outcomes.specs.declared.status.Status.{Status}
 use Rattle.wg_outcomes.specs.declared.status.Status.TheVariants.{Done, Memory, ReadFault, WriteFault, Missing, BadArcs}
-use Rattle.wg_outcomes.proofs.PerformsLemmas.{IsStop, left_by, stopped, unread}
-use Rattle.wg_outcomes.proofs.Statuses.{IsOwn, fault_caused, own_caused, own_read}
+use Rattle.wg_outcomes.proofs.PerformsLemmas.{IsStop, stopped, unread}
+use Rattle.wg_outcomes.proofs.Statuses.{IsOwn, fault_caused, own_caused, own_read, rose_late}
 
--- ---- counts
-rose_from : (a b c : ℕ) → a ≤ b → Increased b c → Increased a c
-rose_from a b c le (inl more) = inl (omega (arith, le, more))
-rose_from a b c le (inr last) = inr last
-
-pub rose_since : (name : Option (List ℕ)) (old mid new : List ℕ → Counts) → NonDecreasing old mid → IncreasedAt (λ c. c.write_faults) name mid new → IncreasedAt (λ c. c.write_faults) name old new
-rose_since None old mid new falls rose = rose
-rose_since (Some name) old mid new falls rose = rose_from (old name).write_faults (mid name).write_faults (new name).write_faults (falls.write_faults name) rose
-
+-- ---- steps of a writing
 pub others_twice : (names : Output → Option (List ℕ)) (f h k : Files) → OthersStay names f h → OthersStay names h k → OthersStay names f k
 others_twice names f h k one two q other = two q other ∙ one q other
 
--- the status of what ended so
-pub ended_by : {B : Type 0} (r : Result B Ending) (e : Ending) → IsErrAnd r (λ x. x ≡ e) → status_in r ≡ e.status
-ended_by r e is = ap status_in (is_that_err r e is)
-
 -- ---- a writing that was stopped
-pub stopped_cause : (inputs : Input → Option (List ℕ)) (base : List ℕ) (old new : List ℕ → Counts) (faults faults' : ℕ) (s : Status) → IsStopped s
-    → ((o : Output) → s ≡ WriteFault o → IncreasedAt (λ c. c.write_faults) (archive_named base o) old new) → HasCause inputs (archive_named base) old new faults faults' s
-stopped_cause inputs base old new faults faults' s (inl fault) rose = fault_caused _ _ _ _ _ _ s fault.0 fault.1 (λ o other is. rose o is) (λ is. absurd (rose output.Out is))
-stopped_cause inputs base old new faults faults' s (inr want) rose = own_caused _ _ _ _ _ _ s (subst IsOwn (sym want) tt)
+pub stopped_cause : (inputs : Input → Option (List ℕ)) (names : Output → Option (List ℕ)) → names output.Out ≡ None → (old new : List ℕ → Counts) (faults faults' : ℕ) (s : Status) → IsStopped s
+    → ((o : Output) → s ≡ WriteFault o → IncreasedAt (λ c. c.write_faults) (names o) old new) → HasCause inputs names old new faults faults' s
+stopped_cause inputs names none old new faults faults' s (inl fault) rose =
+    fault_caused _ _ _ _ _ _ s fault.0 fault.1 (λ o other is. rose o is)
+    (λ is. absurd (subst (λ (n : Option (List ℕ)). IncreasedAt (λ c. c.write_faults) n old new) none (rose output.Out is)))
+stopped_cause inputs names none old new faults faults' s (inr want) rose = own_caused _ _ _ _ _ _ s (subst IsOwn (sym want) tt)
 
 pub stopped_output : (due old : List ℕ) (s : Status) → IsStopped s → HasOutput due old old s
 stopped_output due old s (inl fault) = subst (HasOutput due old old) (sym fault.1) (0, sym (append-nil old))
@@ -118,14 +108,9 @@ cause_since : (inputs : Input → Option (List ℕ)) (names : Output → Option 
 cause_since inputs names old mid new faults faults' r only later cause = record {
   read_fault = λ i is. absurd (no_read r i only is);
   missing = λ i is. absurd (no_missing r i only is);
-  write_fault = λ o other is. rose_since (names o) old mid new later (cause.write_fault o other is);
+  write_fault = λ o other is. rose_late (λ k. k.write_faults) (names o) old mid new later.write_faults (cause.write_fault o other is);
   out_fault = cause.out_fault;
 }
-
--- what holds of a job that reads once holds of one that may read again
-files_again : (names : Output → Option (List ℕ)) (again : Bool) (what : Written) (old new : Files) (s : Status) → HasFiles names false (Some what) old new s → HasFiles names again (Some what) old new s
-files_again names again (an_archive a) old new s h = (h.0, left_by again a (archive_at names old) (archive_at names new) s h.1)
-files_again names again (a_certificate text) old new s h = h
 
 -- all was judged, and what the job writes is written, and its text printed
 pub produced : (job : Job) (td to : Bool) (before after : Outside) (files : Files) (counts : List ℕ → Counts) (names : Output → Option (List ℕ)) (what : Written) (text : Readings → List ℕ)
@@ -146,16 +131,25 @@ produced job td to before after files counts names what text r writes named is s
   needed = λ t q o fault. (is t q).0;
   output = λ t o q. subst (λ (due : List ℕ). HasOutput due before.taken after.taken (status_in r)) (sym (is t q).1) (h.output t o q);
   silent = h.silent;
+  printed_last = λ t q want. whole_here t q (h.printed_last t want);
   files = λ t q.
-      let due : written_by q job (held_by (input_name job) before.files) ≡ Some what =
-      ap (λ (b : Bool). if b then files_of (judged_on q job before.files) else None) writes ∙ (is t q).2 in
-      subst (λ (f : Files). HasFiles (output_name job) (reads_again job) (written_by q job (held_by (input_name job) before.files)) f after.files (status_in r)) same
-      (subst (λ (n : Output → Option (List ℕ)). HasFiles n (reads_again job) (written_by q job (held_by (input_name job) before.files)) files after.files (status_in r)) named
-      (subst (λ (w : Option Written). HasFiles names (reads_again job) w files after.files (status_in r)) (sym due) (files_again names (reads_again job) what files after.files (status_in r) (h.files t))));
+      subst (λ (f : Files). HasFiles (output_name job) (written_by q job (held_by (input_name job) before.files)) f after.files (status_in r)) same
+      (subst (λ (n : Output → Option (List ℕ)). HasFiles n (written_by q job (held_by (input_name job) before.files)) files after.files (status_in r)) named
+      (subst (λ (w : Option Written). HasFiles names w files after.files (status_in r)) (sym (due t q)) (h.files t)));
   same = λ none. absurd (let no : true ≡ false = sym writes ∙ none in cc);
   later = none_falls-trans before.counts counts after.counts later h.later;
   promised = λ t. built_promised (held_by (input_name job) before.files) r h.only;
 }
+  where
+    due : IsTrue td → (q : Readings) → written_by q job (held_by (input_name job) before.files) ≡ Some what
+    due t q = ap (λ (b : Bool). if b then files_of (judged_on q job before.files) else None) writes ∙ (is t q).2
+
+    whole_here : IsTrue td → (q : Readings) → (after.taken ≡ before.taken) ⊎ AreAllWhole names (Some what) after.files
+        → (after.taken ≡ before.taken) ⊎ AreAllWhole (output_name job) (written_by q job (held_by (input_name job) before.files)) after.files
+    whole_here t q (inl silent) = inl silent
+    whole_here t q (inr whole) =
+        inr (subst (λ (n : Output → Option (List ℕ)). AreAllWhole n (written_by q job (held_by (input_name job) before.files)) after.files) named
+        (subst (λ (w : Option Written). AreAllWhole names w after.files) (sym (due t q)) whole))
 
 -- the same of the archive of a graph
 pub written : (job : Job) (td to : Bool) (before after : Outside) (files : Files) (counts : List ℕ → Counts) (l : Layout) (g : Digraph) (base : List ℕ) (r : Result (Unit {0}) Ending)

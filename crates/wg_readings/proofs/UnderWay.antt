@@ -1,12 +1,10 @@
 -- A reading of a graph file that is under way.
-use Rattle.std.proofs.Common.{◌≡◌, ℕ, ◌+◌, ◌≤◌, Bool, true, List, [], ◌∷◌, ◌++◌, length, refl, sym, ◌∙◌, ap, subst, Option, Some, None, Ok, Err, arith}
+use Rattle.std.proofs.Common.{◌≡◌, ℕ, ◌+◌, ◌≤◌, Bool, true, List, [], ◌∷◌, ◌++◌, length, refl, sym, ◌∙◌, ap, subst, Option, Some, Ok, Err, arith}
 use Rattle.std.specs.Bool.{IsTrue}
 use Rattle.std.specs.FinMap as map
 use Rattle.wg_io.specs.Outside.{Files, Counts, NonDecreasing}
-use Rattle.wg_io.specs.declared.output.Output.{Output}
 use Rattle.wg_io.specs.declared.suffixes.TheConstants.{GRAPH}
 use Rattle.wg_io.proofs.FilesLemmas.{none_falls-trans}
-use Rattle.wg_io.proofs.PutsLemmas.{rose_on}
 use Rattle.wg_params.specs.Parameters.{Parameters, IsWithinLimits}
 use Rattle.wg_bits.specs.Bits.{bits_of}
 use Rattle.wg_grammar.specs.Archive.{Accepted}
@@ -16,7 +14,7 @@ use Rattle.wg_stream.specs.declared.state.State.TheVariants.{Open}
 use Rattle.wg_stream.specs.declared.state.State.{State}
 use Rattle.wg_stream.specs.Reading.{Reading, AgreesIn, IsInStep, IsJudged, StaysInStep}
 use Rattle.wg_outcomes.specs.Answers.{Steps}
-use Rattle.wg_outcomes.specs.Causes.{HasCause, IncreasedAt}
+use Rattle.wg_outcomes.specs.Causes.{HasCause}
 use Rattle.wg_outcomes.specs.Names.{file_of, held_by, no_outputs}
 use Rattle.wg_readings.specs.Passes.{Advances, FollowsFile, IsFound, IsFresh, IsGraphFile, accepted_of, graph_then}
 use Rattle.wg_outcomes.specs.Readings.{Readings}
@@ -24,6 +22,7 @@ use Rattle.wg_outcomes.specs.declared.ending.Ending.{Ending}
 use Rattle.wg_outcomes.specs.declared.status.Input.{Input}
 use Rattle.wg_outcomes.specs.declared.status.Input.TheVariants.{Graph}
 use Rattle.wg_outcomes.specs.declared.status.Status.{Status}
+use Rattle.wg_outcomes.proofs.Statuses.{rose_late}
 use Rattle.wg_readings.proofs.FirstRecords.{first_of, ok_accepted}
 
 -- So many records were read, of which this holds; no file has changed.
@@ -38,20 +37,13 @@ pub record IsUnderWay (told : Bool) (base : List ℕ) (p : Parameters) (files fi
   pub follows : IsTrue told → (file : List ℕ) → map.get files (base ++ GRAPH.now) ≡ Some file → (whole : List Whole) × IsInStep file r whole × P whole
 
 -- ---- causes of later moments
-rose_late : (count : Counts → ℕ) (name : Option (List ℕ)) (a b c : List ℕ → Counts) → ((n : List ℕ) → count (a n) ≤ count (b n)) → IncreasedAt count name b c → IncreasedAt count name a c
-rose_late count None a b c on h = h
-rose_late count (Some n) a b c on h = rose_on _ _ _ _ (on n) h (omega arith)
-
-pub cause_on : (names : Input → Option (List ℕ)) (outputs : Output → Option (List ℕ)) (a b c : List ℕ → Counts) (f f' : ℕ) (s : Status) → NonDecreasing a b → HasCause names outputs b c f f' s → HasCause names outputs a c f f' s
-cause_on names outputs a b c f f' s on h = record {
+pub cause_later : (names : Input → Option (List ℕ)) (a b c : List ℕ → Counts) (s : Status) → NonDecreasing a b → HasCause names no_outputs b c 0 0 s → HasCause names no_outputs a c 0 0 s
+cause_later names a b c s on h = record {
   read_fault = λ i is. rose_late (λ k. k.read_faults) (names i) a b c on.read_faults (h.read_fault i is);
   missing = λ i is. rose_late (λ k. k.absences) (names i) a b c on.absences (h.missing i is);
-  write_fault = λ o other is. rose_late (λ k. k.write_faults) (outputs o) a b c on.write_faults (h.write_fault o other is);
+  write_fault = λ o other is. absurd (h.write_fault o other is);
   out_fault = h.out_fault;
 }
-
-pub cause_later : (names : Input → Option (List ℕ)) (a b c : List ℕ → Counts) (s : Status) → NonDecreasing a b → HasCause names no_outputs b c 0 0 s → HasCause names no_outputs a c 0 0 s
-cause_later names a b c s on h = cause_on names no_outputs a b c 0 0 s on h
 
 pub no_fall : (c : List ℕ → Counts) → NonDecreasing c c
 no_fall c = record { read_faults = λ n. omega arith; write_faults = λ n. omega arith; absences = λ n. omega arith; wants = λ n. omega arith }
@@ -148,20 +140,4 @@ way_later told base p files files1 files2 counts counts1 counts2 n r P same late
   later = none_falls-trans _ _ _ h.later later;
   found = h.found;
   follows = h.follows;
-}
-
--- at a later moment, when other files have changed
-pub way_kept : (told : Bool) (base : List ℕ) (p : Parameters) (files files1 now : Files) (counts counts1 counts2 : List ℕ → Counts) (n : ℕ) (r : Reading) (P : List Whole → Type 0)
-    → (IsTrue told → map.get now (base ++ GRAPH.now) ≡ map.get files (base ++ GRAPH.now)) → NonDecreasing counts1 counts2 → IsUnderWay told base p files files1 counts counts1 n r P → IsUnderWay told base p now now counts counts2 n r P
-way_kept told base p files files1 now counts counts1 counts2 n r P kept later h = record {
-  state = h.state;
-  params = h.params;
-  name = h.name;
-  page = h.page;
-  same = refl;
-  later = none_falls-trans _ _ _ h.later later;
-  found = λ t looked.
-      let f = h.found t looked in
-      (f.0, ap (λ (m : List ℕ). map.get now m) h.name ∙ kept t ∙ ap (λ (m : List ℕ). map.get files m) (sym h.name) ∙ f.1);
-  follows = λ t file is. h.follows t file (sym (kept t) ∙ is);
 }

@@ -18,7 +18,6 @@ const PROPERTIES: &[u8] =
 struct ShrinkingDepot<'a> {
     first: Option<&'a [u8]>,
     later: &'a [u8],
-    is_begun: bool,
 }
 
 impl<'a> Depot for ShrinkingDepot<'a> {
@@ -43,7 +42,6 @@ impl<'a> Depot for ShrinkingDepot<'a> {
     }
 
     fn create(&mut self, _name: &str) -> Result<(), WriteError> {
-        self.is_begun = true;
         Ok(())
     }
 
@@ -79,12 +77,10 @@ fn stops_in_the_middle(alloc: Global, line: &str) -> Result<bool, AllocError> {
     let mut steady = ShrinkingDepot {
         first: None,
         later: &GRAPH,
-        is_begun: false,
     };
     let mut shrinking = ShrinkingDepot {
         first: Some(&GRAPH),
         later: &GRAPH[..1500],
-        is_begun: false,
     };
     let whole = ending(alloc, line, &mut steady)?;
     let part = ending(alloc, line, &mut shrinking)?;
@@ -107,19 +103,5 @@ fn a_graph_file_that_shrinks(rt: HostRuntime) -> Result<(), Fail> {
     for line in ["arcs g", "offsets g"] {
         assert!(rt; stops_in_the_middle(rt.alloc(), line)?, "{line}");
     }
-    Ok(())
-}
-
-// The files of the new archive are begun and nothing is in them, since an append would fail otherwise.
-#[test]
-fn a_graph_file_that_shrinks_while_it_is_recoded(rt: HostRuntime) -> Result<(), Fail> {
-    let mut depot = ShrinkingDepot {
-        first: Some(&GRAPH),
-        later: &GRAPH[..1500],
-        is_begun: false,
-    };
-    let ending = ending(rt.alloc(), "recode g h", &mut depot)?;
-    assert!(rt; ending.status() == 9 && ending.reported() == REFUSAL);
-    assert!(rt; ending.printed().is_empty() && depot.is_begun);
     Ok(())
 }

@@ -1,7 +1,7 @@
 use std::test::Fail;
 use wg_encoder::encode;
 use wg_graph::GraphBuilder;
-use wg_io::{Depot, SteadyDepot, SteadySink, read_whole};
+use wg_io::{SteadyDepot, SteadySink};
 use wg_lines::{LineReader, Lines};
 use wg_vectors::usual;
 
@@ -35,10 +35,8 @@ fn files_of_a_graph(rt: HostRuntime) -> Result<(), Fail> {
     builder.push_list(&[1, 2])?;
     let graph = builder.finish()?;
     let params = usual(graph.nodes(), graph.arcs(), 7, 3, 4)?;
-    let mut depot = SteadyDepot::new(rt.alloc(), 4096);
-    let summary = encode(rt.alloc(), params, &graph, &mut depot, "web")?;
-    assert!(rt; summary.bits == 19 && summary.referring == 1);
-    let bytes = read_whole(rt.alloc(), &mut depot, "web.graph")?;
-    assert!(rt; bytes.as_slice() == b"\x7D\xC6\xE0".as_slice());
+    let archive = encode(rt.alloc(), params, &graph, b"nodes=3\n")?;
+    assert!(rt; archive.bits() == 19 && archive.referring() == 1);
+    assert!(rt; archive.graph() == b"\x7D\xC6\xE0".as_slice());
     Ok(())
 }

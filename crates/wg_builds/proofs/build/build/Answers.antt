@@ -11,5 +11,5 @@ returns-in_err-graph g c =
 pub returns : goal.returns
 returns g c =
     let l = c.in_ok-graph.ensures in
-    written (Build c.args.arcs.now c.args.base.now c.args.nodes c.args.layout.now) _ _ _ _ _ _ c.args.layout.now c.in_ok-graph.graph c.args.base.now c.build_archive.result refl refl
-    (λ t r. l.steps t r _) l.same l.later c.build_archive.ensures
+    written (Build c.args.arcs.now c.args.base.now c.args.nodes c.args.layout.now) _ _ _ _ _ _ c.args.layout.now c.in_ok-graph.graph c.args.base.now c.build_graph.result refl refl
+    (λ t r. l.steps t r _) l.same l.later c.build_graph.ensures

@@ -34,4 +34,4 @@ returns g c =
     writes_quotient c.args.input.now c.args.map.now c.args.output.now c.args.classes c.args.layout.now _ g.O.Sink.told _ c.in_ok-params.params _ _ c.in_ok-params.ensures
     _ _ c.in_ok-graph.graph c.in_ok-graph.ensures
     _ _ c.in_ok-classes_of.classes_of (map_of_graph _ _ _ _ _ _ _ _ _ _ c.nodes.ensures.value c.in_ok-classes_of.ensures)
-    c.in_ok-made.made c.in_ok-made.ensures.exact _ c.build_archive.result c.build_archive.ensures
+    c.in_ok-made.made c.in_ok-made.ensures.exact _ c.build_graph.result c.build_graph.ensures

@@ -36,4 +36,4 @@ returns g c =
     writes (Transpose c.args.input.now c.args.output.now layout) c.args.input.now _ _ _ p _ _ _ _
     (has_graph (Transpose c.args.input.now c.args.output.now layout) c.args.input.now _ g.O.Sink.told _ refl refl (λ p x r h. builds layout (transposed x)) (λ r h. refl)
     p _ _ c.in_ok-params.ensures _ _ c.in_ok-graph.graph c.in_ok-graph.ensures)
-    layout c.in_ok-reversed.reversed c.args.output.now (λ r. ap (λ x. builds layout x) (sym c.in_ok-reversed.ensures.exact)) refl refl _ c.build_archive.result c.build_archive.ensures
+    layout c.in_ok-reversed.reversed c.args.output.now (λ r. ap (λ x. builds layout x) (sym c.in_ok-reversed.ensures.exact)) refl refl _ c.build_graph.result c.build_graph.ensures

@@ -40,4 +40,4 @@ returns g c =
     let other = second_read _ _ _ _ _ _ read.0 c.in_ok-other.other read.1 read.2 in
     let u = c.in_ok-graph.ensures in
     unites c.args.first.now c.args.second.now c.args.output.now c.args.layout.now _ _ _ c.in_ok-one.one _ _ one c.in_ok-other.other _ _ other
-    c.in_ok-graph.graph (u.exact one.goes.0 other.goes.0 one.goes.1 other.goes.1) u.few _ c.build_archive.result c.build_archive.ensures
+    c.in_ok-graph.graph (u.exact one.goes.0 other.goes.0 one.goes.1 other.goes.1) u.few _ c.build_graph.result c.build_graph.ensures

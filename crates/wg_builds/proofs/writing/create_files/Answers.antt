@@ -1,25 +1,29 @@
-use Rattle.std.proofs.Common.{◌∙◌}
-use Rattle.wg_outcomes.proofs.WritingLemmas.{if_that_err, if_err_both, on_ok_then, stop_second, stop_third, all_created, others_at}
+use Rattle.std.proofs.Common.{refl}
+use Rattle.wg_builds.proofs.FileSteps.{and_then, graph_created, offsets_created, properties_created, writes_exit}
 use Rattle.wg_builds.proofs.writing.create_files.Goals as goal
 
-pub returns-in_err-create-2-clause-err : goal.returns-in_err-create-2-clause-err
-returns-in_err-create-2-clause-err g c = λ t a.
-    if_that_err _ _ _ c.from_residual-in_err-create-2.ensures.1
-    (stop_second c.args.base.now a _ _ _ _ (c.in_ok-create.ensures.ok t) c.in_err-create-2.ensures.err c.in_err-create-2.ensures.only)
+pub returns-in_err-create_file : goal.returns-in_err-create_file
+returns-in_err-create_file g c = λ a base is.
+    let e = c.in_err-create_file.ensures in
+    writes_exit base a _ _ _ _ _ _ _ _ _ _ c.from_residual.ensures.1
+    (properties_created base a c.args.names.now is _ _ _ _ _ _ _ (λ t. refl) e.ok e.err e.touches)
 
-pub returns-in_err-create-2-clause-others : goal.returns-in_err-create-2-clause-others
-returns-in_err-create-2-clause-others g c = λ t.
-    others_at c.args.base.now _ _ (λ q p r o. c.create-2.ensures.others t q r ∙ c.create.ensures.others t q p)
+pub returns-in_err-create_file-2 : goal.returns-in_err-create_file-2
+returns-in_err-create_file-2 g c = λ a base is.
+    let p = c.in_ok-create_file.ensures in
+    let one = properties_created base a c.args.names.now is _ _ _ _ _ _ _ (λ t. refl) p.ok p.err p.touches in
+    let e = c.in_err-create_file-2.ensures in
+    writes_exit base a _ _ _ _ _ _ _ _ _ _ c.from_residual-in_err-create_file-2.ensures.1
+    (and_then base a _ _ _ _ _ _ _ _ _ _ _ one
+    (graph_created base a c.args.names.now is _ _ _ _ _ _ _ one.ok e.ok e.err e.touches))
 
-pub returns-clause-ok : goal.returns-clause-ok
-returns-clause-ok g c = λ t.
-    on_ok_then c.create-3.result (c.create-3.ensures.ok t) (all_created c.args.base.now _ _ _ _ (c.in_ok-create.ensures.ok t) (c.in_ok-create-2.ensures.ok t))
-
-pub returns-clause-err : goal.returns-clause-err
-returns-clause-err g c = λ t a.
-    if_err_both _ _ _ c.create-3.result c.create-3.ensures.err c.create-3.ensures.only
-    (λ e same why. stop_third c.args.base.now a _ _ _ _ _ (c.in_ok-create.ensures.ok t) (c.in_ok-create-2.ensures.ok t) same why)
-
-pub returns-clause-others : goal.returns-clause-others
-returns-clause-others g c = λ t.
-    others_at c.args.base.now _ _ (λ q p r o. c.create-3.ensures.others t q o ∙ c.create-2.ensures.others t q r ∙ c.create.ensures.others t q p)
+pub returns : goal.returns
+returns g c = λ a base is.
+    let p = c.in_ok-create_file.ensures in
+    let one = properties_created base a c.args.names.now is _ _ _ _ _ _ _ (λ t. refl) p.ok p.err p.touches in
+    let q = c.in_ok-create_file-2.ensures in
+    let two = graph_created base a c.args.names.now is _ _ _ _ _ _ _ one.ok q.ok q.err q.touches in
+    let o = c.create_file-3.ensures in
+    and_then base a _ _ _ _ _ _ _ _ _ _ _ one
+    (and_then base a _ _ _ _ _ _ _ _ _ _ _ two
+    (offsets_created base a c.args.names.now is _ _ _ _ _ _ c.create_file-3.result two.ok o.ok o.err o.touches))

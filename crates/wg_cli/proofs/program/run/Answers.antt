@@ -1,4 +1,4 @@
-use Rattle.std.proofs.Common.{◌∙◌, subst}
+use Rattle.std.proofs.Common.{◌∙◌, inl, refl, subst}
 use Rattle.wg_words.specs.Jobs.{job_of}
 use Rattle.wg_words.specs.declared.jobs.Job.TheVariants.{Rank, Verify}
 use Rattle.wg_outcomes.specs.Answers.{Answers, HasOutput}
@@ -16,6 +16,9 @@ use Rattle.wg_cli.proofs.program.run.Goals as goal
 pub returns-in_default-clause-line : goal.returns-in_default-clause-line
 returns-in_default-clause-line g c = λ e. (0, λ t. nothing_promised (job_of c.args.words.now) (g.D.Depot.files c.args.depot.now) 0, c.report.ensures e)
 
+pub returns-in_default-clause-printed_last : goal.returns-in_default-clause-printed_last
+returns-in_default-clause-printed_last g c = λ t r job is want. inl refl
+
 pub returns-clause-answers : goal.returns-clause-answers
 returns-clause-answers g c = λ t r job is. (c.try_job-ending.ensures.performs job (c.in-Ok.ensures.job ∙ is)).answers t r
 
@@ -32,7 +35,10 @@ pub returns-clause-needed : goal.returns-clause-needed
 returns-clause-needed g c = λ t r job is o fault. (c.try_job-ending.ensures.performs job (c.in-Ok.ensures.job ∙ is)).needed t r o fault
 
 pub returns-clause-silent : goal.returns-clause-silent
-returns-clause-silent g c = λ job is fault. (c.try_job-ending.ensures.performs job (c.in-Ok.ensures.job ∙ is)).silent fault
+returns-clause-silent g c = λ job is o other fault. (c.try_job-ending.ensures.performs job (c.in-Ok.ensures.job ∙ is)).silent o other fault
+
+pub returns-clause-printed_last : goal.returns-clause-printed_last
+returns-clause-printed_last g c = λ t r job is want. (c.try_job-ending.ensures.performs job (c.in-Ok.ensures.job ∙ is)).printed_last t r want
 
 pub returns-clause-output : goal.returns-clause-output
 returns-clause-output g c = λ t o r job is. (c.try_job-ending.ensures.performs job (c.in-Ok.ensures.job ∙ is)).output t o r

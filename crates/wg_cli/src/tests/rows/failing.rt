@@ -3,6 +3,14 @@
 /// Reads: which file is reported, and that no other file is touched. A file takes three: one at the limit, one of all
 /// its bytes, and one at its end.
 pub const READS: &str = r"
+# Files that stood there before, and stand there after each of so many reads that fails.
+let old text h.properties old properties|
+let old text h.graph old records|
+let old text h.offsets old offsets|
+let stays each read 1 to $ holds h.properties old properties|
+let stays each read 1 to $ holds h.graph old records|
+let stays each read 1 to $ holds h.offsets old offsets|
+
 case each read of check fails once
 pieces 4096
 use copied g
@@ -97,36 +105,40 @@ prints ok pages=2 damping=850 gap=0.850000000000000000000000|
 
 case each read of build fails once
 pieces 4096
+use old
 text a 0 1|0 2|1 1|1 2|
 run build a h --nodes 3
 each read 1 to 3 refuses 4 wg: read failed: a|
-each read 1 to 3 lacks h.properties
+use stays 3
 failing read 4
 prints ok nodes=3 arcs=4 bits=19|
 
 case each read of import fails once
 pieces 4096
+use old
 text t 3|1 2|1 2||
 run import t h
 each read 1 to 3 refuses 4 wg: read failed: t|
-each read 1 to 3 lacks h.properties
+use stays 3
 failing read 4
 prints ok nodes=3 arcs=4 bits=19|
 
 case each read of quotient fails once
 pieces 4096
+use old
 use copied g
 text m 0|1|2|
 run quotient g m h --classes 3
 each read 1 to 3 refuses 4 wg: read failed: g.properties|
 each read 4 to 6 refuses 4 wg: read failed: g.graph|
 each read 7 to 9 refuses 4 wg: read failed: m|
-each read 1 to 9 lacks h.properties
+use stays 9
 failing read 10
 prints ok nodes=3 arcs=4 bits=19|
 
 case each read of union fails once
 pieces 4096
+use old
 use copied g
 use copied k
 run union g k h
@@ -136,34 +148,30 @@ each read 7 to 9 refuses 4 wg: read failed: g.offsets|
 each read 10 to 12 refuses 4 wg: read failed: k.properties|
 each read 13 to 15 refuses 4 wg: read failed: k.graph|
 each read 16 to 18 refuses 4 wg: read failed: k.offsets|
-each read 1 to 18 lacks h.properties
+use stays 18
 failing read 19
 prints ok nodes=3 arcs=4 bits=19|
 
 case each read of transpose fails once
 pieces 4096
+use old
 use reversed g
 run transpose g h
 each read 1 to 3 refuses 4 wg: read failed: g.properties|
 each read 4 to 6 refuses 4 wg: read failed: g.graph|
-each read 1 to 6 lacks h.properties
+use stays 6
 failing read 7
 prints ok nodes=3 arcs=4 bits=19|
 
-# The graph is read twice, to be judged and to be written: then the files are begun.
 case each read of recode fails once
 pieces 4096
+use old
 use copied g
 run recode g h
 each read 1 to 3 refuses 4 wg: read failed: g.properties|
-each read 4 to 9 refuses 4 wg: read failed: g.graph|
-each read 1 to 6 lacks h.properties
-each read 1 to 6 lacks h.graph
-each read 1 to 6 lacks h.offsets
-each read 7 to 9 holds h.properties
-each read 7 to 9 holds h.graph
-each read 7 to 9 holds h.offsets
-failing read 10
+each read 4 to 6 refuses 4 wg: read failed: g.graph|
+use stays 6
+failing read 7
 prints ok nodes=3 arcs=4 bits=19|
 ";
 

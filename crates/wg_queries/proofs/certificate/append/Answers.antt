@@ -1,4 +1,4 @@
-use Rattle.std.proofs.Common.{◌∙◌, List, ℕ, [], take, ap}
+use Rattle.std.proofs.Common.{◌∙◌, List, ℕ, [], take, ap, rules}
 use Rattle.std.specs.FinMap as map
 use Rattle.wg_io.specs.Outside.{Files, appended}
 use Rattle.wg_encoder.proofs.Sent.{get_more, get_other}
@@ -12,10 +12,15 @@ returns-in-Ok-clause-ok g c = λ t empty.
     ap (λ (x : Files). map.get x c.args.name.now) (c.in-Ok.ensures.ok t ∙ ap (λ (m : List ℕ). appended old m text) c.as_str.ensures)
     ∙ get_more old c.args.name.now [] text empty
 
-pub returns-in-Ok-clause-others : goal.returns-in-Ok-clause-others
-returns-in-Ok-clause-others g c = λ t q other.
-    ap (λ (x : Files). map.get x q) (c.in-Ok.ensures.ok t)
-    ∙ get_other (g.D.Depot.files c.args.depot.now) c.as_str.result.now (certificate_text c.args.bounds.now) q (λ same. other (same ∙ c.as_str.ensures))
+pub returns-in-Ok-clause-touches : goal.returns-in-Ok-clause-touches
+returns-in-Ok-clause-touches g c = record {
+  others = λ t q other.
+      ap (λ (x : Files). map.get x q) (c.in-Ok.ensures.ok t)
+      ∙ get_other (g.D.Depot.files c.args.depot.now) c.as_str.result.now (certificate_text c.args.bounds.now) q (λ same. other (same ∙ c.as_str.ensures));
+  only = search rules;
+  cause = search rules;
+  later = search rules;
+}
 
 pub returns-in-Err-clause-err : goal.returns-in-Err-clause-err
 returns-in-Err-clause-err g c = λ t empty.
@@ -28,8 +33,13 @@ returns-in-Err-clause-err g c = λ t empty.
           ∙ get_more old c.args.name.now [] (take e.0 text) empty,
     )
 
-pub returns-in-Err-clause-others : goal.returns-in-Err-clause-others
-returns-in-Err-clause-others g c = λ t q other.
-    let e = c.in-Err.ensures.err t in
-    ap (λ (x : Files). map.get x q) e.2
-    ∙ get_other (g.D.Depot.files c.args.depot.now) c.as_str.result.now (take e.0 (certificate_text c.args.bounds.now)) q (λ same. other (same ∙ c.as_str.ensures))
+pub returns-in-Err-clause-touches : goal.returns-in-Err-clause-touches
+returns-in-Err-clause-touches g c = record {
+  others = λ t q other.
+      let e = c.in-Err.ensures.err t in
+      ap (λ (x : Files). map.get x q) e.2
+      ∙ get_other (g.D.Depot.files c.args.depot.now) c.as_str.result.now (take e.0 (certificate_text c.args.bounds.now)) q (λ same. other (same ∙ c.as_str.ensures));
+  only = search rules;
+  cause = search rules;
+  later = search rules;
+}

@@ -7,8 +7,8 @@ use Rattle.wg_encoder.specs.Gone.{HasSentUpTo, HasStopped, IsWritten}
 use Rattle.wg_encoder.proofs.OfGraph.{front, whole_front}
 use Rattle.wg_encoder.proofs.encoder.Encoder.finish.Goals as goal
 
-pub finish-requires-clause-pages : goal.finish-requires-clause-pages
-finish-requires-clause-pages g c = subst (λ (e : Encoding). e.page ≡ e.graph.nodes) (sym c.self.view_is) c.requires.done ∙ sym c.self.invariant.1
+pub finish-requires : goal.finish-requires
+finish-requires g c = subst (λ (e : Encoding). e.page ≡ e.graph.nodes) (sym c.self.view_is) c.requires.done ∙ sym c.self.invariant.1
 
 pub returns-clause-bits : goal.returns-clause-bits
 returns-clause-bits g c =

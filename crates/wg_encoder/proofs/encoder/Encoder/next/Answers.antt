@@ -1,6 +1,7 @@
 use Rattle.std.proofs.Common.{◌+◌, ◌<◌, ◌∙◌, drop, Err, sym, ap, subst, arith}
 use Rattle.std.proofs.lemmas.Result.{err_from_is_err_and}
 use Rattle.wg_graph.specs.Digraph.{IsGraph, successors}
+use Rattle.wg_grammar.specs.Context.{Context}
 use Rattle.wg_encoder.specs.Encoding.{Encoded, Encoding, HasWritten}
 use Rattle.wg_encoder.specs.Gone.{HasSentAll, HasSentUpTo}
 use Rattle.wg_encoder.proofs.Stopped.{if_err}
@@ -12,7 +13,7 @@ next-requires-clause-arcs g c =
     let is = subst (λ (e : Encoding). IsGraph e.graph) (sym c.self.view_is) c.limits.ensures in
     let here = subst (λ (e : Encoding). e.page < e.graph.nodes) (sym c.self.view_is) c.requires.more in
     let list = c.list-list.ensures.value ∙ ap (successors c.self.inside.graph.now) c.page.ensures.value in
-    arcs_fit c.self.inside.lists c.self.inside.graph.now c.list-list.result.now is here list c.self.invariant.2 c.self.invariant.3
+    arcs_fit c.self.inside.graph.now c.self.inside.lists.next.page _ _ c.list-list.result.now is here list c.self.invariant.2 (ap (λ (k : Context). k.arcs_before) c.self.invariant.3.context)
 
 pub returns-in_err-lists-clause-err : goal.returns-in_err-lists-clause-err
 returns-in_err-lists-clause-err g c t h =

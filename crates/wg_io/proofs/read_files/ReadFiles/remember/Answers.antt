@@ -1,4 +1,4 @@
-use Rattle.std.proofs.Common.{◌∙◌, ap, length, take, List, [], ◌∷◌, rules}
+use Rattle.std.proofs.Common.{◌∙◌, ap, length, take, List, rules}
 use Rattle.std.proofs.Math.Seq.{take-append_seam}
 use Rattle.wg_io.specs.declared.read_files.ReadFile.{ReadFile}
 use Rattle.wg_io.proofs.ReadFilesLemmas.{has_added}

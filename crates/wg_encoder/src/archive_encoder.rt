@@ -1,0 +1,161 @@
+//! The encoding of list after list into memory.
+ghost use Rattle.std.specs.Prelude.{◌≡◌, ℕ, ◌+◌, ◌<◌, ◌≤◌, List, [], ◌∷◌, ◌++◌, length, IfOk, IfErr, Some};
+ghost use Rattle.std.specs.FinMap as fin;
+ghost use Rattle.wg_io.specs.Suffixes.{graph_name, offsets_name};
+ghost use Rattle.wg_params.specs.Parameters.{Parameters};
+ghost use Rattle.wg_graph.specs.Digraph.{arc_count};
+ghost use Rattle.wg_encoder.specs.Archive.{encoded};
+ghost use Rattle.wg_encoder.specs.Laws.{IsList};
+ghost use Rattle.wg_encoder.specs.ArchiveInMemory.{HasEncoded};
+ghost use Rattle.wg_encoder.specs.declared.error.EncodeError.TheVariants as errors;
+
+use crate::archive::EncodedArchive;
+use crate::error::EncodeError;
+use crate::list_encoder::ListEncoder;
+use crate::summary::Summary;
+use std::alloc::{AllocError, Global};
+use std::marker::Model;
+use wg_graph::Graph;
+use wg_io::{GRAPH, OFFSETS, PROPERTIES, SteadyDepot};
+use wg_params::Params;
+
+// No call moves more bytes than this, which is as many as there may be.
+const PIECE: u64 = u64::MAX;
+
+// The name of the archive in memory.
+const NAME: &str = "";
+
+/// Encodes lists, one after the other, into an archive in memory. They are the lists of pages 0, 1 and so on, and each
+/// is handed in once.
+///
+/// It holds what a [`ListEncoder`] holds, and the bytes of the two files as far as they have come, each with room for
+/// at most twice as many. How many arcs the lists have need not be known before: the bytes are those of any number that
+/// is no less.
+#[derive(Drop)]
+pub struct ArchiveEncoder {
+    lists: ListEncoder,
+    // in memory of its own, since an encoder is moved at each list
+    files: Box<SteadyDepot>,
+}
+
+impl Model for ArchiveEncoder {
+    ghost use Rattle.std.specs.Prelude.{ℕ, List};
+    ghost use Rattle.wg_encoder.specs.ArchiveInMemory.{EncodedSoFar, so_far, HasEncoded};
+
+    ghost Value = { EncodedSoFar };
+
+    ghost view = { λ e. so_far e.lists e.files.value.files };
+
+    ghost invariant = { λ e. (lists : List (List ℕ)) × HasEncoded (so_far e.lists e.files.value.files) lists };
+}
+
+impl ArchiveEncoder {
+    /// Before the first list.
+    pub fn new(alloc: Global, params: Params) -> Result<ArchiveEncoder, AllocError>
+        ensures params { IfOk result (λ e. e.params ≡ params) }
+        ensures page { IfOk result (λ e. e.page ≡ 0) }
+        ensures arcs { IfOk result (λ e. e.arcs ≡ 0) }
+        ensures encoded { IfOk result (λ e. HasEncoded e []) }
+    {
+        let files = Box::new(alloc, empty_files(alloc)?)?;
+        let lists = ListEncoder::new(alloc, params)?;
+        Ok(ArchiveEncoder { lists, files })
+    }
+
+    /// The page whose list comes next: how many lists were encoded.
+    pub fn page(&self) -> u64
+        ensures value { result ≡ self.now.page }
+        ensures within { result ≤ self.now.params.nodes }
+    {
+        self.lists.page()
+    }
+
+    /// How many numbers the lists have that were encoded.
+    pub fn arcs(&self) -> u64
+        ensures value { result ≡ self.now.arcs }
+        ensures within { result ≤ self.now.params.arcs }
+    {
+        self.lists.arcs()
+    }
+
+    /// Encodes the list that comes next, by the reference that makes its record the shortest.
+    #[inline(always)]
+    pub fn add(mut self, list: &[u64]) -> Result<ArchiveEncoder, AllocError>
+        requires page { self.page < self.params.nodes }
+        requires list { IsList self.params list.now }
+        requires arcs { self.arcs + length list.now ≤ self.params.arcs }
+        ensures params { IfOk result (λ e. e.params ≡ self.params) }
+        ensures page { IfOk result (λ e. e.page ≡ self.page + 1) }
+        ensures arcs { IfOk result (λ e. e.arcs ≡ self.arcs + length list.now) }
+        ensures encoded { (lists : List (List ℕ)) → HasEncoded self lists
+            → IfOk result (λ e. HasEncoded e (lists ++ list.now ∷ [])) }
+    {
+        match self.lists.next(list, &mut *self.files, NAME) {
+            Ok(lists) => Ok(ArchiveEncoder {
+                lists,
+                files: self.files,
+            }),
+            Err(error) => Err(wanting(error)),
+        }
+    }
+
+    /// The archive of the lists, once those of all pages were encoded, with this properties text. It takes the memory
+    /// of the text.
+    pub fn finish(self, properties: &[u8]) -> Result<EncodedArchive, AllocError>
+        requires pages { self.page ≡ self.params.nodes }
+        ensures { (lists : List (List ℕ)) (p : Parameters) → HasEncoded self lists
+            → p ≡ record self.params { arcs = p.arcs } → IfOk result (λ a. a ≡ encoded p properties.now lists) }
+    {
+        let referring = self.lists.referring();
+        let mut depot = Box::into_inner(self.files);
+        match self.lists.finish(&mut depot, NAME) {
+            Ok(bits) => {
+                depot.put_file(PROPERTIES, properties)?;
+                let summary = Summary { bits, referring };
+                Ok(EncodedArchive { depot, summary })
+            }
+            Err(error) => Err(wanting(error)),
+        }
+    }
+}
+
+// A depot with an empty graph file and an empty offsets file.
+fn empty_files(alloc: Global) -> Result<SteadyDepot, AllocError>
+    ensures graph { IfOk result (λ depot. fin.get depot.files (graph_name []) ≡ Some []) }
+    ensures offsets { IfOk result (λ depot. fin.get depot.files (offsets_name []) ≡ Some []) }
+{
+    let mut depot = SteadyDepot::new(alloc, PIECE);
+    depot.put_file(GRAPH, b"")?;
+    depot.put_file(OFFSETS, b"")?;
+    Ok(depot)
+}
+
+// Memory alone can be wanting where the files are in memory.
+fn wanting(error: EncodeError) -> AllocError
+    requires { error ≡ errors.Memory }
+{
+    match error {
+        EncodeError::Memory => AllocError,
+        EncodeError::Failed(_) => unreachable!(),
+    }
+}
+
+/// The archive of a graph, in memory, with this properties text. Beside the graph it holds what an [`ArchiveEncoder`]
+/// holds.
+pub fn encode(
+    alloc: Global,
+    params: Params,
+    graph: &Graph,
+    properties: &[u8],
+) -> Result<EncodedArchive, AllocError>
+    requires nodes { params.nodes ≡ graph.now.nodes }
+    requires arcs { params.arcs ≡ arc_count graph.now }
+    ensures { IfOk result (λ a. a ≡ encoded params properties.now graph.now.lists) }
+{
+    let mut encoder = ArchiveEncoder::new(alloc, params)?;
+    while encoder.page() < graph.nodes() {
+        let list = graph.list(encoder.page());
+        encoder = encoder.add(list)?;
+    }
+    encoder.finish(properties)
+}
