@@ -1,11 +1,14 @@
-ghost use Rattle.std.specs.Prelude.{◌≡◌, ℕ, List, ◌+◌, ◌<◌, ◌^◌, ◌++◌, [], Some, None, length, OnOk, IfOk, IfErr, IfSome, option_to_list};
+ghost use Rattle.std.specs.Prelude.{◌≡◌, ℕ, ◌⊎◌, List as ListOf, ◌+◌, ◌<◌, ◌≤◌, ◌^◌, ◌++◌, [], Some, None, length, OnOk, IfOk, IfErr, IfSome, option_to_list};
 ghost use Rattle.wg_num.specs.Lines.{lines_of};
 ghost use Rattle.wg_arcs.specs.Reading.{arc_at, is_after, refusal_after, fault_after};
-ghost use Rattle.wg_arcs.specs.Growing.{MayCome, IsUpTo, IsRefusedLine, IsFirst, with_line};
+ghost use Rattle.wg_arcs.specs.Growing.{MayCome, IsUpTo, IsRefusedLine, IsFirst, SoFar, with_line};
+ghost use Rattle.wg_arcs.specs.Listing.{AreListed, arcs_on, later_than, on_page};
 
 use crate::plain::plain_arc;
 use crate::words::{arc, entry};
 use crate::{ArcsError, ArcsKind};
+use std::alloc::AllocError;
+use wg_graph::List;
 use wg_num::first_line;
 use wg_params::MOST_ARCS;
 
@@ -27,7 +30,7 @@ impl ArcLines {
     pub fn new(nodes: u64) -> ArcLines
         ensures nodes { result.nodes ≡ nodes }
         ensures line { result.line ≡ 0 }
-        ensures none { (all : List (List ℕ)) → IsUpTo all all [] result }
+        ensures none { (all : ListOf (ListOf ℕ)) → IsUpTo all all [] result }
     {
         ArcLines {
             nodes,
@@ -67,6 +70,7 @@ impl ArcLines {
         ensures fine { OnOk result (refusal_after self.old.nodes self.old.last self.old.arcs (Some (u, v)) ≡ None) }
         ensures comes { OnOk result (MayCome self.old.nodes self.old.last self.old.arcs (u, v)) }
         ensures ok { OnOk result (self.new ≡ with_line self.old (Some (u, v))) }
+        ensures nodes { self.new.nodes ≡ self.old.nodes }
         ensures err { IfErr result (IsRefusedLine (self.old.line + 1)
             (refusal_after self.old.nodes self.old.last self.old.arcs (Some (u, v)))) }
     {
@@ -93,6 +97,7 @@ impl ArcLines {
         ensures comes { IfOk result (λ arc. IfSome arc (MayCome self.old.nodes self.old.last self.old.arcs)) }
         ensures arc { IfOk result (λ arc. arc ≡ arc_at text.now) }
         ensures ok { IfOk result (λ arc. self.new ≡ with_line self.old arc) }
+        ensures nodes { self.new.nodes ≡ self.old.nodes }
         ensures err { IfErr result (IsRefusedLine (self.old.line + 1)
             (fault_after self.old.nodes self.old.last self.old.arcs text.now)) }
     {
@@ -118,14 +123,15 @@ impl ArcLines {
     fn read_any<'a>(&mut self, bytes: &'a [u8]) -> Result<(Option<(u64, u64)>, &'a [u8]), ArcsError>
         requires some { 0 < length bytes.now }
         requires line { self.old.line + 1 < 2 ^ 64 }
-        ensures nodes { OnOk result (self.new.nodes ≡ self.old.nodes) }
+        ensures nodes { self.new.nodes ≡ self.old.nodes }
         ensures line { OnOk result (self.new.line ≡ self.old.line + 1) }
+        ensures ok { IfOk result (λ r. self.new ≡ with_line self.old r.0) }
         ensures shorter { IfOk result (λ r. length r.1.now < length bytes.now) }
         ensures comes { IfOk result (λ r. IfSome r.0 (MayCome self.old.nodes self.old.last self.old.arcs)) }
-        ensures read { (all later : List (List ℕ)) (arcs : List (ℕ × ℕ))
+        ensures read { (all later : ListOf (ListOf ℕ)) (arcs : ListOf (ℕ × ℕ))
             → IsUpTo all (lines_of bytes.now ++ later) arcs self.old
             → IfOk result (λ r. IsUpTo all (lines_of r.1.now ++ later) (arcs ++ option_to_list r.0) self.new) }
-        ensures fault { (all later : List (List ℕ)) (arcs : List (ℕ × ℕ))
+        ensures fault { (all later : ListOf (ListOf ℕ)) (arcs : ListOf (ℕ × ℕ))
             → IsUpTo all (lines_of bytes.now ++ later) arcs self.old → IfErr result (IsFirst self.old.nodes all) }
     {
         let (text, after) = first_line(bytes);
@@ -143,14 +149,15 @@ impl ArcLines {
     ) -> Result<(Option<(u64, u64)>, &'a [u8]), ArcsError>
         requires some { 0 < length bytes.now }
         requires line { self.old.line + 1 < 2 ^ 64 }
-        ensures nodes { OnOk result (self.new.nodes ≡ self.old.nodes) }
+        ensures nodes { self.new.nodes ≡ self.old.nodes }
         ensures line { OnOk result (self.new.line ≡ self.old.line + 1) }
+        ensures ok { IfOk result (λ r. self.new ≡ with_line self.old r.0) }
         ensures shorter { IfOk result (λ r. length r.1.now < length bytes.now) }
         ensures comes { IfOk result (λ r. IfSome r.0 (MayCome self.old.nodes self.old.last self.old.arcs)) }
-        ensures read { (all later : List (List ℕ)) (arcs : List (ℕ × ℕ))
+        ensures read { (all later : ListOf (ListOf ℕ)) (arcs : ListOf (ℕ × ℕ))
             → IsUpTo all (lines_of bytes.now ++ later) arcs self.old
             → IfOk result (λ r. IsUpTo all (lines_of r.1.now ++ later) (arcs ++ option_to_list r.0) self.new) }
-        ensures fault { (all later : List (List ℕ)) (arcs : List (ℕ × ℕ))
+        ensures fault { (all later : ListOf (ListOf ℕ)) (arcs : ListOf (ℕ × ℕ))
             → IsUpTo all (lines_of bytes.now ++ later) arcs self.old → IfErr result (IsFirst self.old.nodes all) }
     {
         match plain_arc(bytes) {
@@ -160,5 +167,63 @@ impl ArcLines {
             }
             None => self.read_any(bytes),
         }
+    }
+    /// Reads lines of a text up to the first arc of a page after this one, or to its end. The numbers of the arcs of
+    /// this page go to the end of its list. Gives that arc, if it came to one, and the text after it.
+    #[inline(always)]
+    pub fn fill<'a>(
+        &mut self,
+        page: u64,
+        list: &mut List,
+        text: &'a [u8],
+    ) -> Result<(Option<(u64, u64)>, &'a [u8]), ArcsError>
+        requires { self.old.line + length text.now < 2 ^ 64 }
+        ensures nodes { self.new.nodes ≡ self.old.nodes }
+        ensures line { IfOk result (λ r. self.new.line + length r.1.now ≤ self.old.line + length text.now) }
+        ensures shorter { IfOk result (λ r. 0 < length text.now → length r.1.now < length text.now) }
+        ensures listed { (done : ListOf (ListOf ℕ)) → length done ≡ page → AreListed done list.old None self.old
+            → IfOk result (λ r. AreListed done list.new r.0 self.new) }
+        ensures read { (done all later : ListOf (ListOf ℕ)) → length done ≡ page
+            → AreListed done list.old None self.old
+            → SoFar self.old.nodes all (lines_of text.now ++ later) self.old.line (arcs_on done list.old)
+            → IfOk result (λ r. SoFar self.old.nodes all (lines_of r.1.now ++ later) self.new.line
+            (arcs_on done list.new ++ option_to_list r.0)) }
+        ensures fault { (done all later : ListOf (ListOf ℕ)) → length done ≡ page
+            → AreListed done list.old None self.old
+            → SoFar self.old.nodes all (lines_of text.now ++ later) self.old.line (arcs_on done list.old)
+            → IfErr result (λ e. (e ≡ ArcsError.Memory) ⊎ IsFirst self.old.nodes all e) }
+    {
+        let mut rest = text;
+        'lines: while !rest.is_empty() {
+            let (arc, after) = self.read_first(rest)?;
+            rest = after;
+            let next = put(list, page, arc)?;
+            if next.is_some() {
+                return Ok((next, rest));
+            }
+        }
+        Ok((None, rest))
+    }
+}
+
+// Puts the number of an arc of this page at the end of its list, and gives an arc of a later page back.
+#[inline(always)]
+fn put(
+    list: &mut List,
+    page: u64,
+    arc: Option<(u64, u64)>,
+) -> Result<Option<(u64, u64)>, AllocError>
+    ensures list { OnOk result (list.new ≡ list.old ++ on_page page arc) }
+    ensures later { IfOk result (λ next. next ≡ later_than page arc) }
+{
+    match arc {
+        Some((u, v)) => {
+            if page < u {
+                return Ok(Some((u, v)));
+            }
+            list.push(v)?;
+            Ok(None)
+        }
+        None => Ok(None),
     }
 }
