@@ -2,6 +2,8 @@ pub mod BuildingLemmas
 pub mod BulkLemmas
 pub mod FileSteps
 pub mod ImportJobs
+pub mod ListedJobs
+pub mod ListingLemmas
 pub mod LoadedLemmas
 pub mod QuotientJobs
 pub mod RecodedLemmas

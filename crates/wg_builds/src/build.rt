@@ -5,17 +5,18 @@ ghost use Rattle.wg_params.specs.declared.limits.TheConstants.{MOST_PAGES};
 ghost use Rattle.wg_words.specs.declared.jobs.Job.TheVariants.{Build};
 ghost use Rattle.wg_outcomes.specs.Performs.{DoesOrEnds};
 
-use crate::building::build_graph;
+use crate::building::build_archive;
+use crate::listing::encode_list;
 use std::alloc::Global;
 use wg_io::{Depot, Sink};
 use wg_outcomes::Ending;
 use wg_params::Layout;
-use wg_readings::load_list;
 use wg_words::Name;
 
-/// Writes the greedy archive of a graph that is listed arc by arc, and prints the line of what it holds. It judges
-/// the whole list before it touches a file, and holds its bytes until then; then it holds 8 bytes an arc and 8 a
-/// page for the graph, one record, and buffers of 8192 bytes.
+/// Writes the greedy archive of a graph that is listed arc by arc, and prints the line of what it holds. It goes through
+/// the list once, and judges all of it before it touches a file. It holds up to 65536 bytes of the list and the line
+/// that they cut, the list of one page, and the archive, in most graphs little more than a byte an arc and two a page,
+/// and up to twice that while it grows.
 pub fn build<D: Depot, O: Sink>(
     alloc: Global,
     arcs: &Name,
@@ -30,6 +31,6 @@ pub fn build<D: Depot, O: Sink>(
     ensures { DoesOrEnds ⟦<D as Depot>⟧ ⟦<O as Sink>⟧ (Build arcs.now base.now nodes layout.now)
         depot.old depot.new out.old out.new result }
 {
-    let graph = load_list(alloc, nodes, depot, arcs)?;
-    build_graph(alloc, layout, &graph, base, depot, out)
+    let (params, archive) = encode_list(alloc, nodes, layout, depot, arcs)?;
+    build_archive(alloc, &params, &archive, base, depot, out)
 }

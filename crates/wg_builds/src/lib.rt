@@ -33,6 +33,7 @@ pub mod bulk;
 mod encoding;
 mod generated;
 pub mod import;
+mod listing;
 mod loaded;
 pub mod quotient;
 pub mod recode;

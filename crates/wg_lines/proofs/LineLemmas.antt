@@ -7,7 +7,7 @@ use Rattle.std.proofs.lemmas.List.Edits.{take-paste}
 use Rattle.std.proofs.lemmas.List.Splits.{length-slice_split}
 use Rattle.wg_num.specs.Lines.{lines_of, without_empty_end}
 use Rattle.wg_num.proofs.Cuts.{is_end, not_the_end, no_lines}
-use Rattle.wg_lines.specs.Reading.{Held, end_of, lines_ahead, IsWhole}
+use Rattle.wg_lines.specs.Reading.{Held, end_of, lines_after, lines_ahead, IsWhole}
 
 -- ---- lines behind whole lines
 
@@ -61,12 +61,11 @@ front_dropped bytes k few =
     ∙ take_all n (drop k bytes) (omega (arith, length-drop k bytes))
 
 -- the lines that were lent are passed
-pub passed_ahead : (file : List ℕ) (g h : Held) → h ≡ record g { first = g.first + length g.lines; lines = [] } → lines_ahead file g ≡ lines_of g.lines ++ lines_ahead file h
+pub passed_ahead : (file : List ℕ) (g h : Held) → h ≡ record g { first = g.first + length g.lines; lines = [] } → lines_after file g ≡ lines_ahead file h
 passed_ahead file g h is =
     let end : end_of g ≡ g.first + length g.lines + 0 + length g.rest = omega arith in
     let rest : List ℕ = g.rest ++ drop (g.first + length g.lines + 0 + length g.rest) file in
-    ap (λ (n : ℕ). lines_of g.lines ++ lines_of (g.rest ++ drop n file)) end ∙ ap (λ (l : List (List ℕ)). lines_of g.lines ++ (l ++ lines_of rest)) (sym (none_of [] refl))
-    ∙ ap (λ (x : Held). lines_of g.lines ++ lines_ahead file x) (sym is)
+    ap (λ (n : ℕ). lines_of (g.rest ++ drop n file)) end ∙ ap (λ (l : List (List ℕ)). l ++ lines_of rest) (sym (none_of [] refl)) ∙ ap (λ (x : Held). lines_ahead file x) (sym is)
 
 -- nothing was read that is not lent
 all_lent : (file : List ℕ) (h : Held) → h.rest ≡ [] → length file ≤ end_of h → lines_ahead file h ≡ lines_of h.lines
@@ -101,8 +100,7 @@ held_ahead file g h piece count none first bytes whole size is =
     ∙ ap (λ (l : List (List ℕ)). l ++ lines_of (g.rest ++ drop (end_of g) file)) (sym (none_of g.lines none))
 
 -- before the first piece
-pub all_ahead : (file : List ℕ) (h : Held) → h.first ≡ 0 → h.lines ≡ [] → h.rest ≡ [] → lines_ahead file h ≡ lines_of file
-all_ahead file h first lines rest =
+pub all_after : (file : List ℕ) (h : Held) → h.first ≡ 0 → h.lines ≡ [] → h.rest ≡ [] → lines_after file h ≡ lines_of file
+all_after file h first lines rest =
     let end : end_of h ≡ 0 = omega (arith, first, ap length lines, ap length rest) in
-    ap (λ (l : List (List ℕ)). l ++ lines_of (h.rest ++ drop (end_of h) file)) (none_of h.lines lines)
-    ∙ ap (λ (l : List ℕ). lines_of (l ++ drop (end_of h) file)) rest ∙ ap (λ (n : ℕ). lines_of (drop n file)) end
+    ap (λ (l : List ℕ). lines_of (l ++ drop (end_of h) file)) rest ∙ ap (λ (n : ℕ). lines_of (drop n file)) end

@@ -14,9 +14,13 @@ pub record Held : Type 0 where
 abbrev pub end_of : Held → ℕ
 end_of h = h.first + length h.lines + length h.rest
 
--- the lines of a file that are lent, and all that come after them
+-- the lines of a file that come after those that are lent
+abbrev pub lines_after : List ℕ → Held → List (List ℕ)
+lines_after file h = lines_of (h.rest ++ drop (end_of h) file)
+
+-- those that are lent, and all that come after them
 abbrev pub lines_ahead : List ℕ → Held → List (List ℕ)
-lines_ahead file h = lines_of h.lines ++ lines_of (h.rest ++ drop (end_of h) file)
+lines_ahead file h = lines_of h.lines ++ lines_after file h
 
 -- there is a file, and it has no more bytes than are read
 abbrev pub IsReadable : Option (List ℕ) → Type 0

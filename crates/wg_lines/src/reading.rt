@@ -5,7 +5,7 @@ ghost use Rattle.wg_io.specs.declared.limits.TheConstants.{MOST_BYTES};
 ghost use Rattle.wg_io.specs.Outside.{NonDecreasing, Increased};
 ghost use Rattle.wg_io.specs.Reads.{Loads};
 ghost use Rattle.wg_num.specs.Lines.{lines_of};
-ghost use Rattle.wg_lines.specs.Reading.{end_of, lines_ahead, IsReadable, IsWhole};
+ghost use Rattle.wg_lines.specs.Reading.{end_of, lines_after, lines_ahead, IsReadable, IsWhole};
 
 use std::alloc::{AllocError, Global};
 use std::marker::Model;
@@ -86,7 +86,7 @@ impl LineReader {
     /// A reading of the file of this name, before its first line. It asks for the byte at the limit, so that a file
     /// that is too long is refused before any of it is held; it takes no memory yet.
     pub fn open<D: Depot>(alloc: Global, depot: &mut D, name: &str) -> Result<LineReader, LoadError>
-        ensures ahead { IfOk result (λ r. (file : List ℕ) → lines_ahead file r ≡ lines_of file) }
+        ensures all { IfOk result (λ r. (file : List ℕ) → lines_after file r ≡ lines_of file) }
         ensures none { IfOk result (λ r. r.lines ≡ []) }
         ensures first { IfOk result (λ r. r.first ≡ 0) }
         ensures readable { IsTrue D.told → OnOk result (IsReadable (map.get (D.files depot.old) name.now)) }
@@ -194,9 +194,9 @@ impl LineReader {
     /// that a later call goes on where this one stopped. The file is to be the one that was opened.
     pub fn advance<D: Depot>(&mut self, depot: &mut D, name: &str) -> Result<bool, LoadError>
         ensures lines { IsTrue D.told → (file : List ℕ) → map.get (D.files depot.old) name.now ≡ Some file
-            → lines_ahead file self.old ≡ lines_of self.old.lines ++ lines_ahead file self.new }
+            → lines_after file self.old ≡ lines_of self.new.lines ++ lines_after file self.new }
         ensures end { IsTrue D.told → (file : List ℕ) → map.get (D.files depot.old) name.now ≡ Some file
-            → result ≡ Ok false → lines_ahead file self.new ≡ [] }
+            → result ≡ Ok false → lines_after file self.old ≡ [] }
         ensures some { result ≡ Ok true → 0 < length self.new.lines }
         ensures none { result ≡ Ok false → self.new.lines ≡ [] }
         ensures first { self.new.first ≡ self.old.first + length self.old.lines }

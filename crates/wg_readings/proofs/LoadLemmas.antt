@@ -1,5 +1,5 @@
 -- A file that is read whole, and then judged.
-use Rattle.std.proofs.Common.{◌≡◌, ◌∙◌, ◌⊎◌, inl, inr, ℕ, Bool, List, Option, Some, Result, Ok, Err, refl, sym, ap, subst}
+use Rattle.std.proofs.Common.{◌≡◌, ◌∙◌, inl, inr, ℕ, Bool, List, Option, Some, Result, Ok, Err, refl, sym, ap, subst}
 use Rattle.std.specs.Bool.{IsTrue}
 use Rattle.std.specs.Result.{IfErr, IfOk, IsErrAnd}
 use Rattle.wg_io.specs.Outside.{Files, Counts}
@@ -7,19 +7,18 @@ use Rattle.wg_io.proofs.FilesLemmas.{none_falls-refl}
 use Rattle.wg_io.proofs.PutsLemmas.{is_that_err}
 use Rattle.wg_params.specs.Parameters.{Parameters}
 use Rattle.wg_graph.specs.Digraph.{Digraph}
-use Rattle.wg_arcs.specs.declared.fault.ArcsKind.{ArcsKind}
 use Rattle.wg_properties.specs.Judged.{properties_of}
 use Rattle.wg_properties.specs.declared.fault.PropFault.{PropFault}
 use Rattle.wg_outcomes.specs.Answers.{Answers, IsHindrance, Steps}
 use Rattle.wg_outcomes.specs.Judged.{Judged, with_digraph, with_file, with_list, with_parameters}
 use Rattle.wg_readings.specs.Loading.{Loads, LoadsGraph, LoadsList, LoadsParams, Reads}
-use Rattle.wg_outcomes.specs.Names.{IsOfInput, file_of, held_by, list_named}
+use Rattle.wg_outcomes.specs.Names.{file_of, held_by, list_named}
 use Rattle.wg_outcomes.specs.Promised.{IsBadFile}
 use Rattle.wg_outcomes.specs.Readings.{Readings}
 use Rattle.wg_outcomes.specs.declared.ending.Ending.{Ending}
 use Rattle.wg_outcomes.specs.declared.status.Input.{Input}
 use Rattle.wg_outcomes.specs.declared.status.Input.TheVariants.{Properties, Graph, ArcList}
-use Rattle.wg_outcomes.specs.declared.status.Status.TheVariants.{Memory, BadArcs, BadProperties}
+use Rattle.wg_outcomes.specs.declared.status.Status.TheVariants.{Memory, BadProperties}
 use Rattle.wg_outcomes.proofs.Statuses.{IsOwn, bad_own, own_caused}
 
 -- memory was out before the file was asked for
@@ -48,34 +47,6 @@ module _ (name : List ℕ) (n : ℕ) (td : Bool) (files files' : Files) (counts 
         same = l.same;
         later = l.later;
       })
-
-  pub list_loaded : (bytes slice : List ℕ) → slice ≡ bytes → Loads (list_named name) ArcList td files files' counts counts' (Ok bytes) → (r : Result Digraph Ending) → ((q : Readings) → Steps (with_list q n slice) r)
-      → IfErr r (λ e. (e.status ≡ Memory) ⊎ ((line : ℕ) × (kind : ArcsKind) × (e.status ≡ BadArcs line kind))) → IfOk r (λ g. g.nodes ≡ n) → LoadsList name n td files files' counts counts' r
-  list_loaded bytes slice is l (Ok g) steps only nodes = record {
-    steps = λ t q next. l.steps t (λ b. with_list q n b next) ∙ ap (λ (b : List ℕ). with_list q n b next) (sym is) ∙ steps q next;
-    only = tt;
-    nodes = nodes;
-    causes = l.causes;
-    same = l.same;
-    later = l.later;
-  }
-  list_loaded bytes slice is l (Err e) steps only nodes = record {
-    steps = λ t q next.
-        subst (λ (j : Judged). Answers j e.status) (sym (l.steps t (λ b. with_list q n b next) ∙ ap (λ (b : List ℕ). with_list q n b next) (sym is))) (steps q next);
-    only = of_list only;
-    nodes = tt;
-    causes = own_caused _ _ _ _ _ _ e.status (own_list only);
-    same = l.same;
-    later = l.later;
-  }
-    where
-      of_list : ((e.status ≡ Memory) ⊎ ((line : ℕ) × (kind : ArcsKind) × (e.status ≡ BadArcs line kind))) → IsOfInput ArcList e.status ⊎ ((line : ℕ) × (kind : ArcsKind) × (e.status ≡ BadArcs line kind))
-      of_list (inl want) = inl (inl want)
-      of_list (inr fault) = inr fault
-
-      own_list : ((e.status ≡ Memory) ⊎ ((line : ℕ) × (kind : ArcsKind) × (e.status ≡ BadArcs line kind))) → IsOwn e.status
-      own_list (inl want) = subst IsOwn (sym want) tt
-      own_list (inr fault) = subst IsOwn (sym fault.2) tt
 
 module _ (base : List ℕ) (td : Bool) (files files' : Files) (counts counts' : List ℕ → Counts) where
   -- ---- the parameters

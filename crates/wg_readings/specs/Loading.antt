@@ -3,6 +3,8 @@ use Rattle.std.specs.Prelude.{◌≡◌, ◌⊎◌, ℕ, ◌+◌, ◌≤◌, Boo
 use Rattle.wg_io.specs.Outside.{Files, Counts, NonDecreasing}
 use Rattle.wg_io.specs.declared.depot.Depot as depot
 use Rattle.wg_io.specs.declared.limits.TheConstants.{MOST_BYTES}
+use Rattle.wg_io.specs.declared.whole.LoadError.{LoadError}
+use Rattle.wg_io.specs.declared.whole.LoadError.TheVariants as load
 use Rattle.wg_params.specs.Parameters.{Parameters, IsWithinLimits}
 use Rattle.wg_properties.specs.Judged.{properties_of}
 use Rattle.wg_properties.specs.declared.fault.PropFault.{PropFault}
@@ -26,7 +28,8 @@ use Rattle.wg_outcomes.specs.Readings.{Readings}
 use Rattle.wg_outcomes.specs.declared.ending.Ending.{Ending}
 use Rattle.wg_outcomes.specs.declared.status.Input.{Input}
 use Rattle.wg_outcomes.specs.declared.status.Input.TheVariants as input
-use Rattle.wg_outcomes.specs.declared.status.Status.TheVariants.{BadArcs, BadCertificate, BadMap, BadProperties, BadText, BadWeights}
+use Rattle.wg_outcomes.specs.declared.status.Status.{Status}
+use Rattle.wg_outcomes.specs.declared.status.Status.TheVariants.{BadArcs, BadCertificate, BadMap, BadProperties, BadText, BadWeights, Memory, Missing, OverLimit, ReadFault}
 use Rattle.wg_outcomes.specs.declared.status.WeightsFault.{WeightsFault}
 
 -- A file of this name was read whole, as this input.
@@ -41,6 +44,13 @@ pub record Loads (names : Input → Option (List ℕ)) (i : Input) (told : Bool)
   pub same : files' ≡ files
   pub later : NonDecreasing counts counts'
   pub short : IfOk result (λ bytes. length bytes ≤ MOST_BYTES)
+
+-- how a job ends at an error of an input
+abbrev pub status_at : Input → LoadError → Status
+status_at i load.Absent = Missing i
+status_at i load.Failed = ReadFault i
+status_at i load.TooLong = OverLimit i
+status_at i load.Memory = Memory
 
 -- goes on with the parameters that the properties file gives
 abbrev pub params_then : Option (List ℕ) → (Parameters → Judged) → Judged
@@ -113,7 +123,7 @@ pub record LoadsOffsets (base : List ℕ) (p : Parameters) (told : Bool) (files 
   pub goes : IsTrue told → (r : Readings) → Steps (offsets_then r p (held_by (file_of base) files input.Offsets)) result
   pub count : IfOk result (λ places. length places ≡ p.nodes + 1)
 
--- The graph of so many pages that an arc list holds was read whole, or the job ends at the list.
+-- The graph of so many pages that an arc list holds was read, or the job ends at the list.
 pub record LoadsList (name : List ℕ) (n : ℕ) (told : Bool) (files files' : Files) (counts counts' : List ℕ → Counts) (result : Result Digraph Ending) : Type 0 where
   pub steps : IsTrue told → (r : Readings) → Steps (with_arcs r n (held_by (list_named name) files)) result
   pub only : IfErr result (λ e. IsOfInput input.ArcList e.status ⊎ ((line : ℕ) × (kind : ArcsKind) × (e.status ≡ BadArcs line kind)))
@@ -206,9 +216,6 @@ JudgesOffsetsBy d base p places before after result =
 
 abbrev pub LoadsOffsetsBy : {D : Type 0} → depot.Ghosts D → List ℕ → Parameters → D → D → Result (List ℕ) Ending → Type 0
 LoadsOffsetsBy d base p before after result = LoadsOffsets base p d.told (d.files before) (d.files after) (d.counts before) (d.counts after) result
-
-abbrev pub LoadsListBy : {D : Type 0} → depot.Ghosts D → List ℕ → ℕ → D → D → Result Digraph Ending → Type 0
-LoadsListBy d name n before after result = LoadsList name n d.told (d.files before) (d.files after) (d.counts before) (d.counts after) result
 
 abbrev pub LoadsTextBy : {D : Type 0} → depot.Ghosts D → List ℕ → D → D → Result Digraph Ending → Type 0
 LoadsTextBy d name before after result = LoadsText name d.told (d.files before) (d.files after) (d.counts before) (d.counts after) result

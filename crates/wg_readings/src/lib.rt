@@ -1,13 +1,15 @@
-//! The files of an archive, arc lists, plain texts, weights, certificates and maps, as a job reads them: each is read
-//! and judged, and the job goes on with what it holds, or ends.
+//! The files of an archive, plain texts, weights, certificates and maps, as a job reads them: each is read and judged,
+//! and the job goes on with what it holds, or ends.
 //!
-//! [`load_params`], [`load_graph`], [`load_offsets`], [`load_list`], [`load_text`], [`load_weights`],
-//! [`load_certificate`] and [`load_map`] read a file whole; [`judge_graph`], [`judge_files`] and [`judge_offsets`] go
-//! through the files in pieces, and so do [`open_graph`], [`next_record`] and [`end_records`], record by record.
-//! [`passed_of_graph`] finds where the records of a graph file are, and [`lists_of_records`] decodes their lists, as
-//! often as one likes. Each promises that it is a step of a judgement (`Judged`): it either yields a value or ends the
-//! job with a [`Status`](wg_outcomes::Status), and later inputs do not matter, unless running out of memory or a fault
-//! of the outside came in its place (`Steps`). A fault or an absence is reported only where its count rose, and no file
+//! [`load_params`], [`load_graph`], [`load_offsets`], [`load_text`], [`load_weights`], [`load_certificate`] and
+//! [`load_map`] read a file whole; [`judge_graph`], [`judge_files`] and [`judge_offsets`] go through the files in pieces,
+//! and so do [`open_graph`], [`next_record`] and [`end_records`], record by record. [`passed_of_graph`] finds where the
+//! records of a graph file are, and [`lists_of_records`] decodes their lists, as often as one likes. [`open_lines`] and
+//! [`next_lines`] lend the lines of a file, which the caller judges.
+//!
+//! Each promises that it is a step of a judgement (`Judged`): it either yields a value or ends the job with a
+//! [`Status`](wg_outcomes::Status), and later inputs do not matter, unless running out of memory or a fault of the
+//! outside came in its place (`Steps`). A fault or an absence is reported only where its count rose, and no file
 //! changes. Which steps a job takes, and what it prints and writes, is said in `wg_outcomes`; the lemmas here on steps
 //! of jobs are what the commands are proved by.
 //!
@@ -39,7 +41,7 @@ mod archive;
 mod claims;
 mod classes;
 mod judge;
-mod listed;
+mod lines;
 mod loading;
 mod pairing;
 mod plain;
@@ -48,8 +50,9 @@ mod weights;
 
 pub use archive::{find_pages, lists_of_records, passed_of_graph};
 pub use judge::{judge_files, judge_graph, judge_offsets};
+pub use lines::{next_lines, open_lines};
 pub use loading::{
-    load, load_certificate, load_graph, load_list, load_map, load_offsets, load_params, load_text,
+    load, load_certificate, load_graph, load_map, load_offsets, load_params, load_text,
     load_weights,
 };
 pub use records::{end_records, next_record, open_graph};

@@ -1,7 +1,7 @@
-//! Files that are read whole and judged: those of an archive, arc lists, plain texts, weights, certificates and maps.
+//! Files that are read whole and judged: those of an archive, plain texts, weights, certificates and maps.
 ghost use Rattle.std.specs.Prelude.{◌≡◌, ◌≤◌, ℕ, List, Option, IsSome, Some};
 ghost use Rattle.wg_params.specs.declared.limits.TheConstants.{MOST_PAGES};
-ghost use Rattle.wg_readings.specs.Loading.{LoadsBy, LoadsCertificateBy, LoadsGraphBy, LoadsListBy, LoadsOffsetsBy, LoadsParamsBy};
+ghost use Rattle.wg_readings.specs.Loading.{LoadsBy, LoadsCertificateBy, LoadsGraphBy, LoadsOffsetsBy, LoadsParamsBy};
 ghost use Rattle.wg_readings.specs.Loading.{LoadsMapBy, LoadsTextBy, LoadsWeightsBy};
 ghost use Rattle.wg_outcomes.specs.Names.{file_of, suffix_of};
 ghost use Rattle.wg_outcomes.specs.declared.status.Input.{Input};
@@ -9,14 +9,14 @@ ghost use Rattle.wg_outcomes.specs.declared.status.Input.{Input};
 use crate::archive::{graph_of_records, offsets_of_file, parameters};
 use crate::claims::claim_of_text;
 use crate::classes::classes_of_text;
-use crate::listed::graph_of_list;
+use crate::lines::unread;
 use crate::plain::graph_of_text;
 use crate::weights::weights_of_text;
 use std::alloc::Global;
 use wg_graph::{Graph, List as Numbers};
-use wg_io::{Depot, List8, LoadError, read_whole};
+use wg_io::{Depot, List8, read_whole};
 use wg_offsets::Offsets;
-use wg_outcomes::{Ending, Input, Status, file_name, suffix};
+use wg_outcomes::{Ending, Input, file_name, suffix};
 use wg_params::Params;
 use wg_rank::Certificate;
 use wg_words::Name;
@@ -33,10 +33,7 @@ pub fn load_file<D: Depot>(
 {
     match read_whole(alloc, depot, name) {
         Ok(bytes) => Ok(bytes),
-        Err(LoadError::Absent) => Err(Ending::of(Status::Missing(input))),
-        Err(LoadError::Failed) => Err(Ending::of(Status::ReadFault(input))),
-        Err(LoadError::TooLong) => Err(Ending::of(Status::OverLimit(input))),
-        Err(LoadError::Memory) => Err(Ending::of(Status::Memory)),
+        Err(error) => Err(unread(error, input)),
     }
 }
 
@@ -90,21 +87,6 @@ pub fn load_offsets<D: Depot>(
 {
     let bytes = load(alloc, depot, base, Input::Offsets)?;
     offsets_of_file(alloc, params, bytes.as_slice())
-}
-
-/// Reads the graph of so many pages that an arc list holds. Beside the graph it holds the bytes of the list, until
-/// it is read.
-pub fn load_list<D: Depot>(
-    alloc: Global,
-    nodes: u64,
-    depot: &mut D,
-    name: &Name,
-) -> Result<Graph, Ending>
-    requires { nodes ≤ MOST_PAGES }
-    ensures { LoadsListBy ⟦<D as Depot>⟧ name.now nodes depot.old depot.new result }
-{
-    let bytes = load_file(alloc, depot, name.as_str(), Input::ArcList)?;
-    graph_of_list(alloc, bytes.as_slice(), nodes)
 }
 
 /// Reads the graph that a plain text holds. Beside the graph it holds the bytes of the text, until it is read.

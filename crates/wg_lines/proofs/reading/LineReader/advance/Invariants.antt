@@ -1,9 +1,8 @@
-use Rattle.std.proofs.Common.{length, ◌-◌, ◌+◌, ◌≡◌, ◌≤◌, ◌++◌, List, ℕ, IsTrue, Some}
+use Rattle.std.proofs.Common.{length, ◌-◌, ◌+◌, ◌≡◌, ◌≤◌, List, ℕ, IsTrue, Some}
 use Rattle.std.specs.FinMap as map
 use Rattle.wg_io.specs.Outside.{NonDecreasing}
 use Rattle.wg_io.specs.declared.limits.TheConstants.{MOST_BYTES}
-use Rattle.wg_num.specs.Lines.{lines_of}
-use Rattle.wg_lines.specs.Reading.{end_of, lines_ahead}
+use Rattle.wg_lines.specs.Reading.{end_of, lines_after, lines_ahead}
 use Rattle.wg_lines.proofs.reading.LineReader.advance.Given as goal
 
 -- nothing was passed but the lines that were lent before
@@ -11,7 +10,7 @@ abbrev pub invariant-loop-self : goal.invariant-loop-self
 invariant-loop-self g l = let d = g.D.Depot in record {
   first : l.self.first ≡ l.fn.self.first + length l.fn.self.lines;
   short : end_of l.self ≤ MOST_BYTES;
-  lines : IsTrue d.told → (file : List ℕ) → map.get (d.files l.fn.depot) l.name ≡ Some file → lines_ahead file l.fn.self ≡ lines_of l.fn.self.lines ++ lines_ahead file l.self;
+  lines : IsTrue d.told → (file : List ℕ) → map.get (d.files l.fn.depot) l.name ≡ Some file → lines_after file l.fn.self ≡ lines_ahead file l.self;
   same : d.files l.depot ≡ d.files l.fn.depot;
   later : NonDecreasing (d.counts l.fn.depot) (d.counts l.depot);
 }

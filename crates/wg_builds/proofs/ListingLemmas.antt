@@ -1,0 +1,108 @@
+-- Lists that are encoded as they come.
+use Rattle.std.proofs.Common.{◌≡◌, ◌⊎◌, inl, inr, ℕ, ◌+◌, ◌-◌, ◌<◌, ◌≤◌, List, [], ◌∷◌, ◌++◌, length, take, replicate, Option, Some, None, Result, sym, ap, subst, ◌∙◌, arith, append_assoc, append-nil, length-append}
+use Rattle.std.specs.Prelude.{IfSome, option_to_list}
+use Rattle.std.proofs.lemmas.List.{length_push, replicate_more, take_all, take_at}
+use Rattle.std.proofs.lemmas.List.Sums.{sum_by-append, sum_by-cons}
+use Rattle.std.proofs.lemmas.Result.{IfOk-weaker}
+use Rattle.std.specs.Result.{IfOk}
+use Rattle.wg_params.specs.declared.limits.TheConstants.{MOST_ARCS}
+use Rattle.wg_graph.specs.Growing.{padded}
+use Rattle.wg_graph.specs.Ascending.{Below}
+use Rattle.wg_graph.proofs.Arcs.{length-arcs_from}
+use Rattle.wg_graph.proofs.Prefixes.{length-padded}
+use Rattle.wg_params.specs.Parameters.{Parameters}
+use Rattle.wg_arcs.specs.Growing.{IsFirst}
+use Rattle.wg_arcs.specs.declared.fault.ArcsError.{ArcsError}
+use Rattle.wg_arcs.specs.declared.fault.ArcsError.TheVariants as error
+use Rattle.wg_arcs.specs.Listing.{AreListed, arcs_on}
+use Rattle.wg_arcs.specs.declared.arc_lines.ArcLines.{ArcLines}
+use Rattle.wg_arcs.proofs.ListedLemmas.{next_page}
+use Rattle.wg_arcs.proofs.Order.{Arc}
+use Rattle.wg_encoder.specs.ArchiveInMemory.{EncodedSoFar, HasEncoded}
+use Rattle.wg_encoder.specs.Laws.{IsList}
+use Rattle.wg_outcomes.specs.declared.ending.Ending.{Ending}
+use Rattle.wg_outcomes.specs.declared.status.Status.{Status}
+use Rattle.wg_builds.specs.Listed.{EndsAtLine, IsOfList, IsUnderWay, done_at, list_at, status_of_list}
+
+-- one empty list more
+pub padded_more : (n : ℕ) (lists : List (List ℕ)) → length lists ≤ n → padded n lists ++ [] ∷ [] ≡ padded (n + 1) lists
+padded_more n lists le =
+    let k : ℕ = n - length lists in
+    let more : k + 1 ≡ n + 1 - length lists = omega arith in
+    append_assoc lists (replicate k []) ([] ∷ []) ∙ ap (λ (l : List (List ℕ)). lists ++ l) (replicate_more k []) ∙ ap (λ (m : ℕ). lists ++ replicate m []) more
+
+padded_none : (n : ℕ) (lists : List (List ℕ)) → n ≤ length lists → padded n lists ≡ lists
+padded_none n lists le = let none : n - length lists ≡ 0 = omega arith in ap (λ (m : ℕ). lists ++ replicate m []) none ∙ append-nil lists
+
+pub padded_all : (n : ℕ) (lists : List (List ℕ)) → length lists ≡ n → lists ≡ padded n lists
+padded_all n lists size = sym (padded_none n lists (omega (arith, size)))
+
+-- ---- what an encoder may be handed
+
+-- the arcs of the lists that are encoded, and of the next one
+pub few_arcs : (e : EncodedSoFar) (done : List (List ℕ)) (list : List ℕ) (next : Option Arc) (s : ArcLines) → HasEncoded e done → AreListed done list next s → e.arcs + length list ≤ MOST_ARCS
+few_arcs e done list next s h l =
+    let sizes : List ℕ → ℕ = λ x. length x in
+    omega (
+      arith,
+      l.few,
+      l.count,
+      h.arcs,
+      length-append (arcs_on done list) (option_to_list next),
+      length-arcs_from 0 (done ++ list ∷ []),
+      sum_by-append sizes done (list ∷ []),
+      sum_by-cons sizes list [],
+    )
+
+pub proper_list : (e : EncodedSoFar) (done : List (List ℕ)) (list : List ℕ) (next : Option Arc) (s : ArcLines) → e.params.nodes ≡ s.nodes → AreListed done list next s → IsList e.params list
+proper_list e done list next s nodes l = record { ascends = l.list_ascends; below = subst (λ (n : ℕ). Below n list) (sym nodes) l.list_below }
+
+pub comes_next : (e : EncodedSoFar) (done : List (List ℕ)) (list : List ℕ) (next : Option Arc) (s : ArcLines) → HasEncoded e done → e.params.nodes ≡ s.nodes → AreListed done list next s
+    → IfSome next (λ a. (e.page < a.0) × (a.0 ≤ e.params.nodes))
+comes_next e done list None s h nodes l = tt
+comes_next e done list (Some a) s h nodes l = (omega (arith, h.page, l.comes.0), omega (arith, nodes, l.comes.1))
+
+-- ---- a page is passed
+
+begun : (next : Option Arc) (done : List (List ℕ)) (list : List ℕ) (s : ArcLines) → AreListed done list next s
+    → AreListed (done_at next done list) (list_at next list) None s × (arcs_on (done_at next done list) (list_at next list) ≡ arcs_on done list ++ option_to_list next)
+begun None done list s h = (h, sym (append-nil (arcs_on done list)))
+begun (Some a) done list s h = next_page done list s a h
+
+pub moved_on : (e f : EncodedSoFar) (list list' : List ℕ) (s : ArcLines) (done : List (List ℕ)) (next : Option Arc) → e.params.nodes ≡ s.nodes → e.params.arcs ≡ MOST_ARCS → AreListed done list next s → f.params ≡ e.params → list' ≡ list_at next list
+    → HasEncoded f (done_at next done list) → IsUnderWay f list' s (done_at next done list) × (arcs_on (done_at next done list) list' ≡ arcs_on done list ++ option_to_list next)
+moved_on e f list list' s done next nodes most h params is encoded =
+    let b = begun next done list s h in (
+      record {
+        encoded = encoded;
+        listed = subst (λ (l : List ℕ). AreListed (done_at next done list) l None s) (sym is) b.0;
+        nodes = ap (λ (p : Parameters). p.nodes) params ∙ nodes;
+        most = ap (λ (p : Parameters). p.arcs) params ∙ most;
+      },
+      ap (arcs_on (done_at next done list)) is ∙ b.1,
+    )
+
+-- ---- the last pages
+
+pub taken_whole : (n : ℕ) (e : EncodedSoFar) (done : List (List ℕ)) (list : List ℕ) (r : Result EncodedSoFar Ending) → HasEncoded e done → e.page < n → IfOk r (λ f. HasEncoded f (padded n (done ++ list ∷ [])))
+    → IfOk r (λ f. HasEncoded f (take n (padded n (done ++ list ∷ []))))
+taken_whole n e done list r h lt is =
+    let all : List (List ℕ) = done ++ list ∷ [] in
+    let size : length (padded n all) ≡ n = length-padded n all (omega (arith, h.page, length_push done list)) in
+    IfOk-weaker r (λ f. HasEncoded f (padded n all)) (λ f. HasEncoded f (take n (padded n all))) (λ f x. subst (HasEncoded f) (sym (take_all n (padded n all) (omega (arith, size)))) x) is
+
+pub all_taken : (n : ℕ) (e : EncodedSoFar) (done : List (List ℕ)) (list : List ℕ) → HasEncoded e done → e.page ≡ n → HasEncoded e (take n (padded n (done ++ list ∷ [])))
+all_taken n e done list h is =
+    let size : length done ≡ n = sym h.page ∙ is in
+    subst (HasEncoded e) (sym (ap (take n) (padded_none n (done ++ list ∷ []) (omega (arith, size, length_push done list))) ∙ take_at done (list ∷ []) n size)) h
+
+-- ---- how it ends
+
+pub of_list : (e : ArcsError) (status : Status) → status ≡ status_of_list e → IsOfList status
+of_list (error.Line line kind) status is = inr (line, kind, is)
+of_list error.Memory status is = inl is
+
+pub at_line : (n : ℕ) (all : List (List ℕ)) (e : ArcsError) (status : Status) → status ≡ status_of_list e → (e ≡ error.Memory) ⊎ IsFirst n all e → EndsAtLine n all status
+at_line n all e status is (inl want) = inl (is ∙ ap status_of_list want)
+at_line n all (error.Line line kind) status is (inr first) = inr (line, kind, is, first)
+at_line n all error.Memory status is (inr first) = absurd first
