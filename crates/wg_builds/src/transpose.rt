@@ -16,8 +16,8 @@ use wg_words::Name;
 
 /// Writes the greedy archive of an archive's graph with each arc the other way round, in the layout that is given,
 /// and prints the line of what it holds. It judges the whole graph before it touches a file; it holds 16 bytes an
-/// arc and 16 a page for the graph and the transposed one, and until the graph is read the bytes of its file; one
-/// record, and buffers of 8192 bytes.
+/// arc and 16 a page for the graph and the transposed one, and until the graph is read the bytes of its file; and
+/// what [`build_graph`] holds beside the graph.
 pub fn transpose<D: Depot, O: Sink>(
     alloc: Global,
     input: &Name,

@@ -25,7 +25,7 @@ use wg_words::Name;
 /// what it holds. All of the first archive is judged before the second is read, and both before a file is touched. It
 /// holds the bytes of both graph files until the union is made, and 8 bytes a page of an archive while its offsets are
 /// judged. The union takes 8 bytes an arc and 8 a page; while it is made, each archive has rows for the lists that a
-/// reference may reach, with room for its greatest outdegree. Then come one record, and buffers of 8192 bytes.
+/// reference may reach, with room for its greatest outdegree. Then comes what [`build_graph`] holds.
 pub fn union<D: Depot, O: Sink>(
     alloc: Global,
     first: &Name,
