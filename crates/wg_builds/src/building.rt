@@ -1,5 +1,5 @@
-//! The one way out of the commands that write an archive: from the archive in memory to its files, and the line of what
-//! it holds.
+//! The one way out of the commands that write an archive: from the archive in memory to its files, and the line of
+//! what it holds.
 ghost use Rattle.std.specs.Prelude.{◌≡◌};
 ghost use Rattle.wg_params.specs.Parameters.{IsWithinLimits, params_of};
 ghost use Rattle.wg_params.specs.declared.layout.Layout.{Layout};
@@ -35,8 +35,9 @@ pub fn build_archive<D: Depot, O: Sink>(
     print_ok(out, params, archive.bits())
 }
 
-/// Encodes the archive of a graph in memory, writes it, and prints the line of what it holds. Beside the graph it holds
-/// the archive, in most graphs little more than a byte an arc and two a page, and up to twice that while it grows.
+/// Encodes the archive of a graph in memory, writes it, and prints the line of what it holds. Beside the graph it
+/// holds one record, and the archive: in most graphs little more than a byte an arc and two a page, and up to twice
+/// that while it grows.
 pub fn build_graph<D: Depot, O: Sink>(
     alloc: Global,
     layout: &Layout,

@@ -13,7 +13,7 @@ use wg_words::Name;
 
 /// Writes the greedy archive of a graph that is listed page by page, and prints the line of what it holds. It judges
 /// the whole text before it touches a file, and holds its bytes until then; then it holds 8 bytes an arc and 8 a
-/// page for the graph, one record, and buffers of 8192 bytes.
+/// page for the graph, and what [`build_graph`] holds beside it.
 pub fn import<D: Depot, O: Sink>(
     alloc: Global,
     text: &Name,

@@ -22,8 +22,8 @@ use wg_words::Name;
 /// and then the map, before it touches a file.
 ///
 /// It holds 8 bytes an arc and 8 a page for the graph, and until it is read the bytes of its file, and then those of
-/// the map; 8 a page for the classes; what [`wg_shape::quotient`] holds; then the quotient, one record, and buffers of
-/// 8192 bytes.
+/// the map; 8 a page for the classes; what [`wg_shape::quotient`] holds; then the quotient, and what [`build_graph`]
+/// holds beside it.
 pub fn quotient<D: Depot, O: Sink>(
     alloc: Global,
     input: &Name,

@@ -5,13 +5,11 @@ use Rattle.wg_io.specs.declared.output.Output.{Output}
 use Rattle.wg_outcomes.specs.Answers.{Answers, IsHindrance, Steps}
 use Rattle.wg_outcomes.specs.Causes.{AreFaultless, HasCause}
 use Rattle.wg_outcomes.specs.Judged.{Judged, accepted, refused}
-use Rattle.wg_outcomes.specs.Names.{archive_named}
-use Rattle.wg_outcomes.specs.Written.{FaultsRose, IsStopped}
 use Rattle.wg_outcomes.specs.declared.ending.Ending.{Ending}
 use Rattle.wg_outcomes.specs.declared.status.Input.{Input}
 use Rattle.wg_outcomes.specs.declared.status.Status.{Status}
 use Rattle.wg_outcomes.specs.declared.status.Status.TheVariants.{Done, Usage, Memory}
-use Rattle.wg_outcomes.proofs.PerformsLemmas.{not_at, unhindered}
+use Rattle.wg_outcomes.proofs.PerformsLemmas.{unhindered}
 
 -- a count that stays 0
 still : ¬ Increased 0 0
@@ -46,8 +44,3 @@ module _ (inputs : Input → Option (List ℕ)) (outputs : Output → Option (Li
         | inl is ↦ absurd (subst IsHindrance is hinders)
         | inr is ↦ is
       ]
-
--- so is what stops the writing of an archive
-pub stopped_by_memory : (base : List ℕ) (old new : List ℕ → Counts) (s : Status) → AreFaultless old new 0 0 → IsStopped s → FaultsRose base old new s → s ≡ Memory
-stopped_by_memory base old new s none (inl fault) rose = absurd (not_at (λ c. c.write_faults) (archive_named base fault.0) old new none.writes (rose fault.0 fault.1))
-stopped_by_memory base old new s none (inr want) rose = want
