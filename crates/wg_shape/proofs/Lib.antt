@@ -8,4 +8,3 @@ pub mod Unions
 pub mod OneByOne
 pub mod GraphUnions
 pub mod ByLaw
-pub mod ListUnions

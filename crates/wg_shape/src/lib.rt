@@ -2,10 +2,10 @@
 //!
 //! The union of two graphs has as many pages as the larger, and an arc exactly where one of them has it. It is made
 //! page after page: each list comes number by number, as a [`Coming`] does; [`Merge`] gives the numbers of two, which
-//! are never held side by side; [`add_union`] makes them the successors of a page. [`union_of_lists`] does so for all
-//! pages of two graphs whose lists are lent one by one, wherever they come from, and [`union`] for two graphs in
-//! memory. [`next_union`] holds no graph: it puts the numbers of one page into a list. The successors of a page of an
-//! archive come from its bits: `Successors` of `wg_iterators` is a [`Coming`], too.
+//! are never held side by side; [`add_union`] makes them the successors of a page, and [`union`] does so for all pages
+//! of two graphs in memory. [`next_union`] holds no graph: of two graphs whose lists are lent one by one, wherever they
+//! come from, it puts the numbers of one page into a list. The successors of a page of an archive come from its bits:
+//! `Successors` of `wg_iterators` is a [`Coming`], too.
 //!
 //! ```text
 //! ListWalk, Successors --\                                     /--> add_union --> GraphBuilder
@@ -51,7 +51,6 @@ mod counting;
 mod error;
 mod gathering;
 mod grouping;
-mod joining;
 pub mod laws;
 mod merge;
 mod paging;
@@ -62,7 +61,6 @@ pub use adding::add_union;
 pub use coming::{Coming, ListWalk};
 pub use error::ShapeError;
 pub use gathering::quotient;
-pub use joining::union_of_lists;
 pub use merge::Merge;
 pub use paging::next_union;
 pub use uniting::union;
