@@ -179,9 +179,9 @@ fn encode_lines<D: Depot>(
     end_pages(encoder, &mut list, lines.nodes)
 }
 
-/// The archive of the graph of so many pages that an arc list holds, and its parameters. It goes through the list once,
-/// and holds a piece of it with the line that the piece cuts, the list of one page, and the archive. Each line is judged
-/// as it comes; after a fault the archive is let go.
+/// The archive of the graph of so many pages that an arc list holds, and its parameters. It goes through the list
+/// once, and holds a piece of it with the line that the piece cuts, the list of one page, and the archive. Each line is
+/// judged as it comes; after a fault the archive is let go.
 pub fn encode_list<D: Depot>(
     alloc: Global,
     nodes: u64,

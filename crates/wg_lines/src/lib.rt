@@ -1,5 +1,5 @@
-//! Numbers and short texts into any sink, through a fixed buffer, so that a sink is called once for some thousand bytes;
-//! and files that are read in whole lines.
+//! Numbers and short texts into any sink, through a fixed buffer, so that a sink is called once for some thousand
+//! bytes; and files that are read in whole lines.
 //!
 //! [`Lines`] prints a number in decimal digits, a byte, a text of up to [`MOST_PIECE`] bytes, or a line of two numbers.
 //! What was printed goes out in order, and all of it once it is flushed; where the sink refuses a write, a proper prefix
@@ -30,8 +30,8 @@
 //! Ok(())
 //! ```
 //!
-//! `Lines` holds its buffer of 8192 bytes and takes no memory. Each call takes time in proportion to what it prints, and
-//! now and then to the buffer. A `LineReader` holds up to 65536 bytes and the line that they cut, and goes over each
+//! `Lines` holds its buffer of 8192 bytes and takes no memory. Each call takes time in proportion to what it prints,
+//! and now and then to the buffer. A `LineReader` holds up to 65536 bytes and the line that they cut, and goes over each
 //! byte twice: to copy it, and to look for the last end of a line.
 #![tactic(auto)]
 
