@@ -6,10 +6,11 @@ use Rattle.wg_transpose.specs.Transposed.{predecessors, transposed}
 use Rattle.wg_transpose.specs.SoFar.{predecessors_below, AreCounts, ArePlaced}
 use Rattle.wg_transpose.proofs.Reversed.{gives_back}
 use Rattle.wg_transpose.proofs.Totals.{sum_is_all, start_of_all}
+use Rattle.wg_transpose.proofs.Places.{same_prefixes}
 use Rattle.wg_shape.specs.SoFar.{sources, Counted, Placed}
 use Rattle.wg_shape.specs.Quotient.{IsQuotient, quotient_of}
 use Rattle.wg_shape.specs.Classes.{Classes, AreClasses, whole}
-use Rattle.wg_shape.proofs.Steps.{none_marked, same_places}
+use Rattle.wg_shape.proofs.Steps.{none_marked}
 use Rattle.wg_shape.proofs.Quotients.{is_proper, is_quotient}
 use Rattle.wg_shape.proofs.Fewer.{fewer}
 
@@ -18,13 +19,13 @@ module _ (q : Digraph) (marks : List ℕ) (size : length marks ≡ q.nodes) (zer
   none_counted counts count_size count_zeros = record { marked = none_marked q marks size zeros; counted = record { pages = count_size; each = count_zeros } }
 
   pub begun : (starts all : List ℕ) → ArePlaced q (predecessors_below q 0) starts all → Placed q 0 [] marks starts all
-  begun starts all h = record { marked = none_marked q marks size zeros; placed = same_places q (predecessors_below q 0) (sources q 0 []) starts all (λ w lt. refl) h }
+  begun starts all h = record { marked = none_marked q marks size zeros; placed = same_prefixes q.nodes (predecessors q) (predecessors_below q 0) (sources q 0 []) starts all (λ w lt. refl) h }
 
 pub all_counted : (q : Digraph) (marks counts : List ℕ) → Counted q q.nodes [] marks counts → AreCounts q.nodes (predecessors q) counts
 all_counted q marks counts h = record { pages = h.counted.pages; each = λ w lt. h.counted.each w lt ∙ ap length (append-nil (predecessors q w)) }
 
 pub all_placed : (q : Digraph) (marks ends all : List ℕ) → Placed q q.nodes [] marks ends all → ArePlaced q (predecessors q) ends all
-all_placed q marks ends all h = same_places q (sources q q.nodes []) (predecessors q) ends all (λ w lt. append-nil (predecessors q w)) h.placed
+all_placed q marks ends all h = same_prefixes q.nodes (predecessors q) (sources q q.nodes []) (predecessors q) ends all (λ w lt. append-nil (predecessors q w)) h.placed
 
 pub sum_is : (q : Digraph) → IsGraph q → (counts : List ℕ) → AreCounts q.nodes (predecessors q) counts → sum counts ≡ arc_count q
 sum_is q ok counts h = sum_is_all q.nodes (predecessors q) counts h ∙ start_of_all q ok

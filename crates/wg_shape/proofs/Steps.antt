@@ -1,30 +1,16 @@
 -- The arcs of the pages of one class, one by one.
-use Rattle.std.proofs.Common.{◌≡◌, ℕ, ◌+◌, ◌<◌, ◌≤◌, Bool, true, false, cond, eqb, ◌||◌, List, [], ◌∷◌, ◌++◌, length, get_or, set, refl, sym, ap, subst, ◌∙◌, arith, inl, inr, append-nil, length-append, length-set, get_or-set_same, get_or-set_other}
+use Rattle.std.proofs.Common.{◌≡◌, ℕ, ◌+◌, ◌<◌, ◌≤◌, Bool, true, false, cond, eqb, List, [], ◌∷◌, ◌++◌, length, get_or, set, refl, sym, ap, subst, ◌∙◌, arith, inl, inr, append-nil, length-append, length-set, get_or-set_same, get_or-set_other}
 use Rattle.std.proofs.lemmas.Bool.{cases_Bool, cases_eq, eq-eqb, ne_eqb, eqb-true, or_cases}
 use Rattle.wg_graph.specs.Numbers.{is_in}
-use Rattle.wg_graph.specs.Digraph.{Digraph, IsGraph}
+use Rattle.wg_graph.specs.Digraph.{Digraph}
 use Rattle.wg_graph.specs.Arcs.{has_arc}
 use Rattle.wg_transpose.specs.Transposed.{predecessors}
-use Rattle.wg_transpose.specs.SoFar.{predecessors_below, start, ArePlaced}
-use Rattle.wg_transpose.proofs.Seen.{where_more, where_le, where_few, in_push, seen_now, seen_other}
-use Rattle.wg_transpose.proofs.Places.{OneMore, longer, count_more, place_more, place_fits}
+use Rattle.wg_transpose.specs.SoFar.{predecessors_below}
+use Rattle.wg_transpose.proofs.Seen.{where_more, where_le, where_few, in_push, in_push_same, in_push_other, seen_now, seen_other}
+use Rattle.wg_transpose.proofs.Places.{OneMore, longer, count_more, same_prefixes, place_more, place_fits}
 use Rattle.wg_shape.specs.SoFar.{sources, Marked, Counted, Placed}
 
 -- ---- marks
-
-or_false : (b : Bool) → (b || false) ≡ b
-or_false true = refl
-or_false false = refl
-
-or_true : (b : Bool) → (b || true) ≡ true
-or_true true = refl
-or_true false = refl
-
-in_push_other : (i j : ℕ) (seen : List ℕ) → (i ≡ j → ⊥) → is_in i (seen ++ j ∷ []) ≡ is_in i seen
-in_push_other i j seen other = in_push i j seen ∙ ap (λ (b : Bool). is_in i seen || b) (ne_eqb i j other) ∙ or_false (is_in i seen)
-
-in_push_same : (j : ℕ) (seen : List ℕ) → is_in j (seen ++ j ∷ []) ≡ true
-in_push_same j seen = in_push j j seen ∙ ap (λ (b : Bool). is_in j seen || b) (eq-eqb j j refl) ∙ or_true (is_in j seen)
 
 pub mark_more : (q : Digraph) (k : ℕ) (seen marks : List ℕ) (j : ℕ) → Marked q k seen marks → j < q.nodes → has_arc q k j ≡ true → Marked q k (seen ++ j ∷ []) (set marks j (k + 1))
 mark_more q k seen marks j h lt arc = record {
@@ -122,16 +108,7 @@ count_end q k seen marks counts h all = record {
 
 -- ---- placing
 
--- the same lists stand in the same places
-pub same_places : (q : Digraph) (b c : ℕ → List ℕ) (ends all : List ℕ) → ((w : ℕ) → w < q.nodes → b w ≡ c w) → ArePlaced q b ends all → ArePlaced q c ends all
-same_places q b c ends all same h = record {
-  pages = h.pages;
-  room = h.room;
-  reached = λ w lt. subst (λ (l : List ℕ). get_or ends w 0 ≡ start (predecessors q) w + length l) (same w lt) (h.reached w lt);
-  members = λ w lt. subst (λ (l : List ℕ). (i : ℕ) → i < length l → get_or all (start (predecessors q) w + i) 0 ≡ get_or l i 0) (same w lt) (h.members w lt);
-}
-
-module _ (q : Digraph) (ok : IsGraph q) (k : ℕ) (k_lt : k < q.nodes) (seen marks ends all : List ℕ) (j : ℕ) (h : Placed q k seen marks ends all) (lt : j < q.nodes) (arc : has_arc q k j ≡ true) where
+module _ (q : Digraph) (k : ℕ) (k_lt : k < q.nodes) (seen marks ends all : List ℕ) (j : ℕ) (h : Placed q k seen marks ends all) (lt : j < q.nodes) (arc : has_arc q k j ≡ true) where
   marked : Marked q k (seen ++ j ∷ []) (set marks j (k + 1))
   marked = mark_more q k seen marks j h.marked lt arc
 
@@ -140,23 +117,23 @@ module _ (q : Digraph) (ok : IsGraph q) (k : ℕ) (k_lt : k < q.nodes) (seen mar
 
   pub place_below : is_in j seen ≡ false → get_or ends j 0 < length all
   place_below new =
-      place_fits q ok (sources q k seen) ends all j (get_or ends j 0) lt h.placed refl
+      place_fits q.nodes (predecessors q) (sources q k seen) ends all j (get_or ends j 0) lt h.placed refl
       (omega (arith, longer (sources q k seen) (sources q k (seen ++ j ∷ [])) j k (one_more q k seen j new), fits j))
 
   pub place_new : is_in j seen ≡ false → Placed q k (seen ++ j ∷ []) (set marks j (k + 1)) (set ends j (get_or ends j 0 + 1)) (set all (get_or ends j 0) k)
   place_new new = record {
     marked = marked;
-    placed = place_more q ok (sources q k seen) (sources q k (seen ++ j ∷ [])) j k ends all (get_or ends j 0) lt (one_more q k seen j new) fits h.placed refl;
+    placed = place_more q.nodes (predecessors q) (sources q k seen) (sources q k (seen ++ j ∷ [])) j k ends all (get_or ends j 0) lt (one_more q k seen j new) fits h.placed refl;
   }
 
   pub place_old : is_in j seen ≡ true → Placed q k (seen ++ j ∷ []) (set marks j (k + 1)) ends all
   place_old old = record {
     marked = marked;
-    placed = same_places q (sources q k seen) (sources q k (seen ++ j ∷ [])) ends all (λ w w_lt. sym (sources_old q k seen j w old)) h.placed;
+    placed = same_prefixes q.nodes (predecessors q) (sources q k seen) (sources q k (seen ++ j ∷ [])) ends all (λ w w_lt. sym (sources_old q k seen j w old)) h.placed;
   }
 
 pub place_end : (q : Digraph) (k : ℕ) (seen marks ends all : List ℕ) → Placed q k seen marks ends all → ((j : ℕ) → j < q.nodes → is_in j seen ≡ has_arc q k j) → Placed q (k + 1) [] marks ends all
 place_end q k seen marks ends all h all_seen = record {
   marked = mark_end q k seen marks h.marked;
-  placed = same_places q (sources q k seen) (sources q (k + 1) []) ends all (λ w lt. sources_end q k seen w (all_seen w lt)) h.placed;
+  placed = same_prefixes q.nodes (predecessors q) (sources q k seen) (sources q (k + 1) []) ends all (λ w lt. sources_end q k seen w (all_seen w lt)) h.placed;
 }

@@ -11,7 +11,7 @@ use Rattle.wg_transpose.proofs.Seen.{member_below, member_in}
 use Rattle.wg_shape.specs.Quotient.{class_of, members, reached}
 use Rattle.wg_shape.specs.Classes.{Classes, AreClasses, whole, reached_of}
 use Rattle.wg_shape.specs.SoFar.{Marked, Counted, Placed}
-use Rattle.wg_shape.proofs.Quotients.{is_proper, arc_is, leads_to, members_from}
+use Rattle.wg_shape.proofs.Quotients.{arc_is, leads_to, members_from}
 use Rattle.wg_shape.proofs.Steps.{count_new, count_old, count_end, place_new, place_old, place_below, place_end}
 
 pub reached_push : (g : Digraph) (classes us : List ℕ) (u : ℕ) → reached g classes (us ++ u ∷ []) ≡ reached g classes us ++ map (class_of classes) (successors g u)
@@ -92,12 +92,12 @@ module _ (p : Classes) (ok : AreClasses p) (k : ℕ) where
 
       module _ (k_lt : k < p.count) (marks ends all : List ℕ) (h : Placed (whole p) k (seen_at t) marks ends all) where
         pub there : is_in j (seen_at t) ≡ false → get_or ends j 0 < length all
-        there new = place_below (whole p) (is_proper p.graph p.classes p.count) k k_lt (seen_at t) marks ends all j h class_below arc new
+        there new = place_below (whole p) k k_lt (seen_at t) marks ends all j h class_below arc new
 
         pub place_step : is_in j (seen_at t) ≡ false → Placed (whole p) k (seen_at (t + 1)) (set marks j (k + 1)) (set ends j (get_or ends j 0 + 1)) (set all (get_or ends j 0) k)
         place_step new =
             subst (λ (s : List ℕ). Placed (whole p) k s (set marks j (k + 1)) (set ends j (get_or ends j 0 + 1)) (set all (get_or ends j 0) k)) next
-            (place_new (whole p) (is_proper p.graph p.classes p.count) k k_lt (seen_at t) marks ends all j h class_below arc new)
+            (place_new (whole p) k k_lt (seen_at t) marks ends all j h class_below arc new)
 
         pub place_skip : is_in j (seen_at t) ≡ true → Placed (whole p) k (seen_at (t + 1)) (set marks j (k + 1)) ends all
-        place_skip old = subst (λ (s : List ℕ). Placed (whole p) k s (set marks j (k + 1)) ends all) next (place_old (whole p) (is_proper p.graph p.classes p.count) k k_lt (seen_at t) marks ends all j h class_below arc old)
+        place_skip old = subst (λ (s : List ℕ). Placed (whole p) k s (set marks j (k + 1)) ends all) next (place_old (whole p) k k_lt (seen_at t) marks ends all j h class_below arc old)

@@ -2,10 +2,8 @@
 use Rattle.std.proofs.Common.{◌≡◌, ◌≢◌, ℕ, suc, ◌+◌, ◌<◌, ◌≤◌, List, [], ◌∷◌, ◌++◌, length, get_or, set, sym, ap, subst, ◌∙◌, arith, inl, inr, length-append, length-set, get_or-set_same, get_or-set_other}
 use Rattle.std.proofs.lemmas.Bool.{cases_lt, cases_eq}
 use Rattle.std.proofs.lemmas.List.{get_or_append_left, get_or_at}
-use Rattle.wg_graph.specs.Digraph.{Digraph, IsGraph}
-use Rattle.wg_transpose.specs.Transposed.{predecessors}
-use Rattle.wg_transpose.specs.SoFar.{start, AreCounts, ArePlaced}
-use Rattle.wg_transpose.proofs.Totals.{start_le, start_of_all}
+use Rattle.wg_transpose.specs.SoFar.{start, AreCounts, ArePrefixes}
+use Rattle.wg_transpose.proofs.Totals.{start_le}
 
 -- one list grows by one number, and the others stay
 pub record OneMore (b c : ℕ → List ℕ) (v x : ℕ) : Type 0 where
@@ -25,9 +23,17 @@ count_more n b c v x counts count lt m h is = record {
 }
 
 -- the next place of a list lies before the start of the next one
-pub place_fits : (g : Digraph) → IsGraph g → (b : ℕ → List ℕ) (ends all : List ℕ) (v at : ℕ) → v < g.nodes → ArePlaced g b ends all → at ≡ get_or ends v 0 → length (b v) < length (predecessors g v) → at < length all
-place_fits g ok b ends all v at lt h is room =
-    omega (arith, is, h.reached v lt, h.room, start_of_all g ok, start_le (predecessors g) (suc v) g.nodes (omega arith))
+pub place_fits : (n : ℕ) (whole b : ℕ → List ℕ) (ends all : List ℕ) (v at : ℕ) → v < n → ArePrefixes n whole b ends all → at ≡ get_or ends v 0 → length (b v) < length (whole v) → at < length all
+place_fits n whole b ends all v at lt h is room = omega (arith, is, h.reached v lt, h.room, start_le whole (suc v) n (omega arith))
+
+-- the same lists stand in the same places
+pub same_prefixes : (n : ℕ) (whole b c : ℕ → List ℕ) (ends all : List ℕ) → ((w : ℕ) → w < n → b w ≡ c w) → ArePrefixes n whole b ends all → ArePrefixes n whole c ends all
+same_prefixes n whole b c ends all same h = record {
+  pages = h.pages;
+  room = h.room;
+  reached = λ w lt. subst (λ (l : List ℕ). get_or ends w 0 ≡ start whole w + length l) (same w lt) (h.reached w lt);
+  members = λ w lt. subst (λ (l : List ℕ). (i : ℕ) → i < length l → get_or all (start whole w + i) 0 ≡ get_or l i 0) (same w lt) (h.members w lt);
+}
 
 -- places in the lists of two pages are apart
 apart : (s : ℕ → List ℕ) (v w i j : ℕ) → w ≢ v → i < length (s v) → j < length (s w) → start s w + j ≢ start s v + i
@@ -37,14 +43,13 @@ apart s v w i j other i_fits j_fits same =
       | inr after ↦ omega (arith, start_le s (suc v) w (omega arith))
     ]
 
-pub place_more : (g : Digraph) → IsGraph g → (b c : ℕ → List ℕ) (v x : ℕ) (ends all : List ℕ) (at : ℕ) → v < g.nodes → OneMore b c v x
-    → ((w : ℕ) → length (c w) ≤ length (predecessors g w)) → ArePlaced g b ends all → at ≡ get_or ends v 0
-    → ArePlaced g c (set ends v (at + 1)) (set all at x)
-place_more g ok b c v x ends all at lt m fits h is =
-    let s : ℕ → List ℕ = predecessors g in
+pub place_more : (n : ℕ) (s b c : ℕ → List ℕ) (v x : ℕ) (ends all : List ℕ) (at : ℕ) → v < n → OneMore b c v x
+    → ((w : ℕ) → length (c w) ≤ length (s w)) → ArePrefixes n s b ends all → at ≡ get_or ends v 0
+    → ArePrefixes n s c (set ends v (at + 1)) (set all at x)
+place_more n s b c v x ends all at lt m fits h is =
     let place : at ≡ start s v + length (b v) = is ∙ h.reached v lt in
     let room : length (b v) < length (s v) = omega (arith, longer b c v x m, fits v) in
-    let there : at < length all = place_fits g ok b ends all v at lt h is room in
+    let there : at < length all = place_fits n s b ends all v at lt h is room in
     record {
       pages = length-set ends v (at + 1) ∙ h.pages;
       room = length-set all at x ∙ h.room;
@@ -61,13 +66,13 @@ place_more g ok b c v x ends all at lt m fits h is =
       ];
     }
   where
-    here : (w i : ℕ) → w ≡ v → at < length all → at ≡ start (predecessors g) v + length (b v) → i < length (c w) → get_or (set all at x) (start (predecessors g) w + i) 0 ≡ get_or (c w) i 0
+    here : (w i : ℕ) → w ≡ v → at < length all → at ≡ start s v + length (b v) → i < length (c w) → get_or (set all at x) (start s w + i) 0 ≡ get_or (c w) i 0
     here w i same there place i_lt =
         let size : i < length (c v) = subst (λ k. i < length (c k)) same i_lt in
         rw (same, m.here) (elim (cases_lt i (length (b v))) [
-          | inl old ↦ get_or-set_other all at (start (predecessors g) v + i) x 0 (λ e. omega arith) ∙ h.members v lt i old ∙ sym (get_or_append_left (b v) (x ∷ []) 0 i old)
+          | inl old ↦ get_or-set_other all at (start s v + i) x 0 (λ e. omega arith) ∙ h.members v lt i old ∙ sym (get_or_append_left (b v) (x ∷ []) 0 i old)
           | inr new ↦
               let last : i ≡ length (b v) = omega (arith, size, longer b c v x m) in
-              let e : start (predecessors g) v + i ≡ at = omega arith in
+              let e : start s v + i ≡ at = omega arith in
               rw e (get_or-set_same all at x 0 there ∙ sym (get_or_at (b v) x [] 0 i (sym last)))
         ])

@@ -40,6 +40,12 @@ pub in_push : (y x : ℕ) (xs : List ℕ) → is_in y (xs ++ x ∷ []) ≡ (is_i
 in_push y x [] = elim (cases_Bool (eqb y x)) [ inl e ↦ rw e refl | inr e ↦ rw e refl ]
 in_push y x (z ∷ xs) = elim (cases_Bool (eqb y z)) [ inl e ↦ rw e refl | inr e ↦ rw e (in_push y x xs) ]
 
+pub in_push_same : (y : ℕ) (xs : List ℕ) → is_in y (xs ++ y ∷ []) ≡ true
+in_push_same y xs = in_push y y xs ∙ elim (cases_Bool (is_in y xs)) [ inl e ↦ rw e refl | inr e ↦ rw (e, eq-eqb y y refl) refl ]
+
+pub in_push_other : (y x : ℕ) (xs : List ℕ) → y ≢ x → is_in y (xs ++ x ∷ []) ≡ is_in y xs
+in_push_other y x xs other = in_push y x xs ∙ elim (cases_Bool (is_in y xs)) [ inl e ↦ rw e refl | inr e ↦ rw (e, ne_eqb y x other) refl ]
+
 pub in_take : (y j : ℕ) (xs : List ℕ) → is_in y (take j xs) ≡ true → is_in y xs ≡ true
 in_take y zero xs h = absurd cc
 in_take y (suc j) [] h = h
@@ -85,16 +91,10 @@ pub all_seen : (g : Digraph) (k v : ℕ) → predecessors_below g (k + 1) v ≡ 
 all_seen g k v = where_more (λ u. has_arc g u v) k
 
 pub seen_other : (g : Digraph) (k : ℕ) (seen : List ℕ) (v w : ℕ) → w ≢ v → with_page g k (seen ++ v ∷ []) w ≡ with_page g k seen w
-seen_other g k seen v w other =
-    let none : eqb w v ≡ false = ne_eqb w v other in
-    let same : is_in w (seen ++ v ∷ []) ≡ is_in w seen =
-    in_push w v seen ∙ elim (cases_Bool (is_in w seen)) [ inl e ↦ rw e refl | inr e ↦ rw (e, none) refl ] in
-    ap (λ (b : Bool). predecessors_below g k w ++ cond b (k ∷ []) []) same
+seen_other g k seen v w other = ap (λ (b : Bool). predecessors_below g k w ++ cond b (k ∷ []) []) (in_push_other w v seen other)
 
 pub seen_now : (g : Digraph) (k : ℕ) (seen : List ℕ) (v : ℕ) → is_in v seen ≡ false → with_page g k (seen ++ v ∷ []) v ≡ with_page g k seen v ++ k ∷ []
-seen_now g k seen v new =
-    let now : is_in v (seen ++ v ∷ []) ≡ true = in_push v v seen ∙ rw (new, eq-eqb v v refl) refl in
-    rw (now, new, append-nil) refl
+seen_now g k seen v new = let now = in_push_same v seen in rw (now, new, append-nil) refl
 
 -- no list is longer than it will be after the page
 pub seen_le : (g : Digraph) (k j v : ℕ) → length (with_page g k (take j (successors g k)) v) ≤ length (predecessors_below g (k + 1) v)

@@ -1,77 +1,141 @@
 -- The arcs of one page, one by one.
-use Rattle.std.proofs.Common.{◌≡◌, ℕ, ◌+◌, ◌<◌, ◌≤◌, List, [], ◌∷◌, ◌++◌, length, take, get_or, set, refl, sym, ap, ◌∙◌, arith}
+use Rattle.std.proofs.Common.{All, ◌≡◌, ◌≢◌, ◌⊎◌, Bool, ℕ, ◌+◌, ◌-◌, ◌<◌, ◌≤◌, cond, List, [], ◌∷◌, ◌++◌, length, take, get_or, set, refl, sym, ap, subst, ◌∙◌, arith, inl, inr, add-one, get_or-set_same, get_or-set_other}
+use Rattle.std.proofs.lemmas.Bool.{cases_lt, cases_eq}
 use Rattle.std.proofs.lemmas.List.{take_all, take_more}
-use Rattle.wg_graph.specs.Digraph.{Digraph, IsGraph, successors}
+use Rattle.std.proofs.lemmas.List.Elements.{All-from_get_or}
+use Rattle.wg_params.specs.declared.limits.TheConstants.{MOST_PAGES}
+use Rattle.wg_graph.specs.Ascending.{Ascends}
+use Rattle.wg_graph.specs.Numbers.{is_in}
+use Rattle.wg_graph.specs.Digraph.{Digraph, successors}
 use Rattle.wg_graph.specs.Arcs.{has_arc}
 use Rattle.wg_transpose.specs.Transposed.{predecessors}
-use Rattle.wg_transpose.specs.SoFar.{predecessors_below, start, AreCounts, ArePlaced}
-use Rattle.wg_graph.specs.Ascending.{Ascends, Below}
-use Rattle.wg_transpose.proofs.Reversed.{list_ascends, list_below}
-use Rattle.wg_transpose.proofs.Seen.{with_page, not_before, member_below, seen_now, seen_other, seen_le, all_seen, where_le, where_few}
-use Rattle.wg_transpose.proofs.Places.{OneMore, longer, count_more, place_more, place_fits}
+use Rattle.wg_transpose.specs.SoFar.{predecessors_below, onward, AreCounts, ArePrefixes, ArePlacedFrom, IsListOf}
+use Rattle.wg_transpose.proofs.Reversed.{list_ascends}
+use Rattle.wg_transpose.proofs.Totals.{count_if}
+use Rattle.wg_transpose.proofs.Seen.{in_push_same, in_push_other, with_page, not_before, seen_now, seen_other, seen_le, none_seen, all_seen, where_le, where_few}
+use Rattle.wg_transpose.proofs.Places.{OneMore, longer, place_more, place_fits, same_prefixes}
 
-one_more : (g : Digraph) (k j : ℕ) → Ascends 0 (successors g k) → j < length (successors g k)
-    → OneMore (with_page g k (take j (successors g k))) (with_page g k (take (j + 1) (successors g k))) (get_or (successors g k) j 0) k
-one_more g k j up lt =
-    let list : List ℕ = successors g k in
+-- ---- counting
+
+-- each page of the list has one arc more
+pub record HaveOneMore (list old new : List ℕ) : Type 0 where
+  pub each : (v : ℕ) → v < length old → get_or new v 0 ≡ get_or old v 0 + cond (is_in v list) 1 0
+
+-- the next page of the list has none yet
+pub not_counted : (list : List ℕ) (j : ℕ) (old new : List ℕ) → Ascends 0 list → j < length list → get_or list j 0 < length old → HaveOneMore (take j list) old new
+    → get_or new (get_or list j 0) 0 ≡ get_or old (get_or list j 0) 0
+not_counted list j old new up lt below h =
+    let e = not_before 0 j list up lt in
+    let here = rw e at (h.each (get_or list j 0) below) in
+    omega (arith, here)
+
+pub count_step : (list : List ℕ) (j : ℕ) (old new : List ℕ) → Ascends 0 list → j < length list → get_or list j 0 < length old → length new ≡ length old → HaveOneMore (take j list) old new
+    → HaveOneMore (take (j + 1) list) old (set new (get_or list j 0) (get_or new (get_or list j 0) 0 + 1))
+count_step list j old new up lt below size h =
+    let x : ℕ = get_or list j 0 in
+    let seen : List ℕ = take j list in
+    let more : take (j + 1) list ≡ seen ++ x ∷ [] = take_more list j 0 lt in
+    record {
+      each = λ v v_lt. rw more (elim (cases_eq v x) [
+        | inl same ↦
+            let now = in_push_same x seen in
+            let before = not_counted list j old new up lt below h in
+            let written = get_or-set_same new x (get_or new x 0 + 1) 0 (omega arith) in
+            rw (same, now) (omega (arith, written, before))
+        | inr other ↦
+            get_or-set_other new x v (get_or new x 0 + 1) 0 other ∙ h.each v v_lt
+            ∙ ap (λ (b : Bool). get_or old v 0 + cond b 1 0) (sym (in_push_other v x seen other))
+      ]);
+    }
+
+pub counted_more : (g : Digraph) (k : ℕ) (list old new : List ℕ) → list ≡ successors g k → length new ≡ length old → ((v : ℕ) → v < length old → get_or new v 0 ≡ get_or old v 0 + cond (is_in v list) 1 0)
+    → AreCounts g.nodes (predecessors_below g k) old → AreCounts g.nodes (predecessors_below g (k + 1)) new
+counted_more g k list old new is size each h = record {
+  pages = size ∙ h.pages;
+  each = λ v lt.
+      let here = rw is at (each v (omega (arith, h.pages))) in
+      rw add-one (omega (arith, here, h.each v lt, count_if (λ u. has_arc g u v) k));
+}
+
+-- each page has as many arcs at most as pages were gone through
+pub few_counts : (g : Digraph) (k : ℕ) (counts : List ℕ) → k < MOST_PAGES → AreCounts g.nodes (predecessors_below g k) counts → All (λ count. count < MOST_PAGES) counts
+few_counts g k counts few h = All-from_get_or (λ count. count < MOST_PAGES) counts 0 (λ v lt. omega (arith, h.pages, h.each v (omega (arith, h.pages)), where_few (λ u. has_arc g u v) k))
+
+-- ---- placing
+
+one_more : (g : Digraph) (k j : ℕ) (list : List ℕ) → Ascends 0 list → j < length list → OneMore (with_page g k (take j list)) (with_page g k (take (j + 1) list)) (get_or list j 0) k
+one_more g k j list up lt =
     let more : take (j + 1) list ≡ take j list ++ get_or list j 0 ∷ [] = take_more list j 0 lt in
     rw more (record {
       here = seen_now g k (take j list) (get_or list j 0) (not_before 0 j list up lt);
       others = λ w other. seen_other g k (take j list) (get_or list j 0) w other;
     })
 
--- ---- counting
-
-pub count_room : (g : Digraph) (k j v : ℕ) (counts : List ℕ) → v < g.nodes → AreCounts g.nodes (with_page g k (take j (successors g k))) counts → get_or counts v 0 ≤ k + 1
-count_room g k j v counts lt h = omega (arith, h.each v lt, seen_le g k j v, where_few (λ u. has_arc g u v) (k + 1))
-
-pub count_step : (g : Digraph) (k j : ℕ) (counts : List ℕ) → Ascends 0 (successors g k) → Below g.nodes (successors g k) → j < length (successors g k)
-    → AreCounts g.nodes (with_page g k (take j (successors g k))) counts
-    → AreCounts g.nodes (with_page g k (take (j + 1) (successors g k))) (set counts (get_or (successors g k) j 0) (get_or counts (get_or (successors g k) j 0) 0 + 1))
-count_step g k j counts up below lt h =
-    count_more g.nodes (with_page g k (take j (successors g k))) (with_page g k (take (j + 1) (successors g k))) (get_or (successors g k) j 0) k counts
-    (get_or counts (get_or (successors g k) j 0) 0) (member_below g.nodes j (successors g k) below lt) (one_more g k j up lt) h refl
-
-pub count_end : (g : Digraph) (k j : ℕ) (counts : List ℕ) → length (successors g k) ≤ j → AreCounts g.nodes (with_page g k (take j (successors g k))) counts → AreCounts g.nodes (predecessors_below g (k + 1)) counts
-count_end g k j counts all h = record {
-  pages = h.pages;
-  each = λ v lt. h.each v lt ∙ ap (λ (seen : List ℕ). length (with_page g k seen v)) (take_all j (successors g k) all) ∙ ap length (sym (all_seen g k v));
-}
-
--- ---- placing
-
-module _ (g : Digraph) (ok : IsGraph g) (k j : ℕ) (page : k < g.nodes) (lt : j < length (successors g k)) (ends all : List ℕ)
-    (h : ArePlaced g (with_page g k (take j (successors g k))) ends all) where
-  abbrev v : ℕ
-  v = get_or (successors g k) j 0
+module _ (g : Digraph) (first n k j : ℕ) (list ends all : List ℕ) (is : IsListOf g k list) (lt : j < length list) (h : ArePlacedFrom g first n (with_page g k (take j list)) ends all) where
+  abbrev t : ℕ
+  t = get_or list j 0
 
   abbrev b : ℕ → List ℕ
-  b = with_page g k (take j (successors g k))
+  b = onward first (with_page g k (take j list))
 
   abbrev c : ℕ → List ℕ
-  c = with_page g k (take (j + 1) (successors g k))
+  c = onward first (with_page g k (take (j + 1) list))
 
-  fits : (w : ℕ) → length (c w) ≤ length (predecessors g w)
-  fits w = omega (arith, seen_le g k (j + 1) w, where_le (λ u. has_arc g u w) (k + 1) g.nodes (omega arith))
+  base : OneMore (with_page g k (take j list)) (with_page g k (take (j + 1) list)) t k
+  base = one_more g k j list (subst (Ascends 0) (sym is.is) (list_ascends g is.proper k is.page)) lt
 
-  pub target_below : v < g.nodes
-  target_below = member_below g.nodes j (successors g k) (list_below g ok k page) lt
+  more : (v : ℕ) → t ≡ first + v → OneMore b c v k
+  more v at = record {
+    here = subst (λ (m : ℕ). with_page g k (take (j + 1) list) m ≡ with_page g k (take j list) m ++ k ∷ []) at base.here;
+    others = λ w other. base.others (first + w) (λ e. other (omega (arith, e, at)));
+  }
 
-  pub place_below : get_or ends v 0 < length all
-  place_below =
-      let more : OneMore b c v k = one_more g k j (list_ascends g ok k page) lt in
-      place_fits g ok b ends all v (get_or ends v 0) target_below h refl (omega (arith, longer b c v k more, fits v))
+  fits : (w : ℕ) → length (c w) ≤ length (predecessors g (first + w))
+  fits w =
+      let v : ℕ = first + w in
+      let le = subst (λ (l : List ℕ). length (with_page g k (take (j + 1) l) v) ≤ length (predecessors_below g (k + 1) v)) (sym is.is) (seen_le g k (j + 1) v) in
+      let page = is.page in
+      omega (arith, le, where_le (λ u. has_arc g u v) (k + 1) g.nodes (omega arith))
 
-  pub place_step : ArePlaced g c (set ends v (get_or ends v 0 + 1)) (set all (get_or ends v 0) k)
-  place_step = place_more g ok b c v k ends all (get_or ends v 0) target_below (one_more g k j (list_ascends g ok k page) lt) fits h refl
+  -- the next place of the list of the target lies within
+  pub place_below : first ≤ t → t - first < n → get_or ends (t - first) 0 < length all
+  place_below low high =
+      let v : ℕ = t - first in
+      place_fits n (onward first (predecessors g)) b ends all v (get_or ends v 0) high h refl (omega (arith, longer b c v k (more v (omega arith)), fits v))
 
-pub place_end : (g : Digraph) (k j : ℕ) (ends all : List ℕ) → length (successors g k) ≤ j → ArePlaced g (with_page g k (take j (successors g k))) ends all → ArePlaced g (predecessors_below g (k + 1)) ends all
-place_end g k j ends all past h =
-    let same : (v : ℕ) → with_page g k (take j (successors g k)) v ≡ predecessors_below g (k + 1) v = λ v.
-    ap (λ (seen : List ℕ). with_page g k seen v) (take_all j (successors g k) past) ∙ sym (all_seen g k v) in
-    record {
-      pages = h.pages;
-      room = h.room;
-      reached = λ v lt. h.reached v lt ∙ ap (λ (l : List ℕ). start (predecessors g) v + length l) (same v);
-      members = λ v lt i fits. h.members v lt i (omega (arith, fits, ap length (same v))) ∙ ap (λ (l : List ℕ). get_or l i 0) (same v);
-    }
+  outside : (t < first) ⊎ (n ≤ t - first) → ArePrefixes n (onward first (predecessors g)) c ends all
+  outside out = same_prefixes n (onward first (predecessors g)) b c ends all (λ w w_lt. sym (base.others (first + w) (away w w_lt out))) h
+    where
+      away : (w : ℕ) → w < n → (t < first) ⊎ (n ≤ t - first) → first + w ≢ t
+      away w w_lt (inl before) e = omega arith
+      away w w_lt (inr past) e = omega arith
+
+  inside : first ≤ t → t - first < n → ArePrefixes n (onward first (predecessors g)) c (set ends (t - first) (get_or ends (t - first) 0 + 1)) (set all (get_or ends (t - first) 0) k)
+  inside low high =
+      let v : ℕ = t - first in
+      place_more n (onward first (predecessors g)) b c v k ends all (get_or ends v 0) high (more v (omega arith)) fits h refl
+
+  pub place_step : (new_ends new_all : List ℕ)
+      → (first ≤ t → t - first < length ends → new_ends ≡ set ends (t - first) (get_or ends (t - first) 0 + 1))
+      → (first ≤ t → t - first < length ends → new_all ≡ set all (get_or ends (t - first) 0) k)
+      → ((t < first) ⊎ (length ends ≤ t - first) → new_ends ≡ ends) → ((t < first) ⊎ (length ends ≤ t - first) → new_all ≡ all)
+      → ArePlacedFrom g first n (with_page g k (take (j + 1) list)) new_ends new_all
+  place_step new_ends new_all put_ends put_all same_ends same_all =
+      elim (cases_lt t first) [
+        | inl before ↦ rw (same_ends (inl before), same_all (inl before)) (outside (inl before))
+        | inr from_on ↦ elim (cases_lt (t - first) n) [
+          | inl within ↦ let low : t - first < length ends = omega (arith, h.pages) in rw (put_ends from_on low, put_all from_on low) (inside from_on within)
+          | inr past ↦ let high : length ends ≤ t - first = omega (arith, h.pages) in rw (same_ends (inr high), same_all (inr high)) (outside (inr past))
+        ]
+      ]
+
+pub place_end : (g : Digraph) (first n k j : ℕ) (list ends all : List ℕ) → IsListOf g k list → length list ≤ j → ArePlacedFrom g first n (with_page g k (take j list)) ends all → ArePlacedFrom g first n (predecessors_below g (k + 1)) ends all
+place_end g first n k j list ends all is past h =
+    let same : (v : ℕ) → with_page g k (take j list) v ≡ predecessors_below g (k + 1) v = λ v.
+    ap (λ (seen : List ℕ). with_page g k seen v) (take_all j list past ∙ is.is) ∙ sym (all_seen g k v) in
+    same_prefixes n (onward first (predecessors g)) (onward first (with_page g k (take j list))) (onward first (predecessors_below g (k + 1))) ends all (λ w lt. same (first + w)) h
+
+-- before the first arc of a page
+pub none_yet : (g : Digraph) (first n k : ℕ) (ends all : List ℕ) → ArePlacedFrom g first n (predecessors_below g k) ends all → ArePlacedFrom g first n (with_page g k []) ends all
+none_yet g first n k ends all h =
+    same_prefixes n (onward first (predecessors g)) (onward first (predecessors_below g k)) (onward first (with_page g k [])) ends all (λ w lt. sym (none_seen g k (first + w))) h

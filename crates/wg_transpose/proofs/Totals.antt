@@ -15,7 +15,7 @@ use Rattle.wg_transpose.specs.Laws.{ArcsAreAsMany}
 use Rattle.wg_transpose.proofs.Reversed.{list_is}
 use Rattle.wg_transpose.proofs.Seen.{where_more}
 
-abbrev one_if : Bool → ℕ
+abbrev pub one_if : Bool → ℕ
 one_if b = cond b 1 0
 
 start_of_none : (v : ℕ) → start (λ w. []) v ≡ 0
@@ -35,7 +35,7 @@ length-cond true k = refl
 length-cond false k = refl
 
 -- how long a list is with one number more, if there is one
-count_if : (t : ℕ → Bool) (k : ℕ) → length (numbers_where t 0 (suc k)) ≡ length (numbers_where t 0 k) + one_if (t k)
+pub count_if : (t : ℕ → Bool) (k : ℕ) → length (numbers_where t 0 (suc k)) ≡ length (numbers_where t 0 k) + one_if (t k)
 count_if t k =
     let e : k + 1 ≡ suc k = omega arith in
     subst (λ m. length (numbers_where t 0 m) ≡ length (numbers_where t 0 k) + one_if (t k)) e

@@ -1,6 +1,7 @@
 -- All lists stand, and are those of the transposed graph.
-use Rattle.std.proofs.Common.{◌≡◌, ℕ, zero, suc, ◌+◌, ◌-◌, ◌<◌, ◌≤◌, List, [], ◌∷◌, length, take, drop, get_or, slice_range, refl, sym, ap, subst, ◌∙◌, arith, length-drop}
+use Rattle.std.proofs.Common.{◌≡◌, ℕ, zero, suc, ◌+◌, ◌-◌, ◌<◌, ◌≤◌, List, [], ◌∷◌, length, map, take, drop, get_or, slice_range, refl, sym, ap, subst, ◌∙◌, arith, length-drop, zero-add}
 use Rattle.std.specs.Prelude.{sum}
+use Rattle.std.specs.List.{range_with_len}
 use Rattle.std.proofs.lemmas.List.{length-take-le, get_or-take, get_or-drop, ext_get_or}
 use Rattle.std.proofs.lemmas.List.FromFn.{fill_by_all}
 use Rattle.wg_params.specs.declared.limits.TheConstants.{MOST_ARCS, MOST_PAGES}
@@ -8,7 +9,7 @@ use Rattle.wg_graph.specs.Digraph.{Digraph, IsGraph, IsGraphPrefix, arc_count}
 use Rattle.wg_graph.specs.Pieces.{pieces, EndsAt, cut, IsCut}
 use Rattle.wg_graph.proofs.Ends.{length-pieces, piece_at}
 use Rattle.wg_transpose.specs.Transposed.{predecessors, transposed}
-use Rattle.wg_transpose.specs.SoFar.{predecessors_below, start, AreCounts, ArePlaced}
+use Rattle.wg_transpose.specs.SoFar.{onward, start, AreCounts, ArePrefixes, ArePlaced, ArePlacedFrom}
 use Rattle.wg_transpose.proofs.Reversed.{is_proper}
 use Rattle.wg_transpose.proofs.Totals.{start_le, start_of_all, as_many, sum_is_start}
 
@@ -27,55 +28,71 @@ stands all list from to is fits members =
     ext_get_or 0 (slice_range all from to) list size
     (λ i lt. get_or-take (to - from) (drop from all) i 0 (omega arith) ∙ get_or-drop from all i 0 ∙ members i (omega arith))
 
+-- all lists, from the first on
+pub from_none : (lists : ℕ → List ℕ) → onward 0 lists ≡ lists
+from_none lists = λ i v. lists (zero-add v i)
+
 -- before the first page
-pub none_placed : (g : Digraph) (counts starts all : List ℕ) → AreCounts g.nodes (predecessors_below g g.nodes) counts → length starts ≡ length counts → ((v : ℕ) → v < length counts → get_or starts v 0 ≡ sum (take v counts)) → length all ≡ arc_count g
-    → ArePlaced g (predecessors_below g 0) starts all
-none_placed g counts starts all h pages begins room = record {
+pub none_placed : (n : ℕ) (whole : ℕ → List ℕ) (counts starts all : List ℕ) → AreCounts n whole counts → length starts ≡ length counts → ((v : ℕ) → v < length counts → get_or starts v 0 ≡ sum (take v counts)) → length all ≡ start whole n
+    → ArePrefixes n whole (λ v. []) starts all
+none_placed n whole counts starts all h pages begins room = record {
   pages = pages ∙ h.pages;
   room = room;
-  reached = λ v lt. let at : get_or starts v 0 ≡ start (predecessors g) v = begins v (omega (arith, h.pages)) ∙ sum_is_start g.nodes (predecessors g) counts h v (omega arith) in omega arith;
+  reached = λ v lt. let at : get_or starts v 0 ≡ start whole v = begins v (omega (arith, h.pages)) ∙ sum_is_start n whole counts h v (omega arith) in omega arith;
   members = λ v lt i none. absurd (omega arith);
 }
 
-module _ (g : Digraph) (ok : IsGraph g) (ends all : List ℕ) (h : ArePlaced g (predecessors g) ends all) where
-  abbrev s : ℕ → ℕ
-  s = start (predecessors g)
+module _ (n : ℕ) (whole : ℕ → List ℕ) (ends all : List ℕ) (h : ArePrefixes n whole whole ends all) where
+  pub begins_at : (v : ℕ) → v < n → get_or (0 ∷ ends) v 0 ≡ start whole v
+  begins_at zero lt = refl
+  begins_at (suc v) lt = h.reached v (omega arith)
 
-  total : s g.nodes ≡ length all
-  total = start_of_all g ok ∙ sym h.room
+  pub ends_within : (v : ℕ) → v < n → get_or ends v 0 ≤ length all
+  ends_within v lt = omega (arith, h.reached v lt, h.room, start_le whole (suc v) n (omega arith))
 
-  starts_at : (v : ℕ) → v < g.nodes → get_or (0 ∷ ends) v 0 ≡ s v
-  starts_at zero lt = refl
-  starts_at (suc v) lt = h.reached v (omega arith)
+  pub list_is : (v : ℕ) → v < n → slice_range all (start whole v) (get_or ends v 0) ≡ whole v
+  list_is v lt = stands all (whole v) (start whole v) (get_or ends v 0) (h.reached v lt) (ends_within v lt) (h.members v lt)
 
-  list_at : (v : ℕ) → v < g.nodes → get_or (pieces 0 ends all) v [] ≡ predecessors g v
-  list_at v lt =
-      let to : get_or ends v 0 ≡ s v + length (predecessors g v) = h.reached v lt in
-      let fits : s (suc v) ≤ s g.nodes = start_le (predecessors g) (suc v) g.nodes (omega arith) in
-      piece_at 0 ends all v (omega (arith, h.pages)) ∙ ap (λ m. slice_range all m (get_or ends v 0)) (starts_at v lt)
-      ∙ stands all (predecessors g v) (s v) (get_or ends v 0) to (omega (arith, total)) (h.members v lt)
+  list_at : (v : ℕ) → v < n → get_or (pieces 0 ends all) v [] ≡ whole v
+  list_at v lt = piece_at 0 ends all v (omega (arith, h.pages)) ∙ ap (λ m. slice_range all m (get_or ends v 0)) (begins_at v lt) ∙ list_is v lt
 
-  lists_are : pieces 0 ends all ≡ (transposed g).lists
-  lists_are = fill_by_all (predecessors g) (pieces 0 ends all) g.nodes [] (length-pieces 0 ends all ∙ h.pages) list_at
+  pub lists_are : pieces 0 ends all ≡ map whole (range_with_len 0 n)
+  lists_are = fill_by_all whole (pieces 0 ends all) n [] (length-pieces 0 ends all ∙ h.pages) list_at
 
-  pub is_transposed : cut (length ends) ends all ≡ transposed g
-  is_transposed = λ i. record { nodes = h.pages i; lists = lists_are i }
+  reaches : (v : ℕ) → v < length ends → get_or ends v 0 ≡ start whole (suc (0 + v))
+  reaches v lt = let e : v ≡ 0 + v = omega arith in h.reached v (omega (arith, h.pages)) ∙ ap (λ (k : ℕ). start whole (suc k)) e
 
-  reaches : (v : ℕ) → v < g.nodes → get_or ends v 0 ≡ s (suc (0 + v))
-  reaches v lt = let e : v ≡ 0 + v = omega arith in h.reached v lt ∙ ap (λ (k : ℕ). s (suc k)) e
+  pub ends_at : EndsAt 0 ends (length all)
+  ends_at =
+      let end : start whole (0 + length ends) ≡ length all = ap (start whole) (omega (arith, h.pages)) ∙ sym h.room in
+      subst (EndsAt 0 ends) end (ends_are (start whole) (λ v. start_le whole v (suc v) (omega arith)) 0 ends reaches)
 
-  pub is_whole : g.nodes ≤ MOST_PAGES → arc_count g ≤ MOST_ARCS → IsCut (length ends) ends all
-  is_whole few_pages few_arcs =
-      let proper = is_proper g in
-      let count : arc_count (transposed g) ≡ arc_count g = as_many g ok in
-      let end : s (0 + length ends) ≡ length all = ap s (omega (arith, h.pages)) ∙ total in
-      record {
-        whole = subst (EndsAt 0 ends) end (ends_are s (λ v. start_le (predecessors g) v (suc v) (omega arith)) 0 ends (λ v lt. reaches v (omega (arith, h.pages))));
-        prefix = subst IsGraphPrefix (sym is_transposed) (record {
-          begun = omega (arith, proper.counted);
-          ascending = proper.ascending;
-          below = proper.below;
-          few_pages = few_pages;
-          few_arcs = omega (arith, count);
-        });
-      }
+pub is_transposed : (g : Digraph) (ends all : List ℕ) → ArePlaced g (predecessors g) ends all → cut (length ends) ends all ≡ transposed g
+is_transposed g ends all h = λ i. record { nodes = h.pages i; lists = lists_are g.nodes (predecessors g) ends all h i }
+
+pub is_whole : (g : Digraph) → IsGraph g → (ends all : List ℕ) → ArePlaced g (predecessors g) ends all → g.nodes ≤ MOST_PAGES → arc_count g ≤ MOST_ARCS → IsCut (length ends) ends all
+is_whole g ok ends all h few_pages few_arcs =
+    let proper = is_proper g in
+    let count : arc_count (transposed g) ≡ arc_count g = as_many g ok in
+    record {
+      whole = ends_at g.nodes (predecessors g) ends all h;
+      prefix = subst IsGraphPrefix (sym (is_transposed g ends all h)) (record {
+        begun = omega (arith, proper.counted);
+        ascending = proper.ascending;
+        below = proper.below;
+        few_pages = few_pages;
+        few_arcs = omega (arith, count);
+      });
+    }
+
+-- ---- all lists, from page 0 on, where h is the graph g read again
+
+pub room_of_all : (g h : Digraph) → h ≡ g → IsGraph h → (n size : ℕ) → n ≡ h.nodes → size ≡ arc_count g → size ≡ start (onward 0 (predecessors h)) n
+room_of_all g h same ok n size pages is = rw (from_none (predecessors h), pages) (is ∙ sym (ap arc_count same) ∙ sym (start_of_all h ok))
+
+pub from_first : (g h : Digraph) → h ≡ g → (n : ℕ) (ends all : List ℕ) → n ≡ h.nodes → ArePlacedFrom h 0 n (predecessors h) ends all → ArePlaced g (predecessors g) ends all
+from_first g h same n ends all pages placed =
+    let here : ArePlaced h (predecessors h) ends all =
+    subst (λ (m : ℕ). ArePrefixes m (predecessors h) (predecessors h) ends all) pages
+    (subst (λ (f : ℕ → List ℕ). ArePrefixes n f f ends all) (from_none (predecessors h)) placed) in
+    subst (λ (d : Digraph). ArePlaced d (predecessors d) ends all) same here

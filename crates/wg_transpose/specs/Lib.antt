@@ -1,3 +1,4 @@
 pub mod Transposed
 pub mod SoFar
+pub mod Transposing
 pub mod Laws

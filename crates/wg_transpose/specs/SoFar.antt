@@ -1,13 +1,17 @@
 -- Which arcs have been counted or placed so far.
 use Rattle.std.specs.Prelude.{◌≡◌, ℕ, zero, suc, ◌+◌, ◌<◌, List, length, get_or}
 use Rattle.wg_graph.specs.Numbers.{numbers_where}
-use Rattle.wg_graph.specs.Digraph.{Digraph, arc_count}
+use Rattle.wg_graph.specs.Digraph.{Digraph, IsGraph, successors}
 use Rattle.wg_graph.specs.Arcs.{has_arc}
 use Rattle.wg_transpose.specs.Transposed.{predecessors}
 
 -- the pages below page k with an arc to page v, ascending
 abbrev pub predecessors_below : Digraph → ℕ → ℕ → List ℕ
 predecessors_below g k v = numbers_where (λ u. has_arc g u v) 0 k
+
+-- the lists from this one on
+abbrev pub onward : ℕ → (ℕ → List ℕ) → ℕ → List ℕ
+onward first lists v = lists (first + v)
 
 -- the sum of the lengths of the lists below list v
 abbrev pub start : (ℕ → List ℕ) → ℕ → ℕ
@@ -19,9 +23,24 @@ pub record AreCounts (n : ℕ) (lists : ℕ → List ℕ) (counts : List ℕ) : 
   pub pages : length counts ≡ n
   pub each : (v : ℕ) → v < n → get_or counts v 0 ≡ length (lists v)
 
--- these are prefixes of the lists of predecessors: each stands from the start of its list on, and its end is known
-pub record ArePlaced (g : Digraph) (lists : ℕ → List ℕ) (ends all : List ℕ) : Type 0 where
-  pub pages : length ends ≡ g.nodes
-  pub room : length all ≡ arc_count g
-  pub reached : (v : ℕ) → v < g.nodes → get_or ends v 0 ≡ start (predecessors g) v + length (lists v)
-  pub members : (v : ℕ) → v < g.nodes → (i : ℕ) → i < length (lists v) → get_or all (start (predecessors g) v + i) 0 ≡ get_or (lists v) i 0
+-- the list that was read is that of page k
+pub record IsListOf (g : Digraph) (k : ℕ) (list : List ℕ) : Type 0 where
+  pub proper : IsGraph g
+  pub page : k < g.nodes
+  pub is : list ≡ successors g k
+
+-- These are prefixes of the first n of the whole lists: each stands from the start of its whole list on, and its end is
+-- known.
+pub record ArePrefixes (n : ℕ) (whole lists : ℕ → List ℕ) (ends all : List ℕ) : Type 0 where
+  pub pages : length ends ≡ n
+  pub room : length all ≡ start whole n
+  pub reached : (v : ℕ) → v < n → get_or ends v 0 ≡ start whole v + length (lists v)
+  pub members : (v : ℕ) → v < n → (i : ℕ) → i < length (lists v) → get_or all (start whole v + i) 0 ≡ get_or (lists v) i 0
+
+-- these are prefixes of the lists of predecessors
+abbrev pub ArePlaced : Digraph → (ℕ → List ℕ) → List ℕ → List ℕ → Type 0
+ArePlaced g lists ends all = ArePrefixes g.nodes (predecessors g) lists ends all
+
+-- the same of the lists of n pages from this one on
+abbrev pub ArePlacedFrom : Digraph → ℕ → ℕ → (ℕ → List ℕ) → List ℕ → List ℕ → Type 0
+ArePlacedFrom g first n lists ends all = ArePrefixes n (onward first (predecessors g)) (onward first lists) ends all

@@ -1,8 +1,8 @@
 //! The transposed graph: each arc the other way round.
 //!
-//! [`transpose`] makes it in two passes over the arcs. The first counts how many arcs lead to each page, so that each
-//! page's list has its place in one array of all lists; the second puts the source of each arc into the list of its
-//! target. The sources come in ascending order, and so each list ascends without a sort.
+//! It is made by two kinds of passes over the arcs. The first counts how many arcs lead to each page, so that each page's
+//! list has its place in one array of lists; the second puts the source of each arc into the list of its target. The
+//! sources come in ascending order, and so each list ascends without a sort.
 //!
 //! ```text
 //! lists of the graph --> count: arcs to each page --> set_starts: where each list begins
@@ -10,24 +10,35 @@
 //! lists of the graph --> place: each source, at the next place of its target's list --> ends, lists
 //! ```
 //!
-//! A graph of three arcs, transposed:
+//! [`transpose`] makes the whole graph in memory, in two passes. A [`Transposer`] gives its lists range after range of
+//! pages, for a graph whose lists are read in order: one pass counts, and then each range takes one, in which the arcs
+//! that lead to other pages are left out. So it holds the lists of one range only.
+//!
+//! A graph of three arcs, transposed, and the ranges of its pages that have one arc at least:
 //!
 //! ```rust
 //! let graph = wg_arcs::read(rt.alloc(), b"0 1\n0 2\n1 2\n", 3)?;
 //! let transposed = transpose(rt.alloc(), &graph)?;
 //! assert!(rt; transposed.list(0) == [].as_slice());
 //! assert!(rt; transposed.list(2) == [0, 1].as_slice());
+//! let mut ranges = Transposer::new(rt.alloc(), GraphLists::new(&graph))?;
+//! ranges.advance(rt.alloc(), 1)?;
+//! assert!(rt; ranges.from() == 0 && ranges.to() == 2);
+//! assert!(rt; ranges.list(1) == [0].as_slice());
 //! Ok(())
 //! ```
 //!
-//! It takes time in proportion to the arcs and pages. Memory is taken twice, at the beginning, and is that of the graph
-//! made: 8 bytes for each arc and 8 for each page. The starts become the ends of the lists in the same array, as the
-//! sources are placed.
+//! A pass takes time in proportion to the arcs and pages. `transpose` takes memory twice, at the beginning, and that is
+//! that of the graph made: 8 bytes for each arc and 8 for each page. A `Transposer` takes 8 bytes for each page when it
+//! is made, and for each range 8 for each arc that leads to it. The starts become the ends of the lists in the same
+//! array, as the sources are placed. With the room that [`range_room`] gives, there are 15 ranges at most.
 #![tactic(auto)]
 
 mod counting;
 pub mod laws;
 mod placing;
+mod transposer;
 mod transposing;
 
+pub use transposer::{Transposer, range_room};
 pub use transposing::transpose;

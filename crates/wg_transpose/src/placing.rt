@@ -1,31 +1,79 @@
 // The sources of arcs, each in the list of its target.
 
-ghost use Rattle.std.specs.Prelude.{◌+◌, ◌<◌};
-ghost use Rattle.wg_graph.specs.Digraph.{IsGraph};
-ghost use Rattle.wg_transpose.specs.SoFar.{predecessors_below, ArePlaced};
+ghost use Rattle.std.specs.Prelude.{◌≡◌, ◌⊎◌, ℕ, ◌+◌, ◌-◌, ◌<◌, ◌≤◌, length, slice_index, slice_set};
+ghost use Rattle.wg_params.specs.declared.limits.TheConstants.{MOST_ARCS};
+ghost use Rattle.wg_graph.specs.Digraph.{Digraph};
+ghost use Rattle.wg_transpose.specs.Transposed.{predecessors};
+ghost use Rattle.wg_transpose.specs.SoFar.{predecessors_below, onward, start, AreCounts, ArePlacedFrom, IsListOf};
 
-use wg_graph::Graph;
+use crate::counting::set_starts;
+use wg_graph::Lists;
 
-// Puts a page at the end of the list of each of its successors.
-fn place_page(graph: &Graph, page: u64, ends: &mut [u64], all: &mut [u64])
-    requires proper { IsGraph graph.now }
-    requires page { page < graph.now.nodes }
-    requires placed { ArePlaced graph.now (predecessors_below graph.now page) ends.old all.old }
-    ensures placed { ArePlaced graph.now (predecessors_below graph.now (page + 1)) ends.new all.new }
+// Puts the page at the end of the list of the target, if that is one of those from page `from` on.
+#[inline(always)]
+fn put(page: u64, target: u64, from: u64, ends: &mut [u64], all: &mut [u64])
+    requires room { from ≤ target → target - from < length ends.old
+        → slice_index ends.old (target - from) < length all.old }
+    ensures ends { from ≤ target → target - from < length ends.old
+        → ends.new ≡ slice_set ends.old (target - from) (slice_index ends.old (target - from) + 1) }
+    ensures all { from ≤ target → target - from < length ends.old
+        → all.new ≡ slice_set all.old (slice_index ends.old (target - from)) page }
+    ensures same_ends { (target < from) ⊎ (length ends.old ≤ target - from) → ends.new ≡ ends.old }
+    ensures same_all { (target < from) ⊎ (length ends.old ≤ target - from) → all.new ≡ all.old }
 {
-    for target in graph.list(page) {
-        let end = ends[*target as usize];
-        all[end as usize] = page;
-        ends[*target as usize] = end + 1;
+    if target < from {
+        return;
+    }
+    let list = (target - from) as usize;
+    if list >= ends.len() {
+        return;
+    }
+    let end = ends[list];
+    all[end as usize] = page;
+    ends[list] = end + 1;
+}
+
+// Puts a page, whose list was read, at the end of the lists of its successors, of those from page `from` on.
+fn place_arcs(page: u64, list: &[u64], from: u64, ends: &mut [u64], all: &mut [u64])
+    requires placed { (g : Digraph) × (n : ℕ) × IsListOf g page list.now
+        × ArePlacedFrom g from n (predecessors_below g page) ends.old all.old }
+    ensures placed { (g : Digraph) (n : ℕ) → IsListOf g page list.now
+        → ArePlacedFrom g from n (predecessors_below g page) ends.old all.old
+        → ArePlacedFrom g from n (predecessors_below g (page + 1)) ends.new all.new }
+{
+    for target in list {
+        put(page, *target, from, ends, all);
     }
 }
 
-// Puts each page at the end of the lists of its successors, so that what were starts become ends.
-pub(crate) fn place(graph: &Graph, ends: &mut [u64], all: &mut [u64])
-    requires none { ArePlaced graph.now (predecessors_below graph.now 0) ends.old all.old }
-    ensures placed { ArePlaced graph.now (predecessors_below graph.now graph.now.nodes) ends.new all.new }
+// Puts each page at the end of the lists of its successors, of those from page `from` on, so that what were starts
+// become ends.
+fn place<L: Lists>(lists: &mut L, from: u64, ends: &mut [u64], all: &mut [u64])
+    requires none { ArePlacedFrom (L.graph lists.old) from (length ends.old)
+        (predecessors_below (L.graph lists.old) 0) ends.old all.old }
+    ensures graph { L.graph lists.new ≡ L.graph lists.old }
+    ensures placed { ArePlacedFrom (L.graph lists.old) from (length ends.old)
+        (predecessors (L.graph lists.old)) ends.new all.new }
 {
-    for page in 0..graph.nodes() {
-        place_page(graph, page, ends, all);
+    let pages = lists.nodes();
+    lists.begin();
+    for page in 0..pages {
+        if let Some(list) = lists.next_list() {
+            place_arcs(page, list, from, ends, all);
+        }
     }
+}
+
+// Fills in the lists of the predecessors of the pages from page `from` on, one after the other, and their ends, where
+// it was counted how long they are.
+pub(crate) fn fill<L: Lists>(lists: &mut L, from: u64, ends: &mut [u64], all: &mut [u64])
+    requires counted { AreCounts (length ends.old) (onward from (predecessors (L.graph lists.old))) ends.old }
+    requires room { length all.old ≡ start (onward from (predecessors (L.graph lists.old))) (length ends.old) }
+    requires few { length all.old ≤ MOST_ARCS }
+    ensures graph { L.graph lists.new ≡ L.graph lists.old }
+    ensures placed { ArePlacedFrom (L.graph lists.old) from (length ends.old)
+        (predecessors (L.graph lists.old)) ends.new all.new }
+{
+    set_starts(ends);
+    place(lists, from, ends, all);
 }

@@ -5,14 +5,13 @@ ghost use Rattle.wg_graph.specs.Arcs.{has_arc};
 ghost use Rattle.wg_graph.specs.Pieces.{cut, IsCut};
 ghost use Rattle.wg_transpose.specs.Transposed.{transposed};
 
-use crate::counting::{count, set_starts};
-use crate::placing::place;
+use crate::counting::count;
+use crate::placing::fill;
 use std::alloc::{AllocError, Global};
-use wg_graph::Graph;
+use wg_graph::{Graph, GraphLists};
 
 // Fills in the lists of the transposed graph, one after the other, and their ends.
-fn fill(graph: &Graph, ends: &mut [u64], all: &mut [u64])
-    requires proper { IsGraph graph.now }
+fn fill_all(graph: &Graph, ends: &mut [u64], all: &mut [u64])
     requires few_pages { graph.now.nodes ≤ MOST_PAGES }
     requires few_arcs { arc_count graph.now ≤ MOST_ARCS }
     requires ends { ends.old ≡ replicate graph.now.nodes 0 }
@@ -20,9 +19,9 @@ fn fill(graph: &Graph, ends: &mut [u64], all: &mut [u64])
     ensures whole { IsCut (length ends.new) ends.new all.new }
     ensures exact { cut (length ends.new) ends.new all.new ≡ transposed graph.now }
 {
-    count(graph, ends);
-    set_starts(ends);
-    place(graph, ends, all);
+    let mut lists = GraphLists::new(graph);
+    count(&mut lists, ends);
+    fill(&mut lists, 0, ends, all);
 }
 
 /// The graph with each arc the other way round. It takes time in proportion to the arcs and pages, and no memory but
@@ -36,6 +35,6 @@ pub fn transpose(alloc: Global, graph: &Graph) -> Result<Graph, AllocError>
 {
     let mut ends = vec![in alloc; 0; graph.nodes() as usize]?;
     let mut all = vec![in alloc; 0; graph.arcs() as usize]?;
-    fill(graph, &mut ends, &mut all);
+    fill_all(graph, &mut ends, &mut all);
     Ok(Graph::from_parts(ends, all))
 }

@@ -19,4 +19,4 @@ returns-clause-whole c =
 pub returns-clause-exact : goal.returns-clause-exact
 returns-clause-exact c =
     let p : Classes = c.args.pages.now in
-    is_transposed (whole p) (is_proper p.graph p.classes p.count) c.place.new.ends c.place.new.all (all_placed (whole p) c.place.new.marks c.place.new.ends c.place.new.all c.place.ensures.placed)
+    is_transposed (whole p) c.place.new.ends c.place.new.all (all_placed (whole p) c.place.new.marks c.place.new.ends c.place.new.all c.place.ensures.placed)

@@ -1,9 +1,11 @@
-use Rattle.std.proofs.Common.{◌≡◌, ℕ, ◌<◌, List, length, replicate, get_or, ap, ◌∙◌, arith}
+use Rattle.std.proofs.Common.{◌≡◌, ℕ, ◌<◌, List, length, replicate, get_or, sym, ap, ◌∙◌, arith}
 use Rattle.std.proofs.lemmas.List.{get_or-replicate, length-replicate}
 use Rattle.wg_shape.specs.Classes.{Classes, whole}
 use Rattle.wg_shape.proofs.Made.{none_counted, all_counted, sum_is}
 use Rattle.wg_shape.proofs.Quotients.{is_proper}
 use Rattle.wg_shape.proofs.Fewer.{fewer}
+use Rattle.wg_transpose.specs.Transposed.{predecessors}
+use Rattle.wg_transpose.proofs.Totals.{start_of_all}
 use Rattle.wg_transpose.proofs.Whole.{none_placed}
 use Rattle.wg_shape.proofs.gathering.find_starts.Goals as goal
 
@@ -32,5 +34,7 @@ returns c =
     let counted = all_counted (whole p) c.count.new.marks c.count.new.counts c.count.ensures.counted in
     record {
       arcs = c.set_starts.ensures.total ∙ sum_is (whole p) (is_proper p.graph p.classes p.count) c.count.new.counts counted;
-      starts = λ all room. none_placed (whole p) c.count.new.counts c.set_starts.new.counts all counted c.set_starts.ensures.classes c.set_starts.ensures.starts room;
+      starts = λ all room.
+          none_placed (whole p).nodes (predecessors (whole p)) c.count.new.counts c.set_starts.new.counts all counted c.set_starts.ensures.classes c.set_starts.ensures.starts
+          (room ∙ sym (start_of_all (whole p) (is_proper p.graph p.classes p.count)));
     }

@@ -1,8 +1,6 @@
 use Rattle.std.proofs.Common.{take}
-use Rattle.wg_graph.specs.Digraph.{successors}
-use Rattle.wg_transpose.specs.SoFar.{AreCounts}
-use Rattle.wg_transpose.proofs.Seen.{with_page}
+use Rattle.wg_transpose.proofs.Steps.{HaveOneMore}
 use Rattle.wg_transpose.proofs.counting.count_arcs.Given as goal
 
 abbrev pub invariant-loop-target : goal.invariant-loop-target
-invariant-loop-target l = AreCounts l.graph.nodes (with_page l.graph l.page (take l.target-index (successors l.graph l.page))) l.counts
+invariant-loop-target l = HaveOneMore (take l.target-index l.list) l.fn.counts l.counts

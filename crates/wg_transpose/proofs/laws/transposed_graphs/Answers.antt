@@ -1,5 +1,6 @@
 use Rattle.wg_transpose.proofs.Reversed.{are_reversed, is_proper, gives_back, is_one}
 use Rattle.wg_transpose.proofs.Totals.{as_many}
+use Rattle.wg_transpose.proofs.Ranges.{are_few}
 use Rattle.wg_transpose.proofs.laws.transposed_graphs.Goals as goal
 
 pub returns-clause-reversed : goal.returns-clause-reversed
@@ -16,3 +17,6 @@ returns-clause-twice c = gives_back
 
 pub returns-clause-one : goal.returns-clause-one
 returns-clause-one c = is_one
+
+pub returns-clause-ranges : goal.returns-clause-ranges
+returns-clause-ranges c = are_few

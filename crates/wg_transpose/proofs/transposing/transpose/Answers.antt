@@ -7,7 +7,7 @@ use Rattle.wg_transpose.proofs.transposing.transpose.Goals as goal
 use Rattle.wg_transpose.proofs.transposing.transpose.Goals.{After-from_parts}
 
 is_made : (c : After-from_parts) → c.from_parts.result ≡ transposed c.args.graph.now
-is_made c = c.from_parts.ensures ∙ rw (with_items_is c.in_ok-ends.ends c.fill.new.ends (omega arith), with_items_is c.in_ok-all.all c.fill.new.all (omega arith)) c.fill.ensures.exact
+is_made c = c.from_parts.ensures ∙ rw (with_items_is c.in_ok-ends.ends c.fill_all.new.ends (omega arith), with_items_is c.in_ok-all.all c.fill_all.new.all (omega arith)) c.fill_all.ensures.exact
 
 pub returns-clause-exact : goal.returns-clause-exact
 returns-clause-exact c = is_made c

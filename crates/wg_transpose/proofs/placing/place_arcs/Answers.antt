@@ -1,0 +1,26 @@
+use Rattle.std.proofs.Common.{arith}
+use Rattle.wg_transpose.proofs.Steps.{place_below, place_step, place_end, none_yet}
+use Rattle.wg_transpose.proofs.placing.place_arcs.Goals as goal
+
+pub loop-target-init : goal.loop-target-init
+loop-target-init c = λ g n is h. none_yet g c.args.from n c.args.page c.args.ends.now c.args.all.now h
+
+pub put-requires : goal.put-requires
+put-requires c = record {
+  room = λ low high.
+      let r = c.requires.placed in
+      let h = c.loop-target.invariant r.0 r.1 r.2 r.3 in
+      let pages = h.pages in
+      place_below r.0 c.args.from r.1 c.args.page c.loop-target.target-index c.args.list.now c.loop-target.ends c.loop-target.all r.2 (omega arith) h low (omega arith);
+}
+
+pub loop-target-preserved : goal.loop-target-preserved
+loop-target-preserved c = λ g n is h.
+    let before = c.loop-target.invariant g n is h in
+    place_step g c.args.from n c.args.page c.loop-target.target-index c.args.list.now c.loop-target.ends c.loop-target.all is (omega arith) before
+    c.put.new.ends c.put.new.all c.put.ensures.ends c.put.ensures.all c.put.ensures.same_ends c.put.ensures.same_all
+
+pub returns : goal.returns
+returns c = record {
+  placed = λ g n is h. place_end g c.args.from n c.args.page c.loop-target.target-index c.args.list.now c.loop-target.ends c.loop-target.all is (omega arith) (c.loop-target.invariant g n is h);
+}

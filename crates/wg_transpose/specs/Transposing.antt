@@ -1,0 +1,35 @@
+-- The lists of a transposed graph, range after range of pages.
+use Rattle.std.specs.Prelude.{◌≡◌, ℕ, ◌+◌, ◌-◌, ◌<◌, ◌≤◌, List, length, drop, slice_range}
+use Rattle.wg_params.specs.declared.limits.TheConstants.{MOST_ARCS, MOST_PAGES}
+use Rattle.wg_graph.specs.Digraph.{Digraph, IsGraph, arc_count}
+use Rattle.wg_transpose.specs.Transposed.{predecessors}
+use Rattle.wg_transpose.specs.SoFar.{onward, start, AreCounts, ArePlacedFrom}
+
+-- a graph, and the range of pages whose lists of predecessors are at hand: from the first page up to the one before `to`
+pub record Transposing : Type 0 where
+  pub graph : Digraph
+  pub from : ℕ
+  pub to : ℕ
+
+-- how many arcs lead to the pages from this one on, up to that one
+abbrev pub arcs_between : Digraph → ℕ → ℕ → ℕ
+arcs_between g from to = start (onward from (predecessors g)) (to - from)
+
+-- The lists of the range stand one after the other, and their ends are known; of each page behind the range it is known
+-- how many arcs lead to it.
+pub record HoldsRange (g : Digraph) (from to : ℕ) (ends all : List ℕ) : Type 0 where
+  pub proper : IsGraph g
+  pub few_pages : g.nodes ≤ MOST_PAGES
+  pub few_arcs : arc_count g ≤ MOST_ARCS
+  pub pages : length ends ≡ g.nodes
+  pub ordered : from ≤ to
+  pub within : to ≤ g.nodes
+  pub lists : ArePlacedFrom g from (to - from) (predecessors g) (slice_range ends from to) all
+  pub counts : AreCounts (g.nodes - to) (onward to (predecessors g)) (drop to ends)
+
+-- Ranges of pages that follow one another: range k has the pages from (at k) on, up to (at (k + 1)), and each but the
+-- last has at least `room` arcs.
+pub record AreRanges (g : Digraph) (room n : ℕ) (at : ℕ → ℕ) : Type 0 where
+  pub follow : (k : ℕ) → k < n → at k ≤ at (k + 1)
+  pub within : at n ≤ g.nodes
+  pub full : (k : ℕ) → k + 1 < n → room ≤ arcs_between g (at k) (at (k + 1))
