@@ -1,8 +1,8 @@
 //! The transposed graph: each arc the other way round.
 //!
-//! It is made by two kinds of passes over the arcs. The first counts how many arcs lead to each page, so that each page's
-//! list has its place in one array of lists; the second puts the source of each arc into the list of its target. The
-//! sources come in ascending order, and so each list ascends without a sort.
+//! It is made by two kinds of passes over the arcs. The first counts how many arcs lead to each page, so that each
+//! page's list has its place in one array of lists; the second puts the source of each arc into the list of its target.
+//! The sources come in ascending order, and so each list ascends without a sort.
 //!
 //! ```text
 //! lists of the graph --> count: arcs to each page --> set_starts: where each list begins
@@ -28,9 +28,9 @@
 //! Ok(())
 //! ```
 //!
-//! A pass takes time in proportion to the arcs and pages. `transpose` takes memory twice, at the beginning, and that is
-//! that of the graph made: 8 bytes for each arc and 8 for each page. A `Transposer` takes 8 bytes for each page when it
-//! is made, and for each range 8 for each arc that leads to it. The starts become the ends of the lists in the same
+//! A pass takes time in proportion to the arcs and pages. `transpose` takes memory twice, at the beginning, and that
+//! is that of the graph made: 8 bytes for each arc and 8 for each page. A `Transposer` takes 8 bytes for each page when
+//! it is made, and for each range 8 for each arc that leads to it. The starts become the ends of the lists in the same
 //! array, as the sources are placed. With the room that [`range_room`] gives, there are 15 ranges at most.
 #![tactic(auto)]
 

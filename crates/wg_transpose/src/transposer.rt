@@ -23,8 +23,8 @@ pub fn range_room(arcs: u64) -> u64
 
 /// The lists of the transposed graph of a graph whose lists are read in order, range after range of pages.
 ///
-/// It is seen as the graph, and the range of pages whose lists are at hand: from page `from` up to the page before `to`.
-/// It holds 8 bytes for each page, and 8 for each arc that leads to a page of the range.
+/// It is seen as the graph, and the range of pages whose lists are at hand: from page `from` up to the page before
+/// `to`. It holds 8 bytes for each page, and 8 for each arc that leads to a page of the range.
 #[derive(Drop)]
 pub struct Transposer<L: Lists + Drop> {
     lists: L,
@@ -111,8 +111,8 @@ impl<L: Lists + Drop> Transposer<L> {
     }
 
     /// Goes to the next range, in one pass along the lists: it ends with the page by which it has `room` arcs or more,
-    /// or with the last page. The memory of the range before is given back first. Where there is none for the next, the
-    /// range is empty, and stands before the same page.
+    /// or with the last page. The memory of the range before is given back first. Where there is none for the next,
+    /// the range is empty, and stands before the same page.
     pub fn advance(&mut self, alloc: Global, room: u64) -> Result<(), AllocError>
         ensures graph { self.new.graph ≡ self.old.graph }
         ensures from { self.new.from ≡ self.old.to }
