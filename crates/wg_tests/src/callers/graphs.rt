@@ -5,7 +5,7 @@ use wg_graph::{GraphBuilder, GraphLists, Lists};
 use wg_io::SteadySink;
 use wg_order::Ranking;
 use wg_rank::{Bounds, UNITS};
-use wg_transpose::transpose;
+use wg_transpose::{Transposer, transpose};
 use wg_vectors::{COPIED, bytes_of, generate};
 
 // In the overview of wg_graph.
@@ -71,6 +71,10 @@ fn arcs_the_other_way_round(rt: HostRuntime) -> Result<(), Fail> {
     let transposed = transpose(rt.alloc(), &graph)?;
     assert!(rt; transposed.list(0) == [].as_slice());
     assert!(rt; transposed.list(2) == [0, 1].as_slice());
+    let mut ranges = Transposer::new(rt.alloc(), GraphLists::new(&graph))?;
+    ranges.advance(rt.alloc(), 1)?;
+    assert!(rt; ranges.from() == 0 && ranges.to() == 2);
+    assert!(rt; ranges.list(1) == [0].as_slice());
     Ok(())
 }
 

@@ -1,7 +1,8 @@
 // Graphs and lists: what another program draws, and the memory that is kept.
 use std::test::Fail;
 use wg_decoder::Spares;
-use wg_graph::List;
+use wg_graph::{GraphLists, List};
+use wg_transpose::{Transposer, transpose};
 use wg_vectors::generate;
 
 // The lists of the graph of 12 pages from the seed 3, which another program drew.
@@ -26,6 +27,32 @@ fn a_graph_that_another_program_draws(rt: HostRuntime) -> Result<(), Fail> {
     assert!(rt; graph.nodes() == 12);
     for page in 0..12_u64 {
         assert!(rt; graph.list(page) == DRAWN[page as usize], "{page}");
+    }
+    Ok(())
+}
+
+// Where ranges of its pages end that are to have so many arcs each. 0, 3, 2, 2, 0, 1, 2, 9, 2, 3, 8 and 9 arcs lead to
+// its pages.
+const ENDS: [(u64, &[u64]); 4] = [
+    (10, &[7, 9, 11, 12]),
+    (20, &[9, 12]),
+    (41, &[12]),
+    (1000, &[12]),
+];
+
+#[test]
+fn ranges_have_the_lists_of_the_transposed_graph(rt: HostRuntime) -> Result<(), Fail> {
+    let graph = generate(rt.alloc(), 3, 12)?;
+    let transposed = transpose(rt.alloc(), &graph)?;
+    for (room, ends) in ENDS {
+        let mut ranges = Transposer::new(rt.alloc(), GraphLists::new(&graph))?;
+        for end in ends {
+            ranges.advance(rt.alloc(), room)?;
+            assert!(rt; ranges.to() == *end && *end <= transposed.nodes());
+            for page in ranges.from()..ranges.to() {
+                assert!(rt; ranges.list(page) == transposed.list(page));
+            }
+        }
     }
     Ok(())
 }
