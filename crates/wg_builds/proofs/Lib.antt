@@ -5,4 +5,5 @@ pub mod ImportJobs
 pub mod LoadedLemmas
 pub mod QuotientJobs
 pub mod RecodedLemmas
+pub mod TransposedLemmas
 pub mod UnionJobs

@@ -65,7 +65,8 @@ pub fn end_archive(
     }
 }
 
-fn with_properties(
+/// The same, where want of memory is told as such.
+pub fn with_properties(
     alloc: Global,
     encoder: ArchiveEncoder,
     params: &Params,

@@ -36,5 +36,6 @@ mod loaded;
 pub mod quotient;
 pub mod recode;
 pub mod transpose;
+mod transposing;
 pub mod union;
 mod writing;

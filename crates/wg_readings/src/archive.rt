@@ -7,7 +7,7 @@ ghost use Rattle.wg_params.specs.declared.limits.TheConstants.{MOST_PAGES};
 ghost use Rattle.wg_properties.specs.Judged.{properties_of};
 ghost use Rattle.wg_properties.specs.declared.fault.PropFault.{PropFault};
 ghost use Rattle.wg_grammar.specs.Archive.{Accepted};
-ghost use Rattle.wg_graph.specs.Digraph.{Digraph};
+ghost use Rattle.wg_graph.specs.Digraph.{Digraph, arc_count};
 ghost use Rattle.wg_grammar.specs.declared.fault.ArchiveFault.{ArchiveFault};
 ghost use Rattle.wg_stream.specs.Sweeping.{PassFinds};
 ghost use Rattle.wg_outcomes.specs.Answers.{Steps};
@@ -109,6 +109,7 @@ pub fn lists_of_records<'a>(
     requires { length bytes.now ≤ MOST_BYTES }
     ensures nodes { IfOk result (λ s. s.graph.nodes ≡ params.now.nodes) }
     ensures few { IfOk result (λ s. s.graph.nodes ≤ MOST_PAGES) }
+    ensures arcs { IfOk result (λ s. arc_count s.graph ≡ params.now.arcs) }
     ensures goes { (r : Readings) → IfOk result (λ s. Steps (with_digraph r params.now bytes.now) (Ok s.graph)) }
     ensures refused { (r : Readings) → IfErr result (λ e. Steps {B = Digraph}
         (with_digraph r params.now bytes.now) (Err e)) }

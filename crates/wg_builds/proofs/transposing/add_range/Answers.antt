@@ -1,0 +1,47 @@
+use Rattle.std.proofs.Common.{◌≡◌, ◌∙◌, ℕ, ◌<◌, ◌≤◌, List, length, take, sym, ap, subst, arith}
+use Rattle.wg_params.specs.Parameters.{Parameters}
+use Rattle.wg_graph.specs.Ascending.{Below}
+use Rattle.wg_graph.specs.Digraph.{Digraph}
+use Rattle.wg_encoder.specs.ArchiveInMemory.{HasEncoded}
+use Rattle.wg_transpose.specs.Transposed.{transposed}
+use Rattle.wg_builds.proofs.TransposedLemmas.{lists_before, one_list_more, list_fits}
+use Rattle.wg_builds.proofs.transposing.add_range.Goals as goal
+
+pub add-requires-clause-page : goal.add-requires-clause-page
+add-requires-clause-page g c =
+    let i = c.loop-page.invariant in
+    omega (arith, i.encoded.page, lists_before c.args.ranges.now.graph c.loop-page.page (omega arith), ap (λ (p : Parameters). p.nodes) i.params)
+
+pub add-requires-clause-list : goal.add-requires-clause-list
+add-requires-clause-list g c =
+    let nodes : c.args.ranges.now.graph.nodes ≡ c.loop-page.encoder.params.nodes = sym c.requires.nodes ∙ sym (ap (λ (p : Parameters). p.nodes) c.loop-page.invariant.params) in
+    record { ascends = c.list.ensures.ascends; below = subst (λ (n : ℕ). Below n c.list.result.now) nodes c.list.ensures.below }
+
+pub add-requires-clause-arcs : goal.add-requires-clause-arcs
+add-requires-clause-arcs g c =
+    let i = c.loop-page.invariant in
+    omega (
+      arith,
+      i.encoded.arcs, ap (λ (p : Parameters). p.arcs) i.params, c.requires.arcs,
+      list_fits c.args.ranges.now.graph c.loop-page.page (omega arith) c.list.result.now c.list.ensures.value c.nodes.ensures.proper,
+    )
+
+pub loop-page-preserved : goal.loop-page-preserved
+loop-page-preserved g c =
+    let graph : Digraph = c.args.ranges.now.graph in
+    let i = c.loop-page.invariant in
+    let e = c.in_ok-encoder.ensures in
+    record {
+      params = e.params ∙ i.params;
+      encoded =
+          subst (HasEncoded c.in_ok-encoder.encoder) (one_list_more graph c.loop-page.page (omega arith) c.list.result.now c.list.ensures.value)
+          (e.encoded (take c.loop-page.page (transposed graph).lists) i.encoded);
+    }
+
+pub returns : goal.returns
+returns g c =
+    let all : c.loop-page.page ≡ c.args.ranges.now.to = omega arith in
+    record {
+      params = c.loop-page.invariant.params;
+      encoded = subst (λ (k : ℕ). HasEncoded c.loop-page.encoder (take k (transposed c.args.ranges.now.graph).lists)) all c.loop-page.invariant.encoded;
+    }
