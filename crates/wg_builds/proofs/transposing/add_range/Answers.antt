@@ -1,4 +1,4 @@
-use Rattle.std.proofs.Common.{◌≡◌, ◌∙◌, ℕ, ◌<◌, ◌≤◌, List, length, take, sym, ap, subst, arith}
+use Rattle.std.proofs.Common.{◌≡◌, ◌∙◌, ℕ, take, sym, ap, subst, arith}
 use Rattle.wg_params.specs.Parameters.{Parameters}
 use Rattle.wg_graph.specs.Ascending.{Below}
 use Rattle.wg_graph.specs.Digraph.{Digraph}
@@ -22,7 +22,9 @@ add-requires-clause-arcs g c =
     let i = c.loop-page.invariant in
     omega (
       arith,
-      i.encoded.arcs, ap (λ (p : Parameters). p.arcs) i.params, c.requires.arcs,
+      i.encoded.arcs,
+      ap (λ (p : Parameters). p.arcs) i.params,
+      c.requires.arcs,
       list_fits c.args.ranges.now.graph c.loop-page.page (omega arith) c.list.result.now c.list.ensures.value c.nodes.ensures.proper,
     )
 

@@ -10,6 +10,9 @@ with_properties-requires g c =
     let graph = c.in_ok-ranges.ranges.graph in
     omega (
       arith,
-      e.encoded.page, count graph, c.requires.nodes,
-      ap (λ (d : Digraph). d.nodes) c.in_ok-ranges.ensures.graph, ap (λ (p : Parameters). p.nodes) (e.params ∙ c.in_ok-begun.ensures.params),
+      e.encoded.page,
+      count graph,
+      c.requires.nodes,
+      ap (λ (d : Digraph). d.nodes) c.in_ok-ranges.ensures.graph,
+      ap (λ (p : Parameters). p.nodes) (e.params ∙ c.in_ok-begun.ensures.params),
     )
