@@ -23,7 +23,8 @@
 //! ```
 //!
 //! `recode` reads the graph in pieces; all other inputs are held whole until they are read. `union` holds the bytes
-//! of two graph files, and goes through their lists side by side.
+//! of two graph files, and goes through their lists side by side; `transpose` holds those of one, and goes through its
+//! lists once for each range of pages.
 #![tactic(auto)]
 
 pub mod build;

@@ -71,9 +71,9 @@ fn archive_of_lists<L: Lists + Drop>(
     with_properties(alloc, encoder, params)
 }
 
-/// The archive of the transposed graph of a graph whose lists are read in order, with these parameters. It goes along the
-/// lists once for each range of pages, at most 15 times, and once before. Beside the archive it holds 8 bytes a page, and
-/// 8 an arc of one range: a fourteenth of the arcs or 2^24 of them, if that is more, and those of one page.
+/// The archive of the transposed graph of a graph whose lists are read in order, with these parameters. It goes along
+/// the lists once for each range of pages, at most 15 times, and once before. Beside the archive it holds 8 bytes a
+/// page, and 8 an arc of one range: a fourteenth of the arcs or 2^24 of them, if that is more, and those of one page.
 pub fn encode_transposed<L: Lists + Drop>(
     alloc: Global,
     params: &Params,
