@@ -1,33 +1,33 @@
--- The lists of one range of pages, and the range after it.
-use Rattle.std.proofs.Common.{◌≡◌, ℕ, zero, suc, ◌+◌, ◌-◌, ◌*◌, ◌<◌, ◌≤◌, List, ◌++◌, length, take, drop, get_or, slice_range, refl, sym, ap, subst, ◌∙◌, arith, length-drop, length-append}
+-- The lists of one range, and the range after it.
+use Rattle.std.proofs.Common.{◌≡◌, ℕ, zero, suc, ◌+◌, ◌-◌, ◌*◌, ◌<◌, ◌≤◌, List, ◌++◌, length, take, drop, get_or, slice_range, refl, sym, ap, subst, ◌∙◌, arith, length-drop, length-append, zero-add, []}
 use Rattle.std.specs.Prelude.{sum}
 use Rattle.std.proofs.lemmas.List.{length-take-le, get_or-take, get_or-drop, drop-drop}
 use Rattle.std.proofs.lemmas.Slice.{drop-put_mid, between-put_mid}
 use borrow.Rule.Slice.PartMut.{put_mid}
 use Rattle.std.proofs.lemmas.List.Edits.{length-between, get_or-between}
-use Rattle.wg_params.specs.declared.limits.TheConstants.{MOST_ARCS}
-use Rattle.wg_graph.specs.Digraph.{Digraph}
+use Rattle.wg_params.specs.declared.limits.TheConstants.{MOST_ARCS, MOST_PAGES}
+use Rattle.wg_graph.specs.Digraph.{Digraph, IsGraph, arc_count}
 use Rattle.wg_transpose.specs.Transposed.{predecessors}
-use Rattle.wg_transpose.specs.SoFar.{onward, start, AreCounts, ArePlacedFrom}
-use Rattle.wg_transpose.specs.Transposing.{HoldsRange, AreRanges}
+use Rattle.wg_transpose.specs.SoFar.{onward, start, AreCounts, ArePrefixes}
+use Rattle.wg_transpose.specs.Transposing.{HoldsLists, HoldsRange, AreRanges}
 use Rattle.wg_transpose.specs.Laws.{RangesAreFew}
 use Rattle.wg_transpose.proofs.Totals.{start_le, start_of_all, sum_is_start, sum_is_all}
 use Rattle.wg_transpose.proofs.Whole.{ends_within, list_is}
 
 -- ---- one list
 
-module _ (g : Digraph) (from to : ℕ) (ends all : List ℕ) (h : HoldsRange g from to ends all) (page : ℕ) (low : from ≤ page) (high : page < to) where
+module _ (n : ℕ) (lists : ℕ → List ℕ) (from to : ℕ) (ends all : List ℕ) (h : HoldsLists n lists from to ends all) (page : ℕ) (low : from ≤ page) (high : page < to) where
   abbrev v : ℕ
   v = page - from
 
   abbrev whole : ℕ → List ℕ
-  whole = onward from (predecessors g)
+  whole = onward from lists
 
   abbrev part : List ℕ
   part = slice_range ends from to
 
   pub end_there : page < length ends
-  end_there = omega (arith, h.pages, h.within)
+  end_there = omega (arith, h.counted, h.within)
 
   at_end : get_or part v 0 ≡ get_or ends page 0
   at_end =
@@ -51,11 +51,11 @@ module _ (g : Digraph) (from to : ℕ) (ends all : List ℕ) (h : HoldsRange g f
   pub list_ordered : (begin : ℕ) → begin ≡ start whole v → begin ≤ get_or ends page 0
   list_ordered begin is = omega (arith, is, at_end, h.lists.reached v (omega arith))
 
-  pub list_there : (begin : ℕ) → begin ≡ start whole v → slice_range all begin (get_or ends page 0) ≡ predecessors g page
+  pub list_there : (begin : ℕ) → begin ≡ start whole v → slice_range all begin (get_or ends page 0) ≡ lists page
   list_there begin is =
       let e : from + v ≡ page = omega arith in
       ap (λ (b : ℕ). slice_range all b (get_or ends page 0)) is ∙ ap (slice_range all (start whole v)) (sym at_end)
-      ∙ list_is (to - from) whole part all h.lists v (omega arith) ∙ ap (predecessors g) e
+      ∙ list_is (to - from) whole part all h.lists v (omega arith) ∙ ap lists e
 
 -- ---- the next range
 
@@ -74,28 +74,28 @@ length_written a k xs ys fits size =
       length-drop a xs,
     )
 
-module _ (g : Digraph) (from to : ℕ) (ends all : List ℕ) (h : HoldsRange g from to ends all) where
+module _ (n : ℕ) (lists : ℕ → List ℕ) (from to : ℕ) (ends all : List ℕ) (h : HoldsLists n lists from to ends all) where
   abbrev rest : ℕ → List ℕ
-  rest = onward to (predecessors g)
+  rest = onward to lists
 
-  -- no more arcs lead to the pages behind the range than there are
-  few_behind : (n : ℕ) → n ≤ g.nodes - to → start rest n ≤ MOST_ARCS
-  few_behind n le =
-      let all_of : to + (g.nodes - to) ≡ g.nodes = (let within = h.within in omega arith) in
-      omega (arith, h.few_arcs, start_le rest n (g.nodes - to) le, start_split (predecessors g) to (g.nodes - to), ap (start (predecessors g)) all_of, start_of_all g h.proper)
+  -- the lists behind the range have no more numbers than all
+  few_behind : (k : ℕ) → k ≤ n - to → start rest k ≤ MOST_ARCS
+  few_behind k le =
+      let all_of : to + (n - to) ≡ n = (let within = h.within in omega arith) in
+      omega (arith, h.few, start_le rest k (n - to) le, start_split lists to (n - to), ap (start lists) all_of)
 
   pub sum_behind : sum (drop to ends) ≤ MOST_ARCS
-  sum_behind = omega (arith, sum_is_all (g.nodes - to) rest (drop to ends) h.counts, few_behind (g.nodes - to) (omega arith))
+  sum_behind = omega (arith, sum_is_all (n - to) rest (drop to ends) h.counts, few_behind (n - to) (omega arith))
 
   module _ (p : ℕ) (fits : p ≤ length (drop to ends)) where
     pub range_within : to + p ≤ length ends
-    range_within = omega (arith, fits, length-drop to ends, h.within, h.pages)
+    range_within = omega (arith, fits, length-drop to ends, h.within, h.counted)
 
     pub range_size : length (slice_range ends to (to + p)) ≡ p
     range_size = length-between ends to (to + p) range_within ∙ omega arith
 
     pub range_arcs : (k : ℕ) → k ≤ p → sum (take k (drop to ends)) ≡ start rest k
-    range_arcs k le = sum_is_start (g.nodes - to) rest (drop to ends) h.counts k (omega (arith, fits, h.counts.pages))
+    range_arcs k le = sum_is_start (n - to) rest (drop to ends) h.counts k (omega (arith, fits, h.counts.pages))
 
     pub range_few : start rest p ≤ MOST_ARCS
     range_few = few_behind p (omega (arith, fits, h.counts.pages))
@@ -109,29 +109,48 @@ module _ (g : Digraph) (from to : ℕ) (ends all : List ℕ) (h : HoldsRange g f
     }
 
     -- its counts are written over by the ends of its lists
-    pub range_held : (n : ℕ) (new lists : List ℕ) → n ≡ to + p - to → length new ≡ p → ArePlacedFrom g to p (predecessors g) new lists
-        → HoldsRange g to (to + p) (put_mid to n ends new) lists
-    range_held n new lists is size placed =
-        let n_is : n ≡ p = omega arith in
+    pub range_held : (m : ℕ) (new placed : List ℕ) → m ≡ to + p - to → length new ≡ p → ArePrefixes p rest rest new placed
+        → HoldsLists n lists to (to + p) (put_mid to m ends new) placed
+    range_held m new placed is size h_placed =
+        let m_is : m ≡ p = omega arith in
         let le = range_within in
-        let there : slice_range (put_mid to n ends new) to (to + p) ≡ new = between-put_mid to n ends new (to + p) (omega arith) (omega arith) in
-        let behind : drop (to + p) (put_mid to n ends new) ≡ drop p (drop to ends) =
-        drop-put_mid to n ends new (to + p) (omega arith) (omega arith) (omega arith) ∙ sym (drop-drop p to ends) in
+        let there : slice_range (put_mid to m ends new) to (to + p) ≡ new = between-put_mid to m ends new (to + p) (omega arith) (omega arith) in
+        let behind : drop (to + p) (put_mid to m ends new) ≡ drop p (drop to ends) =
+        drop-put_mid to m ends new (to + p) (omega arith) (omega arith) (omega arith) ∙ sym (drop-drop p to ends) in
         record {
-          proper = h.proper;
-          few_pages = h.few_pages;
-          few_arcs = h.few_arcs;
-          pages = length_written to n ends new (omega arith) (omega arith) ∙ h.pages;
+          few = h.few;
+          counted = length_written to m ends new (omega arith) (omega arith) ∙ h.counted;
           ordered = omega arith;
-          within = omega (arith, h.pages);
-          lists = let size_is : p ≡ to + p - to = omega arith in rw there (subst (λ (m : ℕ). ArePlacedFrom g to m (predecessors g) new lists) size_is placed);
+          within = omega (arith, h.counted);
+          lists = let size_is : p ≡ to + p - to = omega arith in rw there (subst (λ (k : ℕ). ArePrefixes k rest rest new placed) size_is h_placed);
           counts = rw behind (record {
             pages = omega (arith, length-drop p (drop to ends), h.counts.pages);
             each = λ v lt.
                 let e : to + (p + v) ≡ to + p + v = omega arith in
-                get_or-drop p (drop to ends) v 0 ∙ h.counts.each (p + v) (omega arith) ∙ ap (λ (u : ℕ). length (predecessors g u)) e;
+                get_or-drop p (drop to ends) v 0 ∙ h.counts.each (p + v) (omega arith) ∙ ap (λ (u : ℕ). length (lists u)) e;
           });
         }
+
+    pub range_ahead : (m : ℕ) (new placed : List ℕ) → m ≡ to + p - to → length new ≡ p → ArePrefixes (length new) rest rest new placed
+        → HoldsLists n lists to (to + p) (put_mid to m ends new) placed
+    range_ahead m new placed is size h_placed = range_held m new placed is size (subst (λ (k : ℕ). ArePrefixes k rest rest new placed) size h_placed)
+
+-- the same of the lists of predecessors
+pub held_range : (g : Digraph) → IsGraph g → g.nodes ≤ MOST_PAGES → arc_count g ≤ MOST_ARCS → (from to : ℕ) (ends all : List ℕ) → HoldsLists g.nodes (predecessors g) from to ends all
+    → HoldsRange g from to ends all
+held_range g ok few_pages few_arcs from to ends all h =
+    record { proper = ok; few_pages = few_pages; few_arcs = few_arcs; pages = h.counted; ordered = h.ordered; within = h.within; held = h }
+
+-- before the first range
+pub none_held : (n : ℕ) (lists : ℕ → List ℕ) (counts : List ℕ) → start lists n ≤ MOST_ARCS → AreCounts n lists counts → HoldsLists n lists 0 0 counts []
+none_held n lists counts few h = record {
+  few = few;
+  counted = h.pages;
+  ordered = omega arith;
+  within = omega arith;
+  lists = record { pages = refl; room = refl; reached = λ v lt. absurd (omega arith); members = λ v lt. absurd (omega arith) };
+  counts = record { pages = omega (arith, h.pages); each = λ v lt. h.each v (omega arith) ∙ ap (λ (u : ℕ). length (lists u)) (sym (zero-add v)) };
+}
 
 -- ---- how many ranges there are
 

@@ -1,6 +1,6 @@
 use Rattle.std.proofs.Common.{◌≡◌, ℕ, ◌<◌, ◌≤◌, take}
 use Rattle.std.specs.Prelude.{sum}
-use Rattle.wg_transpose.proofs.counting.pages_with.Given as goal
+use Rattle.wg_transpose.proofs.ranges.lists_with.Given as goal
 
 abbrev pub invariant-loop-page : goal.invariant-loop-page
 invariant-loop-page l = record {

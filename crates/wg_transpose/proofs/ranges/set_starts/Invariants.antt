@@ -1,6 +1,6 @@
 use Rattle.std.proofs.Common.{◌≡◌, ℕ, ◌<◌, ◌≤◌, get_or, take}
 use Rattle.std.specs.Prelude.{sum}
-use Rattle.wg_transpose.proofs.counting.set_starts.Given as goal
+use Rattle.wg_transpose.proofs.ranges.set_starts.Given as goal
 
 abbrev pub invariant-loop-count : goal.invariant-loop-count
 invariant-loop-count l = record {
