@@ -50,11 +50,11 @@ mod coming;
 mod counting;
 mod error;
 mod gathering;
-mod grouping;
 mod joining;
 pub mod laws;
 mod merge;
 mod placing;
+mod quotienter;
 mod uniting;
 
 pub use adding::add_union;
@@ -63,4 +63,5 @@ pub use error::ShapeError;
 pub use gathering::quotient;
 pub use joining::union_of_lists;
 pub use merge::Merge;
+pub use quotienter::Quotienter;
 pub use uniting::union;

@@ -5,3 +5,4 @@ pub mod Places
 pub mod Steps
 pub mod Whole
 pub mod Held
+pub mod InOrder
