@@ -5,5 +5,4 @@ pub mod ImportJobs
 pub mod LoadedLemmas
 pub mod QuotientJobs
 pub mod RecodedLemmas
-pub mod TransposedLemmas
 pub mod UnionJobs
