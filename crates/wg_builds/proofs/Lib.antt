@@ -7,6 +7,5 @@ pub mod ListingLemmas
 pub mod LoadedLemmas
 pub mod QuotientJobs
 pub mod RecodedLemmas
-pub mod TransposedLemmas
 pub mod UnionJobs
 pub mod UnitingLemmas

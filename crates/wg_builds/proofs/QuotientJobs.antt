@@ -1,5 +1,5 @@
 -- How each step of `quotient` leads on or ends it.
-use Rattle.std.proofs.Common.{◌≡◌, ℕ, Bool, List, [], ◌∷◌, Option, Result, Ok, Err, refl, sym, ap, subst}
+use Rattle.std.proofs.Common.{◌≡◌, ℕ, Bool, List, [], ◌∷◌, Option, Result, Ok, Err, refl, subst}
 use Rattle.wg_io.specs.Outside.{Files, Counts}
 use Rattle.wg_params.specs.Parameters.{Parameters}
 use Rattle.wg_graph.specs.Digraph.{Digraph}
@@ -69,8 +69,8 @@ module _ (input map output : List ℕ) (classes : ℕ) (layout : Layout) (td to 
             ends_without job input td to before p files2 counts2 (Map ∷ Graph ∷ Properties ∷ []) (behind_map graph list) come_to_map taken faults e silent want
 
         -- it was made
-        pub writes_quotient : (q : Digraph) → q ≡ quotient_of graph list classes → (after : Outside) (r : Result (Unit {0}) Ending)
-            → BuildsArchive layout q output td to (outside files2 counts2 before.taken before.faults) after r → Performs job td to before after (status_in r) (promised_in r)
-        writes_quotient q is after r b =
+        pub writes_quotient : (after : Outside) (r : Result (Unit {0}) Ending) → BuildsArchive layout (quotient_of graph list classes) output td to (outside files2 counts2 before.taken before.faults) after r
+            → Performs job td to before after (status_in r) (promised_in r)
+        writes_quotient after r b =
             writes job input td to before p files2 counts2 (Map ∷ Graph ∷ Properties ∷ []) (behind_map graph list) come_to_map
-            layout q output (λ o. ap (λ x. builds layout x) (sym is)) refl refl after r b
+            layout (quotient_of graph list classes) output (λ o. refl) refl refl after r b

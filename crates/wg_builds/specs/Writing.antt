@@ -4,18 +4,23 @@ use Rattle.wg_io.specs.Outside.{Files, Counts, NonDecreasing}
 use Rattle.wg_io.specs.Suffixes.{properties_name, graph_name, offsets_name}
 use Rattle.wg_io.specs.declared.depot.Depot as depot
 use Rattle.wg_params.specs.Parameters.{Parameters}
+use Rattle.wg_params.specs.declared.layout.Layout.{Layout}
 use Rattle.wg_properties.specs.Text.{text_of}
 use Rattle.wg_graph.specs.Digraph.{Digraph}
 use Rattle.wg_encoder.specs.Archive.{Archive, Summarized, encoded}
 use Rattle.wg_outcomes.specs.Answers.{status_in}
 use Rattle.wg_outcomes.specs.Names.{archive_named}
-use Rattle.wg_outcomes.specs.Written.{ArchiveFiles, FaultsRose, FilesAfter, IsStopped, OthersStay, archive_in}
+use Rattle.wg_outcomes.specs.Written.{ArchiveFiles, FaultsRose, FilesAfter, IsStopped, OthersStay, archive_in, params_for}
 use Rattle.wg_outcomes.specs.declared.ending.Ending.{Ending}
 use Rattle.wg_builds.specs.declared.writing.FileNames.{FileNames}
 
 -- the greedy archive of a graph with these parameters, in memory
 abbrev pub archive_of : Parameters → Digraph → Summarized
 archive_of p g = encoded p (text_of p) g.lists
+
+-- the parameters of a graph in this layout, and its archive
+abbrev pub IsArchiveOf : Layout → Digraph → Parameters × Summarized → Type 0
+IsArchiveOf l g made = (made.0 ≡ params_for l g) × (made.1 ≡ archive_of made.0 g)
 
 -- the names of an archive's files
 abbrev pub names_of : List ℕ → FileNames

@@ -23,8 +23,8 @@
 //! ```
 //!
 //! `recode` reads the graph in pieces; all other inputs are held whole until they are read. `union` holds the bytes
-//! of two graph files, and goes through their lists side by side; `transpose` holds those of one, and goes through its
-//! lists once for each range of pages.
+//! of two graph files, and goes through their lists side by side; `transpose` and `quotient` hold those of one, and go
+//! through its lists once for each range of pages or of classes.
 #![tactic(auto)]
 
 pub mod build;
@@ -36,6 +36,7 @@ pub mod import;
 mod listing;
 mod loaded;
 pub mod quotient;
+mod quotienting;
 pub mod recode;
 pub mod transpose;
 mod transposing;

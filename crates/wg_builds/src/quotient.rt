@@ -1,19 +1,18 @@
 //! The command `quotient`: an archive of the graph of classes of pages.
-ghost use Rattle.std.specs.Prelude.{◌≡◌, ◌≤◌, IfErr, IfOk, length};
+ghost use Rattle.std.specs.Prelude.{◌≤◌};
 ghost use Rattle.wg_params.specs.Parameters.{IsWithinLimits, params_of};
 ghost use Rattle.wg_params.specs.declared.limits.TheConstants.{MOST_PAGES};
-ghost use Rattle.wg_graph.specs.Ascending.{Below};
-ghost use Rattle.wg_shape.specs.Quotient.{quotient_of};
 ghost use Rattle.wg_words.specs.declared.jobs.Job.TheVariants.{Quotient};
 ghost use Rattle.wg_outcomes.specs.Performs.{DoesOrEnds};
 
-use crate::building::build_graph;
+use crate::building::build_archive;
+use crate::quotienting::encode_quotient;
 use std::alloc::Global;
-use wg_graph::{Graph, List};
+use wg_graph::Lists;
 use wg_io::{Depot, Sink};
-use wg_outcomes::{Ending, Status};
+use wg_outcomes::{Ending, Input};
 use wg_params::Layout;
-use wg_readings::{load_graph, load_map, load_params};
+use wg_readings::{lists_of_records, load, load_map, load_params};
 use wg_words::Name;
 
 /// Writes the greedy archive of the graph of classes of an archive's pages, in the layout that is given, and prints the
@@ -21,9 +20,10 @@ use wg_words::Name;
 /// the second. The map has a line for each page with its class, which is below their number. It judges the whole graph,
 /// and then the map, before it touches a file.
 ///
-/// It holds 8 bytes an arc and 8 a page for the graph, and until it is read the bytes of its file, and then those of
-/// the map; 8 a page for the classes; what [`wg_shape::quotient`] holds; then the quotient, and what [`build_graph`]
-/// holds beside it.
+/// It holds the bytes of the graph file, from which it decodes the lists again for each range of classes, and a row of
+/// the greatest outdegree for each page that a reference reaches and one more. Beside them it holds 8 bytes a page for
+/// the map, and the bytes of its file until it is read; 8 a class, 8 an arc of the pages of one range of classes, 8 an
+/// arc of one class, and the archive that it makes.
 pub fn quotient<D: Depot, O: Sink>(
     alloc: Global,
     input: &Name,
@@ -40,22 +40,17 @@ pub fn quotient<D: Depot, O: Sink>(
         depot.old depot.new out.old out.new result }
 {
     let params = load_params(alloc, depot, input)?;
-    let graph = load_graph(alloc, &params, depot, input)?;
-    let classes_of = load_map(alloc, graph.nodes(), classes, depot, map)?;
-    let made = grouped(alloc, &graph, &classes_of, classes)?;
-    build_graph(alloc, layout, &made, output, depot, out)
-}
-
-// The graph of the classes of pages.
-fn grouped(alloc: Global, graph: &Graph, classes_of: &List, classes: u64) -> Result<Graph, Ending>
-    requires each { length classes_of.now ≡ graph.now.nodes }
-    requires below { Below classes classes_of.now }
-    requires few { classes ≤ MOST_PAGES }
-    ensures exact { IfOk result (λ q. q ≡ quotient_of graph.now classes_of.now classes) }
-    ensures only { IfErr result (λ e. e.status ≡ Status.Memory) }
-{
-    match wg_shape::quotient(alloc, graph, classes_of, classes) {
-        Ok(graph) => Ok(graph),
-        Err(_) => Err(Ending::of(Status::Memory)),
-    }
+    let bytes = load(alloc, depot, input, Input::Graph)?;
+    let lists = lists_of_records(alloc, &params, bytes.as_slice())?;
+    let classes_of = load_map(alloc, lists.nodes(), classes, depot, map)?;
+    let arcs = params.arcs();
+    let (made, archive) = encode_quotient(
+        alloc,
+        layout,
+        lists,
+        arcs,
+        classes_of.as_slice(),
+        classes,
+    )?;
+    build_archive(alloc, &made, &archive, output, depot, out)
 }

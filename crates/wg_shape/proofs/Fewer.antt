@@ -1,17 +1,20 @@
 -- A quotient has no more arcs than the graph.
-use Rattle.std.proofs.Common.{◌≡◌, ℕ, zero, suc, ◌+◌, ◌≤◌, Bool, true, false, cond, eqb, ltb, ◌||◌, List, [], ◌∷◌, ◌++◌, length, take, map, refl, sym, ap, subst, ◌∙◌, arith, inl, inr, append-nil, length-append}
+use Rattle.std.proofs.Common.{◌≡◌, ℕ, zero, suc, ◌+◌, ◌<◌, ◌≤◌, Bool, get_or, true, false, cond, eqb, ltb, ◌||◌, List, [], ◌∷◌, ◌++◌, length, take, map, refl, sym, ap, subst, ◌∙◌, arith, inl, inr, append-nil, length-append}
 use Rattle.std.specs.List.{sum_by, range_with_len}
 use Rattle.std.proofs.lemmas.Bool.{cases_Bool, cases_eq, cases_order, ne_eqb, eq-eqb, lt-ltb, le-ltb}
 use Rattle.std.proofs.lemmas.List.{take_all, length-map}
-use Rattle.std.proofs.lemmas.List.Sums.{sum_by_more}
+use Rattle.std.proofs.lemmas.List.Sums.{sum_by_more, sum_by-take-le}
 use Rattle.std.proofs.lemmas.List.FromFn.{sum_by-map-range_with_len_more}
 use Rattle.wg_graph.specs.Ascending.{Below}
 use Rattle.wg_graph.specs.Numbers.{is_in, numbers_where}
 use Rattle.wg_graph.specs.Digraph.{Digraph, IsGraph, successors, arc_count}
 use Rattle.wg_graph.proofs.Sets.{where_none}
+use Rattle.wg_transpose.specs.SoFar.{start, AreCounts}
+use Rattle.wg_transpose.proofs.Totals.{start_le}
 use Rattle.wg_transpose.proofs.Seen.{where_more, member_below}
 use Rattle.wg_shape.specs.Quotient.{class_of, members, reached, leads, quotient_of}
-use Rattle.wg_shape.proofs.Walk.{reached_push}
+use Rattle.wg_shape.specs.Classes.{reached_below, reached_by}
+use Rattle.wg_shape.proofs.Reached.{reached_push, length_next}
 
 -- ---- a set has no more numbers than a list of its members
 
@@ -90,6 +93,26 @@ module _ (g : Digraph) (ok : IsGraph g) (classes : List ℕ) (n : ℕ) (size : l
       let b : ltb (class_of classes m) n ≡ true = lt-ltb (class_of classes m) n (member_below n m classes below (omega arith)) in
       rw b (subst (λ i. arcs_below g classes n m + length (successors g m) ≡ sum_by (λ s. length s) (take i g.lists)) e
       (omega (arith, all_below m (omega arith), sum_by_more (λ (s : List ℕ). length s) g.lists m [] (omega (arith, ok.counted)))))
+
+  start_reached : (k m : ℕ) → start (reached_below g classes m) k ≡ arcs_below g classes k m
+  start_reached zero m = sym (none_below g classes m)
+  start_reached (suc k) m = omega (arith, start_reached k m, class_more g classes k m)
+
+  -- no more arcs leave the pages below page m than there are
+  pub few_reached : (m : ℕ) → m ≤ g.nodes → start (reached_below g classes m) n ≤ arc_count g
+  few_reached m le = omega (arith, start_reached n m, all_below m le, sum_by-take-le (λ (s : List ℕ). length s) g.lists m)
+
+  pub few_by_class : start (reached_by g classes) n ≤ arc_count g
+  few_by_class = subst (λ (m : ℕ). start (reached_below g classes m) n ≤ arc_count g) (sym size) (few_reached g.nodes (omega arith))
+
+  -- the sum has room
+  pub count_fits : (k : ℕ) (list counts : List ℕ) → k < g.nodes → list ≡ successors g k → AreCounts n (reached_below g classes k) counts → get_or counts (class_of classes k) 0 + length list ≤ arc_count g
+  count_fits k list counts lt is h =
+      let c : ℕ = class_of classes k in
+      let low : c < n = member_below n k classes below (omega (arith, size)) in
+      let own : eqb c c ≡ true = eq-eqb c c refl in
+      let next = rw own at (length_next g classes k c) in
+      omega (arith, h.each c low, next, ap length is, start_le (reached_below g classes (k + 1)) (suc c) n (omega arith), few_reached (k + 1) (omega arith))
 
   rows : (k : ℕ) → sum_by (λ s. length s) (map (λ i. numbers_where (leads g classes i) 0 n) (range_with_len 0 k)) ≤ arcs_below g classes k (length classes)
   rows zero = omega arith

@@ -1,10 +1,9 @@
 pub mod Quotients
-pub mod Groups
-pub mod Steps
-pub mod Walk
+pub mod Reached
+pub mod Sorted
 pub mod Fewer
-pub mod Made
 pub mod Unions
 pub mod OneByOne
 pub mod GraphUnions
 pub mod ByLaw
+pub mod Gathered

@@ -44,7 +44,7 @@ in_map_to f v (x ∷ xs) h =
 
 -- ---- the classes that are reached
 
-reached_from : (g : Digraph) (classes : List ℕ) (j : ℕ) (us : List ℕ) → is_in j (reached g classes us) ≡ true
+pub reached_from : (g : Digraph) (classes : List ℕ) (j : ℕ) (us : List ℕ) → is_in j (reached g classes us) ≡ true
     → (u : ℕ) × (v : ℕ) × (is_in u us ≡ true) × (has_arc g u v ≡ true) × (class_of classes v ≡ j)
 reached_from g classes j [] h = absurd cc
 reached_from g classes j (u ∷ us) h =
@@ -141,7 +141,7 @@ module _ (g : Digraph) (ok : IsGraph g) (classes : List ℕ) (n : ℕ) (size : l
 
 -- ---- graphs with the same arcs
 
-same_bool : (a b : Bool) → (a ≡ true → b ≡ true) → (b ≡ true → a ≡ true) → a ≡ b
+pub same_bool : (a b : Bool) → (a ≡ true → b ≡ true) → (b ≡ true → a ≡ true) → a ≡ b
 same_bool a b f h = elim (cases_Bool a) [
   | inl e ↦ e ∙ sym (f e)
   | inr e ↦ elim (cases_Bool b) [ inl d ↦ absurd (true≢false (sym (h d) ∙ e)) | inr d ↦ e ∙ sym d ]

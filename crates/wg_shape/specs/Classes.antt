@@ -1,16 +1,21 @@
--- A graph whose pages are in classes.
-use Rattle.std.specs.Prelude.{◌≡◌, ℕ, ◌<◌, ◌≤◌, List, length, map, take, [], ◌∷◌}
+-- A graph whose pages are in classes, and the lists of its quotient, range after range of classes.
+use Rattle.std.specs.Prelude.{◌≡◌, ℕ, ◌-◌, ◌≤◌, ◌==◌, List, length}
 use Rattle.wg_params.specs.declared.limits.TheConstants.{MOST_ARCS, MOST_PAGES}
 use Rattle.wg_graph.specs.Ascending.{Below}
-use Rattle.wg_graph.specs.Digraph.{Digraph, IsGraph, successors, arc_count}
-use Rattle.wg_graph.specs.Growing.{padded}
-use Rattle.wg_shape.specs.Quotient.{members, reached, quotient_of}
+use Rattle.wg_graph.specs.Digraph.{Digraph, IsGraph, arc_count}
+use Rattle.wg_graph.specs.Numbers.{numbers_where}
+use Rattle.wg_transpose.specs.SoFar.{onward, start}
+use Rattle.wg_transpose.specs.Transposing.{HoldsLists}
+use Rattle.wg_shape.specs.Quotient.{class_of, members, reached, quotient_of}
 
 -- the graph, the class of each page, and how many classes there are
 pub record Classes : Type 0 where
   pub graph : Digraph
   pub classes : List ℕ
   pub count : ℕ
+
+abbrev pub classes_in : Digraph → List ℕ → ℕ → Classes
+classes_in g classes n = record { graph = g; classes = classes; count = n }
 
 -- each page has one class, and pages, classes and arcs are within the limits of an archive
 pub record AreClasses (p : Classes) : Type 0 where
@@ -24,16 +29,28 @@ pub record AreClasses (p : Classes) : Type 0 where
 abbrev pub whole : Classes → Digraph
 whole p = quotient_of p.graph p.classes p.count
 
--- the classes that are reached from the first m pages of class k
-abbrev pub reached_of : Classes → ℕ → ℕ → List ℕ
-reached_of p k m = reached p.graph p.classes (take m (members p.classes k))
+-- the classes that the arcs of class i lead to, in the order of the arcs
+abbrev pub reached_by : Digraph → List ℕ → ℕ → List ℕ
+reached_by g classes i = reached g classes (members classes i)
 
--- the list of each class has its pages
-pub record AreGrouped (p : Classes) (lists : Digraph) : Type 0 where
+-- those that the arcs of its pages below page k lead to
+abbrev pub reached_below : Digraph → List ℕ → ℕ → ℕ → List ℕ
+reached_below g classes k i = reached g classes (numbers_where (λ u. i == class_of classes u) 0 k)
+
+-- the classes, and the range of those whose lists are at hand: from the first class up to the one before `to`
+pub record Quotienting : Type 0 where
+  pub pages : Classes
+  pub from : ℕ
+  pub to : ℕ
+
+-- how many arcs leave the classes from this one on, up to that one
+abbrev pub arcs_from : Classes → ℕ → ℕ → ℕ
+arcs_from p from to = start (onward from (reached_by p.graph p.classes)) (to - from)
+
+-- what the arcs of the classes of the range lead to stands there, list after list
+pub record HoldsClasses (p : Classes) (from to : ℕ) (ends all : List ℕ) : Type 0 where
   pub classes : AreClasses p
-  pub room : p.count ≤ lists.nodes
-  pub grouped : (i : ℕ) → i < p.count → successors lists i ≡ members p.classes i
-
--- each page leads to its class alone
-abbrev pub singles_of : List ℕ → ℕ → List (List ℕ)
-singles_of classes n = padded n (map (λ (i : ℕ). i ∷ []) classes)
+  pub counted : length ends ≡ p.count
+  pub ordered : from ≤ to
+  pub within : to ≤ p.count
+  pub held : HoldsLists p.count (reached_by p.graph p.classes) from to ends all

@@ -1,6 +1,5 @@
 pub mod Quotient
 pub mod Classes
-pub mod SoFar
 pub mod Added
 pub mod Graphs
 pub mod Laws

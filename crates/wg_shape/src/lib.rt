@@ -50,11 +50,11 @@ mod coming;
 mod counting;
 mod error;
 mod gathering;
-mod grouping;
 pub mod laws;
 mod merge;
 mod paging;
 mod placing;
+mod quotienter;
 mod uniting;
 
 pub use adding::add_union;
@@ -63,4 +63,5 @@ pub use error::ShapeError;
 pub use gathering::quotient;
 pub use merge::Merge;
 pub use paging::next_union;
+pub use quotienter::Quotienter;
 pub use uniting::union;

@@ -1,68 +1,78 @@
-// The classes with an arc to each class, in the list of this class.
+// The classes that arcs lead to, in the list of the class that they leave.
 
-ghost use Rattle.std.specs.Prelude.{◌≡◌, ◌+◌, ◌<◌, [], length, slice_index, slice_set};
-ghost use Rattle.wg_shape.specs.Quotient.{members};
-ghost use Rattle.wg_shape.specs.Classes.{AreClasses, whole, reached_of};
-ghost use Rattle.wg_shape.specs.SoFar.{Placed};
+ghost use Rattle.std.specs.Prelude.{◌≡◌, ◌+◌, ◌<◌, ◌≤◌, length};
+ghost use Rattle.wg_params.specs.declared.limits.TheConstants.{MOST_ARCS};
+ghost use Rattle.wg_graph.specs.Ascending.{Below};
+ghost use Rattle.wg_graph.specs.Digraph.{Digraph};
+ghost use Rattle.wg_transpose.specs.SoFar.{onward, start, AreCounts, ArePrefixes, IsListOf};
+ghost use Rattle.wg_shape.specs.Classes.{reached_by, reached_below};
 
-use crate::counting::mark;
-use crate::grouping::Grouping;
+use wg_graph::Lists;
+use wg_transpose::ranges::{put, set_starts};
 
-// Puts the source at the end of the list of the target.
-#[inline(always)]
-fn put(ends: &mut [u64], all: &mut [u64], source: u64, target: u64)
-    requires target { target < length ends.old }
-    requires room { slice_index ends.old target < length all.old }
-    ensures ends { ends.new ≡ slice_set ends.old target (slice_index ends.old target + 1) }
-    ensures all { all.new ≡ slice_set all.old (slice_index ends.old target) source }
-{
-    let end = ends[target as usize];
-    all[end as usize] = source;
-    ends[target as usize] = end + 1;
-}
-
-// Puts the class at the end of the lists of what the arcs of one page of it reach for the first time.
+// Puts the classes of the successors of a page, whose list was read, at the end of the list of its class, if that is
+// one of those from class `from` on.
 fn place_page(
-    pages: &Grouping,
-    source: u64,
-    at: usize,
-    marks: &mut [u64],
+    page: u64,
+    list: &[u64],
+    classes: &[u64],
+    from: u64,
     ends: &mut [u64],
     all: &mut [u64],
 )
-    requires classes { AreClasses pages.now }
-    requires source { source < pages.now.count }
-    requires at { at < length (members pages.now.classes source) }
-    requires placed { Placed (whole pages.now) source (reached_of pages.now source at) marks.old ends.old all.old }
-    ensures placed { Placed (whole pages.now) source (reached_of pages.now source (at + 1)) marks.new ends.new all.new }
+    requires page { page < length classes.now }
+    requires below { Below (length classes.now) list.now }
+    requires placed { (g : Digraph) × IsListOf g page list.now × (length classes.now ≡ g.nodes)
+        × ArePrefixes (length ends.old) (onward from (reached_by g classes.now))
+        (onward from (reached_below g classes.now page)) ends.old all.old }
+    ensures placed { (g : Digraph) → IsListOf g page list.now → length classes.now ≡ g.nodes
+        → ArePrefixes (length ends.old) (onward from (reached_by g classes.now))
+        (onward from (reached_below g classes.now page)) ends.old all.old
+        → ArePrefixes (length ends.old) (onward from (reached_by g classes.now))
+        (onward from (reached_below g classes.now (page + 1))) ends.new all.new }
 {
-    let page = pages.members(source)[at];
-    for target in pages.list(page) {
-        let class = pages.class(*target);
-        if mark(marks, source, class) {
-            put(ends, all, source, class);
+    let class = classes[page as usize];
+    for target in list {
+        put(classes[*target as usize], class, from, ends, all);
+    }
+}
+
+// Puts the classes of the successors of each page at the end of the list of its class, of those from class `from` on,
+// so that what were starts become ends.
+fn place<L: Lists>(lists: &mut L, classes: &[u64], from: u64, ends: &mut [u64], all: &mut [u64])
+    requires each { length classes.now ≡ (L.graph lists.old).nodes }
+    requires none { ArePrefixes (length ends.old) (onward from (reached_by (L.graph lists.old) classes.now))
+        (onward from (reached_below (L.graph lists.old) classes.now 0)) ends.old all.old }
+    ensures graph { L.graph lists.new ≡ L.graph lists.old }
+    ensures placed { ArePrefixes (length ends.old) (onward from (reached_by (L.graph lists.old) classes.now))
+        (onward from (reached_by (L.graph lists.old) classes.now)) ends.new all.new }
+{
+    let pages = lists.nodes();
+    lists.begin();
+    for page in 0..pages {
+        if let Some(list) = lists.next_list() {
+            place_page(page, list, classes, from, ends, all);
         }
     }
 }
 
-// Puts the class at the end of the lists of what its arcs reach, into each once.
-fn place_class(pages: &Grouping, source: u64, marks: &mut [u64], ends: &mut [u64], all: &mut [u64])
-    requires classes { AreClasses pages.now }
-    requires source { source < pages.now.count }
-    requires placed { Placed (whole pages.now) source [] marks.old ends.old all.old }
-    ensures placed { Placed (whole pages.now) (source + 1) [] marks.new ends.new all.new }
+// Fills in the lists of the classes from class `from` on, one after the other, and their ends, where it was counted how
+// long they are.
+pub(crate) fn fill<L: Lists>(
+    lists: &mut L,
+    classes: &[u64],
+    from: u64,
+    ends: &mut [u64],
+    all: &mut [u64],
+)
+    requires each { length classes.now ≡ (L.graph lists.old).nodes }
+    requires counted { AreCounts (length ends.old) (onward from (reached_by (L.graph lists.old) classes.now)) ends.old }
+    requires room { length all.old ≡ start (onward from (reached_by (L.graph lists.old) classes.now)) (length ends.old) }
+    requires few { length all.old ≤ MOST_ARCS }
+    ensures graph { L.graph lists.new ≡ L.graph lists.old }
+    ensures placed { ArePrefixes (length ends.old) (onward from (reached_by (L.graph lists.old) classes.now))
+        (onward from (reached_by (L.graph lists.old) classes.now)) ends.new all.new }
 {
-    for at in 0..pages.members(source).len() {
-        place_page(pages, source, at, marks, ends, all);
-    }
-}
-
-// Puts each class at the end of the lists of what its arcs reach, so that what were starts become ends.
-pub(crate) fn place(pages: &Grouping, marks: &mut [u64], ends: &mut [u64], all: &mut [u64])
-    requires none { Placed (whole pages.now) 0 [] marks.old ends.old all.old }
-    ensures placed { Placed (whole pages.now) pages.now.count [] marks.new ends.new all.new }
-{
-    for source in 0..pages.count() {
-        place_class(pages, source, marks, ends, all);
-    }
+    set_starts(ends);
+    place(lists, classes, from, ends, all);
 }

@@ -4,4 +4,5 @@ pub mod Seen
 pub mod Places
 pub mod Steps
 pub mod Whole
-pub mod Ranges
+pub mod Held
+pub mod InOrder

@@ -71,63 +71,62 @@ one_more g k j list up lt =
       others = λ w other. seen_other g k (take j list) (get_or list j 0) w other;
     })
 
-module _ (g : Digraph) (first n k j : ℕ) (list ends all : List ℕ) (is : IsListOf g k list) (lt : j < length list) (h : ArePlacedFrom g first n (with_page g k (take j list)) ends all) where
-  abbrev t : ℕ
-  t = get_or list j 0
-
+-- A number more for list t: it is put into its place if t is one of the n lists from the first on, whose ends these are.
+module _ (whole before after : ℕ → List ℕ) (first n t x : ℕ) (ends all : List ℕ) (base : OneMore before after t x) (fits : (w : ℕ) → length (after w) ≤ length (whole w))
+    (h : ArePrefixes n (onward first whole) (onward first before) ends all) where
   abbrev b : ℕ → List ℕ
-  b = onward first (with_page g k (take j list))
+  b = onward first before
 
   abbrev c : ℕ → List ℕ
-  c = onward first (with_page g k (take (j + 1) list))
+  c = onward first after
 
-  base : OneMore (with_page g k (take j list)) (with_page g k (take (j + 1) list)) t k
-  base = one_more g k j list (subst (Ascends 0) (sym is.is) (list_ascends g is.proper k is.page)) lt
-
-  more : (v : ℕ) → t ≡ first + v → OneMore b c v k
+  more : (v : ℕ) → t ≡ first + v → OneMore b c v x
   more v at = record {
-    here = subst (λ (m : ℕ). with_page g k (take (j + 1) list) m ≡ with_page g k (take j list) m ++ k ∷ []) at base.here;
+    here = subst (λ (m : ℕ). after m ≡ before m ++ x ∷ []) at base.here;
     others = λ w other. base.others (first + w) (λ e. other (omega (arith, e, at)));
   }
 
-  fits : (w : ℕ) → length (c w) ≤ length (predecessors g (first + w))
-  fits w =
-      let v : ℕ = first + w in
-      let le = subst (λ (l : List ℕ). length (with_page g k (take (j + 1) l) v) ≤ length (predecessors_below g (k + 1) v)) (sym is.is) (seen_le g k (j + 1) v) in
-      let page = is.page in
-      omega (arith, le, where_le (λ u. has_arc g u v) (k + 1) g.nodes (omega arith))
-
-  -- the next place of the list of the target lies within
+  -- the next place of the list lies within
   pub place_below : first ≤ t → t - first < n → get_or ends (t - first) 0 < length all
   place_below low high =
       let v : ℕ = t - first in
-      place_fits n (onward first (predecessors g)) b ends all v (get_or ends v 0) high h refl (omega (arith, longer b c v k (more v (omega arith)), fits v))
+      place_fits n (onward first whole) b ends all v (get_or ends v 0) high h refl (omega (arith, longer b c v x (more v (omega arith)), fits (first + v)))
 
-  outside : (t < first) ⊎ (n ≤ t - first) → ArePrefixes n (onward first (predecessors g)) c ends all
-  outside out = same_prefixes n (onward first (predecessors g)) b c ends all (λ w w_lt. sym (base.others (first + w) (away w w_lt out))) h
+  outside : (t < first) ⊎ (n ≤ t - first) → ArePrefixes n (onward first whole) c ends all
+  outside out = same_prefixes n (onward first whole) b c ends all (λ w w_lt. sym (base.others (first + w) (away w w_lt out))) h
     where
       away : (w : ℕ) → w < n → (t < first) ⊎ (n ≤ t - first) → first + w ≢ t
-      away w w_lt (inl before) e = omega arith
+      away w w_lt (inl low) e = omega arith
       away w w_lt (inr past) e = omega arith
 
-  inside : first ≤ t → t - first < n → ArePrefixes n (onward first (predecessors g)) c (set ends (t - first) (get_or ends (t - first) 0 + 1)) (set all (get_or ends (t - first) 0) k)
+  inside : first ≤ t → t - first < n → ArePrefixes n (onward first whole) c (set ends (t - first) (get_or ends (t - first) 0 + 1)) (set all (get_or ends (t - first) 0) x)
   inside low high =
       let v : ℕ = t - first in
-      place_more n (onward first (predecessors g)) b c v k ends all (get_or ends v 0) high (more v (omega arith)) fits h refl
+      place_more n (onward first whole) b c v x ends all (get_or ends v 0) high (more v (omega arith)) (λ w. fits (first + w)) h refl
 
   pub place_step : (new_ends new_all : List ℕ)
       → (first ≤ t → t - first < length ends → new_ends ≡ set ends (t - first) (get_or ends (t - first) 0 + 1))
-      → (first ≤ t → t - first < length ends → new_all ≡ set all (get_or ends (t - first) 0) k)
+      → (first ≤ t → t - first < length ends → new_all ≡ set all (get_or ends (t - first) 0) x)
       → ((t < first) ⊎ (length ends ≤ t - first) → new_ends ≡ ends) → ((t < first) ⊎ (length ends ≤ t - first) → new_all ≡ all)
-      → ArePlacedFrom g first n (with_page g k (take (j + 1) list)) new_ends new_all
+      → ArePrefixes n (onward first whole) c new_ends new_all
   place_step new_ends new_all put_ends put_all same_ends same_all =
       elim (cases_lt t first) [
-        | inl before ↦ rw (same_ends (inl before), same_all (inl before)) (outside (inl before))
+        | inl low ↦ rw (same_ends (inl low), same_all (inl low)) (outside (inl low))
         | inr from_on ↦ elim (cases_lt (t - first) n) [
           | inl within ↦ let low : t - first < length ends = omega (arith, h.pages) in rw (put_ends from_on low, put_all from_on low) (inside from_on within)
           | inr past ↦ let high : length ends ≤ t - first = omega (arith, h.pages) in rw (same_ends (inr high), same_all (inr high)) (outside (inr past))
         ]
       ]
+
+module _ (g : Digraph) (k j : ℕ) (list : List ℕ) (is : IsListOf g k list) (lt : j < length list) where
+  pub page_more : OneMore (with_page g k (take j list)) (with_page g k (take (j + 1) list)) (get_or list j 0) k
+  page_more = one_more g k j list (subst (Ascends 0) (sym is.is) (list_ascends g is.proper k is.page)) lt
+
+  pub page_fits : (v : ℕ) → length (with_page g k (take (j + 1) list) v) ≤ length (predecessors g v)
+  page_fits v =
+      let le = subst (λ (l : List ℕ). length (with_page g k (take (j + 1) l) v) ≤ length (predecessors_below g (k + 1) v)) (sym is.is) (seen_le g k (j + 1) v) in
+      let page = is.page in
+      omega (arith, le, where_le (λ u. has_arc g u v) (k + 1) g.nodes (omega arith))
 
 pub place_end : (g : Digraph) (first n k j : ℕ) (list ends all : List ℕ) → IsListOf g k list → length list ≤ j → ArePlacedFrom g first n (with_page g k (take j list)) ends all → ArePlacedFrom g first n (predecessors_below g (k + 1)) ends all
 place_end g first n k j list ends all is past h =

@@ -1,9 +1,9 @@
--- The lists of a transposed graph, range after range of pages.
+-- Lists, as those of a transposed graph, range after range.
 use Rattle.std.specs.Prelude.{◌≡◌, ℕ, ◌+◌, ◌-◌, ◌<◌, ◌≤◌, List, length, drop, slice_range}
 use Rattle.wg_params.specs.declared.limits.TheConstants.{MOST_ARCS, MOST_PAGES}
 use Rattle.wg_graph.specs.Digraph.{Digraph, IsGraph, arc_count}
 use Rattle.wg_transpose.specs.Transposed.{predecessors}
-use Rattle.wg_transpose.specs.SoFar.{onward, start, AreCounts, ArePlacedFrom}
+use Rattle.wg_transpose.specs.SoFar.{onward, start, AreCounts, ArePrefixes}
 
 -- a graph, and the range of pages whose lists of predecessors are at hand: from the first page up to the one before `to`
 pub record Transposing : Type 0 where
@@ -15,8 +15,17 @@ pub record Transposing : Type 0 where
 abbrev pub arcs_between : Digraph → ℕ → ℕ → ℕ
 arcs_between g from to = start (onward from (predecessors g)) (to - from)
 
--- The lists of the range stand one after the other, and their ends are known; of each page behind the range it is known
--- how many arcs lead to it.
+-- Of n lists, those of the range from list `from` on, up to the one before `to`, stand one after the other, and their
+-- ends are known; of each list behind the range it is known how long it is.
+pub record HoldsLists (n : ℕ) (whole : ℕ → List ℕ) (from to : ℕ) (ends all : List ℕ) : Type 0 where
+  pub few : start whole n ≤ MOST_ARCS
+  pub counted : length ends ≡ n
+  pub ordered : from ≤ to
+  pub within : to ≤ n
+  pub lists : ArePrefixes (to - from) (onward from whole) (onward from whole) (slice_range ends from to) all
+  pub counts : AreCounts (n - to) (onward to whole) (drop to ends)
+
+-- these are the lists of the predecessors of each page
 pub record HoldsRange (g : Digraph) (from to : ℕ) (ends all : List ℕ) : Type 0 where
   pub proper : IsGraph g
   pub few_pages : g.nodes ≤ MOST_PAGES
@@ -24,8 +33,7 @@ pub record HoldsRange (g : Digraph) (from to : ℕ) (ends all : List ℕ) : Type
   pub pages : length ends ≡ g.nodes
   pub ordered : from ≤ to
   pub within : to ≤ g.nodes
-  pub lists : ArePlacedFrom g from (to - from) (predecessors g) (slice_range ends from to) all
-  pub counts : AreCounts (g.nodes - to) (onward to (predecessors g)) (drop to ends)
+  pub held : HoldsLists g.nodes (predecessors g) from to ends all
 
 -- Ranges of pages that follow one another: range k has the pages from (at k) on, up to (at (k + 1)), and each but the
 -- last has at least `room` arcs.

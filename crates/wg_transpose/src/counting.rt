@@ -1,7 +1,7 @@
-// How many arcs lead to each page, and where its list begins.
+// How many arcs lead to each page.
 
-ghost use Rattle.std.specs.Prelude.{◌≡◌, ℕ, ◌+◌, ◌<◌, ◌≤◌, length, slice_index, get_or, take, sum, cond, All};
-ghost use Rattle.wg_params.specs.declared.limits.TheConstants.{MOST_ARCS, MOST_PAGES};
+ghost use Rattle.std.specs.Prelude.{◌≡◌, ℕ, ◌+◌, ◌<◌, ◌≤◌, length, slice_index, cond, All};
+ghost use Rattle.wg_params.specs.declared.limits.TheConstants.{MOST_PAGES};
 ghost use Rattle.wg_graph.specs.Ascending.{Ascends, Below};
 ghost use Rattle.wg_graph.specs.Numbers.{is_in};
 ghost use Rattle.wg_graph.specs.Digraph.{IsGraph};
@@ -39,38 +39,4 @@ pub(crate) fn count<L: Lists>(lists: &mut L, counts: &mut [u64])
             count_arcs(list, counts);
         }
     }
-}
-
-// Puts in place of each count the sum of those before it.
-pub(crate) fn set_starts(counts: &mut [u64])
-    requires few { sum counts.old ≤ MOST_ARCS }
-    ensures pages { length counts.new ≡ length counts.old }
-    ensures starts { (v : ℕ) → v < length counts.old → get_or counts.new v 0 ≡ sum (take v counts.old) }
-{
-    let mut start = 0;
-    for count in counts {
-        let next = start + *count;
-        *count = start;
-        start = next;
-    }
-}
-
-// Of pages to which so many arcs lead each: how many from the first on have at least `room` arcs together, one page at
-// least, or else all; and how many arcs these have.
-pub(crate) fn pages_with(counts: &[u64], room: u64) -> (usize, u64)
-    requires few { sum counts.now ≤ MOST_ARCS }
-    ensures within { result.0 ≤ length counts.now }
-    ensures some { 0 < length counts.now → 0 < result.0 }
-    ensures total { result.1 ≡ sum (take result.0 counts.now) }
-    ensures enough { result.0 < length counts.now → room ≤ result.1 }
-    ensures least { (k : ℕ) → 0 < k → k < result.0 → sum (take k counts.now) < room }
-{
-    let mut arcs = 0;
-    for page in 0..counts.len() {
-        arcs += counts[page];
-        if room <= arcs {
-            return (page + 1, arcs);
-        }
-    }
-    (counts.len(), arcs)
 }

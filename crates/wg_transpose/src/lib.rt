@@ -37,8 +37,10 @@
 mod counting;
 pub mod laws;
 mod placing;
+pub mod ranges;
 mod transposer;
 mod transposing;
 
-pub use transposer::{Transposer, range_room};
+pub use ranges::range_room;
+pub use transposer::Transposer;
 pub use transposing::transpose;

@@ -1,37 +1,13 @@
 // The sources of arcs, each in the list of its target.
 
-ghost use Rattle.std.specs.Prelude.{◌≡◌, ◌⊎◌, ℕ, ◌+◌, ◌-◌, ◌<◌, ◌≤◌, length, slice_index, slice_set};
+ghost use Rattle.std.specs.Prelude.{◌≡◌, ℕ, ◌+◌, ◌≤◌, length};
 ghost use Rattle.wg_params.specs.declared.limits.TheConstants.{MOST_ARCS};
 ghost use Rattle.wg_graph.specs.Digraph.{Digraph};
 ghost use Rattle.wg_transpose.specs.Transposed.{predecessors};
 ghost use Rattle.wg_transpose.specs.SoFar.{predecessors_below, onward, start, AreCounts, ArePlacedFrom, IsListOf};
 
-use crate::counting::set_starts;
+use crate::ranges::{put, set_starts};
 use wg_graph::Lists;
-
-// Puts the page at the end of the list of the target, if that is one of those from page `from` on.
-#[inline(always)]
-fn put(page: u64, target: u64, from: u64, ends: &mut [u64], all: &mut [u64])
-    requires room { from ≤ target → target - from < length ends.old
-        → slice_index ends.old (target - from) < length all.old }
-    ensures ends { from ≤ target → target - from < length ends.old
-        → ends.new ≡ slice_set ends.old (target - from) (slice_index ends.old (target - from) + 1) }
-    ensures all { from ≤ target → target - from < length ends.old
-        → all.new ≡ slice_set all.old (slice_index ends.old (target - from)) page }
-    ensures same_ends { (target < from) ⊎ (length ends.old ≤ target - from) → ends.new ≡ ends.old }
-    ensures same_all { (target < from) ⊎ (length ends.old ≤ target - from) → all.new ≡ all.old }
-{
-    if target < from {
-        return;
-    }
-    let list = (target - from) as usize;
-    if list >= ends.len() {
-        return;
-    }
-    let end = ends[list];
-    all[end as usize] = page;
-    ends[list] = end + 1;
-}
 
 // Puts a page, whose list was read, at the end of the lists of its successors, of those from page `from` on.
 fn place_arcs(page: u64, list: &[u64], from: u64, ends: &mut [u64], all: &mut [u64])

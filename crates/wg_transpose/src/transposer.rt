@@ -1,25 +1,17 @@
 //! The lists of the transposed graph, range after range of pages.
-ghost use Rattle.std.specs.Prelude.{◌≡◌, ℕ, ◌*◌, ◌^◌, ◌<◌, ◌≤◌, length, slice_range, IfOk, OnOk, OnErr};
+ghost use Rattle.std.specs.Prelude.{◌≡◌, ℕ, ◌<◌, ◌≤◌, IfOk, OnOk, OnErr};
 ghost use Rattle.wg_params.specs.declared.limits.TheConstants.{MOST_ARCS, MOST_PAGES};
 ghost use Rattle.wg_graph.specs.Ascending.{Ascends, Below};
-ghost use Rattle.wg_graph.specs.Digraph.{Digraph, IsGraph, arc_count};
+ghost use Rattle.wg_graph.specs.Digraph.{IsGraph, arc_count};
 ghost use Rattle.wg_transpose.specs.Transposed.{predecessors};
-ghost use Rattle.wg_transpose.specs.Transposing.{arcs_between, HoldsRange};
+ghost use Rattle.wg_transpose.specs.Transposing.{arcs_between};
 
-use crate::counting::{count, pages_with};
+use crate::counting::count;
 use crate::placing::fill;
+use crate::ranges::{lists_with, span};
 use std::alloc::{AllocError, Global};
 use std::marker::Model;
 use wg_graph::Lists;
-
-/// How many arcs a range is to have at least, so that a graph of so many arcs is gone through in 15 ranges at most: a
-/// fourteenth of them, and 2^24 where that is more.
-pub fn range_room(arcs: u64) -> u64
-    ensures least { 2 ^ 24 ≤ result }
-    ensures few { arcs ≤ 14 * result }
-{
-    arcs.div_ceil(14).max(1 << 24)
-}
 
 /// The lists of the transposed graph of a graph whose lists are read in order, range after range of pages.
 ///
@@ -44,23 +36,6 @@ impl<L: Lists + Drop> Model for Transposer<L> {
     ghost view = { λ t. record { graph = L.graph t.lists; from = t.from; to = t.to } };
 
     ghost invariant = { λ t. HoldsRange (L.graph t.lists) t.from t.to t.ends.items t.all.items };
-}
-
-// Where the list of a page of the range begins and ends among the lists of the range.
-#[inline(always)]
-fn span(ends: &[u64], all: &[u64], from: u64, page: u64) -> (usize, usize)
-    requires from { from ≤ page }
-    requires holds { (g : Digraph) × (to : ℕ) × HoldsRange g from to ends.now all.now × (page < to) }
-    ensures ordered { result.0 ≤ result.1 }
-    ensures within { result.1 ≤ length all.now }
-    ensures list { (g : Digraph) (to : ℕ) → HoldsRange g from to ends.now all.now → page < to
-        → slice_range all.now result.0 result.1 ≡ predecessors g page }
-{
-    let end = ends[page as usize] as usize;
-    if page == from {
-        return (0, end);
-    }
-    (ends[page as usize - 1] as usize, end)
 }
 
 impl<L: Lists + Drop> Transposer<L> {
@@ -126,7 +101,7 @@ impl<L: Lists + Drop> Transposer<L> {
     {
         self.from = self.to;
         self.all = Vec::new(alloc);
-        let (pages, arcs) = pages_with(&self.ends[self.to as usize..], room);
+        let (pages, arcs) = lists_with(&self.ends[self.to as usize..], room);
         self.all = vec![in alloc; 0; arcs as usize]?;
         self.to += pages as u64;
         let ends = &mut self.ends[self.from as usize..self.to as usize];

@@ -4,13 +4,15 @@ use Rattle.wg_graph.specs.Ascending.{Below}
 use Rattle.wg_graph.specs.Digraph.{Digraph}
 use Rattle.wg_encoder.specs.ArchiveInMemory.{HasEncoded}
 use Rattle.wg_transpose.specs.Transposed.{transposed}
-use Rattle.wg_builds.proofs.TransposedLemmas.{lists_before, one_list_more, list_fits}
+use Rattle.wg_transpose.proofs.InOrder.{lists_before, one_list_more, list_fits}
+use Rattle.wg_transpose.proofs.Reversed.{is_proper, successors_are}
+use Rattle.wg_transpose.proofs.Totals.{as_many}
 use Rattle.wg_builds.proofs.transposing.add_range.Goals as goal
 
 pub add-requires-clause-page : goal.add-requires-clause-page
 add-requires-clause-page g c =
     let i = c.loop-page.invariant in
-    omega (arith, i.encoded.page, lists_before c.args.ranges.now.graph c.loop-page.page (omega arith), ap (λ (p : Parameters). p.nodes) i.params)
+    omega (arith, i.encoded.page, lists_before (transposed c.args.ranges.now.graph) (is_proper c.args.ranges.now.graph) c.loop-page.page (omega arith), ap (λ (p : Parameters). p.nodes) i.params)
 
 pub add-requires-clause-list : goal.add-requires-clause-list
 add-requires-clause-list g c =
@@ -25,7 +27,8 @@ add-requires-clause-arcs g c =
       i.encoded.arcs,
       ap (λ (p : Parameters). p.arcs) i.params,
       c.requires.arcs,
-      list_fits c.args.ranges.now.graph c.loop-page.page (omega arith) c.list.result.now c.list.ensures.value c.nodes.ensures.proper,
+      list_fits (transposed c.args.ranges.now.graph) (is_proper c.args.ranges.now.graph) c.loop-page.page (omega arith) c.list.result.now (c.list.ensures.value ∙ sym (successors_are c.args.ranges.now.graph c.loop-page.page (omega arith))),
+      as_many c.args.ranges.now.graph c.nodes.ensures.proper,
     )
 
 pub loop-page-preserved : goal.loop-page-preserved
@@ -36,7 +39,7 @@ loop-page-preserved g c =
     record {
       params = e.params ∙ i.params;
       encoded =
-          subst (HasEncoded c.in_ok-encoder.encoder) (one_list_more graph c.loop-page.page (omega arith) c.list.result.now c.list.ensures.value)
+          subst (HasEncoded c.in_ok-encoder.encoder) (one_list_more (transposed graph) (is_proper graph) c.loop-page.page (omega arith) c.list.result.now (c.list.ensures.value ∙ sym (successors_are graph c.loop-page.page (omega arith))))
           (e.encoded (take c.loop-page.page (transposed graph).lists) i.encoded);
     }
 

@@ -1,7 +1,7 @@
 use Rattle.std.proofs.Common.{◌∙◌, ap, arith}
 use Rattle.wg_params.specs.Parameters.{Parameters}
 use Rattle.wg_graph.specs.Digraph.{Digraph}
-use Rattle.wg_builds.proofs.TransposedLemmas.{count}
+use Rattle.wg_transpose.proofs.Reversed.{is_proper}
 use Rattle.wg_builds.proofs.transposing.archive_of_lists.Goals as goal
 
 pub with_properties-requires : goal.with_properties-requires
@@ -11,7 +11,7 @@ with_properties-requires g c =
     omega (
       arith,
       e.encoded.page,
-      count graph,
+      (is_proper graph).counted,
       c.requires.nodes,
       ap (λ (d : Digraph). d.nodes) c.in_ok-ranges.ensures.graph,
       ap (λ (p : Parameters). p.nodes) (e.params ∙ c.in_ok-begun.ensures.params),

@@ -1,24 +1,28 @@
-use Rattle.std.proofs.Common.{arith, rules, ℕ, replicate, ap, ◌∙◌}
-use Rattle.std.proofs.lemmas.List.{with_items_is}
-use Rattle.std.specs.Vec.{with_items}
+use Rattle.std.proofs.Common.{◌≡◌, ◌∙◌, ◌≤◌, List, ℕ, length, [], ◌∷◌, ◌++◌, ap, arith}
+use Rattle.std.specs.List.{sum_by}
+use Rattle.wg_graph.specs.Digraph.{Digraph, IsGraph}
+use Rattle.wg_transpose.proofs.InOrder.{list_fits}
+use Rattle.wg_shape.specs.Classes.{whole}
+use Rattle.wg_shape.proofs.Quotients.{is_proper}
+use Rattle.wg_shape.proofs.Gathered.{finished, one_more}
 use Rattle.wg_shape.proofs.gathering.gather.Goals as goal
 
-pub returns-clause-exact : goal.returns-clause-exact
-returns-clause-exact c =
-    c.from_parts.ensures ∙ rw (with_items_is (with_items c.in_ok-ends.ends c.find_starts-arcs.new.ends) c.fill.new.ends (omega arith), with_items_is c.in_ok-all.all c.fill.new.all (omega arith)) c.fill.ensures.exact
+pub push_list-requires-clause-room : goal.push_list-requires-clause-room
+push_list-requires-clause-room g c =
+    let p = c.args.ranges.now.pages in
+    let so_far = ap (sum_by (λ (s : List ℕ). length s)) c.loop-class.invariant.lists in
+    let list = c.deref.ensures.value ∙ c.in_ok-list.ensures.value in
+    omega (arith, so_far, list_fits (whole p) (is_proper p.graph p.classes p.count) c.loop-class.class (omega arith) c.deref.result.now list, c.nodes-classes.ensures.few)
 
-pub find_starts-arcs-requires-clause-marks : goal.find_starts-arcs-requires-clause-marks
-find_starts-arcs-requires-clause-marks c =
-    c.deref_mut.ensures.value ∙ c.in_ok-marks.ensures.items_if_clones_equal (λ y h. search rules) ∙ ap (λ (n : ℕ). replicate n 0) c.count-classes.ensures.value
+pub loop-class-preserved : goal.loop-class-preserved
+loop-class-preserved g c =
+    let i = c.loop-class.invariant in
+    record {
+      nodes = c.push_list.ensures.nodes ∙ i.nodes;
+      lists = one_more c.args.ranges.now.pages c.loop-class.class (omega arith) c.loop-class.builder c.push_list.new.self c.deref.result.now i.lists c.in_ok-push_list.ensures.ok (c.deref.ensures.value ∙ c.in_ok-list.ensures.value);
+    }
 
-pub find_starts-arcs-requires-clause-ends : goal.find_starts-arcs-requires-clause-ends
-find_starts-arcs-requires-clause-ends c =
-    c.deref_mut-2.ensures.value ∙ c.in_ok-ends.ensures.items_if_clones_equal (λ y h. search rules) ∙ ap (λ (n : ℕ). replicate n 0) c.count-classes.ensures.value
-
-pub fill-requires-clause-starts : goal.fill-requires-clause-starts
-fill-requires-clause-starts c =
-    rw (c.deref_mut-4.ensures.value ∙ with_items_is c.in_ok-ends.ends c.find_starts-arcs.new.ends (omega arith)) (c.find_starts-arcs.ensures.starts c.deref_mut-5.result.now (c.deref_mut-5.ensures.len ∙ c.in_ok-all.ensures.len ∙ c.find_starts-arcs.ensures.arcs))
-
-pub from_parts-requires : goal.from_parts-requires
-from_parts-requires c =
-    rw (with_items_is (with_items c.in_ok-ends.ends c.find_starts-arcs.new.ends) c.fill.new.ends (omega arith), with_items_is c.in_ok-all.all c.fill.new.all (omega arith)) c.fill.ensures.whole
+pub returns : goal.returns
+returns g c =
+    let i = c.loop-class.invariant in
+    finished c.args.ranges.now.pages c.loop-class.builder c.in_ok-made.made c.loop-class.class (omega arith) i.nodes i.lists c.in_ok-made.ensures.nodes c.in_ok-made.ensures.lists

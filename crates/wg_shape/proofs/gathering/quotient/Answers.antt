@@ -1,14 +1,27 @@
-use Rattle.wg_shape.proofs.Made.{is_made, is_one, has_fewer}
+use Rattle.std.proofs.Common.{◌≡◌, ◌∙◌, ap, subst, sym, arith}
+use Rattle.wg_graph.specs.Digraph.{arc_count}
+use Rattle.wg_shape.specs.Quotient.{IsQuotient}
+use Rattle.wg_shape.specs.Classes.{Classes, whole}
+use Rattle.wg_shape.proofs.Gathered.{one_range, is_made, is_one, has_fewer}
 use Rattle.wg_shape.proofs.gathering.quotient.Goals as goal
+
+pub gather-requires-clause-to : goal.gather-requires-clause-to
+gather-requires-clause-to c =
+    let e = c.in_ok-ranges.ensures in
+    one_range c.in_ok-ranges.ranges.pages e.limits c.in_ok-ranges.ranges.to c.advance.new.self.to e.to c.advance.ensures.within c.in_ok-advance.ensures.enough
+    ∙ ap (λ (p : Classes). p.count) (sym c.advance.ensures.pages)
 
 pub returns-clause-quotient : goal.returns-clause-quotient
 returns-clause-quotient c =
-    is_one c.args.graph.now c.args.classes_of.now c.as_slice.result.now c.args.classes c.in_ok-pages.pages c.in_ok-reversed.reversed c.in_ok-made.made c.in_ok-pages.ensures c.as_slice.ensures c.in_ok-reversed.ensures.exact c.in_ok-made.ensures.exact c.in_ok-reversed.ensures.classes
+    let e = c.in_ok-ranges.ensures in
+    is_one c.in_ok-ranges.ranges.pages e.limits c.args.graph.now c.args.classes_of.now c.args.classes c.in_ok-made.made (e.graph ∙ c.new-lists.ensures.graph) (e.classes ∙ c.as_slice.ensures) e.count (c.in_ok-made.ensures ∙ ap whole c.advance.ensures.pages)
 
 pub returns-clause-fewer : goal.returns-clause-fewer
 returns-clause-fewer c =
-    has_fewer c.args.graph.now c.args.classes_of.now c.as_slice.result.now c.args.classes c.in_ok-pages.pages c.in_ok-reversed.reversed c.in_ok-made.made c.in_ok-pages.ensures c.as_slice.ensures c.in_ok-reversed.ensures.exact c.in_ok-made.ensures.exact c.in_ok-reversed.ensures.classes
+    let e = c.in_ok-ranges.ensures in
+    has_fewer c.in_ok-ranges.ranges.pages e.limits c.args.graph.now c.args.classes_of.now c.args.classes c.in_ok-made.made (e.graph ∙ c.new-lists.ensures.graph) (e.classes ∙ c.as_slice.ensures) e.count (c.in_ok-made.ensures ∙ ap whole c.advance.ensures.pages)
 
 pub returns-clause-exact : goal.returns-clause-exact
 returns-clause-exact c =
-    is_made c.args.graph.now c.args.classes_of.now c.as_slice.result.now c.args.classes c.in_ok-pages.pages c.in_ok-reversed.reversed c.in_ok-made.made c.in_ok-pages.ensures c.as_slice.ensures c.in_ok-reversed.ensures.exact c.in_ok-made.ensures.exact c.in_ok-reversed.ensures.classes
+    let e = c.in_ok-ranges.ensures in
+    is_made c.in_ok-ranges.ranges.pages e.limits c.args.graph.now c.args.classes_of.now c.args.classes c.in_ok-made.made (e.graph ∙ c.new-lists.ensures.graph) (e.classes ∙ c.as_slice.ensures) e.count (c.in_ok-made.ensures ∙ ap whole c.advance.ensures.pages)

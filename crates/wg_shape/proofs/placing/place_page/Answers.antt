@@ -1,46 +1,44 @@
-use Rattle.std.proofs.Common.{ℕ, ◌<◌, List, length, get_or, ap, ◌∙◌, subst, arith}
-use Rattle.wg_graph.specs.Digraph.{successors}
+use Rattle.std.proofs.Common.{◌+◌, length, take, get_or, arith}
 use Rattle.wg_transpose.proofs.Seen.{member_below}
-use Rattle.wg_shape.specs.Quotient.{class_of, members}
-use Rattle.wg_shape.specs.Classes.{whole}
-use Rattle.wg_shape.specs.SoFar.{Placed}
-use Rattle.wg_shape.proofs.Walk.{page_below, seen_page, is_new, is_old, there, place_step, place_skip}
+use Rattle.wg_transpose.proofs.Steps.{place_below, place_step}
+use Rattle.wg_shape.specs.Quotient.{class_of}
+use Rattle.wg_shape.specs.Classes.{reached_by}
+use Rattle.wg_shape.proofs.Reached.{with_arcs, class_more, class_fits, page_end}
 use Rattle.wg_shape.proofs.placing.place_page.Goals as goal
-use Rattle.wg_shape.proofs.placing.place_page.Goals.{then-mark, else-mark}
 
-pub list-target-items-requires : goal.list-target-items-requires
-list-target-items-requires c = rw c.members.ensures (page_below c.args.pages.now c.requires.classes c.args.source c.args.at c.requires.at)
+pub offset_bounds-classes-target : goal.offset_bounds-classes-target
+offset_bounds-classes-target c = omega (arith, member_below (length c.args.classes.now) c.loop-target.target-index c.args.list.now c.requires.below (omega arith))
 
-pub class-class-requires : goal.class-class-requires
-class-class-requires c = member_below c.args.pages.now.graph.nodes c.loop-target.target-index c.list-target-items.result.now c.list-target-items.ensures.below (omega arith)
+pub bounds-classes-target : goal.bounds-classes-target
+bounds-classes-target c = omega (arith, member_below (length c.args.classes.now) c.loop-target.target-index c.args.list.now c.requires.below (omega arith))
 
 pub put-requires : goal.put-requires
-put-requires c =
-    let list_is = c.list-target-items.ensures.value ∙ ap (λ (l : List ℕ). successors c.args.pages.now.graph (get_or l c.args.at 0)) c.members.ensures in
-    let lt : c.loop-target.target-index < length (successors c.args.pages.now.graph (get_or (members c.args.pages.now.classes c.args.source) c.args.at 0)) = omega (arith, ap length list_is) in
-    let is = c.class-class.ensures.value ∙ ap (λ (l : List ℕ). class_of c.args.pages.now.classes (get_or l c.loop-target.target-index 0)) list_is in
-    let new = is_new (whole c.args.pages.now) c.args.source _ c.loop-target.marks c.class-class.result c.mark.result c.loop-target.invariant.marked c.class-class.ensures.below c.mark.ensures.told c.if-mark.true in
-    record {
-      target = omega (arith, c.class-class.ensures.below, c.loop-target.invariant.placed.pages);
-      room = there c.args.pages.now c.requires.classes c.args.source c.args.at c.requires.at c.loop-target.target-index lt c.class-class.result is c.requires.source c.loop-target.marks c.loop-target.ends c.loop-target.all c.loop-target.invariant new;
-    }
+put-requires c = record {
+  room = λ low high.
+      let r = c.requires.placed in
+      let h = c.loop-target.invariant r.0 r.1 r.2 r.3 in
+      let pages = h.pages in
+      let j = c.loop-target.target-index in
+      let list = c.args.list.now in
+      let classes = c.args.classes.now in
+      place_below (reached_by r.0 classes) (with_arcs r.0 classes c.args.page (take j list)) (with_arcs r.0 classes c.args.page (take (j + 1) list)) c.args.from (length c.args.ends.now)
+      (class_of classes c.args.page) (class_of classes (get_or list j 0)) c.loop-target.ends c.loop-target.all
+      (class_more r.0 classes c.args.page j list (omega arith)) (class_fits r.0 classes c.args.page (j + 1) list c.requires.page r.1.is) h low (omega arith);
+}
 
 pub loop-target-preserved : goal.loop-target-preserved
-loop-target-preserved c =
-    let list_is = c.list-target-items.ensures.value ∙ ap (λ (l : List ℕ). successors c.args.pages.now.graph (get_or l c.args.at 0)) c.members.ensures in
-    let lt : c.loop-target.target-index < length (successors c.args.pages.now.graph (get_or (members c.args.pages.now.classes c.args.source) c.args.at 0)) = omega (arith, ap length list_is) in
-    let is = c.class-class.ensures.value ∙ ap (λ (l : List ℕ). class_of c.args.pages.now.classes (get_or l c.loop-target.target-index 0)) list_is in
-    elim c.if-mark.branch [
-      | then-mark w ↦
-          let new = is_new (whole c.args.pages.now) c.args.source _ c.loop-target.marks c.class-class.result c.mark.result c.loop-target.invariant.marked c.class-class.ensures.below c.mark.ensures.told w.if-mark.true in
-          rw (c.mark.ensures.marked, w.ends-is, w.all-is, w.put.ensures.ends, w.put.ensures.all) (place_step c.args.pages.now c.requires.classes c.args.source c.args.at c.requires.at c.loop-target.target-index lt c.class-class.result is c.requires.source c.loop-target.marks c.loop-target.ends c.loop-target.all c.loop-target.invariant new)
-      | else-mark w ↦
-          let old = is_old (whole c.args.pages.now) c.args.source _ c.loop-target.marks c.class-class.result c.mark.result c.loop-target.invariant.marked c.class-class.ensures.below c.mark.ensures.told w.if-mark.false in
-          rw (c.mark.ensures.marked, w.ends-is, w.all-is) (place_skip c.args.pages.now c.requires.classes c.args.source c.args.at c.requires.at c.loop-target.target-index lt c.class-class.result is c.requires.source c.loop-target.marks c.loop-target.ends c.loop-target.all c.loop-target.invariant old)
-    ]
+loop-target-preserved c = λ g is size h.
+    let before = c.loop-target.invariant g is size h in
+    let j = c.loop-target.target-index in
+    let list = c.args.list.now in
+    let classes = c.args.classes.now in
+    place_step (reached_by g classes) (with_arcs g classes c.args.page (take j list)) (with_arcs g classes c.args.page (take (j + 1) list)) c.args.from (length c.args.ends.now)
+    (class_of classes c.args.page) (class_of classes (get_or list j 0)) c.loop-target.ends c.loop-target.all
+    (class_more g classes c.args.page j list (omega arith)) (class_fits g classes c.args.page (j + 1) list c.requires.page is.is) before
+    c.put.new.ends c.put.new.all c.put.ensures.ends c.put.ensures.all c.put.ensures.same_ends c.put.ensures.same_all
 
 pub returns : goal.returns
-returns c =
-    let list_is = c.list-target-items.ensures.value ∙ ap (λ (l : List ℕ). successors c.args.pages.now.graph (get_or l c.args.at 0)) c.members.ensures in
-    let done = seen_page c.args.pages.now c.requires.classes c.args.source c.args.at c.requires.at c.loop-target.target-index (omega (arith, ap length list_is)) in
-    record { placed = subst (λ (s : List ℕ). Placed (whole c.args.pages.now) c.args.source s c.loop-target.marks c.loop-target.ends c.loop-target.all) done c.loop-target.invariant }
+returns c = record {
+  placed = λ g is size h.
+      page_end g c.args.classes.now c.args.from (length c.args.ends.now) c.args.page c.loop-target.ends c.loop-target.all c.loop-target.target-index c.args.list.now (omega arith) is.is (c.loop-target.invariant g is size h);
+}

@@ -1,6 +1,6 @@
 use Rattle.wg_transpose.proofs.Reversed.{are_reversed, is_proper, gives_back, is_one}
 use Rattle.wg_transpose.proofs.Totals.{as_many}
-use Rattle.wg_transpose.proofs.Ranges.{are_few}
+use Rattle.wg_transpose.proofs.Held.{are_few}
 use Rattle.wg_transpose.proofs.laws.transposed_graphs.Goals as goal
 
 pub returns-clause-reversed : goal.returns-clause-reversed

@@ -1,5 +1,7 @@
-use Rattle.std.proofs.Common.{arith}
-use Rattle.wg_transpose.proofs.Steps.{place_below, place_step, place_end, none_yet}
+use Rattle.std.proofs.Common.{◌+◌, take, get_or, arith}
+use Rattle.wg_transpose.specs.Transposed.{predecessors}
+use Rattle.wg_transpose.proofs.Seen.{with_page}
+use Rattle.wg_transpose.proofs.Steps.{place_below, place_step, page_more, page_fits, place_end, none_yet}
 use Rattle.wg_transpose.proofs.placing.place_arcs.Goals as goal
 
 pub loop-target-init : goal.loop-target-init
@@ -11,13 +13,19 @@ put-requires c = record {
       let r = c.requires.placed in
       let h = c.loop-target.invariant r.0 r.1 r.2 r.3 in
       let pages = h.pages in
-      place_below r.0 c.args.from r.1 c.args.page c.loop-target.target-index c.args.list.now c.loop-target.ends c.loop-target.all r.2 (omega arith) h low (omega arith);
+      let j = c.loop-target.target-index in
+      let list = c.args.list.now in
+      place_below (predecessors r.0) (with_page r.0 c.args.page (take j list)) (with_page r.0 c.args.page (take (j + 1) list)) c.args.from r.1 (get_or list j 0) c.args.page c.loop-target.ends c.loop-target.all
+      (page_more r.0 c.args.page j list r.2 (omega arith)) (page_fits r.0 c.args.page j list r.2 (omega arith)) h low (omega arith);
 }
 
 pub loop-target-preserved : goal.loop-target-preserved
 loop-target-preserved c = λ g n is h.
     let before = c.loop-target.invariant g n is h in
-    place_step g c.args.from n c.args.page c.loop-target.target-index c.args.list.now c.loop-target.ends c.loop-target.all is (omega arith) before
+    let j = c.loop-target.target-index in
+    let list = c.args.list.now in
+    place_step (predecessors g) (with_page g c.args.page (take j list)) (with_page g c.args.page (take (j + 1) list)) c.args.from n (get_or list j 0) c.args.page c.loop-target.ends c.loop-target.all
+    (page_more g c.args.page j list is (omega arith)) (page_fits g c.args.page j list is (omega arith)) before
     c.put.new.ends c.put.new.all c.put.ensures.ends c.put.ensures.all c.put.ensures.same_ends c.put.ensures.same_all
 
 pub returns : goal.returns

@@ -6,70 +6,72 @@ use borrow.Rule.Slice.PartMut.{put_mid}
 use Rattle.wg_transpose.specs.Transposed.{predecessors}
 use Rattle.wg_transpose.specs.SoFar.{onward, start, ArePlacedFrom}
 use Rattle.wg_transpose.specs.Transposing.{Transposing, arcs_between}
-use Rattle.wg_transpose.proofs.Ranges.{length_written, sum_behind, range_within, range_size, range_arcs, range_few, range_counted, range_held}
+use Rattle.wg_transpose.proofs.Held.{length_written, sum_behind, range_within, range_size, range_arcs, range_few, range_counted, range_held, held_range}
 use Rattle.wg_transpose.proofs.transposer.Transposer.advance.Goals as goal
-use Rattle.wg_transpose.proofs.transposer.Transposer.advance.Goals.{After-pages_with-pages}
+use Rattle.wg_transpose.proofs.transposer.Transposer.advance.Goals.{After-lists_with-pages}
 use Rattle.wg_transpose.proofs.transposer.Transposer.advance.Given.{Over}
 
-pub pages_with-pages-requires : goal.pages_with-pages-requires
-pages_with-pages-requires g c =
+pub lists_with-pages-requires : goal.lists_with-pages-requires
+lists_with-pages-requires g c =
     let i = c.self.inside in
     record {
-      few = rw (between_to_end c.deref.result.now i.to (length c.deref.result.now) (omega arith), c.deref.ensures.value) (sum_behind (g.L.Lists.graph i.lists) i.from i.to i.ends.items i.all.items c.self.invariant);
+      few = rw (between_to_end c.deref.result.now i.to (length c.deref.result.now) (omega arith), c.deref.ensures.value) (sum_behind (g.L.Lists.graph i.lists).nodes (predecessors (g.L.Lists.graph i.lists)) i.from i.to i.ends.items i.all.items c.self.invariant.held);
     }
 
 -- the counts behind the range
-behind_is : (g : Over) (c : After-pages_with-pages g) → slice_range c.deref.result.now c.self.inside.to (length c.deref.result.now) ≡ drop c.self.inside.to c.self.inside.ends.items
+behind_is : (g : Over) (c : After-lists_with-pages g) → slice_range c.deref.result.now c.self.inside.to (length c.deref.result.now) ≡ drop c.self.inside.to c.self.inside.ends.items
 behind_is g c = between_to_end c.deref.result.now c.self.inside.to (length c.deref.result.now) (omega arith) ∙ ap (drop c.self.inside.to) c.deref.ensures.value
 
-fits : (g : Over) (c : After-pages_with-pages g) → c.pages_with-pages.result.0 ≤ length (drop c.self.inside.to c.self.inside.ends.items)
-fits g c = subst (λ (l : List ℕ). c.pages_with-pages.result.0 ≤ length l) (behind_is g c) c.pages_with-pages.ensures.within
+fits : (g : Over) (c : After-lists_with-pages g) → c.lists_with-pages.result.0 ≤ length (drop c.self.inside.to c.self.inside.ends.items)
+fits g c = subst (λ (l : List ℕ). c.lists_with-pages.result.0 ≤ length l) (behind_is g c) c.lists_with-pages.ensures.within
 
 -- how many arcs lead to the first k pages behind the range
-arcs_are : (g : Over) (c : After-pages_with-pages g) (k : ℕ) → k ≤ c.pages_with-pages.result.0
+arcs_are : (g : Over) (c : After-lists_with-pages g) (k : ℕ) → k ≤ c.lists_with-pages.result.0
     → sum (take k (slice_range c.deref.result.now c.self.inside.to (length c.deref.result.now))) ≡ start (onward c.self.inside.to (predecessors (g.L.Lists.graph c.self.inside.lists))) k
 arcs_are g c k le =
     let i = c.self.inside in
-    ap (λ (l : List ℕ). sum (take k l)) (behind_is g c) ∙ range_arcs (g.L.Lists.graph i.lists) i.from i.to i.ends.items i.all.items c.self.invariant c.pages_with-pages.result.0 (fits g c) k le
+    ap (λ (l : List ℕ). sum (take k l)) (behind_is g c) ∙ range_arcs (g.L.Lists.graph i.lists).nodes (predecessors (g.L.Lists.graph i.lists)) i.from i.to i.ends.items i.all.items c.self.invariant.held c.lists_with-pages.result.0 (fits g c) k le
 
-total_is : (g : Over) (c : After-pages_with-pages g) → c.pages_with-pages.result.1 ≡ start (onward c.self.inside.to (predecessors (g.L.Lists.graph c.self.inside.lists))) c.pages_with-pages.result.0
-total_is g c = c.pages_with-pages.ensures.total ∙ arcs_are g c c.pages_with-pages.result.0 (omega arith)
+total_is : (g : Over) (c : After-lists_with-pages g) → c.lists_with-pages.result.1 ≡ start (onward c.self.inside.to (predecessors (g.L.Lists.graph c.self.inside.lists))) c.lists_with-pages.result.0
+total_is g c = c.lists_with-pages.ensures.total ∙ arcs_are g c c.lists_with-pages.result.0 (omega arith)
 
 pub fill-requires-clause-counted : goal.fill-requires-clause-counted
 fill-requires-clause-counted g c =
     let i = c.self.inside in
-    rw c.deref_mut.ensures.value (range_counted (g.L.Lists.graph i.lists) i.from i.to i.ends.items i.all.items c.self.invariant c.pages_with-pages.result.0 (fits g (goal.at.fill-requires-clause-counted g c).After-pages_with-pages))
+    rw c.deref_mut.ensures.value (range_counted (g.L.Lists.graph i.lists).nodes (predecessors (g.L.Lists.graph i.lists)) i.from i.to i.ends.items i.all.items c.self.invariant.held c.lists_with-pages.result.0 (fits g (goal.at.fill-requires-clause-counted g c).After-lists_with-pages))
 
 pub fill-requires-clause-room : goal.fill-requires-clause-room
 fill-requires-clause-room g c =
     let i = c.self.inside in
     let graph = g.L.Lists.graph i.lists in
-    let e = (goal.at.fill-requires-clause-room g c).After-pages_with-pages in
-    let size = range_size graph i.from i.to i.ends.items i.all.items c.self.invariant c.pages_with-pages.result.0 (fits g e) in
-    let all : length c.deref_mut-2.result.now ≡ c.pages_with-pages.result.1 = c.deref_mut-2.ensures.len ∙ c.in_ok-self-inside.ensures.len in
+    let e = (goal.at.fill-requires-clause-room g c).After-lists_with-pages in
+    let size = range_size graph.nodes (predecessors graph) i.from i.to i.ends.items i.all.items c.self.invariant.held c.lists_with-pages.result.0 (fits g e) in
+    let all : length c.deref_mut-2.result.now ≡ c.lists_with-pages.result.1 = c.deref_mut-2.ensures.len ∙ c.in_ok-self-inside.ensures.len in
     rw (c.deref_mut.ensures.value, size) (all ∙ total_is g e)
 
 pub fill-requires-clause-few : goal.fill-requires-clause-few
 fill-requires-clause-few g c =
     let i = c.self.inside in
-    let e = (goal.at.fill-requires-clause-few g c).After-pages_with-pages in
-    let few = range_few (g.L.Lists.graph i.lists) i.from i.to i.ends.items i.all.items c.self.invariant c.pages_with-pages.result.0 (fits g e) in
+    let e = (goal.at.fill-requires-clause-few g c).After-lists_with-pages in
+    let few = range_few (g.L.Lists.graph i.lists).nodes (predecessors (g.L.Lists.graph i.lists)) i.from i.to i.ends.items i.all.items c.self.invariant.held c.lists_with-pages.result.0 (fits g e) in
     omega (arith, few, total_is g e, c.deref_mut-2.ensures.len, c.in_ok-self-inside.ensures.len)
 
 pub invariant_of-self-2 : goal.invariant_of-self-2
 invariant_of-self-2 g c =
     let i = c.self.inside in
     let graph = g.L.Lists.graph i.lists in
-    let p : ℕ = c.pages_with-pages.result.0 in
+    let p : ℕ = c.lists_with-pages.result.0 in
     let n : ℕ = i.to + p - i.to in
     let part : List ℕ = slice_range c.deref_mut.result.now i.to (i.to + p) in
-    let e = (goal.at.invariant_of-self-2 g c).After-pages_with-pages in
+    let e = (goal.at.invariant_of-self-2 g c).After-lists_with-pages in
     let some = fits g e in
-    let size : length part ≡ p = rw c.deref_mut.ensures.value (range_size graph i.from i.to i.ends.items i.all.items c.self.invariant p some) in
+    let size : length part ≡ p = rw c.deref_mut.ensures.value (range_size graph.nodes (predecessors graph) i.from i.to i.ends.items i.all.items c.self.invariant.held p some) in
     let new : length c.fill.new.ends ≡ p = c.fill.auto.ends ∙ size in
     let placed = subst (λ (m : ℕ). ArePlacedFrom graph i.to m (predecessors graph) c.fill.new.ends c.fill.new.all) size c.fill.ensures.placed in
-    let held = range_held graph i.from i.to i.ends.items i.all.items c.self.invariant p some n c.fill.new.ends c.fill.new.all refl new placed in
-    let within = range_within graph i.from i.to i.ends.items i.all.items c.self.invariant p some in
+    let inv = c.self.invariant in
+    let lists = range_held graph.nodes (predecessors graph) i.from i.to i.ends.items i.all.items c.self.invariant.held p some n c.fill.new.ends c.fill.new.all refl new placed in
+    let held = held_range graph inv.proper inv.few_pages inv.few_arcs i.to (i.to + p) (put_mid i.to n i.ends.items c.fill.new.ends) c.fill.new.all lists in
+    let within = range_within graph.nodes (predecessors graph) i.from i.to i.ends.items i.all.items c.self.invariant.held p some in
     let written : length (put_mid i.to n c.deref_mut.result.now c.fill.new.ends) ≡ i.ends.len =
     length_written i.to n c.deref_mut.result.now c.fill.new.ends (omega (arith, within, ap length c.deref_mut.ensures.value)) (omega (arith, new)) ∙ c.deref_mut.ensures.len in
     let all : length c.fill.new.all ≡ c.in_ok-self-inside.field-0.len = c.fill.auto.all ∙ c.deref_mut-2.ensures.len in
@@ -79,8 +81,8 @@ pub returns-clause-least : goal.returns-clause-least
 returns-clause-least g c = λ page behind before.
     let i = c.self.inside in
     let to = ap (λ (t : Transposing). t.to) c.self.view_is in
-    let e = (goal.at.returns-clause-least g c).After-pages_with-pages in
+    let e = (goal.at.returns-clause-least g c).After-lists_with-pages in
     let k : ℕ = page - i.to in
-    let less = c.pages_with-pages.ensures.least k (omega arith) (omega arith) in
+    let less = c.lists_with-pages.ensures.least k (omega arith) (omega arith) in
     let is = arcs_are g e k (omega arith) in
     subst (λ (t : Transposing). arcs_between t.graph t.to page < c.args.room) c.self.view_is (omega (arith, less, is))
