@@ -133,6 +133,7 @@ impl PageLines {
         requires line { self.old.line + length bytes.now < 2 ^ 64 }
         ensures nodes { self.new.nodes ≡ self.old.nodes }
         ensures arcs { self.new.arcs ≡ self.old.arcs }
+        ensures onward { OnOk result (self.old.line ≤ self.new.line) }
         ensures line { OnOk result (self.new.line ≤ self.old.line + length bytes.now) }
         ensures read { (all later lists : ListOf (ListOf ℕ)) → IsUpTo all (lines_of bytes.now ++ later) lists self.old
             → OnOk result (IsUpTo all later lists self.new) }

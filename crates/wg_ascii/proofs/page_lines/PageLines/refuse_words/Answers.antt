@@ -26,6 +26,7 @@ lines-preserved c =
     record {
       nodes = i.nodes;
       arcs = i.arcs;
+      onward = omega (arith, i.onward);
       line = omega (arith, i.line, c.first_line.ensures.shorter);
       over = λ some. omega (arith, over);
       read = λ all later lists h.
