@@ -1,3 +1,4 @@
+pub mod PageLemmas
 pub mod Pages
 pub mod Parted
 pub mod ReadBack

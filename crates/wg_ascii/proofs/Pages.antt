@@ -1,5 +1,5 @@
 -- The lists of the pages, read line by line.
-use Rattle.std.proofs.Common.{◌≡◌, ℕ, suc, ◌+◌, ◌<◌, ◌≤◌, List, [], ◌∷◌, ◌++◌, map, length, take, drop, get_or, decimal, None, refl, sym, ap, subst, ◌∙◌, arith, inl, inr, length-drop}
+use Rattle.std.proofs.Common.{◌≡◌, ℕ, suc, ◌+◌, ◌<◌, ◌≤◌, List, [], ◌∷◌, ◌++◌, map, length, take, drop, get_or, decimal, Option, Some, None, refl, sym, ap, subst, ◌∙◌, arith, inl, inr, length-drop}
 use Rattle.std.specs.List.{All, sum_by}
 use Rattle.std.proofs.lemmas.Bool.{cases_lt, lt-leb, le-leb}
 use Rattle.std.proofs.lemmas.List.{get_or-drop, drop_more, get_or_append_left, get_or_at, get_or-take, take_more, length-take-le, length_push, length-map}
@@ -9,10 +9,12 @@ use Rattle.wg_params.specs.declared.limits.TheConstants.{MOST_ARCS, MOST_PAGES}
 use Rattle.wg_graph.specs.Ascending.{Ascends, Below}
 use Rattle.wg_graph.specs.Digraph.{Digraph, arc_count}
 use Rattle.wg_ascii.specs.Words.{words_of}
+use Rattle.wg_ascii.specs.declared.fault.AsciiKind.{AsciiKind}
+use Rattle.wg_ascii.specs.declared.fault.AsciiKind.TheVariants as kind
 use Rattle.wg_ascii.specs.declared.fault.AsciiError.{AsciiError}
 use Rattle.wg_ascii.specs.declared.fault.AsciiError.TheVariants as error
-use Rattle.wg_ascii.specs.Reading.{fault_after, words_in}
-use Rattle.wg_ascii.specs.Growing.{HasPage, HasNoPage, fault_of_line, HasLists, IsFirstAfter}
+use Rattle.wg_ascii.specs.Reading.{fault_after, fault_of_words, words_in}
+use Rattle.wg_ascii.specs.Growing.{HasPage, IsRefused, HasLists, IsFirstAfter}
 use Rattle.wg_ascii.proofs.Successors.{fine_words}
 
 Lines : Type 0
@@ -118,6 +120,11 @@ lists_more lines rest after g new h lt (list, (text, cut, is), more) same =
 pub lists_sound : (lines rest : List (List ℕ)) (g : Digraph) → HasLists lines rest g → (x : ℕ) → x < length g.lists → fault_after g.nodes lines x ≡ None
 lists_sound lines rest g h x lt = let p = h.prefix in sound_at g.nodes lines g.lists x p.few_pages lt p.begun h.there h.words p.ascending p.below p.few_arcs
 
+-- what is wrong with the first of these lines, as that of a page
+abbrev pub fault_of_line : ℕ → ℕ → List (List ℕ) → Option AsciiKind
+fault_of_line n arcs [] = Some kind.Missing
+fault_of_line n arcs (text ∷ after) = fault_of_words n 0 arcs (words_of text)
+
 next_fault : (lines rest : List (List ℕ)) (g : Digraph) → HasLists lines rest g → length g.lists < g.nodes → fault_after g.nodes lines (length g.lists) ≡ fault_of_line g.nodes (arc_count g) rest
 next_fault lines [] g h lt =
     let k : ℕ = length g.lists in
@@ -130,6 +137,6 @@ next_fault lines (text ∷ after) g h lt =
     let line = next.line in
     rw (lt-leb g.nodes k lt, lt-leb (length lines) k next.there, front, line) refl
 
-pub lists_refused : (lines rest : List (List ℕ)) (g : Digraph) (line : ℕ) (e : AsciiError) → HasLists lines rest g → length g.lists < g.nodes → line ≡ length g.lists + 2 → HasNoPage line rest g e → IsFirstAfter g.nodes lines e
+pub lists_refused : (lines rest : List (List ℕ)) (g : Digraph) (line : ℕ) (e : AsciiError) → HasLists lines rest g → length g.lists < g.nodes → line ≡ length g.lists + 2 → IsRefused line (fault_of_line g.nodes (arc_count g) rest) e → IsFirstAfter g.nodes lines e
 lists_refused lines rest g line (error.Line l k) h lt at r = (length g.lists, r.0 ∙ at, next_fault lines rest g h lt ∙ r.1, lists_sound lines rest g h)
 lists_refused lines rest g line error.Memory h lt at r = tt

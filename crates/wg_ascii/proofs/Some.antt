@@ -1,5 +1,5 @@
 -- A text stands for a graph or has a first fault.
-use Rattle.std.proofs.Common.{◌≡◌, ◌≢◌, ℕ, suc, ◌+◌, ◌-◌, ◌≤◌, ◌⊎◌, List, [], ◌∷◌, ◌++◌, map, length, replicate, decimal, Option, Some, None, unwrap_or, Result, Ok, Err, refl, sym, ap, subst, ◌∙◌, arith, inl, inr, append-nil}
+use Rattle.std.proofs.Common.{◌≡◌, ◌≢◌, ℕ, suc, ◌+◌, ◌≤◌, ◌⊎◌, List, [], ◌∷◌, ◌++◌, map, length, decimal, Option, Some, None, unwrap_or, Result, Ok, Err, refl, sym, ap, subst, arith, inl, inr}
 use Rattle.std.proofs.lemmas.Bool.{cases_lt, lt-leb, le-leb, lt-ltb, le-ltb}
 use Rattle.std.proofs.lemmas.Option.{none-some}
 use Rattle.wg_params.specs.declared.limits.TheConstants.{MOST_ARCS, MOST_PAGES}
@@ -8,17 +8,15 @@ use Rattle.wg_num.specs.Lines.{lines_of}
 use Rattle.wg_num.proofs.Numbers.{decimal-number_of}
 use Rattle.wg_graph.specs.Ascending.{Ascends, Below}
 use Rattle.wg_graph.specs.Digraph.{Digraph, arc_count}
-use Rattle.wg_graph.specs.Growing.{padded}
-use Rattle.wg_graph.proofs.Prefixes.{graph_of_prefix}
 use Rattle.wg_ascii.specs.Words.{words_of}
 use Rattle.wg_ascii.specs.declared.fault.AsciiKind.{AsciiKind}
 use Rattle.wg_ascii.specs.declared.fault.AsciiKind.TheVariants as kind
 use Rattle.wg_ascii.specs.declared.fault.AsciiError.TheVariants as error
 use Rattle.wg_ascii.specs.Reading.{fault_of_pages, fault_of_first, refusal_of, or_else, fault_of_words, IsDecided}
-use Rattle.wg_ascii.specs.Growing.{IsNumber, IsList, HasLists, IsFirstAfter, AreBlank, IsFirstExtra}
+use Rattle.wg_ascii.specs.Growing.{IsNumber, IsList, HasLists, IsFirstAfter, AreBlank, IsFirstExtra, Tells, BlankSoFar}
 use Rattle.wg_ascii.specs.Laws.{TextsAreSome}
 use Rattle.wg_ascii.proofs.Pages.{lists_none, lists_more, lists_refused}
-use Rattle.wg_ascii.proofs.Whole.{Tells, no_lines_fault, first_fault, after_fault, extra_fault, stands, BlankSoFar, blank_none, blank_more, blank_done, blank_refused}
+use Rattle.wg_ascii.proofs.Whole.{no_lines_fault, first_fault, after_fault, extra_after, stands, blank_none, blank_more, blank_done, blank_refused}
 
 cases_fault : (o : Option AsciiKind) → (o ≡ None) ⊎ ((k : AsciiKind) × (o ≡ Some k))
 cases_fault None = inl refl
@@ -124,11 +122,9 @@ Decided bytes = (w : Result Digraph (ℕ × AsciiKind)) × IsDecided bytes w
 
 decide_end : (bytes first : List ℕ) (lines rest : List (List ℕ)) (g : Digraph) → lines_of bytes ≡ first ∷ lines → Tells (words_of first) g.nodes → HasLists lines rest g → length g.lists ≡ g.nodes → Decided bytes
 decide_end bytes first lines rest g cut tells h all =
-    let none : g.nodes - length g.lists ≡ 0 = omega arith in
-    let whole : padded g.nodes g.lists ≡ g.lists = ap (λ (k : ℕ). g.lists ++ replicate k []) none ∙ append-nil g.lists in
     elim (walk_blank rest rest (g.nodes + 2) (g.nodes + 2) (blank_none rest (g.nodes + 2))) [
-      | inl blank ↦ (Ok g, stands bytes first lines rest g g cut tells h all blank refl (sym whole) (graph_of_prefix g h.prefix all))
-      | inr extra ↦ (Err (extra.0, kind.Extra), extra_fault bytes first lines rest g (error.Line extra.0 kind.Extra) cut tells h all extra.1)
+      | inl blank ↦ (Ok g, stands (lines_of bytes) first lines rest g cut tells h all blank)
+      | inr extra ↦ (Err (extra.0, kind.Extra), after_fault bytes first lines g.nodes (error.Line extra.0 kind.Extra) cut tells (extra_after lines rest g (error.Line extra.0 kind.Extra) h all extra.1))
     ]
 
 decide_pages : (bytes first : List ℕ) (lines : List (List ℕ)) (n : ℕ) → lines_of bytes ≡ first ∷ lines → Tells (words_of first) n → Walked lines n → Decided bytes
@@ -136,7 +132,7 @@ decide_pages bytes first lines n cut tells (inl (e, fault)) = (Err e, after_faul
 decide_pages bytes first lines n cut tells (inr (rest, g, same, h, all)) = decide_end bytes first lines rest g cut (subst (Tells (words_of first)) (sym same) tells) h all
 
 decide : (bytes : List ℕ) (lines : List (List ℕ)) → lines_of bytes ≡ lines → Decided bytes
-decide bytes [] cut = (Err (1, kind.Missing), no_lines_fault bytes cut)
+decide bytes [] cut = (Err (1, kind.Missing), no_lines_fault (lines_of bytes) cut)
 decide bytes (first ∷ lines) cut =
     elim (cases_fault (fault_of_first (words_of first))) [
       | inl fine ↦

@@ -1,29 +1,23 @@
 -- The whole text, of the first line and what comes after it.
-use Rattle.std.proofs.Common.{◌≡◌, ◌≢◌, ℕ, zero, suc, ◌+◌, ◌-◌, ◌<◌, ◌≤◌, false, eqb, List, [], ◌∷◌, ◌++◌, map, length, drop, get_or, replicate, decimal, Option, Some, None, IsSome, IsNone, MatchOption, Bor, Err, refl, sym, ap, subst, ◌∙◌, arith, inl, inr, append-nil}
-use Rattle.std.specs.List.{sum_by}
+use Rattle.std.proofs.Common.{◌≡◌, ◌≢◌, ℕ, zero, suc, ◌+◌, ◌-◌, ◌<◌, ◌≤◌, false, eqb, List, [], ◌∷◌, map, length, drop, get_or, decimal, Option, Some, None, IsSome, IsNone, MatchOption, Bor, Err, refl, sym, ap, subst, ◌∙◌, arith, inl, inr}
 use Rattle.std.proofs.lemmas.Bool.{cases_lt, false≢true, le-leb, le-ltb, ne_eqb}
 use Rattle.std.proofs.lemmas.List.{get_or-drop, get_or_past}
 use Rattle.wg_params.specs.declared.limits.TheConstants.{MOST_PAGES}
 use Rattle.wg_num.specs.Decimal.{number_of}
 use Rattle.wg_num.specs.Lines.{lines_of}
 use Rattle.wg_num.proofs.Numbers.{number_of-decimal}
-use Rattle.wg_graph.specs.Digraph.{Digraph, IsGraph, arc_count}
-use Rattle.wg_graph.specs.Growing.{padded}
+use Rattle.wg_graph.specs.Digraph.{Digraph}
+use Rattle.wg_graph.proofs.Prefixes.{graph_of_prefix}
 use Rattle.wg_ascii.specs.Words.{words_of}
 use Rattle.wg_ascii.specs.declared.fault.AsciiKind.{AsciiKind}
 use Rattle.wg_ascii.specs.declared.fault.AsciiKind.TheVariants as kind
 use Rattle.wg_ascii.specs.declared.fault.AsciiError.{AsciiError}
 use Rattle.wg_ascii.specs.declared.fault.AsciiError.TheVariants as error
 use Rattle.wg_ascii.specs.Reading.{StandsFor, fault_of_first, pages_in, fault_after, fault_at, IsFirstFault, IsRead}
-use Rattle.wg_ascii.specs.Growing.{HasLists, IsFirstAfter, AreBlank, IsFirstExtra}
+use Rattle.wg_ascii.specs.Growing.{HasLists, IsFirstAfter, AreBlank, IsFirstExtra, Tells, BlankSoFar}
 use Rattle.wg_ascii.proofs.Pages.{IsNext, next_is, none_left, lists_sound}
 
 -- ---- the first line
-
--- it tells a number of pages within the limit
-pub record Tells (words : List (List ℕ)) (n : ℕ) : Type 0 where
-  pub is : words ≡ decimal n ∷ []
-  pub small : n ≤ MOST_PAGES
 
 told : (n : ℕ) → n ≤ MOST_PAGES → number_of (decimal n) ≡ Some n
 told n small = number_of-decimal n (omega arith)
@@ -45,11 +39,11 @@ told_pages words n h =
 pub first_fault : (bytes first : List ℕ) (lines : List (List ℕ)) (k : AsciiKind) → lines_of bytes ≡ first ∷ lines → fault_of_first (words_of first) ≡ Some k → IsFirstFault (lines_of bytes) 1 k
 first_fault bytes first lines k cut fault = subst (λ (ls : List (List ℕ)). IsFirstFault ls 1 k) (sym cut) (record { index = 0; counted = refl; fault = fault; sound = λ i lt. absurd (omega arith) })
 
-pub no_lines_fault : (bytes : List ℕ) → lines_of bytes ≡ [] → IsFirstFault (lines_of bytes) 1 kind.Missing
-no_lines_fault bytes none = subst (λ (ls : List (List ℕ)). IsFirstFault ls 1 kind.Missing) (sym none) (record { index = 0; counted = refl; fault = refl; sound = λ i lt. absurd (omega arith) })
+pub no_lines_fault : (all : List (List ℕ)) → all ≡ [] → IsFirstFault all 1 kind.Missing
+no_lines_fault all none = subst (λ (ls : List (List ℕ)). IsFirstFault ls 1 kind.Missing) (sym none) (record { index = 0; counted = refl; fault = refl; sound = λ i lt. absurd (omega arith) })
 
 -- the lines of the pages and those after them up to one are in order, and this one is not
-later_fault : (first : List ℕ) (lines : List (List ℕ)) (n x line : ℕ) (k : AsciiKind) → Tells (words_of first) n → line ≡ x + 2 → fault_after n lines x ≡ Some k → ((y : ℕ) → y < x → fault_after n lines y ≡ None)
+pub later_fault : (first : List ℕ) (lines : List (List ℕ)) (n x line : ℕ) (k : AsciiKind) → Tells (words_of first) n → line ≡ x + 2 → fault_after n lines x ≡ Some k → ((y : ℕ) → y < x → fault_after n lines y ≡ None)
     → IsFirstFault (first ∷ lines) line k
 later_fault first lines n x line k tells at fault before = record {
   index = suc x;
@@ -85,13 +79,6 @@ is_some_word None words is some = absurd (false≢true some)
 pub is_no_word : (r : Option (Bor (List ℕ) × Bor (List ℕ))) (words : List (List ℕ)) → MatchOption r (words ≡ []) (λ w. words ≡ w.0.now ∷ words_of w.1.now) → IsNone r → words ≡ []
 is_no_word None words is none = is
 is_no_word (Some w) words is none = absurd (false≢true (sym none))
-
--- the lines before these have no words; the first of all and the first of these have these numbers
-pub record BlankSoFar (lines rest : List (List ℕ)) (first line : ℕ) : Type 0 where
-  pub done : ℕ
-  pub counted : line ≡ first + done
-  pub split : drop done lines ≡ rest
-  pub none : (x : ℕ) → x < done → words_of (get_or lines x []) ≡ []
 
 pub blank_none : (lines : List (List ℕ)) (first : ℕ) → BlankSoFar lines lines first first
 blank_none lines first = record { done = 0; counted = omega arith; split = refl; none = λ x lt. absurd (omega arith) }
@@ -143,37 +130,32 @@ behind_sound lines rest g x h all none y lt =
           blank_sound lines g.nodes y high here
     ]
 
-pub extra_fault : (bytes first : List ℕ) (lines rest : List (List ℕ)) (g : Digraph) (e : AsciiError) → lines_of bytes ≡ first ∷ lines → Tells (words_of first) g.nodes → HasLists lines rest g → length g.lists ≡ g.nodes
-    → IsFirstExtra (g.nodes + 2) rest e → IsRead bytes (Err e)
-extra_fault bytes first lines rest g (error.Line l k) cut tells h all (x, at, is, some, none) =
+pub extra_after : (lines rest : List (List ℕ)) (g : Digraph) (e : AsciiError) → HasLists lines rest g → length g.lists ≡ g.nodes → IsFirstExtra (g.nodes + 2) rest e → IsFirstAfter g.nodes lines e
+extra_after lines rest g (error.Line l k) h all (x, at, is, some, none) =
     let n : ℕ = g.nodes in
     let split : drop n lines ≡ rest = ap (λ (i : ℕ). drop i lines) (sym all) ∙ h.split in
     let there : words_of (get_or lines (n + x) []) ≢ [] = subst (λ (t : List ℕ). words_of t ≢ []) (sym (behind lines rest n x split)) some in
-    after_fault bytes first lines n (error.Line l k) cut tells (n + x, omega arith, word_extra lines n (n + x) (omega arith) there ∙ ap Some (sym is), behind_sound lines rest g x h all none)
-extra_fault bytes first lines rest g error.Memory cut tells h all r = absurd r
+    (n + x, omega arith, word_extra lines n (n + x) (omega arith) there ∙ ap Some (sym is), behind_sound lines rest g x h all none)
+extra_after lines rest g error.Memory h all r = absurd r
 
 -- ---- no fault
 
-pub stands : (bytes first : List ℕ) (lines rest : List (List ℕ)) (g new : Digraph) → lines_of bytes ≡ first ∷ lines → Tells (words_of first) g.nodes → HasLists lines rest g → length g.lists ≡ g.nodes → AreBlank rest
-    → new.nodes ≡ g.nodes → new.lists ≡ padded g.nodes g.lists → IsGraph new → StandsFor (lines_of bytes) new
-stands bytes first lines rest g new cut tells h all blank nodes lists proper =
+pub stands : (all : List (List ℕ)) (first : List ℕ) (lines rest : List (List ℕ)) (g : Digraph) → all ≡ first ∷ lines → Tells (words_of first) g.nodes → HasLists lines rest g → length g.lists ≡ g.nodes → AreBlank rest → StandsFor all g
+stands all first lines rest g cut tells h full blank =
     let n : ℕ = g.nodes in
     let there = h.there in
     let prefix = h.prefix in
-    let none : n - length g.lists ≡ 0 = omega arith in
-    let same : new.lists ≡ g.lists = lists ∙ ap (λ (k : ℕ). g.lists ++ replicate k []) none ∙ append-nil g.lists in
-    let arcs : arc_count new ≡ arc_count g = ap (sum_by (λ (l : List ℕ). length l)) same in
-    let split : drop n lines ≡ rest = ap (λ (i : ℕ). drop i lines) (sym all) ∙ h.split in
+    let split : drop n lines ≡ rest = ap (λ (i : ℕ). drop i lines) (sym full) ∙ h.split in
     let words : (x : ℕ) → words_of (get_or lines x []) ≡ map decimal (get_or g.lists x []) = λ x.
     elim (cases_lt x n) [
       | inl low ↦ h.words x (omega arith)
       | inr high ↦ (let at : n + (x - n) ≡ x = omega arith in ap (λ (k : ℕ). words_of (get_or lines k [])) (sym at) ∙ ap words_of (behind lines rest n (x - n) split) ∙ blank (x - n) ∙ ap (map decimal) (sym (get_or_past g.lists x [] (omega arith))))
     ] in
-    subst (λ (ls : List (List ℕ)). StandsFor ls new) (sym cut) (record {
-      told = tells.is ∙ ap (λ (k : ℕ). decimal k ∷ []) (sym nodes);
-      words = λ x. words x ∙ ap (λ (ls : List (List ℕ)). map decimal (get_or ls x [])) (sym same);
+    subst (λ (ls : List (List ℕ)). StandsFor ls g) (sym cut) (record {
+      told = tells.is;
+      words = words;
       there = omega arith;
-      proper = proper;
-      few_pages = let small = tells.small in omega arith;
-      few_arcs = let few = prefix.few_arcs in omega arith;
+      proper = graph_of_prefix g prefix full;
+      few_pages = tells.small;
+      few_arcs = prefix.few_arcs;
     })

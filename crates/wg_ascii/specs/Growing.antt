@@ -1,10 +1,12 @@
 -- A graph that is read line by line.
 use Rattle.std.specs.Prelude.{◌≡◌, ◌≢◌, ℕ, ◌+◌, ◌<◌, ◌≤◌, List, [], ◌∷◌, ◌++◌, length, map, drop, get_or, decimal, Option, Some, None}
-use Rattle.wg_params.specs.declared.limits.TheConstants.{MOST_ARCS}
+use Rattle.std.specs.List.{sum_by}
+use Rattle.wg_params.specs.declared.limits.TheConstants.{MOST_ARCS, MOST_PAGES}
 use Rattle.wg_graph.specs.Ascending.{Ascends, Below}
 use Rattle.wg_graph.specs.Digraph.{Digraph, IsGraphPrefix, arc_count, successors}
 use Rattle.wg_ascii.specs.Words.{words_of}
-use Rattle.wg_ascii.specs.Reading.{fault_of_words, fault_after}
+use Rattle.wg_ascii.specs.Reading.{fault_of_words, fault_after, IsFirstFault}
+use Rattle.wg_ascii.specs.declared.page_lines.PageLines.{PageLines}
 use Rattle.wg_ascii.specs.declared.fault.AsciiKind.{AsciiKind}
 use Rattle.wg_ascii.specs.declared.fault.AsciiKind.TheVariants as kind
 use Rattle.wg_ascii.specs.declared.fault.AsciiError.{AsciiError}
@@ -34,22 +36,16 @@ pub record IsList (n arcs : ℕ) (words : List (List ℕ)) (list : List ℕ) : T
 abbrev pub HasList : ℕ → ℕ → List (List ℕ) → List (List ℕ) → List ℕ → Type 0
 HasList n arcs lines after list = (text : List ℕ) × (lines ≡ text ∷ after) × IsList n arcs (words_of text) list
 
--- what is wrong with the first of these lines, as that of a page
-abbrev pub fault_of_line : ℕ → ℕ → List (List ℕ) → Option AsciiKind
-fault_of_line n arcs [] = Some kind.Missing
-fault_of_line n arcs (text ∷ after) = fault_of_words n 0 arcs (words_of text)
-
+-- the first of these lines, as that of a page, has a fault
 abbrev pub HasNoList : ℕ → ℕ → ℕ → List (List ℕ) → AsciiError → Type 0
-HasNoList line n arcs lines e = IsRefused line (fault_of_line n arcs lines) e
+HasNoList line n arcs lines e =
+    (text : List ℕ) × (after : List (List ℕ)) × (lines ≡ text ∷ after)
+    × IsRefused line (fault_of_words n 0 arcs (words_of text)) e
 
 -- the first of these lines lists the successors of the next page, which was added, and others come after it
 abbrev pub HasPage : List (List ℕ) → List (List ℕ) → Digraph → Digraph → Type 0
 HasPage lines after old new =
     (list : List ℕ) × HasList old.nodes (arc_count old) lines after list × (new.lists ≡ old.lists ++ list ∷ [])
-
--- the first of these lines, as that of the next page, has a fault
-abbrev pub HasNoPage : ℕ → List (List ℕ) → Digraph → AsciiError → Type 0
-HasNoPage line lines old e = HasNoList line old.nodes (arc_count old) lines e
 
 -- the first of these lines list the successors of the pages so far, and the others come after them
 pub record HasLists (lines after : List (List ℕ)) (g : Digraph) : Type 0 where
@@ -74,3 +70,33 @@ IsFirstExtra first lines (error.Line line k) =
     (x : ℕ) × (line ≡ first + x) × (k ≡ kind.Extra) × (words_of (get_or lines x []) ≢ [])
     × ((y : ℕ) → y < x → words_of (get_or lines y []) ≡ [])
 IsFirstExtra first lines error.Memory = ⊥
+
+-- the first line tells a number of pages within the limit
+pub record Tells (words : List (List ℕ)) (n : ℕ) : Type 0 where
+  pub is : words ≡ decimal n ∷ []
+  pub small : n ≤ MOST_PAGES
+
+-- the lines before these have no words; the first of all and the first of these have these numbers
+pub record BlankSoFar (lines rest : List (List ℕ)) (first line : ℕ) : Type 0 where
+  pub done : ℕ
+  pub counted : line ≡ first + done
+  pub split : drop done lines ≡ rest
+  pub none : (x : ℕ) → x < done → words_of (get_or lines x []) ≡ []
+
+-- Of all lines those that a reading has come to are in order: the first one tells the number of pages, then come those of
+-- these lists, and, where these are the lists of all pages, lines without words. The others come next.
+pub record IsUpTo (all next lists : List (List ℕ)) (s : PageLines) : Type 0 where
+  pub first : List ℕ
+  pub lines : List (List ℕ)
+  pub behind : List (List ℕ)
+  pub split : all ≡ first ∷ lines
+  pub tells : Tells (words_of first) s.nodes
+  pub pages : HasLists lines behind (record { nodes = s.nodes; lists = lists })
+  pub arcs : s.arcs ≡ sum_by (λ list. length list) lists
+  pub blank : BlankSoFar behind next (length lists + 2) (s.line + 1)
+  pub waits : length lists < s.nodes → (next ≡ behind) × (s.line ≡ length lists + 1)
+
+-- the first fault of these lines is named, or memory ran out
+abbrev pub IsFirst : List (List ℕ) → AsciiError → Type 0
+IsFirst all (error.Line line kind) = IsFirstFault all line kind
+IsFirst all error.Memory = Unit {0}

@@ -18,7 +18,10 @@
 //! - `Extra`: a word stands on a line after those of the pages, whatever the word is;
 //! - `Missing`: the text ends before this line, which is the first or that of a page.
 //!
-//! A text that is read and written again, and one that ends too early:
+//! [`PageLines`] reads it line by line, by the same rules, for whoever has not the whole text at once: it takes lines
+//! off a text, and keeps what says whether the next one is in order.
+//!
+//! A text that is read and written again, and one that ends too early; and the first lines of a third:
 //!
 //! ```rust
 //! let graph = wg_ascii::read(rt.alloc(), b" 3\n1  2\n2\n\n")?;
@@ -29,23 +32,29 @@
 //! let short = wg_ascii::read(rt.alloc(), b"3\n1 2\n2\n");
 //! let kind = AsciiKind::Missing;
 //! assert!(rt; short.err() == Some(AsciiError::Line { line: 4, kind }));
+//! let mut list = List::new(rt.alloc());
+//! let (mut lines, rest) = PageLines::begin(b"2\n0 1\n1\n")?;
+//! let rest = lines.read_page(&mut list, rest)?;
+//! assert!(rt; lines.is_page() && rest == b"1\n".as_slice());
 //! Ok(())
 //! ```
 //!
 //! Writing takes no memory, and time in proportion to the pages and to the digits of the arcs. Reading goes over the
-//! text once, and over a line that is not as it is written a few times. It holds the graph and the list of one page, 8
-//! bytes for each arc and each page, and takes memory as the lines come, and none by the number of pages that the first
-//! line tells.
+//! text once, and over a line that is not as it is written a few times. [`read`] holds the graph and the list of one
+//! page, 8 bytes for each arc and each page, and takes memory as the lines come, and none by the number of pages that
+//! the first line tells; a `PageLines` holds nothing.
 #![tactic(auto)]
 
 mod fault;
 pub mod laws;
 mod lists;
+mod page_lines;
 mod plain;
 mod reading;
 mod words;
 mod writing;
 
 pub use fault::{AsciiError, AsciiKind};
+pub use page_lines::PageLines;
 pub use reading::read;
 pub use writing::{print_list, print_nodes, write};

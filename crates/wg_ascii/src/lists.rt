@@ -1,4 +1,4 @@
-// The lists of the pages, line by line.
+// The list of a page, from its line.
 
 ghost use Rattle.std.specs.Prelude.{◌≡◌, ◌+◌, ◌<◌, ◌≤◌, [], ◌∷◌, ◌++◌, Some, None, length, OnOk, IfOk, IfErr};
 ghost use Rattle.wg_params.specs.declared.limits.TheConstants.{MOST_ARCS, MOST_PAGES};
@@ -6,13 +6,12 @@ ghost use Rattle.wg_num.specs.Decimal.{number_of};
 ghost use Rattle.wg_num.specs.Lines.{lines_of};
 ghost use Rattle.wg_ascii.specs.Words.{words_of};
 ghost use Rattle.wg_ascii.specs.Reading.{refusal_of, fault_of_words};
-ghost use Rattle.wg_ascii.specs.Growing.{IsRefused, IsFirstAfter, IsNumber, IsList, HasList, HasNoList, HasPage, HasNoPage, HasLists};
+ghost use Rattle.wg_ascii.specs.Growing.{IsRefused, IsNumber, IsList, HasList, HasNoList};
 
 use crate::plain::plain_list;
 use crate::words::first_word;
 use crate::{AsciiError, AsciiKind};
-use std::alloc::Global;
-use wg_graph::{GraphBuilder, List};
+use wg_graph::List;
 use wg_num::{first_line, read_decimal};
 use wg_params::MOST_ARCS;
 
@@ -93,6 +92,7 @@ fn read_any<'a>(
     requires some { 0 < length bytes.now }
     requires pages { n ≤ MOST_PAGES }
     requires arcs { arcs ≤ MOST_ARCS }
+    ensures shorter { IfOk result (λ after. length after.now < length bytes.now) }
     ensures list { IfOk result (λ after. HasList n arcs (lines_of bytes.now) (lines_of after.now) list.new) }
     ensures err { IfErr result (HasNoList line n arcs (lines_of bytes.now)) }
 {
@@ -101,9 +101,9 @@ fn read_any<'a>(
     Ok(after)
 }
 
-// The same; a line in the form in which it is written is read by one pass.
+/// The same; a line in the form in which it is written is read by one pass.
 #[inline(always)]
-fn read_first<'a>(
+pub fn read_first<'a>(
     list: &mut List,
     line: u64,
     bytes: &'a [u8],
@@ -113,6 +113,7 @@ fn read_first<'a>(
     requires some { 0 < length bytes.now }
     requires pages { n ≤ MOST_PAGES }
     requires arcs { arcs ≤ MOST_ARCS }
+    ensures shorter { IfOk result (λ after. length after.now < length bytes.now) }
     ensures list { IfOk result (λ after. HasList n arcs (lines_of bytes.now) (lines_of after.now) list.new) }
     ensures err { IfErr result (HasNoList line n arcs (lines_of bytes.now)) }
 {
@@ -120,48 +121,4 @@ fn read_first<'a>(
         Some(after) => Ok(after),
         None => read_any(list, line, bytes, n, arcs),
     }
-}
-
-// Reads the first line, as that of the next page, and answers the text after it.
-fn read_page<'a>(
-    builder: &mut GraphBuilder,
-    list: &mut List,
-    line: u64,
-    bytes: &'a [u8],
-) -> Result<&'a [u8], AsciiError>
-    requires { length builder.old.lists < builder.old.nodes }
-    ensures nodes { OnOk result (builder.new.nodes ≡ builder.old.nodes) }
-    ensures page { IfOk result (λ after. HasPage (lines_of bytes.now) (lines_of after.now) builder.old builder.new) }
-    ensures err { IfErr result (HasNoPage line (lines_of bytes.now) builder.old) }
-{
-    if bytes.is_empty() {
-        return Err(AsciiError::Line {
-            line,
-            kind: AsciiKind::Missing,
-        });
-    }
-    let after = read_first(list, line, bytes, builder.nodes(), builder.arcs())?;
-    builder.push_list(list.as_slice())?;
-    Ok(after)
-}
-
-/// Reads the lines of all pages, which come after the first line of a text, and answers the text after them.
-pub fn read_lists<'a>(
-    alloc: Global,
-    builder: &mut GraphBuilder,
-    bytes: &'a [u8],
-) -> Result<&'a [u8], AsciiError>
-    requires pages { builder.old.nodes ≤ MOST_PAGES }
-    requires none { builder.old.lists ≡ [] }
-    ensures nodes { OnOk result (builder.new.nodes ≡ builder.old.nodes) }
-    ensures all { OnOk result (length builder.new.lists ≡ builder.new.nodes) }
-    ensures read { IfOk result (λ after. HasLists (lines_of bytes.now) (lines_of after.now) builder.new) }
-    ensures err { IfErr result (IsFirstAfter builder.old.nodes (lines_of bytes.now)) }
-{
-    let mut list = List::new(alloc);
-    let mut rest = bytes;
-    for page in 0..builder.nodes() {
-        rest = read_page(builder, &mut list, page + 2, rest)?;
-    }
-    Ok(rest)
 }

@@ -1,68 +1,43 @@
-ghost use Rattle.std.specs.Prelude.{◌≡◌, ◌+◌, ◌≤◌, [], ◌∷◌, Some, decimal, MatchOption, OnOk, IfOk, IfErr};
+ghost use Rattle.std.specs.Prelude.{◌≡◌, ℕ, List as ListOf, ◌<◌, ◌≤◌, ◌^◌, ◌+◌, ◌++◌, [], length, OnOk, IfOk, IfErr};
 ghost use Rattle.wg_params.specs.declared.limits.TheConstants.{MOST_PAGES};
 ghost use Rattle.wg_num.specs.Lines.{lines_of};
-ghost use Rattle.wg_ascii.specs.Words.{words_of};
-ghost use Rattle.wg_ascii.specs.Reading.{fault_of_first, IsRead};
-ghost use Rattle.wg_ascii.specs.Growing.{IsRefused, AreBlank, IsFirstExtra};
+ghost use Rattle.wg_ascii.specs.Reading.{IsRead};
+ghost use Rattle.wg_ascii.specs.Growing.{IsFirst, IsUpTo};
 
-use crate::lists::read_lists;
-use crate::words::first_word;
-use crate::{AsciiError, AsciiKind};
+use crate::AsciiError;
+use crate::page_lines::PageLines;
 use std::alloc::Global;
-use wg_graph::{Graph, GraphBuilder};
-use wg_num::{first_line, read_decimal};
-use wg_params::MOST_PAGES;
+use wg_graph::{Graph, GraphBuilder, List};
 
-// The one word of a line.
-fn sole_word(line: &[u8]) -> Option<&[u8]>
-    ensures { MatchOption result (fault_of_first (words_of line.now) ≡ Some AsciiKind.Shape)
-        (λ word. words_of line.now ≡ word.now ∷ []) }
+// Reads the lines of the pages, as far as there are lines, and answers the text after them.
+fn read_lists<'a>(
+    alloc: Global,
+    lines: &mut PageLines,
+    builder: &mut GraphBuilder,
+    bytes: &'a [u8],
+) -> Result<&'a [u8], AsciiError>
+    requires nodes { lines.old.nodes ≡ builder.old.nodes }
+    requires few { lines.old.nodes ≤ MOST_PAGES }
+    requires none { builder.old.lists ≡ [] }
+    requires first { lines.old.line ≡ 1 }
+    requires arcs { lines.old.arcs ≡ 0 }
+    ensures nodes { lines.new.nodes ≡ lines.old.nodes }
+    ensures same { OnOk result (builder.new.nodes ≡ builder.old.nodes) }
+    ensures few { OnOk result (lines.new.line ≤ MOST_PAGES + 1) }
+    ensures shorter { IfOk result (λ after. length after.now ≤ length bytes.now) }
+    ensures over { IfOk result (λ after. 0 < length after.now → lines.new.nodes < lines.new.line) }
+    ensures read { (all later : ListOf (ListOf ℕ)) → IsUpTo all (lines_of bytes.now ++ later) [] lines.old
+        → IfOk result (λ after. IsUpTo all (lines_of after.now ++ later) builder.new.lists lines.new) }
+    ensures fault { (all later : ListOf (ListOf ℕ)) → IsUpTo all (lines_of bytes.now ++ later) [] lines.old
+        → IfErr result (IsFirst all) }
 {
-    let (word, rest) = first_word(line)?;
-    match first_word(rest) {
-        Some(_) => None,
-        None => Some(word),
-    }
-}
-
-// The number of pages that the first line tells.
-fn read_nodes(line: &[u8]) -> Result<u64, AsciiKind>
-    ensures told { IfOk result (λ n. words_of line.now ≡ decimal n ∷ []) }
-    ensures few { IfOk result (λ n. n ≤ MOST_PAGES) }
-    ensures err { IfErr result (λ kind. fault_of_first (words_of line.now) ≡ Some kind) }
-{
-    let Some(word) = sole_word(line) else {
-        return Err(AsciiKind::Shape);
-    };
-    let Some(nodes) = read_decimal(word) else {
-        return Err(AsciiKind::Shape);
-    };
-    if nodes > MOST_PAGES {
-        return Err(AsciiKind::Range);
-    }
-    Ok(nodes)
-}
-
-// Sees that no word stands on the lines that are left, of which the first is this one.
-fn refuse_words(bytes: &[u8], line: u64) -> Result<(), AsciiError>
-    requires { line ≤ MOST_PAGES + 2 }
-    ensures blank { OnOk result (AreBlank (lines_of bytes.now)) }
-    ensures err { IfErr result (IsFirstExtra line (lines_of bytes.now)) }
-{
+    let mut list = List::new(alloc);
     let mut rest = bytes;
-    let mut line = line;
-    'lines: while !rest.is_empty() {
-        let (text, after) = first_line(rest);
-        if first_word(text).is_some() {
-            return Err(AsciiError::Line {
-                line,
-                kind: AsciiKind::Extra,
-            });
-        }
-        line += 1;
-        rest = after;
+    'pages: while !rest.is_empty() && lines.is_page() {
+        rest = lines.read_page(&mut list, rest)?;
+        builder.push_list(list.as_slice())?;
     }
-    Ok(())
+    Ok(rest)
 }
 
 /// Reads the plain text of a graph, or names its first faulty line. It holds the graph and the list of one page, 8
@@ -70,19 +45,10 @@ fn refuse_words(bytes: &[u8], line: u64) -> Result<(), AsciiError>
 pub fn read(alloc: Global, bytes: &[u8]) -> Result<Graph, AsciiError>
     ensures { IsRead bytes.now result }
 {
-    if bytes.is_empty() {
-        return Err(AsciiError::Line {
-            line: 1,
-            kind: AsciiKind::Missing,
-        });
-    }
-    let (first, rest) = first_line(bytes);
-    let nodes = match read_nodes(first) {
-        Ok(nodes) => nodes,
-        Err(kind) => return Err(AsciiError::Line { line: 1, kind }),
-    };
-    let mut builder = GraphBuilder::new(alloc, nodes)?;
-    let after = read_lists(alloc, &mut builder, rest)?;
-    refuse_words(after, nodes + 2)?;
+    let (mut lines, rest) = PageLines::begin(bytes)?;
+    let mut builder = GraphBuilder::new(alloc, lines.nodes)?;
+    let rest = read_lists(alloc, &mut lines, &mut builder, rest)?;
+    lines.refuse_words(rest)?;
+    lines.end()?;
     Ok(builder.finish()?)
 }

@@ -1,10 +1,23 @@
--- A plain text that is imported.
-use Rattle.std.proofs.Common.{◌≡◌, ◌⊎◌, inl, inr, ℕ, Bool, List, Err, refl, sym, subst}
+-- A plain text that is imported, line by line: how it ends.
+use Rattle.std.proofs.Common.{◌≡◌, ◌⊎◌, inl, inr, ℕ, ◌≤◌, Bool, List, length, Some, Result, Ok, Err, refl, sym, ap, subst, ◌∙◌}
 use Rattle.std.specs.Bool.{IsTrue}
+use Rattle.std.specs.FinMap as map
+use Rattle.wg_io.specs.Outside.{Files, Counts, NonDecreasing}
+use Rattle.wg_io.specs.declared.limits.TheConstants.{MOST_BYTES}
+use Rattle.wg_io.proofs.FilesLemmas.{none_falls-trans}
+use Rattle.wg_num.specs.Lines.{lines_of}
+use Rattle.wg_graph.specs.Digraph.{Digraph}
+use Rattle.wg_ascii.specs.Growing.{IsFirst}
+use Rattle.wg_ascii.specs.Reading.{StandsFor}
+use Rattle.wg_ascii.specs.declared.fault.AsciiError.{AsciiError}
+use Rattle.wg_ascii.specs.declared.fault.AsciiError.TheVariants as error
 use Rattle.wg_words.specs.declared.jobs.Job.TheVariants.{Import}
 use Rattle.wg_params.specs.declared.layout.Layout.{Layout}
-use Rattle.wg_outcomes.specs.Answers.{Answers}
+use Rattle.wg_outcomes.specs.Answers.{Answers, IsHindrance, Steps, status_in}
+use Rattle.wg_outcomes.specs.Judged.{status_of, text_then, with_text}
 use Rattle.wg_readings.specs.Loading.{IsBadText, LoadsText}
+use Rattle.wg_readings.proofs.ReadingsLemmas.{text_goes_on, text_refused}
+use Rattle.wg_readings.proofs.UnderWay.{cause_later}
 use Rattle.wg_outcomes.specs.Names.{IsOfInput, held_by, text_named}
 use Rattle.wg_outcomes.specs.Promised.{ArePromised}
 use Rattle.wg_outcomes.specs.Readings.{Readings}
@@ -12,12 +25,15 @@ use Rattle.wg_outcomes.specs.declared.ending.Ending.{Ending}
 use Rattle.wg_outcomes.specs.declared.status.Input.{Input}
 use Rattle.wg_outcomes.specs.declared.status.Input.TheVariants.{Text}
 use Rattle.wg_outcomes.specs.declared.status.Status.{Status}
+use Rattle.wg_outcomes.specs.declared.status.Status.TheVariants.{Done, Memory}
 use Rattle.wg_outcomes.proofs.Statuses.{IsOwn, own_caused, own_read}
 use Rattle.wg_outcomes.specs.Commands.{builds}
 use Rattle.wg_outcomes.specs.JobFiles.{can_end, input_name}
 use Rattle.wg_outcomes.specs.Performs.{Outside, Performs, judged_on}
 use Rattle.wg_outcomes.specs.Reached.{Reaches}
 use Rattle.wg_outcomes.proofs.PerformsLemmas.{IsStop, stopped, unread}
+use Rattle.wg_builds.specs.Imported.{status_of_text}
+use Rattle.wg_builds.proofs.ListedJobs.{file_goes}
 
 -- a plain text that was not read
 pub text_unread : (text base : List ℕ) (l : Layout) (td to : Bool) (before after : Outside) (e : Ending) → after.taken ≡ before.taken → LoadsText text td before.files after.files before.counts after.counts (Err e)
@@ -36,3 +52,46 @@ text_unread text base l td to before after e silent h = by_only h.only
         stopped (Import text base l) td to before after e.status e.promised (subst IsStop (sym fault.2) tt) silent h.same answers
         (subst (λ (s : Status). IsTrue (can_end (Import text base l) s)) (sym fault.2) refl) (own_caused _ _ _ _ _ _ e.status own)
         (λ t r i is. absurd (subst IsOwn is own)) h.later (λ t. subst (λ (s : Status). ArePromised (held_by (input_name (Import text base l)) before.files) s e.promised) (sym fault.2) tt)
+
+-- other reads came before
+pub text_after : (name : List ℕ) (td : Bool) (f g h : Files) (a b c : List ℕ → Counts) (r : Result Digraph Ending) → g ≡ f → NonDecreasing a b → LoadsText name td g h b c r → LoadsText name td f h a c r
+text_after name td f g h a b c r same later l = record {
+  steps = λ t q. subst (λ (x : Files). Steps (text_then q (held_by (text_named name) x Text)) r) same (l.steps t q);
+  only = l.only;
+  causes = cause_later (text_named name) a b c (status_in r) later l.causes;
+  same = l.same ∙ same;
+  later = none_falls-trans a b c later l.later;
+}
+
+module _ (name : List ℕ) (td : Bool) (files files' : Files) (counts counts' : List ℕ → Counts) (same : files' ≡ files) (later : NonDecreasing counts counts') where
+  -- ---- the text was read
+  pub text_read : (g : Digraph) → (IsTrue td → (file : List ℕ) × (map.get files name ≡ Some file) × (length file ≤ MOST_BYTES) × StandsFor (lines_of file) g) → LoadsText name td files files' counts counts' (Ok g)
+  text_read g told = record {
+    steps = λ t r next. let h = told t in file_goes Text (map.get files name) h.0 h.1 h.2 (λ bytes. with_text r bytes next) ∙ text_goes_on r h.0 g h.3 next;
+    only = tt;
+    causes = own_caused _ _ _ _ _ _ Done tt;
+    same = same;
+    later = later;
+  }
+
+  -- ---- memory was out, or a line is at fault
+  pub text_wants : (e : Ending) → e.status ≡ Memory → LoadsText name td files files' counts counts' (Err e)
+  text_wants e want = record {
+    steps = λ t r next. inr (subst IsHindrance (sym want) tt);
+    only = inl (inl want);
+    causes = own_caused _ _ _ _ _ _ e.status (subst IsOwn (sym want) tt);
+    same = same;
+    later = later;
+  }
+
+  pub text_stops : (e : Ending) (x : AsciiError) → e.status ≡ status_of_text x → (IsTrue td → (file : List ℕ) × (map.get files name ≡ Some file) × (length file ≤ MOST_BYTES) × IsFirst (lines_of file) x) → LoadsText name td files files' counts counts' (Err e)
+  text_stops e error.Memory is told = text_wants e is
+  text_stops e (error.Line line kind) is told = record {
+    steps = λ t r next.
+        let h = told t in
+        inl (is ∙ sym (ap status_of (file_goes Text (map.get files name) h.0 h.1 h.2 (λ bytes. with_text r bytes next) ∙ text_refused r h.0 line kind h.3 next)));
+    only = inr (line, kind, is);
+    causes = own_caused _ _ _ _ _ _ e.status (subst IsOwn (sym is) tt);
+    same = same;
+    later = later;
+  }

@@ -2,6 +2,7 @@ pub mod BuildingLemmas
 pub mod BulkLemmas
 pub mod FileSteps
 pub mod ImportJobs
+pub mod ImportingLemmas
 pub mod ListedJobs
 pub mod ListingLemmas
 pub mod LoadedLemmas

@@ -47,7 +47,7 @@ pub found : (o : Option (List ℕ)) → IsReadable o → (file : List ℕ) × (o
 found None r = absurd r
 found (Some file) r = (file, refl, r)
 
-file_goes : (i : Input) (o : Option (List ℕ)) (file : List ℕ) → o ≡ Some file → length file ≤ MOST_BYTES → (next : List ℕ → Judged) → with_file i o next ≡ next file
+pub file_goes : (i : Input) (o : Option (List ℕ)) (file : List ℕ) → o ≡ Some file → length file ≤ MOST_BYTES → (next : List ℕ → Judged) → with_file i o next ≡ next file
 file_goes i o file is short next =
     let here : with_file i (Some file) next ≡ next file = rw (le-ltb MOST_BYTES (length file) short) refl in
     ap (λ (q : Option (List ℕ)). with_file i q next) is ∙ here

@@ -1,3 +1,4 @@
+pub mod Imported
 pub mod Listed
 pub mod Loaded
 pub mod Recoding

@@ -3,17 +3,18 @@ ghost use Rattle.wg_params.specs.Parameters.{IsWithinLimits, params_of};
 ghost use Rattle.wg_words.specs.declared.jobs.Job.TheVariants.{Import};
 ghost use Rattle.wg_outcomes.specs.Performs.{DoesOrEnds};
 
-use crate::building::build_graph;
+use crate::building::build_archive;
+use crate::importing::encode_text;
 use std::alloc::Global;
 use wg_io::{Depot, Sink};
 use wg_outcomes::Ending;
 use wg_params::Layout;
-use wg_readings::load_text;
 use wg_words::Name;
 
-/// Writes the greedy archive of a graph that is listed page by page, and prints the line of what it holds. It judges
-/// the whole text before it touches a file, and holds its bytes until then; then it holds 8 bytes an arc and 8 a
-/// page for the graph, and what [`build_graph`] holds beside it.
+/// Writes the greedy archive of a graph that is listed page by page, and prints the line of what it holds. It goes
+/// through the text once, and judges all of it before it touches a file. It holds up to 65536 bytes of the text and the
+/// line that they cut, the list of one page, and the archive, in most graphs little more than a byte an arc and two a
+/// page, and up to twice that while it grows.
 pub fn import<D: Depot, O: Sink>(
     alloc: Global,
     text: &Name,
@@ -26,6 +27,6 @@ pub fn import<D: Depot, O: Sink>(
     ensures { DoesOrEnds ⟦<D as Depot>⟧ ⟦<O as Sink>⟧ (Import text.now base.now layout.now)
         depot.old depot.new out.old out.new result }
 {
-    let graph = load_text(alloc, depot, text)?;
-    build_graph(alloc, layout, &graph, base, depot, out)
+    let (params, archive) = encode_text(alloc, layout, depot, text)?;
+    build_archive(alloc, &params, &archive, base, depot, out)
 }

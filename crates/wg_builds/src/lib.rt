@@ -33,6 +33,7 @@ pub mod bulk;
 mod encoding;
 mod generated;
 pub mod import;
+mod importing;
 mod listing;
 mod loaded;
 pub mod quotient;

@@ -13,6 +13,5 @@ pub mod PairingLemmas
 pub mod PassLemmas
 pub mod ReadingsLaws
 pub mod ReadingsLemmas
-pub mod TextLemmas
 pub mod UnderWay
 pub mod WeightedJobs

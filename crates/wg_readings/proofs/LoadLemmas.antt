@@ -10,14 +10,14 @@ use Rattle.wg_graph.specs.Digraph.{Digraph}
 use Rattle.wg_properties.specs.Judged.{properties_of}
 use Rattle.wg_properties.specs.declared.fault.PropFault.{PropFault}
 use Rattle.wg_outcomes.specs.Answers.{Answers, IsHindrance, Steps}
-use Rattle.wg_outcomes.specs.Judged.{Judged, with_digraph, with_file, with_list, with_parameters}
-use Rattle.wg_readings.specs.Loading.{Loads, LoadsGraph, LoadsList, LoadsParams, Reads}
-use Rattle.wg_outcomes.specs.Names.{file_of, held_by, list_named}
+use Rattle.wg_outcomes.specs.Judged.{Judged, with_digraph, with_file, with_list, with_parameters, with_text}
+use Rattle.wg_readings.specs.Loading.{Loads, LoadsGraph, LoadsList, LoadsParams, LoadsText, Reads}
+use Rattle.wg_outcomes.specs.Names.{file_of, held_by, list_named, text_named}
 use Rattle.wg_outcomes.specs.Promised.{IsBadFile}
 use Rattle.wg_outcomes.specs.Readings.{Readings}
 use Rattle.wg_outcomes.specs.declared.ending.Ending.{Ending}
 use Rattle.wg_outcomes.specs.declared.status.Input.{Input}
-use Rattle.wg_outcomes.specs.declared.status.Input.TheVariants.{Properties, Graph, ArcList}
+use Rattle.wg_outcomes.specs.declared.status.Input.TheVariants.{Properties, Graph, ArcList, Text}
 use Rattle.wg_outcomes.specs.declared.status.Status.TheVariants.{Memory, BadProperties}
 use Rattle.wg_outcomes.proofs.Statuses.{IsOwn, bad_own, own_caused}
 
@@ -47,6 +47,16 @@ module _ (name : List ℕ) (n : ℕ) (td : Bool) (files files' : Files) (counts 
         same = l.same;
         later = l.later;
       })
+
+-- ---- a plain text
+pub text_unloaded : (name : List ℕ) (td : Bool) (files files' : Files) (counts counts' : List ℕ → Counts) (e : Ending) → Loads (text_named name) Text td files files' counts counts' (Err e) → LoadsText name td files files' counts counts' (Err e)
+text_unloaded name td files files' counts counts' e l = record {
+  steps = λ t q next. l.steps t (λ bytes. with_text q bytes next);
+  only = inl l.mine;
+  causes = l.causes;
+  same = l.same;
+  later = l.later;
+}
 
 module _ (base : List ℕ) (td : Bool) (files files' : Files) (counts counts' : List ℕ → Counts) where
   -- ---- the parameters

@@ -1,11 +1,11 @@
-//! The files of an archive, plain texts, weights, certificates and maps, as a job reads them: each is read and judged,
+//! The files of an archive, texts of graphs, weights, certificates and maps, as a job reads them: each is read and judged,
 //! and the job goes on with what it holds, or ends.
 //!
-//! [`load_params`], [`load_graph`], [`load_offsets`], [`load_text`], [`load_weights`], [`load_certificate`] and
-//! [`load_map`] read a file whole; [`judge_graph`], [`judge_files`] and [`judge_offsets`] go through the files in
-//! pieces, and so do [`open_graph`], [`next_record`] and [`end_records`], record by record. [`passed_of_graph`] finds
-//! where the records of a graph file are, and [`lists_of_records`] decodes their lists, as often as one likes.
-//! [`open_lines`] and [`next_lines`] lend the lines of a file, which the caller judges.
+//! [`load_params`], [`load_graph`], [`load_offsets`], [`load_weights`], [`load_certificate`] and [`load_map`] read a
+//! file whole; [`judge_graph`], [`judge_files`] and [`judge_offsets`] go through the files in pieces, and so do
+//! [`open_graph`], [`next_record`] and [`end_records`], record by record. [`passed_of_graph`] finds where the records
+//! of a graph file are, and [`lists_of_records`] decodes their lists, as often as one likes. [`open_lines`] and
+//! [`next_lines`] lend the lines of a file, which the caller judges.
 //!
 //! Each promises that it is a step of a judgement (`Judged`): it either yields a value or ends the job with a
 //! [`Status`](wg_outcomes::Status), and later inputs do not matter, unless running out of memory or a fault of the
@@ -44,7 +44,6 @@ mod judge;
 mod lines;
 mod loading;
 mod pairing;
-mod plain;
 mod records;
 mod weights;
 
@@ -52,7 +51,6 @@ pub use archive::{find_pages, lists_of_records, passed_of_graph};
 pub use judge::{judge_files, judge_graph, judge_offsets};
 pub use lines::{next_lines, open_lines};
 pub use loading::{
-    load, load_certificate, load_graph, load_map, load_offsets, load_params, load_text,
-    load_weights,
+    load, load_certificate, load_graph, load_map, load_offsets, load_params, load_weights,
 };
 pub use records::{end_records, next_record, open_graph};

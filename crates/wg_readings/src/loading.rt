@@ -1,8 +1,8 @@
-//! Files that are read whole and judged: those of an archive, plain texts, weights, certificates and maps.
+//! Files that are read whole and judged: those of an archive, weights, certificates and maps.
 ghost use Rattle.std.specs.Prelude.{◌≡◌, ◌≤◌, ℕ, List, Option, IsSome, Some};
 ghost use Rattle.wg_params.specs.declared.limits.TheConstants.{MOST_PAGES};
 ghost use Rattle.wg_readings.specs.Loading.{LoadsBy, LoadsCertificateBy, LoadsGraphBy, LoadsOffsetsBy, LoadsParamsBy};
-ghost use Rattle.wg_readings.specs.Loading.{LoadsMapBy, LoadsTextBy, LoadsWeightsBy};
+ghost use Rattle.wg_readings.specs.Loading.{LoadsMapBy, LoadsWeightsBy};
 ghost use Rattle.wg_outcomes.specs.Names.{file_of, suffix_of};
 ghost use Rattle.wg_outcomes.specs.declared.status.Input.{Input};
 
@@ -10,7 +10,6 @@ use crate::archive::{graph_of_records, offsets_of_file, parameters};
 use crate::claims::claim_of_text;
 use crate::classes::classes_of_text;
 use crate::lines::unread;
-use crate::plain::graph_of_text;
 use crate::weights::weights_of_text;
 use std::alloc::Global;
 use wg_graph::{Graph, List as Numbers};
@@ -87,14 +86,6 @@ pub fn load_offsets<D: Depot>(
 {
     let bytes = load(alloc, depot, base, Input::Offsets)?;
     offsets_of_file(alloc, params, bytes.as_slice())
-}
-
-/// Reads the graph that a plain text holds. Beside the graph it holds the bytes of the text, until it is read.
-pub fn load_text<D: Depot>(alloc: Global, depot: &mut D, name: &Name) -> Result<Graph, Ending>
-    ensures { LoadsTextBy ⟦<D as Depot>⟧ name.now depot.old depot.new result }
-{
-    let bytes = load_file(alloc, depot, name.as_str(), Input::Text)?;
-    graph_of_text(alloc, bytes.as_slice())
 }
 
 /// Reads the weights of so many pages, where a file of them is named; without one, each page weighs the same. Beside

@@ -1,7 +1,7 @@
 use std::test::Fail;
 use wg_arcs::{ArcLines, ArcsError, ArcsKind};
-use wg_ascii::{AsciiError, AsciiKind};
-use wg_graph::{GraphBuilder, GraphLists, Lists};
+use wg_ascii::{AsciiError, AsciiKind, PageLines};
+use wg_graph::{GraphBuilder, GraphLists, List, Lists};
 use wg_io::SteadySink;
 use wg_order::Ranking;
 use wg_rank::{Bounds, UNITS};
@@ -64,6 +64,10 @@ fn lists_of_a_text(rt: HostRuntime) -> Result<(), Fail> {
     let short = wg_ascii::read(rt.alloc(), b"3\n1 2\n2\n");
     let kind = AsciiKind::Missing;
     assert!(rt; short.err() == Some(AsciiError::Line { line: 4, kind }));
+    let mut list = List::new(rt.alloc());
+    let (mut lines, rest) = PageLines::begin(b"2\n0 1\n1\n")?;
+    let rest = lines.read_page(&mut list, rest)?;
+    assert!(rt; lines.is_page() && rest == b"1\n".as_slice());
     Ok(())
 }
 

@@ -1,0 +1,53 @@
+-- Lists of a plain text that are encoded as its lines come.
+use Rattle.std.proofs.Common.{◌≡◌, inl, inr, ℕ, ◌+◌, ◌<◌, ◌≤◌, List, [], ◌++◌, length, Bool, true, false, Result, Ok, refl, sym, ap, subst, ◌∙◌, arith}
+use Rattle.std.proofs.lemmas.Bool.{cases_lt}
+use Rattle.wg_num.specs.Lines.{lines_of}
+use Rattle.wg_num.proofs.Cuts.{no_lines}
+use Rattle.wg_params.specs.Parameters.{Parameters}
+use Rattle.wg_params.specs.declared.limits.TheConstants.{MOST_ARCS}
+use Rattle.wg_ascii.specs.Growing.{IsUpTo}
+use Rattle.wg_ascii.specs.declared.page_lines.PageLines.{PageLines}
+use Rattle.wg_encoder.specs.ArchiveInMemory.{EncodedSoFar}
+use Rattle.wg_outcomes.specs.declared.ending.Ending.{Ending}
+use Rattle.wg_builds.specs.Imported.{KeepsPace}
+
+-- one page more
+pub page_pace : (e f : EncodedSoFar) (s t : PageLines) (count : ℕ) → KeepsPace e s → s.line ≤ s.nodes → f.params ≡ e.params → f.page ≡ e.page + 1 → f.arcs ≡ e.arcs + count
+    → t.nodes ≡ s.nodes → t.line ≡ s.line + 1 → t.arcs ≡ s.arcs + count → t.arcs ≤ MOST_ARCS → KeepsPace f t
+page_pace e f s t count k left params page arcs nodes line more room = record {
+  nodes = ap (λ (p : Parameters). p.nodes) params ∙ k.nodes ∙ sym nodes;
+  few = omega (arith, nodes, k.few);
+  most = ap (λ (p : Parameters). p.arcs) params ∙ k.most;
+  arcs = omega (arith, arcs, k.arcs, more);
+  room = room;
+  page = λ le. omega (arith, page, line, k.page left);
+  over = λ lt. omega (arith, page, line, nodes, k.page left);
+}
+
+-- lines after those of the pages, if there are any
+pub blank_pace : (e : EncodedSoFar) (s t : PageLines) (count : ℕ) → KeepsPace e s → (0 < count → s.nodes < s.line) → t.nodes ≡ s.nodes → t.arcs ≡ s.arcs → s.line ≤ t.line → t.line ≤ s.line + count → KeepsPace e t
+blank_pace e s t count k behind nodes arcs onward line = record {
+  nodes = k.nodes ∙ sym nodes;
+  few = omega (arith, nodes, k.few);
+  most = k.most;
+  arcs = k.arcs ∙ sym arcs;
+  room = omega (arith, arcs, k.room);
+  page = λ le. elim (cases_lt 0 count) [
+    | inl some ↦ absurd (omega (arith, nodes, behind some))
+    | inr none ↦ omega (arith, k.page (omega (arith, nodes)))
+  ];
+  over = λ lt. elim (cases_lt s.nodes s.line) [
+    | inl past ↦ omega (arith, nodes, k.over past)
+    | inr left ↦ elim (cases_lt 0 count) [ inl some ↦ absurd (omega (arith, behind some)) | inr none ↦ absurd (omega (arith, nodes)) ]
+  ];
+}
+
+-- the lines that come next are lent now
+pub lent : (all next later lists : List (List ℕ)) (text lines : List ℕ) (s : PageLines) → next ≡ lines_of lines ++ later → text ≡ lines → IsUpTo all next lists s → IsUpTo all (lines_of text ++ later) lists s
+lent all next later lists text lines s is same up = subst (λ (ls : List (List ℕ)). IsUpTo all ls lists s) (is ∙ ap (λ (l : List ℕ). lines_of l ++ later) (sym same)) up
+
+-- nothing is lent only at the end
+pub no_later : (b : Bool) (before later : List (List ℕ)) (lines : List ℕ) → (◌≡◌ {A = Result Bool Ending} (Ok b) (Ok true) → 0 < length lines) → (◌≡◌ {A = Result Bool Ending} (Ok b) (Ok false) → before ≡ []) → before ≡ lines_of lines ++ later
+    → length lines ≡ 0 → later ≡ []
+no_later true before later lines some end is none = absurd (omega (arith, some refl, none))
+no_later false before later lines some end is none = ap (λ (ls : List (List ℕ)). ls ++ later) (sym (no_lines lines none)) ∙ sym is ∙ end refl

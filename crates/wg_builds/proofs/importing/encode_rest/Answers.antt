@@ -1,0 +1,96 @@
+use Rattle.std.proofs.Common.{◌∙◌, ℕ, List, Some, Ok, refl, length, ap, sym, subst, arith}
+use Rattle.std.specs.FinMap as map
+use Rattle.std.proofs.lemmas.Result.{err_from_is_err_and}
+use Rattle.wg_io.specs.Outside.{Files}
+use Rattle.wg_io.proofs.FilesLemmas.{none_falls-trans}
+use Rattle.wg_num.specs.Lines.{lines_of}
+use Rattle.wg_lines.specs.Reading.{lines_after}
+use Rattle.wg_ascii.specs.Growing.{IsUpTo}
+use Rattle.wg_outcomes.specs.Names.{text_named}
+use Rattle.wg_outcomes.specs.declared.status.Input.TheVariants.{Text}
+use Rattle.wg_readings.proofs.LoadLemmas.{text_unloaded}
+use Rattle.wg_builds.proofs.ImportJobs.{text_read, text_stops}
+use Rattle.wg_builds.proofs.ImportingLemmas.{lent}
+use Rattle.wg_builds.proofs.ListedJobs.{found, loads_after}
+use Rattle.wg_builds.proofs.importing.encode_rest.Goals as goal
+
+pub returns-in_err-next_lines-clause-ends : goal.returns-in_err-next_lines-clause-ends
+returns-in_err-next_lines-clause-ends g c =
+    let i = c.loop-encoder.invariant in
+    let r = c.in_err-next_lines.ensures in
+    let e = c.in_err-next_lines.field-0.0 in
+    let name = c.args.name.now in
+    let p = err_from_is_err_and c.from_residual.result c.from_residual.ensures.1 in
+    rw (p.1, p.2) (text_unloaded name _ _ _ _ _ e (loads_after (text_named name) Text _ _ _ _ _ _ _ e i.same i.later (r.ends (text_named name) (ap Some (sym c.as_str.ensures)))))
+
+pub returns-in-Err-clause-ends : goal.returns-in-Err-clause-ends
+returns-in-Err-clause-ends g c =
+    let i = c.loop-encoder.invariant in
+    let r = c.in_ok-next_lines.ensures in
+    let name = c.args.name.now in
+    let new = c.next_lines.new.reader in
+    text_stops name _ _ _ _ _ (r.same ∙ i.same) (none_falls-trans _ _ _ i.later r.later) c.ending_at.result c.in-Err.error c.ending_at.ensures (λ t.
+    let f = found _ (c.requires.readable t) in
+    let file = f.0 in
+    let there = ap (λ (l : List ℕ). map.get (g.D.Depot.files c.loop-encoder.depot) l) c.as_str.ensures ∙ ap (λ (d : Files). map.get d name) i.same ∙ f.1 in
+    let up = lent (lines_of file) _ (lines_after file new) i.way.0 c.lines.result.now new.lines c.loop-encoder.lines (r.lines t file there) c.lines.ensures.value (i.way.2 t file f.1) in
+    (file, f.1, f.2, c.in-Err.ensures.fault (lines_of file) (lines_after file new) i.way.0 i.way.1 up))
+
+pub loop-encoder-preserved : goal.loop-encoder-preserved
+loop-encoder-preserved g c =
+    let i = c.loop-encoder.invariant in
+    let r = c.in_ok-next_lines.ensures in
+    let e = c.in-Ok.ensures in
+    let name = c.args.name.now in
+    let new = c.next_lines.new.reader in
+    let go = e.goes_on i.way.0 i.way.1 in
+    record {
+      params = e.params ∙ i.params;
+      nodes = e.nodes ∙ i.nodes;
+      line = omega (arith, e.line, i.line, r.first, ap (λ (l : List ℕ). length l) c.lines.ensures.value);
+      pace = e.pace;
+      way = (
+        go.lists,
+        go.encoded,
+        λ t file is.
+            let there = ap (λ (l : List ℕ). map.get (g.D.Depot.files c.loop-encoder.depot) l) c.as_str.ensures ∙ ap (λ (d : Files). map.get d name) i.same ∙ is in
+            go.reads (lines_of file) (lines_after file new)
+            (lent (lines_of file) _ (lines_after file new) i.way.0 c.lines.result.now new.lines c.loop-encoder.lines (r.lines t file there) c.lines.ensures.value (i.way.2 t file is)),
+      );
+      same = r.same ∙ i.same;
+      later = none_falls-trans _ _ _ i.later r.later;
+    }
+
+pub returns-in-Ok-end-clause-encodes : goal.returns-in-Ok-end-clause-encodes
+returns-in-Ok-end-clause-encodes g c =
+    let i = c.loop-encoder.invariant in
+    let r = c.in_ok-next_lines.ensures in
+    let e = c.in-Ok-end.ensures in
+    let name = c.args.name.now in
+    let s = c.loop-encoder.lines in
+    let lists = i.way.0 in
+    record {
+      graph = record { nodes = s.nodes; lists = lists };
+      loads = text_read name _ _ _ _ _ (r.same ∙ i.same) (none_falls-trans _ _ _ i.later r.later) (record { nodes = s.nodes; lists = lists }) (λ t.
+          let f = found _ (c.requires.readable t) in
+          let file = f.0 in
+          let there = ap (λ (l : List ℕ). map.get (g.D.Depot.files c.loop-encoder.depot) l) c.as_str.ensures ∙ ap (λ (d : Files). map.get d name) i.same ∙ f.1 in
+          (file, f.1, f.2, e.read (lines_of file) lists (subst (λ (ls : List (List ℕ)). IsUpTo (lines_of file) ls lists s) (r.end t file there (ap (λ b. Ok b) c.if-branch.false)) (i.way.2 t file f.1))));
+      encoded = i.way.1;
+      nodes = refl;
+      arcs = sym i.way.1.arcs ∙ i.pace.arcs;
+      page = i.pace.over e.over;
+    }
+
+pub returns-in-Err-end-clause-ends : goal.returns-in-Err-end-clause-ends
+returns-in-Err-end-clause-ends g c =
+    let i = c.loop-encoder.invariant in
+    let r = c.in_ok-next_lines.ensures in
+    let name = c.args.name.now in
+    let s = c.loop-encoder.lines in
+    let lists = i.way.0 in
+    text_stops name _ _ _ _ _ (r.same ∙ i.same) (none_falls-trans _ _ _ i.later r.later) c.ending_at-in-Err-end.result c.in-Err-end.error c.ending_at-in-Err-end.ensures (λ t.
+    let f = found _ (c.requires.readable t) in
+    let file = f.0 in
+    let there = ap (λ (l : List ℕ). map.get (g.D.Depot.files c.loop-encoder.depot) l) c.as_str.ensures ∙ ap (λ (d : Files). map.get d name) i.same ∙ f.1 in
+    (file, f.1, f.2, c.in-Err-end.ensures.fault (lines_of file) lists (subst (λ (ls : List (List ℕ)). IsUpTo (lines_of file) ls lists s) (r.end t file there (ap (λ b. Ok b) c.if-branch.false)) (i.way.2 t file f.1))))

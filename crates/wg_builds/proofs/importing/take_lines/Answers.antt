@@ -1,0 +1,50 @@
+use Rattle.std.proofs.Common.{rules, ◌+◌, ◌<◌, ◌≤◌, ◌++◌, ◌∷◌, ◌∙◌, [], List, ℕ, length, ap, subst, arith}
+use Rattle.std.proofs.lemmas.Result.{err_from_is_err_and}
+use Rattle.wg_encoder.specs.ArchiveInMemory.{HasEncoded}
+use Rattle.wg_builds.proofs.ImportingLemmas.{blank_pace, page_pace}
+use Rattle.wg_builds.proofs.importing.take_lines.Goals as goal
+
+pub returns-in_err-rest-clause-fault : goal.returns-in_err-rest-clause-fault
+returns-in_err-rest-clause-fault c = λ all later done h up.
+    let x = c.pages.invariant.goes done h in
+    let p = err_from_is_err_and c.from_residual.result c.from_residual.ensures.1 in
+    rw (p.1, p.2) (c.in_err-rest.ensures.fault all later x.0 (x.2 all later up))
+
+pub pages-preserved : goal.pages-preserved
+pages-preserved c =
+    let i = c.pages.invariant in
+    let r = c.in_ok-rest.ensures in
+    let e = c.in_ok-encoder.ensures in
+    let f = c.in_ok-encoder.encoder in
+    let s = c.pages.lines in
+    let list = c.read_page.new.list in
+    let left : s.line ≤ s.nodes = search rules in
+    record {
+      params = e.params ∙ i.params;
+      nodes = r.nodes ∙ i.nodes;
+      line = omega (arith, i.line, r.line, r.shorter);
+      pace = page_pace c.pages.encoder f s c.read_page.new.self (length list) i.pace left e.params e.page (e.arcs ∙ ap (λ (l : List ℕ). c.pages.encoder.arcs + length l) c.as_slice.ensures) r.nodes r.line r.arcs r.room;
+      goes = λ done h.
+          let x = i.goes done h in (
+            x.0 ++ list ∷ [],
+            subst (λ (l : List ℕ). HasEncoded f (x.0 ++ l ∷ [])) c.as_slice.ensures (e.encoded x.0 x.1),
+            λ all later up. r.read all later x.0 (x.2 all later up),
+          );
+    }
+
+pub returns-in_err-refuse_words-clause-fault : goal.returns-in_err-refuse_words-clause-fault
+returns-in_err-refuse_words-clause-fault c = λ all later done h up.
+    let x = c.pages.invariant.goes done h in
+    let p = err_from_is_err_and c.from_residual-in_err-refuse_words.result c.from_residual-in_err-refuse_words.ensures.1 in
+    rw (p.1, p.2) (c.in_err-refuse_words.ensures.fault all later x.0 (x.2 all later up))
+
+pub returns-clause-pace : goal.returns-clause-pace
+returns-clause-pace c =
+    let r = c.in_ok-refuse_words.ensures in
+    let behind : 0 < length c.pages.rest.now → c.pages.lines.nodes < c.pages.lines.line = search rules in
+    blank_pace c.pages.encoder c.pages.lines c.refuse_words.new.self (length c.pages.rest.now) c.pages.invariant.pace behind r.nodes r.arcs r.onward r.line
+
+pub returns-clause-goes_on : goal.returns-clause-goes_on
+returns-clause-goes_on c = λ done h.
+    let x = c.pages.invariant.goes done h in
+    record { lists = x.0; encoded = x.1; reads = λ all later up. c.in_ok-refuse_words.ensures.read all later x.0 (x.2 all later up) }
