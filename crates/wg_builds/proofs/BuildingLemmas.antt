@@ -16,12 +16,11 @@ use Rattle.wg_outcomes.specs.Names.{archive_named}
 use Rattle.wg_outcomes.specs.Performs.{BuildsArchive, Outside}
 use Rattle.wg_outcomes.specs.Written.{AreWhole, ArchiveFiles, FilesAfter, archive_in, greedy_archive, params_for}
 use Rattle.wg_outcomes.specs.declared.ending.Ending.{Ending}
-use Rattle.wg_outcomes.specs.declared.status.Status.TheVariants.{Memory, WriteFault}
+use Rattle.wg_outcomes.specs.declared.status.Status.TheVariants.{WriteFault}
 use Rattle.wg_outcomes.proofs.PerformsLemmas.{output_put, unput_written}
 use Rattle.wg_outcomes.proofs.Statuses.{unput_cause}
 use Rattle.wg_readings.proofs.BuildLemmas.{put_stands, put_stopped, stopped_cause, stopped_output}
 use Rattle.wg_builds.specs.Writing.{WritesFiles, archive_of, whole}
-use Rattle.wg_builds.proofs.FileSteps.{none_written}
 
 -- the exit of a `?`
 pub builds_exit : (l : Layout) (g : Digraph) (base : List ℕ) (td to : Bool) (before after : Outside) (r : Result (Unit {0}) Ending) (e : Ending) → IsErrAnd r (λ x. x ≡ e)
@@ -70,9 +69,3 @@ module _ (l : Layout) (g : Digraph) (base : List ℕ) (td to : Bool) (before aft
 
       all : IsTrue td → AreWhole (greedy_archive (params_for l g) g) (archive_in base after.files)
       all t = subst (λ (x : Archive). AreWhole x (archive_in base after.files)) files_are (are_whole a.files (archive_in base after.files) (w.ok t))
-
--- memory was out before the archive was made
-pub builds_unmade : (l : Layout) (g : Digraph) (base : List ℕ) (td to : Bool) (before : Outside) (e : Ending) → e.status ≡ Memory → BuildsArchive l g base td to before before (Err e)
-builds_unmade l g base td to before e want =
-    builds_stopped l g base td to before before (params_for l g) refl (archive_of (params_for l g) g) refl e refl
-    (none_written base (archive_of (params_for l g) g).files td _ before.files before.counts e want)

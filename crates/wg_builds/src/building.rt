@@ -1,21 +1,18 @@
 //! The one way out of the commands that write an archive: from the archive in memory to its files, and the line of
 //! what it holds.
 ghost use Rattle.std.specs.Prelude.{◌≡◌};
-ghost use Rattle.wg_params.specs.Parameters.{IsWithinLimits, params_of};
 ghost use Rattle.wg_params.specs.declared.layout.Layout.{Layout};
 ghost use Rattle.wg_graph.specs.Digraph.{Digraph};
 ghost use Rattle.wg_outcomes.specs.Performs.{Builds};
 ghost use Rattle.wg_outcomes.specs.Written.{params_for};
 ghost use Rattle.wg_builds.specs.Writing.{archive_of};
 
-use crate::encoding::encode_graph;
 use crate::writing::write_archive;
 use std::alloc::Global;
 use wg_encoder::EncodedArchive;
-use wg_graph::Graph;
 use wg_io::{Depot, Sink};
-use wg_outcomes::{Ending, params_of, print_ok};
-use wg_params::{Layout, Params};
+use wg_outcomes::{Ending, print_ok};
+use wg_params::Params;
 use wg_words::Name;
 
 /// Writes an archive that is held in memory, of a graph with these parameters, and prints the line of what it holds.
@@ -33,24 +30,4 @@ pub fn build_archive<D: Depot, O: Sink>(
 {
     write_archive(alloc, archive, base, depot)?;
     print_ok(out, params, archive.bits())
-}
-
-/// Encodes the archive of a graph in memory, writes it, and prints the line of what it holds. Beside the graph it
-/// holds one record, and the archive: in most graphs little more than a byte an arc and two a page, and up to twice
-/// that while it grows.
-pub fn build_graph<D: Depot, O: Sink>(
-    alloc: Global,
-    layout: &Layout,
-    graph: &Graph,
-    base: &Name,
-    depot: &mut D,
-    out: &mut O,
-) -> Result<(), Ending>
-    requires { IsWithinLimits (params_of layout.now 0 0) }
-    ensures { Builds ⟦<D as Depot>⟧
-        ⟦<O as Sink>⟧ layout.now graph.now base.now depot.old depot.new out.old out.new result }
-{
-    let params = params_of(layout, graph.nodes(), graph.arcs());
-    let archive = encode_graph(alloc, &params, graph)?;
-    build_archive(alloc, &params, &archive, base, depot, out)
 }

@@ -22,9 +22,9 @@
 //! Ok(())
 //! ```
 //!
-//! `recode` reads the graph in pieces; all other inputs are held whole until they are read. `union` holds the bytes
-//! of two graph files, and goes through their lists side by side; `transpose` and `quotient` hold those of one, and go
-//! through its lists once for each range of pages or of classes.
+//! `build` and `import` read their text in pieces, and `recode` the graph. `union` holds the bytes of two graph files,
+//! and goes through their lists side by side; `transpose` and `quotient` hold those of one, and go through its lists
+//! once for each range of pages or of classes.
 #![tactic(auto)]
 
 pub mod build;
