@@ -14,16 +14,18 @@
 //! ```
 //!
 //! The quotient of a graph by classes of its pages is the graph of the classes: an arc leads from class to class
-//! exactly where one leads from some page of the one to some page of the other. [`quotient`] makes it as a graph is
-//! transposed, by counting and then placing, only that a class is counted, or placed, once for each class that its arcs
-//! reach: a mark a class tells which have been reached before. Class after class is put into lists, and so these ascend
-//! without a sort; they are those of the transposed quotient, which is transposed once more.
+//! exactly where one leads from some page of the one to some page of the other. It is made as a graph is transposed, by
+//! counting and then placing: the classes that the arcs of a class lead to stand one after the other in one array, as
+//! they come, and its list is these, sorted, each once. A [`Quotienter`] gives the lists range after range of classes,
+//! for a graph whose lists are read in order: one pass counts, and then each range takes one. So it holds what the arcs
+//! of one range lead to, and not the graph. [`quotient`] makes the whole graph in memory, of one range.
 //!
 //! ```text
-//! classes of the pages --> Grouping: the pages of each class
-//!                             |--> count: classes with an arc to each class --> set_starts: where each list begins
-//!                             |--> place: each class, in the lists of what its arcs reach --> transposed quotient
-//!                                                                            transpose --> quotient
+//! lists of the graph --> count: arcs that leave each class --> set_starts: where each list begins
+//!                                                              |
+//! lists of the graph --> place: the class of each target, at the next place of the list of its source's class
+//!                                                              |
+//!                                        sorted, each once: the list of a class
 //! ```
 //!
 //! The union of two graphs, and its quotient by two classes:
@@ -39,10 +41,17 @@
 //! classes.extend(&[0, 0, 1])?;
 //! let graph = quotient(rt.alloc(), &both, &classes, 2)?;
 //! assert!(rt; graph.nodes() == 2 && graph.arcs() == 2);
+//! // the same, range after range of classes
+//! let mut ranges = Quotienter::new(rt.alloc(), GraphLists::new(&both), classes.as_slice(), 2)?;
+//! let mut list = Vec::new(rt.alloc());
+//! ranges.advance(rt.alloc(), 1)?;
+//! ranges.list(0, &mut list)?;
+//! assert!(rt; list.as_slice() == [0, 1].as_slice());
 //! Ok(())
 //! ```
 //!
-//! Both take time in proportion to the pages, classes and arcs. What each holds is told at the functions.
+//! Both take time in proportion to the pages, classes and arcs, but that the arcs of each class are sorted. What each
+//! holds is told at the functions.
 #![tactic(auto)]
 
 mod adding;

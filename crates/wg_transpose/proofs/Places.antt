@@ -2,7 +2,7 @@
 use Rattle.std.proofs.Common.{◌≡◌, ◌≢◌, ℕ, suc, ◌+◌, ◌<◌, ◌≤◌, List, [], ◌∷◌, ◌++◌, length, get_or, set, sym, ap, subst, ◌∙◌, arith, inl, inr, length-append, length-set, get_or-set_same, get_or-set_other}
 use Rattle.std.proofs.lemmas.Bool.{cases_lt, cases_eq}
 use Rattle.std.proofs.lemmas.List.{get_or_append_left, get_or_at}
-use Rattle.wg_transpose.specs.SoFar.{start, AreCounts, ArePrefixes}
+use Rattle.wg_transpose.specs.SoFar.{start, ArePrefixes}
 use Rattle.wg_transpose.proofs.Totals.{start_le}
 
 -- one list grows by one number, and the others stay
@@ -12,15 +12,6 @@ pub record OneMore (b c : ℕ → List ℕ) (v x : ℕ) : Type 0 where
 
 pub longer : (b c : ℕ → List ℕ) (v x : ℕ) → OneMore b c v x → length (c v) ≡ length (b v) + 1
 longer b c v x m = omega (arith, ap length m.here, length-append (b v) (x ∷ []))
-
-pub count_more : (n : ℕ) (b c : ℕ → List ℕ) (v x : ℕ) (counts : List ℕ) (count : ℕ) → v < n → OneMore b c v x → AreCounts n b counts → count ≡ get_or counts v 0 → AreCounts n c (set counts v (count + 1))
-count_more n b c v x counts count lt m h is = record {
-  pages = length-set counts v (count + 1) ∙ h.pages;
-  each = λ w fits. elim (cases_eq w v) [
-    | inl same ↦ rw same (get_or-set_same counts v (count + 1) 0 (omega (arith, h.pages)) ∙ omega (arith, is, h.each v lt, longer b c v x m))
-    | inr other ↦ get_or-set_other counts v w (count + 1) 0 other ∙ h.each w fits ∙ ap length (sym (m.others w other))
-  ];
-}
 
 -- the next place of a list lies before the start of the next one
 pub place_fits : (n : ℕ) (whole b : ℕ → List ℕ) (ends all : List ℕ) (v at : ℕ) → v < n → ArePrefixes n whole b ends all → at ≡ get_or ends v 0 → length (b v) < length (whole v) → at < length all

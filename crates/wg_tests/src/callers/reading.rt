@@ -9,12 +9,12 @@ use wg_bits::{Bits, Cursor};
 use wg_codes::Read;
 use wg_decoder::{Window, decode};
 use wg_grammar::{OffsetWord, Source};
-use wg_graph::{List, Lists};
+use wg_graph::{GraphLists, List, Lists};
 use wg_io::SteadyDepot;
 use wg_offsets::OffsetsError;
 use wg_params::Code;
 use wg_random::{Archive, Records, Steps};
-use wg_shape::{Coming, quotient, union};
+use wg_shape::{Coming, Quotienter, quotient, union};
 use wg_stream::Reader;
 use wg_vectors::usual;
 
@@ -144,5 +144,11 @@ fn a_union_and_its_quotient(rt: HostRuntime) -> Result<(), Fail> {
     classes.extend(&[0, 0, 1])?;
     let graph = quotient(rt.alloc(), &both, &classes, 2)?;
     assert!(rt; graph.nodes() == 2 && graph.arcs() == 2);
+    // the same, range after range of classes
+    let mut ranges = Quotienter::new(rt.alloc(), GraphLists::new(&both), classes.as_slice(), 2)?;
+    let mut list = Vec::new(rt.alloc());
+    ranges.advance(rt.alloc(), 1)?;
+    ranges.list(0, &mut list)?;
+    assert!(rt; list.as_slice() == [0, 1].as_slice());
     Ok(())
 }

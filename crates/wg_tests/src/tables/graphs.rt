@@ -2,6 +2,7 @@
 use std::test::Fail;
 use wg_decoder::Spares;
 use wg_graph::{GraphLists, List};
+use wg_shape::{Quotienter, quotient};
 use wg_transpose::{Transposer, transpose};
 use wg_vectors::generate;
 
@@ -53,6 +54,34 @@ fn ranges_have_the_lists_of_the_transposed_graph(rt: HostRuntime) -> Result<(), 
                 assert!(rt; ranges.list(page) == transposed.list(page));
             }
         }
+    }
+    Ok(())
+}
+
+// How many ranges there are of classes of two pages each, if so many arcs are to leave each. 6, 8, 13, 8, 4 and 2 leave
+// the classes.
+const CLASS_RANGES: [(u64, u64); 4] = [(10, 4), (20, 2), (41, 1), (1000, 1)];
+
+#[test]
+fn ranges_have_the_lists_of_the_quotient(rt: HostRuntime) -> Result<(), Fail> {
+    let graph = generate(rt.alloc(), 3, 12)?;
+    assert!(rt; graph.nodes() == 12);
+    let mut classes = List::new(rt.alloc());
+    classes.extend(&[0, 0, 1, 1, 2, 2, 3, 3, 4, 4, 5, 5])?;
+    let whole = quotient(rt.alloc(), &graph, &classes, 6)?;
+    let mut list = Vec::new(rt.alloc());
+    for (room, count) in CLASS_RANGES {
+        let lists = GraphLists::new(&graph);
+        let mut ranges = Quotienter::new(rt.alloc(), lists, classes.as_slice(), 6)?;
+        for _ in 0..count {
+            ranges.advance(rt.alloc(), room)?;
+            assert!(rt; ranges.to() <= whole.nodes());
+            for class in ranges.from()..ranges.to() {
+                ranges.list(class, &mut list)?;
+                assert!(rt; list.as_slice() == whole.list(class));
+            }
+        }
+        assert!(rt; ranges.to() == 6);
     }
     Ok(())
 }
