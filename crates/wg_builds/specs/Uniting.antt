@@ -1,14 +1,9 @@
 -- The union of two graphs, on its way into an archive in memory.
 use Rattle.std.specs.Prelude.{◌≡◌, ℕ, max}
-use Rattle.wg_params.specs.Parameters.{Parameters}
-use Rattle.wg_params.specs.declared.layout.Layout.{Layout}
 use Rattle.wg_params.specs.declared.limits.TheConstants.{MOST_ARCS}
 use Rattle.wg_graph.specs.Digraph.{Digraph, IsGraph}
-use Rattle.wg_encoder.specs.Archive.{Summarized}
 use Rattle.wg_encoder.specs.ArchiveInMemory.{EncodedSoFar, HasEncoded}
 use Rattle.wg_shape.specs.Graphs.{AreAt, lists_of}
-use Rattle.wg_outcomes.specs.Written.{params_for}
-use Rattle.wg_builds.specs.Writing.{archive_of}
 
 -- The lists of the pages before one are encoded, and those of this page come next in both graphs.
 pub record IsUniting (g : Digraph) (a : ℕ) (h : Digraph) (b : ℕ) (e : EncodedSoFar) : Type 0 where
@@ -18,7 +13,3 @@ pub record IsUniting (g : Digraph) (a : ℕ) (h : Digraph) (b : ℕ) (e : Encode
   pub most : e.params.arcs ≡ MOST_ARCS
   pub place : AreAt e.page g a h b
   pub encoded : HasEncoded e (lists_of g h e.page)
-
--- the parameters of a graph in this layout, and its archive
-abbrev pub IsArchiveOf : Layout → Digraph → Parameters × Summarized → Type 0
-IsArchiveOf l g made = (made.0 ≡ params_for l g) × (made.1 ≡ archive_of made.0 g)

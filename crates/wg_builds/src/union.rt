@@ -8,7 +8,7 @@ ghost use Rattle.wg_grammar.specs.Laws.{graph_of};
 ghost use Rattle.wg_shape.specs.Graphs.{union_graph};
 ghost use Rattle.wg_words.specs.declared.jobs.Job.TheVariants.{Union};
 ghost use Rattle.wg_builds.specs.Loaded.{IsLoaded};
-ghost use Rattle.wg_builds.specs.Uniting.{IsArchiveOf};
+ghost use Rattle.wg_builds.specs.Writing.{IsArchiveOf};
 ghost use Rattle.wg_outcomes.specs.Performs.{DoesOrEnds};
 
 use crate::building::build_archive;

@@ -5,7 +5,8 @@ ghost use Rattle.wg_params.specs.declared.limits.TheConstants.{MOST_ARCS, MOST_P
 ghost use Rattle.wg_graph.specs.Digraph.{arc_count};
 ghost use Rattle.wg_encoder.specs.ArchiveInMemory.{HasEncoded};
 ghost use Rattle.wg_shape.specs.Graphs.{union_graph};
-ghost use Rattle.wg_builds.specs.Uniting.{IsArchiveOf, IsUniting};
+ghost use Rattle.wg_builds.specs.Uniting.{IsUniting};
+ghost use Rattle.wg_builds.specs.Writing.{IsArchiveOf};
 
 use crate::encoding::with_properties;
 use std::alloc::Global;

@@ -2,7 +2,7 @@ use Rattle.std.proofs.Common.{◌<◌, ◌≤◌, subst}
 use Rattle.wg_params.specs.declared.limits.TheConstants.{MOST_ARCS}
 use Rattle.wg_graph.specs.Digraph.{Digraph, arc_count}
 use Rattle.wg_shape.specs.Graphs.{union_graph}
-use Rattle.wg_builds.specs.Uniting.{IsArchiveOf}
+use Rattle.wg_builds.specs.Writing.{IsArchiveOf}
 use Rattle.wg_builds.proofs.union.united.Goals as goal
 
 pub returns-in-Ok-clause-made : goal.returns-in-Ok-clause-made
