@@ -110,6 +110,19 @@ run build a g --nodes 2
 refuses 7 wg: a: line 2: order|
 use none g
 
+case an arc list with a page that is named again after another
+text a 0 1|1 0|0 2|
+run build a g --nodes 3
+refuses 7 wg: a: line 3: order|
+use none g
+
+case an arc list whose last line has no end
+text a 0 1|1 0
+run build a g --nodes 2
+status 0
+run arcs g
+prints 0 1|1 0|
+
 case an arc past the last page, after a comment
 text a # arcs|0 2|
 run build a g --nodes 2
