@@ -43,7 +43,7 @@ use Rattle.wg_outcomes.proofs.FileLemmas.{file_goes_on, last_bit}
 use Rattle.wg_io.proofs.FilesLemmas.{none_falls-refl}
 use Rattle.std.specs.Bool.{IsTrue}
 use Rattle.std.specs.Result.{IfOk}
-use Rattle.wg_builds.specs.Writing.{archive_of}
+use Rattle.wg_writing.specs.Writing.{archive_of}
 use Rattle.wg_words.specs.declared.jobs.Job.{Job}
 use Rattle.wg_outcomes.proofs.Statuses.{IsOwn, own_caused}
 use Rattle.wg_outcomes.specs.JobFiles.{can_end, input_name}

@@ -1,12 +1,6 @@
-pub mod BuildingLemmas
+pub mod BuildJobs
 pub mod BulkLemmas
-pub mod FileSteps
 pub mod ImportJobs
 pub mod ImportingLemmas
 pub mod ListedJobs
 pub mod ListingLemmas
-pub mod LoadedLemmas
-pub mod QuotientJobs
-pub mod RecodedLemmas
-pub mod UnionJobs
-pub mod UnitingLemmas

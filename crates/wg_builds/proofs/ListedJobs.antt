@@ -40,7 +40,7 @@ use Rattle.wg_readings.proofs.LoadLemmas.{list_unloaded}
 use Rattle.wg_readings.proofs.UnderWay.{cause_later}
 use Rattle.wg_readings.proofs.ReadingsLemmas.{list_goes_on, list_refused}
 use Rattle.wg_builds.specs.Listed.{Corresponds, EncodesList, EndsAtLine, IsOfList, Lists, made_or_end}
-use Rattle.wg_builds.specs.Writing.{archive_of}
+use Rattle.wg_writing.specs.Writing.{archive_of}
 
 -- ---- a file that is there
 pub found : (o : Option (List ℕ)) → IsReadable o → (file : List ℕ) × (o ≡ Some file) × (length file ≤ MOST_BYTES)

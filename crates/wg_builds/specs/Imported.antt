@@ -17,7 +17,7 @@ use Rattle.wg_outcomes.specs.Written.{params_for}
 use Rattle.wg_outcomes.specs.declared.status.Status.{Status}
 use Rattle.wg_outcomes.specs.declared.status.Status.TheVariants.{BadText, Memory}
 use Rattle.wg_readings.specs.Loading.{LoadsText}
-use Rattle.wg_builds.specs.Writing.{archive_of}
+use Rattle.wg_writing.specs.Writing.{archive_of}
 
 -- how a job ends at an error of a plain text
 abbrev pub status_of_text : AsciiError → Status

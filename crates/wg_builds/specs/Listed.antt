@@ -22,7 +22,7 @@ use Rattle.wg_outcomes.specs.declared.ending.Ending.{Ending}
 use Rattle.wg_outcomes.specs.declared.status.Status.{Status}
 use Rattle.wg_outcomes.specs.declared.status.Status.TheVariants.{BadArcs, Memory}
 use Rattle.wg_readings.specs.Loading.{LoadsList}
-use Rattle.wg_builds.specs.Writing.{archive_of}
+use Rattle.wg_writing.specs.Writing.{archive_of}
 
 -- how a job ends at an error of an arc list
 abbrev pub status_of_list : ArcsError → Status

@@ -5,7 +5,7 @@ ghost use Rattle.wg_params.specs.declared.limits.TheConstants.{MOST_PAGES};
 ghost use Rattle.wg_words.specs.declared.jobs.Job.TheVariants.{Build};
 ghost use Rattle.wg_outcomes.specs.Performs.{DoesOrEnds};
 
-use crate::building::build_archive;
+use wg_writing::build_archive;
 use crate::listing::encode_list;
 use std::alloc::Global;
 use wg_io::{Depot, Sink};

@@ -12,7 +12,7 @@ ghost use Rattle.wg_outcomes.specs.Bulk.{IsBuilt, bulk_params, outcome_of};
 ghost use Rattle.wg_outcomes.specs.Ranked.{bounds_after};
 ghost use Rattle.wg_outcomes.specs.declared.outcome.TheConstants.{BULK_ROUNDS};
 
-use crate::encoding::encode_graph;
+use wg_writing::encode_graph;
 use std::alloc::Global;
 use wg_encoder::EncodedArchive;
 use wg_graph::{Graph, GraphLists};

@@ -3,7 +3,7 @@ ghost use Rattle.wg_params.specs.Parameters.{IsWithinLimits, params_of};
 ghost use Rattle.wg_words.specs.declared.jobs.Job.TheVariants.{Import};
 ghost use Rattle.wg_outcomes.specs.Performs.{DoesOrEnds};
 
-use crate::building::build_archive;
+use wg_writing::build_archive;
 use crate::importing::encode_text;
 use std::alloc::Global;
 use wg_io::{Depot, Sink};

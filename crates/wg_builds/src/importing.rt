@@ -11,7 +11,7 @@ ghost use Rattle.wg_encoder.specs.ArchiveInMemory.{HasEncoded};
 ghost use Rattle.wg_readings.specs.Loading.{LoadsTextBy};
 ghost use Rattle.wg_builds.specs.Imported.{Begins, EncodesTextBy, GoesOn, KeepsPace, MakesOfTextBy, status_of_text};
 
-use crate::encoding::end_archive;
+use wg_writing::end_archive;
 use std::alloc::Global;
 use wg_ascii::{AsciiError, PageLines};
 use wg_encoder::{ArchiveEncoder, EncodedArchive};

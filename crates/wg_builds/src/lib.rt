@@ -1,11 +1,11 @@
-//! The commands that write an archive: `build`, `import`, `recode`, `transpose`, `union`, `quotient`; and `bulk`,
-//! which builds one in memory.
+//! The commands that write an archive of a text: `build` and `import`; and `bulk`, which builds that of a generated
+//! graph in memory.
 //!
 //! Each is a function over any outside, with one clause: `DoesOrEnds` of its job (`wg_outcomes`); `bulk`, which makes
-//! no call of a depot, has it of any depot by `DoesAlone`. A command is a chain of steps: those of `wg_readings`,
-//! which read its inputs and judge them, then the encoding of the greedy archive in memory, and last
-//! [`building`](building::build_archive), which writes that archive and prints its line. So no file is touched before
-//! all inputs are judged and the archive is whole.
+//! no call of a depot, has it of any depot by `DoesAlone`. `build` and `import` read their text in pieces, line after
+//! line, and encode the list of a page when the page is over; they hold the archive in memory, one list, and a piece
+//! with the line that it cuts. The last step, [`wg_writing::build_archive`], writes that archive and prints its line.
+//! So no file is touched before the text is judged to its end and the archive is whole.
 //!
 //! The archive of an arc list, in memory:
 //!
@@ -21,26 +21,11 @@
 //! assert!(rt; out.bytes() == b"ok nodes=2 arcs=1 bits=10\n".as_slice());
 //! Ok(())
 //! ```
-//!
-//! `build` and `import` read their text in pieces, and `recode` the graph. `union` holds the bytes of two graph files,
-//! and goes through their lists side by side; `transpose` and `quotient` hold those of one, and go through its lists
-//! once for each range of pages or of classes.
 #![tactic(auto)]
 
 pub mod build;
-pub mod building;
 pub mod bulk;
-mod encoding;
 mod generated;
 pub mod import;
 mod importing;
 mod listing;
-mod loaded;
-pub mod quotient;
-mod quotienting;
-pub mod recode;
-pub mod transpose;
-mod transposing;
-pub mod union;
-mod uniting;
-mod writing;

@@ -12,7 +12,7 @@ ghost use Rattle.wg_encoder.specs.Laws.{IsList};
 ghost use Rattle.wg_builds.specs.Listed.{EncodesListBy, EndsAtLine, GoesOn, IsOfList, IsUnderWay};
 ghost use Rattle.wg_builds.specs.Listed.{ListsBy, done_at, list_at, status_of_list};
 
-use crate::encoding::{add_list, begin_archive, end_archive};
+use wg_writing::{add_list, begin_archive, end_archive};
 use std::alloc::Global;
 use wg_arcs::{ArcLines, ArcsError};
 use wg_encoder::{ArchiveEncoder, EncodedArchive};

@@ -8,10 +8,6 @@ use std::alloc::Global;
 use wg_builds::build::build;
 use wg_builds::bulk::bulk;
 use wg_builds::import::import;
-use wg_builds::quotient::quotient;
-use wg_builds::recode::recode;
-use wg_builds::transpose::transpose;
-use wg_builds::union::union;
 use wg_io::{Depot, Sink};
 use wg_outcomes::{Ending, Status};
 use wg_queries::check::check;
@@ -20,6 +16,10 @@ use wg_queries::rank::{Asked, rank};
 use wg_queries::show::show;
 use wg_queries::spot::spot;
 use wg_queries::verify::verify;
+use wg_transforms::quotient::quotient;
+use wg_transforms::recode::recode;
+use wg_transforms::transpose::transpose;
+use wg_transforms::union::union;
 use wg_words::Job;
 
 // How what was done or has ended is reported.

@@ -1,3 +1,4 @@
+pub mod BuildLemmas
 pub mod FileLemmas
 pub mod PerformsLemmas
 pub mod RankLemmas

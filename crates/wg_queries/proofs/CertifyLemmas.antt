@@ -19,7 +19,7 @@ use Rattle.wg_outcomes.proofs.Statuses.{unput_cause}
 use Rattle.wg_outcomes.specs.Performs.{CertifiesRanking, Outside}
 use Rattle.wg_outcomes.specs.Ranked.{certificate_text, ranking_text}
 use Rattle.wg_outcomes.specs.Written.{CertificateAfter, OthersStay, StayBeside, Touches}
-use Rattle.wg_readings.proofs.BuildLemmas.{put_stopped, stopped_cause, stopped_output}
+use Rattle.wg_outcomes.proofs.BuildLemmas.{put_stopped, stopped_cause, stopped_output}
 use Rattle.wg_outcomes.proofs.PerformsLemmas.{output_put, unput_written}
 use Rattle.wg_outcomes.proofs.WritingLemmas.{by_stop, rose_there, stopped_at}
 

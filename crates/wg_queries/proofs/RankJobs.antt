@@ -24,7 +24,7 @@ use Rattle.wg_outcomes.specs.Commands.{ranks}
 use Rattle.wg_outcomes.specs.JobFiles.{input_name, output_name, writes_files}
 use Rattle.wg_outcomes.specs.Performs.{CertifiesRanking, Outside, Performs, outside}
 use Rattle.wg_outcomes.specs.Ranked.{bounds_after, certificate_text, ranking_text}
-use Rattle.wg_readings.proofs.BuildLemmas.{produced}
+use Rattle.wg_outcomes.proofs.BuildLemmas.{produced}
 use Rattle.wg_readings.proofs.JobSteps.{ComesTo, ends_without, judges_rest, prints}
 use Rattle.wg_readings.proofs.WeightedJobs as weighted
 

@@ -31,7 +31,7 @@ use Rattle.wg_outcomes.specs.declared.status.Input.{Input}
 use Rattle.wg_outcomes.specs.declared.status.Input.TheVariants as input
 use Rattle.wg_outcomes.specs.declared.status.Status.{Status}
 use Rattle.wg_outcomes.specs.declared.status.Status.TheVariants.{Memory, WriteFault, Missing, BadArchive, BadProperties, NoPage}
-use Rattle.wg_readings.proofs.BuildLemmas.{written}
+use Rattle.wg_outcomes.proofs.BuildLemmas.{written}
 use Rattle.wg_outcomes.proofs.PerformsLemmas.{IsStop, printed_by, stopped, unread}
 use Rattle.wg_outcomes.proofs.Statuses.{IsOwn, bad_own, bad_unread, own_caused, own_read}
 use Rattle.wg_readings.proofs.UnderWay.{cause_later}

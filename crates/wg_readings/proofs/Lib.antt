@@ -1,4 +1,3 @@
-pub mod BuildLemmas
 pub mod ClassLemmas
 pub mod FirstRecords
 pub mod GraphJobs

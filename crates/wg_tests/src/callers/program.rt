@@ -2,11 +2,13 @@ use std::test::Fail;
 use wg_builds::build::build;
 use wg_cli::run_in_memory;
 use wg_io::{SteadyDepot, SteadySink};
-use wg_outcomes::{Ending, Input, Status, as_second};
+use wg_outcomes::{Ending, Input, Status, as_second, params_of};
 use wg_queries::printing::{Listing, print_records};
 use wg_readings::load_params;
+use wg_transforms::transpose::transpose;
 use wg_vectors::usual;
 use wg_words::{Job, Name, Words, usual_layout};
+use wg_writing::{build_archive, encode_graph};
 
 // In the overview of wg_words.
 #[test]
@@ -68,6 +70,23 @@ fn arcs_of_an_archive(rt: HostRuntime) -> Result<(), Fail> {
     Ok(())
 }
 
+// In the overview of wg_writing.
+#[test]
+fn an_archive_is_written(rt: HostRuntime) -> Result<(), Fail> {
+    let graph = wg_arcs::read(rt.alloc(), b"0 1\n", 2)?;
+    let params = params_of(&usual_layout(), graph.nodes(), graph.arcs());
+    let Ok(archive) = encode_graph(rt.alloc(), &params, &graph) else {
+        return Err("out of memory".into());
+    };
+    let base = Name::new(rt.alloc(), "g")?;
+    let mut depot = SteadyDepot::new(rt.alloc(), 4096);
+    let mut out = SteadySink::new(rt.alloc(), 4096);
+    let done = build_archive(rt.alloc(), &params, &archive, &base, &mut depot, &mut out);
+    assert!(rt; done.is_ok());
+    assert!(rt; depot.holds("g.properties"));
+    Ok(())
+}
+
 // In the overview of wg_builds.
 #[test]
 fn an_archive_of_one_arc(rt: HostRuntime) -> Result<(), Fail> {
@@ -80,6 +99,23 @@ fn an_archive_of_one_arc(rt: HostRuntime) -> Result<(), Fail> {
     let done = build(rt.alloc(), &list, &base, 2, &layout, &mut depot, &mut out);
     assert!(rt; done.is_ok());
     assert!(rt; out.bytes() == b"ok nodes=2 arcs=1 bits=10\n".as_slice());
+    Ok(())
+}
+
+// In the overview of wg_transforms.
+#[test]
+fn an_archive_is_transposed(rt: HostRuntime) -> Result<(), Fail> {
+    let mut depot = SteadyDepot::new(rt.alloc(), 4096);
+    let text = wg_properties::write(rt.alloc(), &usual(3, 4, 7, 3, 4)?)?;
+    depot.put_file("web.properties", text.as_slice())?;
+    depot.put_file("web.graph", b"\x7D\xC6\xE0")?;
+    let input = Name::new(rt.alloc(), "web")?;
+    let output = Name::new(rt.alloc(), "t")?;
+    let layout = usual_layout();
+    let mut out = SteadySink::new(rt.alloc(), 4096);
+    let done = transpose(rt.alloc(), &input, &output, &layout, &mut depot, &mut out);
+    assert!(rt; done.is_ok());
+    assert!(rt; depot.holds("t.graph"));
     Ok(())
 }
 

@@ -1,7 +1,8 @@
 use Rattle.std.proofs.Common.{refl}
 use Rattle.wg_words.specs.declared.jobs.Job.TheVariants.{Build}
-use Rattle.wg_readings.proofs.BuildLemmas.{list_unread, written}
+use Rattle.wg_outcomes.proofs.BuildLemmas.{written}
 use Rattle.wg_readings.proofs.JobSteps.{performs_exit}
+use Rattle.wg_builds.proofs.BuildJobs.{list_unread}
 use Rattle.wg_builds.proofs.ListedJobs.{done, ended}
 use Rattle.wg_builds.proofs.build.build.Goals as goal
 

@@ -1,6 +1,6 @@
 use Rattle.std.proofs.Common.{refl}
 use Rattle.wg_words.specs.declared.jobs.Job.TheVariants.{Import}
-use Rattle.wg_readings.proofs.BuildLemmas.{written}
+use Rattle.wg_outcomes.proofs.BuildLemmas.{written}
 use Rattle.wg_readings.proofs.JobSteps.{performs_exit}
 use Rattle.wg_builds.proofs.ImportJobs.{text_unread}
 use Rattle.wg_builds.proofs.import.import.Goals as goal

@@ -1,0 +1,5 @@
+pub mod LoadedLemmas
+pub mod QuotientJobs
+pub mod RecodedLemmas
+pub mod UnionJobs
+pub mod UnitingLemmas

@@ -1,0 +1,306 @@
+-- How `union` goes on from archive to archive, or ends.
+use Rattle.std.proofs.Common.{◌≡◌, ◌∙◌, ◌⊎◌, ◌<◌, ◌≤◌, inl, inr, ℕ, Bool, true, false, if◌then◌else◌, List, ◌++◌, Option, Result, Ok, Err, refl, sym, ap, subst}
+use Rattle.std.specs.Bool.{IsTrue}
+use Rattle.std.proofs.lemmas.Bool.{false≢true, le-ltb, lt-ltb}
+use Rattle.wg_io.specs.Outside.{Files, Counts}
+use Rattle.wg_io.specs.declared.suffixes.TheConstants.{PROPERTIES, GRAPH, OFFSETS}
+use Rattle.wg_io.proofs.FilesLemmas.{none_falls-trans}
+use Rattle.wg_params.specs.Parameters.{Parameters}
+use Rattle.wg_params.specs.declared.limits.TheConstants.{MOST_ARCS}
+use Rattle.wg_properties.specs.declared.fault.PropFault.{PropFault}
+use Rattle.wg_graph.specs.Digraph.{Digraph, arc_count}
+use Rattle.wg_grammar.specs.Archive.{Accepted}
+use Rattle.wg_grammar.specs.Laws.{graph_of}
+use Rattle.wg_grammar.specs.declared.fault.ArchiveFault.{ArchiveFault}
+use Rattle.wg_grammar.specs.declared.fault.ArchiveFault.TheVariants as archive
+use Rattle.wg_shape.specs.Graphs.{union_graph}
+use Rattle.wg_words.specs.declared.jobs.Job.{Job}
+use Rattle.wg_words.specs.declared.jobs.Job.TheVariants.{Union}
+use Rattle.wg_params.specs.declared.layout.Layout.{Layout}
+use Rattle.wg_outcomes.specs.Answers.{Answers, IsHindrance, status_in, without}
+use Rattle.wg_outcomes.specs.Causes.{HasCause, IncreasedAt}
+use Rattle.wg_outcomes.specs.Judged.{Judged, accepted, built, certified, refused, status_of, with_archive}
+use Rattle.wg_outcomes.specs.Names.{file_of, file_of_fault, held_by, no_outputs}
+use Rattle.wg_outcomes.specs.Promised.{ArePromised, promised_in}
+use Rattle.wg_outcomes.specs.Readings.{Readings}
+use Rattle.wg_outcomes.specs.Second.{as_second, of_second, second_ending, second_held, second_input}
+use Rattle.wg_outcomes.specs.declared.ending.Ending.{Ending}
+use Rattle.wg_outcomes.specs.declared.status.Input.{Input}
+use Rattle.wg_outcomes.specs.declared.status.Input.TheVariants as input
+use Rattle.wg_outcomes.specs.declared.status.Status.{Status}
+use Rattle.wg_outcomes.specs.declared.status.Status.TheVariants.{Done, Usage, Memory, ReadFault, WriteFault, Missing, BadArcs, BadProperties, BadArchive, BadSecond, TooManyArcs, NoPage, OverLimit, BadWeights, BadText, BadMap, BadCertificate}
+use Rattle.wg_outcomes.proofs.Statuses.{IsOwn, absent_caused, failed_caused, own_caused}
+use Rattle.wg_readings.proofs.UnderWay.{cause_later}
+use Rattle.wg_outcomes.specs.Commands.{builds, with_union}
+use Rattle.wg_transforms.specs.Loaded.{IsArchiveFile, IsOfArchive, LoadsArchive, result_of_second}
+use Rattle.wg_outcomes.specs.JobFiles.{can_end, has_input, input_name, output_name}
+use Rattle.wg_outcomes.specs.Performs.{BuildsArchive, Outside, Performs, judged_on, outside}
+use Rattle.wg_outcomes.specs.Reached.{Reaches}
+use Rattle.wg_transforms.specs.declared.loaded.Loaded.{Loaded}
+use Rattle.wg_outcomes.proofs.BuildLemmas.{written}
+use Rattle.wg_outcomes.proofs.PerformsLemmas.{IsStop, stopped}
+
+-- ---- each end at an archive, and each of its files
+
+archive_cases : (P : Status → Type 0) → P Memory → ((i : Input) → IsArchiveFile i → P (ReadFault i)) → ((i : Input) → IsArchiveFile i → P (Missing i)) → ((i : Input) → IsArchiveFile i → P (OverLimit i))
+    → ((f : PropFault) → P (BadProperties f)) → ((f : ArchiveFault) → P (BadArchive f)) → (s : Status) → IsOfArchive s → P s
+archive_cases P memory failed absent long properties bad Memory only = memory
+archive_cases P memory failed absent long properties bad (ReadFault i) only = failed i only
+archive_cases P memory failed absent long properties bad (Missing i) only = absent i only
+archive_cases P memory failed absent long properties bad (OverLimit i) only = long i only
+archive_cases P memory failed absent long properties bad (BadProperties f) only = properties f
+archive_cases P memory failed absent long properties bad (BadArchive f) only = bad f
+archive_cases P memory failed absent long properties bad Done only = absurd only
+archive_cases P memory failed absent long properties bad Usage only = absurd only
+archive_cases P memory failed absent long properties bad (WriteFault o) only = absurd only
+archive_cases P memory failed absent long properties bad (BadArcs line kind) only = absurd only
+archive_cases P memory failed absent long properties bad (BadSecond f) only = absurd only
+archive_cases P memory failed absent long properties bad TooManyArcs only = absurd only
+archive_cases P memory failed absent long properties bad (NoPage page) only = absurd only
+archive_cases P memory failed absent long properties bad (BadWeights f) only = absurd only
+archive_cases P memory failed absent long properties bad (BadText line kind) only = absurd only
+archive_cases P memory failed absent long properties bad (BadMap f) only = absurd only
+archive_cases P memory failed absent long properties bad (BadCertificate f) only = absurd only
+
+archive_inputs : (P : Input → Type 0) → P input.Properties → P input.Graph → P input.Offsets → (i : Input) → IsArchiveFile i → P i
+archive_inputs P properties graph offsets input.Properties there = properties
+archive_inputs P properties graph offsets input.Graph there = graph
+archive_inputs P properties graph offsets input.Offsets there = offsets
+archive_inputs P properties graph offsets input.SecondProperties there = absurd there
+archive_inputs P properties graph offsets input.SecondGraph there = absurd there
+archive_inputs P properties graph offsets input.SecondOffsets there = absurd there
+archive_inputs P properties graph offsets input.ArcList there = absurd there
+archive_inputs P properties graph offsets input.Weights there = absurd there
+archive_inputs P properties graph offsets input.Map there = absurd there
+archive_inputs P properties graph offsets input.Certificate there = absurd there
+archive_inputs P properties graph offsets input.Text there = absurd there
+
+-- ---- what is told of the second archive
+
+abbrev went_on : Result Loaded Ending → Bool
+went_on (Ok l) = true
+went_on (Err e) = false
+
+abbrev end_of : Result Loaded Ending → Ending → Ending
+end_of (Ok l) other = other
+end_of (Err e) other = e
+
+abbrev loaded_of : Result Loaded Ending → Loaded → Loaded
+loaded_of (Ok l) other = l
+loaded_of (Err e) other = other
+
+second_status : (j : Judged) → as_second (status_of j) ≡ status_of (of_second j)
+second_status (refused s) = refl
+second_status (accepted out) = refl
+second_status (built files out) = refl
+second_status (certified text out) = refl
+
+second_hinders : (s : Status) → IsOfArchive s → IsHindrance s → IsHindrance (as_second s)
+second_hinders = archive_cases (λ s. IsHindrance s → IsHindrance (as_second s)) (λ h. h) (λ i there h. tt) (λ i there h. absurd h) (λ i there h. absurd h) (λ f h. absurd h) (λ f h. absurd h)
+
+second_answers : (j : Judged) (s : Status) → IsOfArchive s → Answers j s → Answers (of_second j) (as_second s)
+second_answers j s only (inl is) = inl (ap as_second is ∙ second_status j)
+second_answers j s only (inr hinders) = inr (second_hinders s only hinders)
+
+module _ (first second output : List ℕ) (layout : Layout) (td to : Bool) (before : Outside) where
+  abbrev job : Job
+  job = Union first second output layout
+
+  abbrev held : Input → Option (List ℕ)
+  held = held_by (input_name job) before.files
+
+  -- what comes behind each archive
+  abbrev behind_second : Parameters → Accepted → Parameters → Accepted → Judged
+  behind_second p a q b = with_union (graph_of p a) (graph_of q b) (λ g. builds layout g)
+
+  abbrev behind_first : Readings → (Input → Option (List ℕ)) → Parameters → Accepted → Judged
+  behind_first r h p a = of_second (with_archive r (second_held h) (behind_second p a))
+
+  -- ---- the first archive ends it
+  first_stop : (s : Status) → IsOfArchive s → IsStop s
+  first_stop = archive_cases IsStop tt (λ i there. tt) (λ i there. tt) (λ i there. tt) (λ f. tt) (λ f. tt)
+
+  first_there : (i : Input) → IsArchiveFile i → IsTrue (has_input job i)
+  first_there = archive_inputs (λ i. IsTrue (has_input job i)) refl refl refl
+
+  fault_there : (f : ArchiveFault) → IsArchiveFile (file_of_fault f)
+  fault_there (archive.Record f) = tt
+  fault_there (archive.Tail at) = tt
+  fault_there (archive.ArcsShort total) = tt
+  fault_there (archive.Offsets w) = tt
+  fault_there (archive.Length page found stored) = tt
+
+  first_possible : (s : Status) → IsOfArchive s → IsTrue (can_end job s)
+  first_possible = archive_cases (λ s. IsTrue (can_end job s)) refl first_there first_there first_there (λ f. refl) (λ f. first_there (file_of_fault f) (fault_there f))
+
+  first_name : (i : Input) → IsArchiveFile i → input_name job i ≡ file_of first i
+  first_name = archive_inputs (λ i. input_name job i ≡ file_of first i) refl refl refl
+
+  first_caused : (old new : List ℕ → Counts) (f f' : ℕ) (s : Status) → IsOfArchive s → HasCause (file_of first) no_outputs old new 0 0 s → HasCause (input_name job) (output_name job) old new f f' s
+  first_caused old new f f' s only cause = record {
+    read_fault = λ i is. subst (λ (n : Option (List ℕ)). IncreasedAt (λ c. c.read_faults) n old new) (sym (first_name i (subst IsOfArchive is only))) (cause.read_fault i is);
+    missing = λ i is. subst (λ (n : Option (List ℕ)). IncreasedAt (λ c. c.absences) n old new) (sym (first_name i (subst IsOfArchive is only))) (cause.missing i is);
+    write_fault = λ o other is. absurd (subst IsOfArchive is only);
+    out_fault = λ is. absurd (subst IsOfArchive is only);
+  }
+
+  abbrev in_first : Input → Option (List ℕ)
+  in_first = held_by (file_of first) before.files
+
+  fault_promised : (n : ℕ) (f : ArchiveFault) → ArePromised in_first (BadArchive f) n → ArePromised held (BadArchive f) n
+  fault_promised n (archive.Record f) told = tt
+  fault_promised n (archive.Tail at) told = tt
+  fault_promised n (archive.ArcsShort total) told = told
+  fault_promised n (archive.Offsets w) told = tt
+  fault_promised n (archive.Length page found stored) told = tt
+
+  first_promised : (n : ℕ) (s : Status) → IsOfArchive s → ArePromised in_first s n → ArePromised held s n
+  first_promised n =
+      archive_cases (λ s. ArePromised in_first s n → ArePromised held s n) (λ told. tt) (λ i there told. tt) (λ i there told. tt) (λ i there told. tt) (λ f told. tt) (fault_promised n)
+
+  first_reached : (r : Readings) (i : Input) → IsArchiveFile i → ((next : Parameters → Accepted → Judged) → with_archive r (without i in_first) next ≡ refused (Missing i)) → Reaches r job held i
+  first_reached r =
+      archive_inputs (λ i. ((next : Parameters → Accepted → Judged) → with_archive r (without i in_first) next ≡ refused (Missing i)) → Reaches r job held i)
+      (λ missing. missing (behind_first r (without input.Properties held))) (λ missing. missing (behind_first r (without input.Graph held))) (λ missing. missing (behind_first r (without input.Offsets held)))
+
+  pub no_first : (after : Outside) (e : Ending) → after.taken ≡ before.taken → LoadsArchive first td before.files after.files before.counts after.counts (Err e) → Performs job td to before after e.status e.promised
+  no_first after e silent l =
+      stopped job td to before after e.status e.promised (first_stop e.status l.only) silent l.same (λ t r. l.ends t r (behind_first r held)) (first_possible e.status l.only)
+      (first_caused _ _ _ _ e.status l.only l.causes) (λ t r i is. first_reached r i (subst IsOfArchive is l.only) (l.reached t r i is)) l.later (λ t. first_promised e.promised e.status l.only (l.promised t))
+
+  -- ---- the second archive ends it
+  second_stop : (s : Status) → IsOfArchive s → IsStop (as_second s)
+  second_stop = archive_cases (λ s. IsStop (as_second s)) tt (λ i there. tt) (λ i there. tt) (λ i there. tt) (λ f. tt) (λ f. tt)
+
+  second_there : (i : Input) → IsArchiveFile i → IsTrue (has_input job (second_input i))
+  second_there = archive_inputs (λ i. IsTrue (has_input job (second_input i))) refl refl refl
+
+  second_possible : (s : Status) → IsOfArchive s → IsTrue (can_end job (as_second s))
+  second_possible = archive_cases (λ s. IsTrue (can_end job (as_second s))) refl second_there second_there second_there (λ f. refl) (λ f. second_there (file_of_fault f) (fault_there f))
+
+  abbrev in_second : Input → Option (List ℕ)
+  in_second = held_by (file_of second) before.files
+
+  second_fault_promised : (n : ℕ) (f : ArchiveFault) → ArePromised in_second (BadArchive f) n → ArePromised held (as_second (BadArchive f)) n
+  second_fault_promised n (archive.Record f) told = tt
+  second_fault_promised n (archive.Tail at) told = tt
+  second_fault_promised n (archive.ArcsShort total) told = told
+  second_fault_promised n (archive.Offsets w) told = tt
+  second_fault_promised n (archive.Length page found stored) told = tt
+
+  second_promised : (n : ℕ) (s : Status) → IsOfArchive s → ArePromised in_second s n → ArePromised held (as_second s) n
+  second_promised n =
+      archive_cases (λ s. ArePromised in_second s n → ArePromised held (as_second s) n) (λ told. tt) (λ i there told. tt) (λ i there told. tt) (λ i there told. tt) (λ f told. tt) (second_fault_promised n)
+
+  module _ (old new : List ℕ → Counts) (f f' : ℕ) where
+    abbrev caused : Status → Type 0
+    caused s = HasCause (input_name job) (output_name job) old new f f' s
+
+    second_failed : (i : Input) → IsArchiveFile i → IncreasedAt (λ c. c.read_faults) (file_of second i) old new → caused (ReadFault (second_input i))
+    second_failed =
+        archive_inputs (λ i. IncreasedAt (λ c. c.read_faults) (file_of second i) old new → caused (ReadFault (second_input i)))
+        (failed_caused (input_name job) (output_name job) old new f f' input.SecondProperties (second ++ PROPERTIES.now) refl) (failed_caused (input_name job) (output_name job) old new f f' input.SecondGraph (second ++ GRAPH.now) refl)
+        (failed_caused (input_name job) (output_name job) old new f f' input.SecondOffsets (second ++ OFFSETS.now) refl)
+
+    second_absent : (i : Input) → IsArchiveFile i → IncreasedAt (λ c. c.absences) (file_of second i) old new → caused (Missing (second_input i))
+    second_absent =
+        archive_inputs (λ i. IncreasedAt (λ c. c.absences) (file_of second i) old new → caused (Missing (second_input i)))
+        (absent_caused (input_name job) (output_name job) old new f f' input.SecondProperties (second ++ PROPERTIES.now) refl) (absent_caused (input_name job) (output_name job) old new f f' input.SecondGraph (second ++ GRAPH.now) refl)
+        (absent_caused (input_name job) (output_name job) old new f f' input.SecondOffsets (second ++ OFFSETS.now) refl)
+
+    second_caused : (s : Status) → IsOfArchive s → HasCause (file_of second) no_outputs old new 0 0 s → caused (as_second s)
+    second_caused =
+        archive_cases (λ s. HasCause (file_of second) no_outputs old new 0 0 s → caused (as_second s)) (λ cause. own_caused _ _ old new f f' Memory tt)
+        (λ i there cause. second_failed i there (cause.read_fault i refl)) (λ i there cause. second_absent i there (cause.missing i refl))
+        (λ i there cause. own_caused _ _ old new f f' (OverLimit (second_input i)) tt) (λ g cause. own_caused _ _ old new f f' (as_second (BadProperties g)) tt)
+        (λ g cause. own_caused _ _ old new f f' (as_second (BadArchive g)) tt)
+
+  module _ (one : Loaded) (files1 : Files) (counts1 : List ℕ → Counts) (l : LoadsArchive first td before.files files1 before.counts counts1 (Ok one)) where
+    abbrev a : Accepted
+    a = l.goes.0
+
+    abbrev MissesAt : Readings → Input → Type 0
+    MissesAt r i = (next : Parameters → Accepted → Judged) → with_archive r (without i in_second) next ≡ refused (Missing i)
+
+    second_reaches : IsTrue td → (r : Readings) (i : Input) → IsArchiveFile i → MissesAt r i → Reaches r job held (second_input i)
+    second_reaches t r =
+        archive_inputs (λ i. MissesAt r i → Reaches r job held (second_input i))
+        (λ misses. l.goes.2 t r (behind_first r (without input.SecondProperties held)) ∙ ap of_second (misses (behind_second one.params a)))
+        (λ misses. l.goes.2 t r (behind_first r (without input.SecondGraph held)) ∙ ap of_second (misses (behind_second one.params a)))
+        (λ misses. l.goes.2 t r (behind_first r (without input.SecondOffsets held)) ∙ ap of_second (misses (behind_second one.params a)))
+
+    second_reached : IsTrue td → (r : Readings) (s : Status) → IsOfArchive s → ((i : Input) → s ≡ ReadFault i → MissesAt r i) → (j : Input) → as_second s ≡ ReadFault j → Reaches r job held j
+    second_reached t r =
+        archive_cases (λ s. ((i : Input) → s ≡ ReadFault i → MissesAt r i) → (j : Input) → as_second s ≡ ReadFault j → Reaches r job held j)
+        (λ reach j is. absurd (let no : Memory ≡ ReadFault j = is in cc))
+        (λ i there reach j is. let same : second_input i ≡ j = (let e : ReadFault (second_input i) ≡ ReadFault j = is in cc) in subst (Reaches r job held) same (second_reaches t r i there (reach i refl)))
+        (λ i there reach j is. absurd (let no : Missing (second_input i) ≡ ReadFault j = is in cc))
+        (λ i there reach j is. absurd (let no : OverLimit (second_input i) ≡ ReadFault j = is in cc))
+        (λ f reach j is. absurd (let no : as_second (BadProperties f) ≡ ReadFault j = is in cc))
+        (λ f reach j is. absurd (let no : as_second (BadArchive f) ≡ ReadFault j = is in cc))
+
+    second_ends : (after : Outside) (e : Ending) → after.taken ≡ before.taken → LoadsArchive second td before.files after.files counts1 after.counts (Err e)
+        → Performs job td to before after (as_second e.status) e.promised
+    second_ends after e silent h =
+        stopped job td to before after (as_second e.status) e.promised (second_stop e.status h.only) silent h.same
+        (λ t r. subst (λ (j : Judged). Answers j (as_second e.status)) (sym (l.goes.2 t r (behind_first r held))) (second_answers _ e.status h.only (h.ends t r (behind_second one.params a))))
+        (second_possible e.status h.only) (second_caused _ _ _ _ e.status h.only (cause_later (file_of second) before.counts counts1 after.counts e.status l.later h.causes))
+        (λ t r j is. second_reached t r e.status h.only (λ i at. h.reached t r i at) j is) (none_falls-trans _ _ _ l.later h.later) (λ t. second_promised e.promised e.status h.only (h.promised t))
+
+    pub no_second : (after : Outside) (read : Result Loaded Ending) (e : Ending) → after.taken ≡ before.taken → LoadsArchive second td files1 after.files counts1 after.counts read
+        → Err e ≡ result_of_second read → Performs job td to before after e.status e.promised
+    no_second after (Ok other) e silent h is = absurd (false≢true (ap went_on is))
+    no_second after (Err was) e silent h is =
+        let same : e ≡ second_ending was = ap (λ (r : Result Loaded Ending). end_of r e) is in
+        subst (λ (x : Ending). Performs job td to before after x.status x.promised) (sym same)
+        (second_ends after was silent (subst (λ (f : Files). LoadsArchive second td f after.files counts1 after.counts (Err was)) l.same h))
+
+    module _ (other : Loaded) (files2 : Files) (counts2 : List ℕ → Counts) (h : LoadsArchive second td files1 files2 counts1 counts2 (Ok other)) where
+      abbrev b : Accepted
+      b = h.goes.0
+
+      abbrev both : Digraph
+      both = union_graph (graph_of one.params a) (graph_of other.params b)
+
+      same : files2 ≡ before.files
+      same = h.same ∙ l.same
+
+      goes : IsTrue td → (r : Readings) → judged_on r job before.files ≡ of_second (with_union (graph_of one.params a) (graph_of other.params b) (λ g. builds layout g))
+      goes t r =
+          l.goes.2 t r (behind_first r held)
+          ∙ ap (λ (f : Files). of_second (with_archive r (held_by (file_of second) f) (behind_second one.params a))) (sym l.same)
+          ∙ ap of_second (h.goes.2 t r (behind_second one.params a))
+
+      -- the union was not made
+      pub no_union : (taken : List ℕ) (faults : ℕ) (e : Ending) → taken ≡ before.taken → (e.status ≡ Memory) ⊎ (e.status ≡ TooManyArcs) → (e.status ≡ TooManyArcs → MOST_ARCS < arc_count both)
+          → Performs job td to before (outside files2 counts2 taken faults) e.status e.promised
+      no_union taken faults e silent only many = by_only only
+        where
+          ends : (s : Status) → IsStop s → IsOwn s → IsTrue (can_end job s) → (IsTrue td → (r : Readings) → Answers (judged_on r job before.files) s) → ArePromised held s e.promised
+              → Performs job td to before (outside files2 counts2 taken faults) s e.promised
+          ends s stop own possible answers told =
+              stopped job td to before (outside files2 counts2 taken faults) s e.promised stop silent same answers possible (own_caused _ _ _ _ _ _ s own)
+              (λ t r i is. absurd (subst IsOwn is own)) (none_falls-trans _ _ _ l.later h.later) (λ t. told)
+
+          by_only : ((e.status ≡ Memory) ⊎ (e.status ≡ TooManyArcs)) → Performs job td to before (outside files2 counts2 taken faults) e.status e.promised
+          by_only (inl want) =
+              subst (λ (s : Status). Performs job td to before (outside files2 counts2 taken faults) s e.promised) (sym want) (ends Memory tt tt refl (λ t r. inr tt) tt)
+          by_only (inr many_is) =
+              subst (λ (s : Status). Performs job td to before (outside files2 counts2 taken faults) s e.promised) (sym many_is)
+              (ends TooManyArcs tt tt refl (λ t r. inl (sym (ap status_of (goes t r ∙ ap (λ (x : Bool). of_second (if x then refused TooManyArcs else builds layout both)) (lt-ltb MOST_ARCS (arc_count both) (many many_is)))))) tt)
+
+      -- it was, and is written
+      pub unites : arc_count both ≤ MOST_ARCS → (after : Outside) (r : Result (Unit {0}) Ending) → BuildsArchive layout both output td to (outside files2 counts2 before.taken before.faults) after r
+          → Performs job td to before after (status_in r) (promised_in r)
+      unites few after r h' =
+          written job td to before after files2 counts2 layout both output r refl refl
+          (λ t q. goes t q ∙ ap (λ (x : Bool). of_second (if x then refused TooManyArcs else builds layout both)) (le-ltb MOST_ARCS (arc_count both) few))
+          same (none_falls-trans _ _ _ l.later h.later) h'
+
+-- what was read of the second archive, where nothing ended it
+pub second_read : (base : List ℕ) (td : Bool) (files files' : Files) (counts counts' : List ℕ → Counts) (read : Result Loaded Ending) (l : Loaded) → LoadsArchive base td files files' counts counts' read
+    → Ok l ≡ result_of_second read → LoadsArchive base td files files' counts counts' (Ok l)
+second_read base td files files' counts counts' (Ok x) l h is =
+    let same : l ≡ x = ap (λ (r : Result Loaded Ending). loaded_of r l) is in
+    subst (λ (y : Loaded). LoadsArchive base td files files' counts counts' (Ok y)) (sym same) h
+second_read base td files files' counts counts' (Err e) l h is = absurd (false≢true (sym (ap went_on is)))

@@ -1,0 +1,37 @@
+//! The commands that make an archive of archives: `recode`, `transpose`, `union`, `quotient`.
+//!
+//! Each is a function over any outside, with one clause: `DoesOrEnds` of its job (`wg_outcomes`). A command is a chain
+//! of steps: those of `wg_readings`, which read its inputs and judge them, then the encoding of the greedy archive in
+//! memory, and last [`wg_writing::build_archive`], which writes that archive and prints its line. So no file is touched
+//! before all inputs are judged and the archive is whole.
+//!
+//! An archive in memory, and that of its graph with each arc the other way round:
+//!
+//! ```rust
+//! let mut depot = SteadyDepot::new(rt.alloc(), 4096);
+//! let text = wg_properties::write(rt.alloc(), &usual(3, 4, 7, 3, 4)?)?;
+//! depot.put_file("web.properties", text.as_slice())?;
+//! depot.put_file("web.graph", b"\x7D\xC6\xE0")?;
+//! let input = Name::new(rt.alloc(), "web")?;
+//! let output = Name::new(rt.alloc(), "t")?;
+//! let layout = usual_layout();
+//! let mut out = SteadySink::new(rt.alloc(), 4096);
+//! let done = transpose(rt.alloc(), &input, &output, &layout, &mut depot, &mut out);
+//! assert!(rt; done.is_ok());
+//! assert!(rt; depot.holds("t.graph"));
+//! Ok(())
+//! ```
+//!
+//! `recode` reads the graph in pieces, once. `union` holds the bytes of two graph files, and goes through their lists
+//! side by side; `transpose` and `quotient` hold those of one, and go through its lists once for each range of pages or
+//! of classes.
+#![tactic(auto)]
+
+mod loaded;
+pub mod quotient;
+mod quotienting;
+pub mod recode;
+pub mod transpose;
+mod transposing;
+pub mod union;
+mod uniting;

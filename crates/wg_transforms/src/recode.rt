@@ -1,0 +1,62 @@
+//! The command `recode`: an archive of the same graph in another layout.
+ghost use Rattle.std.specs.Prelude.{◌≡◌};
+ghost use Rattle.wg_params.specs.Parameters.{IsWithinLimits, params_of};
+ghost use Rattle.wg_words.specs.declared.jobs.Job.TheVariants.{Recode};
+ghost use Rattle.wg_outcomes.specs.Performs.{DoesOrEnds};
+ghost use Rattle.wg_transforms.specs.Recoding.{RecodesBy};
+
+use wg_writing::build_archive;
+use wg_writing::{add_list, begin_archive, end_archive};
+use std::alloc::Global;
+use wg_encoder::EncodedArchive;
+use wg_io::{Depot, Sink};
+use wg_outcomes::{Ending, params_of};
+use wg_params::{Layout, Params};
+use wg_readings::{end_records, load_params, next_record, open_graph};
+use wg_words::Name;
+
+/// Writes the greedy archive of an archive's graph, in the layout that is given, and prints the line of what it
+/// holds. It goes through the graph file once, and judges the whole graph before it touches a file. It holds a piece
+/// of the file, and twice the lists that a reference may reach, with a few that wait to be used again; one record; and
+/// the archive that it makes, in most graphs little more than a byte an arc and two a page, and up to twice that while
+/// it grows.
+pub fn recode<D: Depot, O: Sink>(
+    alloc: Global,
+    input: &Name,
+    output: &Name,
+    layout: &Layout,
+    depot: &mut D,
+    out: &mut O,
+) -> Result<(), Ending>
+    requires { IsWithinLimits (params_of layout.now 0 0) }
+    ensures { DoesOrEnds ⟦<D as Depot>⟧ ⟦<O as Sink>⟧ (Recode input.now output.now layout.now)
+        depot.old depot.new out.old out.new result }
+{
+    let params = load_params(alloc, depot, input)?;
+    let made = params_of(layout, params.nodes(), params.arcs());
+    let archive = recoded(alloc, &params, &made, depot, input)?;
+    build_archive(alloc, &made, &archive, output, depot, out)
+}
+
+// The archive with other parameters, in memory. Each list is judged, and encoded as it comes; after a fault the archive
+// is let go.
+fn recoded<D: Depot>(
+    alloc: Global,
+    params: &Params,
+    made: &Params,
+    depot: &mut D,
+    input: &Name,
+) -> Result<EncodedArchive, Ending>
+    requires nodes { made.now.nodes ≡ params.now.nodes }
+    requires arcs { made.now.arcs ≡ params.now.arcs }
+    ensures { RecodesBy ⟦<D as Depot>⟧ input.now params.now made.now depot.old depot.new result }
+{
+    let mut reader = open_graph(alloc, params, input)?;
+    let mut encoder = begin_archive(alloc, made)?;
+    for _page in 0..params.nodes() {
+        next_record(&mut reader, depot, params)?;
+        encoder = add_list(encoder, reader.list())?;
+    }
+    end_records(&mut reader, depot, params)?;
+    end_archive(alloc, encoder, made)
+}
