@@ -44,6 +44,13 @@
 //! text once, and over a line that is not as it is written a few times. [`read`] holds the graph and the list of one
 //! page, 8 bytes for each arc and each page, and takes memory as the lines come, and none by the number of pages that
 //! the first line tells; a `PageLines` holds nothing.
+//!
+//! Choices:
+//!
+//! - The definition of a text has no reader in it: it compares the words of each line with the decimal texts of the
+//!   page's successors. The first fault is a definition of its own, and a law says that each text has exactly one of
+//!   the two. As each line after the first is a page, there is no room for comments. *Revisit if* common writers of
+//!   `.graph-txt` put them in.
 #![tactic(auto)]
 
 mod fault;

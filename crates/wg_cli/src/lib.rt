@@ -2,10 +2,11 @@
 //! error.
 //!
 //! [`run`] is the one call. It asks `wg_words` for the job, has [`perform`] do it by the commands of `wg_queries`,
-//! `wg_builds` and `wg_transforms`, reports how it ended, and returns the [`Status`]. Its contract spells out what is promised of a job
-//! (`Performs`), by the words and by what each input holds: which status comes, what stands on the output and in the
-//! files, and that faults of the outside are reported only where their counts rose. Besides it says which line is
-//! reported (`line_of`). [`run_in_memory`] is the same over files and outputs in memory, which are never at fault.
+//! `wg_builds` and `wg_transforms`, reports how it ended, and returns the [`Status`]. Its contract spells out what is
+//! promised of a job (`Performs`), by the words and by what each input holds: which status comes, what stands on the
+//! output and in the files, and that faults of the outside are reported only where their counts rose. Besides it says
+//! which line is reported (`line_of`). [`run_in_memory`] is the same over files and outputs in memory, which are never
+//! at fault.
 //!
 //! Besides this crate a caller needs `wg_io` alone, for its depot and its sinks: the words, the status and all that a
 //! status names are exported here.
@@ -26,6 +27,11 @@
 //! assert!(rt; depot.holds("web.graph"));
 //! Ok(())
 //! ```
+//!
+//! Choices:
+//!
+//! - The error line takes no memory, so that it comes even if memory has run out: each of its texts has at most 192
+//!   bytes, and names go out in pieces. *Revisit if* a line has to say more.
 #![tactic(auto)]
 
 mod dispatch;

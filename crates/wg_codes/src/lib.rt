@@ -26,6 +26,19 @@
 //! No call takes memory. A word is read and written by a fixed number of loads and shifts, and never bit by bit; a
 //! word of gamma or zeta that lies within 57 bits, as nearly all do, by one load. Two loops are left: unary goes over
 //! 64 zeros at a time, and nibble digit by digit, over at most 21.
+//!
+//! Choices:
+//!
+//! - A code ends at a greatest value, and a longer word is no word. So a reader can stop after as many zeros as any
+//!   word has, and each value fits a `u64`. These values are above all numbers that a record or an offset can have,
+//!   but for a block count in unary, which ends at 2^32 - 1. *Revisit if* an archive has greater values; the limits
+//!   of pages and arcs have to grow first.
+//! - [`word_in`] knows words of up to 57 bits, for so many lie in 8 bytes wherever in a byte they begin. Longer
+//!   words, in gamma from the value 2^29 - 1 on and in zeta 3 from 2^42 - 1 on, are read in steps. *Revisit if*
+//!   graphs with so far distances are in use.
+//! - No table has the short words of zeta. It could have those of 11 bits at most, as 9 of 100 residuals of the
+//!   generated archives were (2026-11-27), so that looking up would cost more than it saves. *Revisit if* zeta takes
+//!   a tenth of validating real crawls.
 #![tactic(auto)]
 
 mod any;

@@ -40,6 +40,33 @@
 //! The definitions give the fields of a record with their codes and stored values, the reference that is chosen, and
 //! the bytes of the two files. The functions of [`laws`] state that no candidate's record is shorter than the one that
 //! is written, that the bytes of the files are their bits, and that these files are accepted and have the graph.
+//!
+//! Choices:
+//!
+//! - The shortest archive under a limit of chains would need a look ahead: a page gives up its shortest record for
+//!   the sake of later ones. The greedy archive needs the depths of the window alone. *Revisit if* a look ahead
+//!   spares some bits in a hundred on real crawls.
+//! - A page without successors has one record, whatever its reference. So the tie goes to 0, and the definition needs
+//!   no case for it. *Revisit if* the definition has to leave out such pages for another reason.
+//! - What a candidate takes is counted down from what the best so far takes: no sum can overflow, and a candidate is
+//!   left when nothing is left. From a limit that no record reaches the same count is exact, so that `cost` and the
+//!   choice have one body. *Revisit if* a table spares the passes over two lists.
+//! - A list that shares no successor with the page's is not counted: the record would have the same extras as without
+//!   a reference, with the blocks on top and a word for the reference that is no shorter (`proofs/Disjoint.antt`). In
+//!   the generated graphs seven of ten candidates are such, and without their counts `recode` took a quarter fewer
+//!   instructions (2026-11-27). *Revisit if* they are few in real crawls.
+//! - A candidate is a number with a test, and no type of its own, which would have to carry the encoder's state; and
+//!   `cost` is asked of the page that comes next, since of others the depths are gone or not known yet. *Revisit if*
+//!   a look ahead needs them.
+//! - An encoder takes the archive's name with each call, and keeps the names of the two files while it stays the
+//!   same: to make them for each record would take memory each time. *Revisit if* a name can be lent for as long as
+//!   an encoder lives.
+//! - The word of a record's length is put with the next record, and the last by `finish`; so `new` puts nothing, and
+//!   needs no depot. *Revisit if* the offsets file gets another form.
+//! - A struct can't hold lists that have left its memory. So `HasWritten` and `HasEncoded` say of any lists that they
+//!   are those that were handed in: context, lengths and bits are those of the greedy archive of these. That there
+//!   are such lists is an invariant of an [`ArchiveEncoder`], a [`ListEncoder`] over a depot in memory, by which its
+//!   files are there at the end. *Revisit if* a struct can hold lists that are only in the proof.
 #![tactic(auto)]
 
 mod archive;

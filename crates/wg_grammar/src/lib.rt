@@ -41,6 +41,18 @@
 //! ```
 //!
 //! Nothing here takes memory, and each call takes constant time; a word from memory costs what [`wg_codes::read`] costs.
+//!
+//! Choices:
+//!
+//! - The order of two faults of one field is fixed: a truncated word and no word come first; an outdegree is compared
+//!   with the pages and then with the arcs, a reference with its reach and then with the chain. *Revisit if* another
+//!   checker of the format names them the other way round.
+//! - That a successor stands twice is seen only when the list is whole, and may come from a copy, an interval and a
+//!   residual together. So it is a fault of the whole record, at its first bit, after those of all fields. Of
+//!   `copied` the sum of all blocks is wrong, and the last run has no block of its own: it stands at the bit after
+//!   the blocks. *Revisit if* a writer of such records is found, and has to know which successor it is.
+//! - [`ArchiveFault`] has the faults of the offsets file too, so that a status, a text and a place of each stand
+//!   together; the grammar of the graph file has none of them. *Revisit if* the two have to be told apart by type.
 #![tactic(auto)]
 
 mod cursor;

@@ -31,6 +31,16 @@
 //! A graph holds 8 bytes for each arc and 8 for each page, and lends any list in constant time. Building it takes time
 //! in proportion to its arcs and pages. Memory is taken as the arcs come, and never by the number of pages that is
 //! claimed.
+//!
+//! Choices:
+//!
+//! - A row has memory for eight numbers more than it may hold, so that runs are written eight numbers at a time, past
+//!   their ends: most are shorter than a piece. *Revisit if* a call to copy so few numbers costs nothing.
+//! - Before residuals are joined, the members that are not below the first of them are moved to the end of the row's
+//!   memory, and each goes back before the first number above it. So no second row is needed, but members are moved
+//!   more often. Those below a residual are copied one by one: four at a time, and compared without a branch for
+//!   each, a round of PageRank took a tenth longer (2026-11-28). *Revisit if* ranking is to be faster: before
+//!   intervals all members wait still.
 #![tactic(auto)]
 
 mod builder;

@@ -32,6 +32,21 @@
 //!
 //! No call holds memory but for the bytes that it answers, and the names of two open files of the system. The depots and
 //! sinks in memory hold their own bytes, and a depot looks a name up by going through all of them.
+//!
+//! Choices:
+//!
+//! - The first read of a file asks for the byte at offset 2^46, so that a file that is too long is refused before any
+//!   of it is held; one that grows meanwhile is refused when it passes the limit. Common file systems refuse to seek
+//!   there, and answer a positioned read with no bytes: so each read of `FolderDepot` gives its offset. *Revisit if*
+//!   there are archives of more than 64 TiB, or a system without positioned reads has to be served.
+//! - `FolderDepot` keeps open two files. *Revisit if* a command reads three or more in turn, so that each piece opens
+//!   one.
+//! - A write of no bytes is a failure: otherwise a full disk could be tried for ever. *Revisit if* a system is met
+//!   that writes nothing and means to go on.
+//! - The counts of a sink fall at no write. That they do not over several, of any sink, is said by a relation of its
+//!   type, `later`, which leads on from write to write. *Revisit if* a contract of many calls can be had without it.
+//! - A depot or a sink that is to fail does so at the call that a test names, and nowhere else: each error path can
+//!   be run, and a contract says exactly what happens. *Revisit if* failing every call in turn finds more.
 #![tactic(auto)]
 
 mod appending;

@@ -33,6 +33,12 @@
 //! `Lines` holds its buffer of 8192 bytes and takes no memory. Each call takes time in proportion to what it prints,
 //! and now and then to the buffer. A `LineReader` holds up to 65536 bytes and the line that they cut, and goes over each
 //! byte twice: to copy it, and to look for the last end of a line.
+//!
+//! Choices:
+//!
+//! - All lines that end in a piece are lent at once, so that a caller reads lines in their plain form by one pass,
+//!   with no call for each and no search for its end. *Revisit if* files are read whose lines are mostly longer than
+//!   a piece.
 #![tactic(auto)]
 
 mod lines;

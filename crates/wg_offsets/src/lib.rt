@@ -26,6 +26,11 @@
 //! Offsets hold 8 bytes for each offset. Memory is taken as the words come, and never by the number of pages that an
 //! archive claims; words and a comparison take none. Reading costs a pass over the file, and looking up an offset takes
 //! constant time.
+//!
+//! Choices:
+//!
+//! - The definition `pages_that_differ` is the ascending list of all pages whose two lengths differ, and the fault
+//!   names its first, so that no definition needs a loop. *Revisit if* all of these pages are to be named.
 #![tactic(auto)]
 
 mod comparing;

@@ -21,6 +21,11 @@
 //! The equations take the graph of a file from a function that reads all graph files (`Readings`); `wg_laws` states
 //! that the grammar leaves exactly one. Besides, the crate has what commands of both kinds share: short texts, what
 //! is printed in one call, and bounds before the first round and after the last.
+//!
+//! Choices:
+//!
+//! - A fault holds what was found in its own file. So what ends a job carries the number that the properties promise
+//!   beside the status. *Revisit if* more than one number of another file has to go with a fault.
 #![tactic(auto)]
 
 mod bounds;

@@ -29,6 +29,13 @@
 //! seed --> for each page, in order: copy from a list close before --> scatter --> add an interval --> its list
 //!             state of the generator, from page to page; the lists so far, in the graph that grows
 //! ```
+//!
+//! Choices:
+//!
+//! - A page is drawn into a buffer of 78 numbers, ascending, by binary search and insertion: to append is the common
+//!   case, and nothing is sorted or taken for a page. *Revisit if* generated pages get many more successors.
+//! - No table has unary words of 2^32 zeros, which take 512 MB. *Revisit if* a source of bits that are made as they
+//!   are read can stand for a test.
 #![tactic(auto)]
 
 mod archives;

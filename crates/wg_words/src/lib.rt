@@ -23,9 +23,9 @@
 //! Ok(())
 //! ```
 //!
-//! A command that writes an archive takes the options of `options`, and its job has a [`Layout`](wg_params::Layout): what
-//! the words say of the archive's parameters, all but the numbers of pages and arcs. No such job reads one of the files that it writes.
-//! What `recode` and `transpose` take is one `Conversion`, which becomes the job of either.
+//! A command that writes an archive takes the options of `options`, and its job has a [`Layout`](wg_params::Layout):
+//! what the words say of the archive's parameters, all but the numbers of pages and arcs. No such job reads one of the
+//! files that it writes. What `recode` and `transpose` take is one `Conversion`, which becomes the job of either.
 //!
 //! `rank` and `verify` may name a file of weights. The certificate that `rank` writes is none of the files that it
 //! reads, which the definitions say by `KeepsInputs`.
@@ -36,6 +36,14 @@
 //! been read.
 //!
 //! A command more is a variant of `Job`, an entry of the table with its twin in the definitions, and an arm of `asked`.
+//!
+//! Choices:
+//!
+//! - There is no help text: the manual has the words. *Revisit if* users ask for one; the words that ask for it are
+//!   to be defined then.
+//! - What is only read may be any file: `verify g g.graph` is a job, and ends by naming a fault of that text. Only an
+//!   output that is also an input is refused, by its name. *Revisit if* a fault in such a file misleads whoever mixed
+//!   up two names.
 #![tactic(auto)]
 
 mod asked;
