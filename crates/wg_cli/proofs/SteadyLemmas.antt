@@ -1,6 +1,6 @@
 -- What runs where nothing outside is at fault tells no fault.
-use Rattle.std.proofs.Common.{◌≡◌, ◌≢◌, ◌⊎◌, inl, inr, ℕ, List, refl, sym, ◌∙◌, subst, Option, Some, None}
-use Rattle.wg_io.specs.Outside.{Counts}
+use Rattle.std.proofs.Common.{◌≡◌, ◌≢◌, ◌⊎◌, inl, inr, ℕ, List, arith, refl, sym, ◌∙◌, subst, Option, Some, None}
+use Rattle.wg_io.specs.Outside.{Counts, Increased}
 use Rattle.wg_io.specs.declared.output.Output.{Output}
 use Rattle.wg_words.specs.declared.jobs.Job.{Job}
 use Rattle.wg_outcomes.specs.Causes.{AreFaultless, HasCause}
@@ -9,6 +9,7 @@ use Rattle.wg_outcomes.specs.declared.status.Input.{Input}
 use Rattle.wg_outcomes.specs.declared.status.Status.{Status}
 use Rattle.wg_outcomes.specs.declared.status.Status.TheVariants.{Usage, Memory, ReadFault, WriteFault}
 use Rattle.wg_outcomes.proofs.PerformsLemmas.{not_at, no_fault_in}
+use Rattle.wg_cli.specs.Lines.{Reports}
 
 module _ (old new : List ℕ → Counts) (faults faults' : ℕ) (quiet : AreFaultless old new faults faults') (s : Status) where
   no_fault_here : (s ≡ Usage) ⊎ (s ≡ Memory) → (f : Status) → (Usage ≡ f → ⊥) → (Memory ≡ f → ⊥) → s ≢ f
@@ -26,3 +27,13 @@ module _ (old new : List ℕ → Counts) (faults faults' : ℕ) (quiet : AreFaul
   no_write_fault (Some job) none some o is =
       no_fault_in (input_name job) (output_name job) old new faults faults' quiet o
       (subst (λ (x : Status). HasCause (input_name job) (output_name job) old new faults faults' x) is (some job refl))
+
+-- what counts no fault reports only in part where it was out of memory
+in_want : (W : Type 0) → Increased 0 0 ⊎ W → W
+in_want W (inl (inl less)) = absurd (omega (arith, less))
+in_want W (inl (inr last)) = absurd (omega (arith, last))
+in_want W (inr want) = want
+
+pub only_wants : (W : Type 0) (line old new : List ℕ) → Reports line old new (Increased 0 0 ⊎ W) → Reports line old new W
+only_wants W line old new (inl whole) = inl whole
+only_wants W line old new (inr cut) = inr (cut.0, cut.1, cut.2, in_want W cut.3)

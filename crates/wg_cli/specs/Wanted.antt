@@ -1,7 +1,8 @@
 -- What holds of the job that some words ask for, if they ask for one.
-use Rattle.std.specs.Prelude.{ℕ, Bool, false, Option, Some, None}
+use Rattle.std.specs.Prelude.{ℕ, Bool, true, false, Option, Some, None}
 use Rattle.wg_io.specs.Outside.{Files}
 use Rattle.wg_words.specs.declared.jobs.Job.{Job}
+use Rattle.wg_words.specs.declared.jobs.Job.TheVariants.{Bulk}
 use Rattle.wg_outcomes.specs.JobFiles.{input_name, writes_files}
 use Rattle.wg_outcomes.specs.Names.{held_by}
 use Rattle.wg_outcomes.specs.Promised.{ArePromised}
@@ -11,6 +12,15 @@ use Rattle.wg_outcomes.specs.declared.status.Status.{Status}
 abbrev pub some_writes_files : Option Job → Bool
 some_writes_files None = false
 some_writes_files (Some job) = writes_files job
+
+-- whether a job makes calls of the depot
+abbrev pub calls_depot : Job → Bool
+calls_depot (Bulk seed pages) = false
+calls_depot _ = true
+
+abbrev pub some_calls_depot : Option Job → Bool
+some_calls_depot None = false
+some_calls_depot (Some job) = calls_depot job
 
 -- what its properties promise, where the line of the status names it
 abbrev pub ArePromisedBy : Option Job → Files → Status → ℕ → Type 0

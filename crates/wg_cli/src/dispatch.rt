@@ -1,8 +1,9 @@
-ghost use Rattle.std.specs.Prelude.{◌≡◌};
+ghost use Rattle.std.specs.Prelude.{◌≡◌, false};
 ghost use Rattle.wg_words.specs.Jobs.{IsWithin};
 ghost use Rattle.wg_outcomes.specs.Answers.{status_in};
 ghost use Rattle.wg_outcomes.specs.Promised.{promised_in};
 ghost use Rattle.wg_outcomes.specs.Performs.{Does};
+ghost use Rattle.wg_cli.specs.Wanted.{calls_depot};
 
 use std::alloc::Global;
 use wg_builds::build::build;
@@ -36,8 +37,9 @@ fn ending_of(done: Result<(), Ending>) -> Ending
 /// Does the job, and says how it ended.
 pub fn perform<D: Depot, O: Sink>(alloc: Global, job: &Job, depot: &mut D, out: &mut O) -> Ending
     requires { IsWithin job.now }
-    ensures { Does ⟦<D as Depot>⟧ ⟦<O as Sink>⟧ job.now depot.old depot.new out.old out.new result.status
+    ensures does { Does ⟦<D as Depot>⟧ ⟦<O as Sink>⟧ job.now depot.old depot.new out.old out.new result.status
         result.promised }
+    ensures untouched { calls_depot job.now ≡ false → depot.new ≡ depot.old }
 {
     match job {
         Job::Check { base } => ending_of(check(alloc, base, depot, out)),

@@ -1,22 +1,23 @@
 ghost use Rattle.std.specs.Prelude.{◌≡◌, ◌≢◌, ◌≤◌, ◌⊎◌, ℕ, false, List, Option, Some, None, IsTrue, IfOk, IfSome};
-ghost use Rattle.wg_io.specs.Outside.{Increased};
+ghost use Rattle.wg_io.specs.Outside.{Increased, NonDecreasing};
 ghost use Rattle.wg_io.specs.declared.output.Output.{Output};
 ghost use Rattle.wg_params.specs.declared.limits.TheConstants.{MOST_PAGES};
 ghost use Rattle.wg_graph.specs.Digraph.{Digraph, IsGraph};
 ghost use Rattle.wg_words.specs.Jobs.{job_of, IsWithin};
 ghost use Rattle.wg_words.specs.declared.jobs.Job.{Job};
 ghost use Rattle.wg_outcomes.specs.Reached.{Reaches};
-ghost use Rattle.wg_outcomes.specs.Answers.{Answers, HasOutput};
+ghost use Rattle.wg_outcomes.specs.Answers.{Answers, HasOutput, IsHindrance};
 ghost use Rattle.wg_outcomes.specs.Causes.{AreFaultless, HasCause};
 ghost use Rattle.wg_outcomes.specs.Commands.{written_by};
 ghost use Rattle.wg_outcomes.specs.Judged.{output_of, status_of};
 ghost use Rattle.wg_cli.specs.Lines.{line_of, Reports};
-ghost use Rattle.wg_cli.specs.Wanted.{some_writes_files, ArePromisedBy};
+ghost use Rattle.wg_cli.specs.Wanted.{some_calls_depot, some_writes_files, ArePromisedBy};
 ghost use Rattle.wg_outcomes.specs.JobFiles.{can_end, held_for, input_name, output_name};
 ghost use Rattle.wg_outcomes.specs.Performs.{judged_on, Does};
 ghost use Rattle.wg_rank.specs.Weights.{AreWeights, weights_of};
 ghost use Rattle.wg_outcomes.specs.Ranked.{IsProvenRanking, PrintsProvenRanking, bounds_after};
 ghost use Rattle.wg_outcomes.specs.Verified.{PrintsProvenGap};
+ghost use Rattle.wg_laws.specs.Certificates.{HoldsWritten};
 ghost use Rattle.wg_outcomes.specs.Readings.{Readings};
 ghost use Rattle.wg_outcomes.specs.Written.{AreAllWhole, HasFiles};
 ghost use Rattle.wg_outcomes.specs.declared.status.Input.{Input};
@@ -91,6 +92,12 @@ pub fn run<D: Depot, O: Sink, E: Sink>(
         → PrintsProvenGap r (held_for (Job.Verify base certificate weights) (D.files depot.old)) weights
         (O.taken out.old) (O.taken out.new) }
 
+    // What `rank` wrote of the same graph and weights is accepted.
+    ensures accepts { IsTrue D.told → (r : Readings) (base certificate : List ℕ) (weights : Option (List ℕ))
+        → job_of words.now ≡ Some (Job.Verify base certificate weights)
+        → HoldsWritten r (held_for (Job.Verify base certificate weights) (D.files depot.old)) base certificate weights
+        → (result ≡ Status.Done) ⊎ IsHindrance result }
+
     // What stands on the output, in the files and on the error output.
     ensures output { IsTrue D.told → IsTrue O.told → (r : Readings) (job : Job) → job_of words.now ≡ Some job
         → HasOutput (output_of (judged_on r job (D.files depot.old))) (O.taken out.old) (O.taken out.new) result }
@@ -98,6 +105,8 @@ pub fn run<D: Depot, O: Sink, E: Sink>(
         → HasFiles (output_name job) (written_by r job (held_for job (D.files depot.old))) (D.files depot.old)
         (D.files depot.new) result }
     ensures same { some_writes_files (job_of words.now) ≡ false → D.files depot.new ≡ D.files depot.old }
+    ensures untouched { some_calls_depot (job_of words.now) ≡ false → depot.new ≡ depot.old }
+    ensures later { NonDecreasing (D.counts depot.old) (D.counts depot.new) }
     ensures line { IsTrue E.told
         → (promised : ℕ) × (IsTrue D.told → ArePromisedBy (job_of words.now) (D.files depot.old) result promised)
         × Reports (line_of (job_of words.now) promised result) (E.taken err.old) (E.taken err.new)
@@ -139,6 +148,8 @@ fn try_job<D: Depot, O: Sink>(
         → Does ⟦<D as Depot>⟧ ⟦<O as Sink>⟧ job depot.old depot.new out.old out.new result.status result.promised }
     ensures promised { IsTrue D.told → ArePromisedBy wanted.now (D.files depot.old) result.status result.promised }
     ensures same { some_writes_files wanted.now ≡ false → D.files depot.new ≡ D.files depot.old }
+    ensures untouched { some_calls_depot wanted.now ≡ false → depot.new ≡ depot.old }
+    ensures later { NonDecreasing (D.counts depot.old) (D.counts depot.new) }
 {
     match wanted {
         None => Ending::of(Status::Usage),

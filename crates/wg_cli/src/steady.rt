@@ -1,10 +1,17 @@
-ghost use Rattle.std.specs.Prelude.{◌≡◌, ◌≢◌, ◌⊎◌, Some};
+ghost use Rattle.std.specs.Prelude.{◌≡◌, ◌≢◌, ◌⊎◌, ℕ, Some};
+ghost use Rattle.wg_io.specs.Outside.{Increased};
 ghost use Rattle.wg_io.specs.declared.output.Output.{Output};
 ghost use Rattle.wg_words.specs.Jobs.{job_of};
 ghost use Rattle.wg_words.specs.declared.jobs.Job.{Job};
-ghost use Rattle.wg_outcomes.specs.Judged.{status_of};
+ghost use Rattle.wg_outcomes.specs.Answers.{HasOutput};
+ghost use Rattle.wg_outcomes.specs.Commands.{written_by};
+ghost use Rattle.wg_outcomes.specs.JobFiles.{held_for, output_name};
+ghost use Rattle.wg_outcomes.specs.Judged.{output_of, status_of};
 ghost use Rattle.wg_outcomes.specs.Performs.{judged_on};
 ghost use Rattle.wg_outcomes.specs.Readings.{Readings};
+ghost use Rattle.wg_outcomes.specs.Written.{HasFiles};
+ghost use Rattle.wg_cli.specs.Lines.{line_of, Reports};
+ghost use Rattle.wg_cli.specs.Wanted.{ArePromisedBy};
 ghost use Rattle.wg_outcomes.specs.declared.status.Input.{Input};
 
 use crate::{Status, run};
@@ -13,7 +20,7 @@ use wg_io::{SteadyDepot, SteadySink};
 use wg_words::Words;
 
 /// Does what the words ask for over files and outputs in memory, of which none is ever at fault: the status is the
-/// one that the job and its files lead to, or memory was out.
+/// one that the job and its files lead to, with its output, its files and its line; or memory was out.
 pub fn run_in_memory(
     alloc: Global,
     words: &Words,
@@ -23,6 +30,14 @@ pub fn run_in_memory(
 ) -> Status
     ensures answers { (r : Readings) (job : Job) → job_of words.now ≡ Some job
         → (result ≡ status_of (judged_on r job depot.old.files)) ⊎ (result ≡ Status.Memory) }
+    ensures output { (r : Readings) (job : Job) → job_of words.now ≡ Some job
+        → HasOutput (output_of (judged_on r job depot.old.files)) out.old.taken out.new.taken result }
+    ensures files { (r : Readings) (job : Job) → job_of words.now ≡ Some job
+        → HasFiles (output_name job) (written_by r job (held_for job depot.old.files)) depot.old.files depot.new.files
+        result }
+    ensures line { (promised : ℕ) × ArePromisedBy (job_of words.now) depot.old.files result promised
+        × Reports (line_of (job_of words.now) promised result) err.old.taken err.new.taken
+        (Increased err.old.wants err.new.wants) }
     ensures no_read_fault { (i : Input) → result ≢ Status.ReadFault i }
     ensures no_write_fault { (o : Output) → result ≢ Status.WriteFault o }
 {

@@ -20,6 +20,18 @@ pub record AreStill (held after : Input → Option (List ℕ)) : Type 0 where
   pub graph : after input.Graph ≡ held input.Graph
   pub weights : after input.Weights ≡ held input.Weights
 
+-- The file of the certificate holds what a ranking writes of the same graph and the same weights.
+pub record HoldsWritten (r : Readings) (held : Input → Option (List ℕ)) (base certificate : List ℕ) (weights : Option (List ℕ)) : Type 0 where
+  pub rounds : ℕ
+  pub damping : ℕ
+  pub top : ℕ
+  pub text : List ℕ
+  pub out : List ℕ
+  pub few : rounds ≤ MOST_ROUNDS
+  pub damped : damping ≤ MOST_DAMPING
+  pub ranked : judged r (Rank base rounds damping top weights (Some certificate)) held ≡ certified text out
+  pub there : held input.Certificate ≡ Some text
+
 -- The certificate that a ranking writes is accepted over the same graph and the same weights.
 abbrev pub WrittenAreAccepted : Readings → Type 0
 WrittenAreAccepted r = (held after : Input → Option (List ℕ)) (base certificate : List ℕ) (rounds damping top : ℕ) (weights : Option (List ℕ)) (text out : List ℕ)

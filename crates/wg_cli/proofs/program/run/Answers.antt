@@ -2,7 +2,7 @@ use Rattle.std.proofs.Common.{◌∙◌, inl, refl, subst}
 use Rattle.wg_words.specs.Jobs.{job_of}
 use Rattle.wg_words.specs.declared.jobs.Job.TheVariants.{Rank, Verify}
 use Rattle.wg_outcomes.specs.Answers.{Answers, HasOutput}
-use Rattle.wg_outcomes.specs.Judged.{output_of}
+use Rattle.wg_outcomes.specs.Judged.{Judged, output_of}
 use Rattle.wg_outcomes.specs.JobFiles.{held_for}
 use Rattle.wg_outcomes.specs.Performs.{judged_on}
 use Rattle.wg_cli.proofs.LineLemmas.{nothing_promised}
@@ -11,6 +11,7 @@ use Rattle.wg_outcomes.proofs.PerformsLemmas.{unhindered}
 use Rattle.wg_cli.proofs.ProvenLemmas.{proven_ranking, when_done}
 use Rattle.wg_outcomes.proofs.RankLemmas.{proven}
 use Rattle.wg_laws.proofs.VerifiedLemmas.{proven_gap}
+use Rattle.wg_laws.proofs.WrittenLemmas.{written_accepted}
 use Rattle.wg_cli.proofs.program.run.Goals as goal
 
 pub returns-in_default-clause-line : goal.returns-in_default-clause-line
@@ -74,3 +75,12 @@ returns-clause-verified g c = λ t o r base certificate weights is done.
     proven_gap r (held_for job files) base certificate weights _ _
     (when_done (judged_on r job files) (subst (Answers (judged_on r job files)) done (does.answers t r)))
     (subst (HasOutput (output_of (judged_on r job files)) (g.O.Sink.taken c.args.out.now) (g.O.Sink.taken c.try_job-ending.new.out)) done (does.output t o r))
+
+pub returns-clause-accepts : goal.returns-clause-accepts
+returns-clause-accepts g c = λ t r base certificate weights is holds.
+    let job = Verify base certificate weights in
+    let held = held_for job (g.D.Depot.files c.args.depot.now) in
+    let does = c.try_job-ending.ensures.performs job (c.in-Ok.ensures.job ∙ is) in
+    let accepted = written_accepted r held held (record { properties = refl; graph = refl; weights = refl }) base certificate holds.rounds holds.damping holds.top weights holds.text
+    holds.out holds.few holds.damped holds.ranked holds.there in
+    subst (λ (j : Judged). Answers j c.try_job-ending.result.status) accepted.1 (does.answers t r)

@@ -5,4 +5,4 @@ use Rattle.wg_cli.proofs.program.try_job.Goals as goal
 pub returns-in-Some-clause-performs : goal.returns-in-Some-clause-performs
 returns-in-Some-clause-performs g c = λ job is.
     let same : job ≡ c.in-Some.job = cc (c.in-Some.is, is) in
-    performs_at _ _ _ _ _ _ _ _ _ _ same refl refl c.perform.ensures
+    performs_at _ _ _ _ _ _ _ _ _ _ same refl refl c.perform.ensures.does

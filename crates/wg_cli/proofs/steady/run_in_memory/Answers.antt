@@ -2,7 +2,7 @@ use Rattle.std.proofs.Common.{ℕ, List, refl}
 use Rattle.wg_io.specs.Memory.{steady_counts}
 use Rattle.wg_words.specs.Jobs.{job_of}
 use Rattle.wg_outcomes.proofs.SteadyLemmas.{faultless}
-use Rattle.wg_cli.proofs.SteadyLemmas.{no_read_fault, no_write_fault}
+use Rattle.wg_cli.proofs.SteadyLemmas.{no_read_fault, no_write_fault, only_wants}
 use Rattle.wg_cli.proofs.steady.run_in_memory.Goals as goal
 
 pub returns-clause-answers : goal.returns-clause-answers
@@ -17,3 +17,12 @@ pub returns-clause-no_write_fault : goal.returns-clause-no_write_fault
 returns-clause-no_write_fault c =
     no_write_fault _ _ _ _ (faultless (λ (n : List ℕ). steady_counts c.args.depot.now) (λ (n : List ℕ). steady_counts c.run.new.depot) (λ n. (refl, refl, refl, refl))) c.run.result
     (job_of c.args.words.now) c.run.ensures.no_job c.run.ensures.causes
+
+pub returns-clause-output : goal.returns-clause-output
+returns-clause-output c = λ r job is. c.run.ensures.output refl refl r job is
+
+pub returns-clause-files : goal.returns-clause-files
+returns-clause-files c = λ r job is. c.run.ensures.files refl r job is
+
+pub returns-clause-line : goal.returns-clause-line
+returns-clause-line c = let told = c.run.ensures.line refl in (told.0, told.1 refl, only_wants _ _ _ _ told.2)
