@@ -38,7 +38,7 @@ _webgraph() {
     if [[ $option ]]; then
         if [[ $word == = ]]; then word=; fi
         case ${option#--} in
-            weights | certificate) kind=file ;;
+            weights | certificate) kind='file' ;;
             chain) options='none' ;;
             outdegrees | blocks | offsets) options='gamma delta' ;;
             references | blockcounts) options='unary gamma delta' ;;
