@@ -1,8 +1,9 @@
 -- The runs of an ascending list have its numbers, and no others do.
-use Rattle.std.proofs.Common.{◌≡◌, ℕ, zero, suc, ◌+◌, ◌-◌, ◌<◌, ◌≤◌, List, [], ◌∷◌, ◌++◌, length, refl, sym, ap, subst, ◌∙◌, arith, inl, inr}
+use Rattle.std.proofs.Common.{All, ◌≡◌, ℕ, zero, suc, ◌+◌, ◌-◌, ◌<◌, ◌≤◌, List, [], ◌∷◌, ◌++◌, length, refl, sym, ap, subst, ◌∙◌, arith, inl, inr}
 use Rattle.std.specs.List.{range_with_len}
 use Rattle.std.proofs.lemmas.Bool.{cases_eq, ne_eqb, eq-eqb}
-use Rattle.wg_graph.specs.Ascending.{Ascends}
+use Rattle.std.proofs.lemmas.List.Elements.{All-nil, All-cons, All-head, All-tail}
+use Rattle.wg_graph.specs.Ascending.{Ascends, Below}
 use Rattle.wg_runs.specs.declared.run.Run.{Run}
 use Rattle.wg_runs.specs.Runs.{numbers_of, numbers_of_all, StandApart, with_first, runs_in}
 use Rattle.wg_runs.specs.Laws.{NumbersAreTheList, RunsStandApart, RunsAreOne}
@@ -47,6 +48,21 @@ numbers_are xs up = numbers_from 0 xs up
 
 pub stand_apart : RunsStandApart
 stand_apart xs up = apart_from 0 xs up
+
+-- ---- runs of numbers below a bound
+
+first_within : (n x : ℕ) (rs : List Run) → x < n → All (λ run. run.to ≤ n) rs → All (λ run. run.to ≤ n) (with_first x rs)
+first_within n x [] lt all = All-cons (λ (run : Run). run.to ≤ n) (record { from = x; to = suc x }) [] (omega arith) (All-nil (λ (run : Run). run.to ≤ n))
+first_within n x (r ∷ rs) lt all =
+    let P = λ (run : Run). run.to ≤ n in
+    elim (cases_eq (suc x) r.from) [
+      | inl e ↦ rw (eq-eqb (suc x) r.from e) (All-cons P (record { from = x; to = r.to }) rs (All-head P r rs all) (All-tail P r rs all))
+      | inr e ↦ rw (ne_eqb (suc x) r.from e) (All-cons P (record { from = x; to = suc x }) (r ∷ rs) (omega arith) all)
+    ]
+
+pub within_from : (n : ℕ) (xs : List ℕ) → Below n xs → All (λ run. run.to ≤ n) (runs_in xs)
+within_from n [] below = All-nil (λ (run : Run). run.to ≤ n)
+within_from n (x ∷ xs) below = first_within n x (runs_in xs) below.0 (within_from n xs below.1)
 
 -- ---- no other runs
 

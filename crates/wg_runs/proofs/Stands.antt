@@ -86,18 +86,31 @@ module _ (n : ℕ) (whole : ℕ → List Run) (ends : List ℕ) (runs : List Run
   begins_at zero lt = refl
   begins_at (suc v) lt = h.ended v (omega arith)
 
-  pub end_within : (v : ℕ) → v < n → get_or ends v 0 ≤ length runs
-  end_within v lt = omega (arith, h.ended v lt, h.room, start_le whole (suc v) n (omega arith))
+  module _ (v : ℕ) (lt : v < n) where
+    pub end_there : v < length ends
+    end_there = omega (arith, h.pages)
 
-  pub in_order : (v : ℕ) → v < n → get_or (0 ∷ ends) v 0 ≤ get_or ends v 0
-  in_order v lt = omega (arith, h.ended v lt, begins_at v lt)
+    pub end_within : get_or ends v 0 ≤ length runs
+    end_within = omega (arith, h.ended v lt, h.room, start_le whole (suc v) n (omega arith))
 
-  pub list_is : (v : ℕ) → v < n → list_at ends runs v ≡ whole v
-  list_is v lt =
-      let from : ℕ = get_or (0 ∷ ends) v 0 in
-      let to : ℕ = get_or ends v 0 in
-      let begin : from ≡ run_start whole v = begins_at v lt in
-      let end : to ≡ run_start whole v + length (whole v) = h.ended v lt in
-      let size : length (slice_range runs from to) ≡ length (whole v) = omega (arith, length-take-le (to - from) (drop from runs) (omega (arith, length-drop from runs, end_within v lt))) in
-      ext_get_or no_run (slice_range runs from to) (whole v) size
-      (λ i i_lt. get_or-take (to - from) (drop from runs) i no_run (omega arith) ∙ get_or-drop from runs i no_run ∙ ap (λ (m : ℕ). get_or runs (m + i) no_run) begin ∙ h.members v lt i (omega arith))
+    pub begins_first : v ≡ 0 → 0 ≡ get_or (0 ∷ ends) v 0
+    begins_first first = ap (λ (m : ℕ). get_or (0 ∷ ends) m 0) (sym first)
+
+    pub begins_next : 0 < v → get_or ends (v - 1) 0 ≡ get_or (0 ∷ ends) v 0
+    begins_next behind = let next : suc (v - 1) ≡ v = omega arith in ap (λ (m : ℕ). get_or (0 ∷ ends) m 0) next
+
+    pub in_order : (begin : ℕ) → begin ≡ get_or (0 ∷ ends) v 0 → begin ≤ get_or ends v 0
+    in_order begin is = omega (arith, is, h.ended v lt, begins_at v lt)
+
+    pub list_is : list_at ends runs v ≡ whole v
+    list_is =
+        let from : ℕ = get_or (0 ∷ ends) v 0 in
+        let to : ℕ = get_or ends v 0 in
+        let begin : from ≡ run_start whole v = begins_at v lt in
+        let end : to ≡ run_start whole v + length (whole v) = h.ended v lt in
+        let size : length (slice_range runs from to) ≡ length (whole v) = omega (arith, length-take-le (to - from) (drop from runs) (omega (arith, length-drop from runs, end_within))) in
+        ext_get_or no_run (slice_range runs from to) (whole v) size
+        (λ i i_lt. get_or-take (to - from) (drop from runs) i no_run (omega arith) ∙ get_or-drop from runs i no_run ∙ ap (λ (m : ℕ). get_or runs (m + i) no_run) begin ∙ h.members v lt i (omega arith))
+
+    pub list_there : (begin : ℕ) → begin ≡ get_or (0 ∷ ends) v 0 → slice_range runs begin (get_or ends v 0) ≡ whole v
+    list_there begin is = ap (λ (b : ℕ). slice_range runs b (get_or ends v 0)) is ∙ list_is

@@ -19,7 +19,7 @@ use Rattle.wg_runs.specs.declared.run.Run.{Run}
 use Rattle.wg_runs.specs.declared.run.TheConstants.{MOST_PAGES_IN_RUNS}
 use Rattle.wg_runs.specs.Runs.{numbers_of_all, StandApart, runs_in, runs_to, run_start}
 use Rattle.wg_runs.specs.Held.{runs_below, AreCounted, AreFilled, AreBegun, list_at, graph_of, HoldsRuns}
-use Rattle.wg_runs.proofs.Listed.{numbers_are, stand_apart}
+use Rattle.wg_runs.proofs.Listed.{numbers_are, stand_apart, within_from}
 use Rattle.wg_runs.proofs.Grown.{few_runs}
 use Rattle.wg_runs.proofs.Stands.{start_few, sum_is_start}
 use Rattle.wg_runs.proofs.Stands as stands
@@ -83,6 +83,9 @@ module _ (g : Digraph) (v : ℕ) where
   pub apart_to : StandApart 0 (runs_to g v)
   apart_to = stand_apart (predecessors g v) preds_ascend
 
+  pub within_to : All (λ run. run.to ≤ g.nodes) (runs_to g v)
+  within_to = within_from g.nodes (predecessors g v) (below-where (λ u. has_arc g u v) 0 g.nodes g.nodes (omega arith))
+
 -- ---- the graph that the runs are seen as
 
 pub graph_is : (g : Digraph) (ends : List ℕ) (runs : List Run) → IsGraph g → AreFilled g.nodes (runs_to g) (runs_to g) ends runs → graph_of ends runs ≡ g
@@ -96,3 +99,11 @@ graph_is g ends runs ok h =
     fill_by_all (predecessors g) (map numbers (range_with_len 0 (length ends))) g.nodes [] size each in
     let inner : record { nodes = length ends; lists = map numbers (range_with_len 0 (length ends)) } ≡ transposed g = λ i. record { nodes = h.pages i; lists = lists i } in
     ap transposed inner ∙ gives_back g ok
+
+-- the same, and the outdegrees
+module _ (g : Digraph) (ends : List ℕ) (runs : List Run) (degrees : List ℕ) (h : HoldsRuns g ends runs degrees) where
+  pub seen_as : graph_of ends runs ≡ g
+  seen_as = graph_is g ends runs h.proper h.lists
+
+  pub held_as_seen : HoldsRuns (graph_of ends runs) ends runs degrees
+  held_as_seen = subst (λ (d : Digraph). HoldsRuns d ends runs degrees) (sym seen_as) h

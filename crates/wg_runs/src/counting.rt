@@ -4,7 +4,7 @@ ghost use Rattle.std.specs.Prelude.{◌≡◌, ℕ, ◌+◌, ◌<◌, ◌≤◌,
 ghost use Rattle.wg_params.specs.declared.limits.TheConstants.{MOST_ARCS};
 ghost use Rattle.wg_graph.specs.Digraph.{Digraph, IsGraph, arc_count};
 ghost use Rattle.wg_transpose.specs.SoFar.{IsListOf};
-ghost use Rattle.wg_runs.specs.Runs.{runs_to, AreDegrees};
+ghost use Rattle.wg_runs.specs.Runs.{runs_to, AreDegrees, IsCountOf};
 ghost use Rattle.wg_runs.specs.Held.{runs_below, AreCounted};
 ghost use Rattle.wg_runs.specs.declared.run.TheConstants.{MOST_PAGES_IN_RUNS};
 
@@ -30,7 +30,7 @@ fn count_arcs(page: u32, list: &[u64], counts: &mut [u64], reach: &mut [u32])
 }
 
 // Counts all runs, each at the page that it leads to, and notes the outdegrees. Gives how many arcs there are.
-pub(crate) fn count<L: Lists>(
+fn count_lists<L: Lists>(
     lists: &mut L,
     counts: &mut [u64],
     reach: &mut [u32],
@@ -63,7 +63,7 @@ pub(crate) fn count<L: Lists>(
 }
 
 // The sum of the counts.
-pub(crate) fn total(counts: &[u64]) -> u64
+fn total(counts: &[u64]) -> u64
     requires { sum counts.now ≤ MOST_ARCS }
     ensures { result ≡ sum counts.now }
 {
@@ -72,4 +72,30 @@ pub(crate) fn total(counts: &[u64]) -> u64
         all += *count;
     }
     all
+}
+
+// The same, and how many runs there are: runs, and arcs.
+pub(crate) fn count<L: Lists>(
+    lists: &mut L,
+    counts: &mut [u64],
+    reach: &mut [u32],
+    degrees: &mut [u32],
+) -> (u64, u64)
+    requires few_pages { (L.graph lists.old).nodes ≤ MOST_PAGES_IN_RUNS }
+    requires few_arcs { arc_count (L.graph lists.old) ≤ MOST_ARCS }
+    requires none { All (λ count. count ≡ 0) counts.old }
+    requires nowhere { All (λ place. place ≡ MOST_PAGES_IN_RUNS) reach.old }
+    requires counts { length counts.old ≡ (L.graph lists.old).nodes }
+    requires reach { length reach.old ≡ (L.graph lists.old).nodes }
+    requires degrees { length degrees.old ≡ (L.graph lists.old).nodes }
+    ensures graph { L.graph lists.new ≡ L.graph lists.old }
+    ensures counted { IsCountOf (L.graph lists.old) (record {
+      counts = counts.new;
+      degrees = degrees.new;
+      runs = result.0;
+      arcs = result.1;
+    }) }
+{
+    let arcs = count_lists(lists, counts, reach, degrees);
+    (total(counts), arcs)
 }

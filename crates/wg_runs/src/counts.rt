@@ -5,7 +5,7 @@ ghost use Rattle.wg_graph.specs.Digraph.{arc_count};
 ghost use Rattle.wg_runs.specs.Runs.{IsCountOf};
 ghost use Rattle.wg_runs.specs.declared.run.TheConstants.{MOST_PAGES_IN_RUNS};
 
-use crate::counting::{count, total};
+use crate::counting::count;
 use crate::filling::fill;
 use crate::{Run, Runs};
 use std::alloc::{AllocError, Global};
@@ -51,8 +51,7 @@ impl RunCounts {
         let mut counts = vec![in alloc; 0; pages]?;
         let mut reach = vec![in alloc; u32::MAX; pages]?;
         let mut degrees = vec![in alloc; 0; pages]?;
-        let arcs = count(lists, &mut counts, &mut reach, &mut degrees);
-        let runs = total(&counts);
+        let (runs, arcs) = count(lists, &mut counts, &mut reach, &mut degrees);
         Ok(RunCounts {
             counts,
             reach,

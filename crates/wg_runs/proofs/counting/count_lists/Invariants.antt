@@ -2,7 +2,7 @@ use Rattle.std.proofs.Common.{◌≡◌, ℕ, ◌<◌, length, take, get_or}
 use Rattle.std.specs.List.{sum_by}
 use Rattle.wg_graph.specs.Digraph.{outdegree}
 use Rattle.wg_runs.specs.Held.{runs_below, AreCounted}
-use Rattle.wg_runs.proofs.counting.count.Given as goal
+use Rattle.wg_runs.proofs.counting.count_lists.Given as goal
 
 abbrev pub invariant-loop-page : goal.invariant-loop-page
 invariant-loop-page g l = record {
