@@ -1,10 +1,9 @@
 -- Runs of lists that stand one after the other in one array.
-use Rattle.std.proofs.Common.{◌≡◌, ◌≢◌, ℕ, zero, suc, ◌+◌, ◌-◌, ◌<◌, ◌≤◌, List, [], ◌∷◌, ◌++◌, length, take, drop, map, get_or, set, slice_range, refl, sym, ap, subst, ◌∙◌, arith, inl, inr, length-set, length-drop, get_or-set_same, get_or-set_other}
+use Rattle.std.proofs.Common.{◌≡◌, ◌≢◌, ℕ, zero, suc, ◌+◌, ◌-◌, ◌<◌, ◌≤◌, List, ◌∷◌, length, take, drop, get_or, set, slice_range, refl, sym, ap, subst, ◌∙◌, arith, inl, inr, length-set, length-drop, get_or-set_same, get_or-set_other}
 use Rattle.std.specs.Prelude.{sum}
 use Rattle.std.proofs.lemmas.Bool.{cases_lt, cases_eq}
 use Rattle.std.proofs.lemmas.List.{length-take-le, get_or-take, get_or-drop, ext_get_or, take_all}
 use Rattle.std.proofs.lemmas.List.Sums.{sum_by_more}
-use Rattle.std.proofs.lemmas.List.FromFn.{fill_by_all}
 use Rattle.wg_transpose.specs.SoFar.{start}
 use Rattle.wg_runs.specs.declared.run.Run.{Run}
 use Rattle.wg_runs.specs.Runs.{run_start}

@@ -6,7 +6,6 @@ use Rattle.wg_graph.specs.Digraph.{Digraph, successors}
 use Rattle.wg_graph.specs.Arcs.{has_arc}
 use Rattle.wg_graph.specs.Numbers.{numbers_where, is_in}
 use Rattle.wg_graph.proofs.Sets.{where_split}
-use Rattle.wg_transpose.specs.Transposed.{predecessors}
 use Rattle.wg_transpose.specs.SoFar.{predecessors_below, IsListOf}
 use Rattle.wg_transpose.proofs.Reversed.{list_below}
 use Rattle.wg_transpose.proofs.Seen.{with_page, none_seen, all_seen, in_take, member_below, where_few}
@@ -15,7 +14,7 @@ use Rattle.wg_transpose.proofs.Steps.{page_more}
 use Rattle.wg_runs.specs.declared.run.Run.{Run}
 use Rattle.wg_runs.specs.declared.run.TheConstants.{MOST_PAGES_IN_RUNS}
 use Rattle.wg_runs.specs.Runs.{runs_in, runs_to, run_start}
-use Rattle.wg_runs.specs.Held.{runs_below, last_to, no_run, AreCounted, AreFilled, AreBegun}
+use Rattle.wg_runs.specs.Held.{runs_below, last_to, no_run, AreCounted, AreBegun}
 use Rattle.wg_runs.proofs.Grown.{grown, one_of, runs_push, grown_new, grown_longer, some_run, last_grown, more_runs, few_runs}
 use Rattle.wg_runs.proofs.Stands.{place_within, place_at}
 
@@ -269,8 +268,7 @@ module _ (k j : ℕ) (list : List ℕ) (lt : j < length list) where
       let m = page_more r.0 k j list r.1 lt in
       let b = with_page r.0 k (take j list) in
       let c = with_page r.0 k (take (j + 1) list) in
-      let fits = runs_fit r.0 k (j + 1) list r.1 in
-      (
+      let fits = runs_fit r.0 k (j + 1) list r.1 in (
         omega (arith, below, h.filled.pages),
         omega (arith, below, h.places),
         omega (arith, page, h.filled.pages),

@@ -1,13 +1,11 @@
 -- All runs stand, and are those of the graph.
-use Rattle.std.proofs.Common.{◌≡◌, ℕ, ◌+◌, ◌<◌, ◌≤◌, All, List, [], ◌∷◌, ◌++◌, length, take, map, get_or, set, refl, sym, ap, subst, ◌∙◌, arith, inl, inr, get_or-set_same, get_or-set_other}
+use Rattle.std.proofs.Common.{◌≡◌, ℕ, ◌+◌, ◌<◌, ◌≤◌, All, List, [], length, take, map, get_or, set, sym, ap, subst, ◌∙◌, arith, inl, inr, get_or-set_same, get_or-set_other}
 use Rattle.std.specs.Prelude.{sum}
 use Rattle.std.specs.List.{sum_by, range_with_len}
 use Rattle.std.proofs.lemmas.Bool.{cases_eq}
 use Rattle.std.proofs.lemmas.List.Sums.{sum_by_more}
-use Rattle.std.proofs.lemmas.List.{take_all}
 use Rattle.std.proofs.lemmas.List.FromFn.{fill_by_all, length-map-range_with_len, get_or-map-range_with_len}
-use Rattle.wg_params.specs.declared.limits.TheConstants.{MOST_ARCS}
-use Rattle.wg_graph.specs.Ascending.{Ascends, Below}
+use Rattle.wg_graph.specs.Ascending.{Ascends}
 use Rattle.wg_graph.specs.Digraph.{Digraph, IsGraph, arc_count, successors, outdegree}
 use Rattle.wg_graph.specs.Arcs.{has_arc}
 use Rattle.wg_graph.proofs.Sets.{ascends-where, below-where}
@@ -17,7 +15,7 @@ use Rattle.wg_transpose.proofs.Seen.{where_few}
 use Rattle.wg_transpose.proofs.Totals.{start_of_all}
 use Rattle.wg_runs.specs.declared.run.Run.{Run}
 use Rattle.wg_runs.specs.declared.run.TheConstants.{MOST_PAGES_IN_RUNS}
-use Rattle.wg_runs.specs.Runs.{numbers_of_all, StandApart, runs_in, runs_to, run_start}
+use Rattle.wg_runs.specs.Runs.{numbers_of_all, StandApart, runs_to, run_start}
 use Rattle.wg_runs.specs.Held.{runs_below, AreCounted, AreFilled, AreBegun, list_at, graph_of, HoldsRuns}
 use Rattle.wg_runs.proofs.Listed.{numbers_are, stand_apart, within_from}
 use Rattle.wg_runs.proofs.Grown.{few_runs}

@@ -57,12 +57,7 @@ fn place<L: Lists>(lists: &mut L, ends: &mut [u64], reach: &mut [u32], runs: &mu
 }
 
 // Fills in the runs to all pages, one page after the other, and their ends, where it was counted how many there are.
-pub(crate) fn fill<L: Lists>(
-    lists: &mut L,
-    ends: &mut [u64],
-    reach: &mut [u32],
-    runs: &mut [Run],
-)
+pub(crate) fn fill<L: Lists>(lists: &mut L, ends: &mut [u64], reach: &mut [u32], runs: &mut [Run])
     requires few_pages { (L.graph lists.old).nodes ≤ MOST_PAGES_IN_RUNS }
     requires few_runs { length runs.old ≤ MOST_ARCS }
     requires pages { length ends.old ≡ (L.graph lists.old).nodes }

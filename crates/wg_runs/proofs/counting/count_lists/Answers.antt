@@ -1,7 +1,5 @@
-use Rattle.std.proofs.Common.{◌≡◌, ℕ, ◌+◌, ◌∙◌, List, length, refl, sym, ap, subst, arith}
-use Rattle.std.proofs.lemmas.List.{get_or_past}
+use Rattle.std.proofs.Common.{◌≡◌, ℕ, ◌+◌, ◌∙◌, List, length, refl, ap, subst, arith}
 use Rattle.std.specs.List.{sum_by}
-use Rattle.wg_graph.specs.Digraph.{arc_count, outdegree}
 use Rattle.wg_transpose.proofs.InOrder.{all_lists, list_fits}
 use Rattle.wg_runs.specs.Held.{runs_below, AreCounted}
 use Rattle.wg_runs.proofs.Whole.{degree_few, degrees_more, arcs_more, none_counted}

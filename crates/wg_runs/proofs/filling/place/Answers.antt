@@ -1,6 +1,6 @@
-use Rattle.std.proofs.Common.{◌≡◌, ℕ, ◌+◌, ◌∙◌, length, ap, subst, arith}
+use Rattle.std.proofs.Common.{◌≡◌, ℕ, ◌+◌, ◌∙◌, ap, subst, arith}
 use Rattle.wg_runs.specs.Runs.{runs_to}
-use Rattle.wg_runs.specs.Held.{runs_below, AreFilled, AreBegun}
+use Rattle.wg_runs.specs.Held.{runs_below, AreBegun}
 use Rattle.wg_runs.proofs.filling.place.Goals as goal
 use Rattle.wg_runs.proofs.filling.place.Goals.{in-Some, in_default}
 

@@ -1,4 +1,4 @@
-use Rattle.std.proofs.Common.{◌≡◌, ◌≤◌, length}
+use Rattle.std.proofs.Common.{◌≡◌}
 use Rattle.wg_runs.specs.Runs.{runs_to}
 use Rattle.wg_runs.specs.Held.{runs_below, AreBegun}
 use Rattle.wg_runs.proofs.filling.place.Given as goal

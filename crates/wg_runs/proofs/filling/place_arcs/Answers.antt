@@ -1,4 +1,4 @@
-use Rattle.std.proofs.Common.{◌≡◌, ◌<◌, ◌+◌, ℕ, List, [], length, take, get_or, arith, sym}
+use Rattle.std.proofs.Common.{◌<◌, ◌+◌, [], length, take, get_or, arith, sym}
 use Rattle.wg_transpose.proofs.Seen.{with_page}
 use Rattle.wg_transpose.proofs.Steps.{page_more}
 use Rattle.wg_runs.specs.declared.run.TheConstants.{MOST_PAGES_IN_RUNS}

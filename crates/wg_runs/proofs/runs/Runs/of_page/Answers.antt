@@ -1,9 +1,8 @@
-use Rattle.std.proofs.Common.{◌≡◌, ◌≤◌, All, ℕ, List, slice_range, sym, ap, subst, ◌∙◌, arith}
+use Rattle.std.proofs.Common.{◌≤◌, All, List, slice_range, sym, ap, subst, ◌∙◌}
 use Rattle.wg_graph.specs.Digraph.{Digraph}
-use Rattle.wg_transpose.specs.Transposed.{predecessors}
 use Rattle.wg_runs.specs.declared.run.Run.{Run}
 use Rattle.wg_runs.specs.Runs.{numbers_of_all, StandApart, runs_to}
-use Rattle.wg_runs.specs.Held.{AreFilled, graph_of}
+use Rattle.wg_runs.specs.Held.{AreFilled}
 use Rattle.wg_runs.proofs.Whole.{numbers_to, apart_to, within_to}
 use Rattle.wg_runs.proofs.runs.Runs.of_page.Goals as goal
 use Rattle.wg_runs.proofs.runs.Runs.of_page.Goals.{After-deref-2}
