@@ -1,0 +1,5 @@
+pub mod Listed
+pub mod Grown
+pub mod Stands
+pub mod Steps
+pub mod Whole

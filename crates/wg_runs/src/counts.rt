@@ -1,0 +1,97 @@
+//! How many runs lead to each page, before memory is taken for them.
+ghost use Rattle.std.specs.Prelude.{◌≡◌, ℕ, ◌≤◌, length, IfOk};
+ghost use Rattle.wg_params.specs.declared.limits.TheConstants.{MOST_ARCS};
+ghost use Rattle.wg_graph.specs.Digraph.{arc_count};
+ghost use Rattle.wg_runs.specs.Runs.{IsCountOf};
+ghost use Rattle.wg_runs.specs.declared.run.TheConstants.{MOST_PAGES_IN_RUNS};
+
+use crate::counting::count;
+use crate::filling::fill;
+use crate::{Run, Runs};
+use std::alloc::{AllocError, Global};
+use std::marker::Model;
+use wg_graph::Lists;
+
+/// How many runs lead to each page of a graph, and how many arcs leave it. It holds 16 bytes for each page.
+#[derive(Drop)]
+pub struct RunCounts {
+    counts: Vec<u64>,
+    // Where the last run to each page ends.
+    reach: Vec<u32>,
+    degrees: Vec<u32>,
+    runs: u64,
+    arcs: u64,
+}
+
+impl Model for RunCounts {
+    ghost use Rattle.std.specs.Prelude.{◌≡◌, length};
+    ghost use Rattle.wg_runs.specs.Runs.{Counted};
+
+    ghost Value = { Counted };
+
+    ghost view = { λ c. record {
+      counts = c.counts.items;
+      degrees = c.degrees.items;
+      runs = c.runs;
+      arcs = c.arcs;
+    } };
+
+    ghost invariant = { λ c. length c.reach.items ≡ length c.counts.items };
+}
+
+impl RunCounts {
+    /// Counts in one pass over the lists. Its memory is taken before.
+    pub fn of<L: Lists>(alloc: Global, lists: &mut L) -> Result<RunCounts, AllocError>
+        requires few_pages { (L.graph lists.old).nodes ≤ MOST_PAGES_IN_RUNS }
+        requires few_arcs { arc_count (L.graph lists.old) ≤ MOST_ARCS }
+        ensures graph { L.graph lists.new ≡ L.graph lists.old }
+        ensures counted { IfOk result (λ c. IsCountOf (L.graph lists.old) c) }
+    {
+        let pages = lists.nodes() as usize;
+        let mut counts = vec![in alloc; 0; pages]?;
+        let mut reach = vec![in alloc; u32::MAX; pages]?;
+        let mut degrees = vec![in alloc; 0; pages]?;
+        let (runs, arcs) = count(lists, &mut counts, &mut reach, &mut degrees);
+        Ok(RunCounts {
+            counts,
+            reach,
+            degrees,
+            runs,
+            arcs,
+        })
+    }
+
+    /// How many runs there are.
+    pub fn runs(&self) -> u64
+        ensures { result ≡ self.now.runs }
+    {
+        self.runs
+    }
+
+    /// How many arcs there are.
+    pub fn arcs(&self) -> u64
+        ensures { result ≡ self.now.arcs }
+    {
+        self.arcs
+    }
+
+    /// Fills in the runs, in one pass over the lists of the same graph. It takes 8 bytes for each run before, and gives
+    /// back 4 for each page in the end.
+    pub fn fill<L: Lists>(self, alloc: Global, lists: &mut L) -> Result<Runs, AllocError>
+        requires counted { IsCountOf (L.graph lists.old) self }
+        ensures graph { L.graph lists.new ≡ L.graph lists.old }
+        ensures runs { IfOk result (λ runs. runs ≡ L.graph lists.old) }
+    {
+        let RunCounts {
+            counts: mut ends,
+            mut reach,
+            degrees,
+            runs: count,
+            ..
+        } = self;
+        let none = Run { from: 0, to: 0 };
+        let mut runs = vec![in alloc; none; count as usize]?;
+        fill(lists, &mut ends, &mut reach, &mut runs);
+        Ok(Runs::from_parts(ends, runs, degrees))
+    }
+}

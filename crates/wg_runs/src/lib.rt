@@ -1,0 +1,48 @@
+//! For each page the pages that link to it, as runs of pages that follow one another.
+//!
+//! The pages of a folder link to the same menu, and so the list of the pages that link to one page is made of runs: few
+//! [`Run`]s tell of many arcs. A sum over the predecessors of a page is then a difference of two sums over all pages up
+//! to one, for each run.
+//!
+//! Runs are made straight from lists of successors that are read in order, in two passes, without a transposed graph
+//! in memory. Both take the same step for an arc from page u to page v: if the last run to v ends before u, it is made
+//! one page longer, and else a run of u alone begins.
+//!
+//! ```text
+//! lists of the graph --> RunCounts::of: how many runs lead to each page, outdegrees
+//!                              |
+//! lists of the graph --> RunCounts::fill: the runs to each page, one page after the other --> Runs
+//! ```
+//!
+//! So it is known how many runs there are before memory for them is taken, and a caller may choose another way where
+//! they are about as many as the arcs. [`Runs::of`] makes both passes.
+//!
+//! A graph of four pages: pages 0, 1 and 3 link to page 3, and page 1 links to page 0:
+//!
+//! ```rust
+//! let graph = wg_arcs::read(rt.alloc(), b"0 3\n1 0\n1 3\n3 3\n", 4)?;
+//! let mut lists = GraphLists::new(&graph);
+//! let counts = RunCounts::of(rt.alloc(), &mut lists)?;
+//! assert!(rt; counts.arcs() == 4 && counts.runs() == 3);
+//! let runs = counts.fill(rt.alloc(), &mut lists)?;
+//! let to_last = [Run { from: 0, to: 2 }, Run { from: 3, to: 4 }];
+//! assert!(rt; runs.of_page(3) == to_last.as_slice());
+//! assert!(rt; runs.of_page(1).is_empty() && runs.degree(1) == 2);
+//! Ok(())
+//! ```
+//!
+//! Each pass takes time in proportion to the arcs and pages. Counting takes 16 bytes for each page, and filling 8 for
+//! each run, both before their pass; then 4 bytes a page are given back. Runs are held of graphs of at most 2^32 - 1
+//! pages.
+#![tactic(auto)]
+
+mod counting;
+mod counts;
+mod filling;
+pub mod laws;
+mod run;
+mod runs;
+
+pub use counts::RunCounts;
+pub use run::{MOST_PAGES_IN_RUNS, Run};
+pub use runs::Runs;

@@ -1,0 +1,112 @@
+//! The runs of the pages that link to each page.
+ghost use Rattle.std.specs.Prelude.{◌≡◌, ℕ, ◌≤◌, ◌<◌, List, length, slice_range, All, IfOk};
+ghost use Rattle.wg_params.specs.declared.limits.TheConstants.{MOST_ARCS};
+ghost use Rattle.wg_graph.specs.Digraph.{Digraph, IsGraph, arc_count, outdegree};
+ghost use Rattle.wg_transpose.specs.Transposed.{predecessors};
+ghost use Rattle.wg_runs.specs.Runs.{runs_to, numbers_of_all, StandApart};
+ghost use Rattle.wg_runs.specs.Held.{AreFilled, HoldsRuns};
+ghost use Rattle.wg_runs.specs.declared.run.Run.{Run};
+ghost use Rattle.wg_runs.specs.declared.run.TheConstants.{MOST_PAGES_IN_RUNS};
+
+use crate::{Run, RunCounts};
+use std::alloc::{AllocError, Global};
+use std::marker::Model;
+use wg_graph::Lists;
+
+/// The runs of the pages that link to each page, and the outdegree of each page.
+///
+/// They are seen as the graph. They hold 12 bytes for each page, and 8 for each run. Each call takes constant time, and
+/// no memory, but for [`Runs::of`].
+#[derive(Drop)]
+pub struct Runs {
+    // Where the runs to each page end; they begin where those to the page before end.
+    ends: Vec<u64>,
+    runs: Vec<Run>,
+    degrees: Vec<u32>,
+}
+
+impl Model for Runs {
+    ghost use Rattle.wg_graph.specs.Digraph.{Digraph};
+    ghost use Rattle.wg_runs.specs.Held.{graph_of, HoldsRuns};
+
+    ghost Value = { Digraph };
+
+    ghost view = { λ r. graph_of r.ends.items r.runs.items };
+
+    ghost invariant = { λ r. HoldsRuns (graph_of r.ends.items r.runs.items) r.ends.items r.runs.items r.degrees.items };
+}
+
+impl Runs {
+    /// The runs of a graph whose lists are read in order, in two passes. All memory is taken before the one and before
+    /// the other: 16 bytes for each page, and 8 for each run.
+    pub fn of<L: Lists>(alloc: Global, lists: &mut L) -> Result<Runs, AllocError>
+        requires few_pages { (L.graph lists.old).nodes ≤ MOST_PAGES_IN_RUNS }
+        requires few_arcs { arc_count (L.graph lists.old) ≤ MOST_ARCS }
+        ensures graph { L.graph lists.new ≡ L.graph lists.old }
+        ensures runs { IfOk result (λ runs. runs ≡ L.graph lists.old) }
+    {
+        let counts = RunCounts::of(alloc, lists)?;
+        counts.fill(alloc, lists)
+    }
+
+    // The runs to each page of a graph, one page after the other, up to these ends, and its outdegrees.
+    pub(crate) fn from_parts(ends: Vec<u64>, runs: Vec<Run>, degrees: Vec<u32>) -> Runs
+        requires { (g : Digraph) × HoldsRuns g ends.items runs.items degrees.items }
+        ensures { (g : Digraph) → HoldsRuns g ends.items runs.items degrees.items → result ≡ g }
+    {
+        Runs {
+            ends,
+            runs,
+            degrees,
+        }
+    }
+
+    /// How many pages the graph has.
+    #[inline(always)]
+    pub fn nodes(&self) -> u64
+        ensures value { result ≡ self.now.nodes }
+        ensures within { result ≤ MOST_PAGES_IN_RUNS }
+        ensures proper { IsGraph self.now }
+        ensures few { arc_count self.now ≤ MOST_ARCS }
+    {
+        self.ends.len() as u64
+    }
+
+    /// How many arcs leave page `u`.
+    #[inline(always)]
+    pub fn degree(&self, u: u64) -> u32
+        requires { u < self.now.nodes }
+        ensures value { result ≡ outdegree self.now u }
+    {
+        self.degrees[u as usize]
+    }
+
+    /// The runs of the pages that link to page `v`, ascending, each as long as can be.
+    #[inline(always)]
+    pub fn of_page(&self, v: u64) -> &[Run]
+        requires { v < self.now.nodes }
+        ensures value { result.now ≡ runs_to self.now v }
+        ensures numbers { numbers_of_all result.now ≡ predecessors self.now v }
+        ensures apart { StandApart 0 result.now }
+        ensures within { All (λ run. run.to ≤ self.now.nodes) result.now }
+    {
+        let (begin, end) = span(&self.ends, &self.runs, v);
+        &self.runs[begin..end]
+    }
+}
+
+// Where list `v` begins and ends in the array of all runs: it begins where the one before it ends.
+#[inline(always)]
+fn span(ends: &[u64], runs: &[Run], v: u64) -> (usize, usize)
+    requires { (n : ℕ) × (whole : ℕ → List Run) × AreFilled n whole whole ends.now runs.now × (v < n) }
+    ensures ordered { result.0 ≤ result.1 }
+    ensures within { result.1 ≤ length runs.now }
+    ensures list { (n : ℕ) (whole : ℕ → List Run) → AreFilled n whole whole ends.now runs.now → v < n
+        → slice_range runs.now result.0 result.1 ≡ whole v }
+{
+    let end = ends[v as usize] as usize;
+    if v == 0 {
+        return (0, end);
+    }
+    (ends[v as usize - 1] as usize, end)
+}
