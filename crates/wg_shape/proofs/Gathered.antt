@@ -1,5 +1,5 @@
 -- All lists of a quotient.
-use Rattle.std.proofs.Common.{◌≡◌, ◌∙◌, ℕ, ◌+◌, ◌-◌, ◌<◌, ◌≤◌, List, length, take, refl, sym, ap, subst, arith, inl, inr, append-nil, ◌++◌, replicate, [], ◌∷◌}
+use Rattle.std.proofs.Common.{◌≡◌, ◌∙◌, ℕ, ◌+◌, ◌-◌, ◌<◌, ◌≤◌, List, length, take, sym, ap, subst, arith, inl, inr, append-nil, ◌++◌, replicate, [], ◌∷◌}
 use Rattle.std.proofs.lemmas.Bool.{cases_lt}
 use Rattle.wg_params.specs.declared.limits.TheConstants.{MOST_ARCS}
 use Rattle.wg_graph.specs.Digraph.{Digraph, successors, arc_count}

@@ -1,10 +1,10 @@
 -- What the arcs of each class lead to, while the pages are gone through.
-use Rattle.std.proofs.Common.{◌≡◌, ℕ, zero, suc, ◌+◌, ◌-◌, ◌<◌, ◌≤◌, Bool, true, false, cond, eqb, List, [], ◌∷◌, ◌++◌, length, take, map, get_or, set, refl, sym, ap, subst, ◌∙◌, arith, inl, inr, append-nil, length-append, length-set, get_or-set_same, get_or-set_other}
+use Rattle.std.proofs.Common.{◌≡◌, ℕ, zero, suc, ◌+◌, ◌-◌, ◌<◌, ◌≤◌, Bool, true, false, cond, eqb, List, [], ◌∷◌, ◌++◌, length, take, map, get_or, set, refl, sym, ap, ◌∙◌, arith, inl, inr, append-nil, length-append, length-set, get_or-set_same, get_or-set_other}
 use Rattle.std.proofs.lemmas.Bool.{cases_Bool, cases_eq, ne_eqb, eq-eqb}
 use Rattle.std.proofs.lemmas.List.{take_all, take_more, map-append, append_assoc, length-map}
 use Rattle.wg_graph.specs.Digraph.{Digraph, successors}
 use Rattle.wg_graph.specs.Numbers.{numbers_where}
-use Rattle.wg_transpose.specs.SoFar.{onward, AreCounts, ArePrefixes, IsListOf}
+use Rattle.wg_transpose.specs.SoFar.{onward, AreCounts, ArePrefixes}
 use Rattle.wg_transpose.proofs.Seen.{where_more}
 use Rattle.wg_transpose.proofs.Places.{OneMore, same_prefixes}
 use Rattle.wg_shape.specs.Quotient.{class_of, reached}

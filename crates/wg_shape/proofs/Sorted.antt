@@ -1,18 +1,18 @@
 -- Numbers that are sorted, each once, and the lists of a quotient.
-use Rattle.std.proofs.Common.{◌≡◌, ℕ, zero, suc, ◌+◌, ◌<◌, ◌≤◌, Bool, true, false, eqb, List, [], ◌∷◌, length, get_or, refl, sym, ap, subst, ◌∙◌, arith, inl, inr, Result, Ok, Err, OnOk}
+use Rattle.std.proofs.Common.{◌≡◌, ℕ, zero, suc, ◌+◌, ◌<◌, ◌≤◌, true, eqb, List, [], ◌∷◌, length, get_or, refl, sym, subst, ◌∙◌, arith, inl, inr, Result, Ok, Err, OnOk}
 use Rattle.std.specs.List.{Contains, dedup}
 use Rattle.std.specs.List.Sorted.{IsSorted, IsPermutation, IsStrictlyIncreasing}
 use Rattle.std.specs.Ordering.{nat_cmp}
-use Rattle.std.proofs.lemmas.Bool.{cases_Bool, cases_eq, eq-eqb, eqb-true, ne_eqb, true≢false}
+use Rattle.std.proofs.lemmas.Bool.{cases_Bool, eq-eqb, eqb-true}
 use Rattle.std.proofs.lemmas.List.Kept.{Contains-dedup_nat, Contains-from_dedup}
 use Rattle.std.proofs.lemmas.List.Sorted.{Contains-permutation, IsPermutation-sym}
 use Rattle.std.proofs.lemmas.Map.Keys.{IsStrictlyIncreasing-dedup}
 use Rattle.wg_graph.specs.Ascending.{Ascends, Below}
-use Rattle.wg_graph.specs.Numbers.{is_in, numbers_where}
+use Rattle.wg_graph.specs.Numbers.{is_in}
 use Rattle.wg_graph.specs.Digraph.{successors}
 use Rattle.wg_graph.proofs.Sets.{ascending_is, where_same, in_head}
 use Rattle.wg_transpose.proofs.Seen.{member_below}
-use Rattle.wg_shape.specs.Quotient.{leads, members, reached}
+use Rattle.wg_shape.specs.Quotient.{leads, members}
 use Rattle.wg_shape.specs.Classes.{Classes, AreClasses, whole, reached_by}
 use Rattle.wg_shape.proofs.Quotients.{arc_to, list_of, reached_from, same_bool}
 

@@ -1,11 +1,10 @@
 -- A graph whose pages are in classes, and the lists of its quotient, range after range of classes.
-use Rattle.std.specs.Prelude.{◌≡◌, ℕ, ◌-◌, ◌≤◌, ◌==◌, List, length}
+use Rattle.std.specs.Prelude.{◌≡◌, ℕ, ◌≤◌, ◌==◌, List, length}
 use Rattle.wg_params.specs.declared.limits.TheConstants.{MOST_ARCS, MOST_PAGES}
 use Rattle.wg_graph.specs.Ascending.{Below}
 use Rattle.wg_graph.specs.Digraph.{Digraph, IsGraph, arc_count}
 use Rattle.wg_graph.specs.Numbers.{numbers_where}
-use Rattle.wg_transpose.specs.SoFar.{onward, start}
-use Rattle.wg_transpose.specs.Transposing.{HoldsLists}
+use Rattle.wg_transpose.specs.Transposing.{Ranging, Holds, numbers_between}
 use Rattle.wg_shape.specs.Quotient.{class_of, members, reached, quotient_of}
 
 -- the graph, the class of each page, and how many classes there are
@@ -45,12 +44,9 @@ pub record Quotienting : Type 0 where
 
 -- how many arcs leave the classes from this one on, up to that one
 abbrev pub arcs_from : Classes → ℕ → ℕ → ℕ
-arcs_from p from to = start (onward from (reached_by p.graph p.classes)) (to - from)
+arcs_from p from to = numbers_between (reached_by p.graph p.classes) from to
 
 -- what the arcs of the classes of the range lead to stands there, list after list
-pub record HoldsClasses (p : Classes) (from to : ℕ) (ends all : List ℕ) : Type 0 where
+pub record HoldsClasses (p : Classes) (r : Ranging) : Type 0 where
   pub classes : AreClasses p
-  pub counted : length ends ≡ p.count
-  pub ordered : from ≤ to
-  pub within : to ≤ p.count
-  pub held : HoldsLists p.count (reached_by p.graph p.classes) from to ends all
+  pub held : Holds (reached_by p.graph p.classes) r

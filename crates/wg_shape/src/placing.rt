@@ -1,14 +1,14 @@
 // The classes that arcs lead to, in the list of the class that they leave.
 
-ghost use Rattle.std.specs.Prelude.{◌≡◌, ◌+◌, ◌<◌, ◌≤◌, length};
-ghost use Rattle.wg_params.specs.declared.limits.TheConstants.{MOST_ARCS};
+ghost use Rattle.std.specs.Prelude.{◌≡◌, ◌+◌, ◌<◌, length, refl};
 ghost use Rattle.wg_graph.specs.Ascending.{Below};
 ghost use Rattle.wg_graph.specs.Digraph.{Digraph};
-ghost use Rattle.wg_transpose.specs.SoFar.{onward, start, AreCounts, ArePrefixes, IsListOf};
+ghost use Rattle.wg_transpose.specs.SoFar.{onward, ArePrefixes, IsListOf};
 ghost use Rattle.wg_shape.specs.Classes.{reached_by, reached_below};
 
+use std::marker::Model;
 use wg_graph::Lists;
-use wg_transpose::ranges::{put, set_starts};
+use wg_transpose::ranges::{Placing, put};
 
 // Puts the classes of the successors of a page, whose list was read, at the end of the list of its class, if that is
 // one of those from class `from` on.
@@ -56,23 +56,42 @@ fn place<L: Lists>(lists: &mut L, classes: &[u64], from: u64, ends: &mut [u64], 
     }
 }
 
-// Fills in the lists of the classes from class `from` on, one after the other, and their ends, where it was counted how
-// long they are.
-pub(crate) fn fill<L: Lists>(
-    lists: &mut L,
-    classes: &[u64],
-    from: u64,
-    ends: &mut [u64],
-    all: &mut [u64],
-)
-    requires each { length classes.now ≡ (L.graph lists.old).nodes }
-    requires counted { AreCounts (length ends.old) (onward from (reached_by (L.graph lists.old) classes.now)) ends.old }
-    requires room { length all.old ≡ start (onward from (reached_by (L.graph lists.old) classes.now)) (length ends.old) }
-    requires few { length all.old ≤ MOST_ARCS }
-    ensures graph { L.graph lists.new ≡ L.graph lists.old }
-    ensures placed { ArePrefixes (length ends.old) (onward from (reached_by (L.graph lists.old) classes.now))
-        (onward from (reached_by (L.graph lists.old) classes.now)) ends.new all.new }
-{
-    set_starts(ends);
-    place(lists, classes, from, ends, all);
+/// A pass along the lists of a graph, which puts the classes of the successors of each page into the list of its class.
+/// It is seen as the graph, and the class of each page.
+#[derive(Drop)]
+pub(crate) struct Reached<'a, L: Lists> {
+    lists: L,
+    classes: &'a [u64],
+}
+
+impl<'a, L: Lists> Model for Reached<'a, L> {
+    ghost use Rattle.std.specs.Prelude.{◌≡◌, ℕ, List, length};
+    ghost use Rattle.wg_graph.specs.Digraph.{Digraph};
+
+    ghost Value = { Digraph × List ℕ };
+
+    ghost view = { λ s. (L.graph s.lists, s.classes.now) };
+
+    ghost invariant = { λ s. length s.classes.now ≡ (L.graph s.lists).nodes };
+}
+
+impl<'a, L: Lists> Reached<'a, L> {
+    pub(crate) fn new(lists: L, classes: &'a [u64]) -> Reached<'a, L>
+        requires { length classes.now ≡ (L.graph lists).nodes }
+        ensures { result ≡ (L.graph lists, classes.now) }
+    {
+        Reached { lists, classes }
+    }
+}
+
+impl<'a, L: Lists> Placing for Reached<'a, L> {
+    ghost lists = { λ s. reached_by s.0 s.1 };
+
+    ghost same = { λ a b. b ≡ a };
+
+    fn place(&mut self, from: u64, ends: &mut [u64], all: &mut [u64]) {
+        place(&mut self.lists, self.classes, from, ends, all);
+    }
+
+    ghost stays = { λ a. refl };
 }

@@ -7,11 +7,11 @@ ghost use Rattle.wg_graph.specs.Numbers.{is_in};
 ghost use Rattle.wg_shape.specs.Classes.{AreClasses, arcs_from, whole};
 
 use crate::counting::count;
-use crate::placing::fill;
+use crate::placing::Reached;
 use std::alloc::{AllocError, Global};
 use std::marker::Model;
 use wg_graph::Lists;
-use wg_transpose::ranges::{lists_with, span};
+use wg_transpose::ranges::Ranges;
 
 /// The lists of the quotient, by classes of pages, of a graph whose lists are read in order, range after range of
 /// classes.
@@ -21,29 +21,23 @@ use wg_transpose::ranges::{lists_with, span};
 /// leaves a page of a class of the range, and it borrows the classes of the pages.
 #[derive(Drop)]
 pub struct Quotienter<'a, L: Lists + Drop> {
-    lists: L,
-    classes: &'a [u64],
-    // For a class of the range, where its list ends; for a class behind it, how many arcs leave its pages.
-    ends: Vec<u64>,
-    // The classes that the arcs of each class of the range lead to, as they come, one list after the other.
-    all: Vec<u64>,
-    from: u64,
-    to: u64,
+    reached: Reached<'a, L>,
+    ranges: Ranges,
 }
 
 impl<'a, L: Lists + Drop> Model for Quotienter<'a, L> {
+    ghost use Rattle.std.specs.Prelude.{length};
     ghost use Rattle.wg_shape.specs.Classes.{Quotienting, HoldsClasses, classes_in};
 
     ghost Value = { Quotienting };
 
     ghost view = { λ t. record {
-      pages = classes_in (L.graph t.lists) t.classes.now t.ends.len;
-      from = t.from;
-      to = t.to;
+      pages = classes_in t.reached.0 t.reached.1 (length t.ranges.ends);
+      from = t.ranges.from;
+      to = t.ranges.to;
     } };
 
-    ghost invariant = { λ t. HoldsClasses (classes_in (L.graph t.lists) t.classes.now t.ends.len)
-        t.from t.to t.ends.items t.all.items };
+    ghost invariant = { λ t. HoldsClasses (classes_in t.reached.0 t.reached.1 (length t.ranges.ends)) t.ranges };
 }
 
 // Makes the list one of these numbers, ascending, each once.
@@ -78,15 +72,11 @@ impl<'a, L: Lists + Drop> Quotienter<'a, L> {
         ensures from { IfOk result (λ t. t.from ≡ 0) }
         ensures to { IfOk result (λ t. t.to ≡ 0) }
     {
-        let mut ends = vec![in alloc; 0; n as usize]?;
-        count(&mut lists, classes, &mut ends);
+        let mut counts = vec![in alloc; 0; n as usize]?;
+        count(&mut lists, classes, &mut counts);
         Ok(Quotienter {
-            lists,
-            classes,
-            ends,
-            all: Vec::new(alloc),
-            from: 0,
-            to: 0,
+            reached: Reached::new(lists, classes),
+            ranges: Ranges::new(alloc, counts),
         })
     }
 
@@ -96,7 +86,7 @@ impl<'a, L: Lists + Drop> Quotienter<'a, L> {
         ensures classes { AreClasses self.now.pages }
         ensures few { arc_count (whole self.now.pages) ≤ MOST_ARCS }
     {
-        self.ends.len() as u64
+        self.ranges.count()
     }
 
     /// The first class of the range.
@@ -105,7 +95,7 @@ impl<'a, L: Lists + Drop> Quotienter<'a, L> {
         ensures value { result ≡ self.now.from }
         ensures ordered { self.now.from ≤ self.now.to }
     {
-        self.from
+        self.ranges.from()
     }
 
     /// The class behind the last one of the range.
@@ -114,7 +104,7 @@ impl<'a, L: Lists + Drop> Quotienter<'a, L> {
         ensures value { result ≡ self.now.to }
         ensures within { self.now.to ≤ self.now.pages.count }
     {
-        self.to
+        self.ranges.to()
     }
 
     /// Goes to the next range, in one pass along the lists: it ends with the class by which `room` arcs or more leave
@@ -129,20 +119,7 @@ impl<'a, L: Lists + Drop> Quotienter<'a, L> {
             → room ≤ arcs_from self.old.pages self.old.to self.new.to) }
         ensures err { OnErr result (self.new.to ≡ self.old.to) }
     {
-        self.from = self.to;
-        self.all = Vec::new(alloc);
-        let (classes, arcs) = lists_with(&self.ends[self.to as usize..], room);
-        self.all = vec![in alloc; 0; arcs as usize]?;
-        self.to += classes as u64;
-        let ends = &mut self.ends[self.from as usize..self.to as usize];
-        fill(
-            &mut self.lists,
-            self.classes,
-            self.from,
-            ends,
-            &mut self.all,
-        );
-        Ok(())
+        self.ranges.advance(alloc, room, &mut self.reached)
     }
 
     /// Makes `list` the list of this class of the range: the classes that its arcs lead to, ascending, each once. The
@@ -154,7 +131,6 @@ impl<'a, L: Lists + Drop> Quotienter<'a, L> {
         ensures ascends { OnOk result (Ascends 0 list.new.items) }
         ensures below { OnOk result (Below self.now.pages.count list.new.items) }
     {
-        let (begin, end) = span(&self.ends, &self.all, self.from, class);
-        set_of(&self.all[begin..end], list)
+        set_of(self.ranges.list(class), list)
     }
 }

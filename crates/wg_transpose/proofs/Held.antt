@@ -5,11 +5,11 @@ use Rattle.std.proofs.lemmas.List.{length-take-le, get_or-take, get_or-drop, dro
 use Rattle.std.proofs.lemmas.Slice.{drop-put_mid, between-put_mid}
 use borrow.Rule.Slice.PartMut.{put_mid}
 use Rattle.std.proofs.lemmas.List.Edits.{length-between, get_or-between}
-use Rattle.wg_params.specs.declared.limits.TheConstants.{MOST_ARCS, MOST_PAGES}
-use Rattle.wg_graph.specs.Digraph.{Digraph, IsGraph, arc_count}
+use Rattle.wg_params.specs.declared.limits.TheConstants.{MOST_ARCS}
+use Rattle.wg_graph.specs.Digraph.{Digraph}
 use Rattle.wg_transpose.specs.Transposed.{predecessors}
 use Rattle.wg_transpose.specs.SoFar.{onward, start, AreCounts, ArePrefixes}
-use Rattle.wg_transpose.specs.Transposing.{HoldsLists, HoldsRange, AreRanges}
+use Rattle.wg_transpose.specs.Transposing.{Ranging, Holds, HoldsLists, AreRanges}
 use Rattle.wg_transpose.specs.Laws.{RangesAreFew}
 use Rattle.wg_transpose.proofs.Totals.{start_le, start_of_all, sum_is_start, sum_is_all}
 use Rattle.wg_transpose.proofs.Whole.{ends_within, list_is}
@@ -74,9 +74,15 @@ length_written a k xs ys fits size =
       length-drop a xs,
     )
 
-module _ (n : ℕ) (lists : ℕ → List ℕ) (from to : ℕ) (ends all : List ℕ) (h : HoldsLists n lists from to ends all) where
+module _ (lists : ℕ → List ℕ) (r : Ranging) (h : Holds lists r) where
+  abbrev n : ℕ
+  n = length r.ends
+
+  abbrev to : ℕ
+  to = r.to
+
   abbrev rest : ℕ → List ℕ
-  rest = onward to lists
+  rest = onward r.to lists
 
   -- the lists behind the range have no more numbers than all
   few_behind : (k : ℕ) → k ≤ n - to → start rest k ≤ MOST_ARCS
@@ -84,72 +90,64 @@ module _ (n : ℕ) (lists : ℕ → List ℕ) (from to : ℕ) (ends all : List �
       let all_of : to + (n - to) ≡ n = (let within = h.within in omega arith) in
       omega (arith, h.few, start_le rest k (n - to) le, start_split lists to (n - to), ap (start lists) all_of)
 
-  pub sum_behind : sum (drop to ends) ≤ MOST_ARCS
-  sum_behind = omega (arith, sum_is_all (n - to) rest (drop to ends) h.counts, few_behind (n - to) (omega arith))
+  pub sum_behind : sum (drop to r.ends) ≤ MOST_ARCS
+  sum_behind = omega (arith, sum_is_all (n - to) rest (drop to r.ends) h.counts, few_behind (n - to) (omega arith))
 
-  module _ (p : ℕ) (fits : p ≤ length (drop to ends)) where
-    pub range_within : to + p ≤ length ends
-    range_within = omega (arith, fits, length-drop to ends, h.within, h.counted)
+  module _ (p : ℕ) (fits : p ≤ length (drop to r.ends)) where
+    pub range_within : to + p ≤ n
+    range_within = omega (arith, fits, length-drop to r.ends, h.within)
 
-    pub range_size : length (slice_range ends to (to + p)) ≡ p
-    range_size = length-between ends to (to + p) range_within ∙ omega arith
+    pub range_size : length (slice_range r.ends to (to + p)) ≡ p
+    range_size = length-between r.ends to (to + p) range_within ∙ omega arith
 
-    pub range_arcs : (k : ℕ) → k ≤ p → sum (take k (drop to ends)) ≡ start rest k
-    range_arcs k le = sum_is_start (n - to) rest (drop to ends) h.counts k (omega (arith, fits, h.counts.pages))
+    pub range_arcs : (k : ℕ) → k ≤ p → sum (take k (drop to r.ends)) ≡ start rest k
+    range_arcs k le = sum_is_start (n - to) rest (drop to r.ends) h.counts k (omega (arith, fits, h.counts.pages))
 
     pub range_few : start rest p ≤ MOST_ARCS
     range_few = few_behind p (omega (arith, fits, h.counts.pages))
 
-    pub range_counted : AreCounts (length (slice_range ends to (to + p))) rest (slice_range ends to (to + p))
+    pub range_counted : AreCounts (length (slice_range r.ends to (to + p))) rest (slice_range r.ends to (to + p))
     range_counted = record {
       pages = refl;
       each = λ v lt.
           let below : v < p = omega (arith, lt, range_size) in
-          get_or-take (to + p - to) (drop to ends) v 0 (omega arith) ∙ h.counts.each v (omega (arith, fits, h.counts.pages));
+          get_or-take (to + p - to) (drop to r.ends) v 0 (omega arith) ∙ h.counts.each v (omega (arith, fits, h.counts.pages));
     }
 
     -- its counts are written over by the ends of its lists
-    pub range_held : (m : ℕ) (new placed : List ℕ) → m ≡ to + p - to → length new ≡ p → ArePrefixes p rest rest new placed
-        → HoldsLists n lists to (to + p) (put_mid to m ends new) placed
-    range_held m new placed is size h_placed =
-        let m_is : m ≡ p = omega arith in
-        let le = range_within in
-        let there : slice_range (put_mid to m ends new) to (to + p) ≡ new = between-put_mid to m ends new (to + p) (omega arith) (omega arith) in
-        let behind : drop (to + p) (put_mid to m ends new) ≡ drop p (drop to ends) =
-        drop-put_mid to m ends new (to + p) (omega arith) (omega arith) (omega arith) ∙ sym (drop-drop p to ends) in
-        record {
-          few = h.few;
-          counted = length_written to m ends new (omega arith) (omega arith) ∙ h.counted;
-          ordered = omega arith;
-          within = omega (arith, h.counted);
-          lists = let size_is : p ≡ to + p - to = omega arith in rw there (subst (λ (k : ℕ). ArePrefixes k rest rest new placed) size_is h_placed);
-          counts = rw behind (record {
-            pages = omega (arith, length-drop p (drop to ends), h.counts.pages);
-            each = λ v lt.
-                let e : to + (p + v) ≡ to + p + v = omega arith in
-                get_or-drop p (drop to ends) v 0 ∙ h.counts.each (p + v) (omega arith) ∙ ap (λ (u : ℕ). length (lists u)) e;
-          });
-        }
+    module _ (m : ℕ) (new placed : List ℕ) (is : m ≡ to + p - to) (size : length new ≡ p) where
+      pub range_length : length (put_mid to m r.ends new) ≡ n
+      range_length = length_written to m r.ends new (omega (arith, range_within)) (omega arith)
 
-    pub range_ahead : (m : ℕ) (new placed : List ℕ) → m ≡ to + p - to → length new ≡ p → ArePrefixes (length new) rest rest new placed
-        → HoldsLists n lists to (to + p) (put_mid to m ends new) placed
-    range_ahead m new placed is size h_placed = range_held m new placed is size (subst (λ (k : ℕ). ArePrefixes k rest rest new placed) size h_placed)
-
--- the same of the lists of predecessors
-pub held_range : (g : Digraph) → IsGraph g → g.nodes ≤ MOST_PAGES → arc_count g ≤ MOST_ARCS → (from to : ℕ) (ends all : List ℕ) → HoldsLists g.nodes (predecessors g) from to ends all
-    → HoldsRange g from to ends all
-held_range g ok few_pages few_arcs from to ends all h =
-    record { proper = ok; few_pages = few_pages; few_arcs = few_arcs; pages = h.counted; ordered = h.ordered; within = h.within; held = h }
+      pub range_held : ArePrefixes p rest rest new placed → Holds lists (record { from = to; to = to + p; ends = put_mid to m r.ends new; all = placed })
+      range_held h_placed =
+          let le = range_within in
+          let there : slice_range (put_mid to m r.ends new) to (to + p) ≡ new = between-put_mid to m r.ends new (to + p) (omega arith) (omega arith) in
+          let behind : drop (to + p) (put_mid to m r.ends new) ≡ drop p (drop to r.ends) =
+          drop-put_mid to m r.ends new (to + p) (omega arith) (omega arith) (omega arith) ∙ sym (drop-drop p to r.ends) in
+          subst (λ (k : ℕ). HoldsLists k lists to (to + p) (put_mid to m r.ends new) placed) (sym range_length) (record {
+            few = h.few;
+            counted = range_length;
+            ordered = omega arith;
+            within = le;
+            lists = let size_is : p ≡ to + p - to = omega arith in rw there (subst (λ (k : ℕ). ArePrefixes k rest rest new placed) size_is h_placed);
+            counts = rw behind (record {
+              pages = omega (arith, length-drop p (drop to r.ends), h.counts.pages);
+              each = λ v lt.
+                  let e : to + (p + v) ≡ to + p + v = omega arith in
+                  get_or-drop p (drop to r.ends) v 0 ∙ h.counts.each (p + v) (omega arith) ∙ ap (λ (u : ℕ). length (lists u)) e;
+            });
+          })
 
 -- before the first range
-pub none_held : (n : ℕ) (lists : ℕ → List ℕ) (counts : List ℕ) → start lists n ≤ MOST_ARCS → AreCounts n lists counts → HoldsLists n lists 0 0 counts []
-none_held n lists counts few h = record {
+pub none_held : (lists : ℕ → List ℕ) (counts : List ℕ) → start lists (length counts) ≤ MOST_ARCS → AreCounts (length counts) lists counts → Holds lists (record { from = 0; to = 0; ends = counts; all = [] })
+none_held lists counts few h = record {
   few = few;
-  counted = h.pages;
+  counted = refl;
   ordered = omega arith;
   within = omega arith;
   lists = record { pages = refl; room = refl; reached = λ v lt. absurd (omega arith); members = λ v lt. absurd (omega arith) };
-  counts = record { pages = omega (arith, h.pages); each = λ v lt. h.each v (omega arith) ∙ ap (λ (u : ℕ). length (lists u)) (sym (zero-add v)) };
+  counts = record { pages = omega arith; each = λ v lt. h.each v (omega arith) ∙ ap (λ (u : ℕ). length (lists u)) (sym (zero-add v)) };
 }
 
 -- ---- how many ranges there are

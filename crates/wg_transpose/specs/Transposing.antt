@@ -11,9 +11,13 @@ pub record Transposing : Type 0 where
   pub from : ℕ
   pub to : ℕ
 
+-- how many numbers the lists from this one on have, up to that one
+abbrev pub numbers_between : (ℕ → List ℕ) → ℕ → ℕ → ℕ
+numbers_between lists from to = start (onward from lists) (to - from)
+
 -- how many arcs lead to the pages from this one on, up to that one
 abbrev pub arcs_between : Digraph → ℕ → ℕ → ℕ
-arcs_between g from to = start (onward from (predecessors g)) (to - from)
+arcs_between g from to = numbers_between (predecessors g) from to
 
 -- Of n lists, those of the range from list `from` on, up to the one before `to`, stand one after the other, and their
 -- ends are known; of each list behind the range it is known how long it is.
@@ -25,15 +29,25 @@ pub record HoldsLists (n : ℕ) (whole : ℕ → List ℕ) (from to : ℕ) (ends
   pub lists : ArePrefixes (to - from) (onward from whole) (onward from whole) (slice_range ends from to) all
   pub counts : AreCounts (n - to) (onward to whole) (drop to ends)
 
+-- the range of lists at hand, from the first up to the one before `to`; where each of them ends, and how long each list
+-- behind them is; and their numbers, list after list
+pub record Ranging : Type 0 where
+  pub from : ℕ
+  pub to : ℕ
+  pub ends : List ℕ
+  pub all : List ℕ
+
+-- these lists are gone through
+abbrev pub Holds : (ℕ → List ℕ) → Ranging → Type 0
+Holds whole r = HoldsLists (length r.ends) whole r.from r.to r.ends r.all
+
 -- these are the lists of the predecessors of each page
-pub record HoldsRange (g : Digraph) (from to : ℕ) (ends all : List ℕ) : Type 0 where
+pub record HoldsRange (g : Digraph) (r : Ranging) : Type 0 where
   pub proper : IsGraph g
   pub few_pages : g.nodes ≤ MOST_PAGES
   pub few_arcs : arc_count g ≤ MOST_ARCS
-  pub pages : length ends ≡ g.nodes
-  pub ordered : from ≤ to
-  pub within : to ≤ g.nodes
-  pub held : HoldsLists g.nodes (predecessors g) from to ends all
+  pub pages : length r.ends ≡ g.nodes
+  pub held : Holds (predecessors g) r
 
 -- Ranges of pages that follow one another: range k has the pages from (at k) on, up to (at (k + 1)), and each but the
 -- last has at least `room` arcs.

@@ -10,8 +10,8 @@ ghost use Rattle.wg_transpose.specs.SoFar.{AreCounts};
 
 use wg_graph::Lists;
 
-// Counts one arc more to each page that is listed.
-fn count_arcs(list: &[u64], counts: &mut [u64])
+/// Counts one arc more to each page of a list, which is that of one page.
+pub fn count_arcs(list: &[u64], counts: &mut [u64])
     requires ascends { Ascends 0 list.now }
     requires below { Below (length counts.old) list.now }
     requires room { All (λ count. count < MOST_PAGES) counts.old }

@@ -1,12 +1,11 @@
 // The sources of arcs, each in the list of its target.
 
-ghost use Rattle.std.specs.Prelude.{◌≡◌, ℕ, ◌+◌, ◌≤◌, length};
-ghost use Rattle.wg_params.specs.declared.limits.TheConstants.{MOST_ARCS};
+ghost use Rattle.std.specs.Prelude.{◌≡◌, ℕ, ◌+◌, length, refl};
 ghost use Rattle.wg_graph.specs.Digraph.{Digraph};
 ghost use Rattle.wg_transpose.specs.Transposed.{predecessors};
-ghost use Rattle.wg_transpose.specs.SoFar.{predecessors_below, onward, start, AreCounts, ArePlacedFrom, IsListOf};
+ghost use Rattle.wg_transpose.specs.SoFar.{predecessors_below, ArePlacedFrom, IsListOf};
 
-use crate::ranges::{put, set_starts};
+use crate::ranges::{Placing, put};
 use wg_graph::Lists;
 
 // Puts a page, whose list was read, at the end of the lists of its successors, of those from page `from` on.
@@ -40,16 +39,20 @@ fn place<L: Lists>(lists: &mut L, from: u64, ends: &mut [u64], all: &mut [u64])
     }
 }
 
-// Fills in the lists of the predecessors of the pages from page `from` on, one after the other, and their ends, where
-// it was counted how long they are.
-pub(crate) fn fill<L: Lists>(lists: &mut L, from: u64, ends: &mut [u64], all: &mut [u64])
-    requires counted { AreCounts (length ends.old) (onward from (predecessors (L.graph lists.old))) ends.old }
-    requires room { length all.old ≡ start (onward from (predecessors (L.graph lists.old))) (length ends.old) }
-    requires few { length all.old ≤ MOST_ARCS }
-    ensures graph { L.graph lists.new ≡ L.graph lists.old }
-    ensures placed { ArePlacedFrom (L.graph lists.old) from (length ends.old)
-        (predecessors (L.graph lists.old)) ends.new all.new }
-{
-    set_starts(ends);
-    place(lists, from, ends, all);
+// A pass along the lists of a graph, which puts each page into the lists of its successors.
+#[derive(Drop)]
+pub(crate) struct Sources<L: Lists> {
+    pub(crate) lists: L,
+}
+
+impl<L: Lists> Placing for Sources<L> {
+    ghost lists = { λ s. predecessors (L.graph s.lists) };
+
+    ghost same = { λ a b. L.graph b.lists ≡ L.graph a.lists };
+
+    fn place(&mut self, from: u64, ends: &mut [u64], all: &mut [u64]) {
+        place(&mut self.lists, from, ends, all);
+    }
+
+    ghost stays = { λ a. refl };
 }

@@ -4,11 +4,12 @@ ghost use Rattle.wg_params.specs.declared.limits.TheConstants.{MOST_ARCS, MOST_P
 ghost use Rattle.wg_graph.specs.Ascending.{Ascends, Below};
 ghost use Rattle.wg_graph.specs.Digraph.{IsGraph, arc_count};
 ghost use Rattle.wg_transpose.specs.Transposed.{predecessors};
+ghost use Rattle.wg_transpose.specs.SoFar.{AreCounts};
 ghost use Rattle.wg_transpose.specs.Transposing.{arcs_between};
 
 use crate::counting::count;
-use crate::placing::fill;
-use crate::ranges::{lists_with, span};
+use crate::placing::Sources;
+use crate::ranges::Ranges;
 use std::alloc::{AllocError, Global};
 use std::marker::Model;
 use wg_graph::Lists;
@@ -19,13 +20,8 @@ use wg_graph::Lists;
 /// `to`. It holds 8 bytes for each page, and 8 for each arc that leads to a page of the range.
 #[derive(Drop)]
 pub struct Transposer<L: Lists + Drop> {
-    lists: L,
-    // For a page of the range, where its list ends; for a page behind it, how many arcs lead to it.
-    ends: Vec<u64>,
-    // The lists of the range, one after the other.
-    all: Vec<u64>,
-    from: u64,
-    to: u64,
+    sources: Sources<L>,
+    ranges: Ranges,
 }
 
 impl<L: Lists + Drop> Model for Transposer<L> {
@@ -33,9 +29,9 @@ impl<L: Lists + Drop> Model for Transposer<L> {
 
     ghost Value = { Transposing };
 
-    ghost view = { λ t. record { graph = L.graph t.lists; from = t.from; to = t.to } };
+    ghost view = { λ t. record { graph = L.graph t.sources.lists; from = t.ranges.from; to = t.ranges.to } };
 
-    ghost invariant = { λ t. HoldsRange (L.graph t.lists) t.from t.to t.ends.items t.all.items };
+    ghost invariant = { λ t. HoldsRange (L.graph t.sources.lists) t.ranges };
 }
 
 impl<L: Lists + Drop> Transposer<L> {
@@ -47,15 +43,27 @@ impl<L: Lists + Drop> Transposer<L> {
         ensures from { IfOk result (λ t. t.from ≡ 0) }
         ensures to { IfOk result (λ t. t.to ≡ 0) }
     {
-        let mut ends = vec![in alloc; 0; lists.nodes() as usize]?;
-        count(&mut lists, &mut ends);
-        Ok(Transposer {
-            lists,
-            ends,
-            all: Vec::new(alloc),
-            from: 0,
-            to: 0,
-        })
+        let mut counts = vec![in alloc; 0; lists.nodes() as usize]?;
+        count(&mut lists, &mut counts);
+        Ok(Transposer::with_counts(alloc, lists, counts))
+    }
+
+    /// The same where the arcs that lead to each page have been counted, as by [`count_arcs`](crate::count_arcs). It
+    /// goes over no list, and takes no memory.
+    pub fn with_counts(alloc: Global, lists: L, counts: Vec<u64>) -> Transposer<L>
+        requires few_pages { (L.graph lists).nodes ≤ MOST_PAGES }
+        requires few_arcs { arc_count (L.graph lists) ≤ MOST_ARCS }
+        requires counted { AreCounts (L.graph lists).nodes (predecessors (L.graph lists)) counts.items }
+        ensures graph { result.graph ≡ L.graph lists }
+        ensures from { result.from ≡ 0 }
+        ensures to { result.to ≡ 0 }
+    {
+        // tells that it is a graph
+        lists.nodes();
+        Transposer {
+            sources: Sources { lists },
+            ranges: Ranges::new(alloc, counts),
+        }
     }
 
     /// How many pages the graph has.
@@ -63,8 +71,9 @@ impl<L: Lists + Drop> Transposer<L> {
         ensures value { result ≡ self.now.graph.nodes }
         ensures proper { IsGraph self.now.graph }
         ensures few { arc_count self.now.graph ≤ MOST_ARCS }
+        ensures few_pages { self.now.graph.nodes ≤ MOST_PAGES }
     {
-        self.ends.len() as u64
+        self.ranges.count()
     }
 
     /// The first page of the range.
@@ -73,7 +82,7 @@ impl<L: Lists + Drop> Transposer<L> {
         ensures value { result ≡ self.now.from }
         ensures ordered { self.now.from ≤ self.now.to }
     {
-        self.from
+        self.ranges.from()
     }
 
     /// The page behind the last one of the range.
@@ -82,7 +91,7 @@ impl<L: Lists + Drop> Transposer<L> {
         ensures value { result ≡ self.now.to }
         ensures within { self.now.to ≤ self.now.graph.nodes }
     {
-        self.to
+        self.ranges.to()
     }
 
     /// Goes to the next range, in one pass along the lists: it ends with the page by which it has `room` arcs or more,
@@ -99,14 +108,7 @@ impl<L: Lists + Drop> Transposer<L> {
             → arcs_between self.old.graph self.old.to page < room) }
         ensures err { OnErr result (self.new.to ≡ self.old.to) }
     {
-        self.from = self.to;
-        self.all = Vec::new(alloc);
-        let (pages, arcs) = lists_with(&self.ends[self.to as usize..], room);
-        self.all = vec![in alloc; 0; arcs as usize]?;
-        self.to += pages as u64;
-        let ends = &mut self.ends[self.from as usize..self.to as usize];
-        fill(&mut self.lists, self.from, ends, &mut self.all);
-        Ok(())
+        self.ranges.advance(alloc, room, &mut self.sources)
     }
 
     /// The pages with an arc to this page of the range, ascending. It takes constant time.
@@ -118,7 +120,6 @@ impl<L: Lists + Drop> Transposer<L> {
         ensures ascends { Ascends 0 result.now }
         ensures below { Below self.now.graph.nodes result.now }
     {
-        let (begin, end) = span(&self.ends, &self.all, self.from, page);
-        &self.all[begin..end]
+        self.ranges.list(page)
     }
 }

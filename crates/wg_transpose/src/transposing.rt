@@ -6,7 +6,8 @@ ghost use Rattle.wg_graph.specs.Pieces.{cut, IsCut};
 ghost use Rattle.wg_transpose.specs.Transposed.{transposed};
 
 use crate::counting::count;
-use crate::placing::fill;
+use crate::placing::Sources;
+use crate::ranges::fill;
 use std::alloc::{AllocError, Global};
 use wg_graph::{Graph, GraphLists};
 
@@ -19,9 +20,11 @@ fn fill_all(graph: &Graph, ends: &mut [u64], all: &mut [u64])
     ensures whole { IsCut (length ends.new) ends.new all.new }
     ensures exact { cut (length ends.new) ends.new all.new ≡ transposed graph.now }
 {
-    let mut lists = GraphLists::new(graph);
-    count(&mut lists, ends);
-    fill(&mut lists, 0, ends, all);
+    let mut sources = Sources {
+        lists: GraphLists::new(graph),
+    };
+    count(&mut sources.lists, ends);
+    fill(&mut sources, 0, ends, all);
 }
 
 /// The graph with each arc the other way round. It takes time in proportion to the arcs and pages, and no memory but

@@ -1,4 +1,4 @@
-use Rattle.std.proofs.Common.{◌≡◌, ◌∙◌, ◌+◌, ◌<◌, ℕ, length, get_or, ap, arith}
+use Rattle.std.proofs.Common.{◌∙◌, ◌+◌, length, ap, arith}
 use Rattle.wg_transpose.proofs.Seen.{member_below}
 use Rattle.wg_shape.proofs.Fewer.{count_fits}
 use Rattle.wg_shape.proofs.Reached.{counted_more}

@@ -1,6 +1,5 @@
-use Rattle.std.proofs.Common.{◌≡◌, ◌∙◌, ◌≤◌, List, ℕ, length, [], ◌∷◌, ◌++◌, ap, arith}
+use Rattle.std.proofs.Common.{◌∙◌, List, ℕ, length, ap, arith}
 use Rattle.std.specs.List.{sum_by}
-use Rattle.wg_graph.specs.Digraph.{Digraph, IsGraph}
 use Rattle.wg_transpose.proofs.InOrder.{list_fits}
 use Rattle.wg_shape.specs.Classes.{whole}
 use Rattle.wg_shape.proofs.Quotients.{is_proper}

@@ -1,6 +1,4 @@
-use Rattle.std.proofs.Common.{◌≡◌, ◌∙◌, ap, subst, sym, arith}
-use Rattle.wg_graph.specs.Digraph.{arc_count}
-use Rattle.wg_shape.specs.Quotient.{IsQuotient}
+use Rattle.std.proofs.Common.{◌∙◌, ap, sym}
 use Rattle.wg_shape.specs.Classes.{Classes, whole}
 use Rattle.wg_shape.proofs.Gathered.{one_range, is_made, is_one, has_fewer}
 use Rattle.wg_shape.proofs.gathering.quotient.Goals as goal
