@@ -35,8 +35,8 @@ pub fn range_room(arcs: u64) -> u64
     arcs.div_ceil(14).max(1 << 24)
 }
 
-// Puts in place of each count the sum of those before it.
-fn set_starts(counts: &mut [u64])
+/// Puts in place of each count the sum of those before it.
+pub fn set_starts(counts: &mut [u64])
     requires few { sum counts.old ≤ MOST_ARCS }
     ensures pages { length counts.new ≡ length counts.old }
     ensures starts { (v : ℕ) → v < length counts.old → get_or counts.new v 0 ≡ sum (take v counts.old) }
