@@ -10,6 +10,7 @@ ghost use Rattle.wg_rank.specs.declared.limits.TheConstants.{UNITS};
 
 use crate::UNITS;
 use crate::advancing::advance;
+use crate::gathering::Gather;
 use std::alloc::{AllocError, Global};
 use std::marker::Model;
 use wg_graph::{List, Lists};
@@ -180,9 +181,30 @@ impl Bounds {
             → 1000 * gap g (by_page self.new.low)
             ≤ self.old.damping * gap g (by_page self.old.low) + self.old.damping * arc_count g + 3 * 1000 * g.nodes }
     {
+        self.advance_by(lists);
+    }
+
+    // One round, by what is gathered from any source.
+    fn advance_by<G: Gather>(&mut self, source: &mut G)
+        requires pages { (G.graph source.old).nodes ≡ length self.old.low }
+        requires more { self.old.rounds < MOST_ROUNDS }
+        ensures graph { G.graph source.new ≡ G.graph source.old }
+        ensures damping { self.new.damping ≡ self.old.damping }
+        ensures weights { self.new.weights ≡ self.old.weights }
+        ensures rounds { self.new.rounds ≡ self.old.rounds + 1 }
+        ensures low { IsTable self.new.low (G.graph source.old).nodes (next_low (G.graph source.old) self.old) }
+        ensures high { IsTable self.new.high (G.graph source.old).nodes (next_high (G.graph source.old) self.old) }
+        ensures holds { Holds self.old (G.graph source.old) → Holds self.new (G.graph source.old) }
+        ensures certified { Holds self.old (G.graph source.old) → IsCertified self.new (G.graph source.old) }
+        ensures nested { Holds self.old (G.graph source.old) → (v : ℕ) → v < length self.old.low
+            → (by_page self.old.low v ≤ by_page self.new.low v) × (by_page self.new.high v ≤ by_page self.old.high v) }
+        ensures gap { let g = G.graph source.old in Holds self.old g → 0 < g.nodes
+            → 1000 * gap g (by_page self.new.low)
+            ≤ self.old.damping * gap g (by_page self.old.low) + self.old.damping * arc_count g + 3 * 1000 * g.nodes }
+    {
         self.rounds += 1;
         advance(
-            lists,
+            source,
             self.damping,
             &mut self.low,
             &mut self.high,
