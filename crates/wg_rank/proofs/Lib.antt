@@ -11,6 +11,7 @@ pub mod Room
 pub mod Weighing
 pub mod Settled
 pub mod Rounds
+pub mod Runs
 pub mod Quotients
 pub mod Certificates
 pub mod Judgements

@@ -96,26 +96,28 @@ ne_next n e = absurd (omega (arith, e))
 low_length : (xs : List ℕ) (v x : ℕ) → v < length (low_flows xs) → length (low_flows (set xs (2 * v) x)) ≡ length (low_flows xs)
 low_length xs v x h = ap length (low_set_low xs v x h) ∙ length-set (low_flows xs) v x
 
+-- the two sums of page v, replaced
+abbrev pub replaced : List ℕ → ℕ → ℕ → ℕ → List ℕ
+replaced xs v below above = set (set xs (2 * v) below) (2 * v + 1) above
+
+pub low_replaced : (xs : List ℕ) (v below above : ℕ) → v < length (low_flows xs) → low_flows (replaced xs v below above) ≡ set (low_flows xs) v below
+low_replaced xs v below above h = low_set_high (set xs (2 * v) below) v above (omega (arith, low_length xs v below h)) ∙ low_set_low xs v below h
+
+pub high_replaced : (xs : List ℕ) (v below above : ℕ) → v < length (low_flows xs) → high_flows (replaced xs v below above) ≡ set (high_flows xs) v above
+high_replaced xs v below above h =
+    high_set_high (set xs (2 * v) below) v above (omega (arith, low_length xs v below h)) ∙ ap (λ l. set l v above) (high_set_low xs v below h)
+
 pub low_added : (xs : List ℕ) (v below above : ℕ) → v < length (low_flows xs)
     → low_flows (added xs v below above) ≡ set (low_flows xs) v (get_or (low_flows xs) v 0 + below)
-low_added xs v below above h =
-    let x : ℕ = get_or xs (2 * v) 0 + below in
-    low_set_high (set xs (2 * v) x) v _ (omega (arith, low_length xs v x h)) ∙ low_set_low xs v x h
-    ∙ ap (λ y. set (low_flows xs) v (y + below)) (low_at xs v h)
+low_added xs v below above h = low_replaced xs v _ _ h ∙ ap (λ y. set (low_flows xs) v (y + below)) (low_at xs v h)
 
 pub high_added : (xs : List ℕ) (v below above : ℕ) → v < length (low_flows xs)
     → high_flows (added xs v below above) ≡ set (high_flows xs) v (get_or (high_flows xs) v 0 + above)
 high_added xs v below above h =
-    let x : ℕ = get_or xs (2 * v) 0 + below in
-    let ys : List ℕ = set xs (2 * v) x in
-    high_set_high ys v (get_or ys (2 * v + 1) 0 + above) (omega (arith, low_length xs v x h))
-    ∙ ap (λ l. set l v (get_or ys (2 * v + 1) 0 + above)) (high_set_low xs v x h)
-    ∙ ap (λ y. set (high_flows xs) v (y + above)) (get_or-set_other xs (2 * v) (2 * v + 1) x 0 (ne_next (2 * v)) ∙ high_at xs v (omega (arith, high_count xs)))
+    high_replaced xs v _ _ h
+    ∙ ap (λ y. set (high_flows xs) v (y + above)) (get_or-set_other xs (2 * v) (2 * v + 1) _ 0 (ne_next (2 * v)) ∙ high_at xs v (omega (arith, high_count xs)))
 
 -- ---- what is left where both were made 0
-
-pub high_cleared : (xs : List ℕ) (v : ℕ) → v < length (low_flows xs) → high_flows (set (set xs (2 * v) 0) (2 * v + 1) 0) ≡ set (high_flows xs) v 0
-high_cleared xs v h = high_set_high (set xs (2 * v) 0) v 0 (omega (arith, low_length xs v 0 h)) ∙ ap (λ l. set l v 0) (high_set_low xs v 0 h)
 
 pub cleared_more : (xs : List ℕ) (v : ℕ) → 2 * v + 1 < length xs → ((k : ℕ) → k < 2 * v → get_or xs k 0 ≡ 0)
     → (k : ℕ) → k < 2 * (v + 1) → get_or (set (set xs (2 * v) 0) (2 * v + 1) 0) k 0 ≡ 0

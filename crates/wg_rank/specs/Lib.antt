@@ -7,6 +7,7 @@ pub mod ClaimsInside
 pub mod Inflows
 pub mod Intervals
 pub mod Laws
+pub mod Pulling
 pub mod Rank
 pub mod Settling
 pub mod Sum

@@ -10,21 +10,20 @@ ghost use Rattle.wg_rank.specs.Weights.{AreWeights, weights_or_ones};
 ghost use Rattle.wg_rank.specs.declared.limits.TheConstants.{UNITS};
 
 use crate::UNITS;
-use crate::gathering::gather;
+use crate::gathering::Gather;
 use crate::settling::{settle_high, settle_low, total};
-use wg_graph::Lists;
 
 // Puts the new bounds in place of the old ones. Where no weights are given, each page has the weight 1. All of `inflows`
 // is 0 before and after.
-pub(crate) fn advance<L: Lists>(
-    lists: &mut L,
+pub(crate) fn advance<G: Gather>(
+    source: &mut G,
     damping: u64,
     low: &mut [u128],
     high: &mut [u128],
     inflows: &mut [u128],
     weights: &[u64],
 )
-    requires pages { (L.graph lists.old).nodes ≡ length low.old }
+    requires pages { (G.graph source.old).nodes ≡ length low.old }
     requires few { length low.old ≤ MOST_PAGES }
     requires damped { damping ≤ MOST_DAMPING }
     requires high_pages { length high.old ≡ length low.old }
@@ -33,18 +32,18 @@ pub(crate) fn advance<L: Lists>(
     requires weights { AreWeights (length low.old) (weights_or_ones (length low.old) weights.now) }
     requires low_total { sum_below (length low.old) (by_page low.old) ≤ UNITS }
     requires high_units { All (λ x. x ≤ UNITS) high.old }
-    ensures graph { L.graph lists.new ≡ L.graph lists.old }
-    ensures proper { IsGraph (L.graph lists.old) }
-    ensures low { IsTable low.new (L.graph lists.old).nodes
-        (lower (L.graph lists.old) damping (by_page (weights_or_ones (length low.old) weights.now)) (by_page low.old)) }
-    ensures high { IsTable high.new (L.graph lists.old).nodes
-        (clipped (L.graph lists.old) damping (by_page (weights_or_ones (length low.old) weights.now)) (by_page low.old)
+    ensures graph { G.graph source.new ≡ G.graph source.old }
+    ensures proper { IsGraph (G.graph source.old) }
+    ensures low { IsTable low.new (G.graph source.old).nodes
+        (lower (G.graph source.old) damping (by_page (weights_or_ones (length low.old) weights.now)) (by_page low.old)) }
+    ensures high { IsTable high.new (G.graph source.old).nodes
+        (clipped (G.graph source.old) damping (by_page (weights_or_ones (length low.old) weights.now)) (by_page low.old)
         (by_page high.old)) }
     ensures low_total { sum_below (length low.old) (by_page low.new) ≤ UNITS }
     ensures high_units { All (λ x. x ≤ UNITS) high.new }
     ensures empty { All (λ x. x ≡ 0) inflows.new }
 {
-    let (dangling, high_dangling) = gather(lists, low, high, inflows);
+    let (dangling, high_dangling) = source.gather(low, high, inflows);
     settle_low(low, inflows, damping, dangling, weights);
     let gap = UNITS - total(low);
     settle_high(high, inflows, low, damping, high_dangling, weights, gap);

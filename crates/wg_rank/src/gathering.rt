@@ -2,7 +2,7 @@
 
 ghost use Rattle.std.specs.Prelude.{◌≡◌, ℕ, ◌*◌, ◌<◌, ◌≤◌, length, slice_index, All};
 ghost use Rattle.wg_params.specs.declared.limits.TheConstants.{MOST_PAGES};
-ghost use Rattle.wg_graph.specs.Digraph.{IsGraph};
+ghost use Rattle.wg_graph.specs.Digraph.{Digraph, IsGraph};
 ghost use Rattle.wg_rank.specs.Intervals.{by_page};
 ghost use Rattle.wg_rank.specs.Inflows.{low_flows, high_flows};
 ghost use Rattle.wg_rank.specs.Rank.{low_flow, high_flow, sum_dangling};
@@ -12,55 +12,61 @@ use crate::divisor::Divisors;
 use crate::spreading::{spread, spread_low};
 use wg_graph::Lists;
 
-// Adds to `inflows` what flows to each page along arcs, and gives what the dangling pages hold, below and above. A
-// page's share is divided out once and then added to each of its successors.
-pub(crate) fn gather<L: Lists>(
-    lists: &mut L,
-    low: &[u128],
-    high: &[u128],
-    inflows: &mut [u128],
-) -> (u128, u128)
-    requires few { length low.now ≤ MOST_PAGES }
-    requires pages { (L.graph lists.old).nodes ≡ length low.now }
-    requires high_pages { length high.now ≡ length low.now }
-    requires inflow_pages { length inflows.old ≡ 2 * length low.now }
-    requires low_units { All (λ x. x ≤ UNITS) low.now }
-    requires high_units { All (λ x. x ≤ UNITS) high.now }
-    requires empty { All (λ x. x ≡ 0) inflows.old }
-    ensures graph { L.graph lists.new ≡ L.graph lists.old }
-    ensures proper { IsGraph (L.graph lists.old) }
-    ensures low_flow { (v : ℕ) → v < length low.now
-        → slice_index (low_flows inflows.new) v ≡ low_flow (L.graph lists.old) (by_page low.now) v }
-    ensures high_flow { (v : ℕ) → v < length low.now
-        → slice_index (high_flows inflows.new) v ≡ high_flow (L.graph lists.old) (by_page high.now) v }
-    ensures low_dangling { result.0 ≡ sum_dangling (L.graph lists.old) (by_page low.now) }
-    ensures high_dangling { result.1 ≡ sum_dangling (L.graph lists.old) (by_page high.now) }
-    ensures low_room { All (λ x. x ≤ MOST_PAGES * UNITS) (low_flows inflows.new) }
-    ensures high_room { All (λ x. x ≤ MOST_PAGES * UNITS) (high_flows inflows.new) }
-    ensures low_dangling_room { result.0 ≤ MOST_PAGES * UNITS }
-    ensures high_dangling_room { result.1 ≤ MOST_PAGES * UNITS }
-{
-    // Asked for what a graph's lists are, which its contract says.
-    let _pages = lists.nodes();
-    lists.begin();
-    let mut divisors = Divisors::new();
-    let mut low_dangling = 0;
-    let mut high_dangling = 0;
-    for u in 0..low.len() {
-        if let Some(list) = lists.next_list() {
-            let degree = list.len() as u64;
-            if degree == 0 {
-                low_dangling += low[u];
-                high_dangling += high[u];
-            } else {
-                let outdegree = divisors.get(degree);
-                let below = outdegree.quotient(low[u]);
-                let above = outdegree.quotient_up(high[u]);
-                spread(inflows, list, below, above);
+// Where a round gathers what flows to each page.
+pub(crate) trait Gather {
+    ghost graph: { Self → Digraph };
+
+    // Adds to `inflows` what flows to each page along arcs, and gives what the dangling pages hold, below and above. A
+    // page's share is divided out once.
+    fn gather(&mut self, low: &[u128], high: &[u128], inflows: &mut [u128]) -> (u128, u128)
+        requires few { length low.now ≤ MOST_PAGES }
+        requires pages { (graph self.old).nodes ≡ length low.now }
+        requires high_pages { length high.now ≡ length low.now }
+        requires inflow_pages { length inflows.old ≡ 2 * length low.now }
+        requires low_units { All (λ x. x ≤ UNITS) low.now }
+        requires high_units { All (λ x. x ≤ UNITS) high.now }
+        requires empty { All (λ x. x ≡ 0) inflows.old }
+        ensures graph { graph self.new ≡ graph self.old }
+        ensures proper { IsGraph (graph self.old) }
+        ensures low_flow { (v : ℕ) → v < length low.now
+            → slice_index (low_flows inflows.new) v ≡ low_flow (graph self.old) (by_page low.now) v }
+        ensures high_flow { (v : ℕ) → v < length low.now
+            → slice_index (high_flows inflows.new) v ≡ high_flow (graph self.old) (by_page high.now) v }
+        ensures low_dangling { result.0 ≡ sum_dangling (graph self.old) (by_page low.now) }
+        ensures high_dangling { result.1 ≡ sum_dangling (graph self.old) (by_page high.now) }
+        ensures low_room { All (λ x. x ≤ MOST_PAGES * UNITS) (low_flows inflows.new) }
+        ensures high_room { All (λ x. x ≤ MOST_PAGES * UNITS) (high_flows inflows.new) }
+        ensures low_dangling_room { result.0 ≤ MOST_PAGES * UNITS }
+        ensures high_dangling_room { result.1 ≤ MOST_PAGES * UNITS };
+}
+
+// In one pass along the lists: a page's share is added to each of its successors.
+impl<L: Lists> Gather for L {
+    ghost graph = { L.graph };
+
+    fn gather(&mut self, low: &[u128], high: &[u128], inflows: &mut [u128]) -> (u128, u128) {
+        // Asked for what a graph's lists are, which its contract says.
+        let _pages = self.nodes();
+        self.begin();
+        let mut divisors = Divisors::new();
+        let mut low_dangling = 0;
+        let mut high_dangling = 0;
+        for u in 0..low.len() {
+            if let Some(list) = self.next_list() {
+                let degree = list.len() as u64;
+                if degree == 0 {
+                    low_dangling += low[u];
+                    high_dangling += high[u];
+                } else {
+                    let outdegree = divisors.get(degree);
+                    let below = outdegree.quotient(low[u]);
+                    let above = outdegree.quotient_up(high[u]);
+                    spread(inflows, list, below, above);
+                }
             }
         }
+        (low_dangling, high_dangling)
     }
-    (low_dangling, high_dangling)
 }
 
 // The same below alone, where `inflows` has one sum for each page.

@@ -21,6 +21,18 @@ pub(crate) fn add(inflows: &mut [u128], page: u64, below: u128, above: u128)
     inflows[at + 1] += above;
 }
 
+// Puts these in place of the two sums of a page.
+#[tactic(auto, using(crate::proofs::SideBySide::within))]
+#[inline(always)]
+pub(crate) fn put(inflows: &mut [u128], v: usize, below: u128, above: u128)
+    requires { v < length (low_flows inflows.old) }
+    ensures low { low_flows inflows.new ≡ set (low_flows inflows.old) v below }
+    ensures high { high_flows inflows.new ≡ set (high_flows inflows.old) v above }
+{
+    inflows[2 * v] = below;
+    inflows[2 * v + 1] = above;
+}
+
 // Makes the two sums of a page 0 again.
 #[tactic(auto, using(crate::proofs::SideBySide::within))]
 #[inline(always)]

@@ -15,6 +15,16 @@
 //!               new low, high <-- settle: the damping's part, and teleport's <-+
 //! ```
 //!
+//! Two ways lead to the same bounds. [`Bounds::round`] reads the lists in each round. [`Bounds::pull`] goes along
+//! [`wg_runs::Runs`], which are made of the lists once: the pages that link to one page are often neighbours, as those
+//! of a folder, and so a few runs hold many arcs. First it adds up what each page gives to each of its successors, over
+//! all pages below each page; a dangling page gives nothing there. What the pages of a run give is then the difference
+//! of two such sums. A [`Pulling`] has the runs and the room for these sums.
+//!
+//! ```text
+//! low, high --> share_out: each page's shares, added up --> gather_along: two sums for each run --> what flows in
+//! ```
+//!
 //! One round over the graph of two pages with the arc from page 0 to page 1:
 //!
 //! ```rust
@@ -47,17 +57,18 @@
 //! fault ([`laws::certificate_texts`]).
 //!
 //! Bounds take memory by [`Bounds::new`] alone: four numbers of 16 bytes for each page; [`Bounds::weighted`], by which
-//! teleport goes to the pages by weights, takes 8 bytes more. The two sums of what flows to a page lie side by side, so
-//! that an arc reaches one place in memory. Between rounds they say nothing, and [`Bounds::into_parts`] hands them on
-//! as room. Writing takes none. A certificate holds 16 bytes for each page, taken as its lines come. Judging takes 16
+//! teleport goes to the pages by weights, takes 8 bytes more, and [`Pulling::new`] 32. The two sums of what flows to a
+//! page lie side by side, so that an arc reaches one place in memory. Between rounds they say nothing, and
+//! [`Bounds::into_parts`] hands them on as room. Writing takes none. A certificate holds 16 bytes for each page, taken as its lines come. Judging takes 16
 //! more, for what flows to a page below: each new bound is compared as it is made, and kept nowhere.
 //!
 //! A round divides each page's two bounds by its outdegree, once and not for each arc, and what flows in by 1000; by
 //! weights it also divides teleport's two parts for each page, and if each weight is 1 once for all. A quotient by an
 //! outdegree is two products with its inverse; those of outdegrees below 256 are kept until the round ends, in 2 KiB.
-//! For an arc it adds twice. Judging does the same with the lower bounds alone, and adds once. No sum passes 128 bits:
-//! what flows to a page is at most one whole for each page, so below 2^36 * 10^24, and the damping multiplies it by
-//! less than 2^10; a weight is below 2^32, and teleport's part of 1 is at most 1000 * 10^24 before it is divided.
+//! For an arc it adds twice, and for a run it subtracts twice before. Judging does the same as a round along lists with
+//! the lower bounds alone, and adds once. No sum passes 128 bits: what flows to a page is at most one whole for each
+//! page, so below 2^36 * 10^24, and the damping multiplies it by less than 2^10; a weight is below 2^32, and teleport's
+//! part of 1 is at most 1000 * 10^24 before it is divided.
 #![tactic(auto)]
 
 mod advancing;
@@ -72,6 +83,7 @@ mod judging;
 pub mod laws;
 mod limits;
 mod low_parts;
+mod pulling;
 mod reading;
 mod settling;
 mod spreading;
@@ -83,5 +95,6 @@ pub use certificate::Certificate;
 pub use fault::{CertError, CertFault, CertKind, JudgeError};
 pub use judging::judge;
 pub use limits::{MOST_WEIGHT, UNITS};
+pub use pulling::Pulling;
 pub use reading::read_certificate;
 pub use writing::write_certificate;

@@ -12,9 +12,9 @@ gather-dangling-requires-clause-low_units g c = all_within_total UNITS _ c.requi
 
 pub total-gap-requires-clause-units : goal.total-gap-requires-clause-units
 total-gap-requires-clause-units g c = all_within_total UNITS c.settle_low.new.low
-    (settled_total (g.L.Lists.graph c.args.lists.now) c.args.damping (length c.args.low.now) c.args.weights.now (by_page c.args.low.now) c.settle_low.new.low
+    (settled_total (g.G.Gather.graph c.args.source.now) c.args.damping (length c.args.low.now) c.args.weights.now (by_page c.args.low.now) c.settle_low.new.low
     c.gather-dangling.ensures.proper (omega arith) c.requires.weights (omega arith) c.requires.low_total
-    (settled_table (g.L.Lists.graph c.args.lists.now) c.args.damping (length c.args.low.now) c.args.weights.now (by_page c.args.low.now)
+    (settled_table (g.G.Gather.graph c.args.source.now) c.args.damping (length c.args.low.now) c.args.weights.now (by_page c.args.low.now)
     (low_flows c.gather-dangling.new.inflows) c.settle_low.new.low c.gather-dangling.result.0 (omega arith) (omega arith)
     (λ v i. c.gather-dangling.ensures.low_flow v (omega arith)) c.gather-dangling.ensures.low_dangling c.settle_low.ensures.each))
 
@@ -22,24 +22,24 @@ pub overflow_sub-gap : goal.overflow_sub-gap
 overflow_sub-gap g c = omega (
   arith,
   c.total-gap.ensures,
-  settled_total (g.L.Lists.graph c.args.lists.now) c.args.damping (length c.args.low.now) c.args.weights.now (by_page c.args.low.now) c.settle_low.new.low
+  settled_total (g.G.Gather.graph c.args.source.now) c.args.damping (length c.args.low.now) c.args.weights.now (by_page c.args.low.now) c.settle_low.new.low
       c.gather-dangling.ensures.proper (omega arith) c.requires.weights (omega arith) c.requires.low_total
-      (settled_table (g.L.Lists.graph c.args.lists.now) c.args.damping (length c.args.low.now) c.args.weights.now (by_page c.args.low.now)
+      (settled_table (g.G.Gather.graph c.args.source.now) c.args.damping (length c.args.low.now) c.args.weights.now (by_page c.args.low.now)
       (low_flows c.gather-dangling.new.inflows) c.settle_low.new.low c.gather-dangling.result.0 (omega arith) (omega arith)
       (λ v i. c.gather-dangling.ensures.low_flow v (omega arith)) c.gather-dangling.ensures.low_dangling c.settle_low.ensures.each),
 )
 
 pub settle_high-requires-clause-low_room : goal.settle_high-requires-clause-low_room
 settle_high-requires-clause-low_room g c = all_within_total UNITS c.settle_low.new.low
-    (settled_total (g.L.Lists.graph c.args.lists.now) c.args.damping (length c.args.low.now) c.args.weights.now (by_page c.args.low.now) c.settle_low.new.low
+    (settled_total (g.G.Gather.graph c.args.source.now) c.args.damping (length c.args.low.now) c.args.weights.now (by_page c.args.low.now) c.settle_low.new.low
     c.gather-dangling.ensures.proper (omega arith) c.requires.weights (omega arith) c.requires.low_total
-    (settled_table (g.L.Lists.graph c.args.lists.now) c.args.damping (length c.args.low.now) c.args.weights.now (by_page c.args.low.now)
+    (settled_table (g.G.Gather.graph c.args.source.now) c.args.damping (length c.args.low.now) c.args.weights.now (by_page c.args.low.now)
     (low_flows c.gather-dangling.new.inflows) c.settle_low.new.low c.gather-dangling.result.0 (omega arith) (omega arith)
     (λ v i. c.gather-dangling.ensures.low_flow v (omega arith)) c.gather-dangling.ensures.low_dangling c.settle_low.ensures.each))
 
 pub returns-clause-low : goal.returns-clause-low
 returns-clause-low g c =
-    settled_table (g.L.Lists.graph c.args.lists.now) c.args.damping (length c.args.low.now) c.args.weights.now (by_page c.args.low.now)
+    settled_table (g.G.Gather.graph c.args.source.now) c.args.damping (length c.args.low.now) c.args.weights.now (by_page c.args.low.now)
     (low_flows c.gather-dangling.new.inflows) c.settle_low.new.low c.gather-dangling.result.0 (omega arith) (omega arith)
     (λ v i. c.gather-dangling.ensures.low_flow v (omega arith)) c.gather-dangling.ensures.low_dangling c.settle_low.ensures.each
 
@@ -49,7 +49,7 @@ returns-clause-high g c = record {
   each = λ v i.
       let same : length c.args.high.now ≡ length c.args.low.now = omega arith in
       let e = rw (c.total-gap.ensures, same) at (c.settle_high.ensures.each v (omega arith)) in
-      e ∙ clipped_from (g.L.Lists.graph c.args.lists.now) c.args.damping (by_page (weights_or_ones (length c.args.low.now) c.args.weights.now)) (by_page c.args.low.now) (by_page c.args.high.now)
+      e ∙ clipped_from (g.G.Gather.graph c.args.source.now) c.args.damping (by_page (weights_or_ones (length c.args.low.now) c.args.weights.now)) (by_page c.args.low.now) (by_page c.args.high.now)
       c.settle_low.new.low (high_flows c.gather-dangling.new.inflows) c.gather-dangling.result.1 (length c.args.low.now) (omega arith) (returns-clause-low g c)
       (λ v i. c.gather-dangling.ensures.high_flow v (omega arith)) c.gather-dangling.ensures.high_dangling v i;
 }
@@ -58,7 +58,7 @@ pub returns-clause-low_total : goal.returns-clause-low_total
 returns-clause-low_total g c =
     let e : length c.settle_low.new.low ≡ length c.args.low.now = omega arith in
     rw (← e)
-    (settled_total (g.L.Lists.graph c.args.lists.now) c.args.damping (length c.args.low.now) c.args.weights.now (by_page c.args.low.now) c.settle_low.new.low
+    (settled_total (g.G.Gather.graph c.args.source.now) c.args.damping (length c.args.low.now) c.args.weights.now (by_page c.args.low.now) c.settle_low.new.low
     c.gather-dangling.ensures.proper (omega arith) c.requires.weights (omega arith) c.requires.low_total (returns-clause-low g c))
 
 pub returns-clause-high_units : goal.returns-clause-high_units

@@ -6,7 +6,7 @@ use Rattle.wg_params.specs.declared.limits.TheConstants.{MOST_PAGES}
 use Rattle.wg_rank.specs.declared.limits.TheConstants.{UNITS}
 use Rattle.wg_rank.specs.Inflows.{high_flows}
 use Rattle.wg_rank.proofs.Settled.{table_more, table_left, least_from}
-use Rattle.wg_rank.proofs.SideBySide.{high_count, low_count, high_cleared, cleared_more}
+use Rattle.wg_rank.proofs.SideBySide.{high_count, low_count, high_replaced, cleared_more}
 use Rattle.wg_rank.proofs.Weighing.{given_small}
 use Rattle.wg_rank.proofs.Room.{damped_room}
 use Rattle.wg_rank.proofs.Flow.{div_ceil_le}
@@ -17,7 +17,7 @@ loop-v-preserved c =
     let v = c.loop-v.v in
     let xs = c.loop-v.inflows in
     let i = c.loop-v.invariant in
-    let cleared = high_cleared xs v (omega (arith, low_count (length c.args.high.now) xs (omega arith))) in
+    let cleared = high_replaced xs v 0 0 (omega (arith, low_count (length c.args.high.now) xs (omega arith))) in
     record {
       done = table_more v c.loop-v.high _ _ (omega arith)
           (least_from _ _ _ _ _ _ _ _ _ _ _ _ c.min-in-loop-v.ensures c.min.ensures (i.left v (omega arith))
