@@ -28,6 +28,7 @@
 //!   beside the status. *Revisit if* more than one number of another file has to go with a fault.
 #![tactic(auto)]
 
+mod along_runs;
 mod bounds;
 mod ending;
 mod files;
@@ -40,6 +41,7 @@ mod second;
 mod status;
 mod text;
 
+pub use along_runs::{MOST_RUN_ROOM, are_few, bounds_by_rounds};
 pub use bounds::{last_bounds, room_for};
 pub use ending::Ending;
 pub use files::{create_file, fill_file};

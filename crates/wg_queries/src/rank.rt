@@ -14,7 +14,7 @@ use crate::ranked::Ranked;
 use std::alloc::Global;
 use wg_graph::Lists;
 use wg_io::{Depot, Sink};
-use wg_outcomes::{Ending, Input, last_bounds, room_for};
+use wg_outcomes::{Ending, Input, bounds_by_rounds, room_for};
 use wg_rank::Bounds;
 use wg_readings::{lists_of_records, load, load_params, load_weights};
 use wg_words::Name;
@@ -52,7 +52,7 @@ pub fn rank<D: Depot, O: Sink>(
     let mut lists = lists_of_records(alloc, &params, bytes.as_slice())?;
     let given = load_weights(alloc, lists.nodes(), depot, weights)?;
     let first = room_for(alloc, &lists, given, asked.damping)?;
-    let bounds = last_bounds(first, &mut lists, asked.rounds);
+    let bounds = bounds_by_rounds(alloc, first, &mut lists, asked.rounds);
     match certificate {
         None => print_ranks(out, bounds, asked.top),
         Some(name) => certify(bounds, name, asked.top, depot, out),

@@ -54,12 +54,12 @@ returns-in-None g c =
     let graph = c.in_ok-lists.lists.graph in
     let f = c.in_ok-first.ensures in
     let o = c.print_ranks.ensures in
-    let is : c.last_bounds-bounds.result ≡ bounds_after graph c.in_ok-given.given asked.damping asked.rounds =
-    c.last_bounds-bounds.ensures c.in_ok-given.given f.weights ∙ ap (λ d. bounds_after graph c.in_ok-given.given d asked.rounds) f.damping in
+    let is : c.bounds_by_rounds-bounds.result ≡ bounds_after graph c.in_ok-given.given asked.damping asked.rounds =
+    c.bounds_by_rounds-bounds.ensures c.in_ok-given.given f.weights ∙ ap (λ d. bounds_after graph c.in_ok-given.given d asked.rounds) f.damping in
     only_prints c.args.base.now asked.rounds asked.damping asked.top c.args.weights.now c.args.certificate.now _ g.O.Sink.told _ p _ _ c.in_ok-params.ensures _ _ graph
     (graph_loaded c.args.base.now p _ _ _ _ _ c.in_ok-bytes.bytes _ c.as_slice.ensures c.in_ok-bytes.ensures (Ok graph) c.in_ok-lists.ensures.goes tt c.in_ok-lists.ensures.nodes)
     _ _ c.in_ok-given.given (weights_of_graph _ _ _ _ _ _ _ _ _ c.nodes.ensures.count c.in_ok-given.ensures)
-    c.last_bounds-bounds.result is c.in-None.is _ _ c.print_ranks.result o.puts o.refusals.only o.refusals.failed
+    c.bounds_by_rounds-bounds.result is c.in-None.is _ _ c.print_ranks.result o.puts o.refusals.only o.refusals.failed
 
 pub returns : goal.returns
 returns g c =
@@ -67,9 +67,9 @@ returns g c =
     let p = c.in_ok-params.params in
     let graph = c.in_ok-lists.lists.graph in
     let f = c.in_ok-first.ensures in
-    let is : c.last_bounds-bounds.result ≡ bounds_after graph c.in_ok-given.given asked.damping asked.rounds =
-    c.last_bounds-bounds.ensures c.in_ok-given.given f.weights ∙ ap (λ d. bounds_after graph c.in_ok-given.given d asked.rounds) f.damping in
+    let is : c.bounds_by_rounds-bounds.result ≡ bounds_after graph c.in_ok-given.given asked.damping asked.rounds =
+    c.bounds_by_rounds-bounds.ensures c.in_ok-given.given f.weights ∙ ap (λ d. bounds_after graph c.in_ok-given.given d asked.rounds) f.damping in
     certifies c.args.base.now asked.rounds asked.damping asked.top c.args.weights.now c.args.certificate.now _ g.O.Sink.told _ p _ _ c.in_ok-params.ensures _ _ graph
     (graph_loaded c.args.base.now p _ _ _ _ _ c.in_ok-bytes.bytes _ c.as_slice.ensures c.in_ok-bytes.ensures (Ok graph) c.in_ok-lists.ensures.goes tt c.in_ok-lists.ensures.nodes)
     _ _ c.in_ok-given.given (weights_of_graph _ _ _ _ _ _ _ _ _ c.nodes.ensures.count c.in_ok-given.ensures)
-    c.last_bounds-bounds.result is c.in-Some.name c.in-Some.is _ c.certify.result c.certify.ensures
+    c.bounds_by_rounds-bounds.result is c.in-Some.name c.in-Some.is _ c.certify.result c.certify.ensures

@@ -1,0 +1,21 @@
+use Rattle.std.proofs.Common.{◌≡◌, ◌∙◌, rules, refl}
+use Rattle.wg_outcomes.proofs.RankLemmas.{bounds_are}
+use Rattle.wg_outcomes.proofs.along_runs.along_runs.Goals as goal
+
+pub loop-init : goal.loop-init
+loop-init c =
+    let ready = c.requires.ready in
+    record {
+      same = refl;
+      pages = ready.bounded;
+      after = ready.before;
+      damped = refl;
+      weighed = refl;
+      holds = ready.holds;
+    }
+
+pub returns : goal.returns
+returns c = λ given weighed.
+    let l = c.loop.invariant in
+    let after : c.loop.bounds.rounds ≡ c.args.rounds = search rules in
+    bounds_are c.args.runs.now given c.args.rounds c.args.bounds.damping c.loop.bounds l.holds after l.damped (l.weighed ∙ weighed)
