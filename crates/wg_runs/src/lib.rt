@@ -1,8 +1,8 @@
 //! For each page the pages that link to it, as runs of pages that follow one another.
 //!
 //! The pages of a folder link to the same menu, and so the list of the pages that link to one page is made of runs: few
-//! [`Run`]s tell of many arcs. A sum over the predecessors of a page is then a difference of two sums over all pages up
-//! to one, for each run.
+//! [`Run`]s tell of many arcs. Of a sum over the predecessors of a page, each run is then one difference: of the sums
+//! over all pages before its end, and before its begin.
 //!
 //! Runs are made straight from lists of successors that are read in order, in two passes, without a transposed graph
 //! in memory. Both take the same step for an arc from page u to page v: if the last run to v ends before u, it is made
@@ -34,8 +34,8 @@
 //! ```
 //!
 //! Each pass takes time in proportion to the arcs and pages. Counting takes 16 bytes for each page, and filling 8 for
-//! each run, both before their pass; then 4 bytes a page are given back. Runs are held of graphs of at most 2^32 - 1
-//! pages.
+//! each run, both before their pass; then 4 bytes a page are given back. There are no runs yet of graphs of 2^32 pages
+//! or more.
 #![tactic(auto)]
 
 mod counting;
