@@ -17,17 +17,19 @@
 //! So it is known how many runs there are before memory for them is taken, and a caller may choose another way where
 //! they are about as many as the arcs. [`Runs::of`] makes both passes.
 //!
-//! A graph of four pages: pages 0, 1 and 3 link to page 3, and page 1 links to page 0:
+//! A graph of five pages: pages 0, 1, 2 and 4 link to page 4, and page 1 links to page 0 too:
 //!
 //! ```rust
-//! let graph = wg_arcs::read(rt.alloc(), b"0 3\n1 0\n1 3\n3 3\n", 4)?;
+//! let graph = wg_arcs::read(rt.alloc(), b"0 4\n1 0\n1 4\n2 4\n4 4\n", 5)?;
 //! let mut lists = GraphLists::new(&graph);
 //! let counts = RunCounts::of(rt.alloc(), &mut lists)?;
-//! assert!(rt; counts.arcs() == 4 && counts.runs() == 3);
+//! assert!(rt; counts.arcs() == 5 && counts.runs() == 3);
 //! let runs = counts.fill(rt.alloc(), &mut lists)?;
-//! let to_last = [Run { from: 0, to: 2 }, Run { from: 3, to: 4 }];
-//! assert!(rt; runs.of_page(3) == to_last.as_slice());
-//! assert!(rt; runs.of_page(1).is_empty() && runs.degree(1) == 2);
+//! let to_last = [Run { from: 0, to: 3 }, Run { from: 4, to: 5 }];
+//! assert!(rt; runs.of_page(4) == to_last.as_slice());
+//! assert!(rt; runs.of_page(3).is_empty() && runs.degree(1) == 2);
+//! let again = Runs::of(rt.alloc(), &mut lists)?;
+//! assert!(rt; again.nodes() == 5 && again.of_page(0) == [Run { from: 1, to: 2 }].as_slice());
 //! Ok(())
 //! ```
 //!

@@ -5,6 +5,7 @@ use wg_graph::{GraphBuilder, GraphLists, List, Lists};
 use wg_io::SteadySink;
 use wg_order::Ranking;
 use wg_rank::{Bounds, UNITS};
+use wg_runs::{Run, RunCounts, Runs};
 use wg_transpose::{Transposer, transpose};
 use wg_vectors::{COPIED, bytes_of, generate};
 
@@ -83,6 +84,22 @@ fn arcs_the_other_way_round(rt: HostRuntime) -> Result<(), Fail> {
     ranges.advance(rt.alloc(), 1)?;
     assert!(rt; ranges.from() == 0 && ranges.to() == 2);
     assert!(rt; ranges.list(1) == [0].as_slice());
+    Ok(())
+}
+
+// In the overview of wg_runs.
+#[test]
+fn runs_of_the_pages_that_link_to_a_page(rt: HostRuntime) -> Result<(), Fail> {
+    let graph = wg_arcs::read(rt.alloc(), b"0 4\n1 0\n1 4\n2 4\n4 4\n", 5)?;
+    let mut lists = GraphLists::new(&graph);
+    let counts = RunCounts::of(rt.alloc(), &mut lists)?;
+    assert!(rt; counts.arcs() == 5 && counts.runs() == 3);
+    let runs = counts.fill(rt.alloc(), &mut lists)?;
+    let to_last = [Run { from: 0, to: 3 }, Run { from: 4, to: 5 }];
+    assert!(rt; runs.of_page(4) == to_last.as_slice());
+    assert!(rt; runs.of_page(3).is_empty() && runs.degree(1) == 2);
+    let again = Runs::of(rt.alloc(), &mut lists)?;
+    assert!(rt; again.nodes() == 5 && again.of_page(0) == [Run { from: 1, to: 2 }].as_slice());
     Ok(())
 }
 
