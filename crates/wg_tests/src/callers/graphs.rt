@@ -4,7 +4,7 @@ use wg_ascii::{AsciiError, AsciiKind, PageLines};
 use wg_graph::{GraphBuilder, GraphLists, List, Lists};
 use wg_io::SteadySink;
 use wg_order::Ranking;
-use wg_rank::{Bounds, UNITS};
+use wg_rank::{Bounds, Pulling, UNITS};
 use wg_runs::{Run, RunCounts, Runs};
 use wg_transpose::{Transposer, transpose};
 use wg_vectors::{COPIED, bytes_of, generate};
@@ -114,6 +114,25 @@ fn one_round_of_bounds(rt: HostRuntime) -> Result<(), Fail> {
     bounds.round(&mut GraphLists::new(&graph));
     assert!(rt; bounds.low(0) == 75 * (UNITS / 1000));
     assert!(rt; bounds.high(0) == UNITS / 2);
+    Ok(())
+}
+
+// Along lists and along runs.
+#[test]
+fn both_ways_leave_the_same_bounds(rt: HostRuntime) -> Result<(), Fail> {
+    let graph = wg_arcs::read(rt.alloc(), b"0 4\n1 0\n1 4\n2 4\n4 4\n", 5)?;
+    let mut lists = GraphLists::new(&graph);
+    let mut bounds = Bounds::new(rt.alloc(), 5, 850)?;
+    bounds.round(&mut lists);
+    bounds.round(&mut lists);
+    let runs = Runs::of(rt.alloc(), &mut lists)?;
+    let mut pulling = Pulling::new(rt.alloc(), runs)?;
+    let mut pulled = Bounds::new(rt.alloc(), 5, 850)?;
+    pulled.pull(&mut pulling);
+    pulled.pull(&mut pulling);
+    assert!(rt; pulling.nodes() == 5 && pulled.rounds() == 2);
+    assert!(rt; pulled.lower() == bounds.lower());
+    assert!(rt; pulled.upper() == bounds.upper());
     Ok(())
 }
 
