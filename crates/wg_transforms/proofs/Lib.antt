@@ -1,3 +1,4 @@
+pub mod CountingLemmas
 pub mod LoadedLemmas
 pub mod QuotientJobs
 pub mod RecodedLemmas

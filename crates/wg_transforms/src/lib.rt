@@ -24,12 +24,15 @@
 //!
 //! `recode` reads the graph in pieces, once. `union` holds the bytes of two graph files, and goes through their lists
 //! side by side; `transpose` and `quotient` hold those of one, and go through its lists once for each range of pages or
-//! of classes.
+//! of classes. Before that `transpose` goes through them once, to judge them and to count the arcs; `quotient` twice,
+//! since its map is read once the graph is judged.
 #![tactic(auto)]
 
+mod counting;
 mod loaded;
 pub mod quotient;
 mod quotienting;
+mod ranging;
 pub mod recode;
 pub mod transpose;
 mod transposing;

@@ -5,7 +5,6 @@ ghost use Rattle.wg_params.specs.declared.limits.TheConstants.{MOST_PAGES};
 ghost use Rattle.wg_words.specs.declared.jobs.Job.TheVariants.{Quotient};
 ghost use Rattle.wg_outcomes.specs.Performs.{DoesOrEnds};
 
-use wg_writing::build_archive;
 use crate::quotienting::encode_quotient;
 use std::alloc::Global;
 use wg_graph::Lists;
@@ -14,6 +13,7 @@ use wg_outcomes::{Ending, Input};
 use wg_params::Layout;
 use wg_readings::{lists_of_records, load, load_map, load_params};
 use wg_words::Name;
+use wg_writing::build_archive;
 
 /// Writes the greedy archive of the graph of classes of an archive's pages, in the layout that is given, and prints the
 /// line of what it holds: an arc leads from class to class exactly if one leads from a page of the first to a page of

@@ -1,84 +1,20 @@
 //! The archive of a quotient, encoded in memory, range after range of classes.
-ghost use Rattle.std.specs.Prelude.{◌≡◌, ◌≤◌, [], length, take, IfErr, IfOk};
+ghost use Rattle.std.specs.Prelude.{◌≡◌, ◌≤◌, length, IfErr, IfOk};
 ghost use Rattle.wg_params.specs.Parameters.{IsWithinLimits, params_of};
 ghost use Rattle.wg_params.specs.declared.limits.TheConstants.{MOST_ARCS, MOST_PAGES};
 ghost use Rattle.wg_graph.specs.Ascending.{Below};
 ghost use Rattle.wg_graph.specs.Digraph.{arc_count};
-ghost use Rattle.wg_encoder.specs.ArchiveInMemory.{HasEncoded};
-ghost use Rattle.wg_shape.specs.Classes.{whole};
 ghost use Rattle.wg_shape.specs.Quotient.{quotient_of};
 ghost use Rattle.wg_writing.specs.Writing.{IsArchiveOf};
 
-use wg_writing::with_properties;
+use crate::ranging::archive_of_ranges;
 use std::alloc::{AllocError, Global};
-use wg_encoder::{ArchiveEncoder, EncodedArchive};
+use wg_encoder::EncodedArchive;
 use wg_graph::Lists;
-use wg_outcomes::{Ending, Status, params_of};
-use wg_params::{Layout, MOST_ARCS, Params};
+use wg_outcomes::{Ending, Status};
+use wg_params::{Layout, Params};
 use wg_shape::Quotienter;
 use wg_transpose::range_room;
-
-// Encodes the lists of the range, class after class; `list` has room for one.
-fn add_range<'a, L: Lists + Drop>(
-    mut encoder: ArchiveEncoder,
-    ranges: &Quotienter<'a, L>,
-    list: &mut Vec<u64>,
-) -> Result<ArchiveEncoder, AllocError>
-    requires nodes { encoder.params.nodes ≡ ranges.now.pages.count }
-    requires most { encoder.params.arcs ≡ MOST_ARCS }
-    requires encoded { HasEncoded encoder (take ranges.now.from (whole ranges.now.pages).lists) }
-    ensures params { IfOk result (λ e. e.params ≡ encoder.params) }
-    ensures encoded { IfOk result (λ e. HasEncoded e (take ranges.now.to (whole ranges.now.pages).lists)) }
-{
-    // tells that the quotient has few arcs
-    ranges.nodes();
-    for class in ranges.from()..ranges.to() {
-        ranges.list(class, list)?;
-        encoder = encoder.add(list)?;
-    }
-    Ok(encoder)
-}
-
-// Encodes the lists of all ranges, each of which has at least so many arcs, but for the last.
-fn add_ranges<'a, L: Lists + Drop>(
-    alloc: Global,
-    mut encoder: ArchiveEncoder,
-    ranges: &mut Quotienter<'a, L>,
-    room: u64,
-) -> Result<ArchiveEncoder, AllocError>
-    requires nodes { encoder.params.nodes ≡ ranges.old.pages.count }
-    requires most { encoder.params.arcs ≡ MOST_ARCS }
-    requires none { ranges.old.to ≡ 0 }
-    requires encoded { HasEncoded encoder [] }
-    ensures params { IfOk result (λ e. e.params ≡ encoder.params) }
-    ensures encoded { IfOk result (λ e. HasEncoded e (whole ranges.old.pages).lists) }
-{
-    let mut list = Vec::new(alloc);
-    'all: while ranges.to() < ranges.nodes() {
-        ranges.advance(alloc, room)?;
-        encoder = add_range(encoder, ranges, &mut list)?;
-    }
-    Ok(encoder)
-}
-
-// The archive of all lists, which is given its number of arcs at the end.
-fn archive_of_ranges<'a, L: Lists + Drop>(
-    alloc: Global,
-    layout: &Layout,
-    mut ranges: Quotienter<'a, L>,
-    room: u64,
-) -> Result<(Params, EncodedArchive), AllocError>
-    requires layout { IsWithinLimits (params_of layout.now 0 0) }
-    requires none { ranges.to ≡ 0 }
-    ensures { IfOk result (λ made. IsArchiveOf layout.now (whole ranges.entry.pages) made) }
-{
-    let classes = ranges.nodes();
-    let begun = ArchiveEncoder::new(alloc, params_of(layout, classes, MOST_ARCS))?;
-    let encoder = add_ranges(alloc, begun, &mut ranges, room)?;
-    let params = params_of(layout, classes, encoder.arcs());
-    let archive = with_properties(alloc, encoder, &params)?;
-    Ok((params, archive))
-}
 
 fn archive_of_classes<L: Lists + Drop>(
     alloc: Global,

@@ -5,8 +5,6 @@ ghost use Rattle.wg_words.specs.declared.jobs.Job.TheVariants.{Recode};
 ghost use Rattle.wg_outcomes.specs.Performs.{DoesOrEnds};
 ghost use Rattle.wg_transforms.specs.Recoding.{RecodesBy};
 
-use wg_writing::build_archive;
-use wg_writing::{add_list, begin_archive, end_archive};
 use std::alloc::Global;
 use wg_encoder::EncodedArchive;
 use wg_io::{Depot, Sink};
@@ -14,6 +12,7 @@ use wg_outcomes::{Ending, params_of};
 use wg_params::{Layout, Params};
 use wg_readings::{end_records, load_params, next_record, open_graph};
 use wg_words::Name;
+use wg_writing::{add_list, begin_archive, build_archive, end_archive};
 
 /// Writes the greedy archive of an archive's graph, in the layout that is given, and prints the line of what it
 /// holds. It goes through the graph file once, and judges the whole graph before it touches a file. It holds a piece

@@ -3,21 +3,20 @@ ghost use Rattle.wg_params.specs.Parameters.{IsWithinLimits, params_of};
 ghost use Rattle.wg_words.specs.declared.jobs.Job.TheVariants.{Transpose};
 ghost use Rattle.wg_outcomes.specs.Performs.{DoesOrEnds};
 
-use wg_writing::build_archive;
-use crate::transposing::encode_transposed;
+use crate::transposing::{encode_transposed, ranges_of_records};
 use std::alloc::Global;
-use wg_graph::Lists;
 use wg_io::{Depot, Sink};
-use wg_outcomes::{Ending, Input, params_of};
+use wg_outcomes::{Ending, Input};
 use wg_params::Layout;
-use wg_readings::{lists_of_records, load, load_params};
+use wg_readings::{load, load_params};
 use wg_words::Name;
+use wg_writing::build_archive;
 
 /// Writes the greedy archive of an archive's graph with each arc the other way round, in the layout that is given,
 /// and prints the line of what it holds. It judges the whole graph before it touches a file, and holds the bytes of
 /// its file, from which it decodes the lists again for each range of pages, and a row of the greatest outdegree for
-/// each page that a reference reaches and one more. Beside them it holds 8 bytes a page, 8 an arc of one range of
-/// pages, and the archive that it makes.
+/// each page that a reference reaches and one more. Beside them it holds 8 bytes a page, which it takes before the
+/// records are judged; 8 an arc of one range of pages, and the archive that it makes.
 pub fn transpose<D: Depot, O: Sink>(
     alloc: Global,
     input: &Name,
@@ -32,8 +31,7 @@ pub fn transpose<D: Depot, O: Sink>(
 {
     let params = load_params(alloc, depot, input)?;
     let bytes = load(alloc, depot, input, Input::Graph)?;
-    let lists = lists_of_records(alloc, &params, bytes.as_slice())?;
-    let made = params_of(layout, lists.nodes(), params.arcs());
-    let archive = encode_transposed(alloc, &made, lists)?;
+    let ranges = ranges_of_records(alloc, &params, bytes.as_slice())?;
+    let (made, archive) = encode_transposed(alloc, layout, ranges, params.arcs())?;
     build_archive(alloc, &made, &archive, output, depot, out)
 }

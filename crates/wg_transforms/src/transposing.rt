@@ -1,92 +1,118 @@
 //! The archive of a transposed graph, encoded in memory, range after range of pages.
-ghost use Rattle.std.specs.Prelude.{◌≡◌, ◌≤◌, [], take, IfOk, IfErr};
-ghost use Rattle.wg_params.specs.declared.limits.TheConstants.{MOST_ARCS, MOST_PAGES};
-ghost use Rattle.wg_graph.specs.Digraph.{arc_count};
-ghost use Rattle.wg_encoder.specs.ArchiveInMemory.{HasEncoded};
+ghost use Rattle.std.specs.Prelude.{◌≡◌, ◌≤◌, Err, ℕ, IfErr, IfOk, length};
+ghost use Rattle.wg_io.specs.declared.limits.TheConstants.{MOST_BYTES};
+ghost use Rattle.wg_bits.specs.Bits.{bits_of};
+ghost use Rattle.wg_params.specs.Parameters.{IsWithinLimits, params_of};
+ghost use Rattle.wg_grammar.specs.Archive.{Accepted};
+ghost use Rattle.wg_outcomes.specs.Answers.{Steps};
+ghost use Rattle.wg_outcomes.specs.Judged.{with_graph};
+ghost use Rattle.wg_outcomes.specs.Promised.{IsBadFile};
+ghost use Rattle.wg_outcomes.specs.Readings.{Readings};
+ghost use Rattle.wg_transforms.specs.Counting.{CountsArcs, JudgesReversed};
 ghost use Rattle.wg_transpose.specs.Transposed.{transposed};
-ghost use Rattle.wg_writing.specs.Writing.{archive_of};
+ghost use Rattle.wg_writing.specs.Writing.{IsArchiveOf};
 
-use wg_writing::with_properties;
-use std::alloc::{AllocError, Global};
-use wg_encoder::{ArchiveEncoder, EncodedArchive};
+use crate::counting::{Counted, count_records};
+use crate::ranging::archive_of_ranges;
+use std::alloc::Global;
+use wg_encoder::EncodedArchive;
 use wg_graph::Lists;
-use wg_outcomes::{Ending, Status};
-use wg_params::Params;
+use wg_outcomes::{Ending, Input, Status};
+use wg_params::{Layout, Params};
+use wg_readings::lists_of_records;
+use wg_stream::{PagesError, Sweep};
 use wg_transpose::{Transposer, range_room};
 
-// Encodes the lists of the range, page after page.
-fn add_range<L: Lists + Drop>(
-    mut encoder: ArchiveEncoder,
-    ranges: &Transposer<L>,
-) -> Result<ArchiveEncoder, AllocError>
-    requires nodes { encoder.params.nodes ≡ ranges.now.graph.nodes }
-    requires arcs { encoder.params.arcs ≡ arc_count ranges.now.graph }
-    requires encoded { HasEncoded encoder (take ranges.now.from (transposed ranges.now.graph).lists) }
-    ensures params { IfOk result (λ e. e.params ≡ encoder.params) }
-    ensures encoded { IfOk result (λ e. HasEncoded e (take ranges.now.to (transposed ranges.now.graph).lists)) }
+// Judges the records of a graph file, and counts the arcs that lead to each page, in one pass.
+fn counted_of_graph(alloc: Global, params: &Params, bytes: &[u8]) -> Result<Counted, Ending>
+    requires { length bytes.now ≤ MOST_BYTES }
+    ensures limits { IsWithinLimits params.now }
+    ensures finds { IfOk result (λ found. CountsArcs params.now (bits_of bytes.now) found.greatest found.counts.items) }
+    ensures refused { (r : Readings) → IfErr result (λ e. Steps {B = Accepted}
+        (with_graph r params.now bytes.now) (Err e)) }
+    ensures only { IfErr result (λ e. IsBadFile Input.Graph params.now.arcs e) }
 {
-    // tells what the graph is
-    ranges.nodes();
-    for page in ranges.from()..ranges.to() {
-        encoder = encoder.add(ranges.list(page))?;
+    // tells the limits
+    params.nodes();
+    match count_records(alloc, bytes, *params) {
+        Ok(found) => Ok(found),
+        Err(PagesError::Fault(fault)) => Err(Ending {
+            status: Status::BadArchive(fault),
+            promised: params.arcs(),
+        }),
+        Err(PagesError::Memory) => Err(Ending::of(Status::Memory)),
+        Err(PagesError::Refused(never)) => match never {},
     }
-    Ok(encoder)
 }
 
-// Encodes the lists of all ranges, each of which has at least so many arcs, but for the last.
-fn add_ranges<L: Lists + Drop>(
-    alloc: Global,
-    mut encoder: ArchiveEncoder,
-    ranges: &mut Transposer<L>,
-    room: u64,
-) -> Result<ArchiveEncoder, AllocError>
-    requires nodes { encoder.params.nodes ≡ ranges.old.graph.nodes }
-    requires arcs { encoder.params.arcs ≡ arc_count ranges.old.graph }
-    requires none { ranges.old.to ≡ 0 }
-    requires encoded { HasEncoded encoder [] }
-    ensures params { IfOk result (λ e. e.params ≡ encoder.params) }
-    ensures encoded { IfOk result (λ e. HasEncoded e (transposed ranges.old.graph).lists) }
-{
-    'all: while ranges.to() < ranges.nodes() {
-        ranges.advance(alloc, room)?;
-        encoder = add_range(encoder, ranges)?;
-    }
-    Ok(encoder)
-}
-
-fn archive_of_lists<L: Lists + Drop>(
+// The lists of the transposed graph of a graph file whose arcs are counted while its records are judged.
+fn counted_ranges<'a>(
     alloc: Global,
     params: &Params,
-    lists: L,
-) -> Result<EncodedArchive, AllocError>
-    requires few { (L.graph lists).nodes ≤ MOST_PAGES }
-    requires nodes { params.now.nodes ≡ (L.graph lists).nodes }
-    requires arcs { params.now.arcs ≡ arc_count (L.graph lists) }
-    ensures { IfOk result (λ a. a ≡ archive_of params.now (transposed (L.graph lists))) }
+    bytes: &'a [u8],
+) -> Result<Transposer<Sweep<'a>>, Ending>
+    requires { length bytes.now ≤ MOST_BYTES }
+    ensures { JudgesReversed params.now bytes.now result }
 {
-    let room = range_room(params.arcs());
-    let mut ranges = Transposer::new(alloc, lists)?;
-    let begun = ArchiveEncoder::new(alloc, *params)?;
-    let encoder = add_ranges(alloc, begun, &mut ranges, room)?;
-    with_properties(alloc, encoder, params)
+    let found = counted_of_graph(alloc, params, bytes)?;
+    match Sweep::with_room(alloc, bytes, *params, found.greatest) {
+        Ok(lists) => Ok(Transposer::with_counts(alloc, lists, found.counts)),
+        Err(_) => Err(Ending::of(Status::Memory)),
+    }
 }
 
-/// The archive of the transposed graph of a graph whose lists are read in order, with these parameters. It goes along
-/// the lists once for each range of pages, at most 15 times, and once before. Beside the archive it holds 8 bytes a
+// The same, where they are judged first.
+fn judged_ranges<'a>(
+    alloc: Global,
+    params: &Params,
+    bytes: &'a [u8],
+) -> Result<Transposer<Sweep<'a>>, Ending>
+    requires { length bytes.now ≤ MOST_BYTES }
+    ensures { JudgesReversed params.now bytes.now result }
+{
+    // tells the limits
+    params.nodes();
+    let lists = lists_of_records(alloc, params, bytes)?;
+    match Transposer::new(alloc, lists) {
+        Ok(ranges) => Ok(ranges),
+        Err(_) => Err(Ending::of(Status::Memory)),
+    }
+}
+
+/// The lists of the transposed graph of a graph file, before the first range of pages. The pass that judges the records
+/// counts the arcs, too, for which it takes 8 bytes a page. But a record has one bit at least: where the file has fewer
+/// bits than pages, nothing is taken for these, and its first fault is found.
+pub fn ranges_of_records<'a>(
+    alloc: Global,
+    params: &Params,
+    bytes: &'a [u8],
+) -> Result<Transposer<Sweep<'a>>, Ending>
+    requires { length bytes.now ≤ MOST_BYTES }
+    ensures { JudgesReversed params.now bytes.now result }
+{
+    if params.nodes() <= 8 * bytes.len() as u64 {
+        counted_ranges(alloc, params, bytes)
+    } else {
+        judged_ranges(alloc, params, bytes)
+    }
+}
+
+/// The archive of a transposed graph of so many arcs, whose lists come range after range, and its parameters. It goes
+/// along the lists of the graph once for each range of pages, at most 15 times. Beside the archive it holds 8 bytes a
 /// page, and 8 an arc of one range: a fourteenth of the arcs or 2^24 of them, if that is more, and those of one page.
 pub fn encode_transposed<L: Lists + Drop>(
     alloc: Global,
-    params: &Params,
-    lists: L,
-) -> Result<EncodedArchive, Ending>
-    requires few { (L.graph lists).nodes ≤ MOST_PAGES }
-    requires nodes { params.now.nodes ≡ (L.graph lists).nodes }
-    requires arcs { params.now.arcs ≡ arc_count (L.graph lists) }
-    ensures encoded { IfOk result (λ a. a ≡ archive_of params.now (transposed (L.graph lists))) }
+    layout: &Layout,
+    ranges: Transposer<L>,
+    arcs: u64,
+) -> Result<(Params, EncodedArchive), Ending>
+    requires layout { IsWithinLimits (params_of layout.now 0 0) }
+    requires none { ranges.to ≡ 0 }
+    ensures made { IfOk result (λ made. IsArchiveOf layout.now (transposed ranges.graph) made) }
     ensures only { IfErr result (λ e. e.status ≡ Status.Memory) }
 {
-    match archive_of_lists(alloc, params, lists) {
-        Ok(archive) => Ok(archive),
+    match archive_of_ranges(alloc, layout, ranges, range_room(arcs)) {
+        Ok(made) => Ok(made),
         Err(_) => Err(Ending::of(Status::Memory)),
     }
 }

@@ -11,7 +11,6 @@ ghost use Rattle.wg_transforms.specs.Loaded.{IsLoaded};
 ghost use Rattle.wg_writing.specs.Writing.{IsArchiveOf};
 ghost use Rattle.wg_outcomes.specs.Performs.{DoesOrEnds};
 
-use wg_writing::build_archive;
 use crate::loaded::{Loaded, load_archive, load_second};
 use crate::uniting::encode_union;
 use std::alloc::Global;
@@ -22,6 +21,7 @@ use wg_params::{Layout, Params};
 use wg_shape::ShapeError;
 use wg_stream::Sweep;
 use wg_words::Name;
+use wg_writing::build_archive;
 
 /// Writes the greedy archive of the union of two archives' graphs, in the layout that is given, and prints the line of
 /// what it holds. All of the first archive is judged before the second is read, and both before a file is touched. It

@@ -8,13 +8,13 @@ ghost use Rattle.wg_shape.specs.Graphs.{union_graph};
 ghost use Rattle.wg_transforms.specs.Uniting.{IsUniting};
 ghost use Rattle.wg_writing.specs.Writing.{IsArchiveOf};
 
-use wg_writing::with_properties;
 use std::alloc::Global;
 use wg_encoder::{ArchiveEncoder, EncodedArchive};
 use wg_graph::{List, Lists};
 use wg_outcomes::params_of;
 use wg_params::{Layout, MOST_ARCS, Params};
 use wg_shape::{ShapeError, next_union};
+use wg_writing::with_properties;
 
 // Encodes the list that comes next; `list` has room for it.
 fn add_next<A: Lists, B: Lists>(

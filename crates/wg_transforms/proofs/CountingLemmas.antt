@@ -1,0 +1,56 @@
+-- The arcs of the records of a graph file, counted at their targets record by record.
+use Rattle.std.proofs.Common.{◌≡◌, ◌∙◌, ℕ, ◌+◌, ◌<◌, cond, List, [], ◌∷◌, ◌++◌, length, get_or, Result, Err, sym, ap, subst, arith}
+use Rattle.std.specs.Result.{IsErrAnd}
+use Rattle.std.proofs.lemmas.List.{get_or_append_left, get_or_at}
+use Rattle.wg_io.proofs.PutsLemmas.{is_that_err}
+use Rattle.wg_params.specs.Parameters.{Parameters}
+use Rattle.wg_graph.specs.Numbers.{is_in}
+use Rattle.wg_graph.specs.Digraph.{Digraph, successors}
+use Rattle.wg_graph.specs.Arcs.{has_arc}
+use Rattle.wg_graph.proofs.Sets.{where_same}
+use Rattle.wg_grammar.specs.Record.{Whole}
+use Rattle.wg_grammar.specs.Archive.{lists_of}
+use Rattle.wg_stream.proofs.PrefixLemmas.{length-lists, lists_more}
+use Rattle.wg_transpose.specs.SoFar.{AreCounts, predecessors_below}
+use Rattle.wg_transpose.specs.Transposing.{Transposing}
+use Rattle.wg_transpose.proofs.Steps.{counted_more}
+use Rattle.wg_outcomes.specs.Answers.{Steps}
+use Rattle.wg_outcomes.specs.Judged.{with_digraph}
+use Rattle.wg_outcomes.specs.Promised.{IsBadFile}
+use Rattle.wg_outcomes.specs.Readings.{Readings}
+use Rattle.wg_outcomes.specs.declared.ending.Ending.{Ending}
+use Rattle.wg_outcomes.specs.declared.status.Input.TheVariants.{Graph}
+use Rattle.wg_transforms.specs.Counting.{JudgesReversed}
+
+-- the lists of the records behind, as those of the first pages of a graph
+abbrev pub graph_behind : ℕ → List Whole → Digraph
+graph_behind n behind = record { nodes = n; lists = lists_of behind }
+
+module _ (n : ℕ) (behind : List Whole) (w : Whole) (k : ℕ) (is : length behind ≡ k) where
+  size : length (lists_of behind) ≡ k
+  size = length-lists behind ∙ is
+
+  -- a record more leaves the lists before it as they are
+  same_list : (u : ℕ) → u < k → successors (graph_behind n behind) u ≡ successors (graph_behind n (w ∷ behind)) u
+  same_list u lt =
+      sym (ap (λ (l : List (List ℕ)). get_or l u []) (lists_more w behind) ∙ get_or_append_left (lists_of behind) (w.known.list ∷ []) [] u (omega (arith, size)))
+
+  last_list : w.known.list ≡ successors (graph_behind n (w ∷ behind)) k
+  last_list = sym (ap (λ (l : List (List ℕ)). get_or l k []) (lists_more w behind) ∙ get_or_at (lists_of behind) w.known.list [] [] k size)
+
+  pub record_counted : (list old new : List ℕ) → list ≡ w.known.list → length new ≡ length old
+      → ((v : ℕ) → v < length old → get_or new v 0 ≡ get_or old v 0 + cond (is_in v list) 1 0)
+      → AreCounts n (predecessors_below (graph_behind n behind) k) old → AreCounts n (predecessors_below (graph_behind n (w ∷ behind)) (k + 1)) new
+  record_counted list old new list_is same each h =
+      counted_more (graph_behind n (w ∷ behind)) k list old new (list_is ∙ last_list) same each (record {
+        pages = h.pages;
+        each = λ v lt.
+            h.each v lt
+            ∙ ap (λ (l : List ℕ). length l)
+            (where_same (λ u. has_arc (graph_behind n behind) u v) (λ u. has_arc (graph_behind n (w ∷ behind)) u v) 0 k (λ u low high. ap (is_in v) (same_list u (omega arith))));
+      })
+
+-- the exit of a `?`
+pub reversed_exit : (p : Parameters) (bytes : List ℕ) (r : Result Transposing Ending) (e : Ending) → IsErrAnd r (λ x. x ≡ e)
+    → ((q : Readings) → Steps {B = Digraph} (with_digraph q p bytes) (Err e)) → IsBadFile Graph p.arcs e → JudgesReversed p bytes r
+reversed_exit p bytes r e is refused only = subst (JudgesReversed p bytes) (sym (is_that_err r e is)) (record { none = tt; nodes = tt; goes = λ q. tt; refused = refused; only = only })

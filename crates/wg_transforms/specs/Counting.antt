@@ -1,0 +1,32 @@
+-- The arcs of a graph file, counted at their targets while its records are judged.
+use Rattle.std.specs.Prelude.{◌≡◌, ℕ, ◌≤◌, All, Bool, List, length, Result, Ok, Err, IfOk, IfErr}
+use Rattle.wg_params.specs.Parameters.{Parameters}
+use Rattle.wg_graph.specs.Digraph.{Digraph}
+use Rattle.wg_grammar.specs.Archive.{Accepted, ReadsGraph}
+use Rattle.wg_grammar.specs.Laws.{graph_of}
+use Rattle.wg_transpose.specs.Transposed.{predecessors}
+use Rattle.wg_transpose.specs.SoFar.{AreCounts}
+use Rattle.wg_transpose.specs.Transposing.{Transposing}
+use Rattle.wg_outcomes.specs.Answers.{Steps}
+use Rattle.wg_outcomes.specs.Judged.{with_digraph}
+use Rattle.wg_outcomes.specs.Promised.{IsBadFile}
+use Rattle.wg_outcomes.specs.Readings.{Readings}
+use Rattle.wg_outcomes.specs.declared.ending.Ending.{Ending}
+use Rattle.wg_outcomes.specs.declared.status.Input.TheVariants.{Graph}
+
+-- What such a pass finds: the bits stand for a graph, no list of it is longer than the greatest, and so many arcs lead
+-- to each page.
+pub record CountsArcs (p : Parameters) (bits : List Bool) (greatest : ℕ) (counts : List ℕ) : Type 0 where
+  pub accepted : Accepted
+  pub reads : ReadsGraph p bits (Ok accepted)
+  pub room : All (λ list. length list ≤ greatest) accepted.graph
+  pub counted : AreCounts p.nodes (predecessors (graph_of p accepted)) counts
+
+-- The graph of a graph file was judged, and the first range of the lists of the transposed graph is still to come; or
+-- the job ends.
+pub record JudgesReversed (p : Parameters) (bytes : List ℕ) (result : Result Transposing Ending) : Type 0 where
+  pub none : IfOk result (λ t. t.to ≡ 0)
+  pub nodes : IfOk result (λ t. t.graph.nodes ≡ p.nodes)
+  pub goes : (r : Readings) → IfOk result (λ t. Steps (with_digraph r p bytes) (Ok t.graph))
+  pub refused : (r : Readings) → IfErr result (λ e. Steps {B = Digraph} (with_digraph r p bytes) (Err e))
+  pub only : IfErr result (IsBadFile Graph p.arcs)
