@@ -4,6 +4,7 @@ use wg_ascii::{AsciiError, AsciiKind, PageLines};
 use wg_graph::{GraphBuilder, GraphLists, List, Lists};
 use wg_io::SteadySink;
 use wg_order::Ranking;
+use wg_outcomes::are_few;
 use wg_rank::{Bounds, Pulling, UNITS};
 use wg_runs::{Run, RunCounts, Runs};
 use wg_transpose::{Transposer, transpose};
@@ -115,6 +116,13 @@ fn one_round_of_bounds(rt: HostRuntime) -> Result<(), Fail> {
     assert!(rt; bounds.low(0) == 75 * (UNITS / 1000));
     assert!(rt; bounds.high(0) == UNITS / 2);
     Ok(())
+}
+
+// With 148 bytes a page for runs of 8 bytes.
+#[test]
+fn few_runs_and_many(rt: HostRuntime) {
+    assert!(rt; are_few(37, 2) && !are_few(38, 2));
+    assert!(rt; are_few(0, 0) && !are_few(1, 0));
 }
 
 // Along lists and along runs.
