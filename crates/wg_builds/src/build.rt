@@ -5,13 +5,13 @@ ghost use Rattle.wg_params.specs.declared.limits.TheConstants.{MOST_PAGES};
 ghost use Rattle.wg_words.specs.declared.jobs.Job.TheVariants.{Build};
 ghost use Rattle.wg_outcomes.specs.Performs.{DoesOrEnds};
 
-use wg_writing::build_archive;
 use crate::listing::encode_list;
 use std::alloc::Global;
 use wg_io::{Depot, Sink};
 use wg_outcomes::Ending;
 use wg_params::Layout;
 use wg_words::Name;
+use wg_writing::build_archive;
 
 /// Writes the greedy archive of a graph that is listed arc by arc, and prints the line of what it holds. It goes
 /// through the list once, and judges all of it before it touches a file. It holds up to 65536 bytes of the list and

@@ -12,7 +12,6 @@ ghost use Rattle.wg_outcomes.specs.Bulk.{IsBuilt, bulk_params, outcome_of};
 ghost use Rattle.wg_outcomes.specs.Ranked.{bounds_after};
 ghost use Rattle.wg_outcomes.specs.declared.outcome.TheConstants.{BULK_ROUNDS};
 
-use wg_writing::encode_graph;
 use std::alloc::Global;
 use wg_encoder::EncodedArchive;
 use wg_graph::{Graph, GraphLists};
@@ -24,6 +23,7 @@ use wg_rank::Bounds;
 use wg_readings::{judge_files, load_graph, load_params};
 use wg_vectors::generate;
 use wg_words::{DEFAULT_DAMPING, Name, usual_layout};
+use wg_writing::encode_graph;
 
 fn out_of_memory() -> Ending
     ensures { result.status ≡ Status.Memory }

@@ -3,13 +3,13 @@ ghost use Rattle.wg_params.specs.Parameters.{IsWithinLimits, params_of};
 ghost use Rattle.wg_words.specs.declared.jobs.Job.TheVariants.{Import};
 ghost use Rattle.wg_outcomes.specs.Performs.{DoesOrEnds};
 
-use wg_writing::build_archive;
 use crate::importing::encode_text;
 use std::alloc::Global;
 use wg_io::{Depot, Sink};
 use wg_outcomes::Ending;
 use wg_params::Layout;
 use wg_words::Name;
+use wg_writing::build_archive;
 
 /// Writes the greedy archive of a graph that is listed page by page, and prints the line of what it holds. It goes
 /// through the text once, and judges all of it before it touches a file. It holds up to 65536 bytes of the text and the

@@ -11,7 +11,6 @@ ghost use Rattle.wg_encoder.specs.ArchiveInMemory.{HasEncoded};
 ghost use Rattle.wg_readings.specs.Loading.{LoadsTextBy};
 ghost use Rattle.wg_builds.specs.Imported.{Begins, EncodesTextBy, GoesOn, KeepsPace, MakesOfTextBy, status_of_text};
 
-use wg_writing::end_archive;
 use std::alloc::Global;
 use wg_ascii::{AsciiError, PageLines};
 use wg_encoder::{ArchiveEncoder, EncodedArchive};
@@ -22,6 +21,7 @@ use wg_outcomes::{Ending, Input, Status, params_of};
 use wg_params::{Layout, MOST_ARCS, Params};
 use wg_readings::{next_lines, open_lines};
 use wg_words::Name;
+use wg_writing::end_archive;
 
 // How a job ends at an error of a plain text.
 #[cold]

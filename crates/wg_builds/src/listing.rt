@@ -12,7 +12,6 @@ ghost use Rattle.wg_encoder.specs.Laws.{IsList};
 ghost use Rattle.wg_builds.specs.Listed.{EncodesListBy, EndsAtLine, GoesOn, IsOfList, IsUnderWay};
 ghost use Rattle.wg_builds.specs.Listed.{ListsBy, done_at, list_at, status_of_list};
 
-use wg_writing::{add_list, begin_archive, end_archive};
 use std::alloc::Global;
 use wg_arcs::{ArcLines, ArcsError};
 use wg_encoder::{ArchiveEncoder, EncodedArchive};
@@ -22,6 +21,7 @@ use wg_outcomes::{Ending, Input, Status, params_of};
 use wg_params::{Layout, MOST_ARCS, Params};
 use wg_readings::{next_lines, open_lines};
 use wg_words::Name;
+use wg_writing::{add_list, begin_archive, end_archive};
 
 // How a job ends at an error of an arc list.
 #[cold]
