@@ -1,12 +1,13 @@
 // Files of the system.
 ghost use Rattle.std.specs.Prelude.{◌≡◌, ◌<◌, ◌≤◌, ℕ, IfOk, length};
 
+use crate::pipe::{Pipe, read_first, read_open};
 use crate::stream::write_some;
 use crate::tally::Tally;
 use crate::{Depot, ReadError, WriteError};
 use std::alloc::Global;
 use std::fs::{File, OpenOptions};
-use std::io;
+use std::io::{self, ErrorKind};
 use std::marker::Model;
 use std::os::unix::fs::FileExt;
 use std::rt::Files;
@@ -16,12 +17,18 @@ use std::rt::Files;
 /// The file that was read last stays open, and so does the one that was appended to last, so that a file that is read
 /// or written in pieces costs one call of the system a piece. Each holds a copy of its name; if there is no memory for
 /// it, the next call opens the file anew. A file that others put under the name of an open one goes unseen.
+///
+/// A file that can't be positioned, as a pipe or a terminal, is read in order: once, from its first byte on. The byte at
+/// 2^46, which is asked for before the first one, is answered as if it were not there, and a read at any other place
+/// than where the last one ended is refused. Such a file stays open whatever else is read, for a pipe that is opened
+/// again may wait for ever; if there is no memory for its name, the read is out of memory.
 #[derive(Drop)]
 pub struct FolderDepot<R: Files<File = File> + AllocGlobal + Drop> {
     rt: R,
     tally: Tally,
     read_last: Option<OpenFile>,
     appended_last: Option<OpenFile>,
+    pipes: Vec<Pipe>,
 }
 
 impl<R: Files<File = File> + AllocGlobal + Drop> Model for FolderDepot<R> {
@@ -36,11 +43,13 @@ impl<R: Files<File = File> + AllocGlobal + Drop> FolderDepot<R> {
     pub fn new(rt: R) -> FolderDepot<R>
         ensures { result ≡ record { read_faults = 0; write_faults = 0; absences = 0; wants = 0 } }
     {
+        let pipes = Vec::new(rt.alloc());
         FolderDepot {
             rt,
             tally: Tally::new(),
             read_last: None,
             appended_last: None,
+            pipes,
         }
     }
 }
@@ -56,7 +65,14 @@ impl<R: Files<File = File> + AllocGlobal + Drop> Depot for FolderDepot<R> {
     ghost counts = { λ d _. d };
 
     fn read(&mut self, name: &str, at: u64, buf: &mut [u8]) -> Result<usize, ReadError> {
-        match read_at(&self.rt, &mut self.read_last, name, at, buf) {
+        match read_at(
+            &self.rt,
+            &mut self.read_last,
+            &mut self.pipes,
+            name,
+            at,
+            buf,
+        ) {
             Ok(count) => Ok(count),
             Err(error) => {
                 self.read_last = None;
@@ -116,10 +132,12 @@ fn keep(alloc: Global, last: &mut Option<OpenFile>, name: &str, file: File) {
     };
 }
 
-// A positioned read, for some file systems refuse a seek to an offset that a read may well ask for.
+// A positioned read, for some file systems refuse a seek to an offset that a read may well ask for; and in what can't
+// be positioned one in order.
 fn read_at<R: Files<File = File> + AllocGlobal>(
     rt: &R,
     last: &mut Option<OpenFile>,
+    pipes: &mut Vec<Pipe>,
     name: &str,
     at: u64,
     buf: &mut [u8],
@@ -131,10 +149,20 @@ fn read_at<R: Files<File = File> + AllocGlobal>(
             return open.file.read_at(buf, at);
         }
     }
+    if let Some(read) = read_open(pipes, name, at, buf) {
+        return read;
+    }
     let file = File::open(rt, name)?;
-    let count = file.read_at(buf, at)?;
-    keep(rt.alloc(), last, name, file);
-    Ok(count)
+    match file.read_at(buf, at) {
+        Ok(count) => {
+            keep(rt.alloc(), last, name, file);
+            Ok(count)
+        }
+        Err(error) if error.kind() == ErrorKind::NotSeekable => {
+            read_first(rt.alloc(), pipes, name, file, at, buf)
+        }
+        Err(error) => Err(error),
+    }
 }
 
 // Makes a file anew.

@@ -30,15 +30,17 @@
 //! An error is never made up: `Failed`, `Absent` and `Memory` come from an outside only where it counted them, which is
 //! how a contract far above can say that a failed job was the outside's fault. The counts stand still at 2^64 - 1.
 //!
-//! No call holds memory but for the bytes that it answers, and the names of two open files of the system. The depots and
-//! sinks in memory hold their own bytes, and a depot looks a name up by going through all of them.
+//! No call holds memory but for the bytes that it answers, and the names of two open files of the system and of each
+//! open pipe. The depots and sinks in memory hold their own bytes, and a depot looks a name up by going through all of
+//! them.
 //!
 //! Choices:
 //!
 //! - The first read of a file asks for the byte at offset 2^46, so that a file that is too long is refused before any
 //!   of it is held; one that grows meanwhile is refused when it passes the limit. Common file systems refuse to seek
-//!   there, and answer a positioned read with no bytes: so each read of `FolderDepot` gives its offset. *Revisit if*
-//!   there are archives of more than 64 TiB, or a system without positioned reads has to be served.
+//!   there, and answer a positioned read with no bytes: so each read of `FolderDepot` gives its offset. A pipe, which
+//!   has no offsets, is read in order, and its first such question is answered with no bytes. *Revisit if* there are
+//!   archives of more than 64 TiB, or a system without positioned reads has to be served.
 //! - `FolderDepot` keeps open two files. *Revisit if* a command reads three or more in turn, so that each piece opens
 //!   one.
 //! - A write of no bytes is a failure: otherwise a full disk could be tried for ever. *Revisit if* a system is met
@@ -60,6 +62,7 @@ mod memory_depot;
 mod memory_sink;
 mod output;
 mod pieces;
+mod pipe;
 mod sink;
 mod steady_depot;
 mod steady_sink;
