@@ -7,7 +7,8 @@ ghost use Rattle.wg_graph.specs.Pieces.{cut, IsCut};
 use crate::cutting::piece;
 use std::marker::Model;
 
-/// A graph of pages: 8 bytes for each arc, and 8 for each page. Each call takes constant time, and no memory.
+/// A graph of pages: 8 bytes for each arc, and 8 for each page. Each list ascends and has pages alone, as `proper` of
+/// [`nodes`](Graph::nodes) tells. Each call takes constant time, and no memory.
 #[derive(Clone, Debug, Drop)]
 pub struct Graph {
     // The end of each list; it begins where the one before it ends.
