@@ -19,7 +19,7 @@ use wg_params::Code;
 ///
 /// It is seen as the code, the number of records, and how many words were read and the offset that they lead to. Hand
 /// in the same source at each call: the clauses on bits are of one that was.
-#[derive(Drop)]
+#[derive(Debug, Drop)]
 pub struct OffsetWords {
     code: Code,
     pages: u64,
