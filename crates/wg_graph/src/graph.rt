@@ -29,6 +29,27 @@ impl Model for Graph {
     ghost invariant = { λ g. IsCut (length g.ends.items) g.ends.items g.all.items };
 }
 
+impl PartialEq for Graph {
+    ghost use Rattle.std.specs.Prelude.{bytes_eq};
+    ghost use Rattle.std.specs.Cmp.{on_per, partial_equiv_from_equiv};
+    ghost use Rattle.std.specs.Cmp.Lexicographic.{lists_per, nat_list_eq_equiv, pointwise};
+
+    ghost eq = { λ g h. pointwise bytes_eq g.lists h.lists };
+
+    ghost laws = { on_per (λ g. g.lists) (lists_per (partial_equiv_from_equiv nat_list_eq_equiv)) };
+
+    fn eq(&self, other: &Graph) -> bool {
+        self.ends == other.ends && self.all == other.all
+    }
+}
+
+impl Eq for Graph {
+    ghost use Rattle.std.specs.Cmp.{on_equiv};
+    ghost use Rattle.std.specs.Cmp.Lexicographic.{lists_equiv, nat_list_eq_equiv};
+
+    ghost laws = { on_equiv (λ g. g.lists) (lists_equiv nat_list_eq_equiv) };
+}
+
 impl Graph {
     /// The graph whose lists stand one after the other in `all`, each up to its end in `ends`. It takes no memory.
     pub fn from_parts(ends: Vec<u64>, all: Vec<u64>) -> Graph
