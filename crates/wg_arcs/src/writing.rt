@@ -1,4 +1,4 @@
-ghost use Rattle.std.specs.Prelude.{◌≡◌, ◌≤◌, ◌++◌, take, codes, decimal, IsTrue};
+ghost use Rattle.std.specs.Prelude.{◌≡◌, ◌≤◌, [], ◌++◌, take, codes, decimal, IsTrue, OnErr};
 ghost use Rattle.wg_lines.specs.Printing.{Prints};
 ghost use Rattle.wg_io.specs.Puts.{Puts};
 ghost use Rattle.wg_io.specs.Refusals.{SinkRefusals};
@@ -30,6 +30,7 @@ pub fn print_list<S: Sink>(
 ) -> Result<(), WriteError>
     ensures prints { IsTrue S.told → Prints (page_lines page list.now) (S.taken sink.old) (S.taken sink.new) lines.old
         lines.new result }
+    ensures empty { OnErr result (lines.new ≡ []) }
     ensures later { S.later sink.old sink.new }
     ensures refusals { SinkRefusals ⟦<S as Sink>⟧ sink.old sink.new result }
 {

@@ -1,4 +1,4 @@
-ghost use Rattle.std.specs.Prelude.{◌≡◌, IsTrue};
+ghost use Rattle.std.specs.Prelude.{◌≡◌, [], IsTrue, OnErr};
 ghost use Rattle.wg_lines.specs.Printing.{Prints};
 ghost use Rattle.wg_io.specs.Puts.{Puts};
 ghost use Rattle.wg_io.specs.Refusals.{SinkRefusals};
@@ -12,6 +12,7 @@ use wg_lines::Lines;
 pub fn print_nodes<S: Sink>(lines: &mut Lines, sink: &mut S, nodes: u64) -> Result<(), WriteError>
     ensures prints { IsTrue S.told →
         Prints (nodes_line nodes) (S.taken sink.old) (S.taken sink.new) lines.old lines.new result }
+    ensures empty { OnErr result (lines.new ≡ []) }
     ensures later { S.later sink.old sink.new }
     ensures refusals { SinkRefusals ⟦<S as Sink>⟧ sink.old sink.new result }
 {
@@ -24,6 +25,7 @@ pub fn print_nodes<S: Sink>(lines: &mut Lines, sink: &mut S, nodes: u64) -> Resu
 fn print_word<S: Sink>(lines: &mut Lines, sink: &mut S, v: u64) -> Result<(), WriteError>
     ensures prints { IsTrue S.told →
         Prints (word_after v) (S.taken sink.old) (S.taken sink.new) lines.old lines.new result }
+    ensures empty { OnErr result (lines.new ≡ []) }
     ensures later { S.later sink.old sink.new }
     ensures refusals { SinkRefusals ⟦<S as Sink>⟧ sink.old sink.new result }
 {
@@ -35,6 +37,7 @@ fn print_word<S: Sink>(lines: &mut Lines, sink: &mut S, v: u64) -> Result<(), Wr
 fn print_after<S: Sink>(lines: &mut Lines, sink: &mut S, list: &[u64]) -> Result<(), WriteError>
     ensures prints { IsTrue S.told →
         Prints (words_after list.now) (S.taken sink.old) (S.taken sink.new) lines.old lines.new result }
+    ensures empty { OnErr result (lines.new ≡ []) }
     ensures later { S.later sink.old sink.new }
     ensures refusals { SinkRefusals ⟦<S as Sink>⟧ sink.old sink.new result }
 {
@@ -48,6 +51,7 @@ fn print_after<S: Sink>(lines: &mut Lines, sink: &mut S, list: &[u64]) -> Result
 fn print_words<S: Sink>(lines: &mut Lines, sink: &mut S, list: &[u64]) -> Result<(), WriteError>
     ensures prints { IsTrue S.told →
         Prints (list_words list.now) (S.taken sink.old) (S.taken sink.new) lines.old lines.new result }
+    ensures empty { OnErr result (lines.new ≡ []) }
     ensures later { S.later sink.old sink.new }
     ensures refusals { SinkRefusals ⟦<S as Sink>⟧ sink.old sink.new result }
 {
@@ -64,6 +68,7 @@ fn print_words<S: Sink>(lines: &mut Lines, sink: &mut S, list: &[u64]) -> Result
 pub fn print_list<S: Sink>(lines: &mut Lines, sink: &mut S, list: &[u64]) -> Result<(), WriteError>
     ensures prints { IsTrue S.told →
         Prints (list_line list.now) (S.taken sink.old) (S.taken sink.new) lines.old lines.new result }
+    ensures empty { OnErr result (lines.new ≡ []) }
     ensures later { S.later sink.old sink.new }
     ensures refusals { SinkRefusals ⟦<S as Sink>⟧ sink.old sink.new result }
 {

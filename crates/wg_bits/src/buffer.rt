@@ -14,7 +14,7 @@ const BUFFER: usize = 4096;
 const FULL: usize = BUFFER - 8;
 
 /// Bytes that wait to go out, in memory of its own.
-#[derive(Drop)]
+#[derive(Debug, Drop)]
 pub(crate) struct Buffer {
     // those that wait are the first `len`
     bytes: [u8; BUFFER],

@@ -1,5 +1,6 @@
 -- The graph file and the offsets file of a graph, and its archive.
-use Rattle.std.specs.Prelude.{ℕ, ◌+◌, ◌*◌, ◌/◌, Bool, false, nat_lt, if◌then◌else◌, List, [], ◌∷◌, ◌++◌, length, take, drop, map, replicate, fold}
+use Rattle.std.specs.Prelude.{ℕ, ◌+◌, ◌*◌, ◌/◌, Bool, false, nat_lt, if◌then◌else◌, List, [], ◌∷◌, ◌++◌, length, take}
+use Rattle.std.specs.Prelude.{drop, map, replicate, fold}
 use Rattle.std.specs.List.{flat_map, range_with_len, count_by}
 use Rattle.wg_bits.specs.Written.{padding}
 use Rattle.wg_codes.specs.Words.{word}

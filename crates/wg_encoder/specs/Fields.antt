@@ -1,7 +1,8 @@
 -- The fields of a record that is written, each with its code and its stored value. By BVGraph's documentation they come
 -- in this order: outdegree, reference, block count and blocks, interval count and each interval's left end and length,
 -- residuals.
-use Rattle.std.specs.Prelude.{ℕ, ◌+◌, ◌-◌, pos, ◌-ℤ◌, Bool, true, false, not, ◌&&◌, nat_lt, nat_le, if◌then◌else◌, List, [], ◌∷◌, ◌++◌, length, map, filter, Option, Some, None}
+use Rattle.std.specs.Prelude.{ℕ, ◌+◌, ◌-◌, pos, ◌-ℤ◌, Bool, true, false, not, ◌&&◌, nat_lt, nat_le, if◌then◌else◌}
+use Rattle.std.specs.Prelude.{List, [], ◌∷◌, ◌++◌, length, map, filter, Option, Some, None}
 use Rattle.std.specs.List.{flat_map, list_all}
 use Rattle.wg_params.specs.Parameters.{Parameters}
 use Rattle.wg_params.specs.declared.code.Code.{Code}
@@ -93,7 +94,8 @@ reference_of (y ∷ ys) r = r
 -- how the list of a page is written with the reference r, where this is the list that r names, empty for none
 abbrev pub list_fields : Parameters → ℕ → ℕ → List ℕ → List ℕ → List Written
 list_fields p page r referenced [] = []
-list_fields p page r referenced (y ∷ ys) = (reference_fields p r ++ copy_fields p r referenced (y ∷ ys)) ++ extra_fields p page (extras (y ∷ ys) referenced)
+list_fields p page r referenced (y ∷ ys) =
+    (reference_fields p r ++ copy_fields p r referenced (y ∷ ys)) ++ extra_fields p page (extras (y ∷ ys) referenced)
 
 -- the record of a page by a reference
 unfoldable pub record_fields : Parameters → ℕ → ℕ → List ℕ → List ℕ → List Written

@@ -1,5 +1,6 @@
 -- What has gone out of an archive, and what stands of its files if the writing stopped.
-use Rattle.std.specs.Prelude.{◌≡◌, ◌≢◌, ◌⊎◌, ℕ, ◌<◌, ◌^◌, Bool, List, ◌++◌, length, take, All, Option, Some, Result, IsTrue, IfOk, IfErr, OnErr}
+use Rattle.std.specs.Prelude.{◌≡◌, ◌≢◌, ◌⊎◌, ℕ, ◌<◌, ◌^◌, Bool, List, ◌++◌, length, take, All, Option, Some, Result}
+use Rattle.std.specs.Prelude.{IsTrue, IfOk, IfErr, OnErr}
 use Rattle.std.specs.FinMap as fin
 use Rattle.wg_io.specs.Outside.{Files, Counts, Increased, NonDecreasing}
 use Rattle.wg_io.specs.Suffixes.{graph_name, offsets_name}
@@ -52,7 +53,9 @@ HasSentUpTo files base e = HasSentLists files base e.params (lists_before e) e.g
 
 -- the files of the greedy archive
 abbrev pub IsWritten : Files → List ℕ → Parameters → List (List ℕ) → Type 0
-IsWritten files base p lists = (fin.get files (graph_name base) ≡ Some (graph_file p lists)) × (fin.get files (offsets_name base) ≡ Some (offsets_file p lists))
+IsWritten files base p lists =
+    (fin.get files (graph_name base) ≡ Some (graph_file p lists))
+    × (fin.get files (offsets_name base) ≡ Some (offsets_file p lists))
 
 -- Both files are prefixes of the greedy archive's: the one that a call failed on lacks something, and so does one of
 -- them at out of memory.
@@ -62,8 +65,10 @@ HasStopped files base p lists (error.Failed output.Graph) =
 HasStopped files base p lists (error.Failed output.Offsets) =
     HoldsFront (fin.get files (graph_name base)) (graph_file p lists) × HoldsLess (fin.get files (offsets_name base)) (offsets_file p lists)
 HasStopped files base p lists error.Memory =
-    (HoldsLess (fin.get files (graph_name base)) (graph_file p lists) × HoldsFront (fin.get files (offsets_name base)) (offsets_file p lists))
-    ⊎ (HoldsFront (fin.get files (graph_name base)) (graph_file p lists) × HoldsLess (fin.get files (offsets_name base)) (offsets_file p lists))
+    (HoldsLess (fin.get files (graph_name base)) (graph_file p lists)
+        × HoldsFront (fin.get files (offsets_name base)) (offsets_file p lists))
+    ⊎ (HoldsFront (fin.get files (graph_name base)) (graph_file p lists)
+        × HoldsLess (fin.get files (offsets_name base)) (offsets_file p lists))
 HasStopped files base p lists (error.Failed output.Properties) = ⊥
 HasStopped files base p lists (error.Failed output.Certificate) = ⊥
 HasStopped files base p lists (error.Failed output.Out) = ⊥
@@ -71,7 +76,8 @@ HasStopped files base p lists (error.Failed output.Out) = ⊥
 -- A call failed on one of the two files alone, and only if the count of its failures increased.
 abbrev pub HasFailed : List ℕ → (List ℕ → Counts) → (List ℕ → Counts) → EncodeError → Type 0
 HasFailed base old new (error.Failed output.Graph) = Increased (old (graph_name base)).write_faults (new (graph_name base)).write_faults
-HasFailed base old new (error.Failed output.Offsets) = Increased (old (offsets_name base)).write_faults (new (offsets_name base)).write_faults
+HasFailed base old new (error.Failed output.Offsets) =
+    Increased (old (offsets_name base)).write_faults (new (offsets_name base)).write_faults
 HasFailed base old new error.Memory = Unit {0}
 HasFailed base old new (error.Failed output.Properties) = ⊥
 HasFailed base old new (error.Failed output.Certificate) = ⊥

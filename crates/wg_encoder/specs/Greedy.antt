@@ -45,7 +45,8 @@ known_after p behind (list ∷ lists) = known_after p (known_of p (context_after
 -- the references by which these lists are written, one after the other, where these pages are behind
 abbrev pub references_of : Parameters → List Known → List (List ℕ) → List ℕ
 references_of p behind [] = []
-references_of p behind (list ∷ lists) = chosen p (context_after p behind) list ∷ references_of p (known_of p (context_after p behind) list ∷ behind) lists
+references_of p behind (list ∷ lists) =
+    chosen p (context_after p behind) list ∷ references_of p (known_of p (context_after p behind) list ∷ behind) lists
 
 -- the records of these lists, one after the other, where these pages are behind
 abbrev pub records_of : Parameters → List Known → List (List ℕ) → List (List Written)

@@ -19,11 +19,16 @@ ChosenIsCandidate = (p : Parameters) (c : Context) (list : List ℕ) → is_cand
 
 -- No candidate's record is shorter, and a candidate before it has a longer one.
 abbrev pub ChosenIsShortest : Type 0
-ChosenIsShortest = (p : Parameters) (c : Context) (list : List ℕ) (r : ℕ) → is_candidate p c list r ≡ true → (size_of p c list (chosen p c list) ≤ size_of p c list r) × (r < chosen p c list → size_of p c list (chosen p c list) < size_of p c list r)
+ChosenIsShortest =
+    (p : Parameters) (c : Context) (list : List ℕ) (r : ℕ) → is_candidate p c list r ≡ true
+    → (size_of p c list (chosen p c list) ≤ size_of p c list r)
+    × (r < chosen p c list → size_of p c list (chosen p c list) < size_of p c list r)
 
 -- The bits of the two files are those of the records and of the offsets, filled up to a whole byte.
 abbrev pub FilesHoldTheBits : Type 0
-FilesHoldTheBits = (p : Parameters) (lists : List (List ℕ)) → (bits_of (graph_file p lists) ≡ filled (graph_bits p lists)) × (bits_of (offsets_file p lists) ≡ filled (offsets_bits p lists))
+FilesHoldTheBits =
+    (p : Parameters) (lists : List (List ℕ)) → (bits_of (graph_file p lists) ≡ filled (graph_bits p lists))
+    × (bits_of (offsets_file p lists) ≡ filled (offsets_bits p lists))
 
 -- the successors of a page within the limits
 pub record IsList (p : Parameters) (list : List ℕ) : Type 0 where
@@ -35,7 +40,8 @@ pub record IsList (p : Parameters) (list : List ℕ) : Type 0 where
 abbrev pub CanonicalIsProper : Type 0
 CanonicalIsProper =
     (p : Parameters) (c : Context) (list : List ℕ) (r : ℕ) (before rest : List Bool)
-    → IsWithinLimits p → c.page < p.nodes → All (λ (k : Known). IsList p k.list) c.behind → IsList p list → c.arcs_before + length list ≤ p.arcs → is_candidate p c list r ≡ true
+    → IsWithinLimits p → c.page < p.nodes → All (λ (k : Known). IsList p k.list) c.behind → IsList p list
+    → c.arcs_before + length list ≤ p.arcs → is_candidate p c list r ≡ true
     → ReadsRecord p c (before ++ (bits_of_fields (canonical p c list r) ++ rest)) (length before) (Ok (record { known = record { list = list; depth = depth_of c.behind (reference_of list r) }; end = length before + size_of p c list r }))
 
 -- so many bits are enough for the records of so many pages with so many arcs
@@ -44,7 +50,9 @@ enough_bits pages arcs = 2 ^ 9 * pages + 2 ^ 8 * arcs
 
 -- The record that is written is short.
 abbrev pub ChosenIsShort : Type 0
-ChosenIsShort = (p : Parameters) (c : Context) (list : List ℕ) → IsWithinLimits p → c.page < p.nodes → IsList p list → size_of p c list (chosen p c list) ≤ enough_bits 1 (length list)
+ChosenIsShort =
+    (p : Parameters) (c : Context) (list : List ℕ) → IsWithinLimits p → c.page < p.nodes → IsList p list
+    → size_of p c list (chosen p c list) ≤ enough_bits 1 (length list)
 
 -- The graph file stands for these lists, the offsets file stores the places of the records, and both are as short as a
 -- file may be.
@@ -56,4 +64,6 @@ pub record IsAcceptedArchive (p : Parameters) (lists : List (List ℕ)) : Type 0
 
 -- The greedy archive of a graph is accepted, and has this graph.
 abbrev pub GreedyIsAccepted : Type 0
-GreedyIsAccepted = (p : Parameters) (g : Digraph) → IsWithinLimits p → IsGraph g → p.nodes ≡ g.nodes → p.arcs ≡ arc_count g → IsAcceptedArchive p g.lists
+GreedyIsAccepted =
+    (p : Parameters) (g : Digraph) → IsWithinLimits p → IsGraph g → p.nodes ≡ g.nodes → p.arcs ≡ arc_count g
+    → IsAcceptedArchive p g.lists

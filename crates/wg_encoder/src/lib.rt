@@ -6,12 +6,11 @@
 //! bits, and of several the one with the smallest reference. The references that were chosen before bear on it by their
 //! depths alone, where the archive limits chains.
 //!
-//! [`record_cost`] counts the bits of a canonical record from the two lists, without making it. A [`ListEncoder`] takes
-//! the lists of pages 0, 1 and so on, each once, and keeps a copy of those that a reference may name, with their
-//! depths: at most as many as the archive's window, each with room for at most twice its numbers, and 32 bytes beside
-//! it. For a list that comes next it tells the candidates, what each of them takes, and which one is written. An
-//! [`Encoder`] does the same for the pages of a graph, and stands on it; a copy of each list is what it costs. No
-//! record has 2 ^ 64 bits or more.
+//! A [`ListEncoder`] takes the lists of pages 0, 1 and so on, each once, and keeps a copy of those that a reference may
+//! name, with their depths: at most as many as the archive's window, each with room for at most twice its numbers, and
+//! 32 bytes beside it. For a list that comes next it tells the candidates, what each of them takes in bits, and which
+//! one is written; to count these bits makes no record. An [`Encoder`] does the same for the pages of a graph, and
+//! stands on it; a copy of each list is what it costs. No record has 2 ^ 64 bits or more.
 //!
 //! [`ListEncoder::next`] and [`Encoder::next`] write a list, and `finish` ends the two files once all are written. Both
 //! take the archive's name, and write the files of its suffixes. The words of the offsets file are 0 and the length of
@@ -98,5 +97,3 @@ pub use archive_encoder::{ArchiveEncoder, encode};
 pub use encoder::Encoder;
 pub use error::EncodeError;
 pub use list_encoder::ListEncoder;
-pub use record::record_cost;
-pub use summary::Summary;

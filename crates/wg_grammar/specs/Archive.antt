@@ -1,5 +1,6 @@
 -- The bits of a graph file: the records of all pages, one after the other, and the tail.
-use Rattle.std.specs.Prelude.{◌≡◌, ◌⊎◌, ℕ, ◌+◌, ◌<◌, ◌≤◌, Bool, true, false, List, [], ◌∷◌, length, take, get_or, map, reverse, Result, Ok, Err}
+use Rattle.std.specs.Prelude.{◌≡◌, ◌⊎◌, ℕ, ◌+◌, ◌<◌, ◌≤◌, Bool, true, false, List, [], ◌∷◌, length, take, get_or, map}
+use Rattle.std.specs.Prelude.{reverse, Result, Ok, Err}
 use Rattle.std.specs.List.{sum_by}
 use Rattle.wg_params.specs.Parameters.{Parameters}
 use Rattle.wg_grammar.specs.declared.tail.TheConstants.{MOST_TAIL}
@@ -54,7 +55,8 @@ EndsAs p bits behind at (Ok a) =
     (length behind ≡ p.nodes) × IsTail bits at × (arcs_of behind ≡ p.arcs) × (a.graph ≡ lists_of behind) × (a.places ≡ places_of behind)
 EndsAs p bits behind at (Err (faults.Record e)) = (length behind < p.nodes) × ReadsRecord p (context_of p behind) bits at (Err e)
 EndsAs p bits behind at (Err (faults.Tail offset)) = (length behind ≡ p.nodes) × IsTailFault bits at offset
-EndsAs p bits behind at (Err (faults.ArcsShort total)) = (length behind ≡ p.nodes) × IsTail bits at × (total ≡ arcs_of behind) × (total < p.arcs)
+EndsAs p bits behind at (Err (faults.ArcsShort total)) =
+    (length behind ≡ p.nodes) × IsTail bits at × (total ≡ arcs_of behind) × (total < p.arcs)
 EndsAs p bits behind at (Err (faults.Offsets w)) = ⊥
 EndsAs p bits behind at (Err (faults.Length page found stored)) = ⊥
 

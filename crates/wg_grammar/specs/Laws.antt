@@ -16,7 +16,8 @@ use Rattle.wg_grammar.specs.Archive.{Pages, Accepted, ReadsGraph}
 -- Bits from an offset on are at most one record, or have at most one first fault, and never both.
 abbrev pub RecordIsOne : Type 0
 RecordIsOne =
-    (p : Parameters) (c : Context) (bits : List Bool) (start : ℕ) (w x : Result Whole Fault) → IsWithinLimits p → ReadsRecord p c bits start w
+    (p : Parameters) (c : Context) (bits : List Bool) (start : ℕ) (w x : Result Whole Fault) → IsWithinLimits p
+    → ReadsRecord p c bits start w
     → ReadsRecord p c bits start x → w ≡ x
 
 -- They are a record or have a fault.
@@ -34,13 +35,15 @@ ListsAscend =
 -- A record of which all is read has never more successors than its outdegree, so that too few is the one fault there.
 abbrev pub NeverTooMany : Type 0
 NeverTooMany =
-    (p : Parameters) (c : Context) (bits : List Bool) (start : ℕ) (vs : List ℕ) (s : SoFar) (at : ℕ) → Fields p c bits nothing_yet start vs s at
+    (p : Parameters) (c : Context) (bits : List Bool) (start : ℕ) (vs : List ℕ) (s : SoFar) (at : ℕ)
+    → Fields p c bits nothing_yet start vs s at
     → next p c s ≡ End → length (list_of p c s) ≤ value_or_0 s.outdegree
 
 -- Where chains of references have a limit, no more references than that lead on from the page of a record.
 abbrev pub ChainsAreLimited : Type 0
 ChainsAreLimited =
-    (p : Parameters) (c : Context) (bits : List Bool) (start limit : ℕ) (w : Whole) → p.chain ≡ Some limit → ReadsRecord p c bits start (Ok w)
+    (p : Parameters) (c : Context) (bits : List Bool) (start limit : ℕ) (w : Whole) → p.chain ≡ Some limit
+    → ReadsRecord p c bits start (Ok w)
     → w.known.depth ≤ limit
 
 -- So it is of each page of a graph file.
@@ -51,7 +54,9 @@ PagesAreLimited =
 
 -- Bits stand for at most one graph, or have at most one first fault, and never both.
 abbrev pub GraphIsOne : Type 0
-GraphIsOne = (p : Parameters) (bits : List Bool) (w x : Result Accepted ArchiveFault) → IsWithinLimits p → ReadsGraph p bits w → ReadsGraph p bits x → w ≡ x
+GraphIsOne =
+    (p : Parameters) (bits : List Bool) (w x : Result Accepted ArchiveFault) → IsWithinLimits p → ReadsGraph p bits w
+    → ReadsGraph p bits x → w ≡ x
 
 -- They stand for a graph or have a fault.
 abbrev pub GraphIsSome : Type 0

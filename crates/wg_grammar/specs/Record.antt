@@ -20,7 +20,8 @@ use Rattle.wg_grammar.specs.Members.{list_of}
 -- bits.
 abbrev pub Stands : Need → Parameters → Context → List Bool → SoFar → ℕ → ℕ → ℕ → SoFar → Type 0
 Stands (need.Read f code) p c bits s at v end t =
-    Reads (word code) (top code) (drop at bits) (reads.Value v) × (end ≡ at + length (word code v)) × (refusal p c s f v ≡ None) × (t ≡ after p c s f v)
+    Reads (word code) (top code) (drop at bits) (reads.Value v) × (end ≡ at + length (word code v))
+    × (refusal p c s f v ≡ None) × (t ≡ after p c s f v)
 Stands need.Check p c bits s at v end t = (v ≡ 0) × (end ≡ at) × (refusal p c s field.Copied v ≡ None) × (t ≡ after p c s field.Copied v)
 Stands need.End p c bits s at v end t = ⊥
 
@@ -36,7 +37,9 @@ abbrev pub Refused : Need → Parameters → Context → List Bool → ℕ → S
 Refused (need.Read f code) p c bits start s at e =
     (r : Read) × Reads (word code) (top code) (drop at bits) r × (judged p c s f r ≡ Some e.kind) × (e.field ≡ f) × (e.at ≡ at)
 Refused need.Check p c bits start s at e = (refusal p c s field.Copied 0 ≡ Some e.kind) × (e.field ≡ field.Copied) × (e.at ≡ at)
-Refused need.End p c bits start s at e = (length (list_of p c s) < value_or_0 s.outdegree) × (e.kind ≡ kind.Twice) × (e.field ≡ field.Record) × (e.at ≡ start)
+Refused need.End p c bits start s at e =
+    (length (list_of p c s) < value_or_0 s.outdegree) × (e.kind ≡ kind.Twice) × (e.field ≡ field.Record)
+    × (e.at ≡ start)
 
 -- a record that was read, and the bit after it
 pub record Whole : Type 0 where
@@ -52,4 +55,5 @@ Stops p c bits start s at (Err e) = Refused (next p c s) p c bits start s at e �
 
 -- From the bit start a proper record of this list and depth stands, or this is its first fault.
 abbrev pub ReadsRecord : Parameters → Context → List Bool → ℕ → Result Whole Fault → Type 0
-ReadsRecord p c bits start w = (vs : List ℕ) × (s : SoFar) × (at : ℕ) × Fields p c bits nothing_yet start vs s at × Stops p c bits start s at w
+ReadsRecord p c bits start w =
+    (vs : List ℕ) × (s : SoFar) × (at : ℕ) × Fields p c bits nothing_yet start vs s at × Stops p c bits start s at w

@@ -1,5 +1,6 @@
 -- What has been read of a record, each number as it is meant and not as it is stored.
-use Rattle.std.specs.Prelude.{ℕ, ◌+◌, ◌-◌, Bool, true, false, ◌==◌, if◌then◌else◌, List, [], ◌∷◌, ◌++◌, length, get_or, sum, Option, Some, None, unwrap_or}
+use Rattle.std.specs.Prelude.{ℕ, ◌+◌, ◌-◌, Bool, true, false, ◌==◌, if◌then◌else◌, List, [], ◌∷◌, ◌++◌, length}
+use Rattle.std.specs.Prelude.{get_or, sum, Option, Some, None, unwrap_or}
 use Rattle.wg_codes.specs.Fold.{number_of_gap}
 use Rattle.wg_graph.specs.Copied.{block_at, copied_members}
 use Rattle.wg_params.specs.Parameters.{Parameters}
@@ -60,7 +61,9 @@ own_block s v = block_at (length s.blocks) v
 -- The first left end is stored as the fold of its distance from the page, a later one as its distance from the end of
 -- the interval before, less 1, where the end is one past the last number; none where the number would be below 0.
 abbrev pub own_left : Context → SoFar → ℕ → Option ℕ
-own_left c s v = if length s.lefts == 0 then number_of_gap c.page None v else number_of_gap c.page (Some (last_of s.lefts + last_of s.lengths)) v
+own_left c s v =
+    if length s.lefts == 0 then number_of_gap c.page None v
+    else number_of_gap c.page (Some (last_of s.lefts + last_of s.lengths)) v
 
 -- The first residual is stored as the fold of its distance from the page, a later one as the distance from the one
 -- before it, less 1.

@@ -39,14 +39,16 @@ unfoldable pub refusal_of : Tally → Option Referenced → Field → ℕ → Op
 refusal_of t given field.Outdegree v =
     if nat_lt t.params.nodes v then Some kind.Range else if nat_lt t.params.arcs (t.arcs_before + v) then Some kind.Total else None
 refusal_of t given field.Reference v =
-    if nat_lt (min t.params.window t.page) v then Some kind.Range else if passes t.params.chain (given_depth given) then Some kind.Chain else None
+    if nat_lt (min t.params.window t.page) v then Some kind.Range
+    else if passes t.params.chain (given_depth given) then Some kind.Chain else None
 refusal_of t given field.BlockCount v = if nat_lt (t.source + 1) v then Some kind.Range else None
 refusal_of t given field.Block v = if nat_lt t.source (t.blocks_sum + block_of t v) then Some kind.Range else None
 refusal_of t given field.Copied v = if nat_lt (value_or_0 t.outdegree) t.copied then Some kind.Copied else None
 refusal_of t given field.IntervalCount v = if nat_lt (extra_of t) (v * t.params.interval) then Some kind.Range else None
 refusal_of t given field.Left v = if is_page t.params (left_of t v) then None else Some kind.Range
 refusal_of t given field.Length v =
-    if nat_lt (missing_of t) (v + t.params.interval) || nat_lt t.params.nodes (t.last_left + v + t.params.interval) then Some kind.Range else None
+    if nat_lt (missing_of t) (v + t.params.interval) || nat_lt t.params.nodes (t.last_left + v + t.params.interval)
+    then Some kind.Range else None
 refusal_of t given field.Residual v = if is_page t.params (residual_of t v) then None else Some kind.Range
 refusal_of t given field.Record v = None
 
@@ -64,7 +66,8 @@ after_of t given field.Block v =
 after_of t given field.Copied v = record t { checked = true }
 after_of t given field.IntervalCount v = record t { interval_count = Some v }
 after_of t given field.Left v = record t { lefts = t.lefts + 1; last_left = value_or_0 (left_of t v) }
-after_of t given field.Length v = record t { lengths = t.lengths + 1; last_length = v + t.params.interval; covered = t.covered + (v + t.params.interval) }
+after_of t given field.Length v =
+    record t { lengths = t.lengths + 1; last_length = v + t.params.interval; covered = t.covered + (v + t.params.interval) }
 after_of t given field.Residual v = record t { residuals = t.residuals + 1; last_residual = value_or_0 (residual_of t v) }
 after_of t given field.Record v = t
 

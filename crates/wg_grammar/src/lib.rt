@@ -53,6 +53,10 @@
 //!   the blocks. *Revisit if* a writer of such records is found, and has to know which successor it is.
 //! - [`ArchiveFault`] has the faults of the offsets file too, so that a status, a text and a place of each stand
 //!   together; the grammar of the graph file has none of them. *Revisit if* the two have to be told apart by type.
+//! - A [`Progress`] is seen as numbers, from which `need_of` tells what comes next, since a condition of `accept` can't
+//!   cite a call. What it judges and leaves is said by `exact` alone, over lists. The definitions of `Steps` serve its
+//!   private functions, whose clauses can cite no private definition. *Revisit if* a condition can cite what a call
+//!   answers.
 #![tactic(auto)]
 
 mod cursor;

@@ -26,7 +26,7 @@ range_grows all more i le =
 range_empty : (all : List ℕ) (t : ℕ) → slice_range all t t ≡ []
 range_empty all t = let none : t - t ≡ 0 = omega arith in ap (λ (n : ℕ). take n (drop t all)) none
 
-range_length : (all : List ℕ) (i j : ℕ) → i ≤ j → j ≤ length all → i + length (slice_range all i j) ≡ j
+pub range_length : (all : List ℕ) (i j : ℕ) → i ≤ j → j ≤ length all → i + length (slice_range all i j) ≡ j
 range_length all i j le fits = let have = length-drop i all in let made = length-take-le (j - i) (drop i all) (omega arith) in omega arith
 
 -- ---- ends

@@ -12,3 +12,4 @@ pub mod Arcs
 pub mod Asked
 pub mod Written
 pub mod Moved
+pub mod Same

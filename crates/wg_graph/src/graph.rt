@@ -7,7 +7,8 @@ ghost use Rattle.wg_graph.specs.Pieces.{cut, IsCut};
 use crate::cutting::piece;
 use std::marker::Model;
 
-/// A graph of pages: 8 bytes for each arc, and 8 for each page. Each call takes constant time, and no memory.
+/// A graph of pages: 8 bytes for each arc, and 8 for each page. Each list ascends and has pages alone, as `proper` of
+/// [`nodes`](Graph::nodes) tells. Each call takes constant time, and no memory.
 #[derive(Clone, Debug, Drop)]
 pub struct Graph {
     // The end of each list; it begins where the one before it ends.
@@ -26,6 +27,27 @@ impl Model for Graph {
     ghost view = { λ g. cut (length g.ends.items) g.ends.items g.all.items };
 
     ghost invariant = { λ g. IsCut (length g.ends.items) g.ends.items g.all.items };
+}
+
+impl PartialEq for Graph {
+    ghost use Rattle.std.specs.Prelude.{bytes_eq};
+    ghost use Rattle.std.specs.Cmp.{on_per, partial_equiv_from_equiv};
+    ghost use Rattle.std.specs.Cmp.Lexicographic.{lists_per, nat_list_eq_equiv, pointwise};
+
+    ghost eq = { λ g h. pointwise bytes_eq g.lists h.lists };
+
+    ghost laws = { on_per (λ g. g.lists) (lists_per (partial_equiv_from_equiv nat_list_eq_equiv)) };
+
+    fn eq(&self, other: &Graph) -> bool {
+        self.ends == other.ends && self.all == other.all
+    }
+}
+
+impl Eq for Graph {
+    ghost use Rattle.std.specs.Cmp.{on_equiv};
+    ghost use Rattle.std.specs.Cmp.Lexicographic.{lists_equiv, nat_list_eq_equiv};
+
+    ghost laws = { on_equiv (λ g. g.lists) (lists_equiv nat_list_eq_equiv) };
 }
 
 impl Graph {

@@ -109,6 +109,26 @@ fn put_first(
     put(numbers, len, &more[..count])
 }
 
+impl PartialEq for List {
+    ghost use Rattle.std.specs.Prelude.{bytes_eq};
+    ghost use Rattle.std.specs.Cmp.{partial_equiv_from_equiv};
+    ghost use Rattle.std.specs.Cmp.Lexicographic.{nat_list_eq_equiv};
+
+    ghost eq = { bytes_eq };
+
+    ghost laws = { partial_equiv_from_equiv nat_list_eq_equiv };
+
+    fn eq(&self, other: &List) -> bool {
+        self.as_slice() == other.as_slice()
+    }
+}
+
+impl Eq for List {
+    ghost use Rattle.std.specs.Cmp.Lexicographic.{nat_list_eq_equiv};
+
+    ghost laws = { nat_list_eq_equiv };
+}
+
 impl List {
     /// No numbers, and no memory yet.
     pub fn new(alloc: Global) -> List

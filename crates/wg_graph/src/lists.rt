@@ -33,7 +33,7 @@ pub trait Lists {
 }
 
 /// The lists of a graph in memory. Each call takes constant time, and no memory.
-#[derive(Drop)]
+#[derive(Debug, Drop)]
 pub struct GraphLists<'a> {
     source: &'a Graph,
     page: u64,

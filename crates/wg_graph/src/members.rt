@@ -8,7 +8,7 @@ use std::marker::Model;
 /// Tells of one number after the other, ascending, whether it stands in an ascending list.
 ///
 /// It is seen as the numbers that are left to compare with.
-#[derive(Drop)]
+#[derive(Debug, Drop)]
 pub struct Members<'a> {
     left: &'a [u64],
 }

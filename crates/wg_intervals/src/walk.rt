@@ -14,7 +14,7 @@ use wg_bits::Cursor;
 /// come.
 ///
 /// It reads an interval when the one before it is used up.
-#[derive(Drop)]
+#[derive(Debug, Drop)]
 pub struct IntervalWalk<'a> {
     // stands behind the intervals that were read
     cursor: Cursor<'a>,

@@ -5,7 +5,7 @@ ghost use Rattle.wg_io.specs.Memory.{Calls, no_calls, one_more, IsNamed};
 use std::marker::Model;
 
 /// The number of calls so far, which stands still at 2^64 - 1, and the number of the one that is to fail.
-#[derive(Drop)]
+#[derive(Debug, Drop)]
 pub struct Counter {
     made: u64,
     named: u64,

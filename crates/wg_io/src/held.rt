@@ -8,7 +8,7 @@ use std::alloc::{AllocError, Global};
 use std::marker::Model;
 
 /// A file by its name.
-#[derive(Drop)]
+#[derive(Debug, Drop)]
 pub struct Held {
     name: String,
     bytes: Vec<u8>,
@@ -16,7 +16,7 @@ pub struct Held {
 
 /// A map from names to bytes. A look-up goes through the names one by one, for a depot has few of them; bytes are added
 /// at a file's end in place.
-#[derive(Drop)]
+#[derive(Debug, Drop)]
 pub struct HeldFiles {
     alloc: Global,
     helds: Vec<Held>,

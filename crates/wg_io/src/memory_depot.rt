@@ -13,7 +13,7 @@ use std::marker::Model;
 
 /// Files in memory: a depot that tells its bytes, and in which the calls fail that were named to fail. Calls of each
 /// kind are counted from 1 since `new`, failing ones too.
-#[derive(Drop)]
+#[derive(Debug, Drop)]
 pub struct MemoryDepot {
     steady: SteadyDepot,
     reads: Counter,

@@ -12,7 +12,7 @@ use std::marker::Model;
 
 /// Bytes in memory: a sink that tells its bytes, and in which the write fails that was named to fail. Writes are
 /// counted from 1 since `new`, failing ones too.
-#[derive(Drop)]
+#[derive(Debug, Drop)]
 pub struct MemorySink {
     steady: SteadySink,
     writes: Counter,

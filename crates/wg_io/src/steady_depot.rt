@@ -13,7 +13,7 @@ use std::marker::Model;
 
 /// Files in memory: a depot that tells its bytes, and in which no call fails but for want of memory. A call goes
 /// through the names one by one.
-#[derive(Drop)]
+#[derive(Debug, Drop)]
 pub struct SteadyDepot {
     files: HeldFiles,
     piece: u64,

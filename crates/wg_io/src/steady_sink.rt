@@ -10,7 +10,7 @@ use std::alloc::Global;
 use std::marker::Model;
 
 /// Bytes in memory: a sink that tells its bytes, and in which no write fails but for want of memory.
-#[derive(Drop)]
+#[derive(Debug, Drop)]
 pub struct SteadySink {
     taken: Vec<u8>,
     piece: u64,

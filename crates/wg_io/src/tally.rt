@@ -7,7 +7,7 @@ use std::io::ErrorKind;
 use std::marker::Model;
 
 /// Four counts that stand still at 2^64 - 1, for all names together.
-#[derive(Drop)]
+#[derive(Debug, Drop)]
 pub struct Tally {
     read_faults: u64,
     write_faults: u64,

@@ -12,7 +12,7 @@ use thiserror::Error;
 const PIECE: usize = 65_536;
 
 /// The bytes of a file or a text, in memory.
-#[derive(Drop)]
+#[derive(Clone, Debug, Drop)]
 pub struct List8 {
     bytes: Vec<u8>,
 }
@@ -23,6 +23,26 @@ impl Model for List8 {
     ghost Value = { List ℕ };
 
     ghost view = { λ a. a.bytes.items };
+}
+
+impl PartialEq for List8 {
+    ghost use Rattle.std.specs.Prelude.{bytes_eq};
+    ghost use Rattle.std.specs.Cmp.{partial_equiv_from_equiv};
+    ghost use Rattle.std.specs.Cmp.Lexicographic.{nat_list_eq_equiv};
+
+    ghost eq = { bytes_eq };
+
+    ghost laws = { partial_equiv_from_equiv nat_list_eq_equiv };
+
+    fn eq(&self, other: &List8) -> bool {
+        self.bytes == other.bytes
+    }
+}
+
+impl Eq for List8 {
+    ghost use Rattle.std.specs.Cmp.Lexicographic.{nat_list_eq_equiv};
+
+    ghost laws = { nat_list_eq_equiv };
 }
 
 impl List8 {

@@ -11,7 +11,7 @@ use std::marker::Model;
 
 /// One file of zero bytes, however long, which takes no memory: a depot that tells its bytes, and to which nothing can
 /// be written.
-#[derive(Drop)]
+#[derive(Debug, Drop)]
 pub struct ZeroDepot<'a> {
     name: &'a str,
     length: u64,

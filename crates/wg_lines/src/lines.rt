@@ -23,7 +23,7 @@ pub const MOST_START: usize = 24;
 /// It holds up to 8192 bytes itself and takes no memory. They go out when there is no room for another line, and all
 /// that is left with [`flush`](Lines::flush). The sink is that of each call: always hand in the same one. A call that
 /// answers an error leaves nothing that waits: what the sink did not take is lost.
-#[derive(Drop)]
+#[derive(Debug, Drop)]
 pub struct Lines {
     // the bytes that wait are the first `len`
     bytes: [u8; BUFFER],

@@ -61,7 +61,7 @@ fn drop_front(bytes: &mut Vec<u8>, count: usize)
 ///
 /// It lends whole lines, as many as a piece has. Of the file it holds these, and the front of the line after them,
 /// which the piece cuts: so a piece, or more if a line is longer. Each byte is read once.
-#[derive(Drop)]
+#[derive(Debug, Drop)]
 pub struct LineReader {
     // what was read and is not passed; the first `whole` bytes are lent
     bytes: Vec<u8>,

@@ -13,7 +13,7 @@ pub const UNITS: u128 = 1_000_000_000_000_000_000_000_000;
 const HALF: u64 = 1_000_000_000_000;
 
 /// The text of a part of 1 in units of 10^-24: `0` or `1`, a point, 24 digits. It holds its 26 bytes itself.
-#[derive(Drop)]
+#[derive(Clone, Debug, Drop)]
 pub struct UnitsText {
     bytes: [u8; 26],
 }

@@ -27,7 +27,8 @@ pub record PrefixRead (c : Code) (bits : List Bool) (count at offset : ℕ) (pla
 -- the next word stands between the two places, and leads from one offset of a record to the next
 abbrev pub LeadsTo : Code → List Bool → ℕ → ℕ → ℕ → ℕ → ℕ → Type 0
 LeadsTo c bits number offset at next end =
-    (v : ℕ) × Reads (word c) (top c) (drop at bits) (Value v) × (refusal number offset (Value v) ≡ None) × (next ≡ offset + v) × (end ≡ at + length (word c v))
+    (v : ℕ) × Reads (word c) (top c) (drop at bits) (Value v) × (refusal number offset (Value v) ≡ None)
+    × (next ≡ offset + v) × (end ≡ at + length (word c v))
 
 -- what was read is a word that leads from one offset of a record to the next, if so many words stand before it
 abbrev pub LeadsBy : ℕ → ℕ → Read → ℕ → Type 0

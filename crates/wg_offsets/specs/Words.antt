@@ -1,5 +1,6 @@
 -- The bits of an offsets file: a word for each page and one more, and the tail.
-use Rattle.std.specs.Prelude.{◌≡◌, ◌⊎◌, ℕ, ◌+◌, ◌≤◌, Bool, ◌&&◌, ◌==◌, nat_lt, if◌then◌else◌, List, [], ◌∷◌, ◌++◌, length, drop, sum, Option, Some, None, Result, Ok, Err}
+use Rattle.std.specs.Prelude.{◌≡◌, ◌⊎◌, ℕ, ◌+◌, ◌≤◌, Bool, ◌&&◌, ◌==◌, nat_lt, if◌then◌else◌, List, [], ◌∷◌, ◌++◌}
+use Rattle.std.specs.Prelude.{length, drop, sum, Option, Some, None, Result, Ok, Err}
 use Rattle.wg_params.specs.declared.code.Code.{Code}
 use Rattle.wg_codes.specs.declared.outcome.Read.{Read}
 use Rattle.wg_codes.specs.declared.outcome.Read.TheVariants.{Value, Cut, NoWord}
@@ -44,7 +45,9 @@ HasNoTail bits at e = (offset : ℕ) × IsTailFault bits at offset × (e ≡ fau
 -- what the file is, where the words of these values stand and no more are taken
 abbrev pub EndsAs : Code → ℕ → List Bool → List ℕ → ℕ → Result (List ℕ) OffsetWord → Type 0
 EndsAs c n bits values at (Ok places) = (length values ≡ n + 1) × IsTail bits at × (places ≡ places_of values)
-EndsAs c n bits values at (Err e) = ((length values ≤ n) × IsRefused c bits (length values) (sum values) at e) ⊎ ((length values ≡ n + 1) × HasNoTail bits at e)
+EndsAs c n bits values at (Err e) =
+    ((length values ≤ n) × IsRefused c bits (length values) (sum values) at e)
+    ⊎ ((length values ≡ n + 1) × HasNoTail bits at e)
 
 -- The bits are the offsets file of n records with these places, or this is their first fault.
 abbrev pub ReadsOffsets : Code → ℕ → List Bool → Result (List ℕ) OffsetWord → Type 0

@@ -9,7 +9,7 @@ use std::marker::Model;
 /// whose lengths differ, and of the offsets only the last.
 ///
 /// It is seen as the number of records, the offset after them here and there, and that first record.
-#[derive(Drop)]
+#[derive(Debug, Drop)]
 pub struct Comparison {
     page: u64,
     here: u64,

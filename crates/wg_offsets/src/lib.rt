@@ -4,8 +4,8 @@
 //! first word is 0, and each later one is the length of a record, in bits. So the sums of the words are the places of
 //! the records, and the last of them is the offset after the last record.
 //!
-//! [`Words`] reads such a file word by word, from any source, and keeps the last offset only. [`read_from`] keeps all
-//! of them as [`Offsets`], and [`read`] reads them from bytes in memory; each names the first fault of the file.
+//! [`OffsetWords`] reads such a file word by word, from any source, and keeps the last offset only. [`read`] reads
+//! bytes in memory, and keeps all of them as [`Offsets`]; each names the first fault of the file.
 //! [`Offsets::first_mismatch`] compares the lengths of records that two of them tell, as those of a file and those of
 //! the records that were read; a [`Comparison`] does so record after record. The function of [`laws`] states that each
 //! file has one list of places or one first fault.
@@ -36,12 +36,12 @@
 mod comparing;
 mod error;
 pub mod laws;
+mod offset_words;
 mod places;
 mod reading;
-mod words;
 
 pub use comparing::Comparison;
-pub use error::{OffsetsError, PlacesError, WordError};
+pub use error::{OffsetsError, WordError};
+pub use offset_words::OffsetWords;
 pub use places::{MOST_PLACE, Offsets};
-pub use reading::{read, read_from};
-pub use words::Words;
+pub use reading::read;

@@ -26,6 +26,26 @@ impl Model for Offsets {
     ghost invariant = { λ o. ArePlaces o.places.items };
 }
 
+impl PartialEq for Offsets {
+    ghost use Rattle.std.specs.Prelude.{bytes_eq};
+    ghost use Rattle.std.specs.Cmp.{partial_equiv_from_equiv};
+    ghost use Rattle.std.specs.Cmp.Lexicographic.{nat_list_eq_equiv};
+
+    ghost eq = { bytes_eq };
+
+    ghost laws = { partial_equiv_from_equiv nat_list_eq_equiv };
+
+    fn eq(&self, other: &Offsets) -> bool {
+        self.places == other.places
+    }
+}
+
+impl Eq for Offsets {
+    ghost use Rattle.std.specs.Cmp.Lexicographic.{nat_list_eq_equiv};
+
+    ghost laws = { nat_list_eq_equiv };
+}
+
 impl Offsets {
     /// No places, and no memory yet.
     pub fn new(alloc: Global) -> Offsets

@@ -8,7 +8,8 @@ ghost use Rattle.wg_offsets.specs.Errors.{IfWordOf, IfRefusalOf, known_error};
 ghost use Rattle.wg_offsets.specs.Words.{ReadsOffsets};
 ghost use Rattle.wg_offsets.specs.Stages.{IfWord};
 
-use crate::{Offsets, OffsetsError, PlacesError, Words};
+use crate::error::PlacesError;
+use crate::{OffsetWords, Offsets, OffsetsError};
 use std::alloc::Global;
 use std::convert::Infallible;
 use wg_bits::{Bits, Cursor};
@@ -43,8 +44,8 @@ fn error_of(error: PlacesError<Infallible>) -> OffsetsError
     }
 }
 
-/// The same from any source of words, which stands at its first bit.
-pub fn read_from<S: Source>(
+// The same from any source of words, which stands at its first bit.
+pub(crate) fn read_from<S: Source>(
     alloc: Global,
     source: &mut S,
     n: u64,
@@ -61,7 +62,7 @@ pub fn read_from<S: Source>(
     ensures fault { (bits : List Bool) → S.reads_from source.old bits
         → IfErr result (λ e. IfWordOf e (λ w. ReadsOffsets code n bits (Err w))) }
 {
-    let mut words = Words::new(n, code);
+    let mut words = OffsetWords::new(n, code);
     let mut offsets = Offsets::new(alloc);
     for _word in 0..n + 1 {
         let offset = words.next(source)?;

@@ -45,7 +45,7 @@ mod limits;
 mod params;
 
 pub use code::Code;
-pub use key::{BadParam, Key};
+pub use key::{BadParam, Key, key_name};
 pub use layout::{Codes, Layout};
 pub use limits::{
     MOST_ARCS, MOST_CHAIN, MOST_DAMPING, MOST_GENERATED, MOST_INTERVAL, MOST_PAGES, MOST_ROUNDS,

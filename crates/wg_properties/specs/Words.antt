@@ -1,22 +1,8 @@
 -- The words of a properties text.
 use Rattle.std.specs.Prelude.{ℕ, List, codes}
-use Rattle.wg_params.specs.declared.key.Key.{Key}
-use Rattle.wg_params.specs.declared.key.Key.TheVariants.{GraphClass, Version, Endianness, Nodes, Arcs, WindowSize, MaxRefCount, MinIntervalLength, ZetaK, CompressionFlags}
+unfoldable pub use Rattle.wg_params.specs.Keys.{name_of}
 use Rattle.wg_properties.specs.declared.flags.Flag.{Flag}
 use Rattle.wg_properties.specs.declared.flags.Flag.TheVariants.{OutdegreesGamma, OutdegreesDelta, BlocksGamma, BlocksDelta, ReferencesUnary, ReferencesGamma, ReferencesDelta, BlockCountUnary, BlockCountGamma, BlockCountDelta, ResidualsGamma, ResidualsDelta, ResidualsZeta, ResidualsNibble, OffsetsGamma, OffsetsDelta}
-
--- the name of each key
-unfoldable pub name_of : Key → List ℕ
-name_of GraphClass = codes "graphclass"
-name_of Version = codes "version"
-name_of Endianness = codes "endianness"
-name_of Nodes = codes "nodes"
-name_of Arcs = codes "arcs"
-name_of WindowSize = codes "windowsize"
-name_of MaxRefCount = codes "maxrefcount"
-name_of MinIntervalLength = codes "minintervallength"
-name_of ZetaK = codes "zetak"
-name_of CompressionFlags = codes "compressionflags"
 
 -- the word of each compression flag
 unfoldable pub word_of : Flag → List ℕ

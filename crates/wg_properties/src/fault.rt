@@ -1,5 +1,5 @@
 use thiserror::Error;
-use wg_params::Key;
+use wg_params::{Key, key_name};
 
 /// The first fault of a properties text: a line, counted from 1, that would go on in the next; then, in the order in
 /// which the keys are declared, a key that is missing, one whose value is no number or is out of its limits, or another
@@ -8,11 +8,11 @@ use wg_params::Key;
 pub enum PropFault {
     #[error("line {0} would go on in the next")]
     Line(u64),
-    #[error("{0:?} is missing")]
+    #[error("{name} is missing", name = key_name(*.0))]
     Missing(Key),
-    #[error("{0:?} is no number")]
+    #[error("{name} is no number", name = key_name(*.0))]
     Number(Key),
-    #[error("{0:?} is out of its limits")]
+    #[error("{name} is out of its limits", name = key_name(*.0))]
     Range(Key),
     #[error("the graph is of another class")]
     Class,

@@ -1,8 +1,7 @@
 ghost use Rattle.std.specs.Prelude.{◌≡◌};
 ghost use Rattle.wg_properties.specs.Pairs.{key_of};
-ghost use Rattle.wg_properties.specs.Words.{name_of};
 
-use wg_params::Key;
+use wg_params::{Key, key_name};
 
 /// All keys, in the order in which their values are judged.
 pub const KEYS: [Key; 10] = [
@@ -17,25 +16,6 @@ pub const KEYS: [Key; 10] = [
     Key::ZetaK,
     Key::CompressionFlags,
 ];
-
-/// The name of a key, as a properties text has it.
-#[tactic(auto, unfolding(crate::specs::Words::name_of))]
-pub fn key_name(key: Key) -> &'static str
-    ensures { result.now ≡ name_of key }
-{
-    match key {
-        Key::GraphClass => "graphclass",
-        Key::Version => "version",
-        Key::Endianness => "endianness",
-        Key::Nodes => "nodes",
-        Key::Arcs => "arcs",
-        Key::WindowSize => "windowsize",
-        Key::MaxRefCount => "maxrefcount",
-        Key::MinIntervalLength => "minintervallength",
-        Key::ZetaK => "zetak",
-        Key::CompressionFlags => "compressionflags",
-    }
-}
 
 /// The key that a name belongs to.
 #[tactic(auto, unfolding(crate::specs::Pairs::key_of))]

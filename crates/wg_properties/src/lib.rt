@@ -46,5 +46,5 @@ mod writing;
 
 pub use fault::PropFault;
 pub use judge::read;
-pub use keys::key_name;
+pub use wg_params::key_name;
 pub use writing::write;

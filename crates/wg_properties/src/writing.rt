@@ -4,11 +4,10 @@ ghost use Rattle.wg_properties.specs.Text.{outdegree_flag, block_flag, reference
 ghost use Rattle.wg_properties.specs.Words.{word_of};
 
 use crate::flags::{Flag, word_of};
-use crate::keys::key_name;
 use std::alloc::{AllocError, Global};
 use wg_io::List8;
 use wg_num::decimal_into;
-use wg_params::{Code, Key, Params};
+use wg_params::{Code, Key, Params, key_name};
 
 fn outdegree_flag(code: Code) -> Option<Flag>
     ensures { result ≡ outdegree_flag code }

@@ -16,13 +16,13 @@
 //!
 //! A [`Sweep`] goes over the lists of bytes that are known to stand for a graph, in order and as often as one likes,
 //! and decodes each list from the bits again. It takes all its memory when it is made, so that no list can be wanting
-//! later: rows for the pages that a reference reaches, and two. [`pass`] finds how long they have to be, in one pass
+//! later: rows for the pages that a reference reaches, and one. [`pass`] finds how long they have to be, in one pass
 //! over all records.
 //!
 //! ```text
-//! record of page x --decode_into--> row --lent--> list of x        then the row is kept in the place of that of x - W - 1
-//!                                    ^
-//! rows of the W pages before --------+  the list that the record refers to
+//! record of page x --decode_behind--> row --lent--> list of x      then the row is kept in the place of that of x - W
+//!                                      ^
+//! rows of the W pages before ----------+  the list that the record refers to
 //! ```
 //!
 //! A graph file of three bytes, list after list:

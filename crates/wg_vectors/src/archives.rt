@@ -2,7 +2,7 @@
 
 /// An archive that is in order, and what it holds.
 #[derive(Clone, Copy, Debug)]
-pub struct Archive {
+pub struct Sample {
     pub nodes: u64,
     pub arcs: u64,
     /// The bits of the graph file. One blank parts the words of a record, and two part the records.
@@ -16,7 +16,7 @@ pub struct Archive {
 }
 
 /// Page 1 copies the list of page 0.
-pub const COPIED: Archive = Archive {
+pub const COPIED: Sample = Sample {
     nodes: 3,
     arcs: 4,
     graph: "011 1 1 1011 100  011 01 1  1",

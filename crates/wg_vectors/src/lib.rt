@@ -46,7 +46,7 @@ mod generating;
 pub mod laws;
 mod parameters;
 
-pub use archives::{Archive, BAD_TAIL, COPIED, Refused, TOO_FEW_ARCS, TWICE};
+pub use archives::{BAD_TAIL, COPIED, Refused, Sample, TOO_FEW_ARCS, TWICE};
 pub use bits::bytes_of;
 pub use codes::{FOLDS, Folded, NO_WORDS, NoWord, VECTORS, Vector};
 pub use generating::generate;

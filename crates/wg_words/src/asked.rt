@@ -5,10 +5,11 @@ ghost use Rattle.wg_words.specs.Jobs.{job_of, job_from, job_on_base, job_on, sho
 
 use crate::commands::command;
 use crate::conversion::{copied, pair_at, two_names};
+use crate::defaults::{DEFAULT_DAMPING, DEFAULT_ROUNDS, DEFAULT_TOP};
 use crate::files::{is_file_of, overwrites};
 use crate::options::layout_at;
 use crate::values::{name_at, number_at, numbers_at, optional_name_at, required_at, unlimited_at};
-use crate::{DEFAULT_DAMPING, DEFAULT_ROUNDS, DEFAULT_TOP, Job, JobError, Name, Words};
+use crate::{Job, JobError, Name, Words};
 use clap::ArgMatches;
 use clap::error::ErrorKind;
 use std::alloc::{AllocError, Global};

@@ -1,7 +1,7 @@
 //! The table of the commands: what each takes.
 
 /// One argument of a command, by its name.
-#[derive(Clone, Copy)]
+#[derive(Clone, Copy, Debug)]
 pub enum Argument {
     /// A word that must be there.
     Word(&'static str),
@@ -14,7 +14,7 @@ pub enum Argument {
 }
 
 /// A command: its name, its words in their order, and its options.
-#[derive(Clone, Copy)]
+#[derive(Clone, Copy, Debug)]
 pub struct Form {
     pub name: &'static str,
     pub words: &'static [Argument],

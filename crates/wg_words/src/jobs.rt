@@ -8,7 +8,7 @@ use wg_graph::List;
 use wg_params::Layout;
 
 /// What the words ask for.
-#[derive(Drop)]
+#[derive(Debug, Drop)]
 pub enum Job {
     /// `check BASE`: whether the files BASE`.properties`, BASE`.graph` and BASE`.offsets` are an archive.
     Check {

@@ -61,7 +61,7 @@ mod values;
 mod words;
 
 pub use asked::job;
-pub use defaults::{DEFAULT_DAMPING, DEFAULT_ROUNDS, DEFAULT_TOP};
+pub use defaults::DEFAULT_DAMPING;
 pub use jobs::{Job, JobError};
 pub use layout::usual_layout;
 pub use name::Name;

@@ -4,7 +4,7 @@ use std::alloc::{AllocError, Global};
 use std::marker::Model;
 
 /// The words after the program's name, each a text of its own.
-#[derive(Drop)]
+#[derive(Debug, Drop)]
 pub struct Words {
     alloc: Global,
     words: Vec<String>,

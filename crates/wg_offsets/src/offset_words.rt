@@ -19,15 +19,15 @@ use wg_params::Code;
 ///
 /// It is seen as the code, the number of records, and how many words were read and the offset that they lead to. Hand
 /// in the same source at each call: the clauses on bits are of one that was.
-#[derive(Drop)]
-pub struct Words {
+#[derive(Debug, Drop)]
+pub struct OffsetWords {
     code: Code,
     pages: u64,
     count: u64,
     offset: u64,
 }
 
-impl Model for Words {
+impl Model for OffsetWords {
     ghost use Rattle.std.specs.Prelude.{ℕ, ◌+◌, ◌≤◌};
     ghost use Rattle.wg_params.specs.declared.limits.TheConstants.{MOST_PAGES};
     ghost use Rattle.wg_params.specs.Codes.{IsCode};
@@ -64,15 +64,15 @@ fn lead(count: u64, offset: u64, read: Read) -> Result<u64, OffsetWord>
     }
 }
 
-impl Words {
+impl OffsetWords {
     /// Before the first word of the offsets of so many records.
-    pub fn new(pages: u64, code: Code) -> Words
+    pub fn new(pages: u64, code: Code) -> OffsetWords
         requires pages { pages ≤ MOST_PAGES }
         requires code { is_gamma_or_delta code ≡ true }
         ensures none { result ≡ record { code = code; pages = pages; count = 0; offset = 0 } }
         ensures read { (bits : List Bool) → AreRead bits result 0 [] }
     {
-        Words {
+        OffsetWords {
             code,
             pages,
             count: 0,

@@ -3,7 +3,7 @@ use Rattle.std.proofs.lemmas.Result.{err_from_is_err_and}
 use Rattle.wg_offsets.specs.Stages.{WordsRead, AreRead}
 use Rattle.wg_offsets.specs.Words.{ReadsOffsets}
 use Rattle.wg_offsets.proofs.WordsLemmas.{one_more, one_refused, leads_from}
-use Rattle.wg_offsets.proofs.words.Words.next.Goals as goal
+use Rattle.wg_offsets.proofs.offset_words.OffsetWords.next.Goals as goal
 
 pub returns-clause-reads : goal.returns-clause-reads
 returns-clause-reads g c = λ bits places r h.
