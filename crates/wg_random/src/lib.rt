@@ -69,7 +69,7 @@ mod steps;
 mod unchecked;
 
 pub use archive::Archive;
-pub use chain::spot;
+pub use chain::{spot, spot_from};
 pub use error::{CheckError, ListError, OpenError, SpotError};
 pub use records::Records;
 pub use steps::Steps;
