@@ -1,7 +1,6 @@
 -- What a call answers that reads one page of an archive that was not checked.
 use Rattle.std.specs.Prelude.{◌≡◌, ℕ, ◌+◌, ◌-◌, ◌<◌, ◌≤◌, Bool, List, length, get_or, Result, Ok, Err}
 use Rattle.wg_params.specs.Parameters.{Parameters}
-use Rattle.wg_grammar.specs.declared.fault.ArchiveFault.{ArchiveFault}
 use Rattle.wg_grammar.specs.Context.{Known}
 use Rattle.wg_decoder.specs.Chains.{HeadReads, ChainReads, IsChain}
 use Rattle.wg_stream.specs.declared.error.PagesError.{PagesError}

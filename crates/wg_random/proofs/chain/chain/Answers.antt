@@ -1,10 +1,10 @@
-use Rattle.std.proofs.Common.{rules, ◌≡◌, ◌∙◌, ◌+◌, ◌-◌, ◌<◌, ◌++◌, ◌∷◌, [], List, ℕ, Bool, Ok, length, refl, ap, sym, subst, arith}
+use Rattle.std.proofs.Common.{rules, ◌≡◌, ◌+◌, ◌-◌, ◌<◌, ◌++◌, ◌∷◌, [], List, ℕ, Ok, length, refl, ap, sym, subst, arith}
 use Rattle.std.specs.Prelude.{get_or}
 use Rattle.std.proofs.lemmas.Result.{err_from_is_err_and}
 use Rattle.wg_decoder.specs.Chains.{HeadReads, RefersTo}
 use Rattle.wg_stream.proofs.ErrorLemmas.{refusal_weaker}
 use Rattle.wg_random.proofs.ChainLemmas.{one_are_pages, one_falls, pushed_fall, pushed_length, pushed_pages}
-use Rattle.wg_random.proofs.SpotLemmas.{cut_short, head_error, one_page, pushed_chain, pushed_here}
+use Rattle.wg_random.proofs.SpotLemmas.{head_error, one_page, pushed_chain, pushed_here}
 use Rattle.wg_random.proofs.chain.chain.Goals as goal
 
 pub down-init : goal.down-init

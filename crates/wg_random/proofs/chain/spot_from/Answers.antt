@@ -1,6 +1,4 @@
-use Rattle.std.proofs.Common.{ℕ, List, ap, subst, sym}
-use Rattle.std.proofs.lemmas.Result.{err_from_is_err_and}
-use Rattle.wg_random.specs.Chain.{ArePages, Fall}
+use Rattle.std.proofs.Common.{ℕ, List, subst, sym}
 use Rattle.wg_random.specs.Spot.{IsWholeChain}
 use Rattle.wg_stream.proofs.ErrorLemmas.{on_refusal}
 use Rattle.wg_random.proofs.SpotLemmas.{answer_of}
