@@ -1,8 +1,8 @@
 -- A file that is looked for, and one of which no more is read.
-use Rattle.std.proofs.Common.{◌≡◌, ◌≢◌, inl, inr, ℕ, ◌<◌, ◌≤◌, Bool, true, false, List, [], length, refl, sym, ◌∙◌, ap, subst, option_and_then, Option, Some, None, Ok, Err}
+use Rattle.std.proofs.Common.{◌≡◌, ◌≢◌, inl, inr, ℕ, ◌<◌, Bool, true, false, List, [], length, refl, sym, ◌∙◌, ap, subst, option_and_then, Option, Some, None, Err}
 use Rattle.std.specs.Bool.{IsTrue}
 use Rattle.std.specs.FinMap as map
-use Rattle.wg_io.specs.Outside.{Files, Counts, NonDecreasing}
+use Rattle.wg_io.specs.Outside.{Files, Counts}
 use Rattle.wg_io.specs.declared.limits.TheConstants.{MOST_BYTES}
 use Rattle.wg_io.specs.declared.whole.LoadError.{LoadError}
 use Rattle.wg_io.specs.declared.whole.LoadError.TheVariants as load

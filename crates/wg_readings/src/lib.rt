@@ -4,9 +4,9 @@
 //! [`load_params`], [`load_graph`], [`load_offsets`], [`load_weights`], [`load_certificate`] and [`load_map`] read a
 //! file whole; [`judge_graph`], [`judge_files`] and [`judge_offsets`] go through the files in pieces, and so do
 //! [`open_graph`], [`next_record`] and [`end_records`], record by record. [`find_graph`] looks for a graph file of which
-//! single records are read. [`passed_of_graph`] finds where the records
-//! of a graph file are, and [`lists_of_records`] decodes their lists, as often as one likes. [`open_lines`] and
-//! [`next_lines`] lend the lines of a file, which the caller judges.
+//! single records are read, and judges none. [`passed_of_graph`] finds where the records of a graph file are, and
+//! [`lists_of_records`] decodes their lists, as often as one likes. [`open_lines`] and [`next_lines`] lend the lines of
+//! a file, which the caller judges.
 //!
 //! Each promises that it is a step of a judgement (`Judged`): it either yields a value or ends the job with a
 //! [`Status`](wg_outcomes::Status), and later inputs do not matter, unless running out of memory or a fault of the
