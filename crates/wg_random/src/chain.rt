@@ -85,7 +85,15 @@ fn climb<S: Seek>(
     'up: while left > 0 {
         left -= 1;
         let below = known.list.as_slice();
-        let above = read_record(params, offsets, chain[left], below, known.depth, &mut spares, source)?;
+        let above = read_record(
+            params,
+            offsets,
+            chain[left],
+            below,
+            known.depth,
+            &mut spares,
+            source,
+        )?;
         spares.take_back(replace(&mut known, above).list);
     }
     Ok(known.list)

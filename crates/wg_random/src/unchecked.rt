@@ -27,11 +27,11 @@ fn go_to_record<S: Seek>(
     ensures at { OnOk result (S.offset source.new ≡ start_of offsets.now page) }
     ensures past { (bits : ListOf Bool) → S.reads_from source.old bits
         → OnFault result (λ f. (length bits ≤ start_of offsets.now page) × (f ≡ ArchiveFault.Record (record {
-      page = page;
-      at = start_of offsets.now page;
-      field = Field.Outdegree;
-      kind = Kind.Cut;
-    }))) }
+          page = page;
+          at = start_of offsets.now page;
+          field = Field.Outdegree;
+          kind = Kind.Cut;
+        }))) }
 {
     let at = offsets.place(page);
     match source.go_to(at) {

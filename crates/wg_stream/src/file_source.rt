@@ -8,8 +8,8 @@ ghost use Rattle.wg_stream.specs.StepLaws.{no_step, two_steps, later_cause, stil
 ghost use Rattle.wg_stream.specs.StepLaws.{step_moves, two_moves, cause_after, there_after};
 ghost use Rattle.std.proofs.Common.{refl, ◌∙◌};
 
-use crate::{Seek, Stretch};
 use crate::filling::{next_tail_fault, word_in_pieces};
+use crate::{Seek, Stretch};
 use wg_codes::Read;
 use wg_grammar::Source;
 use wg_io::{Depot, LoadError};
