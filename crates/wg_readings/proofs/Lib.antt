@@ -1,12 +1,10 @@
 pub mod ClassLemmas
-pub mod FirstRecords
 pub mod GraphJobs
 pub mod JobPasses
 pub mod JobSteps
 pub mod JudgeLemmas
 pub mod LimitsLemmas
 pub mod LoadLemmas
-pub mod NamedLemmas
 pub mod NamedSteps
 pub mod PairingLemmas
 pub mod PassLemmas
