@@ -1,7 +1,6 @@
-use Rattle.std.proofs.Common.{◌∙◌, ℕ, List, [], ◌∷◌, ◌++◌, inr, refl, sym, ap, subst, arith}
+use Rattle.std.proofs.Common.{◌∙◌, ℕ, List, [], ◌∷◌, ◌++◌, inr, refl, sym, ap, subst}
 use Rattle.std.specs.FinMap as map
 use Rattle.wg_io.specs.declared.suffixes.TheConstants.{OFFSETS}
-use Rattle.std.proofs.lemmas.Result.{MatchResult-weaker}
 use Rattle.wg_io.proofs.FilesLemmas.{none_falls-trans}
 use Rattle.wg_io.proofs.PutsLemmas.{is_that_err}
 use Rattle.wg_grammar.specs.Archive.{places_of}
@@ -28,32 +27,10 @@ loop-page-init g c =
       come = come_at _ _ _ _ _ _ _ _ _ _ c.begin_pairing.new.pairing named (sym u.at) b.come;
     }
 
-pub next_record-requires-clause-open : goal.next_record-requires-clause-open
-next_record-requires-clause-open g c = c.loop-page.invariant.way.state
-
-pub next_record-requires-clause-params : goal.next_record-requires-clause-params
-next_record-requires-clause-params g c = c.loop-page.invariant.way.params
-
-pub next_record-requires-clause-more : goal.next_record-requires-clause-more
-next_record-requires-clause-more g c = omega (arith, c.loop-page.invariant.way.page, c.loop-page-test.true, c.nodes-page-end.ensures.value)
-
 pub returns-in_err-next_record : goal.returns-in_err-next_record
 returns-in_err-next_record g c =
     rw (is_that_err c.from_residual-in_err-next_record.result _ c.from_residual-in_err-next_record.ensures.1)
     (files_stop _ _ _ _ _ _ _ _ _ _ _ _ _ c.loop-page.invariant.way c.nodes-page-end.ensures.limits _ c.in_err-next_record.ensures.advances)
-
-pub pair_next-requires-clause-limits : goal.pair_next-requires-clause-limits
-pair_next-requires-clause-limits g c = c.nodes-page-end.ensures.limits
-
-pub pair_next-requires-clause-paired : goal.pair_next-requires-clause-paired
-pair_next-requires-clause-paired g c = MatchResult-weaker c.loop-page.pairing.so_far c.loop-page.invariant.come (λ done k. k.0) (λ e s. tt)
-
-pub pair_next-requires-clause-more : goal.pair_next-requires-clause-more
-pair_next-requires-clause-more g c = MatchResult-weaker c.loop-page.pairing.so_far c.loop-page.invariant.come (λ done k. omega (arith, k.1, c.loop-page-test.true, c.nodes-page-end.ensures.value)) (λ e s. tt)
-
-pub pair_next-requires-clause-here : goal.pair_next-requires-clause-here
-pair_next-requires-clause-here g c =
-    MatchResult-weaker c.loop-page.pairing.so_far c.loop-page.invariant.come (λ done k. omega (arith, k.2, c.in_ok-next_record.ensures.advances.onward, c.at.ensures.value)) (λ e s. tt)
 
 pub loop-page-preserved : goal.loop-page-preserved
 loop-page-preserved g c =
@@ -83,15 +60,6 @@ loop-page-preserved g c =
           (places_of k.0, k.2.1 t file is)));
     }
 
-pub end_records-requires-clause-open : goal.end_records-requires-clause-open
-end_records-requires-clause-open g c = c.loop-page.invariant.way.state
-
-pub end_records-requires-clause-params : goal.end_records-requires-clause-params
-end_records-requires-clause-params g c = c.loop-page.invariant.way.params
-
-pub end_records-requires-clause-done : goal.end_records-requires-clause-done
-end_records-requires-clause-done g c = omega (arith, c.loop-page.invariant.way.page, c.loop-page-test.false, c.nodes-page-end.ensures.value, c.loop-page.auto._page-end)
-
 pub returns-in_err-end_records : goal.returns-in_err-end_records
 returns-in_err-end_records g c =
     rw (is_that_err c.from_residual-in_err-end_records.result _ c.from_residual-in_err-end_records.ensures.1)
@@ -102,13 +70,6 @@ returns-in_err-reader g c = rw (is_that_err c.from_residual.result _ c.from_resi
 
 pub returns-in_err-pairing : goal.returns-in_err-pairing
 returns-in_err-pairing g c = rw (is_that_err c.from_residual-in_err-pairing.result _ c.from_residual-in_err-pairing.ensures.1) (files_unread _ _ _ _ _ _ c.in_err-pairing.ensures.only)
-
-pub end_pairing-requires-clause-paired : goal.end_pairing-requires-clause-paired
-end_pairing-requires-clause-paired g c = MatchResult-weaker c.loop-page.pairing.so_far c.loop-page.invariant.come (λ done k. k.0) (λ e s. tt)
-
-pub end_pairing-requires-clause-done : goal.end_pairing-requires-clause-done
-end_pairing-requires-clause-done g c =
-    MatchResult-weaker c.loop-page.pairing.so_far c.loop-page.invariant.come (λ done k. omega (arith, k.1, c.loop-page-test.false, c.nodes-page-end.ensures.value, c.loop-page.auto._page-end)) (λ e s. tt)
 
 pub returns-in_err-end_pairing : goal.returns-in_err-end_pairing
 returns-in_err-end_pairing g c =

@@ -4,7 +4,6 @@ use Rattle.std.specs.FinMap as map
 use Rattle.std.proofs.Math.Seq.{take-suc}
 use Rattle.std.proofs.lemmas.List.{take_all}
 use Rattle.wg_io.specs.declared.suffixes.TheConstants.{OFFSETS}
-use Rattle.std.proofs.lemmas.Result.{MatchResult-weaker}
 use Rattle.wg_io.proofs.FilesLemmas.{none_falls-trans}
 use Rattle.wg_io.proofs.PutsLemmas.{is_that_err}
 use Rattle.wg_outcomes.specs.Answers.{Steps}
@@ -38,19 +37,6 @@ loop-page-init g c =
           (b.reads t file (ap (λ (n : List ℕ). map.get files n) named ∙ is));
     }
 
-pub pair_next-requires-clause-paired : goal.pair_next-requires-clause-paired
-pair_next-requires-clause-paired g c = MatchResult-weaker c.loop-page.pairing.so_far c.loop-page.invariant.come (λ done k. k.0) (λ e s. tt)
-
-pub pair_next-requires-clause-more : goal.pair_next-requires-clause-more
-pair_next-requires-clause-more g c = MatchResult-weaker c.loop-page.pairing.so_far c.loop-page.invariant.come (λ done k. omega (arith, k.1, c.loop-page-test.true, c.nodes-page-end.ensures.value)) (λ e s. tt)
-
-pub pair_next-requires-clause-here : goal.pair_next-requires-clause-here
-pair_next-requires-clause-here g c =
-    let o = c.place-here.ensures in
-    let page = c.loop-page.page in
-    let within : page + 1 < length c.args.offsets.now = omega (arith, c.requires, c.loop-page-test.true, c.nodes-page-end.ensures.value) in
-    MatchResult-weaker c.loop-page.pairing.so_far c.loop-page.invariant.come (λ done k. omega (arith, k.2, o.value, c.len.ensures.places.never_fall page (page + 1) 0 (omega arith) within)) (λ e s. tt)
-
 pub loop-page-preserved : goal.loop-page-preserved
 loop-page-preserved g c =
     let files = g.D.Depot.files c.args.depot.now in
@@ -72,13 +58,6 @@ loop-page-preserved g c =
           (ap (λ (v : ℕ). take (page + 1) found ++ v ∷ []) o.value ∙ taken found page within)
           (s.reads t files h.same name h.name file is (take (page + 1) found) (h.reads t file is));
     }
-
-pub end_pairing-requires-clause-paired : goal.end_pairing-requires-clause-paired
-end_pairing-requires-clause-paired g c = MatchResult-weaker c.loop-page.pairing.so_far c.loop-page.invariant.come (λ done k. k.0) (λ e s. tt)
-
-pub end_pairing-requires-clause-done : goal.end_pairing-requires-clause-done
-end_pairing-requires-clause-done g c =
-    MatchResult-weaker c.loop-page.pairing.so_far c.loop-page.invariant.come (λ done k. omega (arith, k.1, c.loop-page-test.false, c.nodes-page-end.ensures.value, c.loop-page.auto.page-end)) (λ e s. tt)
 
 pub returns-in_err-pairing : goal.returns-in_err-pairing
 returns-in_err-pairing g c =

@@ -8,12 +8,6 @@ use Rattle.wg_readings.proofs.pairing.begin_pairing.Goals as goal
 pub returns-in-Err-clause-come : goal.returns-in-Err-clause-come
 returns-in-Err-clause-come g c = c.in-Err.ensures.stopped (λ t file is. unread_held c.args.params.now c.args.pairing.now file c.requires)
 
-pub next_word-requires-clause-code : goal.next_word-requires-clause-code
-next_word-requires-clause-code g c = ap (λ (x : WordsRead). x.code) (c.in-Ok.ensures.kept.1 ∙ c.requires.words)
-
-pub next_word-requires-clause-pages : goal.next_word-requires-clause-pages
-next_word-requires-clause-pages g c = ap (λ (x : WordsRead). x.pages) (c.in-Ok.ensures.kept.1 ∙ c.requires.words)
-
 pub returns-in-Err-next_word-clause-come : goal.returns-in-Err-next_word-clause-come
 returns-in-Err-next_word-clause-come g c =
     let a = c.args.pairing.now in
