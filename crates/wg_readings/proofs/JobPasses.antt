@@ -20,8 +20,8 @@ use Rattle.wg_outcomes.specs.declared.ending.Ending.{Ending}
 use Rattle.wg_outcomes.specs.declared.status.Input.{Input}
 use Rattle.wg_outcomes.specs.declared.status.Input.TheVariants.{Graph}
 use Rattle.wg_outcomes.specs.declared.status.Status.{Status}
-use Rattle.wg_outcomes.specs.declared.status.Status.TheVariants.{Done, Usage, Memory, ReadFault, WriteFault, Missing, BadArcs, BadProperties, BadArchive, BadSecond, TooManyArcs, NoPage, OverLimit, BadWeights, BadText, BadMap, BadCertificate}
-use Rattle.wg_readings.proofs.JobSteps.{ComesTo, bad_possible, judges_here}
+use Rattle.wg_outcomes.specs.declared.status.Status.TheVariants.{Done, Memory, ReadFault, WriteFault}
+use Rattle.wg_readings.proofs.JobSteps.{ComesTo, bad_refuses, judges_here}
 use Rattle.wg_readings.proofs.PassLemmas.{graph_goes}
 use Rattle.wg_outcomes.proofs.PerformsLemmas.{unread_possible}
 use Rattle.wg_outcomes.proofs.Statuses.{bad_unread, own_read}
@@ -31,39 +31,13 @@ pub hindered_output : (due old new : List ℕ) (s : Status) → IsHindrance s �
 hindered_output due old new Memory h put = put
 hindered_output due old new (ReadFault i) h put = put
 hindered_output due old new (WriteFault o) h put = put
-hindered_output due old new Done h put = absurd h
-hindered_output due old new Usage h put = absurd h
-hindered_output due old new (Missing i) h put = absurd h
-hindered_output due old new (BadArcs line kind) h put = absurd h
-hindered_output due old new (BadProperties f) h put = absurd h
-hindered_output due old new (BadArchive f) h put = absurd h
-hindered_output due old new (BadSecond f) h put = absurd h
-hindered_output due old new TooManyArcs h put = absurd h
-hindered_output due old new (NoPage page) h put = absurd h
-hindered_output due old new (OverLimit i) h put = absurd h
-hindered_output due old new (BadWeights f) h put = absurd h
-hindered_output due old new (BadText line kind) h put = absurd h
-hindered_output due old new (BadMap f) h put = absurd h
-hindered_output due old new (BadCertificate f) h put = absurd h
+hindered_output due old new _ h put = absurd h
 
 pub hindered_promised : (held : Input → Option (List ℕ)) (s : Status) (n : ℕ) → IsHindrance s → ArePromised held s n
 hindered_promised held Memory n h = tt
 hindered_promised held (ReadFault i) n h = tt
 hindered_promised held (WriteFault o) n h = tt
-hindered_promised held Done n h = tt
-hindered_promised held Usage n h = tt
-hindered_promised held (Missing i) n h = tt
-hindered_promised held (BadArcs line kind) n h = tt
-hindered_promised held (BadProperties f) n h = tt
-hindered_promised held (BadArchive f) n h = absurd h
-hindered_promised held (BadSecond f) n h = absurd h
-hindered_promised held TooManyArcs n h = tt
-hindered_promised held (NoPage page) n h = tt
-hindered_promised held (OverLimit i) n h = tt
-hindered_promised held (BadWeights f) n h = absurd h
-hindered_promised held (BadText line kind) n h = tt
-hindered_promised held (BadMap f) n h = absurd h
-hindered_promised held (BadCertificate f) n h = tt
+hindered_promised held _ n h = absurd h
 
 -- a status at which a pass ends that prints
 abbrev pub StopsOrUnput : ℕ → Ending → Type 0
@@ -72,7 +46,7 @@ StopsOrUnput n e = IsStopAt Graph n e ⊎ IsUnput e.status
 pub pass_possible : (job : Job) (n : ℕ) (r : Result (Unit {0}) Ending) → IsTrue (has_input job Graph) → IfErr r (StopsOrUnput n) → IsTrue (can_end job (status_in r))
 pass_possible job n (Ok done) has only = refl
 pass_possible job n (Err e) has (inl (inl only)) = unread_possible job Graph e.status has only
-pass_possible job n (Err e) has (inl (inr bad)) = bad_possible job Graph n e has bad
+pass_possible job n (Err e) has (inl (inr bad)) = (bad_refuses job Graph n e has bad).possible
 pass_possible job n (Err e) has (inr (inl fault)) = subst (λ (s : Status). IsTrue (can_end job s)) (sym fault) refl
 pass_possible job n (Err e) has (inr (inr want)) = subst (λ (s : Status). IsTrue (can_end job s)) (sym want) refl
 

@@ -18,12 +18,13 @@ use Rattle.wg_words.specs.declared.jobs.Job.{Job}
 use Rattle.wg_params.specs.declared.layout.Layout.{Layout}
 use Rattle.wg_outcomes.specs.Reached.{Reaches}
 use Rattle.wg_outcomes.specs.Answers.{Answers, IsHindrance, IsUnput, Steps, status_in, without}
+use Rattle.wg_outcomes.specs.Causes.{HasCause}
 use Rattle.wg_outcomes.specs.Commands.{builds, judged}
 use Rattle.wg_outcomes.specs.Judged.{Judged, accepted, refused}
 use Rattle.wg_readings.specs.Loading.{EndsAt, IsPropertiesFile, LoadsParams, Reads, params_then}
 use Rattle.wg_outcomes.specs.JobFiles.{can_end, has_input, input_name, names_pages, output_name, writes_files}
-use Rattle.wg_outcomes.specs.Names.{archive_named, file_of, held_by, IsOfInput}
-use Rattle.wg_outcomes.specs.Promised.{IsStopAt, ArePromised, IsBadFile, IsPromised, promised_in}
+use Rattle.wg_outcomes.specs.Names.{archive_named, file_of, held_by, no_outputs, IsOfInput}
+use Rattle.wg_outcomes.specs.Promised.{ArePromised, IsBadFile, IsPromised, promised_in}
 use Rattle.wg_outcomes.specs.Performs.{BuildsArchive, Outside, Performs, judged_on, outside}
 use Rattle.wg_outcomes.specs.Readings.{Readings}
 use Rattle.wg_outcomes.specs.declared.ending.Ending.{Ending}
@@ -33,7 +34,7 @@ use Rattle.wg_outcomes.specs.declared.status.Status.{Status}
 use Rattle.wg_outcomes.specs.declared.status.Status.TheVariants.{Memory, WriteFault, Missing, BadArchive, BadProperties, NoPage}
 use Rattle.wg_outcomes.proofs.BuildLemmas.{written}
 use Rattle.wg_outcomes.proofs.PerformsLemmas.{IsStop, printed_by, stopped, unread}
-use Rattle.wg_outcomes.proofs.Statuses.{IsOwn, bad_own, bad_unread, own_caused, own_read}
+use Rattle.wg_outcomes.proofs.Statuses.{IsOwn, own_caused, own_read}
 use Rattle.wg_readings.proofs.UnderWay.{cause_later}
 
 -- the exit of a `?`
@@ -57,22 +58,41 @@ of_properties held p number n file is = λ other q here reads.
 -- a fault names the arcs
 same_arcs : (held : Input → Option (List ℕ)) (p : Parameters) (n : ℕ) → IsPropertiesFile (held input.Properties) p → n ≡ p.arcs → (f : ArchiveFault) → ArePromised held (BadArchive f) n
 same_arcs held p n file is (archive.ArcsShort total) = of_properties (held input.Properties) p (λ q. q.arcs) n file is
-same_arcs held p n file is (archive.Record f) = tt
-same_arcs held p n file is (archive.Tail at) = tt
-same_arcs held p n file is (archive.Offsets w) = tt
-same_arcs held p n file is (archive.Length page found stored) = tt
+same_arcs held p n file is _ = tt
 
 pub bad_promised : (held : Input → Option (List ℕ)) (p : Parameters) (i : Input) (e : Ending) → IsPropertiesFile (held input.Properties) p → IsBadFile i p.arcs e → ArePromised held e.status e.promised
 bad_promised held p i e file (inl want) = subst (λ (s : Status). ArePromised held s e.promised) (sym want) tt
 bad_promised held p i e file (inr fault) = subst (λ (s : Status). ArePromised held s e.promised) (sym fault.2) (same_arcs held p e.promised file fault.3 fault.0)
 
-bad_stop : (i : Input) (n : ℕ) (e : Ending) → IsBadFile i n e → IsStop e.status
-bad_stop i n e (inl want) = subst IsStop (sym want) tt
-bad_stop i n e (inr fault) = subst IsStop (sym fault.2) tt
+-- ---- how a job ends
 
-pub bad_possible : (job : Job) (i : Input) (n : ℕ) (e : Ending) → IsTrue (has_input job i) → IsBadFile i n e → IsTrue (can_end job e.status)
-bad_possible job i n e has (inl want) = subst (λ (s : Status). IsTrue (can_end job s)) (sym want) refl
-bad_possible job i n e has (inr fault) = subst (λ (s : Status). IsTrue (can_end job s)) (sym fault.2) (subst (λ (j : Input). IsTrue (has_input job j)) (sym fault.1) has)
+-- a status that nothing outside causes, and that the job can have before any output
+pub record IsRefusal (job : Job) (s : Status) : Type 0 where
+  pub own : IsOwn s
+  pub stop : IsStop s
+  pub possible : IsTrue (can_end job s)
+
+pub want_refuses : (job : Job) (s : Status) → s ≡ Memory → IsRefusal job s
+want_refuses job s want = subst (IsRefusal job) (sym want) (record { own = tt; stop = tt; possible = refl })
+
+pub bad_refuses : (job : Job) (i : Input) (n : ℕ) (e : Ending) → IsTrue (has_input job i) → IsBadFile i n e → IsRefusal job e.status
+bad_refuses job i n e has (inl want) = want_refuses job e.status want
+bad_refuses job i n e has (inr fault) = subst (IsRefusal job) (sym fault.2) (record { own = tt; stop = tt; possible = subst (λ (j : Input). IsTrue (has_input job j)) (sym fault.1) has })
+
+module _ (job : Job) (td to : Bool) (before after : Outside) (e : Ending) (silent : after.taken ≡ before.taken) (same : after.files ≡ before.files) (later : NonDecreasing before.counts after.counts)
+    (answers : IsTrue td → (r : Readings) → Answers (judged_on r job before.files) e.status) where
+  pub ends_refused : IsRefusal job e.status → (IsTrue td → ArePromised (held_by (input_name job) before.files) e.status e.promised) → Performs job td to before after e.status e.promised
+  ends_refused is promised =
+      stopped job td to before after e.status e.promised is.stop silent same answers is.possible (own_caused _ _ _ _ _ _ e.status is.own) (λ t r j at. absurd (subst IsOwn at is.own)) later promised
+
+  -- at an input, which was not read or is at fault
+  pub ends_at : (names : Input → Option (List ℕ)) (i : Input) (IsFault : Ending → Type 0) → input_name job i ≡ names i → IsTrue (has_input job i) → IsOfInput i e.status ⊎ IsFault e
+      → HasCause names no_outputs before.counts after.counts 0 0 e.status → (IsTrue td → (r : Readings) → Reaches r job (held_by (input_name job) before.files) i) → (IsFault e → IsRefusal job e.status)
+      → (IsTrue td → IsFault e → ArePromised (held_by (input_name job) before.files) e.status e.promised) → Performs job td to before after e.status e.promised
+  ends_at names i IsFault named has (inl only) causes reaches refuses promised =
+      unread names i job td to before after e.status e.promised has named silent only causes same later answers
+      (λ t r j is. subst (λ (k : Input). Reaches r job (held_by (input_name job) before.files) k) (own_read i e.status j only is) (reaches t r))
+  ends_at names i IsFault named has (inr fault) causes reaches refuses promised = ends_refused (refuses fault) (λ t. promised t fault)
 
 -- ---- what inputs hold
 
@@ -87,16 +107,7 @@ hold_all names files (i ∷ read) = (refl, hold_all names files read)
 
 pub gone : (i : Input) (held : Input → Option (List ℕ)) → without i held i ≡ None
 gone input.Properties held = refl
-gone input.Graph held = refl
-gone input.Offsets held = refl
-gone input.SecondProperties held = refl
-gone input.SecondGraph held = refl
-gone input.SecondOffsets held = refl
-gone input.ArcList held = refl
-gone input.Weights held = refl
-gone input.Certificate held = refl
-gone input.Text held = refl
-gone input.Map held = refl
+gone _ held = refl
 
 -- A job has read these inputs, and goes on by the rest of its judgement, whatever its other inputs hold. Nothing has changed.
 pub record ComesTo (job : Job) (p : Parameters) (td : Bool) (before : Outside) (files : Files) (counts : List ℕ → Counts) (read : List Input) (rest : Readings → (Input → Option (List ℕ)) → Judged) : Type 0 where
@@ -128,22 +139,13 @@ module _ (job : Job) (base : List ℕ) (td to : Bool) (before : Outside) where
     -- or they were not
     pub unloaded : (after : Outside) (e : Ending) → after.taken ≡ before.taken → LoadsParams base td before.files after.files before.counts after.counts (Err e)
         → Performs job td to before after e.status e.promised
-    unloaded after e silent l = by_only l.only
-      where
-        answers : IsTrue td → (r : Readings) → Answers (judged_on r job before.files) e.status
-        answers t r =
-            subst (λ (j : Judged). Answers j e.status) (sym (judges r held ∙ ap (λ (o : Option (List ℕ)). params_then o (λ q. rest q r held)) (by_base input.Properties named)))
-            (l.steps t (λ q. rest q r held))
-
-        by_only : (IsOfInput input.Properties e.status ⊎ ((f : PropFault) × (e.status ≡ BadProperties f))) → Performs job td to before after e.status e.promised
-        by_only (inl only) =
-            unread (file_of base) input.Properties job td to before after e.status e.promised (ap is_some named) named silent only l.causes l.same l.later answers
-            (λ t r j is. subst (λ (k : Input). Reaches r job held k) (own_read input.Properties e.status j only is) (judges r (without input.Properties held)))
-        by_only (inr fault) =
-            let own : IsOwn e.status = subst IsOwn (sym fault.1) tt in
-            stopped job td to before after e.status e.promised (subst IsStop (sym fault.1) tt) silent l.same answers
-            (subst (λ (s : Status). IsTrue (can_end job s)) (sym fault.1) (ap is_some named)) (own_caused _ _ _ _ _ _ e.status own)
-            (λ t r j is. absurd (subst IsOwn is own)) l.later (λ t. subst (λ (s : Status). ArePromised held s e.promised) (sym fault.1) tt)
+    unloaded after e silent l =
+        ends_at job td to before after e silent l.same l.later
+        (λ t r.
+        subst (λ (j : Judged). Answers j e.status) (sym (judges r held ∙ ap (λ (o : Option (List ℕ)). params_then o (λ q. rest q r held)) (by_base input.Properties named)))
+        (l.steps t (λ q. rest q r held)))
+        (file_of base) input.Properties (λ x. (f : PropFault) × (x.status ≡ BadProperties f)) named (ap is_some named) l.only l.causes (λ t r. judges r (without input.Properties held))
+        (λ fault. subst (IsRefusal job) (sym fault.1) (record { own = tt; stop = tt; possible = ap is_some named })) (λ t fault. subst (λ (s : Status). ArePromised held s e.promised) (sym fault.1) tt)
 
   module _ (p : Parameters) (files : Files) (counts : List ℕ → Counts) (read : List Input) where
     -- ---- a step that reads a file of the archive
@@ -178,23 +180,11 @@ module _ (job : Job) (base : List ℕ) (td to : Bool) (before : Outside) where
         -- it ends the job
         pub ends : IsTrue (is_some (file_of base i)) → (after : Outside) (e : Ending) → after.taken ≡ before.taken → after.files ≡ files → NonDecreasing counts after.counts
             → EndsAt {B = B} base i p.arcs step td files counts after.counts e → Performs job td to before after e.status e.promised
-        ends there after e silent same later h = by_only h.only
-          where
-            has : IsTrue (has_input job i)
-            has = ap is_some named ∙ there
-
-            answers : IsTrue td → (r : Readings) → Answers (judged_on r job before.files) e.status
-            answers t r = subst (λ (j : Judged). Answers j e.status) (sym (judges_here t r)) (h.refused t r (λ b. next b r held))
-
-            by_only : IsStopAt i p.arcs e → Performs job td to before after e.status e.promised
-            by_only (inl only) =
-                unread (file_of base) i job td to before after e.status e.promised has named silent only
-                (cause_later (file_of base) before.counts counts after.counts e.status k.later h.causes) (same ∙ k.same) (none_falls-trans _ _ _ k.later later) answers
-                (λ t r j is. subst (λ (x : Input). Reaches r job held x) (own_read i e.status j only is) (reaches t r))
-            by_only (inr bad) =
-                stopped job td to before after e.status e.promised (bad_stop i p.arcs e bad) silent (same ∙ k.same) answers (bad_possible job i p.arcs e has bad)
-                (own_caused _ _ _ _ _ _ e.status (bad_own i p.arcs e bad)) (λ t r j is. absurd (bad_unread i p.arcs e j bad is)) (none_falls-trans _ _ _ k.later later)
-                (λ t. bad_promised held p i e (k.given t) bad)
+        ends there after e silent same later h =
+            let has : IsTrue (has_input job i) = ap is_some named ∙ there in
+            ends_at job td to before after e silent (same ∙ k.same) (none_falls-trans _ _ _ k.later later)
+            (λ t r. subst (λ (j : Judged). Answers j e.status) (sym (judges_here t r)) (h.refused t r (λ b. next b r held))) (file_of base) i (IsBadFile i p.arcs) named has h.only
+            (cause_later (file_of base) before.counts counts after.counts e.status k.later h.causes) reaches (bad_refuses job i p.arcs e has) (λ t bad. bad_promised held p i e (k.given t) bad)
 
         -- the same, of what was read
         pub ends_reading : {A : Type 0} → IsTrue (is_some (file_of base i)) → (after : Outside) (e : Ending) → after.taken ≡ before.taken
@@ -206,29 +196,26 @@ module _ (job : Job) (base : List ℕ) (td to : Bool) (before : Outside) where
       judges_rest t r = k.goes t r held (hold_all (input_name job) before.files read)
 
       -- ---- a step that reads nothing ends the job
+      module _ (taken : List ℕ) (faults : ℕ) (e : Ending) (silent : taken ≡ before.taken) where
+        pub refuses_so : IsRefusal job e.status → (IsTrue td → ArePromised held e.status e.promised) → (IsTrue td → (r : Readings) → Answers (rest r held) e.status)
+            → Performs job td to before (outside files counts taken faults) e.status e.promised
+        refuses_so is promised answers =
+            ends_refused job td to before (outside files counts taken faults) e silent k.same k.later (λ t r. subst (λ (j : Judged). Answers j e.status) (sym (judges_rest t r)) (answers t r)) is promised
+
+        -- memory was out
+        pub ends_without : e.status ≡ Memory → Performs job td to before (outside files counts taken faults) e.status e.promised
+        ends_without want =
+            refuses_so (want_refuses job e.status want) (λ t. subst (λ (s : Status). ArePromised held s e.promised) (sym want) tt) (λ t r. inr (subst IsHindrance (sym want) tt))
+
       pub refuses : (i : Input) → IsTrue (has_input job i) → (taken : List ℕ) (faults : ℕ) (e : Ending) → taken ≡ before.taken → IsBadFile i p.arcs e
           → (IsTrue td → (r : Readings) → Answers (rest r held) e.status) → Performs job td to before (outside files counts taken faults) e.status e.promised
-      refuses i has taken faults e silent bad answers =
-          stopped job td to before (outside files counts taken faults) e.status e.promised (bad_stop i p.arcs e bad) silent k.same
-          (λ t r. subst (λ (j : Judged). Answers j e.status) (sym (judges_rest t r)) (answers t r)) (bad_possible job i p.arcs e has bad)
-          (own_caused _ _ _ _ _ _ e.status (bad_own i p.arcs e bad)) (λ t r j is. absurd (bad_unread i p.arcs e j bad is)) k.later (λ t. bad_promised held p i e (k.given t) bad)
+      refuses i has taken faults e silent bad answers = refuses_so taken faults e silent (bad_refuses job i p.arcs e has bad) (λ t. bad_promised held p i e (k.given t) bad) answers
 
       -- a page that the graph does not have ends it
       pub refuses_page : IsTrue (names_pages job) → (taken : List ℕ) (faults : ℕ) (e : Ending) → taken ≡ before.taken → ((page : ℕ) × (e.status ≡ NoPage page))
           → (IsTrue td → (r : Readings) → Answers (rest r held) e.status) → Performs job td to before (outside files counts taken faults) e.status e.promised
       refuses_page names taken faults e silent bad answers =
-          let own : IsOwn e.status = subst IsOwn (sym bad.1) tt in
-          stopped job td to before (outside files counts taken faults) e.status e.promised (subst IsStop (sym bad.1) tt) silent k.same
-          (λ t r. subst (λ (j : Judged). Answers j e.status) (sym (judges_rest t r)) (answers t r)) (subst (λ (s : Status). IsTrue (can_end job s)) (sym bad.1) names)
-          (own_caused _ _ _ _ _ _ e.status own) (λ t r j is. absurd (subst IsOwn is own)) k.later (λ t. subst (λ (s : Status). ArePromised held s e.promised) (sym bad.1) tt)
-
-      -- memory was out
-      pub ends_without : (taken : List ℕ) (faults : ℕ) (e : Ending) → taken ≡ before.taken → e.status ≡ Memory → Performs job td to before (outside files counts taken faults) e.status e.promised
-      ends_without taken faults e silent want =
-          stopped job td to before (outside files counts taken faults) e.status e.promised (subst IsStop (sym want) tt) silent k.same
-          (λ t r. inr (subst IsHindrance (sym want) tt)) (subst (λ (s : Status). IsTrue (can_end job s)) (sym want) refl)
-          (own_caused _ _ _ _ _ _ e.status (subst IsOwn (sym want) tt)) (λ t r j is. absurd (subst IsOwn is (subst IsOwn (sym want) tt))) k.later
-          (λ t. subst (λ (s : Status). ArePromised held s e.promised) (sym want) tt)
+          refuses_so taken faults e silent (subst (IsRefusal job) (sym bad.1) (record { own = tt; stop = tt; possible = names })) (λ t. subst (λ (s : Status). ArePromised held s e.promised) (sym bad.1) tt) answers
 
       -- ---- the last step prints a text
       pub prints : (text : Readings → List ℕ) → ((r : Readings) → rest r held ≡ accepted (text r)) → writes_files job ≡ false

@@ -6,39 +6,26 @@ use Rattle.wg_outcomes.specs.Judged.{Judged, accepted, with_lengths, offsets_the
 use Rattle.wg_outcomes.specs.declared.status.Status.{Status}
 use Rattle.wg_outcomes.specs.declared.status.Status.TheVariants.{Done, Memory}
 use Rattle.wg_grammar.specs.Archive.{Accepted}
-use Rattle.std.proofs.Common.{◌≡◌, ◌∙◌, inl, inr, ℕ, Bool, List, Result, Ok, Err, refl, sym, subst, []}
+use Rattle.std.proofs.Common.{◌≡◌, ◌∙◌, inl, inr, ℕ, Bool, List, Option, Result, Ok, Err, refl, sym, subst, []}
 use Rattle.std.specs.Bool.{IsTrue}
-use Rattle.std.specs.Result.{IfErr, IsErrAnd}
+use Rattle.std.specs.Result.{IfErr}
 use Rattle.wg_io.specs.Outside.{Files, Counts, NonDecreasing}
 use Rattle.wg_io.proofs.FilesLemmas.{none_falls-refl, none_falls-trans}
-use Rattle.wg_io.proofs.PutsLemmas.{is_that_err}
 use Rattle.wg_params.specs.Parameters.{Parameters, IsWithinLimits}
 use Rattle.wg_grammar.specs.Record.{Whole}
 use Rattle.wg_offsets.specs.Places.{last_place}
 use Rattle.wg_stream.specs.Reading.{Reading}
 use Rattle.wg_outcomes.specs.Answers.{Answers, IsHindrance, Steps, status_in}
 use Rattle.wg_outcomes.specs.Causes.{HasCause}
-use Rattle.wg_readings.specs.Loading.{JudgesFiles, JudgesGraph, JudgesOffsets, lengths_then}
+use Rattle.wg_readings.specs.Loading.{JudgesFiles, JudgesGraph, JudgesOffsets, Reads, lengths_then}
 use Rattle.wg_outcomes.specs.Names.{file_of, held_by, no_outputs}
 use Rattle.wg_readings.specs.Passes.{Advances, IsGraphFile, graph_then}
 use Rattle.wg_outcomes.specs.Promised.{IsStopAt}
 use Rattle.wg_outcomes.specs.Readings.{Readings}
 use Rattle.wg_outcomes.specs.declared.ending.Ending.{Ending}
+use Rattle.wg_outcomes.specs.declared.status.Input.{Input}
 use Rattle.wg_outcomes.specs.declared.status.Input.TheVariants as input
 use Rattle.wg_readings.proofs.UnderWay.{IsUnderWay, ends_caused, ends_told}
-
--- ---- the exit of a `?`
-pub judge_exit : (base : List ℕ) (p : Parameters) (td : Bool) (files files' : Files) (counts counts' : List ℕ → Counts) (r : Result (Unit {0}) Ending) (e : Ending) → IsErrAnd r (λ x. x ≡ e)
-    → JudgesGraph base p td files files' counts counts' (Err e) → JudgesGraph base p td files files' counts counts' r
-judge_exit base p td files files' counts counts' r e is h = subst (λ (x : Result (Unit {0}) Ending). JudgesGraph base p td files files' counts counts' x) (sym (is_that_err r e is)) h
-
-pub files_exit : (base : List ℕ) (p : Parameters) (td : Bool) (files files' : Files) (counts counts' : List ℕ → Counts) (r : Result ℕ Ending) (e : Ending) → IsErrAnd r (λ x. x ≡ e)
-    → JudgesFiles base p td files files' counts counts' (Err e) → JudgesFiles base p td files files' counts counts' r
-files_exit base p td files files' counts counts' r e is h = subst (λ (x : Result ℕ Ending). JudgesFiles base p td files files' counts counts' x) (sym (is_that_err r e is)) h
-
-pub offsets_exit : (base : List ℕ) (p : Parameters) (places : List ℕ) (td : Bool) (files files' : Files) (counts counts' : List ℕ → Counts) (r : Result (Unit {0}) Ending) (e : Ending) → IsErrAnd r (λ x. x ≡ e)
-    → JudgesOffsets base p places td files files' counts counts' (Err e) → JudgesOffsets base p places td files files' counts counts' r
-offsets_exit base p places td files files' counts counts' r e is h = subst (λ (x : Result (Unit {0}) Ending). JudgesOffsets base p places td files files' counts counts' x) (sym (is_that_err r e is)) h
 
 -- ---- the end of the offsets file
 pub offsets_judged : (base : List ℕ) (p : Parameters) (places : List ℕ) (td : Bool) (files files' : Files) (counts counts' : List ℕ → Counts) (r : Result (Unit {0}) Ending)
@@ -49,36 +36,21 @@ offsets_judged base p places td files files' counts counts' (Ok done) only cause
 offsets_judged base p places td files files' counts counts' (Err e) only cause steps same later =
     record { reads = record { ends = record { only = only; causes = cause; refused = steps }; same = same; later = later }; goes = steps }
 
--- ---- memory was out before anything was read
+-- ---- memory was out
+pub reads_want : {A B : Type 0} (base : List ℕ) (i : Input) (n : ℕ) (step : Readings → Option (List ℕ) → (B → Judged) → Judged) (td : Bool) (files files' : Files) (counts counts' : List ℕ → Counts) (e : Ending) → e.status ≡ Memory
+    → files' ≡ files → NonDecreasing counts counts' → Reads {A = A} {B = B} base i n step td files files' counts counts' (Err e)
+reads_want base i n step td files files' counts counts' e want same later = record {
+  ends = record { only = inr (inl want); causes = own_caused _ _ _ _ _ _ e.status (subst IsOwn (sym want) tt); refused = λ t r next. inr (subst IsHindrance (sym want) tt) };
+  same = same;
+  later = later;
+}
+
 module _ (base : List ℕ) (p : Parameters) (td : Bool) (files : Files) (counts : List ℕ → Counts) (e : Ending) (want : e.status ≡ Memory) where
   pub graph_unread : JudgesGraph base p td files files counts counts (Err e)
-  graph_unread = record {
-    reads = record {
-      ends = record {
-        only = inr (inl want);
-        causes = own_caused _ _ _ _ _ _ e.status (subst IsOwn (sym want) tt);
-        refused = λ t r next. inr (subst IsHindrance (sym want) tt);
-      };
-      same = refl;
-      later = none_falls-refl counts;
-    };
-    limits = tt;
-    accepted = λ t. tt;
-  }
+  graph_unread = record { reads = reads_want _ _ _ _ _ _ _ _ _ e want refl (none_falls-refl counts); limits = tt; accepted = λ t. tt }
 
   pub offsets_unread : (places : List ℕ) → JudgesOffsets base p places td files files counts counts (Err e)
-  offsets_unread places = record {
-    reads = record {
-      ends = record {
-        only = inr (inl want);
-        causes = own_caused _ _ _ _ _ _ e.status (subst IsOwn (sym want) tt);
-        refused = λ t r next. inr (subst IsHindrance (sym want) tt);
-      };
-      same = refl;
-      later = none_falls-refl counts;
-    };
-    goes = λ t r next. inr (subst IsHindrance (sym want) tt);
-  }
+  offsets_unread places = record { reads = reads_want _ _ _ _ _ _ _ _ _ e want refl (none_falls-refl counts); goes = λ t r next. inr (subst IsHindrance (sym want) tt) }
 
   pub files_unread : JudgesFiles base p td files files counts counts (Err e)
   files_unread = record {

@@ -1,13 +1,11 @@
 pub mod ClassLemmas
 pub mod FindingLemmas
-pub mod FirstRecords
 pub mod GraphJobs
 pub mod JobPasses
 pub mod JobSteps
 pub mod JudgeLemmas
 pub mod LimitsLemmas
 pub mod LoadLemmas
-pub mod NamedLemmas
 pub mod NamedSteps
 pub mod PairingLemmas
 pub mod PassLemmas

@@ -5,7 +5,7 @@ use Rattle.wg_params.specs.declared.key.Key.{Key}
 use Rattle.wg_params.specs.declared.key.Key.TheVariants as key
 use Rattle.wg_params.specs.declared.limits.TheConstants.{MOST_PAGES, MOST_ARCS, MOST_WINDOW, MOST_CHAIN, MOST_INTERVAL, MOST_ZETA}
 use Rattle.wg_params.specs.declared.code.Code.{Code}
-use Rattle.wg_params.specs.declared.code.Code.TheVariants.{Unary, Gamma, Delta, Zeta, Nibble}
+use Rattle.wg_params.specs.declared.code.Code.TheVariants.{Unary, Gamma, Delta}
 use Rattle.wg_params.specs.Codes.{IsCode, is_gamma_or_delta, is_unary_gamma_or_delta, is_residual_code}
 use Rattle.wg_params.specs.Parameters.{Parameters, IsWithinLimits, first_bad}
 
@@ -24,28 +24,16 @@ chosen a b c d e f g =
     cond a (Some key.Nodes) (cond b (Some key.Arcs) (cond c (Some key.WindowSize) (cond d (Some key.MaxRefCount) (cond e (Some key.MinIntervalLength) (cond f (Some key.ZetaK) (cond g (Some key.CompressionFlags) None))))))
 
 none_holds : (a b c d e f g : Bool) → chosen a b c d e f g ≡ None → None_holds a b c d e f g
-none_holds true b c d e f g h = absurd cc
-none_holds false true c d e f g h = absurd cc
-none_holds false false true d e f g h = absurd cc
-none_holds false false false true e f g h = absurd cc
-none_holds false false false false true f g h = absurd cc
-none_holds false false false false false true g h = absurd cc
-none_holds false false false false false false true h = absurd cc
 none_holds false false false false false false false h = record { a_not = refl; b_not = refl; c_not = refl; d_not = refl; e_not = refl; f_not = refl; g_not = refl }
+none_holds _ _ _ _ _ _ _ h = absurd cc
 
 neither : (a b : Bool) → (a || b) ≡ false → (a ≡ false) × (b ≡ false)
-neither true b h = absurd cc
-neither false true h = absurd cc
 neither false false h = (refl, refl)
+neither _ _ h = absurd cc
 
 six : (a b c d e f : Bool) → not (a && b && c && d && e && f) ≡ false → (a ≡ true) × (b ≡ true) × (c ≡ true) × (d ≡ true) × (e ≡ true) × (f ≡ true)
-six false b c d e f h = absurd cc
-six true false c d e f h = absurd cc
-six true true false d e f h = absurd cc
-six true true true false e f h = absurd cc
-six true true true true false f h = absurd cc
-six true true true true true false h = absurd cc
 six true true true true true true h = (refl, refl, refl, refl, refl, refl)
+six _ _ _ _ _ _ h = absurd cc
 
 pub within_limits : (p : Parameters) → first_bad p ≡ None → IsWithinLimits p
 within_limits p none =
@@ -72,8 +60,7 @@ of_two : (c : Code) → is_gamma_or_delta c ≡ true → IsCode c
 of_two Gamma h = tt
 of_two Delta h = tt
 of_two Unary h = tt
-of_two Nibble h = tt
-of_two (Zeta k) h = absurd (let no : false ≡ true = h in cc)
+of_two _ h = absurd (let no : false ≡ true = h in cc)
 
 -- the code of offsets is one
 pub coded : (p : Parameters) → IsWithinLimits p → IsCode p.offsets

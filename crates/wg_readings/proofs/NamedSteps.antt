@@ -10,9 +10,9 @@ use Rattle.wg_outcomes.specs.Reached.{Reaches}
 use Rattle.wg_outcomes.specs.Answers.{Answers, without}
 use Rattle.wg_outcomes.specs.Judged.{Judged, refused}
 use Rattle.wg_readings.specs.Loading.{IsBadCertificate, IsBadMap, IsBadWeights, IsPropertiesFile, ReadsNamed}
-use Rattle.wg_outcomes.specs.JobFiles.{can_end, has_input, input_name}
-use Rattle.wg_outcomes.specs.Names.{held_by, IsOfInput}
-use Rattle.wg_outcomes.specs.Performs.{Outside, Performs, judged_on, outside}
+use Rattle.wg_outcomes.specs.JobFiles.{has_input, input_name}
+use Rattle.wg_outcomes.specs.Names.{held_by}
+use Rattle.wg_outcomes.specs.Performs.{Outside, Performs, outside}
 use Rattle.wg_outcomes.specs.Promised.{ArePromised}
 use Rattle.wg_outcomes.specs.Readings.{Readings}
 use Rattle.wg_outcomes.specs.declared.ending.Ending.{Ending}
@@ -22,16 +22,12 @@ use Rattle.wg_outcomes.specs.declared.status.Status.{Status}
 use Rattle.wg_outcomes.specs.declared.status.Status.TheVariants.{BadWeights, Memory, Missing}
 use Rattle.wg_outcomes.specs.declared.status.WeightsFault.{WeightsFault}
 use Rattle.wg_outcomes.specs.declared.status.WeightsFault.TheVariants.{Numbers, Zero}
-use Rattle.wg_readings.proofs.JobSteps.{ComesTo, Hold, ends_without, gone, hold_all, judges_rest, of_properties}
-use Rattle.wg_outcomes.proofs.PerformsLemmas.{IsStop, stopped, unread}
-use Rattle.wg_outcomes.proofs.Statuses.{IsOwn, own_caused, own_read}
+use Rattle.wg_readings.proofs.JobSteps.{ComesTo, Hold, IsRefusal, ends_at, ends_without, gone, hold_all, of_properties, refuses_so}
 use Rattle.wg_readings.proofs.UnderWay.{cause_later}
 
 -- faults of what a file holds, with which the job can end where its archive has these parameters
 pub record AreRefusals (job : Job) (p : Parameters) (IsFault : Ending → Type 0) : Type 0 where
-  pub own : (e : Ending) → IsFault e → IsOwn e.status
-  pub stop : (e : Ending) → IsFault e → IsStop e.status
-  pub possible : (e : Ending) → IsFault e → IsTrue (can_end job e.status)
+  pub refusal : (e : Ending) → IsFault e → IsRefusal job e.status
   pub promised : (held : Input → Option (List ℕ)) (e : Ending) → IsPropertiesFile (held Properties) p → IsFault e → ArePromised held e.status e.promised
 
 weights_promised : (held : Input → Option (List ℕ)) (p : Parameters) (n : ℕ) → IsPropertiesFile (held Properties) p → n ≡ p.nodes → (f : WeightsFault) → ArePromised held (BadWeights f) n
@@ -40,25 +36,19 @@ weights_promised held p n file is Zero = tt
 
 pub weights_refused : (job : Job) (p : Parameters) (n : ℕ) → n ≡ p.nodes → IsTrue (has_input job Weights) → AreRefusals job p (IsBadWeights n)
 weights_refused job p n pages has = record {
-  own = λ e f. subst IsOwn (sym f.1) tt;
-  stop = λ e f. subst IsStop (sym f.1) tt;
-  possible = λ e f. subst (λ (s : Status). IsTrue (can_end job s)) (sym f.1) has;
+  refusal = λ e f. subst (IsRefusal job) (sym f.1) (record { own = tt; stop = tt; possible = has });
   promised = λ held e file f. subst (λ (s : Status). ArePromised held s e.promised) (sym f.1) (weights_promised held p e.promised file (f.2 ∙ pages) f.0);
 }
 
 pub certificate_refused : (job : Job) (p : Parameters) → IsTrue (has_input job Certificate) → AreRefusals job p IsBadCertificate
 certificate_refused job p has = record {
-  own = λ e f. subst IsOwn (sym f.1) tt;
-  stop = λ e f. subst IsStop (sym f.1) tt;
-  possible = λ e f. subst (λ (s : Status). IsTrue (can_end job s)) (sym f.1) has;
+  refusal = λ e f. subst (IsRefusal job) (sym f.1) (record { own = tt; stop = tt; possible = has });
   promised = λ held e file f. subst (λ (s : Status). ArePromised held s e.promised) (sym f.1) tt;
 }
 
 pub map_refused : (job : Job) (p : Parameters) (n : ℕ) → n ≡ p.nodes → IsTrue (has_input job Map) → AreRefusals job p (IsBadMap n)
 map_refused job p n pages has = record {
-  own = λ e f. subst IsOwn (sym f.1) tt;
-  stop = λ e f. subst IsStop (sym f.1) tt;
-  possible = λ e f. subst (λ (s : Status). IsTrue (can_end job s)) (sym f.1) has;
+  refusal = λ e f. subst (IsRefusal job) (sym f.1) (record { own = tt; stop = tt; possible = has });
   promised = λ held e file f.
       subst (λ (s : Status). ArePromised held s e.promised) (sym f.1) (of_properties (held Properties) p (λ q. q.nodes) e.promised file (f.2 ∙ pages));
 }
@@ -93,23 +83,13 @@ module _ (job : Job) (base : List ℕ) (td to : Bool) (before : Outside) (p : Pa
 
       pub ends_named : IsTrue (has_input job i) → (after : Outside) (e : Ending) → after.taken ≡ before.taken
           → ReadsNamed {B = B} i names IsFault step td files after.files counts after.counts (Err e) → Performs job td to before after e.status e.promised
-      ends_named has after e silent h = by_only h.only
-        where
-          answers : IsTrue td → (r : Readings) → Answers (judged_on r job before.files) e.status
-          answers t r =
-              subst (λ (j : Judged). Answers j e.status)
-              (sym (k.goes t r held (hold_all (input_name job) before.files read) ∙ ap (λ (o : Option (List ℕ)). step o (λ b. next b r held)) here))
-              (h.steps t (λ b. next b r held))
-
-          by_only : (IsOfInput i e.status ⊎ IsFault e) → Performs job td to before after e.status e.promised
-          by_only (inl only) =
-              unread names i job td to before after e.status e.promised has named silent only
-              (cause_later names before.counts counts after.counts e.status k.later h.causes) (h.same ∙ k.same) (none_falls-trans _ _ _ k.later h.later) answers
-              (λ t r j is. subst (λ (x : Input). Reaches r job held x) (own_read i e.status j only is) (reaches_named t r))
-          by_only (inr fault) =
-              stopped job td to before after e.status e.promised (refusals.stop e fault) silent (h.same ∙ k.same) answers (refusals.possible e fault)
-              (own_caused _ _ _ _ _ _ e.status (refusals.own e fault)) (λ t r j is. absurd (subst IsOwn is (refusals.own e fault)))
-              (none_falls-trans _ _ _ k.later h.later) (λ t. refusals.promised held e (k.given t) fault)
+      ends_named has after e silent h =
+          ends_at job td to before after e silent (h.same ∙ k.same) (none_falls-trans _ _ _ k.later h.later)
+          (λ t r.
+          subst (λ (j : Judged). Answers j e.status)
+          (sym (k.goes t r held (hold_all (input_name job) before.files read) ∙ ap (λ (o : Option (List ℕ)). step o (λ b. next b r held)) here)) (h.steps t (λ b. next b r held)))
+          names i IsFault named has h.only (cause_later names before.counts counts after.counts e.status k.later h.causes) reaches_named
+          (refusals.refusal e) (λ t fault. refusals.promised held e (k.given t) fault)
 
   -- a step that reads nothing ends it, with such a fault or since memory was out
   module _ (IsFault : Ending → Type 0) (refusals : AreRefusals job p IsFault) (rest : Readings → (Input → Option (List ℕ)) → Judged) (k : ComesTo job p td before files counts read rest) where
@@ -117,7 +97,4 @@ module _ (job : Job) (base : List ℕ) (td to : Bool) (before : Outside) (p : Pa
         → (IsTrue td → (r : Readings) → Answers (rest r held) e.status) → Performs job td to before (outside files counts taken faults) e.status e.promised
     refuses_own taken faults e silent (inl want) answers = ends_without job base td to before p files counts read rest k taken faults e silent want
     refuses_own taken faults e silent (inr fault) answers =
-        stopped job td to before (outside files counts taken faults) e.status e.promised (refusals.stop e fault) silent k.same
-        (λ t r. subst (λ (j : Judged). Answers j e.status) (sym (judges_rest job base td to before p files counts read rest k t r)) (answers t r))
-        (refusals.possible e fault) (own_caused _ _ _ _ _ _ e.status (refusals.own e fault))
-        (λ t r j is. absurd (subst IsOwn is (refusals.own e fault))) k.later (λ t. refusals.promised held e (k.given t) fault)
+        refuses_so job base td to before p files counts read rest k taken faults e silent (refusals.refusal e fault) (λ t. refusals.promised held e (k.given t) fault) answers

@@ -1,12 +1,12 @@
 -- An offsets file that is read in pieces, in a judgement.
-use Rattle.std.proofs.Common.{◌≡◌, ◌≢◌, inl, inr, ℕ, ◌+◌, ◌<◌, ◌≤◌, Bool, true, List, [], ◌∷◌, length, refl, sym, ◌∙◌, ap, subst, Option, Some, None, Result, Ok, Err, arith}
+use Rattle.std.proofs.Common.{◌≡◌, ◌≢◌, inl, inr, ℕ, ◌<◌, ◌≤◌, Bool, true, List, [], length, refl, sym, ◌∙◌, ap, subst, Option, Some, None, Result, Ok, Err, arith}
 use Rattle.std.specs.Bool.{IsTrue}
-use Rattle.std.specs.Result.{OnOk, IfErr, MatchResult}
+use Rattle.std.specs.Result.{OnOk, IfErr}
+use Rattle.std.proofs.lemmas.Result.{IfErr-weaker, MatchResult-weaker}
 use Rattle.std.specs.FinMap as map
 use Rattle.wg_io.specs.declared.limits.TheConstants.{MOST_BYTES}
 use Rattle.wg_io.specs.Outside.{Files, Counts, NonDecreasing}
 use Rattle.wg_io.proofs.PutsLemmas.{rose_on}
-use Rattle.wg_params.specs.declared.code.Code.{Code}
 use Rattle.wg_offsets.specs.Comparing.{AreCompared, Compared}
 use Rattle.wg_offsets.specs.Stages.{AreRead, WordsRead}
 use Rattle.wg_io.specs.declared.whole.LoadError.{LoadError}
@@ -24,31 +24,31 @@ use Rattle.wg_offsets.specs.declared.error.WordError.{WordError}
 use Rattle.wg_offsets.specs.declared.error.WordError.TheVariants as words
 use Rattle.wg_stream.specs.Held.{Held, IsHeldOf}
 use Rattle.wg_stream.specs.Stepping.{HasCause as HasReadCause}
-use Rattle.wg_outcomes.specs.Answers.{Answers, Steps, status_in}
+use Rattle.wg_outcomes.specs.Answers.{Answers, Steps}
 use Rattle.wg_outcomes.specs.Causes.{HasCause, IncreasedAt}
 use Rattle.wg_outcomes.specs.Judged.{Judged, status_of, with_lengths, with_offsets, offsets_then}
 use Rattle.wg_outcomes.specs.Promised.{IsBadFile, IsStopAt}
 use Rattle.wg_outcomes.specs.Names.{no_outputs}
-use Rattle.wg_readings.specs.Pairing.{ComesWith, EndsPairing, HasCome, IsAt, IsPaired, IsPairedWith, IsStopped, IsUnread, files_then, load_ending, word_ending}
+use Rattle.wg_readings.specs.Pairing.{ComesWith, EndsPairing, HasCome, IsPairedWith, IsStopped, IsUnread, files_then, load_ending, word_ending}
 use Rattle.wg_outcomes.specs.declared.ending.Ending.{Ending}
 use Rattle.wg_readings.specs.declared.pairing.Pairing.{Pairing}
 use Rattle.wg_readings.specs.Passes.{IsGraphFile, accepted_of}
 use Rattle.wg_outcomes.specs.Readings.{Readings}
 use Rattle.wg_outcomes.specs.declared.status.Input.{Input}
 use Rattle.wg_outcomes.specs.declared.status.Input.TheVariants.{Graph, Offsets}
-use Rattle.wg_outcomes.specs.declared.status.Status.TheVariants.{Done, Memory, BadArchive, OverLimit}
+use Rattle.wg_outcomes.specs.declared.status.Status.TheVariants.{BadArchive}
 use Rattle.wg_readings.proofs.PassLemmas.{file_goes, file_long, graph_goes}
 use Rattle.wg_outcomes.proofs.Statuses.{absent_caused, bad_own, failed_caused, own_caused}
 use Rattle.wg_readings.proofs.UnderWay.{cause_later}
-use Rattle.wg_readings.proofs.ReadingsLemmas.{goes_on_from, offsets_refused}
+use Rattle.wg_readings.proofs.LoadLemmas.{end_caused}
+use Rattle.wg_readings.proofs.ReadingsLemmas.{goes_on_from, offsets_refused, steps_alike}
 
 -- ---- causes
 load_caused : (told : Bool) (name : List ℕ) (files : Files) (old new : List ℕ → Counts) (h : Held) (e : LoadError) → HasReadCause told name files old new h e
     → (names : Input → Option (List ℕ)) → names Offsets ≡ Some name → HasCause names no_outputs old new 0 0 (load_ending e).status
-load_caused told name files old new h load.TooLong cause names named = own_caused _ _ _ _ _ _ (OverLimit Offsets) tt
-load_caused told name files old new h load.Memory cause names named = own_caused _ _ _ _ _ _ Memory tt
 load_caused told name files old new h load.Failed cause names named = failed_caused _ _ _ _ _ _ Offsets name named (cause.failed refl)
 load_caused told name files old new h load.Absent cause names named = absent_caused _ _ _ _ _ _ Offsets name named (cause.absent refl)
+load_caused told name files old new h e cause names named = own_caused _ _ _ _ _ _ (load_ending e).status tt
 
 -- ---- what an error leads to
 module _ (r : Readings) (p : Parameters) where
@@ -105,19 +105,8 @@ module _ (told : Bool) (name : List ℕ) (files : Files) (old new : List ℕ →
         subst (λ (o : Option (List ℕ)). Answers (offsets_then r p o next) (BadArchive (archive.Offsets w))) (sym f.1) (word_steps r p limits w f.0 (k.0.short looked) k.1 next);
   }
 
--- ---- the same of equal names, files and endings
-pub stopped_at : (told : Bool) (files : Files) (old new : List ℕ → Counts) (p : Parameters) (m n : List ℕ) (x e : Ending) → m ≡ n → x ≡ e → IsStopped told files old new p m e → IsStopped told files old new p n x
-stopped_at told files old new p m n x e same is s =
-    subst (λ (k : List ℕ). IsStopped told files old new p k x) same (subst (λ (y : Ending). IsStopped told files old new p m y) (sym is) s)
-
-pub word_by : (e : WordError LoadError) (c d : Code) (m n : ℕ) (bits : List Bool) → c ≡ d → m ≡ n → OfWord e (λ w. ReadsOffsets c m bits (Err w)) → OfWord e (λ w. ReadsOffsets d n bits (Err w))
-word_by e c d m n bits a b h = subst (λ (k : ℕ). OfWord e (λ w. ReadsOffsets d k bits (Err w))) b (subst (λ (x : Code). OfWord e (λ w. ReadsOffsets x m bits (Err w))) a h)
-
-pub offsets_by : (c d : Code) (m n : ℕ) (bits : List Bool) (places : List ℕ) → c ≡ d → m ≡ n → ReadsOffsets c m bits (Ok places) → ReadsOffsets d n bits (Ok places)
-offsets_by c d m n bits places a b h = subst (λ (k : ℕ). ReadsOffsets d k bits (Ok places)) b (subst (λ (x : Code). ReadsOffsets x m bits (Ok places)) a h)
-
 pub read_at : (bits : List Bool) (w : WordsRead) (a b : ℕ) (places : List ℕ) → a ≡ b → AreRead bits w a places → AreRead bits w b places
-read_at bits w a b places same h = subst (λ (n : ℕ). AreRead bits w n places) same h
+read_at bits w a b places same h = rw same at h
 
 -- an earlier moment
 pub stopped_since : (told : Bool) (files files' : Files) (c0 c1 c2 : List ℕ → Counts) (p : Parameters) (m n : List ℕ) (e : Ending) → files' ≡ files → NonDecreasing c0 c1 → m ≡ n
@@ -148,18 +137,10 @@ stopped_until told files c0 c1 c2 p n e later s = record {
 }
 
 -- ---- how far a pairing has come
-goes_on : (r : Result (Unit {0}) Ending) (P P' : Type 0) (Q : Ending → Type 0) → (P → P') → MatchResult r (λ done. P) Q → OnOk r P'
-goes_on (Ok done) P P' Q f h = f h
-goes_on (Err e) P P' Q f h = tt
-
-stays_so : (r : Result (Unit {0}) Ending) (P : Type 0) (Q Q' : Ending → Type 0) → ((e : Ending) → Q e → Q' e) → MatchResult r (λ done. P) Q → MatchResult r (λ done. P) Q'
-stays_so (Ok done) P Q Q' f h = h
-stays_so (Err e) P Q Q' f h = f e h
-
 pub come_until : (told : Bool) (files : Files) (c0 c1 c2 : List ℕ → Counts) (p : Parameters) (name : List ℕ) (n at : ℕ) (b : Pairing) → NonDecreasing c1 c2
     → HasCome told files c0 c1 p name n at b → HasCome told files c0 c2 p name n at b
 come_until told files c0 c1 c2 p name n at b later h =
-    stays_so b.so_far (IsAt told files p name n at b) (IsStopped told files c0 c1 p name) (IsStopped told files c0 c2 p name) (λ e s. stopped_until told files c0 c1 c2 p name e later s) h
+    MatchResult-weaker b.so_far h (λ done k. k) (λ e s. stopped_until told files c0 c1 c2 p name e later s)
 
 -- no error came
 pub comes : (file : List ℕ) (b : Pairing) (here there : List ℕ) → b.so_far ≡ Ok tt → IsPairedWith file b here there → ComesWith file b here
@@ -178,50 +159,6 @@ looked_read p a b bits u same is =
     let at : b.held.at ≡ 0 = ap (λ (h : Held). h.at) is ∙ ap (λ (h : Held). h.at) u.held in
     subst (λ (w : WordsRead). AreRead bits w b.held.at []) (sym same) (subst (λ (n : ℕ). AreRead bits a.words n []) (sym at) (u.none bits))
 
-pub first_paired : (p : Parameters) (a m b : Pairing) → IsUnread p a → m.words ≡ a.words → m.lengths ≡ a.lengths → b.lengths ≡ m.lengths → b.words.code ≡ m.words.code → b.words.pages ≡ m.words.pages
-    → b.words.count ≡ m.words.count + 1 → (m.words.count ≡ 0 → m.words.offset ≡ 0 → b.words.offset ≡ 0) → b.held.looked ≡ true → IsPaired p b × (b.lengths.page ≡ 0) × (b.lengths.here ≡ 0) × (b.words.offset ≡ 0)
-first_paired p a m b u words lengths lengths' code pages count first looked =
-    let w : m.words ≡ record { code = p.offsets; pages = p.nodes; count = 0; offset = 0 } = words ∙ u.words in
-    let l : b.lengths ≡ a.lengths = lengths' ∙ lengths in
-    let page : b.lengths.page ≡ 0 = ap (λ (x : Compared). x.page) l ∙ u.page in
-    let here : b.lengths.here ≡ 0 = ap (λ (x : Compared). x.here) l ∙ u.here in
-    let there : b.lengths.there ≡ 0 = ap (λ (x : Compared). x.there) l ∙ u.there in
-    let none : m.words.count ≡ 0 = ap (λ (x : WordsRead). x.count) w in
-    let offset : b.words.offset ≡ 0 = first none (ap (λ (x : WordsRead). x.offset) w) in (
-      record {
-        code = code ∙ ap (λ (x : WordsRead). x.code) w;
-        pages = pages ∙ ap (λ (x : WordsRead). x.pages) w;
-        count = omega (arith, count, none, page);
-        there = there ∙ sym offset;
-        looked = looked;
-      },
-      page,
-      here,
-      offset,
-    )
-
-pub first_compared : (p : Parameters) (a m b : Pairing) → IsUnread p a → m.lengths ≡ a.lengths → b.lengths ≡ m.lengths → AreCompared b.lengths (0 ∷ []) (0 ∷ [])
-first_compared p a m b u lengths lengths' = subst (λ (x : Compared). AreCompared x (0 ∷ []) (0 ∷ [])) (sym (lengths' ∙ lengths)) u.compared
-
-pub first_read_zero : (bits : List Bool) (b : Pairing) → b.words.offset ≡ 0 → AreRead bits b.words b.held.at (b.words.offset ∷ []) → AreRead bits b.words b.held.at (0 ∷ [])
-first_read_zero bits b zero h = subst (λ (n : ℕ). AreRead bits b.words b.held.at (n ∷ [])) zero h
-
--- ---- one word more
-pub next_paired : (p : Parameters) (a m b : Pairing) (n here : ℕ) → IsPaired p a → a.lengths.page ≡ n → m.lengths ≡ a.lengths → m.words.code ≡ a.words.code → m.words.pages ≡ a.words.pages
-    → m.words.count ≡ a.words.count + 1 → m.held.looked ≡ true → b.words ≡ m.words → b.held ≡ m.held → b.lengths.page ≡ m.lengths.page + 1 → b.lengths.there ≡ m.words.offset
-    → IsPaired p b × (b.lengths.page ≡ n + 1)
-next_paired p a m b n here h page lengths code pages count looked words held more there =
-    let before : m.lengths.page ≡ a.lengths.page = ap (λ (x : Compared). x.page) lengths in (
-      record {
-        code = ap (λ (x : WordsRead). x.code) words ∙ code ∙ h.code;
-        pages = ap (λ (x : WordsRead). x.pages) words ∙ pages ∙ h.pages;
-        count = omega (arith, ap (λ (x : WordsRead). x.count) words, count, h.count, more, before);
-        there = there ∙ sym (ap (λ (x : WordsRead). x.offset) words);
-        looked = ap (λ (x : Held). x.looked) held ∙ looked;
-      },
-      omega (arith, more, before, page),
-    )
-
 -- a pairing that stopped before
 pub ends_stopped : (told : Bool) (files : Files) (c0 c1 : List ℕ → Counts) (p : Parameters) (name : List ℕ) (b : Pairing) (e : Ending) → IsStopped told files c0 c1 p name e
     → EndsPairing told files c0 c1 p name b (Err e)
@@ -231,47 +168,21 @@ ends_stopped told files c0 c1 p name b e s = record {
   steps = λ t limits places follows r next. s.refused t limits r (λ stored. with_lengths places stored next);
 }
 
-only_by : (n : ℕ) (r : Result (Unit {0}) Ending) → IfErr r (IsBadFile Offsets n) → IfErr r (IsStopAt Offsets n)
-only_by n (Ok done) h = tt
-only_by n (Err e) h = inr h
-
-caused_by : (names : Input → Option (List ℕ)) (old new : List ℕ → Counts) (n : ℕ) (r : Result (Unit {0}) Ending) → IfErr r (IsBadFile Offsets n) → HasCause names no_outputs old new 0 0 (status_in r)
-caused_by names old new n (Ok done) h = own_caused _ _ _ _ _ _ Done tt
-caused_by names old new n (Err e) h = own_caused _ _ _ _ _ _ e.status (bad_own Offsets n e h)
-
-steps_by : (r : Readings) (p : Parameters) (held : Option (List ℕ)) (places stored : List ℕ) (x : Result (Unit {0}) Ending) → ((next : List ℕ → Judged) → offsets_then r p held next ≡ next stored) → Steps (with_lengths places stored) x
-    → Steps (λ next. offsets_then r p held (λ s. with_lengths places s next)) x
-steps_by r p held places stored (Ok done) go h = λ next. go (λ s. with_lengths places s next) ∙ h next
-steps_by r p held places stored (Err e) go h = λ next. subst (λ (j : Judged). Answers j e.status) (sym (go (λ s. with_lengths places s next))) (h next)
-
 -- all words were read, and then the lengths are compared
 pub ends_compared : (told : Bool) (files : Files) (c0 c1 : List ℕ → Counts) (p : Parameters) (name : List ℕ) (x : Result (Unit {0}) Ending) (a b : Pairing) → (IsTrue told → (file : List ℕ) × (map.get files name ≡ Some file))
     → a.so_far ≡ Ok tt → a.held.looked ≡ true → b.lengths ≡ a.lengths
     → (IsTrue told → (file : List ℕ) → map.get files name ≡ Some file → (stored : List ℕ) → IsHeldOf file a.held → AreRead (bits_of file) a.words a.held.at stored → ReadsOffsets p.offsets p.nodes (bits_of file) (Ok stored))
     → IfErr x (IsBadFile Offsets p.arcs) → ((here there : List ℕ) → AreCompared b.lengths here there → Steps (with_lengths here there) x) → EndsPairing told files c0 c1 p name a x
 ends_compared told files c0 c1 p name x a b found going looked same reads only steps = record {
-  only = only_by p.arcs x only;
-  causes = λ names named. caused_by names c0 c1 p.arcs x only;
+  only = IfErr-weaker x _ _ (λ e bad. inr bad) only;
+  causes = λ names named. end_caused _ _ _ _ _ _ x (IfErr-weaker x _ _ (bad_own Offsets p.arcs) only);
   steps = λ t limits places with_file r.
       let f = found t in
       let k = rw going at with_file f.0 f.1 in
-      steps_by r p (map.get files name) places k.0 x (λ next. places_go r p limits (map.get files name) f.0 f.1 (k.1.held.short looked) k.0 (reads t f.0 f.1 k.0 k.1.held k.1.read) next)
+      steps_alike _ (with_lengths places k.0)
+      (λ next. places_go r p limits (map.get files name) f.0 f.1 (k.1.held.short looked) k.0 (reads t f.0 f.1 k.0 k.1.held k.1.read) (λ stored. with_lengths places stored next)) x
       (steps places k.0 (subst (λ (c : Compared). AreCompared c places k.0) (sym same) k.1.compared));
 }
-
--- ---- what a pairing that came so far allows
-module _ (told : Bool) (files : Files) (c0 c1 : List ℕ → Counts) (p : Parameters) (name : List ℕ) (n at : ℕ) (b : Pairing) where
-  pub ready_paired : HasCome told files c0 c1 p name n at b → OnOk b.so_far (IsPaired p b)
-  ready_paired h = goes_on b.so_far (IsAt told files p name n at b) _ (IsStopped told files c0 c1 p name) (λ k. k.0) h
-
-  pub ready_more : n < p.nodes → HasCome told files c0 c1 p name n at b → OnOk b.so_far (b.lengths.page < p.nodes)
-  ready_more lt h = goes_on b.so_far (IsAt told files p name n at b) _ (IsStopped told files c0 c1 p name) (λ k. omega (arith, lt, k.1)) h
-
-  pub ready_here : (here : ℕ) → at ≤ here → HasCome told files c0 c1 p name n at b → OnOk b.so_far (b.lengths.here ≤ here)
-  ready_here here le h = goes_on b.so_far (IsAt told files p name n at b) _ (IsStopped told files c0 c1 p name) (λ k. omega (arith, le, k.2)) h
-
-  pub ready_done : n ≡ p.nodes → HasCome told files c0 c1 p name n at b → OnOk b.so_far (b.lengths.page ≡ p.nodes)
-  ready_done all h = goes_on b.so_far (IsAt told files p name n at b) _ (IsStopped told files c0 c1 p name) (λ k. k.1 ∙ all) h
 
 pub come_at : (told : Bool) (files : Files) (c0 c1 : List ℕ → Counts) (p : Parameters) (m name : List ℕ) (n at here : ℕ) (b : Pairing) → m ≡ name → at ≡ here → HasCome told files c0 c1 p m n at b
     → HasCome told files c0 c1 p name n here b

@@ -29,18 +29,13 @@ use Rattle.wg_outcomes.specs.Readings.{Readings}
 use Rattle.wg_outcomes.specs.declared.ending.Ending.{Ending}
 use Rattle.wg_outcomes.specs.declared.status.Input.{Input}
 use Rattle.wg_outcomes.specs.declared.status.Input.TheVariants.{Graph}
-use Rattle.wg_outcomes.specs.declared.status.Status.TheVariants.{Memory, BadArchive, OverLimit}
+use Rattle.wg_outcomes.specs.declared.status.Status.TheVariants.{BadArchive, OverLimit}
 use Rattle.wg_readings.proofs.ReadingsLemmas.{goes_on, is_refused}
 use Rattle.wg_outcomes.proofs.Statuses.{absent_caused, failed_caused, own_caused}
 
 pub first_again : (f : First) → first_in (of_first f) ≡ f
 first_again (first.Fault f) = refl
-first_again (first.Tail offset) = refl
-first_again (first.ArcsShort total) = refl
-first_again first.Failed = refl
-first_again first.Absent = refl
-first_again first.TooLong = refl
-first_again first.Memory = refl
+first_again _ = refl
 
 -- ---- what an error tells, whatever the file is
 
@@ -55,13 +50,9 @@ only_at n first.Memory = inl (inl refl)
 
 module _ (told : Bool) (name : List ℕ) (files : Files) (old new : List ℕ → Counts) (h : Held) (names : Input → Option (List ℕ)) (named : names Graph ≡ Some name) where
   pub cause_at : (n : ℕ) (f : First) → OfOutside f (HasReadCause told name files old new h) → HasCause names no_outputs old new 0 0 (ending_at n f).status
-  cause_at n (first.Fault f) cause = own_caused _ _ _ _ _ _ (BadArchive (archive.Record f)) tt
-  cause_at n (first.Tail offset) cause = own_caused _ _ _ _ _ _ (BadArchive (archive.Tail offset)) tt
-  cause_at n (first.ArcsShort total) cause = own_caused _ _ _ _ _ _ (BadArchive (archive.ArcsShort total)) tt
-  cause_at n first.TooLong cause = own_caused _ _ _ _ _ _ (OverLimit Graph) tt
-  cause_at n first.Memory cause = own_caused _ _ _ _ _ _ Memory tt
   cause_at n first.Failed cause = failed_caused _ _ _ _ _ _ Graph name named (cause.failed refl)
   cause_at n first.Absent cause = absent_caused _ _ _ _ _ _ Graph name named (cause.absent refl)
+  cause_at n f cause = own_caused _ _ _ _ _ _ (ending_at n f).status tt
 
 -- ---- what it tells of a file that is told
 
@@ -114,13 +105,8 @@ found_after None true none found = found refl
 found_after (Some file) looked none found = (file, refl)
 
 absent_only : (f : First) → of_first f ≡ errors.Absent → f ≡ first.Absent
-absent_only (first.Fault f) is = absurd (cc is)
-absent_only (first.Tail offset) is = absurd (cc is)
-absent_only (first.ArcsShort total) is = absurd (cc is)
-absent_only first.Failed is = absurd (cc is)
 absent_only first.Absent is = refl
-absent_only first.TooLong is = absurd (cc is)
-absent_only first.Memory is = absurd (cc is)
+absent_only f is = absurd (cc is)
 
 pub absent_after : (o : Option (List ℕ)) (looked : Bool) (f : First) → (o ≡ None → looked ≡ false → of_first f ≡ errors.Absent) → (looked ≡ true → (file : List ℕ) × (o ≡ Some file)) → o ≡ None → f ≡ first.Absent
 absent_after o false f none found is = absent_only f (none is refl)

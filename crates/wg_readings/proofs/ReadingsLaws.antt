@@ -1,14 +1,11 @@
 -- There is one function that reads all graph files, one that reads all offsets files, one that reads all pages, one that ranks all bounds, one that reads all arc lists, and one that reads all plain texts.
-use Rattle.std.proofs.Common.{◌≡◌, ℕ, List, Option, Some, None, Result, Err, refl, sym, ◌∙◌}
+use Rattle.std.proofs.Common.{◌≡◌, Option, Some, None, Err, refl, sym, ◌∙◌}
 use Rattle.wg_bits.specs.Bits.{bits_of}
 use Rattle.wg_params.specs.declared.key.Key.{Key}
 use Rattle.wg_params.specs.Parameters.{Parameters, IsWithinLimits, first_bad}
-use Rattle.wg_grammar.specs.declared.fault.ArchiveFault.{ArchiveFault}
 use Rattle.wg_grammar.specs.declared.fault.ArchiveFault.TheVariants.{Tail}
-use Rattle.wg_grammar.specs.Archive.{Accepted, ReadsGraph}
-use Rattle.wg_grammar.specs.Context.{Known}
+use Rattle.wg_grammar.specs.Archive.{ReadsGraph}
 use Rattle.wg_grammar.proofs.OneGraph.{graph_one, graph_some}
-use Rattle.wg_grammar.specs.declared.fault.OffsetWord.{OffsetWord}
 use Rattle.wg_grammar.specs.declared.fault.OffsetWord.TheVariants.{First}
 use Rattle.wg_offsets.specs.Words.{ReadsOffsets}
 use Rattle.wg_offsets.proofs.OneFile.{offsets_one, offsets_some}
@@ -23,46 +20,28 @@ use Rattle.wg_order.proofs.OneRanking.{ranking_some, ranking_one}
 use Rattle.wg_readings.proofs.LimitsLemmas.{within_limits, coded}
 use Rattle.wg_readings.proofs.ReadingsLemmas.{decided_one, pages_one}
 
--- what the bytes stand for, where no key is bad
-abbrev read_where : (p : Parameters) (bad : Option Key) → first_bad p ≡ bad → List ℕ → Result Accepted ArchiveFault
-read_where p None none bytes = (graph_some p (within_limits p none) (bits_of bytes)).0
-read_where p (Some key) none bytes = Err (Tail 0)
+-- what is read, where no key is bad
+abbrev in_limits : {A : Type 0} (p : Parameters) (bad : Option Key) → first_bad p ≡ bad → (IsWithinLimits p → A) → A → A
+in_limits p None none read other = read (within_limits p none)
+in_limits p (Some key) none read other = other
 
-read_right : (p : Parameters) → IsWithinLimits p → (bytes : List ℕ) (bad : Option Key) (is : first_bad p ≡ bad) → ReadsGraph p (bits_of bytes) (read_where p bad is bytes)
-read_right p limits bytes None none = (graph_some p (within_limits p none) (bits_of bytes)).1
-read_right p limits bytes (Some key) none = let never : None ≡ Some key = sym (none_bad p limits) ∙ none in absurd cc
-
--- the places of an offsets file, where no key is bad
-abbrev places_where : (p : Parameters) (bad : Option Key) → first_bad p ≡ bad → List ℕ → Result (List ℕ) OffsetWord
-places_where p None none bytes = (offsets_some p.offsets (coded p (within_limits p none)) p.nodes (bits_of bytes)).0
-places_where p (Some key) none bytes = Err First
-
-places_right : (p : Parameters) → IsWithinLimits p → (bytes : List ℕ) (bad : Option Key) (is : first_bad p ≡ bad) → ReadsOffsets p.offsets p.nodes (bits_of bytes) (places_where p bad is bytes)
-places_right p limits bytes None none = (offsets_some p.offsets (coded p (within_limits p none)) p.nodes (bits_of bytes)).1
-places_right p limits bytes (Some key) none = let never : None ≡ Some key = sym (none_bad p limits) ∙ none in absurd cc
-
--- what a page is, where no key is bad
-abbrev page_where : (p : Parameters) (bad : Option Key) → first_bad p ≡ bad → List ℕ → List ℕ → ℕ → Result Known ArchiveFault
-page_where p None none bytes places page = (page_some p (within_limits p none) (bits_of bytes) places page).0
-page_where p (Some key) none bytes places page = Err (Tail 0)
-
-page_right : (p : Parameters) → IsWithinLimits p → (bytes places : List ℕ) (page : ℕ) (bad : Option Key) (is : first_bad p ≡ bad) → SpotReads p (bits_of bytes) places page (page_where p bad is bytes places page)
-page_right p limits bytes places page None none = (page_some p (within_limits p none) (bits_of bytes) places page).1
-page_right p limits bytes places page (Some key) none = let never : None ≡ Some key = sym (none_bad p limits) ∙ none in absurd cc
+right : {A : Type 0} (P : A → Type 0) (p : Parameters) → IsWithinLimits p → (bad : Option Key) (is : first_bad p ≡ bad) (read : (l : IsWithinLimits p) → (x : A) × P x) (other : A) → P (in_limits p bad is (λ l. (read l).0) other)
+right P p limits None none read other = (read (within_limits p none)).1
+right P p limits (Some key) none read other = let never : None ≡ Some key = sym (none_bad p limits) ∙ none in absurd cc
 
 pub the_readings : Readings
 the_readings = record {
   graph = record {
-    value = λ p bytes. read_where p (first_bad p) refl bytes;
-    reads = λ p limits bytes. read_right p limits bytes (first_bad p) refl;
+    value = λ p bytes. in_limits p (first_bad p) refl (λ l. (graph_some p l (bits_of bytes)).0) (Err (Tail 0));
+    reads = λ p limits bytes. right (ReadsGraph p (bits_of bytes)) p limits (first_bad p) refl (λ l. graph_some p l (bits_of bytes)) (Err (Tail 0));
   };
   offsets = record {
-    value = λ p bytes. places_where p (first_bad p) refl bytes;
-    reads = λ p limits bytes. places_right p limits bytes (first_bad p) refl;
+    value = λ p bytes. in_limits p (first_bad p) refl (λ l. (offsets_some p.offsets (coded p l) p.nodes (bits_of bytes)).0) (Err First);
+    reads = λ p limits bytes. right (ReadsOffsets p.offsets p.nodes (bits_of bytes)) p limits (first_bad p) refl (λ l. offsets_some p.offsets (coded p l) p.nodes (bits_of bytes)) (Err First);
   };
   page = record {
-    value = λ p bytes places page. page_where p (first_bad p) refl bytes places page;
-    reads = λ p limits bytes places page. page_right p limits bytes places page (first_bad p) refl;
+    value = λ p bytes places page. in_limits p (first_bad p) refl (λ l. (page_some p l (bits_of bytes) places page).0) (Err (Tail 0));
+    reads = λ p limits bytes places page. right (SpotReads p (bits_of bytes) places page) p limits (first_bad p) refl (λ l. page_some p l (bits_of bytes) places page) (Err (Tail 0));
   };
   ranking = record { value = λ low high. (ranking_some low high).0; reads = λ low high. (ranking_some low high).1 };
   arc_list = record { value = λ n bytes. (texts_are_some n bytes).0; reads = λ n bytes. (texts_are_some n bytes).1 };

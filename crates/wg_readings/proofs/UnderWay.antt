@@ -1,29 +1,61 @@
 -- A reading of a graph file that is under way.
-use Rattle.std.proofs.Common.{◌≡◌, ℕ, ◌+◌, ◌≤◌, Bool, true, List, [], ◌∷◌, ◌++◌, length, refl, sym, ◌∙◌, ap, subst, Option, Some, Ok, Err, arith}
+use Rattle.std.proofs.Common.{◌≡◌, ℕ, ◌≤◌, Bool, List, [], ◌∷◌, ◌++◌, length, sym, ◌∙◌, ap, subst, arith, append_assoc, length-append, Ok, ◌+◌, true, refl, Option, Some, Err}
+use Rattle.wg_params.specs.Parameters.{Parameters, IsWithinLimits}
+use Rattle.wg_grammar.specs.Record.{Whole}
+use Rattle.wg_grammar.specs.Archive.{Accepted, Pages, ReadsGraph, context_of}
+use Rattle.wg_grammar.proofs.OneRecord.{record_one}
+use Rattle.wg_stream.specs.Prefix.{PagesRead, AreBehind, PrefixRead}
+use Rattle.wg_readings.specs.Passes.{accepted_of, Advances, FollowsFile, IsFound, IsFresh, IsGraphFile, graph_then}
 use Rattle.std.specs.Bool.{IsTrue}
 use Rattle.std.specs.FinMap as map
 use Rattle.wg_io.specs.Outside.{Files, Counts, NonDecreasing}
 use Rattle.wg_io.specs.declared.suffixes.TheConstants.{GRAPH}
 use Rattle.wg_io.proofs.FilesLemmas.{none_falls-trans}
-use Rattle.wg_params.specs.Parameters.{Parameters, IsWithinLimits}
 use Rattle.wg_bits.specs.Bits.{bits_of}
-use Rattle.wg_grammar.specs.Archive.{Accepted}
 use Rattle.wg_grammar.proofs.OneGraph.{graph_one}
-use Rattle.wg_grammar.specs.Record.{Whole}
 use Rattle.wg_stream.specs.declared.state.State.TheVariants.{Open}
 use Rattle.wg_stream.specs.declared.state.State.{State}
 use Rattle.wg_stream.specs.Reading.{Reading, AgreesIn, IsInStep, IsJudged, StaysInStep}
 use Rattle.wg_outcomes.specs.Answers.{Steps}
 use Rattle.wg_outcomes.specs.Causes.{HasCause}
 use Rattle.wg_outcomes.specs.Names.{file_of, held_by, no_outputs}
-use Rattle.wg_readings.specs.Passes.{Advances, FollowsFile, IsFound, IsFresh, IsGraphFile, accepted_of, graph_then}
 use Rattle.wg_outcomes.specs.Readings.{Readings}
 use Rattle.wg_outcomes.specs.declared.ending.Ending.{Ending}
 use Rattle.wg_outcomes.specs.declared.status.Input.{Input}
 use Rattle.wg_outcomes.specs.declared.status.Input.TheVariants.{Graph}
 use Rattle.wg_outcomes.specs.declared.status.Status.{Status}
 use Rattle.wg_outcomes.proofs.Statuses.{rose_late}
-use Rattle.wg_readings.proofs.FirstRecords.{first_of, ok_accepted}
+
+-- ---- records that were read are the first of all records of their bits
+module _ (p : Parameters) (bits : List Bool) where
+  -- the records behind stay behind
+  stay_behind : (behind : List Whole) (at : ℕ) (ws last : List Whole) (end : ℕ) → Pages p bits behind at ws last end → (rest : List Whole) × (last ≡ rest ++ behind)
+  stay_behind behind at [] last end h = ([], h.0)
+  stay_behind behind at (w ∷ ws) last end h =
+      let k = stay_behind (w ∷ behind) w.end ws last end h.2 in
+      (k.0 ++ w ∷ [], k.1 ∙ sym (append_assoc k.0 (w ∷ []) behind))
+
+  -- fewer records are the first of more
+  pages_one : IsWithinLimits p → (behind : List Whole) (at : ℕ) (ks ls last all : List Whole) (end far : ℕ) → Pages p bits behind at ks last end → Pages p bits behind at ls all far
+      → length last ≤ length all → (rest : List Whole) × (all ≡ rest ++ last)
+  pages_one limits behind at [] ls last all end far a b few =
+      let k = stay_behind behind at ls all far b in
+      (k.0, k.1 ∙ ap (λ (l : List Whole). k.0 ++ l) (sym a.0))
+  pages_one limits behind at (k ∷ ks) [] last all end far a b few =
+      let r = stay_behind (k ∷ behind) k.end ks last end a.2 in
+      absurd (omega (arith, few, ap length b.0, ap length r.1, length-append r.0 (k ∷ behind)))
+  pages_one limits behind at (k ∷ ks) (l ∷ ls) last all end far a b few =
+      let same : l ≡ k = cc (record_one p limits (context_of p behind) bits at (Ok l) (Ok k) b.1 a.1) in
+      let rest : Pages p bits (k ∷ behind) k.end ls all far = subst (λ (r : Whole). Pages p bits (r ∷ behind) r.end ls all far) same b.2 in
+      pages_one limits (k ∷ behind) k.end ks ls last all end far a.2 rest few
+
+first_of : (p : Parameters) → IsWithinLimits p → (bits : List Bool) (x : Accepted) (whole : List Whole) (r : PagesRead) (at : ℕ) → r.params ≡ p → r.page ≤ p.nodes
+    → AreBehind bits r at whole → ReadsGraph p bits (Ok x) → (rest : List Whole) × (x ≡ accepted_of (rest ++ whole))
+first_of p limits bits x whole r at same few read g =
+    let h = subst (λ (q : Parameters). PrefixRead q bits r.page r.arcs at r.kept whole) same read in
+    let k = pages_one p bits limits [] 0 h.stood g.0 whole g.1 at g.2 h.records g.3 (omega (arith, h.count, few, g.4.0)) in
+    let is : x ≡ accepted_of g.1 = λ i. record { graph = g.4.3 i; places = g.4.4 i } in
+    (k.0, is ∙ ap accepted_of k.1)
 
 -- So many records were read, of which this holds; no file has changed.
 pub record IsUnderWay (told : Bool) (base : List ℕ) (p : Parameters) (files files' : Files) (counts counts' : List ℕ → Counts) (n : ℕ) (r : Reading) (P : List Whole → Type 0) : Type 0 where
@@ -116,7 +148,7 @@ module _ (told : Bool) (base : List ℕ) (p : Parameters) (files : Files) (count
         let there : map.get files a.name ≡ Some g.file = ap (λ (n : List ℕ). map.get files n) h.name ∙ g.is in
         let k = there_by t g.file there in
         let j = judged t files h.same g.file there k.0 k.1 in
-        (k.0, k.2, ok_accepted x (accepted_of k.0) (graph_one p limits (bits_of g.file) (Ok x) (Ok (accepted_of k.0)) g.judged.reads j.reads))
+        (k.0, k.2, cc (graph_one p limits (bits_of g.file) (Ok x) (Ok (accepted_of k.0)) g.judged.reads j.reads))
 
     -- and before the end they are the first of its records
     pub first_read : IsWithinLimits p → n ≤ p.nodes → IsTrue told → (x : Accepted) → IsGraphFile (held_by (file_of base) files Graph) p x

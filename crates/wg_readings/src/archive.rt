@@ -1,14 +1,15 @@
 //! The files of an archive that are held whole, each judged as far as it goes by itself.
-ghost use Rattle.std.specs.Prelude.{◌≡◌, ◌<◌, ◌≤◌, ℕ, All, IfErr, IfOk, OnOk, Ok, Err, length, ◌+◌};
+ghost use Rattle.std.specs.Prelude.{◌≡◌, ◌<◌, ◌≤◌, ℕ, All, Bool, IfErr, IfOk, List, OnOk, Ok, Err, length, ◌+◌};
 ghost use Rattle.wg_io.specs.declared.limits.TheConstants.{MOST_BYTES};
 ghost use Rattle.wg_bits.specs.Bits.{bits_of};
 ghost use Rattle.wg_params.specs.Parameters.{IsWithinLimits};
 ghost use Rattle.wg_params.specs.declared.limits.TheConstants.{MOST_PAGES};
 ghost use Rattle.wg_properties.specs.Judged.{properties_of};
 ghost use Rattle.wg_properties.specs.declared.fault.PropFault.{PropFault};
-ghost use Rattle.wg_grammar.specs.Archive.{Accepted};
+ghost use Rattle.wg_grammar.specs.Archive.{Accepted, ReadsGraph};
 ghost use Rattle.wg_graph.specs.Digraph.{Digraph, arc_count};
 ghost use Rattle.wg_grammar.specs.declared.fault.ArchiveFault.{ArchiveFault};
+ghost use Rattle.wg_stream.specs.Errors.{OfFault};
 ghost use Rattle.wg_stream.specs.Sweeping.{PassFinds};
 ghost use Rattle.wg_outcomes.specs.Answers.{Steps};
 ghost use Rattle.wg_outcomes.specs.Judged.{with_parameters, with_digraph, with_graph, with_offsets, with_pages};
@@ -16,6 +17,7 @@ ghost use Rattle.wg_outcomes.specs.Promised.{IsBadFile};
 ghost use Rattle.wg_outcomes.specs.Readings.{Readings};
 
 use std::alloc::Global;
+use std::convert::Infallible;
 use wg_bits::{Bits, Cursor};
 use wg_grammar::ArchiveFault;
 use wg_graph::Graph;
@@ -45,12 +47,7 @@ pub fn graph_of_records(alloc: Global, params: &Params, bytes: &[u8]) -> Result<
 {
     match read_graph(alloc, *params, &mut Cursor::new(Bits::of(bytes), 0)) {
         Ok(graph) => Ok(graph),
-        Err(PagesError::Fault(fault)) => Err(Ending {
-            status: Status::BadArchive(fault),
-            promised: params.arcs(),
-        }),
-        Err(PagesError::Memory) => Err(Ending::of(Status::Memory)),
-        Err(PagesError::Refused(never)) => match never {},
+        Err(error) => Err(graph_ending(error, params)),
     }
 }
 
@@ -61,6 +58,21 @@ pub fn bad_archive(fault: ArchiveFault, params: &Params) -> Ending
     Ending {
         status: Status::BadArchive(fault),
         promised: params.arcs(),
+    }
+}
+
+/// How a job ends whose graph file is not in order, or that is out of memory.
+pub fn graph_ending(error: PagesError<Infallible>, params: &Params) -> Ending
+    ensures refused { IsWithinLimits params.now → (r : Readings) (bytes : List ℕ)
+        → OfFault error (λ f. ReadsGraph params.now (bits_of bytes) (Err f))
+        → Steps {B = Accepted} (with_graph r params.now bytes) (Err result) }
+    ensures only { (bits : List Bool) → OfFault error (λ f. ReadsGraph params.now bits (Err f))
+        → IsBadFile Input.Graph params.now.arcs result }
+{
+    match error {
+        PagesError::Fault(fault) => bad_archive(fault, params),
+        PagesError::Memory => Ending::of(Status::Memory),
+        PagesError::Refused(never) => match never {},
     }
 }
 
@@ -79,9 +91,7 @@ pub fn passed_of_graph(alloc: Global, params: &Params, bytes: &[u8]) -> Result<P
     params.nodes();
     match pass(alloc, bytes, *params) {
         Ok(found) => Ok(found),
-        Err(PagesError::Fault(fault)) => Err(bad_archive(fault, params)),
-        Err(PagesError::Memory) => Err(Ending::of(Status::Memory)),
-        Err(PagesError::Refused(never)) => match never {},
+        Err(error) => Err(graph_ending(error, params)),
     }
 }
 

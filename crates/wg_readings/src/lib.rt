@@ -49,7 +49,7 @@ mod pairing;
 mod records;
 mod weights;
 
-pub use archive::{bad_archive, find_pages, lists_of_records, passed_of_graph};
+pub use archive::{bad_archive, find_pages, graph_ending, lists_of_records, passed_of_graph};
 pub use graph_file::{GraphFile, find_graph};
 pub use judge::{judge_files, judge_graph, judge_offsets};
 pub use lines::{next_lines, open_lines, unread};

@@ -1,9 +1,6 @@
 -- The arcs of the records of a graph file, counted at their targets record by record.
-use Rattle.std.proofs.Common.{◌≡◌, ◌∙◌, ℕ, ◌+◌, ◌<◌, cond, List, [], ◌∷◌, ◌++◌, length, get_or, Result, Err, sym, ap, subst, arith}
-use Rattle.std.specs.Result.{IsErrAnd}
+use Rattle.std.proofs.Common.{◌≡◌, ◌∙◌, ℕ, ◌+◌, ◌<◌, cond, List, [], ◌∷◌, length, get_or, sym, ap, arith}
 use Rattle.std.proofs.lemmas.List.{get_or_append_left, get_or_at}
-use Rattle.wg_io.proofs.PutsLemmas.{is_that_err}
-use Rattle.wg_params.specs.Parameters.{Parameters}
 use Rattle.wg_graph.specs.Numbers.{is_in}
 use Rattle.wg_graph.specs.Digraph.{Digraph, successors}
 use Rattle.wg_graph.specs.Arcs.{has_arc}
@@ -12,15 +9,7 @@ use Rattle.wg_grammar.specs.Record.{Whole}
 use Rattle.wg_grammar.specs.Archive.{lists_of}
 use Rattle.wg_stream.proofs.PrefixLemmas.{length-lists, lists_more}
 use Rattle.wg_transpose.specs.SoFar.{AreCounts, predecessors_below}
-use Rattle.wg_transpose.specs.Transposing.{Transposing}
 use Rattle.wg_transpose.proofs.Steps.{counted_more}
-use Rattle.wg_outcomes.specs.Answers.{Steps}
-use Rattle.wg_outcomes.specs.Judged.{with_digraph}
-use Rattle.wg_outcomes.specs.Promised.{IsBadFile}
-use Rattle.wg_outcomes.specs.Readings.{Readings}
-use Rattle.wg_outcomes.specs.declared.ending.Ending.{Ending}
-use Rattle.wg_outcomes.specs.declared.status.Input.TheVariants.{Graph}
-use Rattle.wg_transforms.specs.Counting.{JudgesReversed}
 
 -- the lists of the records behind, as those of the first pages of a graph
 abbrev pub graph_behind : ℕ → List Whole → Digraph
@@ -49,8 +38,3 @@ module _ (n : ℕ) (behind : List Whole) (w : Whole) (k : ℕ) (is : length behi
             ∙ ap (λ (l : List ℕ). length l)
             (where_same (λ u. has_arc (graph_behind n behind) u v) (λ u. has_arc (graph_behind n (w ∷ behind)) u v) 0 k (λ u low high. ap (is_in v) (same_list u (omega arith))));
       })
-
--- the exit of a `?`
-pub reversed_exit : (p : Parameters) (bytes : List ℕ) (r : Result Transposing Ending) (e : Ending) → IsErrAnd r (λ x. x ≡ e)
-    → ((q : Readings) → Steps {B = Digraph} (with_digraph q p bytes) (Err e)) → IsBadFile Graph p.arcs e → JudgesReversed p bytes r
-reversed_exit p bytes r e is refused only = subst (JudgesReversed p bytes) (sym (is_that_err r e is)) (record { none = tt; nodes = tt; goes = λ q. tt; refused = refused; only = only })

@@ -1,6 +1,2 @@
 pub mod CountingLemmas
-pub mod LoadedLemmas
-pub mod QuotientJobs
-pub mod RecodedLemmas
 pub mod UnionJobs
-pub mod UnitingLemmas

@@ -1,7 +1,7 @@
 -- How `union` goes on from archive to archive, or ends.
-use Rattle.std.proofs.Common.{◌≡◌, ◌∙◌, ◌⊎◌, ◌<◌, ◌≤◌, inl, inr, ℕ, Bool, true, false, if◌then◌else◌, List, ◌++◌, Option, Result, Ok, Err, refl, sym, ap, subst}
+use Rattle.std.proofs.Common.{◌≡◌, ◌∙◌, ◌⊎◌, ◌<◌, ◌≤◌, inl, inr, ℕ, Bool, if◌then◌else◌, List, ◌++◌, Option, Result, Ok, Err, refl, sym, ap, subst}
 use Rattle.std.specs.Bool.{IsTrue}
-use Rattle.std.proofs.lemmas.Bool.{false≢true, le-ltb, lt-ltb}
+use Rattle.std.proofs.lemmas.Bool.{le-ltb, lt-ltb}
 use Rattle.wg_io.specs.Outside.{Files, Counts}
 use Rattle.wg_io.specs.declared.suffixes.TheConstants.{PROPERTIES, GRAPH, OFFSETS}
 use Rattle.wg_io.proofs.FilesLemmas.{none_falls-trans}
@@ -19,7 +19,7 @@ use Rattle.wg_words.specs.declared.jobs.Job.TheVariants.{Union}
 use Rattle.wg_params.specs.declared.layout.Layout.{Layout}
 use Rattle.wg_outcomes.specs.Answers.{Answers, IsHindrance, status_in, without}
 use Rattle.wg_outcomes.specs.Causes.{HasCause, IncreasedAt}
-use Rattle.wg_outcomes.specs.Judged.{Judged, accepted, built, certified, refused, status_of, with_archive}
+use Rattle.wg_outcomes.specs.Judged.{Judged, refused, status_of, with_archive}
 use Rattle.wg_outcomes.specs.Names.{file_of, file_of_fault, held_by, no_outputs}
 use Rattle.wg_outcomes.specs.Promised.{ArePromised, promised_in}
 use Rattle.wg_outcomes.specs.Readings.{Readings}
@@ -28,7 +28,7 @@ use Rattle.wg_outcomes.specs.declared.ending.Ending.{Ending}
 use Rattle.wg_outcomes.specs.declared.status.Input.{Input}
 use Rattle.wg_outcomes.specs.declared.status.Input.TheVariants as input
 use Rattle.wg_outcomes.specs.declared.status.Status.{Status}
-use Rattle.wg_outcomes.specs.declared.status.Status.TheVariants.{Done, Usage, Memory, ReadFault, WriteFault, Missing, BadArcs, BadProperties, BadArchive, BadSecond, TooManyArcs, NoPage, OverLimit, BadWeights, BadText, BadMap, BadCertificate}
+use Rattle.wg_outcomes.specs.declared.status.Status.TheVariants.{Memory, ReadFault, Missing, BadProperties, BadArchive, TooManyArcs, OverLimit}
 use Rattle.wg_outcomes.proofs.Statuses.{IsOwn, absent_caused, failed_caused, own_caused}
 use Rattle.wg_readings.proofs.UnderWay.{cause_later}
 use Rattle.wg_outcomes.specs.Commands.{builds, with_union}
@@ -50,50 +50,19 @@ archive_cases P memory failed absent long properties bad (Missing i) only = abse
 archive_cases P memory failed absent long properties bad (OverLimit i) only = long i only
 archive_cases P memory failed absent long properties bad (BadProperties f) only = properties f
 archive_cases P memory failed absent long properties bad (BadArchive f) only = bad f
-archive_cases P memory failed absent long properties bad Done only = absurd only
-archive_cases P memory failed absent long properties bad Usage only = absurd only
-archive_cases P memory failed absent long properties bad (WriteFault o) only = absurd only
-archive_cases P memory failed absent long properties bad (BadArcs line kind) only = absurd only
-archive_cases P memory failed absent long properties bad (BadSecond f) only = absurd only
-archive_cases P memory failed absent long properties bad TooManyArcs only = absurd only
-archive_cases P memory failed absent long properties bad (NoPage page) only = absurd only
-archive_cases P memory failed absent long properties bad (BadWeights f) only = absurd only
-archive_cases P memory failed absent long properties bad (BadText line kind) only = absurd only
-archive_cases P memory failed absent long properties bad (BadMap f) only = absurd only
-archive_cases P memory failed absent long properties bad (BadCertificate f) only = absurd only
+archive_cases P memory failed absent long properties bad _ only = absurd only
 
 archive_inputs : (P : Input → Type 0) → P input.Properties → P input.Graph → P input.Offsets → (i : Input) → IsArchiveFile i → P i
 archive_inputs P properties graph offsets input.Properties there = properties
 archive_inputs P properties graph offsets input.Graph there = graph
 archive_inputs P properties graph offsets input.Offsets there = offsets
-archive_inputs P properties graph offsets input.SecondProperties there = absurd there
-archive_inputs P properties graph offsets input.SecondGraph there = absurd there
-archive_inputs P properties graph offsets input.SecondOffsets there = absurd there
-archive_inputs P properties graph offsets input.ArcList there = absurd there
-archive_inputs P properties graph offsets input.Weights there = absurd there
-archive_inputs P properties graph offsets input.Map there = absurd there
-archive_inputs P properties graph offsets input.Certificate there = absurd there
-archive_inputs P properties graph offsets input.Text there = absurd there
+archive_inputs P properties graph offsets _ there = absurd there
 
 -- ---- what is told of the second archive
 
-abbrev went_on : Result Loaded Ending → Bool
-went_on (Ok l) = true
-went_on (Err e) = false
-
-abbrev end_of : Result Loaded Ending → Ending → Ending
-end_of (Ok l) other = other
-end_of (Err e) other = e
-
-abbrev loaded_of : Result Loaded Ending → Loaded → Loaded
-loaded_of (Ok l) other = l
-loaded_of (Err e) other = other
-
 second_status : (j : Judged) → as_second (status_of j) ≡ status_of (of_second j)
 second_status (refused s) = refl
-second_status (accepted out) = refl
-second_status (built files out) = refl
-second_status (certified text out) = refl
+second_status _ = refl
 
 second_hinders : (s : Status) → IsOfArchive s → IsHindrance s → IsHindrance (as_second s)
 second_hinders = archive_cases (λ s. IsHindrance s → IsHindrance (as_second s)) (λ h. h) (λ i there h. tt) (λ i there h. absurd h) (λ i there h. absurd h) (λ f h. absurd h) (λ f h. absurd h)
@@ -124,11 +93,8 @@ module _ (first second output : List ℕ) (layout : Layout) (td to : Bool) (befo
   first_there = archive_inputs (λ i. IsTrue (has_input job i)) refl refl refl
 
   fault_there : (f : ArchiveFault) → IsArchiveFile (file_of_fault f)
-  fault_there (archive.Record f) = tt
-  fault_there (archive.Tail at) = tt
-  fault_there (archive.ArcsShort total) = tt
   fault_there (archive.Offsets w) = tt
-  fault_there (archive.Length page found stored) = tt
+  fault_there _ = tt
 
   first_possible : (s : Status) → IsOfArchive s → IsTrue (can_end job s)
   first_possible = archive_cases (λ s. IsTrue (can_end job s)) refl first_there first_there first_there (λ f. refl) (λ f. first_there (file_of_fault f) (fault_there f))
@@ -148,11 +114,8 @@ module _ (first second output : List ℕ) (layout : Layout) (td to : Bool) (befo
   in_first = held_by (file_of first) before.files
 
   fault_promised : (n : ℕ) (f : ArchiveFault) → ArePromised in_first (BadArchive f) n → ArePromised held (BadArchive f) n
-  fault_promised n (archive.Record f) told = tt
-  fault_promised n (archive.Tail at) told = tt
   fault_promised n (archive.ArcsShort total) told = told
-  fault_promised n (archive.Offsets w) told = tt
-  fault_promised n (archive.Length page found stored) told = tt
+  fault_promised n _ told = tt
 
   first_promised : (n : ℕ) (s : Status) → IsOfArchive s → ArePromised in_first s n → ArePromised held s n
   first_promised n =
@@ -182,11 +145,8 @@ module _ (first second output : List ℕ) (layout : Layout) (td to : Bool) (befo
   in_second = held_by (file_of second) before.files
 
   second_fault_promised : (n : ℕ) (f : ArchiveFault) → ArePromised in_second (BadArchive f) n → ArePromised held (as_second (BadArchive f)) n
-  second_fault_promised n (archive.Record f) told = tt
-  second_fault_promised n (archive.Tail at) told = tt
   second_fault_promised n (archive.ArcsShort total) told = told
-  second_fault_promised n (archive.Offsets w) told = tt
-  second_fault_promised n (archive.Length page found stored) told = tt
+  second_fault_promised n _ told = tt
 
   second_promised : (n : ℕ) (s : Status) → IsOfArchive s → ArePromised in_second s n → ArePromised held (as_second s) n
   second_promised n =
@@ -249,9 +209,9 @@ module _ (first second output : List ℕ) (layout : Layout) (td to : Bool) (befo
 
     pub no_second : (after : Outside) (read : Result Loaded Ending) (e : Ending) → after.taken ≡ before.taken → LoadsArchive second td files1 after.files counts1 after.counts read
         → Err e ≡ result_of_second read → Performs job td to before after e.status e.promised
-    no_second after (Ok other) e silent h is = absurd (false≢true (ap went_on is))
+    no_second after (Ok other) e silent h is = absurd (cc is)
     no_second after (Err was) e silent h is =
-        let same : e ≡ second_ending was = ap (λ (r : Result Loaded Ending). end_of r e) is in
+        let same : e ≡ second_ending was = cc is in
         subst (λ (x : Ending). Performs job td to before after x.status x.promised) (sym same)
         (second_ends after was silent (subst (λ (f : Files). LoadsArchive second td f after.files counts1 after.counts (Err was)) l.same h))
 
@@ -301,6 +261,6 @@ module _ (first second output : List ℕ) (layout : Layout) (td to : Bool) (befo
 pub second_read : (base : List ℕ) (td : Bool) (files files' : Files) (counts counts' : List ℕ → Counts) (read : Result Loaded Ending) (l : Loaded) → LoadsArchive base td files files' counts counts' read
     → Ok l ≡ result_of_second read → LoadsArchive base td files files' counts counts' (Ok l)
 second_read base td files files' counts counts' (Ok x) l h is =
-    let same : l ≡ x = ap (λ (r : Result Loaded Ending). loaded_of r l) is in
+    let same : l ≡ x = cc is in
     subst (λ (y : Loaded). LoadsArchive base td files files' counts counts' (Ok y)) (sym same) h
-second_read base td files files' counts counts' (Err e) l h is = absurd (false≢true (sym (ap went_on is)))
+second_read base td files files' counts counts' (Err e) l h is = absurd (cc is)

@@ -1,5 +1,5 @@
 -- The arcs of a graph file, counted at their targets while its records are judged.
-use Rattle.std.specs.Prelude.{◌≡◌, ℕ, ◌≤◌, All, Bool, List, length, Result, Ok, Err, IfOk, IfErr}
+use Rattle.std.specs.Prelude.{◌≡◌, ℕ, ◌≤◌, All, Bool, List, length, Ok, Err}
 use Rattle.wg_params.specs.Parameters.{Parameters}
 use Rattle.wg_graph.specs.Digraph.{Digraph}
 use Rattle.wg_grammar.specs.Archive.{Accepted, ReadsGraph}
@@ -22,11 +22,13 @@ pub record CountsArcs (p : Parameters) (bits : List Bool) (greatest : ℕ) (coun
   pub room : All (λ list. length list ≤ greatest) accepted.graph
   pub counted : AreCounts p.nodes (predecessors (graph_of p accepted)) counts
 
--- The graph of a graph file was judged, and the first range of the lists of the transposed graph is still to come; or
--- the job ends.
-pub record JudgesReversed (p : Parameters) (bytes : List ℕ) (result : Result Transposing Ending) : Type 0 where
-  pub none : IfOk result (λ t. t.to ≡ 0)
-  pub nodes : IfOk result (λ t. t.graph.nodes ≡ p.nodes)
-  pub goes : (r : Readings) → IfOk result (λ t. Steps (with_digraph r p bytes) (Ok t.graph))
-  pub refused : (r : Readings) → IfErr result (λ e. Steps {B = Digraph} (with_digraph r p bytes) (Err e))
-  pub only : IfErr result (IsBadFile Graph p.arcs)
+-- The graph of a graph file was judged, and the first range of the lists of the transposed graph is still to come.
+pub record IsReversed (p : Parameters) (bytes : List ℕ) (t : Transposing) : Type 0 where
+  pub none : t.to ≡ 0
+  pub nodes : t.graph.nodes ≡ p.nodes
+  pub goes : (r : Readings) → Steps (with_digraph r p bytes) (Ok t.graph)
+
+-- or it ends the job
+pub record IsGraphEnd (p : Parameters) (bytes : List ℕ) (e : Ending) : Type 0 where
+  pub refused : (r : Readings) → Steps {B = Digraph} (with_digraph r p bytes) (Err e)
+  pub only : IsBadFile Graph p.arcs e

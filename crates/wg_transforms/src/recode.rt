@@ -1,8 +1,9 @@
 //! The command `recode`: an archive of the same graph in another layout.
-ghost use Rattle.std.specs.Prelude.{◌≡◌};
+ghost use Rattle.std.specs.Prelude.{◌≡◌, Err, IfErr, IfOk};
 ghost use Rattle.wg_params.specs.Parameters.{IsWithinLimits, params_of};
 ghost use Rattle.wg_words.specs.declared.jobs.Job.TheVariants.{Recode};
 ghost use Rattle.wg_outcomes.specs.Performs.{DoesOrEnds};
+ghost use Rattle.wg_readings.specs.Loading.{LoadsGraphBy};
 ghost use Rattle.wg_transforms.specs.Recoding.{RecodesBy};
 
 use std::alloc::Global;
@@ -48,7 +49,8 @@ fn recoded<D: Depot>(
 ) -> Result<EncodedArchive, Ending>
     requires nodes { made.now.nodes ≡ params.now.nodes }
     requires arcs { made.now.arcs ≡ params.now.arcs }
-    ensures { RecodesBy ⟦<D as Depot>⟧ input.now params.now made.now depot.old depot.new result }
+    ensures makes { IfOk result (λ a. RecodesBy ⟦<D as Depot>⟧ input.now params.now made.now depot.old depot.new a) }
+    ensures ends { IfErr result (λ e. LoadsGraphBy ⟦<D as Depot>⟧ input.now params.now depot.old depot.new (Err e)) }
 {
     let mut reader = open_graph(alloc, params, input)?;
     let mut encoder = begin_archive(alloc, made)?;
@@ -57,5 +59,6 @@ fn recoded<D: Depot>(
         encoder = add_list(encoder, reader.list())?;
     }
     end_records(&mut reader, depot, params)?;
-    end_archive(alloc, encoder, made)
+    let archive = end_archive(alloc, encoder, made)?;
+    Ok(archive)
 }

@@ -8,7 +8,7 @@ ghost use Rattle.wg_outcomes.specs.Answers.{Steps};
 ghost use Rattle.wg_outcomes.specs.Judged.{with_graph};
 ghost use Rattle.wg_outcomes.specs.Promised.{IsBadFile};
 ghost use Rattle.wg_outcomes.specs.Readings.{Readings};
-ghost use Rattle.wg_transforms.specs.Counting.{CountsArcs, JudgesReversed};
+ghost use Rattle.wg_transforms.specs.Counting.{CountsArcs, IsGraphEnd, IsReversed};
 ghost use Rattle.wg_transpose.specs.Transposed.{transposed};
 ghost use Rattle.wg_writing.specs.Writing.{IsArchiveOf};
 
@@ -19,8 +19,8 @@ use wg_encoder::EncodedArchive;
 use wg_graph::Lists;
 use wg_outcomes::{Ending, Input, Status};
 use wg_params::{Layout, Params};
-use wg_readings::lists_of_records;
-use wg_stream::{PagesError, Sweep};
+use wg_readings::{graph_ending, lists_of_records};
+use wg_stream::Sweep;
 use wg_transpose::{Transposer, range_room};
 
 // Judges the records of a graph file, and counts the arcs that lead to each page, in one pass.
@@ -36,12 +36,7 @@ fn counted_of_graph(alloc: Global, params: &Params, bytes: &[u8]) -> Result<Coun
     params.nodes();
     match count_records(alloc, bytes, *params) {
         Ok(found) => Ok(found),
-        Err(PagesError::Fault(fault)) => Err(Ending {
-            status: Status::BadArchive(fault),
-            promised: params.arcs(),
-        }),
-        Err(PagesError::Memory) => Err(Ending::of(Status::Memory)),
-        Err(PagesError::Refused(never)) => match never {},
+        Err(error) => Err(graph_ending(error, params)),
     }
 }
 
@@ -52,7 +47,8 @@ fn counted_ranges<'a>(
     bytes: &'a [u8],
 ) -> Result<Transposer<Sweep<'a>>, Ending>
     requires { length bytes.now ≤ MOST_BYTES }
-    ensures { JudgesReversed params.now bytes.now result }
+    ensures goes { IfOk result (IsReversed params.now bytes.now) }
+    ensures ends { IfErr result (IsGraphEnd params.now bytes.now) }
 {
     let found = counted_of_graph(alloc, params, bytes)?;
     match Sweep::with_room(alloc, bytes, *params, found.greatest) {
@@ -68,7 +64,8 @@ fn judged_ranges<'a>(
     bytes: &'a [u8],
 ) -> Result<Transposer<Sweep<'a>>, Ending>
     requires { length bytes.now ≤ MOST_BYTES }
-    ensures { JudgesReversed params.now bytes.now result }
+    ensures goes { IfOk result (IsReversed params.now bytes.now) }
+    ensures ends { IfErr result (IsGraphEnd params.now bytes.now) }
 {
     // tells the limits
     params.nodes();
@@ -88,7 +85,8 @@ pub fn ranges_of_records<'a>(
     bytes: &'a [u8],
 ) -> Result<Transposer<Sweep<'a>>, Ending>
     requires { length bytes.now ≤ MOST_BYTES }
-    ensures { JudgesReversed params.now bytes.now result }
+    ensures goes { IfOk result (IsReversed params.now bytes.now) }
+    ensures ends { IfErr result (IsGraphEnd params.now bytes.now) }
 {
     if params.nodes() <= 8 * bytes.len() as u64 {
         counted_ranges(alloc, params, bytes)

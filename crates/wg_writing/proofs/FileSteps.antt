@@ -62,16 +62,14 @@ module _ (base : List ℕ) where
       let m_is : offsets_name base ≡ m = cc named in
       archive_is h (map.get f (properties_name base)) (map.get f (graph_name base)) v (stay (properties_name base) (λ same. properties_offsets base (same ∙ sym m_is)))
       (stay (graph_name base) (λ same. graph_offsets base (same ∙ sym m_is))) (ap (map.get h) m_is ∙ is)
-  changed output.Certificate m v f h named stay is = absurd (cc named)
-  changed output.Out m v f h named stay is = absurd (cc named)
+  changed _ m v f h named stay is = absurd (cc named)
 
   -- what a file of the archive holds
   held : (o : Output) (m : List ℕ) (f : Files) → archive_named base o ≡ Some m → map.get f m ≡ part o (archive_in base f)
   held output.Properties m f named = let m_is : properties_name base ≡ m = cc named in ap (map.get f) (sym m_is)
   held output.Graph m f named = let m_is : graph_name base ≡ m = cc named in ap (map.get f) (sym m_is)
   held output.Offsets m f named = let m_is : offsets_name base ≡ m = cc named in ap (map.get f) (sym m_is)
-  held output.Certificate m f named = absurd (cc named)
-  held output.Out m f named = absurd (cc named)
+  held _ m f named = absurd (cc named)
 
   module _ (a : Archive) (first : ArchiveFiles) (told : Bool) where
     -- what may stand where this file stopped the writing

@@ -8,9 +8,6 @@ use Rattle.wg_grammar.proofs.ProperGraphs.{arcs_promised}
 use Rattle.wg_readings.proofs.ReadingsLemmas.{goes_on}
 use Rattle.wg_readings.proofs.archive.lists_of_records.Goals as goal
 
-pub with_room-requires-clause-finds : goal.with_room-requires-clause-finds
-with_room-requires-clause-finds c = (c.in_ok-found.found.offsets, c.in_ok-found.ensures.finds)
-
 pub returns-in-Ok : goal.returns-in-Ok
 returns-in-Ok c =
     let p = c.args.params.now in

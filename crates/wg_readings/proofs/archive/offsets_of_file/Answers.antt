@@ -1,4 +1,4 @@
-use Rattle.std.proofs.Common.{sym, ap, subst, inl, inr, refl, Ok, Err}
+use Rattle.std.proofs.Common.{sym, ap, subst, inl, Ok, Err}
 use Rattle.wg_bits.specs.Bits.{bits_of}
 use Rattle.wg_outcomes.specs.Answers.{Answers}
 use Rattle.wg_outcomes.specs.Judged.{status_of, with_offsets}
@@ -22,6 +22,3 @@ returns-in-Err-Word-clause-steps c = λ r next.
     let fault = by_params p (bits_of bytes) c.offsets.result c.nodes.result (Err c.in-Err-Word.word) c.offsets.ensures.value c.nodes.ensures.value refused in
     subst (λ (s : Status). Answers (with_offsets r p bytes next) s) (sym (ap (λ (e : Ending). e.status) c.bad_archive.ensures))
     (inl (sym (ap status_of (offsets_refused r p c.nodes.ensures.limits bytes c.in-Err-Word.word fault next))))
-
-pub returns-in-Err-Word-clause-only : goal.returns-in-Err-Word-clause-only
-returns-in-Err-Word-clause-only c = inr (_, refl, ap (λ (e : Ending). e.status) c.bad_archive.ensures, ap (λ (e : Ending). e.promised) c.bad_archive.ensures)

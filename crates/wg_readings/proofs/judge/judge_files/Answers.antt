@@ -1,16 +1,17 @@
-use Rattle.std.proofs.Common.{◌∙◌, ℕ, List, [], ◌∷◌, ◌++◌, inr, refl, sym, ap, subst, arith}
+use Rattle.std.proofs.Common.{◌∙◌, ℕ, List, [], ◌∷◌, ◌++◌, inr, refl, sym, ap, subst}
 use Rattle.std.specs.FinMap as map
 use Rattle.wg_io.specs.declared.suffixes.TheConstants.{OFFSETS}
 use Rattle.wg_io.proofs.FilesLemmas.{none_falls-trans}
+use Rattle.wg_io.proofs.PutsLemmas.{is_that_err}
 use Rattle.wg_grammar.specs.Archive.{places_of}
 use Rattle.wg_offsets.specs.Places.{last_place}
 use Rattle.wg_offsets.proofs.WordsLemmas.{last_more}
 use Rattle.wg_stream.proofs.PrefixLemmas.{places_more}
 use Rattle.wg_outcomes.specs.Names.{file_of, held_by}
 use Rattle.wg_readings.specs.Pairing.{ComesWith}
-use Rattle.wg_readings.proofs.PairingLemmas.{both_done, both_stop, come_at, come_until, ready_done, ready_here, ready_more, ready_paired}
+use Rattle.wg_readings.proofs.PairingLemmas.{both_done, both_stop, come_at, come_until}
 use Rattle.wg_readings.proofs.UnderWay.{all_read, begins, goes_further, judged_by, way_later}
-use Rattle.wg_readings.proofs.JudgeLemmas.{files_exit, files_stop, files_unread}
+use Rattle.wg_readings.proofs.JudgeLemmas.{files_stop, files_unread}
 use Rattle.wg_readings.proofs.judge.judge_files.Goals as goal
 
 pub loop-page-init : goal.loop-page-init
@@ -26,32 +27,10 @@ loop-page-init g c =
       come = come_at _ _ _ _ _ _ _ _ _ _ c.begin_pairing.new.pairing named (sym u.at) b.come;
     }
 
-pub next_record-requires-clause-open : goal.next_record-requires-clause-open
-next_record-requires-clause-open g c = c.loop-page.invariant.way.state
-
-pub next_record-requires-clause-params : goal.next_record-requires-clause-params
-next_record-requires-clause-params g c = c.loop-page.invariant.way.params
-
-pub next_record-requires-clause-more : goal.next_record-requires-clause-more
-next_record-requires-clause-more g c = omega (arith, c.loop-page.invariant.way.page, c.loop-page-test.true, c.nodes-page-end.ensures.value)
-
 pub returns-in_err-next_record : goal.returns-in_err-next_record
 returns-in_err-next_record g c =
-    files_exit _ _ _ _ _ _ _ _ _ c.from_residual-in_err-next_record.ensures.1
+    rw (is_that_err c.from_residual-in_err-next_record.result _ c.from_residual-in_err-next_record.ensures.1)
     (files_stop _ _ _ _ _ _ _ _ _ _ _ _ _ c.loop-page.invariant.way c.nodes-page-end.ensures.limits _ c.in_err-next_record.ensures.advances)
-
-pub pair_next-requires-clause-limits : goal.pair_next-requires-clause-limits
-pair_next-requires-clause-limits g c = c.nodes-page-end.ensures.limits
-
-pub pair_next-requires-clause-paired : goal.pair_next-requires-clause-paired
-pair_next-requires-clause-paired g c = ready_paired _ _ _ _ _ _ _ _ c.loop-page.pairing c.loop-page.invariant.come
-
-pub pair_next-requires-clause-more : goal.pair_next-requires-clause-more
-pair_next-requires-clause-more g c = ready_more _ _ _ _ _ _ _ _ c.loop-page.pairing (omega (arith, c.loop-page-test.true, c.nodes-page-end.ensures.value)) c.loop-page.invariant.come
-
-pub pair_next-requires-clause-here : goal.pair_next-requires-clause-here
-pair_next-requires-clause-here g c =
-    ready_here _ _ _ _ _ _ _ _ c.loop-page.pairing _ (omega (arith, c.in_ok-next_record.ensures.advances.onward, c.at.ensures.value)) c.loop-page.invariant.come
 
 pub loop-page-preserved : goal.loop-page-preserved
 loop-page-preserved g c =
@@ -81,32 +60,16 @@ loop-page-preserved g c =
           (places_of k.0, k.2.1 t file is)));
     }
 
-pub end_records-requires-clause-open : goal.end_records-requires-clause-open
-end_records-requires-clause-open g c = c.loop-page.invariant.way.state
-
-pub end_records-requires-clause-params : goal.end_records-requires-clause-params
-end_records-requires-clause-params g c = c.loop-page.invariant.way.params
-
-pub end_records-requires-clause-done : goal.end_records-requires-clause-done
-end_records-requires-clause-done g c = omega (arith, c.loop-page.invariant.way.page, c.loop-page-test.false, c.nodes-page-end.ensures.value, c.loop-page.auto._page-end)
-
 pub returns-in_err-end_records : goal.returns-in_err-end_records
 returns-in_err-end_records g c =
-    files_exit _ _ _ _ _ _ _ _ _ c.from_residual-in_err-end_records.ensures.1
+    rw (is_that_err c.from_residual-in_err-end_records.result _ c.from_residual-in_err-end_records.ensures.1)
     (files_stop _ _ _ _ _ _ _ _ _ _ _ _ _ c.loop-page.invariant.way c.nodes-page-end.ensures.limits _ c.in_err-end_records.ensures.advances)
 
 pub returns-in_err-reader : goal.returns-in_err-reader
-returns-in_err-reader g c = files_exit _ _ _ _ _ _ _ _ _ c.from_residual.ensures.1 (files_unread _ _ _ _ _ _ c.in_err-reader.ensures.only)
+returns-in_err-reader g c = rw (is_that_err c.from_residual.result _ c.from_residual.ensures.1) (files_unread _ _ _ _ _ _ c.in_err-reader.ensures.only)
 
 pub returns-in_err-pairing : goal.returns-in_err-pairing
-returns-in_err-pairing g c = files_exit _ _ _ _ _ _ _ _ _ c.from_residual-in_err-pairing.ensures.1 (files_unread _ _ _ _ _ _ c.in_err-pairing.ensures.only)
-
-pub end_pairing-requires-clause-paired : goal.end_pairing-requires-clause-paired
-end_pairing-requires-clause-paired g c = ready_paired _ _ _ _ _ _ _ _ c.loop-page.pairing c.loop-page.invariant.come
-
-pub end_pairing-requires-clause-done : goal.end_pairing-requires-clause-done
-end_pairing-requires-clause-done g c =
-    ready_done _ _ _ _ _ _ _ _ c.loop-page.pairing (omega (arith, c.loop-page-test.false, c.nodes-page-end.ensures.value, c.loop-page.auto._page-end)) c.loop-page.invariant.come
+returns-in_err-pairing g c = rw (is_that_err c.from_residual-in_err-pairing.result _ c.from_residual-in_err-pairing.ensures.1) (files_unread _ _ _ _ _ _ c.in_err-pairing.ensures.only)
 
 pub returns-in_err-end_pairing : goal.returns-in_err-end_pairing
 returns-in_err-end_pairing g c =
@@ -123,7 +86,7 @@ returns-in_err-end_pairing g c =
     let stands = judged_by _ _ _ _ _ _ _ _ _ _ _ _ _ h.way r.advances r.judged in
     let e = s.ends files (r.advances.same ∙ h.way.same) _ (none_falls-trans _ _ _ h.way.later r.advances.later) name h.name _ _ (come_until _ _ _ _ _ _ _ _ _ c.loop-page.pairing r.advances.later h.come)
     (λ t file is. let x = stands t in let k = all_read _ _ _ _ _ _ files _ counts _ _ c.loop-page.reader _ h.way limits r.judged t x.0 x.1 in (places_of k.0, k.1.1 t file is)) in
-    files_exit _ _ _ _ _ _ _ _ _ c.from_residual-in_err-end_pairing.ensures.1
+    rw (is_that_err c.from_residual-in_err-end_pairing.result _ c.from_residual-in_err-end_pairing.ensures.1)
     (record {
       limits = tt;
       steps = λ t q.

@@ -1,7 +1,8 @@
-use Rattle.std.proofs.Common.{◌∙◌, arith}
+use Rattle.std.proofs.Common.{◌∙◌}
 use Rattle.wg_io.proofs.FilesLemmas.{none_falls-trans}
+use Rattle.wg_io.proofs.PutsLemmas.{is_that_err}
 use Rattle.wg_readings.proofs.UnderWay.{begins, goes_further, judged_by}
-use Rattle.wg_readings.proofs.JudgeLemmas.{graph_stops, graph_unread, judge_exit}
+use Rattle.wg_readings.proofs.JudgeLemmas.{graph_stops, graph_unread}
 use Rattle.wg_readings.proofs.judge.judge_graph.Goals as goal
 
 pub loop-page-init : goal.loop-page-init
@@ -12,36 +13,18 @@ loop-page-preserved g c =
     let n = c.in_ok-next_record.ensures in
     goes_further _ _ _ _ _ _ _ _ _ _ _ _ _ c.loop-page.invariant (λ whole. Unit {0}) n.advances n.open n.page n.in_step (λ whole w count list end h. tt)
 
-pub next_record-requires-clause-open : goal.next_record-requires-clause-open
-next_record-requires-clause-open g c = c.loop-page.invariant.state
-
-pub next_record-requires-clause-params : goal.next_record-requires-clause-params
-next_record-requires-clause-params g c = c.loop-page.invariant.params
-
-pub next_record-requires-clause-more : goal.next_record-requires-clause-more
-next_record-requires-clause-more g c = omega (arith, c.loop-page.invariant.page, c.loop-page-test.true, c.nodes-page-end.ensures.value)
-
 pub returns-in_err-next_record : goal.returns-in_err-next_record
 returns-in_err-next_record g c =
-    judge_exit _ _ _ _ _ _ _ _ _ c.from_residual-in_err-next_record.ensures.1
+    rw (is_that_err c.from_residual-in_err-next_record.result _ c.from_residual-in_err-next_record.ensures.1)
     (graph_stops _ _ _ _ _ _ _ _ _ _ _ _ _ c.loop-page.invariant c.nodes-page-end.ensures.limits _ c.in_err-next_record.ensures.advances)
-
-pub end_records-requires-clause-open : goal.end_records-requires-clause-open
-end_records-requires-clause-open g c = c.loop-page.invariant.state
-
-pub end_records-requires-clause-params : goal.end_records-requires-clause-params
-end_records-requires-clause-params g c = c.loop-page.invariant.params
-
-pub end_records-requires-clause-done : goal.end_records-requires-clause-done
-end_records-requires-clause-done g c = omega (arith, c.loop-page.invariant.page, c.loop-page-test.false, c.nodes-page-end.ensures.value, c.loop-page.auto._page-end)
 
 pub returns-in_err-end_records : goal.returns-in_err-end_records
 returns-in_err-end_records g c =
-    judge_exit _ _ _ _ _ _ _ _ _ c.from_residual-in_err-end_records.ensures.1
+    rw (is_that_err c.from_residual-in_err-end_records.result _ c.from_residual-in_err-end_records.ensures.1)
     (graph_stops _ _ _ _ _ _ _ _ _ _ _ _ _ c.loop-page.invariant c.nodes-page-end.ensures.limits _ c.in_err-end_records.ensures.advances)
 
 pub returns-in_err-reader : goal.returns-in_err-reader
-returns-in_err-reader g c = judge_exit _ _ _ _ _ _ _ _ _ c.from_residual.ensures.1 (graph_unread _ _ _ _ _ _ c.in_err-reader.ensures.only)
+returns-in_err-reader g c = rw (is_that_err c.from_residual.result _ c.from_residual.ensures.1) (graph_unread _ _ _ _ _ _ c.in_err-reader.ensures.only)
 
 pub returns : goal.returns
 returns g c =

@@ -5,12 +5,13 @@ use Rattle.std.proofs.Math.Seq.{take-suc}
 use Rattle.std.proofs.lemmas.List.{take_all}
 use Rattle.wg_io.specs.declared.suffixes.TheConstants.{OFFSETS}
 use Rattle.wg_io.proofs.FilesLemmas.{none_falls-trans}
+use Rattle.wg_io.proofs.PutsLemmas.{is_that_err}
 use Rattle.wg_outcomes.specs.Answers.{Steps}
 use Rattle.wg_readings.specs.Loading.{lengths_then}
 use Rattle.wg_outcomes.specs.Names.{file_of}
 use Rattle.wg_readings.specs.Pairing.{ComesWith}
-use Rattle.wg_readings.proofs.PairingLemmas.{come_at, ready_done, ready_here, ready_more, ready_paired}
-use Rattle.wg_readings.proofs.JudgeLemmas.{offsets_exit, offsets_judged, offsets_unread}
+use Rattle.wg_readings.proofs.PairingLemmas.{come_at}
+use Rattle.wg_readings.proofs.JudgeLemmas.{offsets_judged, offsets_unread}
 use Rattle.wg_readings.proofs.judge.judge_offsets.Goals as goal
 
 -- one place more
@@ -36,19 +37,6 @@ loop-page-init g c =
           (b.reads t file (ap (λ (n : List ℕ). map.get files n) named ∙ is));
     }
 
-pub pair_next-requires-clause-paired : goal.pair_next-requires-clause-paired
-pair_next-requires-clause-paired g c = ready_paired _ _ _ _ _ _ _ _ c.loop-page.pairing c.loop-page.invariant.come
-
-pub pair_next-requires-clause-more : goal.pair_next-requires-clause-more
-pair_next-requires-clause-more g c = ready_more _ _ _ _ _ _ _ _ c.loop-page.pairing (omega (arith, c.loop-page-test.true, c.nodes-page-end.ensures.value)) c.loop-page.invariant.come
-
-pub pair_next-requires-clause-here : goal.pair_next-requires-clause-here
-pair_next-requires-clause-here g c =
-    let o = c.place-here.ensures in
-    let page = c.loop-page.page in
-    let within : page + 1 < length c.args.offsets.now = omega (arith, c.requires, c.loop-page-test.true, c.nodes-page-end.ensures.value) in
-    ready_here _ _ _ _ _ _ _ _ c.loop-page.pairing _ (omega (arith, o.value, c.len.ensures.places.never_fall page (page + 1) 0 (omega arith) within)) c.loop-page.invariant.come
-
 pub loop-page-preserved : goal.loop-page-preserved
 loop-page-preserved g c =
     let files = g.D.Depot.files c.args.depot.now in
@@ -71,16 +59,9 @@ loop-page-preserved g c =
           (s.reads t files h.same name h.name file is (take (page + 1) found) (h.reads t file is));
     }
 
-pub end_pairing-requires-clause-paired : goal.end_pairing-requires-clause-paired
-end_pairing-requires-clause-paired g c = ready_paired _ _ _ _ _ _ _ _ c.loop-page.pairing c.loop-page.invariant.come
-
-pub end_pairing-requires-clause-done : goal.end_pairing-requires-clause-done
-end_pairing-requires-clause-done g c =
-    ready_done _ _ _ _ _ _ _ _ c.loop-page.pairing (omega (arith, c.loop-page-test.false, c.nodes-page-end.ensures.value, c.loop-page.auto.page-end)) c.loop-page.invariant.come
-
 pub returns-in_err-pairing : goal.returns-in_err-pairing
 returns-in_err-pairing g c =
-    offsets_exit _ _ _ _ _ _ _ _ _ _ c.from_residual.ensures.1 (offsets_unread _ _ _ _ _ _ c.in_err-pairing.ensures.only c.args.offsets.now)
+    rw (is_that_err c.from_residual.result _ c.from_residual.ensures.1) (offsets_unread _ _ _ _ _ _ c.in_err-pairing.ensures.only c.args.offsets.now)
 
 pub returns : goal.returns
 returns g c =

@@ -1,18 +1,12 @@
-use Rattle.std.proofs.Common.{◌∙◌, [], ◌∷◌, sym, ap}
+use Rattle.std.proofs.Common.{◌∙◌, ℕ, [], ◌∷◌, sym, ap, subst}
 use Rattle.wg_bits.specs.Bits.{bits_of}
-use Rattle.wg_offsets.specs.Stages.{WordsRead}
+use Rattle.wg_offsets.specs.Stages.{AreRead, WordsRead}
 use Rattle.wg_stream.specs.Held.{Held}
-use Rattle.wg_readings.proofs.PairingLemmas.{comes, first_compared, first_paired, first_read_zero, looked_read, still_named, stopped_since, unread_held}
+use Rattle.wg_readings.proofs.PairingLemmas.{comes, looked_read, still_named, stopped_since, unread_held}
 use Rattle.wg_readings.proofs.pairing.begin_pairing.Goals as goal
 
 pub returns-in-Err-clause-come : goal.returns-in-Err-clause-come
 returns-in-Err-clause-come g c = c.in-Err.ensures.stopped (λ t file is. unread_held c.args.params.now c.args.pairing.now file c.requires)
-
-pub next_word-requires-clause-code : goal.next_word-requires-clause-code
-next_word-requires-clause-code g c = ap (λ (x : WordsRead). x.code) (c.in-Ok.ensures.kept.1 ∙ c.requires.words)
-
-pub next_word-requires-clause-pages : goal.next_word-requires-clause-pages
-next_word-requires-clause-pages g c = ap (λ (x : WordsRead). x.pages) (c.in-Ok.ensures.kept.1 ∙ c.requires.words)
 
 pub returns-in-Err-next_word-clause-come : goal.returns-in-Err-next_word-clause-come
 returns-in-Err-next_word-clause-come g c =
@@ -34,13 +28,13 @@ returns-in-Ok-next_word-clause-reads g c = λ t file is.
     let p = c.args.params.now in
     let l = c.in-Ok.ensures in
     let n = c.in-Ok-next_word.ensures in
-    let k = first_paired p a m c.next_word.new.pairing c.requires l.kept.1 l.kept.2 n.kept.1 n.words.0 n.words.1 n.value.1 n.first
-    (n.steps.looked (ap (λ (h : Held). h.looked) l.looked)) in
+    let w = l.kept.1 ∙ c.requires.words in
+    let zero = n.first (ap (λ (x : WordsRead). x.count) w) (ap (λ (x : WordsRead). x.offset) w) in
     let is' = still_named _ _ m.name a.name file l.steps.same l.kept.0 is in
     let held = l.steps.in_step t file is (unread_held p a file c.requires) in
     comes file _ (0 ∷ []) (0 ∷ []) (n.kept.2 ∙ l.kept.3 ∙ c.requires.going)
     (record {
       held = n.steps.in_step t file is' held;
-      read = first_read_zero (bits_of file) c.next_word.new.pairing k.3 (n.reads t file is' held [] (looked_read p a m (bits_of file) c.requires l.kept.1 l.looked));
-      compared = first_compared p a m c.next_word.new.pairing c.requires l.kept.2 n.kept.1;
+      read = subst (λ (k : ℕ). AreRead (bits_of file) c.next_word.new.pairing.words c.next_word.new.pairing.held.at (k ∷ [])) zero (n.reads t file is' held [] (looked_read p a m (bits_of file) c.requires l.kept.1 l.looked));
+      compared = rw (n.kept.1 ∙ l.kept.2) c.requires.compared;
     })

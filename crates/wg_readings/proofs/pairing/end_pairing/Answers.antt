@@ -1,4 +1,4 @@
-use Rattle.std.proofs.Common.{sym, arith}
+use Rattle.std.proofs.Common.{sym}
 use Rattle.wg_io.proofs.PutsLemmas.{is_that_err}
 use Rattle.wg_readings.proofs.PairingLemmas.{ends_compared, ends_stopped, stopped_since, still_named}
 use Rattle.wg_readings.proofs.pairing.end_pairing.Goals as goal
@@ -6,18 +6,6 @@ use Rattle.wg_readings.proofs.pairing.end_pairing.Goals as goal
 pub returns-in_err-pairing-clause-ends : goal.returns-in_err-pairing-clause-ends
 returns-in_err-pairing-clause-ends g c = λ files same counts later name named n at come follows.
     rw (is_that_err c.from_residual.result _ c.from_residual.ensures.1) (ends_stopped _ files counts _ c.args.params.now name c.args.pairing.now _ (rw c.in_err-pairing.was at come))
-
-pub end_words-requires-clause-code : goal.end_words-requires-clause-code
-end_words-requires-clause-code g c = let h = rw c.in_ok-pairing.was at c.requires.paired in h.code
-
-pub end_words-requires-clause-pages : goal.end_words-requires-clause-pages
-end_words-requires-clause-pages g c = let h = rw c.in_ok-pairing.was at c.requires.paired in h.pages
-
-pub end_words-requires-clause-done : goal.end_words-requires-clause-done
-end_words-requires-clause-done g c =
-    let h = rw c.in_ok-pairing.was at c.requires.paired in
-    let d = rw c.in_ok-pairing.was at c.requires.done in
-    omega (arith, h.count, d)
 
 pub returns-in_err-end_words-clause-ends : goal.returns-in_err-end_words-clause-ends
 returns-in_err-end_words-clause-ends g c = λ files same counts later name named n at come follows.

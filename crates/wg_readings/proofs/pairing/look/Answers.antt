@@ -4,7 +4,7 @@ use Rattle.wg_io.specs.declared.whole.LoadError.{LoadError}
 use Rattle.wg_io.specs.declared.whole.LoadError.TheVariants as load
 use Rattle.wg_stream.specs.Held.{Held}
 use Rattle.wg_readings.proofs.PassLemmas.{found_after}
-use Rattle.wg_readings.proofs.PairingLemmas.{load_stopped, stopped_at}
+use Rattle.wg_readings.proofs.PairingLemmas.{load_stopped}
 use Rattle.wg_readings.proofs.pairing.look.Goals as goal
 
 abbrev failed : LoadError → Result (Unit {0}) LoadError
@@ -17,7 +17,7 @@ pub returns-in-Err-clause-stopped : goal.returns-in-Err-clause-stopped
 returns-in-Err-clause-stopped g c = λ held.
     let e = c.in-Err.ensures in
     let files = g.D.Depot.files c.args.depot.now in
-    stopped_at _ _ _ _ _ c.as_str.result.now c.args.pairing.now.name _ _ c.as_str.ensures c.load_ending.ensures
+    rw (c.load_ending.ensures, ← c.as_str.ensures)
     (load_stopped _ c.as_str.result.now _ _ _ c.args.pairing.now.held _ c.in-Err.error e.cause
     (λ t none. let a : failed c.in-Err.error ≡ failed load.Absent = e.absent t none (ap (λ (h : Held). h.looked) c.requires.held) in cc)
     (λ t file is. held t file (ap (λ (n : List ℕ). map.get files n) (sym c.as_str.ensures) ∙ is)))

@@ -1,7 +1,7 @@
 use Rattle.std.proofs.Common.{◌∙◌, ℕ, List, rules, refl, ap}
 use Rattle.std.specs.FinMap as map
 use Rattle.wg_bits.specs.Bits.{bits_of}
-use Rattle.wg_readings.proofs.PairingLemmas.{read_at, stopped_at, word_by, word_stopped}
+use Rattle.wg_readings.proofs.PairingLemmas.{read_at, word_stopped}
 use Rattle.wg_readings.proofs.pairing.next_word.Goals as goal
 
 pub returns-in-Err-clause-stopped : goal.returns-in-Err-clause-stopped
@@ -10,13 +10,13 @@ returns-in-Err-clause-stopped g c = λ looked found reads.
     let h = c.new-source.ensures.held in
     let n = c.new-source.ensures.name in
     let files = g.D.Depot.files c.args.depot.now in
-    stopped_at _ _ _ _ _ c.args.pairing.now.name c.args.pairing.now.name _ _ refl c.word_ending.ensures
+    rw c.word_ending.ensures
     (word_stopped _ c.args.pairing.now.name _ _ _ c.args.pairing.now.held c.args.params.now c.in-Err.error (search rules) looked found
     (λ t file is.
     let k = reads t file is in
     let is' = ap (λ (n : List ℕ). map.get files n) c.as_str.ensures ∙ is in (
       k.0,
-      word_by c.in-Err.error _ _ _ _ (bits_of file) c.requires.code c.requires.pages (c.in-Err.ensures.fault (bits_of file) k.1.0 (rw (d, h, n) (t, (file, is', k.0, refl))) (rw h k.1.1)),
+      rw (c.requires.code, c.requires.pages) at (c.in-Err.ensures.fault (bits_of file) k.1.0 (rw (d, h, n) (t, (file, is', k.0, refl))) (rw h k.1.1)),
     )))
 
 pub returns-in-Ok-clause-reads : goal.returns-in-Ok-clause-reads

@@ -1,35 +1,7 @@
-use Rattle.std.proofs.Common.{◌∙◌, ℕ, [], ◌∷◌, ◌++◌, sym, ap, subst, arith}
+use Rattle.std.proofs.Common.{◌∙◌, ℕ, [], ◌∷◌, ◌++◌, sym, subst}
 use Rattle.wg_offsets.specs.Comparing.{AreCompared, Compared}
 use Rattle.wg_readings.proofs.PairingLemmas.{comes, still_named, stopped_since}
 use Rattle.wg_readings.proofs.pairing.pair_next.Goals as goal
-
-pub next_word-requires-clause-code : goal.next_word-requires-clause-code
-next_word-requires-clause-code g c = let h = rw c.in-Ok.is at c.requires.paired in h.code
-
-pub next_word-requires-clause-pages : goal.next_word-requires-clause-pages
-next_word-requires-clause-pages g c = let h = rw c.in-Ok.is at c.requires.paired in h.pages
-
-pub next_word-requires-clause-more : goal.next_word-requires-clause-more
-next_word-requires-clause-more g c =
-    let h = rw c.in-Ok.is at c.requires.paired in
-    let m = rw c.in-Ok.is at c.requires.more in
-    omega (arith, h.count, m)
-
-pub push-requires-clause-more : goal.push-requires-clause-more
-push-requires-clause-more g c =
-    let m = rw c.in-Ok.is at c.requires.more in
-    omega (arith, m, c.requires.limits.nodes, ap (λ (x : Compared). x.page) c.in-Ok-next_word.ensures.kept.1)
-
-pub push-requires-clause-here : goal.push-requires-clause-here
-push-requires-clause-here g c =
-    let h = rw c.in-Ok.is at c.requires.here in
-    omega (arith, h, ap (λ (x : Compared). x.here) c.in-Ok-next_word.ensures.kept.1)
-
-pub push-requires-clause-there : goal.push-requires-clause-there
-push-requires-clause-there g c =
-    let n = c.in-Ok-next_word.ensures in
-    let h = rw c.in-Ok.is at c.requires.paired in
-    omega (arith, h.there, n.words.2, n.value.0, ap (λ (x : Compared). x.there) n.kept.1)
 
 pub returns-in-Ok-next_word-clause-reads : goal.returns-in-Ok-next_word-clause-reads
 returns-in-Ok-next_word-clause-reads g c = λ t files same name named file is places come.

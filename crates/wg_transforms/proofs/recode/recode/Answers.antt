@@ -4,7 +4,6 @@ use Rattle.wg_words.specs.declared.jobs.Job.TheVariants.{Recode}
 use Rattle.wg_outcomes.specs.Commands.{builds}
 use Rattle.wg_readings.proofs.GraphJobs.{has_graph, no_graph, no_params}
 use Rattle.wg_readings.proofs.JobSteps.{performs_exit, writes}
-use Rattle.wg_transforms.proofs.RecodedLemmas.{done, ended}
 use Rattle.wg_transforms.proofs.recode.recode.Goals as goal
 
 pub returns-in_err-params : goal.returns-in_err-params
@@ -18,13 +17,13 @@ returns-in_err-archive g c =
     let layout = c.args.layout.now in
     performs_exit _ _ _ _ _ _ _ c.from_residual-in_err-archive.ensures.1
     (no_graph (Recode c.args.input.now c.args.output.now layout) c.args.input.now _ _ _ refl refl (λ p x r h. builds layout x) (λ r h. refl)
-    c.in_ok-params.params _ _ c.in_ok-params.ensures _ _ refl (ended _ _ _ _ _ _ _ _ _ c.in_err-archive.ensures))
+    c.in_ok-params.params _ _ c.in_ok-params.ensures _ _ refl c.in_err-archive.ensures.ends)
 
 pub returns : goal.returns
 returns g c =
     let layout = c.args.layout.now in
     let p = c.in_ok-params.params in
-    let read = done _ _ _ _ _ _ _ _ c.in_ok-archive.archive c.in_ok-archive.ensures in
+    let read = c.in_ok-archive.ensures.makes in
     writes (Recode c.args.input.now c.args.output.now layout) c.args.input.now _ _ _ p _ _ _ _
     (has_graph (Recode c.args.input.now c.args.output.now layout) c.args.input.now _ g.O.Sink.told _ refl refl (λ p x r h. builds layout x) (λ r h. refl)
     p _ _ c.in_ok-params.ensures _ _ read.graph read.loads)

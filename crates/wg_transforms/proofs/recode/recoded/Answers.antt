@@ -1,18 +1,68 @@
-use Rattle.std.proofs.Common.{◌≡◌, ◌∙◌, ℕ, List, [], ◌∷◌, ◌++◌, length, refl, sym, ap, subst, arith}
-use Rattle.wg_io.proofs.FilesLemmas.{none_falls-refl, none_falls-trans}
-use Rattle.wg_params.specs.Parameters.{Parameters}
+use Rattle.std.proofs.Common.{◌≡◌, inr, ℕ, Bool, List, [], ◌∷◌, ◌++◌, refl, sym, ap, subst, ◌∙◌, Some, Ok, Err, length, arith}
+use Rattle.std.specs.Bool.{IsTrue}
+use Rattle.std.specs.FinMap as map
+use Rattle.wg_io.specs.Outside.{Files, Counts, NonDecreasing}
+use Rattle.wg_io.proofs.FilesLemmas.{none_falls-trans, none_falls-refl}
+use Rattle.wg_params.specs.Parameters.{Parameters, IsWithinLimits}
+use Rattle.wg_grammar.specs.Archive.{Accepted, lists_of}
+use Rattle.wg_grammar.specs.Laws.{graph_of}
+use Rattle.wg_grammar.specs.Record.{Whole}
+use Rattle.wg_stream.proofs.PrefixLemmas.{lists_more}
+use Rattle.wg_stream.specs.Reading.{Reading, IsInStep, IsJudged}
+use Rattle.wg_outcomes.specs.Answers.{IsHindrance}
+use Rattle.wg_outcomes.specs.Names.{file_of, held_by}
+use Rattle.wg_outcomes.specs.declared.ending.Ending.{Ending}
+use Rattle.wg_outcomes.specs.declared.status.Input.TheVariants.{Graph}
+use Rattle.wg_outcomes.specs.declared.status.Status.TheVariants.{Memory}
+use Rattle.wg_readings.specs.Loading.{JudgesGraph, LoadsGraph}
+use Rattle.wg_readings.specs.Passes.{Advances, accepted_of}
+use Rattle.wg_readings.proofs.JudgeLemmas.{reads_want, graph_stops}
+use Rattle.wg_readings.proofs.PassLemmas.{graph_goes}
+use Rattle.wg_readings.proofs.UnderWay.{IsUnderWay, all_read, judged_by, begins, goes_further}
+use Rattle.wg_io.proofs.PutsLemmas.{is_that_err}
 use Rattle.wg_graph.specs.Ascending.{Below}
-use Rattle.wg_grammar.specs.Archive.{lists_of}
-use Rattle.wg_readings.proofs.UnderWay.{begins, goes_further}
-use Rattle.wg_readings.proofs.JudgeLemmas.{graph_stops}
-use Rattle.wg_transforms.proofs.RecodedLemmas.{lists_on, recodes_all, recodes_exit, recodes_stopped, recodes_want}
 use Rattle.wg_transforms.proofs.recode.recoded.Goals as goal
 
-pub returns-in_err-reader : goal.returns-in_err-reader
-returns-in_err-reader g c = recodes_exit _ _ _ _ _ _ _ _ _ _ c.from_residual.ensures.1 (recodes_want _ _ _ _ _ _ _ _ refl (none_falls-refl _) _ c.in_err-reader.ensures.only)
+lists_on : (w : Whole) (whole : List Whole) (lists : List (List ℕ)) (list : List ℕ) → lists_of whole ≡ lists → w.known.list ≡ list → lists_of (w ∷ whole) ≡ lists ++ list ∷ []
+lists_on w whole lists list before is = lists_more w whole ∙ ap (λ (l : List (List ℕ)). l ++ w.known.list ∷ []) before ∙ ap (λ (x : List ℕ). lists ++ x ∷ []) is
 
-pub returns-in_err-encoder : goal.returns-in_err-encoder
-returns-in_err-encoder g c = recodes_exit _ _ _ _ _ _ _ _ _ _ c.from_residual-in_err-encoder.ensures.1 (recodes_want _ _ _ _ _ _ _ _ refl (none_falls-refl _) _ c.in_err-encoder.ensures.only)
+module _ (base : List ℕ) (p : Parameters) (td : Bool) (files files' : Files) (counts counts' : List ℕ → Counts) (e : Ending) where
+  -- the graph file ended it
+  graph_stopped : JudgesGraph base p td files files' counts counts' (Err e) → LoadsGraph base p td files files' counts counts' (Err e)
+  graph_stopped j = record {
+    reads = record {
+      ends = record { only = j.reads.ends.only; causes = j.reads.ends.causes; refused = λ t r next. j.reads.ends.refused t r (λ a. next (graph_of p a)) };
+      same = j.reads.same;
+      later = j.reads.later;
+    };
+    goes = λ t r next. j.reads.ends.refused t r (λ a. next (graph_of p a));
+    nodes = tt;
+  }
+
+  -- memory was out
+  graph_wants : files' ≡ files → NonDecreasing counts counts' → e.status ≡ Memory → LoadsGraph base p td files files' counts counts' (Err e)
+  graph_wants same later want = record { reads = reads_want _ _ _ _ _ _ _ _ _ e want same later; goes = λ t r next. inr (subst IsHindrance (sym want) tt); nodes = tt }
+
+-- all was read
+graph_read : (base : List ℕ) (p : Parameters) (td : Bool) (files files1 files2 : Files) (counts counts1 counts2 : List ℕ → Counts) (n : ℕ) (a b : Reading) (lists : List (List ℕ))
+    (h : IsUnderWay td base p files files1 counts counts1 n a (λ whole. lists_of whole ≡ lists)) (limits : IsWithinLimits p) (step : Advances {B = Unit {0}} td files1 files2 counts1 counts2 p a b (Ok tt))
+    → (IsTrue td → (held : Files) → files1 ≡ held → (file : List ℕ) → map.get held a.name ≡ Some file → (whole : List Whole) → IsInStep file a whole → IsJudged file p (Ok (accepted_of whole)))
+    → LoadsGraph base p td files files2 counts counts2 (Ok (record { nodes = p.nodes; lists = lists }))
+graph_read base p td files files1 files2 counts counts1 counts2 n a b lists h limits step judged = record {
+  reads = record { ends = tt; same = step.same ∙ h.same; later = none_falls-trans _ _ _ h.later step.later };
+  goes = λ t r next.
+      let x = judged_by td base p files counts files1 files2 counts1 counts2 n a b _ h step judged t in
+      let k = all_read td base p files counts files1 files2 counts1 counts2 n a b _ h limits judged t x.0 x.1 in
+      graph_goes r p limits (held_by (file_of base) files Graph) x.0 x.1 (λ y. next (graph_of p y))
+      ∙ ap (λ (l : List (List ℕ)). next (record { nodes = p.nodes; lists = l })) (ap (λ (y : Accepted). y.graph) k.2 ∙ k.1);
+  nodes = refl;
+}
+
+pub returns-in_err-reader-clause-ends : goal.returns-in_err-reader-clause-ends
+returns-in_err-reader-clause-ends g c = rw (is_that_err c.from_residual.result _ c.from_residual.ensures.1) (graph_wants _ _ _ _ _ _ _ _ refl (none_falls-refl _) c.in_err-reader.ensures.only)
+
+pub returns-in_err-encoder-clause-ends : goal.returns-in_err-encoder-clause-ends
+returns-in_err-encoder-clause-ends g c = rw (is_that_err c.from_residual-in_err-encoder.result _ c.from_residual-in_err-encoder.ensures.1) (graph_wants _ _ _ _ _ _ _ _ refl (none_falls-refl _) c.in_err-encoder.ensures.only)
 
 pub loop-page-init : goal.loop-page-init
 loop-page-init g c =
@@ -33,10 +83,10 @@ next_record-requires-clause-params g c = c.loop-page.invariant.so_far.2.params
 pub next_record-requires-clause-more : goal.next_record-requires-clause-more
 next_record-requires-clause-more g c = omega (arith, c.loop-page.invariant.so_far.2.page, c.loop-page-test.true, c.nodes-page-end.ensures.value)
 
-pub returns-in_err-next_record : goal.returns-in_err-next_record
-returns-in_err-next_record g c =
-    recodes_exit _ _ _ _ _ _ _ _ _ _ c.from_residual-in_err-next_record.ensures.1
-    (recodes_stopped _ _ _ _ _ _ _ _ _
+pub returns-in_err-next_record-clause-ends : goal.returns-in_err-next_record-clause-ends
+returns-in_err-next_record-clause-ends g c =
+    rw (is_that_err c.from_residual-in_err-next_record.result _ c.from_residual-in_err-next_record.ensures.1)
+    (graph_stopped _ _ _ _ _ _ _ _
     (graph_stops _ _ _ _ _ _ _ _ _ _ _ _ _ c.loop-page.invariant.so_far.2 c.nodes-page-end.ensures.limits _ c.in_err-next_record.ensures.advances))
 
 pub add_list-requires-clause-page : goal.add_list-requires-clause-page
@@ -57,12 +107,12 @@ add_list-requires-clause-arcs g c =
     let r = c.in_ok-next_record.ensures in
     omega (arith, i.arcs, r.arcs, ap (λ (l : List ℕ). length l) c.list.ensures.value, c.list.ensures.within, ap (λ (q : Parameters). q.arcs) (r.advances.params ∙ i.so_far.2.params), c.requires.arcs, ap (λ (q : Parameters). q.arcs) i.params)
 
-pub returns-in_err-encoder-2 : goal.returns-in_err-encoder-2
-returns-in_err-encoder-2 g c =
+pub returns-in_err-encoder-2-clause-ends : goal.returns-in_err-encoder-2-clause-ends
+returns-in_err-encoder-2-clause-ends g c =
     let way = c.loop-page.invariant.so_far.2 in
     let step = c.in_ok-next_record.ensures.advances in
-    recodes_exit _ _ _ _ _ _ _ _ _ _ c.from_residual-in_err-encoder-2.ensures.1
-    (recodes_want _ _ _ _ _ _ _ _ (step.same ∙ way.same) (none_falls-trans _ _ _ way.later step.later) _ c.in_err-encoder-2.ensures.only)
+    rw (is_that_err c.from_residual-in_err-encoder-2.result _ c.from_residual-in_err-encoder-2.ensures.1)
+    (graph_wants _ _ _ _ _ _ _ _ (step.same ∙ way.same) (none_falls-trans _ _ _ way.later step.later) c.in_err-encoder-2.ensures.only)
 
 pub loop-page-preserved : goal.loop-page-preserved
 loop-page-preserved g c =
@@ -92,10 +142,10 @@ end_records-requires-clause-params g c = c.loop-page.invariant.so_far.2.params
 pub end_records-requires-clause-done : goal.end_records-requires-clause-done
 end_records-requires-clause-done g c = omega (arith, c.loop-page.invariant.so_far.2.page, c.loop-page-test.false, c.nodes-page-end.ensures.value, c.loop-page.auto._page-end)
 
-pub returns-in_err-end_records : goal.returns-in_err-end_records
-returns-in_err-end_records g c =
-    recodes_exit _ _ _ _ _ _ _ _ _ _ c.from_residual-in_err-end_records.ensures.1
-    (recodes_stopped _ _ _ _ _ _ _ _ _
+pub returns-in_err-end_records-clause-ends : goal.returns-in_err-end_records-clause-ends
+returns-in_err-end_records-clause-ends g c =
+    rw (is_that_err c.from_residual-in_err-end_records.result _ c.from_residual-in_err-end_records.ensures.1)
+    (graph_stopped _ _ _ _ _ _ _ _
     (graph_stops _ _ _ _ _ _ _ _ _ _ _ _ _ c.loop-page.invariant.so_far.2 c.nodes-page-end.ensures.limits _ c.in_err-end_records.ensures.advances))
 
 pub end_archive-requires : goal.end_archive-requires
@@ -103,11 +153,21 @@ end_archive-requires g c =
     let i = c.loop-page.invariant in
     omega (arith, i.page, c.loop-page-test.false, c.nodes-page-end.ensures.value, c.loop-page.auto._page-end, ap (λ (q : Parameters). q.nodes) i.params, c.requires.nodes)
 
-pub returns : goal.returns
-returns g c =
+pub returns-in_err-archive-clause-ends : goal.returns-in_err-archive-clause-ends
+returns-in_err-archive-clause-ends g c =
+    let way = c.loop-page.invariant.so_far.2 in
+    let step = c.in_ok-end_records.ensures.advances in
+    rw (is_that_err c.from_residual-in_err-archive.result _ c.from_residual-in_err-archive.ensures.1)
+    (graph_wants _ _ _ _ _ _ _ _ (step.same ∙ way.same) (none_falls-trans _ _ _ way.later step.later) c.in_err-archive.ensures.only)
+
+pub returns-clause-makes : goal.returns-clause-makes
+returns-clause-makes g c =
     let i = c.loop-page.invariant in
     let e = c.in_ok-end_records.ensures in
     let made_is = sym i.params in
-    recodes_all _ _ c.args.made.now _ _ _ _ _ _ _ _ _ _ i.so_far.0 i.so_far.2 c.nodes-page-end.ensures.limits e.advances e.judged
-    (sym i.so_far.1.arcs ∙ i.arcs ∙ e.total) c.end_archive.result
-    (c.end_archive.ensures.encoded i.so_far.0 i.so_far.1 (λ j. record (made_is j) { arcs = c.args.made.now.arcs })) c.end_archive.ensures.only
+    record {
+      graph = record { nodes = c.args.params.now.nodes; lists = i.so_far.0 };
+      loads = graph_read _ _ _ _ _ _ _ _ _ _ _ _ i.so_far.0 i.so_far.2 c.nodes-page-end.ensures.limits e.advances e.judged;
+      arcs = sym i.so_far.1.arcs ∙ i.arcs ∙ e.total;
+      is = c.in_ok-archive.ensures.encoded i.so_far.0 i.so_far.1 (λ j. record (made_is j) { arcs = c.args.made.now.arcs });
+    }

@@ -25,7 +25,7 @@ pub returns-in_err-ranges : goal.returns-in_err-ranges
 returns-in_err-ranges g c =
     let layout = c.args.layout.now in
     let p = c.in_ok-params.params in
-    let e = c.in_err-ranges.ensures in
+    let e = c.in_err-ranges.ensures.ends in
     performs_exit _ _ _ _ _ _ _ c.from_residual-in_err-ranges.ensures.1
     (no_graph (Transpose c.args.input.now c.args.output.now layout) c.args.input.now _ _ _ refl refl (λ p x r h. builds layout (transposed x)) (λ r h. refl)
     p _ _ c.in_ok-params.ensures _ _ refl
@@ -40,7 +40,7 @@ returns-in_err-made g c =
     (ends_without (Transpose c.args.input.now c.args.output.now layout) c.args.input.now _ _ _ p _ _ _ _
     (has_graph (Transpose c.args.input.now c.args.output.now layout) c.args.input.now _ g.O.Sink.told _ refl refl (λ p x r h. builds layout (transposed x)) (λ r h. refl)
     p _ _ c.in_ok-params.ensures _ _ graph
-    (graph_loaded c.args.input.now p _ _ _ _ _ c.in_ok-bytes.bytes _ c.as_slice.ensures c.in_ok-bytes.ensures (Ok graph) c.in_ok-ranges.ensures.goes tt c.in_ok-ranges.ensures.nodes))
+    (graph_loaded c.args.input.now p _ _ _ _ _ c.in_ok-bytes.bytes _ c.as_slice.ensures c.in_ok-bytes.ensures (Ok graph) c.in_ok-ranges.ensures.goes.goes tt c.in_ok-ranges.ensures.goes.nodes))
     _ _ _ refl c.in_err-made.ensures.only)
 
 pub returns : goal.returns
@@ -52,5 +52,5 @@ returns g c =
     writes (Transpose c.args.input.now c.args.output.now layout) c.args.input.now _ _ _ p _ _ _ _
     (has_graph (Transpose c.args.input.now c.args.output.now layout) c.args.input.now _ g.O.Sink.told _ refl refl (λ p x r h. builds layout (transposed x)) (λ r h. refl)
     p _ _ c.in_ok-params.ensures _ _ graph
-    (graph_loaded c.args.input.now p _ _ _ _ _ c.in_ok-bytes.bytes _ c.as_slice.ensures c.in_ok-bytes.ensures (Ok graph) c.in_ok-ranges.ensures.goes tt c.in_ok-ranges.ensures.nodes))
+    (graph_loaded c.args.input.now p _ _ _ _ _ c.in_ok-bytes.bytes _ c.as_slice.ensures c.in_ok-bytes.ensures (Ok graph) c.in_ok-ranges.ensures.goes.goes tt c.in_ok-ranges.ensures.goes.nodes))
     layout (transposed graph) c.args.output.now (λ r. refl) refl refl _ c.build_archive.result (c.build_archive.ensures layout (transposed graph) made.0 made.1)

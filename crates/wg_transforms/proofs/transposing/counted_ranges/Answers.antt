@@ -1,4 +1,5 @@
 use Rattle.std.proofs.Common.{◌≡◌, ◌≤◌, ◌∙◌, ap, subst, sym, arith}
+use Rattle.wg_io.proofs.PutsLemmas.{is_that_err}
 use Rattle.wg_params.specs.declared.limits.TheConstants.{MOST_PAGES}
 use Rattle.wg_graph.specs.Digraph.{Digraph, arc_count}
 use Rattle.wg_bits.specs.Bits.{bits_of}
@@ -7,13 +8,12 @@ use Rattle.wg_grammar.proofs.ProperGraphs.{arcs_promised}
 use Rattle.wg_readings.proofs.ReadingsLemmas.{goes_on}
 use Rattle.wg_transpose.specs.Transposed.{predecessors}
 use Rattle.wg_transpose.specs.SoFar.{AreCounts}
-use Rattle.wg_transforms.proofs.CountingLemmas.{reversed_exit}
 use Rattle.wg_transforms.proofs.transposing.counted_ranges.Goals as goal
 
-pub returns-in_err-found : goal.returns-in_err-found
-returns-in_err-found c =
+pub returns-in_err-found-clause-ends : goal.returns-in_err-found-clause-ends
+returns-in_err-found-clause-ends c =
     let e = c.in_err-found.ensures in
-    reversed_exit c.args.params.now c.args.bytes.now _ _ c.from_residual.ensures.1 (λ q next. e.refused q (λ a. next (graph_of c.args.params.now a))) e.only
+    rw (is_that_err c.from_residual.result _ c.from_residual.ensures.1) (record { refused = λ q next. e.refused q (λ a. next (graph_of c.args.params.now a)); only = e.only })
 
 pub with_room-requires-clause-finds : goal.with_room-requires-clause-finds
 with_room-requires-clause-finds c = let f = c.in_ok-found.ensures.finds in (f.accepted.places, (f.accepted.graph, f.reads, f.room))
@@ -30,8 +30,8 @@ with_counts-requires c =
       counted = subst (λ (g : Digraph). AreCounts g.nodes (predecessors g) c.in_ok-found.found.counts.items) (sym is) f.counted;
     }
 
-pub returns-in-Ok : goal.returns-in-Ok
-returns-in-Ok c =
+pub returns-in-Ok-clause-goes : goal.returns-in-Ok-clause-goes
+returns-in-Ok-clause-goes c =
     let p = c.args.params.now in
     let r = c.in_ok-found.ensures in
     let f = r.finds in
@@ -40,6 +40,4 @@ returns-in-Ok c =
       none = c.with_counts.ensures.to;
       nodes = ap (λ (g : Digraph). g.nodes) is;
       goes = λ q next. goes_on q p r.limits c.args.bytes.now f.accepted.graph f.accepted.places f.reads (λ x. next (graph_of p x)) ∙ ap next (sym is);
-      refused = λ q. tt;
-      only = tt;
     }
