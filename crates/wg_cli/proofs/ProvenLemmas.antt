@@ -1,18 +1,18 @@
 -- The ranking that was printed is that of the graph which the files hold.
-use Rattle.std.proofs.Common.{◌≡◌, ◌≤◌, ℕ, List, ◌++◌, Option, Some, None, inl, inr, refl, sym, ◌∙◌, ap}
+use Rattle.std.proofs.Common.{◌≡◌, ◌≤◌, ℕ, List, ◌++◌, Option, inl, inr, sym, ◌∙◌, ap}
 use Rattle.wg_params.specs.declared.limits.TheConstants.{MOST_DAMPING, MOST_ROUNDS}
 use Rattle.wg_graph.specs.Digraph.{Digraph}
-use Rattle.wg_rank.specs.Intervals.{Intervals}
 use Rattle.wg_words.specs.declared.jobs.Job.TheVariants.{Rank}
 use Rattle.wg_outcomes.specs.Answers.{Answers}
 use Rattle.wg_outcomes.specs.Commands.{judged, ranks}
 use Rattle.wg_outcomes.specs.Judged.{Judged, output_of, status_of, weights_then}
-use Rattle.wg_outcomes.specs.Ranked.{PrintsProvenRanking, bounds_after, ranking_text}
+use Rattle.wg_outcomes.specs.Ranked.{PrintsProvenRanking, bounds_after}
 use Rattle.wg_outcomes.specs.Readings.{Readings}
 use Rattle.wg_outcomes.specs.declared.status.Input.{Input}
 use Rattle.wg_outcomes.specs.declared.status.Input.TheVariants.{Weights}
 use Rattle.wg_outcomes.specs.declared.status.Status.TheVariants.{Done}
 use Rattle.wg_laws.proofs.HeldLemmas.{graph_behind}
+use Rattle.wg_laws.proofs.RoundsLemmas.{text_ranked}
 use Rattle.wg_outcomes.proofs.RankLemmas.{proven}
 use Rattle.wg_laws.proofs.WeightsLemmas.{weights_behind}
 
@@ -20,11 +20,6 @@ use Rattle.wg_laws.proofs.WeightsLemmas.{weights_behind}
 pub when_done : (j : Judged) → Answers j Done → Done ≡ status_of j
 when_done j (inl is) = is
 when_done j (inr hinders) = absurd hinders
-
--- what is printed does not go by the certificate
-text_ranked : (r : Readings) (certificate : Option (List ℕ)) (top : ℕ) (b : Intervals) → output_of (ranks r certificate top b) ≡ ranking_text r b top
-text_ranked r None top b = refl
-text_ranked r (Some name) top b = refl
 
 pub proven_ranking : (r : Readings) (held : Input → Option (List ℕ)) (base : List ℕ) (rounds damping top : ℕ) (weights certificate : Option (List ℕ)) (old new : List ℕ) → rounds ≤ MOST_ROUNDS → damping ≤ MOST_DAMPING
     → Done ≡ status_of (judged r (Rank base rounds damping top weights certificate) held) → new ≡ old ++ output_of (judged r (Rank base rounds damping top weights certificate) held)

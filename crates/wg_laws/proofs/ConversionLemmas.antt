@@ -7,7 +7,7 @@ use Rattle.wg_encoder.proofs.Accepted.{greedy_accepted}
 use Rattle.wg_encoder.proofs.ProperRecord.{canonical_proper}
 use Rattle.wg_arcs.specs.Text.{text_of_graph}
 use Rattle.wg_transpose.specs.Transposed.{transposed}
-use Rattle.wg_transpose.proofs.Reversed.{gives_back, is_proper}
+use Rattle.wg_transpose.proofs.Reversed.{are_reversed, gives_back, is_proper}
 use Rattle.wg_transpose.proofs.Totals.{as_many}
 use Rattle.wg_words.specs.declared.jobs.Job.TheVariants.{Check}
 use Rattle.wg_params.specs.declared.layout.Layout.{Layout}
@@ -51,6 +51,13 @@ conversions_accepted r = record {
       let few_arcs = subst (λ (n : ℕ). n ≤ MOST_ARCS) (sym (as_many behind.graph behind.proper)) behind.few_arcs in
       let again = read_again r layout (transposed behind.graph) a out within (is_proper behind.graph) behind.few_pages few_arcs (sym (behind.goes_on (turned layout)) ∙ is) in
       record {
+        graph = behind.graph;
+        turned = transposed behind.graph;
+        stored = behind.stored;
+        nodes = refl;
+        proper = is_proper behind.graph;
+        reversed = are_reversed behind.graph behind.proper;
+        arcs = again.goes_on (λ g. accepted (text_of_graph g));
         check = again.check output;
         back = λ third l. again.goes_on (turned l) ∙ ap (λ (g : Digraph). builds l g) (gives_back behind.graph behind.proper) ∙ sym (behind.goes_on (builds l));
       };

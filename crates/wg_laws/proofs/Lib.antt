@@ -4,6 +4,7 @@ pub mod ConversionLemmas
 pub mod HeldLemmas
 pub mod ImportLemmas
 pub mod QuotientLemmas
+pub mod RoundsLemmas
 pub mod SpottedLemmas
 pub mod UnionLaws
 pub mod VerifiedLemmas

@@ -1,9 +1,9 @@
 -- What is said of an archive that was built.
 use Rattle.std.specs.Prelude.{◌≡◌, ℕ, ◌≤◌, List, length, Option, Some, None}
 use Rattle.wg_io.specs.declared.limits.TheConstants.{MOST_BYTES}
-use Rattle.wg_params.specs.declared.limits.TheConstants.{MOST_PAGES}
 use Rattle.wg_params.specs.Parameters.{Parameters, IsWithinLimits, params_of}
 use Rattle.wg_graph.specs.Digraph.{Digraph, IsGraph, arc_count}
+use Rattle.wg_graph.specs.Arcs.{has_arc}
 use Rattle.wg_offsets.specs.Words.{places_of}
 use Rattle.wg_encoder.specs.Archive.{Archive, graph_bits, offset_values}
 use Rattle.wg_num.specs.Lines.{lines_of}
@@ -11,10 +11,10 @@ use Rattle.wg_arcs.specs.Reading.{arcs_in}
 use Rattle.wg_arcs.specs.Text.{text_of_arcs, text_of_graph}
 use Rattle.wg_ascii.specs.Laws.{HaveSameWords}
 use Rattle.wg_ascii.specs.Text as plain
-use Rattle.wg_words.specs.declared.jobs.Job.TheVariants.{Check, Arcs, Ascii, Offsets, Show, Rank, Build, Import, Quotient, Recode, Transpose}
+use Rattle.wg_words.specs.declared.jobs.Job.TheVariants.{Check, Arcs, Ascii, Offsets, Show, Rank, Build, Import, Recode, Transpose}
 use Rattle.wg_params.specs.declared.layout.Layout.{Layout}
 use Rattle.wg_outcomes.specs.Readings.{Readings}
-use Rattle.wg_outcomes.specs.Ranked.{bounds_after, ranking_text}
+use Rattle.wg_outcomes.specs.Ranked.{HoldGraph, bounds_after, ranking_text}
 use Rattle.wg_outcomes.specs.Written.{greedy_archive}
 use Rattle.wg_outcomes.specs.Judged.{accepted, built, with_pages}
 use Rattle.wg_outcomes.specs.Commands.{judged, number_lines, ok_line, successors_lines}
@@ -75,22 +75,21 @@ pub record ImportsAreAccepted (r : Readings) : Type 0 where
       → judged r (Ascii base) held ≡ accepted text → length text ≤ MOST_BYTES → after input.Text ≡ Some text
       → judged r (Import name output layout) after ≡ judged r (Recode base output layout) held
 
--- What a quotient comes to is accepted with its line, for each archive and each map that are read, and each layout
--- within the limits.
-abbrev pub QuotientsAreAccepted : Readings → Type 0
-QuotientsAreAccepted r =
-    (input map output : List ℕ) (classes : ℕ) (layout : Layout) (held : Input → Option (List ℕ)) (a : Archive) (out : List ℕ)
-    → classes ≤ MOST_PAGES → IsWithinLimits (params_of layout 0 0) → judged r (Quotient input map output classes layout) held ≡ built a out
-    → judged r (Check output) (holding a) ≡ accepted out
-
 -- What a recoding comes to is accepted with its line, and has the arcs of the archive that was read.
 pub record IsAcceptedRecoding (r : Readings) (held : Input → Option (List ℕ)) (input output : List ℕ) (a : Archive) (out : List ℕ) : Type 0 where
   pub check : judged r (Check output) (holding a) ≡ accepted out
   pub arcs : judged r (Arcs output) (holding a) ≡ judged r (Arcs input) held
 
--- What a transposing comes to is accepted with its line, and to transpose it again is to recode the archive that was
--- read.
+-- What a transposing comes to is accepted with its line, and its graph has exactly the arcs of the graph that was read,
+-- each the other way round; to transpose it again is to recode the archive that was read.
 pub record IsAcceptedTransposing (r : Readings) (held : Input → Option (List ℕ)) (input output : List ℕ) (a : Archive) (out : List ℕ) : Type 0 where
+  pub graph : Digraph
+  pub turned : Digraph
+  pub stored : HoldGraph r held graph
+  pub nodes : turned.nodes ≡ graph.nodes
+  pub proper : IsGraph turned
+  pub reversed : (u v : ℕ) → has_arc turned v u ≡ has_arc graph u v
+  pub arcs : judged r (Arcs output) (holding a) ≡ accepted (text_of_graph turned)
   pub check : judged r (Check output) (holding a) ≡ accepted out
   pub back : (third : List ℕ) (layout : Layout) → judged r (Transpose output third layout) (holding a) ≡ judged r (Recode input third layout) held
 

@@ -1,4 +1,6 @@
 pub mod Built
 pub mod Certificates
+pub mod Quotients
+pub mod Rounds
 pub mod Spotted
 pub mod Unions

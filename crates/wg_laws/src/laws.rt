@@ -1,9 +1,11 @@
 //! What the contract of a job rests on.
 ghost use Rattle.std.specs.Prelude.{ℕ};
-ghost use Rattle.wg_laws.specs.Built.{BuildsAreAccepted, BuiltAreAccepted, ConversionsAreAccepted, ImportsAreAccepted, QuotientsAreAccepted};
+ghost use Rattle.wg_laws.specs.Built.{BuildsAreAccepted, BuiltAreAccepted, ConversionsAreAccepted, ImportsAreAccepted};
 ghost use Rattle.wg_laws.specs.Certificates.{AcceptedAreProven, WrittenAreAccepted};
 ghost use Rattle.wg_outcomes.specs.Readings.{Readings, ReadingsAreOne};
 ghost use Rattle.wg_outcomes.specs.Ranked.{RankingIsProven};
+ghost use Rattle.wg_laws.specs.Quotients.{QuotientsAreAccepted};
+ghost use Rattle.wg_laws.specs.Rounds.{MoreRoundsNarrow};
 ghost use Rattle.wg_laws.specs.Spotted.{SpotsAreShown};
 ghost use Rattle.wg_laws.specs.Unions.{UnionsAreAccepted};
 
@@ -17,9 +19,10 @@ pub fn readings()
 {}
 
 /// What is proved of every ranking: its intervals enclose each exact iterate from its rounds on, within the stated
-/// width.
+/// width; and what `rank` prints of the same files after more rounds has intervals inside these.
 pub fn rankings()
-    ensures { (r : Readings) (rounds damping : ℕ) → RankingIsProven r rounds damping }
+    ensures proven { (r : Readings) (rounds damping : ℕ) → RankingIsProven r rounds damping }
+    ensures narrower { (r : Readings) → MoreRoundsNarrow r }
 {}
 
 /// Of an archive that `check` accepts, `spot` prints the line that `show` prints of the page, or refuses the page as
@@ -46,14 +49,16 @@ pub fn imported_archives()
 {}
 
 /// What `quotient` writes is accepted, whatever archive and whatever map were read, with classes and a layout within
-/// the limits: `check` prints of the three files the very line that was printed.
+/// the limits: `check` prints of the three files the very line that was printed, and their graph, whose arcs `arcs`
+/// prints, has an arc from class to class exactly if one leads from some page of the one to some page of the other.
 pub fn quotients()
     ensures { (r : Readings) → QuotientsAreAccepted r }
 {}
 
 /// What is recoded or transposed is accepted, whatever archive was read, with a layout within the limits: `check`
 /// prints of the three files the very line that was printed. Of a recoded archive `arcs` prints what it prints of
-/// the one that was read, and to transpose an archive twice is to recode it.
+/// the one that was read. The graph of a transposed one, whose arcs `arcs` prints, has an arc exactly if the graph that
+/// was read has it the other way round, and to transpose an archive twice is to recode it.
 pub fn converted_archives()
     ensures { (r : Readings) → ConversionsAreAccepted r }
 {}

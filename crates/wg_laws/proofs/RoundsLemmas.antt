@@ -1,0 +1,76 @@
+-- More rounds narrow what a ranking prints.
+use Rattle.std.proofs.Common.{◌≡◌, ◌∙◌, ◌+◌, ◌<◌, ◌≤◌, ℕ, zero, suc, List, Option, Some, None, inl, inr, refl, sym, ap, arith, add-one}
+use Rattle.std.proofs.lemmas.Bool.{cases_lt}
+use Rattle.wg_graph.specs.Digraph.{Digraph}
+use Rattle.wg_rank.specs.Rank.{high, low, total}
+use Rattle.wg_rank.specs.Intervals.{Intervals, by_page}
+use Rattle.wg_rank.specs.Weights.{weights_of}
+use Rattle.wg_rank.proofs.Pageranks.{high_falls, low_rises}
+use Rattle.wg_words.specs.declared.jobs.Job.TheVariants.{Rank}
+use Rattle.wg_outcomes.specs.Judged.{Judged, output_of, status_of, weights_then}
+use Rattle.wg_outcomes.specs.Ranked.{bounds_after, ranking_text}
+use Rattle.wg_outcomes.specs.Readings.{Readings}
+use Rattle.wg_outcomes.specs.declared.status.Input.TheVariants.{Weights}
+use Rattle.wg_outcomes.specs.declared.status.Status.TheVariants.{Done}
+use Rattle.wg_outcomes.specs.Commands.{judged, ranks}
+use Rattle.wg_outcomes.proofs.RankLemmas.{bounds_hold}
+use Rattle.wg_laws.specs.Rounds.{MoreRoundsNarrow}
+use Rattle.wg_laws.proofs.HeldLemmas.{graph_behind}
+use Rattle.wg_laws.proofs.WeightsLemmas.{weights_behind}
+
+-- what rises step by step rises, and what falls falls
+rises : (f : ℕ → ℕ) → ((k : ℕ) → f k ≤ f (k + 1)) → (k j : ℕ) → k ≤ j → f k ≤ f j
+rises f step k zero le = let e : k ≡ zero = omega arith in rw e (omega arith)
+rises f step k (suc j) le =
+    elim (cases_lt j k) [
+      | inl past ↦ let e : k ≡ suc j = omega arith in rw e (omega arith)
+      | inr on ↦ omega (arith, rises f step k j on, rw add-one at (step j))
+    ]
+
+falls : (f : ℕ → ℕ) → ((k : ℕ) → f (k + 1) ≤ f k) → (k j : ℕ) → k ≤ j → f j ≤ f k
+falls f step k zero le = let e : k ≡ zero = omega arith in rw e (omega arith)
+falls f step k (suc j) le =
+    elim (cases_lt j k) [
+      | inl past ↦ let e : k ≡ suc j = omega arith in rw e (omega arith)
+      | inr on ↦ omega (arith, falls f step k j on, rw add-one at (step j))
+    ]
+
+-- a ranking is printed, whether a certificate is written or not
+pub text_ranked : (r : Readings) (certificate : Option (List ℕ)) (top : ℕ) (b : Intervals) → output_of (ranks r certificate top b) ≡ ranking_text r b top
+text_ranked r None top b = refl
+text_ranked r (Some name) top b = refl
+
+ranking_done : (r : Readings) (certificate : Option (List ℕ)) (top : ℕ) (b : Intervals) → status_of (ranks r certificate top b) ≡ Done
+ranking_done r None top b = refl
+ranking_done r (Some name) top b = refl
+
+pub more_narrow : (r : Readings) → MoreRoundsNarrow r
+more_narrow r held base fewer more damping top weights certificate le damped done =
+    let on : ℕ → Digraph → Option (List ℕ) → Judged = λ k g given. ranks r certificate top (bounds_after g given damping k) in
+    let last : ℕ → Digraph → Judged = λ k g. weights_then weights g.nodes (held Weights) (on k g) in
+    let behind = graph_behind r held (last fewer) done in
+    let g : Digraph = behind.graph in
+    let heavy = weights_behind weights held g.nodes (on fewer g) (ap status_of (sym (behind.goes_on (last fewer))) ∙ done) in
+    let given : Option (List ℕ) = heavy.given in
+    let w : ℕ → ℕ = by_page (weights_of g.nodes given) in
+    let some : 0 < g.nodes → 0 < total g w = heavy.proper.some in
+    let ends : (k : ℕ) → judged r (Rank base k damping top weights certificate) held ≡ on k g given = λ k. behind.goes_on (last k) ∙ heavy.goes_on (on k g) in
+    let printed : (k : ℕ) → output_of (judged r (Rank base k damping top weights certificate) held) ≡ ranking_text r (bounds_after g given damping k) top =
+    λ k. ap output_of (ends k) ∙ text_ranked r certificate top (bounds_after g given damping k) in
+    record {
+      graph = g;
+      given = given;
+      stored = behind.stored;
+      weighed = heavy.stored;
+      fewer_printed = printed fewer;
+      more_done = ap status_of (ends more) ∙ ranking_done r certificate top (bounds_after g given damping more);
+      more_printed = printed more;
+      inside = record {
+        low = λ v lt.
+            rw ((bounds_hold g given fewer damping).low_is.each v lt, (bounds_hold g given more damping).low_is.each v lt)
+            (rises (λ k. low g damping w k v) (λ k. low_rises g damping w behind.proper (omega (arith, damped)) (omega arith) (some (omega arith)) k v) fewer more le);
+        high = λ v lt.
+            rw ((bounds_hold g given fewer damping).high_is.each v lt, (bounds_hold g given more damping).high_is.each v lt)
+            (falls (λ k. high g damping w k v) (λ k. high_falls g damping w behind.proper (omega (arith, damped)) (omega arith) (some (omega arith)) k v) fewer more le);
+      };
+    }
