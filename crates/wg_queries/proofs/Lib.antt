@@ -8,4 +8,5 @@ pub mod RankJobs
 pub mod ShowJobs
 pub mod ShownLemmas
 pub mod SpotJobs
+pub mod UntoldLemmas
 pub mod VerifyJobs
