@@ -1,6 +1,7 @@
 pub mod CertifyLemmas
 pub mod CheckLemmas
 pub mod NumberLemmas
+pub mod OpenedLemmas
 pub mod PrintedJobs
 pub mod PrintedLines
 pub mod PrintedPass
