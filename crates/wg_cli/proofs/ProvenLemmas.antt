@@ -35,7 +35,10 @@ proven_ranking r held base rounds damping top weights certificate old new few da
       given = weighed.given;
       stored = behind.stored;
       weighed = weighed.stored;
-      proper = behind.proper;
-      printed = put ∙ ap (λ (j : Judged). old ++ output_of j) ends ∙ ap (λ (text : List ℕ). old ++ text) (text_ranked r certificate top (bounds_after behind.graph weighed.given damping rounds));
-      proven = proven r rounds damping few damped behind.graph behind.proper behind.few_pages weighed.given weighed.proper;
+      ranked = record {
+        proper = behind.proper;
+        weights = weighed.proper;
+        printed = put ∙ ap (λ (j : Judged). old ++ output_of j) ends ∙ ap (λ (text : List ℕ). old ++ text) (text_ranked r certificate top (bounds_after behind.graph weighed.given damping rounds));
+        proven = proven r rounds damping few damped behind.graph behind.proper behind.few_pages weighed.given weighed.proper;
+      };
     }

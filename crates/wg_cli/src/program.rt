@@ -1,21 +1,20 @@
-ghost use Rattle.std.specs.Prelude.{◌≡◌, ◌≢◌, ◌≤◌, ◌⊎◌, ℕ, false, List, Option, Some, None, IsTrue, IfOk, IfSome};
+ghost use Rattle.std.specs.Prelude.{◌≡◌, ◌⊎◌, ℕ, false, List, Option, Some, None, IsTrue, IfOk, IfSome};
 ghost use Rattle.wg_io.specs.Outside.{Increased, NonDecreasing};
 ghost use Rattle.wg_io.specs.declared.output.Output.{Output};
-ghost use Rattle.wg_params.specs.declared.limits.TheConstants.{MOST_PAGES};
-ghost use Rattle.wg_graph.specs.Digraph.{Digraph, IsGraph};
 ghost use Rattle.wg_words.specs.Jobs.{job_of, IsWithin};
 ghost use Rattle.wg_words.specs.declared.jobs.Job.{Job};
 ghost use Rattle.wg_outcomes.specs.Reached.{Reaches};
-ghost use Rattle.wg_outcomes.specs.Answers.{Answers, HasOutput, IsHindrance};
+ghost use Rattle.wg_outcomes.specs.Answers.{Answers, HasOutput, IsHindrance, IsPutLast};
 ghost use Rattle.wg_outcomes.specs.Causes.{AreFaultless, HasCause};
 ghost use Rattle.wg_outcomes.specs.Commands.{written_by};
 ghost use Rattle.wg_outcomes.specs.Judged.{output_of, status_of};
 ghost use Rattle.wg_cli.specs.Lines.{line_of, Reports};
 ghost use Rattle.wg_cli.specs.Wanted.{some_calls_depot, some_writes_files, ArePromisedBy};
-ghost use Rattle.wg_outcomes.specs.JobFiles.{can_end, held_for, input_name, output_name};
+ghost use Rattle.wg_outcomes.specs.JobFiles.{can_end, held_for, input_name, output_name, prints_while_reading};
 ghost use Rattle.wg_outcomes.specs.Performs.{judged_on, Does};
-ghost use Rattle.wg_rank.specs.Weights.{AreWeights, weights_of};
-ghost use Rattle.wg_outcomes.specs.Ranked.{IsProvenRanking, PrintsProvenRanking, bounds_after};
+ghost use Rattle.wg_outcomes.specs.Bulk.{PrintsProvenOutcome};
+ghost use Rattle.wg_outcomes.specs.Ranked.{PrintsProvenRanking};
+ghost use Rattle.wg_outcomes.specs.Untold.{DoesSome, PrintsSomeGap, PrintsSomeRanking, WantsFirst};
 ghost use Rattle.wg_outcomes.specs.Verified.{PrintsProvenGap};
 ghost use Rattle.wg_laws.specs.Certificates.{HoldsWritten};
 ghost use Rattle.wg_outcomes.specs.Readings.{Readings};
@@ -62,35 +61,45 @@ pub fn run<D: Depot, O: Sink, E: Sink>(
         → (o : Output) → result ≡ Status.WriteFault o
         → status_of (judged_on r job (D.files depot.old)) ≡ Status.Done }
 
-    // What is printed comes last: nothing is printed if a file could not be written, nor if memory was out before the
-    // files were whole.
-    ensures silent { (job : Job) → job_of words.now ≡ Some job → (o : Output) → o ≢ Output.Out
-        → result ≡ Status.WriteFault o → O.taken out.new ≡ O.taken out.old }
+    // What is printed comes last, but for the jobs that print while they read: nothing is printed at a refusal, at a
+    // read fault, if a file could not be written, or if memory was out before the files were whole.
+    ensures silent { (job : Job) → job_of words.now ≡ Some job → prints_while_reading job ≡ false
+        → IsPutLast result (O.taken out.old) (O.taken out.new) }
     ensures printed_last { IsTrue D.told → (r : Readings) (job : Job) → job_of words.now ≡ Some job
         → result ≡ Status.Memory → (O.taken out.new ≡ O.taken out.old)
         ⊎ AreAllWhole (output_name job) (written_by r job (held_for job (D.files depot.old))) (D.files depot.new) }
 
     // What is printed of a ranking: intervals that enclose each exact iterate from the last round on, within the
-    // stated width, with teleport by the weights that were read or to each page alike.
+    // stated width, with teleport by the weights that were read or to each page alike; and whatever the depot, those of
+    // some graph. All memory is taken before the first round. Of a generated graph, each page that is counted as sure
+    // has one position in every such iterate.
     ensures certified { IsTrue D.told → IsTrue O.told → (r : Readings) (base : List ℕ) (rounds damping top : ℕ)
         (weights certificate : Option (List ℕ))
         → job_of words.now ≡ Some (Job.Rank base rounds damping top weights certificate) → result ≡ Status.Done
         → PrintsProvenRanking r (held_for (Job.Rank base rounds damping top weights certificate)
         (D.files depot.old)) weights rounds damping top (O.taken out.old) (O.taken out.new) }
-    ensures enclosing { (r : Readings) (base : List ℕ) (rounds damping top : ℕ)
+    ensures ranked { IsTrue O.told → (r : Readings) (base : List ℕ) (rounds damping top : ℕ)
         (weights certificate : Option (List ℕ))
         → job_of words.now ≡ Some (Job.Rank base rounds damping top weights certificate) → result ≡ Status.Done
-        → (g : Digraph) → IsGraph g → g.nodes ≤ MOST_PAGES
-        → (given : Option (List ℕ)) → AreWeights g.nodes (weights_of g.nodes given)
-        → IsProvenRanking r (bounds_after g given damping rounds) g }
+        → PrintsSomeRanking r rounds damping top (O.taken out.old) (O.taken out.new) }
+    ensures wants_first { (base : List ℕ) (rounds damping top : ℕ) (weights certificate : Option (List ℕ))
+        → job_of words.now ≡ Some (Job.Rank base rounds damping top weights certificate)
+        → WantsFirst ⟦<D as Depot>⟧ ⟦<O as Sink>⟧ certificate depot.old depot.new out.old out.new result }
+    ensures sure { IsTrue D.told → IsTrue O.told → (r : Readings) (seed pages : ℕ)
+        → job_of words.now ≡ Some (Job.Bulk seed pages) → result ≡ Status.Done
+        → PrintsProvenOutcome r seed pages (O.taken out.old) (O.taken out.new) }
 
     // What is printed of a certificate: what its bounds leave of 1. Each stationary vector lies between the bounds and
-    // those with so much more, with teleport by the weights that were read or to each page alike.
+    // those with so much more, with teleport by the weights that were read or to each page alike; and whatever the
+    // depot, over some graph and by some weights.
     ensures verified { IsTrue D.told → IsTrue O.told → (r : Readings) (base certificate : List ℕ)
         (weights : Option (List ℕ))
         → job_of words.now ≡ Some (Job.Verify base certificate weights) → result ≡ Status.Done
         → PrintsProvenGap r (held_for (Job.Verify base certificate weights) (D.files depot.old)) weights
         (O.taken out.old) (O.taken out.new) }
+    ensures leaves { IsTrue O.told → (base certificate : List ℕ) (weights : Option (List ℕ))
+        → job_of words.now ≡ Some (Job.Verify base certificate weights) → result ≡ Status.Done
+        → PrintsSomeGap (O.taken out.old) (O.taken out.new) }
 
     // What `rank` wrote of the same graph and weights is accepted.
     ensures accepts { IsTrue D.told → (r : Readings) (base certificate : List ℕ) (weights : Option (List ℕ))
@@ -146,6 +155,8 @@ fn try_job<D: Depot, O: Sink>(
     ensures no_output { wanted.now ≡ None → O.taken out.new ≡ O.taken out.old }
     ensures performs { (job : Job) → wanted.now ≡ Some job
         → Does ⟦<D as Depot>⟧ ⟦<O as Sink>⟧ job depot.old depot.new out.old out.new result.status result.promised }
+    ensures some { (job : Job) → wanted.now ≡ Some job
+        → DoesSome ⟦<D as Depot>⟧ ⟦<O as Sink>⟧ job depot.old depot.new out.old out.new result.status }
     ensures promised { IsTrue D.told → ArePromisedBy wanted.now (D.files depot.old) result.status result.promised }
     ensures same { some_writes_files wanted.now ≡ false → D.files depot.new ≡ D.files depot.old }
     ensures untouched { some_calls_depot wanted.now ≡ false → depot.new ≡ depot.old }

@@ -63,9 +63,14 @@ proven_gap r held base certificate weights old new done put =
       weighed = heavy.stored;
       text_is = file.1;
       claim_is = found.1;
-      proper = behind.proper;
-      printed = put ∙ ap (λ (j : Judged). old ++ output_of j) (to_claim ∙ last.1);
-      enclosed = enclosing g c.damping (by_page (weights_for c given)) (by_page c.low) behind.proper within.0 some (rises_all g c given last.0);
+      verified = record {
+        proper = behind.proper;
+        weights = heavy.proper;
+        pages = within.1;
+        left = gap g (by_page c.low);
+        printed = put ∙ ap (λ (j : Judged). old ++ output_of j) (to_claim ∙ last.1);
+        leaves = (refl, enclosing g c.damping (by_page (weights_for c given)) (by_page c.low) behind.proper within.0 some (rises_all g c given last.0));
+      };
     }
 
 pub accepted_proven : (r : Readings) (held : Input → Option (List ℕ)) (base certificate : List ℕ) (weights : Option (List ℕ)) (out old : List ℕ)

@@ -1,5 +1,5 @@
 -- What a job that writes an archive leaves, by the archive's own names.
-use Rattle.std.proofs.Common.{◌≡◌, ◌⊎◌, inl, inr, ℕ, Bool, true, false, if◌then◌else◌, List, refl, sym, ap, subst, ◌∙◌, Option, Some, None, is_some, Result, Ok, Err}
+use Rattle.std.proofs.Common.{◌≡◌, ◌≢◌, ◌⊎◌, inl, inr, ℕ, Bool, true, false, if◌then◌else◌, List, refl, sym, ap, subst, ◌∙◌, Option, Some, None, is_some, Result, Ok, Err}
 use Rattle.std.specs.Bool.{IsTrue}
 use Rattle.std.specs.Result.{IfErr}
 use Rattle.std.proofs.lemmas.List.{append-nil}
@@ -41,9 +41,17 @@ stopped_cause inputs names none old new faults faults' s (inl fault) rose =
     (λ is. absurd (subst (λ (n : Option (List ℕ)). IncreasedAt (λ c. c.write_faults) n old new) none (rose output.Out is)))
 stopped_cause inputs names none old new faults faults' s (inr want) rose = own_caused _ _ _ _ _ _ s (subst IsOwn (sym want) tt)
 
-pub stopped_output : (due old : List ℕ) (s : Status) → IsStopped s → HasOutput due old old s
-stopped_output due old s (inl fault) = subst (HasOutput due old old) (sym fault.1) (0, sym (append-nil old))
-stopped_output due old s (inr want) = subst (HasOutput due old old) (sym want) (0, sym (append-nil old))
+-- a file stopped it, and not the output
+unwritten_output : (due old : List ℕ) (o : Output) → o ≢ output.Out → HasOutput due old old (WriteFault o)
+unwritten_output due old output.Out other = absurd (other refl)
+unwritten_output due old output.Properties other = refl
+unwritten_output due old output.Graph other = refl
+unwritten_output due old output.Offsets other = refl
+unwritten_output due old output.Certificate other = refl
+
+pub stopped_output : (due old : List ℕ) (s : Status) → IsStopped s → s ≢ WriteFault output.Out → HasOutput due old old s
+stopped_output due old s (inl fault) other = subst (HasOutput due old old) (sym fault.1) (unwritten_output due old fault.0 (λ is. other (fault.1 ∙ ap WriteFault is)))
+stopped_output due old s (inr want) other = subst (HasOutput due old old) (sym want) (0, sym (append-nil old))
 
 -- the files are whole before the output is asked for
 pub put_stands : (a : Archive) (old new : ArchiveFiles) (r : Result (Unit {0}) Ending) → IfErr r (λ e. IsUnput e.status) → AreWhole a new → FilesAfter a old new (status_in r)
@@ -125,8 +133,8 @@ produced job td to before after files counts names what text r writes named is s
       (cause_since (input_name job) names before.counts counts after.counts before.faults after.faults r h.only later (h.causes (input_name job)));
   reached = λ t q i fault. absurd (no_read r i h.only fault);
   needed = λ t q o fault. (is t q).0;
-  output = λ t o q. subst (λ (due : List ℕ). HasOutput due before.taken after.taken (status_in r)) (sym (is t q).1) (h.output t o q);
-  silent = h.silent;
+  output = λ t o q. subst (λ (due : List ℕ). HasOutput due before.taken after.taken (status_in r)) (sym (is t q).1) (h.output o q);
+  silent = λ apart. h.silent;
   printed_last = λ t q want. whole_here t q (h.printed_last t want);
   files = λ t q.
       subst (λ (f : Files). HasFiles (output_name job) (written_by q job (held_by (input_name job) before.files)) f after.files (status_in r)) same

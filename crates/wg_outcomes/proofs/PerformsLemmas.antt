@@ -1,16 +1,18 @@
 -- How a job is shown to have been done, or to have ended.
-use Rattle.std.proofs.Common.{◌≡◌, ◌≢◌, ◌⊎◌, inl, inr, ℕ, Bool, false, if◌then◌else◌, List, ◌++◌, take, refl, sym, ◌∙◌, ap, subst, Option, Some, None, Result, Ok, Err}
+use Rattle.std.proofs.Common.{◌≡◌, ◌⊎◌, inl, inr, ℕ, ◌<◌, length, Bool, false, if◌then◌else◌, List, ◌++◌, take, refl, sym, ◌∙◌, ap, subst, Option, Some, None, Result, Ok, Err}
 use Rattle.std.specs.Bool.{IsTrue}
 use Rattle.std.specs.Result.{IfErr}
 use Rattle.std.proofs.lemmas.List.{append-nil}
 use Rattle.std.specs.FinMap as map
 use Rattle.wg_io.specs.Outside.{Files, Counts, NonDecreasing, Increased}
 use Rattle.wg_io.specs.Puts.{Puts}
+use Rattle.wg_io.specs.declared.depot.Depot as depot
+use Rattle.wg_io.specs.declared.sink.Sink as sink
 use Rattle.wg_io.specs.declared.output.Output.{Output}
 use Rattle.wg_io.specs.declared.output.Output.TheVariants.{Out, Properties, Graph, Offsets, Certificate}
 use Rattle.wg_words.specs.declared.jobs.Job.{Job}
 use Rattle.wg_outcomes.specs.Reached.{Reaches}
-use Rattle.wg_outcomes.specs.Answers.{Answers, HasOutput, IsUnput, status_in}
+use Rattle.wg_outcomes.specs.Answers.{Answers, HasOutput, IsPutLast, IsUnput, status_in}
 use Rattle.wg_outcomes.specs.Causes.{AreFaultless, HasCause, IncreasedAt}
 use Rattle.wg_outcomes.specs.Commands.{judged, written_by}
 use Rattle.wg_outcomes.specs.Judged.{Judged, accepted, files_of, output_of, status_of, Written, an_archive, a_certificate}
@@ -20,6 +22,7 @@ use Rattle.wg_outcomes.specs.JobFiles.{can_end, has_input, input_name, output_na
 use Rattle.wg_outcomes.specs.Names.{held_by, no_outputs, IsOfInput}
 use Rattle.wg_outcomes.specs.Performs.{Outside, Performs, judged_on}
 use Rattle.wg_outcomes.specs.Readings.{Readings}
+use Rattle.wg_outcomes.specs.Untold.{DoesSome}
 use Rattle.wg_outcomes.specs.Written.{AreAllWhole, ArchiveFiles, CertificateAfter, FilesAfter, HasFiles, archive_at, content_of}
 use Rattle.wg_outcomes.specs.declared.ending.Ending.{Ending}
 use Rattle.wg_outcomes.specs.declared.status.Input.{Input}
@@ -34,6 +37,11 @@ performs_at j k td to before after s t a b same is count h =
     subst (λ (x : Job). Performs x td to before after s a) (sym same)
     (subst (λ (x : Status). Performs k td to before after x a) (sym is)
     (subst (λ (x : ℕ). Performs k td to before after t x) (sym count) h))
+
+pub some_at : {D O : Type 0} (d : depot.Ghosts D) (o : sink.Ghosts O) (j k : Job) (before after : D) (out out' : O) (s t : Status) → j ≡ k → s ≡ t → DoesSome d o k before after out out' t
+    → DoesSome d o j before after out out' s
+some_at d o j k before after out out' s t same is h =
+    subst (λ (x : Job). DoesSome d o x before after out out' s) (sym same) (subst (λ (x : Status). DoesSome d o k before after out out' x) (sym is) h)
 
 -- ---- a job that writes no file
 written_none : (r : Readings) (job : Job) (held : Input → Option (List ℕ)) → writes_files job ≡ false → written_by r job held ≡ None
@@ -138,7 +146,7 @@ stopped job td to before after s a stop silent same answers possible causes reac
   reached = reached;
   needed = λ t r o is. absurd (no_fault s o stop is);
   output = λ t o r. stop_output _ before.taken after.taken s stop silent;
-  silent = λ o other is. silent;
+  silent = λ apart. inr (inr silent);
   printed_last = λ t r want. inl silent;
   files = λ t r. files_kept (output_name job) _ before.files after.files s stop same;
   same = λ is. same;
@@ -151,7 +159,8 @@ stopped job td to before after s a stop silent same answers possible causes reac
 -- the output of a job whose last step puts all of what is due
 pub output_put : (due text old new : List ℕ) (r : Result (Unit {0}) Ending) → text ≡ due → Puts text old new r → IfErr r (λ e. IsUnput e.status) → HasOutput due old new (status_in r)
 output_put due text old new (Ok done) is put only = put ∙ ap (λ (l : List ℕ). old ++ l) is
-output_put due text old new (Err e) is put (inl fault) = subst (λ (s : Status). HasOutput due old new s) (sym fault) (put.0, put.2 ∙ ap (λ (l : List ℕ). old ++ take put.0 l) is)
+output_put due text old new (Err e) is put (inl fault) =
+    subst (λ (s : Status). HasOutput due old new s) (sym fault) (put.0, subst (λ (l : List ℕ). put.0 < length l) is put.1, put.2 ∙ ap (λ (l : List ℕ). old ++ take put.0 l) is)
 output_put due text old new (Err e) is put (inr want) = subst (λ (s : Status). HasOutput due old new s) (sym want) (put.0, put.2 ∙ ap (λ (l : List ℕ). old ++ take put.0 l) is)
 
 put_possible : (job : Job) (r : Result (Unit {0}) Ending) → IfErr r (λ e. IsUnput e.status) → IsTrue (can_end job (status_in r))
@@ -169,11 +178,10 @@ put_promised held (Ok done) only = tt
 put_promised held (Err e) (inl fault) = subst (λ (s : Status). ArePromised held s e.promised) (sym fault) tt
 put_promised held (Err e) (inr want) = subst (λ (s : Status). ArePromised held s e.promised) (sym want) tt
 
--- no file is at fault
-pub unput_written : (r : Result (Unit {0}) Ending) (o : Output) → IfErr r (λ e. IsUnput e.status) → o ≢ Out → status_in r ≡ WriteFault o → ⊥
-unput_written (Ok done) o only other is = let no : Done ≡ WriteFault o = is in cc
-unput_written (Err e) o (inl fault) other is = other (let same : WriteFault o ≡ WriteFault Out = sym is ∙ fault in cc)
-unput_written (Err e) o (inr want) other is = let no : Memory ≡ WriteFault o = sym want ∙ is in cc
+-- it is the last
+pub put_last : (r : Result (Unit {0}) Ending) (old new : List ℕ) → IfErr r (λ e. IsUnput e.status) → IsPutLast (status_in r) old new
+put_last (Ok done) old new only = inl refl
+put_last (Err e) old new only = inr (inl only)
 
 put_reads : (r : Result (Unit {0}) Ending) (i : Input) → IfErr r (λ e. IsUnput e.status) → status_in r ≡ ReadFault i → ⊥
 put_reads (Ok done) i only is = let no : Done ≡ ReadFault i = is in cc
@@ -196,7 +204,7 @@ printed_by job td to before after text r none is same later puts only cause = re
   reached = λ t q i fault. absurd (put_reads r i only fault);
   needed = λ t q o fault. ap status_of (is t q);
   output = λ t o q. output_put _ (text q) _ _ r (sym (ap output_of (is t q))) (puts o q) only;
-  silent = λ o other is. absurd (unput_written r o only other is);
+  silent = λ apart. put_last r before.taken after.taken only;
   printed_last = λ t q want. inr (nothing_whole job none q (held_by (input_name job) before.files) after.files);
   files = λ t q. files_same job none before after (status_in r) same q;
   same = λ is. same;

@@ -56,6 +56,7 @@ touches_twice o m told f g h a b c r one two = record {
   others = λ t q other. two.others t q other ∙ one.others t q other;
   only = two.only;
   cause = λ is. rose_late (λ k. k.write_faults) (Some m) a b c one.later.write_faults (two.cause is);
+  memory = λ is. rose_late (λ k. k.wants) (Some m) a b c one.later.wants (two.memory is);
   later = none_falls-trans a b c one.later two.later;
 }
 

@@ -1,5 +1,5 @@
 -- Which status a judgement leads to.
-use Rattle.std.specs.Prelude.{◌≡◌, ◌⊎◌, ℕ, nat_eq, if◌then◌else◌, List, ◌++◌, take, Option, None, Result, Ok, Err, IfErr}
+use Rattle.std.specs.Prelude.{◌≡◌, ◌⊎◌, ℕ, ◌<◌, nat_eq, if◌then◌else◌, List, ◌++◌, length, take, Option, None, Result, Ok, Err, IfErr}
 use Rattle.wg_io.specs.Outside.{Increased}
 use Rattle.wg_io.specs.declared.sink.Sink as sink
 use Rattle.wg_io.specs.declared.output.Output.TheVariants.{Out}
@@ -36,17 +36,22 @@ status_in (Err e) = e.status
 abbrev pub without : Input → (Input → Option (List ℕ)) → Input → Option (List ℕ)
 without i held j = if nat_eq (input_code i) (input_code j) then None else held j
 
--- all of the output at Done, a prefix of it where a hindrance came, and nothing at a refusal
+-- all of the output at Done; a prefix of it where memory was wanting or an input was not read; a prefix that lacks
+-- something where the output itself failed; and nothing at a refusal, or where a file could not be written
 abbrev pub HasOutput : List ℕ → List ℕ → List ℕ → Status → Type 0
 HasOutput due old new Done = new ≡ old ++ due
 HasOutput due old new Memory = (k : ℕ) × (new ≡ old ++ take k due)
 HasOutput due old new (ReadFault i) = (k : ℕ) × (new ≡ old ++ take k due)
-HasOutput due old new (WriteFault o) = (k : ℕ) × (new ≡ old ++ take k due)
+HasOutput due old new (WriteFault Out) = (k : ℕ) × (k < length due) × (new ≡ old ++ take k due)
 HasOutput due old new _ = new ≡ old
 
 -- how the output ends a job
 abbrev pub IsUnput : Status → Type 0
 IsUnput status = (status ≡ WriteFault Out) ⊎ (status ≡ Memory)
+
+-- nothing was printed, unless the job was done or ended at its output or for want of memory
+abbrev pub IsPutLast : Status → List ℕ → List ℕ → Type 0
+IsPutLast status old new = (status ≡ Done) ⊎ IsUnput status ⊎ (new ≡ old)
 
 -- a job ended at its output, and only where the output counted a fault or that it was out of memory
 pub record PrintRefusals {S A : Type 0} (s : sink.Ghosts S) (before after : S) (result : Result A Ending) : Type 0 where

@@ -1,15 +1,18 @@
 -- What comes of a generated graph.
-use Rattle.std.specs.Prelude.{ℕ, List, ◌++◌, length, slice_get, codes, decimal, Option, Some, None}
+use Rattle.std.specs.Prelude.{◌≡◌, ℕ, ◌+◌, ◌<◌, ◌≤◌, List, ◌++◌, length, slice_get, codes, decimal, Option, Some, None, IsTrue}
 use Rattle.wg_io.specs.Outside.{Files}
 use Rattle.wg_params.specs.Parameters.{Parameters, IsWithinLimits}
 use Rattle.wg_graph.specs.Digraph.{Digraph, IsGraph, arc_count}
 use Rattle.wg_encoder.specs.Archive.{graph_bits, referring_pages}
-use Rattle.wg_order.specs.Order.{Positions}
-use Rattle.wg_order.specs.Summary.{sure_pages}
+use Rattle.wg_rank.specs.Intervals.{Intervals}
+use Rattle.wg_order.specs.Order.{Positions, best}
+use Rattle.wg_order.specs.Summary.{is_sure, sure_pages}
+use Rattle.wg_order.specs.Surely.{count_greater, count_smaller}
+use Rattle.wg_vectors.specs.Generated.{generated}
 use Rattle.wg_words.specs.Layouts.{default_layout}
 use Rattle.wg_words.specs.declared.defaults.TheConstants.{DEFAULT_DAMPING}
 use Rattle.wg_outcomes.specs.Readings.{Readings}
-use Rattle.wg_outcomes.specs.Ranked.{bounds_after, positions_of}
+use Rattle.wg_outcomes.specs.Ranked.{IsProvenRanking, bounds_after, positions_of}
 use Rattle.wg_outcomes.specs.Written.{AreWhole, archive_in, greedy_archive, params_for}
 use Rattle.wg_outcomes.specs.declared.outcome.Outcome.{Outcome}
 use Rattle.wg_outcomes.specs.declared.outcome.TheConstants.{BULK_ROUNDS}
@@ -18,9 +21,12 @@ use Rattle.wg_outcomes.specs.declared.outcome.TheConstants.{BULK_ROUNDS}
 abbrev pub bulk_params : Digraph → Parameters
 bulk_params g = params_for default_layout g
 
--- the ranking of its pages
+-- the bounds of its pages, and their ranking
+abbrev pub bulk_bounds : Digraph → Intervals
+bulk_bounds g = bounds_after g None DEFAULT_DAMPING BULK_ROUNDS
+
 abbrev pub bulk_positions : Readings → Digraph → Positions
-bulk_positions r g = positions_of r (bounds_after g None DEFAULT_DAMPING BULK_ROUNDS)
+bulk_positions r g = positions_of r (bulk_bounds g)
 
 -- what its archive and the ranking of its pages come to
 abbrev pub outcome_of : Readings → Digraph → Outcome
@@ -48,3 +54,20 @@ pub record IsBuilt (g : Digraph) (base : List ℕ) (files : Files) : Type 0 wher
   pub proper : IsGraph g
   pub limits : IsWithinLimits (bulk_params g)
   pub whole : AreWhole (greedy_archive (bulk_params g) g) (archive_in base files)
+
+-- Page v has this position in iterate j, and shares it with no page: so many pages and it have no smaller share, and all
+-- others have one.
+pub record HasPosition (b : Intervals) (g : Digraph) (j v position : ℕ) : Type 0 where
+  pub greater : count_greater b g j v + 1 ≡ position
+  pub smaller : position + count_smaller b g j v ≡ g.nodes
+
+-- What is printed is what comes of the generated graph; its ranking is proven, and each page that is counted as sure has
+-- its position in every iterate from the last round on.
+pub record PrintsProvenOutcome (r : Readings) (seed pages : ℕ) (old new : List ℕ) : Type 0 where
+  pub graph : Digraph
+  pub graph_is : graph ≡ generated seed pages
+  pub proper : IsGraph graph
+  pub printed : new ≡ old ++ outcome_text (outcome_of r graph)
+  pub proven : IsProvenRanking r (bulk_bounds graph) graph
+  pub sure : (v : ℕ) → v < graph.nodes → IsTrue (is_sure (bulk_positions r graph) v) → (j : ℕ) → BULK_ROUNDS ≤ j
+      → HasPosition (bulk_bounds graph) graph j v (best (bulk_positions r graph) v)

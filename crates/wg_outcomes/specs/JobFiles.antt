@@ -71,6 +71,13 @@ names_pages (Show base pages) = true
 names_pages (Spot base page) = true
 names_pages _ = false
 
+-- whether a job prints while it reads a file again
+abbrev pub prints_while_reading : Job → Bool
+prints_while_reading (Arcs base) = true
+prints_while_reading (Ascii base) = true
+prints_while_reading (Offsets base) = true
+prints_while_reading _ = false
+
 -- how a job can end at all
 abbrev pub can_end : Job → Status → Bool
 can_end job Done = true

@@ -12,5 +12,6 @@ pub mod Ranked
 pub mod Reached
 pub mod Readings
 pub mod Second
+pub mod Untold
 pub mod Verified
 pub mod Written

@@ -1,21 +1,20 @@
 -- What stands where a job has ended.
-use Rattle.std.specs.Prelude.{◌≡◌, ◌≢◌, ◌⊎◌, ℕ, Bool, false, List, Option, Some, Result, IsTrue, IfErr}
+use Rattle.std.specs.Prelude.{◌≡◌, ◌⊎◌, ℕ, Bool, false, List, Option, Some, Result, IsTrue, IfErr}
 use Rattle.wg_io.specs.Outside.{Files, Counts, NonDecreasing}
 use Rattle.wg_io.specs.declared.depot.Depot as depot
 use Rattle.wg_io.specs.declared.sink.Sink as sink
 use Rattle.wg_io.specs.declared.output.Output.{Output}
-use Rattle.wg_io.specs.declared.output.Output.TheVariants.{Out}
 use Rattle.wg_graph.specs.Digraph.{Digraph}
 use Rattle.wg_rank.specs.Intervals.{Intervals}
 use Rattle.wg_words.specs.declared.jobs.Job.{Job}
 use Rattle.wg_params.specs.declared.layout.Layout.{Layout}
 use Rattle.wg_outcomes.specs.Reached.{Reaches}
-use Rattle.wg_outcomes.specs.Answers.{Answers, HasOutput, status_in}
+use Rattle.wg_outcomes.specs.Answers.{Answers, HasOutput, IsPutLast, status_in}
 use Rattle.wg_outcomes.specs.Causes.{HasCause}
 use Rattle.wg_outcomes.specs.Commands.{greedy_line, judged, written_by}
 use Rattle.wg_outcomes.specs.Judged.{Judged, Written, an_archive, a_certificate, output_of, status_of}
 use Rattle.wg_outcomes.specs.Promised.{ArePromised, promised_in}
-use Rattle.wg_outcomes.specs.JobFiles.{can_end, input_name, output_name, writes_files}
+use Rattle.wg_outcomes.specs.JobFiles.{can_end, input_name, output_name, prints_while_reading, writes_files}
 use Rattle.wg_outcomes.specs.Names.{archive_named, certificate_to, held_by}
 use Rattle.wg_outcomes.specs.Ranked.{certificate_text, ranking_text}
 use Rattle.wg_outcomes.specs.Readings.{Readings}
@@ -56,9 +55,9 @@ pub record Performs (job : Job) (told_files told_out : Bool) (before after : Out
   pub needed : IsTrue told_files → (r : Readings) (o : Output) → status ≡ WriteFault o → status_of (judged_on r job before.files) ≡ Done
   -- what stands on the output
   pub output : IsTrue told_files → IsTrue told_out → (r : Readings) → HasOutput (output_of (judged_on r job before.files)) before.taken after.taken status
-  -- nothing is printed where a file could not be written
-  pub silent : (o : Output) → o ≢ Out → status ≡ WriteFault o → after.taken ≡ before.taken
-  -- nor where memory was out before the files were whole
+  -- what is printed comes last, told or not, but for a job that prints while it reads
+  pub silent : prints_while_reading job ≡ false → IsPutLast status before.taken after.taken
+  -- nothing is printed where memory was out before the files were whole
   pub printed_last : IsTrue told_files → (r : Readings) → status ≡ Memory
       → (after.taken ≡ before.taken) ⊎ AreAllWhole (output_name job) (written_by r job (held_by (input_name job) before.files)) after.files
   -- what stands in the files
@@ -92,10 +91,10 @@ pub record Produces (names : Output → Option (List ℕ)) (what : Written) (tex
   -- a fault is told only where the outside counted it
   pub causes : (inputs : Input → Option (List ℕ)) → HasCause inputs names before.counts after.counts before.faults after.faults (status_in result)
   -- what stands on the output
-  pub output : IsTrue told_files → IsTrue told_out → (r : Readings) → HasOutput (text r) before.taken after.taken (status_in result)
-  -- nothing is printed where a file could not be written
-  pub silent : (o : Output) → o ≢ Out → status_in result ≡ WriteFault o → after.taken ≡ before.taken
-  -- nor where memory was out before the files were whole
+  pub output : IsTrue told_out → (r : Readings) → HasOutput (text r) before.taken after.taken (status_in result)
+  -- what is printed comes last, told or not
+  pub silent : IsPutLast (status_in result) before.taken after.taken
+  -- nothing is printed where memory was out before the files were whole
   pub printed_last : IsTrue told_files → status_in result ≡ Memory → (after.taken ≡ before.taken) ⊎ AreAllWhole names (Some what) after.files
   -- what stands in the files
   pub files : IsTrue told_files → HasFiles names (Some what) before.files after.files (status_in result)

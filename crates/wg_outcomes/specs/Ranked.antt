@@ -107,13 +107,18 @@ HoldWeights None held n given = given ≡ None
 HoldWeights (Some name) held n given =
     (bytes : List ℕ) × (ws : List ℕ) × (held input.Weights ≡ Some bytes) × (weights_in n bytes ≡ Ok ws) × (given ≡ Some ws)
 
--- What is printed is the ranking of the graph that the files stand for, by the weights that they hold, and this much is
--- proved of its bounds and positions.
+-- What is printed is the ranking of this graph, by these weights of its pages, and this much is proved of its bounds and
+-- positions.
+pub record PrintsRankingOf (r : Readings) (graph : Digraph) (given : Option (List ℕ)) (rounds damping top : ℕ) (old new : List ℕ) : Type 0 where
+  pub proper : IsGraph graph
+  pub weights : AreWeights graph.nodes (weights_of graph.nodes given)
+  pub printed : new ≡ old ++ ranking_text r (bounds_after graph given damping rounds) top
+  pub proven : IsProvenRanking r (bounds_after graph given damping rounds) graph
+
+-- The same of the graph that the files stand for, by the weights that they hold.
 pub record PrintsProvenRanking (r : Readings) (held : Input → Option (List ℕ)) (weights : Option (List ℕ)) (rounds damping top : ℕ) (old new : List ℕ) : Type 0 where
   pub graph : Digraph
   pub given : Option (List ℕ)
   pub stored : HoldGraph r held graph
   pub weighed : HoldWeights weights held graph.nodes given
-  pub proper : IsGraph graph
-  pub printed : new ≡ old ++ ranking_text r (bounds_after graph given damping rounds) top
-  pub proven : IsProvenRanking r (bounds_after graph given damping rounds) graph
+  pub ranked : PrintsRankingOf r graph given rounds damping top old new

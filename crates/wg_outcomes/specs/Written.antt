@@ -96,6 +96,8 @@ pub record Touches (o : Output) (name : List ℕ) (told : Bool) (files files' : 
   pub only : IfErr result (λ e. IsStoppedAt o e.status)
   -- a fault is told only where the count of the file rose
   pub cause : status_in result ≡ WriteFault o → IncreasedAt (λ c. c.write_faults) (Some name) counts counts'
+  -- and so is want of memory
+  pub memory : status_in result ≡ Memory → IncreasedAt (λ c. c.wants) (Some name) counts counts'
   -- no count of the depot falls
   pub later : NonDecreasing counts counts'
 

@@ -1,5 +1,5 @@
 -- A certificate that was written, and the ranking that is printed after it.
-use Rattle.std.proofs.Common.{◌≡◌, ◌∙◌, ◌⊎◌, inl, inr, ℕ, Bool, List, length, refl, sym, ap, subst, Option, Some, Result, Ok, Err}
+use Rattle.std.proofs.Common.{◌≡◌, ◌≢◌, ◌∙◌, ◌⊎◌, inl, inr, ℕ, Bool, List, length, refl, sym, ap, subst, Option, Some, Result, Ok, Err}
 use Rattle.std.specs.Bool.{IsTrue}
 use Rattle.std.specs.FinMap as map
 use Rattle.std.specs.Result.{IfErr, IsErrAnd}
@@ -14,13 +14,14 @@ use Rattle.wg_outcomes.specs.Answers.{HasOutput, IsUnput, status_in}
 use Rattle.wg_outcomes.specs.Names.{certificate_to}
 use Rattle.wg_outcomes.specs.Readings.{Readings}
 use Rattle.wg_outcomes.specs.declared.ending.Ending.{Ending}
-use Rattle.wg_outcomes.specs.declared.status.Status.TheVariants.{WriteFault}
+use Rattle.wg_outcomes.specs.declared.status.Status.{Status}
+use Rattle.wg_outcomes.specs.declared.status.Status.TheVariants.{Memory, WriteFault}
 use Rattle.wg_outcomes.proofs.Statuses.{unput_cause}
 use Rattle.wg_outcomes.specs.Performs.{CertifiesRanking, Outside}
 use Rattle.wg_outcomes.specs.Ranked.{certificate_text, ranking_text}
-use Rattle.wg_outcomes.specs.Written.{CertificateAfter, OthersStay, StayBeside, Touches}
+use Rattle.wg_outcomes.specs.Written.{CertificateAfter, IsStoppedAt, OthersStay, StayBeside, Touches}
 use Rattle.wg_outcomes.proofs.BuildLemmas.{put_stopped, stopped_cause, stopped_output}
-use Rattle.wg_outcomes.proofs.PerformsLemmas.{output_put, unput_written}
+use Rattle.wg_outcomes.proofs.PerformsLemmas.{output_put, put_last}
 use Rattle.wg_outcomes.proofs.WritingLemmas.{by_stop, rose_there, stopped_at}
 
 -- the file of a name holds this, or is as before and lacks something
@@ -36,6 +37,11 @@ others_stay name old new stay q other = stay q (λ same. other Certificate (ap S
 part_is : (text : List ℕ) (old new : Option (List ℕ)) → (new ≡ old) ⊎ HoldsLess new text → (new ≡ old) ⊎ HoldsFront new text
 part_is text old new (inl same) = inl same
 part_is text old new (inr less) = inr (less.0, less.2)
+
+-- the output is not the file of a certificate
+not_at_out : (s : Status) → IsStoppedAt Certificate s → s ≢ WriteFault Out
+not_at_out s (inl fault) is = let no : WriteFault Certificate ≡ WriteFault Out = sym fault ∙ is in cc
+not_at_out s (inr want) is = let no : Memory ≡ WriteFault Out = sym want ∙ is in cc
 
 pub certify_exit : (b : Intervals) (name : List ℕ) (top : ℕ) (td to : Bool) (before after : Outside) (r : Result (Unit {0}) Ending) (e : Ending) → IsErrAnd r (λ x. x ≡ e)
     → CertifiesRanking b name top td to before after (Err e) → CertifiesRanking b name top td to before after r
@@ -53,8 +59,10 @@ module _ (b : Intervals) (name : List ℕ) (top : ℕ) (td to : Bool) (before af
     causes = λ inputs.
         stopped_cause inputs (certificate_to name) refl _ _ _ _ e.status (stopped_at Certificate e.status h.only)
         (rose_there (certificate_to name) Certificate name refl before.counts after.counts e.status h.only h.cause);
-    output = λ t o q. subst (λ (new : List ℕ). HasOutput (ranking_text q b top) before.taken new e.status) (sym silent) (stopped_output (ranking_text q b top) before.taken e.status (stopped_at Certificate e.status h.only));
-    silent = λ o other is. silent;
+    output = λ o q.
+        subst (λ (new : List ℕ). HasOutput (ranking_text q b top) before.taken new e.status) (sym silent)
+        (stopped_output (ranking_text q b top) before.taken e.status (stopped_at Certificate e.status h.only) (not_at_out e.status h.only));
+    silent = inr (inr silent);
     printed_last = λ t want. inl silent;
     files = λ t. (
       others_stay name before.files after.files (h.others t),
@@ -77,8 +85,8 @@ module _ (b : Intervals) (name : List ℕ) (top : ℕ) (td to : Bool) (before af
   certify_done r whole h puts only rose = record {
     only = put_stopped r only;
     causes = λ inputs. unput_cause inputs (certificate_to name) before.counts after.counts before.faults after.faults r only rose;
-    output = λ t o q. output_put (ranking_text q b top) (ranking_text q b top) before.taken after.taken r refl (puts o q) only;
-    silent = λ o other is. absurd (unput_written r o only other is);
+    output = λ o q. output_put (ranking_text q b top) (ranking_text q b top) before.taken after.taken r refl (puts o q) only;
+    silent = put_last r before.taken after.taken only;
     printed_last = λ t want. inr (whole t);
     files = λ t. (others_stay name before.files after.files (h.others t), put_certificate (map.get before.files name) (map.get after.files name) r only (whole t));
     later = h.later;

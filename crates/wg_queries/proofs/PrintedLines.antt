@@ -1,5 +1,5 @@
 -- The text of each record, as records come.
-use Rattle.std.proofs.Common.{◌≡◌, ℕ, ◌+◌, false, Option, List, [], ◌∷◌, ◌++◌, length, map, refl, sym, ap, subst, ◌∙◌, append_assoc, append-nil, arith}
+use Rattle.std.proofs.Common.{◌≡◌, ℕ, ◌+◌, true, false, Option, List, [], ◌∷◌, ◌++◌, length, map, refl, sym, ap, subst, ◌∙◌, append_assoc, append-nil, arith}
 use Rattle.wg_lines.specs.Printing.{HasPrinted, HasPrintedLess}
 use Rattle.wg_lines.proofs.PrintLemmas.{printed_more, less_after}
 use Rattle.wg_io.specs.Puts.{joined}
@@ -11,7 +11,7 @@ use Rattle.wg_stream.proofs.PrefixLemmas.{length-lists, lists_more, places_more}
 use Rattle.wg_outcomes.specs.Commands.{judged, number_line, number_lines}
 use Rattle.wg_outcomes.specs.Judged.{Judged, accepted}
 use Rattle.wg_readings.specs.Loading.{params_then}
-use Rattle.wg_outcomes.specs.JobFiles.{input_name, writes_files}
+use Rattle.wg_outcomes.specs.JobFiles.{input_name, prints_while_reading, writes_files}
 use Rattle.wg_outcomes.specs.Names.{file_of}
 use Rattle.wg_outcomes.specs.Readings.{Readings}
 use Rattle.wg_outcomes.specs.declared.status.Input.{Input}
@@ -121,3 +121,8 @@ pub none_written : (listing : Listing) (base : List ℕ) → writes_files (job_o
 none_written Arcs base = refl
 none_written Ascii base = refl
 none_written Offsets base = refl
+
+pub prints_reading : (listing : Listing) (base : List ℕ) → prints_while_reading (job_of listing base) ≡ true
+prints_reading Arcs base = refl
+prints_reading Ascii base = refl
+prints_reading Offsets base = refl

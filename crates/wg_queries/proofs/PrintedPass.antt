@@ -1,9 +1,9 @@
 -- A pass over a graph file that prints a text.
-use Rattle.std.proofs.Common.{◌≡◌, ◌⊎◌, inl, inr, ℕ, ◌≤◌, Bool, List, [], ◌∷◌, ◌++◌, length, take, refl, sym, ◌∙◌, ap, subst, append_assoc, Some, Result, Ok, Err, arith}
+use Rattle.std.proofs.Common.{◌≡◌, ◌⊎◌, inl, inr, ℕ, ◌<◌, ◌≤◌, Bool, List, [], ◌∷◌, ◌++◌, length, take, refl, sym, ◌∙◌, ap, subst, append_assoc, Some, Result, Ok, Err, arith}
 use Rattle.std.specs.Bool.{IsTrue}
 use Rattle.std.specs.FinMap as map
 use Rattle.std.specs.Result.{IfErr, IsErrAnd}
-use Rattle.std.proofs.lemmas.List.{append-nil, take_at}
+use Rattle.std.proofs.lemmas.List.{append-nil, length-append, take_at}
 use Rattle.wg_io.specs.Outside.{Files, Counts, Increased}
 use Rattle.wg_lines.specs.Printing.{HasPrinted, HasPrintedLess}
 use Rattle.wg_io.specs.Puts.{Puts}
@@ -25,7 +25,7 @@ use Rattle.wg_outcomes.specs.declared.ending.Ending.{Ending}
 use Rattle.wg_outcomes.specs.declared.status.Input.TheVariants.{Graph}
 use Rattle.wg_outcomes.specs.declared.status.Status.TheVariants.{Memory, WriteFault}
 use Rattle.wg_readings.proofs.JudgeLemmas.{read_hindered}
-use Rattle.wg_outcomes.proofs.Statuses.{IsOwn, any_faults, own_caused, unput_cause, unput_hinders}
+use Rattle.wg_outcomes.proofs.Statuses.{IsOwn, any_faults, bad_own, no_write, own_caused, unput_cause, unput_hinders}
 use Rattle.wg_readings.proofs.UnderWay.{IsUnderWay, all_read, ends_caused, first_read}
 
 -- ---- texts that grow with the records
@@ -42,14 +42,23 @@ grows_on text grows (w ∷ rest) whole =
     (k.0 ++ s.0, s.1 ∙ ap (λ (l : List ℕ). l ++ s.0) k.1 ∙ append_assoc (text (accepted_of whole)) k.0 s.0)
 
 -- what went out is a prefix of a longer text
-prefix_out : (old new out left more due text : List ℕ) → new ≡ old ++ out → text ≡ out ++ left → due ≡ text ++ more → (k : ℕ) × (new ≡ old ++ take k due)
+prefix_out : (old new out left more due text : List ℕ) → new ≡ old ++ out → text ≡ out ++ left → due ≡ text ++ more → new ≡ old ++ take (length out) due
 prefix_out old new out left more due text taken bytes whole =
     let all : due ≡ out ++ (left ++ more) = whole ∙ ap (λ (l : List ℕ). l ++ more) bytes ∙ append_assoc out left more in
-    (length out, taken ∙ ap (λ (l : List ℕ). old ++ l) (sym (ap (take (length out)) all ∙ take_at out (left ++ more) (length out) refl)))
+    taken ∙ ap (λ (l : List ℕ). old ++ l) (sym (ap (take (length out)) all ∙ take_at out (left ++ more) (length out) refl))
+
+-- which lacks something
+less_out : (out left more due text : List ℕ) → 0 < length left → text ≡ out ++ left → due ≡ text ++ more → length out < length due
+less_out out left more due text some bytes whole = omega (arith, some, ap length whole, ap length bytes, length-append text more, length-append out left)
+
+-- a stop at a file is no fault of an output
+not_of_out : (n : ℕ) (e : Ending) → IsStopAt Graph n e → e.status ≡ WriteFault Out → ⊥
+not_of_out n e (inl only) is = no_write Graph e.status Out only is
+not_of_out n e (inr bad) is = subst IsOwn is (bad_own Graph n e bad)
 
 puts_some : (due old new : List ℕ) (r : Result (Unit {0}) Ending) → Puts due old new r → PutsUpTo due old new r
 puts_some due old new (Ok done) put = put
-puts_some due old new (Err e) put = (put.0, put.2)
+puts_some due old new (Err e) put = (put.0, λ is. put.1, put.2)
 
 -- ---- why a pass ended
 
@@ -75,7 +84,7 @@ module _ (base : List ℕ) (p : Parameters) (text : Accepted → List ℕ) (td t
     only = inr (inr want);
     causes = own_caused _ _ _ _ _ _ e.status (subst IsOwn (sym want) tt);
     hindered = λ t x g. unput_hinders e.status (inr want);
-    puts = λ t o x g. (0, sym (append-nil t0));
+    puts = λ t o x g. (0, λ is. absurd (let no : Memory ≡ WriteFault Out = sym want ∙ is in cc), sym (append-nil t0));
   }
 
   module _ (limits : IsWithinLimits p) (grows : Grows text) (files1 : Files) (counts1 : List ℕ → Counts) (n : ℕ) (a : Reading) (t1 : List ℕ) where
@@ -93,7 +102,7 @@ module _ (base : List ℕ) (p : Parameters) (text : Accepted → List ℕ) (td t
           let k = first_read td base p files counts files1 files1 counts1 counts1 n a a _ h limits few t x g in
           let m = grows_on text grows k.2 k.0 in
           let q = k.1 o in
-          prefix_out t0 t1 q.out waits m.0 (text x) (text (accepted_of k.0)) q.taken q.bytes (ap text k.3 ∙ m.1);
+          (length q.out, λ is. absurd (not_of_out p.arcs e step.only is), prefix_out t0 t1 q.out waits m.0 (text x) (text (accepted_of k.0)) q.taken q.bytes (ap text k.3 ∙ m.1));
     }
 
     -- the output stopped
@@ -109,8 +118,11 @@ module _ (base : List ℕ) (p : Parameters) (text : Accepted → List ℕ) (td t
       puts = λ t o x g.
           let k = first_read td base p files counts files1 files1 counts1 counts1 n a a _ h limits few t x g in
           let m = grows_on text grows k.2 k.0 in
-          let q = k.1 o in
-          prefix_out t0 t1 q.out q.left m.0 (text x) (text (accepted_of k.0)) q.taken q.bytes (ap text k.3 ∙ m.1);
+          let q = k.1 o in (
+            length q.out,
+            λ is. less_out q.out q.left m.0 (text x) (text (accepted_of k.0)) q.some q.bytes (ap text k.3 ∙ m.1),
+            prefix_out t0 t1 q.out q.left m.0 (text x) (text (accepted_of k.0)) q.taken q.bytes (ap text k.3 ∙ m.1),
+          );
     }
 
     -- all was read, and what waits goes out

@@ -1,5 +1,5 @@
 -- A text of each record of a graph file, as it is printed.
-use Rattle.std.specs.Prelude.{◌⊎◌, ℕ, ◌++◌, Bool, ◌≡◌, List, [], map, take, Result, Ok, Err, IsTrue, IfErr}
+use Rattle.std.specs.Prelude.{◌⊎◌, ℕ, ◌<◌, ◌++◌, Bool, ◌≡◌, List, [], length, map, take, Result, Ok, Err, IsTrue, IfErr}
 use Rattle.wg_io.specs.Outside.{NonDecreasing}
 use Rattle.wg_io.specs.declared.depot.Depot as depot
 use Rattle.wg_io.specs.declared.sink.Sink as sink
@@ -8,6 +8,7 @@ use Rattle.wg_grammar.specs.Archive.{Accepted}
 use Rattle.wg_arcs.specs.Text.{lines_from, page_lines}
 use Rattle.wg_ascii.specs.Text.{list_line, nodes_line}
 use Rattle.wg_io.specs.Puts.{joined}
+use Rattle.wg_io.specs.declared.output.Output.TheVariants.{Out}
 use Rattle.wg_words.specs.declared.jobs.Job.{Job}
 use Rattle.wg_words.specs.declared.jobs.Job.TheVariants as job
 use Rattle.wg_outcomes.specs.Answers.{IsHindrance, IsUnput, status_in}
@@ -21,6 +22,7 @@ use Rattle.wg_outcomes.specs.declared.ending.Ending.{Ending}
 use Rattle.wg_queries.specs.declared.printing.Listing.{Listing}
 use Rattle.wg_queries.specs.declared.printing.Listing.TheVariants.{Arcs, Ascii, Offsets}
 use Rattle.wg_outcomes.specs.declared.status.Input.TheVariants as input
+use Rattle.wg_outcomes.specs.declared.status.Status.TheVariants.{WriteFault}
 
 -- the job that prints it
 abbrev pub job_of : Listing → List ℕ → Job
@@ -46,10 +48,10 @@ listed Arcs n a = lines_from 0 a.graph
 listed Ascii n a = nodes_line n ++ joined (map list_line a.graph)
 listed Offsets n a = number_lines a.places
 
--- all of the text at Ok, and else a prefix of it
+-- all of the text at Ok, and else a prefix of it, that lacks something where the output itself failed
 abbrev pub PutsUpTo : List ℕ → List ℕ → List ℕ → Result (Unit {0}) Ending → Type 0
 PutsUpTo due old new (Ok done) = new ≡ old ++ due
-PutsUpTo due old new (Err e) = (k : ℕ) × (new ≡ old ++ take k due)
+PutsUpTo due old new (Err e) = (k : ℕ) × (e.status ≡ WriteFault Out → k < length due) × (new ≡ old ++ take k due)
 
 -- A pass over a graph file that prints a text of its graph. If the file stands for a graph, all of the text is put out,
 -- or a prefix of it and then something hindered the pass.

@@ -1,12 +1,16 @@
 //! The command `rank`: the pages by their PageRank, with bounds that enclose it.
-ghost use Rattle.std.specs.Prelude.{◌≤◌, IsTrue};
+ghost use Rattle.std.specs.Prelude.{◌≡◌, ◌⊎◌, ◌≤◌, IsTrue, Some};
+ghost use Rattle.wg_io.specs.Outside.{Increased};
 ghost use Rattle.wg_io.specs.Puts.{Puts};
 ghost use Rattle.wg_params.specs.declared.limits.TheConstants.{MOST_DAMPING, MOST_ROUNDS};
 ghost use Rattle.wg_words.specs.declared.jobs.Job.TheVariants.{Rank};
-ghost use Rattle.wg_outcomes.specs.Answers.{PrintRefusals};
+ghost use Rattle.wg_outcomes.specs.Answers.{PrintRefusals, status_in};
+ghost use Rattle.wg_outcomes.specs.Causes.{IncreasedAt};
 ghost use Rattle.wg_outcomes.specs.Performs.{Certifies, DoesOrEnds};
 ghost use Rattle.wg_outcomes.specs.Ranked.{ranking_text};
 ghost use Rattle.wg_outcomes.specs.Readings.{Readings};
+ghost use Rattle.wg_outcomes.specs.Untold.{RanksSome};
+ghost use Rattle.wg_outcomes.specs.declared.status.Status.TheVariants.{Memory};
 
 use crate::certificate::write_file;
 use crate::print::print_ranking;
@@ -44,9 +48,11 @@ pub fn rank<D: Depot, O: Sink>(
 ) -> Result<(), Ending>
     requires rounds { asked.rounds ≤ MOST_ROUNDS }
     requires damping { asked.damping ≤ MOST_DAMPING }
-    ensures { DoesOrEnds ⟦<D as Depot>⟧ ⟦<O as Sink>⟧
+    ensures does { DoesOrEnds ⟦<D as Depot>⟧ ⟦<O as Sink>⟧
         (Rank base.now asked.rounds asked.damping asked.top weights.now certificate.now)
         depot.old depot.new out.old out.new result }
+    ensures some { RanksSome ⟦<D as Depot>⟧ ⟦<O as Sink>⟧ asked.rounds asked.damping asked.top certificate.now
+        depot.old depot.new out.old out.new (status_in result) }
 {
     let params = load_params(alloc, depot, base)?;
     let bytes = load(alloc, depot, base, Input::Graph)?;
@@ -80,7 +86,10 @@ fn certify<D: Depot, O: Sink>(
     depot: &mut D,
     out: &mut O,
 ) -> Result<(), Ending>
-    ensures { Certifies ⟦<D as Depot>⟧ ⟦<O as Sink>⟧ bounds name.now top depot.old depot.new out.old out.new result }
+    ensures does { Certifies ⟦<D as Depot>⟧ ⟦<O as Sink>⟧
+        bounds name.now top depot.old depot.new out.old out.new result }
+    ensures wants { status_in result ≡ Memory → Increased (O.wants out.old) (O.wants out.new)
+        ⊎ IncreasedAt (λ c. c.wants) (Some name.now) (D.counts depot.old) (D.counts depot.new) }
 {
     write_file(&bounds, name, depot)?;
     print_ranks(out, bounds, top)

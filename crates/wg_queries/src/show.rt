@@ -1,5 +1,5 @@
 //! The command `show`: the successors of pages, each page opened by its offset.
-ghost use Rattle.std.specs.Prelude.{◌≡◌, ◌<◌, Ok, IfErr, IsTrue, All};
+ghost use Rattle.std.specs.Prelude.{◌≡◌, ◌+◌, ◌<◌, ◌≤◌, Ok, IfErr, IsTrue, All};
 ghost use Rattle.wg_io.specs.Outside.{Increased};
 ghost use Rattle.wg_io.specs.Puts.{Puts};
 ghost use Rattle.wg_io.specs.declared.output.Output.TheVariants.{Out};
@@ -8,7 +8,8 @@ ghost use Rattle.wg_words.specs.declared.jobs.Job.TheVariants.{Show};
 ghost use Rattle.wg_outcomes.specs.Answers.{IsUnput, status_in};
 ghost use Rattle.wg_outcomes.specs.Commands.{successors_lines};
 ghost use Rattle.wg_outcomes.specs.Performs.{DoesOrEnds};
-ghost use Rattle.wg_queries.specs.Showing.{PrintsLine};
+ghost use Rattle.wg_stream.specs.AllRecords.{Reading, known_at};
+ghost use Rattle.wg_queries.specs.Showing.{PrintsLine, records_for, records_for_all};
 
 use crate::print::print_rest;
 use crate::shown::{print_list, print_page};
@@ -64,7 +65,9 @@ fn show_page<L: Ledger, O: Sink>(
     steps: &mut Steps<L>,
 ) -> Result<(), Ending>
     requires { page < archive.now.params.nodes }
-    ensures { PrintsLine ⟦<O as Sink>⟧ archive.now page out.old out.new lines.old lines.new result }
+    ensures line { PrintsLine ⟦<O as Sink>⟧ archive.now page out.old out.new lines.old lines.new result }
+    ensures records { (r : Reading archive.now.params archive.now.bits)
+        → steps.new ≤ steps.old + records_for r.records page }
 {
     match archive.open(alloc, page, steps) {
         Ok(mut successors) => print_page(lines, out, page, &mut successors),
@@ -84,7 +87,9 @@ fn show_list<L: Ledger, O: Sink>(
     steps: &mut Steps<L>,
 ) -> Result<(), Ending>
     requires { page < archive.now.params.nodes }
-    ensures { PrintsLine ⟦<O as Sink>⟧ archive.now page out.old out.new lines.old lines.new result }
+    ensures line { PrintsLine ⟦<O as Sink>⟧ archive.now page out.old out.new lines.old lines.new result }
+    ensures records { (r : Reading archive.now.params archive.now.bits)
+        → steps.new ≤ steps.old + (known_at r.records page).depth + 1 }
 {
     match archive.list(alloc, page, steps) {
         Ok(list) => print_list(lines, out, page, list.as_slice()),
@@ -93,7 +98,30 @@ fn show_list<L: Ledger, O: Sink>(
     }
 }
 
-// Prints the lines of pages, in their order. How many records it opens is counted by nobody.
+// Prints the lines of pages, in their order.
+fn print_each<L: Ledger, O: Sink>(
+    alloc: Global,
+    archive: &Archive<'_>,
+    pages: &[u64],
+    out: &mut O,
+    steps: &mut Steps<L>,
+) -> Result<(), Ending>
+    requires { All (λ page. page < archive.now.params.nodes) pages.now }
+    ensures puts { IsTrue O.told → (a : Accepted) → ReadsGraph archive.now.params archive.now.bits (Ok a)
+        → Puts (successors_lines a.graph pages.now) (O.taken out.old) (O.taken out.new) result }
+    ensures only { IfErr result (λ e. IsUnput e.status) }
+    ensures failed { status_in result ≡ Status.WriteFault Out → Increased (O.faults out.old) (O.faults out.new) }
+    ensures records { (r : Reading archive.now.params archive.now.bits)
+        → steps.new ≤ steps.old + records_for_all r.records pages.now }
+{
+    let mut lines = Lines::new();
+    for page in pages {
+        show_page(alloc, archive, *page, &mut lines, out, steps)?;
+    }
+    print_rest(&mut lines, out)
+}
+
+// The same, with a count of its own.
 fn print_pages<L: Ledger, O: Sink>(
     alloc: Global,
     archive: &Archive<'_>,
@@ -112,9 +140,5 @@ fn print_pages<L: Ledger, O: Sink>(
 {
     let (book, share) = blank.open::<L>();
     let mut steps = Steps::new(book, share);
-    let mut lines = Lines::new();
-    for page in pages {
-        show_page(alloc, archive, *page, &mut lines, out, &mut steps)?;
-    }
-    print_rest(&mut lines, out)
+    print_each(alloc, archive, pages, out, &mut steps)
 }

@@ -4,10 +4,11 @@ ghost use Rattle.wg_rank.specs.Weights.{AreWeights};
 ghost use Rattle.wg_rank.specs.Claims.{weights_for};
 ghost use Rattle.wg_rank.specs.declared.limits.TheConstants.{UNITS};
 ghost use Rattle.wg_words.specs.declared.jobs.Job.TheVariants.{Verify};
-ghost use Rattle.wg_outcomes.specs.Answers.{Steps};
+ghost use Rattle.wg_outcomes.specs.Answers.{Steps, status_in};
 ghost use Rattle.wg_readings.specs.Loading.{IsBadCertificate};
 ghost use Rattle.wg_outcomes.specs.Performs.{DoesOrEnds};
-ghost use Rattle.wg_outcomes.specs.Verified.{with_gap};
+ghost use Rattle.wg_outcomes.specs.Untold.{VerifiesSome};
+ghost use Rattle.wg_outcomes.specs.Verified.{Leaves, with_gap};
 
 use crate::print::print_verified;
 use std::alloc::Global;
@@ -31,8 +32,9 @@ pub fn verify<D: Depot, O: Sink>(
     depot: &mut D,
     out: &mut O,
 ) -> Result<(), Ending>
-    ensures { DoesOrEnds ⟦<D as Depot>⟧ ⟦<O as Sink>⟧ (Verify base.now certificate.now weights.now)
+    ensures does { DoesOrEnds ⟦<D as Depot>⟧ ⟦<O as Sink>⟧ (Verify base.now certificate.now weights.now)
         depot.old depot.new out.old out.new result }
+    ensures some { VerifiesSome ⟦<O as Sink>⟧ out.old out.new (status_in result) }
 {
     let params = load_params(alloc, depot, base)?;
     let bytes = load(alloc, depot, base, Input::Graph)?;
@@ -56,6 +58,7 @@ fn judge_bounds<L: Lists>(
     ensures steps { Steps (with_gap (L.graph lists.old) certificate.now weights.now) result }
     ensures only { IfErr result (λ e. (e.status ≡ Status.Memory) ⊎ IsBadCertificate e) }
     ensures within { IfOk result (λ left. left ≤ UNITS) }
+    ensures leaves { IfOk result (Leaves (L.graph lists.old) certificate.now weights.now) }
 {
     match judge(alloc, certificate, weights.as_ref(), lists) {
         Ok(left) => Ok(left),

@@ -1,9 +1,11 @@
 -- A job that judges a graph file in pieces, and reads it again to print a text of its graph.
-use Rattle.std.proofs.Common.{◌≡◌, ◌⊎◌, inl, inr, ℕ, Bool, List, ◌++◌, take, refl, sym, ◌∙◌, subst, Option, Result, Ok, Err}
+use Rattle.std.proofs.Common.{◌≡◌, ◌≢◌, ◌⊎◌, ◌<◌, inl, inr, ℕ, length, Bool, List, ◌++◌, take, refl, sym, ◌∙◌, subst, Option, Result, Ok, Err}
 use Rattle.std.specs.Bool.{IsTrue}
 use Rattle.std.specs.Result.{IfErr}
 use Rattle.wg_io.specs.Outside.{Files, Counts}
+use Rattle.wg_io.specs.declared.output.Output.{Output}
 use Rattle.wg_io.specs.declared.output.Output.TheVariants.{Out}
+use Rattle.wg_io.specs.declared.output.Output.TheVariants as output
 use Rattle.wg_params.specs.Parameters.{Parameters}
 use Rattle.wg_grammar.specs.Archive.{Accepted}
 use Rattle.wg_words.specs.declared.jobs.Job.{Job}
@@ -26,12 +28,20 @@ use Rattle.wg_readings.proofs.PassLemmas.{graph_goes}
 use Rattle.wg_outcomes.proofs.PerformsLemmas.{unread_possible}
 use Rattle.wg_outcomes.proofs.Statuses.{bad_unread, own_read}
 
--- what was put out where something hindered
-pub hindered_output : (due old new : List ℕ) (s : Status) → IsHindrance s → (k : ℕ) × (new ≡ old ++ take k due) → HasOutput due old new s
-hindered_output due old new Memory h put = put
-hindered_output due old new (ReadFault i) h put = put
-hindered_output due old new (WriteFault o) h put = put
-hindered_output due old new _ h put = absurd h
+-- a prefix was put out, that lacks something where the output itself failed
+abbrev pub PutsPart : List ℕ → List ℕ → List ℕ → Status → Type 0
+PutsPart due old new s = (k : ℕ) × (s ≡ WriteFault Out → k < length due) × (new ≡ old ++ take k due)
+
+-- what was put out where something hindered, and no file that is written
+pub hindered_output : (due old new : List ℕ) (s : Status) → IsHindrance s → ((o : Output) → o ≢ Out → s ≢ WriteFault o) → PutsPart due old new s → HasOutput due old new s
+hindered_output due old new Memory h none put = (put.0, put.2)
+hindered_output due old new (ReadFault i) h none put = (put.0, put.2)
+hindered_output due old new (WriteFault Out) h none put = (put.0, put.1 refl, put.2)
+hindered_output due old new (WriteFault output.Properties) h none put = absurd (none output.Properties (λ same. cc) refl)
+hindered_output due old new (WriteFault output.Graph) h none put = absurd (none output.Graph (λ same. cc) refl)
+hindered_output due old new (WriteFault output.Offsets) h none put = absurd (none output.Offsets (λ same. cc) refl)
+hindered_output due old new (WriteFault output.Certificate) h none put = absurd (none output.Certificate (λ same. cc) refl)
+hindered_output due old new _ h none put = absurd h
 
 pub hindered_promised : (held : Input → Option (List ℕ)) (s : Status) (n : ℕ) → IsHindrance s → ArePromised held s n
 hindered_promised held Memory n h = tt

@@ -1,4 +1,4 @@
-use Rattle.wg_outcomes.proofs.PerformsLemmas.{performs_at}
+use Rattle.wg_outcomes.proofs.PerformsLemmas.{performs_at, some_at}
 use Rattle.wg_cli.proofs.dispatch.perform.Goals as goal
 
 pub returns-in-Check-clause-does : goal.returns-in-Check-clause-does
@@ -20,10 +20,10 @@ pub returns-in-Spot-clause-does : goal.returns-in-Spot-clause-does
 returns-in-Spot-clause-does g c = performs_at _ _ _ _ _ _ _ _ _ _ c.in-Spot.is c.ending_of-in-Spot.ensures.status c.ending_of-in-Spot.ensures.promised c.spot.ensures
 
 pub returns-in-Rank-clause-does : goal.returns-in-Rank-clause-does
-returns-in-Rank-clause-does g c = performs_at _ _ _ _ _ _ _ _ _ _ c.in-Rank.is c.ending_of-in-Rank.ensures.status c.ending_of-in-Rank.ensures.promised c.rank.ensures
+returns-in-Rank-clause-does g c = performs_at _ _ _ _ _ _ _ _ _ _ c.in-Rank.is c.ending_of-in-Rank.ensures.status c.ending_of-in-Rank.ensures.promised c.rank.ensures.does
 
 pub returns-in-Verify-clause-does : goal.returns-in-Verify-clause-does
-returns-in-Verify-clause-does g c = performs_at _ _ _ _ _ _ _ _ _ _ c.in-Verify.is c.ending_of-in-Verify.ensures.status c.ending_of-in-Verify.ensures.promised c.verify.ensures
+returns-in-Verify-clause-does g c = performs_at _ _ _ _ _ _ _ _ _ _ c.in-Verify.is c.ending_of-in-Verify.ensures.status c.ending_of-in-Verify.ensures.promised c.verify.ensures.does
 
 pub returns-in-Build-clause-does : goal.returns-in-Build-clause-does
 returns-in-Build-clause-does g c = performs_at _ _ _ _ _ _ _ _ _ _ c.in-Build.is c.ending_of-in-Build.ensures.status c.ending_of-in-Build.ensures.promised c.build.ensures
@@ -45,3 +45,9 @@ returns-in-Transpose-clause-does g c = performs_at _ _ _ _ _ _ _ _ _ _ c.in-Tran
 
 pub returns-in-Bulk-clause-does : goal.returns-in-Bulk-clause-does
 returns-in-Bulk-clause-does g c = performs_at _ _ _ _ _ _ _ _ _ _ c.in-Bulk.is c.ending_of-in-Bulk.ensures.status c.ending_of-in-Bulk.ensures.promised (c.bulk.ensures _ _ _)
+
+pub returns-in-Rank-clause-some : goal.returns-in-Rank-clause-some
+returns-in-Rank-clause-some g c = some_at g.D.Depot g.O.Sink _ _ _ _ _ _ _ _ c.in-Rank.is c.ending_of-in-Rank.ensures.status c.rank.ensures.some
+
+pub returns-in-Verify-clause-some : goal.returns-in-Verify-clause-some
+returns-in-Verify-clause-some g c = some_at g.D.Depot g.O.Sink _ _ _ _ _ _ _ _ c.in-Verify.is c.ending_of-in-Verify.ensures.status c.verify.ensures.some

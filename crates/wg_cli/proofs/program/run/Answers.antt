@@ -1,15 +1,15 @@
-use Rattle.std.proofs.Common.{◌∙◌, inl, refl, subst}
+use Rattle.std.proofs.Common.{◌∙◌, inl, inr, refl, subst}
 use Rattle.wg_words.specs.Jobs.{job_of}
-use Rattle.wg_words.specs.declared.jobs.Job.TheVariants.{Rank, Verify}
+use Rattle.wg_words.specs.declared.jobs.Job.TheVariants.{Bulk, Rank, Verify}
 use Rattle.wg_outcomes.specs.Answers.{Answers, HasOutput}
 use Rattle.wg_outcomes.specs.Judged.{Judged, output_of}
 use Rattle.wg_outcomes.specs.JobFiles.{held_for}
 use Rattle.wg_outcomes.specs.Performs.{judged_on}
 use Rattle.wg_cli.proofs.LineLemmas.{nothing_promised}
-use Rattle.wg_words.proofs.JobLemmas.{rank_within}
+use Rattle.wg_words.proofs.JobLemmas.{bulk_within, rank_within}
 use Rattle.wg_outcomes.proofs.PerformsLemmas.{unhindered}
 use Rattle.wg_cli.proofs.ProvenLemmas.{proven_ranking, when_done}
-use Rattle.wg_outcomes.proofs.RankLemmas.{proven}
+use Rattle.wg_outcomes.proofs.SureLemmas.{proven_outcome}
 use Rattle.wg_laws.proofs.VerifiedLemmas.{proven_gap}
 use Rattle.wg_laws.proofs.WrittenLemmas.{written_accepted}
 use Rattle.wg_cli.proofs.program.run.Goals as goal
@@ -36,7 +36,7 @@ pub returns-clause-needed : goal.returns-clause-needed
 returns-clause-needed g c = λ t r job is o fault. (c.try_job-ending.ensures.performs job (c.in-Ok.ensures.job ∙ is)).needed t r o fault
 
 pub returns-clause-silent : goal.returns-clause-silent
-returns-clause-silent g c = λ job is o other fault. (c.try_job-ending.ensures.performs job (c.in-Ok.ensures.job ∙ is)).silent o other fault
+returns-clause-silent g c = λ job is apart. (c.try_job-ending.ensures.performs job (c.in-Ok.ensures.job ∙ is)).silent apart
 
 pub returns-clause-printed_last : goal.returns-clause-printed_last
 returns-clause-printed_last g c = λ t r job is want. (c.try_job-ending.ensures.performs job (c.in-Ok.ensures.job ∙ is)).printed_last t r want
@@ -47,10 +47,30 @@ returns-clause-output g c = λ t o r job is. (c.try_job-ending.ensures.performs 
 pub returns-clause-files : goal.returns-clause-files
 returns-clause-files g c = λ t r job is. (c.try_job-ending.ensures.performs job (c.in-Ok.ensures.job ∙ is)).files t r
 
-pub returns-clause-enclosing : goal.returns-clause-enclosing
-returns-clause-enclosing g c = λ r base rounds damping top weights certificate is done graph ok small given are.
-    let within = rank_within c.args.words.now base rounds damping top weights certificate is in
-    proven r rounds damping within.0 within.1 graph ok small given are
+pub returns-in_default-clause-silent : goal.returns-in_default-clause-silent
+returns-in_default-clause-silent g c = λ job is apart. inr (inr refl)
+
+pub returns-in_default-clause-wants_first : goal.returns-in_default-clause-wants_first
+returns-in_default-clause-wants_first g c = λ base rounds damping top weights certificate is want. inl (refl, refl)
+
+pub returns-clause-ranked : goal.returns-clause-ranked
+returns-clause-ranked g c = λ o r base rounds damping top weights certificate is done.
+    (c.try_job-ending.ensures.some (Rank base rounds damping top weights certificate) (c.in-Ok.ensures.job ∙ is)).ranking o done r
+
+pub returns-clause-wants_first : goal.returns-clause-wants_first
+returns-clause-wants_first g c = λ base rounds damping top weights certificate is.
+    (c.try_job-ending.ensures.some (Rank base rounds damping top weights certificate) (c.in-Ok.ensures.job ∙ is)).wants
+
+pub returns-clause-leaves : goal.returns-clause-leaves
+returns-clause-leaves g c = λ o base certificate weights is done. c.try_job-ending.ensures.some (Verify base certificate weights) (c.in-Ok.ensures.job ∙ is) o done
+
+pub returns-clause-sure : goal.returns-clause-sure
+returns-clause-sure g c = λ t o r seed pages is done.
+    let job = Bulk seed pages in
+    let files = g.D.Depot.files c.args.depot.now in
+    let does = c.try_job-ending.ensures.performs job (c.in-Ok.ensures.job ∙ is) in
+    proven_outcome r seed pages _ _ (bulk_within c.args.words.now seed pages is)
+    (subst (HasOutput (output_of (judged_on r job files)) (g.O.Sink.taken c.args.out.now) (g.O.Sink.taken c.try_job-ending.new.out)) done (does.output t o r))
 
 pub returns-clause-complete : goal.returns-clause-complete
 returns-clause-complete g c = λ t r job is quiet.

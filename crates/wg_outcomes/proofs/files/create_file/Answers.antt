@@ -14,6 +14,7 @@ returns-in-Ok-clause-touches g c = record {
   others = λ t q other. created_there _ _ c.as_str.result.now q (c.in-Ok.ensures.ok t) (λ same. other (same ∙ c.as_str.ensures));
   only = search rules;
   cause = search rules;
+  memory = search rules;
   later = search rules;
 }
 
@@ -22,5 +23,6 @@ returns-in-Err-clause-touches g c = record {
   others = λ t q other. ap (λ (x : Files). map.get x q) c.in-Err.ensures.err;
   only = search rules;
   cause = search rules;
+  memory = search rules;
   later = search rules;
 }

@@ -18,6 +18,7 @@ returns-in-Ok-clause-touches g c = record {
       ∙ get_other (g.D.Depot.files c.args.depot.now) c.as_str.result.now c.args.bytes.now q (λ same. other (same ∙ c.as_str.ensures));
   only = search rules;
   cause = search rules;
+  memory = search rules;
   later = search rules;
 }
 
@@ -40,5 +41,6 @@ returns-in-Err-clause-touches g c = record {
       ∙ get_other (g.D.Depot.files c.args.depot.now) c.as_str.result.now (take e.0 c.args.bytes.now) q (λ same. other (same ∙ c.as_str.ensures));
   only = search rules;
   cause = search rules;
+  memory = search rules;
   later = search rules;
 }

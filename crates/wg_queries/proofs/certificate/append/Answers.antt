@@ -19,6 +19,7 @@ returns-in-Ok-clause-touches g c = record {
       ∙ get_other (g.D.Depot.files c.args.depot.now) c.as_str.result.now (certificate_text c.args.bounds.now) q (λ same. other (same ∙ c.as_str.ensures));
   only = search rules;
   cause = search rules;
+  memory = search rules;
   later = search rules;
 }
 
@@ -41,5 +42,6 @@ returns-in-Err-clause-touches g c = record {
       ∙ get_other (g.D.Depot.files c.args.depot.now) c.as_str.result.now (take e.0 (certificate_text c.args.bounds.now)) q (λ same. other (same ∙ c.as_str.ensures));
   only = search rules;
   cause = search rules;
+  memory = search rules;
   later = search rules;
 }

@@ -7,7 +7,7 @@ use Rattle.wg_queries.specs.Printed.{job_of, listed}
 use Rattle.wg_outcomes.specs.declared.status.Input.TheVariants as input
 use Rattle.wg_queries.proofs.PrintedJobs.{printed_again}
 use Rattle.wg_readings.proofs.JobSteps.{ends_reading, loaded, performs_exit, unloaded}
-use Rattle.wg_queries.proofs.PrintedLines.{judges, named_graph, named_properties, none_written, told}
+use Rattle.wg_queries.proofs.PrintedLines.{judges, named_graph, named_properties, none_written, prints_reading, told}
 use Rattle.wg_queries.proofs.printing.print_records.Goals as goal
 
 pub returns-in_err-params : goal.returns-in_err-params
@@ -35,5 +35,5 @@ returns g c =
     let p : Parameters = c.in_ok-params.params in
     let before : Outside = outside (g.D.Depot.files c.args.depot.now) (g.D.Depot.counts c.args.depot.now) (g.O.Sink.taken c.args.out.now) (g.O.Sink.faults c.args.out.now) in
     let come = loaded job base g.D.Depot.told g.O.Sink.told before (named_properties c.args.listing base) (told c.args.listing) (judges c.args.listing base) p _ _ c.in_ok-params.ensures in
-    printed_again base p (listed c.args.listing p.nodes) job _ _ _ _ _ _ _ _ c.print_again.result (none_written c.args.listing base) (named_graph c.args.listing base) refl refl
+    printed_again base p (listed c.args.listing p.nodes) job _ _ _ _ _ _ _ _ c.print_again.result (none_written c.args.listing base) (prints_reading c.args.listing base) (named_graph c.args.listing base) refl refl
     (λ h holds. holds) come c.in_ok-judge_graph.ensures c.print_again.ensures

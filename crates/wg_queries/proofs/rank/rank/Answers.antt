@@ -1,26 +1,29 @@
-use Rattle.std.proofs.Common.{◌≡◌, ◌∙◌, Ok, Err, ap, refl}
+use Rattle.std.proofs.Common.{◌≡◌, ◌∙◌, inl, inr, Ok, Err, ap, refl, subst}
+use Rattle.wg_io.proofs.FilesLemmas.{none_falls-trans}
 use Rattle.wg_readings.proofs.LoadLemmas.{graph_loaded, graph_unloaded}
-use Rattle.wg_outcomes.specs.Ranked.{bounds_after}
+use Rattle.wg_outcomes.specs.Answers.{HasOutput}
+use Rattle.wg_outcomes.specs.Ranked.{bounds_after, ranking_text}
 use Rattle.wg_readings.proofs.JobSteps.{performs_exit}
 use Rattle.wg_queries.proofs.RankJobs.{certifies, no_graph, no_params, no_room, no_weights, only_prints, weights_of_graph}
+use Rattle.wg_queries.proofs.UntoldLemmas.{all_put, ranks_none, some_ranking, undone_graph, undone_params, undone_reading, undone_room, undone_weights, wants_since}
 use Rattle.wg_queries.proofs.rank.rank.Goals as goal
 
-pub returns-in_err-params : goal.returns-in_err-params
-returns-in_err-params g c =
+pub returns-in_err-params-clause-does : goal.returns-in_err-params-clause-does
+returns-in_err-params-clause-does g c =
     let asked = c.args.asked in
     performs_exit _ _ _ _ _ _ _ c.from_residual.ensures.1
     (no_params c.args.base.now asked.rounds asked.damping asked.top c.args.weights.now c.args.certificate.now _ _ _ _ _ refl c.in_err-params.ensures)
 
-pub returns-in_err-bytes : goal.returns-in_err-bytes
-returns-in_err-bytes g c =
+pub returns-in_err-bytes-clause-does : goal.returns-in_err-bytes-clause-does
+returns-in_err-bytes-clause-does g c =
     let asked = c.args.asked in
     let p = c.in_ok-params.params in
     performs_exit _ _ _ _ _ _ _ c.from_residual-in_err-bytes.ensures.1
     (no_graph c.args.base.now asked.rounds asked.damping asked.top c.args.weights.now c.args.certificate.now _ _ _ p _ _ c.in_ok-params.ensures _ _ refl
     (graph_unloaded c.args.base.now p _ _ _ _ _ _ c.in_err-bytes.ensures))
 
-pub returns-in_err-lists : goal.returns-in_err-lists
-returns-in_err-lists g c =
+pub returns-in_err-lists-clause-does : goal.returns-in_err-lists-clause-does
+returns-in_err-lists-clause-does g c =
     let asked = c.args.asked in
     let p = c.in_ok-params.params in
     let e = c.in_err-lists.ensures in
@@ -28,8 +31,8 @@ returns-in_err-lists g c =
     (no_graph c.args.base.now asked.rounds asked.damping asked.top c.args.weights.now c.args.certificate.now _ _ _ p _ _ c.in_ok-params.ensures _ _ refl
     (graph_loaded c.args.base.now p _ _ _ _ _ c.in_ok-bytes.bytes _ c.as_slice.ensures c.in_ok-bytes.ensures (Err c.in_err-lists.field-0.0) e.refused e.only tt))
 
-pub returns-in_err-given : goal.returns-in_err-given
-returns-in_err-given g c =
+pub returns-in_err-given-clause-does : goal.returns-in_err-given-clause-does
+returns-in_err-given-clause-does g c =
     let asked = c.args.asked in
     let p = c.in_ok-params.params in
     performs_exit _ _ _ _ _ _ _ c.from_residual-in_err-given.ensures.1
@@ -37,8 +40,8 @@ returns-in_err-given g c =
     (graph_loaded c.args.base.now p _ _ _ _ _ c.in_ok-bytes.bytes _ c.as_slice.ensures c.in_ok-bytes.ensures (Ok c.in_ok-lists.lists.graph) c.in_ok-lists.ensures.goes tt c.in_ok-lists.ensures.nodes)
     _ _ refl (weights_of_graph _ _ _ _ _ _ _ _ _ c.nodes.ensures.count c.in_err-given.ensures))
 
-pub returns-in_err-first : goal.returns-in_err-first
-returns-in_err-first g c =
+pub returns-in_err-first-clause-does : goal.returns-in_err-first-clause-does
+returns-in_err-first-clause-does g c =
     let asked = c.args.asked in
     let p = c.in_ok-params.params in
     performs_exit _ _ _ _ _ _ _ c.from_residual-in_err-first.ensures.1
@@ -47,8 +50,8 @@ returns-in_err-first g c =
     _ _ c.in_ok-given.given (weights_of_graph _ _ _ _ _ _ _ _ _ c.nodes.ensures.count c.in_ok-given.ensures)
     _ _ _ refl c.in_err-first.ensures.only)
 
-pub returns-in-None : goal.returns-in-None
-returns-in-None g c =
+pub returns-in-None-clause-does : goal.returns-in-None-clause-does
+returns-in-None-clause-does g c =
     let asked = c.args.asked in
     let p = c.in_ok-params.params in
     let graph = c.in_ok-lists.lists.graph in
@@ -61,8 +64,8 @@ returns-in-None g c =
     _ _ c.in_ok-given.given (weights_of_graph _ _ _ _ _ _ _ _ _ c.nodes.ensures.count c.in_ok-given.ensures)
     c.bounds_by_rounds-bounds.result is c.in-None.is _ _ c.print_ranks.result o.puts o.refusals.only o.refusals.failed
 
-pub returns : goal.returns
-returns g c =
+pub returns-clause-does : goal.returns-clause-does
+returns-clause-does g c =
     let asked = c.args.asked in
     let p = c.in_ok-params.params in
     let graph = c.in_ok-lists.lists.graph in
@@ -72,4 +75,58 @@ returns g c =
     certifies c.args.base.now asked.rounds asked.damping asked.top c.args.weights.now c.args.certificate.now _ g.O.Sink.told _ p _ _ c.in_ok-params.ensures _ _ graph
     (graph_loaded c.args.base.now p _ _ _ _ _ c.in_ok-bytes.bytes _ c.as_slice.ensures c.in_ok-bytes.ensures (Ok graph) c.in_ok-lists.ensures.goes tt c.in_ok-lists.ensures.nodes)
     _ _ c.in_ok-given.given (weights_of_graph _ _ _ _ _ _ _ _ _ c.nodes.ensures.count c.in_ok-given.ensures)
-    c.bounds_by_rounds-bounds.result is c.in-Some.name c.in-Some.is _ c.certify.result c.certify.ensures
+    c.bounds_by_rounds-bounds.result is c.in-Some.name c.in-Some.is _ c.certify.result c.certify.ensures.does
+
+pub returns-in_err-params-clause-some : goal.returns-in_err-params-clause-some
+returns-in_err-params-clause-some g c =
+    ranks_none g.D.Depot g.O.Sink _ _ _ _ _ _ _ _ _ c.from_residual.ensures.1 c.in_err-params.ensures.same (undone_params _ _ _ _ _ _ _ c.in_err-params.ensures)
+
+pub returns-in_err-bytes-clause-some : goal.returns-in_err-bytes-clause-some
+returns-in_err-bytes-clause-some g c =
+    ranks_none g.D.Depot g.O.Sink _ _ _ _ _ _ _ _ _ c.from_residual-in_err-bytes.ensures.1 (c.in_err-bytes.ensures.same ∙ c.in_ok-params.ensures.same) (undone_reading _ c.in_err-bytes.field-0.0 c.in_err-bytes.ensures.mine)
+
+pub returns-in_err-lists-clause-some : goal.returns-in_err-lists-clause-some
+returns-in_err-lists-clause-some g c =
+    ranks_none g.D.Depot g.O.Sink _ _ _ _ _ _ _ _ _ c.from_residual-in_err-lists.ensures.1 (c.in_ok-bytes.ensures.same ∙ c.in_ok-params.ensures.same) (undone_graph _ _ c.in_err-lists.ensures.only)
+
+pub returns-in_err-given-clause-some : goal.returns-in_err-given-clause-some
+returns-in_err-given-clause-some g c =
+    ranks_none g.D.Depot g.O.Sink _ _ _ _ _ _ _ _ _ c.from_residual-in_err-given.ensures.1
+    (c.in_err-given.ensures.reads.same ∙ c.in_ok-bytes.ensures.same ∙ c.in_ok-params.ensures.same) (undone_weights _ _ c.in_err-given.ensures.reads.only)
+
+pub returns-in_err-first-clause-some : goal.returns-in_err-first-clause-some
+returns-in_err-first-clause-some g c =
+    ranks_none g.D.Depot g.O.Sink _ _ _ _ _ _ _ _ _ c.from_residual-in_err-first.ensures.1
+    (c.in_ok-given.ensures.reads.same ∙ c.in_ok-bytes.ensures.same ∙ c.in_ok-params.ensures.same) (undone_room c.in_err-first.field-0.0 c.in_err-first.ensures.only)
+
+pub returns-in-None-clause-some : goal.returns-in-None-clause-some
+returns-in-None-clause-some g c =
+    let asked = c.args.asked in
+    let graph = c.in_ok-lists.lists.graph in
+    let f = c.in_ok-first.ensures in
+    let o = c.print_ranks.ensures in
+    let is : c.bounds_by_rounds-bounds.result ≡ bounds_after graph c.in_ok-given.given asked.damping asked.rounds =
+    c.bounds_by_rounds-bounds.ensures c.in_ok-given.given f.weights ∙ ap (λ d. bounds_after graph c.in_ok-given.given d asked.rounds) f.damping in
+    record {
+      wants = λ want. inr (inl (o.refusals.memory want));
+      ranking = λ t done r.
+          some_ranking graph c.in_ok-given.given asked.rounds asked.damping asked.top c.bounds_by_rounds-bounds.result _ _ r c.requires.rounds c.requires.damping c.nodes.ensures.proper c.in_ok-lists.ensures.few
+          (weights_of_graph _ _ _ _ _ _ _ _ _ c.nodes.ensures.count c.in_ok-given.ensures).weights is (all_put (ranking_text r c.bounds_by_rounds-bounds.result asked.top) (g.O.Sink.taken c.args.out.now) (g.O.Sink.taken c.print_ranks.new.out) c.print_ranks.result o.refusals.only (o.puts t r) done);
+    }
+
+pub returns-clause-some : goal.returns-clause-some
+returns-clause-some g c =
+    let asked = c.args.asked in
+    let graph = c.in_ok-lists.lists.graph in
+    let f = c.in_ok-first.ensures in
+    let is : c.bounds_by_rounds-bounds.result ≡ bounds_after graph c.in_ok-given.given asked.damping asked.rounds =
+    c.bounds_by_rounds-bounds.ensures c.in_ok-given.given f.weights ∙ ap (λ d. bounds_after graph c.in_ok-given.given d asked.rounds) f.damping in
+    record {
+      wants = λ want.
+          inr (wants_since _ _ c.in-Some.is _ _ _ (none_falls-trans _ _ _ (none_falls-trans _ _ _ c.in_ok-params.ensures.later c.in_ok-bytes.ensures.later) c.in_ok-given.ensures.reads.later)
+          (c.certify.ensures.wants want));
+      ranking = λ t done r.
+          some_ranking graph c.in_ok-given.given asked.rounds asked.damping asked.top c.bounds_by_rounds-bounds.result _ _ r c.requires.rounds c.requires.damping c.nodes.ensures.proper c.in_ok-lists.ensures.few
+          (weights_of_graph _ _ _ _ _ _ _ _ _ c.nodes.ensures.count c.in_ok-given.ensures).weights is
+          (subst (HasOutput (ranking_text r c.bounds_by_rounds-bounds.result asked.top) (g.O.Sink.taken c.args.out.now) (g.O.Sink.taken c.certify.new.out)) done (c.certify.ensures.does.output t r));
+    }

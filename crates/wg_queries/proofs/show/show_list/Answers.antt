@@ -5,11 +5,11 @@ use Rattle.wg_queries.proofs.show.show_list.Goals as goal
 pub unreachable-requires : goal.unreachable-requires
 unreachable-requires g c = omega (arith, c.requires, c.in-Err-NoPage.ensures.no_page_only_then (ap (λ e. Err e) c.in-Err-NoPage.field-0-is))
 
-pub returns-in-Ok : goal.returns-in-Ok
-returns-in-Ok g c =
+pub returns-in-Ok-clause-line : goal.returns-in-Ok-clause-line
+returns-in-Ok-clause-line g c =
     let e = c.print_list.ensures in
     line_by_list g.O.Sink c.args.archive.now c.args.page c.args.out.now c.print_list.new.out c.args.lines.now c.print_list.new.lines c.as_slice.result.now c.print_list.result
     (λ a read. c.as_slice.ensures ∙ c.in-Ok.ensures.graph a read) e.prints e.later e.refusals
 
-pub returns-in-Err-Memory : goal.returns-in-Err-Memory
-returns-in-Err-Memory g c = line_unbegun g.O.Sink c.args.archive.now c.args.page c.args.out.now c.args.lines.now c.args.lines.now _ (g.met.O.Sink.stays _) c.of.ensures.status
+pub returns-in-Err-Memory-clause-line : goal.returns-in-Err-Memory-clause-line
+returns-in-Err-Memory-clause-line g c = line_unbegun g.O.Sink c.args.archive.now c.args.page c.args.out.now c.args.lines.now c.args.lines.now _ (g.met.O.Sink.stays _) c.of.ensures.status

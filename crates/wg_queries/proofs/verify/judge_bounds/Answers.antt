@@ -1,5 +1,6 @@
 use Rattle.std.proofs.Common.{rules, ◌≡◌, ◌∙◌, ℕ, List, Option, Result, Ok, Err, inl, ap, option_copied, subst, sym}
 use Rattle.wg_rank.specs.Intervals.{by_page}
+use Rattle.wg_rank.specs.Rank.{EnclosesStationary}
 use Rattle.wg_rank.specs.Claims.{IsJudged, weights_for}
 use Rattle.wg_rank.specs.declared.fault.JudgeError.{JudgeError}
 use Rattle.wg_rank.specs.declared.fault.JudgeError.TheVariants.{Falls}
@@ -14,6 +15,15 @@ returns-in-Ok-clause-steps g c =
     let same : option_copied c.as_ref.result ≡ c.args.weights.now = search rules in
     goes_on_with_gap graph claim c.args.weights.now c.in-Ok.left
     (subst (λ (o : Option (List ℕ)). IsJudged graph claim (by_page (weights_for claim o)) (Ok c.in-Ok.left)) same c.in-Ok.ensures.judged)
+
+pub returns-in-Ok-clause-leaves : goal.returns-in-Ok-clause-leaves
+returns-in-Ok-clause-leaves g c =
+    let graph = g.L.Lists.graph c.args.lists.now in
+    let claim = c.args.certificate.now in
+    let left = c.in-Ok.left in
+    let same : option_copied c.as_ref.result ≡ c.args.weights.now = search rules in
+    let judged = subst (λ (o : Option (List ℕ)). IsJudged graph claim (by_page (weights_for claim o)) (Ok left)) same c.in-Ok.ensures.judged in
+    (judged.1, subst (λ (o : Option (List ℕ)). EnclosesStationary graph claim.damping (by_page (weights_for claim o)) (by_page claim.low) left) same c.in-Ok.ensures.enclosed)
 
 pub returns-in-Err-Falls-clause-steps : goal.returns-in-Err-Falls-clause-steps
 returns-in-Err-Falls-clause-steps g c = λ next.

@@ -16,7 +16,7 @@ use Rattle.wg_outcomes.specs.Performs.{BuildsArchive, Outside}
 use Rattle.wg_outcomes.specs.Written.{AreWhole, ArchiveFiles, FilesAfter, archive_in, greedy_archive, params_for}
 use Rattle.wg_outcomes.specs.declared.ending.Ending.{Ending}
 use Rattle.wg_outcomes.specs.declared.status.Status.TheVariants.{WriteFault}
-use Rattle.wg_outcomes.proofs.PerformsLemmas.{output_put, unput_written}
+use Rattle.wg_outcomes.proofs.PerformsLemmas.{output_put, put_last}
 use Rattle.wg_outcomes.proofs.Statuses.{unput_cause}
 use Rattle.wg_outcomes.proofs.BuildLemmas.{put_stands, put_stopped, stopped_cause, stopped_output}
 use Rattle.wg_writing.specs.Writing.{WritesFiles, archive_of, whole}
@@ -40,10 +40,10 @@ module _ (l : Layout) (g : Digraph) (base : List ℕ) (td to : Bool) (before aft
   builds_stopped e silent w = record {
     only = w.only;
     causes = λ inputs. stopped_cause inputs (archive_named base) refl _ _ _ _ e.status w.only w.causes;
-    output = λ t o q.
+    output = λ o q.
         subst (λ (new : List ℕ). HasOutput (greedy_line (params_for l g) g) before.taken new e.status) (sym silent)
-        (stopped_output (greedy_line (params_for l g) g) before.taken e.status w.only);
-    silent = λ o other fault. silent;
+        (stopped_output (greedy_line (params_for l g) g) before.taken e.status w.only (w.causes Out));
+    silent = inr (inr silent);
     printed_last = λ t want. inl silent;
     files = λ t. (w.others t, subst (λ (x : Archive). FilesAfter x (archive_in base before.files) (archive_in base after.files) e.status) files_are (w.err t));
     later = w.later;
@@ -57,8 +57,8 @@ module _ (l : Layout) (g : Digraph) (base : List ℕ) (td to : Bool) (before aft
   builds_done bits count r w puts only cause = record {
     only = put_stopped r only;
     causes = λ inputs. unput_cause inputs (archive_named base) before.counts after.counts before.faults after.faults r only cause;
-    output = λ t o q. output_put (greedy_line (params_for l g) g) (ok_line p bits) before.taken after.taken r line (puts o) only;
-    silent = λ o other fault. absurd (unput_written r o only other fault);
+    output = λ o q. output_put (greedy_line (params_for l g) g) (ok_line p bits) before.taken after.taken r line (puts o) only;
+    silent = put_last r before.taken after.taken only;
     printed_last = λ t want. inr (all t);
     files = λ t. (w.others t, put_stands (greedy_archive (params_for l g) g) (archive_in base before.files) (archive_in base after.files) r only (all t));
     later = w.later;

@@ -1,0 +1,92 @@
+-- Pages to which their bounds leave one position alone.
+use Rattle.std.proofs.Common.{◌≡◌, ℕ, zero, suc, ◌+◌, ◌-◌, ◌<◌, ◌≤◌, Bool, true, false, cond, nat_lt, List, ◌++◌, None, inl, inr, refl, subst, arith}
+use Rattle.std.specs.Bool.{IsTrue}
+use Rattle.std.proofs.lemmas.Bool.{cases_lt, eqb-true}
+use Rattle.wg_params.specs.declared.limits.TheConstants.{MOST_GENERATED}
+use Rattle.wg_graph.specs.Digraph.{Digraph}
+use Rattle.wg_vectors.specs.Generated.{generated}
+use Rattle.wg_vectors.proofs.Whole.{generated_is_proper}
+use Rattle.wg_rank.specs.Certified.{numerator_of}
+use Rattle.wg_rank.specs.Intervals.{Intervals}
+use Rattle.wg_rank.specs.Sum.{sum_below}
+use Rattle.wg_rank.proofs.Weighing.{ones}
+use Rattle.wg_order.specs.Order.{Positions, best, worst}
+use Rattle.wg_order.specs.Summary.{is_sure}
+use Rattle.wg_order.specs.Surely.{IsSurely, count_greater, count_smaller}
+use Rattle.wg_words.specs.declared.defaults.TheConstants.{DEFAULT_DAMPING}
+use Rattle.wg_outcomes.specs.Bulk.{HasPosition, PrintsProvenOutcome, bulk_bounds, bulk_positions, outcome_of, outcome_text}
+use Rattle.wg_outcomes.specs.Ranked.{IsProvenRanking}
+use Rattle.wg_outcomes.specs.Readings.{Readings}
+use Rattle.wg_outcomes.specs.declared.outcome.TheConstants.{BULK_ROUNDS}
+use Rattle.wg_outcomes.proofs.RankLemmas.{proven}
+use Rattle.wg_outcomes.proofs.VerifyLemmas.{is_less, not_less}
+
+-- ---- of two numbers at most one is less than the other
+abbrev counted : ℕ → ℕ → ℕ
+counted a b = cond (nat_lt a b) 1 0
+
+counted_less : (a b : ℕ) → a < b → counted a b ≡ 1
+counted_less a b less = rw (is_less a b less) refl
+
+counted_not : (a b : ℕ) → b ≤ a → counted a b ≡ 0
+counted_not a b not = rw (not_less a b not) refl
+
+counted_once : (a b : ℕ) → counted a b + counted b a ≤ 1
+counted_once a b =
+    elim (cases_lt a b) [
+      | inl less ↦ omega (arith, counted_less a b less, counted_not b a (omega (arith, less)))
+      | inr not ↦ omega (arith, counted_not a b not, at_most b a)
+    ]
+  where
+    one_at_most : (x : Bool) → cond x 1 0 ≤ 1
+    one_at_most true = omega arith
+    one_at_most false = omega arith
+
+    at_most : (x y : ℕ) → counted x y ≤ 1
+    at_most x y = one_at_most (nat_lt x y)
+
+-- ---- of the pages at most all have a greater or a smaller share than one, and it has neither
+module _ (f : ℕ → ℕ) (v : ℕ) where
+  abbrev greater : ℕ → ℕ
+  greater u = counted (f v) (f u)
+
+  abbrev smaller : ℕ → ℕ
+  smaller u = counted (f u) (f v)
+
+  all_counted : (n : ℕ) → sum_below n greater + sum_below n smaller ≤ n
+  all_counted zero = omega arith
+  all_counted (suc n) = omega (arith, all_counted n, counted_once (f v) (f n))
+
+  pub others_counted : (n : ℕ) → v < n → sum_below n greater + sum_below n smaller + 1 ≤ n
+  others_counted zero there = absurd (omega (arith, there))
+  others_counted (suc n) there =
+      elim (cases_lt v n) [
+        | inl before ↦ omega (arith, others_counted n before, counted_once (f v) (f n))
+        | inr here ↦
+            let same : v ≡ n = omega (arith, there, here) in
+            let none = counted_not (f v) (f v) (omega arith) in
+            omega (arith, all_counted n, subst (λ (x : ℕ). counted (f v) (f x) ≡ 0) same none, subst (λ (x : ℕ). counted (f x) (f v) ≡ 0) same none)
+      ]
+
+-- ---- the position of a page
+module _ (s : Positions) (b : Intervals) (g : Digraph) (surely : IsSurely s b g) where
+  placed : (first last above below n : ℕ) → first ≤ 1 + above → n - below ≤ last → first ≡ last → above + below + 1 ≤ n → (above + 1 ≡ first) × (first + below ≡ n)
+  placed first last above below n best_is worst_is one apart = (omega (arith, best_is, worst_is, one, apart), omega (arith, best_is, worst_is, one, apart))
+
+  pub one_position : (v : ℕ) → v < g.nodes → IsTrue (is_sure s v) → (j : ℕ) → b.rounds ≤ j → HasPosition b g j v (best s v)
+  one_position v there sure j late =
+      let at = placed (best s v) (worst s v) (count_greater b g j v) (count_smaller b g j v) g.nodes (surely.best_is j late v there) (surely.worst_is j late v there)
+      (eqb-true (best s v) (worst s v) sure) (others_counted (numerator_of b g j) v g.nodes there) in
+      record { greater = at.0; smaller = at.1 }
+
+-- ---- what `bulk` prints
+generated_nodes : (seed n : ℕ) → (generated seed n).nodes ≡ n
+unfolding generated
+generated_nodes seed n = refl
+
+pub proven_outcome : (r : Readings) (seed pages : ℕ) (old new : List ℕ) → pages ≤ MOST_GENERATED → new ≡ old ++ outcome_text (outcome_of r (generated seed pages)) → PrintsProvenOutcome r seed pages old new
+proven_outcome r seed pages old new few put =
+    let g = generated seed pages in
+    let proper = generated_is_proper seed pages in
+    let is_proven : IsProvenRanking r (bulk_bounds g) g = proven r BULK_ROUNDS DEFAULT_DAMPING (omega arith) (omega arith) g proper (omega (arith, few, generated_nodes seed pages)) None (ones g.nodes) in
+    record { graph = g; graph_is = refl; proper = proper; printed = put; proven = is_proven; sure = one_position (bulk_positions r g) (bulk_bounds g) g is_proven.surely }
