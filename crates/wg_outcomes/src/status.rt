@@ -1,6 +1,7 @@
 ghost use Rattle.std.specs.Prelude.{◌≡◌};
 ghost use Rattle.wg_outcomes.specs.Codes.{code_of};
 
+use thiserror::Error;
 use wg_arcs::{ArcsKind, NumbersFault};
 use wg_ascii::AsciiKind;
 use wg_grammar::ArchiveFault;
@@ -29,18 +30,22 @@ pub enum Input {
 }
 
 /// What is wrong with the weights of pages.
-#[derive(Clone, Copy, Debug, PartialEq, Eq)]
+#[derive(Clone, Copy, Debug, PartialEq, Eq, Error)]
 pub enum WeightsFault {
     /// They are not one number for each page, each within the limit.
+    #[error("{0}")]
     Numbers(NumbersFault),
     /// There are pages, and each weight is 0.
+    #[error("every weight is 0")]
     Zero,
 }
 
 /// What is wrong with the second archive that a job reads.
-#[derive(Clone, Copy, Debug, PartialEq, Eq)]
+#[derive(Clone, Copy, Debug, PartialEq, Eq, Error)]
 pub enum SecondFault {
+    #[error("{0}")]
     Properties(PropFault),
+    #[error("{0}")]
     Archive(ArchiveFault),
 }
 
