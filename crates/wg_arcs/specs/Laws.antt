@@ -19,9 +19,9 @@ TextsReadBack = (g : Digraph) → IsGraph g → g.nodes ≤ MOST_PAGES → arc_c
 pub record TextsAreOne : Type 0 where
   pub graph : (n : ℕ) (lines : List (List ℕ)) (g h : Digraph) → AreArcs n lines g → AreArcs n lines h → g ≡ h
   pub never_both : (n : ℕ) (lines : List (List ℕ)) (g : Digraph) (line : ℕ) (kind : ArcsKind) → AreArcs n lines g
-    → IsFirstFault n lines line kind → ⊥
+      → IsFirstFault n lines line kind → ⊥
   pub fault : (n : ℕ) (lines : List (List ℕ)) (line line1 : ℕ) (kind kind1 : ArcsKind)
-    → IsFirstFault n lines line kind → IsFirstFault n lines line1 kind1 → (line ≡ line1) × (kind ≡ kind1)
+      → IsFirstFault n lines line kind → IsFirstFault n lines line1 kind1 → (line ≡ line1) × (kind ≡ kind1)
 
 -- A text stands for a graph or has a first fault.
 abbrev pub TextsAreSome : Type 0
@@ -41,7 +41,7 @@ FaultsAreFirst =
 pub record OutcomesAreOne : Type 0 where
   pub some : (n limit : ℕ) (lines : List (List ℕ)) → (w : Result (List ℕ) NumbersFault) × IsOutcome n limit lines w
   pub one : (n limit : ℕ) (lines : List (List ℕ)) (w x : Result (List ℕ) NumbersFault) → IsOutcome n limit lines w
-    → IsOutcome n limit lines x → w ≡ x
+      → IsOutcome n limit lines x → w ≡ x
 
 -- The text of numbers below a limit stands for these numbers.
 abbrev pub NumbersReadBack : Type 0
