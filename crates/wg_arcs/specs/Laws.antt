@@ -18,8 +18,10 @@ TextsReadBack = (g : Digraph) → IsGraph g → g.nodes ≤ MOST_PAGES → arc_c
 -- A text stands for at most one graph, or has at most one first fault, and never both.
 pub record TextsAreOne : Type 0 where
   pub graph : (n : ℕ) (lines : List (List ℕ)) (g h : Digraph) → AreArcs n lines g → AreArcs n lines h → g ≡ h
-  pub never_both : (n : ℕ) (lines : List (List ℕ)) (g : Digraph) (line : ℕ) (kind : ArcsKind) → AreArcs n lines g → IsFirstFault n lines line kind → ⊥
-  pub fault : (n : ℕ) (lines : List (List ℕ)) (line line1 : ℕ) (kind kind1 : ArcsKind) → IsFirstFault n lines line kind → IsFirstFault n lines line1 kind1 → (line ≡ line1) × (kind ≡ kind1)
+  pub never_both : (n : ℕ) (lines : List (List ℕ)) (g : Digraph) (line : ℕ) (kind : ArcsKind) → AreArcs n lines g
+      → IsFirstFault n lines line kind → ⊥
+  pub fault : (n : ℕ) (lines : List (List ℕ)) (line line1 : ℕ) (kind kind1 : ArcsKind)
+      → IsFirstFault n lines line kind → IsFirstFault n lines line1 kind1 → (line ≡ line1) × (kind ≡ kind1)
 
 -- A text stands for a graph or has a first fault.
 abbrev pub TextsAreSome : Type 0
@@ -31,12 +33,15 @@ NumbersAreThose = (n limit : ℕ) (bytes xs : List ℕ) → (numbers_of n limit 
 
 -- It gives this fault exactly where this is its first one.
 abbrev pub FaultsAreFirst : Type 0
-FaultsAreFirst = (n limit : ℕ) (bytes : List ℕ) (f : NumbersFault) → (numbers_of n limit bytes ≡ Err f) ↔ IsFirstNumberFault n limit (lines_of bytes) f
+FaultsAreFirst =
+    (n limit : ℕ) (bytes : List ℕ) (f : NumbersFault)
+    → (numbers_of n limit bytes ≡ Err f) ↔ IsFirstNumberFault n limit (lines_of bytes) f
 
 -- Some lines have numbers or a first fault, and not two of these.
 pub record OutcomesAreOne : Type 0 where
   pub some : (n limit : ℕ) (lines : List (List ℕ)) → (w : Result (List ℕ) NumbersFault) × IsOutcome n limit lines w
-  pub one : (n limit : ℕ) (lines : List (List ℕ)) (w x : Result (List ℕ) NumbersFault) → IsOutcome n limit lines w → IsOutcome n limit lines x → w ≡ x
+  pub one : (n limit : ℕ) (lines : List (List ℕ)) (w x : Result (List ℕ) NumbersFault) → IsOutcome n limit lines w
+      → IsOutcome n limit lines x → w ≡ x
 
 -- The text of numbers below a limit stands for these numbers.
 abbrev pub NumbersReadBack : Type 0

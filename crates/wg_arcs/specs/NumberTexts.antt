@@ -1,5 +1,6 @@
 -- The numbers that a text stands for, where n of them below a limit are wanted, or its first fault.
-use Rattle.std.specs.Prelude.{◌≡◌, ℕ, ◌+◌, ◌<◌, nat_le, nat_lt, if◌then◌else◌, List, [], ◌++◌, length, take, get_or, map, codes, decimal, Option, Some, None, Result, Ok, Err}
+use Rattle.std.specs.Prelude.{◌≡◌, ℕ, ◌+◌, ◌<◌, nat_le, nat_lt, if◌then◌else◌, List, [], ◌++◌, length, take, get_or}
+use Rattle.std.specs.Prelude.{map, codes, decimal, Option, Some, None, Result, Ok, Err}
 use Rattle.std.specs.List.{filter_map}
 use Rattle.wg_io.specs.Puts.{joined}
 use Rattle.wg_num.specs.Lines.{lines_of}

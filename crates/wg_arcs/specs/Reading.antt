@@ -1,5 +1,7 @@
 -- The graph that a text of arcs stands for, or its first faulty line.
-use Rattle.std.specs.Prelude.{◌≡◌, ℕ, ◌+◌, ◌<◌, Bool, true, not, ◌&&◌, ◌||◌, ◌==◌, nat_lt, nat_le, if◌then◌else◌, List, [], ◌∷◌, length, take, get_or, filter, slice_index, Option, Some, None, Result, Ok, Err}
+use Rattle.std.specs.Prelude.{◌≡◌, ℕ, ◌+◌, ◌<◌, Bool, true, not, ◌&&◌, ◌||◌, ◌==◌, nat_lt, nat_le, if◌then◌else◌}
+use Rattle.std.specs.Prelude.{List, [], ◌∷◌, length, take, get_or, filter, slice_index, Option, Some, None, Result}
+use Rattle.std.specs.Prelude.{Ok, Err}
 use Rattle.std.specs.List.{slice_split, filter_map, last_or}
 use Rattle.wg_params.specs.declared.limits.TheConstants.{MOST_ARCS}
 use Rattle.wg_num.specs.Decimal.{number_of}
@@ -51,7 +53,8 @@ is_after (Some a) b = is_before a b
 abbrev pub refusal_after : ℕ → Option (ℕ × ℕ) → ℕ → Option (ℕ × ℕ) → Option ArcsKind
 refusal_after n last count None = Some kind.Shape
 refusal_after n last count (Some arc) =
-    if nat_le n arc.0 || nat_le n arc.1 then Some kind.Range else if not (is_after last arc) then Some kind.Order else if nat_lt count MOST_ARCS then None else Some kind.TooMany
+    if nat_le n arc.0 || nat_le n arc.1 then Some kind.Range else if not (is_after last arc) then Some kind.Order
+    else if nat_lt count MOST_ARCS then None else Some kind.TooMany
 
 -- what is wrong with a line after so many arcs, of which this is the last one, where n pages are given
 abbrev pub fault_after : ℕ → Option (ℕ × ℕ) → ℕ → List ℕ → Option ArcsKind

@@ -1,5 +1,6 @@
 -- The graph that a plain text stands for, or its first faulty line.
-use Rattle.std.specs.Prelude.{◌≡◌, ℕ, zero, suc, ◌+◌, ◌<◌, ◌≤◌, ◌==◌, nat_le, nat_lt, if◌then◌else◌, List, [], ◌∷◌, length, map, take, get_or, decimal, Option, Some, None, unwrap_or, Result, Ok, Err}
+use Rattle.std.specs.Prelude.{◌≡◌, ℕ, zero, suc, ◌+◌, ◌<◌, ◌≤◌, ◌==◌, nat_le, nat_lt, if◌then◌else◌, List, [], ◌∷◌}
+use Rattle.std.specs.Prelude.{length, map, take, get_or, decimal, Option, Some, None, unwrap_or, Result, Ok, Err}
 use Rattle.std.specs.List.{sum_by}
 use Rattle.wg_params.specs.declared.limits.TheConstants.{MOST_ARCS, MOST_PAGES}
 use Rattle.wg_num.specs.Decimal.{number_of}

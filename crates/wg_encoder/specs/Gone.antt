@@ -66,9 +66,9 @@ HasStopped files base p lists (error.Failed output.Offsets) =
     HoldsFront (fin.get files (graph_name base)) (graph_file p lists) × HoldsLess (fin.get files (offsets_name base)) (offsets_file p lists)
 HasStopped files base p lists error.Memory =
     (HoldsLess (fin.get files (graph_name base)) (graph_file p lists)
-        × HoldsFront (fin.get files (offsets_name base)) (offsets_file p lists))
+    × HoldsFront (fin.get files (offsets_name base)) (offsets_file p lists))
     ⊎ (HoldsFront (fin.get files (graph_name base)) (graph_file p lists)
-        × HoldsLess (fin.get files (offsets_name base)) (offsets_file p lists))
+    × HoldsLess (fin.get files (offsets_name base)) (offsets_file p lists))
 HasStopped files base p lists (error.Failed output.Properties) = ⊥
 HasStopped files base p lists (error.Failed output.Certificate) = ⊥
 HasStopped files base p lists (error.Failed output.Out) = ⊥

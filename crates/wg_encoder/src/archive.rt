@@ -9,7 +9,7 @@ use wg_io::{GRAPH, OFFSETS, PROPERTIES, SteadyDepot};
 
 /// What will be the three files of an archive, in memory, and what its records come to. It holds the bytes of the
 /// files, each with room for at most twice as many. No call takes memory.
-#[derive(Drop)]
+#[derive(Debug, Drop)]
 pub struct EncodedArchive {
     // holds the files of the archive whose name is empty
     pub(crate) depot: SteadyDepot,

@@ -58,6 +58,13 @@
 //! and [`ListError`]; there is no other reason, since the archive was checked. Why a file is no archive is told by
 //! [`CheckError`] and [`ArchiveFault`](wg_grammar::ArchiveFault), and why a page of one that was not checked has no
 //! list by [`SpotError`], or by [`PagesError`](wg_stream::PagesError), which also tells why a word was refused.
+//!
+//! Choices:
+//!
+//! - The records of a checked archive are proper. So the way down reads their heads by
+//!   [`reference`](wg_decoder::proper::reference), and the way up of [`Archive::list`] goes by iterators over lent
+//!   lists: neither judges a word again. [`spot_from`] judges, and reads both by the calls that name faults.
+//!   *Revisit if* these take no more time.
 #![tactic(auto)]
 
 mod archive;

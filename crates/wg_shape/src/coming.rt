@@ -17,7 +17,7 @@ pub trait Coming: Drop {
 }
 
 /// Gives the numbers of a list in memory. It is seen as those that are still to come. No call takes memory.
-#[derive(Drop)]
+#[derive(Debug, Drop)]
 pub struct ListWalk<'a> {
     left: &'a [u64],
 }
