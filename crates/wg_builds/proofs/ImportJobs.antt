@@ -13,45 +13,31 @@ use Rattle.wg_ascii.specs.declared.fault.AsciiError.{AsciiError}
 use Rattle.wg_ascii.specs.declared.fault.AsciiError.TheVariants as error
 use Rattle.wg_words.specs.declared.jobs.Job.TheVariants.{Import}
 use Rattle.wg_params.specs.declared.layout.Layout.{Layout}
-use Rattle.wg_outcomes.specs.Answers.{Answers, IsHindrance, Steps, status_in}
+use Rattle.wg_outcomes.specs.Answers.{IsHindrance, Steps, status_in}
 use Rattle.wg_outcomes.specs.Judged.{status_of, text_then, with_text}
 use Rattle.wg_readings.specs.Loading.{IsBadText, LoadsText}
 use Rattle.wg_readings.proofs.ReadingsLemmas.{text_goes_on, text_refused}
 use Rattle.wg_readings.proofs.UnderWay.{cause_later}
 use Rattle.wg_outcomes.specs.Names.{IsOfInput, held_by, text_named}
-use Rattle.wg_outcomes.specs.Promised.{ArePromised}
-use Rattle.wg_outcomes.specs.Readings.{Readings}
 use Rattle.wg_outcomes.specs.declared.ending.Ending.{Ending}
-use Rattle.wg_outcomes.specs.declared.status.Input.{Input}
 use Rattle.wg_outcomes.specs.declared.status.Input.TheVariants.{Text}
-use Rattle.wg_outcomes.specs.declared.status.Status.{Status}
 use Rattle.wg_outcomes.specs.declared.status.Status.TheVariants.{Done, Memory}
-use Rattle.wg_outcomes.proofs.Statuses.{IsOwn, own_caused, own_read}
+use Rattle.wg_outcomes.proofs.Statuses.{IsOwn, own_caused}
 use Rattle.wg_outcomes.specs.Commands.{builds}
-use Rattle.wg_outcomes.specs.JobFiles.{can_end, input_name}
-use Rattle.wg_outcomes.specs.Performs.{Outside, Performs, judged_on}
-use Rattle.wg_outcomes.specs.Reached.{Reaches}
-use Rattle.wg_outcomes.proofs.PerformsLemmas.{IsStop, stopped, unread}
+use Rattle.wg_outcomes.specs.JobFiles.{input_name}
+use Rattle.wg_outcomes.specs.Performs.{Outside, Performs}
 use Rattle.wg_builds.specs.Imported.{status_of_text}
-use Rattle.wg_builds.proofs.ListedJobs.{file_goes}
+use Rattle.wg_builds.proofs.TextJobs.{IsOfFault, file_goes, text_ends}
 
--- a plain text that was not read
+-- a plain text that was not read ends the job
 pub text_unread : (text base : List ℕ) (l : Layout) (td to : Bool) (before after : Outside) (e : Ending) → after.taken ≡ before.taken → LoadsText text td before.files after.files before.counts after.counts (Err e)
     → Performs (Import text base l) td to before after e.status e.promised
-text_unread text base l td to before after e silent h = by_only h.only
+text_unread text base l td to before after e silent h =
+    text_ends (text_named text) Text (Import text base l) td to before after e refl refl silent (λ r. refl) h.causes h.same h.later (λ t r. h.steps t r (λ g. builds l g)) (by_fault h.only)
   where
-    answers : IsTrue td → (r : Readings) → Answers (judged_on r (Import text base l) before.files) e.status
-    answers t r = h.steps t r (λ g. builds l g)
-
-    by_only : (IsOfInput Text e.status ⊎ IsBadText e) → Performs (Import text base l) td to before after e.status e.promised
-    by_only (inl only) =
-        unread (text_named text) Text (Import text base l) td to before after e.status e.promised refl refl silent only h.causes h.same h.later answers
-        (λ t r i is. subst (λ (k : Input). Reaches r (Import text base l) (held_by (input_name (Import text base l)) before.files) k) (own_read Text e.status i only is) refl)
-    by_only (inr fault) =
-        let own : IsOwn e.status = subst IsOwn (sym fault.2) tt in
-        stopped (Import text base l) td to before after e.status e.promised (subst IsStop (sym fault.2) tt) silent h.same answers
-        (subst (λ (s : Status). IsTrue (can_end (Import text base l) s)) (sym fault.2) refl) (own_caused _ _ _ _ _ _ e.status own)
-        (λ t r i is. absurd (subst IsOwn is own)) h.later (λ t. subst (λ (s : Status). ArePromised (held_by (input_name (Import text base l)) before.files) s e.promised) (sym fault.2) tt)
+    by_fault : (IsOfInput Text e.status ⊎ IsBadText e) → IsOfInput Text e.status ⊎ IsOfFault (Import text base l) (held_by (input_name (Import text base l)) before.files) e.promised e.status
+    by_fault (inl only) = inl only
+    by_fault (inr fault) = inr (subst (IsOfFault (Import text base l) (held_by (input_name (Import text base l)) before.files) e.promised) (sym fault.2) (tt, tt, refl, tt))
 
 -- other reads came before
 pub text_after : (name : List ℕ) (td : Bool) (f g h : Files) (a b c : List ℕ → Counts) (r : Result Digraph Ending) → g ≡ f → NonDecreasing a b → LoadsText name td g h b c r → LoadsText name td f h a c r

@@ -1,6 +1,6 @@
-pub mod BuildJobs
 pub mod BulkLemmas
 pub mod ImportJobs
 pub mod ImportingLemmas
 pub mod ListedJobs
 pub mod ListingLemmas
+pub mod TextJobs

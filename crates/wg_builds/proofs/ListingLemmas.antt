@@ -1,28 +1,21 @@
 -- Lists that are encoded as they come.
-use Rattle.std.proofs.Common.{◌≡◌, ◌⊎◌, inl, inr, ℕ, ◌+◌, ◌-◌, ◌<◌, ◌≤◌, List, [], ◌∷◌, ◌++◌, length, take, replicate, Option, Some, None, Result, sym, ap, subst, ◌∙◌, arith, append_assoc, append-nil, length-append}
+use Rattle.std.proofs.Common.{◌≡◌, ℕ, ◌+◌, ◌-◌, ◌<◌, ◌≤◌, List, [], ◌∷◌, ◌++◌, length, take, replicate, Option, Some, None, sym, ap, subst, ◌∙◌, arith, append_assoc, append-nil, length-append}
 use Rattle.std.specs.Prelude.{IfSome, option_to_list}
 use Rattle.std.proofs.lemmas.List.{length_push, replicate_more, take_all, take_at}
 use Rattle.std.proofs.lemmas.List.Sums.{sum_by-append, sum_by-cons}
-use Rattle.std.proofs.lemmas.Result.{IfOk-weaker}
-use Rattle.std.specs.Result.{IfOk}
 use Rattle.wg_params.specs.declared.limits.TheConstants.{MOST_ARCS}
 use Rattle.wg_graph.specs.Growing.{padded}
 use Rattle.wg_graph.specs.Ascending.{Below}
 use Rattle.wg_graph.proofs.Arcs.{length-arcs_from}
 use Rattle.wg_graph.proofs.Prefixes.{length-padded}
 use Rattle.wg_params.specs.Parameters.{Parameters}
-use Rattle.wg_arcs.specs.Growing.{IsFirst}
-use Rattle.wg_arcs.specs.declared.fault.ArcsError.{ArcsError}
-use Rattle.wg_arcs.specs.declared.fault.ArcsError.TheVariants as error
 use Rattle.wg_arcs.specs.Listing.{AreListed, arcs_on}
 use Rattle.wg_arcs.specs.declared.arc_lines.ArcLines.{ArcLines}
 use Rattle.wg_arcs.proofs.ListedLemmas.{next_page}
 use Rattle.wg_arcs.proofs.Order.{Arc}
 use Rattle.wg_encoder.specs.ArchiveInMemory.{EncodedSoFar, HasEncoded}
 use Rattle.wg_encoder.specs.Laws.{IsList}
-use Rattle.wg_outcomes.specs.declared.ending.Ending.{Ending}
-use Rattle.wg_outcomes.specs.declared.status.Status.{Status}
-use Rattle.wg_builds.specs.Listed.{EndsAtLine, IsOfList, IsUnderWay, done_at, list_at, status_of_list}
+use Rattle.wg_builds.specs.Listed.{IsUnderWay, done_at, list_at}
 
 -- one empty list more
 pub padded_more : (n : ℕ) (lists : List (List ℕ)) → length lists ≤ n → padded n lists ++ [] ∷ [] ≡ padded (n + 1) lists
@@ -84,25 +77,13 @@ moved_on e f list list' s done next nodes most h params is encoded =
 
 -- ---- the last pages
 
-pub taken_whole : (n : ℕ) (e : EncodedSoFar) (done : List (List ℕ)) (list : List ℕ) (r : Result EncodedSoFar Ending) → HasEncoded e done → e.page < n → IfOk r (λ f. HasEncoded f (padded n (done ++ list ∷ [])))
-    → IfOk r (λ f. HasEncoded f (take n (padded n (done ++ list ∷ []))))
-taken_whole n e done list r h lt is =
+pub taken_whole : (n : ℕ) (e : EncodedSoFar) (done : List (List ℕ)) (list : List ℕ) → HasEncoded e done → e.page < n → take n (padded n (done ++ list ∷ [])) ≡ padded n (done ++ list ∷ [])
+taken_whole n e done list h lt =
     let all : List (List ℕ) = done ++ list ∷ [] in
     let size : length (padded n all) ≡ n = length-padded n all (omega (arith, h.page, length_push done list)) in
-    IfOk-weaker r (λ f. HasEncoded f (padded n all)) (λ f. HasEncoded f (take n (padded n all))) (λ f x. subst (HasEncoded f) (sym (take_all n (padded n all) (omega (arith, size)))) x) is
+    take_all n (padded n all) (omega (arith, size))
 
 pub all_taken : (n : ℕ) (e : EncodedSoFar) (done : List (List ℕ)) (list : List ℕ) → HasEncoded e done → e.page ≡ n → HasEncoded e (take n (padded n (done ++ list ∷ [])))
 all_taken n e done list h is =
     let size : length done ≡ n = sym h.page ∙ is in
     subst (HasEncoded e) (sym (ap (take n) (padded_none n (done ++ list ∷ []) (omega (arith, size, length_push done list))) ∙ take_at done (list ∷ []) n size)) h
-
--- ---- how it ends
-
-pub of_list : (e : ArcsError) (status : Status) → status ≡ status_of_list e → IsOfList status
-of_list (error.Line line kind) status is = inr (line, kind, is)
-of_list error.Memory status is = inl is
-
-pub at_line : (n : ℕ) (all : List (List ℕ)) (e : ArcsError) (status : Status) → status ≡ status_of_list e → (e ≡ error.Memory) ⊎ IsFirst n all e → EndsAtLine n all status
-at_line n all e status is (inl want) = inl (is ∙ ap status_of_list want)
-at_line n all (error.Line line kind) status is (inr first) = inr (line, kind, is, first)
-at_line n all error.Memory status is (inr first) = absurd first

@@ -1,2 +1,3 @@
+pub mod Encoded
 pub mod Imported
 pub mod Listed

@@ -9,7 +9,8 @@ ghost use Rattle.wg_params.specs.declared.limits.TheConstants.{MOST_ARCS, MOST_P
 ghost use Rattle.wg_ascii.specs.Growing.{IsFirst, IsUpTo};
 ghost use Rattle.wg_encoder.specs.ArchiveInMemory.{HasEncoded};
 ghost use Rattle.wg_readings.specs.Loading.{LoadsTextBy};
-ghost use Rattle.wg_builds.specs.Imported.{Begins, EncodesTextBy, GoesOn, KeepsPace, MakesOfTextBy, status_of_text};
+ghost use Rattle.wg_builds.specs.Encoded.{Encodes, Makes};
+ghost use Rattle.wg_builds.specs.Imported.{Begins, GoesOn, KeepsPace, status_of_text};
 
 use std::alloc::Global;
 use wg_ascii::{AsciiError, PageLines};
@@ -92,7 +93,7 @@ fn encode_rest<D: Depot>(
     lines: &mut PageLines,
     reader: &mut LineReader,
     depot: &mut D,
-    name: &Name,
+    name: &str,
 ) -> Result<ArchiveEncoder, Ending>
     requires pace { KeepsPace encoder lines.old }
     requires line { lines.old.line ≤ reader.old.first + length reader.old.lines }
@@ -103,10 +104,11 @@ fn encode_rest<D: Depot>(
     ensures params { IfOk result (λ e. e.params ≡ encoder.params) }
     ensures nodes { OnOk result (lines.new.nodes ≡ lines.old.nodes) }
     ensures few { OnOk result (lines.new.arcs ≤ MOST_ARCS) }
-    ensures encodes { IfOk result (λ e. EncodesTextBy ⟦<D as Depot>⟧ name.now depot.old depot.new e lines.new) }
+    ensures encodes { IfOk result (λ e. Encodes (LoadsTextBy ⟦<D as Depot>⟧ name.now depot.old depot.new)
+        e lines.new.nodes lines.new.arcs) }
     ensures ends { IfErr result (λ e. LoadsTextBy ⟦<D as Depot>⟧ name.now depot.old depot.new (Err e)) }
 {
-    while next_lines(reader, depot, name.as_str(), Input::Text)? {
+    while next_lines(reader, depot, name, Input::Text)? {
         encoder = match take_lines(encoder, list, lines, reader.lines()) {
             Ok(encoder) => encoder,
             Err(error) => return Err(ending_at(error)),
@@ -123,17 +125,18 @@ fn encode_pages<D: Depot>(
     alloc: Global,
     layout: &Layout,
     depot: &mut D,
-    name: &Name,
+    name: &str,
 ) -> Result<(ArchiveEncoder, PageLines), Ending>
     requires { IsWithinLimits (params_of layout.now 0 0) }
     ensures params { IfOk result (λ r. r.0.params ≡ params_of layout.now r.1.nodes MOST_ARCS) }
     ensures few_pages { IfOk result (λ r. r.1.nodes ≤ MOST_PAGES) }
     ensures few_arcs { IfOk result (λ r. r.1.arcs ≤ MOST_ARCS) }
-    ensures encodes { IfOk result (λ r. EncodesTextBy ⟦<D as Depot>⟧ name.now depot.old depot.new r.0 r.1) }
+    ensures encodes { IfOk result (λ r. Encodes (LoadsTextBy ⟦<D as Depot>⟧ name.now depot.old depot.new)
+        r.0 r.1.nodes r.1.arcs) }
     ensures ends { IfErr result (λ e. LoadsTextBy ⟦<D as Depot>⟧ name.now depot.old depot.new (Err e)) }
 {
-    let mut reader = open_lines(alloc, depot, name.as_str(), Input::Text)?;
-    let _some = next_lines(&mut reader, depot, name.as_str(), Input::Text)?;
+    let mut reader = open_lines(alloc, depot, name, Input::Text)?;
+    let _some = next_lines(&mut reader, depot, name, Input::Text)?;
     let mut list = List::new(alloc);
     let (encoder, mut lines) = match encode_first(alloc, layout, &mut list, reader.lines()) {
         Ok(first) => first,
@@ -153,10 +156,11 @@ pub fn encode_text<D: Depot>(
     name: &Name,
 ) -> Result<(Params, EncodedArchive), Ending>
     requires { IsWithinLimits (params_of layout.now 0 0) }
-    ensures makes { IfOk result (λ r. MakesOfTextBy ⟦<D as Depot>⟧ name.now layout.now depot.old depot.new r.0 r.1) }
+    ensures makes { IfOk result (λ r. Makes (LoadsTextBy ⟦<D as Depot>⟧ name.now depot.old depot.new)
+        layout.now r.0 r.1) }
     ensures ends { IfErr result (λ e. LoadsTextBy ⟦<D as Depot>⟧ name.now depot.old depot.new (Err e)) }
 {
-    let (encoder, lines) = encode_pages(alloc, layout, depot, name)?;
+    let (encoder, lines) = encode_pages(alloc, layout, depot, name.as_str())?;
     let params = params_of(layout, lines.nodes, lines.arcs);
     let archive = end_archive(alloc, encoder, &params)?;
     Ok((params, archive))

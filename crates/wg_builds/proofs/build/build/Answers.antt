@@ -2,18 +2,17 @@ use Rattle.std.proofs.Common.{refl}
 use Rattle.wg_words.specs.declared.jobs.Job.TheVariants.{Build}
 use Rattle.wg_outcomes.proofs.BuildLemmas.{written}
 use Rattle.wg_readings.proofs.JobSteps.{performs_exit}
-use Rattle.wg_builds.proofs.BuildJobs.{list_unread}
-use Rattle.wg_builds.proofs.ListedJobs.{done, ended}
+use Rattle.wg_builds.proofs.ListedJobs.{list_unread}
 use Rattle.wg_builds.proofs.build.build.Goals as goal
 
 pub returns-in_err-params : goal.returns-in_err-params
 returns-in_err-params g c =
     performs_exit _ _ _ _ _ _ _ c.from_residual.ensures.1
-    (list_unread c.args.arcs.now c.args.base.now c.args.nodes c.args.layout.now _ _ _ _ _ refl (ended _ _ _ _ _ _ _ _ _ c.in_err-params.ensures))
+    (list_unread c.args.arcs.now c.args.base.now c.args.nodes c.args.layout.now _ _ _ _ _ refl c.in_err-params.ensures.ends)
 
 pub returns : goal.returns
 returns g c =
     let l = c.args.layout.now in
-    let h = done _ _ _ _ _ _ _ _ c.in_ok-params.params c.in_ok-params.archive c.in_ok-params.ensures in
+    let h = c.in_ok-params.ensures.makes in
     written (Build c.args.arcs.now c.args.base.now c.args.nodes l) _ _ _ _ _ _ l h.graph c.args.base.now c.build_archive.result refl refl
     (λ t r. h.loads.steps t r _) h.loads.same h.loads.later (c.build_archive.ensures l h.graph h.params h.is)

@@ -1,12 +1,11 @@
 use Rattle.std.proofs.Common.{◌++◌, []}
-use Rattle.std.proofs.lemmas.Result.{err_from_is_err_and}
 use Rattle.wg_num.specs.Lines.{lines_of}
+use Rattle.wg_outcomes.proofs.WritingLemmas.{if_that_err}
 use Rattle.wg_builds.proofs.importing.encode_first.Goals as goal
 
 pub returns-in_err-lines-clause-fault : goal.returns-in_err-lines-clause-fault
 returns-in_err-lines-clause-fault c = λ later end.
-    let p = err_from_is_err_and c.from_residual.result c.from_residual.ensures.1 in
-    rw (p.1, p.2) (c.in_err-lines.ensures.fault later end)
+    if_that_err _ _ _ c.from_residual.ensures.1 (c.in_err-lines.ensures.fault later end)
 
 pub returns-clause-begins : goal.returns-clause-begins
 returns-clause-begins c =

@@ -1,17 +1,17 @@
-use Rattle.std.proofs.Common.{◌++◌, ◌∙◌, ℕ, List, Some, Ok, Err, length, ap, sym, subst}
+use Rattle.std.proofs.Common.{◌++◌, ◌∙◌, ℕ, List, Ok, Err, length, ap, refl, sym, subst}
 use Rattle.std.specs.FinMap as map
-use Rattle.std.proofs.lemmas.Result.{err_from_is_err_and}
 use Rattle.wg_io.specs.Outside.{Files}
 use Rattle.wg_io.proofs.FilesLemmas.{none_falls-trans}
 use Rattle.wg_num.specs.Lines.{lines_of}
-use Rattle.wg_lines.specs.Reading.{lines_after, IsReadable}
+use Rattle.wg_lines.specs.Reading.{lines_after}
 use Rattle.wg_ascii.specs.Growing.{IsFirst, IsUpTo}
 use Rattle.wg_outcomes.specs.Names.{text_named}
 use Rattle.wg_outcomes.specs.declared.status.Input.TheVariants.{Text}
+use Rattle.wg_outcomes.proofs.WritingLemmas.{if_that_err}
 use Rattle.wg_readings.proofs.LoadLemmas.{text_unloaded}
 use Rattle.wg_builds.proofs.ImportJobs.{text_after, text_stops}
 use Rattle.wg_builds.proofs.ImportingLemmas.{no_later}
-use Rattle.wg_builds.proofs.ListedJobs.{found, loads_after}
+use Rattle.wg_builds.proofs.TextJobs.{loads_after, still}
 use Rattle.wg_builds.proofs.importing.encode_pages.Goals as goal
 
 pub returns-in_err-reader-clause-ends : goal.returns-in_err-reader-clause-ends
@@ -19,8 +19,7 @@ returns-in_err-reader-clause-ends g c =
     let r = c.in_err-reader.ensures in
     let e = c.in_err-reader.field-0.0 in
     let name = c.args.name.now in
-    let p = err_from_is_err_and c.from_residual.result c.from_residual.ensures.1 in
-    rw (p.1, p.2) (text_unloaded name _ _ _ _ _ e (r.ends (text_named name) (ap Some (sym c.as_str.ensures))))
+    if_that_err _ _ _ c.from_residual.ensures.1 (text_unloaded name _ _ _ _ _ e (r.ends (text_named name) refl))
 
 pub returns-in_err-_some-clause-ends : goal.returns-in_err-_some-clause-ends
 returns-in_err-_some-clause-ends g c =
@@ -28,8 +27,7 @@ returns-in_err-_some-clause-ends g c =
     let r = c.in_err-_some.ensures in
     let e = c.in_err-_some.field-0.0 in
     let name = c.args.name.now in
-    let p = err_from_is_err_and c.from_residual-in_err-_some.result c.from_residual-in_err-_some.ensures.1 in
-    rw (p.1, p.2) (text_unloaded name _ _ _ _ _ e (loads_after (text_named name) Text _ _ _ _ _ _ _ e o.same o.later (r.ends (text_named name) (ap Some (sym c.as_str-2.ensures)))))
+    if_that_err _ _ _ c.from_residual-in_err-_some.ensures.1 (text_unloaded name _ _ _ _ _ e (loads_after (text_named name) Text _ _ _ _ _ _ _ e o.same o.later (r.ends (text_named name) refl)))
 
 pub returns-in-Err-clause-ends : goal.returns-in-Err-clause-ends
 returns-in-Err-clause-ends g c =
@@ -39,18 +37,12 @@ returns-in-Err-clause-ends g c =
     let name = c.args.name.now in
     let new = c.next_lines.new.reader in
     text_stops name _ _ _ _ _ (r.same ∙ o.same) (none_falls-trans _ _ _ o.later r.later) c.ending_at.result x c.ending_at.ensures (λ t.
-    let f = found _ (subst (λ (l : List ℕ). IsReadable (map.get (g.D.Depot.files c.args.depot.now) l)) c.as_str.ensures (o.readable t)) in
-    let file = f.0 in
-    let later = lines_after file new in
-    let there = ap (λ (l : List ℕ). map.get (g.D.Depot.files c.open_lines.new.depot) l) c.as_str-2.ensures ∙ ap (λ (d : Files). map.get d name) o.same ∙ f.1 in
-    let next = r.lines t file there in
-    let all = sym (o.all file) ∙ next ∙ ap (λ (l : List ℕ). lines_of l ++ later) (sym c.lines.ensures.value) in (
-      file,
-      f.1,
-      f.2,
-      subst (λ (ls : List (List ℕ)). IsFirst ls x) (sym all)
-          (c.in-Err.ensures.fault later (λ none. no_later c.in_ok-_some._some _ later new.lines r.some (r.end t file there) next (ap (λ (l : List ℕ). length l) (sym c.lines.ensures.value) ∙ none))),
-    ))
+    let f = still name _ _ o.same (o.readable t) in
+    let later = lines_after f.0 new in
+    let next = r.lines t f.0 f.3 in
+    let all = sym (o.all f.0) ∙ next ∙ ap (λ (l : List ℕ). lines_of l ++ later) (sym c.lines.ensures.value) in
+    let end = no_later c.in_ok-_some._some _ later new.lines r.some (r.end t f.0 f.3) next in
+    (f.0, f.1, f.2, subst (λ (ls : List (List ℕ)). IsFirst ls x) (sym all) (c.in-Err.ensures.fault later (λ none. end (ap (λ (l : List ℕ). length l) (sym c.lines.ensures.value) ∙ none)))))
 
 pub encode_rest-requires-clause-way : goal.encode_rest-requires-clause-way
 encode_rest-requires-clause-way g c =
@@ -63,7 +55,7 @@ encode_rest-requires-clause-way g c =
       b.encoded,
       λ t file is.
           let later = lines_after file new in
-          let there = ap (λ (l : List ℕ). map.get (g.D.Depot.files c.open_lines.new.depot) l) c.as_str-2.ensures ∙ ap (λ (d : Files). map.get d name) (sym r.same) ∙ is in
+          let there = ap (λ (d : Files). map.get d name) (sym r.same) ∙ is in
           let all = sym (o.all file) ∙ r.lines t file there ∙ ap (λ (l : List ℕ). lines_of l ++ later) (sym c.lines.ensures.value) in
           subst (λ (ls : List (List ℕ)). IsUpTo ls later b.lists c.in-Ok.first.1) (sym all) (b.reads later),
     )
@@ -73,8 +65,7 @@ returns-in_err-encoder-clause-ends g c =
     let o = c.in_ok-reader.ensures in
     let r = c.in_ok-_some.ensures in
     let e = c.in_err-encoder.field-0.0 in
-    let p = err_from_is_err_and c.from_residual-in_err-encoder.result c.from_residual-in_err-encoder.ensures.1 in
-    rw (p.1, p.2) (text_after c.args.name.now _ _ _ _ _ _ _ (Err e) (r.same ∙ o.same) (none_falls-trans _ _ _ o.later r.later) c.in_err-encoder.ensures.ends)
+    if_that_err _ _ _ c.from_residual-in_err-encoder.ensures.1 (text_after c.args.name.now _ _ _ _ _ _ _ (Err e) (r.same ∙ o.same) (none_falls-trans _ _ _ o.later r.later) c.in_err-encoder.ensures.ends)
 
 pub returns-clause-encodes : goal.returns-clause-encodes
 returns-clause-encodes g c =

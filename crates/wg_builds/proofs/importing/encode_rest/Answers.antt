@@ -1,6 +1,5 @@
-use Rattle.std.proofs.Common.{◌∙◌, ℕ, List, Some, Ok, refl, length, ap, sym, subst, arith}
+use Rattle.std.proofs.Common.{◌∙◌, ℕ, List, Ok, refl, length, ap, sym, subst, arith}
 use Rattle.std.specs.FinMap as map
-use Rattle.std.proofs.lemmas.Result.{err_from_is_err_and}
 use Rattle.wg_io.specs.Outside.{Files}
 use Rattle.wg_io.proofs.FilesLemmas.{none_falls-trans}
 use Rattle.wg_num.specs.Lines.{lines_of}
@@ -8,10 +7,11 @@ use Rattle.wg_lines.specs.Reading.{lines_after}
 use Rattle.wg_ascii.specs.Growing.{IsUpTo}
 use Rattle.wg_outcomes.specs.Names.{text_named}
 use Rattle.wg_outcomes.specs.declared.status.Input.TheVariants.{Text}
+use Rattle.wg_outcomes.proofs.WritingLemmas.{if_that_err}
 use Rattle.wg_readings.proofs.LoadLemmas.{text_unloaded}
 use Rattle.wg_builds.proofs.ImportJobs.{text_read, text_stops}
 use Rattle.wg_builds.proofs.ImportingLemmas.{lent}
-use Rattle.wg_builds.proofs.ListedJobs.{found, loads_after}
+use Rattle.wg_builds.proofs.TextJobs.{loads_after, still}
 use Rattle.wg_builds.proofs.importing.encode_rest.Goals as goal
 
 pub returns-in_err-next_lines-clause-ends : goal.returns-in_err-next_lines-clause-ends
@@ -20,8 +20,7 @@ returns-in_err-next_lines-clause-ends g c =
     let r = c.in_err-next_lines.ensures in
     let e = c.in_err-next_lines.field-0.0 in
     let name = c.args.name.now in
-    let p = err_from_is_err_and c.from_residual.result c.from_residual.ensures.1 in
-    rw (p.1, p.2) (text_unloaded name _ _ _ _ _ e (loads_after (text_named name) Text _ _ _ _ _ _ _ e i.same i.later (r.ends (text_named name) (ap Some (sym c.as_str.ensures)))))
+    if_that_err _ _ _ c.from_residual.ensures.1 (text_unloaded name _ _ _ _ _ e (loads_after (text_named name) Text _ _ _ _ _ _ _ e i.same i.later (r.ends (text_named name) refl)))
 
 pub returns-in-Err-clause-ends : goal.returns-in-Err-clause-ends
 returns-in-Err-clause-ends g c =
@@ -30,11 +29,9 @@ returns-in-Err-clause-ends g c =
     let name = c.args.name.now in
     let new = c.next_lines.new.reader in
     text_stops name _ _ _ _ _ (r.same ∙ i.same) (none_falls-trans _ _ _ i.later r.later) c.ending_at.result c.in-Err.error c.ending_at.ensures (λ t.
-    let f = found _ (c.requires.readable t) in
-    let file = f.0 in
-    let there = ap (λ (l : List ℕ). map.get (g.D.Depot.files c.loop-encoder.depot) l) c.as_str.ensures ∙ ap (λ (d : Files). map.get d name) i.same ∙ f.1 in
-    let up = lent (lines_of file) _ (lines_after file new) i.way.0 c.lines.result.now new.lines c.loop-encoder.lines (r.lines t file there) c.lines.ensures.value (i.way.2 t file f.1) in
-    (file, f.1, f.2, c.in-Err.ensures.fault (lines_of file) (lines_after file new) i.way.0 i.way.1 up))
+    let f = still name _ _ i.same (c.requires.readable t) in
+    let up = lent (lines_of f.0) _ (lines_after f.0 new) i.way.0 c.lines.result.now new.lines c.loop-encoder.lines (r.lines t f.0 f.3) c.lines.ensures.value (i.way.2 t f.0 f.1) in
+    (f.0, f.1, f.2, c.in-Err.ensures.fault (lines_of f.0) (lines_after f.0 new) i.way.0 i.way.1 up))
 
 pub loop-encoder-preserved : goal.loop-encoder-preserved
 loop-encoder-preserved g c =
@@ -53,7 +50,7 @@ loop-encoder-preserved g c =
         go.lists,
         go.encoded,
         λ t file is.
-            let there = ap (λ (l : List ℕ). map.get (g.D.Depot.files c.loop-encoder.depot) l) c.as_str.ensures ∙ ap (λ (d : Files). map.get d name) i.same ∙ is in
+            let there = ap (λ (d : Files). map.get d name) i.same ∙ is in
             go.reads (lines_of file) (lines_after file new)
             (lent (lines_of file) _ (lines_after file new) i.way.0 c.lines.result.now new.lines c.loop-encoder.lines (r.lines t file there) c.lines.ensures.value (i.way.2 t file is)),
       );
@@ -72,10 +69,8 @@ returns-in-Ok-end-clause-encodes g c =
     record {
       graph = record { nodes = s.nodes; lists = lists };
       loads = text_read name _ _ _ _ _ (r.same ∙ i.same) (none_falls-trans _ _ _ i.later r.later) (record { nodes = s.nodes; lists = lists }) (λ t.
-          let f = found _ (c.requires.readable t) in
-          let file = f.0 in
-          let there = ap (λ (l : List ℕ). map.get (g.D.Depot.files c.loop-encoder.depot) l) c.as_str.ensures ∙ ap (λ (d : Files). map.get d name) i.same ∙ f.1 in
-          (file, f.1, f.2, e.read (lines_of file) lists (subst (λ (ls : List (List ℕ)). IsUpTo (lines_of file) ls lists s) (r.end t file there (ap (λ b. Ok b) c.if-branch.false)) (i.way.2 t file f.1))));
+          let f = still name _ _ i.same (c.requires.readable t) in
+          (f.0, f.1, f.2, e.read (lines_of f.0) lists (subst (λ (ls : List (List ℕ)). IsUpTo (lines_of f.0) ls lists s) (r.end t f.0 f.3 (ap (λ b. Ok b) c.if-branch.false)) (i.way.2 t f.0 f.1))));
       encoded = i.way.1;
       nodes = refl;
       arcs = sym i.way.1.arcs ∙ i.pace.arcs;
@@ -90,7 +85,5 @@ returns-in-Err-end-clause-ends g c =
     let s = c.loop-encoder.lines in
     let lists = i.way.0 in
     text_stops name _ _ _ _ _ (r.same ∙ i.same) (none_falls-trans _ _ _ i.later r.later) c.ending_at-in-Err-end.result c.in-Err-end.error c.ending_at-in-Err-end.ensures (λ t.
-    let f = found _ (c.requires.readable t) in
-    let file = f.0 in
-    let there = ap (λ (l : List ℕ). map.get (g.D.Depot.files c.loop-encoder.depot) l) c.as_str.ensures ∙ ap (λ (d : Files). map.get d name) i.same ∙ f.1 in
-    (file, f.1, f.2, c.in-Err-end.ensures.fault (lines_of file) lists (subst (λ (ls : List (List ℕ)). IsUpTo (lines_of file) ls lists s) (r.end t file there (ap (λ b. Ok b) c.if-branch.false)) (i.way.2 t file f.1))))
+    let f = still name _ _ i.same (c.requires.readable t) in
+    (f.0, f.1, f.2, c.in-Err-end.ensures.fault (lines_of f.0) lists (subst (λ (ls : List (List ℕ)). IsUpTo (lines_of f.0) ls lists s) (r.end t f.0 f.3 (ap (λ b. Ok b) c.if-branch.false)) (i.way.2 t f.0 f.1))))

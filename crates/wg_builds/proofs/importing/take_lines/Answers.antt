@@ -1,14 +1,13 @@
 use Rattle.std.proofs.Common.{rules, ◌+◌, ◌<◌, ◌≤◌, ◌++◌, ◌∷◌, ◌∙◌, [], List, ℕ, length, ap, subst, arith}
-use Rattle.std.proofs.lemmas.Result.{err_from_is_err_and}
 use Rattle.wg_encoder.specs.ArchiveInMemory.{HasEncoded}
+use Rattle.wg_outcomes.proofs.WritingLemmas.{if_that_err}
 use Rattle.wg_builds.proofs.ImportingLemmas.{blank_pace, page_pace}
 use Rattle.wg_builds.proofs.importing.take_lines.Goals as goal
 
 pub returns-in_err-rest-clause-fault : goal.returns-in_err-rest-clause-fault
 returns-in_err-rest-clause-fault c = λ all later done h up.
     let x = c.pages.invariant.goes done h in
-    let p = err_from_is_err_and c.from_residual.result c.from_residual.ensures.1 in
-    rw (p.1, p.2) (c.in_err-rest.ensures.fault all later x.0 (x.2 all later up))
+    if_that_err _ _ _ c.from_residual.ensures.1 (c.in_err-rest.ensures.fault all later x.0 (x.2 all later up))
 
 pub pages-preserved : goal.pages-preserved
 pages-preserved c =
@@ -35,8 +34,7 @@ pages-preserved c =
 pub returns-in_err-refuse_words-clause-fault : goal.returns-in_err-refuse_words-clause-fault
 returns-in_err-refuse_words-clause-fault c = λ all later done h up.
     let x = c.pages.invariant.goes done h in
-    let p = err_from_is_err_and c.from_residual-in_err-refuse_words.result c.from_residual-in_err-refuse_words.ensures.1 in
-    rw (p.1, p.2) (c.in_err-refuse_words.ensures.fault all later x.0 (x.2 all later up))
+    if_that_err _ _ _ c.from_residual-in_err-refuse_words.ensures.1 (c.in_err-refuse_words.ensures.fault all later x.0 (x.2 all later up))
 
 pub returns-clause-pace : goal.returns-clause-pace
 returns-clause-pace c =

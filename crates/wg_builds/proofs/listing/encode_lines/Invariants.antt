@@ -12,10 +12,10 @@ use Rattle.wg_builds.proofs.listing.encode_lines.Given as goal
 abbrev pub invariant-loop-list : goal.invariant-loop-list
 invariant-loop-list g l = let d = g.D.Depot in record {
   params : l.encoder.params ≡ l.fn.encoder.params;
-  nodes : l.lines.nodes ≡ l.fn.lines.nodes;
+  nodes : l.lines.nodes ≡ l.nodes;
   line : l.lines.line ≤ l.reader.first + length l.reader.lines;
   way : (done : List (List ℕ)) × IsUnderWay l.encoder l.list l.lines done × (IsTrue d.told → (file : List ℕ) → map.get (d.files l.fn.depot) l.name ≡ Some file
-      → SoFar l.fn.lines.nodes (lines_of file) (lines_after file l.reader) l.lines.line (arcs_on done l.list));
+      → SoFar l.nodes (lines_of file) (lines_after file l.reader) l.lines.line (arcs_on done l.list));
   readable : IsTrue d.told → IsReadable (map.get (d.files l.fn.depot) l.name);
   same : d.files l.depot ≡ d.files l.fn.depot;
   later : NonDecreasing (d.counts l.fn.depot) (d.counts l.depot);

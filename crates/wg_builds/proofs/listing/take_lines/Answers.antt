@@ -1,55 +1,54 @@
 use Rattle.std.proofs.Common.{◌≡◌, ◌++◌, ◌∙◌, ℕ, List, length, sym, subst, arith, rules}
 use Rattle.std.specs.Prelude.{option_to_list}
-use Rattle.std.proofs.lemmas.Result.{err_from_is_err_and}
 use Rattle.wg_num.specs.Lines.{lines_of}
 use Rattle.wg_num.proofs.Cuts.{no_lines}
 use Rattle.wg_arcs.specs.Growing.{SoFar}
 use Rattle.wg_arcs.specs.Listing.{arcs_on}
 use Rattle.wg_arcs.proofs.Order.{Arc}
-use Rattle.wg_builds.specs.Listed.{EndsAtLine, done_at}
+use Rattle.wg_outcomes.proofs.WritingLemmas.{if_that_err}
+use Rattle.wg_builds.specs.Listed.{IsFault, done_at}
 use Rattle.wg_builds.proofs.ListingLemmas.{comes_next, few_arcs, moved_on, proper_list}
 use Rattle.wg_builds.proofs.listing.take_lines.Goals as goal
 
-pub returns-in_err-next-clause-ends : goal.returns-in_err-next-clause-ends
-returns-in_err-next-clause-ends c = λ done all later w so.
+pub returns-in_err-next-clause-fault : goal.returns-in_err-next-clause-fault
+returns-in_err-next-clause-fault c = λ done all later w so.
     let i = c.lines.invariant in
     let x = i.way done w in
     let s = c.lines.lines in
-    let e = c.in_err-next.field-0.0 in
-    let p = err_from_is_err_and c.from_residual.result c.from_residual.ensures.1 in
     let here : SoFar s.nodes all (lines_of c.lines.rest.now ++ later) s.line (arcs_on x.0 c.lines.list) =
     subst (λ (n : ℕ). SoFar n all (lines_of c.lines.rest.now ++ later) s.line (arcs_on x.0 c.lines.list)) (sym i.nodes) (x.2 all later so) in
-    rw (p.1, p.2) (subst (λ (n : ℕ). EndsAtLine n all e.status) i.nodes (c.in_err-next.ensures.ends x.0 all later (sym x.1.encoded.page ∙ sym c.page.ensures.value) x.1.listed here))
+    if_that_err _ _ _ c.from_residual.ensures.1
+    (subst (λ (n : ℕ). IsFault n all c.in_err-next.field-0.0) i.nodes (c.in_err-next.ensures.fault x.0 all later (sym x.1.encoded.page ∙ sym c.page.ensures.value) x.1.listed here))
 
 pub begin_page-requires-clause-arcs : goal.begin_page-requires-clause-arcs
 begin_page-requires-clause-arcs c =
     let x = c.lines.invariant.way c.requires.way.0 c.requires.way.1 in
     let filled = c.in_ok-next.ensures.listed x.0 (sym x.1.encoded.page ∙ sym c.page.ensures.value) x.1.listed in
-    omega (arith, few_arcs c.lines.encoder x.0 c.fill_list.new.list c.in_ok-next.next c.fill_list.new.lines x.1.encoded filled, x.1.most)
+    omega (arith, few_arcs c.lines.encoder x.0 c.fill.new.list c.in_ok-next.next c.fill.new.self x.1.encoded filled, x.1.most)
 
 pub begin_page-requires-clause-page : goal.begin_page-requires-clause-page
 begin_page-requires-clause-page c =
     let x = c.lines.invariant.way c.requires.way.0 c.requires.way.1 in
     let r = c.in_ok-next.ensures in
     let filled = r.listed x.0 (sym x.1.encoded.page ∙ sym c.page.ensures.value) x.1.listed in
-    comes_next c.lines.encoder x.0 c.fill_list.new.list c.in_ok-next.next c.fill_list.new.lines x.1.encoded (x.1.nodes ∙ sym r.nodes) filled
+    comes_next c.lines.encoder x.0 c.fill.new.list c.in_ok-next.next c.fill.new.self x.1.encoded (x.1.nodes ∙ sym r.nodes) filled
 
 pub begin_page-requires-clause-list : goal.begin_page-requires-clause-list
 begin_page-requires-clause-list c =
     let x = c.lines.invariant.way c.requires.way.0 c.requires.way.1 in
     let r = c.in_ok-next.ensures in
     let filled = r.listed x.0 (sym x.1.encoded.page ∙ sym c.page.ensures.value) x.1.listed in
-    proper_list c.lines.encoder x.0 c.fill_list.new.list c.in_ok-next.next c.fill_list.new.lines (x.1.nodes ∙ sym r.nodes) filled
+    proper_list c.lines.encoder x.0 c.fill.new.list c.in_ok-next.next c.fill.new.self (x.1.nodes ∙ sym r.nodes) filled
 
 pub lines-preserved : goal.lines-preserved
 lines-preserved c =
     let i = c.lines.invariant in
     let s = c.lines.lines in
-    let t = c.fill_list.new.lines in
+    let t = c.fill.new.self in
     let r = c.in_ok-next.ensures in
     let e = c.in_ok-encoder.ensures in
     let next = c.in_ok-next.next in
-    let list = c.fill_list.new.list in
+    let list = c.fill.new.list in
     record {
       params = e.params ∙ i.params;
       nodes = r.nodes ∙ i.nodes;
