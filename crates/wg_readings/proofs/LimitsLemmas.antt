@@ -9,23 +9,10 @@ use Rattle.wg_params.specs.declared.code.Code.TheVariants.{Unary, Gamma, Delta}
 use Rattle.wg_params.specs.Codes.{IsCode, is_gamma_or_delta, is_unary_gamma_or_delta, is_residual_code}
 use Rattle.wg_params.specs.Parameters.{Parameters, IsWithinLimits, first_bad}
 
--- no test of the chain holds
-pub record None_holds (a b c d e f g : Bool) : Type 0 where
-  pub a_not : a ≡ false
-  pub b_not : b ≡ false
-  pub c_not : c ≡ false
-  pub d_not : d ≡ false
-  pub e_not : e ≡ false
-  pub f_not : f ≡ false
-  pub g_not : g ≡ false
-
-abbrev chosen : (a b c d e f g : Bool) → Option Key
-chosen a b c d e f g =
-    cond a (Some key.Nodes) (cond b (Some key.Arcs) (cond c (Some key.WindowSize) (cond d (Some key.MaxRefCount) (cond e (Some key.MinIntervalLength) (cond f (Some key.ZetaK) (cond g (Some key.CompressionFlags) None))))))
-
-none_holds : (a b c d e f g : Bool) → chosen a b c d e f g ≡ None → None_holds a b c d e f g
-none_holds false false false false false false false h = record { a_not = refl; b_not = refl; c_not = refl; d_not = refl; e_not = refl; f_not = refl; g_not = refl }
-none_holds _ _ _ _ _ _ _ h = absurd cc
+-- the first test of a chain does not hold, and none after it
+not_first : (b : Bool) (key : Key) (rest : Option Key) → cond b (Some key) rest ≡ None → (b ≡ false) × (rest ≡ None)
+not_first false key rest h = (refl, h)
+not_first true key rest h = absurd cc
 
 neither : (a b : Bool) → (a || b) ≡ false → (a ≡ false) × (b ≡ false)
 neither false false h = (refl, refl)
@@ -37,15 +24,21 @@ six _ _ _ _ _ _ h = absurd cc
 
 pub within_limits : (p : Parameters) → first_bad p ≡ None → IsWithinLimits p
 within_limits p none =
-    let h = none_holds _ _ _ _ _ _ _ none in
-    let z = neither (p.zeta == 0) (ltb MOST_ZETA p.zeta) h.f_not in
-    let k = six (is_gamma_or_delta p.outdegrees) (is_unary_gamma_or_delta p.references) (is_unary_gamma_or_delta p.block_counts) (is_gamma_or_delta p.blocks) (is_residual_code p.zeta p.residuals) (is_gamma_or_delta p.offsets) h.g_not in
+    let nodes = not_first _ _ _ none in
+    let arcs = not_first _ _ _ nodes.1 in
+    let window = not_first _ _ _ arcs.1 in
+    let chain = not_first _ _ _ window.1 in
+    let interval = not_first _ _ _ chain.1 in
+    let zeta = not_first _ _ _ interval.1 in
+    let codes = not_first _ _ _ zeta.1 in
+    let z = neither (p.zeta == 0) (ltb MOST_ZETA p.zeta) zeta.0 in
+    let k = six (is_gamma_or_delta p.outdegrees) (is_unary_gamma_or_delta p.references) (is_unary_gamma_or_delta p.block_counts) (is_gamma_or_delta p.blocks) (is_residual_code p.zeta p.residuals) (is_gamma_or_delta p.offsets) codes.0 in
     record {
-      nodes = ltb-false MOST_PAGES p.nodes h.a_not;
-      arcs = ltb-false MOST_ARCS p.arcs h.b_not;
-      window = ltb-false MOST_WINDOW p.window h.c_not;
-      chain = ltb-false MOST_CHAIN (unwrap_or p.chain 0) h.d_not;
-      interval = ltb-false MOST_INTERVAL p.interval h.e_not;
+      nodes = ltb-false MOST_PAGES p.nodes nodes.0;
+      arcs = ltb-false MOST_ARCS p.arcs arcs.0;
+      window = ltb-false MOST_WINDOW p.window window.0;
+      chain = ltb-false MOST_CHAIN (unwrap_or p.chain 0) chain.0;
+      interval = ltb-false MOST_INTERVAL p.interval interval.0;
       some_zeta = omega (arith, eqb-false p.zeta 0 z.0);
       zeta = ltb-false MOST_ZETA p.zeta z.1;
       outdegrees = k.0;

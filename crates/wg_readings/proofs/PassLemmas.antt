@@ -1,5 +1,5 @@
 -- A graph file that is read in pieces, in a judgement.
-use Rattle.std.proofs.Common.{◌≡◌, ◌≢◌, inl, inr, ℕ, ◌<◌, ◌≤◌, Bool, true, false, List, nat_lt, length, refl, sym, ◌∙◌, ap, subst, Option, Some, None, Ok, Err}
+use Rattle.std.proofs.Common.{◌≡◌, ◌≢◌, inl, inr, ℕ, ◌<◌, ◌≤◌, Bool, true, false, List, nat_lt, length, refl, sym, ◌∙◌, ap, subst, Option, Some, None, Err}
 use Rattle.std.specs.Bool.{IsTrue}
 use Rattle.std.specs.FinMap as map
 use Rattle.std.proofs.lemmas.Bool.{cond-false, cond-true, le-ltb, lt-ltb}
@@ -70,13 +70,10 @@ pub record IsErrorOf (p : Parameters) (file : List ℕ) (f : First) : Type 0 whe
   pub fault : OfGraph f (λ x. IsJudged file p (Err x))
 
 module _ (r : Readings) (p : Parameters) (limits : IsWithinLimits p) where
-  graph_is : (file : List ℕ) (a : Accepted) → IsJudged file p (Ok a) → (next : Accepted → Judged) → graph_then r p (Some file) next ≡ next a
-  graph_is file a h next =
-      file_goes Graph file h.short (λ bytes. with_graph r p bytes next)
-      ∙ goes_on r p limits file a.graph a.places h.reads next
-
   pub graph_goes : (held : Option (List ℕ)) (a : Accepted) → IsGraphFile held p a → (next : Accepted → Judged) → graph_then r p held next ≡ next a
-  graph_goes held a h next = subst (λ (o : Option (List ℕ)). graph_then r p o next ≡ next a) (sym h.is) (graph_is h.file a h.judged next)
+  graph_goes held a h next =
+      subst (λ (o : Option (List ℕ)). graph_then r p o next ≡ next a) (sym h.is)
+      (file_goes Graph h.file h.judged.short (λ bytes. with_graph r p bytes next) ∙ goes_on r p limits h.file a.graph a.places h.judged.reads next)
 
   fault_refuses : (file : List ℕ) (x : ArchiveFault) → IsJudged file p (Err x) → (next : Accepted → Judged) → Answers (graph_then r p (Some file) next) (BadArchive x)
   fault_refuses file x h next =

@@ -10,7 +10,7 @@ use Rattle.std.specs.Bool.{IsTrue}
 use Rattle.std.specs.FinMap as map
 use Rattle.wg_io.specs.Outside.{Files, Counts, NonDecreasing}
 use Rattle.wg_io.specs.declared.suffixes.TheConstants.{GRAPH}
-use Rattle.wg_io.proofs.FilesLemmas.{none_falls-trans}
+use Rattle.wg_io.proofs.FilesLemmas.{none_falls-refl, none_falls-trans}
 use Rattle.wg_bits.specs.Bits.{bits_of}
 use Rattle.wg_grammar.proofs.OneGraph.{graph_one}
 use Rattle.wg_stream.specs.declared.state.State.TheVariants.{Open}
@@ -77,9 +77,6 @@ cause_later names a b c s on h = record {
   out_fault = h.out_fault;
 }
 
-pub no_fall : (c : List ℕ → Counts) → NonDecreasing c c
-no_fall c = record { read_faults = λ n. omega arith; write_faults = λ n. omega arith; absences = λ n. omega arith; wants = λ n. omega arith }
-
 module _ (told : Bool) (base : List ℕ) (p : Parameters) (files : Files) (counts : List ℕ → Counts) where
   pub begins : (r : Reading) (P : List Whole → Type 0) → IsFresh base p r → P [] → IsUnderWay told base p files files counts counts 0 r P
   begins r P fresh none = record {
@@ -88,7 +85,7 @@ module _ (told : Bool) (base : List ℕ) (p : Parameters) (files : Files) (count
     name = fresh.name;
     page = fresh.page;
     same = refl;
-    later = no_fall counts;
+    later = none_falls-refl counts;
     found = λ t looked. absurd (fresh.looked looked);
     follows = λ t file is. ([], fresh.in_step file, none);
   }

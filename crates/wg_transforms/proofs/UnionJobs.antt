@@ -29,7 +29,8 @@ use Rattle.wg_outcomes.specs.declared.status.Input.{Input}
 use Rattle.wg_outcomes.specs.declared.status.Input.TheVariants as input
 use Rattle.wg_outcomes.specs.declared.status.Status.{Status}
 use Rattle.wg_outcomes.specs.declared.status.Status.TheVariants.{Memory, ReadFault, Missing, BadProperties, BadArchive, TooManyArcs, OverLimit}
-use Rattle.wg_outcomes.proofs.Statuses.{IsOwn, absent_caused, failed_caused, own_caused}
+use Rattle.wg_outcomes.proofs.Statuses.{absent_caused, failed_caused, own_caused}
+use Rattle.wg_readings.proofs.JobSteps.{IsRefusal, ends_refused, want_refuses}
 use Rattle.wg_readings.proofs.UnderWay.{cause_later}
 use Rattle.wg_outcomes.specs.Commands.{builds, with_union}
 use Rattle.wg_transforms.specs.Loaded.{IsArchiveFile, IsOfArchive, LoadsArchive, result_of_second}
@@ -236,18 +237,14 @@ module _ (first second output : List ℕ) (layout : Layout) (td to : Bool) (befo
           → Performs job td to before (outside files2 counts2 taken faults) e.status e.promised
       no_union taken faults e silent only many = by_only only
         where
-          ends : (s : Status) → IsStop s → IsOwn s → IsTrue (can_end job s) → (IsTrue td → (r : Readings) → Answers (judged_on r job before.files) s) → ArePromised held s e.promised
-              → Performs job td to before (outside files2 counts2 taken faults) s e.promised
-          ends s stop own possible answers told =
-              stopped job td to before (outside files2 counts2 taken faults) s e.promised stop silent same answers possible (own_caused _ _ _ _ _ _ s own)
-              (λ t r i is. absurd (subst IsOwn is own)) (none_falls-trans _ _ _ l.later h.later) (λ t. told)
+          ends : (IsTrue td → (r : Readings) → Answers (judged_on r job before.files) e.status) → IsRefusal job e.status → ArePromised held e.status e.promised → Performs job td to before (outside files2 counts2 taken faults) e.status e.promised
+          ends answers refusal told = ends_refused job td to before (outside files2 counts2 taken faults) e silent same (none_falls-trans _ _ _ l.later h.later) answers refusal (λ t. told)
 
           by_only : ((e.status ≡ Memory) ⊎ (e.status ≡ TooManyArcs)) → Performs job td to before (outside files2 counts2 taken faults) e.status e.promised
-          by_only (inl want) =
-              subst (λ (s : Status). Performs job td to before (outside files2 counts2 taken faults) s e.promised) (sym want) (ends Memory tt tt refl (λ t r. inr tt) tt)
+          by_only (inl want) = ends (λ t r. inr (subst IsHindrance (sym want) tt)) (want_refuses job e.status want) (subst (λ (s : Status). ArePromised held s e.promised) (sym want) tt)
           by_only (inr many_is) =
-              subst (λ (s : Status). Performs job td to before (outside files2 counts2 taken faults) s e.promised) (sym many_is)
-              (ends TooManyArcs tt tt refl (λ t r. inl (sym (ap status_of (goes t r ∙ ap (λ (x : Bool). of_second (if x then refused TooManyArcs else builds layout both)) (lt-ltb MOST_ARCS (arc_count both) (many many_is)))))) tt)
+              ends (λ t r. inl (many_is ∙ sym (ap status_of (goes t r ∙ ap (λ (x : Bool). of_second (if x then refused TooManyArcs else builds layout both)) (lt-ltb MOST_ARCS (arc_count both) (many many_is))))))
+              (subst (IsRefusal job) (sym many_is) (record { own = tt; stop = tt; possible = refl })) (subst (λ (s : Status). ArePromised held s e.promised) (sym many_is) tt)
 
       -- it was, and is written
       pub unites : arc_count both ≤ MOST_ARCS → (after : Outside) (r : Result (Unit {0}) Ending) → BuildsArchive layout both output td to (outside files2 counts2 before.taken before.faults) after r

@@ -2,33 +2,13 @@ use Rattle.std.proofs.Common.{rules, ◌≡◌, ◌+◌, ◌∙◌, ℕ, [], ◌
 use Rattle.std.specs.Prelude.{max}
 use Rattle.std.proofs.lemmas.Result.{err_from_is_err_and}
 use Rattle.wg_params.specs.Parameters.{Parameters}
-use Rattle.wg_graph.specs.Ascending.{Below}
 use Rattle.wg_grammar.specs.Archive.{lists_of, places_of, ReadsGraph}
 use Rattle.wg_transpose.specs.SoFar.{AreCounts, predecessors_below}
 use Rattle.wg_transpose.proofs.Steps.{few_counts}
-use Rattle.wg_stream.specs.Prefix.{AreBehind}
 use Rattle.wg_stream.proofs.ErrorLemmas.{fault_weaker}
-use Rattle.wg_stream.proofs.SweepLemmas.{none_greater, one_greater}
+use Rattle.wg_stream.proofs.SweepLemmas.{one_greater}
 use Rattle.wg_transforms.proofs.CountingLemmas.{graph_behind, record_counted}
 use Rattle.wg_transforms.proofs.counting.count_on.Goals as goal
-
-pub loop-page-init : goal.loop-page-init
-loop-page-init c = record {
-  same_params = refl;
-  same_page = c.requires.none;
-  same_bits = refl;
-  read = (
-    [],
-    subst (λ (n : ℕ). AreBehind c.args.source.now.bits c.args.pages.now n []) (sym c.requires.start) c.requires.behind,
-    none_greater 0,
-    record { pages = c.requires.each; each = λ v lt. c.requires.zeros v 0 (omega (arith, c.requires.each)) },
-  );
-}
-
-pub next-requires : goal.next-requires
-next-requires c =
-    let h = c.loop-page.invariant in
-    omega (arith, h.same_page, ap (λ (q : Parameters). q.nodes) h.same_params, c.loop-page-test.true, c.requires.nodes)
 
 pub returns-in_err-next-clause-fault : goal.returns-in_err-next-clause-fault
 returns-in_err-next-clause-fault c =
@@ -38,12 +18,6 @@ returns-in_err-next-clause-fault c =
     rw (p.1, p.2) (fault_weaker c.in_err-next.field-0.0 _ _
     (λ f k. subst (λ (q : Parameters). ReadsGraph q bits (Err f)) h.same_params k)
     (c.in_err-next.ensures.fault bits h.read.0 h.same_bits h.read.1))
-
-pub count_arcs-requires-clause-below : goal.count_arcs-requires-clause-below
-count_arcs-requires-clause-below c =
-    let h = c.loop-page.invariant in
-    let nodes : c.next.new.self.params.nodes ≡ length c.loop-page.counts = ap (λ (q : Parameters). q.nodes) (c.in_ok-next.ensures.params ∙ h.same_params) ∙ sym c.requires.nodes ∙ sym h.read.3.pages in
-    subst (λ (n : ℕ). Below n c.list-list.result.now) nodes c.list-list.ensures.below
 
 pub count_arcs-requires-clause-room : goal.count_arcs-requires-clause-room
 count_arcs-requires-clause-room c =
@@ -69,12 +43,6 @@ loop-page-preserved c =
             c.count_arcs.ensures.each h.read.3,
       );
     }
-
-pub finish-requires : goal.finish-requires
-finish-requires c =
-    let l = c.loop-page in
-    let h = l.invariant in
-    omega (arith, h.same_page, ap (λ (q : Parameters). q.nodes) h.same_params, c.loop-page-test.false, c.requires.nodes, l.auto._page-end)
 
 pub returns-in_err-finish-clause-fault : goal.returns-in_err-finish-clause-fault
 returns-in_err-finish-clause-fault c =

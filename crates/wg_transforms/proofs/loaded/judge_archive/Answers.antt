@@ -1,13 +1,13 @@
 use Rattle.std.proofs.Common.{inl, inr, refl}
 use Rattle.wg_grammar.specs.Archive.{Accepted}
-use Rattle.wg_readings.proofs.UnderWay.{no_fall}
+use Rattle.wg_io.proofs.FilesLemmas.{none_falls-refl}
 use Rattle.wg_io.proofs.PutsLemmas.{is_that_err}
 use Rattle.wg_transforms.proofs.loaded.judge_archive.Goals as goal
 
 pub returns-in_err-found : goal.returns-in_err-found
 returns-in_err-found g c =
     let r = c.in_err-found.ensures in
-    rw (is_that_err c.from_residual.result _ c.from_residual.ensures.1) (record { limits = r.limits; goes = tt; ends = inl (r.only, r.refused, refl, no_fall _) })
+    rw (is_that_err c.from_residual.result _ c.from_residual.ensures.1) (record { limits = r.limits; goes = tt; ends = inl (r.only, r.refused, refl, none_falls-refl _) })
 
 pub returns-in_err-judge_offsets : goal.returns-in_err-judge_offsets
 returns-in_err-judge_offsets g c =

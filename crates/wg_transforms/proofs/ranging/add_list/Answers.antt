@@ -6,9 +6,6 @@ use Rattle.wg_transpose.proofs.InOrder.{one_list_more, list_fits}
 use Rattle.wg_transpose.proofs.Reversed.{list_ascends, list_below}
 use Rattle.wg_transforms.proofs.ranging.add_list.Goals as goal
 
-pub add-requires-clause-page : goal.add-requires-clause-page
-add-requires-clause-page c = let n = c.requires.1 in omega (arith, n.page, n.so_far.nodes)
-
 pub add-requires-clause-list : goal.add-requires-clause-list
 add-requires-clause-list c =
     let g = c.requires.0 in

@@ -74,25 +74,11 @@ loop-page-init g c =
       arcs = e.arcs ∙ sym c.in_ok-reader.ensures.fresh.arcs;
     }
 
-pub next_record-requires-clause-open : goal.next_record-requires-clause-open
-next_record-requires-clause-open g c = c.loop-page.invariant.so_far.2.state
-
-pub next_record-requires-clause-params : goal.next_record-requires-clause-params
-next_record-requires-clause-params g c = c.loop-page.invariant.so_far.2.params
-
-pub next_record-requires-clause-more : goal.next_record-requires-clause-more
-next_record-requires-clause-more g c = omega (arith, c.loop-page.invariant.so_far.2.page, c.loop-page-test.true, c.nodes-page-end.ensures.value)
-
 pub returns-in_err-next_record-clause-ends : goal.returns-in_err-next_record-clause-ends
 returns-in_err-next_record-clause-ends g c =
     rw (is_that_err c.from_residual-in_err-next_record.result _ c.from_residual-in_err-next_record.ensures.1)
     (graph_stopped _ _ _ _ _ _ _ _
     (graph_stops _ _ _ _ _ _ _ _ _ _ _ _ _ c.loop-page.invariant.so_far.2 c.nodes-page-end.ensures.limits _ c.in_err-next_record.ensures.advances))
-
-pub add_list-requires-clause-page : goal.add_list-requires-clause-page
-add_list-requires-clause-page g c =
-    let i = c.loop-page.invariant in
-    omega (arith, i.page, c.loop-page-test.true, c.nodes-page-end.ensures.value, ap (λ (q : Parameters). q.nodes) i.params, c.requires.nodes)
 
 pub add_list-requires-clause-list : goal.add_list-requires-clause-list
 add_list-requires-clause-list g c =
@@ -100,12 +86,6 @@ add_list-requires-clause-list g c =
     let same : c.next_record.new.reader.pages.params.nodes ≡ c.loop-page.encoder.params.nodes =
     ap (λ (q : Parameters). q.nodes) (c.in_ok-next_record.ensures.advances.params ∙ i.so_far.2.params) ∙ sym c.requires.nodes ∙ sym (ap (λ (q : Parameters). q.nodes) i.params) in
     record { ascends = c.list.ensures.ascends; below = subst (λ (n : ℕ). Below n c.list.result.now) same c.list.ensures.below }
-
-pub add_list-requires-clause-arcs : goal.add_list-requires-clause-arcs
-add_list-requires-clause-arcs g c =
-    let i = c.loop-page.invariant in
-    let r = c.in_ok-next_record.ensures in
-    omega (arith, i.arcs, r.arcs, ap (λ (l : List ℕ). length l) c.list.ensures.value, c.list.ensures.within, ap (λ (q : Parameters). q.arcs) (r.advances.params ∙ i.so_far.2.params), c.requires.arcs, ap (λ (q : Parameters). q.arcs) i.params)
 
 pub returns-in_err-encoder-2-clause-ends : goal.returns-in_err-encoder-2-clause-ends
 returns-in_err-encoder-2-clause-ends g c =
@@ -133,25 +113,11 @@ loop-page-preserved g c =
       arcs = omega (arith, n.arcs, i.arcs, r.arcs, ap (λ (l : List ℕ). length l) c.list.ensures.value);
     }
 
-pub end_records-requires-clause-open : goal.end_records-requires-clause-open
-end_records-requires-clause-open g c = c.loop-page.invariant.so_far.2.state
-
-pub end_records-requires-clause-params : goal.end_records-requires-clause-params
-end_records-requires-clause-params g c = c.loop-page.invariant.so_far.2.params
-
-pub end_records-requires-clause-done : goal.end_records-requires-clause-done
-end_records-requires-clause-done g c = omega (arith, c.loop-page.invariant.so_far.2.page, c.loop-page-test.false, c.nodes-page-end.ensures.value, c.loop-page.auto._page-end)
-
 pub returns-in_err-end_records-clause-ends : goal.returns-in_err-end_records-clause-ends
 returns-in_err-end_records-clause-ends g c =
     rw (is_that_err c.from_residual-in_err-end_records.result _ c.from_residual-in_err-end_records.ensures.1)
     (graph_stopped _ _ _ _ _ _ _ _
     (graph_stops _ _ _ _ _ _ _ _ _ _ _ _ _ c.loop-page.invariant.so_far.2 c.nodes-page-end.ensures.limits _ c.in_err-end_records.ensures.advances))
-
-pub end_archive-requires : goal.end_archive-requires
-end_archive-requires g c =
-    let i = c.loop-page.invariant in
-    omega (arith, i.page, c.loop-page-test.false, c.nodes-page-end.ensures.value, c.loop-page.auto._page-end, ap (λ (q : Parameters). q.nodes) i.params, c.requires.nodes)
 
 pub returns-in_err-archive-clause-ends : goal.returns-in_err-archive-clause-ends
 returns-in_err-archive-clause-ends g c =

@@ -14,9 +14,6 @@ returns-in_err-other g c =
     performs_exit _ _ _ _ _ _ _ c.from_residual-in_err-other.ensures.1
     (no_second c.args.first.now c.args.second.now c.args.output.now c.args.layout.now _ _ _ c.in_ok-one.one _ _ c.in_ok-one.ensures _ read.0 _ refl read.1 read.2)
 
-pub united-requires-clause-first : goal.united-requires-clause-first
-united-requires-clause-first g c = let loaded = c.in_ok-one.ensures.goes in (loaded.0, loaded.1)
-
 pub united-requires-clause-second : goal.united-requires-clause-second
 united-requires-clause-second g c =
     let read = c.in_ok-other.ensures in

@@ -1,6 +1,6 @@
 use Rattle.std.proofs.Common.{◌≡◌, inl, inr, Bool, List, refl, sym, ap, subst, ◌∙◌, ℕ, Result, Ok, Err}
 use Rattle.std.specs.Bool.{IsTrue}
-use Rattle.std.specs.Result.{IfErr, IsErrAnd}
+use Rattle.std.specs.Result.{IfErr}
 use Rattle.wg_io.specs.Outside.{Increased}
 use Rattle.wg_io.specs.Puts.{Puts}
 use Rattle.wg_io.specs.declared.output.Output.TheVariants.{Out}
@@ -21,11 +21,6 @@ use Rattle.wg_outcomes.proofs.Statuses.{unput_cause}
 use Rattle.wg_outcomes.proofs.BuildLemmas.{put_stands, put_stopped, stopped_cause, stopped_output}
 use Rattle.wg_writing.specs.Writing.{WritesFiles, archive_of, whole}
 use Rattle.wg_writing.proofs.building.build_archive.Goals as goal
-
--- the exit of a `?`
-builds_exit : (l : Layout) (g : Digraph) (base : List ℕ) (td to : Bool) (before after : Outside) (r : Result (Unit {0}) Ending) (e : Ending) → IsErrAnd r (λ x. x ≡ e)
-    → BuildsArchive l g base td to before after (Err e) → BuildsArchive l g base td to before after r
-builds_exit l g base td to before after r e is h = subst (λ (x : Result (Unit {0}) Ending). BuildsArchive l g base td to before after x) (sym (is_that_err r e is)) h
 
 are_whole : (a : Archive) (x : ArchiveFiles) → x ≡ whole a → AreWhole a x
 are_whole a x is = (ap (λ (f : ArchiveFiles). f.properties) is, ap (λ (f : ArchiveFiles). f.graph) is, ap (λ (f : ArchiveFiles). f.offsets) is)
@@ -72,7 +67,7 @@ module _ (l : Layout) (g : Digraph) (base : List ℕ) (td to : Bool) (before aft
 
 pub returns-in_err-write_archive : goal.returns-in_err-write_archive
 returns-in_err-write_archive g c = λ l d params is.
-    builds_exit l d c.args.base.now _ _ _ _ _ _ c.from_residual.ensures.1
+    rw (is_that_err c.from_residual.result _ c.from_residual.ensures.1)
     (builds_stopped l d c.args.base.now _ _ _ _ c.args.params.now params c.args.archive.now is c.in_err-write_archive.field-0.0 refl c.in_err-write_archive.ensures)
 
 pub returns : goal.returns
