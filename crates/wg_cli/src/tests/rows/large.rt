@@ -33,6 +33,8 @@ pieces 4096
 lists a 257 2 1 1
 run build a g --nodes 257 --chain none
 prints ok nodes=257 arcs=514 bits=1547|
+run check g
+prints ok nodes=257 arcs=514 bits=1547|
 run show g 256
 prints 256 0 1|
 text b 0 2|
