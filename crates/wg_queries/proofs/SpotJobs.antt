@@ -22,7 +22,7 @@ use Rattle.wg_stream.specs.declared.error.PagesError.TheVariants as errors
 use Rattle.wg_random.specs.Spot.{ChainAnswers}
 use Rattle.wg_words.specs.declared.jobs.Job.{Job}
 use Rattle.wg_words.specs.declared.jobs.Job.TheVariants.{Spot}
-use Rattle.wg_outcomes.specs.Answers.{Answers, IsHindrance, IsUnput, Steps, status_in}
+use Rattle.wg_outcomes.specs.Answers.{Answers, IsHindrance, IsUnput, status_in}
 use Rattle.wg_outcomes.specs.Causes.{HasCause}
 use Rattle.wg_outcomes.specs.Commands.{successors_line}
 use Rattle.wg_outcomes.specs.Judged.{Judged, accepted, status_of, with_file, with_successors, offsets_then}
@@ -34,10 +34,10 @@ use Rattle.wg_outcomes.specs.declared.ending.Ending.{Ending}
 use Rattle.wg_outcomes.specs.declared.status.Input.{Input}
 use Rattle.wg_outcomes.specs.declared.status.Input.TheVariants.{Properties, Graph, Offsets}
 use Rattle.wg_outcomes.specs.declared.status.Status.{Status}
-use Rattle.wg_outcomes.specs.declared.status.Status.TheVariants.{BadArchive, Done, Memory, NoPage, WriteFault}
+use Rattle.wg_outcomes.specs.declared.status.Status.TheVariants.{BadArchive, Done, NoPage, WriteFault}
 use Rattle.wg_outcomes.proofs.Statuses.{IsOwn, own_caused}
 use Rattle.wg_readings.specs.Finding.{IsOpenOn}
-use Rattle.wg_readings.specs.Loading.{Loads, LoadsOffsets, LoadsParams, status_at}
+use Rattle.wg_readings.specs.Loading.{Loads, LoadsOffsets, LoadsParams}
 use Rattle.wg_readings.proofs.FindingLemmas.{caused_at, error_steps, of_input}
 use Rattle.wg_readings.proofs.JobSteps.{ComesTo, comes_on, ends, ends_reading, loaded, prints, refuses, refuses_page, unloaded}
 use Rattle.wg_readings.proofs.PassLemmas.{file_goes}

@@ -23,11 +23,12 @@
 //! list of x <--copied-- list <--copied-- ... <-- list                            up: two lists, used in turn
 //! ```
 //!
-//! [`spot_from`] reads a page of an archive that was not checked by its offset and the same chain alone, from any
-//! source that goes to any offset of its bits ([`Seek`](wg_stream::Seek)); of a file in a depot no other record is read.
-//! [`spot`] does so from bytes in memory. It judges the heads of these records first, from the page down, and then the
-//! whole records, from the last one up, and answers the list of the page or the first fault. The functions of [`laws`]
-//! state that there is one answer, and that it is the page's list of the graph where the archive is accepted.
+//! [`spot_from`] reads a page of an archive that was not checked, by the offsets and the same chain alone, from any
+//! source that goes to any offset of its bits ([`Seek`](wg_stream::Seek)); of a file in a depot it reads no other
+//! record. [`spot`] does so from bytes in memory. The heads of these records are judged first, from the page down, and
+//! then the whole records, from the last one up, and the answer is the list of the page or the first fault. The
+//! functions of [`laws`] state that there is one answer, and that it is the page's list of the graph where the archive
+//! is accepted.
 //!
 //! [`Records::sweep`] needs no offsets: it makes a [`Sweep`](wg_stream::Sweep) over the lists of all pages, for which
 //! the records are not passed over again.

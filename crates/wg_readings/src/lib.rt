@@ -3,8 +3,8 @@
 //!
 //! [`load_params`], [`load_graph`], [`load_offsets`], [`load_weights`], [`load_certificate`] and [`load_map`] read a
 //! file whole; [`judge_graph`], [`judge_files`] and [`judge_offsets`] go through the files in pieces, and so do
-//! [`open_graph`], [`next_record`] and [`end_records`], record by record. [`find_graph`] looks for a graph file of which
-//! single records are read, and judges none. [`passed_of_graph`] finds where the records of a graph file are, and
+//! [`open_graph`], [`next_record`] and [`end_records`], record by record. [`find_graph`] looks for a graph file, of
+//! which single records are read, and judges none. [`passed_of_graph`] finds where the records of a graph file are, and
 //! [`lists_of_records`] decodes their lists, as often as one likes. [`open_lines`] and [`next_lines`] lend the lines of
 //! a file, which the caller judges.
 //!

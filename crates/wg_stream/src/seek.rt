@@ -11,8 +11,7 @@ pub trait Seek: Source {
     /// The second comes of the first by reading on and going to offsets.
     ghost reached: { Self → Self → Type 0 };
 
-    /// Goes to an offset, which may be that of the end, and answers whether there are so many bits. Where there are not,
-    /// it stays where it was.
+    /// Goes to an offset, which may be that of the end, and answers whether there are so many bits.
     fn go_to(&mut self, at: u64) -> Result<bool, Self::Refusal>
         ensures reached { reached self.old self.new }
         ensures there { IfOk result (λ there. IsTrue there → Self.offset self.new ≡ at) }
@@ -24,7 +23,8 @@ pub trait Seek: Source {
 
     ghost on_from: { (a b c : Self) → reached a b → reached b c → reached a c };
 
-    ghost bits_stay: { (a b : Self) (bits : List Bool) → reached a b → Self.reads_from a bits → Self.reads_from b bits };
+    ghost bits_stay: { (a b : Self) (bits : List Bool)
+        → reached a b → Self.reads_from a bits → Self.reads_from b bits };
 
     ghost cause_stays: { (a b c : Self) (r : Self.Refusal) → reached a b → Self.caused b c r → Self.caused a c r };
 }

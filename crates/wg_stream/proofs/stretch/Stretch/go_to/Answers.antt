@@ -1,4 +1,4 @@
-use Rattle.std.proofs.Common.{◌∙◌, ◌<◌, ◌-◌, ◌/◌, ℕ, refl, sym, ap, subst, arith}
+use Rattle.std.proofs.Common.{◌∙◌, ◌<◌, ◌-◌, ◌/◌, refl, sym, ap, subst, arith}
 use Rattle.wg_io.proofs.FilesLemmas.{none_falls-refl}
 use Rattle.wg_stream.specs.Held.{Held, IsHeldOf}
 use Rattle.wg_stream.proofs.HeldLemmas.{begun, piece_at, taken_up}
