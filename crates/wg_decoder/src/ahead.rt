@@ -1,14 +1,14 @@
-//! The head of a record at a cursor.
-ghost use Rattle.std.specs.Prelude.{◌≡◌, ◌<◌, ◌≤◌, ℕ, List as ListOf, min, IfOk, IfErr};
+//! The head of a record on its own.
+ghost use Rattle.std.specs.Prelude.{◌≡◌, ◌<◌, ◌≤◌, ℕ, Bool, List as ListOf, min, IfOk, IfErr};
 ghost use Rattle.wg_grammar.specs.Context.{Known};
-ghost use Rattle.wg_decoder.specs.Answer.{context_at};
+ghost use Rattle.wg_decoder.specs.Answer.{context_at, OnFault, OnRefusal, WantsNoMemory};
 ghost use Rattle.wg_decoder.specs.Apart.{HeadStands, HeadFails};
 ghost use Rattle.wg_decoder.specs.Chains.{endless};
 
 use crate::apart::read_head_over;
 use crate::{Head, Unread};
 use wg_bits::Cursor;
-use wg_grammar::{Fault, Referenced};
+use wg_grammar::{Fault, Referenced, Source};
 use wg_params::{Layout, Params};
 
 // The same parameters without a limit on chains.
@@ -25,9 +25,37 @@ fn endless(params: &Params) -> Params
     }
 }
 
-/// The head of the record at the cursor, of a page with `arcs_before` arcs before it; or the fault that its outdegree
-/// or its reference has. Chains may have any length, so it is the same whatever the pages before are. It takes no
-/// memory, and reads two words at most.
+/// The head of the record that comes next from a source, of a page with `arcs_before` arcs before it; or the fault that
+/// its outdegree or its reference has. Chains may have any length, so it is the same whatever the pages before are. It
+/// takes no memory, and reads two words at most. The source may stand anywhere in the record where it has a fault, or
+/// where a word was refused.
+pub fn head_from<S: Source>(
+    params: &Params,
+    page: u64,
+    arcs_before: u64,
+    source: &mut S,
+) -> Result<Head, Unread<S::Refusal>>
+    requires page { page < params.now.nodes }
+    requires before { arcs_before ≤ params.now.arcs }
+    ensures later { S.later source.old source.new }
+    ensures no_memory { WantsNoMemory result }
+    ensures refused { OnRefusal result (S.caused source.old source.new) }
+    ensures stands { (bits : ListOf Bool) → S.reads_from source.old bits → (behind : ListOf Known)
+        → IfOk result (λ h. HeadStands (endless params.now) (context_at page arcs_before behind) bits
+        (S.offset source.old) h.outdegree h.reference (S.offset source.new)) }
+    ensures fault { (bits : ListOf Bool) → S.reads_from source.old bits → (behind : ListOf Known)
+        → OnFault result (λ e. HeadFails (endless params.now) (context_at page arcs_before behind) bits
+        (S.offset source.old) e) }
+    ensures there { IfOk result (λ h. h.reference ≤ min params.now.window page) }
+{
+    let nothing = Referenced {
+        length: 0,
+        depth: 0,
+    };
+    read_head_over(&endless(params), page, arcs_before, nothing, source)
+}
+
+/// The same of the record at a cursor, which refuses no word.
 pub fn head(params: &Params, page: u64, arcs_before: u64, cursor: Cursor<'_>) -> Result<Head, Fault>
     requires page { page < params.now.nodes }
     requires before { arcs_before ≤ params.now.arcs }
@@ -37,12 +65,8 @@ pub fn head(params: &Params, page: u64, arcs_before: u64, cursor: Cursor<'_>) ->
         (context_at page arcs_before behind) cursor.entry.bits cursor.entry.at e) }
     ensures there { IfOk result (λ h. h.reference ≤ min params.now.window page) }
 {
-    let nothing = Referenced {
-        length: 0,
-        depth: 0,
-    };
     let mut ahead = cursor;
-    match read_head_over(&endless(params), page, arcs_before, nothing, &mut ahead) {
+    match head_from(params, page, arcs_before, &mut ahead) {
         Ok(head) => Ok(head),
         Err(unread) => match unread {
             Unread::Fault(fault) => Err(fault),

@@ -1,5 +1,5 @@
--- The line of a page, as it is printed, and why its successors are not read.
-use Rattle.std.specs.Prelude.{◌≡◌, ◌⊎◌, ℕ, List, Result, Ok, IsTrue, IfErr}
+-- The line of a page, as it is printed.
+use Rattle.std.specs.Prelude.{◌≡◌, ℕ, List, Result, Ok, IsTrue, IfErr}
 use Rattle.wg_io.specs.Outside.{Increased}
 use Rattle.wg_lines.specs.Printing.{Prints}
 use Rattle.wg_io.specs.declared.output.Output.TheVariants.{Out}
@@ -9,9 +9,7 @@ use Rattle.wg_random.specs.Held.{Held}
 use Rattle.wg_outcomes.specs.Answers.{IsUnput, status_in}
 use Rattle.wg_outcomes.specs.Commands.{line_in}
 use Rattle.wg_outcomes.specs.declared.ending.Ending.{Ending}
-use Rattle.wg_outcomes.specs.declared.status.Input.TheVariants as input
-use Rattle.wg_outcomes.specs.declared.status.Status.TheVariants.{NoPage, WriteFault}
-use Rattle.wg_outcomes.specs.Promised.{IsBadFile}
+use Rattle.wg_outcomes.specs.declared.status.Status.TheVariants.{WriteFault}
 
 -- the line of a page of the archive is printed, or a prefix of it and then memory or the output was wanting
 pub record PrintsLine {S : Type 0} (s : sink.Ghosts S) (archive : Held) (page : ℕ) (before after : S) (waited waits : List ℕ) (result : Result (Unit {0}) Ending) : Type 0 where
@@ -19,8 +17,3 @@ pub record PrintsLine {S : Type 0} (s : sink.Ghosts S) (archive : Held) (page : 
   pub later : s.later before after
   pub only : IfErr result (λ e. IsUnput e.status)
   pub failed : status_in result ≡ WriteFault Out → Increased (s.faults before) (s.faults after)
-
--- The successors of a page were not read: there is no such page, or memory was wanting, or one of these files is at
--- fault.
-abbrev pub IsBadPage : ℕ → ℕ → Ending → Type 0
-IsBadPage page promised e = (e.status ≡ NoPage page) ⊎ IsBadFile input.Graph promised e ⊎ IsBadFile input.Offsets promised e

@@ -24,8 +24,8 @@
 //!
 //! [`check`] and [`printing`] read the graph in pieces, and [`check`] and [`show`] the offsets, so that an archive
 //! need not fit into memory; all other inputs are held whole until they are read. [`show`] opens pages by their
-//! offsets, and prints their successors as they come. [`spot`] holds the graph file and goes through the offsets, and
-//! judges no record but those that one page refers to, a step of its own (`successors_of_page`).
+//! offsets, and prints their successors as they come. [`spot`] holds the offsets, and reads no record of the graph file
+//! but those that one page refers to, a step of its own (`successors_of_page`).
 #![tactic(auto)]
 
 mod certificate;

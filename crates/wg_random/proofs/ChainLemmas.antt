@@ -6,7 +6,7 @@ use Rattle.std.proofs.lemmas.List.{length-set, length-append, get_or-set_same, g
 use Rattle.wg_params.specs.Parameters.{Parameters}
 use Rattle.wg_grammar.specs.Record.{Whole}
 use Rattle.wg_stream.specs.AllRecords.{known_at}
-use Rattle.wg_random.specs.Chain.{ArePages, Link, Going, Ended}
+use Rattle.wg_random.specs.Chain.{ArePages, Fall, Link, Going, Ended}
 use Rattle.wg_stream.specs.References.{StandsOn, Refers}
 
 pub ended_of : (p : Parameters) (bits : List Bool) (ws : List Whole) (chain : List ℕ) (x page depth back : ℕ) → back ≡ 0 → Refers p bits ws page back → Going p bits ws chain x page depth → Ended p bits ws chain x depth
@@ -111,6 +111,30 @@ pushed_pages chain new n v is some low pages i le near =
     elim (cases_lt i (length chain)) [
       | inl before ↦ omega (arith, same, push_before chain v i before, pages i (omega (arith, before)) before)
       | inr past ↦ let e : length chain ≡ i = omega (arith, past, near, len) in omega (arith, same, push_here chain i v e, low)
+    ]
+
+-- one page alone
+pub one_are_pages : (chain : List ℕ) (n x : ℕ) → chain ≡ x ∷ [] → x < n → ArePages n chain (length chain - 1)
+one_are_pages chain n x is low = subst (λ (l : List ℕ). ArePages n l (length l - 1)) (sym is) only
+  where
+    only : ArePages n (x ∷ []) 0
+    only zero le near = low
+    only (suc i) le near = absurd (omega (arith, near))
+
+pub one_falls : (chain : List ℕ) (x : ℕ) → chain ≡ x ∷ [] → Fall chain
+one_falls chain x is i near = absurd (omega (arith, near, ap (λ (l : List ℕ). length l) is))
+
+pub pushed_fall : (chain new : List ℕ) (page v : ℕ) → new ≡ chain ++ v ∷ [] → 0 < length chain → get_or chain (length chain - 1) 0 ≡ page → v < page → Fall chain → Fall new
+pushed_fall chain new page v is some here low falls i near =
+    let len : length new ≡ length chain + 1 = pushed_length chain new v is in
+    let same : get_or new i 0 ≡ get_or chain i 0 = ap (λ (l : List ℕ). get_or l i 0) is ∙ push_before chain v i (omega (arith, near, len)) in
+    let next : get_or new (suc i) 0 ≡ get_or (chain ++ v ∷ []) (suc i) 0 = ap (λ (l : List ℕ). get_or l (suc i) 0) is in
+    elim (cases_lt (suc i) (length chain)) [
+      | inl before ↦ omega (arith, same, next, push_before chain v (suc i) before, falls i before)
+      | inr past ↦
+          let e : length chain ≡ suc i = omega (arith, past, near, len) in
+          let last : i ≡ length chain - 1 = omega (arith, e) in
+          omega (arith, same, next, push_here chain (suc i) v e, ap (λ (k : ℕ). get_or chain k 0) last, here, low)
     ]
 
 pub pushed_going : (p : Parameters) (bits : List Bool) (ws : List Whole) (chain new : List ℕ) (x page back : ℕ) → new ≡ chain ++ (page - back) ∷ [] → 0 < length chain → 0 < back

@@ -1,14 +1,13 @@
 -- A page of an archive that was not checked.
 use Rattle.std.proofs.Common.{◌≡◌, ◌≢◌, ◌∙◌, ℕ, zero, suc, ◌+◌, ◌-◌, ◌<◌, ◌≤◌, Bool, inl, inr, List, [], ◌∷◌, ◌++◌, length, drop, Result, Ok, Err, refl, sym, ap, subst, arith}
 use Rattle.std.specs.Prelude.{get_or}
-use Rattle.std.specs.Result.{IfOk, IfErr}
+use Rattle.std.specs.Result.{IfOk}
 use Rattle.std.proofs.Math.ListN.{drop_of_length-le}
 use Rattle.std.proofs.Math.Seq.{drop-cons}
 use Rattle.std.proofs.lemmas.Bool.{cases_lt}
 use Rattle.std.proofs.lemmas.List.{length-drop, get_or_append_left}
 use Rattle.wg_params.specs.declared.code.Code.{Code}
 use Rattle.wg_params.specs.Parameters.{Parameters}
-use Rattle.wg_bits.specs.Bits.{Position}
 use Rattle.wg_codes.specs.Reading.{Reads}
 use Rattle.wg_codes.specs.Words.{word, top}
 use Rattle.wg_codes.specs.declared.outcome.Read.TheVariants as reads
@@ -22,10 +21,11 @@ use Rattle.wg_grammar.specs.Context.{Known, Context, no_page}
 use Rattle.wg_grammar.specs.Record.{Whole, ReadsRecord}
 use Rattle.wg_decoder.specs.Apart.{page_over, HeadStands, HeadFails}
 use Rattle.wg_decoder.proofs.ApartLemmas.{head_refused}
-use Rattle.wg_random.specs.declared.error.SpotError.{SpotError}
-use Rattle.wg_random.specs.declared.error.SpotError.TheVariants as errors
+use Rattle.wg_stream.specs.declared.error.PagesError.{PagesError}
+use Rattle.wg_stream.specs.declared.error.PagesError.TheVariants as pages
+use Rattle.wg_stream.specs.Errors.{OfFault, OnFault}
 use Rattle.wg_decoder.specs.Chains.{endless, start_of, HeadReads, RecordReads, RefersTo, OverReads, ChainReads, IsChain, IsHeadFault}
-use Rattle.wg_random.specs.Spot.{SpotAnswers, OfSpot}
+use Rattle.wg_random.specs.Spot.{ChainAnswers}
 use Rattle.wg_random.proofs.ChainLemmas.{pushed_length}
 
 -- ---- a record that begins past the last bit
@@ -35,32 +35,41 @@ cut_past code bits at past =
     subst (λ (z : List Bool). Reads (word code) (top code) z reads.Cut) (sym (drop_of_length-le bits past))
     (0, (let low : 0 ≤ top code = omega arith in low), (word code 0, word_some code 0, refl))
 
-head_cut : (p : Parameters) (c : Context) (bits : List Bool) (at : ℕ) (e : Fault) → length bits ≤ at → e ≡ record { page = c.page; at = at; field = field.Outdegree; kind = kind.Cut } → HeadFails p c bits at e
-head_cut p c bits at e past is =
-    subst (λ (f : Fault). HeadFails p c bits at f) (sym is) (inl (reads.Cut, cut_past p.outdegrees bits at past, refl, refl, refl), refl)
+-- an outdegree that is cut at this bit
+abbrev cut_at : ℕ → ℕ → Fault
+cut_at page at = record { page = page; at = at; field = field.Outdegree; kind = kind.Cut }
 
-pub page_cut : (p : Parameters) (bits : List Bool) (offsets : List ℕ) (page : ℕ) (e : Fault) → length bits ≤ start_of offsets page → e ≡ record { page = page; at = start_of offsets page; field = field.Outdegree; kind = kind.Cut } →
-    IsHeadFault p bits offsets page (faults.Record e)
-page_cut p bits offsets page e past is = (e, refl, head_cut (endless p) (page_over p page no_page) bits (start_of offsets page) e past is)
+head_cut : (p : Parameters) (c : Context) (bits : List Bool) (at : ℕ) → length bits ≤ at → HeadFails p c bits at (cut_at c.page at)
+head_cut p c bits at past = (inl (reads.Cut, cut_past p.outdegrees bits at past, refl, refl, refl), refl)
 
-pub record_cut : (p : Parameters) (bits : List Bool) (offsets : List ℕ) (page : ℕ) (below : Known) (e : Fault) → length bits ≤ start_of offsets page → e ≡ record { page = page; at = start_of offsets page; field = field.Outdegree; kind = kind.Cut } →
-    RecordReads p bits offsets page below (Err (faults.Record e))
-record_cut p bits offsets page below e past is =
+pub page_cut : (p : Parameters) (bits : List Bool) (offsets : List ℕ) (page : ℕ) (f : ArchiveFault) → length bits ≤ start_of offsets page → f ≡ faults.Record (cut_at page (start_of offsets page)) → IsHeadFault p bits offsets page f
+page_cut p bits offsets page f past is = (cut_at page (start_of offsets page), is, head_cut (endless p) (page_over p page no_page) bits (start_of offsets page) past)
+
+pub record_cut : (p : Parameters) (bits : List Bool) (offsets : List ℕ) (page : ℕ) (below : Known) (f : ArchiveFault) → length bits ≤ start_of offsets page → f ≡ faults.Record (cut_at page (start_of offsets page)) →
+    RecordReads p bits offsets page below (Err f)
+record_cut p bits offsets page below f past is =
     let c = page_over p page below in
-    head_refused p c bits (start_of offsets page) e (head_cut p c bits (start_of offsets page) e past is)
+    subst (λ (g : ArchiveFault). RecordReads p bits offsets page below (Err g)) (sym is)
+    (head_refused p c bits (start_of offsets page) (cut_at page (start_of offsets page)) (head_cut p c bits (start_of offsets page) past))
 
 -- ---- a record
 
-pub faults_weaker : (x : SpotError) (P Q : ArchiveFault → Type 0) → ((f : ArchiveFault) → P f → Q f) → OfSpot x P → OfSpot x Q
-faults_weaker errors.NoPage P Q f h = h
-faults_weaker (errors.Archive e) P Q f h = f e h
-faults_weaker errors.Memory P Q f h = tt
+pub head_fault : (p : Parameters) (bits : List Bool) (offsets : List ℕ) (page at : ℕ) (e : Fault) → at ≡ start_of offsets page → HeadFails (endless p) (page_over p page no_page) bits at e → IsHeadFault p bits offsets page (faults.Record e)
+head_fault p bits offsets page at e is h = (e, refl, subst (λ (i : ℕ). HeadFails (endless p) (page_over p page no_page) bits i e) is h)
 
-pub head_fault : (p : Parameters) (bits : List Bool) (offsets : List ℕ) (page : ℕ) (c : Position) (e : Fault) → c ≡ record { bits = bits; at = start_of offsets page } → HeadFails (endless p) (page_over p page no_page) c.bits c.at e → IsHeadFault p bits offsets page (faults.Record e)
-head_fault p bits offsets page c e is h = (e, refl, subst (λ (q : Position). HeadFails (endless p) (page_over p page no_page) q.bits q.at e) is h)
+pub head_reads : (p : Parameters) (bits : List Bool) (offsets : List ℕ) (page at d r end : ℕ) → at ≡ start_of offsets page → HeadStands (endless p) (page_over p page no_page) bits at d r end → HeadReads p bits offsets page (Ok r)
+head_reads p bits offsets page at d r end is h = (d, end, subst (λ (i : ℕ). HeadStands (endless p) (page_over p page no_page) bits i d r end) is h)
 
-pub head_reads : (p : Parameters) (bits : List Bool) (offsets : List ℕ) (page : ℕ) (c : Position) (d r end : ℕ) → c ≡ record { bits = bits; at = start_of offsets page } → HeadStands (endless p) (page_over p page no_page) c.bits c.at d r end → HeadReads p bits offsets page (Ok r)
-head_reads p bits offsets page c d r end is h = (d, end, subst (λ (q : Position). HeadStands (endless p) (page_over p page no_page) q.bits q.at d r end) is h)
+-- a whole record that ends where the next begins
+pub whole_reads : (p : Parameters) (bits : List Bool) (offsets : List ℕ) (page : ℕ) (below : Known) (at end stop : ℕ) (k : Known) → at ≡ start_of offsets page → ReadsRecord p (page_over p page below) bits at (Ok (record { known = k; end = end })) →
+    stop ≡ end → stop ≡ start_of offsets (page + 1) → RecordReads p bits offsets page below (Ok k)
+whole_reads p bits offsets page below at end stop k place h same next =
+    subst (λ (i : ℕ). ReadsRecord p (page_over p page below) bits (start_of offsets page) (Ok (record { known = k; end = i }))) (sym same ∙ next)
+    (subst (λ (i : ℕ). ReadsRecord p (page_over p page below) bits i (Ok (record { known = k; end = end }))) place h)
+
+-- a record at fault
+pub record_fails : (p : Parameters) (bits : List Bool) (offsets : List ℕ) (page : ℕ) (below : Known) (at : ℕ) (e : Fault) → at ≡ start_of offsets page → ReadsRecord p (page_over p page below) bits at (Err e) → RecordReads p bits offsets page below (Err (faults.Record e))
+record_fails p bits offsets page below at e place h = subst (λ (i : ℕ). ReadsRecord p (page_over p page below) bits i (Err e)) place h
 
 pub length_fault : (p : Parameters) (bits : List Bool) (offsets : List ℕ) (page : ℕ) (below : Known) (at end stop : ℕ) (k : Known) (f : ArchiveFault) → at ≡ start_of offsets page →
     ReadsRecord p (page_over p page below) bits at (Ok (record { known = k; end = end })) → stop ≡ end → stop ≢ start_of offsets (page + 1) →
@@ -157,31 +166,30 @@ from_first p bits offsets x chain w h reads = subst (λ (k : ℕ). ChainReads p 
 counted : (chain : List ℕ) (from to : ℕ) → 0 < length chain → to ≡ from + length chain → to ≡ from + length (drop 1 chain) + 1
 counted chain from to some ticks = omega (arith, length-drop 1 chain)
 
--- the head of the last page is refused, or memory was wanting
-pub head_error : (p : Parameters) (bits : List Bool) (offsets : List ℕ) (x : ℕ) (chain : List ℕ) (page from to : ℕ) (e : SpotError) → x < p.nodes → IsChain p bits offsets x chain → get_or chain (length chain - 1) 0 ≡ page → to ≡ from + length chain →
-    OfSpot e (IsHeadFault p bits offsets page) → SpotAnswers p bits offsets x from to (Err e)
-head_error p bits offsets x chain page from to errors.NoPage lt h here ticks bad = absurd bad
-head_error p bits offsets x chain page from to (errors.Archive f) lt h here ticks bad =
+-- the chain was not followed to its end
+pub cut_short : (p : Parameters) (bits : List Bool) (offsets : List ℕ) (x : ℕ) (chain : List ℕ) (from to : ℕ) → IsChain p bits offsets x chain → to ≤ from + length chain → (chain : List ℕ) × IsChain p bits offsets x chain × (to ≤ from + length chain)
+cut_short p bits offsets x chain from to h few = (chain, h, few)
+
+-- the head of the last page is refused, or memory was wanting, or a word was refused
+pub head_error : {R : Type 0} (p : Parameters) (bits : List Bool) (offsets : List ℕ) (x : ℕ) (chain : List ℕ) (page from to : ℕ) (e : PagesError R) → IsChain p bits offsets x chain → get_or chain (length chain - 1) 0 ≡ page → to ≡ from + length chain →
+    OfFault e (IsHeadFault p bits offsets page) → ChainAnswers {R = R} p bits offsets x from to (Err e)
+head_error p bits offsets x chain page from to (pages.Fault f) h here ticks bad =
     let at_end = last_fails p bits offsets chain bad.0 (subst (λ (k : ℕ). HeadReads p bits offsets k (Err bad.0)) (sym here) bad.2) in
     let all = carried p bits offsets x chain (length chain - 1) (faults.Record bad.0) (omega (arith, h.some)) h at_end in
     let first = from_first p bits offsets x chain (Err (faults.Record bad.0)) h all in
-    (lt, drop 1 chain, subst (λ (g : ArchiveFault). ChainReads p bits offsets x (drop 1 chain) (Err g)) (sym bad.1) first, counted chain from to h.some ticks)
-head_error p bits offsets x chain page from to errors.Memory lt h here ticks bad = (lt, chain, h, (let le : to ≤ from + length chain = omega (arith, ticks) in le))
-
-pub no_memory : (p : Parameters) (bits : List Bool) (offsets : List ℕ) (x : ℕ) (chain : List ℕ) (from to : ℕ) → x < p.nodes → IsChain p bits offsets x chain → to ≤ from + length chain → SpotAnswers p bits offsets x from to (Err errors.Memory)
-no_memory p bits offsets x chain from to lt h few = (lt, chain, h, few)
+    (drop 1 chain, subst (λ (g : ArchiveFault). ChainReads p bits offsets x (drop 1 chain) (Err g)) (sym bad.1) first, counted chain from to h.some ticks)
+head_error p bits offsets x chain page from to pages.Memory h here ticks bad = cut_short p bits offsets x chain from to h (omega (arith, ticks))
+head_error p bits offsets x chain page from to (pages.Refused r) h here ticks bad = cut_short p bits offsets x chain from to h (omega (arith, ticks))
 
 -- the answer, where all heads are right
-pub answer_of : (p : Parameters) (bits : List Bool) (offsets : List ℕ) (x : ℕ) (chain : List ℕ) (from to : ℕ) (result : Result (List ℕ) SpotError) → x < p.nodes → IsChain p bits offsets x chain → to ≡ from + length chain →
-    IfOk result (λ list. (k : Known) × ChainReads p bits offsets (get_or chain 0 0) (drop 1 chain) (Ok k) × (list ≡ k.list)) →
-    IfErr result (λ e. OfSpot e (λ f. ChainReads p bits offsets (get_or chain 0 0) (drop 1 chain) (Err f))) → SpotAnswers p bits offsets x from to result
-answer_of p bits offsets x chain from to (Ok list) lt h ticks good bad =
-    (lt, drop 1 chain, good.0, from_first p bits offsets x chain (Ok good.0) h good.1, good.2, counted chain from to h.some ticks)
-answer_of p bits offsets x chain from to (Err errors.NoPage) lt h ticks good bad = absurd bad
-answer_of p bits offsets x chain from to (Err (errors.Archive f)) lt h ticks good bad = (lt, drop 1 chain, from_first p bits offsets x chain (Err f) h bad, counted chain from to h.some ticks)
-answer_of p bits offsets x chain from to (Err errors.Memory) lt h ticks good bad = (lt, chain, h, (let le : to ≤ from + length chain = omega (arith, ticks) in le))
-
--- the answer of the same archive
-pub answers_same : (p q : Parameters) (bits cits : List Bool) (offsets places : List ℕ) (x from to : ℕ) (result : Result (List ℕ) SpotError) → p ≡ q → bits ≡ cits → offsets ≡ places →
-    SpotAnswers p bits offsets x from to result → SpotAnswers q cits places x from to result
-answers_same p q bits cits offsets places x from to result e1 e2 e3 h = rw (← e1, ← e2, ← e3) h
+pub answer_of : {R : Type 0} (p : Parameters) (bits : List Bool) (offsets : List ℕ) (x : ℕ) (chain lent : List ℕ) (from to : ℕ) (result : Result (List ℕ) (PagesError R)) → lent ≡ chain → IsChain p bits offsets x chain → to ≡ from + length chain →
+    IfOk result (λ list. (k : Known) × ChainReads p bits offsets (get_or lent 0 0) (drop 1 lent) (Ok k) × (list ≡ k.list)) →
+    OnFault result (λ f. ChainReads p bits offsets (get_or lent 0 0) (drop 1 lent) (Err f)) → ChainAnswers {R = R} p bits offsets x from to result
+answer_of p bits offsets x chain lent from to (Ok list) is h ticks good bad =
+    let reads = subst (λ (l : List ℕ). ChainReads p bits offsets (get_or l 0 0) (drop 1 l) (Ok good.0)) is good.1 in
+    (drop 1 chain, good.0, from_first p bits offsets x chain (Ok good.0) h reads, good.2, counted chain from to h.some ticks)
+answer_of p bits offsets x chain lent from to (Err (pages.Fault f)) is h ticks good bad =
+    let fails = subst (λ (l : List ℕ). ChainReads p bits offsets (get_or l 0 0) (drop 1 l) (Err f)) is bad in
+    (drop 1 chain, from_first p bits offsets x chain (Err f) h fails, counted chain from to h.some ticks)
+answer_of p bits offsets x chain lent from to (Err pages.Memory) is h ticks good bad = cut_short p bits offsets x chain from to h (omega (arith, ticks))
+answer_of p bits offsets x chain lent from to (Err (pages.Refused r)) is h ticks good bad = cut_short p bits offsets x chain from to h (omega (arith, ticks))

@@ -28,3 +28,7 @@ pub record Ended (p : Parameters) (bits : List Bool) (records : List Whole) (cha
   pub links : (i : ℕ) → i < depth → suc i < length chain → Link p bits records (get_or chain i 0) (get_or chain (suc i) 0)
   pub bottom : depth < length chain → StandsOn p bits records (get_or chain depth 0) None
   pub deep : (known_at records x).depth ≡ depth
+
+-- each page of a chain comes before the one that refers to it
+abbrev pub Fall : List ℕ → Type 0
+Fall chain = (i : ℕ) → suc i < length chain → get_or chain (suc i) 0 < get_or chain i 0

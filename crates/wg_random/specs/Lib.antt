@@ -2,6 +2,5 @@ pub mod Held
 pub mod Chain
 pub mod Answer
 pub mod Checking
-pub mod Unread
 pub mod Spot
 pub mod SpotLaws

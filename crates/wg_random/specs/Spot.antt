@@ -1,23 +1,32 @@
 -- What a call answers that reads one page of an archive that was not checked.
-use Rattle.std.specs.Prelude.{◌≡◌, ℕ, ◌+◌, ◌<◌, ◌≤◌, Bool, List, length, Result, Ok, Err}
+use Rattle.std.specs.Prelude.{◌≡◌, ℕ, ◌+◌, ◌-◌, ◌<◌, ◌≤◌, Bool, List, length, get_or, Result, Ok, Err}
 use Rattle.wg_params.specs.Parameters.{Parameters}
-use Rattle.wg_grammar.specs.declared.fault.ArchiveFault.{ArchiveFault}
 use Rattle.wg_grammar.specs.Context.{Known}
-use Rattle.wg_decoder.specs.Chains.{ChainReads, IsChain}
+use Rattle.wg_decoder.specs.Chains.{HeadReads, ChainReads, IsChain}
+use Rattle.wg_stream.specs.declared.error.PagesError.{PagesError}
+use Rattle.wg_stream.specs.declared.error.PagesError.TheVariants.{Fault, Memory, Refused}
 use Rattle.wg_random.specs.declared.error.SpotError.{SpotError}
 use Rattle.wg_random.specs.declared.error.SpotError.TheVariants as errors
 
--- The list of page x, or why there is none: there is no such page, or this is the fault of its chain, or memory was
--- wanting. The count rises by one for each page of the chain, and by no more than that where memory was wanting.
+-- pages from x on, each of which refers to the next, and the last to none
+pub record IsWholeChain (p : Parameters) (bits : List Bool) (offsets : List ℕ) (x : ℕ) (chain : List ℕ) : Type 0 where
+  pub links : IsChain p bits offsets x chain
+  pub last : HeadReads p bits offsets (get_or chain (length chain - 1) 0) (Ok 0)
+
+-- The list of page x, or why there is none: this is the fault of its chain, or memory was wanting, or a word was
+-- refused. The count rises by one for each page of the chain, and by no more than that where the chain was not read to
+-- its end.
+abbrev pub ChainAnswers : {R : Type 0} → Parameters → List Bool → List ℕ → ℕ → ℕ → ℕ → Result (List ℕ) (PagesError R) → Type 0
+ChainAnswers p bits offsets x from to (Ok list) =
+    (zs : List ℕ) × (k : Known) × ChainReads p bits offsets x zs (Ok k) × (list ≡ k.list) × (to ≡ from + length zs + 1)
+ChainAnswers p bits offsets x from to (Err (Fault f)) = (zs : List ℕ) × ChainReads p bits offsets x zs (Err f) × (to ≡ from + length zs + 1)
+ChainAnswers p bits offsets x from to (Err Memory) = (chain : List ℕ) × IsChain p bits offsets x chain × (to ≤ from + length chain)
+ChainAnswers p bits offsets x from to (Err (Refused r)) = (chain : List ℕ) × IsChain p bits offsets x chain × (to ≤ from + length chain)
+
+-- The same of bits in memory, which refuse no word. There may be no such page.
 abbrev pub SpotAnswers : Parameters → List Bool → List ℕ → ℕ → ℕ → ℕ → Result (List ℕ) SpotError → Type 0
 SpotAnswers p bits offsets x from to (Ok list) =
     (x < p.nodes) × (zs : List ℕ) × (k : Known) × ChainReads p bits offsets x zs (Ok k) × (list ≡ k.list) × (to ≡ from + length zs + 1)
 SpotAnswers p bits offsets x from to (Err errors.NoPage) = (p.nodes ≤ x) × (to ≡ from)
 SpotAnswers p bits offsets x from to (Err (errors.Archive f)) = (x < p.nodes) × (zs : List ℕ) × ChainReads p bits offsets x zs (Err f) × (to ≡ from + length zs + 1)
 SpotAnswers p bits offsets x from to (Err errors.Memory) = (x < p.nodes) × (chain : List ℕ) × IsChain p bits offsets x chain × (to ≤ from + length chain)
-
--- what holds of the fault, where the error is one; want of memory may come at any time
-abbrev pub OfSpot : SpotError → (ArchiveFault → Type 0) → Type 0
-OfSpot errors.NoPage P = ⊥
-OfSpot (errors.Archive f) P = P f
-OfSpot errors.Memory P = Unit {0}

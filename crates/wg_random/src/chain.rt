@@ -1,46 +1,53 @@
 //! The list of a page of an archive that was not checked.
-ghost use Rattle.std.specs.Prelude.{◌≡◌, ◌+◌, ◌-◌, ◌<◌, ◌≤◌, ℕ, length, drop, get_or, Some, Ok, Err, IfOk, IfErr, OnOk};
+ghost use Rattle.std.specs.Prelude.{◌≡◌, ◌+◌, ◌-◌, ◌<◌, ◌≤◌, ℕ, Bool, List as ListOf, length, drop, get_or, Some, Ok, Err, IfOk, IfErr, OnOk};
 ghost use Rattle.wg_io.specs.declared.limits.TheConstants.{MOST_BYTES};
 ghost use Rattle.wg_bits.specs.Bits.{bits_of};
 ghost use Rattle.wg_grammar.specs.Context.{Known};
-ghost use Rattle.wg_random.specs.Chain.{ArePages};
-ghost use Rattle.wg_decoder.specs.Chains.{HeadReads, ChainReads, IsChain};
-ghost use Rattle.wg_random.specs.Spot.{SpotAnswers, OfSpot};
+ghost use Rattle.wg_decoder.specs.Chains.{ChainReads};
+ghost use Rattle.wg_stream.specs.Errors.{OnFault, OnRefusal};
+ghost use Rattle.wg_random.specs.Chain.{ArePages, Fall};
+ghost use Rattle.wg_random.specs.Spot.{ChainAnswers, IsWholeChain, SpotAnswers};
 
-use crate::unchecked::Unchecked;
+use crate::unchecked::{read_record, reference};
 use crate::{SpotError, Steps};
 use std::alloc::Global;
 use std::mem::replace;
 use std::sync::ledger::Ledger;
+use wg_bits::{Bits, Cursor};
 use wg_decoder::Spares;
 use wg_graph::List;
 use wg_offsets::Offsets;
 use wg_params::Params;
+use wg_stream::{PagesError, Seek};
 
 // Follows the references from page `x`, judges the head of each page, and answers the pages of this chain, `x` first.
-fn chain<L: Ledger>(
-    archive: &Unchecked,
+fn chain<L: Ledger, S: Seek>(
     alloc: Global,
+    params: &Params,
+    offsets: &Offsets,
     x: u64,
+    source: &mut S,
     steps: &mut Steps<L>,
-) -> Result<List, SpotError>
-    requires { x < archive.now.params.nodes }
-    ensures pages { IfOk result (λ chain. ArePages archive.now.params.nodes chain (length chain - 1)) }
-    ensures chain { IfOk result (λ chain.
-        IsChain archive.now.params (bits_of archive.now.bytes.now) archive.now.offsets.now x chain) }
-    ensures last { IfOk result (λ chain. let last : ℕ = get_or chain (length chain - 1) 0 in
-        HeadReads archive.now.params (bits_of archive.now.bytes.now) archive.now.offsets.now last (Ok 0)) }
+) -> Result<List, PagesError<S::Refusal>>
+    requires many { length offsets.now ≡ params.now.nodes + 1 }
+    requires page { x < params.now.nodes }
+    ensures reached { S.reached source.old source.new }
+    ensures refused { OnRefusal result (S.caused source.old source.new) }
+    ensures some { IfOk result (λ chain. 0 < length chain) }
+    ensures pages { IfOk result (λ chain. ArePages params.now.nodes chain (length chain - 1)) }
+    ensures fall { IfOk result Fall }
+    ensures chain { (bits : ListOf Bool) → S.reads_from source.old bits
+        → IfOk result (IsWholeChain params.now bits offsets.now x) }
     ensures ticks { IfOk result (λ chain. steps.new ≡ steps.old + length chain) }
-    ensures error { IfErr result (λ e.
-        SpotAnswers archive.now.params (bits_of archive.now.bytes.now) archive.now.offsets.now x
-        steps.old steps.new (Err e)) }
+    ensures error { (bits : ListOf Bool) → S.reads_from source.old bits
+        → IfErr result (λ e. ChainAnswers params.now bits offsets.now x steps.old steps.new (Err e)) }
 {
     let mut chain = List::new(alloc);
     chain.push(x)?;
     let mut page = x;
     'down: loop {
         steps.tick();
-        let back = archive.reference(page)?;
+        let back = reference(params, offsets, page, source)?;
         if back == 0 {
             return Ok(chain);
         }
@@ -51,33 +58,49 @@ fn chain<L: Ledger>(
 
 // The list of the first page of a chain. The records of its pages are judged from the last one up, each over the one
 // before.
-fn climb(archive: &Unchecked, alloc: Global, chain: &[u64]) -> Result<List, SpotError>
+fn climb<S: Seek>(
+    alloc: Global,
+    params: &Params,
+    offsets: &Offsets,
+    chain: &[u64],
+    source: &mut S,
+) -> Result<List, PagesError<S::Refusal>>
+    requires many { length offsets.now ≡ params.now.nodes + 1 }
     requires some { 0 < length chain.now }
-    requires pages { ArePages archive.now.params.nodes chain.now (length chain.now - 1) }
-    requires chain { (x : ℕ)
-        × IsChain archive.now.params (bits_of archive.now.bytes.now) archive.now.offsets.now x chain.now }
-    requires last { let last : ℕ = get_or chain.now (length chain.now - 1) 0 in
-        HeadReads archive.now.params (bits_of archive.now.bytes.now) archive.now.offsets.now last (Ok 0) }
-    ensures reads { IfOk result (λ list. (k : Known)
-        × ChainReads archive.now.params (bits_of archive.now.bytes.now) archive.now.offsets.now
-        (get_or chain.now 0 0) (drop 1 chain.now) (Ok k)
+    requires pages { ArePages params.now.nodes chain.now (length chain.now - 1) }
+    requires fall { Fall chain.now }
+    ensures reached { S.reached source.old source.new }
+    ensures refused { OnRefusal result (S.caused source.old source.new) }
+    ensures reads { (bits : ListOf Bool) → S.reads_from source.old bits
+        → (x : ℕ) → IsWholeChain params.now bits offsets.now x chain.now → IfOk result (λ list. (k : Known)
+        × ChainReads params.now bits offsets.now (get_or chain.now 0 0) (drop 1 chain.now) (Ok k)
         × (list ≡ k.list)) }
-    ensures fault { IfErr result (λ e. OfSpot e (λ f.
-        ChainReads archive.now.params (bits_of archive.now.bytes.now) archive.now.offsets.now
-        (get_or chain.now 0 0) (drop 1 chain.now) (Err f))) }
+    ensures fault { (bits : ListOf Bool) → S.reads_from source.old bits
+        → (x : ℕ) → IsWholeChain params.now bits offsets.now x chain.now → OnFault result (λ f.
+        ChainReads params.now bits offsets.now (get_or chain.now 0 0) (drop 1 chain.now) (Err f)) }
 {
     let mut spares = Spares::new(alloc);
     let mut left = chain.len() - 1;
-    let mut known = archive.record(chain[left], &[], 0, &mut spares)?;
+    let mut known = read_record(params, offsets, chain[left], &[], 0, &mut spares, source)?;
     'up: while left > 0 {
         left -= 1;
-        let above = archive.record(chain[left], known.list.as_slice(), known.depth, &mut spares)?;
+        let below = known.list.as_slice();
+        let above = read_record(
+            params,
+            offsets,
+            chain[left],
+            below,
+            known.depth,
+            &mut spares,
+            source,
+        )?;
         spares.take_back(replace(&mut known, above).list);
     }
     Ok(known.list)
 }
 
 /// The successors of a page of an archive that was not checked, or the first fault that its chain of references shows.
+/// Of the source the records of this chain are read and nothing else.
 ///
 /// The chain begins with the page. The heads of its pages are judged first, from the page down, each on its own: with
 /// no limit on chains, and as though no outdegrees came before it. A record that begins past the last bit is cut at its
@@ -86,10 +109,31 @@ fn climb(archive: &Unchecked, alloc: Global, chain: &[u64]) -> Result<List, Spot
 /// first fault in this order is answered. No other record is read, nor the tail, nor the number of arcs; where the
 /// archive is accepted, the list is that of its graph.
 ///
-/// Each page of the chain is counted by a tick. Where chains have a limit, a page with a list has no more references
-/// than that; one with a fault may have more, since the heads are judged with no limit. It takes time in proportion to
-/// the words and the lists of these records, and holds a number for each page of the chain and a few lists. Memory is
-/// taken as pages and successors come.
+/// Each page of the chain is counted by a tick. It takes time in proportion to the words and the lists of these
+/// records, and holds a number for each page of the chain and a few lists. Memory is taken as pages and successors
+/// come.
+pub fn spot_from<L: Ledger, S: Seek>(
+    alloc: Global,
+    params: &Params,
+    offsets: &Offsets,
+    page: u64,
+    source: &mut S,
+    steps: &mut Steps<L>,
+) -> Result<List, PagesError<S::Refusal>>
+    requires many { length offsets.now ≡ params.now.nodes + 1 }
+    requires page { page < params.now.nodes }
+    ensures reached { S.reached source.old source.new }
+    ensures refused { OnRefusal result (S.caused source.old source.new) }
+    ensures answer { (bits : ListOf Bool) → S.reads_from source.old bits
+        → ChainAnswers params.now bits offsets.now page steps.old steps.new result }
+{
+    let chain = chain(alloc, params, offsets, page, source, steps)?;
+    climb(alloc, params, offsets, chain.as_slice(), source)
+}
+
+/// The same of a graph file in memory, where a page that does not exist is an error. Where chains have a limit, a page
+/// with a list has no more references than that; one with a fault may have more, since the heads are judged with no
+/// limit.
 pub fn spot<L: Ledger>(
     alloc: Global,
     bytes: &[u8],
@@ -107,7 +151,13 @@ pub fn spot<L: Ledger>(
     if page >= params.nodes() {
         return Err(SpotError::NoPage);
     }
-    let archive = Unchecked::of(bytes, params, offsets);
-    let chain = chain(&archive, alloc, page, steps)?;
-    climb(&archive, alloc, chain.as_slice())
+    let mut cursor = Cursor::new(Bits::of(bytes), 0);
+    match spot_from(alloc, params, offsets, page, &mut cursor, steps) {
+        Ok(list) => Ok(list),
+        Err(error) => match error {
+            PagesError::Fault(fault) => Err(SpotError::Archive(fault)),
+            PagesError::Memory => Err(SpotError::Memory),
+            PagesError::Refused(never) => match never {},
+        },
+    }
 }

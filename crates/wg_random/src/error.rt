@@ -3,9 +3,7 @@ ghost use Rattle.std.specs.Prelude.{◌≡◌};
 ghost use Rattle.wg_random.specs.declared.error.ListError.TheVariants as lists;
 
 use std::alloc::AllocError;
-use std::convert::Infallible;
 use thiserror::Error;
-use wg_decoder::Unread;
 use wg_grammar::ArchiveFault;
 
 /// Why a graph file is refused.
@@ -56,28 +54,4 @@ pub enum SpotError {
     Archive(ArchiveFault),
     #[error("out of memory")]
     Memory,
-}
-
-impl From<AllocError> for SpotError {
-    ghost use Rattle.wg_random.specs.declared.error.SpotError.TheVariants as spots;
-
-    ghost from_gives = { λ _ e. e ≡ spots.Memory };
-
-    fn from(_error: AllocError) -> Self {
-        SpotError::Memory
-    }
-}
-
-impl From<Unread<Infallible>> for SpotError {
-    ghost use Rattle.wg_random.specs.Unread.{spot_error};
-
-    ghost from_gives = { λ u e. e ≡ spot_error u };
-
-    fn from(unread: Unread<Infallible>) -> Self {
-        match unread {
-            Unread::Fault(fault) => SpotError::Archive(ArchiveFault::Record(fault)),
-            Unread::Memory => SpotError::Memory,
-            Unread::Refused(never) => match never {},
-        }
-    }
 }

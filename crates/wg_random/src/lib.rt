@@ -23,10 +23,12 @@
 //! list of x <--copied-- list <--copied-- ... <-- list                            up: two lists, used in turn
 //! ```
 //!
-//! [`spot`] reads a page of an archive that was not checked, from the bytes and the offsets, by the same chain alone.
-//! It judges the heads of these records first, from the page down, and then the whole records, from the last one up,
-//! and answers the list of the page or the first fault. The functions of [`laws`] state that there is one answer, and
-//! that it is the page's list of the graph where the archive is accepted.
+//! [`spot_from`] reads a page of an archive that was not checked, by the offsets and the same chain alone, from any
+//! source that goes to any offset of its bits ([`Seek`](wg_stream::Seek)); of a file in a depot it reads no other
+//! record. [`spot`] does so from bytes in memory. The heads of these records are judged first, from the page down, and
+//! then the whole records, from the last one up, and the answer is the list of the page or the first fault. The
+//! functions of [`laws`] state that there is one answer, and that it is the page's list of the graph where the archive
+//! is accepted.
 //!
 //! [`Records::sweep`] needs no offsets: it makes a [`Sweep`](wg_stream::Sweep) over the lists of all pages, for which
 //! the records are not passed over again.
@@ -50,13 +52,13 @@
 //! | [`Records::of_pass`], [`Records::archive`] | none | constant |
 //! | [`Archive::open`] | a box for each reference of the chain | that of the words of the chain's records |
 //! | [`Archive::list`] | a number for each page of the chain, and two of its lists | that of the words and the lists of the chain's records |
-//! | [`spot`] | a number for each page of the chain, and at most 6 lists | that of the words and the lists of the chain's records |
+//! | [`spot`], [`spot_from`] | a number for each page of the chain, and at most 6 lists | that of the words and the lists of the chain's records |
 //! | [`Records::sweep`] | a row for each page that a reference reaches, and one | that of the rows |
 //!
 //! A page that does not exist, a chain that is too long to be opened, and want of memory are answered by [`OpenError`]
 //! and [`ListError`]; there is no other reason, since the archive was checked. Why a file is no archive is told by
 //! [`CheckError`] and [`ArchiveFault`](wg_grammar::ArchiveFault), and why a page of one that was not checked has no
-//! list by [`SpotError`].
+//! list by [`SpotError`], or by [`PagesError`](wg_stream::PagesError), which also tells why a word was refused.
 #![tactic(auto)]
 
 mod archive;
@@ -69,7 +71,7 @@ mod steps;
 mod unchecked;
 
 pub use archive::Archive;
-pub use chain::spot;
+pub use chain::{spot, spot_from};
 pub use error::{CheckError, ListError, OpenError, SpotError};
 pub use records::Records;
 pub use steps::Steps;

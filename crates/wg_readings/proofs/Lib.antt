@@ -1,4 +1,5 @@
 pub mod ClassLemmas
+pub mod FindingLemmas
 pub mod FirstRecords
 pub mod GraphJobs
 pub mod JobPasses

@@ -1,3 +1,4 @@
+pub mod Finding
 pub mod Loading
 pub mod Pairing
 pub mod Passes

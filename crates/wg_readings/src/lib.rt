@@ -3,9 +3,10 @@
 //!
 //! [`load_params`], [`load_graph`], [`load_offsets`], [`load_weights`], [`load_certificate`] and [`load_map`] read a
 //! file whole; [`judge_graph`], [`judge_files`] and [`judge_offsets`] go through the files in pieces, and so do
-//! [`open_graph`], [`next_record`] and [`end_records`], record by record. [`passed_of_graph`] finds where the records
-//! of a graph file are, and [`lists_of_records`] decodes their lists, as often as one likes. [`open_lines`] and
-//! [`next_lines`] lend the lines of a file, which the caller judges.
+//! [`open_graph`], [`next_record`] and [`end_records`], record by record. [`find_graph`] looks for a graph file, of
+//! which single records are read, and judges none. [`passed_of_graph`] finds where the records of a graph file are, and
+//! [`lists_of_records`] decodes their lists, as often as one likes. [`open_lines`] and [`next_lines`] lend the lines of
+//! a file, which the caller judges.
 //!
 //! Each promises that it is a step of a judgement (`Judged`): it either yields a value or ends the job with a
 //! [`Status`](wg_outcomes::Status), and later inputs do not matter, unless running out of memory or a fault of the
@@ -40,6 +41,7 @@
 mod archive;
 mod claims;
 mod classes;
+mod graph_file;
 mod judge;
 mod lines;
 mod loading;
@@ -47,9 +49,10 @@ mod pairing;
 mod records;
 mod weights;
 
-pub use archive::{find_pages, lists_of_records, passed_of_graph};
+pub use archive::{bad_archive, find_pages, lists_of_records, passed_of_graph};
+pub use graph_file::{GraphFile, find_graph};
 pub use judge::{judge_files, judge_graph, judge_offsets};
-pub use lines::{next_lines, open_lines};
+pub use lines::{next_lines, open_lines, unread};
 pub use loading::{
     load, load_certificate, load_graph, load_map, load_offsets, load_params, load_weights,
 };

@@ -1,5 +1,5 @@
 -- A part of a file that is held.
-use Rattle.std.proofs.Common.{◌≡◌, ℕ, ◌+◌, ◌-◌, ◌*◌, ◌≤◌, true, List, ◌++◌, length, take, drop, Option, Some, Ok, sym, ◌∙◌, ap, subst, arith, append_assoc, length-append, length-drop}
+use Rattle.std.proofs.Common.{◌≡◌, ℕ, ◌+◌, ◌-◌, ◌*◌, ◌<◌, ◌≤◌, true, false, List, [], ◌++◌, length, take, drop, Option, Some, Ok, refl, sym, ◌∙◌, ap, subst, arith, append_assoc, length-append, length-drop}
 use Rattle.std.proofs.Math.Seq.{drop-append-add, drop-append_seam}
 use Rattle.std.proofs.lemmas.List.{drop-append-le, take-append-drop, drop-take, length-take-le, nil_from_length}
 use Rattle.std.proofs.lemmas.List.Edits.{take-paste}
@@ -109,3 +109,28 @@ ahead_moved g h p q n inside ep eq eh =
 pub looked_at : (file : List ℕ) (h1 h2 : Held) → length file ≤ MOST_BYTES → h2 ≡ record h1 { looked = true } → IsHeldOf file h1 → IsHeldOf file h2
 looked_at file h1 h2 short same i =
     subst (IsHeldOf file) (sym same) (record { before = i.before; behind = i.behind; whole = i.whole; offset = i.offset; ended = i.ended; short = λ _. short })
+
+-- in place of what was held, a piece of the file is, from some byte on
+pub taken_up : (file : List ℕ) (h1 h2 : Held) (buf : List ℕ) (first at count : ℕ) → 0 < count → IsPieceOf file first buf count
+    → h2 ≡ record { bytes = take count buf; first = first; at = at; ended = false; looked = h1.looked } → IsHeldOf file h1 → IsHeldOf file h2
+taken_up file h1 h2 buf first at count some piece is i = subst (IsHeldOf file) (sym is) (record {
+  before = take first file;
+  behind = drop count (drop first file);
+  whole =
+      sym (take-append-drop first file)
+      ∙ ap (λ (b : List ℕ). take first file ++ b) (sym (take-append-drop count (drop first file)) ∙ ap (λ (b : List ℕ). b ++ drop count (drop first file)) (sym piece.bytes));
+  offset = length-take-le first file (omega (arith, piece.within, some, length-drop first file));
+  ended = λ e. absurd cc;
+  short = i.short;
+})
+
+-- nothing of the file is, at its beginning
+pub begun : (file : List ℕ) (h1 h2 : Held) → h2 ≡ record { bytes = []; first = 0; at = 0; ended = false; looked = h1.looked } → IsHeldOf file h1 → IsHeldOf file h2
+begun file h1 h2 is i = subst (IsHeldOf file) (sym is) (record {
+  before = [];
+  behind = file;
+  whole = refl;
+  offset = refl;
+  ended = λ e. absurd cc;
+  short = i.short;
+})

@@ -17,6 +17,13 @@ pub record Steps (told : Bool) (name : List ℕ) (files1 files2 : Files) (counts
   pub in_step : IsTrue told → (file : List ℕ) → map.get files1 name ≡ Some file → IsHeldOf file h1 → IsHeldOf file h2
   pub small : IsSmall h1 → IsSmall h2
 
+-- The same, where the next bit may be any.
+pub record Moves (told : Bool) (name : List ℕ) (files1 files2 : Files) (counts1 counts2 : List ℕ → Counts) (h1 h2 : Held) : Type 0 where
+  pub same : files2 ≡ files1
+  pub later : NonDecreasing counts1 counts2
+  pub looked : h1.looked ≡ true → h2.looked ≡ true
+  pub in_step : IsTrue told → (file : List ℕ) → map.get files1 name ≡ Some file → IsHeldOf file h1 → IsHeldOf file h2
+
 -- Why no more of a file was read: the outside counted it, or the file is too long.
 pub record HasCause (told : Bool) (name : List ℕ) (files : Files) (counts1 counts2 : List ℕ → Counts) (h : Held) (e : LoadError) : Type 0 where
   pub absent : e ≡ load.Absent → Increased (counts1 name).absences (counts2 name).absences

@@ -14,6 +14,9 @@
 //!                                              window of the lists before
 //! ```
 //!
+//! A record is also read on its own, by its place: a [`Seek`] is a source that goes to any offset of its bits, as a
+//! cursor and a [`FileSource`] do.
+//!
 //! A [`Sweep`] goes over the lists of bytes that are known to stand for a graph, in order and as often as one likes,
 //! and decodes each list from the bits again. It takes all its memory when it is made, so that no list can be wanting
 //! later: rows for the pages that a reference reaches, and two. [`pass`] finds how long they have to be, in one pass
@@ -57,6 +60,7 @@ mod parts;
 mod passed;
 mod reader;
 mod records;
+mod seek;
 mod standing;
 mod state;
 mod stream_error;
@@ -70,6 +74,7 @@ pub use pages::Pages;
 pub use passed::{Passed, pass};
 pub use reader::Reader;
 pub use records::read_graph;
+pub use seek::Seek;
 pub use stream_error::StreamError;
 pub use stretch::{MOST_HELD, Stretch};
 pub use sweep::Sweep;

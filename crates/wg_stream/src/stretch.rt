@@ -1,5 +1,5 @@
 //! The bytes of a file that are held while it is read.
-ghost use Rattle.std.specs.Prelude.{◌≡◌, ◌⊎◌, ◌+◌, ◌-◌, ◌*◌, ◌/◌, ◌<◌, ◌≤◌, ℕ, IsTrue, false, true, [], ◌++◌, List, Some, None, Err, length, drop, replicate, OnOk, OnErr, IfErr, IfSome, IfNone};
+ghost use Rattle.std.specs.Prelude.{◌≡◌, ◌⊎◌, ◌+◌, ◌-◌, ◌*◌, ◌/◌, ◌<◌, ◌≤◌, ℕ, IsTrue, false, true, [], ◌++◌, List, Some, None, Err, length, drop, replicate, OnOk, OnErr, IfOk, IfErr, IfSome, IfNone};
 ghost use Rattle.std.specs.FinMap as map;
 ghost use Rattle.wg_io.specs.declared.limits.TheConstants.{MOST_BYTES};
 ghost use Rattle.wg_io.specs.declared.whole.LoadError.TheVariants as load;
@@ -11,7 +11,7 @@ ghost use Rattle.wg_codes.specs.declared.outcome.Read.TheVariants.{Cut, Value};
 ghost use Rattle.wg_grammar.specs.Archive.{IsTail, IsTailFault};
 ghost use Rattle.wg_grammar.specs.Standing.{StopsAt};
 ghost use Rattle.wg_stream.specs.Held.{HoldsNext, IsInside, ahead};
-ghost use Rattle.wg_stream.specs.Stepping.{Steps, HasCause};
+ghost use Rattle.wg_stream.specs.Stepping.{Steps, Moves, HasCause};
 ghost use Rattle.wg_stream.specs.declared.stretch.TheConstants.{WORD, MOST_HELD};
 
 use std::marker::Model;
@@ -231,6 +231,73 @@ impl Stretch {
         }
         self.extend(&piece[..count]);
         Ok(())
+    }
+
+    // Holds these bytes of the file alone, the first of them at this offset, and goes to this bit of them.
+    fn hold(&mut self, first: u64, piece: &[u8], at: u64)
+        requires room { length piece.now ≤ MOST_HELD }
+        requires short { first + length piece.now ≤ MOST_BYTES }
+        requires from { 8 * first ≤ at }
+        requires to { at ≤ 8 * (first + length piece.now) }
+        ensures { self.new ≡ record {
+          bytes = piece.now;
+          first = first;
+          at = at;
+          ended = false;
+          looked = self.old.looked;
+        } }
+    {
+        let length = piece.len();
+        self.bytes[..length].copy_from_slice(piece);
+        self.length = length;
+        self.first = first;
+        self.here = at - 8 * first;
+        self.ended = false;
+    }
+
+    // Goes to a bit that is held, or to the one after them, and answers whether it is one of these.
+    fn go_within(&mut self, at: u64) -> bool
+        ensures there { IsTrue result → self.new ≡ record self.old { at = at } }
+        ensures still { result ≡ false → self.new ≡ self.old }
+    {
+        let from = 8 * self.first;
+        if at < from || at - from > 8 * self.length as u64 {
+            return false;
+        }
+        self.here = at - from;
+        true
+    }
+
+    /// Goes to a bit of the file, forwards or back, or to the end of its bits, and answers whether it has so many. If
+    /// that bit is not held, one piece is read, which begins with the byte of the bit before: the file has this byte
+    /// exactly if it has so many bits. Where it has not, what is held stays as it is.
+    pub fn go_to<D: Depot>(&mut self, depot: &mut D, name: &str, at: u64) -> Result<bool, LoadError>
+        ensures moves { Moves D.told name.now (D.files depot.old) (D.files depot.new) (D.counts depot.old)
+            (D.counts depot.new) self.old self.new }
+        ensures cause { IfErr result (HasCause D.told name.now (D.files depot.old) (D.counts depot.old)
+            (D.counts depot.new) self.old) }
+        ensures there { IfOk result (λ there. IsTrue there → self.new.at ≡ at) }
+        ensures past { IsTrue D.told → (file : List ℕ) → map.get (D.files depot.old) name.now ≡ Some file
+            → IfOk result (λ there. there ≡ false → 8 * length file < at) }
+    {
+        if self.go_within(at) {
+            return Ok(true);
+        }
+        if at == 0 {
+            self.hold(0, &[], 0);
+            return Ok(true);
+        }
+        let first = (at - 1) / 8;
+        let mut room = [0u8; MOST_HELD];
+        let count = depot.read(name, first, &mut room)?;
+        if count == 0 {
+            return Ok(false);
+        }
+        if first + count as u64 > MOST_BYTES {
+            return Err(LoadError::TooLong);
+        }
+        self.hold(first, &room[..count], at);
+        Ok(true)
     }
 
     /// Reads what stands in the bits that are held, and moves over a whole word.

@@ -73,8 +73,9 @@ pieces 4096
 use copied g
 run spot g 0
 each read 1 to 3 refuses 4 wg: read failed: g.properties|
-each read 4 to 6 refuses 4 wg: read failed: g.graph|
-each read 7 to 9 refuses 4 wg: read failed: g.offsets|
+each read 4 to 4 refuses 4 wg: read failed: g.graph|
+each read 5 to 7 refuses 4 wg: read failed: g.offsets|
+each read 8 to 9 refuses 4 wg: read failed: g.graph|
 failing read 10
 prints 0 1 2|
 

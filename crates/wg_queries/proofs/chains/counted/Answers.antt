@@ -1,27 +1,35 @@
-use Rattle.std.proofs.Common.{◌∙◌, sym, ap, subst, inl, refl}
-use Rattle.wg_outcomes.specs.Answers.{Answers}
-use Rattle.wg_outcomes.specs.Judged.{status_of, with_successors}
-use Rattle.wg_outcomes.specs.declared.status.Status.{Status}
-use Rattle.wg_readings.proofs.ReadingsLemmas.{chain_refused, page_refused, successors_go_on}
-use Rattle.wg_queries.proofs.SpotJobs.{bad_chain}
+use Rattle.std.proofs.Common.{rules, ◌∙◌, ℕ, List, Some, refl, sym, ap, subst}
+use Rattle.std.specs.FinMap as map
+use Rattle.wg_bits.specs.Bits.{bits_of}
+use Rattle.wg_readings.specs.Finding.{IsOpenOn}
+use Rattle.wg_queries.proofs.SpotJobs.{spotted, unspotted}
 use Rattle.wg_queries.proofs.chains.counted.Goals as goal
 
-pub returns-in-Ok-clause-steps : goal.returns-in-Ok-clause-steps
-returns-in-Ok-clause-steps g c = λ r next.
-    let h = c.in-Ok.ensures.answer in
-    successors_go_on r c.args.params.now c.nodes.ensures.limits c.args.bytes.now c.args.offsets.now c.args.page h.0 h.2 (h.1, h.3) next ∙ ap next (sym h.4)
+pub returns-in-Ok : goal.returns-in-Ok
+returns-in-Ok g c = λ names named open_on.
+    let d = c.new-source.ensures.depot in
+    let h = c.new-source.ensures.held in
+    let n = c.new-source.ensures.name in
+    let files = g.D.Depot.files c.args.depot.now in
+    let moves = rw (d, h, n) at c.in-Ok.ensures.reached.3 in
+    let all =
+    spotted names c.as_str.result.now (named ∙ ap Some (sym c.as_str.ensures)) c.args.params.now c.nodes.ensures.limits c.args.offsets.now c.args.page g.D.Depot.told
+    files (g.D.Depot.files c.spot_from.new.source.depot.now) (g.D.Depot.counts c.args.depot.now) (g.D.Depot.counts c.spot_from.new.source.depot.now) moves.same moves.later c.args.graph.now.held
+    (λ t. subst (λ (m : List ℕ). IsOpenOn (map.get files m) c.args.graph.now.held) (sym c.as_str.ensures) (open_on t))
+    c.requires.page c.in-Ok.list _ _ (λ t file is i. c.in-Ok.ensures.answer (bits_of file) (rw (d, h, n) (t, (file, is, i, refl)))) in
+    search (rules, all)
 
-pub returns-in-Err-NoPage-clause-steps : goal.returns-in-Err-NoPage-clause-steps
-returns-in-Err-NoPage-clause-steps g c = λ r next.
-    let p = c.args.params.now in
-    let h = rw c.in-Err-NoPage.field-0-is at c.in-Err-NoPage.ensures.answer in
-    subst (λ (s : Status). Answers (with_successors r p c.args.bytes.now c.args.offsets.now c.args.page next) s) (sym c.of.ensures.status)
-    (inl (sym (ap status_of (page_refused r p c.nodes.ensures.limits c.args.bytes.now c.args.offsets.now c.args.page h.0 next))))
-
-pub returns-in-Err-Archive-clause-steps : goal.returns-in-Err-Archive-clause-steps
-returns-in-Err-Archive-clause-steps g c = λ r next.
-    let h = rw c.in-Err-Archive.field-0-is at c.in-Err-Archive.ensures.answer in
-    inl (sym (ap status_of (chain_refused r c.args.params.now c.nodes.ensures.limits c.args.bytes.now c.args.offsets.now c.args.page h.0 c.in-Err-Archive.fault (h.1, h.2) next)))
-
-pub returns-in-Err-Archive-clause-only : goal.returns-in-Err-Archive-clause-only
-returns-in-Err-Archive-clause-only g c = bad_chain c.args.page c.args.params.now.arcs c.in-Err-Archive.fault _ refl c.arcs.ensures.value
+pub returns : goal.returns
+returns g c = λ names named open_on.
+    let d = c.new-source.ensures.depot in
+    let h = c.new-source.ensures.held in
+    let n = c.new-source.ensures.name in
+    let files = g.D.Depot.files c.args.depot.now in
+    let moves = rw (d, h, n) at c.in-Err.ensures.reached.3 in
+    let refused = rw (d, h, n) at c.in-Err.ensures.refused in
+    let all =
+    unspotted names c.as_str.result.now (named ∙ ap Some (sym c.as_str.ensures)) c.args.params.now c.nodes.ensures.limits c.args.offsets.now c.args.page g.D.Depot.told
+    files (g.D.Depot.files c.spot_from.new.source.depot.now) (g.D.Depot.counts c.args.depot.now) (g.D.Depot.counts c.spot_from.new.source.depot.now) moves.same moves.later c.args.graph.now.held
+    (λ t. subst (λ (m : List ℕ). IsOpenOn (map.get files m) c.args.graph.now.held) (sym c.as_str.ensures) (open_on t))
+    c.requires.page c.in-Err.error c.ending_of.result _ _ c.ending_of.ensures (λ t file is i. c.in-Err.ensures.answer (bits_of file) (rw (d, h, n) (t, (file, is, i, refl)))) refused in
+    search (rules, all)

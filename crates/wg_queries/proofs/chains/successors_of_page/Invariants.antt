@@ -2,4 +2,4 @@ use Rattle.wg_queries.proofs.chains.successors_of_page.Given as goal
 
 -- the ledger of the records that are read
 abbrev pub ghosts-counted : goal.ghosts-counted
-ghosts-counted a = record { name = a.blank.name; parts = a.blank.parts }
+ghosts-counted g a = record { name = a.blank.name; parts = a.blank.parts }

@@ -1,31 +1,43 @@
-use Rattle.std.proofs.Common.{refl}
+use Rattle.std.proofs.Common.{◌∙◌, Some, refl, sym, ap, subst}
+use Rattle.std.specs.FinMap as map
+use Rattle.wg_io.specs.Outside.{Files}
+use Rattle.wg_outcomes.specs.Names.{file_of}
+use Rattle.wg_readings.specs.Finding.{IsOpenOn}
 use Rattle.wg_readings.proofs.JobSteps.{performs_exit}
-use Rattle.wg_queries.proofs.SpotJobs.{no_bytes, no_list, no_offsets, no_params, spots}
+use Rattle.wg_queries.proofs.SpotJobs.{no_graph, no_list, no_offsets, no_params, spots}
 use Rattle.wg_queries.proofs.spot.spot.Goals as goal
 
 pub returns-in_err-params : goal.returns-in_err-params
 returns-in_err-params g c = performs_exit _ _ _ _ _ _ _ c.from_residual.ensures.1 (no_params c.args.base.now c.args.page _ _ _ _ _ refl c.in_err-params.ensures)
 
-pub returns-in_err-bytes : goal.returns-in_err-bytes
-returns-in_err-bytes g c =
-    performs_exit _ _ _ _ _ _ _ c.from_residual-in_err-bytes.ensures.1
-    (no_bytes c.args.base.now c.args.page _ _ _ c.in_ok-params.params _ _ c.in_ok-params.ensures _ _ refl c.in_err-bytes.ensures)
+pub returns-in_err-graph : goal.returns-in_err-graph
+returns-in_err-graph g c =
+    performs_exit _ _ _ _ _ _ _ c.from_residual-in_err-graph.ensures.1
+    (no_graph c.args.base.now c.args.page _ _ _ c.in_ok-params.params _ _ c.in_ok-params.ensures _ _ refl c.in_err-graph.ensures.ends)
 
 pub returns-in_err-offsets : goal.returns-in_err-offsets
 returns-in_err-offsets g c =
+    let f = c.in_ok-graph.ensures in
     performs_exit _ _ _ _ _ _ _ c.from_residual-in_err-offsets.ensures.1
-    (no_offsets c.args.base.now c.args.page _ _ _ c.in_ok-params.params _ _ c.in_ok-params.ensures _ _ c.in_ok-bytes.bytes c.in_ok-bytes.ensures _ refl
+    (no_offsets c.args.base.now c.args.page _ _ _ c.in_ok-params.params _ _ c.in_ok-params.ensures _ _ f.same f.later c.in_ok-graph.graph.name f.name c.in_ok-graph.graph.held f.found
     _ _ refl c.in_err-offsets.ensures)
 
 pub returns-in_err-list : goal.returns-in_err-list
 returns-in_err-list g c =
-    let e = c.in_err-list.ensures in
+    let f = c.in_ok-graph.ensures in
+    let o = c.in_ok-offsets.ensures in
+    let graph = c.in_ok-graph.graph in
+    let s = c.in_err-list.ensures (file_of c.args.base.now) (ap Some (sym f.name)) (λ t. subst (λ (x : Files). IsOpenOn (map.get x graph.name) graph.held) (sym (o.reads.same ∙ f.same)) (f.found t)) in
     performs_exit _ _ _ _ _ _ _ c.from_residual-in_err-list.ensures.1
-    (no_list c.args.base.now c.args.page _ _ _ c.in_ok-params.params _ _ c.in_ok-params.ensures _ _ c.in_ok-bytes.bytes c.in_ok-bytes.ensures _ c.as_slice.ensures
-    _ _ c.in_ok-offsets.offsets c.in_ok-offsets.ensures _ _ _ refl e.only e.steps)
+    (no_list c.args.base.now c.args.page _ _ _ c.in_ok-params.params _ _ c.in_ok-params.ensures _ _ f.same f.later graph.name f.name graph.held f.found
+    _ _ c.in_ok-offsets.offsets o _ _ _ _ _ refl s)
 
 pub returns : goal.returns
 returns g c =
-    let o = c.print_line.ensures in
-    spots c.args.base.now c.args.page _ _ _ c.in_ok-params.params _ _ c.in_ok-params.ensures _ _ c.in_ok-bytes.bytes c.in_ok-bytes.ensures _ c.as_slice.ensures
-    _ _ c.in_ok-offsets.offsets c.in_ok-offsets.ensures c.in_ok-list.list c.in_ok-list.ensures.steps _ c.as_slice-2.ensures _ _ c.print_line.result o.puts o.only o.failed
+    let f = c.in_ok-graph.ensures in
+    let o = c.in_ok-offsets.ensures in
+    let graph = c.in_ok-graph.graph in
+    let p = c.print_line.ensures in
+    let s = c.in_ok-list.ensures (file_of c.args.base.now) (ap Some (sym f.name)) (λ t. subst (λ (x : Files). IsOpenOn (map.get x graph.name) graph.held) (sym (o.reads.same ∙ f.same)) (f.found t)) in
+    spots c.args.base.now c.args.page _ _ _ c.in_ok-params.params _ _ c.in_ok-params.ensures _ _ f.same f.later graph.name f.name graph.held f.found
+    _ _ c.in_ok-offsets.offsets o _ _ _ _ c.in_ok-list.list s _ c.as_slice.ensures c.print_line.result p.puts p.only p.failed

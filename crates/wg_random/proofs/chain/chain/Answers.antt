@@ -1,32 +1,70 @@
-use Rattle.std.proofs.Common.{rules, ◌≡◌, ◌+◌, ◌-◌, ◌<◌, ◌++◌, ◌∷◌, [], length, refl, arith}
+use Rattle.std.proofs.Common.{rules, ◌≡◌, ◌+◌, ◌-◌, ◌<◌, ◌++◌, ◌∷◌, [], List, ℕ, Ok, length, refl, ap, sym, subst, arith}
+use Rattle.std.specs.Prelude.{get_or}
 use Rattle.std.proofs.lemmas.Result.{err_from_is_err_and}
-use Rattle.wg_bits.specs.Bits.{bits_of}
-use Rattle.wg_decoder.specs.Chains.{RefersTo}
-use Rattle.wg_random.proofs.ChainLemmas.{pushed_length, pushed_pages}
-use Rattle.wg_random.proofs.SpotLemmas.{pushed_chain, pushed_here, head_error}
+use Rattle.wg_decoder.specs.Chains.{HeadReads, RefersTo}
+use Rattle.wg_stream.proofs.ErrorLemmas.{refusal_weaker}
+use Rattle.wg_random.proofs.ChainLemmas.{one_are_pages, one_falls, pushed_fall, pushed_length, pushed_pages}
+use Rattle.wg_random.proofs.SpotLemmas.{head_error, one_page, pushed_chain, pushed_here}
 use Rattle.wg_random.proofs.chain.chain.Goals as goal
 
+pub down-init : goal.down-init
+down-init g c =
+    let is : c.push.new.self ≡ c.args.x ∷ [] = search rules in
+    record {
+      reached = g.met.S.Seek.by_reading _ _ (g.met.S.Source.stays _);
+      low = c.requires.page;
+      some = omega (arith, ap length is);
+      pages = one_are_pages _ _ c.args.x is c.requires.page;
+      fall = one_falls _ c.args.x is;
+      here = ap (λ (l : List ℕ). get_or l (length l - 1) 0) is;
+      is = λ bits r. one_page c.args.params.now bits c.args.offsets.now c.args.x c.push.new.self is;
+      ticks = omega (arith, ap length is);
+    }
+
+pub returns-in_err-back-clause-reached : goal.returns-in_err-back-clause-reached
+returns-in_err-back-clause-reached g c = g.met.S.Seek.on_from _ _ _ c.down.invariant.reached c.in_err-back.ensures.reached
+
+pub returns-in_err-back-clause-refused : goal.returns-in_err-back-clause-refused
+returns-in_err-back-clause-refused g c =
+    let q = err_from_is_err_and c.from_residual-in_err-back.result c.from_residual-in_err-back.ensures.1 in
+    rw (q.1, q.2) (refusal_weaker c.in_err-back.field-0.0 _ _ (λ x h. g.met.S.Seek.cause_stays _ _ _ x c.down.invariant.reached h) c.in_err-back.ensures.refused)
+
 pub returns-in_err-back-clause-error : goal.returns-in_err-back-clause-error
-returns-in_err-back-clause-error g c =
-    let a = c.args.archive.now in
+returns-in_err-back-clause-error g c = λ bits r.
     let h = c.down.invariant in
+    let on = g.met.S.Seek.bits_stay _ _ bits h.reached r in
     let ticks : c.tick.new.self ≡ c.args.steps.now + length c.down.chain = omega (arith, h.ticks, c.tick.ensures) in
     let q = err_from_is_err_and c.from_residual-in_err-back.result c.from_residual-in_err-back.ensures.1 in
-    rw (q.1, q.2) (head_error a.params (bits_of a.bytes.now) a.offsets.now c.args.x c.down.chain c.down.page c.args.steps.now c.tick.new.self c.in_err-back.field-0.0 c.requires h.is h.here ticks c.in_err-back.ensures.fault)
+    rw (q.1, q.2) (head_error c.args.params.now bits c.args.offsets.now c.args.x c.down.chain c.down.page c.args.steps.now c.tick.new.self c.in_err-back.field-0.0 (h.is bits r) h.here ticks (c.in_err-back.ensures.fault bits on))
+
+pub returns-then-back-eq0-clause-reached : goal.returns-then-back-eq0-clause-reached
+returns-then-back-eq0-clause-reached g c = g.met.S.Seek.on_from _ _ _ c.down.invariant.reached c.in_ok-back.ensures.reached
+
+pub returns-then-back-eq0-clause-chain : goal.returns-then-back-eq0-clause-chain
+returns-then-back-eq0-clause-chain g c = λ bits r.
+    let p = c.args.params.now in
+    let h = c.down.invariant in
+    let on = g.met.S.Seek.bits_stay _ _ bits h.reached r in
+    let reads = subst (λ (n : ℕ). HeadReads p bits c.args.offsets.now c.down.page (Ok n)) c.if-back-eq0.true (c.in_ok-back.ensures.reads bits on) in
+    record { links = h.is bits r; last = subst (λ (k : ℕ). HeadReads p bits c.args.offsets.now k (Ok 0)) (sym h.here) reads }
 
 pub down-preserved : goal.down-preserved
 down-preserved g c =
-    let a = c.args.archive.now in
+    let p = c.args.params.now in
     let h = c.down.invariant in
     let z = c.down.page - c.in_ok-back.back in
     let is : c.push-in-down.new.self ≡ c.down.chain ++ z ∷ [] = search rules in
     let some : 0 < c.in_ok-back.back = omega arith in
-    let refers : RefersTo a.params (bits_of a.bytes.now) a.offsets.now c.down.page z = (c.in_ok-back.back, some, c.in_ok-back.ensures.reads, refl) in
     record {
+      reached = g.met.S.Seek.on_from _ _ _ h.reached c.in_ok-back.ensures.reached;
       low = omega (arith, h.low);
       some = omega (arith, pushed_length _ _ z is);
-      pages = pushed_pages c.down.chain c.push-in-down.new.self a.params.nodes z is h.some (omega (arith, h.low)) h.pages;
+      pages = pushed_pages c.down.chain c.push-in-down.new.self p.nodes z is h.some (omega (arith, h.low)) h.pages;
+      fall = pushed_fall c.down.chain c.push-in-down.new.self c.down.page z is h.some h.here (omega (arith, some, c.in_ok-back.ensures.near)) h.fall;
       here = pushed_here c.down.chain c.push-in-down.new.self z is;
-      is = pushed_chain a.params (bits_of a.bytes.now) a.offsets.now c.args.x c.down.chain c.push-in-down.new.self c.down.page z is h.here refers h.is;
+      is = λ bits r.
+          let on = g.met.S.Seek.bits_stay _ _ bits h.reached r in
+          let refers : RefersTo p bits c.args.offsets.now c.down.page z = (c.in_ok-back.back, some, c.in_ok-back.ensures.reads bits on, refl) in
+          pushed_chain p bits c.args.offsets.now c.args.x c.down.chain c.push-in-down.new.self c.down.page z is h.here refers (h.is bits r);
       ticks = omega (arith, h.ticks, c.tick.ensures, pushed_length _ _ z is);
     }
