@@ -85,7 +85,7 @@ module _ (given : Option (List ℕ)) (name : List ℕ) (some : given ≡ Some na
   refused_weights : (r : Result (Option (List ℕ)) Ending) (e : Ending) → IsErrAnd r (λ x. x ≡ e)
       → ReadsNamed Weights (weights_named (Some name)) (IsBadWeights n) (weights_then (Some name) n) td files files' counts counts' (Err e) → Has given r
   refused_weights r e is h =
-      subst (λ g. Has g r) (sym some) (subst (λ x. Has (Some name) x) (sym (is_that_err r e is)) (record { reads = h; some = refl; weights = tt }))
+      subst (λ g. Has g r) (sym some) (subst (λ x. Has (Some name) x) (sym (is_that_err r e is)) (record { reads = h; some = refl; weights = tt; alike = λ none. tt }))
 
   pub weights_unread : (r : Result (Option (List ℕ)) Ending) (e : Ending) → IsErrAnd r (λ x. x ≡ e) → Loads (weights_named (Some name)) Weights td files files' counts counts' (Err e) → Has given r
   weights_unread r e is l =
@@ -104,6 +104,7 @@ module _ (given : Option (List ℕ)) (name : List ℕ) (some : given ≡ Some na
           reads = named_loaded Weights (weights_named (Some name)) (IsBadWeights n) (weights_own n) weigh td files files' counts counts' bytes slice is l (Ok (Some ws)) (λ next. steps (λ x. next (Some x))) tt;
           some = tt;
           weights = are;
+          alike = λ none. absurd (cc none);
         })
 
 -- no file is named
@@ -119,6 +120,7 @@ weights_absent given n td files counts none =
       };
       some = tt;
       weights = ones n;
+      alike = λ none. refl;
     })
 
 pub not_zero : (x : ℕ) → 0 < x → false ≡ nat_eq x 0
