@@ -3,7 +3,7 @@ ghost use Rattle.wg_words.specs.Jobs.{IsWithin};
 ghost use Rattle.wg_outcomes.specs.Answers.{status_in};
 ghost use Rattle.wg_outcomes.specs.Promised.{promised_in};
 ghost use Rattle.wg_outcomes.specs.Performs.{Does};
-ghost use Rattle.wg_outcomes.specs.Untold.{DoesSome};
+ghost use Rattle.wg_outcomes.specs.Untold.{DoesAnywhere};
 ghost use Rattle.wg_cli.specs.Wanted.{calls_depot};
 
 use std::alloc::Global;
@@ -40,7 +40,8 @@ pub fn perform<D: Depot, O: Sink>(alloc: Global, job: &Job, depot: &mut D, out: 
     requires { IsWithin job.now }
     ensures does { Does ⟦<D as Depot>⟧ ⟦<O as Sink>⟧ job.now depot.old depot.new out.old out.new result.status
         result.promised }
-    ensures some { DoesSome ⟦<D as Depot>⟧ ⟦<O as Sink>⟧ job.now depot.old depot.new out.old out.new result.status }
+    ensures anywhere { DoesAnywhere ⟦<D as Depot>⟧ ⟦<O as Sink>⟧ job.now depot.old depot.new out.old out.new
+        result.status }
     ensures untouched { calls_depot job.now ≡ false → depot.new ≡ depot.old }
 {
     match job {

@@ -14,7 +14,7 @@ ghost use Rattle.wg_outcomes.specs.JobFiles.{can_end, held_for, input_name, outp
 ghost use Rattle.wg_outcomes.specs.Performs.{judged_on, Does};
 ghost use Rattle.wg_outcomes.specs.Bulk.{PrintsProvenOutcome};
 ghost use Rattle.wg_outcomes.specs.Ranked.{PrintsProvenRanking};
-ghost use Rattle.wg_outcomes.specs.Untold.{DoesSome, PrintsSomeGap, PrintsSomeRanking, WantsFirst};
+ghost use Rattle.wg_outcomes.specs.Untold.{DoesAnywhere, PrintsSomeGap, PrintsSomeRanking, WantsFirst};
 ghost use Rattle.wg_outcomes.specs.Verified.{PrintsProvenGap};
 ghost use Rattle.wg_laws.specs.Certificates.{HoldsWritten};
 ghost use Rattle.wg_outcomes.specs.Readings.{Readings};
@@ -81,7 +81,7 @@ pub fn run<D: Depot, O: Sink, E: Sink>(
     ensures ranked { IsTrue O.told → (r : Readings) (base : List ℕ) (rounds damping top : ℕ)
         (weights certificate : Option (List ℕ))
         → job_of words.now ≡ Some (Job.Rank base rounds damping top weights certificate) → result ≡ Status.Done
-        → PrintsSomeRanking r rounds damping top (O.taken out.old) (O.taken out.new) }
+        → PrintsSomeRanking r weights rounds damping top (O.taken out.old) (O.taken out.new) }
     ensures wants_first { (base : List ℕ) (rounds damping top : ℕ) (weights certificate : Option (List ℕ))
         → job_of words.now ≡ Some (Job.Rank base rounds damping top weights certificate)
         → WantsFirst ⟦<D as Depot>⟧ ⟦<O as Sink>⟧ certificate depot.old depot.new out.old out.new result }
@@ -99,7 +99,7 @@ pub fn run<D: Depot, O: Sink, E: Sink>(
         (O.taken out.old) (O.taken out.new) }
     ensures leaves { IsTrue O.told → (base certificate : List ℕ) (weights : Option (List ℕ))
         → job_of words.now ≡ Some (Job.Verify base certificate weights) → result ≡ Status.Done
-        → PrintsSomeGap (O.taken out.old) (O.taken out.new) }
+        → PrintsSomeGap weights (O.taken out.old) (O.taken out.new) }
 
     // What `rank` wrote of the same graph and weights is accepted.
     ensures accepts { IsTrue D.told → (r : Readings) (base certificate : List ℕ) (weights : Option (List ℕ))
@@ -155,8 +155,8 @@ fn try_job<D: Depot, O: Sink>(
     ensures no_output { wanted.now ≡ None → O.taken out.new ≡ O.taken out.old }
     ensures performs { (job : Job) → wanted.now ≡ Some job
         → Does ⟦<D as Depot>⟧ ⟦<O as Sink>⟧ job depot.old depot.new out.old out.new result.status result.promised }
-    ensures some { (job : Job) → wanted.now ≡ Some job
-        → DoesSome ⟦<D as Depot>⟧ ⟦<O as Sink>⟧ job depot.old depot.new out.old out.new result.status }
+    ensures anywhere { (job : Job) → wanted.now ≡ Some job
+        → DoesAnywhere ⟦<D as Depot>⟧ ⟦<O as Sink>⟧ job depot.old depot.new out.old out.new result.status }
     ensures promised { IsTrue D.told → ArePromisedBy wanted.now (D.files depot.old) result.status result.promised }
     ensures same { some_writes_files wanted.now ≡ false → D.files depot.new ≡ D.files depot.old }
     ensures untouched { some_calls_depot wanted.now ≡ false → depot.new ≡ depot.old }

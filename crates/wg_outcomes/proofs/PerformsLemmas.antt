@@ -22,7 +22,7 @@ use Rattle.wg_outcomes.specs.JobFiles.{can_end, has_input, input_name, output_na
 use Rattle.wg_outcomes.specs.Names.{held_by, no_outputs, IsOfInput}
 use Rattle.wg_outcomes.specs.Performs.{Outside, Performs, judged_on}
 use Rattle.wg_outcomes.specs.Readings.{Readings}
-use Rattle.wg_outcomes.specs.Untold.{DoesSome}
+use Rattle.wg_outcomes.specs.Untold.{DoesAnywhere}
 use Rattle.wg_outcomes.specs.Written.{AreAllWhole, ArchiveFiles, CertificateAfter, FilesAfter, HasFiles, archive_at, content_of}
 use Rattle.wg_outcomes.specs.declared.ending.Ending.{Ending}
 use Rattle.wg_outcomes.specs.declared.status.Input.{Input}
@@ -38,10 +38,10 @@ performs_at j k td to before after s t a b same is count h =
     (subst (λ (x : Status). Performs k td to before after x a) (sym is)
     (subst (λ (x : ℕ). Performs k td to before after t x) (sym count) h))
 
-pub some_at : {D O : Type 0} (d : depot.Ghosts D) (o : sink.Ghosts O) (j k : Job) (before after : D) (out out' : O) (s t : Status) → j ≡ k → s ≡ t → DoesSome d o k before after out out' t
-    → DoesSome d o j before after out out' s
-some_at d o j k before after out out' s t same is h =
-    subst (λ (x : Job). DoesSome d o x before after out out' s) (sym same) (subst (λ (x : Status). DoesSome d o k before after out out' x) (sym is) h)
+pub anywhere_at : {D O : Type 0} (d : depot.Ghosts D) (o : sink.Ghosts O) (j k : Job) (before after : D) (out out' : O) (s t : Status) → j ≡ k → s ≡ t → DoesAnywhere d o k before after out out' t
+    → DoesAnywhere d o j before after out out' s
+anywhere_at d o j k before after out out' s t same is h =
+    subst (λ (x : Job). DoesAnywhere d o x before after out out' s) (sym same) (subst (λ (x : Status). DoesAnywhere d o k before after out out' x) (sym is) h)
 
 -- ---- a job that writes no file
 written_none : (r : Readings) (job : Job) (held : Input → Option (List ℕ)) → writes_files job ≡ false → written_by r job held ≡ None

@@ -1,5 +1,5 @@
 -- What `rank` and `verify` promise of every depot, whether or not it tells its bytes.
-use Rattle.std.specs.Prelude.{◌≡◌, ◌⊎◌, ℕ, List, Option, IsTrue}
+use Rattle.std.specs.Prelude.{◌≡◌, ◌⊎◌, ℕ, List, Option, None, IsTrue}
 use Rattle.wg_io.specs.Outside.{Increased}
 use Rattle.wg_io.specs.declared.depot.Depot as depot
 use Rattle.wg_io.specs.declared.sink.Sink as sink
@@ -14,13 +14,16 @@ use Rattle.wg_outcomes.specs.Verified.{PrintsGapOf}
 use Rattle.wg_outcomes.specs.declared.status.Status.{Status}
 use Rattle.wg_outcomes.specs.declared.status.Status.TheVariants.{Done, Memory}
 
--- What is printed is the ranking of some graph, by some weights of its pages.
-abbrev pub PrintsSomeRanking : Readings → ℕ → ℕ → ℕ → List ℕ → List ℕ → Type 0
-PrintsSomeRanking r rounds damping top old new = (graph : Digraph) × (given : Option (List ℕ)) × PrintsRankingOf r graph given rounds damping top old new
+-- What is printed is the ranking of some graph, by some weights of its pages, or by none if no file of weights is named.
+abbrev pub PrintsSomeRanking : Readings → Option (List ℕ) → ℕ → ℕ → ℕ → List ℕ → List ℕ → Type 0
+PrintsSomeRanking r weights rounds damping top old new =
+    (graph : Digraph) × (given : Option (List ℕ)) × (weights ≡ None → given ≡ None) × PrintsRankingOf r graph given rounds damping top old new
 
--- What is printed is what some bounds leave of 1, over some graph and some weights of its pages.
-abbrev pub PrintsSomeGap : List ℕ → List ℕ → Type 0
-PrintsSomeGap old new = (graph : Digraph) × (given : Option (List ℕ)) × (claim : Claim) × PrintsGapOf graph given claim old new
+-- What is printed is what some bounds leave of 1, over some graph, by some weights of its pages, or by none if no file
+-- of weights is named.
+abbrev pub PrintsSomeGap : Option (List ℕ) → List ℕ → List ℕ → Type 0
+PrintsSomeGap weights old new =
+    (graph : Digraph) × (given : Option (List ℕ)) × (weights ≡ None → given ≡ None) × (claim : Claim) × PrintsGapOf graph given claim old new
 
 -- Memory was wanting only before a file was changed or anything was printed, or where the output or the file of this
 -- name counted it.
@@ -31,16 +34,16 @@ WantsFirst d o name before after out out' status =
     ⊎ IncreasedAt (λ c. c.wants) name (d.counts before) (d.counts after)
 
 -- what `rank` promises
-pub record RanksSome {D O : Type 0} (d : depot.Ghosts D) (o : sink.Ghosts O) (rounds damping top : ℕ) (certificate : Option (List ℕ)) (before after : D) (out out' : O) (status : Status) : Type 0 where
+pub record RanksAnywhere {D O : Type 0} (d : depot.Ghosts D) (o : sink.Ghosts O) (rounds damping top : ℕ) (weights certificate : Option (List ℕ)) (before after : D) (out out' : O) (status : Status) : Type 0 where
   pub wants : WantsFirst d o certificate before after out out' status
-  pub ranking : IsTrue o.told → status ≡ Done → (r : Readings) → PrintsSomeRanking r rounds damping top (o.taken out) (o.taken out')
+  pub ranking : IsTrue o.told → status ≡ Done → (r : Readings) → PrintsSomeRanking r weights rounds damping top (o.taken out) (o.taken out')
 
 -- what `verify` promises
-abbrev pub VerifiesSome : {O : Type 0} → sink.Ghosts O → O → O → Status → Type 0
-VerifiesSome o out out' status = IsTrue o.told → status ≡ Done → PrintsSomeGap (o.taken out) (o.taken out')
+abbrev pub VerifiesAnywhere : {O : Type 0} → sink.Ghosts O → Option (List ℕ) → O → O → Status → Type 0
+VerifiesAnywhere o weights out out' status = IsTrue o.told → status ≡ Done → PrintsSomeGap weights (o.taken out) (o.taken out')
 
--- what a job promises beside what it does to files that are told
-abbrev pub DoesSome : {D O : Type 0} → depot.Ghosts D → sink.Ghosts O → Job → D → D → O → O → Status → Type 0
-DoesSome d o (Rank base rounds damping top weights certificate) before after out out' status = RanksSome d o rounds damping top certificate before after out out' status
-DoesSome d o (Verify base certificate weights) before after out out' status = VerifiesSome o out out' status
-DoesSome d o _ before after out out' status = Unit {0}
+-- what a job promises of every depot, beside the rest
+abbrev pub DoesAnywhere : {D O : Type 0} → depot.Ghosts D → sink.Ghosts O → Job → D → D → O → O → Status → Type 0
+DoesAnywhere d o (Rank base rounds damping top weights certificate) before after out out' status = RanksAnywhere d o rounds damping top weights certificate before after out out' status
+DoesAnywhere d o (Verify base certificate weights) before after out out' status = VerifiesAnywhere o weights out out' status
+DoesAnywhere d o _ before after out out' status = Unit {0}

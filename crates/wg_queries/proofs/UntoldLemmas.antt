@@ -1,5 +1,5 @@
 -- What `rank` and `verify` promise of every depot.
-use Rattle.std.proofs.Common.{◌≡◌, ◌≢◌, ◌⊎◌, ◌≤◌, ◌∙◌, inl, inr, ℕ, Bool, List, ◌++◌, length, Option, Some, Result, Ok, Err, refl, sym, ap, subst}
+use Rattle.std.proofs.Common.{◌≡◌, ◌≢◌, ◌⊎◌, ◌≤◌, ◌∙◌, inl, inr, ℕ, Bool, List, ◌++◌, length, Option, Some, None, Result, Ok, Err, refl, sym, ap, subst}
 use Rattle.std.specs.Result.{IfErr, IsErrAnd}
 use Rattle.wg_io.specs.Outside.{Counts, Files, NonDecreasing}
 use Rattle.wg_io.specs.Puts.{Puts}
@@ -18,7 +18,7 @@ use Rattle.wg_outcomes.specs.Names.{IsOfInput}
 use Rattle.wg_outcomes.specs.Promised.{IsBadFile}
 use Rattle.wg_outcomes.specs.Ranked.{PrintsRankingOf, bounds_after, ranking_text}
 use Rattle.wg_outcomes.specs.Readings.{Readings}
-use Rattle.wg_outcomes.specs.Untold.{PrintsSomeGap, PrintsSomeRanking, RanksSome}
+use Rattle.wg_outcomes.specs.Untold.{PrintsSomeGap, PrintsSomeRanking, RanksAnywhere}
 use Rattle.wg_outcomes.specs.Verified.{Leaves, verified_line}
 use Rattle.wg_outcomes.specs.declared.ending.Ending.{Ending}
 use Rattle.wg_outcomes.specs.declared.status.Input.{Input}
@@ -72,10 +72,10 @@ all_put text old new (Err e) (inl fault) put is = absurd (let no : WriteFault Ou
 all_put text old new (Err e) (inr want) put is = absurd (let no : Memory ≡ Done = sym want ∙ is in cc)
 
 -- ---- `rank`
-module _ {D O : Type 0} (d : depot.Ghosts D) (o : sink.Ghosts O) (rounds damping top : ℕ) (certificate : Option (List ℕ)) (before after : D) (out : O) where
+module _ {D O : Type 0} (d : depot.Ghosts D) (o : sink.Ghosts O) (rounds damping top : ℕ) (weights certificate : Option (List ℕ)) (before after : D) (out : O) where
   -- it ended before anything was written
   pub ranks_none : (r : Result (Unit {0}) Ending) (e : Ending) → IsErrAnd r (λ x. x ≡ e) → d.files after ≡ d.files before → Undone e
-      → RanksSome d o rounds damping top certificate before after out out (status_in r)
+      → RanksAnywhere d o rounds damping top weights certificate before after out out (status_in r)
   ranks_none r e is same none = record {
     wants = λ want. inl (same, refl);
     ranking = λ told done. absurd (undone r e is none done);
@@ -89,12 +89,13 @@ wants_since name certificate is a b c later (inr rose) =
     inr (subst (λ (n : Option (List ℕ)). IncreasedAt (λ k. k.wants) n a c) (sym is) (rose_late (λ k. k.wants) (Some name) a b c later.wants rose))
 
 -- a ranking by the bounds of a proper graph
-pub some_ranking : (graph : Digraph) (given : Option (List ℕ)) (rounds damping top : ℕ) (b : Intervals) (old new : List ℕ) (r : Readings) → rounds ≤ MOST_ROUNDS → damping ≤ MOST_DAMPING → IsGraph graph
+pub some_ranking : (graph : Digraph) (weights given : Option (List ℕ)) → (weights ≡ None → given ≡ None) → (rounds damping top : ℕ) (b : Intervals) (old new : List ℕ) (r : Readings) → rounds ≤ MOST_ROUNDS → damping ≤ MOST_DAMPING → IsGraph graph
     → graph.nodes ≤ MOST_PAGES → AreWeights graph.nodes (weights_of graph.nodes given) → b ≡ bounds_after graph given damping rounds → new ≡ old ++ ranking_text r b top
-    → PrintsSomeRanking r rounds damping top old new
-some_ranking graph given rounds damping top b old new r few damped proper small heavy is put = (
+    → PrintsSomeRanking r weights rounds damping top old new
+some_ranking graph weights given alike rounds damping top b old new r few damped proper small heavy is put = (
   graph,
   given,
+  alike,
   record {
     proper = proper;
     weights = heavy;
@@ -104,7 +105,7 @@ some_ranking graph given rounds damping top b old new r few damped proper small 
 )
 
 -- ---- `verify`
-pub some_gap : (graph : Digraph) (given : Option (List ℕ)) (claim : Claim) (left : ℕ) (old new : List ℕ) → IsGraph graph → AreWeights graph.nodes (weights_of graph.nodes given) → length claim.low ≡ graph.nodes
-    → Leaves graph claim given left → new ≡ old ++ verified_line claim left → PrintsSomeGap old new
-some_gap graph given claim left old new proper heavy pages leaves put =
-    (graph, given, claim, record { proper = proper; weights = heavy; pages = pages; left = left; printed = put; leaves = leaves })
+pub some_gap : (graph : Digraph) (weights given : Option (List ℕ)) → (weights ≡ None → given ≡ None) → (claim : Claim) (left : ℕ) (old new : List ℕ) → IsGraph graph → AreWeights graph.nodes (weights_of graph.nodes given) → length claim.low ≡ graph.nodes
+    → Leaves graph claim given left → new ≡ old ++ verified_line claim left → PrintsSomeGap weights old new
+some_gap graph weights given alike claim left old new proper heavy pages leaves put =
+    (graph, given, alike, claim, record { proper = proper; weights = heavy; pages = pages; left = left; printed = put; leaves = leaves })

@@ -9,7 +9,7 @@ ghost use Rattle.wg_outcomes.specs.Causes.{IncreasedAt};
 ghost use Rattle.wg_outcomes.specs.Performs.{Certifies, DoesOrEnds};
 ghost use Rattle.wg_outcomes.specs.Ranked.{ranking_text};
 ghost use Rattle.wg_outcomes.specs.Readings.{Readings};
-ghost use Rattle.wg_outcomes.specs.Untold.{RanksSome};
+ghost use Rattle.wg_outcomes.specs.Untold.{RanksAnywhere};
 ghost use Rattle.wg_outcomes.specs.declared.status.Status.TheVariants.{Memory};
 
 use crate::certificate::write_file;
@@ -51,7 +51,8 @@ pub fn rank<D: Depot, O: Sink>(
     ensures does { DoesOrEnds ⟦<D as Depot>⟧ ⟦<O as Sink>⟧
         (Rank base.now asked.rounds asked.damping asked.top weights.now certificate.now)
         depot.old depot.new out.old out.new result }
-    ensures some { RanksSome ⟦<D as Depot>⟧ ⟦<O as Sink>⟧ asked.rounds asked.damping asked.top certificate.now
+    ensures anywhere { RanksAnywhere ⟦<D as Depot>⟧ ⟦<O as Sink>⟧
+        asked.rounds asked.damping asked.top weights.now certificate.now
         depot.old depot.new out.old out.new (status_in result) }
 {
     let params = load_params(alloc, depot, base)?;

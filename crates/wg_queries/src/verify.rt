@@ -7,7 +7,7 @@ ghost use Rattle.wg_words.specs.declared.jobs.Job.TheVariants.{Verify};
 ghost use Rattle.wg_outcomes.specs.Answers.{Steps, status_in};
 ghost use Rattle.wg_readings.specs.Loading.{IsBadCertificate};
 ghost use Rattle.wg_outcomes.specs.Performs.{DoesOrEnds};
-ghost use Rattle.wg_outcomes.specs.Untold.{VerifiesSome};
+ghost use Rattle.wg_outcomes.specs.Untold.{VerifiesAnywhere};
 ghost use Rattle.wg_outcomes.specs.Verified.{Leaves, with_gap};
 
 use crate::print::print_verified;
@@ -34,7 +34,7 @@ pub fn verify<D: Depot, O: Sink>(
 ) -> Result<(), Ending>
     ensures does { DoesOrEnds ⟦<D as Depot>⟧ ⟦<O as Sink>⟧ (Verify base.now certificate.now weights.now)
         depot.old depot.new out.old out.new result }
-    ensures some { VerifiesSome ⟦<O as Sink>⟧ out.old out.new (status_in result) }
+    ensures anywhere { VerifiesAnywhere ⟦<O as Sink>⟧ weights.now out.old out.new (status_in result) }
 {
     let params = load_params(alloc, depot, base)?;
     let bytes = load(alloc, depot, base, Input::Graph)?;

@@ -1,5 +1,5 @@
 -- Steps of a job that read files, and print nothing.
-use Rattle.std.specs.Prelude.{◌≡◌, ◌⊎◌, ℕ, ◌+◌, ◌≤◌, Bool, List, length, Option, Some, Result, Ok, Err, IsTrue, IsSome, OnOk, IfOk, IfErr}
+use Rattle.std.specs.Prelude.{◌≡◌, ◌⊎◌, ℕ, ◌+◌, ◌≤◌, Bool, List, length, Option, Some, None, Result, Ok, Err, IsTrue, IsSome, OnOk, IfOk, IfErr}
 use Rattle.wg_io.specs.Outside.{Files, Counts, NonDecreasing}
 use Rattle.wg_io.specs.declared.depot.Depot as depot
 use Rattle.wg_io.specs.declared.limits.TheConstants.{MOST_BYTES}
@@ -171,6 +171,8 @@ pub record LoadsWeights (given : Option (List ℕ)) (n : ℕ) (told : Bool) (fil
   pub some : IfErr result (λ e. IsSome given)
   -- by the weights, or by 1 for each page, teleport can be shared out
   pub weights : IfOk result (λ ws. AreWeights n (weights_of n ws))
+  -- without a file of weights there are none
+  pub alike : given ≡ None → IfOk result (λ ws. ws ≡ None)
 
 -- What a certificate claims of so many pages was read, or the job ends at its file.
 pub record LoadsCertificate (name : List ℕ) (n : ℕ) (told : Bool) (files files' : Files) (counts counts' : List ℕ → Counts) (result : Result Claim Ending) : Type 0 where

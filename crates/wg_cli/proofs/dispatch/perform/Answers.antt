@@ -1,4 +1,4 @@
-use Rattle.wg_outcomes.proofs.PerformsLemmas.{performs_at, some_at}
+use Rattle.wg_outcomes.proofs.PerformsLemmas.{performs_at, anywhere_at}
 use Rattle.wg_cli.proofs.dispatch.perform.Goals as goal
 
 pub returns-in-Check-clause-does : goal.returns-in-Check-clause-does
@@ -46,8 +46,8 @@ returns-in-Transpose-clause-does g c = performs_at _ _ _ _ _ _ _ _ _ _ c.in-Tran
 pub returns-in-Bulk-clause-does : goal.returns-in-Bulk-clause-does
 returns-in-Bulk-clause-does g c = performs_at _ _ _ _ _ _ _ _ _ _ c.in-Bulk.is c.ending_of-in-Bulk.ensures.status c.ending_of-in-Bulk.ensures.promised (c.bulk.ensures _ _ _)
 
-pub returns-in-Rank-clause-some : goal.returns-in-Rank-clause-some
-returns-in-Rank-clause-some g c = some_at g.D.Depot g.O.Sink _ _ _ _ _ _ _ _ c.in-Rank.is c.ending_of-in-Rank.ensures.status c.rank.ensures.some
+pub returns-in-Rank-clause-anywhere : goal.returns-in-Rank-clause-anywhere
+returns-in-Rank-clause-anywhere g c = anywhere_at g.D.Depot g.O.Sink _ _ _ _ _ _ _ _ c.in-Rank.is c.ending_of-in-Rank.ensures.status c.rank.ensures.anywhere
 
-pub returns-in-Verify-clause-some : goal.returns-in-Verify-clause-some
-returns-in-Verify-clause-some g c = some_at g.D.Depot g.O.Sink _ _ _ _ _ _ _ _ c.in-Verify.is c.ending_of-in-Verify.ensures.status c.verify.ensures.some
+pub returns-in-Verify-clause-anywhere : goal.returns-in-Verify-clause-anywhere
+returns-in-Verify-clause-anywhere g c = anywhere_at g.D.Depot g.O.Sink _ _ _ _ _ _ _ _ c.in-Verify.is c.ending_of-in-Verify.ensures.status c.verify.ensures.anywhere

@@ -55,14 +55,14 @@ returns-in_default-clause-wants_first g c = λ base rounds damping top weights c
 
 pub returns-clause-ranked : goal.returns-clause-ranked
 returns-clause-ranked g c = λ o r base rounds damping top weights certificate is done.
-    (c.try_job-ending.ensures.some (Rank base rounds damping top weights certificate) (c.in-Ok.ensures.job ∙ is)).ranking o done r
+    (c.try_job-ending.ensures.anywhere (Rank base rounds damping top weights certificate) (c.in-Ok.ensures.job ∙ is)).ranking o done r
 
 pub returns-clause-wants_first : goal.returns-clause-wants_first
 returns-clause-wants_first g c = λ base rounds damping top weights certificate is.
-    (c.try_job-ending.ensures.some (Rank base rounds damping top weights certificate) (c.in-Ok.ensures.job ∙ is)).wants
+    (c.try_job-ending.ensures.anywhere (Rank base rounds damping top weights certificate) (c.in-Ok.ensures.job ∙ is)).wants
 
 pub returns-clause-leaves : goal.returns-clause-leaves
-returns-clause-leaves g c = λ o base certificate weights is done. c.try_job-ending.ensures.some (Verify base certificate weights) (c.in-Ok.ensures.job ∙ is) o done
+returns-clause-leaves g c = λ o base certificate weights is done. c.try_job-ending.ensures.anywhere (Verify base certificate weights) (c.in-Ok.ensures.job ∙ is) o done
 
 pub returns-clause-sure : goal.returns-clause-sure
 returns-clause-sure g c = λ t o r seed pages is done.

@@ -77,30 +77,30 @@ returns-clause-does g c =
     _ _ c.in_ok-given.given (weights_of_graph _ _ _ _ _ _ _ _ _ c.nodes.ensures.count c.in_ok-given.ensures)
     c.bounds_by_rounds-bounds.result is c.in-Some.name c.in-Some.is _ c.certify.result c.certify.ensures.does
 
-pub returns-in_err-params-clause-some : goal.returns-in_err-params-clause-some
-returns-in_err-params-clause-some g c =
-    ranks_none g.D.Depot g.O.Sink _ _ _ _ _ _ _ _ _ c.from_residual.ensures.1 c.in_err-params.ensures.same (undone_params _ _ _ _ _ _ _ c.in_err-params.ensures)
+pub returns-in_err-params-clause-anywhere : goal.returns-in_err-params-clause-anywhere
+returns-in_err-params-clause-anywhere g c =
+    ranks_none g.D.Depot g.O.Sink _ _ _ _ _ _ _ _ _ _ c.from_residual.ensures.1 c.in_err-params.ensures.same (undone_params _ _ _ _ _ _ _ c.in_err-params.ensures)
 
-pub returns-in_err-bytes-clause-some : goal.returns-in_err-bytes-clause-some
-returns-in_err-bytes-clause-some g c =
-    ranks_none g.D.Depot g.O.Sink _ _ _ _ _ _ _ _ _ c.from_residual-in_err-bytes.ensures.1 (c.in_err-bytes.ensures.same ∙ c.in_ok-params.ensures.same) (undone_reading _ c.in_err-bytes.field-0.0 c.in_err-bytes.ensures.mine)
+pub returns-in_err-bytes-clause-anywhere : goal.returns-in_err-bytes-clause-anywhere
+returns-in_err-bytes-clause-anywhere g c =
+    ranks_none g.D.Depot g.O.Sink _ _ _ _ _ _ _ _ _ _ c.from_residual-in_err-bytes.ensures.1 (c.in_err-bytes.ensures.same ∙ c.in_ok-params.ensures.same) (undone_reading _ c.in_err-bytes.field-0.0 c.in_err-bytes.ensures.mine)
 
-pub returns-in_err-lists-clause-some : goal.returns-in_err-lists-clause-some
-returns-in_err-lists-clause-some g c =
-    ranks_none g.D.Depot g.O.Sink _ _ _ _ _ _ _ _ _ c.from_residual-in_err-lists.ensures.1 (c.in_ok-bytes.ensures.same ∙ c.in_ok-params.ensures.same) (undone_graph _ _ c.in_err-lists.ensures.only)
+pub returns-in_err-lists-clause-anywhere : goal.returns-in_err-lists-clause-anywhere
+returns-in_err-lists-clause-anywhere g c =
+    ranks_none g.D.Depot g.O.Sink _ _ _ _ _ _ _ _ _ _ c.from_residual-in_err-lists.ensures.1 (c.in_ok-bytes.ensures.same ∙ c.in_ok-params.ensures.same) (undone_graph _ _ c.in_err-lists.ensures.only)
 
-pub returns-in_err-given-clause-some : goal.returns-in_err-given-clause-some
-returns-in_err-given-clause-some g c =
-    ranks_none g.D.Depot g.O.Sink _ _ _ _ _ _ _ _ _ c.from_residual-in_err-given.ensures.1
+pub returns-in_err-given-clause-anywhere : goal.returns-in_err-given-clause-anywhere
+returns-in_err-given-clause-anywhere g c =
+    ranks_none g.D.Depot g.O.Sink _ _ _ _ _ _ _ _ _ _ c.from_residual-in_err-given.ensures.1
     (c.in_err-given.ensures.reads.same ∙ c.in_ok-bytes.ensures.same ∙ c.in_ok-params.ensures.same) (undone_weights _ _ c.in_err-given.ensures.reads.only)
 
-pub returns-in_err-first-clause-some : goal.returns-in_err-first-clause-some
-returns-in_err-first-clause-some g c =
-    ranks_none g.D.Depot g.O.Sink _ _ _ _ _ _ _ _ _ c.from_residual-in_err-first.ensures.1
+pub returns-in_err-first-clause-anywhere : goal.returns-in_err-first-clause-anywhere
+returns-in_err-first-clause-anywhere g c =
+    ranks_none g.D.Depot g.O.Sink _ _ _ _ _ _ _ _ _ _ c.from_residual-in_err-first.ensures.1
     (c.in_ok-given.ensures.reads.same ∙ c.in_ok-bytes.ensures.same ∙ c.in_ok-params.ensures.same) (undone_room c.in_err-first.field-0.0 c.in_err-first.ensures.only)
 
-pub returns-in-None-clause-some : goal.returns-in-None-clause-some
-returns-in-None-clause-some g c =
+pub returns-in-None-clause-anywhere : goal.returns-in-None-clause-anywhere
+returns-in-None-clause-anywhere g c =
     let asked = c.args.asked in
     let graph = c.in_ok-lists.lists.graph in
     let f = c.in_ok-first.ensures in
@@ -110,12 +110,12 @@ returns-in-None-clause-some g c =
     record {
       wants = λ want. inr (inl (o.refusals.memory want));
       ranking = λ t done r.
-          some_ranking graph c.in_ok-given.given asked.rounds asked.damping asked.top c.bounds_by_rounds-bounds.result _ _ r c.requires.rounds c.requires.damping c.nodes.ensures.proper c.in_ok-lists.ensures.few
+          some_ranking graph c.args.weights.now c.in_ok-given.given c.in_ok-given.ensures.alike asked.rounds asked.damping asked.top c.bounds_by_rounds-bounds.result _ _ r c.requires.rounds c.requires.damping c.nodes.ensures.proper c.in_ok-lists.ensures.few
           (weights_of_graph _ _ _ _ _ _ _ _ _ c.nodes.ensures.count c.in_ok-given.ensures).weights is (all_put (ranking_text r c.bounds_by_rounds-bounds.result asked.top) (g.O.Sink.taken c.args.out.now) (g.O.Sink.taken c.print_ranks.new.out) c.print_ranks.result o.refusals.only (o.puts t r) done);
     }
 
-pub returns-clause-some : goal.returns-clause-some
-returns-clause-some g c =
+pub returns-clause-anywhere : goal.returns-clause-anywhere
+returns-clause-anywhere g c =
     let asked = c.args.asked in
     let graph = c.in_ok-lists.lists.graph in
     let f = c.in_ok-first.ensures in
@@ -126,7 +126,7 @@ returns-clause-some g c =
           inr (wants_since _ _ c.in-Some.is _ _ _ (none_falls-trans _ _ _ (none_falls-trans _ _ _ c.in_ok-params.ensures.later c.in_ok-bytes.ensures.later) c.in_ok-given.ensures.reads.later)
           (c.certify.ensures.wants want));
       ranking = λ t done r.
-          some_ranking graph c.in_ok-given.given asked.rounds asked.damping asked.top c.bounds_by_rounds-bounds.result _ _ r c.requires.rounds c.requires.damping c.nodes.ensures.proper c.in_ok-lists.ensures.few
+          some_ranking graph c.args.weights.now c.in_ok-given.given c.in_ok-given.ensures.alike asked.rounds asked.damping asked.top c.bounds_by_rounds-bounds.result _ _ r c.requires.rounds c.requires.damping c.nodes.ensures.proper c.in_ok-lists.ensures.few
           (weights_of_graph _ _ _ _ _ _ _ _ _ c.nodes.ensures.count c.in_ok-given.ensures).weights is
           (subst (HasOutput (ranking_text r c.bounds_by_rounds-bounds.result asked.top) (g.O.Sink.taken c.args.out.now) (g.O.Sink.taken c.certify.new.out)) done (c.certify.ensures.does.output t r));
     }

@@ -64,27 +64,27 @@ returns-clause-does g c =
     _ _ c.in_ok-claimed.claimed (claim_of_graph _ _ _ _ _ _ _ _ _ c.nodes-pages.ensures.count c.in_ok-claimed.ensures)
     c.in_ok-left.left c.in_ok-left.ensures.steps _ _ c.print_verified.result o.puts o.refusals.only o.refusals.failed
 
-pub returns-in_err-params-clause-some : goal.returns-in_err-params-clause-some
-returns-in_err-params-clause-some g c = λ t done. absurd (undone _ _ c.from_residual.ensures.1 (undone_params _ _ _ _ _ _ _ c.in_err-params.ensures) done)
+pub returns-in_err-params-clause-anywhere : goal.returns-in_err-params-clause-anywhere
+returns-in_err-params-clause-anywhere g c = λ t done. absurd (undone _ _ c.from_residual.ensures.1 (undone_params _ _ _ _ _ _ _ c.in_err-params.ensures) done)
 
-pub returns-in_err-bytes-clause-some : goal.returns-in_err-bytes-clause-some
-returns-in_err-bytes-clause-some g c = λ t done. absurd (undone _ _ c.from_residual-in_err-bytes.ensures.1 (undone_reading _ c.in_err-bytes.field-0.0 c.in_err-bytes.ensures.mine) done)
+pub returns-in_err-bytes-clause-anywhere : goal.returns-in_err-bytes-clause-anywhere
+returns-in_err-bytes-clause-anywhere g c = λ t done. absurd (undone _ _ c.from_residual-in_err-bytes.ensures.1 (undone_reading _ c.in_err-bytes.field-0.0 c.in_err-bytes.ensures.mine) done)
 
-pub returns-in_err-lists-clause-some : goal.returns-in_err-lists-clause-some
-returns-in_err-lists-clause-some g c = λ t done. absurd (undone _ _ c.from_residual-in_err-lists.ensures.1 (undone_graph _ _ c.in_err-lists.ensures.only) done)
+pub returns-in_err-lists-clause-anywhere : goal.returns-in_err-lists-clause-anywhere
+returns-in_err-lists-clause-anywhere g c = λ t done. absurd (undone _ _ c.from_residual-in_err-lists.ensures.1 (undone_graph _ _ c.in_err-lists.ensures.only) done)
 
-pub returns-in_err-weighed-clause-some : goal.returns-in_err-weighed-clause-some
-returns-in_err-weighed-clause-some g c = λ t done. absurd (undone _ _ c.from_residual-in_err-weighed.ensures.1 (undone_weights _ _ c.in_err-weighed.ensures.reads.only) done)
+pub returns-in_err-weighed-clause-anywhere : goal.returns-in_err-weighed-clause-anywhere
+returns-in_err-weighed-clause-anywhere g c = λ t done. absurd (undone _ _ c.from_residual-in_err-weighed.ensures.1 (undone_weights _ _ c.in_err-weighed.ensures.reads.only) done)
 
-pub returns-in_err-claimed-clause-some : goal.returns-in_err-claimed-clause-some
-returns-in_err-claimed-clause-some g c = λ t done. absurd (undone _ _ c.from_residual-in_err-claimed.ensures.1 (undone_claim c.in_err-claimed.field-0.0 c.in_err-claimed.ensures.reads.only) done)
+pub returns-in_err-claimed-clause-anywhere : goal.returns-in_err-claimed-clause-anywhere
+returns-in_err-claimed-clause-anywhere g c = λ t done. absurd (undone _ _ c.from_residual-in_err-claimed.ensures.1 (undone_claim c.in_err-claimed.field-0.0 c.in_err-claimed.ensures.reads.only) done)
 
-pub returns-in_err-left-clause-some : goal.returns-in_err-left-clause-some
-returns-in_err-left-clause-some g c = λ t done. absurd (undone _ _ c.from_residual-in_err-left.ensures.1 (undone_gap c.in_err-left.field-0.0 c.in_err-left.ensures.only) done)
+pub returns-in_err-left-clause-anywhere : goal.returns-in_err-left-clause-anywhere
+returns-in_err-left-clause-anywhere g c = λ t done. absurd (undone _ _ c.from_residual-in_err-left.ensures.1 (undone_gap c.in_err-left.field-0.0 c.in_err-left.ensures.only) done)
 
-pub returns-clause-some : goal.returns-clause-some
-returns-clause-some g c = λ t done.
+pub returns-clause-anywhere : goal.returns-clause-anywhere
+returns-clause-anywhere g c = λ t done.
     let o = c.print_verified.ensures in
-    some_gap c.in_ok-lists.lists.graph c.in_ok-weighed.weighed c.in_ok-claimed.claimed c.in_ok-left.left _ _ c.nodes-pages.ensures.proper
+    some_gap c.in_ok-lists.lists.graph c.args.weights.now c.in_ok-weighed.weighed c.in_ok-weighed.ensures.alike c.in_ok-claimed.claimed c.in_ok-left.left _ _ c.nodes-pages.ensures.proper
     (weights_of_graph _ _ _ _ _ _ _ _ _ c.nodes-pages.ensures.count c.in_ok-weighed.ensures).weights (c.in_ok-claimed.ensures.pages ∙ c.nodes-pages.ensures.count) c.in_ok-left.ensures.leaves
     (all_put (verified_line c.in_ok-claimed.claimed c.in_ok-left.left) (g.O.Sink.taken c.args.out.now) (g.O.Sink.taken c.print_verified.new.out) c.print_verified.result o.refusals.only (o.puts t) done)
