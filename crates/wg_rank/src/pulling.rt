@@ -89,7 +89,7 @@ fn share_out(runs: &Runs, low: &[u128], high: &[u128], sums: &mut [u128]) -> (u1
     ensures low_dangling { result.0 ≡ sum_dangling runs.now (by_page low.now) }
     ensures high_dangling { result.1 ≡ sum_dangling runs.now (by_page high.now) }
 {
-    let mut divisors = Divisors::new();
+    let divisors = Divisors::new();
     let mut below = 0;
     let mut above = 0;
     let mut low_dangling = 0;
