@@ -52,13 +52,6 @@ near_exact v d i w some small is =
     let below : v < n * d + d = lt_of_mul-lt-mul_right w (omega (arith, f, g, some)) in
     quotient_near v d n (omega (arith, above)) (omega (arith, above, below))
 
--- a number that is not too large, times a divisor that is not
-pub times_small : (v d m w : ℕ) → v ≤ m → d ≤ w → v * d ≤ m * w
-times_small v d m w h k =
-    let a : v * d ≤ m * d = mul-le-mul_right d h in
-    let b : m * d ≤ m * w = mul-le-mul_left m k in
-    omega (arith, a, b)
-
 -- one less than the divisor more is divided to the quotient that is rounded up
 pub quotient_above : (x d : ℕ) → 0 < d → (x + (d - 1)) / d ≡ div_ceil x d
 quotient_above x d some =
