@@ -13,13 +13,14 @@ use Rattle.wg_graph.specs.Digraph.{Digraph, IsGraph, arc_count}
 use Rattle.wg_grammar.specs.Archive.{Accepted}
 use Rattle.wg_offsets.specs.Places.{last_place}
 use Rattle.wg_offsets.specs.Words.{places_of}
-use Rattle.wg_encoder.specs.Archive.{Archive, Summarized, graph_bits, graph_file, offset_values, offsets_file, referring_pages}
+use Rattle.wg_encoder.specs.Archive.{Archive, Summarized, graph_bits, graph_file, offset_values, offsets_file}
 use Rattle.wg_encoder.specs.ArchiveInMemory.{HoldsArchive}
 use Rattle.wg_encoder.specs.Laws.{IsAcceptedArchive}
 use Rattle.wg_encoder.proofs.Accepted.{greedy_accepted}
 use Rattle.wg_encoder.proofs.ProperRecord.{canonical_proper}
 use Rattle.wg_words.specs.Layouts.{default_layout}
 use Rattle.wg_params.specs.declared.layout.Layout.{Layout}
+use Rattle.std.specs.Result.{OnOk}
 use Rattle.wg_words.proofs.LayoutLemmas.{layout_for_any}
 use Rattle.wg_outcomes.specs.Answers.{IsHindrance}
 use Rattle.wg_outcomes.specs.Causes.{AreFaultless}
@@ -28,11 +29,9 @@ use Rattle.wg_readings.specs.Loading.{IsPropertiesFile, JudgesFiles, LoadsGraph,
 use Rattle.wg_outcomes.specs.Names.{file_of, held_by, no_outputs}
 use Rattle.wg_readings.specs.Pairing.{files_then}
 use Rattle.wg_readings.specs.Passes.{graph_then}
-use Rattle.wg_outcomes.specs.Promised.{ArePromised}
 use Rattle.wg_outcomes.specs.Readings.{Readings}
 use Rattle.wg_outcomes.specs.declared.ending.Ending.{Ending}
 use Rattle.wg_outcomes.specs.declared.status.Input.TheVariants as input
-use Rattle.wg_outcomes.specs.declared.status.Status.{Status}
 use Rattle.wg_outcomes.specs.declared.status.Status.TheVariants.{Memory}
 use Rattle.wg_readings.proofs.ReadingsLaws.{the_readings}
 use Rattle.wg_readings.proofs.ReadingsLemmas.{all_agree, goes_on, goes_on_from}
@@ -41,15 +40,12 @@ use Rattle.wg_outcomes.specs.Ranked.{bounds_after}
 use Rattle.wg_outcomes.specs.Written.{AreWhole, archive_in, greedy_archive}
 use Rattle.wg_outcomes.proofs.FileLemmas.{file_goes_on, last_bit}
 use Rattle.wg_io.proofs.FilesLemmas.{none_falls-refl}
-use Rattle.std.specs.Bool.{IsTrue}
-use Rattle.std.specs.Result.{IfOk}
 use Rattle.wg_writing.specs.Writing.{archive_of}
 use Rattle.wg_words.specs.declared.jobs.Job.{Job}
-use Rattle.wg_outcomes.proofs.Statuses.{IsOwn, own_caused}
-use Rattle.wg_outcomes.specs.JobFiles.{can_end, input_name}
+use Rattle.wg_outcomes.specs.JobFiles.{input_name}
 use Rattle.wg_outcomes.specs.Performs.{Performs, outside}
-use Rattle.wg_outcomes.proofs.PerformsLemmas.{IsStop, stopped}
 use Rattle.wg_outcomes.proofs.SteadyLemmas.{by_memory, hindered}
+use Rattle.wg_builds.proofs.TextJobs.{IsOfFault, faulted}
 
 -- what goes on alike, whatever comes next, goes on with what gives the same text
 same_text : {B : Type 0} (step : (B → Judged) → Judged) (b d : B) (text : B → List ℕ) → ((next : B → Judged) → step next ≡ next b) → ((next : B → Judged) → step next ≡ next d) → text b ≡ text d
@@ -60,29 +56,20 @@ given p = Ok p
 
 -- ---- what was written
 
-module _ (l : Layout) (n m : ℕ) (q : Parameters) (d g : Digraph) (is : q ≡ params_of l n m) (usual : l ≡ default_layout) (pages : n ≡ d.nodes) (arcs : m ≡ arc_count d) (drawn : d ≡ g) where
-  params_written : q ≡ bulk_params d
-  params_written = is ∙ (λ i. params_of (usual i) (pages i) (arcs i))
+-- the graph is one, and its parameters are within the limits
+pub sound_of : {A E : Type 0} (r : Result A E) (d g : Digraph) (l : Layout) (n m : ℕ) → d ≡ g → IsGraph d → n ≡ d.nodes → m ≡ arc_count d → l ≡ default_layout
+    → n ≤ MOST_PAGES → m ≤ MOST_ARCS → IsWithinLimits (params_of l 0 0) → OnOk r (IsGraph g × IsWithinLimits (bulk_params g))
+sound_of (Err e) d g l n m drawn proper pages arcs usual few_pages few_arcs within = tt
+sound_of (Ok a) d g l n m drawn proper pages arcs usual few_pages few_arcs within =
+    subst (λ (x : Digraph). IsGraph x × IsWithinLimits (bulk_params x)) drawn
+    (proper, subst IsWithinLimits (λ i. params_of (usual i) (pages i) (arcs i)) (layout_for_any l n m 0 0 within few_pages few_arcs))
 
-  built : (base : List ℕ) (files : Files) → IsGraph d → n ≤ MOST_PAGES → m ≤ MOST_ARCS → IsWithinLimits (params_of l 0 0) → AreWhole (greedy_archive q d) (archive_in base files) → IsBuilt g base files
-  built base files proper few_pages few_arcs within whole =
-      subst (λ (x : Digraph). IsBuilt x base files) drawn (record {
-        proper = proper;
-        limits = subst IsWithinLimits (sym is ∙ params_written) (layout_for_any l n m 0 0 within few_pages few_arcs);
-        whole = subst (λ (x : Parameters). AreWhole (greedy_archive x d) (archive_in base files)) params_written whole;
-      })
-
-  -- the archive in memory, wherever its files are held
-  pub built_anywhere : IsGraph d → n ≤ MOST_PAGES → m ≤ MOST_ARCS → IsWithinLimits (params_of l 0 0) → (r : Result Summarized Ending) → IfOk r (λ a. a ≡ archive_of q d)
-      → IfOk r (λ a. (files : Files) → HoldsArchive files [] a.files → IsBuilt g [] files)
-  built_anywhere proper few_pages few_arcs within (Ok a) made = λ files h.
-      built [] files proper few_pages few_arcs within (subst (λ (x : Archive). AreWhole x (archive_in [] files)) (ap (λ (x : Summarized). x.files) made) (h.properties, h.graph, h.offsets))
-  built_anywhere proper few_pages few_arcs within (Err e) made = tt
-
-  pub referring_written : (r : Result Summarized Ending) → IfOk r (λ a. a ≡ archive_of q d) → IfOk r (λ a. a.summary.referring ≡ referring_pages (bulk_params g) g.lists)
-  referring_written (Ok a) made =
-      ap (λ (x : Summarized). x.summary.referring) made ∙ ap (λ (x : Parameters). referring_pages x d.lists) params_written ∙ ap (λ (x : Digraph). referring_pages (bulk_params x) x.lists) drawn
-  referring_written (Err e) made = tt
+pub built_in : (g : Digraph) (a : Summarized) (files : Files) → IsGraph g × IsWithinLimits (bulk_params g) → a ≡ archive_of (bulk_params g) g → HoldsArchive files [] a.files → IsBuilt g [] files
+built_in g a files sound is h = record {
+  proper = sound.0;
+  limits = sound.1;
+  whole = subst (λ (x : Archive). AreWhole x (archive_in [] files)) (ap (λ (x : Summarized). x.files) is) (h.properties, h.graph, h.offsets);
+}
 
 -- ---- what is read of it
 
@@ -182,7 +169,6 @@ module _ (g : Digraph) (base : List ℕ) (files : Files) (is : IsBuilt g base fi
 pub ends_alone : (job : Job) (told_files told_out : Bool) (files : Files) (counts : List ℕ → Counts) (taken : List ℕ) (faults : ℕ) (e : Ending) → e.status ≡ Memory
     → Performs job told_files told_out (outside files counts taken faults) (outside files counts taken faults) e.status e.promised
 ends_alone job told_files told_out files counts taken faults e want =
-    let own : IsOwn e.status = subst IsOwn (sym want) tt in
-    stopped job told_files told_out (outside files counts taken faults) (outside files counts taken faults) e.status e.promised (subst IsStop (sym want) tt) refl refl
-    (λ t r. inr (subst IsHindrance (sym want) tt)) (subst (λ (s : Status). IsTrue (can_end job s)) (sym want) refl) (own_caused _ _ _ _ _ _ e.status own) (λ t r i is. absurd (subst IsOwn is own))
-    (none_falls-refl counts) (λ t. subst (λ (s : Status). ArePromised (held_by (input_name job) files) s e.promised) (sym want) tt)
+    let here = outside files counts taken faults in
+    faulted job told_files told_out here here e refl refl (none_falls-refl counts) (λ t r. inr (subst IsHindrance (sym want) tt))
+    (subst (IsOfFault job (held_by (input_name job) files) e.promised) (sym want) (tt, tt, refl, tt))

@@ -14,8 +14,7 @@ use Rattle.wg_arcs.specs.declared.arc_lines.ArcLines.{ArcLines}
 use Rattle.wg_arcs.proofs.ListedLemmas.{next_page}
 use Rattle.wg_arcs.proofs.Order.{Arc}
 use Rattle.wg_encoder.specs.ArchiveInMemory.{EncodedSoFar, HasEncoded}
-use Rattle.wg_encoder.specs.Laws.{IsList}
-use Rattle.wg_builds.specs.Listed.{IsUnderWay, done_at, list_at}
+use Rattle.wg_builds.specs.Listed.{IsUnderWay, MayTake, done_at, list_at}
 
 -- one empty list more
 pub padded_more : (n : ℕ) (lists : List (List ℕ)) → length lists ≤ n → padded n lists ++ [] ∷ [] ≡ padded (n + 1) lists
@@ -32,28 +31,30 @@ padded_all n lists size = sym (padded_none n lists (omega (arith, size)))
 
 -- ---- what an encoder may be handed
 
--- the arcs of the lists that are encoded, and of the next one
-pub few_arcs : (e : EncodedSoFar) (done : List (List ℕ)) (list : List ℕ) (next : Option Arc) (s : ArcLines) → HasEncoded e done → AreListed done list next s → e.arcs + length list ≤ MOST_ARCS
-few_arcs e done list next s h l =
-    let sizes : List ℕ → ℕ = λ x. length x in
-    omega (
-      arith,
-      l.few,
-      l.count,
-      h.arcs,
-      length-append (arcs_on done list) (option_to_list next),
-      length-arcs_from 0 (done ++ list ∷ []),
-      sum_by-append sizes done (list ∷ []),
-      sum_by-cons sizes list [],
-    )
-
-pub proper_list : (e : EncodedSoFar) (done : List (List ℕ)) (list : List ℕ) (next : Option Arc) (s : ArcLines) → e.params.nodes ≡ s.nodes → AreListed done list next s → IsList e.params list
-proper_list e done list next s nodes l = record { ascends = l.list_ascends; below = subst (λ (n : ℕ). Below n list) (sym nodes) l.list_below }
-
-pub comes_next : (e : EncodedSoFar) (done : List (List ℕ)) (list : List ℕ) (next : Option Arc) (s : ArcLines) → HasEncoded e done → e.params.nodes ≡ s.nodes → AreListed done list next s
+comes_next : (e : EncodedSoFar) (done : List (List ℕ)) (list : List ℕ) (next : Option Arc) (s : ArcLines) → HasEncoded e done → e.params.nodes ≡ s.nodes → AreListed done list next s
     → IfSome next (λ a. (e.page < a.0) × (a.0 ≤ e.params.nodes))
 comes_next e done list None s h nodes l = tt
 comes_next e done list (Some a) s h nodes l = (omega (arith, h.page, l.comes.0), omega (arith, nodes, l.comes.1))
+
+-- the lists that are encoded and the next one have no more arcs than were read
+pub may_take : (e : EncodedSoFar) (done : List (List ℕ)) (list : List ℕ) (next : Option Arc) (s : ArcLines) → HasEncoded e done → e.params.nodes ≡ s.nodes → e.params.arcs ≡ MOST_ARCS → AreListed done list next s → MayTake e list next
+may_take e done list next s h nodes most l =
+    let sizes : List ℕ → ℕ = λ x. length x in
+    record {
+      page = comes_next e done list next s h nodes l;
+      proper = record { ascends = l.list_ascends; below = subst (λ (n : ℕ). Below n list) (sym nodes) l.list_below };
+      arcs = omega (
+        arith,
+        most,
+        l.few,
+        l.count,
+        h.arcs,
+        length-append (arcs_on done list) (option_to_list next),
+        length-arcs_from 0 (done ++ list ∷ []),
+        sum_by-append sizes done (list ∷ []),
+        sum_by-cons sizes list [],
+      );
+    }
 
 -- ---- a page is passed
 

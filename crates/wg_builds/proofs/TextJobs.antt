@@ -57,6 +57,13 @@ loads_after names i td f g h a b c e same later l = record {
 abbrev pub IsOfFault : Job → (Input → Option (List ℕ)) → ℕ → Status → Type 0
 IsOfFault job held a s = IsOwn s × IsStop s × IsTrue (can_end job s) × ArePromised held s a
 
+pub faulted : (job : Job) (td to : Bool) (before after : Outside) (e : Ending) → after.taken ≡ before.taken → after.files ≡ before.files → NonDecreasing before.counts after.counts
+    → (IsTrue td → (r : Readings) → Answers (judged_on r job before.files) e.status) → IsOfFault job (held_by (input_name job) before.files) e.promised e.status
+    → Performs job td to before after e.status e.promised
+faulted job td to before after e silent same later answers fault =
+    stopped job td to before after e.status e.promised fault.1 silent same answers fault.2 (own_caused _ _ _ _ _ _ e.status fault.0)
+    (λ t r j is. absurd (subst IsOwn is fault.0)) later (λ t. fault.3)
+
 pub text_ends : (names : Input → Option (List ℕ)) (i : Input) (job : Job) (td to : Bool) (before after : Outside) (e : Ending)
     → IsTrue (has_input job i) → input_name job i ≡ names i → after.taken ≡ before.taken
     → ((r : Readings) → Reaches r job (held_by (input_name job) before.files) i)
@@ -67,6 +74,4 @@ pub text_ends : (names : Input → Option (List ℕ)) (i : Input) (job : Job) (t
 text_ends names i job td to before after e has named silent reached causes same later answers (inl only) =
     unread names i job td to before after e.status e.promised has named silent only causes same later answers
     (λ t r j is. subst (λ (k : Input). Reaches r job (held_by (input_name job) before.files) k) (own_read i e.status j only is) (reached r))
-text_ends names i job td to before after e has named silent reached causes same later answers (inr fault) =
-    stopped job td to before after e.status e.promised fault.1 silent same answers fault.2 (own_caused _ _ _ _ _ _ e.status fault.0)
-    (λ t r j is. absurd (subst IsOwn is fault.0)) later (λ t. fault.3)
+text_ends names i job td to before after e has named silent reached causes same later answers (inr fault) = faulted job td to before after e silent same later answers fault

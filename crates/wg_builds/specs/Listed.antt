@@ -1,5 +1,5 @@
 -- The graph of an arc list on its way into an archive, line by line.
-use Rattle.std.specs.Prelude.{◌≡◌, ◌⊎◌, ℕ, List, [], ◌∷◌, ◌++◌, Option, Some, None, Result}
+use Rattle.std.specs.Prelude.{◌≡◌, ◌⊎◌, ℕ, ◌+◌, ◌<◌, ◌≤◌, List, [], ◌∷◌, ◌++◌, length, Option, Some, None, IfSome, Result}
 use Rattle.wg_io.specs.declared.depot.Depot as depot
 use Rattle.wg_num.specs.Lines.{lines_of}
 use Rattle.wg_params.specs.declared.limits.TheConstants.{MOST_ARCS}
@@ -11,6 +11,7 @@ use Rattle.wg_arcs.specs.declared.arc_lines.ArcLines.{ArcLines}
 use Rattle.wg_arcs.specs.declared.fault.ArcsError.{ArcsError}
 use Rattle.wg_arcs.specs.declared.fault.ArcsError.TheVariants as error
 use Rattle.wg_encoder.specs.ArchiveInMemory.{EncodedSoFar, HasEncoded}
+use Rattle.wg_encoder.specs.Laws.{IsList}
 use Rattle.wg_outcomes.specs.declared.ending.Ending.{Ending}
 use Rattle.wg_outcomes.specs.declared.status.Status.{Status}
 use Rattle.wg_outcomes.specs.declared.status.Status.TheVariants.{BadArcs, Memory}
@@ -31,6 +32,12 @@ pub record IsUnderWay (e : EncodedSoFar) (list : List ℕ) (s : ArcLines) (done 
   pub listed : AreListed done list None s
   pub nodes : e.params.nodes ≡ s.nodes
   pub most : e.params.arcs ≡ MOST_ARCS
+
+-- An encoder may be handed this list, and then empty ones up to the page of an arc, if one comes next.
+pub record MayTake (e : EncodedSoFar) (list : List ℕ) (next : Option (ℕ × ℕ)) : Type 0 where
+  pub page : IfSome next (λ a. (e.page < a.0) × (a.0 ≤ e.params.nodes))
+  pub proper : IsList e.params list
+  pub arcs : e.arcs + length list ≤ e.params.arcs
 
 -- Some lines more were read, where those before had these arcs.
 pub record GoesOn (text : List ℕ) (s : ArcLines) (arcs : List (ℕ × ℕ)) (e : EncodedSoFar) (list : List ℕ) (t : ArcLines) : Type 0 where

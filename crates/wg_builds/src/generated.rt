@@ -1,16 +1,16 @@
 //! The archive of a generated graph, in memory.
-ghost use Rattle.std.specs.Prelude.{◌≡◌, ◌≤◌, [], length, IfOk, IfErr, None};
-ghost use Rattle.wg_io.specs.Outside.{Files};
-ghost use Rattle.wg_graph.specs.Digraph.{Digraph};
+ghost use Rattle.std.specs.Prelude.{◌≡◌, ◌≤◌, [], length, IfOk, OnOk, IfErr, None};
+ghost use Rattle.wg_graph.specs.Digraph.{Digraph, IsGraph};
 ghost use Rattle.wg_vectors.specs.Generated.{generated};
 ghost use Rattle.wg_params.specs.declared.limits.TheConstants.{MOST_GENERATED};
 ghost use Rattle.wg_encoder.specs.Archive.{graph_bits, referring_pages};
-ghost use Rattle.wg_encoder.specs.ArchiveInMemory.{HoldsArchive};
+ghost use Rattle.wg_params.specs.Parameters.{IsWithinLimits};
 ghost use Rattle.wg_words.specs.declared.defaults.TheConstants.{DEFAULT_DAMPING};
 ghost use Rattle.wg_outcomes.specs.Readings.{Readings};
 ghost use Rattle.wg_outcomes.specs.Bulk.{IsBuilt, bulk_params, outcome_of};
 ghost use Rattle.wg_outcomes.specs.Ranked.{bounds_after};
 ghost use Rattle.wg_outcomes.specs.declared.outcome.TheConstants.{BULK_ROUNDS};
+ghost use Rattle.wg_writing.specs.Writing.{archive_of};
 
 use std::alloc::Global;
 use wg_encoder::EncodedArchive;
@@ -56,10 +56,8 @@ fn drawn(alloc: Global, seed: u64, pages: u64) -> Result<Graph, Ending>
 // Encodes the archive of the graph, which is let go.
 fn build(alloc: Global, seed: u64, pages: u64) -> Result<EncodedArchive, Ending>
     requires { pages ≤ MOST_GENERATED }
-    ensures built { IfOk result (λ a. (files : Files) → HoldsArchive files [] a.files
-        → IsBuilt (generated seed pages) [] files) }
-    ensures referring { let g = generated seed pages in
-        IfOk result (λ a. a.summary.referring ≡ referring_pages (bulk_params g) g.lists) }
+    ensures is { let g = generated seed pages in IfOk result (λ a. a ≡ archive_of (bulk_params g) g) }
+    ensures sound { let g = generated seed pages in OnOk result (IsGraph g × IsWithinLimits (bulk_params g)) }
     ensures only { IfErr result (λ e. e.status ≡ Status.Memory) }
 {
     let graph = drawn(alloc, seed, pages)?;

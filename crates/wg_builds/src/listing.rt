@@ -1,5 +1,5 @@
 //! The graph of an arc list, encoded in memory as its lines come.
-ghost use Rattle.std.specs.Prelude.{◌≡◌, ◌+◌, ◌<◌, ◌≤◌, ◌^◌, ◌++◌, ◌∷◌, ℕ, List as ListOf, [], Err, length, OnOk, IfOk, IfErr, IfSome, take};
+ghost use Rattle.std.specs.Prelude.{◌≡◌, ◌+◌, ◌<◌, ◌≤◌, ◌^◌, ◌++◌, ◌∷◌, ℕ, List as ListOf, [], None, Err, length, OnOk, IfOk, IfErr, take};
 ghost use Rattle.wg_num.specs.Lines.{lines_of};
 ghost use Rattle.wg_params.specs.Parameters.{IsWithinLimits, params_of};
 ghost use Rattle.wg_params.specs.declared.limits.TheConstants.{MOST_ARCS, MOST_PAGES};
@@ -9,7 +9,8 @@ ghost use Rattle.wg_arcs.specs.Listing.{arcs_on};
 ghost use Rattle.wg_encoder.specs.ArchiveInMemory.{HasEncoded};
 ghost use Rattle.wg_encoder.specs.Laws.{IsList};
 ghost use Rattle.wg_builds.specs.Encoded.{Encodes, Makes};
-ghost use Rattle.wg_builds.specs.Listed.{GoesOn, IsFault, IsUnderWay, LoadsListBy, done_at, list_at, status_of_list};
+ghost use Rattle.wg_builds.specs.Listed.{GoesOn, IsFault, IsUnderWay, LoadsListBy, MayTake};
+ghost use Rattle.wg_builds.specs.Listed.{done_at, list_at, status_of_list};
 
 use std::alloc::{AllocError, Global};
 use wg_arcs::{ArcLines, ArcsError};
@@ -64,9 +65,7 @@ fn begin_page(
     list: &mut List,
     next: Option<(u64, u64)>,
 ) -> Result<ArchiveEncoder, AllocError>
-    requires page { IfSome next (λ a. (encoder.page < a.0) × (a.0 ≤ encoder.params.nodes)) }
-    requires list { IsList encoder.params list.old }
-    requires arcs { encoder.arcs + length list.old ≤ encoder.params.arcs }
+    requires { MayTake encoder list.old next }
     ensures params { IfOk result (λ e. e.params ≡ encoder.params) }
     ensures list { OnOk result (list.new ≡ list_at next list.old) }
     ensures encoded { (done : ListOf (ListOf ℕ)) → HasEncoded encoder done
@@ -116,8 +115,7 @@ fn end_pages(
     nodes: u64,
 ) -> Result<ArchiveEncoder, AllocError>
     requires nodes { nodes ≡ encoder.params.nodes }
-    requires list { IsList encoder.params list.old }
-    requires arcs { encoder.arcs + length list.old ≤ encoder.params.arcs }
+    requires list { MayTake encoder list.old None }
     ensures params { IfOk result (λ e. e.params ≡ encoder.params) }
     ensures page { IfOk result (λ e. e.page ≡ nodes) }
     ensures encoded { (done : ListOf (ListOf ℕ)) → HasEncoded encoder done

@@ -13,7 +13,7 @@ use Rattle.wg_outcomes.proofs.WritingLemmas.{if_that_err}
 use Rattle.wg_readings.proofs.LoadLemmas.{list_unloaded}
 use Rattle.wg_builds.specs.Listed.{IsFault}
 use Rattle.wg_builds.proofs.ListedJobs.{lent_now, list_encoded, list_stops}
-use Rattle.wg_builds.proofs.ListingLemmas.{few_arcs, proper_list}
+use Rattle.wg_builds.proofs.ListingLemmas.{may_take}
 use Rattle.wg_builds.proofs.TextJobs.{loads_after, still}
 use Rattle.wg_builds.proofs.listing.encode_lines.Goals as goal
 
@@ -97,10 +97,9 @@ loop-list-preserved g c =
     }
 
 pub end_pages-requires-clause-list : goal.end_pages-requires-clause-list
-end_pages-requires-clause-list g c = let w = c.loop-list.invariant.way in proper_list c.loop-list.encoder w.0 c.loop-list.list None c.loop-list.lines w.1.nodes w.1.listed
-
-pub end_pages-requires-clause-arcs : goal.end_pages-requires-clause-arcs
-end_pages-requires-clause-arcs g c = let w = c.loop-list.invariant.way in omega (arith, few_arcs c.loop-list.encoder w.0 c.loop-list.list None c.loop-list.lines w.1.encoded w.1.listed, w.1.most)
+end_pages-requires-clause-list g c =
+    let w = c.loop-list.invariant.way in
+    may_take c.loop-list.encoder w.0 c.loop-list.list None c.loop-list.lines w.1.encoded w.1.nodes w.1.most w.1.listed
 
 pub returns-in-Ok-end_pages-clause-encodes : goal.returns-in-Ok-end_pages-clause-encodes
 returns-in-Ok-end_pages-clause-encodes g c =

@@ -7,7 +7,7 @@ use Rattle.wg_arcs.specs.Listing.{arcs_on}
 use Rattle.wg_arcs.proofs.Order.{Arc}
 use Rattle.wg_outcomes.proofs.WritingLemmas.{if_that_err}
 use Rattle.wg_builds.specs.Listed.{IsFault, done_at}
-use Rattle.wg_builds.proofs.ListingLemmas.{comes_next, few_arcs, moved_on, proper_list}
+use Rattle.wg_builds.proofs.ListingLemmas.{may_take, moved_on}
 use Rattle.wg_builds.proofs.listing.take_lines.Goals as goal
 
 pub returns-in_err-next-clause-fault : goal.returns-in_err-next-clause-fault
@@ -20,25 +20,12 @@ returns-in_err-next-clause-fault c = λ done all later w so.
     if_that_err _ _ _ c.from_residual.ensures.1
     (subst (λ (n : ℕ). IsFault n all c.in_err-next.field-0.0) i.nodes (c.in_err-next.ensures.fault x.0 all later (sym x.1.encoded.page ∙ sym c.page.ensures.value) x.1.listed here))
 
-pub begin_page-requires-clause-arcs : goal.begin_page-requires-clause-arcs
-begin_page-requires-clause-arcs c =
-    let x = c.lines.invariant.way c.requires.way.0 c.requires.way.1 in
-    let filled = c.in_ok-next.ensures.listed x.0 (sym x.1.encoded.page ∙ sym c.page.ensures.value) x.1.listed in
-    omega (arith, few_arcs c.lines.encoder x.0 c.fill.new.list c.in_ok-next.next c.fill.new.self x.1.encoded filled, x.1.most)
-
-pub begin_page-requires-clause-page : goal.begin_page-requires-clause-page
-begin_page-requires-clause-page c =
+pub begin_page-requires : goal.begin_page-requires
+begin_page-requires c =
     let x = c.lines.invariant.way c.requires.way.0 c.requires.way.1 in
     let r = c.in_ok-next.ensures in
     let filled = r.listed x.0 (sym x.1.encoded.page ∙ sym c.page.ensures.value) x.1.listed in
-    comes_next c.lines.encoder x.0 c.fill.new.list c.in_ok-next.next c.fill.new.self x.1.encoded (x.1.nodes ∙ sym r.nodes) filled
-
-pub begin_page-requires-clause-list : goal.begin_page-requires-clause-list
-begin_page-requires-clause-list c =
-    let x = c.lines.invariant.way c.requires.way.0 c.requires.way.1 in
-    let r = c.in_ok-next.ensures in
-    let filled = r.listed x.0 (sym x.1.encoded.page ∙ sym c.page.ensures.value) x.1.listed in
-    proper_list c.lines.encoder x.0 c.fill.new.list c.in_ok-next.next c.fill.new.self (x.1.nodes ∙ sym r.nodes) filled
+    may_take c.lines.encoder x.0 c.fill.new.list c.in_ok-next.next c.fill.new.self x.1.encoded (x.1.nodes ∙ sym r.nodes) x.1.most filled
 
 pub lines-preserved : goal.lines-preserved
 lines-preserved c =
