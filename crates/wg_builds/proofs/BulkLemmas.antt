@@ -37,7 +37,7 @@ use Rattle.wg_readings.proofs.ReadingsLaws.{the_readings}
 use Rattle.wg_readings.proofs.ReadingsLemmas.{all_agree, goes_on, goes_on_from}
 use Rattle.wg_outcomes.specs.Bulk.{IsBuilt, bulk_params}
 use Rattle.wg_outcomes.specs.Ranked.{bounds_after}
-use Rattle.wg_outcomes.specs.Written.{AreWhole, archive_in, greedy_archive}
+use Rattle.wg_outcomes.specs.Written.{AreWhole, archive_in}
 use Rattle.wg_outcomes.proofs.FileLemmas.{file_goes_on, last_bit}
 use Rattle.wg_io.proofs.FilesLemmas.{none_falls-refl}
 use Rattle.wg_writing.specs.Writing.{archive_of}

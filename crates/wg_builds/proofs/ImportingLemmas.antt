@@ -3,26 +3,11 @@ use Rattle.std.proofs.Common.{◌≡◌, inl, inr, ℕ, ◌+◌, ◌<◌, ◌≤
 use Rattle.std.proofs.lemmas.Bool.{cases_lt}
 use Rattle.wg_num.specs.Lines.{lines_of}
 use Rattle.wg_num.proofs.Cuts.{no_lines}
-use Rattle.wg_params.specs.Parameters.{Parameters}
-use Rattle.wg_params.specs.declared.limits.TheConstants.{MOST_ARCS}
 use Rattle.wg_ascii.specs.Growing.{IsUpTo}
 use Rattle.wg_ascii.specs.declared.page_lines.PageLines.{PageLines}
 use Rattle.wg_encoder.specs.ArchiveInMemory.{EncodedSoFar}
 use Rattle.wg_outcomes.specs.declared.ending.Ending.{Ending}
 use Rattle.wg_builds.specs.Imported.{KeepsPace}
-
--- one page more
-pub page_pace : (e f : EncodedSoFar) (s t : PageLines) (count : ℕ) → KeepsPace e s → s.line ≤ s.nodes → f.params ≡ e.params → f.page ≡ e.page + 1 → f.arcs ≡ e.arcs + count
-    → t.nodes ≡ s.nodes → t.line ≡ s.line + 1 → t.arcs ≡ s.arcs + count → t.arcs ≤ MOST_ARCS → KeepsPace f t
-page_pace e f s t count k left params page arcs nodes line more room = record {
-  nodes = ap (λ (p : Parameters). p.nodes) params ∙ k.nodes ∙ sym nodes;
-  few = omega (arith, nodes, k.few);
-  most = ap (λ (p : Parameters). p.arcs) params ∙ k.most;
-  arcs = omega (arith, arcs, k.arcs, more);
-  room = room;
-  page = λ le. omega (arith, page, line, k.page left);
-  over = λ lt. omega (arith, page, line, nodes, k.page left);
-}
 
 -- lines after those of the pages, if there are any
 pub blank_pace : (e : EncodedSoFar) (s t : PageLines) (count : ℕ) → KeepsPace e s → (0 < count → s.nodes < s.line) → t.nodes ≡ s.nodes → t.arcs ≡ s.arcs → s.line ≤ t.line → t.line ≤ s.line + count → KeepsPace e t

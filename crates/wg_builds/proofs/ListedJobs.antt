@@ -3,6 +3,7 @@ use Rattle.std.proofs.Common.{◌≡◌, ◌⊎◌, inl, inr, ℕ, ◌≤◌, Bo
 use Rattle.std.specs.Bool.{IsTrue}
 use Rattle.std.specs.FinMap as map
 use Rattle.wg_io.specs.Outside.{Files, Counts, NonDecreasing}
+use Rattle.wg_io.proofs.FilesLemmas.{none_falls-trans}
 use Rattle.wg_io.specs.declared.limits.TheConstants.{MOST_BYTES}
 use Rattle.wg_num.specs.Lines.{lines_of}
 use Rattle.wg_params.specs.declared.layout.Layout.{Layout}
@@ -20,17 +21,18 @@ use Rattle.wg_arcs.proofs.Order.{Arc}
 use Rattle.wg_arcs.proofs.Soundness.{all_read}
 use Rattle.wg_encoder.specs.ArchiveInMemory.{EncodedSoFar, HasEncoded}
 use Rattle.wg_words.specs.declared.jobs.Job.TheVariants.{Build}
-use Rattle.wg_outcomes.specs.Answers.{IsHindrance}
+use Rattle.wg_outcomes.specs.Answers.{Answers, IsHindrance}
 use Rattle.wg_outcomes.specs.Commands.{builds}
 use Rattle.wg_outcomes.specs.JobFiles.{input_name}
-use Rattle.wg_outcomes.specs.Judged.{status_of, with_list}
+use Rattle.wg_outcomes.specs.Judged.{status_of, with_file, with_list}
 use Rattle.wg_outcomes.specs.Names.{IsOfInput, held_by, list_named}
 use Rattle.wg_outcomes.specs.Performs.{Outside, Performs}
 use Rattle.wg_outcomes.specs.declared.ending.Ending.{Ending}
 use Rattle.wg_outcomes.specs.declared.status.Input.TheVariants.{ArcList}
 use Rattle.wg_outcomes.specs.declared.status.Status.TheVariants.{BadArcs, Done, Memory}
 use Rattle.wg_outcomes.proofs.Statuses.{IsOwn, own_caused}
-use Rattle.wg_readings.specs.Loading.{LoadsList}
+use Rattle.wg_readings.specs.Loading.{Loads, LoadsList}
+use Rattle.wg_readings.proofs.UnderWay.{cause_later}
 use Rattle.wg_readings.proofs.ReadingsLemmas.{list_goes_on, list_refused}
 use Rattle.wg_builds.specs.Encoded.{Encodes}
 use Rattle.wg_builds.specs.Listed.{IsFault, status_of_list}
@@ -41,6 +43,17 @@ pub lent_now : (n m : ℕ) (all next later : List (List ℕ)) (text lent : List 
 lent_now n m all next later text lent count arcs nodes lines same so =
     subst (λ (k : ℕ). SoFar k all (lines_of text ++ later) count arcs) (sym nodes)
     (subst (λ (ls : List (List ℕ)). SoFar n all ls count arcs) (lines ∙ ap (λ (l : List ℕ). lines_of l ++ later) (sym same)) so)
+
+-- other reads came before
+pub list_unread_after : (name : List ℕ) (n : ℕ) (td : Bool) (f g h : Files) (a b c : List ℕ → Counts) (e : Ending) → g ≡ f → NonDecreasing a b → Loads (list_named name) ArcList td g h b c (Err e) → LoadsList name n td f h a c (Err e)
+list_unread_after name n td f g h a b c e same later l = record {
+  steps = λ t r next. subst (λ (x : Files). Answers (with_file ArcList (held_by (list_named name) x ArcList) (λ bytes. with_list r n bytes next)) e.status) same (l.steps t (λ bytes. with_list r n bytes next));
+  only = inl l.mine;
+  nodes = tt;
+  causes = cause_later (list_named name) a b c e.status later l.causes;
+  same = l.same ∙ same;
+  later = none_falls-trans a b c later l.later;
+}
 
 module _ (name : List ℕ) (n : ℕ) (td : Bool) (files files' : Files) (counts counts' : List ℕ → Counts) (same : files' ≡ files) (later : NonDecreasing counts counts') where
   -- ---- memory was out, or a line is at fault
@@ -54,16 +67,13 @@ module _ (name : List ℕ) (n : ℕ) (td : Bool) (files files' : Files) (counts 
     later = later;
   }
 
-  first_of : (line : ℕ) (kind : ArcsKind) (all : List (List ℕ)) → IsFault n all (error.Line line kind) → IsFirst n all (error.Line line kind)
-  first_of line kind all (inl want) = absurd (cc want)
-  first_of line kind all (inr first) = first
-
   pub list_stops : (e : Ending) (x : ArcsError) → e.status ≡ status_of_list x → (IsTrue td → (file : List ℕ) × (map.get files name ≡ Some file) × (length file ≤ MOST_BYTES) × IsFault n (lines_of file) x) → LoadsList name n td files files' counts counts' (Err e)
   list_stops e error.Memory is told = list_wants e is
   list_stops e (error.Line line kind) is told = record {
     steps = λ t r next.
         let h = told t in
-        inl (is ∙ sym (ap status_of (file_goes ArcList (map.get files name) h.0 h.1 h.2 (λ bytes. with_list r n bytes next) ∙ list_refused r n h.0 line kind (first_of line kind (lines_of h.0) h.3) next)));
+        let first : IsFirst n (lines_of h.0) (error.Line line kind) = elim h.3 [ inl want ↦ absurd (cc want) | inr first ↦ first ] in
+        inl (is ∙ sym (ap status_of (file_goes ArcList (map.get files name) h.0 h.1 h.2 (λ bytes. with_list r n bytes next) ∙ list_refused r n h.0 line kind first next)));
     only = inr (line, kind, is);
     nodes = tt;
     causes = own_caused _ _ _ _ _ _ e.status (subst IsOwn (sym is) tt);

@@ -1,11 +1,10 @@
 -- A text that is read line by line, as an input of a job.
-use Rattle.std.proofs.Common.{◌≡◌, ◌⊎◌, inl, inr, ℕ, ◌≤◌, Bool, List, length, Option, Some, None, Err, refl, ap, subst, ◌∙◌}
+use Rattle.std.proofs.Common.{◌≡◌, ◌⊎◌, inl, inr, ℕ, ◌≤◌, Bool, List, length, Option, Some, None, refl, ap, subst, ◌∙◌}
 use Rattle.std.specs.Bool.{IsTrue}
 use Rattle.std.specs.FinMap as map
 use Rattle.std.proofs.lemmas.Bool.{le-ltb}
-use Rattle.wg_io.specs.Outside.{Files, Counts, NonDecreasing}
+use Rattle.wg_io.specs.Outside.{Files, NonDecreasing}
 use Rattle.wg_io.specs.declared.limits.TheConstants.{MOST_BYTES}
-use Rattle.wg_io.proofs.FilesLemmas.{none_falls-trans}
 use Rattle.wg_lines.specs.Reading.{IsReadable}
 use Rattle.wg_words.specs.declared.jobs.Job.{Job}
 use Rattle.wg_outcomes.specs.Answers.{Answers}
@@ -22,8 +21,6 @@ use Rattle.wg_outcomes.specs.declared.status.Input.{Input}
 use Rattle.wg_outcomes.specs.declared.status.Status.{Status}
 use Rattle.wg_outcomes.proofs.PerformsLemmas.{IsStop, stopped, unread}
 use Rattle.wg_outcomes.proofs.Statuses.{IsOwn, own_caused, own_read}
-use Rattle.wg_readings.specs.Loading.{Loads}
-use Rattle.wg_readings.proofs.UnderWay.{cause_later}
 
 -- ---- a file that is there
 found : (o : Option (List ℕ)) → IsReadable o → (file : List ℕ) × (o ≡ Some file) × (length file ≤ MOST_BYTES)
@@ -38,18 +35,6 @@ pub file_goes : (i : Input) (o : Option (List ℕ)) (file : List ℕ) → o ≡ 
 file_goes i o file is short next =
     let here : with_file i (Some file) next ≡ next file = rw (le-ltb MOST_BYTES (length file) short) refl in
     ap (λ (q : Option (List ℕ)). with_file i q next) is ∙ here
-
--- other reads came before
-pub loads_after : (names : Input → Option (List ℕ)) (i : Input) (td : Bool) (f g h : Files) (a b c : List ℕ → Counts) (e : Ending) → g ≡ f → NonDecreasing a b → Loads names i td g h b c (Err e) → Loads names i td f h a c (Err e)
-loads_after names i td f g h a b c e same later l = record {
-  steps = λ t next. subst (λ (x : Files). Answers (with_file i (held_by names x i) next) e.status) same (l.steps t next);
-  held = λ t. tt;
-  causes = cause_later names a b c e.status later l.causes;
-  mine = l.mine;
-  same = l.same ∙ same;
-  later = none_falls-trans a b c later l.later;
-  short = tt;
-}
 
 -- ---- a text that ended its job: it was not read, or has a fault
 

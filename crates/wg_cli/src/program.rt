@@ -85,7 +85,7 @@ pub fn run<D: Depot, O: Sink, E: Sink>(
     ensures wants_first { (base : List ℕ) (rounds damping top : ℕ) (weights certificate : Option (List ℕ))
         → job_of words.now ≡ Some (Job.Rank base rounds damping top weights certificate)
         → WantsFirst ⟦<D as Depot>⟧ ⟦<O as Sink>⟧ certificate depot.old depot.new out.old out.new result }
-    ensures sure { IsTrue D.told → IsTrue O.told → (r : Readings) (seed pages : ℕ)
+    ensures sure { IsTrue O.told → (r : Readings) (seed pages : ℕ)
         → job_of words.now ≡ Some (Job.Bulk seed pages) → result ≡ Status.Done
         → PrintsProvenOutcome r seed pages (O.taken out.old) (O.taken out.new) }
 

@@ -23,10 +23,8 @@ use Rattle.wg_outcomes.specs.Readings.{Readings}
 use Rattle.wg_outcomes.specs.Written.{AreAllWhole, ArchiveFiles, AreWhole, HasFiles, OthersStay, FilesAfter, IsStopped, greedy_archive, params_for}
 use Rattle.wg_outcomes.specs.declared.ending.Ending.{Ending}
 use Rattle.wg_outcomes.specs.declared.status.Input.{Input}
-use Rattle.wg_outcomes.specs.declared.status.Input.TheVariants as input
 use Rattle.wg_outcomes.specs.declared.status.Status.{Status}
 use Rattle.wg_outcomes.specs.declared.status.Status.TheVariants.{Done, Memory, ReadFault, WriteFault, Missing}
-use Rattle.wg_outcomes.proofs.PerformsLemmas.{stopped}
 use Rattle.wg_outcomes.proofs.Statuses.{IsOwn, fault_caused, own_caused, rose_late}
 
 -- ---- steps of a writing

@@ -1,5 +1,5 @@
 -- How a job is shown to have been done, or to have ended.
-use Rattle.std.proofs.Common.{◌≡◌, ◌⊎◌, inl, inr, ℕ, ◌<◌, length, Bool, false, if◌then◌else◌, List, ◌++◌, take, refl, sym, ◌∙◌, ap, subst, Option, Some, None, Result, Ok, Err}
+use Rattle.std.proofs.Common.{◌≡◌, ◌⊎◌, inl, inr, ℕ, ◌<◌, length, Bool, true, false, if◌then◌else◌, List, ◌++◌, take, refl, sym, ◌∙◌, ap, subst, Option, Some, None, Result, Ok, Err}
 use Rattle.std.specs.Bool.{IsTrue}
 use Rattle.std.specs.Result.{IfErr}
 use Rattle.std.proofs.lemmas.List.{append-nil}
@@ -11,6 +11,9 @@ use Rattle.wg_io.specs.declared.sink.Sink as sink
 use Rattle.wg_io.specs.declared.output.Output.{Output}
 use Rattle.wg_io.specs.declared.output.Output.TheVariants.{Out, Properties, Graph, Offsets, Certificate}
 use Rattle.wg_words.specs.declared.jobs.Job.{Job}
+use Rattle.wg_words.specs.declared.jobs.Job.TheVariants.{Bulk}
+use Rattle.wg_vectors.specs.Generated.{generated}
+use Rattle.wg_outcomes.specs.Bulk.{outcome_of, outcome_text}
 use Rattle.wg_outcomes.specs.Reached.{Reaches}
 use Rattle.wg_outcomes.specs.Answers.{Answers, HasOutput, IsPutLast, IsUnput, status_in}
 use Rattle.wg_outcomes.specs.Causes.{AreFaultless, HasCause, IncreasedAt}
@@ -20,9 +23,9 @@ use Rattle.wg_encoder.specs.Archive.{Archive}
 use Rattle.wg_outcomes.specs.Promised.{ArePromised, promised_in}
 use Rattle.wg_outcomes.specs.JobFiles.{can_end, has_input, input_name, output_name, writes_files}
 use Rattle.wg_outcomes.specs.Names.{held_by, no_outputs, IsOfInput}
-use Rattle.wg_outcomes.specs.Performs.{Outside, Performs, judged_on}
+use Rattle.wg_outcomes.specs.Performs.{DoesAlone, Outside, Performs, judged_on}
 use Rattle.wg_outcomes.specs.Readings.{Readings}
-use Rattle.wg_outcomes.specs.Untold.{DoesAnywhere}
+use Rattle.wg_outcomes.specs.Untold.{DoesAnywhere, GeneratesAnywhere}
 use Rattle.wg_outcomes.specs.Written.{AreAllWhole, ArchiveFiles, CertificateAfter, FilesAfter, HasFiles, archive_at, content_of}
 use Rattle.wg_outcomes.specs.declared.ending.Ending.{Ending}
 use Rattle.wg_outcomes.specs.declared.status.Input.{Input}
@@ -42,6 +45,11 @@ pub anywhere_at : {D O : Type 0} (d : depot.Ghosts D) (o : sink.Ghosts O) (j k :
     → DoesAnywhere d o j before after out out' s
 anywhere_at d o j k before after out out' s t same is h =
     subst (λ (x : Job). DoesAnywhere d o x before after out out' s) (sym same) (subst (λ (x : Status). DoesAnywhere d o k before after out out' x) (sym is) h)
+
+-- what is done without a depot is done beside any
+pub generates : {O : Type 0} (o : sink.Ghosts O) (seed pages : ℕ) (out out' : O) (r : Result (Unit {0}) Ending) → DoesAlone o (Bulk seed pages) out out' r → GeneratesAnywhere o seed pages out out' (status_in r)
+generates o seed pages out out' r does told done q =
+    subst (HasOutput (outcome_text (outcome_of q (generated seed pages))) (o.taken out) (o.taken out')) done ((does true map.empty (λ name. record { read_faults = 0; write_faults = 0; absences = 0; wants = 0 })).output refl told q)
 
 -- ---- a job that writes no file
 written_none : (r : Readings) (job : Job) (held : Input → Option (List ℕ)) → writes_files job ≡ false → written_by r job held ≡ None

@@ -1,12 +1,14 @@
--- What `rank` and `verify` promise of every depot, whether or not it tells its bytes.
-use Rattle.std.specs.Prelude.{◌≡◌, ◌⊎◌, ℕ, List, Option, None, IsTrue}
+-- What `rank`, `verify` and `bulk` promise of every depot, whether or not it tells its bytes.
+use Rattle.std.specs.Prelude.{◌≡◌, ◌⊎◌, ℕ, List, ◌++◌, Option, None, IsTrue}
 use Rattle.wg_io.specs.Outside.{Increased}
 use Rattle.wg_io.specs.declared.depot.Depot as depot
 use Rattle.wg_io.specs.declared.sink.Sink as sink
 use Rattle.wg_graph.specs.Digraph.{Digraph}
 use Rattle.wg_rank.specs.Claims.{Claim}
 use Rattle.wg_words.specs.declared.jobs.Job.{Job}
-use Rattle.wg_words.specs.declared.jobs.Job.TheVariants.{Rank, Verify}
+use Rattle.wg_words.specs.declared.jobs.Job.TheVariants.{Bulk, Rank, Verify}
+use Rattle.wg_vectors.specs.Generated.{generated}
+use Rattle.wg_outcomes.specs.Bulk.{outcome_of, outcome_text}
 use Rattle.wg_outcomes.specs.Causes.{IncreasedAt}
 use Rattle.wg_outcomes.specs.Ranked.{PrintsRankingOf}
 use Rattle.wg_outcomes.specs.Readings.{Readings}
@@ -42,8 +44,13 @@ pub record RanksAnywhere {D O : Type 0} (d : depot.Ghosts D) (o : sink.Ghosts O)
 abbrev pub VerifiesAnywhere : {O : Type 0} → sink.Ghosts O → Option (List ℕ) → O → O → Status → Type 0
 VerifiesAnywhere o weights out out' status = IsTrue o.told → status ≡ Done → PrintsSomeGap weights (o.taken out) (o.taken out')
 
+-- what `bulk` promises, which makes no call of a depot
+abbrev pub GeneratesAnywhere : {O : Type 0} → sink.Ghosts O → ℕ → ℕ → O → O → Status → Type 0
+GeneratesAnywhere o seed pages out out' status = IsTrue o.told → status ≡ Done → (r : Readings) → o.taken out' ≡ o.taken out ++ outcome_text (outcome_of r (generated seed pages))
+
 -- what a job promises of every depot, beside the rest
 abbrev pub DoesAnywhere : {D O : Type 0} → depot.Ghosts D → sink.Ghosts O → Job → D → D → O → O → Status → Type 0
 DoesAnywhere d o (Rank base rounds damping top weights certificate) before after out out' status = RanksAnywhere d o rounds damping top weights certificate before after out out' status
 DoesAnywhere d o (Verify base certificate weights) before after out out' status = VerifiesAnywhere o weights out out' status
+DoesAnywhere d o (Bulk seed pages) before after out out' status = GeneratesAnywhere o seed pages out out' status
 DoesAnywhere d o _ before after out out' status = Unit {0}

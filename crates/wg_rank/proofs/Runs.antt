@@ -10,7 +10,7 @@ use Rattle.wg_graph.specs.Arcs.{has_arc}
 use Rattle.wg_graph.specs.Digraph.{Digraph, successors, outdegree}
 use Rattle.wg_graph.specs.Numbers.{is_in, numbers_where}
 use Rattle.wg_transpose.specs.Transposed.{predecessors}
-use Rattle.wg_runs.specs.declared.run.Run.{Run}
+use Rattle.wg_runs.specs.declared.run.PageRun.{PageRun}
 use Rattle.wg_runs.specs.Runs.{numbers_of, numbers_of_all, StandApart}
 use Rattle.wg_rank.specs.Sum.{sum_below}
 use Rattle.wg_rank.specs.Rank.{sum_in}
@@ -118,24 +118,24 @@ summed_end n m u b s xs ys e f count is here below small = record {
 -- ---- along runs
 
 module _ (n : ℕ) (s : ℕ → ℕ) (sums : List ℕ) (h : AreSummed n s sums) where
-  run_rise : (r : Run) → r.from ≤ r.to → r.to ≤ n → by_page sums r.from + sum_by s (numbers_of r) ≡ by_page sums r.to
+  run_rise : (r : PageRun) → r.from ≤ r.to → r.to ≤ n → by_page sums r.from + sum_by s (numbers_of r) ≡ by_page sums r.to
   run_rise r le within =
       let e : sum_below (r.from + (r.to - r.from)) s ≡ sum_below r.to s = ap (λ (m : ℕ). sum_below m s) (omega arith) in
       omega (arith, run_sum s r.from (r.to - r.from), e, h.table.each r.from (omega arith), h.table.each r.to (omega arith))
 
-  pub along_sum : (k : ℕ) (runs : List Run) → StandApart k runs → All (λ r. r.to ≤ n) runs → along (by_page sums) runs ≡ sum_by s (numbers_of_all runs)
+  pub along_sum : (k : ℕ) (runs : List PageRun) → StandApart k runs → All (λ r. r.to ≤ n) runs → along (by_page sums) runs ≡ sum_by s (numbers_of_all runs)
   along_sum k [] apart within = refl
   along_sum k (r ∷ rs) apart within =
       let e = run_rise r (omega (arith, apart.1)) (All-head (λ r. r.to ≤ n) r rs within) in
       let rest = along_sum (suc r.to) rs apart.2 (All-tail (λ r. r.to ≤ n) r rs within) in
-      omega (arith, sum_by-cons (λ (r : Run). by_page sums r.to - by_page sums r.from) r rs, sum_by-append s (numbers_of r) (numbers_of_all rs), e, rest)
+      omega (arith, sum_by-cons (λ (r : PageRun). by_page sums r.to - by_page sums r.from) r rs, sum_by-append s (numbers_of r) (numbers_of_all rs), e, rest)
 
-  ordered : (k : ℕ) (runs : List Run) → StandApart k runs → All (λ r. r.from ≤ r.to) runs
+  ordered : (k : ℕ) (runs : List PageRun) → StandApart k runs → All (λ r. r.from ≤ r.to) runs
   ordered k [] apart = All-nil (λ r. r.from ≤ r.to)
   ordered k (r ∷ rs) apart = All-cons (λ r. r.from ≤ r.to) r rs (omega (arith, apart.1)) (ordered (suc r.to) rs apart.2)
 
   -- the sums never fall along the runs of the pages that link to one page, and rise by no more than 1 for each page
-  pub rises_along : (g : Digraph) (v : ℕ) (runs : List Run) → g.nodes ≡ n → n ≤ MOST_PAGES → StandApart 0 runs → All (λ r. r.to ≤ n) runs
+  pub rises_along : (g : Digraph) (v : ℕ) (runs : List PageRun) → g.nodes ≡ n → n ≤ MOST_PAGES → StandApart 0 runs → All (λ r. r.to ≤ n) runs
       → numbers_of_all runs ≡ predecessors g v → RisesAlong sums runs
   rises_along g v runs e few apart within are =
       let up = ordered 0 runs apart in

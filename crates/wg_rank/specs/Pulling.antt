@@ -3,7 +3,7 @@ use Rattle.std.specs.Prelude.{ℕ, ◌+◌, ◌-◌, ◌^◌, ◌/◌, ◌<◌, 
 use Rattle.std.specs.Int.{div_ceil}
 use Rattle.std.specs.List.{sum_by}
 use Rattle.wg_graph.specs.Digraph.{Digraph, outdegree}
-use Rattle.wg_runs.specs.declared.run.Run.{Run}
+use Rattle.wg_runs.specs.declared.run.PageRun.{PageRun}
 use Rattle.wg_rank.specs.Sum.{sum_below}
 use Rattle.wg_rank.specs.Intervals.{IsTable, by_page}
 use Rattle.wg_rank.specs.declared.limits.TheConstants.{UNITS}
@@ -25,11 +25,11 @@ pub record AreSummed (n : ℕ) (share : ℕ → ℕ) (sums : List ℕ) : Type 0 
   pub small : (u : ℕ) → u < n → share u ≤ UNITS
 
 -- what the sums rise by along runs
-abbrev pub along : (ℕ → ℕ) → List Run → ℕ
+abbrev pub along : (ℕ → ℕ) → List PageRun → ℕ
 along sums runs = sum_by (λ r. sums r.to - sums r.from) runs
 
 -- the sums do not fall along any of the runs, and what they rise by in all fits 128 bits
-pub record RisesAlong (sums : List ℕ) (runs : List Run) : Type 0 where
+pub record RisesAlong (sums : List ℕ) (runs : List PageRun) : Type 0 where
   pub ordered : All (λ r. r.from ≤ r.to) runs
   pub within : All (λ r. r.to < length sums) runs
   pub rises : All (λ r. by_page sums r.from ≤ by_page sums r.to) runs

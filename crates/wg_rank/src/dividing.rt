@@ -1,9 +1,11 @@
 // Quotients of large numbers by small ones.
-ghost use Rattle.std.specs.Prelude.{◌≡◌, ◌<◌, ◌/◌};
+ghost use Rattle.std.specs.Prelude.{◌≡◌, ◌+◌, ◌*◌, ◌<◌, ◌≤◌, ◌/◌};
 ghost use Rattle.std.specs.Int.{div_ceil};
+ghost use Rattle.wg_params.specs.declared.limits.TheConstants.{MOST_PAGES, MOST_DAMPING};
+ghost use Rattle.wg_rank.specs.declared.limits.TheConstants.{UNITS};
 
-// A number is cut here, so that what is above, and a rest below 2^16 with what is below, fit 64 bits.
-pub(crate) const CUT: u128 = 1 << 48;
+// A flow is cut here.
+const CUT: u128 = 1 << 48;
 
 // The quotient of any number.
 #[cold]
@@ -15,31 +17,49 @@ pub(crate) fn whole_quotient(value: u128, by: u64) -> u128
     value / by as u128
 }
 
-// The quotient by a number that is known when the program is compiled. By one of at most 2^16 it takes two divisions
-// of 64 bits, which are compiled to products.
-#[inline(always)]
-pub(crate) fn quotient(value: u128, by: u64) -> u128
-    requires { 0 < by }
-    ensures { result ≡ value / by }
-{
-    if value >= 1 << 112 || by > 1 << 16 {
-        return whole_quotient(value, by);
-    }
-    let high = (value / CUT) as u64;
-    let low = (value % CUT) as u64;
-    let rest = high % by * (1 << 48) + low;
-    (high / by) as u128 * CUT + (rest / by) as u128
-}
-
-// The quotient, rounded up.
-#[inline(always)]
-pub(crate) fn quotient_up(value: u128, by: u64) -> u128
+// The same, rounded up.
+#[cold]
+#[inline(never)]
+pub(crate) fn whole_quotient_up(value: u128, by: u64) -> u128
     requires { 0 < by }
     ensures { result ≡ div_ceil value by }
 {
-    let down = quotient(value, by);
-    if down * by as u128 == value {
-        return down;
+    value.div_ceil(by as u128)
+}
+
+// What a damping in thousandths leaves of what flows to a page, with `more` thousandths added. The flow is cut before it
+// is multiplied, so that it takes two divisions of 64 bits by a number that is known when the program is compiled.
+#[inline(always)]
+fn damped_with(damping: u64, flow: u128, more: u64) -> u128
+    requires damped { damping ≤ MOST_DAMPING }
+    requires room { flow ≤ MOST_PAGES * UNITS }
+    requires more { more < 1000 }
+    ensures { result ≡ (damping * flow + more) / 1000 }
+{
+    if flow >= 1 << 102 {
+        return whole_quotient(damping as u128 * flow + more as u128, 1000);
     }
-    down + 1
+    let high = damping * (flow / CUT) as u64;
+    let low = high % 1000 * (1 << 48) + damping * (flow % CUT) as u64 + more;
+    (high / 1000) as u128 * CUT + (low / 1000) as u128
+}
+
+// What a damping in thousandths leaves of what flows to a page, rounded down.
+#[inline(always)]
+pub(crate) fn damped(damping: u64, flow: u128) -> u128
+    requires damped { damping ≤ MOST_DAMPING }
+    requires room { flow ≤ MOST_PAGES * UNITS }
+    ensures { result ≡ damping * flow / 1000 }
+{
+    damped_with(damping, flow, 0)
+}
+
+// The same, rounded up.
+#[inline(always)]
+pub(crate) fn damped_up(damping: u64, flow: u128) -> u128
+    requires damped { damping ≤ MOST_DAMPING }
+    requires room { flow ≤ MOST_PAGES * UNITS }
+    ensures { result ≡ div_ceil (damping * flow) 1000 }
+{
+    damped_with(damping, flow, 999)
 }

@@ -1,18 +1,22 @@
 // Quotients by a number that is known only when the program runs.
-ghost use Rattle.std.specs.Prelude.{◌≡◌, ◌-◌, ◌<◌, ◌≤◌, ◌/◌, ◌%◌, ◌^◌};
+ghost use Rattle.std.specs.Prelude.{◌≡◌, ◌+◌, ◌*◌, ◌<◌, ◌/◌, ◌^◌};
 ghost use Rattle.std.specs.Int.{div_ceil};
 
-use crate::dividing::{CUT, whole_quotient};
+use crate::dividing::{whole_quotient, whole_quotient_up};
 use std::marker::Model;
 
-// A number to divide by, and its inverse in units of 2^-64, rounded down. A quotient of 64 bits is then a product, at
-// most 1 too small. One of 128 bits takes two of them where the number is at most 2^16, and else a division.
+// A number is cut here, so that what is above, and a rest below 2^11 with what is below, are small enough for a product.
+const CUT: u128 = 1 << 40;
+
+// A number to divide by, and its inverse in units of 2^-63, rounded down, and 1 more. The quotient of a small number is
+// then a product. One of 128 bits takes two of them if it is below 2^92 and the divisor at most 2^11, and else a
+// division.
 #[derive(Drop)]
 pub(crate) struct Divisor {
     by: u64,
     inverse: u64,
     ghost some: { 0 < by },
-    ghost inverted: { inverse ≡ (2 ^ 64 - 1) / by },
+    ghost inverted: { inverse ≡ 2 ^ 63 / by + 1 },
 }
 
 impl Divisor {
@@ -23,23 +27,17 @@ impl Divisor {
     {
         Divisor {
             by,
-            inverse: u64::MAX / by,
+            inverse: (1 << 63) / by + 1,
         }
     }
 
-    // The quotient and the rest of a number of 64 bits.
+    // The quotient of a small number.
     #[inline(always)]
-    fn divide(&self, value: u64) -> (u64, u64)
-        ensures quotient { result.0 ≡ value / self.now.by }
-        ensures rest { result.1 ≡ value % self.now.by }
+    fn exact(&self, value: u64) -> u64
+        requires { value * self.now.by < 2 ^ 63 }
+        ensures { result ≡ value / self.now.by }
     {
-        let near = (value as u128 * self.inverse as u128 / (1 << 64)) as u64;
-        let rest = value - near * self.by;
-        if rest < self.by {
-            (near, rest)
-        } else {
-            (near + 1, rest - self.by)
-        }
+        (value as u128 * self.inverse as u128 / (1 << 63)) as u64
     }
 
     // The quotient.
@@ -47,11 +45,13 @@ impl Divisor {
     pub(crate) fn quotient(&self, value: u128) -> u128
         ensures { result ≡ value / self.now.by }
     {
-        if value >= 1 << 112 || self.by > 1 << 16 {
+        if value >= 1 << 92 || self.by > 1 << 11 {
             return whole_quotient(value, self.by);
         }
-        let (high, rest) = self.divide((value / CUT) as u64);
-        let (low, _) = self.divide(rest * (1 << 48) + (value % CUT) as u64);
+        let top = (value / CUT) as u64;
+        let high = self.exact(top);
+        let rest = top - high * self.by;
+        let low = self.exact(rest * (1 << 40) + (value % CUT) as u64);
         high as u128 * CUT + low as u128
     }
 
@@ -60,56 +60,53 @@ impl Divisor {
     pub(crate) fn quotient_up(&self, value: u128) -> u128
         ensures { result ≡ div_ceil value self.now.by }
     {
-        let down = self.quotient(value);
-        if down * self.by as u128 == value {
-            return down;
+        if value >= 1 << 91 {
+            return whole_quotient_up(value, self.by);
         }
-        down + 1
+        self.quotient(value + (self.by - 1) as u128)
     }
 }
 
-// How many divisors are remembered: those below this.
-const REMEMBERED: usize = 256;
+// How many inverses are kept: those of the numbers below this.
+const KEPT: usize = 256;
 
-// Divisors, of which each small one is inverted once, when it is first asked for.
+// Divisors, of which the small ones are inverted once.
 #[derive(Drop)]
 pub(crate) struct Divisors {
-    // 0 for one that was not asked for.
-    inverses: [u64; REMEMBERED],
+    inverses: [u64; KEPT],
 }
 
 impl Model for Divisors {
-    ghost use Rattle.std.specs.Prelude.{◌≡◌, ◌≢◌, ℕ, List, ◌-◌, ◌/◌, ◌^◌, slice_index};
+    ghost use Rattle.std.specs.Prelude.{◌≡◌, ℕ, List, ◌+◌, ◌/◌, ◌^◌, ◌<◌, length, slice_index};
 
     ghost Value = { List ℕ };
 
     ghost view = { λ d. d.inverses };
 
-    ghost invariant = { λ d. (by : ℕ) → slice_index d.inverses by ≢ 0
-        → slice_index d.inverses by ≡ (2 ^ 64 - 1) / by };
+    ghost invariant = { λ d. (by : ℕ) → 0 < by → by < length d.inverses
+        → slice_index d.inverses by ≡ 2 ^ 63 / by + 1 };
 }
 
 impl Divisors {
     pub(crate) fn new() -> Divisors {
-        Divisors {
-            inverses: [0; REMEMBERED],
+        let mut inverses = [0; KEPT];
+        for by in 1..KEPT {
+            inverses[by] = Divisor::new(by as u64).inverse;
         }
+        Divisors { inverses }
     }
 
     #[inline(always)]
-    pub(crate) fn get(&mut self, by: u64) -> Divisor
+    pub(crate) fn get(&self, by: u64) -> Divisor
         requires { 0 < by }
         ensures { result.by ≡ by }
     {
-        if by >= REMEMBERED as u64 {
+        if by >= KEPT as u64 {
             return Divisor::new(by);
         }
-        let inverse = self.inverses[by as usize];
-        if inverse != 0 {
-            return Divisor { by, inverse };
+        Divisor {
+            by,
+            inverse: self.inverses[by as usize],
         }
-        let divisor = Divisor::new(by);
-        self.inverses[by as usize] = divisor.inverse;
-        divisor
     }
 }

@@ -48,7 +48,7 @@ impl<L: Lists> Gather for L {
         // Asked for what a graph's lists are, which its contract says.
         let _pages = self.nodes();
         self.begin();
-        let mut divisors = Divisors::new();
+        let divisors = Divisors::new();
         let mut low_dangling = 0;
         let mut high_dangling = 0;
         for u in 0..low.len() {
@@ -87,7 +87,7 @@ pub(crate) fn gather_low<L: Lists>(lists: &mut L, low: &[u128], inflows: &mut [u
     // Asked for what a graph's lists are, which its contract says.
     let _pages = lists.nodes();
     lists.begin();
-    let mut divisors = Divisors::new();
+    let divisors = Divisors::new();
     let mut dangling = 0;
     for u in 0..low.len() {
         if let Some(list) = lists.next_list() {

@@ -59,12 +59,14 @@
 //! Bounds take memory by [`Bounds::new`] alone: four numbers of 16 bytes for each page; [`Bounds::weighted`], by which
 //! teleport goes to the pages by weights, takes 8 bytes more, and [`Pulling::new`] 32. The two sums of what flows to a
 //! page lie side by side, so that an arc reaches one place in memory. Between rounds they say nothing, and
-//! [`Bounds::into_parts`] hands them on as room. Writing takes none. A certificate holds 16 bytes for each page, taken as its lines come. Judging takes 16
-//! more, for what flows to a page below: each new bound is compared as it is made, and kept nowhere.
+//! [`Bounds::into_parts`] hands them on as room. Writing takes none. A certificate holds 16 bytes for each page, taken
+//! as its lines come. Judging takes 16 more, for what flows to a page below: each new bound is compared as it is made,
+//! and kept nowhere.
 //!
 //! A round divides each page's two bounds by its outdegree, once and not for each arc, and what flows in by 1000; by
 //! weights it also divides teleport's two parts for each page, and if each weight is 1 once for all. A quotient by an
-//! outdegree is two products with its inverse; those of outdegrees below 256 are kept until the round ends, in 2 KiB.
+//! outdegree of at most 2048 is two products with its inverse; those of outdegrees below 256 are made once a round, and
+//! take 2 KiB.
 //! For an arc it adds twice, and for a run it subtracts twice before. Judging does the same as a round along lists with
 //! the lower bounds alone, and adds once. No sum passes 128 bits: what flows to a page is at most one whole for each
 //! page, so below 2^36 * 10^24, and the damping multiplies it by less than 2^10; a weight is below 2^32, and teleport's

@@ -8,7 +8,7 @@ ghost use Rattle.wg_rank.specs.Weights.{AreWeights, weights_or_ones};
 ghost use Rattle.wg_rank.specs.declared.limits.TheConstants.{UNITS, MOST_WEIGHT};
 
 use crate::UNITS;
-use crate::dividing::quotient;
+use crate::dividing::damped;
 use crate::teleport::{part_below, total_weight};
 
 // What goes into the new lower bound of every page, divided out once.
@@ -70,6 +70,6 @@ impl<'a> LowParts<'a> {
             v / self.now.parts) }
     {
         let part = part_below(self.shared, self.parts, self.even, self.weights, v);
-        quotient(self.damping as u128 * flow, 1000) + (self.dangling + part)
+        damped(self.damping, flow) + (self.dangling + part)
     }
 }

@@ -17,7 +17,7 @@ use crate::gathering::Gather;
 use crate::inflows::{high_flow, low_flow, put};
 use std::alloc::{AllocError, Global};
 use std::marker::Model;
-use wg_runs::{Run, Runs};
+use wg_runs::{PageRun, Runs};
 
 /// The runs of a graph, and the room for a round along them. It is seen as the graph. It holds 32 bytes for each page,
 /// and 32, beside the runs.
@@ -89,7 +89,7 @@ fn share_out(runs: &Runs, low: &[u128], high: &[u128], sums: &mut [u128]) -> (u1
     ensures low_dangling { result.0 ≡ sum_dangling runs.now (by_page low.now) }
     ensures high_dangling { result.1 ≡ sum_dangling runs.now (by_page high.now) }
 {
-    let mut divisors = Divisors::new();
+    let divisors = Divisors::new();
     let mut below = 0;
     let mut above = 0;
     let mut low_dangling = 0;
@@ -112,7 +112,7 @@ fn share_out(runs: &Runs, low: &[u128], high: &[u128], sums: &mut [u128]) -> (u1
 
 // What the two sums rise by along runs.
 #[inline(always)]
-fn flow_along(sums: &[u128], runs: &[Run]) -> (u128, u128)
+fn flow_along(sums: &[u128], runs: &[PageRun]) -> (u128, u128)
     requires low { RisesAlong (low_flows sums.now) runs.now }
     requires high { RisesAlong (high_flows sums.now) runs.now }
     ensures low { result.0 ≡ along (by_page (low_flows sums.now)) runs.now }

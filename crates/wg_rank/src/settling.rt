@@ -11,7 +11,7 @@ ghost use Rattle.wg_rank.specs.Weights.{AreWeights, weights_or_ones};
 ghost use Rattle.wg_rank.specs.declared.limits.TheConstants.{UNITS};
 
 use crate::UNITS;
-use crate::dividing::quotient_up;
+use crate::dividing::damped_up;
 use crate::inflows::{clear, high_flow, low_flow};
 use crate::low_parts::LowParts;
 use crate::teleport::{part_above, total_weight};
@@ -95,7 +95,7 @@ pub(crate) fn settle_high(
     let even = shared.div_ceil(parts);
     for v in 0..high.len() {
         let part = part_above(shared, parts, even, weights, v);
-        let above = quotient_up(damping as u128 * high_flow(inflows, v), 1000) + (rest + part);
+        let above = damped_up(damping, high_flow(inflows, v)) + (rest + part);
         high[v] = high[v].min(above).min(low[v] + gap);
         clear(inflows, v);
     }

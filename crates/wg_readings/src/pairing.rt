@@ -19,7 +19,7 @@ ghost use Rattle.wg_readings.specs.Pairing.{IsUnread, load_ending, word_ending};
 use std::alloc::Global;
 use wg_grammar::ArchiveFault;
 use wg_io::{Depot, LoadError, OFFSETS};
-use wg_offsets::{Comparison, WordError, Words};
+use wg_offsets::{Comparison, OffsetWords, WordError};
 use wg_outcomes::{Ending, Input, Status};
 use wg_params::Params;
 use wg_stream::{FileSource, Stretch};
@@ -31,7 +31,7 @@ use wg_words::Name;
 pub struct Pairing {
     pub name: Name,
     pub held: Stretch,
-    pub words: Words,
+    pub words: OffsetWords,
     pub lengths: Comparison,
     pub so_far: Result<(), Ending>,
 }
@@ -74,7 +74,7 @@ pub fn open_offsets(alloc: Global, params: &Params, base: &Name) -> Result<Pairi
         Ok(name) => Ok(Pairing {
             name,
             held: Stretch::new(),
-            words: Words::new(params.nodes(), params.offsets()),
+            words: OffsetWords::new(params.nodes(), params.offsets()),
             lengths: Comparison::new(),
             so_far: Ok(()),
         }),

@@ -4,7 +4,7 @@ use Rattle.std.specs.List.{range_with_len}
 use Rattle.std.proofs.lemmas.Bool.{cases_eq, ne_eqb, eq-eqb}
 use Rattle.std.proofs.lemmas.List.Elements.{All-nil, All-cons, All-head, All-tail}
 use Rattle.wg_graph.specs.Ascending.{Ascends, Below}
-use Rattle.wg_runs.specs.declared.run.Run.{Run}
+use Rattle.wg_runs.specs.declared.run.PageRun.{PageRun}
 use Rattle.wg_runs.specs.Runs.{numbers_of, numbers_of_all, StandApart, with_first, runs_in}
 use Rattle.wg_runs.specs.Laws.{NumbersAreTheList, RunsStandApart, RunsAreOne}
 
@@ -19,7 +19,7 @@ first_number x to lt =
     let f : x + 1 ≡ suc x = omega arith in
     ap (range_with_len x) e ∙ ap (λ (m : ℕ). x ∷ range_with_len m (to - suc x)) f
 
-numbers_first : (x n : ℕ) (rs : List Run) → StandApart n rs → numbers_of_all (with_first x rs) ≡ x ∷ numbers_of_all rs
+numbers_first : (x n : ℕ) (rs : List PageRun) → StandApart n rs → numbers_of_all (with_first x rs) ≡ x ∷ numbers_of_all rs
 numbers_first x n [] h = ap (λ (l : List ℕ). l ++ []) (one_number x)
 numbers_first x n (r ∷ rs) h =
     elim (cases_eq (suc x) r.from) [
@@ -27,7 +27,7 @@ numbers_first x n (r ∷ rs) h =
       | inr e ↦ rw (ne_eqb (suc x) r.from e) (ap (λ (l : List ℕ). l ++ (numbers_of r ++ numbers_of_all rs)) (one_number x))
     ]
 
-apart_first : (x n : ℕ) (rs : List Run) → n ≤ x → StandApart (suc x) rs → StandApart n (with_first x rs)
+apart_first : (x n : ℕ) (rs : List PageRun) → n ≤ x → StandApart (suc x) rs → StandApart n (with_first x rs)
 apart_first x n [] le h = (le, omega arith, tt)
 apart_first x n (r ∷ rs) le h =
     elim (cases_eq (suc x) r.from) [
@@ -51,30 +51,30 @@ stand_apart xs up = apart_from 0 xs up
 
 -- ---- runs of numbers below a bound
 
-first_within : (n x : ℕ) (rs : List Run) → x < n → All (λ run. run.to ≤ n) rs → All (λ run. run.to ≤ n) (with_first x rs)
-first_within n x [] lt all = All-cons (λ (run : Run). run.to ≤ n) (record { from = x; to = suc x }) [] (omega arith) (All-nil (λ (run : Run). run.to ≤ n))
+first_within : (n x : ℕ) (rs : List PageRun) → x < n → All (λ run. run.to ≤ n) rs → All (λ run. run.to ≤ n) (with_first x rs)
+first_within n x [] lt all = All-cons (λ (run : PageRun). run.to ≤ n) (record { from = x; to = suc x }) [] (omega arith) (All-nil (λ (run : PageRun). run.to ≤ n))
 first_within n x (r ∷ rs) lt all =
-    let P = λ (run : Run). run.to ≤ n in
+    let P = λ (run : PageRun). run.to ≤ n in
     elim (cases_eq (suc x) r.from) [
       | inl e ↦ rw (eq-eqb (suc x) r.from e) (All-cons P (record { from = x; to = r.to }) rs (All-head P r rs all) (All-tail P r rs all))
       | inr e ↦ rw (ne_eqb (suc x) r.from e) (All-cons P (record { from = x; to = suc x }) (r ∷ rs) (omega arith) all)
     ]
 
 pub within_from : (n : ℕ) (xs : List ℕ) → Below n xs → All (λ run. run.to ≤ n) (runs_in xs)
-within_from n [] below = All-nil (λ (run : Run). run.to ≤ n)
+within_from n [] below = All-nil (λ (run : PageRun). run.to ≤ n)
 within_from n (x ∷ xs) below = first_within n x (runs_in xs) below.0 (within_from n xs below.1)
 
 -- ---- no other runs
 
 -- a run before others that do not touch it
-run_before : (k a b : ℕ) (rs : List Run) (ys : List ℕ) → b ≡ a + suc k → StandApart (suc b) rs → rs ≡ runs_in ys → runs_in (range_with_len a (suc k) ++ ys) ≡ record { from = a; to = b } ∷ rs
+run_before : (k a b : ℕ) (rs : List PageRun) (ys : List ℕ) → b ≡ a + suc k → StandApart (suc b) rs → rs ≡ runs_in ys → runs_in (range_with_len a (suc k) ++ ys) ≡ record { from = a; to = b } ∷ rs
 run_before zero a b [] ys is h same = let e : b ≡ suc a = omega arith in rw (← same, e) refl
 run_before zero a b (r ∷ rs) ys is h same = let e : b ≡ suc a = omega arith in let low : suc b ≤ r.from = h.0 in rw (← same, ne_eqb (suc a) r.from (λ f. omega arith), e) refl
 run_before (suc k) a b rs ys is h same =
     let rest : runs_in (range_with_len (a + 1) (suc k) ++ ys) ≡ record { from = a + 1; to = b } ∷ rs = run_before k (a + 1) b rs ys (omega arith) h same in
     ap (with_first a) rest ∙ rw (eq-eqb (suc a) (a + 1) (omega arith)) refl
 
-one_from : (n : ℕ) (rs : List Run) → StandApart n rs → rs ≡ runs_in (numbers_of_all rs)
+one_from : (n : ℕ) (rs : List PageRun) → StandApart n rs → rs ≡ runs_in (numbers_of_all rs)
 one_from n [] h = refl
 one_from n (r ∷ rs) h =
     let k : ℕ = r.to - suc r.from in

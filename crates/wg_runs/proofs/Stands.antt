@@ -5,11 +5,11 @@ use Rattle.std.proofs.lemmas.Bool.{cases_lt, cases_eq}
 use Rattle.std.proofs.lemmas.List.{length-take-le, get_or-take, get_or-drop, ext_get_or, take_all}
 use Rattle.std.proofs.lemmas.List.Sums.{sum_by_more}
 use Rattle.wg_transpose.specs.SoFar.{start}
-use Rattle.wg_runs.specs.declared.run.Run.{Run}
+use Rattle.wg_runs.specs.declared.run.PageRun.{PageRun}
 use Rattle.wg_runs.specs.Runs.{run_start}
 use Rattle.wg_runs.specs.Held.{no_run, AreFilled, list_at}
 
-pub start_le : (lists : ℕ → List Run) (v w : ℕ) → v ≤ w → run_start lists v ≤ run_start lists w
+pub start_le : (lists : ℕ → List PageRun) (v w : ℕ) → v ≤ w → run_start lists v ≤ run_start lists w
 start_le lists v zero le = let e : v ≡ 0 = omega arith in rw e (omega arith)
 start_le lists v (suc w) le =
     elim (cases_lt w v) [
@@ -18,12 +18,12 @@ start_le lists v (suc w) le =
     ]
 
 -- lists have as many runs at most as others have numbers
-pub start_few : (lists : ℕ → List Run) (others : ℕ → List ℕ) → ((v : ℕ) → length (lists v) ≤ length (others v)) → (n : ℕ) → run_start lists n ≤ start others n
+pub start_few : (lists : ℕ → List PageRun) (others : ℕ → List ℕ) → ((v : ℕ) → length (lists v) ≤ length (others v)) → (n : ℕ) → run_start lists n ≤ start others n
 start_few lists others few zero = omega arith
 start_few lists others few (suc n) = omega (arith, start_few lists others few n, few n)
 
 -- where it was counted how long each list is
-module _ (n : ℕ) (lists : ℕ → List Run) (counts : List ℕ) (size : length counts ≡ n) (each : (v : ℕ) → v < n → get_or counts v 0 ≡ length (lists v)) where
+module _ (n : ℕ) (lists : ℕ → List PageRun) (counts : List ℕ) (size : length counts ≡ n) (each : (v : ℕ) → v < n → get_or counts v 0 ≡ length (lists v)) where
   pub sum_is_start : (v : ℕ) → v ≤ n → sum (take v counts) ≡ run_start lists v
   sum_is_start zero le = refl
   sum_is_start (suc v) le =
@@ -36,7 +36,7 @@ module _ (n : ℕ) (lists : ℕ → List Run) (counts : List ℕ) (size : length
 
 -- ---- a run is written into list v
 
-module _ (n : ℕ) (whole b c : ℕ → List Run) (v : ℕ) (lt : v < n) (fits : (w : ℕ) → length (c w) ≤ length (whole w)) (others : (w : ℕ) → w ≢ v → c w ≡ b w) where
+module _ (n : ℕ) (whole b c : ℕ → List PageRun) (v : ℕ) (lt : v < n) (fits : (w : ℕ) → length (c w) ≤ length (whole w)) (others : (w : ℕ) → w ≢ v → c w ≡ b w) where
   -- places in the lists of two pages are apart
   away : (w i k : ℕ) → w ≢ v → k < length (whole v) → i < length (whole w) → run_start whole w + i ≢ run_start whole v + k
   away w i k other k_fits i_fits same =
@@ -45,11 +45,11 @@ module _ (n : ℕ) (whole b c : ℕ → List Run) (v : ℕ) (lt : v < n) (fits :
         | inr after ↦ omega (arith, start_le whole (suc v) w (omega arith))
       ]
 
-  module _ (k : ℕ) (x : Run) (inside : k < length (c v)) (here : get_or (c v) k no_run ≡ x) (kept : (i : ℕ) → i < length (c v) → i ≢ k → (i < length (b v)) × (get_or (c v) i no_run ≡ get_or (b v) i no_run)) where
-    pub place_within : (runs : List Run) (at : ℕ) → length runs ≡ run_start whole n → at ≡ run_start whole v + k → at < length runs
+  module _ (k : ℕ) (x : PageRun) (inside : k < length (c v)) (here : get_or (c v) k no_run ≡ x) (kept : (i : ℕ) → i < length (c v) → i ≢ k → (i < length (b v)) × (get_or (c v) i no_run ≡ get_or (b v) i no_run)) where
+    pub place_within : (runs : List PageRun) (at : ℕ) → length runs ≡ run_start whole n → at ≡ run_start whole v + k → at < length runs
     place_within runs at room is = omega (arith, fits v, start_le whole (suc v) n (omega arith))
 
-    pub place_at : (ends new_ends : List ℕ) (runs : List Run) (at : ℕ) → at ≡ run_start whole v + k → AreFilled n whole b ends runs → length new_ends ≡ n → ((w : ℕ) → w < n → get_or new_ends w 0 ≡ run_start whole w + length (c w))
+    pub place_at : (ends new_ends : List ℕ) (runs : List PageRun) (at : ℕ) → at ≡ run_start whole v + k → AreFilled n whole b ends runs → length new_ends ≡ n → ((w : ℕ) → w < n → get_or new_ends w 0 ≡ run_start whole w + length (c w))
         → AreFilled n whole c new_ends (set runs at x)
     place_at ends new_ends runs at is h size ended =
         let there : at < length runs = place_within runs at h.room is in
@@ -62,7 +62,7 @@ module _ (n : ℕ) (whole b c : ℕ → List Run) (v : ℕ) (lt : v < n) (fits :
             | inr other ↦
                 let old : i < length (b w) = omega (arith, i_lt, ap length (others w other)) in
                 let elsewhere : run_start whole w + i ≢ at = λ e. away w i k other (omega (arith, fits v)) (omega (arith, i_lt, fits w)) (e ∙ is) in
-                get_or-set_other runs at (run_start whole w + i) x no_run elsewhere ∙ h.members w w_lt i old ∙ ap (λ (l : List Run). get_or l i no_run) (sym (others w other))
+                get_or-set_other runs at (run_start whole w + i) x no_run elsewhere ∙ h.members w w_lt i old ∙ ap (λ (l : List PageRun). get_or l i no_run) (sym (others w other))
           ];
         }
       where
@@ -80,7 +80,7 @@ module _ (n : ℕ) (whole b c : ℕ → List Run) (v : ℕ) (lt : v < n) (fits :
 
 -- ---- all lists stand
 
-module _ (n : ℕ) (whole : ℕ → List Run) (ends : List ℕ) (runs : List Run) (h : AreFilled n whole whole ends runs) where
+module _ (n : ℕ) (whole : ℕ → List PageRun) (ends : List ℕ) (runs : List PageRun) (h : AreFilled n whole whole ends runs) where
   begins_at : (v : ℕ) → v < n → get_or (0 ∷ ends) v 0 ≡ run_start whole v
   begins_at zero lt = refl
   begins_at (suc v) lt = h.ended v (omega arith)

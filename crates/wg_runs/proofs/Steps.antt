@@ -11,7 +11,7 @@ use Rattle.wg_transpose.proofs.Reversed.{list_below}
 use Rattle.wg_transpose.proofs.Seen.{with_page, none_seen, all_seen, in_take, member_below, where_few}
 use Rattle.wg_transpose.proofs.Places.{OneMore}
 use Rattle.wg_transpose.proofs.Steps.{page_more}
-use Rattle.wg_runs.specs.declared.run.Run.{Run}
+use Rattle.wg_runs.specs.declared.run.PageRun.{PageRun}
 use Rattle.wg_runs.specs.declared.run.TheConstants.{MOST_PAGES_IN_RUNS}
 use Rattle.wg_runs.specs.Runs.{runs_in, runs_to, run_start}
 use Rattle.wg_runs.specs.Held.{runs_below, last_to, no_run, AreCounted, AreBegun}
@@ -19,7 +19,7 @@ use Rattle.wg_runs.proofs.Grown.{grown, one_of, runs_push, grown_new, grown_long
 use Rattle.wg_runs.proofs.Stands.{place_within, place_at}
 
 -- the runs of each list of numbers
-abbrev pub runs_of : (ℕ → List ℕ) → ℕ → List Run
+abbrev pub runs_of : (ℕ → List ℕ) → ℕ → List PageRun
 runs_of lists v = runs_in (lists v)
 
 -- ---- how many runs a page has so far
@@ -113,7 +113,7 @@ module _ (b c : ℕ → List ℕ) (v u : ℕ) (m : OneMore b c v u) where
 
   -- ---- placing
 
-  module _ (n : ℕ) (lt : v < n) (small : u < MOST_PAGES_IN_RUNS) (whole : ℕ → List Run) (fits : (w : ℕ) → length (runs_of c w) ≤ length (whole w)) (ends reach : List ℕ) (runs : List Run) (h : AreBegun n whole (runs_of b) ends reach runs) where
+  module _ (n : ℕ) (lt : v < n) (small : u < MOST_PAGES_IN_RUNS) (whole : ℕ → List PageRun) (fits : (w : ℕ) → length (runs_of c w) ≤ length (whole w)) (ends reach : List ℕ) (runs : List PageRun) (h : AreBegun n whole (runs_of b) ends reach runs) where
     abbrev end : ℕ
     end = get_or ends v 0
 
@@ -125,12 +125,12 @@ module _ (b c : ℕ → List ℕ) (v u : ℕ) (m : OneMore b c v u) where
       k = length (runs_of b v)
 
       here_new : get_or (runs_of c v) k no_run ≡ one_of u
-      here_new = ap (λ (l : List Run). get_or l k no_run) (now_new other) ∙ get_or_at (runs_of b v) (one_of u) [] no_run k refl
+      here_new = ap (λ (l : List PageRun). get_or l k no_run) (now_new other) ∙ get_or_at (runs_of b v) (one_of u) [] no_run k refl
 
       kept_new : (i : ℕ) → i < length (runs_of c v) → i ≢ k → (i < length (runs_of b v)) × (get_or (runs_of c v) i no_run ≡ get_or (runs_of b v) i no_run)
       kept_new i i_lt away =
           let old : i < length (runs_of b v) = omega (arith, one_run_more other) in
-          (old, ap (λ (l : List Run). get_or l i no_run) (now_new other) ∙ get_or_append_left (runs_of b v) (one_of u ∷ []) no_run i old)
+          (old, ap (λ (l : List PageRun). get_or l i no_run) (now_new other) ∙ get_or_append_left (runs_of b v) (one_of u ∷ []) no_run i old)
 
       pub new_within : end < length runs
       new_within = place_within n whole (runs_of b) (runs_of c) v lt fits others_stay k (one_of u) (omega (arith, one_run_more other)) here_new kept_new runs end h.filled.room (h.filled.ended v lt)
@@ -139,7 +139,7 @@ module _ (b c : ℕ → List ℕ) (v u : ℕ) (m : OneMore b c v u) where
       ended_new w w_lt =
           elim (cases_eq w v) [
             | inl same ↦ rw same (get_or-set_same ends v (end + 1) 0 (omega (arith, h.filled.pages)) ∙ omega (arith, h.filled.ended v lt, one_run_more other))
-            | inr away ↦ get_or-set_other ends v w (end + 1) 0 away ∙ h.filled.ended w w_lt ∙ ap (λ (l : List Run). run_start whole w + length l) (sym (others_stay w away))
+            | inr away ↦ get_or-set_other ends v w (end + 1) 0 away ∙ h.filled.ended w w_lt ∙ ap (λ (l : List PageRun). run_start whole w + length l) (sym (others_stay w away))
           ]
 
       begun_new : AreBegun n whole (runs_of c) (set ends v (end + 1)) (set reach v (u + 1)) (set runs end (one_of u))
@@ -165,17 +165,17 @@ module _ (b c : ℕ → List ℕ) (v u : ℕ) (m : OneMore b c v u) where
       read : get_or runs (end - 1) no_run ≡ get_or (runs_of b v) l no_run
       read = ap (λ (m : ℕ). get_or runs m no_run) is_last ∙ h.filled.members v lt l (omega (arith, some_before small same))
 
-      abbrev x : Run
+      abbrev x : PageRun
       x = record { from = (get_or runs (end - 1) no_run).from; to = suc u }
 
       here_longer : get_or (runs_of c v) l no_run ≡ x
       here_longer =
-          let written : Run = record { from = (get_or (runs_of b v) l no_run).from; to = suc u } in
-          ap (λ (r : List Run). get_or r l no_run) (now_longer small same) ∙ get_or-set_same (runs_of b v) l written no_run (omega (arith, some_before small same)) ∙ ap (λ (r : Run). record { from = r.from; to = suc u }) (sym read)
+          let written : PageRun = record { from = (get_or (runs_of b v) l no_run).from; to = suc u } in
+          ap (λ (r : List PageRun). get_or r l no_run) (now_longer small same) ∙ get_or-set_same (runs_of b v) l written no_run (omega (arith, some_before small same)) ∙ ap (λ (r : PageRun). record { from = r.from; to = suc u }) (sym read)
 
       kept_longer : (i : ℕ) → i < length (runs_of c v) → i ≢ l → (i < length (runs_of b v)) × (get_or (runs_of c v) i no_run ≡ get_or (runs_of b v) i no_run)
       kept_longer i i_lt away =
-          (omega (arith, as_many_runs small same), ap (λ (r : List Run). get_or r i no_run) (now_longer small same) ∙ get_or-set_other (runs_of b v) l i (record { from = (get_or (runs_of b v) l no_run).from; to = suc u }) no_run away)
+          (omega (arith, as_many_runs small same), ap (λ (r : List PageRun). get_or r i no_run) (now_longer small same) ∙ get_or-set_other (runs_of b v) l i (record { from = (get_or (runs_of b v) l no_run).from; to = suc u }) no_run away)
 
       inside : l < length (runs_of c v)
       inside = omega (arith, as_many_runs small same, some_before small same)
@@ -190,7 +190,7 @@ module _ (b c : ℕ → List ℕ) (v u : ℕ) (m : OneMore b c v u) where
       ended_longer w w_lt =
           elim (cases_eq w v) [
             | inl here ↦ rw here (omega (arith, h.filled.ended v lt, as_many_runs small same))
-            | inr away ↦ h.filled.ended w w_lt ∙ ap (λ (r : List Run). run_start whole w + length r) (sym (others_stay w away))
+            | inr away ↦ h.filled.ended w w_lt ∙ ap (λ (r : List PageRun). run_start whole w + length r) (sym (others_stay w away))
           ]
 
       begun_longer : AreBegun n whole (runs_of c) ends (set reach v (u + 1)) (set runs (end - 1) x)
@@ -206,7 +206,7 @@ module _ (b c : ℕ → List ℕ) (v u : ℕ) (m : OneMore b c v u) where
 -- ---- the arcs of page k, of which j are done
 
 module _ (g : Digraph) (k j : ℕ) (list : List ℕ) (is : IsListOf g k list) where
-  abbrev pub runs_with : ℕ → List Run
+  abbrev pub runs_with : ℕ → List PageRun
   runs_with = runs_of (with_page g k (take j list))
 
   module _ (lt : j < length list) where
@@ -235,11 +235,11 @@ runs_yet g k v = ap runs_in (none_seen g k v)
 
 -- ---- the same lists
 
-pub same_counted : (n : ℕ) (b c : ℕ → List Run) (counts reach : List ℕ) → ((v : ℕ) → b v ≡ c v) → AreCounted n b counts reach → AreCounted n c counts reach
-same_counted n b c counts reach same h = subst (λ (f : ℕ → List Run). AreCounted n f counts reach) (λ i v. same v i) h
+pub same_counted : (n : ℕ) (b c : ℕ → List PageRun) (counts reach : List ℕ) → ((v : ℕ) → b v ≡ c v) → AreCounted n b counts reach → AreCounted n c counts reach
+same_counted n b c counts reach same h = subst (λ (f : ℕ → List PageRun). AreCounted n f counts reach) (λ i v. same v i) h
 
-pub same_begun : (n : ℕ) (whole b c : ℕ → List Run) (ends reach : List ℕ) (runs : List Run) → ((v : ℕ) → b v ≡ c v) → AreBegun n whole b ends reach runs → AreBegun n whole c ends reach runs
-same_begun n whole b c ends reach runs same h = subst (λ (f : ℕ → List Run). AreBegun n whole f ends reach runs) (λ i v. same v i) h
+pub same_begun : (n : ℕ) (whole b c : ℕ → List PageRun) (ends reach : List ℕ) (runs : List PageRun) → ((v : ℕ) → b v ≡ c v) → AreBegun n whole b ends reach runs → AreBegun n whole c ends reach runs
+same_begun n whole b c ends reach runs same h = subst (λ (f : ℕ → List PageRun). AreBegun n whole f ends reach runs) (λ i v. same v i) h
 
 -- ---- where the next arc of page k is counted and placed
 
@@ -256,7 +256,7 @@ module _ (k j : ℕ) (list : List ℕ) (lt : j < length list) where
       let page = r.1.page in
       (omega (arith, below, h.pages), omega (arith, below, h.places), omega (arith, h.each t below, runs_few r.0 k j list r.1 t), omega (arith, page, h.pages))
 
-  pub target_begun : (old_ends old_reach ends reach : List ℕ) (old_runs runs : List Run) → length ends ≤ MOST_PAGES_IN_RUNS
+  pub target_begun : (old_ends old_reach ends reach : List ℕ) (old_runs runs : List PageRun) → length ends ≤ MOST_PAGES_IN_RUNS
       → (g : Digraph) × IsListOf g k list × AreBegun g.nodes (runs_to g) (runs_below g k) old_ends old_reach old_runs
       → ((g : Digraph) → IsListOf g k list → AreBegun g.nodes (runs_to g) (runs_below g k) old_ends old_reach old_runs → AreBegun g.nodes (runs_to g) (runs_of (with_page g k (take j list))) ends reach runs)
       → (t < length ends) × (t < length reach) × (k < length ends) × (get_or reach t 0 ≡ k → (0 < get_or ends t 0) × (get_or ends t 0 - 1 < length runs)) × (get_or reach t 0 ≢ k → get_or ends t 0 < length runs)

@@ -13,7 +13,7 @@ use Rattle.wg_transpose.specs.Transposed.{predecessors, transposed}
 use Rattle.wg_transpose.proofs.Reversed.{list_is, gives_back}
 use Rattle.wg_transpose.proofs.Seen.{where_few}
 use Rattle.wg_transpose.proofs.Totals.{start_of_all}
-use Rattle.wg_runs.specs.declared.run.Run.{Run}
+use Rattle.wg_runs.specs.declared.run.PageRun.{PageRun}
 use Rattle.wg_runs.specs.declared.run.TheConstants.{MOST_PAGES_IN_RUNS}
 use Rattle.wg_runs.specs.Runs.{numbers_of_all, StandApart, runs_to, run_start}
 use Rattle.wg_runs.specs.Held.{runs_below, AreCounted, AreFilled, AreBegun, list_at, graph_of, HoldsRuns}
@@ -55,7 +55,7 @@ none_counted g counts reach pages places none nowhere = record {
 }
 
 -- before the first page is placed
-pub none_begun : (g : Digraph) (counts starts reach : List ℕ) (runs : List Run) → length counts ≡ g.nodes → ((v : ℕ) → v < g.nodes → get_or counts v 0 ≡ length (runs_to g v)) → length starts ≡ length counts
+pub none_begun : (g : Digraph) (counts starts reach : List ℕ) (runs : List PageRun) → length counts ≡ g.nodes → ((v : ℕ) → v < g.nodes → get_or counts v 0 ≡ length (runs_to g v)) → length starts ≡ length counts
     → ((v : ℕ) → v < length counts → get_or starts v 0 ≡ sum (take v counts)) → length runs ≡ run_start (runs_to g) g.nodes → length reach ≡ g.nodes → ((v : ℕ) → v < g.nodes → get_or reach v 0 ≡ MOST_PAGES_IN_RUNS)
     → AreBegun g.nodes (runs_to g) (runs_below g 0) starts reach runs
 none_begun g counts starts reach runs size each pages begins room places nowhere = record {
@@ -86,7 +86,7 @@ module _ (g : Digraph) (v : ℕ) where
 
 -- ---- the graph that the runs are seen as
 
-pub graph_is : (g : Digraph) (ends : List ℕ) (runs : List Run) → IsGraph g → AreFilled g.nodes (runs_to g) (runs_to g) ends runs → graph_of ends runs ≡ g
+pub graph_is : (g : Digraph) (ends : List ℕ) (runs : List PageRun) → IsGraph g → AreFilled g.nodes (runs_to g) (runs_to g) ends runs → graph_of ends runs ≡ g
 unfolding graph_of
 graph_is g ends runs ok h =
     let numbers : ℕ → List ℕ = λ v. numbers_of_all (list_at ends runs v) in
@@ -99,7 +99,7 @@ graph_is g ends runs ok h =
     ap transposed inner ∙ gives_back g ok
 
 -- the same, and the outdegrees
-module _ (g : Digraph) (ends : List ℕ) (runs : List Run) (degrees : List ℕ) (h : HoldsRuns g ends runs degrees) where
+module _ (g : Digraph) (ends : List ℕ) (runs : List PageRun) (degrees : List ℕ) (h : HoldsRuns g ends runs degrees) where
   pub seen_as : graph_of ends runs ≡ g
   seen_as = graph_is g ends runs h.proper h.lists
 

@@ -4,39 +4,39 @@ use Rattle.std.specs.List.{range_with_len}
 use Rattle.wg_params.specs.declared.limits.TheConstants.{MOST_ARCS}
 use Rattle.wg_graph.specs.Digraph.{Digraph, IsGraph, arc_count, outdegree}
 use Rattle.wg_transpose.specs.Transposed.{predecessors}
-use Rattle.wg_runs.specs.declared.run.Run.{Run}
+use Rattle.wg_runs.specs.declared.run.PageRun.{PageRun}
 use Rattle.wg_runs.specs.declared.run.TheConstants.{MOST_PAGES_IN_RUNS}
 
 -- the numbers of a run
-abbrev pub numbers_of : Run → List ℕ
+abbrev pub numbers_of : PageRun → List ℕ
 numbers_of r = range_with_len r.from (r.to - r.from)
 
 -- the numbers of several runs, one run after the other
-abbrev pub numbers_of_all : List Run → List ℕ
+abbrev pub numbers_of_all : List PageRun → List ℕ
 numbers_of_all [] = []
 numbers_of_all (r ∷ rs) = numbers_of r ++ numbers_of_all rs
 
 -- The first run begins at n or later, each has a number, and between two runs a number is left out.
-abbrev pub StandApart : ℕ → List Run → Type 0
+abbrev pub StandApart : ℕ → List PageRun → Type 0
 StandApart n [] = Unit {0}
 StandApart n (r ∷ rs) = (n ≤ r.from) × (r.from < r.to) × StandApart (suc r.to) rs
 
 -- These runs, and a number before them: it joins the first run if that begins right behind it.
-abbrev pub with_first : ℕ → List Run → List Run
+abbrev pub with_first : ℕ → List PageRun → List PageRun
 with_first x [] = record { from = x; to = suc x } ∷ []
 with_first x (r ∷ rs) = if suc x == r.from then record { from = x; to = r.to } ∷ rs else record { from = x; to = suc x } ∷ r ∷ rs
 
 -- the runs of an ascending list, each as long as can be
-abbrev pub runs_in : List ℕ → List Run
+abbrev pub runs_in : List ℕ → List PageRun
 runs_in [] = []
 runs_in (x ∷ xs) = with_first x (runs_in xs)
 
 -- the runs of the pages that link to page v
-abbrev pub runs_to : Digraph → ℕ → List Run
+abbrev pub runs_to : Digraph → ℕ → List PageRun
 runs_to g v = runs_in (predecessors g v)
 
 -- how many runs the lists below list v have
-abbrev pub run_start : (ℕ → List Run) → ℕ → ℕ
+abbrev pub run_start : (ℕ → List PageRun) → ℕ → ℕ
 run_start lists zero = 0
 run_start lists (suc v) = run_start lists v + length (lists v)
 

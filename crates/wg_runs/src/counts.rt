@@ -7,7 +7,7 @@ ghost use Rattle.wg_runs.specs.declared.run.TheConstants.{MOST_PAGES_IN_RUNS};
 
 use crate::counting::count;
 use crate::filling::fill;
-use crate::{Run, Runs};
+use crate::{PageRun, Runs};
 use std::alloc::{AllocError, Global};
 use std::marker::Model;
 use wg_graph::Lists;
@@ -89,7 +89,7 @@ impl RunCounts {
             runs: count,
             ..
         } = self;
-        let none = Run { from: 0, to: 0 };
+        let none = PageRun { from: 0, to: 0 };
         let mut runs = vec![in alloc; none; count as usize]?;
         fill(lists, &mut ends, &mut reach, &mut runs);
         Ok(Runs::from_parts(ends, runs, degrees))

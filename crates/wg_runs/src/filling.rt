@@ -8,13 +8,13 @@ ghost use Rattle.wg_runs.specs.Runs.{runs_to, run_start};
 ghost use Rattle.wg_runs.specs.Held.{runs_below, AreFilled, AreBegun};
 ghost use Rattle.wg_runs.specs.declared.run.TheConstants.{MOST_PAGES_IN_RUNS};
 
-use crate::Run;
+use crate::PageRun;
 use wg_graph::Lists;
 use wg_transpose::ranges::set_starts;
 
 // Makes the last run to each page of the list longer by page `page`, or begins one, and notes that it ends behind page
 // `page` now.
-fn place_arcs(page: u32, list: &[u64], ends: &mut [u64], reach: &mut [u32], runs: &mut [Run])
+fn place_arcs(page: u32, list: &[u64], ends: &mut [u64], reach: &mut [u32], runs: &mut [PageRun])
     requires few { length ends.old ≤ MOST_PAGES_IN_RUNS }
     requires begun { (g : Digraph) × IsListOf g page list.now
         × AreBegun g.nodes (runs_to g) (runs_below g page) ends.old reach.old runs.old }
@@ -28,7 +28,7 @@ fn place_arcs(page: u32, list: &[u64], ends: &mut [u64], reach: &mut [u32], runs
         if reach[place] == page {
             runs[end - 1].to = page + 1;
         } else {
-            runs[end] = Run {
+            runs[end] = PageRun {
                 from: page,
                 to: page + 1,
             };
@@ -39,7 +39,7 @@ fn place_arcs(page: u32, list: &[u64], ends: &mut [u64], reach: &mut [u32], runs
 }
 
 // Places all arcs, so that what were starts become ends.
-fn place<L: Lists>(lists: &mut L, ends: &mut [u64], reach: &mut [u32], runs: &mut [Run])
+fn place<L: Lists>(lists: &mut L, ends: &mut [u64], reach: &mut [u32], runs: &mut [PageRun])
     requires few { length ends.old ≤ MOST_PAGES_IN_RUNS }
     requires none { AreBegun (L.graph lists.old).nodes (runs_to (L.graph lists.old)) (runs_below (L.graph lists.old) 0)
         ends.old reach.old runs.old }
@@ -57,7 +57,12 @@ fn place<L: Lists>(lists: &mut L, ends: &mut [u64], reach: &mut [u32], runs: &mu
 }
 
 // Fills in the runs to all pages, one page after the other, and their ends, where it was counted how many there are.
-pub(crate) fn fill<L: Lists>(lists: &mut L, ends: &mut [u64], reach: &mut [u32], runs: &mut [Run])
+pub(crate) fn fill<L: Lists>(
+    lists: &mut L,
+    ends: &mut [u64],
+    reach: &mut [u32],
+    runs: &mut [PageRun],
+)
     requires few_pages { (L.graph lists.old).nodes ≤ MOST_PAGES_IN_RUNS }
     requires few_runs { length runs.old ≤ MOST_ARCS }
     requires pages { length ends.old ≡ (L.graph lists.old).nodes }

@@ -1,7 +1,7 @@
 //! For each page the pages that link to it, as runs of pages that follow one another.
 //!
 //! The pages of a folder link to the same menu, and so the list of the pages that link to one page is made of runs: few
-//! [`Run`]s tell of many arcs. Of a sum over the predecessors of a page, each run is then one difference: of the sums
+//! [`PageRun`]s tell of many arcs. Of a sum over the predecessors of a page, each run is then one difference: of the sums
 //! over all pages before its end, and before its begin.
 //!
 //! Runs are made straight from lists of successors that are read in order, in two passes, without a transposed graph
@@ -25,11 +25,11 @@
 //! let counts = RunCounts::of(rt.alloc(), &mut lists)?;
 //! assert!(rt; counts.arcs() == 5 && counts.runs() == 3);
 //! let runs = counts.fill(rt.alloc(), &mut lists)?;
-//! let to_last = [Run { from: 0, to: 3 }, Run { from: 4, to: 5 }];
+//! let to_last = [PageRun { from: 0, to: 3 }, PageRun { from: 4, to: 5 }];
 //! assert!(rt; runs.of_page(4) == to_last.as_slice());
 //! assert!(rt; runs.of_page(3).is_empty() && runs.degree(1) == 2);
 //! let again = Runs::of(rt.alloc(), &mut lists)?;
-//! assert!(rt; again.nodes() == 5 && again.of_page(0) == [Run { from: 1, to: 2 }].as_slice());
+//! assert!(rt; again.nodes() == 5 && again.of_page(0) == [PageRun { from: 1, to: 2 }].as_slice());
 //! Ok(())
 //! ```
 //!
@@ -46,5 +46,5 @@ mod run;
 mod runs;
 
 pub use counts::RunCounts;
-pub use run::{MOST_PAGES_IN_RUNS, Run};
+pub use run::{MOST_PAGES_IN_RUNS, PageRun};
 pub use runs::Runs;

@@ -4,7 +4,7 @@ pub const MOST_PAGES_IN_RUNS: u64 = 4_294_967_295;
 
 /// Pages that follow one another: from page `from` on, up to the page before `to`.
 #[derive(Clone, Copy, Debug, PartialEq, Eq)]
-pub struct Run {
+pub struct PageRun {
     pub from: u32,
     pub to: u32,
 }

@@ -5,10 +5,10 @@ ghost use Rattle.wg_graph.specs.Digraph.{Digraph, IsGraph, arc_count, outdegree}
 ghost use Rattle.wg_transpose.specs.Transposed.{predecessors};
 ghost use Rattle.wg_runs.specs.Runs.{runs_to, numbers_of_all, StandApart};
 ghost use Rattle.wg_runs.specs.Held.{AreFilled, HoldsRuns};
-ghost use Rattle.wg_runs.specs.declared.run.Run.{Run};
+ghost use Rattle.wg_runs.specs.declared.run.PageRun.{PageRun};
 ghost use Rattle.wg_runs.specs.declared.run.TheConstants.{MOST_PAGES_IN_RUNS};
 
-use crate::{Run, RunCounts};
+use crate::{PageRun, RunCounts};
 use std::alloc::{AllocError, Global};
 use std::marker::Model;
 use wg_graph::Lists;
@@ -21,7 +21,7 @@ use wg_graph::Lists;
 pub struct Runs {
     // Where the runs to each page end; they begin where those to the page before end.
     ends: Vec<u64>,
-    runs: Vec<Run>,
+    runs: Vec<PageRun>,
     degrees: Vec<u32>,
 }
 
@@ -50,7 +50,7 @@ impl Runs {
     }
 
     // The runs to each page of a graph, one page after the other, up to these ends, and its outdegrees.
-    pub(crate) fn from_parts(ends: Vec<u64>, runs: Vec<Run>, degrees: Vec<u32>) -> Runs
+    pub(crate) fn from_parts(ends: Vec<u64>, runs: Vec<PageRun>, degrees: Vec<u32>) -> Runs
         requires { (g : Digraph) × HoldsRuns g ends.items runs.items degrees.items }
         ensures { (g : Digraph) → HoldsRuns g ends.items runs.items degrees.items → result ≡ g }
     {
@@ -83,7 +83,7 @@ impl Runs {
 
     /// The runs of the pages that link to page `v`, ascending, each as long as can be.
     #[inline(always)]
-    pub fn of_page(&self, v: u64) -> &[Run]
+    pub fn of_page(&self, v: u64) -> &[PageRun]
         requires { v < self.now.nodes }
         ensures value { result.now ≡ runs_to self.now v }
         ensures numbers { numbers_of_all result.now ≡ predecessors self.now v }
@@ -97,11 +97,11 @@ impl Runs {
 
 // Where list `v` begins and ends in the array of all runs: it begins where the one before it ends.
 #[inline(always)]
-fn span(ends: &[u64], runs: &[Run], v: u64) -> (usize, usize)
-    requires { (n : ℕ) × (whole : ℕ → List Run) × AreFilled n whole whole ends.now runs.now × (v < n) }
+fn span(ends: &[u64], runs: &[PageRun], v: u64) -> (usize, usize)
+    requires { (n : ℕ) × (whole : ℕ → List PageRun) × AreFilled n whole whole ends.now runs.now × (v < n) }
     ensures ordered { result.0 ≤ result.1 }
     ensures within { result.1 ≤ length runs.now }
-    ensures list { (n : ℕ) (whole : ℕ → List Run) → AreFilled n whole whole ends.now runs.now → v < n
+    ensures list { (n : ℕ) (whole : ℕ → List PageRun) → AreFilled n whole whole ends.now runs.now → v < n
         → slice_range runs.now result.0 result.1 ≡ whole v }
 {
     let end = ends[v as usize] as usize;

@@ -6,7 +6,7 @@ use wg_io::SteadySink;
 use wg_order::Ranking;
 use wg_outcomes::are_few;
 use wg_rank::{Bounds, Pulling, UNITS};
-use wg_runs::{Run, RunCounts, Runs};
+use wg_runs::{PageRun, RunCounts, Runs};
 use wg_transpose::{Transposer, transpose};
 use wg_vectors::{COPIED, bytes_of, generate};
 
@@ -96,11 +96,11 @@ fn runs_of_the_pages_that_link_to_a_page(rt: HostRuntime) -> Result<(), Fail> {
     let counts = RunCounts::of(rt.alloc(), &mut lists)?;
     assert!(rt; counts.arcs() == 5 && counts.runs() == 3);
     let runs = counts.fill(rt.alloc(), &mut lists)?;
-    let to_last = [Run { from: 0, to: 3 }, Run { from: 4, to: 5 }];
+    let to_last = [PageRun { from: 0, to: 3 }, PageRun { from: 4, to: 5 }];
     assert!(rt; runs.of_page(4) == to_last.as_slice());
     assert!(rt; runs.of_page(3).is_empty() && runs.degree(1) == 2);
     let again = Runs::of(rt.alloc(), &mut lists)?;
-    assert!(rt; again.nodes() == 5 && again.of_page(0) == [Run { from: 1, to: 2 }].as_slice());
+    assert!(rt; again.nodes() == 5 && again.of_page(0) == [PageRun { from: 1, to: 2 }].as_slice());
     Ok(())
 }
 

@@ -1,6 +1,6 @@
-use Rattle.std.proofs.Common.{◌≡◌, ◌≤◌, ◌∙◌, ap, subst}
+use Rattle.std.proofs.Common.{◌≡◌, ◌∙◌, subst}
 use Rattle.std.specs.Result.{IfOk}
-use Rattle.wg_graph.specs.Digraph.{Digraph, arc_count}
+use Rattle.wg_graph.specs.Digraph.{Digraph}
 use Rattle.wg_params.specs.Parameters.{Parameters, params_of}
 use Rattle.wg_outcomes.specs.Bulk.{bulk_params}
 use Rattle.wg_writing.specs.Writing.{archive_of}

@@ -16,9 +16,6 @@ returns-in_err-graph-clause-only c = λ g is same.
     if_that_err _ _ _ c.from_residual.ensures.1
     (no_graph g c.args.base.now _ is _ _ _ c.args.params.now same c.in_err-graph.field-0.0 (faultless _ _ (λ n. (refl, refl, refl, refl))) c.in_err-graph.ensures)
 
-pub returns-in_err-first-clause-only : goal.returns-in_err-first-clause-only
-returns-in_err-first-clause-only c = λ g is same. if_that_err _ _ _ c.from_residual-in_err-first.ensures.1 c.in_err-first.ensures.only
-
 pub returns-clause-value : goal.returns-clause-value
 returns-clause-value c = λ g is same.
     let f = c.in_ok-first.ensures in

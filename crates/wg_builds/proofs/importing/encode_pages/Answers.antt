@@ -6,28 +6,24 @@ use Rattle.wg_num.specs.Lines.{lines_of}
 use Rattle.wg_lines.specs.Reading.{lines_after}
 use Rattle.wg_ascii.specs.Growing.{IsFirst, IsUpTo}
 use Rattle.wg_outcomes.specs.Names.{text_named}
-use Rattle.wg_outcomes.specs.declared.status.Input.TheVariants.{Text}
 use Rattle.wg_outcomes.proofs.WritingLemmas.{if_that_err}
 use Rattle.wg_readings.proofs.LoadLemmas.{text_unloaded}
 use Rattle.wg_builds.proofs.ImportJobs.{text_after, text_stops}
 use Rattle.wg_builds.proofs.ImportingLemmas.{no_later}
-use Rattle.wg_builds.proofs.TextJobs.{loads_after, still}
+use Rattle.wg_builds.proofs.TextJobs.{still}
 use Rattle.wg_builds.proofs.importing.encode_pages.Goals as goal
 
 pub returns-in_err-reader-clause-ends : goal.returns-in_err-reader-clause-ends
 returns-in_err-reader-clause-ends g c =
-    let r = c.in_err-reader.ensures in
-    let e = c.in_err-reader.field-0.0 in
     let name = c.args.name.now in
-    if_that_err _ _ _ c.from_residual.ensures.1 (text_unloaded name _ _ _ _ _ e (r.ends (text_named name) refl))
+    if_that_err _ _ _ c.from_residual.ensures.1 (text_unloaded name _ _ _ _ _ c.in_err-reader.field-0.0 (c.in_err-reader.ensures.ends (text_named name) refl))
 
 pub returns-in_err-_some-clause-ends : goal.returns-in_err-_some-clause-ends
 returns-in_err-_some-clause-ends g c =
     let o = c.in_ok-reader.ensures in
-    let r = c.in_err-_some.ensures in
-    let e = c.in_err-_some.field-0.0 in
     let name = c.args.name.now in
-    if_that_err _ _ _ c.from_residual-in_err-_some.ensures.1 (text_unloaded name _ _ _ _ _ e (loads_after (text_named name) Text _ _ _ _ _ _ _ e o.same o.later (r.ends (text_named name) refl)))
+    if_that_err _ _ _ c.from_residual-in_err-_some.ensures.1
+    (text_after name _ _ _ _ _ _ _ _ o.same o.later (text_unloaded name _ _ _ _ _ c.in_err-_some.field-0.0 (c.in_err-_some.ensures.ends (text_named name) refl)))
 
 pub returns-in-Err-clause-ends : goal.returns-in-Err-clause-ends
 returns-in-Err-clause-ends g c =

@@ -1,7 +1,8 @@
-use Rattle.std.proofs.Common.{rules, ◌+◌, ◌<◌, ◌≤◌, ◌++◌, ◌∷◌, ◌∙◌, [], List, ℕ, length, ap, subst, arith}
+use Rattle.std.proofs.Common.{rules, ◌<◌, ◌≤◌, ◌++◌, ◌∷◌, ◌∙◌, [], List, ℕ, length, ap, sym, subst, arith}
+use Rattle.wg_params.specs.Parameters.{Parameters}
 use Rattle.wg_encoder.specs.ArchiveInMemory.{HasEncoded}
 use Rattle.wg_outcomes.proofs.WritingLemmas.{if_that_err}
-use Rattle.wg_builds.proofs.ImportingLemmas.{blank_pace, page_pace}
+use Rattle.wg_builds.proofs.ImportingLemmas.{blank_pace}
 use Rattle.wg_builds.proofs.importing.take_lines.Goals as goal
 
 pub returns-in_err-rest-clause-fault : goal.returns-in_err-rest-clause-fault
@@ -18,11 +19,20 @@ pages-preserved c =
     let s = c.pages.lines in
     let list = c.read_page.new.list in
     let left : s.line ≤ s.nodes = search rules in
+    let k = i.pace in
     record {
       params = e.params ∙ i.params;
       nodes = r.nodes ∙ i.nodes;
       line = omega (arith, i.line, r.line, r.shorter);
-      pace = page_pace c.pages.encoder f s c.read_page.new.self (length list) i.pace left e.params e.page (e.arcs ∙ ap (λ (l : List ℕ). c.pages.encoder.arcs + length l) c.as_slice.ensures) r.nodes r.line r.arcs r.room;
+      pace = record {
+        nodes = ap (λ (p : Parameters). p.nodes) e.params ∙ k.nodes ∙ sym r.nodes;
+        few = omega (arith, r.nodes, k.few);
+        most = ap (λ (p : Parameters). p.arcs) e.params ∙ k.most;
+        arcs = omega (arith, e.arcs, ap (λ (l : List ℕ). length l) c.as_slice.ensures, k.arcs, r.arcs);
+        room = r.room;
+        page = λ le. omega (arith, e.page, r.line, k.page left);
+        over = λ lt. omega (arith, e.page, r.line, r.nodes, k.page left);
+      };
       goes = λ done h.
           let x = i.goes done h in (
             x.0 ++ list ∷ [],

@@ -1,35 +1,32 @@
-use Rattle.std.proofs.Common.{◌∙◌, [], ℕ, List, None, Ok, Err, length, ap, refl, sym, subst, arith}
+use Rattle.std.proofs.Common.{◌∙◌, [], ℕ, List, None, Ok, length, ap, refl, sym, subst, arith}
 use Rattle.std.specs.FinMap as map
 use Rattle.wg_io.specs.Outside.{Files}
-use Rattle.wg_io.proofs.FilesLemmas.{none_falls-trans}
+use Rattle.wg_io.proofs.FilesLemmas.{none_falls-refl, none_falls-trans}
 use Rattle.wg_num.specs.Lines.{lines_of}
 use Rattle.wg_lines.specs.Reading.{lines_after}
 use Rattle.wg_arcs.specs.Growing.{SoFar}
 use Rattle.wg_arcs.specs.Listing.{AreListed, arcs_on}
 use Rattle.wg_arcs.proofs.ListedLemmas.{none_listed}
 use Rattle.wg_outcomes.specs.Names.{list_named}
-use Rattle.wg_outcomes.specs.declared.status.Input.TheVariants.{ArcList}
 use Rattle.wg_outcomes.proofs.WritingLemmas.{if_that_err}
-use Rattle.wg_readings.proofs.LoadLemmas.{list_unloaded}
 use Rattle.wg_builds.specs.Listed.{IsFault}
-use Rattle.wg_builds.proofs.ListedJobs.{lent_now, list_encoded, list_stops}
+use Rattle.wg_builds.proofs.ListedJobs.{lent_now, list_encoded, list_stops, list_unread_after}
 use Rattle.wg_builds.proofs.ListingLemmas.{may_take}
-use Rattle.wg_builds.proofs.TextJobs.{loads_after, still}
+use Rattle.wg_builds.proofs.TextJobs.{still}
 use Rattle.wg_builds.proofs.listing.encode_lines.Goals as goal
 
 pub returns-in_err-reader-clause-ends : goal.returns-in_err-reader-clause-ends
 returns-in_err-reader-clause-ends g c =
-    let e = c.in_err-reader.field-0.0 in
     let name = c.args.name.now in
-    if_that_err _ _ _ c.from_residual.ensures.1 (list_unloaded name c.args.nodes _ _ _ _ _ (Err e) e refl (c.in_err-reader.ensures.ends (list_named name) refl))
+    if_that_err _ _ _ c.from_residual.ensures.1
+    (list_unread_after name c.args.nodes _ _ _ _ _ _ _ c.in_err-reader.field-0.0 refl (none_falls-refl _) (c.in_err-reader.ensures.ends (list_named name) refl))
 
 pub returns-in_err-next_lines-clause-ends : goal.returns-in_err-next_lines-clause-ends
 returns-in_err-next_lines-clause-ends g c =
     let i = c.loop-list.invariant in
-    let e = c.in_err-next_lines.field-0.0 in
     let name = c.args.name.now in
     if_that_err _ _ _ c.from_residual-in_err-next_lines.ensures.1
-    (list_unloaded name c.args.nodes _ _ _ _ _ (Err e) e refl (loads_after (list_named name) ArcList _ _ _ _ _ _ _ e i.same i.later (c.in_err-next_lines.ensures.ends (list_named name) refl)))
+    (list_unread_after name c.args.nodes _ _ _ _ _ _ _ c.in_err-next_lines.field-0.0 i.same i.later (c.in_err-next_lines.ensures.ends (list_named name) refl))
 
 pub returns-in-Err-clause-ends : goal.returns-in-Err-clause-ends
 returns-in-Err-clause-ends g c =

@@ -1,4 +1,4 @@
-use Rattle.wg_outcomes.proofs.PerformsLemmas.{performs_at, anywhere_at}
+use Rattle.wg_outcomes.proofs.PerformsLemmas.{anywhere_at, generates, performs_at}
 use Rattle.wg_cli.proofs.dispatch.perform.Goals as goal
 
 pub returns-in-Check-clause-does : goal.returns-in-Check-clause-does
@@ -51,3 +51,7 @@ returns-in-Rank-clause-anywhere g c = anywhere_at g.D.Depot g.O.Sink _ _ _ _ _ _
 
 pub returns-in-Verify-clause-anywhere : goal.returns-in-Verify-clause-anywhere
 returns-in-Verify-clause-anywhere g c = anywhere_at g.D.Depot g.O.Sink _ _ _ _ _ _ _ _ c.in-Verify.is c.ending_of-in-Verify.ensures.status c.verify.ensures.anywhere
+
+pub returns-in-Bulk-clause-anywhere : goal.returns-in-Bulk-clause-anywhere
+returns-in-Bulk-clause-anywhere g c =
+    anywhere_at g.D.Depot g.O.Sink _ _ _ _ _ _ _ _ c.in-Bulk.is c.ending_of-in-Bulk.ensures.status (generates g.O.Sink _ _ c.args.out.now c.bulk.new.out c.bulk.result c.bulk.ensures)

@@ -65,12 +65,8 @@ pub returns-clause-leaves : goal.returns-clause-leaves
 returns-clause-leaves g c = λ o base certificate weights is done. c.try_job-ending.ensures.anywhere (Verify base certificate weights) (c.in-Ok.ensures.job ∙ is) o done
 
 pub returns-clause-sure : goal.returns-clause-sure
-returns-clause-sure g c = λ t o r seed pages is done.
-    let job = Bulk seed pages in
-    let files = g.D.Depot.files c.args.depot.now in
-    let does = c.try_job-ending.ensures.performs job (c.in-Ok.ensures.job ∙ is) in
-    proven_outcome r seed pages _ _ (bulk_within c.args.words.now seed pages is)
-    (subst (HasOutput (output_of (judged_on r job files)) (g.O.Sink.taken c.args.out.now) (g.O.Sink.taken c.try_job-ending.new.out)) done (does.output t o r))
+returns-clause-sure g c = λ o r seed pages is done.
+    proven_outcome r seed pages _ _ (bulk_within c.args.words.now seed pages is) (c.try_job-ending.ensures.anywhere (Bulk seed pages) (c.in-Ok.ensures.job ∙ is) o done r)
 
 pub returns-clause-complete : goal.returns-clause-complete
 returns-clause-complete g c = λ t r job is quiet.

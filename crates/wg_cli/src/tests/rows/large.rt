@@ -12,6 +12,10 @@ run check g
 prints-file p
 run arcs g
 prints-file a
+run show g 900
+save s
+run spot g 900
+prints-file s
 
 # The tenth digit of page 0 becomes a 9.
 case a certificate of a thousand pages
@@ -36,6 +40,8 @@ prints ok nodes=257 arcs=514 bits=1547|
 run check g
 prints ok nodes=257 arcs=514 bits=1547|
 run show g 256
+prints 256 0 1|
+run spot g 256
 prints 256 0 1|
 text b 0 2|
 run build b h --nodes 3

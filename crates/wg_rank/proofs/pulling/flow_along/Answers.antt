@@ -1,6 +1,6 @@
 use Rattle.std.proofs.Common.{◌-◌, arith}
 use Rattle.std.proofs.lemmas.List.Sums.{sum_by_more_le}
-use Rattle.wg_runs.specs.declared.run.Run.{Run}
+use Rattle.wg_runs.specs.declared.run.PageRun.{PageRun}
 use Rattle.wg_rank.specs.Intervals.{by_page}
 use Rattle.wg_rank.specs.Inflows.{low_flows, high_flows}
 use Rattle.wg_rank.proofs.pulling.flow_along.Goals as goal
@@ -10,7 +10,7 @@ overflow_add-below c =
     let sums = low_flows c.args.sums.now in
     omega (
       arith,
-      sum_by_more_le (λ (r : Run). by_page sums r.to - by_page sums r.from) c.args.runs.now c.loop-run.run-index (record { from = 0; to = 0 }) (omega arith),
+      sum_by_more_le (λ (r : PageRun). by_page sums r.to - by_page sums r.from) c.args.runs.now c.loop-run.run-index (record { from = 0; to = 0 }) (omega arith),
       c.loop-run.invariant.below,
       c.requires.low.room,
       c.low_flow.ensures,
@@ -22,7 +22,7 @@ overflow_add-above c =
     let sums = high_flows c.args.sums.now in
     omega (
       arith,
-      sum_by_more_le (λ (r : Run). by_page sums r.to - by_page sums r.from) c.args.runs.now c.loop-run.run-index (record { from = 0; to = 0 }) (omega arith),
+      sum_by_more_le (λ (r : PageRun). by_page sums r.to - by_page sums r.from) c.args.runs.now c.loop-run.run-index (record { from = 0; to = 0 }) (omega arith),
       c.loop-run.invariant.above,
       c.requires.high.room,
       c.high_flow.ensures,

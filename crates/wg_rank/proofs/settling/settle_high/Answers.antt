@@ -21,7 +21,7 @@ loop-v-preserved c =
     record {
       done = table_more v c.loop-v.high _ _ (omega arith)
           (least_from _ _ _ _ _ _ _ _ _ _ _ _ c.min-in-loop-v.ensures c.min.ensures (i.left v (omega arith))
-          (c.quotient_up.ensures ∙ ap (λ x. div_ceil (c.args.damping * x) 1000) (c.high_flow.ensures ∙ i.flows v (omega arith)))
+          (c.damped_up.ensures ∙ ap (λ x. div_ceil (c.args.damping * x) 1000) (c.high_flow.ensures ∙ i.flows v (omega arith)))
           c.div_ceil-rest.ensures (rw c.total_weight-parts.ensures.value at (c.part_above-part.ensures.value (length c.args.high.now) (omega arith))))
           i.done;
       flows = λ w l. rw (c.clear.ensures, cleared) (table_left v (high_flows xs) (high_flows c.args.inflows.now) 0 i.flows w l);
@@ -50,10 +50,8 @@ clear-requires c = omega (arith, low_count (length c.args.high.now) c.loop-v.inf
 pub returns-clause-empty : goal.returns-clause-empty
 returns-clause-empty c = All-from_get_or (λ x. x ≡ 0) c.loop-v.inflows 0 (λ k w. c.loop-v.invariant.empty k (omega arith))
 
-pub overflow_mul-damping-in-loop-v : goal.overflow_mul-damping-in-loop-v
-overflow_mul-damping-in-loop-v c =
-    let small : c.high_flow.result ≤ MOST_PAGES * UNITS = rw c.high_flow.ensures (c.loop-v.invariant.room c.loop-v.v 0 (omega arith)) in
-    omega (arith, damped_room c.args.damping c.high_flow.result c.requires.damped small)
+pub damped_up-requires-clause-room : goal.damped_up-requires-clause-room
+damped_up-requires-clause-room c = rw c.high_flow.ensures (c.loop-v.invariant.room c.loop-v.v 0 (omega arith))
 
 pub overflow_add-above : goal.overflow_add-above
 overflow_add-above c =
@@ -66,7 +64,7 @@ overflow_add-above-in-loop-v c =
       arith,
       div_ceil_le (c.args.damping * c.high_flow.result) 1000,
       damped_room c.args.damping c.high_flow.result c.requires.damped small,
-      c.quotient_up.ensures,
+      c.damped_up.ensures,
       div_ceil_le (c.args.damping * c.args.dangling) (1000 * length c.args.high.now),
       damped_room c.args.damping c.args.dangling c.requires.damped c.requires.dangling_room,
       c.div_ceil-rest.ensures,

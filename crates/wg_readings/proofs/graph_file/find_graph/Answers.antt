@@ -20,7 +20,7 @@ done = Ok tt
 pub returns-in_err-name-clause-ends : goal.returns-in_err-name-clause-ends
 returns-in_err-name-clause-ends g c =
     let q = err_from_is_err_and c.from_residual.result c.from_residual.ensures.1 in
-    rw (q.1, q.2) (loads_none _ _ _ _ _ (Err c.in_err-name.field-0.0) c.in_err-name.field-0.0 refl c.in_err-name.ensures.only)
+    rw (q.1, q.2) (loads_none _ _ _ _ _ _ c.in_err-name.ensures.only)
 
 pub returns-in-Ok-clause-found : goal.returns-in-Ok-clause-found
 returns-in-Ok-clause-found g c = λ t.

@@ -2,7 +2,6 @@ use Rattle.std.proofs.Common.{◌≡◌, ◌∙◌, All, ◌≤◌, ◌⊎◌, i
 use Rattle.std.specs.Bool.{IsTrue}
 use Rattle.wg_io.specs.Outside.{Files, Counts, NonDecreasing}
 use Rattle.wg_io.proofs.FilesLemmas.{none_falls-trans}
-use Rattle.wg_io.specs.declared.limits.TheConstants.{MOST_BYTES}
 use Rattle.wg_bits.specs.Bits.{bits_of}
 use Rattle.wg_params.specs.Parameters.{Parameters, IsWithinLimits}
 use Rattle.wg_properties.specs.declared.fault.PropFault.{PropFault}
@@ -22,7 +21,6 @@ use Rattle.wg_readings.proofs.ReadingsLemmas.{goes_on}
 use Rattle.wg_outcomes.proofs.Statuses.{bad_own, bad_unread, own_caused, own_read}
 use Rattle.wg_readings.proofs.UnderWay.{cause_later}
 use Rattle.wg_transforms.specs.Loaded.{IsArchiveFile, IsOfArchive, JudgesArchive, LoadsArchive}
-use Rattle.wg_transforms.specs.declared.loaded.Loaded.{Loaded}
 use Rattle.wg_readings.proofs.JobSteps.{bad_promised}
 use Rattle.wg_outcomes.proofs.PerformsLemmas.{unread_promised}
 use Rattle.wg_io.proofs.PutsLemmas.{is_that_err}
@@ -155,26 +153,23 @@ module _ (base : List ℕ) (td : Bool) (files : Files) (counts : List ℕ → Co
             stop_promised t (inl only) = unread_promised held Offsets e.status e.promised only
             stop_promised t (inr bad) = bad_promised held p Offsets e (l.given t) bad
 
-        loads_all : (files' : Files) (counts' : List ℕ → Counts) (loaded : Loaded) → All (λ list. length list ≤ loaded.greatest) a.graph → JudgesOffsets base p a.places td files2 files' counts2 counts' (Ok tt)
-            → loaded.params ≡ p → loaded.bytes ≡ bytes → LoadsArchive base td files files' counts counts' (Ok loaded)
-        loads_all files' counts' loaded greatest o is_p is_bytes =
-            let made : Loaded = record { params = p; bytes = slice; greatest = loaded.greatest } in
-            let same : loaded ≡ made = λ i. record { params = is_p i; bytes = (is_bytes ∙ sym is_slice) i; greatest = loaded.greatest } in
-            subst (λ (x : Loaded). LoadsArchive base td files files' counts counts' (Ok x)) (sym same) (record {
-              goes = (
-                a,
-                record { limits = limits; short = subst (λ (x : List ℕ). length x ≤ MOST_BYTES) (sym is_slice) b.short; judged = (reads, greatest) },
-                λ t r next.
-                    k3 t r held refl refl next ∙ ap (λ (x : Option (List ℕ)). lengths_then r p a.places x (λ same. next p a)) (here2 Offsets) ∙ o.goes t r (λ same. next p a),
-              );
-              ends = λ t r. tt;
-              only = tt;
-              causes = own_caused _ _ _ _ _ _ Done tt;
-              reached = λ t r i is. absurd (let no : Done ≡ ReadFault i = is in cc);
-              promised = λ t. tt;
-              same = o.reads.same ∙ b.same ∙ l.same;
-              later = none_falls-trans _ _ _ (none_falls-trans _ _ _ l.later b.later) o.reads.later;
-            })
+        loads_all : (files' : Files) (counts' : List ℕ → Counts) (greatest : ℕ) → All (λ list. length list ≤ greatest) a.graph → JudgesOffsets base p a.places td files2 files' counts2 counts' (Ok tt)
+            → LoadsArchive base td files files' counts counts' (Ok (record { params = p; bytes = bytes; greatest = greatest }))
+        loads_all files' counts' greatest most o = record {
+          goes = (
+            a,
+            record { limits = limits; short = b.short; judged = (subst (λ (x : List ℕ). ReadsGraph p (bits_of x) (Ok a)) is_slice reads, most) },
+            λ t r next.
+                k3 t r held refl refl next ∙ ap (λ (x : Option (List ℕ)). lengths_then r p a.places x (λ same. next p a)) (here2 Offsets) ∙ o.goes t r (λ same. next p a),
+          );
+          ends = λ t r. tt;
+          only = tt;
+          causes = own_caused _ _ _ _ _ _ Done tt;
+          reached = λ t r i is. absurd (let no : Done ≡ ReadFault i = is in cc);
+          promised = λ t. tt;
+          same = o.reads.same ∙ b.same ∙ l.same;
+          later = none_falls-trans _ _ _ (none_falls-trans _ _ _ l.later b.later) o.reads.later;
+        }
 
       -- both files were judged, or one of them ends it
       not_judged : (files' : Files) (counts' : List ℕ → Counts) (e : Ending) → JudgesArchive base p slice td files2 files' counts2 counts' (Err e) → LoadsArchive base td files files' counts counts' (Err e)
@@ -186,9 +181,9 @@ module _ (base : List ℕ) (td : Bool) (files : Files) (counts : List ℕ → Co
           by_file (inl bad) = no_records files' counts' e bad.0 bad.1 bad.2 bad.3
           by_file (inr bad) = no_offsets j.limits bad.0 bad.1 files' counts' e bad.2
 
-      all_judged : (files' : Files) (counts' : List ℕ → Counts) (loaded : Loaded) → JudgesArchive base p slice td files2 files' counts2 counts' (Ok loaded.greatest) → loaded.params ≡ p → loaded.bytes ≡ bytes
-          → LoadsArchive base td files files' counts counts' (Ok loaded)
-      all_judged files' counts' loaded j is_p is_bytes = let g = j.goes in loads_all j.limits g.0 g.1.0 files' counts' loaded g.1.1 g.2 is_p is_bytes
+      all_judged : (files' : Files) (counts' : List ℕ → Counts) (greatest : ℕ) → JudgesArchive base p slice td files2 files' counts2 counts' (Ok greatest)
+          → LoadsArchive base td files files' counts counts' (Ok (record { params = p; bytes = bytes; greatest = greatest }))
+      all_judged files' counts' greatest j = let g = j.goes in loads_all j.limits g.0 g.1.0 files' counts' greatest g.1.1 g.2
 
 pub returns-in_err-params : goal.returns-in_err-params
 returns-in_err-params g c = rw (is_that_err c.from_residual.result _ c.from_residual.ensures.1) (no_params c.args.base.now _ _ _ _ _ _ c.in_err-params.ensures)
@@ -205,4 +200,4 @@ returns-in_err-greatest g c =
 
 pub returns : goal.returns
 returns g c =
-    all_judged c.args.base.now _ _ _ c.in_ok-params.params _ _ c.in_ok-params.ensures _ _ c.in_ok-bytes.bytes c.in_ok-bytes.ensures _ c.as_slice.ensures _ _ _ c.in_ok-greatest.ensures refl refl
+    all_judged c.args.base.now _ _ _ c.in_ok-params.params _ _ c.in_ok-params.ensures _ _ c.in_ok-bytes.bytes c.in_ok-bytes.ensures _ c.as_slice.ensures _ _ _ c.in_ok-greatest.ensures

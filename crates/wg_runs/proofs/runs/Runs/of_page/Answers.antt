@@ -1,6 +1,6 @@
 use Rattle.std.proofs.Common.{◌≤◌, All, List, slice_range, sym, ap, subst, ◌∙◌}
 use Rattle.wg_graph.specs.Digraph.{Digraph}
-use Rattle.wg_runs.specs.declared.run.Run.{Run}
+use Rattle.wg_runs.specs.declared.run.PageRun.{PageRun}
 use Rattle.wg_runs.specs.Runs.{numbers_of_all, StandApart, runs_to}
 use Rattle.wg_runs.specs.Held.{AreFilled}
 use Rattle.wg_runs.proofs.Whole.{numbers_to, apart_to, within_to}
@@ -18,7 +18,7 @@ span-begin-requires c = (c.args.self.now.nodes, runs_to c.args.self.now, filled 
 pub returns-clause-value : goal.returns-clause-value
 returns-clause-value c =
     let there = c.span-begin.ensures.list c.args.self.now.nodes (runs_to c.args.self.now) (filled (goal.at.returns-clause-value c).After-deref-2) c.requires in
-    ap (λ (all : List Run). slice_range all c.span-begin.result.0 c.span-begin.result.1) (c.deref-3.ensures.value ∙ sym c.deref-2.ensures.value) ∙ there
+    ap (λ (all : List PageRun). slice_range all c.span-begin.result.0 c.span-begin.result.1) (c.deref-3.ensures.value ∙ sym c.deref-2.ensures.value) ∙ there
 
 pub returns-clause-numbers : goal.returns-clause-numbers
 returns-clause-numbers c = ap numbers_of_all (returns-clause-value c) ∙ numbers_to c.args.self.now c.args.v
@@ -27,4 +27,4 @@ pub returns-clause-apart : goal.returns-clause-apart
 returns-clause-apart c = subst (StandApart 0) (sym (returns-clause-value c)) (apart_to c.args.self.now c.args.v)
 
 pub returns-clause-within : goal.returns-clause-within
-returns-clause-within c = subst (All (λ (run : Run). run.to ≤ c.args.self.now.nodes)) (sym (returns-clause-value c)) (within_to c.args.self.now c.args.v)
+returns-clause-within c = subst (All (λ (run : PageRun). run.to ≤ c.args.self.now.nodes)) (sym (returns-clause-value c)) (within_to c.args.self.now c.args.v)
