@@ -13,7 +13,8 @@ use Rattle.wg_arcs.specs.declared.numbers_fault.NumbersFault.{NumbersFault}
 
 -- The text of a graph within the limits of an archive stands for this graph.
 abbrev pub TextsReadBack : Type 0
-TextsReadBack = (g : Digraph) → IsGraph g → g.nodes ≤ MOST_PAGES → arc_count g ≤ MOST_ARCS → AreArcs g.nodes (lines_of (text_of_graph g)) g
+TextsReadBack = (g : Digraph) → IsGraph g → g.nodes ≤ MOST_PAGES → arc_count g ≤ MOST_ARCS
+    → AreArcs g.nodes (lines_of (text_of_graph g)) g
 
 -- A text stands for at most one graph, or has at most one first fault, and never both.
 pub record TextsAreOne : Type 0 where
@@ -29,7 +30,8 @@ TextsAreSome = (n : ℕ) (bytes : List ℕ) → (w : Result Digraph (ℕ × Arcs
 
 -- A text gives these numbers exactly where no line is faulty and they are those of the lines, as many as are wanted.
 abbrev pub NumbersAreThose : Type 0
-NumbersAreThose = (n limit : ℕ) (bytes xs : List ℕ) → (numbers_of n limit bytes ≡ Ok xs) ↔ AreNumbers n limit (lines_of bytes) xs
+NumbersAreThose = (n limit : ℕ) (bytes xs : List ℕ)
+    → (numbers_of n limit bytes ≡ Ok xs) ↔ AreNumbers n limit (lines_of bytes) xs
 
 -- It gives this fault exactly where this is its first one.
 abbrev pub FaultsAreFirst : Type 0

@@ -27,7 +27,8 @@ numbers_on n limit line before text =
     if is_skipped (words_of text) then Ok [] else judged n limit line before (number_in (words_of text))
 
 -- these numbers, and those that come after them
-abbrev pub and_then : Result (List ℕ) NumbersFault → (List ℕ → Result (List ℕ) NumbersFault) → Result (List ℕ) NumbersFault
+abbrev pub and_then : Result (List ℕ) NumbersFault → (List ℕ → Result (List ℕ) NumbersFault)
+    → Result (List ℕ) NumbersFault
 and_then (Ok xs) next = next xs
 and_then (Err e) next = Err e
 

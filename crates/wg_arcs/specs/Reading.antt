@@ -58,7 +58,8 @@ refusal_after n last count (Some arc) =
 
 -- what is wrong with a line after so many arcs, of which this is the last one, where n pages are given
 abbrev pub fault_after : ℕ → Option (ℕ × ℕ) → ℕ → List ℕ → Option ArcsKind
-fault_after n last count line = if is_skipped (words_of line) then None else refusal_after n last count (arc_in (words_of line))
+fault_after n last count line = if is_skipped (words_of line) then None
+    else refusal_after n last count (arc_in (words_of line))
 
 -- what is wrong with a line after these arcs
 abbrev pub fault_of : ℕ → List (ℕ × ℕ) → List ℕ → Option ArcsKind

@@ -32,7 +32,8 @@ pub record Begins (text : List ℕ) (e : EncodedSoFar) (s : PageLines) : Type 0 
   pub reads : (later : List (List ℕ)) → IsUpTo (lines_of text ++ later) later lists s
 
 -- some lines more were read, where those before gave these lists
-pub record GoesOn (text : List ℕ) (s : PageLines) (before : List (List ℕ)) (e : EncodedSoFar) (t : PageLines) : Type 0 where
+pub record GoesOn (text : List ℕ) (s : PageLines) (before : List (List ℕ)) (e : EncodedSoFar) (t : PageLines)
+    : Type 0 where
   pub lists : List (List ℕ)
   pub encoded : HasEncoded e lists
   pub reads : (all later : List (List ℕ)) → IsUpTo all (lines_of text ++ later) before s → IsUpTo all later lists t

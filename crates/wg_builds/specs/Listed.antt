@@ -40,10 +40,12 @@ pub record MayTake (e : EncodedSoFar) (list : List ℕ) (next : Option (ℕ × �
   pub arcs : e.arcs + length list ≤ e.params.arcs
 
 -- Some lines more were read, where those before had these arcs.
-pub record GoesOn (text : List ℕ) (s : ArcLines) (arcs : List (ℕ × ℕ)) (e : EncodedSoFar) (list : List ℕ) (t : ArcLines) : Type 0 where
+pub record GoesOn (text : List ℕ) (s : ArcLines) (arcs : List (ℕ × ℕ)) (e : EncodedSoFar) (list : List ℕ)
+    (t : ArcLines) : Type 0 where
   pub done : List (List ℕ)
   pub way : IsUnderWay e list t done
-  pub reads : (all later : List (List ℕ)) → SoFar s.nodes all (lines_of text ++ later) s.line arcs → SoFar s.nodes all later t.line (arcs_on done list)
+  pub reads : (all later : List (List ℕ)) → SoFar s.nodes all (lines_of text ++ later) s.line arcs
+      → SoFar s.nodes all later t.line (arcs_on done list)
 
 -- the pages that are done once the page of an arc begins, if one comes next, and the list that is begun
 abbrev pub done_at : Option (ℕ × ℕ) → List (List ℕ) → List ℕ → List (List ℕ)
@@ -56,4 +58,5 @@ list_at (Some a) list = a.1 ∷ []
 
 -- The graph of so many pages that an arc list holds was read, or the job ends at the list.
 abbrev pub LoadsListBy : {D : Type 0} → depot.Ghosts D → List ℕ → ℕ → D → D → Result Digraph Ending → Type 0
-LoadsListBy d name n before after result = LoadsList name n d.told (d.files before) (d.files after) (d.counts before) (d.counts after) result
+LoadsListBy d name n before after result =
+    LoadsList name n d.told (d.files before) (d.files after) (d.counts before) (d.counts after) result

@@ -41,18 +41,27 @@ line_of job promised Memory = codes "wg: out of memory\n"
 line_of job promised (ReadFault i) = naming (codes "wg: read failed: ") (name_in job i) []
 line_of job promised (WriteFault o) = naming (codes "wg: write failed: ") (output_in job o) []
 line_of job promised (Missing i) = naming (codes "wg: missing: ") (name_in job i) []
-line_of job promised (BadArcs line kind) = naming (codes "wg: ") (name_in job input.ArcList) (codes ": " ++ text_of_line line kind)
-line_of job promised (BadProperties f) = naming (codes "wg: ") (name_in job input.Properties) (codes ": " ++ text_of_properties f)
-line_of job promised (BadArchive f) = naming (codes "wg: ") (name_in job (file_of_fault f)) (codes ": " ++ text_of_archive promised f)
-line_of job promised (BadSecond (second.Properties f)) = naming (codes "wg: ") (name_in job input.SecondProperties) (codes ": " ++ text_of_properties f)
-line_of job promised (BadSecond (second.Archive f)) = naming (codes "wg: ") (name_in job (second_input (file_of_fault f))) (codes ": " ++ text_of_archive promised f)
+line_of job promised (BadArcs line kind) =
+    naming (codes "wg: ") (name_in job input.ArcList) (codes ": " ++ text_of_line line kind)
+line_of job promised (BadProperties f) =
+    naming (codes "wg: ") (name_in job input.Properties) (codes ": " ++ text_of_properties f)
+line_of job promised (BadArchive f) =
+    naming (codes "wg: ") (name_in job (file_of_fault f)) (codes ": " ++ text_of_archive promised f)
+line_of job promised (BadSecond (second.Properties f)) =
+    naming (codes "wg: ") (name_in job input.SecondProperties) (codes ": " ++ text_of_properties f)
+line_of job promised (BadSecond (second.Archive f)) =
+    naming (codes "wg: ") (name_in job (second_input (file_of_fault f))) (codes ": " ++ text_of_archive promised f)
 line_of job promised TooManyArcs = codes "wg: too many arcs\n"
 line_of job promised (NoPage page) = no_page_line page
 line_of job promised (OverLimit i) = naming (codes "wg: too long: ") (name_in job i) []
-line_of job promised (BadWeights f) = naming (codes "wg: ") (name_in job input.Weights) (codes ": " ++ text_of_weights promised f)
-line_of job promised (BadText line kind) = naming (codes "wg: ") (name_in job input.Text) (codes ": " ++ text_of_plain line kind)
-line_of job promised (BadMap f) = naming (codes "wg: ") (name_in job input.Map) (codes ": " ++ text_of_numbers promised f)
-line_of job promised (BadCertificate f) = naming (codes "wg: ") (name_in job input.Certificate) (codes ": " ++ text_of_certificate f)
+line_of job promised (BadWeights f) =
+    naming (codes "wg: ") (name_in job input.Weights) (codes ": " ++ text_of_weights promised f)
+line_of job promised (BadText line kind) =
+    naming (codes "wg: ") (name_in job input.Text) (codes ": " ++ text_of_plain line kind)
+line_of job promised (BadMap f) =
+    naming (codes "wg: ") (name_in job input.Map) (codes ": " ++ text_of_numbers promised f)
+line_of job promised (BadCertificate f) =
+    naming (codes "wg: ") (name_in job input.Certificate) (codes ": " ++ text_of_certificate f)
 
 -- the line is there, or a prefix of it, and this only where the sink failed
 abbrev pub Reports : List ℕ → List ℕ → List ℕ → Type 0 → Type 0

@@ -83,7 +83,8 @@ text_of_archive promised (archive.Record f) = text_of_record f
 text_of_archive promised (archive.Tail at) = codes "tail bit " ++ decimal at
 text_of_archive promised (archive.ArcsShort total) = codes "arcs " ++ decimal total ++ codes " of " ++ decimal promised
 text_of_archive promised (archive.Offsets w) = text_of_word w
-text_of_archive promised (archive.Length page found stored) = codes "page " ++ decimal page ++ codes " length " ++ decimal found ++ codes " stored " ++ decimal stored
+text_of_archive promised (archive.Length page found stored) =
+    codes "page " ++ decimal page ++ codes " length " ++ decimal found ++ codes " stored " ++ decimal stored
 
 abbrev pub text_of_number_kind : NumbersKind → List ℕ
 text_of_number_kind numbers.Shape = codes "shape"

@@ -28,7 +28,8 @@ delta v = with_low_bits gamma v
 -- With least = 2 ^ (h * k): y - least in h * k + k - 1 bits, if it is below least, else y in h * k + k bits.
 abbrev pub shortened : ℕ → ℕ → ℕ → List Bool
 shortened k h y =
-    if nat_lt (y - 2 ^ (h * k)) (2 ^ (h * k)) then low_bits (h * k + k - 1) (y - 2 ^ (h * k)) else low_bits (h * k + k) y
+    if nat_lt (y - 2 ^ (h * k)) (2 ^ (h * k)) then low_bits (h * k + k - 1) (y - 2 ^ (h * k))
+      else low_bits (h * k + k) y
 
 -- With h = m / k: the unary word of h, then y in its shortened form.
 unfoldable pub zeta : ℕ → ℕ → List Bool

@@ -31,21 +31,25 @@ RefersNext p c d = next p c (of_outdegree d) ≡ need.Read field.Reference p.ref
 
 -- the outdegree d stands from the bit start to the bit end
 abbrev pub OutdegreeStands : Parameters → Context → List Bool → ℕ → ℕ → ℕ → Type 0
-OutdegreeStands p c bits start d end = Stands (need.Read field.Outdegree p.outdegrees) p c bits nothing_yet start d end (of_outdegree d)
+OutdegreeStands p c bits start d end =
+    Stands (need.Read field.Outdegree p.outdegrees) p c bits nothing_yet start d end (of_outdegree d)
 
 -- The reference r stands from the bit at to the bit end, after the outdegree d. Where none comes, it is 0.
 abbrev pub ReferenceStands : Parameters → Context → List Bool → ℕ → ℕ → ℕ → ℕ → Type 0
 ReferenceStands p c bits d at r end =
-    (RefersNext p c d × Stands (need.Read field.Reference p.references) p c bits (of_outdegree d) at r end (after p c (of_outdegree d) field.Reference r))
+    (RefersNext p c d × Stands (need.Read field.Reference p.references) p c bits (of_outdegree d) at r end
+      (after p c (of_outdegree d) field.Reference r))
     ⊎ ((RefersNext p c d → ⊥) × (r ≡ 0) × (end ≡ at))
 
 -- the head of a record stands from the bit start to the bit end: its outdegree d, and its reference r
 abbrev pub HeadStands : Parameters → Context → List Bool → ℕ → ℕ → ℕ → ℕ → Type 0
-HeadStands p c bits start d r end = (mid : ℕ) × OutdegreeStands p c bits start d mid × ReferenceStands p c bits d mid r end
+HeadStands p c bits start d r end = (mid : ℕ) × OutdegreeStands p c bits start d mid
+    × ReferenceStands p c bits d mid r end
 
 -- the reference at the bit at is refused as the fault says
 abbrev pub ReferenceFails : Parameters → Context → List Bool → ℕ → ℕ → ℕ → Fault → Type 0
-ReferenceFails p c bits start d at e = RefersNext p c d × Refused (need.Read field.Reference p.references) p c bits start (of_outdegree d) at e
+ReferenceFails p c bits start d at e = RefersNext p c d
+    × Refused (need.Read field.Reference p.references) p c bits start (of_outdegree d) at e
 
 -- the outdegree or the reference is refused as the fault says
 abbrev pub HeadFails : Parameters → Context → List Bool → ℕ → Fault → Type 0
@@ -59,4 +63,5 @@ HeadFails p c bits start e =
 abbrev pub IsRest : Parameters → ℕ → ℕ → ℕ → ℕ → List ℕ → ℕ → List Bool → ℕ → Result Whole Fault → Type 0
 IsRest p page start d r named depth bits at w =
     (arcs_before : ℕ) (behind : List Known) → referenced behind r ≡ named → depth_of behind r ≡ depth
-    → IsHead p (context_at page arcs_before behind) bits start d r at → ReadsRecord p (context_at page arcs_before behind) bits start w
+    → IsHead p (context_at page arcs_before behind) bits start d r at
+      → ReadsRecord p (context_at page arcs_before behind) bits start w

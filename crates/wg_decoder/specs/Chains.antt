@@ -19,18 +19,23 @@ start_of offsets page = get_or offsets page 0
 -- The head of a page's record refers so many pages back, or to none where this is 0; or it is refused as the fault
 -- says. It is judged on its own: there is no limit on chains, and no outdegrees come before.
 abbrev pub HeadReads : Parameters → List Bool → List ℕ → ℕ → Result ℕ Fault → Type 0
-HeadReads p bits offsets page (Ok r) = (d : ℕ) × (end : ℕ) × HeadStands (endless p) (page_over p page no_page) bits (start_of offsets page) d r end
+HeadReads p bits offsets page (Ok r) = (d : ℕ) × (end : ℕ)
+    × HeadStands (endless p) (page_over p page no_page) bits (start_of offsets page) d r end
 HeadReads p bits offsets page (Err e) = HeadFails (endless p) (page_over p page no_page) bits (start_of offsets page) e
 
 -- The whole record of a page is this, where the page that it refers to is known, and no outdegrees come before. A
 -- proper record must end where the next begins.
 abbrev pub RecordReads : Parameters → List Bool → List ℕ → ℕ → Known → Result Known ArchiveFault → Type 0
 RecordReads p bits offsets page below (Ok k) =
-    ReadsRecord p (page_over p page below) bits (start_of offsets page) (Ok (record { known = k; end = start_of offsets (page + 1) }))
-RecordReads p bits offsets page below (Err (faults.Record e)) = ReadsRecord p (page_over p page below) bits (start_of offsets page) (Err e)
+    ReadsRecord p (page_over p page below) bits (start_of offsets page)
+      (Ok (record { known = k; end = start_of offsets (page + 1) }))
+RecordReads p bits offsets page below (Err (faults.Record e)) =
+    ReadsRecord p (page_over p page below) bits (start_of offsets page) (Err e)
 RecordReads p bits offsets page below (Err (faults.Length at found stored)) =
-    (w : Whole) × ReadsRecord p (page_over p page below) bits (start_of offsets page) (Ok w) × (w.end ≢ start_of offsets (page + 1))
-    × (at ≡ page) × (found ≡ w.end - start_of offsets page) × (stored ≡ start_of offsets (page + 1) - start_of offsets page)
+    (w : Whole) × ReadsRecord p (page_over p page below) bits (start_of offsets page) (Ok w)
+      × (w.end ≢ start_of offsets (page + 1))
+    × (at ≡ page) × (found ≡ w.end - start_of offsets page)
+      × (stored ≡ start_of offsets (page + 1) - start_of offsets page)
 RecordReads p bits offsets page below (Err (faults.Tail at)) = ⊥
 RecordReads p bits offsets page below (Err (faults.ArcsShort total)) = ⊥
 RecordReads p bits offsets page below (Err (faults.Offsets word)) = ⊥
@@ -46,7 +51,8 @@ EndReads p bits offsets y (Ok (suc r)) w = ⊥
 EndReads p bits offsets y (Err e) w = w ≡ Err (faults.Record e)
 
 -- what a page is, by what the page that it refers to is: a fault further down comes first
-abbrev pub OverReads : Parameters → List Bool → List ℕ → ℕ → Result Known ArchiveFault → Result Known ArchiveFault → Type 0
+abbrev pub OverReads : Parameters → List Bool → List ℕ → ℕ → Result Known ArchiveFault → Result Known ArchiveFault
+    → Type 0
 OverReads p bits offsets y (Ok below) w = RecordReads p bits offsets y below w
 OverReads p bits offsets y (Err f) w = w ≡ Err f
 
@@ -54,7 +60,8 @@ OverReads p bits offsets y (Err f) w = w ≡ Err f
 -- is known, or has this fault: the heads come first, from y down, and then the records from the last page up.
 abbrev pub ChainReads : Parameters → List Bool → List ℕ → ℕ → List ℕ → Result Known ArchiveFault → Type 0
 ChainReads p bits offsets y [] w = (h : Result ℕ Fault) × HeadReads p bits offsets y h × EndReads p bits offsets y h w
-ChainReads p bits offsets y (z ∷ zs) w = RefersTo p bits offsets y z × (v : Result Known ArchiveFault) × ChainReads p bits offsets z zs v × OverReads p bits offsets y v w
+ChainReads p bits offsets y (z ∷ zs) w = RefersTo p bits offsets y z × (v : Result Known ArchiveFault)
+    × ChainReads p bits offsets z zs v × OverReads p bits offsets y v w
 
 -- what page x is, by its chain
 abbrev pub SpotReads : Parameters → List Bool → List ℕ → ℕ → Result Known ArchiveFault → Type 0

@@ -18,7 +18,8 @@ pub record IsHead (p : Parameters) (c : Context) (bits : List Bool) (start d r e
   pub some : 0 < d → LeadsTo p c bits nothing_yet start (of_head p d r) end
 
 -- a record of which all is read, with these fields in its head and this list
-pub record AllRead (p : Parameters) (c : Context) (bits : List Bool) (start d r : ℕ) (list : List ℕ) (end : ℕ) : Type 0 where
+pub record AllRead (p : Parameters) (c : Context) (bits : List Bool) (start d r : ℕ) (list : List ℕ) (end : ℕ)
+    : Type 0 where
   pub so_far : SoFar
   pub done : next p c so_far ≡ need.End
   pub read : LeadsTo p c bits nothing_yet start so_far end

@@ -29,7 +29,8 @@ context_on p page below = record { page = page; arcs_before = 0; behind = behind
 
 -- At the position stands a proper record of the page with this list. It has a reference exactly where there is a list
 -- below, to which it refers.
-pub record IsRecord (p : Parameters) (page : ℕ) (below : Option (List ℕ)) (position : Position) (list : List ℕ) : Type 0 where
+pub record IsRecord (p : Parameters) (page : ℕ) (below : Option (List ℕ)) (position : Position) (list : List ℕ)
+    : Type 0 where
   pub stored : List ℕ
   pub whole : SoFar
   pub end : ℕ

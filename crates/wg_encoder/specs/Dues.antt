@@ -21,7 +21,9 @@ stored_after n blocks = if n == 0 then stored_blocks blocks else map (λ b. b - 
 
 -- the count of all blocks and those that come, where blocks are written
 abbrev pub dues_of_blocks : BlockTally → List ℕ → List Written
-dues_of_blocks t blocks = if t.is_written then written field.BlockCount t.counts (t.count + length blocks) ∷ map (written field.Block t.code) (stored_after t.count blocks) else []
+dues_of_blocks t blocks = if t.is_written
+    then written field.BlockCount t.counts (t.count + length blocks) ∷ map (written field.Block t.code)
+    (stored_after t.count blocks) else []
 
 -- the same, where this mask comes
 abbrev pub block_dues : BlockTally → List Bool → List Written
@@ -46,7 +48,8 @@ residual_dues t numbers = residual_fields t.code t.page t.last numbers
 -- told
 abbrev pub dues_of_runs : ExtraTally → Bool → List Run → List Written
 dues_of_runs t found runs =
-    (count_fields found t.intervals.least (t.intervals.count + length (filter (is_long t.intervals.least) runs)) ++ interval_dues t.intervals (filter (is_long t.intervals.least) runs))
+    (count_fields found t.intervals.least (t.intervals.count + length (filter (is_long t.intervals.least) runs))
+      ++ interval_dues t.intervals (filter (is_long t.intervals.least) runs))
     ++ residual_dues t.residuals (flat_map numbers_of (filter (λ r. not (is_long t.intervals.least r)) runs))
 
 -- the same, where these numbers come

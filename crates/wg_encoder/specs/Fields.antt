@@ -45,7 +45,9 @@ stored_gap page (Some before) y = y - before - 1
 
 -- how many blocks there are, and the blocks
 abbrev pub block_fields : Parameters → List ℕ → List Written
-block_fields p blocks = written field.BlockCount p.block_counts (length blocks) ∷ map (written field.Block p.blocks) (stored_blocks blocks)
+block_fields p blocks =
+    written field.BlockCount p.block_counts (length blocks) ∷ map (written field.Block p.blocks)
+    (stored_blocks blocks)
 
 -- left end and length of each interval, where past is one past the last number of the interval before
 abbrev pub interval_fields : ℕ → ℕ → Option ℕ → List Run → List Written
@@ -57,7 +59,8 @@ interval_fields page least past (run ∷ runs) =
 -- each residual, where last is the one before
 abbrev pub residual_fields : Code → ℕ → Option ℕ → List ℕ → List Written
 residual_fields code page last [] = []
-residual_fields code page last (y ∷ ys) = written field.Residual code (stored_gap page last y) ∷ residual_fields code page (Some y) ys
+residual_fields code page last (y ∷ ys) =
+    written field.Residual code (stored_gap page last y) ∷ residual_fields code page (Some y) ys
 
 -- the successors that a referenced list does not have
 abbrev pub extras : List ℕ → List ℕ → List ℕ
@@ -75,7 +78,8 @@ count_fields found least count = if found && nat_lt 0 least then written field.I
 -- Of what is not copied: how many intervals there are; each of them; and the residuals.
 abbrev pub extra_fields : Parameters → ℕ → List ℕ → List Written
 extra_fields p page xs =
-    (count_fields (has_some xs) p.interval (length (intervals_of p.interval xs)) ++ interval_fields page p.interval None (intervals_of p.interval xs))
+    (count_fields (has_some xs) p.interval (length (intervals_of p.interval xs))
+      ++ interval_fields page p.interval None (intervals_of p.interval xs))
     ++ residual_fields p.residuals page None (residuals_of p.interval xs)
 
 -- a reference, where the archive has a window
@@ -99,4 +103,5 @@ list_fields p page r referenced (y ∷ ys) =
 
 -- the record of a page by a reference
 unfoldable pub record_fields : Parameters → ℕ → ℕ → List ℕ → List ℕ → List Written
-record_fields p page r referenced list = written field.Outdegree p.outdegrees (length list) ∷ list_fields p page r referenced list
+record_fields p page r referenced list =
+    written field.Outdegree p.outdegrees (length list) ∷ list_fields p page r referenced list

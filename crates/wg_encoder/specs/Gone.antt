@@ -36,10 +36,12 @@ HoldsLess file text = (k : ℕ) × (k < length text) × (file ≡ Some (take k t
 
 -- no file but the graph file and the offsets file has changed
 abbrev pub OnlyTwo : List ℕ → Files → Files → Type 0
-OnlyTwo base old new = (name : List ℕ) → name ≢ graph_name base → name ≢ offsets_name base → fin.get new name ≡ fin.get old name
+OnlyTwo base old new = (name : List ℕ) → name ≢ graph_name base → name ≢ offsets_name base
+    → fin.get new name ≡ fin.get old name
 
 -- The files with what waits have the records of these lists, and the words of the offsets but the one that is due.
-pub record HasSentLists (files : Files) (base : List ℕ) (p : Parameters) (lists : List (List ℕ)) (graph_waits offsets_waits : List Bool) : Type 0 where
+pub record HasSentLists (files : Files) (base : List ℕ) (p : Parameters) (lists : List (List ℕ))
+    (graph_waits offsets_waits : List Bool) : Type 0 where
   pub records : HasSent (fin.get files (graph_name base)) graph_waits (graph_bits p lists)
   pub words : HasSent (fin.get files (offsets_name base)) offsets_waits (words_before p lists)
 
@@ -61,9 +63,11 @@ IsWritten files base p lists =
 -- them at out of memory.
 abbrev pub HasStopped : Files → List ℕ → Parameters → List (List ℕ) → EncodeError → Type 0
 HasStopped files base p lists (error.Failed output.Graph) =
-    HoldsLess (fin.get files (graph_name base)) (graph_file p lists) × HoldsFront (fin.get files (offsets_name base)) (offsets_file p lists)
+    HoldsLess (fin.get files (graph_name base)) (graph_file p lists)
+      × HoldsFront (fin.get files (offsets_name base)) (offsets_file p lists)
 HasStopped files base p lists (error.Failed output.Offsets) =
-    HoldsFront (fin.get files (graph_name base)) (graph_file p lists) × HoldsLess (fin.get files (offsets_name base)) (offsets_file p lists)
+    HoldsFront (fin.get files (graph_name base)) (graph_file p lists)
+      × HoldsLess (fin.get files (offsets_name base)) (offsets_file p lists)
 HasStopped files base p lists error.Memory =
     (HoldsLess (fin.get files (graph_name base)) (graph_file p lists)
     × HoldsFront (fin.get files (offsets_name base)) (offsets_file p lists))
@@ -75,7 +79,8 @@ HasStopped files base p lists (error.Failed output.Out) = ⊥
 
 -- A call failed on one of the two files alone, and only if the count of its failures increased.
 abbrev pub HasFailed : List ℕ → (List ℕ → Counts) → (List ℕ → Counts) → EncodeError → Type 0
-HasFailed base old new (error.Failed output.Graph) = Increased (old (graph_name base)).write_faults (new (graph_name base)).write_faults
+HasFailed base old new (error.Failed output.Graph) =
+    Increased (old (graph_name base)).write_faults (new (graph_name base)).write_faults
 HasFailed base old new (error.Failed output.Offsets) =
     Increased (old (offsets_name base)).write_faults (new (offsets_name base)).write_faults
 HasFailed base old new error.Memory = Unit {0}
@@ -89,7 +94,8 @@ HasFailedOn named before now e = ((e ≡ error.Failed named) × Increased before
 
 -- What a call promises that puts bits on their way into one of the two files: by the depot's ghost members, before and
 -- after, the bits that waited, those that it puts, and those that wait then.
-pub record SendsTo {D A : Type 0} (named : Output) (d : depot.Ghosts D) (before after : D) (name : List ℕ) (waited put : List Bool) (waits : A → List Bool) (result : Result A EncodeError) : Type 0 where
+pub record SendsTo {D A : Type 0} (named : Output) (d : depot.Ghosts D) (before after : D) (name : List ℕ)
+    (waited put : List Bool) (waits : A → List Bool) (result : Result A EncodeError) : Type 0 where
   -- at Ok all are on their way
   pub ok : IsTrue d.told → IfOk result (λ x. HasPut (d.files before) (d.files after) name waited put (waits x))
   -- after an error a proper prefix of them is out

@@ -9,7 +9,8 @@ use Rattle.wg_encoder.specs.Fields.{Written, bits_of_fields, all_have_words, rec
 
 -- the page after those behind, the nearest of which comes first; a reference reaches as far back as the window
 abbrev pub context_after : Parameters → List Known → Context
-context_after p behind = record { page = length behind; arcs_before = sum_by (λ k. length k.list) behind; behind = take p.window behind }
+context_after p behind =
+    record { page = length behind; arcs_before = sum_by (λ k. length k.list) behind; behind = take p.window behind }
 
 -- the record of a list by the reference r
 abbrev pub canonical : Parameters → Context → List ℕ → ℕ → List Written
@@ -23,7 +24,8 @@ size_of p c list r = length (bits_of_fields (canonical p c list r))
 -- successors, the chain of references gets no longer than the archive allows, and each value of the record has a word.
 abbrev pub is_candidate : Parameters → Context → List ℕ → ℕ → Bool
 is_candidate p c list r =
-    r == 0 || (nat_le r (min p.window c.page) && nat_lt 0 (length (referenced c.behind r)) && not (passes p.chain (depth_of c.behind r)) && all_have_words (canonical p c list r))
+    r == 0 || (nat_le r (min p.window c.page) && nat_lt 0 (length (referenced c.behind r)) && not
+      (passes p.chain (depth_of c.behind r)) && all_have_words (canonical p c list r))
 
 -- all candidates, ascending
 abbrev pub candidates : Parameters → Context → List ℕ → List ℕ
@@ -31,7 +33,9 @@ candidates p c list = numbers_where (is_candidate p c list) 0 (min p.window c.pa
 
 -- The reference that is written: the first candidate whose record is not longer than that of any other.
 unfoldable pub chosen : Parameters → Context → List ℕ → ℕ
-chosen p c list = unwrap_or (find (λ r. list_all (λ s. nat_le (size_of p c list r) (size_of p c list s)) (candidates p c list)) (candidates p c list)) 0
+chosen p c list = unwrap_or
+    (find (λ r. list_all (λ s. nat_le (size_of p c list r) (size_of p c list s)) (candidates p c list))
+    (candidates p c list)) 0
 
 -- what is known of a page once it is written
 abbrev pub known_of : Parameters → Context → List ℕ → Known
@@ -52,4 +56,5 @@ references_of p behind (list ∷ lists) =
 abbrev pub records_of : Parameters → List Known → List (List ℕ) → List (List Written)
 records_of p behind [] = []
 records_of p behind (list ∷ lists) =
-    canonical p (context_after p behind) list (chosen p (context_after p behind) list) ∷ records_of p (known_of p (context_after p behind) list ∷ behind) lists
+    canonical p (context_after p behind) list (chosen p (context_after p behind) list) ∷ records_of p
+      (known_of p (context_after p behind) list ∷ behind) lists

@@ -42,7 +42,9 @@ CanonicalIsProper =
     (p : Parameters) (c : Context) (list : List ℕ) (r : ℕ) (before rest : List Bool)
     → IsWithinLimits p → c.page < p.nodes → All (λ (k : Known). IsList p k.list) c.behind → IsList p list
     → c.arcs_before + length list ≤ p.arcs → is_candidate p c list r ≡ true
-    → ReadsRecord p c (before ++ (bits_of_fields (canonical p c list r) ++ rest)) (length before) (Ok (record { known = record { list = list; depth = depth_of c.behind (reference_of list r) }; end = length before + size_of p c list r }))
+    → ReadsRecord p c (before ++ (bits_of_fields (canonical p c list r) ++ rest)) (length before)
+      (Ok (record { known = record { list = list; depth = depth_of c.behind (reference_of list r) };
+      end = length before + size_of p c list r }))
 
 -- so many bits are enough for the records of so many pages with so many arcs
 abbrev pub enough_bits : ℕ → ℕ → ℕ
@@ -57,7 +59,8 @@ ChosenIsShort =
 -- The graph file stands for these lists, the offsets file stores the places of the records, and both are as short as a
 -- file may be.
 pub record IsAcceptedArchive (p : Parameters) (lists : List (List ℕ)) : Type 0 where
-  pub graph : ReadsGraph p (bits_of (graph_file p lists)) (Ok (record { graph = lists; places = places_of (offset_values p lists) }))
+  pub graph : ReadsGraph p (bits_of (graph_file p lists))
+      (Ok (record { graph = lists; places = places_of (offset_values p lists) }))
   pub offsets : ReadsOffsets p.offsets p.nodes (bits_of (offsets_file p lists)) (Ok (places_of (offset_values p lists)))
   pub short_graph : length (graph_file p lists) < MOST_BYTES
   pub short_offsets : length (offsets_file p lists) < MOST_BYTES

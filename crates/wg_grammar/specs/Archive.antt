@@ -15,14 +15,16 @@ arcs_of behind = sum_by (λ w. length w.known.list) behind
 
 -- the page after the records behind, the last of them first; a reference reaches as far back as the window
 abbrev pub context_of : Parameters → List Whole → Context
-context_of p behind = record { page = length behind; arcs_before = arcs_of behind; behind = take p.window (map (λ w. w.known) behind) }
+context_of p behind =
+    record { page = length behind; arcs_before = arcs_of behind; behind = take p.window (map (λ w. w.known) behind) }
 
 -- With these records behind, the proper records of ws stand one after the other from the bit at; then last are behind,
 -- and end is reached.
 abbrev pub Pages : Parameters → List Bool → List Whole → ℕ → List Whole → List Whole → ℕ → Type 0
 Pages p bits behind at [] last end = (last ≡ behind) × (end ≡ at)
 Pages p bits behind at (w ∷ ws) last end =
-    (length behind < p.nodes) × ReadsRecord p (context_of p behind) bits at (Ok w) × Pages p bits (w ∷ behind) w.end ws last end
+    (length behind < p.nodes) × ReadsRecord p (context_of p behind) bits at (Ok w)
+      × Pages p bits (w ∷ behind) w.end ws last end
 
 -- what follows the last word: few bits, all 0
 pub record IsTail (bits : List Bool) (end : ℕ) : Type 0 where
@@ -52,8 +54,10 @@ places_of behind = 0 ∷ reverse (map (λ w. w.end) behind)
 -- what the file is, where these records are behind and no more proper ones are taken
 abbrev pub EndsAs : Parameters → List Bool → List Whole → ℕ → Result Accepted ArchiveFault → Type 0
 EndsAs p bits behind at (Ok a) =
-    (length behind ≡ p.nodes) × IsTail bits at × (arcs_of behind ≡ p.arcs) × (a.graph ≡ lists_of behind) × (a.places ≡ places_of behind)
-EndsAs p bits behind at (Err (faults.Record e)) = (length behind < p.nodes) × ReadsRecord p (context_of p behind) bits at (Err e)
+    (length behind ≡ p.nodes) × IsTail bits at × (arcs_of behind ≡ p.arcs) × (a.graph ≡ lists_of behind)
+      × (a.places ≡ places_of behind)
+EndsAs p bits behind at (Err (faults.Record e)) = (length behind < p.nodes)
+    × ReadsRecord p (context_of p behind) bits at (Err e)
 EndsAs p bits behind at (Err (faults.Tail offset)) = (length behind ≡ p.nodes) × IsTailFault bits at offset
 EndsAs p bits behind at (Err (faults.ArcsShort total)) =
     (length behind ≡ p.nodes) × IsTail bits at × (total ≡ arcs_of behind) × (total < p.arcs)
@@ -62,4 +66,5 @@ EndsAs p bits behind at (Err (faults.Length page found stored)) = ⊥
 
 -- The bits stand for this graph, or this is their first fault.
 abbrev pub ReadsGraph : Parameters → List Bool → Result Accepted ArchiveFault → Type 0
-ReadsGraph p bits w = (ws : List Whole) × (behind : List Whole) × (at : ℕ) × Pages p bits [] 0 ws behind at × EndsAs p bits behind at w
+ReadsGraph p bits w = (ws : List Whole) × (behind : List Whole) × (at : ℕ) × Pages p bits [] 0 ws behind at
+    × EndsAs p bits behind at w

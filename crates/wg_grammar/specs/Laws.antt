@@ -49,7 +49,8 @@ ChainsAreLimited =
 -- So it is of each page of a graph file.
 abbrev pub PagesAreLimited : Type 0
 PagesAreLimited =
-    (p : Parameters) (bits : List Bool) (ws behind : List Whole) (end limit : ℕ) → p.chain ≡ Some limit → Pages p bits [] 0 ws behind end
+    (p : Parameters) (bits : List Bool) (ws behind : List Whole) (end limit : ℕ) → p.chain ≡ Some limit
+      → Pages p bits [] 0 ws behind end
     → All (λ w. w.known.depth ≤ limit) ws
 
 -- Bits stand for at most one graph, or have at most one first fault, and never both.
@@ -60,7 +61,8 @@ GraphIsOne =
 
 -- They stand for a graph or have a fault.
 abbrev pub GraphIsSome : Type 0
-GraphIsSome = (p : Parameters) (bits : List Bool) → IsWithinLimits p → (w : Result Accepted ArchiveFault) × ReadsGraph p bits w
+GraphIsSome = (p : Parameters) (bits : List Bool) → IsWithinLimits p → (w : Result Accepted ArchiveFault)
+    × ReadsGraph p bits w
 
 -- the graph that was accepted
 abbrev pub graph_of : Parameters → Accepted → Digraph
@@ -72,8 +74,10 @@ GraphIsProper = (p : Parameters) (bits : List Bool) (a : Accepted) → ReadsGrap
 
 -- It has exactly the arcs that the parameters promise.
 abbrev pub ArcsAreAsPromised : Type 0
-ArcsAreAsPromised = (p : Parameters) (bits : List Bool) (a : Accepted) → ReadsGraph p bits (Ok a) → arc_count (graph_of p a) ≡ p.arcs
+ArcsAreAsPromised = (p : Parameters) (bits : List Bool) (a : Accepted) → ReadsGraph p bits (Ok a)
+    → arc_count (graph_of p a) ≡ p.arcs
 
 -- Each record has an offset, and so has the bit after the last.
 abbrev pub OffsetsAreAll : Type 0
-OffsetsAreAll = (p : Parameters) (bits : List Bool) (a : Accepted) → ReadsGraph p bits (Ok a) → length a.places ≡ p.nodes + 1
+OffsetsAreAll = (p : Parameters) (bits : List Bool) (a : Accepted) → ReadsGraph p bits (Ok a)
+    → length a.places ≡ p.nodes + 1

@@ -22,21 +22,25 @@ abbrev pub Stands : Need → Parameters → Context → List Bool → SoFar → 
 Stands (need.Read f code) p c bits s at v end t =
     Reads (word code) (top code) (drop at bits) (reads.Value v) × (end ≡ at + length (word code v))
     × (refusal p c s f v ≡ None) × (t ≡ after p c s f v)
-Stands need.Check p c bits s at v end t = (v ≡ 0) × (end ≡ at) × (refusal p c s field.Copied v ≡ None) × (t ≡ after p c s field.Copied v)
+Stands need.Check p c bits s at v end t = (v ≡ 0) × (end ≡ at) × (refusal p c s field.Copied v ≡ None)
+    × (t ≡ after p c s field.Copied v)
 Stands need.End p c bits s at v end t = ⊥
 
 -- The stored values vs stand one after the other from the bit at, where s has been read; they end at end, where t has
 -- been read.
 abbrev pub Fields : Parameters → Context → List Bool → SoFar → ℕ → List ℕ → SoFar → ℕ → Type 0
 Fields p c bits s at [] t end = (t ≡ s) × (end ≡ at)
-Fields p c bits s at (v ∷ vs) t end = (u : SoFar) × (mid : ℕ) × Stands (next p c s) p c bits s at v mid u × Fields p c bits u mid vs t end
+Fields p c bits s at (v ∷ vs) t end = (u : SoFar) × (mid : ℕ) × Stands (next p c s) p c bits s at v mid u
+    × Fields p c bits u mid vs t end
 
 -- What is needed at the bit at is refused as the fault says. A record of which all is read is refused where it has too
 -- few successors.
 abbrev pub Refused : Need → Parameters → Context → List Bool → ℕ → SoFar → ℕ → Fault → Type 0
 Refused (need.Read f code) p c bits start s at e =
-    (r : Read) × Reads (word code) (top code) (drop at bits) r × (judged p c s f r ≡ Some e.kind) × (e.field ≡ f) × (e.at ≡ at)
-Refused need.Check p c bits start s at e = (refusal p c s field.Copied 0 ≡ Some e.kind) × (e.field ≡ field.Copied) × (e.at ≡ at)
+    (r : Read) × Reads (word code) (top code) (drop at bits) r × (judged p c s f r ≡ Some e.kind) × (e.field ≡ f)
+      × (e.at ≡ at)
+Refused need.Check p c bits start s at e = (refusal p c s field.Copied 0 ≡ Some e.kind) × (e.field ≡ field.Copied)
+    × (e.at ≡ at)
 Refused need.End p c bits start s at e =
     (length (list_of p c s) < value_or_0 s.outdegree) × (e.kind ≡ kind.Twice) × (e.field ≡ field.Record)
     × (e.at ≡ start)

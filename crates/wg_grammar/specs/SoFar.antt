@@ -68,7 +68,8 @@ own_left c s v =
 -- The first residual is stored as the fold of its distance from the page, a later one as the distance from the one
 -- before it, less 1.
 abbrev pub own_residual : Context → SoFar → ℕ → Option ℕ
-own_residual c s v = if length s.residuals == 0 then number_of_gap c.page None v else number_of_gap c.page (Some (last_of s.residuals)) v
+own_residual c s v = if length s.residuals == 0 then number_of_gap c.page None v
+    else number_of_gap c.page (Some (last_of s.residuals)) v
 
 -- what has been read after one more stored value
 unfoldable pub after : Parameters → Context → SoFar → Field → ℕ → SoFar

@@ -29,15 +29,18 @@ abbrev pub block_of : Tally → ℕ → ℕ
 block_of t v = block_at t.blocks v
 
 abbrev pub left_of : Tally → ℕ → Option ℕ
-left_of t v = if t.lefts == 0 then number_of_gap t.page None v else number_of_gap t.page (Some (t.last_left + t.last_length)) v
+left_of t v = if t.lefts == 0 then number_of_gap t.page None v
+    else number_of_gap t.page (Some (t.last_left + t.last_length)) v
 
 abbrev pub residual_of : Tally → ℕ → Option ℕ
-residual_of t v = if t.residuals == 0 then number_of_gap t.page None v else number_of_gap t.page (Some t.last_residual) v
+residual_of t v = if t.residuals == 0 then number_of_gap t.page None v
+    else number_of_gap t.page (Some t.last_residual) v
 
 -- the first reason to refuse a value, if there is one
 unfoldable pub refusal_of : Tally → Option Referenced → Field → ℕ → Option Kind
 refusal_of t given field.Outdegree v =
-    if nat_lt t.params.nodes v then Some kind.Range else if nat_lt t.params.arcs (t.arcs_before + v) then Some kind.Total else None
+    if nat_lt t.params.nodes v then Some kind.Range else if nat_lt t.params.arcs (t.arcs_before + v)
+      then Some kind.Total else None
 refusal_of t given field.Reference v =
     if nat_lt (min t.params.window t.page) v then Some kind.Range
     else if passes t.params.chain (given_depth given) then Some kind.Chain else None
@@ -59,16 +62,20 @@ copied_after t end = if t.blocks % 2 == 0 then t.copied - (t.source - end) else 
 -- the numbers after one more value
 unfoldable pub after_of : Tally → Option Referenced → Field → ℕ → Tally
 after_of t given field.Outdegree v = record t { outdegree = Some v }
-after_of t given field.Reference v = record t { reference = Some v; source = given_length given; copied = given_length given }
+after_of t given field.Reference v =
+    record t { reference = Some v; source = given_length given; copied = given_length given }
 after_of t given field.BlockCount v = record t { block_count = Some v }
 after_of t given field.Block v =
-    record t { blocks = t.blocks + 1; blocks_sum = t.blocks_sum + block_of t v; copied = copied_after t (t.blocks_sum + block_of t v) }
+    record t { blocks = t.blocks + 1; blocks_sum = t.blocks_sum + block_of t v;
+      copied = copied_after t (t.blocks_sum + block_of t v) }
 after_of t given field.Copied v = record t { checked = true }
 after_of t given field.IntervalCount v = record t { interval_count = Some v }
 after_of t given field.Left v = record t { lefts = t.lefts + 1; last_left = value_or_0 (left_of t v) }
 after_of t given field.Length v =
-    record t { lengths = t.lengths + 1; last_length = v + t.params.interval; covered = t.covered + (v + t.params.interval) }
-after_of t given field.Residual v = record t { residuals = t.residuals + 1; last_residual = value_or_0 (residual_of t v) }
+    record t { lengths = t.lengths + 1; last_length = v + t.params.interval;
+      covered = t.covered + (v + t.params.interval) }
+after_of t given field.Residual v =
+    record t { residuals = t.residuals + 1; last_residual = value_or_0 (residual_of t v) }
 after_of t given field.Record v = t
 
 -- what is so of the numbers where a field is next

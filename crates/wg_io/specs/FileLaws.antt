@@ -30,7 +30,10 @@ over false x y z = refl
 
 -- the later of two files of one name stays
 pub insert-insert : (f : Files) (n a b : List ℕ) → insert (insert f n a) n b ≡ insert f n b
-insert-insert f n a b = same_files _ _ (λ q. get-insert_name (insert f n a) n b q ∙ ap (cond (is_name q n) (Some b)) (get-insert_name f n a q) ∙ over (is_name q n) (Some b) (Some a) (get f q) ∙ sym (get-insert_name f n b q))
+insert-insert f n a b =
+    same_files _ _ (λ q. get-insert_name (insert f n a) n b q
+    ∙ ap (cond (is_name q n) (Some b)) (get-insert_name f n a q) ∙ over (is_name q n) (Some b) (Some a) (get f q)
+    ∙ sym (get-insert_name f n b q))
 
 -- two pieces at the end of a file are one
 pub appended-append : (f : Files) (n a b : List ℕ) → appended (appended f n a) n b ≡ appended f n (a ++ b)

@@ -24,4 +24,6 @@ load_error read.Memory = load.Memory
 -- a file that is read whole: absent exactly where there is none, too long exactly where it is longer than the limit
 abbrev pub Loads : Option (List ℕ) → Result (List ℕ) LoadError → Type 0
 Loads None r = r ≡ Err load.Absent
-Loads (Some file) r = MatchResult r (λ bytes. (bytes ≡ file) × (length file ≤ MOST_BYTES)) (λ e. (e ≢ load.Absent) × (e ≡ load.TooLong → MOST_BYTES < length file))
+Loads (Some file) r =
+    MatchResult r (λ bytes. (bytes ≡ file) × (length file ≤ MOST_BYTES))
+    (λ e. (e ≢ load.Absent) × (e ≡ load.TooLong → MOST_BYTES < length file))

@@ -6,7 +6,8 @@ use Rattle.wg_io.specs.declared.depot.WriteError.TheVariants as write
 use Rattle.wg_io.specs.declared.sink.Sink as sink
 
 -- of a file by its name, from the counts of all names before and after
-pub record FileRefusals {A : Type 0} (before after : List ℕ → Counts) (name : List ℕ) (result : Result A WriteError) : Type 0 where
+pub record FileRefusals {A : Type 0} (before after : List ℕ → Counts) (name : List ℕ) (result : Result A WriteError)
+    : Type 0 where
   -- it failed only where a call on this name was counted as failed
   pub failed : IsErrOf result write.Failed → Increased (before name).write_faults (after name).write_faults
   -- it found no memory only where this was counted
@@ -15,7 +16,8 @@ pub record FileRefusals {A : Type 0} (before after : List ℕ → Counts) (name 
   pub later : NonDecreasing before after
 
 -- of a sink, by its ghost members
-pub record SinkRefusals {S A : Type 0} (s : sink.Ghosts S) (before after : S) (result : Result A WriteError) : Type 0 where
+pub record SinkRefusals {S A : Type 0} (s : sink.Ghosts S) (before after : S) (result : Result A WriteError)
+    : Type 0 where
   -- it failed only where a write was counted as failed
   pub failed : IsErrOf result write.Failed → Increased (s.faults before) (s.faults after)
   -- it found no memory only where this was counted

@@ -38,51 +38,67 @@ holding a input.Map = None
 -- The greedy archive of a graph within the limits is accepted, and its arcs, plain text, places and ranking are those
 -- of the graph.
 pub record IsAcceptedAs (r : Readings) (p : Parameters) (g : Digraph) (base : List ℕ) : Type 0 where
-  pub check : judged r (Check base) (holding (greedy_archive p g)) ≡ accepted (ok_line p (length (graph_bits p g.lists)))
+  pub check : judged r (Check base) (holding (greedy_archive p g)) ≡ accepted
+      (ok_line p (length (graph_bits p g.lists)))
   pub arcs : judged r (Arcs base) (holding (greedy_archive p g)) ≡ accepted (text_of_graph g)
   pub ascii : judged r (Ascii base) (holding (greedy_archive p g)) ≡ accepted (plain.text_of_graph g)
-  pub offsets : judged r (Offsets base) (holding (greedy_archive p g)) ≡ accepted (number_lines (places_of (offset_values p g.lists)))
-  pub show : (pages : List ℕ) → judged r (Show base pages) (holding (greedy_archive p g)) ≡ with_pages g.nodes pages (λ all. accepted (successors_lines g.lists pages))
-  pub rank : (rounds damping top : ℕ) → judged r (Rank base rounds damping top None None) (holding (greedy_archive p g)) ≡ accepted (ranking_text r (bounds_after g None damping rounds) top)
+  pub offsets : judged r (Offsets base) (holding (greedy_archive p g)) ≡ accepted
+      (number_lines (places_of (offset_values p g.lists)))
+  pub show : (pages : List ℕ)
+      → judged r (Show base pages) (holding (greedy_archive p g)) ≡ with_pages g.nodes pages
+      (λ all. accepted (successors_lines g.lists pages))
+  pub rank : (rounds damping top : ℕ)
+      → judged r (Rank base rounds damping top None None) (holding (greedy_archive p g)) ≡ accepted
+      (ranking_text r (bounds_after g None damping rounds) top)
 
 abbrev pub BuiltAreAccepted : Readings → Type 0
-BuiltAreAccepted r = (p : Parameters) (g : Digraph) (base : List ℕ) → IsWithinLimits p → IsGraph g → p.nodes ≡ g.nodes → p.arcs ≡ arc_count g → IsAcceptedAs r p g base
+BuiltAreAccepted r = (p : Parameters) (g : Digraph) (base : List ℕ) → IsWithinLimits p → IsGraph g → p.nodes ≡ g.nodes
+    → p.arcs ≡ arc_count g → IsAcceptedAs r p g base
 
 -- What a build comes to is accepted with the line of the build, and has the arcs that the list holds.
-pub record IsAcceptedBuild (r : Readings) (held : Input → Option (List ℕ)) (base : List ℕ) (a : Archive) (out : List ℕ) : Type 0 where
+pub record IsAcceptedBuild (r : Readings) (held : Input → Option (List ℕ)) (base : List ℕ) (a : Archive)
+    (out : List ℕ) : Type 0 where
   pub check : judged r (Check base) (holding a) ≡ accepted out
-  pub arcs : (bytes : List ℕ) → held input.ArcList ≡ Some bytes → judged r (Arcs base) (holding a) ≡ accepted (text_of_arcs (arcs_in (lines_of bytes)))
+  pub arcs : (bytes : List ℕ) → held input.ArcList ≡ Some bytes
+      → judged r (Arcs base) (holding a) ≡ accepted (text_of_arcs (arcs_in (lines_of bytes)))
 
 -- It does for each list and each layout within the limits.
 abbrev pub BuildsAreAccepted : Readings → Type 0
 BuildsAreAccepted r =
-    (list_name base : List ℕ) (nodes : ℕ) (layout : Layout) (held : Input → Option (List ℕ)) (a : Archive) (out : List ℕ)
-    → IsWithinLimits (params_of layout nodes 0) → judged r (Build list_name base nodes layout) held ≡ built a out → IsAcceptedBuild r held base a out
+    (list_name base : List ℕ) (nodes : ℕ) (layout : Layout) (held : Input → Option (List ℕ)) (a : Archive)
+      (out : List ℕ)
+    → IsWithinLimits (params_of layout nodes 0) → judged r (Build list_name base nodes layout) held ≡ built a out
+      → IsAcceptedBuild r held base a out
 
 -- What an import comes to is accepted with its line, and its plain text has the words of the text that was read, line
 -- by line.
-pub record IsAcceptedImport (r : Readings) (held : Input → Option (List ℕ)) (base : List ℕ) (a : Archive) (out : List ℕ) : Type 0 where
+pub record IsAcceptedImport (r : Readings) (held : Input → Option (List ℕ)) (base : List ℕ) (a : Archive)
+    (out : List ℕ) : Type 0 where
   pub check : judged r (Check base) (holding a) ≡ accepted out
   pub ascii : (bytes : List ℕ) → held input.Text ≡ Some bytes
-      → (text : List ℕ) × (judged r (Ascii base) (holding a) ≡ accepted text) × HaveSameWords (lines_of bytes) (lines_of text)
+      → (text : List ℕ) × (judged r (Ascii base) (holding a) ≡ accepted text)
+        × HaveSameWords (lines_of bytes) (lines_of text)
 
 -- It does for each text and each layout within the limits; and to import the plain text of an archive, where a file may
 -- be so long, is to recode the archive.
 pub record ImportsAreAccepted (r : Readings) : Type 0 where
   pub import : (name base : List ℕ) (layout : Layout) (held : Input → Option (List ℕ)) (a : Archive) (out : List ℕ)
-      → IsWithinLimits (params_of layout 0 0) → judged r (Import name base layout) held ≡ built a out → IsAcceptedImport r held base a out
+      → IsWithinLimits (params_of layout 0 0) → judged r (Import name base layout) held ≡ built a out
+        → IsAcceptedImport r held base a out
   pub back : (base output name text : List ℕ) (layout : Layout) (held after : Input → Option (List ℕ))
       → judged r (Ascii base) held ≡ accepted text → length text ≤ MOST_BYTES → after input.Text ≡ Some text
       → judged r (Import name output layout) after ≡ judged r (Recode base output layout) held
 
 -- What a recoding comes to is accepted with its line, and has the arcs of the archive that was read.
-pub record IsAcceptedRecoding (r : Readings) (held : Input → Option (List ℕ)) (input output : List ℕ) (a : Archive) (out : List ℕ) : Type 0 where
+pub record IsAcceptedRecoding (r : Readings) (held : Input → Option (List ℕ)) (input output : List ℕ) (a : Archive)
+    (out : List ℕ) : Type 0 where
   pub check : judged r (Check output) (holding a) ≡ accepted out
   pub arcs : judged r (Arcs output) (holding a) ≡ judged r (Arcs input) held
 
 -- What a transposing comes to is accepted with its line, and its graph has exactly the arcs of the graph that was read,
 -- each the other way round; to transpose it again is to recode the archive that was read.
-pub record IsAcceptedTransposing (r : Readings) (held : Input → Option (List ℕ)) (input output : List ℕ) (a : Archive) (out : List ℕ) : Type 0 where
+pub record IsAcceptedTransposing (r : Readings) (held : Input → Option (List ℕ)) (input output : List ℕ) (a : Archive)
+    (out : List ℕ) : Type 0 where
   pub graph : Digraph
   pub turned : Digraph
   pub stored : HoldGraph r held graph
@@ -91,11 +107,15 @@ pub record IsAcceptedTransposing (r : Readings) (held : Input → Option (List �
   pub reversed : (u v : ℕ) → has_arc turned v u ≡ has_arc graph u v
   pub arcs : judged r (Arcs output) (holding a) ≡ accepted (text_of_graph turned)
   pub check : judged r (Check output) (holding a) ≡ accepted out
-  pub back : (third : List ℕ) (layout : Layout) → judged r (Transpose output third layout) (holding a) ≡ judged r (Recode input third layout) held
+  pub back : (third : List ℕ) (layout : Layout)
+      → judged r (Transpose output third layout) (holding a) ≡ judged r (Recode input third layout) held
 
 -- They do for each archive that is read and each layout within the limits.
 pub record ConversionsAreAccepted (r : Readings) : Type 0 where
   pub recode : (input output : List ℕ) (layout : Layout) (held : Input → Option (List ℕ)) (a : Archive) (out : List ℕ)
-      → IsWithinLimits (params_of layout 0 0) → judged r (Recode input output layout) held ≡ built a out → IsAcceptedRecoding r held input output a out
-  pub transpose : (input output : List ℕ) (layout : Layout) (held : Input → Option (List ℕ)) (a : Archive) (out : List ℕ)
-      → IsWithinLimits (params_of layout 0 0) → judged r (Transpose input output layout) held ≡ built a out → IsAcceptedTransposing r held input output a out
+      → IsWithinLimits (params_of layout 0 0) → judged r (Recode input output layout) held ≡ built a out
+        → IsAcceptedRecoding r held input output a out
+  pub transpose : (input output : List ℕ) (layout : Layout) (held : Input → Option (List ℕ)) (a : Archive)
+      (out : List ℕ)
+      → IsWithinLimits (params_of layout 0 0) → judged r (Transpose input output layout) held ≡ built a out
+        → IsAcceptedTransposing r held input output a out

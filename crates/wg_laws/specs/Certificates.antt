@@ -11,7 +11,8 @@ use Rattle.wg_outcomes.specs.Verified.{PrintsProvenGap}
 
 -- What is printed of a certificate that is accepted is proved, whoever made it.
 abbrev pub AcceptedAreProven : Readings → Type 0
-AcceptedAreProven r = (held : Input → Option (List ℕ)) (base certificate : List ℕ) (weights : Option (List ℕ)) (out old : List ℕ)
+AcceptedAreProven r =
+    (held : Input → Option (List ℕ)) (base certificate : List ℕ) (weights : Option (List ℕ)) (out old : List ℕ)
     → judged r (Verify base certificate weights) held ≡ accepted out → PrintsProvenGap r held weights old (old ++ out)
 
 -- the files of an archive's records and of the weights hold what they held
@@ -21,7 +22,8 @@ pub record AreStill (held after : Input → Option (List ℕ)) : Type 0 where
   pub weights : after input.Weights ≡ held input.Weights
 
 -- The file of the certificate holds what a ranking writes of the same graph and the same weights.
-pub record HoldsWritten (r : Readings) (held : Input → Option (List ℕ)) (base certificate : List ℕ) (weights : Option (List ℕ)) : Type 0 where
+pub record HoldsWritten (r : Readings) (held : Input → Option (List ℕ)) (base certificate : List ℕ)
+    (weights : Option (List ℕ)) : Type 0 where
   pub rounds : ℕ
   pub damping : ℕ
   pub top : ℕ
@@ -34,6 +36,10 @@ pub record HoldsWritten (r : Readings) (held : Input → Option (List ℕ)) (bas
 
 -- The certificate that a ranking writes is accepted over the same graph and the same weights.
 abbrev pub WrittenAreAccepted : Readings → Type 0
-WrittenAreAccepted r = (held after : Input → Option (List ℕ)) (base certificate : List ℕ) (rounds damping top : ℕ) (weights : Option (List ℕ)) (text out : List ℕ)
-    → rounds ≤ MOST_ROUNDS → damping ≤ MOST_DAMPING → judged r (Rank base rounds damping top weights (Some certificate)) held ≡ certified text out
-    → AreStill held after → after input.Certificate ≡ Some text → (line : List ℕ) × (judged r (Verify base certificate weights) after ≡ accepted line)
+WrittenAreAccepted r =
+    (held after : Input → Option (List ℕ)) (base certificate : List ℕ) (rounds damping top : ℕ)
+    (weights : Option (List ℕ)) (text out : List ℕ)
+    → rounds ≤ MOST_ROUNDS → damping ≤ MOST_DAMPING
+      → judged r (Rank base rounds damping top weights (Some certificate)) held ≡ certified text out
+    → AreStill held after → after input.Certificate ≡ Some text → (line : List ℕ)
+      × (judged r (Verify base certificate weights) after ≡ accepted line)

@@ -19,7 +19,8 @@ use Rattle.wg_laws.specs.Built.{holding}
 
 -- What a quotient comes to is accepted with its line, and its graph is the quotient of the graph that was read, by the
 -- classes that the map gives.
-pub record IsAcceptedQuotient (r : Readings) (held : Input → Option (List ℕ)) (output : List ℕ) (count : ℕ) (a : Archive) (out : List ℕ) : Type 0 where
+pub record IsAcceptedQuotient (r : Readings) (held : Input → Option (List ℕ)) (output : List ℕ) (count : ℕ)
+    (a : Archive) (out : List ℕ) : Type 0 where
   pub graph : Digraph
   pub text : List ℕ
   pub classes : List ℕ
@@ -34,6 +35,8 @@ pub record IsAcceptedQuotient (r : Readings) (held : Input → Option (List ℕ)
 -- It does for each archive and each map that are read, and each layout within the limits.
 abbrev pub QuotientsAreAccepted : Readings → Type 0
 QuotientsAreAccepted r =
-    (input map output : List ℕ) (count : ℕ) (layout : Layout) (held : Input → Option (List ℕ)) (a : Archive) (out : List ℕ)
-    → count ≤ MOST_PAGES → IsWithinLimits (params_of layout 0 0) → judged r (Quotient input map output count layout) held ≡ built a out
+    (input map output : List ℕ) (count : ℕ) (layout : Layout) (held : Input → Option (List ℕ)) (a : Archive)
+      (out : List ℕ)
+    → count ≤ MOST_PAGES → IsWithinLimits (params_of layout 0 0)
+      → judged r (Quotient input map output count layout) held ≡ built a out
     → IsAcceptedQuotient r held output count a out

@@ -18,19 +18,24 @@ pub record AreInside (n : ℕ) (inner outer : Intervals) : Type 0 where
 
 -- After fewer and after more rounds the ranking of one graph by one list of weights is printed, and the intervals after
 -- more lie inside those after fewer.
-pub record ArePrintedInside (r : Readings) (held : Input → Option (List ℕ)) (base : List ℕ) (fewer more damping top : ℕ) (weights certificate : Option (List ℕ)) : Type 0 where
+pub record ArePrintedInside (r : Readings) (held : Input → Option (List ℕ)) (base : List ℕ)
+    (fewer more damping top : ℕ) (weights certificate : Option (List ℕ)) : Type 0 where
   pub graph : Digraph
   pub given : Option (List ℕ)
   pub stored : HoldGraph r held graph
   pub weighed : HoldWeights weights held graph.nodes given
-  pub fewer_printed : output_of (judged r (Rank base fewer damping top weights certificate) held) ≡ ranking_text r (bounds_after graph given damping fewer) top
+  pub fewer_printed : output_of (judged r (Rank base fewer damping top weights certificate) held) ≡ ranking_text r
+      (bounds_after graph given damping fewer) top
   pub more_done : status_of (judged r (Rank base more damping top weights certificate) held) ≡ Done
-  pub more_printed : output_of (judged r (Rank base more damping top weights certificate) held) ≡ ranking_text r (bounds_after graph given damping more) top
+  pub more_printed : output_of (judged r (Rank base more damping top weights certificate) held) ≡ ranking_text r
+      (bounds_after graph given damping more) top
   pub inside : AreInside graph.nodes (bounds_after graph given damping more) (bounds_after graph given damping fewer)
 
 -- They are for all files of which a ranking is printed.
 abbrev pub MoreRoundsNarrow : Readings → Type 0
 MoreRoundsNarrow r =
-    (held : Input → Option (List ℕ)) (base : List ℕ) (fewer more damping top : ℕ) (weights certificate : Option (List ℕ))
-    → fewer ≤ more → damping ≤ MOST_DAMPING → status_of (judged r (Rank base fewer damping top weights certificate) held) ≡ Done
+    (held : Input → Option (List ℕ)) (base : List ℕ) (fewer more damping top : ℕ)
+      (weights certificate : Option (List ℕ))
+    → fewer ≤ more → damping ≤ MOST_DAMPING
+      → status_of (judged r (Rank base fewer damping top weights certificate) held) ≡ Done
     → ArePrintedInside r held base fewer more damping top weights certificate

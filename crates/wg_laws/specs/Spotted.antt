@@ -10,4 +10,5 @@ use Rattle.wg_outcomes.specs.Commands.{judged}
 -- Of an archive that `check` accepts, `spot` comes to what `show` comes to, whatever the page.
 abbrev pub SpotsAreShown : Readings → Type 0
 SpotsAreShown r = (held : Input → Option (List ℕ)) (base : List ℕ) (page : ℕ)
-    → status_of (judged r (Check base) held) ≡ Done → judged r (Spot base page) held ≡ judged r (Show base (page ∷ [])) held
+    → status_of (judged r (Check base) held) ≡ Done
+      → judged r (Spot base page) held ≡ judged r (Show base (page ∷ [])) held

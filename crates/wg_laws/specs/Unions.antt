@@ -15,7 +15,8 @@ use Rattle.wg_laws.specs.Built.{holding}
 use Rattle.wg_outcomes.specs.Commands.{judged}
 
 -- What a union comes to is accepted with its line, and its graph is the union of those of the archives that were read.
-pub record IsAcceptedUnion (r : Readings) (held : Input → Option (List ℕ)) (first second output : List ℕ) (a : Archive) (out : List ℕ) : Type 0 where
+pub record IsAcceptedUnion (r : Readings) (held : Input → Option (List ℕ)) (first second output : List ℕ)
+    (a : Archive) (out : List ℕ) : Type 0 where
   pub one : Digraph
   pub other : Digraph
   pub both : Digraph
@@ -29,4 +30,5 @@ pub record IsAcceptedUnion (r : Readings) (held : Input → Option (List ℕ)) (
 abbrev pub UnionsAreAccepted : Readings → Type 0
 UnionsAreAccepted r =
     (first second output : List ℕ) (layout : Layout) (held : Input → Option (List ℕ)) (a : Archive) (out : List ℕ)
-    → IsWithinLimits (params_of layout 0 0) → judged r (Union first second output layout) held ≡ built a out → IsAcceptedUnion r held first second output a out
+    → IsWithinLimits (params_of layout 0 0) → judged r (Union first second output layout) held ≡ built a out
+      → IsAcceptedUnion r held first second output a out

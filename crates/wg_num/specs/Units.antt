@@ -19,4 +19,5 @@ value_of_units text = digits_value 10 (take 1 text ++ drop 2 text)
 -- the units, at most 1 whole, whose text this is
 unfoldable pub units_of : List ℕ → Option ℕ
 units_of text =
-    if nat_le (value_of_units text) (10 ^ 24) && bytes_eq (text_of_units (value_of_units text)) text then Some (value_of_units text) else None
+    if nat_le (value_of_units text) (10 ^ 24) && bytes_eq (text_of_units (value_of_units text)) text
+      then Some (value_of_units text) else None

@@ -14,7 +14,8 @@ OffsetsAreOne =
 
 -- They have a list of places or a fault.
 abbrev pub OffsetsAreSome : Type 0
-OffsetsAreSome = (c : Code) (n : ℕ) (bits : List Bool) → IsCode c → (w : Result (List ℕ) OffsetWord) × ReadsOffsets c n bits w
+OffsetsAreSome = (c : Code) (n : ℕ) (bits : List Bool) → IsCode c → (w : Result (List ℕ) OffsetWord)
+    × ReadsOffsets c n bits w
 
 -- There is one offset more than there are records; the first is 0, none is below the one before it, and none is past
 -- the last bit of a file.

@@ -32,4 +32,5 @@ pub record IsFirstMismatch (here there : List ℕ) (page length_here length_ther
 
 -- the pages whose records have two lengths, ascending
 abbrev pub pages_that_differ : List ℕ → List ℕ → List ℕ
-pages_that_differ here there = numbers_where (λ x. not (record_length here x == record_length there x)) 0 (length here - 1)
+pages_that_differ here there =
+    numbers_where (λ x. not (record_length here x == record_length there x)) 0 (length here - 1)

@@ -36,7 +36,8 @@ Words c bits before at (v ∷ vs) last end =
 
 -- what stands at the bit at is refused, where so many words stand before it and lead to this offset
 abbrev pub IsRefused : Code → List Bool → ℕ → ℕ → ℕ → OffsetWord → Type 0
-IsRefused c bits number offset at e = (r : Read) × Reads (word c) (top c) (drop at bits) r × (refusal number offset r ≡ Some e)
+IsRefused c bits number offset at e = (r : Read) × Reads (word c) (top c) (drop at bits) r
+    × (refusal number offset r ≡ Some e)
 
 -- the tail is refused
 abbrev pub HasNoTail : List Bool → ℕ → OffsetWord → Type 0
@@ -51,4 +52,5 @@ EndsAs c n bits values at (Err e) =
 
 -- The bits are the offsets file of n records with these places, or this is their first fault.
 abbrev pub ReadsOffsets : Code → ℕ → List Bool → Result (List ℕ) OffsetWord → Type 0
-ReadsOffsets c n bits w = (vs : List ℕ) × (values : List ℕ) × (at : ℕ) × Words c bits [] 0 vs values at × EndsAs c n bits values at w
+ReadsOffsets c n bits w = (vs : List ℕ) × (values : List ℕ) × (at : ℕ) × Words c bits [] 0 vs values at
+    × EndsAs c n bits values at w

@@ -6,7 +6,8 @@ use Rattle.wg_order.specs.Order.{Positions, IsRanking}
 use Rattle.wg_order.specs.declared.ranking.Ranking.TheInside.{Inside}
 
 abbrev pub positions_of : Inside → Positions
-positions_of r = record { filled = r.filled; low = r.low.items; high = r.high.items; pages = take (length r.low.items) r.sorted.items }
+positions_of r = record
+    { filled = r.filled; low = r.low.items; high = r.high.items; pages = take (length r.low.items) r.sorted.items }
 
 -- the upper bounds of all pages, rising
 pub record IsRising (high rising : List ℕ) : Type 0 where

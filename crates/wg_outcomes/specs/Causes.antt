@@ -14,10 +14,12 @@ IncreasedAt count (Some name) old new = Increased (count (old name)) (count (new
 
 -- a fault or an absence is told only where the count of its own file rose, and a fault of the output where the output's
 -- faults rose
-pub record HasCause (inputs : Input → Option (List ℕ)) (outputs : Output → Option (List ℕ)) (old new : List ℕ → Counts) (faults faults' : ℕ) (status : Status) : Type 0 where
+pub record HasCause (inputs : Input → Option (List ℕ)) (outputs : Output → Option (List ℕ))
+    (old new : List ℕ → Counts) (faults faults' : ℕ) (status : Status) : Type 0 where
   pub read_fault : (i : Input) → status ≡ ReadFault i → IncreasedAt (λ c. c.read_faults) (inputs i) old new
   pub missing : (i : Input) → status ≡ Missing i → IncreasedAt (λ c. c.absences) (inputs i) old new
-  pub write_fault : (o : Output) → o ≢ output.Out → status ≡ WriteFault o → IncreasedAt (λ c. c.write_faults) (outputs o) old new
+  pub write_fault : (o : Output) → o ≢ output.Out → status ≡ WriteFault o
+      → IncreasedAt (λ c. c.write_faults) (outputs o) old new
   pub out_fault : status ≡ WriteFault output.Out → Increased faults faults'
 
 -- Nothing outside was at fault: no count of faults increased, and none stands at its last value.

@@ -64,7 +64,8 @@ builds l g = built (greedy_archive (params_for l g) g) (greedy_line (params_for 
 
 -- goes on with the union of two graphs, where it has no more arcs than a graph may have
 abbrev pub with_union : Digraph → Digraph → (Digraph → Judged) → Judged
-with_union g h next = if nat_lt MOST_ARCS (arc_count (union_graph g h)) then refused TooManyArcs else next (union_graph g h)
+with_union g h next = if nat_lt MOST_ARCS (arc_count (union_graph g h)) then refused TooManyArcs
+    else next (union_graph g h)
 
 -- the first lines of the ranking by these bounds are printed; before it, if a certificate is named, their lower half is
 -- written

@@ -100,7 +100,8 @@ with_offsets r p bytes next = unless_bad_offsets (r.offsets.value p bytes) next
 
 abbrev pub unless_some_differ : List ℕ → List ℕ → List ℕ → (Unit {0} → Judged) → Judged
 unless_some_differ [] found stored next = next tt
-unless_some_differ (x ∷ rest) found stored next = refused (BadArchive (archive.Length x (record_length found x) (record_length stored x)))
+unless_some_differ (x ∷ rest) found stored next =
+    refused (BadArchive (archive.Length x (record_length found x) (record_length stored x)))
 
 -- goes on where each record has the length that is stored
 abbrev pub with_lengths : List ℕ → List ℕ → (Unit {0} → Judged) → Judged
@@ -120,7 +121,8 @@ unless_bad_chain (Err f) next = refused (BadArchive f)
 
 -- goes on with the successors of a page, by these offsets and its chain of references alone
 abbrev pub with_successors : Readings → Parameters → List ℕ → List ℕ → ℕ → (List ℕ → Judged) → Judged
-with_successors r p bytes places page next = with_pages p.nodes (page ∷ []) (λ there. unless_bad_chain (r.page.value p bytes places page) next)
+with_successors r p bytes places page next =
+    with_pages p.nodes (page ∷ []) (λ there. unless_bad_chain (r.page.value p bytes places page) next)
 
 abbrev pub unless_bad_list : Result Digraph (ℕ × ArcsKind) → (Digraph → Judged) → Judged
 unless_bad_list (Ok g) next = next g
@@ -179,7 +181,8 @@ with_weights n bytes next = unless_bad_weights (weights_in n bytes) next
 -- goes on with the weights of so many pages, where a file of them is named, and else without weights
 abbrev pub weights_then : Option (List ℕ) → ℕ → Option (List ℕ) → (Option (List ℕ) → Judged) → Judged
 weights_then None n held next = next None
-weights_then (Some name) n held next = with_file input.Weights held (λ bytes. with_weights n bytes (λ ws. next (Some ws)))
+weights_then (Some name) n held next =
+    with_file input.Weights held (λ bytes. with_weights n bytes (λ ws. next (Some ws)))
 
 abbrev pub unless_bad_claim : Result Claim CertFault → (Claim → Judged) → Judged
 unless_bad_claim (Ok c) next = next c

@@ -54,11 +54,13 @@ output_code output.Out = 4
 -- the name of an input, or of an output, in a list of them with their names
 abbrev pub name_of_input : List (Input × List ℕ) → Input → Option (List ℕ)
 name_of_input [] i = None
-name_of_input (entry ∷ rest) i = if nat_eq (input_code entry.0) (input_code i) then Some entry.1 else name_of_input rest i
+name_of_input (entry ∷ rest) i = if nat_eq (input_code entry.0) (input_code i) then Some entry.1
+    else name_of_input rest i
 
 abbrev pub name_of_output : List (Output × List ℕ) → Output → Option (List ℕ)
 name_of_output [] o = None
-name_of_output (entry ∷ rest) o = if nat_eq (output_code entry.0) (output_code o) then Some entry.1 else name_of_output rest o
+name_of_output (entry ∷ rest) o = if nat_eq (output_code entry.0) (output_code o) then Some entry.1
+    else name_of_output rest o
 
 -- the files of an archive's records, all files of an archive, an arc list, a plain text, weights if they are asked for,
 -- a certificate, and classes
@@ -66,12 +68,14 @@ abbrev pub record_files : List ℕ → List (Input × List ℕ)
 record_files base = (input.Properties, base ++ PROPERTIES.now) ∷ (input.Graph, base ++ GRAPH.now) ∷ []
 
 abbrev pub archive_files : List ℕ → List (Input × List ℕ)
-archive_files base = (input.Properties, base ++ PROPERTIES.now) ∷ (input.Graph, base ++ GRAPH.now) ∷ (input.Offsets, base ++ OFFSETS.now) ∷ []
+archive_files base = (input.Properties, base ++ PROPERTIES.now) ∷ (input.Graph, base ++ GRAPH.now) ∷
+    (input.Offsets, base ++ OFFSETS.now) ∷ []
 
 -- the files of the second archive of a job
 abbrev pub second_files : List ℕ → List (Input × List ℕ)
 second_files base =
-    (input.SecondProperties, base ++ PROPERTIES.now) ∷ (input.SecondGraph, base ++ GRAPH.now) ∷ (input.SecondOffsets, base ++ OFFSETS.now) ∷ []
+    (input.SecondProperties, base ++ PROPERTIES.now) ∷ (input.SecondGraph, base ++ GRAPH.now) ∷
+      (input.SecondOffsets, base ++ OFFSETS.now) ∷ []
 
 abbrev pub list_file : List ℕ → List (Input × List ℕ)
 list_file name = (input.ArcList, name) ∷ []
@@ -91,7 +95,9 @@ map_file name = (input.Map, name) ∷ []
 
 -- the files of an archive that is written
 abbrev pub archive_outputs : List ℕ → List (Output × List ℕ)
-archive_outputs base = (output.Properties, base ++ PROPERTIES.now) ∷ (output.Graph, base ++ GRAPH.now) ∷ (output.Offsets, base ++ OFFSETS.now) ∷ []
+archive_outputs base =
+    (output.Properties, base ++ PROPERTIES.now) ∷ (output.Graph, base ++ GRAPH.now) ∷
+    (output.Offsets, base ++ OFFSETS.now) ∷ []
 
 -- a certificate that is written
 abbrev pub certificate_output : List ℕ → List (Output × List ℕ)

@@ -41,7 +41,8 @@ judged_on r job files = judged r job (held_by (input_name job) files)
 
 -- The job was done or has ended with this status and this promised number. What the files or the output hold is told
 -- only of a depot and an output whose ghosts are told.
-pub record Performs (job : Job) (told_files told_out : Bool) (before after : Outside) (status : Status) (number : ℕ) : Type 0 where
+pub record Performs (job : Job) (told_files told_out : Bool) (before after : Outside) (status : Status) (number : ℕ)
+    : Type 0 where
   -- the status is the one that the job and its inputs lead to, or a fault of the outside or want of memory came in its
   -- place
   pub answers : IsTrue told_files → (r : Readings) → Answers (judged_on r job before.files) status
@@ -50,18 +51,24 @@ pub record Performs (job : Job) (told_files told_out : Bool) (before after : Out
   -- a fault or an absence is told only where the outside counted it
   pub causes : HasCause (input_name job) (output_name job) before.counts after.counts before.faults after.faults status
   -- a fault of an input is told only where the job had come so far
-  pub reached : IsTrue told_files → (r : Readings) (i : Input) → status ≡ ReadFault i → Reaches r job (held_by (input_name job) before.files) i
+  pub reached : IsTrue told_files → (r : Readings) (i : Input) → status ≡ ReadFault i
+      → Reaches r job (held_by (input_name job) before.files) i
   -- a fault of an output is told only where nothing was to be refused
-  pub needed : IsTrue told_files → (r : Readings) (o : Output) → status ≡ WriteFault o → status_of (judged_on r job before.files) ≡ Done
+  pub needed : IsTrue told_files → (r : Readings) (o : Output) → status ≡ WriteFault o
+      → status_of (judged_on r job before.files) ≡ Done
   -- what stands on the output
-  pub output : IsTrue told_files → IsTrue told_out → (r : Readings) → HasOutput (output_of (judged_on r job before.files)) before.taken after.taken status
+  pub output : IsTrue told_files → IsTrue told_out → (r : Readings)
+      → HasOutput (output_of (judged_on r job before.files)) before.taken after.taken status
   -- what is printed comes last, told or not, but for a job that prints while it reads
   pub silent : prints_while_reading job ≡ false → IsPutLast status before.taken after.taken
   -- nothing is printed where memory was out before the files were whole
   pub printed_last : IsTrue told_files → (r : Readings) → status ≡ Memory
-      → (after.taken ≡ before.taken) ⊎ AreAllWhole (output_name job) (written_by r job (held_by (input_name job) before.files)) after.files
+      → (after.taken ≡ before.taken) ⊎ AreAllWhole (output_name job)
+        (written_by r job (held_by (input_name job) before.files)) after.files
   -- what stands in the files
-  pub files : IsTrue told_files → (r : Readings) → HasFiles (output_name job) (written_by r job (held_by (input_name job) before.files)) before.files after.files status
+  pub files : IsTrue told_files → (r : Readings)
+      → HasFiles (output_name job) (written_by r job (held_by (input_name job) before.files))
+      before.files after.files status
   -- a job that writes no file leaves them all, told or not
   pub same : writes_files job ≡ false → after.files ≡ before.files
   -- no count of the depot falls
@@ -72,50 +79,66 @@ pub record Performs (job : Job) (told_files told_out : Bool) (before after : Out
 -- the same, of a depot and an output that a function changes
 abbrev pub Does : {D O : Type 0} → depot.Ghosts D → sink.Ghosts O → Job → D → D → O → O → Status → ℕ → Type 0
 Does d o job before after out out' status number =
-    Performs job d.told o.told (outside (d.files before) (d.counts before) (o.taken out) (o.faults out)) (outside (d.files after) (d.counts after) (o.taken out') (o.faults out')) status number
+    Performs job d.told o.told (outside (d.files before) (d.counts before) (o.taken out) (o.faults out))
+      (outside (d.files after) (d.counts after) (o.taken out') (o.faults out')) status number
 
 -- the same of a command, which was done or has ended
-abbrev pub DoesOrEnds : {D O : Type 0} → depot.Ghosts D → sink.Ghosts O → Job → D → D → O → O → Result (Unit {0}) Ending → Type 0
-DoesOrEnds d o job before after out out' result = Does d o job before after out out' (status_in result) (promised_in result)
+abbrev pub DoesOrEnds : {D O : Type 0} → depot.Ghosts D → sink.Ghosts O → Job → D → D → O → O
+    → Result (Unit {0}) Ending → Type 0
+DoesOrEnds d o job before after out out' result =
+    Does d o job before after out out' (status_in result) (promised_in result)
 
 -- the same of a command without files: it makes no call of a depot, whatever the depot holds
 abbrev pub DoesAlone : {O : Type 0} → sink.Ghosts O → Job → O → O → Result (Unit {0}) Ending → Type 0
 DoesAlone o job out out' result =
     (told : Bool) (files : Files) (counts : List ℕ → Counts)
-    → Performs job told o.told (outside files counts (o.taken out) (o.faults out)) (outside files counts (o.taken out') (o.faults out')) (status_in result) (promised_in result)
+    → Performs job told o.told (outside files counts (o.taken out) (o.faults out))
+      (outside files counts (o.taken out') (o.faults out')) (status_in result) (promised_in result)
 
 -- What a job writes was written to files of these names, and its text printed; or what was left where this stopped.
-pub record Produces (names : Output → Option (List ℕ)) (what : Written) (text : Readings → List ℕ) (told_files told_out : Bool) (before after : Outside) (result : Result (Unit {0}) Ending) : Type 0 where
+pub record Produces (names : Output → Option (List ℕ)) (what : Written) (text : Readings → List ℕ)
+    (told_files told_out : Bool) (before after : Outside) (result : Result (Unit {0}) Ending) : Type 0 where
   -- a file, the output or memory alone can stop it
   pub only : IfErr result (λ e. IsStopped e.status)
   -- a fault is told only where the outside counted it
-  pub causes : (inputs : Input → Option (List ℕ)) → HasCause inputs names before.counts after.counts before.faults after.faults (status_in result)
+  pub causes : (inputs : Input → Option (List ℕ))
+      → HasCause inputs names before.counts after.counts before.faults after.faults (status_in result)
   -- what stands on the output
   pub output : IsTrue told_out → (r : Readings) → HasOutput (text r) before.taken after.taken (status_in result)
   -- what is printed comes last, told or not
   pub silent : IsPutLast (status_in result) before.taken after.taken
   -- nothing is printed where memory was out before the files were whole
-  pub printed_last : IsTrue told_files → status_in result ≡ Memory → (after.taken ≡ before.taken) ⊎ AreAllWhole names (Some what) after.files
+  pub printed_last : IsTrue told_files → status_in result ≡ Memory
+      → (after.taken ≡ before.taken) ⊎ AreAllWhole names (Some what) after.files
   -- what stands in the files
   pub files : IsTrue told_files → HasFiles names (Some what) before.files after.files (status_in result)
   -- no count of the depot falls
   pub later : NonDecreasing before.counts after.counts
 
 -- The greedy archive of a graph, in a layout, and its line.
-abbrev pub BuildsArchive : Layout → Digraph → List ℕ → Bool → Bool → Outside → Outside → Result (Unit {0}) Ending → Type 0
+abbrev pub BuildsArchive : Layout → Digraph → List ℕ → Bool → Bool → Outside → Outside → Result (Unit {0}) Ending
+    → Type 0
 BuildsArchive l g base told_files told_out before after result =
-    Produces (archive_named base) (an_archive (greedy_archive (params_for l g) g)) (λ r. greedy_line (params_for l g) g) told_files told_out before after result
+    Produces (archive_named base) (an_archive (greedy_archive (params_for l g) g))
+      (λ r. greedy_line (params_for l g) g) told_files told_out before after result
 
 -- The certificate of bounds, and the first lines of the ranking by them.
-abbrev pub CertifiesRanking : Intervals → List ℕ → ℕ → Bool → Bool → Outside → Outside → Result (Unit {0}) Ending → Type 0
+abbrev pub CertifiesRanking : Intervals → List ℕ → ℕ → Bool → Bool → Outside → Outside → Result (Unit {0}) Ending
+    → Type 0
 CertifiesRanking b name top told_files told_out before after result =
-    Produces (certificate_to name) (a_certificate (certificate_text b)) (λ r. ranking_text r b top) told_files told_out before after result
+    Produces (certificate_to name) (a_certificate (certificate_text b)) (λ r. ranking_text r b top)
+      told_files told_out before after result
 
 -- the same, of a depot and an output that a function changes
-abbrev pub Builds : {D O : Type 0} → depot.Ghosts D → sink.Ghosts O → Layout → Digraph → List ℕ → D → D → O → O → Result (Unit {0}) Ending → Type 0
+abbrev pub Builds : {D O : Type 0} → depot.Ghosts D → sink.Ghosts O → Layout → Digraph → List ℕ → D → D → O → O
+    → Result (Unit {0}) Ending → Type 0
 Builds d o l g base before after out out' result =
-    BuildsArchive l g base d.told o.told (outside (d.files before) (d.counts before) (o.taken out) (o.faults out)) (outside (d.files after) (d.counts after) (o.taken out') (o.faults out')) result
+    BuildsArchive l g base d.told o.told (outside (d.files before) (d.counts before) (o.taken out) (o.faults out))
+      (outside (d.files after) (d.counts after) (o.taken out') (o.faults out')) result
 
-abbrev pub Certifies : {D O : Type 0} → depot.Ghosts D → sink.Ghosts O → Intervals → List ℕ → ℕ → D → D → O → O → Result (Unit {0}) Ending → Type 0
+abbrev pub Certifies : {D O : Type 0} → depot.Ghosts D → sink.Ghosts O → Intervals → List ℕ → ℕ → D → D → O → O
+    → Result (Unit {0}) Ending → Type 0
 Certifies d o b name top before after out out' result =
-    CertifiesRanking b name top d.told o.told (outside (d.files before) (d.counts before) (o.taken out) (o.faults out)) (outside (d.files after) (d.counts after) (o.taken out') (o.faults out')) result
+    CertifiesRanking b name top d.told o.told
+      (outside (d.files before) (d.counts before) (o.taken out) (o.faults out))
+      (outside (d.files after) (d.counts after) (o.taken out') (o.faults out')) result

@@ -15,19 +15,24 @@ use Rattle.wg_outcomes.specs.declared.status.WeightsFault.TheVariants as weights
 
 -- the properties text that is held, if it is in order, promises this number
 abbrev pub IsPromised : Option (List ℕ) → (Parameters → ℕ) → ℕ → Type 0
-IsPromised held number promised = (text : List ℕ) (p : Parameters) → held ≡ Some text → properties_of text ≡ Ok p → promised ≡ number p
+IsPromised held number promised = (text : List ℕ) (p : Parameters) → held ≡ Some text → properties_of text ≡ Ok p
+    → promised ≡ number p
 
 -- what the properties promise, where the line of the status names it: arcs beside fewer, or pages beside numbers
 abbrev pub ArePromised : (Input → Option (List ℕ)) → Status → ℕ → Type 0
-ArePromised held (BadArchive (archive.ArcsShort total)) promised = IsPromised (held input.Properties) (λ p. p.arcs) promised
-ArePromised held (BadSecond (second.Archive (archive.ArcsShort total))) promised = IsPromised (held input.SecondProperties) (λ p. p.arcs) promised
+ArePromised held (BadArchive (archive.ArcsShort total)) promised =
+    IsPromised (held input.Properties) (λ p. p.arcs) promised
+ArePromised held (BadSecond (second.Archive (archive.ArcsShort total))) promised =
+    IsPromised (held input.SecondProperties) (λ p. p.arcs) promised
 ArePromised held (BadWeights (weights.Numbers f)) promised = IsPromised (held input.Properties) (λ p. p.nodes) promised
 ArePromised held (BadMap f) promised = IsPromised (held input.Properties) (λ p. p.nodes) promised
 ArePromised held status promised = Unit {0}
 
 -- memory was wanting, or this file is at fault, and the ending names what is promised
 abbrev pub IsBadFile : Input → ℕ → Ending → Type 0
-IsBadFile i promised e = (e.status ≡ Memory) ⊎ ((f : ArchiveFault) × (file_of_fault f ≡ i) × (e.status ≡ BadArchive f) × (e.promised ≡ promised))
+IsBadFile i promised e =
+    (e.status ≡ Memory) ⊎
+    ((f : ArchiveFault) × (file_of_fault f ≡ i) × (e.status ≡ BadArchive f) × (e.promised ≡ promised))
 
 -- what an ending names as promised
 abbrev pub promised_in : {B : Type 0} → Result B Ending → ℕ

@@ -47,7 +47,8 @@ positions_of r b = record { filled = true; low = b.low; high = b.high; pages = p
 -- the line of page v: its bounds as parts of 1, and its first and last position
 abbrev pub rank_line : Positions → ℕ → List ℕ
 rank_line s v =
-    decimal v ++ codes " " ++ text_of_units (by_page s.low v) ++ codes " " ++ text_of_units (by_page s.high v) ++ codes " " ++ decimal (best s v) ++ codes " "
+    decimal v ++ codes " " ++ text_of_units (by_page s.low v) ++ codes " " ++ text_of_units (by_page s.high v)
+      ++ codes " " ++ decimal (best s v) ++ codes " "
     ++ decimal (worst s v) ++ codes "\n"
 
 -- the lines of the first pages of a ranking
@@ -86,7 +87,8 @@ pub record IsProvenRanking (r : Readings) (b : Intervals) (g : Digraph) : Type 0
 abbrev pub RankingIsProven : Readings → ℕ → ℕ → Type 0
 RankingIsProven r rounds damping =
     rounds ≤ MOST_ROUNDS → damping ≤ MOST_DAMPING → (g : Digraph) → IsGraph g → g.nodes ≤ MOST_PAGES
-    → (given : Option (List ℕ)) → AreWeights g.nodes (weights_of g.nodes given) → IsProvenRanking r (bounds_after g given damping rounds) g
+    → (given : Option (List ℕ)) → AreWeights g.nodes (weights_of g.nodes given)
+      → IsProvenRanking r (bounds_after g given damping rounds) g
 
 -- The files of an archive stand for this graph: the bytes of its graph file do, by the parameters of its properties
 -- text.
@@ -105,18 +107,21 @@ pub record HoldGraph (r : Readings) (held : Input → Option (List ℕ)) (g : Di
 abbrev pub HoldWeights : Option (List ℕ) → (Input → Option (List ℕ)) → ℕ → Option (List ℕ) → Type 0
 HoldWeights None held n given = given ≡ None
 HoldWeights (Some name) held n given =
-    (bytes : List ℕ) × (ws : List ℕ) × (held input.Weights ≡ Some bytes) × (weights_in n bytes ≡ Ok ws) × (given ≡ Some ws)
+    (bytes : List ℕ) × (ws : List ℕ) × (held input.Weights ≡ Some bytes) × (weights_in n bytes ≡ Ok ws)
+      × (given ≡ Some ws)
 
 -- What is printed is the ranking of this graph, by these weights of its pages, and this much is proved of its bounds and
 -- positions.
-pub record PrintsRankingOf (r : Readings) (graph : Digraph) (given : Option (List ℕ)) (rounds damping top : ℕ) (old new : List ℕ) : Type 0 where
+pub record PrintsRankingOf (r : Readings) (graph : Digraph) (given : Option (List ℕ)) (rounds damping top : ℕ)
+    (old new : List ℕ) : Type 0 where
   pub proper : IsGraph graph
   pub weights : AreWeights graph.nodes (weights_of graph.nodes given)
   pub printed : new ≡ old ++ ranking_text r (bounds_after graph given damping rounds) top
   pub proven : IsProvenRanking r (bounds_after graph given damping rounds) graph
 
 -- The same of the graph that the files stand for, by the weights that they hold.
-pub record PrintsProvenRanking (r : Readings) (held : Input → Option (List ℕ)) (weights : Option (List ℕ)) (rounds damping top : ℕ) (old new : List ℕ) : Type 0 where
+pub record PrintsProvenRanking (r : Readings) (held : Input → Option (List ℕ)) (weights : Option (List ℕ))
+    (rounds damping top : ℕ) (old new : List ℕ) : Type 0 where
   pub graph : Digraph
   pub given : Option (List ℕ)
   pub stored : HoldGraph r held graph

@@ -23,13 +23,15 @@ pub record GraphReading : Type 0 where
 -- from parameters and the bytes of an offsets file to its places, or to its first fault
 pub record OffsetsReading : Type 0 where
   pub value : Parameters → List ℕ → Result (List ℕ) OffsetWord
-  pub reads : (p : Parameters) → IsWithinLimits p → (bytes : List ℕ) → ReadsOffsets p.offsets p.nodes (bits_of bytes) (value p bytes)
+  pub reads : (p : Parameters) → IsWithinLimits p → (bytes : List ℕ)
+      → ReadsOffsets p.offsets p.nodes (bits_of bytes) (value p bytes)
 
 -- from parameters, the bytes of a graph file, the places that an offsets file stores and a page to what the page is by
 -- its chain of references, or to the first fault of this chain
 pub record PageReading : Type 0 where
   pub value : Parameters → List ℕ → List ℕ → ℕ → Result Known ArchiveFault
-  pub reads : (p : Parameters) → IsWithinLimits p → (bytes places : List ℕ) (page : ℕ) → SpotReads p (bits_of bytes) places page (value p bytes places page)
+  pub reads : (p : Parameters) → IsWithinLimits p → (bytes places : List ℕ) (page : ℕ)
+      → SpotReads p (bits_of bytes) places page (value p bytes places page)
 
 -- from the bounds of pages to the pages as they are ranked
 pub record RankingReading : Type 0 where
@@ -58,8 +60,10 @@ pub record Readings : Type 0 where
 -- Two such choices agree within the limits.
 pub record ReadingsAgree (r q : Readings) : Type 0 where
   pub graph : (p : Parameters) → IsWithinLimits p → (bytes : List ℕ) → r.graph.value p bytes ≡ q.graph.value p bytes
-  pub offsets : (p : Parameters) → IsWithinLimits p → (bytes : List ℕ) → r.offsets.value p bytes ≡ q.offsets.value p bytes
-  pub page : (p : Parameters) → IsWithinLimits p → (bytes places : List ℕ) (page : ℕ) → r.page.value p bytes places page ≡ q.page.value p bytes places page
+  pub offsets : (p : Parameters) → IsWithinLimits p → (bytes : List ℕ)
+      → r.offsets.value p bytes ≡ q.offsets.value p bytes
+  pub page : (p : Parameters) → IsWithinLimits p → (bytes places : List ℕ) (page : ℕ)
+      → r.page.value p bytes places page ≡ q.page.value p bytes places page
   pub ranking : (low high : List ℕ) → r.ranking.value low high ≡ q.ranking.value low high
   pub arc_list : (n : ℕ) (bytes : List ℕ) → r.arc_list.value n bytes ≡ q.arc_list.value n bytes
   pub plain_text : (bytes : List ℕ) → r.plain_text.value bytes ≡ q.plain_text.value bytes

@@ -35,12 +35,14 @@ with_gap g c given next = unless_falls (first_fall g c given) (gap g (by_page c.
 -- So much do the bounds of a certificate leave of 1: each stationary vector lies between these bounds and those with so
 -- much more.
 abbrev pub Leaves : Digraph → Claim → Option (List ℕ) → ℕ → Type 0
-Leaves g c given left = (left ≡ gap g (by_page c.low)) × EnclosesStationary g c.damping (by_page (weights_for c given)) (by_page c.low) left
+Leaves g c given left = (left ≡ gap g (by_page c.low))
+    × EnclosesStationary g c.damping (by_page (weights_for c given)) (by_page c.low) left
 
 -- the line of a certificate that holds: its pages, its damping, and what its bounds leave of 1
 abbrev pub verified_line : Claim → ℕ → List ℕ
 verified_line c left =
-    codes "ok pages=" ++ decimal (length c.low) ++ codes " damping=" ++ decimal c.damping ++ codes " gap=" ++ text_of_units left ++ codes "\n"
+    codes "ok pages=" ++ decimal (length c.low)
+      ++ codes " damping=" ++ decimal c.damping ++ codes " gap=" ++ text_of_units left ++ codes "\n"
 
 -- What is printed is what the bounds of this certificate leave of 1, over this graph and these weights of its pages.
 pub record PrintsGapOf (graph : Digraph) (given : Option (List ℕ)) (claim : Claim) (old new : List ℕ) : Type 0 where
@@ -52,7 +54,8 @@ pub record PrintsGapOf (graph : Digraph) (given : Option (List ℕ)) (claim : Cl
   pub leaves : Leaves graph claim given left
 
 -- The same of the certificate, the graph and the weights that the files hold.
-pub record PrintsProvenGap (r : Readings) (held : Input → Option (List ℕ)) (weights : Option (List ℕ)) (old new : List ℕ) : Type 0 where
+pub record PrintsProvenGap (r : Readings) (held : Input → Option (List ℕ)) (weights : Option (List ℕ))
+    (old new : List ℕ) : Type 0 where
   pub graph : Digraph
   pub given : Option (List ℕ)
   pub text : List ℕ

@@ -59,18 +59,24 @@ AreWhole a new = (new.properties ≡ Some a.properties) × (new.graph ≡ Some a
 
 -- nothing, or all but the end of the properties
 abbrev pub StopAtProperties : Archive → ArchiveFiles → ArchiveFiles → Type 0
-StopAtProperties a old new = (new ≡ old) ⊎ ((new.graph ≡ Some a.graph) × (new.offsets ≡ Some a.offsets) × HoldsLess new.properties a.properties)
+StopAtProperties a old new =
+    (new ≡ old) ⊎ ((new.graph ≡ Some a.graph) × (new.offsets ≡ Some a.offsets)
+    × HoldsLess new.properties a.properties)
 
 -- the properties are empty; the others are as before, or prefixes of the archive's, and the graph file lacks something
 abbrev pub StopAtGraph : Archive → ArchiveFiles → ArchiveFiles → Type 0
 StopAtGraph a old new =
-    (new.properties ≡ Some []) × (((new.graph ≡ old.graph) × (new.offsets ≡ old.offsets)) ⊎ (HoldsLess new.graph a.graph × HoldsFront new.offsets a.offsets))
+    (new.properties ≡ Some [])
+      × (((new.graph ≡ old.graph) × (new.offsets ≡ old.offsets)) ⊎
+      (HoldsLess new.graph a.graph × HoldsFront new.offsets a.offsets))
 
 -- the properties are empty; the graph file is and the offsets are as before, or both are prefixes of the archive's, and
 -- the offsets lack something
 abbrev pub StopAtOffsets : Archive → ArchiveFiles → ArchiveFiles → Type 0
 StopAtOffsets a old new =
-    (new.properties ≡ Some []) × (((new.graph ≡ Some []) × (new.offsets ≡ old.offsets)) ⊎ (HoldsFront new.graph a.graph × HoldsLess new.offsets a.offsets))
+    (new.properties ≡ Some [])
+      × (((new.graph ≡ Some []) × (new.offsets ≡ old.offsets)) ⊎
+      (HoldsFront new.graph a.graph × HoldsLess new.offsets a.offsets))
 
 -- the three files are there, and empty
 abbrev pub emptied : ArchiveFiles
@@ -89,7 +95,8 @@ abbrev pub StayBeside : List ℕ → Files → Files → Type 0
 StayBeside name old new = (q : List ℕ) → q ≢ name → map.get new q ≡ map.get old q
 
 -- Calls on the file of this name, which is an output of a job, were done, or stopped the job.
-pub record Touches (o : Output) (name : List ℕ) (told : Bool) (files files' : Files) (counts counts' : List ℕ → Counts) (result : Result (Unit {0}) Ending) : Type 0 where
+pub record Touches (o : Output) (name : List ℕ) (told : Bool) (files files' : Files)
+    (counts counts' : List ℕ → Counts) (result : Result (Unit {0}) Ending) : Type 0 where
   -- no other file has changed
   pub others : IsTrue told → StayBeside name files files'
   -- this file or memory alone can stop them
@@ -102,7 +109,8 @@ pub record Touches (o : Output) (name : List ℕ) (told : Bool) (files files' : 
   pub later : NonDecreasing counts counts'
 
 abbrev pub TouchesBy : {D : Type 0} → depot.Ghosts D → Output → List ℕ → D → D → Result (Unit {0}) Ending → Type 0
-TouchesBy d o name before after result = Touches o name d.told (d.files before) (d.files after) (d.counts before) (d.counts after) result
+TouchesBy d o name before after result =
+    Touches o name d.told (d.files before) (d.files after) (d.counts before) (d.counts after) result
 
 -- a call on one of the files failed, or memory was wanting
 abbrev pub IsStopped : Status → Type 0
@@ -116,12 +124,14 @@ FilesAfter a old new (WriteFault output.Out) = AreWhole a new
 FilesAfter a old new (WriteFault output.Properties) = StopAtProperties a old new
 FilesAfter a old new (WriteFault output.Graph) = StopAtGraph a old new
 FilesAfter a old new (WriteFault output.Offsets) = StopAtOffsets a old new
-FilesAfter a old new Memory = StopAtProperties a old new ⊎ StopAtGraph a old new ⊎ StopAtOffsets a old new ⊎ AreWhole a new
+FilesAfter a old new Memory =
+    StopAtProperties a old new ⊎ StopAtGraph a old new ⊎ StopAtOffsets a old new ⊎ AreWhole a new
 FilesAfter a old new _ = new ≡ old
 
 -- a fault of one of these files is told only where the count of that file rose
 abbrev pub FaultsRose : List ℕ → (List ℕ → Counts) → (List ℕ → Counts) → Status → Type 0
-FaultsRose base old new status = (o : Output) → status ≡ WriteFault o → IncreasedAt (λ c. c.write_faults) (archive_named base o) old new
+FaultsRose base old new status = (o : Output) → status ≡ WriteFault o
+    → IncreasedAt (λ c. c.write_faults) (archive_named base o) old new
 
 -- What stands of the file of a certificate once the job has ended so. It is as before, or lacks something, where a call
 -- on it failed; it is whole before anything is printed.
@@ -135,9 +145,12 @@ CertificateAfter text old new _ = new ≡ old
 -- The files of a job of these names that writes this, or nothing.
 abbrev pub HasFiles : (Output → Option (List ℕ)) → Option Written → Files → Files → Status → Type 0
 HasFiles names None old new status = new ≡ old
-HasFiles names (Some (an_archive a)) old new status = OthersStay names old new × FilesAfter a (archive_at names old) (archive_at names new) status
+HasFiles names (Some (an_archive a)) old new status = OthersStay names old new
+    × FilesAfter a (archive_at names old) (archive_at names new) status
 HasFiles names (Some (a_certificate text)) old new status =
-    OthersStay names old new × CertificateAfter text (content_of old (names output.Certificate)) (content_of new (names output.Certificate)) status
+    OthersStay names old new
+      × CertificateAfter text (content_of old (names output.Certificate)) (content_of new (names output.Certificate))
+      status
 
 -- The files of these names hold all of this, or there is nothing to hold.
 abbrev pub AreAllWhole : (Output → Option (List ℕ)) → Option Written → Files → Type 0

@@ -14,7 +14,9 @@ use Rattle.wg_properties.specs.Words.{word_of}
 
 -- the codes where no flag says otherwise
 abbrev pub default_codes : ℕ → Codes
-default_codes zeta = record { outdegrees = Gamma; references = Unary; block_counts = Gamma; blocks = Gamma; residuals = Zeta zeta; offsets = Gamma }
+default_codes zeta = record
+    { outdegrees = Gamma; references = Unary; block_counts = Gamma; blocks = Gamma; residuals = Zeta zeta;
+    offsets = Gamma }
 
 -- the codes after one more flag
 abbrev pub with_flag : ℕ → Codes → Flag → Codes
@@ -48,7 +50,8 @@ codes_from zeta i c (Some flag ∷ flags) = codes_from zeta (i + 1) (with_flag z
 -- the pieces of a value: cut at each bar (124), without the blanks around them; an empty value has none
 abbrev pub pieces_of : List ℕ → List (List ℕ)
 pieces_of [] = []
-pieces_of (b ∷ bs) = map (λ piece. without_blanks_before (without_blanks_after piece)) (slice_split (λ c. c == 124) (b ∷ bs))
+pieces_of (b ∷ bs) = map (λ piece. without_blanks_before (without_blanks_after piece))
+    (slice_split (λ c. c == 124) (b ∷ bs))
 
 unfoldable pub codes_of : ℕ → List ℕ → Result Codes PropFault
 codes_of zeta value = codes_from zeta 1 (default_codes zeta) (map flag_of (pieces_of value))

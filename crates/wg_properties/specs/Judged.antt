@@ -26,7 +26,8 @@ within k least most (Some n) = if nat_lt n least || nat_lt most n then Err (faul
 
 abbrev pub judged_class : Option (List ℕ) → Result (Unit {0}) PropFault
 judged_class None = Err (fault.Missing key.GraphClass)
-judged_class (Some value) = if bytes_eq value class_name || bytes_eq value long_class_name then Ok tt else Err fault.Class
+judged_class (Some value) = if bytes_eq value class_name || bytes_eq value long_class_name then Ok tt
+    else Err fault.Class
 
 abbrev pub judged_version : Option (List ℕ) → Result (Unit {0}) PropFault
 judged_version None = Err (fault.Missing key.Version)
@@ -69,7 +70,8 @@ judged value =
     and_then (judged_number key.MinIntervalLength MOST_INTERVAL (value key.MinIntervalLength)) (λ interval.
     and_then (judged_zeta (value key.ZetaK)) (λ zeta.
     and_then (judged_flags zeta (value key.CompressionFlags)) (λ c.
-    Ok (params_of (record { window = window; chain = chain; interval = interval; zeta = zeta; codes = c }) nodes arcs)))))))))))
+    Ok (params_of (record { window = window; chain = chain; interval = interval; zeta = zeta; codes = c })
+      nodes arcs)))))))))))
 
 -- a line that would go on in the next is a fault before all others
 abbrev pub unless_continued : Option ℕ → Result Parameters PropFault → Result Parameters PropFault

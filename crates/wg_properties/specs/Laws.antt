@@ -10,7 +10,8 @@ ReadsBack = (p : Parameters) → IsWithinLimits p → properties_of (text_of p) 
 
 -- A prefix of the text that lacks more than its last byte, an LF, is refused.
 abbrev pub PrefixesAreRefused : Type 0
-PrefixesAreRefused = (p : Parameters) (n : ℕ) → IsWithinLimits p → n + 1 < length (text_of p) → IsErr (properties_of (take n (text_of p)))
+PrefixesAreRefused = (p : Parameters) (n : ℕ) → IsWithinLimits p → n + 1 < length (text_of p)
+    → IsErr (properties_of (take n (text_of p)))
 
 -- The text has fewer bytes than this.
 abbrev pub AreShort : Type 0

@@ -55,15 +55,22 @@ PutsUpTo due old new (Err e) = (k : ℕ) × (e.status ≡ WriteFault Out → k <
 
 -- A pass over a graph file that prints a text of its graph. If the file stands for a graph, all of the text is put out,
 -- or a prefix of it and then something hindered the pass.
-pub record PrintsGraph (base : List ℕ) (p : Parameters) (text : Accepted → List ℕ) (told_files told_out : Bool) (before after : Outside) (result : Result (Unit {0}) Ending) : Type 0 where
+pub record PrintsGraph (base : List ℕ) (p : Parameters) (text : Accepted → List ℕ) (told_files told_out : Bool)
+    (before after : Outside) (result : Result (Unit {0}) Ending) : Type 0 where
   pub same : after.files ≡ before.files
   pub later : NonDecreasing before.counts after.counts
   pub only : IfErr result (λ e. IsStopAt input.Graph p.arcs e ⊎ IsUnput e.status)
-  pub causes : HasCause (file_of base) no_outputs before.counts after.counts before.faults after.faults (status_in result)
-  pub hindered : IsTrue told_files → (a : Accepted) → IsGraphFile (held_by (file_of base) before.files input.Graph) p a → IfErr result (λ e. IsHindrance e.status)
-  pub puts : IsTrue told_files → IsTrue told_out → (a : Accepted) → IsGraphFile (held_by (file_of base) before.files input.Graph) p a → PutsUpTo (text a) before.taken after.taken result
+  pub causes : HasCause (file_of base) no_outputs before.counts after.counts before.faults after.faults
+      (status_in result)
+  pub hindered : IsTrue told_files → (a : Accepted)
+      → IsGraphFile (held_by (file_of base) before.files input.Graph) p a → IfErr result (λ e. IsHindrance e.status)
+  pub puts : IsTrue told_files → IsTrue told_out → (a : Accepted)
+      → IsGraphFile (held_by (file_of base) before.files input.Graph) p a
+      → PutsUpTo (text a) before.taken after.taken result
 
 -- the same, of a depot and an output that a function changes
-abbrev pub PrintsAgain : {D O : Type 0} → depot.Ghosts D → sink.Ghosts O → List ℕ → Parameters → (Accepted → List ℕ) → D → D → O → O → Result (Unit {0}) Ending → Type 0
+abbrev pub PrintsAgain : {D O : Type 0} → depot.Ghosts D → sink.Ghosts O → List ℕ → Parameters → (Accepted → List ℕ)
+    → D → D → O → O → Result (Unit {0}) Ending → Type 0
 PrintsAgain d o base p text before after out out' result =
-    PrintsGraph base p text d.told o.told (outside (d.files before) (d.counts before) (o.taken out) (o.faults out)) (outside (d.files after) (d.counts after) (o.taken out') (o.faults out')) result
+    PrintsGraph base p text d.told o.told (outside (d.files before) (d.counts before) (o.taken out) (o.faults out))
+      (outside (d.files after) (d.counts after) (o.taken out') (o.faults out')) result

@@ -16,16 +16,20 @@ ArePages nodes chain depth = (i : ℕ) → i ≤ depth → i < length chain → 
 
 -- From page x the references have been followed over depth pages, to this page. The chain keeps as many of them as it
 -- has room for.
-pub record Going (p : Parameters) (bits : List Bool) (records : List Whole) (chain : List ℕ) (x page depth : ℕ) : Type 0 where
+pub record Going (p : Parameters) (bits : List Bool) (records : List Whole) (chain : List ℕ) (x page depth : ℕ)
+    : Type 0 where
   pub first : get_or chain 0 0 ≡ x
-  pub links : (i : ℕ) → i < depth → suc i < length chain → Link p bits records (get_or chain i 0) (get_or chain (suc i) 0)
+  pub links : (i : ℕ) → i < depth → suc i < length chain
+      → Link p bits records (get_or chain i 0) (get_or chain (suc i) 0)
   pub here : depth < length chain → get_or chain depth 0 ≡ page
   pub deep : (known_at records x).depth ≡ depth + (known_at records page).depth
 
 -- They end after depth pages.
-pub record Ended (p : Parameters) (bits : List Bool) (records : List Whole) (chain : List ℕ) (x depth : ℕ) : Type 0 where
+pub record Ended (p : Parameters) (bits : List Bool) (records : List Whole) (chain : List ℕ) (x depth : ℕ)
+    : Type 0 where
   pub first : get_or chain 0 0 ≡ x
-  pub links : (i : ℕ) → i < depth → suc i < length chain → Link p bits records (get_or chain i 0) (get_or chain (suc i) 0)
+  pub links : (i : ℕ) → i < depth → suc i < length chain
+      → Link p bits records (get_or chain i 0) (get_or chain (suc i) 0)
   pub bottom : depth < length chain → StandsOn p bits records (get_or chain depth 0) None
   pub deep : (known_at records x).depth ≡ depth
 

@@ -11,4 +11,5 @@ pub record Held : Type 0 where
 
 -- the bits stand for a graph, whose records have these offsets
 abbrev pub StandsForGraph : Held → Type 0
-StandsForGraph h = (graph : List (List ℕ)) × ReadsGraph h.params h.bits (Ok (record { graph = graph; places = h.offsets }))
+StandsForGraph h = (graph : List (List ℕ))
+    × ReadsGraph h.params h.bits (Ok (record { graph = graph; places = h.offsets }))

@@ -16,17 +16,24 @@ pub record IsWholeChain (p : Parameters) (bits : List Bool) (offsets : List ℕ)
 -- The list of page x, or why there is none: this is the fault of its chain, or memory was wanting, or a word was
 -- refused. The count rises by one for each page of the chain, and by no more than that where the chain was not read to
 -- its end.
-abbrev pub ChainAnswers : {R : Type 0} → Parameters → List Bool → List ℕ → ℕ → ℕ → ℕ → Result (List ℕ) (PagesError R) → Type 0
+abbrev pub ChainAnswers : {R : Type 0} → Parameters → List Bool → List ℕ → ℕ → ℕ → ℕ → Result (List ℕ) (PagesError R)
+    → Type 0
 ChainAnswers p bits offsets x from to (Ok list) =
     (zs : List ℕ) × (k : Known) × ChainReads p bits offsets x zs (Ok k) × (list ≡ k.list) × (to ≡ from + length zs + 1)
-ChainAnswers p bits offsets x from to (Err (Fault f)) = (zs : List ℕ) × ChainReads p bits offsets x zs (Err f) × (to ≡ from + length zs + 1)
-ChainAnswers p bits offsets x from to (Err Memory) = (chain : List ℕ) × IsChain p bits offsets x chain × (to ≤ from + length chain)
-ChainAnswers p bits offsets x from to (Err (Refused r)) = (chain : List ℕ) × IsChain p bits offsets x chain × (to ≤ from + length chain)
+ChainAnswers p bits offsets x from to (Err (Fault f)) = (zs : List ℕ) × ChainReads p bits offsets x zs (Err f)
+    × (to ≡ from + length zs + 1)
+ChainAnswers p bits offsets x from to (Err Memory) = (chain : List ℕ) × IsChain p bits offsets x chain
+    × (to ≤ from + length chain)
+ChainAnswers p bits offsets x from to (Err (Refused r)) = (chain : List ℕ) × IsChain p bits offsets x chain
+    × (to ≤ from + length chain)
 
 -- The same of bits in memory, which refuse no word. There may be no such page.
 abbrev pub SpotAnswers : Parameters → List Bool → List ℕ → ℕ → ℕ → ℕ → Result (List ℕ) SpotError → Type 0
 SpotAnswers p bits offsets x from to (Ok list) =
-    (x < p.nodes) × (zs : List ℕ) × (k : Known) × ChainReads p bits offsets x zs (Ok k) × (list ≡ k.list) × (to ≡ from + length zs + 1)
+    (x < p.nodes) × (zs : List ℕ) × (k : Known) × ChainReads p bits offsets x zs (Ok k) × (list ≡ k.list)
+      × (to ≡ from + length zs + 1)
 SpotAnswers p bits offsets x from to (Err errors.NoPage) = (p.nodes ≤ x) × (to ≡ from)
-SpotAnswers p bits offsets x from to (Err (errors.Archive f)) = (x < p.nodes) × (zs : List ℕ) × ChainReads p bits offsets x zs (Err f) × (to ≡ from + length zs + 1)
-SpotAnswers p bits offsets x from to (Err errors.Memory) = (x < p.nodes) × (chain : List ℕ) × IsChain p bits offsets x chain × (to ≤ from + length chain)
+SpotAnswers p bits offsets x from to (Err (errors.Archive f)) = (x < p.nodes) × (zs : List ℕ)
+    × ChainReads p bits offsets x zs (Err f) × (to ≡ from + length zs + 1)
+SpotAnswers p bits offsets x from to (Err errors.Memory) = (x < p.nodes) × (chain : List ℕ)
+    × IsChain p bits offsets x chain × (to ≤ from + length chain)

@@ -25,7 +25,8 @@ BoundsAreCertified = (b : Intervals) (g : Digraph) → IsGraph g → AreBounds b
 -- They are one: the graph, the damping, the weights and the rounds alone determine them.
 abbrev pub BoundsAreOne : Type 0
 BoundsAreOne =
-    (b c : Intervals) (g : Digraph) → Holds b g → Holds c g → c.damping ≡ b.damping → c.weights ≡ b.weights → c.rounds ≡ b.rounds
+    (b c : Intervals) (g : Digraph) → Holds b g → Holds c g → c.damping ≡ b.damping → c.weights ≡ b.weights
+      → c.rounds ≡ b.rounds
     → (c.low ≡ b.low) × (c.high ≡ b.high)
 
 -- Lower bounds that a round does not lower enclose each stationary vector, with what they leave of 1.
@@ -50,9 +51,11 @@ ClaimsAreThose = (n : ℕ) (bytes : List ℕ) (c : Claim) → (claim_of n bytes 
 
 -- It gives this fault exactly where this is its first one.
 abbrev pub FaultsAreFirst : Type 0
-FaultsAreFirst = (n : ℕ) (bytes : List ℕ) (f : CertFault) → (claim_of n bytes ≡ Err f) ↔ IsFirstFault n (lines_of bytes) f
+FaultsAreFirst = (n : ℕ) (bytes : List ℕ) (f : CertFault)
+    → (claim_of n bytes ≡ Err f) ↔ IsFirstFault n (lines_of bytes) f
 
 -- Some lines have a claim or a first fault, and not two of these.
 pub record OutcomesAreOne : Type 0 where
   pub some : (n : ℕ) (lines : List (List ℕ)) → (w : Result Claim CertFault) × IsOutcome n lines w
-  pub one : (n : ℕ) (lines : List (List ℕ)) (w x : Result Claim CertFault) → IsOutcome n lines w → IsOutcome n lines x → w ≡ x
+  pub one : (n : ℕ) (lines : List (List ℕ)) (w x : Result Claim CertFault) → IsOutcome n lines w → IsOutcome n lines x
+      → w ≡ x

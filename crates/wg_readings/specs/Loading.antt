@@ -33,7 +33,8 @@ use Rattle.wg_outcomes.specs.declared.status.Status.TheVariants.{BadArcs, BadCer
 use Rattle.wg_outcomes.specs.declared.status.WeightsFault.{WeightsFault}
 
 -- A file of this name was read whole, as this input.
-pub record Loads (names : Input → Option (List ℕ)) (i : Input) (told : Bool) (files files' : Files) (counts counts' : List ℕ → Counts) (result : Result (List ℕ) Ending) : Type 0 where
+pub record Loads (names : Input → Option (List ℕ)) (i : Input) (told : Bool) (files files' : Files)
+    (counts counts' : List ℕ → Counts) (result : Result (List ℕ) Ending) : Type 0 where
   -- it goes on with the bytes, or ends at the input
   pub steps : IsTrue told → Steps (with_file i (held_by names files i)) result
   pub held : IsTrue told → IfOk result (λ bytes. held_by names files i ≡ Some bytes)
@@ -63,7 +64,8 @@ pub record IsPropertiesFile (held : Option (List ℕ)) (p : Parameters) : Type 0
   pub gives : properties_of text ≡ Ok p
 
 -- The parameters of an archive were read.
-pub record LoadsParams (base : List ℕ) (told : Bool) (files files' : Files) (counts counts' : List ℕ → Counts) (result : Result Parameters Ending) : Type 0 where
+pub record LoadsParams (base : List ℕ) (told : Bool) (files files' : Files) (counts counts' : List ℕ → Counts)
+    (result : Result Parameters Ending) : Type 0 where
   -- it goes on with the parameters, or ends at the properties file
   pub steps : IsTrue told → Steps (params_then (held_by (file_of base) files input.Properties)) result
   pub given : IsTrue told → IfOk result (IsPropertiesFile (held_by (file_of base) files input.Properties))
@@ -76,7 +78,9 @@ pub record LoadsParams (base : List ℕ) (told : Bool) (files files' : Files) (c
 
 -- A step of a judgement that looks at one file of an archive ended the job, whatever would have come next. The
 -- properties promise so many arcs.
-pub record EndsAt {B : Type 0} (base : List ℕ) (i : Input) (promised : ℕ) (step : Readings → Option (List ℕ) → (B → Judged) → Judged) (told : Bool) (files : Files) (counts counts' : List ℕ → Counts) (e : Ending) : Type 0 where
+pub record EndsAt {B : Type 0} (base : List ℕ) (i : Input) (promised : ℕ)
+    (step : Readings → Option (List ℕ) → (B → Judged) → Judged) (told : Bool) (files : Files)
+    (counts counts' : List ℕ → Counts) (e : Ending) : Type 0 where
   -- the file was not read, or is at fault
   pub only : IsStopAt i promised e
   -- an absence or a fault is told only where the outside counted it
@@ -85,7 +89,9 @@ pub record EndsAt {B : Type 0} (base : List ℕ) (i : Input) (promised : ℕ) (s
   pub refused : IsTrue told → (r : Readings) → Steps {B = B} (step r (held_by (file_of base) files i)) (Err e)
 
 -- A step of a judgement that looks at one file of an archive was done, or ended the job.
-pub record Reads {A B : Type 0} (base : List ℕ) (i : Input) (promised : ℕ) (step : Readings → Option (List ℕ) → (B → Judged) → Judged) (told : Bool) (files files' : Files) (counts counts' : List ℕ → Counts) (result : Result A Ending) : Type 0 where
+pub record Reads {A B : Type 0} (base : List ℕ) (i : Input) (promised : ℕ)
+    (step : Readings → Option (List ℕ) → (B → Judged) → Judged) (told : Bool) (files files' : Files)
+    (counts counts' : List ℕ → Counts) (result : Result A Ending) : Type 0 where
   pub ends : IfErr result (EndsAt base i promised step told files counts counts')
   -- no file has changed, and no count of the depot falls
   pub same : files' ≡ files
@@ -96,13 +102,15 @@ abbrev pub digraph_then : Readings → Parameters → Option (List ℕ) → (Dig
 digraph_then r p held next = with_file input.Graph held (λ bytes. with_digraph r p bytes next)
 
 -- The graph file of an archive was judged: it stands for a graph, or the job ends at it.
-pub record JudgesGraph (base : List ℕ) (p : Parameters) (told : Bool) (files files' : Files) (counts counts' : List ℕ → Counts) (result : Result (Unit {0}) Ending) : Type 0 where
+pub record JudgesGraph (base : List ℕ) (p : Parameters) (told : Bool) (files files' : Files)
+    (counts counts' : List ℕ → Counts) (result : Result (Unit {0}) Ending) : Type 0 where
   pub reads : Reads base input.Graph p.arcs (λ r. graph_then r p) told files files' counts counts' result
   pub limits : OnOk result (IsWithinLimits p)
   pub accepted : IsTrue told → OnOk result ((a : Accepted) × IsGraphFile (held_by (file_of base) files input.Graph) p a)
 
 -- The graph of an archive was read whole, or the job ends at its file.
-pub record LoadsGraph (base : List ℕ) (p : Parameters) (told : Bool) (files files' : Files) (counts counts' : List ℕ → Counts) (result : Result Digraph Ending) : Type 0 where
+pub record LoadsGraph (base : List ℕ) (p : Parameters) (told : Bool) (files files' : Files)
+    (counts counts' : List ℕ → Counts) (result : Result Digraph Ending) : Type 0 where
   pub reads : Reads base input.Graph p.arcs (λ r. digraph_then r p) told files files' counts counts' result
   pub goes : IsTrue told → (r : Readings) → Steps (digraph_then r p (held_by (file_of base) files input.Graph)) result
   pub nodes : IfOk result (λ g. g.nodes ≡ p.nodes)
@@ -113,20 +121,25 @@ lengths_then r p places held next = offsets_then r p held (λ stored. with_lengt
 
 -- The offsets file of an archive was judged: it stores the lengths of the records with these places, or the job ends at
 -- this file.
-pub record JudgesOffsets (base : List ℕ) (p : Parameters) (places : List ℕ) (told : Bool) (files files' : Files) (counts counts' : List ℕ → Counts) (result : Result (Unit {0}) Ending) : Type 0 where
+pub record JudgesOffsets (base : List ℕ) (p : Parameters) (places : List ℕ) (told : Bool) (files files' : Files)
+    (counts counts' : List ℕ → Counts) (result : Result (Unit {0}) Ending) : Type 0 where
   pub reads : Reads base input.Offsets p.arcs (λ r. lengths_then r p places) told files files' counts counts' result
-  pub goes : IsTrue told → (r : Readings) → Steps (lengths_then r p places (held_by (file_of base) files input.Offsets)) result
+  pub goes : IsTrue told → (r : Readings)
+      → Steps (lengths_then r p places (held_by (file_of base) files input.Offsets)) result
 
 -- The offsets of an archive were read whole, and held against no graph; or the job ends at their file.
-pub record LoadsOffsets (base : List ℕ) (p : Parameters) (told : Bool) (files files' : Files) (counts counts' : List ℕ → Counts) (result : Result (List ℕ) Ending) : Type 0 where
+pub record LoadsOffsets (base : List ℕ) (p : Parameters) (told : Bool) (files files' : Files)
+    (counts counts' : List ℕ → Counts) (result : Result (List ℕ) Ending) : Type 0 where
   pub reads : Reads base input.Offsets p.arcs (λ r. offsets_then r p) told files files' counts counts' result
   pub goes : IsTrue told → (r : Readings) → Steps (offsets_then r p (held_by (file_of base) files input.Offsets)) result
   pub count : IfOk result (λ places. length places ≡ p.nodes + 1)
 
 -- The graph of so many pages that an arc list holds was read, or the job ends at the list.
-pub record LoadsList (name : List ℕ) (n : ℕ) (told : Bool) (files files' : Files) (counts counts' : List ℕ → Counts) (result : Result Digraph Ending) : Type 0 where
+pub record LoadsList (name : List ℕ) (n : ℕ) (told : Bool) (files files' : Files) (counts counts' : List ℕ → Counts)
+    (result : Result Digraph Ending) : Type 0 where
   pub steps : IsTrue told → (r : Readings) → Steps (with_arcs r n (held_by (list_named name) files)) result
-  pub only : IfErr result (λ e. IsOfInput input.ArcList e.status ⊎ ((line : ℕ) × (kind : ArcsKind) × (e.status ≡ BadArcs line kind)))
+  pub only : IfErr result
+      (λ e. IsOfInput input.ArcList e.status ⊎ ((line : ℕ) × (kind : ArcsKind) × (e.status ≡ BadArcs line kind)))
   pub nodes : IfOk result (λ g. g.nodes ≡ n)
   -- an absence or a fault is told only where the outside counted it
   pub causes : HasCause (list_named name) no_outputs counts counts' 0 0 (status_in result)
@@ -138,7 +151,8 @@ abbrev pub IsBadText : Ending → Type 0
 IsBadText e = (line : ℕ) × (kind : AsciiKind) × (e.status ≡ BadText line kind)
 
 -- The graph that a plain text holds was read whole, or the job ends at the text.
-pub record LoadsText (name : List ℕ) (told : Bool) (files files' : Files) (counts counts' : List ℕ → Counts) (result : Result Digraph Ending) : Type 0 where
+pub record LoadsText (name : List ℕ) (told : Bool) (files files' : Files) (counts counts' : List ℕ → Counts)
+    (result : Result Digraph Ending) : Type 0 where
   pub steps : IsTrue told → (r : Readings) → Steps (text_then r (held_by (text_named name) files input.Text)) result
   pub only : IfErr result (λ e. IsOfInput input.Text e.status ⊎ IsBadText e)
   -- an absence or a fault is told only where the outside counted it
@@ -149,7 +163,9 @@ pub record LoadsText (name : List ℕ) (told : Bool) (files files' : Files) (cou
 
 -- A file that is no archive's was read whole and judged, as this input, or the job ends at it, at last with a fault of
 -- what it holds.
-pub record ReadsNamed {B : Type 0} (i : Input) (names : Input → Option (List ℕ)) (IsFault : Ending → Type 0) (step : Option (List ℕ) → (B → Judged) → Judged) (told : Bool) (files files' : Files) (counts counts' : List ℕ → Counts) (result : Result B Ending) : Type 0 where
+pub record ReadsNamed {B : Type 0} (i : Input) (names : Input → Option (List ℕ)) (IsFault : Ending → Type 0)
+    (step : Option (List ℕ) → (B → Judged) → Judged) (told : Bool) (files files' : Files)
+    (counts counts' : List ℕ → Counts) (result : Result B Ending) : Type 0 where
   pub steps : IsTrue told → Steps (step (held_by names files i)) result
   pub only : IfErr result (λ e. IsOfInput i e.status ⊎ IsFault e)
   -- an absence or a fault is told only where the outside counted it
@@ -166,8 +182,10 @@ abbrev pub IsBadCertificate : Ending → Type 0
 IsBadCertificate e = (f : CertFault) × (e.status ≡ BadCertificate f)
 
 -- The weights of so many pages were read, where a file of them is named; or the job ends at this file.
-pub record LoadsWeights (given : Option (List ℕ)) (n : ℕ) (told : Bool) (files files' : Files) (counts counts' : List ℕ → Counts) (result : Result (Option (List ℕ)) Ending) : Type 0 where
-  pub reads : ReadsNamed input.Weights (weights_named given) (IsBadWeights n) (weights_then given n) told files files' counts counts' result
+pub record LoadsWeights (given : Option (List ℕ)) (n : ℕ) (told : Bool) (files files' : Files)
+    (counts counts' : List ℕ → Counts) (result : Result (Option (List ℕ)) Ending) : Type 0 where
+  pub reads : ReadsNamed input.Weights (weights_named given) (IsBadWeights n) (weights_then given n)
+      told files files' counts counts' result
   pub some : IfErr result (λ e. IsSome given)
   -- by the weights, or by 1 for each page, teleport can be shared out
   pub weights : IfOk result (λ ws. AreWeights n (weights_of n ws))
@@ -175,8 +193,10 @@ pub record LoadsWeights (given : Option (List ℕ)) (n : ℕ) (told : Bool) (fil
   pub alike : given ≡ None → IfOk result (λ ws. ws ≡ None)
 
 -- What a certificate claims of so many pages was read, or the job ends at its file.
-pub record LoadsCertificate (name : List ℕ) (n : ℕ) (told : Bool) (files files' : Files) (counts counts' : List ℕ → Counts) (result : Result Claim Ending) : Type 0 where
-  pub reads : ReadsNamed input.Certificate (certificate_named name) IsBadCertificate (claim_then n) told files files' counts counts' result
+pub record LoadsCertificate (name : List ℕ) (n : ℕ) (told : Bool) (files files' : Files)
+    (counts counts' : List ℕ → Counts) (result : Result Claim Ending) : Type 0 where
+  pub reads : ReadsNamed input.Certificate (certificate_named name) IsBadCertificate (claim_then n)
+      told files files' counts counts' result
   pub pages : IfOk result (λ c. length c.low ≡ n)
 
 -- the classes of so many pages are at fault, and the ending names the pages
@@ -184,14 +204,17 @@ abbrev pub IsBadMap : ℕ → Ending → Type 0
 IsBadMap n e = (f : NumbersFault) × (e.status ≡ BadMap f) × (e.promised ≡ n)
 
 -- The classes of so many pages, each below the limit, were read, or the job ends at their file.
-pub record LoadsMap (name : List ℕ) (n limit : ℕ) (told : Bool) (files files' : Files) (counts counts' : List ℕ → Counts) (result : Result (List ℕ) Ending) : Type 0 where
-  pub reads : ReadsNamed input.Map (map_named name) (IsBadMap n) (map_then n limit) told files files' counts counts' result
+pub record LoadsMap (name : List ℕ) (n limit : ℕ) (told : Bool) (files files' : Files)
+    (counts counts' : List ℕ → Counts) (result : Result (List ℕ) Ending) : Type 0 where
+  pub reads : ReadsNamed input.Map (map_named name) (IsBadMap n) (map_then n limit)
+      told files files' counts counts' result
   pub each : IfOk result (λ classes. length classes ≡ n)
   pub below : IfOk result (λ classes. Below limit classes)
 
 -- The graph file and the offsets file of an archive were judged beside each other, or the job ends at one of them: at
 -- the offsets file only if the graph is in order.
-pub record JudgesFiles (base : List ℕ) (p : Parameters) (told : Bool) (files files' : Files) (counts counts' : List ℕ → Counts) (result : Result ℕ Ending) : Type 0 where
+pub record JudgesFiles (base : List ℕ) (p : Parameters) (told : Bool) (files files' : Files)
+    (counts counts' : List ℕ → Counts) (result : Result ℕ Ending) : Type 0 where
   pub steps : IsTrue told → (r : Readings) → Steps (files_then r p (held_by (file_of base) files)) result
   pub limits : OnOk result (IsWithinLimits p)
   pub only : IfErr result (λ e. IsStopAt input.Graph p.arcs e ⊎ (IsStopAt input.Offsets p.arcs e × IsWithinLimits p
@@ -203,36 +226,51 @@ pub record JudgesFiles (base : List ℕ) (p : Parameters) (told : Bool) (files f
   pub later : NonDecreasing counts counts'
 
 -- The same relations, of a depot that a function changes.
-abbrev pub LoadsBy : {D : Type 0} → depot.Ghosts D → (Input → Option (List ℕ)) → Input → D → D → Result (List ℕ) Ending → Type 0
-LoadsBy d names i before after result = Loads names i d.told (d.files before) (d.files after) (d.counts before) (d.counts after) result
+abbrev pub LoadsBy : {D : Type 0} → depot.Ghosts D → (Input → Option (List ℕ)) → Input → D → D
+    → Result (List ℕ) Ending → Type 0
+LoadsBy d names i before after result =
+    Loads names i d.told (d.files before) (d.files after) (d.counts before) (d.counts after) result
 
 abbrev pub LoadsParamsBy : {D : Type 0} → depot.Ghosts D → List ℕ → D → D → Result Parameters Ending → Type 0
-LoadsParamsBy d base before after result = LoadsParams base d.told (d.files before) (d.files after) (d.counts before) (d.counts after) result
+LoadsParamsBy d base before after result =
+    LoadsParams base d.told (d.files before) (d.files after) (d.counts before) (d.counts after) result
 
 abbrev pub LoadsGraphBy : {D : Type 0} → depot.Ghosts D → List ℕ → Parameters → D → D → Result Digraph Ending → Type 0
-LoadsGraphBy d base p before after result = LoadsGraph base p d.told (d.files before) (d.files after) (d.counts before) (d.counts after) result
+LoadsGraphBy d base p before after result =
+    LoadsGraph base p d.told (d.files before) (d.files after) (d.counts before) (d.counts after) result
 
-abbrev pub JudgesOffsetsBy : {D : Type 0} → depot.Ghosts D → List ℕ → Parameters → List ℕ → D → D → Result (Unit {0}) Ending → Type 0
+abbrev pub JudgesOffsetsBy : {D : Type 0} → depot.Ghosts D → List ℕ → Parameters → List ℕ → D → D
+    → Result (Unit {0}) Ending → Type 0
 JudgesOffsetsBy d base p places before after result =
     JudgesOffsets base p places d.told (d.files before) (d.files after) (d.counts before) (d.counts after) result
 
-abbrev pub LoadsOffsetsBy : {D : Type 0} → depot.Ghosts D → List ℕ → Parameters → D → D → Result (List ℕ) Ending → Type 0
-LoadsOffsetsBy d base p before after result = LoadsOffsets base p d.told (d.files before) (d.files after) (d.counts before) (d.counts after) result
+abbrev pub LoadsOffsetsBy : {D : Type 0} → depot.Ghosts D → List ℕ → Parameters → D → D → Result (List ℕ) Ending
+    → Type 0
+LoadsOffsetsBy d base p before after result =
+    LoadsOffsets base p d.told (d.files before) (d.files after) (d.counts before) (d.counts after) result
 
 abbrev pub LoadsTextBy : {D : Type 0} → depot.Ghosts D → List ℕ → D → D → Result Digraph Ending → Type 0
-LoadsTextBy d name before after result = LoadsText name d.told (d.files before) (d.files after) (d.counts before) (d.counts after) result
+LoadsTextBy d name before after result =
+    LoadsText name d.told (d.files before) (d.files after) (d.counts before) (d.counts after) result
 
-abbrev pub LoadsWeightsBy : {D : Type 0} → depot.Ghosts D → Option (List ℕ) → ℕ → D → D → Result (Option (List ℕ)) Ending → Type 0
-LoadsWeightsBy d given n before after result = LoadsWeights given n d.told (d.files before) (d.files after) (d.counts before) (d.counts after) result
+abbrev pub LoadsWeightsBy : {D : Type 0} → depot.Ghosts D → Option (List ℕ) → ℕ → D → D
+    → Result (Option (List ℕ)) Ending → Type 0
+LoadsWeightsBy d given n before after result =
+    LoadsWeights given n d.told (d.files before) (d.files after) (d.counts before) (d.counts after) result
 
 abbrev pub LoadsCertificateBy : {D : Type 0} → depot.Ghosts D → List ℕ → ℕ → D → D → Result Claim Ending → Type 0
-LoadsCertificateBy d name n before after result = LoadsCertificate name n d.told (d.files before) (d.files after) (d.counts before) (d.counts after) result
+LoadsCertificateBy d name n before after result =
+    LoadsCertificate name n d.told (d.files before) (d.files after) (d.counts before) (d.counts after) result
 
 abbrev pub LoadsMapBy : {D : Type 0} → depot.Ghosts D → List ℕ → ℕ → ℕ → D → D → Result (List ℕ) Ending → Type 0
-LoadsMapBy d name n limit before after result = LoadsMap name n limit d.told (d.files before) (d.files after) (d.counts before) (d.counts after) result
+LoadsMapBy d name n limit before after result =
+    LoadsMap name n limit d.told (d.files before) (d.files after) (d.counts before) (d.counts after) result
 
-abbrev pub JudgesGraphBy : {D : Type 0} → depot.Ghosts D → List ℕ → Parameters → D → D → Result (Unit {0}) Ending → Type 0
-JudgesGraphBy d base p before after result = JudgesGraph base p d.told (d.files before) (d.files after) (d.counts before) (d.counts after) result
+abbrev pub JudgesGraphBy : {D : Type 0} → depot.Ghosts D → List ℕ → Parameters → D → D → Result (Unit {0}) Ending
+    → Type 0
+JudgesGraphBy d base p before after result =
+    JudgesGraph base p d.told (d.files before) (d.files after) (d.counts before) (d.counts after) result
 
 abbrev pub JudgesFilesBy : {D : Type 0} → depot.Ghosts D → List ℕ → Parameters → D → D → Result ℕ Ending → Type 0
-JudgesFilesBy d base p before after result = JudgesFiles base p d.told (d.files before) (d.files after) (d.counts before) (d.counts after) result
+JudgesFilesBy d base p before after result =
+    JudgesFiles base p d.told (d.files before) (d.files after) (d.counts before) (d.counts after) result

@@ -65,19 +65,24 @@ pub record IsPairedWith (file : List ℕ) (b : Pairing) (here there : List ℕ) 
   pub compared : AreCompared b.lengths here there
 
 -- What an error of the offsets file tells.
-pub record IsStopped (told : Bool) (files : Files) (counts counts' : List ℕ → Counts) (p : Parameters) (name : List ℕ) (e : Ending) : Type 0 where
+pub record IsStopped (told : Bool) (files : Files) (counts counts' : List ℕ → Counts) (p : Parameters) (name : List ℕ)
+    (e : Ending) : Type 0 where
   pub only : IsStopAt input.Offsets p.arcs e
-  pub causes : (names : Input → Option (List ℕ)) → names input.Offsets ≡ Some name → HasCause names no_outputs counts counts' 0 0 e.status
-  pub refused : IsTrue told → IsWithinLimits p → (r : Readings) → Steps {B = List ℕ} (offsets_then r p (map.get files name)) (Err e)
+  pub causes : (names : Input → Option (List ℕ)) → names input.Offsets ≡ Some name
+      → HasCause names no_outputs counts counts' 0 0 e.status
+  pub refused : IsTrue told → IsWithinLimits p → (r : Readings)
+      → Steps {B = List ℕ} (offsets_then r p (map.get files name)) (Err e)
 
 -- the pairing has come to the end of so many records, the last of which ends at this bit
 abbrev pub IsAt : Bool → Files → Parameters → List ℕ → ℕ → ℕ → Pairing → Type 0
 IsAt told files p name n at b =
-    IsPaired p b × (b.lengths.page ≡ n) × (b.lengths.here ≡ at) × (IsTrue told → (file : List ℕ) × (map.get files name ≡ Some file))
+    IsPaired p b × (b.lengths.page ≡ n) × (b.lengths.here ≡ at)
+      × (IsTrue told → (file : List ℕ) × (map.get files name ≡ Some file))
 
 -- How far it has come: to the end of so many records, or to the first error of the offsets file, after which no more is
 -- read.
-abbrev pub HasCome : Bool → Files → (List ℕ → Counts) → (List ℕ → Counts) → Parameters → List ℕ → ℕ → ℕ → Pairing → Type 0
+abbrev pub HasCome : Bool → Files → (List ℕ → Counts) → (List ℕ → Counts) → Parameters → List ℕ → ℕ → ℕ → Pairing
+    → Type 0
 HasCome told files counts counts' p name n at b =
     MatchResult b.so_far (λ done. IsAt told files p name n at b) (IsStopped told files counts counts' p name)
 
@@ -86,13 +91,18 @@ ComesWith file b here = OnOk b.so_far ((there : List ℕ) × IsPairedWith file b
 
 -- What the end of a pairing is: the offsets file is judged to its end, and then the lengths that it tells are compared
 -- with those of the records.
-pub record EndsPairing (told : Bool) (files : Files) (counts counts' : List ℕ → Counts) (p : Parameters) (name : List ℕ) (b : Pairing) (result : Result (Unit {0}) Ending) : Type 0 where
+pub record EndsPairing (told : Bool) (files : Files) (counts counts' : List ℕ → Counts) (p : Parameters)
+    (name : List ℕ) (b : Pairing) (result : Result (Unit {0}) Ending) : Type 0 where
   pub only : IfErr result (IsStopAt input.Offsets p.arcs)
-  pub causes : (names : Input → Option (List ℕ)) → names input.Offsets ≡ Some name → HasCause names no_outputs counts counts' 0 0 (status_in result)
-  pub steps : IsTrue told → IsWithinLimits p → (places : List ℕ) → ((file : List ℕ) → map.get files name ≡ Some file → ComesWith file b places) → (r : Readings)
+  pub causes : (names : Input → Option (List ℕ)) → names input.Offsets ≡ Some name
+      → HasCause names no_outputs counts counts' 0 0 (status_in result)
+  pub steps : IsTrue told → IsWithinLimits p → (places : List ℕ)
+      → ((file : List ℕ) → map.get files name ≡ Some file → ComesWith file b places) → (r : Readings)
       → Steps (λ next. offsets_then r p (map.get files name) (λ stored. with_lengths places stored next)) result
 
 -- goes on with how many bits the records have, if graph and offsets are in order and tell the same lengths
 abbrev pub files_then : Readings → Parameters → (Input → Option (List ℕ)) → (ℕ → Judged) → Judged
 files_then r p held next =
-    graph_then r p (held input.Graph) (λ a. offsets_then r p (held input.Offsets) (λ stored. with_lengths a.places stored (λ same. next (last_place a.places))))
+    graph_then r p (held input.Graph)
+      (λ a. offsets_then r p (held input.Offsets)
+      (λ stored. with_lengths a.places stored (λ same. next (last_place a.places))))

@@ -53,7 +53,8 @@ first_in (errors.Closed f) = f
 abbrev pub ending_at : ℕ → First → Ending
 ending_at promised (first.Fault f) = record { status = BadArchive (archive.Record f); promised = promised }
 ending_at promised (first.Tail offset) = record { status = BadArchive (archive.Tail offset); promised = promised }
-ending_at promised (first.ArcsShort total) = record { status = BadArchive (archive.ArcsShort total); promised = promised }
+ending_at promised (first.ArcsShort total) =
+    record { status = BadArchive (archive.ArcsShort total); promised = promised }
 ending_at promised first.Failed = record { status = ReadFault input.Graph; promised = 0 }
 ending_at promised first.Absent = record { status = Missing input.Graph; promised = 0 }
 ending_at promised first.TooLong = record { status = OverLimit input.Graph; promised = 0 }
@@ -80,14 +81,17 @@ abbrev pub FollowsFile : Files → Reading → Type 0
 FollowsFile files r = (file : List ℕ) → map.get files r.name ≡ Some file → (whole : List Whole) × IsInStep file r whole
 
 -- A step of a reading of the graph file: what stays as it is, and what an error tells.
-pub record Advances {B : Type 0} (told : Bool) (files files' : Files) (counts counts' : List ℕ → Counts) (p : Parameters) (old new : Reading) (result : Result B Ending) : Type 0 where
+pub record Advances {B : Type 0} (told : Bool) (files files' : Files) (counts counts' : List ℕ → Counts)
+    (p : Parameters) (old new : Reading) (result : Result B Ending) : Type 0 where
   pub params : new.pages.params ≡ old.pages.params
   pub name : new.name ≡ old.name
   pub onward : old.at ≤ new.at
   pub same : files' ≡ files
   pub later : NonDecreasing counts counts'
   pub only : IfErr result (λ e. IsStopAt input.Graph p.arcs e)
-  pub causes : (names : Input → Option (List ℕ)) → names input.Graph ≡ Some old.name → HasCause names no_outputs counts counts' 0 0 (status_in result)
-  pub there : IsTrue told → (held : Files) → files ≡ held → IsFound held old → OnOk result ((file : List ℕ) × (map.get held old.name ≡ Some file))
+  pub causes : (names : Input → Option (List ℕ)) → names input.Graph ≡ Some old.name
+      → HasCause names no_outputs counts counts' 0 0 (status_in result)
+  pub there : IsTrue told → (held : Files) → files ≡ held → IsFound held old
+      → OnOk result ((file : List ℕ) × (map.get held old.name ≡ Some file))
   pub refused : IsTrue told → IsWithinLimits p → (held : Files) → files ≡ held → IsFound held old → FollowsFile held old
       → (r : Readings) → IfErr result (λ e. Steps {B = Accepted} (graph_then r p (map.get held old.name)) (Err e))

@@ -35,7 +35,8 @@ pub record AreFilled (n : ℕ) (whole lists : ℕ → List PageRun) (ends : List
   pub pages : length ends ≡ n
   pub room : length runs ≡ run_start whole n
   pub ended : (v : ℕ) → v < n → get_or ends v 0 ≡ run_start whole v + length (lists v)
-  pub members : (v : ℕ) → v < n → (i : ℕ) → i < length (lists v) → get_or runs (run_start whole v + i) no_run ≡ get_or (lists v) i no_run
+  pub members : (v : ℕ) → v < n → (i : ℕ) → i < length (lists v)
+      → get_or runs (run_start whole v + i) no_run ≡ get_or (lists v) i no_run
 
 -- the same, and where the last run of each list ends
 pub record AreBegun (n : ℕ) (whole lists : ℕ → List PageRun) (ends reach : List ℕ) (runs : List PageRun) : Type 0 where
@@ -49,7 +50,9 @@ list_at ends runs v = slice_range runs (get_or (0 ∷ ends) v 0) (get_or ends v 
 
 -- the graph in which each page has the predecessors that stand there
 unfoldable pub graph_of : List ℕ → List PageRun → Digraph
-graph_of ends runs = transposed (record { nodes = length ends; lists = map (λ v. numbers_of_all (list_at ends runs v)) (range_with_len 0 (length ends)) })
+graph_of ends runs = transposed
+    (record { nodes = length ends;
+    lists = map (λ v. numbers_of_all (list_at ends runs v)) (range_with_len 0 (length ends)) })
 
 -- these are the runs to each page of the graph, and the outdegrees
 pub record HoldsRuns (g : Digraph) (ends : List ℕ) (runs : List PageRun) (degrees : List ℕ) : Type 0 where

@@ -24,7 +24,8 @@ StandApart n (r ∷ rs) = (n ≤ r.from) × (r.from < r.to) × StandApart (suc r
 -- These runs, and a number before them: it joins the first run if that begins right behind it.
 abbrev pub with_first : ℕ → List PageRun → List PageRun
 with_first x [] = record { from = x; to = suc x } ∷ []
-with_first x (r ∷ rs) = if suc x == r.from then record { from = x; to = r.to } ∷ rs else record { from = x; to = suc x } ∷ r ∷ rs
+with_first x (r ∷ rs) = if suc x == r.from then record { from = x; to = r.to } ∷ rs
+    else record { from = x; to = suc x } ∷ r ∷ rs
 
 -- the runs of an ascending list, each as long as can be
 abbrev pub runs_in : List ℕ → List PageRun

@@ -29,7 +29,8 @@ pub record AreSound (r : PagesRead) : Type 0 where
 
 -- the records of so many pages with so many arcs stand from the first bit to the bit at, and these pages are kept of
 -- them
-pub record PrefixRead (p : Parameters) (bits : List Bool) (pages arcs at : ℕ) (kept : List Known) (behind : List Whole) : Type 0 where
+pub record PrefixRead (p : Parameters) (bits : List Bool) (pages arcs at : ℕ) (kept : List Known)
+    (behind : List Whole) : Type 0 where
   pub stood : List Whole
   pub records : Pages p bits [] 0 stood behind at
   pub count : length behind ≡ pages

@@ -47,7 +47,8 @@ pub record IsJudged (file : List ℕ) (p : Parameters) (answer : Result Accepted
 
 abbrev pub AgreesIn : State → List ℕ → Reading → List Whole → Type 0
 AgreesIn Open file r whole = AreReadOf file r whole
-AgreesIn Done file r whole = AreReadOf file r whole × IsJudged file r.pages.params (Ok (record { graph = lists_of whole; places = places_of whole }))
+AgreesIn Done file r whole = AreReadOf file r whole
+    × IsJudged file r.pages.params (Ok (record { graph = lists_of whole; places = places_of whole }))
 AgreesIn (Closed e) file r whole = OfGraph e (λ f. IsJudged file r.pages.params (Err f))
 
 -- The reading is in step with this file, of which these records were read: at the end they are its graph, and a fault
@@ -57,6 +58,7 @@ IsInStep file r whole = AgreesIn r.state file r whole
 
 -- what a step leaves: the same records, or one more, with the list that was read last
 abbrev pub StaysInStep : List ℕ → Reading → List Whole → Result Bool StreamError → Type 0
-StaysInStep file r whole (Ok true) = (next : Whole) × (next.known.list ≡ r.pages.list) × (next.end ≡ r.at) × IsInStep file r (next ∷ whole)
+StaysInStep file r whole (Ok true) = (next : Whole) × (next.known.list ≡ r.pages.list) × (next.end ≡ r.at)
+    × IsInStep file r (next ∷ whole)
 StaysInStep file r whole (Ok false) = IsInStep file r whole
 StaysInStep file r whole (Err e) = IsInStep file r whole

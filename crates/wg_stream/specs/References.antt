@@ -7,7 +7,8 @@ use Rattle.wg_stream.specs.AllRecords.{known_at, offset_at}
 
 -- The record of page x is proper against the list below.
 abbrev pub StandsOn : Parameters → List Bool → List Whole → ℕ → Option (List ℕ) → Type 0
-StandsOn p bits records x below = IsRecord p x below (record { bits = bits; at = offset_at records x }) (known_at records x).list
+StandsOn p bits records x below =
+    IsRecord p x below (record { bits = bits; at = offset_at records x }) (known_at records x).list
 
 -- the list of the page r pages before x; none where r is 0
 abbrev pub below_at : List Whole → ℕ → ℕ → Option (List ℕ)

@@ -19,7 +19,8 @@ pub record StandFor (p : Parameters) (bits : List Bool) (graph : List (List ℕ)
 -- longer than the greatest.
 abbrev pub PassFinds : Parameters → List Bool → List ℕ → ℕ → Type 0
 PassFinds p bits offsets greatest =
-    (graph : List (List ℕ)) × ReadsGraph p bits (Ok (record { graph = graph; places = offsets })) × All (λ s. length s ≤ greatest) graph
+    (graph : List (List ℕ)) × ReadsGraph p bits (Ok (record { graph = graph; places = offsets }))
+      × All (λ s. length s ≤ greatest) graph
 
 -- they stand for a graph; there is one at most
 abbrev pub HaveGraph : Parameters → List Bool → Type 0
@@ -36,12 +37,14 @@ IsBack n from back row = (row + back ≡ from) ⊎ (row + back ≡ from + n)
 -- pages before this one is so many rows back from the one whose turn comes next.
 abbrev pub AreKept : List Whole → ℕ → List Filled → ℕ → Type 0
 AreKept records page rows turn =
-    (row back : ℕ) → row < length rows → 0 < back → back ≤ page → back ≤ length rows → IsBack (length rows) turn back row
+    (row back : ℕ) → row < length rows → 0 < back → back ≤ page → back ≤ length rows
+      → IsBack (length rows) turn back row
     → (get_or rows row no_row).list ≡ (known_at records (page - back)).list
 
 -- The sweep stands before this page, whose record begins at the bit at. One row has the list of the page before it, and
 -- the rows that are kept have those of the pages before that one.
-pub record Sweeping (p : Parameters) (bytes : List ℕ) (graph : List (List ℕ)) (page at : ℕ) (kept : List Filled) (turn : ℕ) (list : Filled) : Type 0 where
+pub record Sweeping (p : Parameters) (bytes : List ℕ) (graph : List (List ℕ)) (page at : ℕ) (kept : List Filled)
+    (turn : ℕ) (list : Filled) : Type 0 where
   pub short : length bytes ≤ MOST_BYTES
   pub reading : Reading p (bits_of bytes)
   pub graph_is : graph ≡ map (λ w. w.known.list) reading.records
@@ -57,7 +60,8 @@ pub record Sweeping (p : Parameters) (bytes : List ℕ) (graph : List (List ℕ)
 
 -- What the record of the page is decoded from: it begins at the bit at, and the rows have the lists that it may refer
 -- to.
-pub record IsNext (p : Parameters) (bits : List Bool) (r : Reading p bits) (page at : ℕ) (kept : List Filled) (turn : ℕ) : Type 0 where
+pub record IsNext (p : Parameters) (bits : List Bool) (r : Reading p bits) (page at : ℕ) (kept : List Filled)
+    (turn : ℕ) : Type 0 where
   pub begins : at ≡ offset_at r.records page
   pub enough : min p.window p.nodes ≤ length kept
   pub before : AreKept r.records page kept turn

@@ -49,30 +49,43 @@ pub record IsLoaded (l : Loaded) (a : Accepted) : Type 0 where
   pub judged : IsJudged l.params l.bytes l.greatest a
 
 -- The graph file of an archive that is held, and its offsets file, were judged.
-pub record JudgesArchive (base : List ℕ) (p : Parameters) (bytes : List ℕ) (told : Bool) (files files' : Files) (counts counts' : List ℕ → Counts) (result : Result ℕ Ending) : Type 0 where
+pub record JudgesArchive (base : List ℕ) (p : Parameters) (bytes : List ℕ) (told : Bool) (files files' : Files)
+    (counts counts' : List ℕ → Counts) (result : Result ℕ Ending) : Type 0 where
   pub limits : IsWithinLimits p
   -- the bytes stand for a graph, and the offsets file stores the lengths of its records
-  pub goes : IfOk result (λ greatest. (a : Accepted) × IsJudged p bytes greatest a × JudgesOffsets base p a.places told files files' counts counts' (Ok tt))
+  pub goes : IfOk result
+      (λ greatest. (a : Accepted) × IsJudged p bytes greatest a
+      × JudgesOffsets base p a.places told files files' counts counts' (Ok tt))
   -- or they do not, or the job ends at the offsets file
-  pub ends : IfErr result (λ e. (IsBadFile Graph p.arcs e × ((r : Readings) → Steps {B = Accepted} (with_graph r p bytes) (Err e)) × (files' ≡ files) × NonDecreasing counts counts')
-      ⊎ ((a : Accepted) × ReadsGraph p (bits_of bytes) (Ok a) × JudgesOffsets base p a.places told files files' counts counts' (Err e)))
+  pub ends : IfErr result
+      (λ e. (IsBadFile Graph p.arcs e × ((r : Readings) → Steps {B = Accepted} (with_graph r p bytes) (Err e))
+      × (files' ≡ files) × NonDecreasing counts counts')
+      ⊎ ((a : Accepted) × ReadsGraph p (bits_of bytes) (Ok a)
+        × JudgesOffsets base p a.places told files files' counts counts' (Err e)))
 
-abbrev pub JudgesArchiveBy : {D : Type 0} → depot.Ghosts D → List ℕ → Parameters → List ℕ → D → D → Result ℕ Ending → Type 0
-JudgesArchiveBy d base p bytes before after result = JudgesArchive base p bytes d.told (d.files before) (d.files after) (d.counts before) (d.counts after) result
+abbrev pub JudgesArchiveBy : {D : Type 0} → depot.Ghosts D → List ℕ → Parameters → List ℕ → D → D → Result ℕ Ending
+    → Type 0
+JudgesArchiveBy d base p bytes before after result =
+    JudgesArchive base p bytes d.told (d.files before) (d.files after) (d.counts before) (d.counts after) result
 
 -- The three files of an archive were judged, and its graph file is held, or the job ends at one of them.
-pub record LoadsArchive (base : List ℕ) (told : Bool) (files files' : Files) (counts counts' : List ℕ → Counts) (result : Result Loaded Ending) : Type 0 where
+pub record LoadsArchive (base : List ℕ) (told : Bool) (files files' : Files) (counts counts' : List ℕ → Counts)
+    (result : Result Loaded Ending) : Type 0 where
   -- it goes on with the graph
   pub goes : IfOk result (λ l. (a : Accepted) × IsLoaded l a
-      × (IsTrue told → (r : Readings) (next : Parameters → Accepted → Judged) → with_archive r (held_by (file_of base) files) next ≡ next l.params a))
+      × (IsTrue told → (r : Readings) (next : Parameters → Accepted → Judged)
+        → with_archive r (held_by (file_of base) files) next ≡ next l.params a))
   -- or it ends like this, whatever would have come next
-  pub ends : IsTrue told → (r : Readings) → IfErr result (λ e. (next : Parameters → Accepted → Judged) → Answers (with_archive r (held_by (file_of base) files) next) e.status)
+  pub ends : IsTrue told → (r : Readings)
+      → IfErr result (λ e. (next : Parameters → Accepted → Judged)
+      → Answers (with_archive r (held_by (file_of base) files) next) e.status)
   pub only : IfErr result (λ e. IsOfArchive e.status)
   -- an absence or a fault is told only where the outside counted it
   pub causes : HasCause (file_of base) no_outputs counts counts' 0 0 (status_in result)
   -- a file that could not be read is the first that would be missed
   pub reached : IsTrue told → (r : Readings) (i : Input) → status_in result ≡ ReadFault i
-      → (next : Parameters → Accepted → Judged) → with_archive r (without i (held_by (file_of base) files)) next ≡ refused (Missing i)
+      → (next : Parameters → Accepted → Judged)
+        → with_archive r (without i (held_by (file_of base) files)) next ≡ refused (Missing i)
   -- the arcs are those that the line of the status names
   pub promised : IsTrue told → ArePromised (held_by (file_of base) files) (status_in result) (promised_in result)
   -- no file has changed, and no count of the depot falls
@@ -80,7 +93,8 @@ pub record LoadsArchive (base : List ℕ) (told : Bool) (files files' : Files) (
   pub later : NonDecreasing counts counts'
 
 abbrev pub LoadsArchiveBy : {D : Type 0} → depot.Ghosts D → List ℕ → D → D → Result Loaded Ending → Type 0
-LoadsArchiveBy d base before after result = LoadsArchive base d.told (d.files before) (d.files after) (d.counts before) (d.counts after) result
+LoadsArchiveBy d base before after result =
+    LoadsArchive base d.told (d.files before) (d.files after) (d.counts before) (d.counts after) result
 
 -- the same of an archive that is the second of its job: its end is told as the second's
 abbrev pub result_of_second : Result Loaded Ending → Result Loaded Ending
@@ -88,4 +102,5 @@ result_of_second (Ok l) = Ok l
 result_of_second (Err e) = Err (second_ending e)
 
 abbrev pub LoadsSecondBy : {D : Type 0} → depot.Ghosts D → List ℕ → D → D → Result Loaded Ending → Type 0
-LoadsSecondBy d base before after result = (read : Result Loaded Ending) × LoadsArchiveBy d base before after read × (result ≡ result_of_second read)
+LoadsSecondBy d base before after result = (read : Result Loaded Ending) × LoadsArchiveBy d base before after read
+    × (result ≡ result_of_second read)

@@ -23,8 +23,10 @@ TwiceGivesBack = (g : Digraph) → IsGraph g → transposed (transposed g) ≡ g
 
 -- No other graph of as many pages has the arcs reversed.
 abbrev pub ReversedIsOne : Type 0
-ReversedIsOne = (g t : Digraph) → IsGraph g → IsGraph t → t.nodes ≡ g.nodes → ((u v : ℕ) → has_arc t v u ≡ has_arc g u v) → t ≡ transposed g
+ReversedIsOne = (g t : Digraph) → IsGraph g → IsGraph t → t.nodes ≡ g.nodes
+    → ((u v : ℕ) → has_arc t v u ≡ has_arc g u v) → t ≡ transposed g
 
 -- There are no more ranges before the last than `room` goes into the number of arcs.
 abbrev pub RangesAreFew : Type 0
-RangesAreFew = (g : Digraph) → IsGraph g → (room n : ℕ) (at : ℕ → ℕ) → AreRanges g room (n + 1) at → room * n ≤ arc_count g
+RangesAreFew = (g : Digraph) → IsGraph g → (room n : ℕ) (at : ℕ → ℕ) → AreRanges g room (n + 1) at
+    → room * n ≤ arc_count g

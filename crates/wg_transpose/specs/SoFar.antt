@@ -35,7 +35,8 @@ pub record ArePrefixes (n : ℕ) (whole lists : ℕ → List ℕ) (ends all : Li
   pub pages : length ends ≡ n
   pub room : length all ≡ start whole n
   pub reached : (v : ℕ) → v < n → get_or ends v 0 ≡ start whole v + length (lists v)
-  pub members : (v : ℕ) → v < n → (i : ℕ) → i < length (lists v) → get_or all (start whole v + i) 0 ≡ get_or (lists v) i 0
+  pub members : (v : ℕ) → v < n → (i : ℕ) → i < length (lists v)
+      → get_or all (start whole v + i) 0 ≡ get_or (lists v) i 0
 
 -- these are prefixes of the lists of predecessors
 abbrev pub ArePlaced : Digraph → (ℕ → List ℕ) → List ℕ → List ℕ → Type 0

@@ -11,7 +11,8 @@ positional_rule name = record (new_rule name) { required = true }
 
 -- one word or more, in their order
 abbrev pub several_rule : Text → Rule
-several_rule name = record (positional_rule name) { range = Some (record { start_inclusive = 1; end_inclusive = usize_max }) }
+several_rule name = record (positional_rule name)
+    { range = Some (record { start_inclusive = 1; end_inclusive = usize_max }) }
 
 -- the archive of a command
 abbrev pub base_rule : Rule
@@ -43,7 +44,8 @@ with_option a name = with_rule a (option_rule name)
 
 -- rank BASE, with the options --rounds, --damping and --top
 abbrev pub plain_rank_app : App
-plain_rank_app = with_option (with_option (with_option (archive_app (codes "rank")) (codes "rounds")) (codes "damping")) (codes "top")
+plain_rank_app = with_option
+    (with_option (with_option (archive_app (codes "rank")) (codes "rounds")) (codes "damping")) (codes "top")
 
 -- the same with the options --weights and --certificate
 abbrev pub rank_app : App
@@ -51,17 +53,20 @@ rank_app = with_option (with_option plain_rank_app (codes "weights")) (codes "ce
 
 -- verify BASE FILE, with the option --weights
 abbrev pub verify_app : App
-verify_app = with_option (with_rule (archive_app (codes "verify")) (positional_rule (codes "certificate"))) (codes "weights")
+verify_app = with_option (with_rule (archive_app (codes "verify")) (positional_rule (codes "certificate")))
+    (codes "weights")
 
 -- the options --window, --chain, --interval and --zeta
 abbrev pub with_limits : App → App
-with_limits a = with_option (with_option (with_option (with_option a (codes "window")) (codes "chain")) (codes "interval")) (codes "zeta")
+with_limits a = with_option
+    (with_option (with_option (with_option a (codes "window")) (codes "chain")) (codes "interval")) (codes "zeta")
 
 -- the options --outdegrees, --references, --blockcounts, --blocks, --residuals and --offsets
 abbrev pub with_codes : App → App
 with_codes a =
     with_option (with_option (with_option (with_option (with_option (with_option a
-    (codes "outdegrees")) (codes "references")) (codes "blockcounts")) (codes "blocks")) (codes "residuals")) (codes "offsets")
+    (codes "outdegrees")) (codes "references")) (codes "blockcounts")) (codes "blocks")) (codes "residuals"))
+      (codes "offsets")
 
 -- the options that say how an archive is written
 abbrev pub with_layout : App → App
@@ -69,7 +74,9 @@ with_layout a = with_codes (with_limits a)
 
 -- build ARCS BASE --nodes N
 abbrev pub plain_build_app : App
-plain_build_app = with_rule (with_rule (with_rule (new_app (codes "build")) (positional_rule (codes "arcs"))) base_rule) (required_rule (codes "nodes"))
+plain_build_app = with_rule
+    (with_rule (with_rule (new_app (codes "build")) (positional_rule (codes "arcs"))) base_rule)
+    (required_rule (codes "nodes"))
 
 -- the same with the options that say how the archive is written
 abbrev pub build_app : App
@@ -85,7 +92,9 @@ import_app = with_layout plain_import_app
 
 -- NAME IN SECOND OUT
 abbrev pub three_files_app : Text → Text → App
-three_files_app name second = with_rule (with_rule (with_rule (new_app name) (positional_rule (codes "in"))) (positional_rule second)) (positional_rule (codes "out"))
+three_files_app name second =
+    with_rule (with_rule (with_rule (new_app name) (positional_rule (codes "in"))) (positional_rule second))
+    (positional_rule (codes "out"))
 
 -- quotient IN MAP OUT --classes C
 abbrev pub plain_quotient_app : App
@@ -97,7 +106,8 @@ quotient_app = with_layout plain_quotient_app
 
 -- NAME IN OUT
 abbrev pub two_archives_app : Text → App
-two_archives_app name = with_rule (with_rule (new_app name) (positional_rule (codes "in"))) (positional_rule (codes "out"))
+two_archives_app name =
+    with_rule (with_rule (new_app name) (positional_rule (codes "in"))) (positional_rule (codes "out"))
 
 -- the same with the options that say how the archive OUT is written
 abbrev pub conversion_app : Text → App
@@ -109,15 +119,19 @@ union_app = with_layout (three_files_app (codes "union") (codes "second"))
 
 -- bulk SEED N
 abbrev pub bulk_app : App
-bulk_app = with_rule (with_rule (new_app (codes "bulk")) (positional_rule (codes "seed"))) (positional_rule (codes "pages"))
+bulk_app = with_rule (with_rule (new_app (codes "bulk")) (positional_rule (codes "seed")))
+    (positional_rule (codes "pages"))
 
 -- one level of subcommands, of which one is required
 abbrev pub program_app : App
-program_app = record (new_app (codes "webgraph")) { top = record (new_app (codes "webgraph")).top { no_binary_name = true; subcommand_required = true } }
+program_app = record (new_app (codes "webgraph"))
+    { top = record (new_app (codes "webgraph")).top { no_binary_name = true; subcommand_required = true } }
 
 -- commands that take an archive and no option
 abbrev pub plain_app : App
-plain_app = with_subcommand (with_subcommand (with_subcommand program_app (archive_app (codes "check")).top) (archive_app (codes "arcs")).top) (archive_app (codes "offsets")).top
+plain_app = with_subcommand
+    (with_subcommand (with_subcommand program_app (archive_app (codes "check")).top) (archive_app (codes "arcs")).top)
+    (archive_app (codes "offsets")).top
 
 -- a command line with one command more
 abbrev pub with_command : App → App → App
@@ -128,7 +142,8 @@ abbrev pub command_app : App
 command_app =
     with_command (with_command (with_command (with_command (with_command (with_command (with_command (with_command
     (with_command (with_command (with_command (with_command
-    plain_app (archive_app (codes "ascii"))) show_app) spot_app) rank_app) verify_app) build_app) import_app) quotient_app)
+    plain_app (archive_app (codes "ascii"))) show_app) spot_app) rank_app) verify_app) build_app) import_app)
+      quotient_app)
     (conversion_app (codes "recode"))) union_app) (conversion_app (codes "transpose"))) bulk_app
 
 -- nothing where the words are refused

@@ -5,7 +5,8 @@ use Rattle.wg_io.specs.declared.suffixes.TheConstants.{PROPERTIES, GRAPH, OFFSET
 
 -- the name is one of the archive's three
 abbrev pub is_file_of : List ℕ → List ℕ → Bool
-is_file_of base name = bytes_eq name (base ++ PROPERTIES.now) || bytes_eq name (base ++ GRAPH.now) || bytes_eq name (base ++ OFFSETS.now)
+is_file_of base name =
+    bytes_eq name (base ++ PROPERTIES.now) || bytes_eq name (base ++ GRAPH.now) || bytes_eq name (base ++ OFFSETS.now)
 
 -- the name is none of them
 pub record IsNoFileOf (base name : List ℕ) : Type 0 where

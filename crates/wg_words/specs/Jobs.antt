@@ -34,12 +34,14 @@ rank_from rows base weights certificate =
 
 -- the same, unless the certificate would be written over a file that is read
 abbrev pub rank_with : List Row → Text → Option Text → Option Text → Option Job
-rank_with rows base weights certificate = if overwrites base weights certificate then None else rank_from rows base weights certificate
+rank_with rows base weights certificate = if overwrites base weights certificate then None
+    else rank_from rows base weights certificate
 
 -- the same, with the weights and the certificate that the options name, if they do
 abbrev pub rank_on : List Row → Text → Option Job
 rank_on rows base =
-    option_and_then (λ weights. option_and_then (rank_with rows base weights) (optional_name_in rows (codes "certificate")))
+    option_and_then (λ weights. option_and_then (rank_with rows base weights)
+      (optional_name_in rows (codes "certificate")))
     (optional_name_in rows (codes "weights"))
 
 -- the judging of a certificate against an archive, with weights if the option names them
@@ -74,7 +76,8 @@ import_on rows base =
 
 -- the conversion between two archives, with the layout that the options give
 abbrev pub conversion_from : List Row → Text → Text → Option Conversion
-conversion_from rows input output = option_and_then (λ layout. Some (record { input = input; output = output; layout = layout })) (layout_in rows)
+conversion_from rows input output =
+    option_and_then (λ layout. Some (record { input = input; output = output; layout = layout })) (layout_in rows)
 
 -- the conversion of an archive into one of another name
 abbrev pub conversion_of : List Row → Text → Option Conversion
@@ -171,9 +174,11 @@ IsConversion input output layout = IsWithinLimits (params_of layout 0 0) × Shar
 abbrev pub IsWithin : Job → Type 0
 IsWithin (Rank base rounds damping top weights certificate) =
     (rounds ≤ MOST_ROUNDS) × (damping ≤ MOST_DAMPING) × (top ≤ MOST_PAGES) × KeepsInputs base weights certificate
-IsWithin (Build arcs base nodes layout) = (nodes ≤ MOST_PAGES) × IsWithinLimits (params_of layout nodes 0) × IsNoFileOf base arcs
+IsWithin (Build arcs base nodes layout) = (nodes ≤ MOST_PAGES) × IsWithinLimits (params_of layout nodes 0)
+    × IsNoFileOf base arcs
 IsWithin (Import text base layout) = IsWithinLimits (params_of layout 0 0) × IsNoFileOf base text
-IsWithin (Quotient input map output classes layout) = (classes ≤ MOST_PAGES) × IsConversion input output layout × IsNoFileOf output map
+IsWithin (Quotient input map output classes layout) = (classes ≤ MOST_PAGES) × IsConversion input output layout
+    × IsNoFileOf output map
 IsWithin (Recode input output layout) = IsConversion input output layout
 IsWithin (Union first second output layout) = IsConversion first output layout × ShareNoFile second output
 IsWithin (Transpose input output layout) = IsConversion input output layout

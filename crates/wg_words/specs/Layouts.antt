@@ -29,7 +29,8 @@ default_layout = record {
 
 -- none for no limit, or the limit
 abbrev pub chain_of : Text → Option (Option ℕ)
-chain_of text = if bytes_eq text (codes "none") then Some None else option_map (λ n. Some n) (number_up_to MOST_CHAIN text)
+chain_of text = if bytes_eq text (codes "none") then Some None
+    else option_map (λ n. Some n) (number_up_to MOST_CHAIN text)
 
 abbrev pub chain_or : Option Text → Option (Option ℕ)
 chain_or None = Some (Some DEFAULT_CHAIN)
@@ -73,7 +74,9 @@ codes_in rows factor =
     option_and_then (λ counts.
     option_and_then (λ blocks.
     option_and_then (λ residuals.
-    option_and_then (λ offsets. Some (record { outdegrees = outdegrees; references = references; block_counts = counts; blocks = blocks; residuals = residuals; offsets = offsets }))
+    option_and_then (λ offsets. Some
+      (record { outdegrees = outdegrees; references = references; block_counts = counts; blocks = blocks;
+      residuals = residuals; offsets = offsets }))
     (gamma_or_delta (word_in rows (codes "offsets") DEFAULT_OFFSETS.now)))
     (residual_code factor (word_in rows (codes "residuals") DEFAULT_RESIDUALS.now)))
     (gamma_or_delta (word_in rows (codes "blocks") DEFAULT_BLOCKS.now)))
@@ -88,7 +91,8 @@ layout_in rows =
     option_and_then (λ chain.
     option_and_then (λ interval.
     option_and_then (λ zeta.
-    option_and_then (λ given. Some (record { window = window; chain = chain; interval = interval; zeta = zeta; codes = given }))
+    option_and_then (λ given. Some
+      (record { window = window; chain = chain; interval = interval; zeta = zeta; codes = given }))
     (codes_in rows zeta))
     (zeta_in rows))
     (number_in rows (codes "interval") DEFAULT_INTERVAL MOST_INTERVAL))

@@ -32,7 +32,8 @@ whole a = record { properties = Some a.properties; graph = Some a.graph; offsets
 
 -- Steps on the way of this archive into its files, which stood as `first` before the first of them: they were done, and
 -- the files stand as `reached`, or one of them stopped the job.
-pub record WritesFiles (a : Archive) (base : List ℕ) (first reached : ArchiveFiles) (told : Bool) (files files' : Files) (counts counts' : List ℕ → Counts) (result : Result (Unit {0}) Ending) : Type 0 where
+pub record WritesFiles (a : Archive) (base : List ℕ) (first reached : ArchiveFiles) (told : Bool)
+    (files files' : Files) (counts counts' : List ℕ → Counts) (result : Result (Unit {0}) Ending) : Type 0 where
   pub ok : IsTrue told → OnOk result (archive_in base files' ≡ reached)
   -- after an error they stand as its status tells
   pub err : IsTrue told → IfErr result (λ e. FilesAfter a first (archive_in base files') e.status)
@@ -45,5 +46,7 @@ pub record WritesFiles (a : Archive) (base : List ℕ) (first reached : ArchiveF
   -- no count of the depot falls
   pub later : NonDecreasing counts counts'
 
-abbrev pub WritesFilesBy : {D : Type 0} → depot.Ghosts D → Archive → List ℕ → ArchiveFiles → ArchiveFiles → D → D → Result (Unit {0}) Ending → Type 0
-WritesFilesBy d a base first reached before after result = WritesFiles a base first reached d.told (d.files before) (d.files after) (d.counts before) (d.counts after) result
+abbrev pub WritesFilesBy : {D : Type 0} → depot.Ghosts D → Archive → List ℕ → ArchiveFiles → ArchiveFiles → D → D
+    → Result (Unit {0}) Ending → Type 0
+WritesFilesBy d a base first reached before after result =
+    WritesFiles a base first reached d.told (d.files before) (d.files after) (d.counts before) (d.counts after) result

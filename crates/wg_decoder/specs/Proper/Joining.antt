@@ -22,7 +22,8 @@ pub record Joining (all row members others : List ℕ) : Type 0 where
 
 -- of the blocks that are stored as these values, index have been read, which end at the member done; what they copy was
 -- added to the old numbers
-pub record Copying (code : Code) (count : ℕ) (members values : List ℕ) (behind : List Bool) (old : List ℕ) (index done : ℕ) (row : List ℕ) (z : List Bool) : Type 0 where
+pub record Copying (code : Code) (count : ℕ) (members values : List ℕ) (behind : List Bool) (old : List ℕ)
+    (index done : ℕ) (row : List ℕ) (z : List Bool) : Type 0 where
   pub blocks : List ℕ
   pub todo : List ℕ
   pub count_done : length blocks ≡ index
@@ -33,7 +34,8 @@ pub record Copying (code : Code) (count : ℕ) (members values : List ℕ) (behi
   pub added : row ≡ old ++ at_positions (is_copied blocks) 0 (take done members)
 
 -- of the intervals, index have been read, of which the last ended before past; their numbers were joined
-pub record Covered (page least count : ℕ) (all : List ℕ) (behind : List Bool) (index : ℕ) (past : Option ℕ) (row members : List ℕ) (z : List Bool) : Type 0 where
+pub record Covered (page least count : ℕ) (all : List ℕ) (behind : List Bool) (index : ℕ) (past : Option ℕ)
+    (row members : List ℕ) (z : List Bool) : Type 0 where
   pub lefts : List ℕ
   pub lengths : List ℕ
   pub count_todo : length lefts + index ≡ count

@@ -39,7 +39,8 @@ pub record IsResidual (c : Code) (page : ℕ) (last : Option ℕ) (y : ℕ) (z b
 -- these residuals
 abbrev pub ResidualsTo : Code → ℕ → Option ℕ → List ℕ → List Bool → List Bool → Type 0
 ResidualsTo c page last [] z behind = behind ≡ z
-ResidualsTo c page last (y ∷ ys) z behind = (mid : List Bool) × IsResidual c page last y z mid × ResidualsTo c page (Some y) ys mid behind
+ResidualsTo c page last (y ∷ ys) z behind = (mid : List Bool) × IsResidual c page last y z mid
+    × ResidualsTo c page (Some y) ys mid behind
 
 -- the list of the page below, empty if there is none
 abbrev pub list_or_none : Option (List ℕ) → List ℕ
@@ -58,7 +59,8 @@ pub record Laid (p : Parameters) (page : ℕ) (below : Option (List ℕ)) (z : L
   pub outdegree_stands : IsWord p.outdegrees outdegree z after_outdegree
   pub reference : ℕ
   pub after_reference : List Bool
-  pub reference_stands : MaybeWord (nat_lt 0 outdegree && nat_lt 0 p.window) p.references reference after_outdegree after_reference
+  pub reference_stands : MaybeWord (nat_lt 0 outdegree && nat_lt 0 p.window)
+      p.references reference after_outdegree after_reference
   pub values : List ℕ
   pub after_count : List Bool
   pub count_stands : MaybeWord (is_some below) p.block_counts (length values) after_reference after_count
@@ -71,7 +73,8 @@ pub record Laid (p : Parameters) (page : ℕ) (below : Option (List ℕ)) (z : L
   pub lefts : List ℕ
   pub lengths : List ℕ
   pub after_interval_count : List Bool
-  pub interval_count_stands : MaybeWord (nat_lt 0 (outdegree - length copied) && nat_lt 0 p.interval) Gamma (length lefts) after_blocks after_interval_count
+  pub interval_count_stands : MaybeWord (nat_lt 0 (outdegree - length copied) && nat_lt 0 p.interval) Gamma
+      (length lefts) after_blocks after_interval_count
   pub after_intervals : List Bool
   pub intervals_stand : IntervalsTo page p.interval None lefts lengths after_interval_count after_intervals
   pub inside_fit : sum lengths ≤ outdegree - length copied
