@@ -29,7 +29,7 @@ delta v = with_low_bits gamma v
 abbrev pub shortened : ℕ → ℕ → ℕ → List Bool
 shortened k h y =
     if nat_lt (y - 2 ^ (h * k)) (2 ^ (h * k)) then low_bits (h * k + k - 1) (y - 2 ^ (h * k))
-      else low_bits (h * k + k) y
+    else low_bits (h * k + k) y
 
 -- With h = m / k: the unary word of h, then y in its shortened form.
 unfoldable pub zeta : ℕ → ℕ → List Bool

@@ -38,7 +38,7 @@ OutdegreeStands p c bits start d end =
 abbrev pub ReferenceStands : Parameters → Context → List Bool → ℕ → ℕ → ℕ → ℕ → Type 0
 ReferenceStands p c bits d at r end =
     (RefersNext p c d × Stands (need.Read field.Reference p.references) p c bits (of_outdegree d) at r end
-      (after p c (of_outdegree d) field.Reference r))
+    (after p c (of_outdegree d) field.Reference r))
     ⊎ ((RefersNext p c d → ⊥) × (r ≡ 0) × (end ≡ at))
 
 -- the head of a record stands from the bit start to the bit end: its outdegree d, and its reference r
@@ -64,4 +64,4 @@ abbrev pub IsRest : Parameters → ℕ → ℕ → ℕ → ℕ → List ℕ → 
 IsRest p page start d r named depth bits at w =
     (arcs_before : ℕ) (behind : List Known) → referenced behind r ≡ named → depth_of behind r ≡ depth
     → IsHead p (context_at page arcs_before behind) bits start d r at
-      → ReadsRecord p (context_at page arcs_before behind) bits start w
+    → ReadsRecord p (context_at page arcs_before behind) bits start w

@@ -28,14 +28,14 @@ HeadReads p bits offsets page (Err e) = HeadFails (endless p) (page_over p page 
 abbrev pub RecordReads : Parameters → List Bool → List ℕ → ℕ → Known → Result Known ArchiveFault → Type 0
 RecordReads p bits offsets page below (Ok k) =
     ReadsRecord p (page_over p page below) bits (start_of offsets page)
-      (Ok (record { known = k; end = start_of offsets (page + 1) }))
+    (Ok (record { known = k; end = start_of offsets (page + 1) }))
 RecordReads p bits offsets page below (Err (faults.Record e)) =
     ReadsRecord p (page_over p page below) bits (start_of offsets page) (Err e)
 RecordReads p bits offsets page below (Err (faults.Length at found stored)) =
     (w : Whole) × ReadsRecord p (page_over p page below) bits (start_of offsets page) (Ok w)
-      × (w.end ≢ start_of offsets (page + 1))
+    × (w.end ≢ start_of offsets (page + 1))
     × (at ≡ page) × (found ≡ w.end - start_of offsets page)
-      × (stored ≡ start_of offsets (page + 1) - start_of offsets page)
+    × (stored ≡ start_of offsets (page + 1) - start_of offsets page)
 RecordReads p bits offsets page below (Err (faults.Tail at)) = ⊥
 RecordReads p bits offsets page below (Err (faults.ArcsShort total)) = ⊥
 RecordReads p bits offsets page below (Err (faults.Offsets word)) = ⊥

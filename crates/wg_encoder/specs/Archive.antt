@@ -69,5 +69,7 @@ pub record Summarized : Type 0 where
 -- the greedy archive of these lists, with this properties text
 abbrev pub encoded : Parameters → List ℕ → List (List ℕ) → Summarized
 encoded p text lists =
-    record { files = record { properties = text; graph = graph_file p lists; offsets = offsets_file p lists };
-    summary = summary_of p lists }
+    record {
+      files = record { properties = text; graph = graph_file p lists; offsets = offsets_file p lists };
+      summary = summary_of p lists;
+    }

@@ -42,8 +42,11 @@ pub record HasEncoded (e : EncodedSoFar) (lists : List (List ℕ)) : Type 0 wher
 -- what the three files of an archive of this name hold
 abbrev pub archive_of : List ℕ → Files → Archive
 archive_of base files =
-    record { properties = content files (properties_name base); graph = content files (graph_name base);
-    offsets = content files (offsets_name base) }
+    record {
+      properties = content files (properties_name base);
+      graph = content files (graph_name base);
+      offsets = content files (offsets_name base);
+    }
 
 -- the three files of an archive of this name are there, and hold this
 pub record HoldsArchive (files : Files) (base : List ℕ) (a : Archive) : Type 0 where

@@ -49,7 +49,7 @@ residual_dues t numbers = residual_fields t.code t.page t.last numbers
 abbrev pub dues_of_runs : ExtraTally → Bool → List Run → List Written
 dues_of_runs t found runs =
     (count_fields found t.intervals.least (t.intervals.count + length (filter (is_long t.intervals.least) runs))
-      ++ interval_dues t.intervals (filter (is_long t.intervals.least) runs))
+    ++ interval_dues t.intervals (filter (is_long t.intervals.least) runs))
     ++ residual_dues t.residuals (flat_map numbers_of (filter (λ r. not (is_long t.intervals.least r)) runs))
 
 -- the same, where these numbers come

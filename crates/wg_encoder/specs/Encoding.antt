@@ -26,14 +26,20 @@ pub record Encoded : Type 0 where
 -- where the record after these lists stands, if each of them is written by the reference that is chosen
 abbrev pub next_context : Parameters → List (List ℕ) → Context
 next_context p lists =
-    record { page = length lists; arcs_before = sum_by (λ list. length list) lists;
-    behind = take p.window (known_after p [] lists) }
+    record {
+      page = length lists;
+      arcs_before = sum_by (λ list. length list) lists;
+      behind = take p.window (known_after p [] lists);
+    }
 
 -- where the record after this list stands
 abbrev pub context_on : Parameters → Context → List ℕ → Context
 context_on p c list =
-    record { page = c.page + 1; arcs_before = c.arcs_before + length list;
-    behind = take p.window (known_of p c list ∷ c.behind) }
+    record {
+      page = c.page + 1;
+      arcs_before = c.arcs_before + length list;
+      behind = take p.window (known_of p c list ∷ c.behind);
+    }
 
 -- how many bits the record of a list has by the reference that is chosen
 abbrev pub chosen_size : Parameters → Context → List ℕ → ℕ
@@ -42,9 +48,15 @@ chosen_size p c list = size_of p c list (chosen p c list)
 -- once a list is written, and these bits wait
 abbrev pub encoded_on : Encoded → List ℕ → List Bool → List Bool → Encoded
 encoded_on e list w v =
-    record { params = e.params; next = context_on e.params e.next list; last = chosen_size e.params e.next list;
+    record {
+      params = e.params;
+      next = context_on e.params e.next list;
+      last = chosen_size e.params e.next list;
       total = e.total + chosen_size e.params e.next list;
-      referring = e.referring + cond (refers (chosen e.params e.next list)) 1 0; graph_waits = w; offsets_waits = v }
+      referring = e.referring + cond (refers (chosen e.params e.next list)) 1 0;
+      graph_waits = w;
+      offsets_waits = v;
+    }
 
 -- the number of the offsets file that is put with the record that comes next: 0 for page 0, else the length of the
 -- record before

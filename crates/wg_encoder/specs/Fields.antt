@@ -79,7 +79,7 @@ count_fields found least count = if found && nat_lt 0 least then written field.I
 abbrev pub extra_fields : Parameters → ℕ → List ℕ → List Written
 extra_fields p page xs =
     (count_fields (has_some xs) p.interval (length (intervals_of p.interval xs))
-      ++ interval_fields page p.interval None (intervals_of p.interval xs))
+    ++ interval_fields page p.interval None (intervals_of p.interval xs))
     ++ residual_fields p.residuals page None (residuals_of p.interval xs)
 
 -- a reference, where the archive has a window

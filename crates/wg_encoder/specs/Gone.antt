@@ -64,10 +64,10 @@ IsWritten files base p lists =
 abbrev pub HasStopped : Files → List ℕ → Parameters → List (List ℕ) → EncodeError → Type 0
 HasStopped files base p lists (error.Failed output.Graph) =
     HoldsLess (fin.get files (graph_name base)) (graph_file p lists)
-      × HoldsFront (fin.get files (offsets_name base)) (offsets_file p lists)
+    × HoldsFront (fin.get files (offsets_name base)) (offsets_file p lists)
 HasStopped files base p lists (error.Failed output.Offsets) =
     HoldsFront (fin.get files (graph_name base)) (graph_file p lists)
-      × HoldsLess (fin.get files (offsets_name base)) (offsets_file p lists)
+    × HoldsLess (fin.get files (offsets_name base)) (offsets_file p lists)
 HasStopped files base p lists error.Memory =
     (HoldsLess (fin.get files (graph_name base)) (graph_file p lists)
     × HoldsFront (fin.get files (offsets_name base)) (offsets_file p lists))

@@ -25,7 +25,7 @@ size_of p c list r = length (bits_of_fields (canonical p c list r))
 abbrev pub is_candidate : Parameters → Context → List ℕ → ℕ → Bool
 is_candidate p c list r =
     r == 0 || (nat_le r (min p.window c.page) && nat_lt 0 (length (referenced c.behind r)) && not
-      (passes p.chain (depth_of c.behind r)) && all_have_words (canonical p c list r))
+    (passes p.chain (depth_of c.behind r)) && all_have_words (canonical p c list r))
 
 -- all candidates, ascending
 abbrev pub candidates : Parameters → Context → List ℕ → List ℕ
@@ -57,4 +57,4 @@ abbrev pub records_of : Parameters → List Known → List (List ℕ) → List (
 records_of p behind [] = []
 records_of p behind (list ∷ lists) =
     canonical p (context_after p behind) list (chosen p (context_after p behind) list) ∷ records_of p
-      (known_of p (context_after p behind) list ∷ behind) lists
+    (known_of p (context_after p behind) list ∷ behind) lists

@@ -43,8 +43,10 @@ CanonicalIsProper =
     → IsWithinLimits p → c.page < p.nodes → All (λ (k : Known). IsList p k.list) c.behind → IsList p list
     → c.arcs_before + length list ≤ p.arcs → is_candidate p c list r ≡ true
     → ReadsRecord p c (before ++ (bits_of_fields (canonical p c list r) ++ rest)) (length before)
-      (Ok (record { known = record { list = list; depth = depth_of c.behind (reference_of list r) };
-      end = length before + size_of p c list r }))
+    (Ok (record {
+      known = record { list = list; depth = depth_of c.behind (reference_of list r) };
+      end = length before + size_of p c list r;
+    }))
 
 -- so many bits are enough for the records of so many pages with so many arcs
 abbrev pub enough_bits : ℕ → ℕ → ℕ

@@ -24,7 +24,7 @@ abbrev pub Pages : Parameters → List Bool → List Whole → ℕ → List Whol
 Pages p bits behind at [] last end = (last ≡ behind) × (end ≡ at)
 Pages p bits behind at (w ∷ ws) last end =
     (length behind < p.nodes) × ReadsRecord p (context_of p behind) bits at (Ok w)
-      × Pages p bits (w ∷ behind) w.end ws last end
+    × Pages p bits (w ∷ behind) w.end ws last end
 
 -- what follows the last word: few bits, all 0
 pub record IsTail (bits : List Bool) (end : ℕ) : Type 0 where
@@ -55,7 +55,7 @@ places_of behind = 0 ∷ reverse (map (λ w. w.end) behind)
 abbrev pub EndsAs : Parameters → List Bool → List Whole → ℕ → Result Accepted ArchiveFault → Type 0
 EndsAs p bits behind at (Ok a) =
     (length behind ≡ p.nodes) × IsTail bits at × (arcs_of behind ≡ p.arcs) × (a.graph ≡ lists_of behind)
-      × (a.places ≡ places_of behind)
+    × (a.places ≡ places_of behind)
 EndsAs p bits behind at (Err (faults.Record e)) = (length behind < p.nodes)
     × ReadsRecord p (context_of p behind) bits at (Err e)
 EndsAs p bits behind at (Err (faults.Tail offset)) = (length behind ≡ p.nodes) × IsTailFault bits at offset

@@ -13,7 +13,7 @@ named p c zero = None
 named p c (suc r) =
     if nat_le (suc r) (min p.window c.page)
     then Some (record { length = length (get_or c.behind r no_page).list; depth = (get_or c.behind r no_page).depth })
-      else None
+    else None
 
 -- what is given with a value: with a reference, what it names
 abbrev pub Gives : Option Referenced → Parameters → Context → Field → ℕ → Type 0

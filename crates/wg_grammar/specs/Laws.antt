@@ -50,7 +50,7 @@ ChainsAreLimited =
 abbrev pub PagesAreLimited : Type 0
 PagesAreLimited =
     (p : Parameters) (bits : List Bool) (ws behind : List Whole) (end limit : ℕ) → p.chain ≡ Some limit
-      → Pages p bits [] 0 ws behind end
+    → Pages p bits [] 0 ws behind end
     → All (λ w. w.known.depth ≤ limit) ws
 
 -- Bits stand for at most one graph, or have at most one first fault, and never both.

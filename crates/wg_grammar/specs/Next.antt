@@ -21,7 +21,7 @@ next p c s =
     else if nat_lt (length s.blocks) (value_or_0 s.block_count) then need.Read field.Block p.blocks
     else if nat_lt 0 (value_or_0 s.reference) && not s.checked then need.Check
     else if nat_lt 0 (extra c s) && nat_lt 0 p.interval && is_none s.interval_count
-      then need.Read field.IntervalCount Gamma
+    then need.Read field.IntervalCount Gamma
     else if nat_lt (length s.lengths) (length s.lefts) then need.Read field.Length Gamma
     else if nat_lt (length s.lefts) (value_or_0 s.interval_count) then need.Read field.Left Gamma
     else if nat_lt 0 (missing c s) then need.Read field.Residual p.residuals

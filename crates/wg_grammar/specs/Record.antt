@@ -38,7 +38,7 @@ Fields p c bits s at (v ∷ vs) t end = (u : SoFar) × (mid : ℕ) × Stands (ne
 abbrev pub Refused : Need → Parameters → Context → List Bool → ℕ → SoFar → ℕ → Fault → Type 0
 Refused (need.Read f code) p c bits start s at e =
     (r : Read) × Reads (word code) (top code) (drop at bits) r × (judged p c s f r ≡ Some e.kind) × (e.field ≡ f)
-      × (e.at ≡ at)
+    × (e.at ≡ at)
 Refused need.Check p c bits start s at e = (refusal p c s field.Copied 0 ≡ Some e.kind) × (e.field ≡ field.Copied)
     × (e.at ≡ at)
 Refused need.End p c bits start s at e =

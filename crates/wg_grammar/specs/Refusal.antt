@@ -26,7 +26,7 @@ refusal p c s field.Outdegree v =
     if nat_lt p.nodes v then Some kind.Range else if nat_lt p.arcs (c.arcs_before + v) then Some kind.Total else None
 refusal p c s field.Reference v =
     if nat_lt (min p.window c.page) v then Some kind.Range else if passes p.chain (depth_of c.behind v)
-      then Some kind.Chain else None
+    then Some kind.Chain else None
 refusal p c s field.BlockCount v = if nat_lt (length (source c s) + 1) v then Some kind.Range else None
 refusal p c s field.Block v = if nat_lt (length (source c s)) (sum s.blocks + own_block s v) then Some kind.Range
     else None

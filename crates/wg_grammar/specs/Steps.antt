@@ -40,7 +40,7 @@ residual_of t v = if t.residuals == 0 then number_of_gap t.page None v
 unfoldable pub refusal_of : Tally → Option Referenced → Field → ℕ → Option Kind
 refusal_of t given field.Outdegree v =
     if nat_lt t.params.nodes v then Some kind.Range else if nat_lt t.params.arcs (t.arcs_before + v)
-      then Some kind.Total else None
+    then Some kind.Total else None
 refusal_of t given field.Reference v =
     if nat_lt (min t.params.window t.page) v then Some kind.Range
     else if passes t.params.chain (given_depth given) then Some kind.Chain else None
@@ -66,14 +66,20 @@ after_of t given field.Reference v =
     record t { reference = Some v; source = given_length given; copied = given_length given }
 after_of t given field.BlockCount v = record t { block_count = Some v }
 after_of t given field.Block v =
-    record t { blocks = t.blocks + 1; blocks_sum = t.blocks_sum + block_of t v;
-      copied = copied_after t (t.blocks_sum + block_of t v) }
+    record t {
+      blocks = t.blocks + 1;
+      blocks_sum = t.blocks_sum + block_of t v;
+      copied = copied_after t (t.blocks_sum + block_of t v);
+    }
 after_of t given field.Copied v = record t { checked = true }
 after_of t given field.IntervalCount v = record t { interval_count = Some v }
 after_of t given field.Left v = record t { lefts = t.lefts + 1; last_left = value_or_0 (left_of t v) }
 after_of t given field.Length v =
-    record t { lengths = t.lengths + 1; last_length = v + t.params.interval;
-      covered = t.covered + (v + t.params.interval) }
+    record t {
+      lengths = t.lengths + 1;
+      last_length = v + t.params.interval;
+      covered = t.covered + (v + t.params.interval);
+    }
 after_of t given field.Residual v =
     record t { residuals = t.residuals + 1; last_residual = value_or_0 (residual_of t v) }
 after_of t given field.Record v = t

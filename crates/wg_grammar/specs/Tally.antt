@@ -73,11 +73,11 @@ need_of t =
     else if value_or_0 t.outdegree == 0 then need.End
     else if nat_lt 0 t.params.window && is_none t.reference then need.Read field.Reference t.params.references
     else if nat_lt 0 (value_or_0 t.reference) && is_none t.block_count
-      then need.Read field.BlockCount t.params.block_counts
+    then need.Read field.BlockCount t.params.block_counts
     else if nat_lt t.blocks (value_or_0 t.block_count) then need.Read field.Block t.params.blocks
     else if nat_lt 0 (value_or_0 t.reference) && not t.checked then need.Check
     else if nat_lt 0 (extra_of t) && nat_lt 0 t.params.interval && is_none t.interval_count
-      then need.Read field.IntervalCount Gamma
+    then need.Read field.IntervalCount Gamma
     else if nat_lt t.lengths t.lefts then need.Read field.Length Gamma
     else if nat_lt t.lefts (value_or_0 t.interval_count) then need.Read field.Left Gamma
     else if nat_lt 0 (missing_of t) then need.Read field.Residual t.params.residuals

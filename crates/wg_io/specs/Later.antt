@@ -23,8 +23,12 @@ pub as_it_was : (told : Bool) (name : List ℕ) (files : Files) (counts : List �
     → IsWrittenOn told name files files counts counts
 as_it_was told name files counts = record {
   added = λ t. ([], refl);
-  counts = record { read_faults = λ n. omega arith; write_faults = λ n. omega arith; absences = λ n. omega arith;
-      wants = λ n. omega arith };
+  counts = record {
+    read_faults = λ n. omega arith;
+    write_faults = λ n. omega arith;
+    absences = λ n. omega arith;
+    wants = λ n. omega arith;
+  };
 }
 
 pub written_twice : (told : Bool) (n m : List ℕ) (f g h : Files) (a b c : List ℕ → Counts) → m ≡ n
@@ -32,9 +36,11 @@ pub written_twice : (told : Bool) (n m : List ℕ) (f g h : Files) (a b c : List
 written_twice told n m f g h a b c same l k = record {
   added = λ t.
       let x = l.added t in
-      let y = k.added t in
-      (x.0 ++ y.0, y.1 ∙ ap (λ (q : List ℕ). appended g q y.0) same ∙ ap (λ (d : Files). appended d n y.0) x.1
-        ∙ appended-append f n x.0 y.0);
+      let y = k.added t in (
+        x.0 ++ y.0,
+        y.1 ∙ ap (λ (q : List ℕ). appended g q y.0) same ∙ ap (λ (d : Files). appended d n y.0) x.1
+            ∙ appended-append f n x.0 y.0,
+      );
   counts = record {
     read_faults = λ n. omega (arith, l.counts.read_faults n, k.counts.read_faults n);
     write_faults = λ n. omega (arith, l.counts.write_faults n, k.counts.write_faults n);

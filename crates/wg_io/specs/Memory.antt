@@ -48,9 +48,12 @@ pub record FailingFiles : Type 0 where
   pub write_faults : ℕ
 
 abbrev pub failing_counts : FailingFiles → Counts
-failing_counts d = record
-    { read_faults = d.read_faults; write_faults = d.write_faults; absences = d.steady.absences;
-    wants = d.steady.wants }
+failing_counts d = record {
+  read_faults = d.read_faults;
+  write_faults = d.write_faults;
+  absences = d.steady.absences;
+  wants = d.steady.wants;
+}
 
 abbrev pub calls_code : Coded Calls
 calls_code = code_by (ℕ × ℕ) (coded× coded_ℕ coded_ℕ) (λ c. (c.made, c.named))
@@ -61,8 +64,14 @@ failing_files_code =
     code_by (SteadyFiles × (Calls × (Calls × (Calls × (ℕ × ℕ)))))
     (coded× steady_files_code (coded× calls_code (coded× calls_code (coded× calls_code (coded× coded_ℕ coded_ℕ)))))
     (λ d. (d.steady, (d.reads, (d.creates, (d.appends, (d.read_faults, d.write_faults))))))
-    (λ p. record { steady = p.0; reads = p.1.0; creates = p.1.1.0; appends = p.1.1.1.0; read_faults = p.1.1.1.1.0;
-      write_faults = p.1.1.1.1.1 })
+    (λ p. record {
+      steady = p.0;
+      reads = p.1.0;
+      creates = p.1.1.0;
+      appends = p.1.1.1.0;
+      read_faults = p.1.1.1.1.0;
+      write_faults = p.1.1.1.1.1;
+    })
     (λ _. refl)
 
 -- how often a sink failed, and how often it found no memory

@@ -66,9 +66,9 @@ pub record IsAcceptedBuild (r : Readings) (held : Input → Option (List ℕ)) (
 abbrev pub BuildsAreAccepted : Readings → Type 0
 BuildsAreAccepted r =
     (list_name base : List ℕ) (nodes : ℕ) (layout : Layout) (held : Input → Option (List ℕ)) (a : Archive)
-      (out : List ℕ)
+    (out : List ℕ)
     → IsWithinLimits (params_of layout nodes 0) → judged r (Build list_name base nodes layout) held ≡ built a out
-      → IsAcceptedBuild r held base a out
+    → IsAcceptedBuild r held base a out
 
 -- What an import comes to is accepted with its line, and its plain text has the words of the text that was read, line
 -- by line.
@@ -77,14 +77,14 @@ pub record IsAcceptedImport (r : Readings) (held : Input → Option (List ℕ)) 
   pub check : judged r (Check base) (holding a) ≡ accepted out
   pub ascii : (bytes : List ℕ) → held input.Text ≡ Some bytes
       → (text : List ℕ) × (judged r (Ascii base) (holding a) ≡ accepted text)
-        × HaveSameWords (lines_of bytes) (lines_of text)
+      × HaveSameWords (lines_of bytes) (lines_of text)
 
 -- It does for each text and each layout within the limits; and to import the plain text of an archive, where a file may
 -- be so long, is to recode the archive.
 pub record ImportsAreAccepted (r : Readings) : Type 0 where
   pub import : (name base : List ℕ) (layout : Layout) (held : Input → Option (List ℕ)) (a : Archive) (out : List ℕ)
       → IsWithinLimits (params_of layout 0 0) → judged r (Import name base layout) held ≡ built a out
-        → IsAcceptedImport r held base a out
+      → IsAcceptedImport r held base a out
   pub back : (base output name text : List ℕ) (layout : Layout) (held after : Input → Option (List ℕ))
       → judged r (Ascii base) held ≡ accepted text → length text ≤ MOST_BYTES → after input.Text ≡ Some text
       → judged r (Import name output layout) after ≡ judged r (Recode base output layout) held
@@ -114,8 +114,8 @@ pub record IsAcceptedTransposing (r : Readings) (held : Input → Option (List �
 pub record ConversionsAreAccepted (r : Readings) : Type 0 where
   pub recode : (input output : List ℕ) (layout : Layout) (held : Input → Option (List ℕ)) (a : Archive) (out : List ℕ)
       → IsWithinLimits (params_of layout 0 0) → judged r (Recode input output layout) held ≡ built a out
-        → IsAcceptedRecoding r held input output a out
+      → IsAcceptedRecoding r held input output a out
   pub transpose : (input output : List ℕ) (layout : Layout) (held : Input → Option (List ℕ)) (a : Archive)
       (out : List ℕ)
       → IsWithinLimits (params_of layout 0 0) → judged r (Transpose input output layout) held ≡ built a out
-        → IsAcceptedTransposing r held input output a out
+      → IsAcceptedTransposing r held input output a out

@@ -40,6 +40,6 @@ WrittenAreAccepted r =
     (held after : Input → Option (List ℕ)) (base certificate : List ℕ) (rounds damping top : ℕ)
     (weights : Option (List ℕ)) (text out : List ℕ)
     → rounds ≤ MOST_ROUNDS → damping ≤ MOST_DAMPING
-      → judged r (Rank base rounds damping top weights (Some certificate)) held ≡ certified text out
+    → judged r (Rank base rounds damping top weights (Some certificate)) held ≡ certified text out
     → AreStill held after → after input.Certificate ≡ Some text → (line : List ℕ)
-      × (judged r (Verify base certificate weights) after ≡ accepted line)
+    × (judged r (Verify base certificate weights) after ≡ accepted line)

@@ -36,7 +36,7 @@ pub record IsAcceptedQuotient (r : Readings) (held : Input → Option (List ℕ)
 abbrev pub QuotientsAreAccepted : Readings → Type 0
 QuotientsAreAccepted r =
     (input map output : List ℕ) (count : ℕ) (layout : Layout) (held : Input → Option (List ℕ)) (a : Archive)
-      (out : List ℕ)
+    (out : List ℕ)
     → count ≤ MOST_PAGES → IsWithinLimits (params_of layout 0 0)
-      → judged r (Quotient input map output count layout) held ≡ built a out
+    → judged r (Quotient input map output count layout) held ≡ built a out
     → IsAcceptedQuotient r held output count a out

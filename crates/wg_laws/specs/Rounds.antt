@@ -35,7 +35,7 @@ pub record ArePrintedInside (r : Readings) (held : Input → Option (List ℕ)) 
 abbrev pub MoreRoundsNarrow : Readings → Type 0
 MoreRoundsNarrow r =
     (held : Input → Option (List ℕ)) (base : List ℕ) (fewer more damping top : ℕ)
-      (weights certificate : Option (List ℕ))
+    (weights certificate : Option (List ℕ))
     → fewer ≤ more → damping ≤ MOST_DAMPING
-      → status_of (judged r (Rank base fewer damping top weights certificate) held) ≡ Done
+    → status_of (judged r (Rank base fewer damping top weights certificate) held) ≡ Done
     → ArePrintedInside r held base fewer more damping top weights certificate

@@ -11,4 +11,4 @@ use Rattle.wg_outcomes.specs.Commands.{judged}
 abbrev pub SpotsAreShown : Readings → Type 0
 SpotsAreShown r = (held : Input → Option (List ℕ)) (base : List ℕ) (page : ℕ)
     → status_of (judged r (Check base) held) ≡ Done
-      → judged r (Spot base page) held ≡ judged r (Show base (page ∷ [])) held
+    → judged r (Spot base page) held ≡ judged r (Show base (page ∷ [])) held

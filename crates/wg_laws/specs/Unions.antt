@@ -31,4 +31,4 @@ abbrev pub UnionsAreAccepted : Readings → Type 0
 UnionsAreAccepted r =
     (first second output : List ℕ) (layout : Layout) (held : Input → Option (List ℕ)) (a : Archive) (out : List ℕ)
     → IsWithinLimits (params_of layout 0 0) → judged r (Union first second output layout) held ≡ built a out
-      → IsAcceptedUnion r held first second output a out
+    → IsAcceptedUnion r held first second output a out

@@ -20,4 +20,4 @@ value_of_units text = digits_value 10 (take 1 text ++ drop 2 text)
 unfoldable pub units_of : List ℕ → Option ℕ
 units_of text =
     if nat_le (value_of_units text) (10 ^ 24) && bytes_eq (text_of_units (value_of_units text)) text
-      then Some (value_of_units text) else None
+    then Some (value_of_units text) else None

@@ -8,4 +8,4 @@ use Rattle.wg_rank.specs.Intervals.{by_page}
 abbrev pub compared : List ℕ → List ℕ → ℕ → ℕ → Ordering
 compared low high u v =
     ordering_then (ordering_then (nat_cmp (by_page low v) (by_page low u))
-      (nat_cmp (by_page high v) (by_page high u))) (nat_cmp u v)
+    (nat_cmp (by_page high v) (by_page high u))) (nat_cmp u v)

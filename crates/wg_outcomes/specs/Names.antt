@@ -75,7 +75,7 @@ archive_files base = (input.Properties, base ++ PROPERTIES.now) ∷ (input.Graph
 abbrev pub second_files : List ℕ → List (Input × List ℕ)
 second_files base =
     (input.SecondProperties, base ++ PROPERTIES.now) ∷ (input.SecondGraph, base ++ GRAPH.now) ∷
-      (input.SecondOffsets, base ++ OFFSETS.now) ∷ []
+    (input.SecondOffsets, base ++ OFFSETS.now) ∷ []
 
 abbrev pub list_file : List ℕ → List (Input × List ℕ)
 list_file name = (input.ArcList, name) ∷ []

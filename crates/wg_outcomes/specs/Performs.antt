@@ -64,7 +64,7 @@ pub record Performs (job : Job) (told_files told_out : Bool) (before after : Out
   -- nothing is printed where memory was out before the files were whole
   pub printed_last : IsTrue told_files → (r : Readings) → status ≡ Memory
       → (after.taken ≡ before.taken) ⊎ AreAllWhole (output_name job)
-        (written_by r job (held_by (input_name job) before.files)) after.files
+      (written_by r job (held_by (input_name job) before.files)) after.files
   -- what stands in the files
   pub files : IsTrue told_files → (r : Readings)
       → HasFiles (output_name job) (written_by r job (held_by (input_name job) before.files))
@@ -80,7 +80,7 @@ pub record Performs (job : Job) (told_files told_out : Bool) (before after : Out
 abbrev pub Does : {D O : Type 0} → depot.Ghosts D → sink.Ghosts O → Job → D → D → O → O → Status → ℕ → Type 0
 Does d o job before after out out' status number =
     Performs job d.told o.told (outside (d.files before) (d.counts before) (o.taken out) (o.faults out))
-      (outside (d.files after) (d.counts after) (o.taken out') (o.faults out')) status number
+    (outside (d.files after) (d.counts after) (o.taken out') (o.faults out')) status number
 
 -- the same of a command, which was done or has ended
 abbrev pub DoesOrEnds : {D O : Type 0} → depot.Ghosts D → sink.Ghosts O → Job → D → D → O → O
@@ -93,7 +93,7 @@ abbrev pub DoesAlone : {O : Type 0} → sink.Ghosts O → Job → O → O → Re
 DoesAlone o job out out' result =
     (told : Bool) (files : Files) (counts : List ℕ → Counts)
     → Performs job told o.told (outside files counts (o.taken out) (o.faults out))
-      (outside files counts (o.taken out') (o.faults out')) (status_in result) (promised_in result)
+    (outside files counts (o.taken out') (o.faults out')) (status_in result) (promised_in result)
 
 -- What a job writes was written to files of these names, and its text printed; or what was left where this stopped.
 pub record Produces (names : Output → Option (List ℕ)) (what : Written) (text : Readings → List ℕ)
@@ -120,25 +120,25 @@ abbrev pub BuildsArchive : Layout → Digraph → List ℕ → Bool → Bool →
     → Type 0
 BuildsArchive l g base told_files told_out before after result =
     Produces (archive_named base) (an_archive (greedy_archive (params_for l g) g))
-      (λ r. greedy_line (params_for l g) g) told_files told_out before after result
+    (λ r. greedy_line (params_for l g) g) told_files told_out before after result
 
 -- The certificate of bounds, and the first lines of the ranking by them.
 abbrev pub CertifiesRanking : Intervals → List ℕ → ℕ → Bool → Bool → Outside → Outside → Result (Unit {0}) Ending
     → Type 0
 CertifiesRanking b name top told_files told_out before after result =
     Produces (certificate_to name) (a_certificate (certificate_text b)) (λ r. ranking_text r b top)
-      told_files told_out before after result
+    told_files told_out before after result
 
 -- the same, of a depot and an output that a function changes
 abbrev pub Builds : {D O : Type 0} → depot.Ghosts D → sink.Ghosts O → Layout → Digraph → List ℕ → D → D → O → O
     → Result (Unit {0}) Ending → Type 0
 Builds d o l g base before after out out' result =
     BuildsArchive l g base d.told o.told (outside (d.files before) (d.counts before) (o.taken out) (o.faults out))
-      (outside (d.files after) (d.counts after) (o.taken out') (o.faults out')) result
+    (outside (d.files after) (d.counts after) (o.taken out') (o.faults out')) result
 
 abbrev pub Certifies : {D O : Type 0} → depot.Ghosts D → sink.Ghosts O → Intervals → List ℕ → ℕ → D → D → O → O
     → Result (Unit {0}) Ending → Type 0
 Certifies d o b name top before after out out' result =
     CertifiesRanking b name top d.told o.told
-      (outside (d.files before) (d.counts before) (o.taken out) (o.faults out))
-      (outside (d.files after) (d.counts after) (o.taken out') (o.faults out')) result
+    (outside (d.files before) (d.counts before) (o.taken out) (o.faults out))
+    (outside (d.files after) (d.counts after) (o.taken out') (o.faults out')) result

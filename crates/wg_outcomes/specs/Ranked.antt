@@ -48,7 +48,7 @@ positions_of r b = record { filled = true; low = b.low; high = b.high; pages = p
 abbrev pub rank_line : Positions → ℕ → List ℕ
 rank_line s v =
     decimal v ++ codes " " ++ text_of_units (by_page s.low v) ++ codes " " ++ text_of_units (by_page s.high v)
-      ++ codes " " ++ decimal (best s v) ++ codes " "
+    ++ codes " " ++ decimal (best s v) ++ codes " "
     ++ decimal (worst s v) ++ codes "\n"
 
 -- the lines of the first pages of a ranking
@@ -88,7 +88,7 @@ abbrev pub RankingIsProven : Readings → ℕ → ℕ → Type 0
 RankingIsProven r rounds damping =
     rounds ≤ MOST_ROUNDS → damping ≤ MOST_DAMPING → (g : Digraph) → IsGraph g → g.nodes ≤ MOST_PAGES
     → (given : Option (List ℕ)) → AreWeights g.nodes (weights_of g.nodes given)
-      → IsProvenRanking r (bounds_after g given damping rounds) g
+    → IsProvenRanking r (bounds_after g given damping rounds) g
 
 -- The files of an archive stand for this graph: the bytes of its graph file do, by the parameters of its properties
 -- text.
@@ -108,7 +108,7 @@ abbrev pub HoldWeights : Option (List ℕ) → (Input → Option (List ℕ)) →
 HoldWeights None held n given = given ≡ None
 HoldWeights (Some name) held n given =
     (bytes : List ℕ) × (ws : List ℕ) × (held input.Weights ≡ Some bytes) × (weights_in n bytes ≡ Ok ws)
-      × (given ≡ Some ws)
+    × (given ≡ Some ws)
 
 -- What is printed is the ranking of this graph, by these weights of its pages, and this much is proved of its bounds and
 -- positions.

@@ -20,14 +20,14 @@ use Rattle.wg_outcomes.specs.declared.status.Status.TheVariants.{Done, Memory}
 abbrev pub PrintsSomeRanking : Readings → Option (List ℕ) → ℕ → ℕ → ℕ → List ℕ → List ℕ → Type 0
 PrintsSomeRanking r weights rounds damping top old new =
     (graph : Digraph) × (given : Option (List ℕ)) × (weights ≡ None → given ≡ None)
-      × PrintsRankingOf r graph given rounds damping top old new
+    × PrintsRankingOf r graph given rounds damping top old new
 
 -- What is printed is what some bounds leave of 1, over some graph, by some weights of its pages, or by none if no file
 -- of weights is named.
 abbrev pub PrintsSomeGap : Option (List ℕ) → List ℕ → List ℕ → Type 0
 PrintsSomeGap weights old new =
     (graph : Digraph) × (given : Option (List ℕ)) × (weights ≡ None → given ≡ None) × (claim : Claim)
-      × PrintsGapOf graph given claim old new
+    × PrintsGapOf graph given claim old new
 
 -- Memory was wanting only before a file was changed or anything was printed, or where the output or the file of this
 -- name counted it.

@@ -42,7 +42,7 @@ Leaves g c given left = (left ≡ gap g (by_page c.low))
 abbrev pub verified_line : Claim → ℕ → List ℕ
 verified_line c left =
     codes "ok pages=" ++ decimal (length c.low)
-      ++ codes " damping=" ++ decimal c.damping ++ codes " gap=" ++ text_of_units left ++ codes "\n"
+    ++ codes " damping=" ++ decimal c.damping ++ codes " gap=" ++ text_of_units left ++ codes "\n"
 
 -- What is printed is what the bounds of this certificate leave of 1, over this graph and these weights of its pages.
 pub record PrintsGapOf (graph : Digraph) (given : Option (List ℕ)) (claim : Claim) (old new : List ℕ) : Type 0 where

@@ -67,16 +67,16 @@ StopAtProperties a old new =
 abbrev pub StopAtGraph : Archive → ArchiveFiles → ArchiveFiles → Type 0
 StopAtGraph a old new =
     (new.properties ≡ Some [])
-      × (((new.graph ≡ old.graph) × (new.offsets ≡ old.offsets)) ⊎
-      (HoldsLess new.graph a.graph × HoldsFront new.offsets a.offsets))
+    × (((new.graph ≡ old.graph) × (new.offsets ≡ old.offsets)) ⊎
+    (HoldsLess new.graph a.graph × HoldsFront new.offsets a.offsets))
 
 -- the properties are empty; the graph file is and the offsets are as before, or both are prefixes of the archive's, and
 -- the offsets lack something
 abbrev pub StopAtOffsets : Archive → ArchiveFiles → ArchiveFiles → Type 0
 StopAtOffsets a old new =
     (new.properties ≡ Some [])
-      × (((new.graph ≡ Some []) × (new.offsets ≡ old.offsets)) ⊎
-      (HoldsFront new.graph a.graph × HoldsLess new.offsets a.offsets))
+    × (((new.graph ≡ Some []) × (new.offsets ≡ old.offsets)) ⊎
+    (HoldsFront new.graph a.graph × HoldsLess new.offsets a.offsets))
 
 -- the three files are there, and empty
 abbrev pub emptied : ArchiveFiles
@@ -149,8 +149,8 @@ HasFiles names (Some (an_archive a)) old new status = OthersStay names old new
     × FilesAfter a (archive_at names old) (archive_at names new) status
 HasFiles names (Some (a_certificate text)) old new status =
     OthersStay names old new
-      × CertificateAfter text (content_of old (names output.Certificate)) (content_of new (names output.Certificate))
-      status
+    × CertificateAfter text (content_of old (names output.Certificate)) (content_of new (names output.Certificate))
+    status
 
 -- The files of these names hold all of this, or there is nothing to hold.
 abbrev pub AreAllWhole : (Output → Option (List ℕ)) → Option Written → Files → Type 0

@@ -14,9 +14,14 @@ use Rattle.wg_properties.specs.Words.{word_of}
 
 -- the codes where no flag says otherwise
 abbrev pub default_codes : ℕ → Codes
-default_codes zeta = record
-    { outdegrees = Gamma; references = Unary; block_counts = Gamma; blocks = Gamma; residuals = Zeta zeta;
-    offsets = Gamma }
+default_codes zeta = record {
+  outdegrees = Gamma;
+  references = Unary;
+  block_counts = Gamma;
+  blocks = Gamma;
+  residuals = Zeta zeta;
+  offsets = Gamma;
+}
 
 -- the codes after one more flag
 abbrev pub with_flag : ℕ → Codes → Flag → Codes

@@ -71,7 +71,7 @@ judged value =
     and_then (judged_zeta (value key.ZetaK)) (λ zeta.
     and_then (judged_flags zeta (value key.CompressionFlags)) (λ c.
     Ok (params_of (record { window = window; chain = chain; interval = interval; zeta = zeta; codes = c })
-      nodes arcs)))))))))))
+    nodes arcs)))))))))))
 
 -- a line that would go on in the next is a fault before all others
 abbrev pub unless_continued : Option ℕ → Result Parameters PropFault → Result Parameters PropFault

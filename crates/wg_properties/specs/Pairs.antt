@@ -40,13 +40,13 @@ key_in line = before_first ends_key line
 unfoldable pub value_in : List ℕ → List ℕ
 value_in line =
     without_blanks_after (without_blanks_before
-      (without_separator (without_blanks_before (drop (length (key_in line)) line))))
+    (without_separator (without_blanks_before (drop (length (key_in line)) line))))
 
 -- the pairs of all lines that are not skipped
 abbrev pub pairs_of : List (List ℕ) → List (List ℕ × List ℕ)
 pairs_of lines =
     map (λ line. (key_in line, value_in line))
-      (filter (λ line. not (is_skipped line)) (map without_blanks_before lines))
+    (filter (λ line. not (is_skipped line)) (map without_blanks_before lines))
 
 -- all values of one key, in their order
 abbrev pub values_of : List ℕ → List (List ℕ × List ℕ) → List (List ℕ)

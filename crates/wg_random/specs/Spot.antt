@@ -31,7 +31,7 @@ ChainAnswers p bits offsets x from to (Err (Refused r)) = (chain : List ℕ) × 
 abbrev pub SpotAnswers : Parameters → List Bool → List ℕ → ℕ → ℕ → ℕ → Result (List ℕ) SpotError → Type 0
 SpotAnswers p bits offsets x from to (Ok list) =
     (x < p.nodes) × (zs : List ℕ) × (k : Known) × ChainReads p bits offsets x zs (Ok k) × (list ≡ k.list)
-      × (to ≡ from + length zs + 1)
+    × (to ≡ from + length zs + 1)
 SpotAnswers p bits offsets x from to (Err errors.NoPage) = (p.nodes ≤ x) × (to ≡ from)
 SpotAnswers p bits offsets x from to (Err (errors.Archive f)) = (x < p.nodes) × (zs : List ℕ)
     × ChainReads p bits offsets x zs (Err f) × (to ≡ from + length zs + 1)

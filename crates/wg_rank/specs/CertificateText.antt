@@ -85,7 +85,7 @@ bounds_of number (suc n) (line ∷ lines) =
 abbrev pub claimed : ℕ → List ℕ → Result Claim CertFault
 claimed a low =
     if nat_le (sum_below (length low) (by_page low)) UNITS then Ok (record { damping = a; low = low })
-      else Err fault.Sum
+    else Err fault.Sum
 
 -- what some lines claim of n pages, or the first fault
 abbrev pub claim_in : ℕ → List (List ℕ) → Result Claim CertFault

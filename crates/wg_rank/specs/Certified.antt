@@ -27,4 +27,4 @@ pub record IsCertified (b : Intervals) (g : Digraph) : Type 0 where
   pub width : (v : ℕ) → v < g.nodes
       → (1000 - b.damping) * 1000 ^ b.rounds * (by_page b.high v - by_page b.low v)
       ≤ (1000 - b.damping) * b.damping ^ b.rounds * UNITS + 1000 ^ b.rounds *
-        (b.damping * arc_count g + 3 * 1000 * g.nodes)
+      (b.damping * arc_count g + 3 * 1000 * g.nodes)

@@ -26,7 +26,7 @@ BoundsAreCertified = (b : Intervals) (g : Digraph) → IsGraph g → AreBounds b
 abbrev pub BoundsAreOne : Type 0
 BoundsAreOne =
     (b c : Intervals) (g : Digraph) → Holds b g → Holds c g → c.damping ≡ b.damping → c.weights ≡ b.weights
-      → c.rounds ≡ b.rounds
+    → c.rounds ≡ b.rounds
     → (c.low ≡ b.low) × (c.high ≡ b.high)
 
 -- Lower bounds that a round does not lower enclose each stationary vector, with what they leave of 1.

@@ -77,7 +77,7 @@ pub record IsStopped (told : Bool) (files : Files) (counts counts' : List ℕ �
 abbrev pub IsAt : Bool → Files → Parameters → List ℕ → ℕ → ℕ → Pairing → Type 0
 IsAt told files p name n at b =
     IsPaired p b × (b.lengths.page ≡ n) × (b.lengths.here ≡ at)
-      × (IsTrue told → (file : List ℕ) × (map.get files name ≡ Some file))
+    × (IsTrue told → (file : List ℕ) × (map.get files name ≡ Some file))
 
 -- How far it has come: to the end of so many records, or to the first error of the offsets file, after which no more is
 -- read.
@@ -104,5 +104,5 @@ pub record EndsPairing (told : Bool) (files : Files) (counts counts' : List ℕ 
 abbrev pub files_then : Readings → Parameters → (Input → Option (List ℕ)) → (ℕ → Judged) → Judged
 files_then r p held next =
     graph_then r p (held input.Graph)
-      (λ a. offsets_then r p (held input.Offsets)
-      (λ stored. with_lengths a.places stored (λ same. next (last_place a.places))))
+    (λ a. offsets_then r p (held input.Offsets)
+    (λ stored. with_lengths a.places stored (λ same. next (last_place a.places))))

@@ -51,8 +51,10 @@ list_at ends runs v = slice_range runs (get_or (0 ∷ ends) v 0) (get_or ends v 
 -- the graph in which each page has the predecessors that stand there
 unfoldable pub graph_of : List ℕ → List PageRun → Digraph
 graph_of ends runs = transposed
-    (record { nodes = length ends;
-    lists = map (λ v. numbers_of_all (list_at ends runs v)) (range_with_len 0 (length ends)) })
+    (record {
+      nodes = length ends;
+      lists = map (λ v. numbers_of_all (list_at ends runs v)) (range_with_len 0 (length ends));
+    })
 
 -- these are the runs to each page of the graph, and the outdegrees
 pub record HoldsRuns (g : Digraph) (ends : List ℕ) (runs : List PageRun) (degrees : List ℕ) : Type 0 where

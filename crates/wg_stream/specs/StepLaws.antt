@@ -10,8 +10,12 @@ use Rattle.wg_stream.specs.Stepping.{Steps, Moves, HasCause}
 pub no_step : (told : Bool) (name : List ℕ) (f : Files) (c : List ℕ → Counts) (h : Held) → Steps told name f f c c h h
 no_step told name f c h = record {
   same = refl;
-  later = record { read_faults = λ n. omega arith; write_faults = λ n. omega arith; absences = λ n. omega arith;
-      wants = λ n. omega arith };
+  later = record {
+    read_faults = λ n. omega arith;
+    write_faults = λ n. omega arith;
+    absences = λ n. omega arith;
+    wants = λ n. omega arith;
+  };
   onward = omega arith;
   looked = λ e. e;
   in_step = λ t file is i. i;
@@ -39,7 +43,7 @@ still_there told name1 name2 f1 f2 c1 c2 h1 h2 file same a is =
 
 pub two_moves : (told : Bool) (name1 name2 : List ℕ) (f1 f2 f3 : Files) (c1 c2 c3 : List ℕ → Counts) (h1 h2 h3 : Held)
     → name2 ≡ name1 → Moves told name1 f1 f2 c1 c2 h1 h2 → Moves told name2 f2 f3 c2 c3 h2 h3
-      → Moves told name1 f1 f3 c1 c3 h1 h3
+    → Moves told name1 f1 f3 c1 c3 h1 h3
 two_moves told name1 name2 f1 f2 f3 c1 c2 c3 h1 h2 h3 same a b = record {
   same = b.same ∙ a.same;
   later = none_falls-trans _ _ _ a.later b.later;
@@ -50,7 +54,7 @@ two_moves told name1 name2 f1 f2 f3 c1 c2 c3 h1 h2 h3 same a b = record {
 
 pub two_steps : (told : Bool) (name1 name2 : List ℕ) (f1 f2 f3 : Files) (c1 c2 c3 : List ℕ → Counts) (h1 h2 h3 : Held)
     → name2 ≡ name1 → Steps told name1 f1 f2 c1 c2 h1 h2 → Steps told name2 f2 f3 c2 c3 h2 h3
-      → Steps told name1 f1 f3 c1 c3 h1 h3
+    → Steps told name1 f1 f3 c1 c3 h1 h3
 two_steps told name1 name2 f1 f2 f3 c1 c2 c3 h1 h2 h3 same a b = record {
   same = b.same ∙ a.same;
   later = none_falls-trans _ _ _ a.later b.later;
@@ -67,7 +71,7 @@ increased_later a b c l r = ⊎_elim (λ (x : b < c). inl (omega (arith, x, l)))
 pub cause_after : (told : Bool) (name1 name2 : List ℕ) (f1 f2 : Files) (c1 c2 c3 : List ℕ → Counts) (h1 h2 : Held)
     (e : LoadError)
     → name2 ≡ name1 → Moves told name1 f1 f2 c1 c2 h1 h2 → HasCause told name2 f2 c2 c3 h2 e
-      → HasCause told name1 f1 c1 c3 h1 e
+    → HasCause told name1 f1 c1 c3 h1 e
 cause_after told name1 name2 f1 f2 c1 c2 c3 h1 h2 e same a b =
     let here = subst (λ (n : List ℕ). HasCause told n f2 c2 c3 h2 e) same b in
     record {
@@ -76,13 +80,13 @@ cause_after told name1 name2 f1 f2 c1 c2 c3 h1 h2 e same a b =
       memory = λ x. increased_later _ _ _ (a.later.wants name1) (here.memory x);
       there = λ t file is. here.there t file (there_after told name1 name1 f1 f2 c1 c2 h1 h2 file refl a is);
       long = λ t file is i x. here.long t file (there_after told name1 name1 f1 f2 c1 c2 h1 h2 file refl a is)
-        (a.in_step t file is i) x;
+          (a.in_step t file is i) x;
     }
 
 pub later_cause : (told : Bool) (name1 name2 : List ℕ) (f1 f2 : Files) (c1 c2 c3 : List ℕ → Counts) (h1 h2 : Held)
     (e : LoadError)
     → name2 ≡ name1 → Steps told name1 f1 f2 c1 c2 h1 h2 → HasCause told name2 f2 c2 c3 h2 e
-      → HasCause told name1 f1 c1 c3 h1 e
+    → HasCause told name1 f1 c1 c3 h1 e
 later_cause told name1 name2 f1 f2 c1 c2 c3 h1 h2 e same a b =
     cause_after told name1 name2 f1 f2 c1 c2 c3 h1 h2 e same (step_moves told name1 f1 f2 c1 c2 h1 h2 a) b
 
@@ -101,7 +105,13 @@ then_moved told name f1 f2 c1 c2 h1 h2 h3 n on a e = record {
   in_step = λ t file is i.
       let j = a.in_step t file is i in
       subst (IsHeldOf file) (sym e)
-        (record { before = j.before; behind = j.behind; whole = j.whole; offset = j.offset; ended = j.ended;
-        short = j.short });
+      (record {
+        before = j.before;
+        behind = j.behind;
+        whole = j.whole;
+        offset = j.offset;
+        ended = j.ended;
+        short = j.short;
+      });
   small = λ s. moved_small h2 h3 n on e (a.small s);
 }

@@ -20,7 +20,7 @@ pub record StandFor (p : Parameters) (bits : List Bool) (graph : List (List ℕ)
 abbrev pub PassFinds : Parameters → List Bool → List ℕ → ℕ → Type 0
 PassFinds p bits offsets greatest =
     (graph : List (List ℕ)) × ReadsGraph p bits (Ok (record { graph = graph; places = offsets }))
-      × All (λ s. length s ≤ greatest) graph
+    × All (λ s. length s ≤ greatest) graph
 
 -- they stand for a graph; there is one at most
 abbrev pub HaveGraph : Parameters → List Bool → Type 0
@@ -38,7 +38,7 @@ IsBack n from back row = (row + back ≡ from) ⊎ (row + back ≡ from + n)
 abbrev pub AreKept : List Whole → ℕ → List Filled → ℕ → Type 0
 AreKept records page rows turn =
     (row back : ℕ) → row < length rows → 0 < back → back ≤ page → back ≤ length rows
-      → IsBack (length rows) turn back row
+    → IsBack (length rows) turn back row
     → (get_or rows row no_row).list ≡ (known_at records (page - back)).list
 
 -- The sweep stands before this page, whose record begins at the bit at. One row has the list of the page before it, and

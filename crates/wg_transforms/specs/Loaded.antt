@@ -61,7 +61,7 @@ pub record JudgesArchive (base : List ℕ) (p : Parameters) (bytes : List ℕ) (
       (λ e. (IsBadFile Graph p.arcs e × ((r : Readings) → Steps {B = Accepted} (with_graph r p bytes) (Err e))
       × (files' ≡ files) × NonDecreasing counts counts')
       ⊎ ((a : Accepted) × ReadsGraph p (bits_of bytes) (Ok a)
-        × JudgesOffsets base p a.places told files files' counts counts' (Err e)))
+      × JudgesOffsets base p a.places told files files' counts counts' (Err e)))
 
 abbrev pub JudgesArchiveBy : {D : Type 0} → depot.Ghosts D → List ℕ → Parameters → List ℕ → D → D → Result ℕ Ending
     → Type 0
@@ -74,7 +74,7 @@ pub record LoadsArchive (base : List ℕ) (told : Bool) (files files' : Files) (
   -- it goes on with the graph
   pub goes : IfOk result (λ l. (a : Accepted) × IsLoaded l a
       × (IsTrue told → (r : Readings) (next : Parameters → Accepted → Judged)
-        → with_archive r (held_by (file_of base) files) next ≡ next l.params a))
+      → with_archive r (held_by (file_of base) files) next ≡ next l.params a))
   -- or it ends like this, whatever would have come next
   pub ends : IsTrue told → (r : Readings)
       → IfErr result (λ e. (next : Parameters → Accepted → Judged)
@@ -85,7 +85,7 @@ pub record LoadsArchive (base : List ℕ) (told : Bool) (files files' : Files) (
   -- a file that could not be read is the first that would be missed
   pub reached : IsTrue told → (r : Readings) (i : Input) → status_in result ≡ ReadFault i
       → (next : Parameters → Accepted → Judged)
-        → with_archive r (without i (held_by (file_of base) files)) next ≡ refused (Missing i)
+      → with_archive r (without i (held_by (file_of base) files)) next ≡ refused (Missing i)
   -- the arcs are those that the line of the status names
   pub promised : IsTrue told → ArePromised (held_by (file_of base) files) (status_in result) (promised_in result)
   -- no file has changed, and no count of the depot falls

@@ -54,7 +54,7 @@ begun (list ∷ lists) s =
     if drawn s % 4 == 0
     then (record { list = []; state = next_state s })
     else copying (get_or (list ∷ lists) (x - distance x (next_state s)) [])
-      (record { list = []; state = next_state (next_state s) })
+    (record { list = []; state = next_state (next_state s) })
 
 -- ---- the second step: up to three of all n pages
 

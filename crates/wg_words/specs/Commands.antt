@@ -66,7 +66,7 @@ abbrev pub with_codes : App → App
 with_codes a =
     with_option (with_option (with_option (with_option (with_option (with_option a
     (codes "outdegrees")) (codes "references")) (codes "blockcounts")) (codes "blocks")) (codes "residuals"))
-      (codes "offsets")
+    (codes "offsets")
 
 -- the options that say how an archive is written
 abbrev pub with_layout : App → App
@@ -143,7 +143,7 @@ command_app =
     with_command (with_command (with_command (with_command (with_command (with_command (with_command (with_command
     (with_command (with_command (with_command (with_command
     plain_app (archive_app (codes "ascii"))) show_app) spot_app) rank_app) verify_app) build_app) import_app)
-      quotient_app)
+    quotient_app)
     (conversion_app (codes "recode"))) union_app) (conversion_app (codes "transpose"))) bulk_app
 
 -- nothing where the words are refused

@@ -41,7 +41,7 @@ rank_with rows base weights certificate = if overwrites base weights certificate
 abbrev pub rank_on : List Row → Text → Option Job
 rank_on rows base =
     option_and_then (λ weights. option_and_then (rank_with rows base weights)
-      (optional_name_in rows (codes "certificate")))
+    (optional_name_in rows (codes "certificate")))
     (optional_name_in rows (codes "weights"))
 
 -- the judging of a certificate against an archive, with weights if the option names them

@@ -75,8 +75,14 @@ codes_in rows factor =
     option_and_then (λ blocks.
     option_and_then (λ residuals.
     option_and_then (λ offsets. Some
-      (record { outdegrees = outdegrees; references = references; block_counts = counts; blocks = blocks;
-      residuals = residuals; offsets = offsets }))
+    (record {
+      outdegrees = outdegrees;
+      references = references;
+      block_counts = counts;
+      blocks = blocks;
+      residuals = residuals;
+      offsets = offsets;
+    }))
     (gamma_or_delta (word_in rows (codes "offsets") DEFAULT_OFFSETS.now)))
     (residual_code factor (word_in rows (codes "residuals") DEFAULT_RESIDUALS.now)))
     (gamma_or_delta (word_in rows (codes "blocks") DEFAULT_BLOCKS.now)))
@@ -92,7 +98,7 @@ layout_in rows =
     option_and_then (λ interval.
     option_and_then (λ zeta.
     option_and_then (λ given. Some
-      (record { window = window; chain = chain; interval = interval; zeta = zeta; codes = given }))
+    (record { window = window; chain = chain; interval = interval; zeta = zeta; codes = given }))
     (codes_in rows zeta))
     (zeta_in rows))
     (number_in rows (codes "interval") DEFAULT_INTERVAL MOST_INTERVAL))

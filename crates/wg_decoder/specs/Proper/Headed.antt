@@ -10,8 +10,8 @@ use Rattle.wg_decoder.specs.Proper.Laid.{MaybeWord}
 abbrev pub TakesHead : Parameters → List Bool → List Bool → ℕ → ℕ → Type 0
 TakesHead p z after outdegree reference =
     (d r : ℕ) (mid behind : List Bool) → IsWord p.outdegrees d z mid
-      → MaybeWord (nat_lt 0 d && nat_lt 0 p.window) p.references r mid behind → (d ≡ outdegree) × (r ≡ reference)
-      × (behind ≡ after)
+    → MaybeWord (nat_lt 0 d && nat_lt 0 p.window) p.references r mid behind → (d ≡ outdegree) × (r ≡ reference)
+    × (behind ≡ after)
 
 -- the head was read at this position
 abbrev pub IsHead : Parameters → Position → RecordHead → Type 0
