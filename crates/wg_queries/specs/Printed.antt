@@ -73,4 +73,4 @@ abbrev pub PrintsAgain : {D O : Type 0} → depot.Ghosts D → sink.Ghosts O →
     → D → D → O → O → Result (Unit {0}) Ending → Type 0
 PrintsAgain d o base p text before after out out' result =
     PrintsGraph base p text d.told o.told (outside (d.files before) (d.counts before) (o.taken out) (o.faults out))
-      (outside (d.files after) (d.counts after) (o.taken out') (o.faults out')) result
+    (outside (d.files after) (d.counts after) (o.taken out') (o.faults out')) result
