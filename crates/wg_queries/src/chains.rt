@@ -5,6 +5,7 @@ ghost use Rattle.wg_outcomes.specs.declared.status.Input.{Input};
 ghost use Rattle.wg_readings.specs.Finding.{IsOpenOn};
 ghost use Rattle.wg_queries.specs.Spotting.{EndsBy, SpotsPageBy};
 
+use crate::chain_source::ChainSource;
 use std::alloc::Global;
 use std::marker::Brand;
 use std::sync::ledger::{Blank, Ledger};
@@ -62,7 +63,8 @@ fn counted<L: Ledger, D: Depot>(
     let mut ticks = Ticks::new(book, share);
     // tells the limits
     params.nodes();
-    let mut source = FileSource::new(depot, graph.name.as_str(), &mut graph.held);
+    let file = FileSource::new(depot, graph.name.as_str(), &mut graph.held);
+    let mut source = ChainSource { within: file };
     match spot_from(alloc, params, offsets, page, &mut source, &mut ticks) {
         Ok(list) => Ok(list),
         Err(error) => Err(ending_of(error, params)),

@@ -29,6 +29,7 @@
 #![tactic(auto)]
 
 mod certificate;
+mod chain_source;
 mod chains;
 pub mod check;
 mod print;
