@@ -266,10 +266,10 @@ impl ListEncoder {
         ensures { IsFewer most (offer_of self.now.params self.now.next list.now r) result }
     {
         self.limits();
-        if !self.may_copy(list, r) {
+        if !self.may_refer(r) {
             return None;
         }
-        if !self.may_refer(r) {
+        if !self.may_copy(list, r) {
             return None;
         }
         self.size_below(list, r, most)
