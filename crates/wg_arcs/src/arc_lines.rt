@@ -1,14 +1,16 @@
-ghost use Rattle.std.specs.Prelude.{◌≡◌, ℕ, ◌⊎◌, List as ListOf, ◌+◌, ◌<◌, ◌≤◌, ◌^◌, ◌++◌, [], Some, None, length, OnOk, IfOk, IfErr, IfSome, option_to_list};
+ghost use Rattle.std.specs.Prelude.{◌≡◌, ℕ, ◌⊎◌, List as ListOf, ◌+◌, ◌<◌, ◌≤◌, ◌^◌, ◌++◌, [], Some, None, codes, decimal, length, OnOk, IfOk, IfErr, IfSome, option_to_list};
 ghost use Rattle.wg_num.specs.Lines.{lines_of};
 ghost use Rattle.wg_arcs.specs.Reading.{arc_at, is_after, refusal_after, fault_after};
 ghost use Rattle.wg_arcs.specs.Growing.{MayCome, IsUpTo, IsRefusedLine, IsFirst, SoFar, with_line};
 ghost use Rattle.wg_arcs.specs.Listing.{AreListed, arcs_on, later_than, on_page};
 
-use crate::plain::plain_arc;
+use crate::plain::{plain_arc, plain_arc_of};
 use crate::words::{arc, entry};
+use crate::writing::write_start;
 use crate::{ArcsError, ArcsKind};
 use std::alloc::AllocError;
 use wg_graph::List;
+use wg_lines::MOST_START;
 use wg_num::first_line;
 use wg_params::MOST_ARCS;
 
@@ -168,8 +170,41 @@ impl ArcLines {
             None => self.read_any(bytes),
         }
     }
+
+    // The same, where lines of this page begin with these bytes.
+    #[inline(always)]
+    fn read_next<'a>(
+        &mut self,
+        page: u64,
+        start: &[u8],
+        bytes: &'a [u8],
+    ) -> Result<(Option<(u64, u64)>, &'a [u8]), ArcsError>
+        requires some { 0 < length bytes.now }
+        requires line { self.old.line + 1 < 2 ^ 64 }
+        requires start { start.now ≡ decimal page ++ codes " " }
+        ensures nodes { self.new.nodes ≡ self.old.nodes }
+        ensures line { OnOk result (self.new.line ≡ self.old.line + 1) }
+        ensures ok { IfOk result (λ r. self.new ≡ with_line self.old r.0) }
+        ensures shorter { IfOk result (λ r. length r.1.now < length bytes.now) }
+        ensures comes { IfOk result (λ r. IfSome r.0 (MayCome self.old.nodes self.old.last self.old.arcs)) }
+        ensures read { (all later : ListOf (ListOf ℕ)) (arcs : ListOf (ℕ × ℕ))
+            → IsUpTo all (lines_of bytes.now ++ later) arcs self.old
+            → IfOk result (λ r. IsUpTo all (lines_of r.1.now ++ later) (arcs ++ option_to_list r.0) self.new) }
+        ensures fault { (all later : ListOf (ListOf ℕ)) (arcs : ListOf (ℕ × ℕ))
+            → IsUpTo all (lines_of bytes.now ++ later) arcs self.old → IfErr result (IsFirst self.old.nodes all) }
+    {
+        match plain_arc_of(page, start, bytes) {
+            Some((v, after)) => {
+                self.take(page, v)?;
+                Ok((Some((page, v)), after))
+            }
+            None => self.read_first(bytes),
+        }
+    }
+
     /// Reads lines of a text up to the first arc of a page after this one, or to its end. The numbers of the arcs of
-    /// this page go to the end of its list. Gives that arc, if it came to one, and the text after it.
+    /// this page go to the end of its list. Gives that arc, if it came to one, and the text after it. Of a line that
+    /// begins with the digits of this page and a space, only what follows is read as a number.
     #[inline(always)]
     pub fn fill<'a>(
         &mut self,
@@ -193,9 +228,12 @@ impl ArcLines {
             → SoFar self.old.nodes all (lines_of text.now ++ later) self.old.line (arcs_on done list.old)
             → IfErr result (λ e. (e ≡ ArcsError.Memory) ⊎ IsFirst self.old.nodes all e) }
     {
+        let mut digits = [0; MOST_START];
+        let count = write_start(page, &mut digits);
+        let start = &digits[..count];
         let mut rest = text;
         'lines: while !rest.is_empty() {
-            let (arc, after) = self.read_first(rest)?;
+            let (arc, after) = self.read_next(page, start, rest)?;
             rest = after;
             let next = put(list, page, arc)?;
             if next.is_some() {

@@ -1,5 +1,5 @@
 // Lines in their plain form, as the text of a graph has them.
-ghost use Rattle.std.specs.Prelude.{◌≡◌, ◌<◌, ◌^◌, ◌∷◌, ◌++◌, IfSome};
+ghost use Rattle.std.specs.Prelude.{◌≡◌, ◌<◌, ◌≤◌, ◌^◌, ◌∷◌, ◌++◌, codes, decimal, length, drop, IfSome, IsTrue};
 ghost use Rattle.wg_arcs.specs.Text.{arc_line};
 
 use wg_num::leading_decimal;
@@ -27,4 +27,38 @@ pub fn plain_arc(text: &[u8]) -> Option<(u64, u64, &[u8])>
     let (to, to_end) = leading_decimal(second)?;
     let rest = after(&second[to_end..], b'\n')?;
     Some((from, to, rest))
+}
+
+// Whether a text begins with another one. Few bytes are compared sooner one by one than by a call.
+#[inline(always)]
+fn begins_with(text: &[u8], front: &[u8]) -> bool
+    ensures front { IsTrue result → text.now ≡ front.now ++ drop (length front.now) text.now }
+    ensures within { IsTrue result → length front.now ≤ length text.now }
+{
+    if text.len() < front.len() {
+        return false;
+    }
+    for index in 0..front.len() {
+        if text[index] != front[index] {
+            return false;
+        }
+    }
+    true
+}
+
+/// The second number of the first line and the text after it, where the line is in that form and begins with `start`:
+/// the digits of this page, and a space. It goes over the line once.
+#[inline(always)]
+pub fn plain_arc_of<'a>(page: u64, start: &[u8], text: &'a [u8]) -> Option<(u64, &'a [u8])>
+    requires { start.now ≡ decimal page ++ codes " " }
+    ensures line { IfSome result (λ r. text.now ≡ arc_line (page, r.0) ++ r.1.now) }
+    ensures low { IfSome result (λ r. (page < 2 ^ 64) × (r.0 < 2 ^ 64)) }
+{
+    if !begins_with(text, start) {
+        return None;
+    }
+    let second = &text[start.len()..];
+    let (to, to_end) = leading_decimal(second)?;
+    let rest = after(&second[to_end..], b'\n')?;
+    Some((to, rest))
 }

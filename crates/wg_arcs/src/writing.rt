@@ -10,8 +10,8 @@ use wg_io::{Sink, WriteError};
 use wg_lines::{Lines, MOST_START};
 use wg_num::decimal_at;
 
-// Writes what the lines of a page's arcs begin with: its number, and a space.
-fn write_start(page: u64, start: &mut [u8; MOST_START]) -> usize
+/// Writes what the lines of a page's arcs begin with: its number, and a space.
+pub(crate) fn write_start(page: u64, start: &mut [u8; MOST_START]) -> usize
     ensures within { result ≤ MOST_START }
     ensures start { take result start.new ≡ decimal page ++ codes " " }
 {

@@ -39,11 +39,11 @@ use wg_params::Params;
 #[derive(Drop)]
 pub struct ListEncoder {
     pub(crate) alloc: Global,
-    pub(crate) params: Params,
     // how many lists were written, and how many numbers they have
     pub(crate) page: u64,
     pub(crate) arcs: u64,
     // in memory of their own, since an encoder is moved at each list
+    pub(crate) params: Box<Params>,
     pub(crate) kept: Box<Kept>,
     pub(crate) graph_writer: Box<Writer>,
     pub(crate) offsets_writer: Box<Writer>,
@@ -67,7 +67,7 @@ impl Model for ListEncoder {
     ghost Value = { Encoded };
 
     ghost view = { λ e. record {
-      params = e.params;
+      params = e.params.value;
       next = record { page = e.page; arcs_before = e.arcs; behind = e.kept.value.behind };
       last = e.last;
       total = e.total;
@@ -76,8 +76,8 @@ impl Model for ListEncoder {
       offsets_waits = e.offsets_writer.value.bits;
     } };
 
-    ghost invariant = { λ e. (e.kept.value.window ≡ e.params.window) × (e.page ≤ e.params.nodes)
-        × (e.arcs ≤ e.params.arcs) × Serves e.params e.page e.kept.value.behind
+    ghost invariant = { λ e. (e.kept.value.window ≡ e.params.value.window) × (e.page ≤ e.params.value.nodes)
+        × (e.arcs ≤ e.params.value.arcs) × Serves e.params.value e.page e.kept.value.behind
         × (e.graph_writer.value.failed ≡ false) × (e.offsets_writer.value.failed ≡ false)
         × (e.last < 2 ^ 62) × (e.total ≤ enough_bits e.page e.arcs) × (e.referring ≤ e.page) };
 }
@@ -94,11 +94,12 @@ impl ListEncoder {
         let kept = Box::new(alloc, Kept::new(alloc, &params))?;
         let graph_writer = writer(alloc)?;
         let offsets_writer = writer(alloc)?;
+        let params = Box::new(alloc, params)?;
         Ok(ListEncoder {
             alloc,
-            params,
             page: 0,
             arcs: 0,
+            params,
             kept,
             graph_writer,
             offsets_writer,
@@ -209,7 +210,7 @@ impl ListEncoder {
     {
         self.limits();
         record_cost(
-            &self.params,
+            &*self.params,
             self.page,
             r,
             self.referenced_list(r),
@@ -266,10 +267,10 @@ impl ListEncoder {
         ensures { IsFewer most (offer_of self.now.params self.now.next list.now r) result }
     {
         self.limits();
-        if !self.may_copy(list, r) {
+        if !self.may_refer(r) {
             return None;
         }
-        if !self.may_refer(r) {
+        if !self.may_copy(list, r) {
             return None;
         }
         self.size_below(list, r, most)

@@ -79,7 +79,7 @@ impl ListEncoder {
     {
         self.limits();
         let referenced = self.referenced_list(choice.reference);
-        draft.fill(&self.params, self.page, choice.reference, referenced, list)
+        draft.fill(&*self.params, self.page, choice.reference, referenced, list)
     }
 
     // Puts the word of the offsets file that is due: 0 for page 0, else the length of the record before.

@@ -30,7 +30,7 @@ returns-in_err-arc-clause-fault c = λ done all later at h so.
 
 pub returns-then-is_some-clause-listed : goal.returns-then-is_some-clause-listed
 returns-then-is_some-clause-listed c = λ done at h.
-    (listed_line done c.lines.list c.lines.self c.read_first.new.self c.in_ok-arc.arc c.args.page c.put.new.list c.in_ok-next.next at (c.lines.invariant.listed done at h)
+    (listed_line done c.lines.list c.lines.self c.read_next.new.self c.in_ok-arc.arc c.args.page c.put.new.list c.in_ok-next.next at (c.lines.invariant.listed done at h)
     c.in_ok-arc.ensures.comes c.in_ok-arc.ensures.ok c.in_ok-next.ensures.list c.in_ok-next.ensures.later).0
 
 pub returns-then-is_some-clause-read : goal.returns-then-is_some-clause-read
@@ -38,9 +38,9 @@ returns-then-is_some-clause-read c = λ done all later at h so.
     let i = c.lines.invariant in
     let next = lines_of c.in_ok-arc.after.now ++ later in
     let up = come_to c.args.self.now.nodes all (lines_of c.lines.rest.now ++ later) done c.lines.list c.lines.self i.nodes (i.listed done at h) (i.read done all later at h so) in
-    let line = listed_line done c.lines.list c.lines.self c.read_first.new.self c.in_ok-arc.arc c.args.page c.put.new.list c.in_ok-next.next at (i.listed done at h)
+    let line = listed_line done c.lines.list c.lines.self c.read_next.new.self c.in_ok-arc.arc c.args.page c.put.new.list c.in_ok-next.next at (i.listed done at h)
     c.in_ok-arc.ensures.comes c.in_ok-arc.ensures.ok c.in_ok-next.ensures.list c.in_ok-next.ensures.later in
-    read_on c.args.self.now.nodes all next (arcs_on done c.lines.list ++ option_to_list c.in_ok-arc.arc) _ c.read_first.new.self (c.in_ok-arc.ensures.nodes ∙ i.nodes) line.1
+    read_on c.args.self.now.nodes all next (arcs_on done c.lines.list ++ option_to_list c.in_ok-arc.arc) _ c.read_next.new.self (c.in_ok-arc.ensures.nodes ∙ i.nodes) line.1
     (c.in_ok-arc.ensures.read all later (arcs_on done c.lines.list) up)
 
 pub lines-preserved : goal.lines-preserved
@@ -53,13 +53,13 @@ lines-preserved c =
       line = omega (arith, i.line, r.line, r.shorter);
       short = omega (arith, i.short, r.shorter);
       listed = λ done at h.
-          (listed_line done c.lines.list c.lines.self c.read_first.new.self c.in_ok-arc.arc c.args.page c.put.new.list None at (i.listed done at h)
+          (listed_line done c.lines.list c.lines.self c.read_next.new.self c.in_ok-arc.arc c.args.page c.put.new.list None at (i.listed done at h)
           r.comes r.ok c.in_ok-next.ensures.list (sym none ∙ c.in_ok-next.ensures.later)).0;
       read = λ done all later at h so.
           let next = lines_of c.in_ok-arc.after.now ++ later in
           let up = come_to c.args.self.now.nodes all (lines_of c.lines.rest.now ++ later) done c.lines.list c.lines.self i.nodes (i.listed done at h) (i.read done all later at h so) in
-          let line = listed_line done c.lines.list c.lines.self c.read_first.new.self c.in_ok-arc.arc c.args.page c.put.new.list None at (i.listed done at h)
+          let line = listed_line done c.lines.list c.lines.self c.read_next.new.self c.in_ok-arc.arc c.args.page c.put.new.list None at (i.listed done at h)
           r.comes r.ok c.in_ok-next.ensures.list (sym none ∙ c.in_ok-next.ensures.later) in
-          read_on c.args.self.now.nodes all next (arcs_on done c.lines.list ++ option_to_list c.in_ok-arc.arc) _ c.read_first.new.self (r.nodes ∙ i.nodes) (sym (append-nil (arcs_on done c.put.new.list)) ∙ line.1)
+          read_on c.args.self.now.nodes all next (arcs_on done c.lines.list ++ option_to_list c.in_ok-arc.arc) _ c.read_next.new.self (r.nodes ∙ i.nodes) (sym (append-nil (arcs_on done c.put.new.list)) ∙ line.1)
           (r.read all later (arcs_on done c.lines.list) up);
     }

@@ -25,7 +25,7 @@ invariant_of-self c =
       c.keep.ensures.window ∙ ap (λ (k : Remembered). k.window) c.deref_mut.ensures.value ∙ c.self.invariant.0,
       omega (arith, page, nodes, c.requires.page),
       omega (arith, arcs, most, c.requires.arcs),
-      serves_on c.self.inside.params c.self.inside.page c.depth-depth.result c.args.list.now c.self.inside.kept.value.behind _ c.self.invariant.3 list (omega (arith, page, c.depth-depth.ensures.within))
+      serves_on c.self.inside.params.value c.self.inside.page c.depth-depth.result c.args.list.now c.self.inside.kept.value.behind _ c.self.invariant.3 list (omega (arith, page, c.depth-depth.ensures.within))
           (c.in_ok-keep.ensures.behind
           ∙ ap (λ (k : Remembered). take k.window (record { list = c.args.list.now; depth = c.depth-depth.result } ∷ k.behind)) c.deref_mut.ensures.value
           ∙ ap (λ w. take w (record { list = c.args.list.now; depth = c.depth-depth.result } ∷ c.self.inside.kept.value.behind)) c.self.invariant.0),

@@ -15,7 +15,8 @@ pub returns-clause-words : goal.returns-clause-words
 returns-clause-words c =
     let self = c.args.self.now in
     let r = c.args.choice.reference in
-    let words : all_have_words (record_fields c.self.inside.params c.self.inside.page r c.referenced_list-referenced.result.now c.args.list.now) ≡ true =
-    (λ i. all_have_words (record_fields (c.self.view_is i).params (c.self.view_is i).next.page r (c.referenced_list-referenced.ensures.value i) c.args.list.now))
+    let words : all_have_words (record_fields c.deref.result.now c.self.inside.page r c.referenced_list-referenced.result.now c.args.list.now) ≡ true =
+    (λ i. all_have_words (record_fields (c.deref.ensures i) c.self.inside.page r c.referenced_list-referenced.result.now c.args.list.now))
+    ∙ (λ i. all_have_words (record_fields (c.self.view_is i).params (c.self.view_is i).next.page r (c.referenced_list-referenced.ensures.value i) c.args.list.now))
     ∙ chosen_words self.params self.next c.args.list.now c.args.choice c.requires.chosen c.limits.ensures.within c.requires.page c.requires.list in
-    on_ok_weaker c.fill.result (λ (is : c.fill.new.self ≡ record_fields c.self.inside.params c.self.inside.page r c.referenced_list-referenced.result.now c.args.list.now). ap all_have_words is ∙ words) c.fill.ensures
+    on_ok_weaker c.fill.result (λ (is : c.fill.new.self ≡ record_fields c.deref.result.now c.self.inside.page r c.referenced_list-referenced.result.now c.args.list.now). ap all_have_words is ∙ words) c.fill.ensures
