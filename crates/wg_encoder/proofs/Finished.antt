@@ -14,7 +14,7 @@ use Rattle.wg_params.specs.Parameters.{Parameters}
 use Rattle.wg_encoder.specs.declared.error.EncodeError.{EncodeError}
 use Rattle.wg_encoder.specs.Archive.{graph_bits, offsets_bits, filled, graph_file, offsets_file}
 use Rattle.wg_encoder.specs.Encoding.{Encoded, HasWritten}
-use Rattle.wg_encoder.specs.Gone.{HasSent, HasSentAll, IsWritten, HasStopped, HasFailedOn, HoldsFront, HoldsLess}
+use Rattle.wg_encoder.specs.Gone.{HasSent, HasSentAll, HasAll, IsWritten, HasStopped, HasFailedOn, HoldsFront, HoldsLess}
 use Rattle.wg_encoder.proofs.Bytes.{graph_again, offsets_again, graph_bytes, offsets_bytes}
 use Rattle.wg_encoder.proofs.Texts.{sent_front, sent_whole}
 use Rattle.wg_encoder.proofs.Sent.{sent_put, put_less, other_put, other_less, sent_along}
@@ -32,11 +32,6 @@ same_padding m n k e = let r : m % 8 ≡ n % 8 = omega arith in ap (λ x. (8 - x
 same_fill : (file : Option (List ℕ)) (w bits : List Bool) → HasSent file w bits → fill w ≡ fill bits
 same_fill file w bits s =
     ap (λ k. replicate k false) (same_padding (length w) (length bits) (length s.sent) (omega (arith, ap length s.all, length-append (bits_of s.sent) w, length-bits_of s.sent)))
-
--- what both files have before they are filled up
-pub record HasAll (files : Files) (base : List ℕ) (p : Parameters) (lists : List (List ℕ)) (w v : List Bool) : Type 0 where
-  pub records : HasSent (fin.get files (graph_name base)) w (graph_bits p lists)
-  pub words : HasSent (fin.get files (offsets_name base)) v (offsets_bits p lists)
 
 pub all_gone : (a b : Files) (base : List ℕ) (e begun view : Encoded) (lists : List (List ℕ)) → begun ≡ record e { offsets_waits = begun.offsets_waits } → view ≡ begun
     → HasPut a b (offsets_name base) e.offsets_waits (next_word e) begun.offsets_waits → HasWritten e lists → HasSentAll a base e lists → HasAll b base e.params lists view.graph_waits view.offsets_waits

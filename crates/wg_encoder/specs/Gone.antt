@@ -10,7 +10,7 @@ use Rattle.wg_io.specs.declared.depot.Depot as depot
 use Rattle.wg_bits.specs.Bits.{bits_of}
 use Rattle.wg_bits.specs.Written.{HasPut, HasPutLess}
 use Rattle.wg_params.specs.Parameters.{Parameters}
-use Rattle.wg_encoder.specs.Archive.{graph_bits, graph_file, offsets_file}
+use Rattle.wg_encoder.specs.Archive.{graph_bits, offsets_bits, graph_file, offsets_file}
 use Rattle.wg_encoder.specs.Encoding.{Encoded, Encoding, lists_before, words_before}
 use Rattle.wg_encoder.specs.declared.error.EncodeError.{EncodeError}
 use Rattle.wg_encoder.specs.declared.error.EncodeError.TheVariants as error
@@ -52,6 +52,12 @@ HasSentAll files base e lists = HasSentLists files base e.params lists e.graph_w
 -- and of an encoder of a graph, where the lists are those of the pages before this one
 abbrev pub HasSentUpTo : Files → List ℕ → Encoding → Type 0
 HasSentUpTo files base e = HasSentLists files base e.params (lists_before e) e.graph_waits e.offsets_waits
+
+-- The files with what waits have all of an archive, but the zeros that fill up a byte.
+pub record HasAll (files : Files) (base : List ℕ) (p : Parameters) (lists : List (List ℕ))
+    (graph_waits offsets_waits : List Bool) : Type 0 where
+  pub records : HasSent (fin.get files (graph_name base)) graph_waits (graph_bits p lists)
+  pub words : HasSent (fin.get files (offsets_name base)) offsets_waits (offsets_bits p lists)
 
 -- the files of the greedy archive
 abbrev pub IsWritten : Files → List ℕ → Parameters → List (List ℕ) → Type 0

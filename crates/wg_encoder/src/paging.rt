@@ -3,12 +3,13 @@ ghost use Rattle.std.specs.Prelude.{◌≡◌, ℕ, ◌+◌, ◌<◌, ◌≤◌,
 ghost use Rattle.wg_io.specs.Outside.{NonDecreasing};
 ghost use Rattle.wg_bits.specs.Written.{padding};
 ghost use Rattle.wg_codes.specs.Words.{word};
+ghost use Rattle.wg_params.specs.Parameters.{Parameters};
 ghost use Rattle.wg_encoder.specs.Fields.{bits_of_fields, all_have_words};
 ghost use Rattle.wg_encoder.specs.Greedy.{canonical};
 ghost use Rattle.wg_encoder.specs.Archive.{refers};
 ghost use Rattle.wg_encoder.specs.Laws.{IsList};
 ghost use Rattle.wg_encoder.specs.Encoding.{encoded_on, HasWritten, IsChosen};
-ghost use Rattle.wg_encoder.specs.Gone.{HasSentAll, IsWritten, HasStopped, HasFailed, SendsTo, OnlyTwo};
+ghost use Rattle.wg_encoder.specs.Gone.{HasSentAll, HasAll, IsWritten, HasStopped, HasFailed, SendsTo, OnlyTwo};
 ghost use Rattle.wg_encoder.specs.declared.error.EncodeError.TheVariants as errors;
 
 use crate::choice::Choice;
@@ -205,10 +206,33 @@ impl ListEncoder {
         let bits = self.total;
         let names = self.take_names(base)?;
         let put = self.put_offset(depot, names.offsets())?;
-        close(put.graph_writer, Output::Graph, depot, names.graph())?;
-        close(put.offsets_writer, Output::Offsets, depot, names.offsets())?;
+        close_both(put.graph_writer, put.offsets_writer, depot, &*names)?;
         Ok(bits)
     }
+}
+
+// Fills up the graph file to a whole byte, and then the offsets file.
+fn close_both<D: Depot>(
+    graph: Box<Writer>,
+    offsets: Box<Writer>,
+    depot: &mut D,
+    names: &FileNames,
+) -> Result<(), EncodeError>
+    requires graph { graph.value.failed ≡ false }
+    requires offsets { offsets.value.failed ≡ false }
+    ensures ok { (p : Parameters) (lists : ListOf (ListOf ℕ)) → IsTrue D.told
+        → HasAll (D.files depot.old) names.now p lists graph.value.bits offsets.value.bits
+        → OnOk result (IsWritten (D.files depot.new) names.now p lists) }
+    ensures err { (p : Parameters) (lists : ListOf (ListOf ℕ)) → IsTrue D.told
+        → HasAll (D.files depot.old) names.now p lists graph.value.bits offsets.value.bits
+        → IfErr result (HasStopped (D.files depot.new) names.now p lists) }
+    ensures only_two { IsTrue D.told → OnlyTwo names.now (D.files depot.old) (D.files depot.new) }
+    ensures fault { IfErr result (HasFailed names.now (D.counts depot.old) (D.counts depot.new)) }
+    ensures later { NonDecreasing (D.counts depot.old) (D.counts depot.new) }
+{
+    close(graph, Output::Graph, depot, names.graph())?;
+    close(offsets, Output::Offsets, depot, names.offsets())?;
+    Ok(())
 }
 
 // Fills up a file to a whole byte.

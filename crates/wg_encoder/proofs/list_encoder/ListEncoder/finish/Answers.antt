@@ -1,11 +1,11 @@
 use Rattle.std.proofs.Common.{◌≡◌, ◌∙◌, Err, ap}
 use Rattle.std.proofs.lemmas.Result.{err_from_is_err_and}
 use Rattle.wg_io.proofs.FilesLemmas.{none_falls-trans}
-use Rattle.wg_io.specs.Suffixes.{graph_name, offsets_name}
-use Rattle.wg_encoder.proofs.Failed.{failed_by_memory, failed_on_graph, failed_on_offsets, failed_since}
+use Rattle.wg_io.specs.Suffixes.{offsets_name}
+use Rattle.wg_encoder.proofs.Failed.{failed_by_memory, failed_on_offsets, failed_since}
 use Rattle.wg_encoder.proofs.Sent.{other_put, other_less}
 use Rattle.wg_encoder.proofs.Stopped.{word_put, word_less, if_err, all_stopped_by_memory, all_stopped_on_offsets}
-use Rattle.wg_encoder.proofs.Finished.{all_gone, finished, stopped_at_graph, stopped_at_offsets}
+use Rattle.wg_encoder.proofs.Finished.{all_gone}
 use Rattle.wg_encoder.proofs.list_encoder.ListEncoder.finish.Goals as goal
 
 pub returns-in_err-names-clause-err : goal.returns-in_err-names-clause-err
@@ -26,56 +26,6 @@ returns-in_err-put-clause-only_two g c t name graph offsets =
     let is : c.offsets.result.now ≡ offsets_name c.args.base.now = c.offsets.ensures ∙ ap offsets_name (c.deref.ensures ∙ c.in_ok-names.ensures.names) in
     other_less _ _ _ name _ _ (rw is at c.in_err-put.ensures.sends.err t) offsets
 
-pub returns-in_err-close-clause-err : goal.returns-in_err-close-clause-err
-returns-in_err-close-clause-err g c lists written t h =
-    let e = err_from_is_err_and c.from_residual-in_err-close.result c.from_residual-in_err-close.ensures.1 in
-    let offsets : c.offsets.result.now ≡ offsets_name c.args.base.now = c.offsets.ensures ∙ ap offsets_name (c.deref.ensures ∙ c.in_ok-names.ensures.names) in
-    let graph : c.graph.result.now ≡ graph_name c.args.base.now = c.graph.ensures ∙ ap graph_name (c.deref-2.ensures ∙ c.in_ok-names.ensures.names) in
-    let put = word_put _ _ c.args.base.now _ c.args.self _ _ (c.take_names.ensures.same) offsets (c.in_ok-put.ensures.sends.ok t) in
-    let all = all_gone _ _ c.args.base.now c.args.self c.in_ok-put.put _ lists (rw c.take_names.ensures.same at c.in_ok-put.ensures.on) c.put.view_is put written h in
-    if_err _ _ c.in_err-close.field-0.0 (e.1 ∙ ap Err e.2)
-    (stopped_at_graph c.args.base.now c.args.self.params lists _ _ _ _ _ _ _ (rw graph at c.in_err-close.ensures.err t) c.in_err-close.ensures.fault all)
-
-pub returns-in_err-close-clause-only_two : goal.returns-in_err-close-clause-only_two
-returns-in_err-close-clause-only_two g c t name graph offsets =
-    let first : c.offsets.result.now ≡ offsets_name c.args.base.now = c.offsets.ensures ∙ ap offsets_name (c.deref.ensures ∙ c.in_ok-names.ensures.names) in
-    let second : c.graph.result.now ≡ graph_name c.args.base.now = c.graph.ensures ∙ ap graph_name (c.deref-2.ensures ∙ c.in_ok-names.ensures.names) in
-    other_less _ _ _ name _ _ (rw second at c.in_err-close.ensures.err t) graph ∙ other_put _ _ _ name _ _ _ (rw first at c.in_ok-put.ensures.sends.ok t) offsets
-
-pub returns-in_err-close-2-clause-err : goal.returns-in_err-close-2-clause-err
-returns-in_err-close-2-clause-err g c lists written t h =
-    let e = err_from_is_err_and c.from_residual-in_err-close-2.result c.from_residual-in_err-close-2.ensures.1 in
-    let offsets : c.offsets.result.now ≡ offsets_name c.args.base.now = c.offsets.ensures ∙ ap offsets_name (c.deref.ensures ∙ c.in_ok-names.ensures.names) in
-    let graph : c.graph.result.now ≡ graph_name c.args.base.now = c.graph.ensures ∙ ap graph_name (c.deref-2.ensures ∙ c.in_ok-names.ensures.names) in
-    let last : c.offsets-2.result.now ≡ offsets_name c.args.base.now = c.offsets-2.ensures ∙ ap offsets_name (c.deref-3.ensures ∙ c.in_ok-names.ensures.names) in
-    let put = word_put _ _ c.args.base.now _ c.args.self _ _ (c.take_names.ensures.same) offsets (c.in_ok-put.ensures.sends.ok t) in
-    let all = all_gone _ _ c.args.base.now c.args.self c.in_ok-put.put _ lists (rw c.take_names.ensures.same at c.in_ok-put.ensures.on) c.put.view_is put written h in
-    if_err _ _ c.in_err-close-2.field-0.0 (e.1 ∙ ap Err e.2)
-    (stopped_at_offsets c.args.base.now c.args.self.params lists _ _ _ _ _ _ _ _ (rw graph at c.in_ok-close.ensures.ok t) (rw last at c.in_err-close-2.ensures.err t) c.in_err-close-2.ensures.fault all)
-
-pub returns-in_err-close-2-clause-only_two : goal.returns-in_err-close-2-clause-only_two
-returns-in_err-close-2-clause-only_two g c t name graph offsets =
-    let first : c.offsets.result.now ≡ offsets_name c.args.base.now = c.offsets.ensures ∙ ap offsets_name (c.deref.ensures ∙ c.in_ok-names.ensures.names) in
-    let second : c.graph.result.now ≡ graph_name c.args.base.now = c.graph.ensures ∙ ap graph_name (c.deref-2.ensures ∙ c.in_ok-names.ensures.names) in
-    let last : c.offsets-2.result.now ≡ offsets_name c.args.base.now = c.offsets-2.ensures ∙ ap offsets_name (c.deref-3.ensures ∙ c.in_ok-names.ensures.names) in
-    other_less _ _ _ name _ _ (rw last at c.in_err-close-2.ensures.err t) offsets ∙ other_put _ _ _ name _ _ _ (rw second at c.in_ok-close.ensures.ok t) graph ∙ other_put _ _ _ name _ _ _ (rw first at c.in_ok-put.ensures.sends.ok t) offsets
-
-pub returns-clause-ok : goal.returns-clause-ok
-returns-clause-ok g c lists written t h =
-    let offsets : c.offsets.result.now ≡ offsets_name c.args.base.now = c.offsets.ensures ∙ ap offsets_name (c.deref.ensures ∙ c.in_ok-names.ensures.names) in
-    let graph : c.graph.result.now ≡ graph_name c.args.base.now = c.graph.ensures ∙ ap graph_name (c.deref-2.ensures ∙ c.in_ok-names.ensures.names) in
-    let last : c.offsets-2.result.now ≡ offsets_name c.args.base.now = c.offsets-2.ensures ∙ ap offsets_name (c.deref-3.ensures ∙ c.in_ok-names.ensures.names) in
-    let put = word_put _ _ c.args.base.now _ c.args.self _ _ (c.take_names.ensures.same) offsets (c.in_ok-put.ensures.sends.ok t) in
-    let all = all_gone _ _ c.args.base.now c.args.self c.in_ok-put.put _ lists (rw c.take_names.ensures.same at c.in_ok-put.ensures.on) c.put.view_is put written h in
-    finished c.args.base.now c.args.self.params lists _ _ _ _ _ (rw graph at c.in_ok-close.ensures.ok t) (rw last at c.in_ok-close-2.ensures.ok t) all
-
-pub returns-clause-only_two : goal.returns-clause-only_two
-returns-clause-only_two g c t name graph offsets =
-    let first : c.offsets.result.now ≡ offsets_name c.args.base.now = c.offsets.ensures ∙ ap offsets_name (c.deref.ensures ∙ c.in_ok-names.ensures.names) in
-    let second : c.graph.result.now ≡ graph_name c.args.base.now = c.graph.ensures ∙ ap graph_name (c.deref-2.ensures ∙ c.in_ok-names.ensures.names) in
-    let last : c.offsets-2.result.now ≡ offsets_name c.args.base.now = c.offsets-2.ensures ∙ ap offsets_name (c.deref-3.ensures ∙ c.in_ok-names.ensures.names) in
-    other_put _ _ _ name _ _ _ (rw last at c.in_ok-close-2.ensures.ok t) offsets ∙ other_put _ _ _ name _ _ _ (rw second at c.in_ok-close.ensures.ok t) graph ∙ other_put _ _ _ name _ _ _ (rw first at c.in_ok-put.ensures.sends.ok t) offsets
-
 pub returns-in_err-names-clause-fault : goal.returns-in_err-names-clause-fault
 returns-in_err-names-clause-fault g c =
     let e = err_from_is_err_and c.from_residual.result c.from_residual.ensures.1 in
@@ -87,26 +37,46 @@ returns-in_err-put-clause-fault g c =
     let offsets : c.offsets.result.now ≡ offsets_name c.args.base.now = c.offsets.ensures ∙ ap offsets_name (c.deref.ensures ∙ c.in_ok-names.ensures.names) in
     if_err _ _ c.in_err-put.field-0.0 (e.1 ∙ ap Err e.2) (failed_on_offsets c.args.base.now (g.D.Depot.counts c.args.depot.now) (g.D.Depot.counts c.put_offset.new.depot) _ (rw offsets at c.in_err-put.ensures.sends.fault))
 
-pub returns-in_err-close-clause-fault : goal.returns-in_err-close-clause-fault
-returns-in_err-close-clause-fault g c =
-    let e = err_from_is_err_and c.from_residual-in_err-close.result c.from_residual-in_err-close.ensures.1 in
-    let graph : c.graph.result.now ≡ graph_name c.args.base.now = c.graph.ensures ∙ ap graph_name (c.deref-2.ensures ∙ c.in_ok-names.ensures.names) in
-    if_err _ _ c.in_err-close.field-0.0 (e.1 ∙ ap Err e.2) (failed_since c.args.base.now (g.D.Depot.counts c.args.depot.now) (g.D.Depot.counts c.put_offset.new.depot) (g.D.Depot.counts c.close.new.depot) _ c.in_ok-put.ensures.sends.later (failed_on_graph c.args.base.now (g.D.Depot.counts c.put_offset.new.depot) (g.D.Depot.counts c.close.new.depot) _ (rw graph at c.in_err-close.ensures.fault)))
-
-pub returns-in_err-close-2-clause-fault : goal.returns-in_err-close-2-clause-fault
-returns-in_err-close-2-clause-fault g c =
-    let e = err_from_is_err_and c.from_residual-in_err-close-2.result c.from_residual-in_err-close-2.ensures.1 in
-    let last : c.offsets-2.result.now ≡ offsets_name c.args.base.now = c.offsets-2.ensures ∙ ap offsets_name (c.deref-3.ensures ∙ c.in_ok-names.ensures.names) in
-    if_err _ _ c.in_err-close-2.field-0.0 (e.1 ∙ ap Err e.2) (failed_since c.args.base.now (g.D.Depot.counts c.args.depot.now) (g.D.Depot.counts c.close.new.depot) (g.D.Depot.counts c.close-2.new.depot) _ (none_falls-trans _ _ _ c.in_ok-put.ensures.sends.later c.in_ok-close.ensures.later) (failed_on_offsets c.args.base.now (g.D.Depot.counts c.close.new.depot) (g.D.Depot.counts c.close-2.new.depot) _ (rw last at c.in_err-close-2.ensures.fault)))
-
 pub returns-in_err-put-clause-later : goal.returns-in_err-put-clause-later
 returns-in_err-put-clause-later g c = c.in_err-put.ensures.sends.later
 
-pub returns-in_err-close-clause-later : goal.returns-in_err-close-clause-later
-returns-in_err-close-clause-later g c = none_falls-trans _ _ _ c.in_ok-put.ensures.sends.later c.in_err-close.ensures.later
+pub returns-in_err-close_both-clause-err : goal.returns-in_err-close_both-clause-err
+returns-in_err-close_both-clause-err g c lists written t h =
+    let e = err_from_is_err_and c.from_residual-in_err-close_both.result c.from_residual-in_err-close_both.ensures.1 in
+    let offsets : c.offsets.result.now ≡ offsets_name c.args.base.now = c.offsets.ensures ∙ ap offsets_name (c.deref.ensures ∙ c.in_ok-names.ensures.names) in
+    let put = word_put _ _ c.args.base.now _ c.args.self _ _ (c.take_names.ensures.same) offsets (c.in_ok-put.ensures.sends.ok t) in
+    let all = all_gone _ _ c.args.base.now c.args.self c.in_ok-put.put _ lists (rw c.take_names.ensures.same at c.in_ok-put.ensures.on) c.put.view_is put written h in
+    let on : c.deref-2.result.now ≡ c.args.base.now = c.deref-2.ensures ∙ c.in_ok-names.ensures.names in
+    if_err _ _ c.in_err-close_both.field-0.0 (e.1 ∙ ap Err e.2) ((rw on at c.in_err-close_both.ensures.err) c.args.self.params lists t all)
 
-pub returns-in_err-close-2-clause-later : goal.returns-in_err-close-2-clause-later
-returns-in_err-close-2-clause-later g c = none_falls-trans _ _ _ c.in_ok-put.ensures.sends.later (none_falls-trans _ _ _ c.in_ok-close.ensures.later c.in_err-close-2.ensures.later)
+pub returns-in_err-close_both-clause-only_two : goal.returns-in_err-close_both-clause-only_two
+returns-in_err-close_both-clause-only_two g c t name graph offsets =
+    let first : c.offsets.result.now ≡ offsets_name c.args.base.now = c.offsets.ensures ∙ ap offsets_name (c.deref.ensures ∙ c.in_ok-names.ensures.names) in
+    let on : c.deref-2.result.now ≡ c.args.base.now = c.deref-2.ensures ∙ c.in_ok-names.ensures.names in
+    (rw on at c.in_err-close_both.ensures.only_two) t name graph offsets ∙ other_put _ _ _ name _ _ _ (rw first at c.in_ok-put.ensures.sends.ok t) offsets
+
+pub returns-in_err-close_both-clause-fault : goal.returns-in_err-close_both-clause-fault
+returns-in_err-close_both-clause-fault g c =
+    let e = err_from_is_err_and c.from_residual-in_err-close_both.result c.from_residual-in_err-close_both.ensures.1 in
+    let on : c.deref-2.result.now ≡ c.args.base.now = c.deref-2.ensures ∙ c.in_ok-names.ensures.names in
+    if_err _ _ c.in_err-close_both.field-0.0 (e.1 ∙ ap Err e.2) (failed_since c.args.base.now (g.D.Depot.counts c.args.depot.now) (g.D.Depot.counts c.put_offset.new.depot) (g.D.Depot.counts c.close_both.new.depot) _ c.in_ok-put.ensures.sends.later (rw on at c.in_err-close_both.ensures.fault))
+
+pub returns-in_err-close_both-clause-later : goal.returns-in_err-close_both-clause-later
+returns-in_err-close_both-clause-later g c = none_falls-trans _ _ _ c.in_ok-put.ensures.sends.later c.in_err-close_both.ensures.later
+
+pub returns-clause-ok : goal.returns-clause-ok
+returns-clause-ok g c lists written t h =
+    let offsets : c.offsets.result.now ≡ offsets_name c.args.base.now = c.offsets.ensures ∙ ap offsets_name (c.deref.ensures ∙ c.in_ok-names.ensures.names) in
+    let put = word_put _ _ c.args.base.now _ c.args.self _ _ (c.take_names.ensures.same) offsets (c.in_ok-put.ensures.sends.ok t) in
+    let all = all_gone _ _ c.args.base.now c.args.self c.in_ok-put.put _ lists (rw c.take_names.ensures.same at c.in_ok-put.ensures.on) c.put.view_is put written h in
+    let on : c.deref-2.result.now ≡ c.args.base.now = c.deref-2.ensures ∙ c.in_ok-names.ensures.names in
+    (rw on at c.in_ok-close_both.ensures.ok) c.args.self.params lists t all
+
+pub returns-clause-only_two : goal.returns-clause-only_two
+returns-clause-only_two g c t name graph offsets =
+    let first : c.offsets.result.now ≡ offsets_name c.args.base.now = c.offsets.ensures ∙ ap offsets_name (c.deref.ensures ∙ c.in_ok-names.ensures.names) in
+    let on : c.deref-2.result.now ≡ c.args.base.now = c.deref-2.ensures ∙ c.in_ok-names.ensures.names in
+    (rw on at c.in_ok-close_both.ensures.only_two) t name graph offsets ∙ other_put _ _ _ name _ _ _ (rw first at c.in_ok-put.ensures.sends.ok t) offsets
 
 pub returns-clause-later : goal.returns-clause-later
-returns-clause-later g c = none_falls-trans _ _ _ c.in_ok-put.ensures.sends.later (none_falls-trans _ _ _ c.in_ok-close.ensures.later c.in_ok-close-2.ensures.later)
+returns-clause-later g c = none_falls-trans _ _ _ c.in_ok-put.ensures.sends.later c.in_ok-close_both.ensures.later
