@@ -7,7 +7,7 @@ ghost use Rattle.wg_outcomes.specs.Ranked.{AreReady, bounds_after};
 use crate::{Ending, Status};
 use std::alloc::{AllocError, Global};
 use wg_graph::{List as Numbers, Lists};
-use wg_rank::Bounds;
+use wg_rank::{Bounds, Gather};
 
 // Bounds of a graph before the first round. They take all memory of the rounds and the ranking: 64 bytes a page, and 8
 // more if weights are given.
@@ -30,15 +30,16 @@ fn first_bounds<L: Lists>(
     }
 }
 
-/// The bounds after so many rounds. They take no memory. Each round is one pass along the lists.
-pub fn last_bounds<L: Lists>(mut bounds: Bounds, lists: &mut L, rounds: u64) -> Bounds
+/// The bounds after so many rounds. They take no memory. Each round is one pass along the lists, or along whatever else
+/// it is by which what flows to each page is gathered.
+pub fn last_bounds<G: Gather>(mut bounds: Bounds, source: &mut G, rounds: u64) -> Bounds
     requires rounds { rounds ≤ MOST_ROUNDS }
-    requires ready { AreReady (L.graph lists.old) bounds }
-    ensures { (given : Option (List ℕ)) → bounds.weights ≡ weights_of (L.graph lists.old).nodes given
-        → result ≡ bounds_after (L.graph lists.old) given bounds.damping rounds }
+    requires ready { AreReady (G.graph source.old) bounds }
+    ensures { (given : Option (List ℕ)) → bounds.weights ≡ weights_of (G.graph source.old).nodes given
+        → result ≡ bounds_after (G.graph source.old) given bounds.damping rounds }
 {
     for _ in 0..rounds {
-        bounds.round(lists);
+        bounds.pull(source);
     }
     bounds
 }

@@ -28,7 +28,6 @@
 //!   beside the status. *Revisit if* more than one number of another file has to go with a fault.
 #![tactic(auto)]
 
-mod along_runs;
 mod bounds;
 mod ending;
 mod files;
@@ -37,11 +36,12 @@ mod names;
 mod outcome;
 mod outputs;
 mod print;
+mod pulled;
 mod second;
 mod status;
 mod text;
+mod ways;
 
-pub use along_runs::{MOST_RUN_ROOM, are_few, bounds_by_rounds};
 pub use bounds::{last_bounds, room_for};
 pub use ending::Ending;
 pub use files::{create_file, fill_file};
@@ -50,6 +50,8 @@ pub use names::{file_name, suffix};
 pub use outcome::{BULK_ROUNDS, Outcome};
 pub use outputs::{output_ending, writing_ending};
 pub use print::{print_ok, print_piece};
+pub use pulled::bounds_by_rounds;
 pub use second::{as_second, second_input};
 pub use status::{Input, SecondFault, Status, WeightsFault};
 pub use text::{MOST_TEXT, Text};
+pub use ways::{MOST_ROUND_ROOM, Way, way_for};

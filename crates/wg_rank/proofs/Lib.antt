@@ -12,6 +12,7 @@ pub mod Weighing
 pub mod Settled
 pub mod Rounds
 pub mod Runs
+pub mod Listed
 pub mod Quotients
 pub mod Certificates
 pub mod Judgements

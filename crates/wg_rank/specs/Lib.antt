@@ -10,5 +10,6 @@ pub mod Laws
 pub mod Pulling
 pub mod Rank
 pub mod Settling
+pub mod Shares
 pub mod Sum
 pub mod Weights

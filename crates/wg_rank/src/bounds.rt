@@ -9,8 +9,7 @@ ghost use Rattle.wg_rank.specs.Weights.{AreWeights, weights_or_ones};
 ghost use Rattle.wg_rank.specs.declared.limits.TheConstants.{UNITS};
 
 use crate::advancing::advance;
-use crate::gathering::Gather;
-use crate::{Pulling, UNITS};
+use crate::{Gather, UNITS};
 use std::alloc::{AllocError, Global};
 use std::marker::Model;
 use wg_graph::{List, Lists};
@@ -44,7 +43,8 @@ impl Model for Bounds {
 
 impl Bounds {
     /// The bounds of `n` pages before the first round, 0 and 1, at a damping in thousandths. Teleport goes to each page
-    /// alike. All memory of later rounds is taken here, but for the room of a [`Pulling`].
+    /// alike. All memory of later rounds is taken here, but for the room of a [`crate::Pulling`] or
+    /// [`crate::ListPulling`].
     pub fn new(alloc: Global, n: u64, damping: u64) -> Result<Bounds, AllocError>
         requires pages { n ≤ MOST_PAGES }
         requires damping { damping ≤ MOST_DAMPING }
@@ -181,33 +181,12 @@ impl Bounds {
             → 1000 * gap g (by_page self.new.low)
             ≤ self.old.damping * gap g (by_page self.old.low) + self.old.damping * arc_count g + 3 * 1000 * g.nodes }
     {
-        self.advance_by(lists);
+        self.pull(lists);
     }
 
-    /// Does one round along the runs of a graph with as many pages, and leaves the bounds that [`Bounds::round`] leaves.
-    /// Its time is by the pages and runs, however many arcs these hold. It takes no memory and cannot fail.
-    pub fn pull(&mut self, pulling: &mut Pulling)
-        requires pages { pulling.old.nodes ≡ length self.old.low }
-        requires more { self.old.rounds < MOST_ROUNDS }
-        ensures graph { pulling.new ≡ pulling.old }
-        ensures damping { self.new.damping ≡ self.old.damping }
-        ensures weights { self.new.weights ≡ self.old.weights }
-        ensures rounds { self.new.rounds ≡ self.old.rounds + 1 }
-        ensures low { IsTable self.new.low pulling.old.nodes (next_low pulling.old self.old) }
-        ensures high { IsTable self.new.high pulling.old.nodes (next_high pulling.old self.old) }
-        ensures holds { Holds self.old pulling.old → Holds self.new pulling.old }
-        ensures certified { Holds self.old pulling.old → IsCertified self.new pulling.old }
-        ensures nested { Holds self.old pulling.old → (v : ℕ) → v < length self.old.low
-            → (by_page self.old.low v ≤ by_page self.new.low v) × (by_page self.new.high v ≤ by_page self.old.high v) }
-        ensures gap { let g = pulling.old in Holds self.old g → 0 < g.nodes
-            → 1000 * gap g (by_page self.new.low)
-            ≤ self.old.damping * gap g (by_page self.old.low) + self.old.damping * arc_count g + 3 * 1000 * g.nodes }
-    {
-        self.advance_by(pulling);
-    }
-
-    // One round, by what is gathered from any source.
-    fn advance_by<G: Gather>(&mut self, source: &mut G)
+    /// Does one round by what is gathered along the lists, the runs or the in-lists of a graph with as many pages: each
+    /// way leaves the same bounds. It takes no memory and cannot fail.
+    pub fn pull<G: Gather>(&mut self, source: &mut G)
         requires pages { (G.graph source.old).nodes ≡ length self.old.low }
         requires more { self.old.rounds < MOST_ROUNDS }
         ensures graph { G.graph source.new ≡ G.graph source.old }

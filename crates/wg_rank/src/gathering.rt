@@ -1,4 +1,4 @@
-// What flows to each page, gathered in one pass along the lists.
+//! What flows to each page, gathered in one pass along the lists.
 
 ghost use Rattle.std.specs.Prelude.{◌≡◌, ℕ, ◌*◌, ◌<◌, ◌≤◌, length, slice_index, All};
 ghost use Rattle.wg_params.specs.declared.limits.TheConstants.{MOST_PAGES};
@@ -12,12 +12,14 @@ use crate::divisor::Divisors;
 use crate::spreading::{spread, spread_low};
 use wg_graph::Lists;
 
-// Where a round gathers what flows to each page.
-pub(crate) trait Gather {
+/// Where a round gathers what flows to each page.
+pub trait Gather {
+    /// The graph.
     ghost graph: { Self → Digraph };
 
-    // Adds to `inflows` what flows to each page along arcs, and gives what the dangling pages hold, below and above. A
-    // page's share is divided out once.
+    /// Puts what flows to each page along arcs, below and above, side by side, into `inflows`, and gives what the
+    /// dangling pages hold, below and above. All is in units of 10^-24. A page's share is divided out once. It takes no
+    /// memory, and its time is by the pages and by the arcs or runs.
     fn gather(&mut self, low: &[u128], high: &[u128], inflows: &mut [u128]) -> (u128, u128)
         requires few { length low.now ≤ MOST_PAGES }
         requires pages { (graph self.old).nodes ≡ length low.now }

@@ -15,14 +15,17 @@
 //!               new low, high <-- settle: the damping's part, and teleport's <-+
 //! ```
 //!
-//! Two ways lead to the same bounds. [`Bounds::round`] reads the lists in each round. [`Bounds::pull`] goes along
-//! [`wg_runs::Runs`], which are made of the lists once: the pages that link to one page are often neighbours, as those
-//! of a folder, and so a few runs hold many arcs. First it adds up what each page gives to each of its successors, over
-//! all pages below each page; a dangling page gives nothing there. What the pages of a run give is then the difference
-//! of two such sums. A [`Pulling`] has the runs and the room for these sums.
+//! Three ways lead to the same bounds. [`Bounds::round`] reads the lists of successors in each round. [`Bounds::pull`]
+//! does so too, or goes along what was made of them once. [`wg_runs::Runs`] are of use where the pages that link to one
+//! page are often neighbours, as those of a folder, so that a few runs hold many arcs. First it adds up what each page
+//! gives to each of its successors, over all pages below each page; a dangling page gives nothing there. What the pages
+//! of a run give is then the difference of two such sums. A [`Pulling`] has the runs and the room for these sums. Where
+//! runs are rare, a [`ListPulling`] has [`wg_runs::InLists`], the pages that link to each page one by one, and the room
+//! for what each page gives to each of its successors; what flows to a page is then the sum over its list.
 //!
 //! ```text
 //! low, high --> share_out: each page's shares, added up --> gather_along: two sums for each run --> what flows in
+//! low, high --> set_shares: each page's shares --> gather_shares: one for each page that links there --> what flows in
 //! ```
 //!
 //! One round over the graph of two pages with the arc from page 0 to page 1:
@@ -57,11 +60,11 @@
 //! fault ([`laws::certificate_texts`]).
 //!
 //! Bounds take memory by [`Bounds::new`] alone: four numbers of 16 bytes for each page; [`Bounds::weighted`], by which
-//! teleport goes to the pages by weights, takes 8 bytes more, and [`Pulling::new`] 32. The two sums of what flows to a
-//! page lie side by side, so that an arc reaches one place in memory. Between rounds they say nothing, and
-//! [`Bounds::into_parts`] hands them on as room. Writing takes none. A certificate holds 16 bytes for each page, taken
-//! as its lines come. Judging takes 16 more, for what flows to a page below: each new bound is compared as it is made,
-//! and kept nowhere.
+//! teleport goes to the pages by weights, takes 8 bytes more, and [`Pulling::new`] and [`ListPulling::new`] 32. The two
+//! sums of what flows to a page lie side by side, so that an arc reaches one place in memory. Between rounds they say
+//! nothing, and [`Bounds::into_parts`] hands them on as room. Writing takes none. A certificate holds 16 bytes for each
+//! page, taken as its lines come. Judging takes 16 more, for what flows to a page below: each new bound is compared as
+//! it is made, and kept nowhere.
 //!
 //! A round divides each page's two bounds by its outdegree, once and not for each arc, and what flows in by 1000; by
 //! weights it also divides teleport's two parts for each page, and if each weight is 1 once for all. A quotient by an
@@ -84,6 +87,7 @@ mod inflows;
 mod judging;
 pub mod laws;
 mod limits;
+mod list_pulling;
 mod low_parts;
 mod pulling;
 mod reading;
@@ -95,8 +99,10 @@ mod writing;
 pub use bounds::Bounds;
 pub use certificate::Certificate;
 pub use fault::{CertError, CertFault, CertKind, JudgeError};
+pub use gathering::Gather;
 pub use judging::judge;
 pub use limits::{MOST_WEIGHT, UNITS};
+pub use list_pulling::ListPulling;
 pub use pulling::Pulling;
 pub use reading::read_certificate;
 pub use writing::write_certificate;

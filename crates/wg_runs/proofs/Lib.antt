@@ -3,3 +3,4 @@ pub mod Grown
 pub mod Stands
 pub mod Steps
 pub mod Whole
+pub mod Placed

@@ -1,3 +1,4 @@
 pub mod Runs
 pub mod Held
+pub mod InLists
 pub mod Laws

@@ -7,7 +7,8 @@ ghost use Rattle.wg_runs.specs.declared.run.TheConstants.{MOST_PAGES_IN_RUNS};
 
 use crate::counting::count;
 use crate::filling::fill;
-use crate::{PageRun, Runs};
+use crate::listing::list;
+use crate::{InLists, PageRun, Runs};
 use std::alloc::{AllocError, Global};
 use std::marker::Model;
 use wg_graph::Lists;
@@ -93,5 +94,23 @@ impl RunCounts {
         let mut runs = vec![in alloc; none; count as usize]?;
         fill(lists, &mut ends, &mut reach, &mut runs);
         Ok(Runs::from_parts(ends, runs, degrees))
+    }
+
+    /// Lists the pages that link to each page one by one in place of runs, in two passes over the lists of the same
+    /// graph. It takes 4 bytes for each arc before, and gives back 4 for each page in the end.
+    pub fn list<L: Lists>(self, alloc: Global, lists: &mut L) -> Result<InLists, AllocError>
+        requires counted { IsCountOf (L.graph lists.old) self }
+        ensures graph { L.graph lists.new ≡ L.graph lists.old }
+        ensures lists { IfOk result (λ made. made ≡ L.graph lists.old) }
+    {
+        let RunCounts {
+            counts: mut ends,
+            degrees,
+            arcs,
+            ..
+        } = self;
+        let mut sources = vec![in alloc; 0; arcs as usize]?;
+        list(lists, &mut ends, &mut sources);
+        Ok(InLists::from_parts(ends, sources, degrees))
     }
 }

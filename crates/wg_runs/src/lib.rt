@@ -1,4 +1,4 @@
-//! For each page the pages that link to it, as runs of pages that follow one another.
+//! For each page the pages that link to it, as runs of pages that follow one another, or listed one by one.
 //!
 //! The pages of a folder link to the same menu, and so the list of the pages that link to one page is made of runs: few
 //! [`PageRun`]s tell of many arcs. Of a sum over the predecessors of a page, each run is then one difference: of the sums
@@ -14,8 +14,9 @@
 //! lists of the graph --> RunCounts::fill: the runs to each page, one page after the other --> Runs
 //! ```
 //!
-//! So it is known how many runs there are before memory for them is taken, and a caller may choose another way where
-//! they are about as many as the arcs. [`Runs::of`] makes both passes.
+//! So it is known how many runs there are before memory for them is taken. Where they are nearly as many as the arcs,
+//! [`RunCounts::list`] makes whole lists, [`InLists`], in place of them, in two passes more: one counts how many pages
+//! link to each page, and one lists them. [`Runs::of`] counts and fills.
 //!
 //! A graph of five pages: pages 0, 1, 2 and 4 link to page 4, and page 1 links to page 0 too:
 //!
@@ -24,7 +25,9 @@
 //! let mut lists = GraphLists::new(&graph);
 //! let counts = RunCounts::of(rt.alloc(), &mut lists)?;
 //! assert!(rt; counts.arcs() == 5 && counts.runs() == 3);
-//! let runs = counts.fill(rt.alloc(), &mut lists)?;
+//! let listed = counts.list(rt.alloc(), &mut lists)?;
+//! assert!(rt; listed.of_page(4) == [0, 1, 2, 4].as_slice() && listed.of_page(3).is_empty());
+//! let runs = RunCounts::of(rt.alloc(), &mut lists)?.fill(rt.alloc(), &mut lists)?;
 //! let to_last = [PageRun { from: 0, to: 3 }, PageRun { from: 4, to: 5 }];
 //! assert!(rt; runs.of_page(4) == to_last.as_slice());
 //! assert!(rt; runs.of_page(3).is_empty() && runs.degree(1) == 2);
@@ -34,17 +37,21 @@
 //! ```
 //!
 //! Each pass takes time in proportion to the arcs and pages. Counting takes 16 bytes for each page, and filling 8 for
-//! each run, both before their pass; then 4 bytes a page are given back. There are no runs yet of graphs of 2^32 pages
-//! or more.
+//! each run, or listing 4 for each arc, both before their pass; then 4 bytes a page are given back. There are no runs or
+//! in-lists yet of graphs of 2^32 pages or more.
 #![tactic(auto)]
 
 mod counting;
 mod counts;
 mod filling;
+mod in_lists;
 pub mod laws;
+mod listing;
 mod run;
 mod runs;
+mod spans;
 
 pub use counts::RunCounts;
+pub use in_lists::InLists;
 pub use run::{MOST_PAGES_IN_RUNS, PageRun};
 pub use runs::Runs;

@@ -1,13 +1,14 @@
 //! The runs of the pages that link to each page.
-ghost use Rattle.std.specs.Prelude.{◌≡◌, ℕ, ◌≤◌, ◌<◌, List, length, slice_range, All, IfOk};
+ghost use Rattle.std.specs.Prelude.{◌≡◌, ◌≤◌, ◌<◌, All, IfOk};
 ghost use Rattle.wg_params.specs.declared.limits.TheConstants.{MOST_ARCS};
 ghost use Rattle.wg_graph.specs.Digraph.{Digraph, IsGraph, arc_count, outdegree};
 ghost use Rattle.wg_transpose.specs.Transposed.{predecessors};
 ghost use Rattle.wg_runs.specs.Runs.{runs_to, numbers_of_all, StandApart};
-ghost use Rattle.wg_runs.specs.Held.{AreFilled, HoldsRuns};
+ghost use Rattle.wg_runs.specs.Held.{HoldsRuns};
 ghost use Rattle.wg_runs.specs.declared.run.PageRun.{PageRun};
 ghost use Rattle.wg_runs.specs.declared.run.TheConstants.{MOST_PAGES_IN_RUNS};
 
+use crate::spans::span;
 use crate::{PageRun, RunCounts};
 use std::alloc::{AllocError, Global};
 use std::marker::Model;
@@ -90,23 +91,7 @@ impl Runs {
         ensures apart { StandApart 0 result.now }
         ensures within { All (λ run. run.to ≤ self.now.nodes) result.now }
     {
-        let (begin, end) = span(&self.ends, &self.runs, v);
+        let (begin, end) = span(&self.ends, v);
         &self.runs[begin..end]
     }
-}
-
-// Where list `v` begins and ends in the array of all runs: it begins where the one before it ends.
-#[inline(always)]
-fn span(ends: &[u64], runs: &[PageRun], v: u64) -> (usize, usize)
-    requires { (n : ℕ) × (whole : ℕ → List PageRun) × AreFilled n whole whole ends.now runs.now × (v < n) }
-    ensures ordered { result.0 ≤ result.1 }
-    ensures within { result.1 ≤ length runs.now }
-    ensures list { (n : ℕ) (whole : ℕ → List PageRun) → AreFilled n whole whole ends.now runs.now → v < n
-        → slice_range runs.now result.0 result.1 ≡ whole v }
-{
-    let end = ends[v as usize] as usize;
-    if v == 0 {
-        return (0, end);
-    }
-    (ends[v as usize - 1] as usize, end)
 }

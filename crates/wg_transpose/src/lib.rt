@@ -13,8 +13,8 @@
 //! [`transpose`] makes the whole graph in memory, in two passes. A [`Transposer`] gives its lists range after range of
 //! pages, for a graph whose lists are read in order: one pass counts, and then each range takes one, in which the arcs
 //! that lead to other pages are left out. So it holds the lists of one range only. Who goes along the lists for another
-//! reason counts by [`count_arcs`] as they come, and spares the first pass. [`ranges`] has the steps for lists of any
-//! kind that come so.
+//! reason counts by [`count_arcs`] as they come, and spares the first pass. [`count()`] is that pass alone, and
+//! [`ranges`] has the steps for lists of any kind that come so.
 //!
 //! A graph of three arcs, transposed, and the ranges of its pages that have one arc at least:
 //!
@@ -43,7 +43,7 @@ pub mod ranges;
 mod transposer;
 mod transposing;
 
-pub use counting::count_arcs;
+pub use counting::{count, count_arcs};
 pub use ranges::range_room;
 pub use transposer::Transposer;
 pub use transposing::transpose;

@@ -4,8 +4,8 @@ use wg_ascii::{AsciiError, AsciiKind, PageLines};
 use wg_graph::{GraphBuilder, GraphLists, List, Lists};
 use wg_io::SteadySink;
 use wg_order::Ranking;
-use wg_outcomes::are_few;
-use wg_rank::{Bounds, Pulling, UNITS};
+use wg_outcomes::{Way, way_for};
+use wg_rank::{Bounds, ListPulling, Pulling, UNITS};
 use wg_runs::{PageRun, RunCounts, Runs};
 use wg_transpose::{Transposer, transpose};
 use wg_vectors::{COPIED, bytes_of, generate};
@@ -95,7 +95,9 @@ fn runs_of_the_pages_that_link_to_a_page(rt: HostRuntime) -> Result<(), Fail> {
     let mut lists = GraphLists::new(&graph);
     let counts = RunCounts::of(rt.alloc(), &mut lists)?;
     assert!(rt; counts.arcs() == 5 && counts.runs() == 3);
-    let runs = counts.fill(rt.alloc(), &mut lists)?;
+    let listed = counts.list(rt.alloc(), &mut lists)?;
+    assert!(rt; listed.of_page(4) == [0, 1, 2, 4].as_slice() && listed.of_page(3).is_empty());
+    let runs = RunCounts::of(rt.alloc(), &mut lists)?.fill(rt.alloc(), &mut lists)?;
     let to_last = [PageRun { from: 0, to: 3 }, PageRun { from: 4, to: 5 }];
     assert!(rt; runs.of_page(4) == to_last.as_slice());
     assert!(rt; runs.of_page(3).is_empty() && runs.degree(1) == 2);
@@ -118,16 +120,20 @@ fn one_round_of_bounds(rt: HostRuntime) -> Result<(), Fail> {
     Ok(())
 }
 
-// With 148 bytes a page for runs of 8 bytes.
+// With 148 bytes a page for runs of 8 bytes, or for arcs of 4.
 #[test]
-fn few_runs_and_many(rt: HostRuntime) {
-    assert!(rt; are_few(37, 2) && !are_few(38, 2));
-    assert!(rt; are_few(0, 0) && !are_few(1, 0));
+fn ways_by_runs_and_arcs(rt: HostRuntime) {
+    assert!(rt; way_for(0, 0, 0) == Way::Runs);
+    assert!(rt; way_for(37, 74, 2) == Way::Runs && way_for(38, 76, 2) == Way::Lists);
+    assert!(rt; way_for(37, 73, 2) == Way::InLists && way_for(73, 74, 2) == Way::InLists);
+    assert!(rt; way_for(74, 74, 2) == Way::InLists && way_for(75, 75, 2) == Way::Lists);
+    assert!(rt; way_for(1, 1, 0) == Way::Lists);
 }
 
-// Along lists and along runs.
+// Along lists, along runs, and along in-lists. Page 3 dangles between two runs, and page 4, which links to itself, is a
+// run that ends at the last page.
 #[test]
-fn both_ways_leave_the_same_bounds(rt: HostRuntime) -> Result<(), Fail> {
+fn all_ways_leave_the_same_bounds(rt: HostRuntime) -> Result<(), Fail> {
     let graph = wg_arcs::read(rt.alloc(), b"0 4\n1 0\n1 4\n2 4\n4 4\n", 5)?;
     let mut lists = GraphLists::new(&graph);
     let mut bounds = Bounds::new(rt.alloc(), 5, 850)?;
@@ -135,12 +141,18 @@ fn both_ways_leave_the_same_bounds(rt: HostRuntime) -> Result<(), Fail> {
     bounds.round(&mut lists);
     let runs = Runs::of(rt.alloc(), &mut lists)?;
     let mut pulling = Pulling::new(rt.alloc(), runs)?;
-    let mut pulled = Bounds::new(rt.alloc(), 5, 850)?;
-    pulled.pull(&mut pulling);
-    pulled.pull(&mut pulling);
-    assert!(rt; pulling.nodes() == 5 && pulled.rounds() == 2);
-    assert!(rt; pulled.lower() == bounds.lower());
-    assert!(rt; pulled.upper() == bounds.upper());
+    let mut by_runs = Bounds::new(rt.alloc(), 5, 850)?;
+    by_runs.pull(&mut pulling);
+    by_runs.pull(&mut pulling);
+    assert!(rt; pulling.nodes() == 5 && by_runs.rounds() == 2);
+    assert!(rt; by_runs.lower() == bounds.lower() && by_runs.upper() == bounds.upper());
+    let counts = RunCounts::of(rt.alloc(), &mut lists)?;
+    let mut made = ListPulling::new(rt.alloc(), counts.list(rt.alloc(), &mut lists)?)?;
+    let mut by_lists = Bounds::new(rt.alloc(), 5, 850)?;
+    by_lists.pull(&mut made);
+    by_lists.pull(&mut made);
+    assert!(rt; made.nodes() == 5 && by_lists.rounds() == 2);
+    assert!(rt; by_lists.lower() == bounds.lower() && by_lists.upper() == bounds.upper());
     Ok(())
 }
 

@@ -18,4 +18,4 @@ pub returns : goal.returns
 returns g c = λ given weighed.
     let l = c.loop.invariant in
     let after : c.loop.bounds.rounds ≡ c.args.rounds = search rules in
-    bounds_are (g.L.Lists.graph c.args.lists.now) given c.args.rounds c.args.bounds.damping c.loop.bounds l.holds after l.damped (l.weighed ∙ weighed)
+    bounds_are (g.G.Gather.graph c.args.source.now) given c.args.rounds c.args.bounds.damping c.loop.bounds l.holds after l.damped (l.weighed ∙ weighed)

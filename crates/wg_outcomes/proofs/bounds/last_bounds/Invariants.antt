@@ -4,8 +4,8 @@ use Rattle.wg_outcomes.proofs.bounds.last_bounds.Given as goal
 
 -- the bounds are those of the graph after the rounds so far
 abbrev pub invariant-loop : goal.invariant-loop
-invariant-loop g l = let graph = g.L.Lists.graph l.fn.lists in record {
-  same : g.L.Lists.graph l.lists ≡ graph;
+invariant-loop g l = let graph = g.G.Gather.graph l.fn.source in record {
+  same : g.G.Gather.graph l.source ≡ graph;
   pages : length l.bounds.low ≡ graph.nodes;
   after : l.bounds.rounds ≡ l.counter;
   damped : l.bounds.damping ≡ l.fn.bounds.damping;

@@ -3,7 +3,7 @@ use Rattle.std.proofs.lemmas.List.{with_items_is}
 use Rattle.wg_rank.specs.Weights.{weights_or_ones}
 use Rattle.wg_rank.proofs.Rounds.{holds_more, lower_table, clipped_table}
 use Rattle.wg_rank.proofs.Certificates.{are_bounds, certified, nested, gap_less}
-use Rattle.wg_rank.proofs.bounds.Bounds.advance_by.Goals as goal
+use Rattle.wg_rank.proofs.bounds.Bounds.pull.Goals as goal
 
 pub returns-clause-low : goal.returns-clause-low
 returns-clause-low g c =

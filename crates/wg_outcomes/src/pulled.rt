@@ -1,0 +1,96 @@
+//! Rounds along the pages that link to each page, where these fit in memory.
+ghost use Rattle.std.specs.Prelude.{◌≡◌, ◌≤◌, ℕ, List, Option, IfOk, IfSome};
+ghost use Rattle.wg_params.specs.declared.limits.TheConstants.{MOST_ARCS, MOST_ROUNDS};
+ghost use Rattle.wg_runs.specs.declared.run.TheConstants.{MOST_PAGES_IN_RUNS};
+ghost use Rattle.wg_graph.specs.Digraph.{arc_count};
+ghost use Rattle.wg_rank.specs.Weights.{weights_of};
+ghost use Rattle.wg_outcomes.specs.Ranked.{AreReady, bounds_after};
+ghost use Rattle.wg_runs.specs.Runs.{IsCountOf};
+ghost use Rattle.wg_outcomes.specs.Pulled.{pulled_graph};
+
+use crate::bounds::last_bounds;
+use crate::ways::{Way, way_for};
+use std::alloc::{AllocError, Global};
+use wg_graph::Lists;
+use wg_rank::{Bounds, ListPulling, Pulling};
+use wg_runs::{MOST_PAGES_IN_RUNS, RunCounts};
+
+// The pages that link to each page, as runs or listed one by one.
+#[derive(Drop)]
+pub(crate) enum Pulled {
+    Runs(Pulling),
+    InLists(ListPulling),
+}
+
+// Along runs.
+fn by_runs<L: Lists>(alloc: Global, counts: RunCounts, lists: &mut L) -> Result<Pulled, AllocError>
+    requires counted { IsCountOf (L.graph lists.old) counts }
+    ensures graph { L.graph lists.new ≡ L.graph lists.old }
+    ensures pulled { IfOk result (λ p. pulled_graph p ≡ L.graph lists.old) }
+{
+    let runs = counts.fill(alloc, lists)?;
+    Ok(Pulled::Runs(Pulling::new(alloc, runs)?))
+}
+
+// Along in-lists.
+fn by_lists<L: Lists>(alloc: Global, counts: RunCounts, lists: &mut L) -> Result<Pulled, AllocError>
+    requires counted { IsCountOf (L.graph lists.old) counts }
+    ensures graph { L.graph lists.new ≡ L.graph lists.old }
+    ensures pulled { IfOk result (λ p. pulled_graph p ≡ L.graph lists.old) }
+{
+    let made = counts.list(alloc, lists)?;
+    Ok(Pulled::InLists(ListPulling::new(alloc, made)?))
+}
+
+// What rounds go along beside the lists, if it fits.
+fn fitting<L: Lists>(alloc: Global, lists: &mut L) -> Result<Option<Pulled>, AllocError>
+    requires few_pages { (L.graph lists.old).nodes ≤ MOST_PAGES_IN_RUNS }
+    requires few_arcs { arc_count (L.graph lists.old) ≤ MOST_ARCS }
+    ensures graph { L.graph lists.new ≡ L.graph lists.old }
+    ensures pulled { IfOk result (λ o. IfSome o (λ p. pulled_graph p ≡ L.graph lists.old)) }
+{
+    let pages = lists.nodes();
+    let counts = RunCounts::of(alloc, lists)?;
+    match way_for(counts.runs(), counts.arcs(), pages) {
+        Way::Runs => Ok(Some(by_runs(alloc, counts, lists)?)),
+        Way::InLists => Ok(Some(by_lists(alloc, counts, lists)?)),
+        Way::Lists => Ok(None),
+    }
+}
+
+// The same, where memory suffices for it.
+fn pulled_for<L: Lists>(alloc: Global, lists: &mut L) -> Option<Pulled>
+    requires few_arcs { arc_count (L.graph lists.old) ≤ MOST_ARCS }
+    ensures graph { L.graph lists.new ≡ L.graph lists.old }
+    ensures pulled { IfSome result (λ p. pulled_graph p ≡ L.graph lists.old) }
+{
+    if lists.nodes() > MOST_PAGES_IN_RUNS {
+        return None;
+    }
+    match fitting(alloc, lists) {
+        Ok(pulled) => pulled,
+        Err(_) => None,
+    }
+}
+
+/// The bounds after so many rounds. They go along the pages that link to each page, as runs or listed one by one, if
+/// these fit [`crate::MOST_ROUND_ROOM`] bytes a page and memory suffices; it is taken before the first round. Else each
+/// round is one pass along the lists, and takes none.
+pub fn bounds_by_rounds<L: Lists>(
+    alloc: Global,
+    bounds: Bounds,
+    lists: &mut L,
+    rounds: u64,
+) -> Bounds
+    requires rounds { rounds ≤ MOST_ROUNDS }
+    requires few_arcs { arc_count (L.graph lists.old) ≤ MOST_ARCS }
+    requires ready { AreReady (L.graph lists.old) bounds }
+    ensures { (given : Option (List ℕ)) → bounds.weights ≡ weights_of (L.graph lists.old).nodes given
+        → result ≡ bounds_after (L.graph lists.old) given bounds.damping rounds }
+{
+    match pulled_for(alloc, lists) {
+        Some(Pulled::Runs(mut runs)) => last_bounds(bounds, &mut runs, rounds),
+        Some(Pulled::InLists(mut made)) => last_bounds(bounds, &mut made, rounds),
+        None => last_bounds(bounds, lists, rounds),
+    }
+}
