@@ -13,6 +13,7 @@ pub mod Settled
 pub mod Rounds
 pub mod Runs
 pub mod Listed
+pub mod LaneSums
 pub mod Quotients
 pub mod Certificates
 pub mod Judgements

@@ -1,9 +1,11 @@
 -- Sums along runs of pages, as differences of the sums of all pages below.
 use Rattle.std.specs.List.{sum_by, range_with_len}
-use Rattle.std.proofs.Common.{ℕ, zero, suc, ◌≡◌, ◌≢◌, ◌+◌, ◌-◌, ◌^◌, ◌<◌, ◌≤◌, All, List, [], ◌∷◌, length, get_or, set, Bool, false, cond, refl, ap, arith, sym, ◌∙◌, add-one, inl, inr}
+use Rattle.std.specs.Simd.Lanes.{zip2}
+use Rattle.std.proofs.Common.{ℕ, zero, suc, ◌≡◌, ◌≢◌, ◌+◌, ◌-◌, ◌*◌, ◌/◌, ◌%◌, ◌^◌, ◌<◌, ◌≤◌, All, List, [], ◌∷◌, length, get_or, set, Bool, false, cond, refl, ap, arith, sym, ◌∙◌, add-one, inl, inr}
+use Rattle.std.proofs.Math.Nat.{mod-eq_of_lt}
 use Rattle.std.proofs.lemmas.Bool.{cases_Bool, cases_eq, ne_eqb, eq-eqb}
 use Rattle.std.proofs.lemmas.List.{nil_from_length, length-set}
-use Rattle.std.proofs.lemmas.List.Elements.{All-nil, All-cons, All-head, All-tail}
+use Rattle.std.proofs.lemmas.List.Elements.{All-nil, All-cons}
 use Rattle.std.proofs.lemmas.List.Sums.{sum_by-cons, sum_by-append}
 use Rattle.wg_params.specs.declared.limits.TheConstants.{MOST_PAGES}
 use Rattle.wg_graph.specs.Arcs.{has_arc}
@@ -14,11 +16,12 @@ use Rattle.wg_runs.specs.declared.run.PageRun.{PageRun}
 use Rattle.wg_runs.specs.Runs.{numbers_of, numbers_of_all, StandApart}
 use Rattle.wg_rank.specs.Sum.{sum_below}
 use Rattle.wg_rank.specs.Rank.{sum_in}
-use Rattle.wg_rank.specs.Intervals.{by_page}
-use Rattle.wg_rank.specs.Pulling.{given, along, AreSummed, RisesAlong}
+use Rattle.wg_rank.specs.Pulling.{given, along}
+use Rattle.wg_rank.specs.Lanes.{low_bits, high_bits, in_lanes, AreSummed, AreRunsTo}
 use Rattle.wg_rank.specs.declared.limits.TheConstants.{UNITS}
-use Rattle.wg_rank.proofs.Sums.{sum_same, sum_le, sum_const}
-use Rattle.wg_rank.proofs.Settled.{table_more}
+use Rattle.wg_rank.proofs.Sums.{sum_same}
+use Rattle.wg_rank.proofs.Settled.{list_more}
+use Rattle.wg_rank.proofs.LaneSums.{low_bits_small, high_bits_small, lanes_none, lanes_of_page, lanes_sum, bits_join}
 use Rattle.wg_rank.proofs.Flow.{flow_le}
 
 -- ---- sums over lists of pages
@@ -91,59 +94,76 @@ in_sum g x v =
 
 -- ---- one page more
 
-pub given_more_none : (g : Digraph) (x : ℕ → ℕ) (u b : ℕ) → outdegree g u ≡ 0 → b ≡ sum_below u (given g x) → b ≡ sum_below (u + 1) (given g x)
-given_more_none g x u b e h = rw add-one (omega (arith, h, given_none g x u e))
+pub sums_more_none : (g : Digraph) (x y : ℕ → ℕ) (u : ℕ) (sums : List ℕ) → outdegree g u ≡ 0 → sums ≡ in_lanes (sum_below u) (given g x) (given g y)
+    → sums ≡ in_lanes (sum_below (u + 1)) (given g x) (given g y)
+sums_more_none g x y u sums e h = rw add-one (h ∙ lanes_none (given g x) (given g y) u (given_none g x u e) (given_none g y u e))
 
-pub given_more_some : (g : Digraph) (x : ℕ → ℕ) (u b y : ℕ) → outdegree g u ≢ 0 → b ≡ sum_below u (given g x) → y ≡ x u
-    → b + y ≡ sum_below (u + 1) (given g x)
-given_more_some g x u b y e h k = rw add-one (omega (arith, h, k, given_some g x u e))
-
-pub given_room : (g : Digraph) (x : ℕ → ℕ) (u b y : ℕ) → u ≤ MOST_PAGES → ((w : ℕ) → w < u → x w ≤ UNITS) → b ≡ sum_below u (given g x) → y ≤ UNITS
-    → b + y < 2 ^ 128
-given_room g x u b y few h e k =
-    omega (arith, e, k, sum_le u (given g x) (λ _. UNITS) (λ w i. given_le g x w UNITS (h w i)), sum_const u UNITS)
+pub sums_more_some : (g : Digraph) (x y : ℕ → ℕ) (u p q : ℕ) (sums : List ℕ) → outdegree g u ≢ 0 → sums ≡ in_lanes (sum_below u) (given g x) (given g y)
+    → p ≡ x u → q ≡ y u → p ≤ UNITS → q ≤ UNITS
+    → zip2 (λ (a b : ℕ). (a + b) % 2 ^ 64) sums (p % 2 ^ 40 ∷ p / 2 ^ 40 ∷ q % 2 ^ 40 ∷ q / 2 ^ 40 ∷ []) ≡ in_lanes (sum_below (u + 1)) (given g x) (given g y)
+sums_more_some g x y u p q sums e h j k m n =
+    let low : ℕ → ℕ = given g x in
+    let high : ℕ → ℕ = given g y in
+    rw add-one
+    (ap (λ (l : List ℕ). zip2 (λ (a b : ℕ). (a + b) % 2 ^ 64) l (p % 2 ^ 40 ∷ p / 2 ^ 40 ∷ q % 2 ^ 40 ∷ q / 2 ^ 40 ∷ [])) h
+    ∙ ap (λ (l : List ℕ). zip2 (λ (a b : ℕ). (a + b) % 2 ^ 64) (in_lanes (sum_below u) low high) l)
+    (lanes_of_page low high u p q (j ∙ sym (given_some g x u e)) (k ∙ sym (given_some g y u e)) m n)
+    ∙ lanes_sum (sum_below u) (λ (s : ℕ → ℕ). s u) low high)
 
 -- behind the last page, all that pages give is summed
-pub summed_end : (n m u b : ℕ) (s : ℕ → ℕ) (xs ys : List ℕ) → u ≡ n → m ≡ n → length xs ≡ n + 1 → ys ≡ set xs m b → b ≡ sum_below u s
-    → ((w : ℕ) → w < u → get_or xs w 0 ≡ sum_below w s) → ((w : ℕ) → w < n → s w ≤ UNITS) → AreSummed n s ys
-summed_end n m u b s xs ys e f count is here below small = record {
-  table = record {
-    counted = ap length is ∙ length-set xs m b ∙ count;
-    each = λ v w. rw is
-        (table_more m xs b (λ w. sum_below w s) (omega arith) (here ∙ ap (λ (k : ℕ). sum_below k s) (omega arith)) (λ w h. below w (omega arith)) v (omega arith));
-  };
-  small = small;
+pub summed_end : (n m u : ℕ) (low high : ℕ → ℕ) (last : List ℕ) (xs : List (List ℕ)) → u ≡ n → m ≡ n → length xs ≡ n + 1 → last ≡ in_lanes (sum_below u) low high
+    → ((w : ℕ) → w < u → get_or xs w [] ≡ in_lanes (sum_below w) low high) → ((w : ℕ) → w < n → low w ≤ UNITS) → ((w : ℕ) → w < n → high w ≤ UNITS)
+    → AreSummed n low high (set xs m last)
+summed_end n m u low high last xs e f count here below small above = record {
+  pages = length-set xs m last ∙ count;
+  each = λ v w. list_more [] m xs last (λ w. in_lanes (sum_below w) low high) (omega arith)
+      (here ∙ ap (λ (k : ℕ). in_lanes (sum_below k) low high) {y = m} (omega arith)) (λ w h. below w (omega arith)) v (omega arith);
+  low_small = small;
+  high_small = above;
 }
 
 -- ---- along runs
 
-module _ (n : ℕ) (s : ℕ → ℕ) (sums : List ℕ) (h : AreSummed n s sums) where
-  run_rise : (r : PageRun) → r.from ≤ r.to → r.to ≤ n → by_page sums r.from + sum_by s (numbers_of r) ≡ by_page sums r.to
-  run_rise r le within =
-      let e : sum_below (r.from + (r.to - r.from)) s ≡ sum_below r.to s = ap (λ (m : ℕ). sum_below m s) (omega arith) in
-      omega (arith, run_sum s r.from (r.to - r.from), e, h.table.each r.from (omega arith), h.table.each r.to (omega arith))
+run_rise : (s : ℕ → ℕ) (r : PageRun) → r.from ≤ r.to → sum_below r.from s + sum_by s (numbers_of r) ≡ sum_below r.to s
+run_rise s r le = run_sum s r.from (r.to - r.from) ∙ ap (λ (m : ℕ). sum_below m s) (omega arith)
 
-  pub along_sum : (k : ℕ) (runs : List PageRun) → StandApart k runs → All (λ r. r.to ≤ n) runs → along (by_page sums) runs ≡ sum_by s (numbers_of_all runs)
-  along_sum k [] apart within = refl
-  along_sum k (r ∷ rs) apart within =
-      let e = run_rise r (omega (arith, apart.1)) (All-head (λ r. r.to ≤ n) r rs within) in
-      let rest = along_sum (suc r.to) rs apart.2 (All-tail (λ r. r.to ≤ n) r rs within) in
-      omega (arith, sum_by-cons (λ (r : PageRun). by_page sums r.to - by_page sums r.from) r rs, sum_by-append s (numbers_of r) (numbers_of_all rs), e, rest)
+along_sum : (s : ℕ → ℕ) (k : ℕ) (runs : List PageRun) → StandApart k runs → along (λ u. sum_below u s) runs ≡ sum_by s (numbers_of_all runs)
+along_sum s k [] apart = refl
+along_sum s k (r ∷ rs) apart =
+    let e = run_rise s r (omega (arith, apart.1)) in
+    omega (
+      arith,
+      sum_by-cons (λ (r : PageRun). sum_below r.to s - sum_below r.from s) r rs,
+      sum_by-append s (numbers_of r) (numbers_of_all rs),
+      e,
+      along_sum s (suc r.to) rs apart.2,
+    )
 
-  ordered : (k : ℕ) (runs : List PageRun) → StandApart k runs → All (λ r. r.from ≤ r.to) runs
-  ordered k [] apart = All-nil (λ r. r.from ≤ r.to)
-  ordered k (r ∷ rs) apart = All-cons (λ r. r.from ≤ r.to) r rs (omega (arith, apart.1)) (ordered (suc r.to) rs apart.2)
+ordered_from : (k : ℕ) (runs : List PageRun) → StandApart k runs → All (λ r. r.from ≤ r.to) runs
+ordered_from k [] apart = All-nil (λ r. r.from ≤ r.to)
+ordered_from k (r ∷ rs) apart = All-cons (λ r. r.from ≤ r.to) r rs (omega (arith, apart.1)) (ordered_from (suc r.to) rs apart.2)
 
-  -- the sums never fall along the runs of the pages that link to one page, and rise by no more than 1 for each page
-  pub rises_along : (g : Digraph) (v : ℕ) (runs : List PageRun) → g.nodes ≡ n → n ≤ MOST_PAGES → StandApart 0 runs → All (λ r. r.to ≤ n) runs
-      → numbers_of_all runs ≡ predecessors g v → RisesAlong sums runs
-  rises_along g v runs e few apart within are =
-      let up = ordered 0 runs apart in
-      record {
-        ordered = up;
-        within = λ i d w. omega (arith, within i d w, h.table.counted);
-        rises = λ i d w. omega (arith, run_rise (get_or runs i d) (up i d w) (within i d w));
-        room =
-            let small : (u : ℕ) → u < g.nodes → s u ≤ UNITS = λ u w. h.small u (omega arith) in
-            omega (arith, along_sum 0 runs apart within, ap (sum_by s) are, before_sum g s v, flow_le g.nodes UNITS (λ u. has_arc g u v) s small);
-      }
+module _ (g : Digraph) (v : ℕ) (runs : List PageRun) (h : AreRunsTo g v runs) where
+  pub ordered : All (λ r. r.from ≤ r.to) runs
+  ordered = ordered_from 0 runs h.apart
+
+  -- along the runs of the pages that link to a page, the sums rise by what these give
+  pub flow_sum : (s : ℕ → ℕ) → along (λ u. sum_below u s) runs ≡ sum_by s (predecessors g v)
+  flow_sum s = along_sum s 0 runs h.apart ∙ ap (sum_by s) h.numbers
+
+  flow_small : (s : ℕ → ℕ) (m : ℕ) → ((u : ℕ) → u < g.nodes → s u ≤ m) → along (λ u. sum_below u s) runs ≤ g.nodes * m
+  flow_small s m small = omega (arith, flow_sum s, before_sum g s v, flow_le g.nodes m (λ u. has_arc g u v) s small)
+
+  pub flow_room : (s : ℕ → ℕ) → g.nodes ≤ MOST_PAGES → ((u : ℕ) → u < g.nodes → s u ≤ UNITS) → along (λ u. sum_below u s) runs ≤ MOST_PAGES * UNITS
+  flow_room s few small = omega (arith, flow_small s UNITS small)
+
+  -- of at most 2^24 pages nothing is lost in lanes
+  pub flow_joins : (s : ℕ → ℕ) → g.nodes ≤ 2 ^ 24 → ((u : ℕ) → u < g.nodes → s u ≤ UNITS)
+      → along (λ u. sum_below u (low_bits s)) runs % 2 ^ 64 + along (λ u. sum_below u (high_bits s)) runs % 2 ^ 64 * 2 ^ 40 ≡ sum_by s (predecessors g v)
+  flow_joins s few small =
+      let low : along (λ u. sum_below u (low_bits s)) runs ≤ g.nodes * (2 ^ 40 - 1) = flow_small (low_bits s) (2 ^ 40 - 1) (λ u w. low_bits_small s u) in
+      let high : along (λ u. sum_below u (high_bits s)) runs ≤ g.nodes * (2 ^ 40 - 1) =
+      flow_small (high_bits s) (2 ^ 40 - 1) (λ u w. high_bits_small s u (small u w)) in
+      let a : along (λ u. sum_below u (low_bits s)) runs % 2 ^ 64 ≡ sum_by (low_bits s) (predecessors g v) = mod-eq_of_lt (omega arith) ∙ flow_sum (low_bits s) in
+      let b : along (λ u. sum_below u (high_bits s)) runs % 2 ^ 64 ≡ sum_by (high_bits s) (predecessors g v) = mod-eq_of_lt (omega arith) ∙ flow_sum (high_bits s) in
+      rw (a, b) (bits_join s (predecessors g v))

@@ -6,6 +6,7 @@ pub mod Claims
 pub mod ClaimsInside
 pub mod Inflows
 pub mod Intervals
+pub mod Lanes
 pub mod Laws
 pub mod Pulling
 pub mod Rank

@@ -9,14 +9,17 @@ ghost use Rattle.wg_rank.specs.Sum.{sum_below};
 ghost use Rattle.wg_rank.specs.Rank.{sum_dangling};
 ghost use Rattle.wg_rank.specs.Intervals.{IsTable, by_page};
 ghost use Rattle.wg_rank.specs.Inflows.{low_flows, high_flows};
-ghost use Rattle.wg_rank.specs.Pulling.{low_share, high_share, given, along, AreSummed, RisesAlong};
+ghost use Rattle.wg_rank.specs.Lanes.{in_lanes, AreSummed, AreRunsTo};
+ghost use Rattle.wg_rank.specs.Pulling.{low_share, high_share, given, along};
 ghost use Rattle.wg_rank.specs.declared.limits.TheConstants.{UNITS};
 
 use crate::divisor::Divisors;
 use crate::gathering::Gather;
-use crate::inflows::{high_flow, low_flow, put};
+use crate::inflows::put;
+use crate::lanes::{MOST_ADDED, from_lanes, in_lanes, rise_in_parts};
 use std::alloc::{AllocError, Global};
 use std::marker::Model;
+use std::simd::u64x4;
 use wg_runs::{PageRun, Runs};
 
 /// The runs of a graph, and the room for a round along them. It is seen as the graph. It holds 32 bytes for each page,
@@ -24,20 +27,19 @@ use wg_runs::{PageRun, Runs};
 #[derive(Drop)]
 pub struct Pulling {
     runs: Runs,
-    // For each page, and behind the last one, what all pages below it give to each of their successors, below and
-    // above, side by side.
-    sums: Vec<u128>,
+    // For each page, and behind the last one, what all pages below it give to each of their successors, in lanes.
+    sums: Vec<u64x4>,
 }
 
 impl Model for Pulling {
-    ghost use Rattle.std.specs.Prelude.{◌≡◌, ◌+◌, ◌*◌, length};
+    ghost use Rattle.std.specs.Prelude.{◌≡◌, ◌+◌, length};
     ghost use Rattle.wg_graph.specs.Digraph.{Digraph};
 
     ghost Value = { Digraph };
 
     ghost view = { λ p. p.runs };
 
-    ghost invariant = { λ p. length p.sums.items ≡ 2 * (p.runs.nodes + 1) };
+    ghost invariant = { λ p. length p.sums.items ≡ p.runs.nodes + 1 };
 }
 
 impl Pulling {
@@ -45,7 +47,7 @@ impl Pulling {
     pub fn new(alloc: Global, runs: Runs) -> Result<Pulling, AllocError>
         ensures { IfOk result (λ p. p ≡ runs) }
     {
-        let sums = vec![in alloc; 0; 2 * (runs.nodes() as usize + 1)]?;
+        let sums = vec![in alloc; u64x4::splat(0); runs.nodes() as usize + 1]?;
         Ok(Pulling { runs, sums })
     }
 
@@ -75,71 +77,102 @@ impl Gather for Pulling {
 
 // Adds up what each page gives to each of its successors, over all pages below one, for each page and behind the last.
 // A page without successors gives nothing there; the answer is what these hold, below and above.
-fn share_out(runs: &Runs, low: &[u128], high: &[u128], sums: &mut [u128]) -> (u128, u128)
+fn share_out(runs: &Runs, low: &[u128], high: &[u128], sums: &mut [u64x4]) -> (u128, u128)
     requires few { length low.now ≤ MOST_PAGES }
     requires pages { runs.now.nodes ≡ length low.now }
     requires high_pages { length high.now ≡ length low.now }
-    requires sum_pages { length sums.old ≡ 2 * (length low.now + 1) }
+    requires sum_pages { length sums.old ≡ length low.now + 1 }
     requires low_units { All (λ x. x ≤ UNITS) low.now }
     requires high_units { All (λ x. x ≤ UNITS) high.now }
-    ensures low { AreSummed runs.now.nodes (given runs.now (low_share runs.now (by_page low.now)))
-        (low_flows sums.new) }
-    ensures high { AreSummed runs.now.nodes (given runs.now (high_share runs.now (by_page high.now)))
-        (high_flows sums.new) }
+    ensures summed { AreSummed runs.now.nodes (given runs.now (low_share runs.now (by_page low.now)))
+        (given runs.now (high_share runs.now (by_page high.now))) sums.new }
     ensures low_dangling { result.0 ≡ sum_dangling runs.now (by_page low.now) }
     ensures high_dangling { result.1 ≡ sum_dangling runs.now (by_page high.now) }
 {
     let divisors = Divisors::new();
-    let mut below = 0;
-    let mut above = 0;
+    let mut total = u64x4::splat(0);
     let mut low_dangling = 0;
     let mut high_dangling = 0;
     for u in 0..low.len() {
-        put(sums, u, below, above);
+        sums[u] = total;
         let degree = u64::from(runs.degree(u as u64));
         if degree == 0 {
             low_dangling += low[u];
             high_dangling += high[u];
         } else {
             let outdegree = divisors.get(degree);
-            below += outdegree.quotient(low[u]);
-            above += outdegree.quotient_up(high[u]);
+            total += in_lanes(outdegree.quotient(low[u]), outdegree.quotient_up(high[u]));
         }
     }
-    put(sums, low.len(), below, above);
+    sums[low.len()] = total;
     (low_dangling, high_dangling)
 }
 
-// What the two sums rise by along runs.
+// What the sums rise by along runs, in lanes.
 #[inline(always)]
-fn flow_along(sums: &[u128], runs: &[PageRun]) -> (u128, u128)
-    requires low { RisesAlong (low_flows sums.now) runs.now }
-    requires high { RisesAlong (high_flows sums.now) runs.now }
-    ensures low { result.0 ≡ along (by_page (low_flows sums.now)) runs.now }
-    ensures high { result.1 ≡ along (by_page (high_flows sums.now)) runs.now }
+fn lanes_along(sums: &[u64x4], runs: &[PageRun]) -> u64x4
+    requires ordered { All (λ r. r.from ≤ r.to) runs.now }
+    requires within { All (λ r. r.to < length sums.now) runs.now }
+    ensures { (n : ℕ) (low high : ℕ → ℕ) → AreSummed n low high sums.now
+        → result ≡ in_lanes (λ s. along (λ u. sum_below u s) runs.now) low high }
+{
+    let mut flow = u64x4::splat(0);
+    for run in runs {
+        flow += sums[run.to as usize] - sums[run.from as usize];
+    }
+    flow
+}
+
+// What the sums rise by along runs, where these may have more pages than are added up in lanes.
+fn parts_along(sums: &[u64x4], runs: &[PageRun]) -> (u128, u128)
+    requires ordered { All (λ r. r.from ≤ r.to) runs.now }
+    requires within { All (λ r. r.to < length sums.now) runs.now }
+    requires few { length sums.now ≤ MOST_PAGES + 1 }
+    requires summed { (n : ℕ) × (low : ℕ → ℕ) × (high : ℕ → ℕ) × AreSummed n low high sums.now
+        × (along (λ u. sum_below u low) runs.now ≤ MOST_PAGES * UNITS)
+        × (along (λ u. sum_below u high) runs.now ≤ MOST_PAGES * UNITS) }
+    ensures low { (n : ℕ) (low high : ℕ → ℕ) → AreSummed n low high sums.now
+        → result.0 ≡ along (λ u. sum_below u low) runs.now }
+    ensures high { (n : ℕ) (low high : ℕ → ℕ) → AreSummed n low high sums.now
+        → result.1 ≡ along (λ u. sum_below u high) runs.now }
 {
     let mut below = 0;
     let mut above = 0;
     for run in runs {
-        let from = run.from as usize;
-        let to = run.to as usize;
-        below += low_flow(sums, to) - low_flow(sums, from);
-        above += high_flow(sums, to) - high_flow(sums, from);
+        let (low, high) = rise_in_parts(sums, run.from as usize, run.to as usize);
+        below += low;
+        above += high;
     }
     (below, above)
 }
 
+// What flows to a page.
+#[inline(always)]
+fn flow_along(sums: &[u64x4], runs: &[PageRun]) -> (u128, u128)
+    requires few { length sums.now ≤ MOST_PAGES + 1 }
+    requires summed { (g : Digraph) × (v : ℕ) × (low : ℕ → ℕ) × (high : ℕ → ℕ) × AreRunsTo g v runs.now
+        × AreSummed g.nodes low high sums.now }
+    ensures low { (g : Digraph) (v : ℕ) (low high : ℕ → ℕ) → AreRunsTo g v runs.now
+        → AreSummed g.nodes low high sums.now → result.0 ≡ sum_by low (predecessors g v) }
+    ensures high { (g : Digraph) (v : ℕ) (low high : ℕ → ℕ) → AreRunsTo g v runs.now
+        → AreSummed g.nodes low high sums.now → result.1 ≡ sum_by high (predecessors g v) }
+{
+    if sums.len() <= MOST_ADDED {
+        return from_lanes(lanes_along(sums, runs));
+    }
+    parts_along(sums, runs)
+}
+
 // Puts in place for each page what its predecessors give, whatever each page gives, if `sums` has what all pages below
 // a page give.
-fn gather_along(runs: &Runs, sums: &[u128], inflows: &mut [u128])
+fn gather_along(runs: &Runs, sums: &[u64x4], inflows: &mut [u128])
     requires few { runs.now.nodes ≤ MOST_PAGES }
     requires inflow_pages { length inflows.old ≡ 2 * runs.now.nodes }
-    requires low { (s : ℕ → ℕ) × AreSummed runs.now.nodes s (low_flows sums.now) }
-    requires high { (s : ℕ → ℕ) × AreSummed runs.now.nodes s (high_flows sums.now) }
-    ensures low { (s : ℕ → ℕ) → AreSummed runs.now.nodes s (low_flows sums.now)
-        → IsTable (low_flows inflows.new) runs.now.nodes (λ v. sum_by s (predecessors runs.now v)) }
-    ensures high { (s : ℕ → ℕ) → AreSummed runs.now.nodes s (high_flows sums.now)
-        → IsTable (high_flows inflows.new) runs.now.nodes (λ v. sum_by s (predecessors runs.now v)) }
+    requires summed { (low : ℕ → ℕ) × (high : ℕ → ℕ) × AreSummed runs.now.nodes low high sums.now }
+    ensures low { (low high : ℕ → ℕ) → AreSummed runs.now.nodes low high sums.now
+        → IsTable (low_flows inflows.new) runs.now.nodes (λ v. sum_by low (predecessors runs.now v)) }
+    ensures high { (low high : ℕ → ℕ) → AreSummed runs.now.nodes low high sums.now
+        → IsTable (high_flows inflows.new) runs.now.nodes (λ v. sum_by high (predecessors runs.now v)) }
 {
     for v in 0..runs.nodes() {
         let (below, above) = flow_along(sums, runs.of_page(v));

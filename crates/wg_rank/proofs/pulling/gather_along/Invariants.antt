@@ -2,13 +2,13 @@ use Rattle.std.specs.List.{sum_by}
 use Rattle.std.proofs.Common.{ℕ, ◌≡◌, ◌<◌, get_or}
 use Rattle.wg_transpose.specs.Transposed.{predecessors}
 use Rattle.wg_rank.specs.Inflows.{low_flows, high_flows}
-use Rattle.wg_rank.specs.Pulling.{AreSummed}
+use Rattle.wg_rank.specs.Lanes.{AreSummed}
 use Rattle.wg_rank.proofs.pulling.gather_along.Given as goal
 
 abbrev pub invariant-loop-v : goal.invariant-loop-v
 invariant-loop-v l = record {
-  low : (s : ℕ → ℕ) → AreSummed l.runs.nodes s (low_flows l.sums) → (w : ℕ) → w < l.v
-      → get_or (low_flows l.inflows) w 0 ≡ sum_by s (predecessors l.runs w);
-  high : (s : ℕ → ℕ) → AreSummed l.runs.nodes s (high_flows l.sums) → (w : ℕ) → w < l.v
-      → get_or (high_flows l.inflows) w 0 ≡ sum_by s (predecessors l.runs w);
+  low : (low high : ℕ → ℕ) → AreSummed l.runs.nodes low high l.sums → (w : ℕ) → w < l.v
+      → get_or (low_flows l.inflows) w 0 ≡ sum_by low (predecessors l.runs w);
+  high : (low high : ℕ → ℕ) → AreSummed l.runs.nodes low high l.sums → (w : ℕ) → w < l.v
+      → get_or (high_flows l.inflows) w 0 ≡ sum_by high (predecessors l.runs w);
 }

@@ -1,17 +1,16 @@
-use Rattle.std.proofs.Common.{ℕ, ◌≡◌, ◌<◌, get_or}
+use Rattle.std.proofs.Common.{ℕ, ◌≡◌, ◌<◌, [], get_or}
 use Rattle.wg_rank.specs.Sum.{sum_below}
 use Rattle.wg_rank.specs.Intervals.{by_page}
-use Rattle.wg_rank.specs.Inflows.{low_flows, high_flows}
+use Rattle.wg_rank.specs.Lanes.{in_lanes}
 use Rattle.wg_rank.specs.Pulling.{low_share, high_share, given}
 use Rattle.wg_rank.proofs.Flow.{Dangling}
 use Rattle.wg_rank.proofs.pulling.share_out.Given as goal
 
 abbrev pub invariant-loop-u : goal.invariant-loop-u
 invariant-loop-u l = record {
-  low : (w : ℕ) → w < l.u → get_or (low_flows l.sums) w 0 ≡ sum_below w (given l.runs (low_share l.runs (by_page l.low)));
-  high : (w : ℕ) → w < l.u → get_or (high_flows l.sums) w 0 ≡ sum_below w (given l.runs (high_share l.runs (by_page l.high)));
-  below : l.below ≡ sum_below l.u (given l.runs (low_share l.runs (by_page l.low)));
-  above : l.above ≡ sum_below l.u (given l.runs (high_share l.runs (by_page l.high)));
+  each : (w : ℕ) → w < l.u → get_or l.sums w []
+      ≡ in_lanes (sum_below w) (given l.runs (low_share l.runs (by_page l.low))) (given l.runs (high_share l.runs (by_page l.high)));
+  total : l.total ≡ in_lanes (sum_below l.u) (given l.runs (low_share l.runs (by_page l.low))) (given l.runs (high_share l.runs (by_page l.high)));
   low_rest : Dangling l.runs l.u (λ u. get_or l.low u 0) l.low_dangling;
   high_rest : Dangling l.runs l.u (λ u. get_or l.high u 0) l.high_dangling;
 }

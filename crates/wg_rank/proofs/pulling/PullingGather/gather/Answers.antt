@@ -17,7 +17,7 @@ returns-clause-low_flow c =
     let n : g.nodes ≡ length c.args.low.now = omega (arith, ap (λ (h : Digraph). h.nodes) c.self.view_is) in
     let same : c.deref.result.now ≡ c.share_out-dangling.new.sums = c.deref.ensures.value ∙ with_items_is c.self.inside.sums c.share_out-dangling.new.sums (omega arith) in
     let share : ℕ → ℕ = low_share g (by_page c.args.low.now) in
-    let table = c.gather_along.ensures.low (given g share) (rw same c.share_out-dangling.ensures.low) in
+    let table = c.gather_along.ensures.low (given g share) (given g (high_share g (by_page c.args.high.now))) (rw same c.share_out-dangling.ensures.summed) in
     rw (← c.self.view_is) (λ v w. table.each v (omega arith) ∙ in_sum g share v)
 
 pub returns-clause-high_flow : goal.returns-clause-high_flow
@@ -26,7 +26,7 @@ returns-clause-high_flow c =
     let n : g.nodes ≡ length c.args.low.now = omega (arith, ap (λ (h : Digraph). h.nodes) c.self.view_is) in
     let same : c.deref.result.now ≡ c.share_out-dangling.new.sums = c.deref.ensures.value ∙ with_items_is c.self.inside.sums c.share_out-dangling.new.sums (omega arith) in
     let share : ℕ → ℕ = high_share g (by_page c.args.high.now) in
-    let table = c.gather_along.ensures.high (given g share) (rw same c.share_out-dangling.ensures.high) in
+    let table = c.gather_along.ensures.high (given g (low_share g (by_page c.args.low.now))) (given g share) (rw same c.share_out-dangling.ensures.summed) in
     rw (← c.self.view_is) (λ v w. table.each v (omega arith) ∙ in_sum g share v)
 
 pub returns-clause-low_room : goal.returns-clause-low_room
