@@ -3,3 +3,4 @@ pub mod KeyNames
 pub mod ProvenLemmas
 pub mod SteadyLemmas
 pub mod LineLemmas
+pub mod ArchiveJobs

@@ -1,10 +1,10 @@
-ghost use Rattle.std.specs.Prelude.{◌≡◌, false};
+ghost use Rattle.std.specs.Prelude.{◌≡◌, false, IsTrue};
 ghost use Rattle.wg_words.specs.Jobs.{IsWithin};
 ghost use Rattle.wg_outcomes.specs.Answers.{status_in};
 ghost use Rattle.wg_outcomes.specs.Promised.{promised_in};
-ghost use Rattle.wg_outcomes.specs.Performs.{Does};
+ghost use Rattle.wg_outcomes.specs.Performs.{Does, DoesOrEnds};
 ghost use Rattle.wg_outcomes.specs.Untold.{DoesAnywhere};
-ghost use Rattle.wg_cli.specs.Wanted.{calls_depot};
+ghost use Rattle.wg_cli.specs.Wanted.{calls_depot, writes_archive};
 
 use std::alloc::Global;
 use wg_builds::build::build;
@@ -44,19 +44,29 @@ pub fn perform<D: Depot, O: Sink>(alloc: Global, job: &Job, depot: &mut D, out: 
         result.status }
     ensures untouched { calls_depot job.now ≡ false → depot.new ≡ depot.old }
 {
+    ending_of(do_job(alloc, job, depot, out))
+}
+
+// Does the job by the function of its command.
+fn do_job<D: Depot, O: Sink>(
+    alloc: Global,
+    job: &Job,
+    depot: &mut D,
+    out: &mut O,
+) -> Result<(), Ending>
+    requires { IsWithin job.now }
+    ensures does { DoesOrEnds ⟦<D as Depot>⟧ ⟦<O as Sink>⟧ job.now depot.old depot.new out.old out.new result }
+    ensures anywhere { DoesAnywhere ⟦<D as Depot>⟧ ⟦<O as Sink>⟧ job.now depot.old depot.new out.old out.new
+        (status_in result) }
+    ensures untouched { calls_depot job.now ≡ false → depot.new ≡ depot.old }
+{
     match job {
-        Job::Check { base } => ending_of(check(alloc, base, depot, out)),
-        Job::Arcs { base } => ending_of(print_records(alloc, base, Listing::Arcs, depot, out)),
-        Job::Ascii { base } => ending_of(print_records(alloc, base, Listing::Ascii, depot, out)),
-        Job::Offsets { base } => ending_of(print_records(
-            alloc,
-            base,
-            Listing::Offsets,
-            depot,
-            out,
-        )),
-        Job::Show { base, pages } => ending_of(show(alloc, base, pages, depot, out)),
-        Job::Spot { base, page } => ending_of(spot(alloc, base, *page, depot, out)),
+        Job::Check { base } => check(alloc, base, depot, out),
+        Job::Arcs { base } => print_records(alloc, base, Listing::Arcs, depot, out),
+        Job::Ascii { base } => print_records(alloc, base, Listing::Ascii, depot, out),
+        Job::Offsets { base } => print_records(alloc, base, Listing::Offsets, depot, out),
+        Job::Show { base, pages } => show(alloc, base, pages, depot, out),
+        Job::Spot { base, page } => spot(alloc, base, *page, depot, out),
         Job::Rank {
             base,
             rounds,
@@ -70,45 +80,60 @@ pub fn perform<D: Depot, O: Sink>(alloc: Global, job: &Job, depot: &mut D, out: 
                 damping: *damping,
                 top: *top,
             };
-            ending_of(rank(alloc, base, asked, weights, certificate, depot, out))
+            rank(alloc, base, asked, weights, certificate, depot, out)
         }
         Job::Verify {
             base,
             certificate,
             weights,
-        } => ending_of(verify(alloc, base, certificate, weights, depot, out)),
+        } => verify(alloc, base, certificate, weights, depot, out),
+        Job::Bulk { seed, pages } => bulk(alloc, *seed, *pages, out),
+        _ => write_archive(alloc, job, depot, out),
+    }
+}
+
+// Does a job that writes an archive.
+fn write_archive<D: Depot, O: Sink>(
+    alloc: Global,
+    job: &Job,
+    depot: &mut D,
+    out: &mut O,
+) -> Result<(), Ending>
+    requires within { IsWithin job.now }
+    requires writes { IsTrue (writes_archive job.now) }
+    ensures { DoesOrEnds ⟦<D as Depot>⟧ ⟦<O as Sink>⟧ job.now depot.old depot.new out.old out.new result }
+{
+    match job {
         Job::Build {
             arcs,
             base,
             nodes,
             layout,
-        } => ending_of(build(alloc, arcs, base, *nodes, layout, depot, out)),
-        Job::Import { text, base, layout } => {
-            ending_of(import(alloc, text, base, layout, depot, out))
-        }
+        } => build(alloc, arcs, base, *nodes, layout, depot, out),
+        Job::Import { text, base, layout } => import(alloc, text, base, layout, depot, out),
         Job::Quotient {
             input,
             map,
             output,
             classes,
             layout,
-        } => ending_of(quotient(alloc, input, map, output, *classes, layout, depot, out)),
+        } => quotient(alloc, input, map, output, *classes, layout, depot, out),
         Job::Recode {
             input,
             output,
             layout,
-        } => ending_of(recode(alloc, input, output, layout, depot, out)),
+        } => recode(alloc, input, output, layout, depot, out),
         Job::Union {
             first,
             second,
             output,
             layout,
-        } => ending_of(union(alloc, first, second, output, layout, depot, out)),
+        } => union(alloc, first, second, output, layout, depot, out),
         Job::Transpose {
             input,
             output,
             layout,
-        } => ending_of(transpose(alloc, input, output, layout, depot, out)),
-        Job::Bulk { seed, pages } => ending_of(bulk(alloc, *seed, *pages, out)),
+        } => transpose(alloc, input, output, layout, depot, out),
+        _ => unreachable!(),
     }
 }

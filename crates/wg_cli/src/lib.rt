@@ -1,7 +1,7 @@
 //! The program over any outside: the words' job, done over a depot of files, with its output and a line on standard
 //! error.
 //!
-//! [`run`] is the one call. It asks `wg_words` for the job, has [`perform`] do it by the commands of `wg_queries`,
+//! [`run`] is the one call. It asks `wg_words` for the job, has `perform` do it by the commands of `wg_queries`,
 //! `wg_builds` and `wg_transforms`, reports how it ended, and returns the [`Status`]. Its contract spells out what is
 //! promised of a job (`Performs`), by the words and by what each input holds: which status comes, what stands on the
 //! output and in the files, and that faults of the outside are reported only where their counts rose. Besides it says
@@ -41,7 +41,6 @@ mod report;
 mod steady;
 mod texts;
 
-pub use dispatch::perform;
 pub use program::run;
 pub use steady::run_in_memory;
 pub use wg_arcs::{ArcsKind, NumbersFault, NumbersKind};
