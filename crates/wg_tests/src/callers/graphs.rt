@@ -4,8 +4,7 @@ use wg_ascii::{AsciiError, AsciiKind, PageLines};
 use wg_graph::{GraphBuilder, GraphLists, List, Lists};
 use wg_io::SteadySink;
 use wg_order::Ranking;
-use wg_outcomes::are_few;
-use wg_rank::{Bounds, Pulling, UNITS};
+use wg_rank::{Bounds, UNITS};
 use wg_runs::{PageRun, RunCounts, Runs};
 use wg_transpose::{Transposer, transpose};
 use wg_vectors::{COPIED, bytes_of, generate};
@@ -115,32 +114,6 @@ fn one_round_of_bounds(rt: HostRuntime) -> Result<(), Fail> {
     bounds.round(&mut GraphLists::new(&graph));
     assert!(rt; bounds.low(0) == 75 * (UNITS / 1000));
     assert!(rt; bounds.high(0) == UNITS / 2);
-    Ok(())
-}
-
-// With 148 bytes a page for runs of 8 bytes.
-#[test]
-fn few_runs_and_many(rt: HostRuntime) {
-    assert!(rt; are_few(37, 2) && !are_few(38, 2));
-    assert!(rt; are_few(0, 0) && !are_few(1, 0));
-}
-
-// Along lists and along runs.
-#[test]
-fn both_ways_leave_the_same_bounds(rt: HostRuntime) -> Result<(), Fail> {
-    let graph = wg_arcs::read(rt.alloc(), b"0 4\n1 0\n1 4\n2 4\n4 4\n", 5)?;
-    let mut lists = GraphLists::new(&graph);
-    let mut bounds = Bounds::new(rt.alloc(), 5, 850)?;
-    bounds.round(&mut lists);
-    bounds.round(&mut lists);
-    let runs = Runs::of(rt.alloc(), &mut lists)?;
-    let mut pulling = Pulling::new(rt.alloc(), runs)?;
-    let mut pulled = Bounds::new(rt.alloc(), 5, 850)?;
-    pulled.pull(&mut pulling);
-    pulled.pull(&mut pulling);
-    assert!(rt; pulling.nodes() == 5 && pulled.rounds() == 2);
-    assert!(rt; pulled.lower() == bounds.lower());
-    assert!(rt; pulled.upper() == bounds.upper());
     Ok(())
 }
 
