@@ -6,9 +6,8 @@ use std::process::Abort;
 use std::sync::ledger::{Blank, Ledger};
 use std::test::Fail;
 use wg_bits::{Bits, Cursor};
-use wg_codes::Read;
 use wg_decoder::{Window, decode};
-use wg_grammar::{OffsetWord, Source};
+use wg_grammar::OffsetWord;
 use wg_graph::{GraphLists, List, Lists};
 use wg_io::SteadyDepot;
 use wg_offsets::OffsetsError;
@@ -17,17 +16,6 @@ use wg_random::{Archive, Records, Steps};
 use wg_shape::{Coming, Quotienter, quotient, union};
 use wg_stream::Reader;
 use wg_vectors::usual;
-
-// A cursor over two bytes is a source.
-#[test]
-fn words_and_a_tail(rt: HostRuntime) {
-    // 010 and 00101 in gamma, and then zeros
-    let mut source = Cursor::new(Bits::of(b"\x45\x00"), 0);
-    assert!(rt; source.read(Code::Gamma).ok() == Some(Read::Value(1)));
-    assert!(rt; source.read(Code::Gamma).ok() == Some(Read::Value(4)));
-    assert!(rt; Source::at(&source) == 8);
-    assert!(rt; source.tail_fault().ok() == Some(None));
-}
 
 // In the overview of wg_decoder.
 #[test]
