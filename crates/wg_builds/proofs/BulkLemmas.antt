@@ -1,5 +1,5 @@
 -- The archive that was built of a generated graph is in order, and has this graph.
-use Rattle.std.proofs.Common.{◌≡◌, ◌≤◌, ◌∙◌, Bool, true, inr, ℕ, List, [], ◌∷◌, length, get_or, Option, None, Result, Ok, Err, refl, sym, ap, subst, arith}
+use Rattle.std.proofs.Common.{◌≡◌, ◌≤◌, ◌∙◌, Bool, true, inr, ℕ, List, [], ◌∷◌, length, get_or, None, Result, Ok, Err, refl, sym, ap, subst, arith}
 use Rattle.std.proofs.lemmas.Option.{same_Some}
 use Rattle.wg_io.specs.Outside.{Files, Counts}
 use Rattle.wg_params.specs.Parameters.{Parameters, IsWithinLimits, params_of}
@@ -32,20 +32,22 @@ use Rattle.wg_readings.specs.Passes.{graph_then}
 use Rattle.wg_outcomes.specs.Readings.{Readings}
 use Rattle.wg_outcomes.specs.declared.ending.Ending.{Ending}
 use Rattle.wg_outcomes.specs.declared.status.Input.TheVariants as input
+use Rattle.wg_outcomes.specs.Promised.{ArePromised}
+use Rattle.wg_outcomes.specs.declared.status.Status.{Status}
 use Rattle.wg_outcomes.specs.declared.status.Status.TheVariants.{Memory}
 use Rattle.wg_readings.proofs.ReadingsLaws.{the_readings}
 use Rattle.wg_readings.proofs.ReadingsLemmas.{all_agree, goes_on, goes_on_from}
 use Rattle.wg_outcomes.specs.Bulk.{IsBuilt, bulk_params}
 use Rattle.wg_outcomes.specs.Ranked.{bounds_after}
 use Rattle.wg_outcomes.specs.Written.{AreWhole, archive_in}
-use Rattle.wg_outcomes.proofs.FileLemmas.{file_goes_on, last_bit}
+use Rattle.wg_outcomes.proofs.FileLemmas.{held_goes, last_bit}
 use Rattle.wg_io.proofs.FilesLemmas.{none_falls-refl}
 use Rattle.wg_writing.specs.Writing.{archive_of}
 use Rattle.wg_words.specs.declared.jobs.Job.{Job}
 use Rattle.wg_outcomes.specs.JobFiles.{input_name}
 use Rattle.wg_outcomes.specs.Performs.{Performs, outside}
-use Rattle.wg_outcomes.proofs.SteadyLemmas.{by_memory, hindered}
-use Rattle.wg_builds.proofs.TextJobs.{IsOfFault, faulted}
+use Rattle.wg_outcomes.proofs.PerformsLemmas.{by_memory, hindered}
+use Rattle.wg_readings.proofs.JobSteps.{ends_refused, want_refuses}
 
 -- what goes on alike, whatever comes next, goes on with what gives the same text
 same_text : {B : Type 0} (step : (B → Judged) → Judged) (b d : B) (text : B → List ℕ) → ((next : B → Judged) → step next ≡ next b) → ((next : B → Judged) → step next ≡ next d) → text b ≡ text d
@@ -89,20 +91,17 @@ module _ (g : Digraph) (base : List ℕ) (files : Files) (is : IsBuilt g base fi
   -- ---- what each file leads to
   params_go_on : (next : Parameters → Judged) → params_then (held_by (file_of base) files input.Properties) next ≡ next p
   params_go_on next =
-      ap (λ (o : Option (List ℕ)). params_then o next) is.whole.0
-      ∙ file_goes_on input.Properties (text_of p) (omega (arith, text_short p is.limits)) (λ text. with_parameters text next)
+      held_goes input.Properties (held_by (file_of base) files input.Properties) (text_of p) is.whole.0 (omega (arith, text_short p is.limits)) (λ text. with_parameters text next)
       ∙ ap (λ (w : Result Parameters PropFault). unless_bad_properties w next) (read_again p is.limits)
 
   graph_goes_on : (r : Readings) (next : Accepted → Judged) → graph_then r p (held_by (file_of base) files input.Graph) next ≡ next whole_graph
   graph_goes_on r next =
-      ap (λ (o : Option (List ℕ)). graph_then r p o next) is.whole.1
-      ∙ file_goes_on input.Graph (graph_file p g.lists) (omega (arith, in_order.short_graph)) (λ bytes. with_graph r p bytes next)
+      held_goes input.Graph (held_by (file_of base) files input.Graph) (graph_file p g.lists) is.whole.1 (omega (arith, in_order.short_graph)) (λ bytes. with_graph r p bytes next)
       ∙ goes_on r p is.limits (graph_file p g.lists) g.lists places in_order.graph next
 
   offsets_go_on : (r : Readings) (next : List ℕ → Judged) → offsets_then r p (held_by (file_of base) files input.Offsets) next ≡ next places
   offsets_go_on r next =
-      ap (λ (o : Option (List ℕ)). offsets_then r p o next) is.whole.2
-      ∙ file_goes_on input.Offsets (offsets_file p g.lists) (omega (arith, in_order.short_offsets)) (λ more. with_offsets r p more next)
+      held_goes input.Offsets (held_by (file_of base) files input.Offsets) (offsets_file p g.lists) is.whole.2 (omega (arith, in_order.short_offsets)) (λ more. with_offsets r p more next)
       ∙ goes_on_from r p is.limits (offsets_file p g.lists) places in_order.offsets next
 
   files_go_on : (r : Readings) (next : ℕ → Judged) → files_then r p (held_by (file_of base) files) next ≡ next (length (graph_bits p g.lists))
@@ -170,5 +169,5 @@ pub ends_alone : (job : Job) (told_files told_out : Bool) (files : Files) (count
     → Performs job told_files told_out (outside files counts taken faults) (outside files counts taken faults) e.status e.promised
 ends_alone job told_files told_out files counts taken faults e want =
     let here = outside files counts taken faults in
-    faulted job told_files told_out here here e refl refl (none_falls-refl counts) (λ t r. inr (subst IsHindrance (sym want) tt))
-    (subst (IsOfFault job (held_by (input_name job) files) e.promised) (sym want) (tt, tt, refl, tt))
+    ends_refused job told_files told_out here here e refl refl (none_falls-refl counts) (λ t r. inr (subst IsHindrance (sym want) tt)) (want_refuses job e.status want)
+    (λ t. subst (λ (s : Status). ArePromised (held_by (input_name job) files) s e.promised) (sym want) tt)

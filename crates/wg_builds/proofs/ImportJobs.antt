@@ -1,5 +1,5 @@
 -- A plain text that is imported, line by line: how it ends.
-use Rattle.std.proofs.Common.{◌≡◌, ◌⊎◌, inl, inr, ℕ, ◌≤◌, Bool, List, length, Some, Result, Ok, Err, refl, sym, ap, subst, ◌∙◌}
+use Rattle.std.proofs.Common.{◌≡◌, inl, inr, ℕ, ◌≤◌, Bool, List, length, Some, Result, Ok, Err, refl, sym, ap, subst, ◌∙◌}
 use Rattle.std.specs.Bool.{IsTrue}
 use Rattle.std.specs.FinMap as map
 use Rattle.wg_io.specs.Outside.{Files, Counts, NonDecreasing}
@@ -17,27 +17,28 @@ use Rattle.wg_outcomes.specs.Answers.{IsHindrance, Steps, status_in}
 use Rattle.wg_outcomes.specs.Judged.{status_of, text_then, with_text}
 use Rattle.wg_readings.specs.Loading.{IsBadText, LoadsText}
 use Rattle.wg_readings.proofs.ReadingsLemmas.{text_goes_on, text_refused}
+use Rattle.wg_readings.proofs.JobSteps.{IsRefusal, ends_at}
 use Rattle.wg_readings.proofs.UnderWay.{cause_later}
-use Rattle.wg_outcomes.specs.Names.{IsOfInput, held_by, text_named}
+use Rattle.wg_outcomes.specs.Names.{held_by, text_named}
+use Rattle.wg_outcomes.specs.Promised.{ArePromised}
 use Rattle.wg_outcomes.specs.declared.ending.Ending.{Ending}
 use Rattle.wg_outcomes.specs.declared.status.Input.TheVariants.{Text}
+use Rattle.wg_outcomes.specs.declared.status.Status.{Status}
 use Rattle.wg_outcomes.specs.declared.status.Status.TheVariants.{Done, Memory}
 use Rattle.wg_outcomes.proofs.Statuses.{IsOwn, own_caused}
 use Rattle.wg_outcomes.specs.Commands.{builds}
 use Rattle.wg_outcomes.specs.JobFiles.{input_name}
 use Rattle.wg_outcomes.specs.Performs.{Outside, Performs}
 use Rattle.wg_builds.specs.Imported.{status_of_text}
-use Rattle.wg_builds.proofs.TextJobs.{IsOfFault, file_goes, text_ends}
+use Rattle.wg_outcomes.proofs.FileLemmas.{held_goes}
 
 -- a plain text that was not read ends the job
 pub text_unread : (text base : List ℕ) (l : Layout) (td to : Bool) (before after : Outside) (e : Ending) → after.taken ≡ before.taken → LoadsText text td before.files after.files before.counts after.counts (Err e)
     → Performs (Import text base l) td to before after e.status e.promised
 text_unread text base l td to before after e silent h =
-    text_ends (text_named text) Text (Import text base l) td to before after e refl refl silent (λ r. refl) h.causes h.same h.later (λ t r. h.steps t r (λ g. builds l g)) (by_fault h.only)
-  where
-    by_fault : (IsOfInput Text e.status ⊎ IsBadText e) → IsOfInput Text e.status ⊎ IsOfFault (Import text base l) (held_by (input_name (Import text base l)) before.files) e.promised e.status
-    by_fault (inl only) = inl only
-    by_fault (inr fault) = inr (subst (IsOfFault (Import text base l) (held_by (input_name (Import text base l)) before.files) e.promised) (sym fault.2) (tt, tt, refl, tt))
+    ends_at (Import text base l) td to before after e silent h.same h.later (λ t r. h.steps t r (λ g. builds l g)) (text_named text) Text IsBadText refl refl h.only h.causes (λ t r. refl)
+    (λ fault. subst (IsRefusal (Import text base l)) (sym fault.2) (record { own = tt; stop = tt; possible = refl }))
+    (λ t fault. subst (λ (s : Status). ArePromised (held_by (input_name (Import text base l)) before.files) s e.promised) (sym fault.2) tt)
 
 -- other reads came before
 pub text_after : (name : List ℕ) (td : Bool) (f g h : Files) (a b c : List ℕ → Counts) (r : Result Digraph Ending) → g ≡ f → NonDecreasing a b → LoadsText name td g h b c r → LoadsText name td f h a c r
@@ -53,7 +54,7 @@ module _ (name : List ℕ) (td : Bool) (files files' : Files) (counts counts' : 
   -- ---- the text was read
   pub text_read : (g : Digraph) → (IsTrue td → (file : List ℕ) × (map.get files name ≡ Some file) × (length file ≤ MOST_BYTES) × StandsFor (lines_of file) g) → LoadsText name td files files' counts counts' (Ok g)
   text_read g told = record {
-    steps = λ t r next. let h = told t in file_goes Text (map.get files name) h.0 h.1 h.2 (λ bytes. with_text r bytes next) ∙ text_goes_on r h.0 g h.3 next;
+    steps = λ t r next. let h = told t in held_goes Text (map.get files name) h.0 h.1 h.2 (λ bytes. with_text r bytes next) ∙ text_goes_on r h.0 g h.3 next;
     only = tt;
     causes = own_caused _ _ _ _ _ _ Done tt;
     same = same;
@@ -75,7 +76,7 @@ module _ (name : List ℕ) (td : Bool) (files files' : Files) (counts counts' : 
   text_stops e (error.Line line kind) is told = record {
     steps = λ t r next.
         let h = told t in
-        inl (is ∙ sym (ap status_of (file_goes Text (map.get files name) h.0 h.1 h.2 (λ bytes. with_text r bytes next) ∙ text_refused r h.0 line kind h.3 next)));
+        inl (is ∙ sym (ap status_of (held_goes Text (map.get files name) h.0 h.1 h.2 (λ bytes. with_text r bytes next) ∙ text_refused r h.0 line kind h.3 next)));
     only = inr (line, kind, is);
     causes = own_caused _ _ _ _ _ _ e.status (subst IsOwn (sym is) tt);
     same = same;

@@ -1,5 +1,5 @@
 -- An arc list that is read line by line, while its lists are encoded: how it ends.
-use Rattle.std.proofs.Common.{◌≡◌, ◌⊎◌, inl, inr, ℕ, ◌≤◌, Bool, List, [], ◌∷◌, ◌++◌, length, take, Some, None, Err, refl, sym, ap, subst, ◌∙◌}
+use Rattle.std.proofs.Common.{◌≡◌, inl, inr, ℕ, ◌≤◌, Bool, List, [], ◌∷◌, ◌++◌, length, take, Some, None, Err, refl, sym, ap, subst, ◌∙◌}
 use Rattle.std.specs.Bool.{IsTrue}
 use Rattle.std.specs.FinMap as map
 use Rattle.wg_io.specs.Outside.{Files, Counts, NonDecreasing}
@@ -25,18 +25,21 @@ use Rattle.wg_outcomes.specs.Answers.{Answers, IsHindrance}
 use Rattle.wg_outcomes.specs.Commands.{builds}
 use Rattle.wg_outcomes.specs.JobFiles.{input_name}
 use Rattle.wg_outcomes.specs.Judged.{status_of, with_file, with_list}
-use Rattle.wg_outcomes.specs.Names.{IsOfInput, held_by, list_named}
+use Rattle.wg_outcomes.specs.Names.{held_by, list_named}
+use Rattle.wg_outcomes.specs.Promised.{ArePromised}
 use Rattle.wg_outcomes.specs.Performs.{Outside, Performs}
 use Rattle.wg_outcomes.specs.declared.ending.Ending.{Ending}
 use Rattle.wg_outcomes.specs.declared.status.Input.TheVariants.{ArcList}
+use Rattle.wg_outcomes.specs.declared.status.Status.{Status}
 use Rattle.wg_outcomes.specs.declared.status.Status.TheVariants.{BadArcs, Done, Memory}
 use Rattle.wg_outcomes.proofs.Statuses.{IsOwn, own_caused}
 use Rattle.wg_readings.specs.Loading.{Loads, LoadsList}
+use Rattle.wg_readings.proofs.JobSteps.{IsRefusal, ends_at}
 use Rattle.wg_readings.proofs.UnderWay.{cause_later}
 use Rattle.wg_readings.proofs.ReadingsLemmas.{list_goes_on, list_refused}
 use Rattle.wg_builds.specs.Encoded.{Encodes}
 use Rattle.wg_builds.specs.Listed.{IsFault, status_of_list}
-use Rattle.wg_builds.proofs.TextJobs.{IsOfFault, file_goes, text_ends}
+use Rattle.wg_outcomes.proofs.FileLemmas.{held_goes}
 
 -- the lines that come next are lent now
 pub lent_now : (n m : ℕ) (all next later : List (List ℕ)) (text lent : List ℕ) (count : ℕ) (arcs : List Arc) → m ≡ n → next ≡ lines_of lent ++ later → text ≡ lent → SoFar n all next count arcs → SoFar m all (lines_of text ++ later) count arcs
@@ -73,7 +76,7 @@ module _ (name : List ℕ) (n : ℕ) (td : Bool) (files files' : Files) (counts 
     steps = λ t r next.
         let h = told t in
         let first : IsFirst n (lines_of h.0) (error.Line line kind) = elim h.3 [ inl want ↦ absurd (cc want) | inr first ↦ first ] in
-        inl (is ∙ sym (ap status_of (file_goes ArcList (map.get files name) h.0 h.1 h.2 (λ bytes. with_list r n bytes next) ∙ list_refused r n h.0 line kind first next)));
+        inl (is ∙ sym (ap status_of (held_goes ArcList (map.get files name) h.0 h.1 h.2 (λ bytes. with_list r n bytes next) ∙ list_refused r n h.0 line kind first next)));
     only = inr (line, kind, is);
     nodes = tt;
     causes = own_caused _ _ _ _ _ _ e.status (subst IsOwn (sym is) tt);
@@ -96,7 +99,7 @@ module _ (name : List ℕ) (n : ℕ) (td : Bool) (files files' : Files) (counts 
           steps = λ t r next.
               let x = told t in
               let arcs = all_read n (lines_of x.0) s.line (arcs_on done list) g x.3 refl p.1 proper in
-              file_goes ArcList (map.get files name) x.0 x.1 x.2 (λ bytes. with_list r n bytes next) ∙ list_goes_on r n x.0 g arcs next;
+              held_goes ArcList (map.get files name) x.0 x.1 x.2 (λ bytes. with_list r n bytes next) ∙ list_goes_on r n x.0 g arcs next;
           only = tt;
           nodes = refl;
           causes = own_caused _ _ _ _ _ _ Done tt;
@@ -113,9 +116,7 @@ module _ (name : List ℕ) (n : ℕ) (td : Bool) (files files' : Files) (counts 
 pub list_unread : (arcs base : List ℕ) (n : ℕ) (l : Layout) (td to : Bool) (before after : Outside) (e : Ending) → after.taken ≡ before.taken → LoadsList arcs n td before.files after.files before.counts after.counts (Err e)
     → Performs (Build arcs base n l) td to before after e.status e.promised
 list_unread arcs base n l td to before after e silent h =
-    text_ends (list_named arcs) ArcList (Build arcs base n l) td to before after e refl refl silent (λ r. refl) h.causes h.same h.later (λ t r. h.steps t r (λ g. builds l g)) (by_fault h.only)
-  where
-    by_fault : (IsOfInput ArcList e.status ⊎ ((line : ℕ) × (kind : ArcsKind) × (e.status ≡ BadArcs line kind)))
-        → IsOfInput ArcList e.status ⊎ IsOfFault (Build arcs base n l) (held_by (input_name (Build arcs base n l)) before.files) e.promised e.status
-    by_fault (inl only) = inl only
-    by_fault (inr fault) = inr (subst (IsOfFault (Build arcs base n l) (held_by (input_name (Build arcs base n l)) before.files) e.promised) (sym fault.2) (tt, tt, refl, tt))
+    ends_at (Build arcs base n l) td to before after e silent h.same h.later (λ t r. h.steps t r (λ g. builds l g)) (list_named arcs) ArcList
+    (λ x. (line : ℕ) × (kind : ArcsKind) × (x.status ≡ BadArcs line kind)) refl refl h.only h.causes (λ t r. refl)
+    (λ fault. subst (IsRefusal (Build arcs base n l)) (sym fault.2) (record { own = tt; stop = tt; possible = refl }))
+    (λ t fault. subst (λ (s : Status). ArePromised (held_by (input_name (Build arcs base n l)) before.files) s e.promised) (sym fault.2) tt)

@@ -37,7 +37,7 @@ use Rattle.wg_outcomes.specs.declared.status.Input.TheVariants as input
 use Rattle.wg_outcomes.specs.declared.status.Status.{Status}
 use Rattle.wg_outcomes.specs.declared.status.Status.TheVariants.{BadArcs, Missing, OverLimit}
 use Rattle.wg_readings.proofs.ReadingsLemmas.{all_agree, goes_on, goes_on_from}
-use Rattle.wg_outcomes.proofs.FileLemmas.{file_goes_on, last_bit}
+use Rattle.wg_outcomes.proofs.FileLemmas.{file_goes, last_bit}
 
 -- ---- places
 
@@ -47,9 +47,9 @@ module _ (r : Readings) (p : Parameters) (g : Digraph) (limits : IsWithinLimits 
 
   records_go_on : (next : Parameters → List ℕ → Judged) → with_records (holding (greedy_archive p g)) next ≡ next p (graph_file p g.lists)
   records_go_on next =
-      file_goes_on input.Properties (text_of p) (omega (arith, text_short p limits)) (λ text. with_parameters text (λ q. with_file input.Graph (Some (graph_file p g.lists)) (λ bytes. next q bytes)))
+      file_goes input.Properties (text_of p) (omega (arith, text_short p limits)) (λ text. with_parameters text (λ q. with_file input.Graph (Some (graph_file p g.lists)) (λ bytes. next q bytes)))
       ∙ ap (λ (w : Result Parameters PropFault). unless_bad_properties w (λ q. with_file input.Graph (Some (graph_file p g.lists)) (λ bytes. next q bytes))) (read_again p limits)
-      ∙ file_goes_on input.Graph (graph_file p g.lists) (omega (arith, is.short_graph)) (λ bytes. next p bytes)
+      ∙ file_goes input.Graph (graph_file p g.lists) (omega (arith, is.short_graph)) (λ bytes. next p bytes)
 
   pub lists_go_on : (next : Digraph → Judged) → with_records (holding (greedy_archive p g)) (λ q bytes. with_digraph r q bytes next) ≡ next g
   lists_go_on next =
@@ -59,7 +59,7 @@ module _ (r : Readings) (p : Parameters) (g : Digraph) (limits : IsWithinLimits 
 
   offsets_go_on : (next : List ℕ → Judged) → with_file input.Offsets (Some (offsets_file p g.lists)) (λ more. with_offsets r p more next) ≡ next places
   offsets_go_on next =
-      file_goes_on input.Offsets (offsets_file p g.lists) (omega (arith, is.short_offsets)) (λ more. with_offsets r p more next)
+      file_goes input.Offsets (offsets_file p g.lists) (omega (arith, is.short_offsets)) (λ more. with_offsets r p more next)
       ∙ goes_on_from r p limits (offsets_file p g.lists) places is.offsets next
 
   archive_goes_on : (next : Parameters → Accepted → Judged) → with_archive r (holding (greedy_archive p g)) next ≡ next p (record { graph = g.lists; places = places })

@@ -12,7 +12,7 @@ use Rattle.wg_ascii.specs.declared.fault.AsciiKind.{AsciiKind}
 use Rattle.wg_ascii.proofs.ReadBack as texts
 use Rattle.wg_words.specs.declared.jobs.Job.TheVariants.{Ascii, Import, Recode}
 use Rattle.wg_params.specs.declared.layout.Layout.{Layout}
-use Rattle.wg_outcomes.specs.Judged.{Judged, accepted, built, output_of, status_of, text_then, unless_bad_text, with_text}
+use Rattle.wg_outcomes.specs.Judged.{Judged, accepted, built, output_of, status_of, unless_bad_text, with_text}
 use Rattle.wg_encoder.specs.Archive.{Archive}
 use Rattle.wg_outcomes.specs.Readings.{Readings}
 use Rattle.wg_outcomes.specs.declared.status.Input.{Input}
@@ -22,7 +22,7 @@ use Rattle.wg_readings.proofs.ReadingsLemmas.{text_goes_on}
 use Rattle.wg_laws.specs.Built.{ImportsAreAccepted, IsAcceptedImport}
 use Rattle.wg_outcomes.specs.Commands.{builds, judged}
 use Rattle.wg_laws.proofs.BuiltLemmas.{file_behind, none_built}
-use Rattle.wg_outcomes.proofs.FileLemmas.{file_goes_on}
+use Rattle.wg_outcomes.proofs.FileLemmas.{held_goes}
 use Rattle.wg_laws.proofs.ConversionLemmas.{read_again}
 use Rattle.wg_laws.proofs.HeldLemmas.{graph_behind}
 
@@ -63,7 +63,7 @@ imported_back r base output name text layout held after printed short there =
     let g : Digraph = behind.graph in
     let same : plain.text_of_graph g ≡ text = ap output_of (sym (behind.goes_on shown) ∙ printed) in
     let stands : StandsFor (lines_of text) g = subst (λ (b : List ℕ). StandsFor (lines_of b) g) same (texts.read_back g behind.proper behind.few_pages behind.few_arcs) in
-    ap (λ (o : Option (List ℕ)). text_then r o next) there ∙ file_goes_on Text text short (λ bytes. with_text r bytes next) ∙ text_goes_on r text g stands next
+    held_goes Text _ text there short (λ bytes. with_text r bytes next) ∙ text_goes_on r text g stands next
     ∙ sym (behind.goes_on next)
 
 pub imports_accepted : (r : Readings) → ImportsAreAccepted r

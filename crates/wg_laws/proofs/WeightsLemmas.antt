@@ -1,6 +1,6 @@
 -- Weights that a text gives are weights of the pages, and a judgement that went on has them from its file.
 use Rattle.std.proofs.Common.{◌≡◌, ◌≤◌, ◌<◌, ◌+◌, ℕ, zero, suc, Bool, true, false, nat_eq, nat_le, nat_lt, ◌&&◌, if◌then◌else◌, All, List, [], ◌∷◌, ◌++◌, length, Option, Some, None, Result, Ok, Err, inl, inr, refl, sym, ◌∙◌, ap, subst, arith}
-use Rattle.std.proofs.lemmas.Bool.{cases_Bool, leb-false, ltb-false, ltb-true}
+use Rattle.std.proofs.lemmas.Bool.{cases_Bool, leb-false, lt-ltb, ltb-false, ltb-true}
 use Rattle.std.proofs.lemmas.List.{length-append}
 use Rattle.std.proofs.lemmas.List.Elements.{All-append, All-cons, All-nil, All-weaker}
 use Rattle.wg_num.specs.Lines.{lines_of}
@@ -22,7 +22,6 @@ use Rattle.wg_outcomes.specs.declared.status.WeightsFault.{WeightsFault}
 use Rattle.wg_outcomes.specs.declared.status.WeightsFault.TheVariants.{Numbers, Zero}
 use Rattle.wg_outcomes.specs.Ranked.{HoldWeights}
 use Rattle.wg_laws.proofs.HeldLemmas.{file_read}
-use Rattle.wg_outcomes.proofs.VerifyLemmas.{is_less}
 
 -- ---- numbers that were read are as many as are wanted, each below the limit
 
@@ -98,7 +97,7 @@ unless f = Err f
 
 positive : (n s : ℕ) → (nat_lt 0 n && nat_eq s 0) ≡ false → 0 < n → 0 < s
 positive zero s is some = absurd (omega (arith, some))
-positive (suc n) zero is some = absurd (let none : true ≡ false = subst (λ (b : Bool). (b && nat_eq 0 0) ≡ false) (is_less 0 (suc n) (omega arith)) is in cc)
+positive (suc n) zero is some = absurd (let none : true ≡ false = subst (λ (b : Bool). (b && nat_eq 0 0) ≡ false) (lt-ltb 0 (suc n) (omega arith)) is in cc)
 positive (suc n) (suc s) is some = omega arith
 
 pub weights_read : (n : ℕ) (bytes ws : List ℕ) → weights_in n bytes ≡ given_by ws → AreWeights n ws

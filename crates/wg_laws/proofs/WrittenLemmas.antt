@@ -1,5 +1,5 @@
 -- The certificate that a ranking writes is accepted.
-use Rattle.std.proofs.Common.{◌≡◌, ◌∙◌, ◌<◌, ◌≤◌, ◌+◌, ◌*◌, ◌^◌, ℕ, Bool, List, [], ◌∷◌, ◌++◌, length, codes, decimal, if◌then◌else◌, Option, Some, None, Result, refl, sym, ap, subst, arith}
+use Rattle.std.proofs.Common.{◌≡◌, ◌∙◌, ◌<◌, ◌≤◌, ◌+◌, ◌*◌, ◌^◌, ℕ, List, [], ◌∷◌, ◌++◌, length, codes, decimal, Option, Some, None, Result, refl, sym, ap, subst, arith}
 use Rattle.std.proofs.lemmas.Fmt.{length-decimal-le}
 use Rattle.std.proofs.lemmas.List.{length-append}
 use Rattle.wg_io.specs.declared.limits.TheConstants.{MOST_BYTES}
@@ -19,11 +19,10 @@ use Rattle.wg_rank.specs.declared.limits.TheConstants.{UNITS}
 use Rattle.wg_rank.proofs.Certificates.{complete}
 use Rattle.wg_rank.proofs.WrittenBack.{written_back}
 use Rattle.wg_words.specs.declared.jobs.Job.TheVariants.{Rank, Verify}
-use Rattle.wg_outcomes.specs.Judged.{Judged, accepted, certified, claim_then, refused, status_of, unless_bad_claim, weights_then, with_claim, with_digraph, with_file, with_parameters, with_records}
+use Rattle.wg_outcomes.specs.Judged.{Judged, accepted, certified, claim_then, status_of, unless_bad_claim, weights_then, with_claim, with_digraph, with_file, with_parameters, with_records}
 use Rattle.wg_outcomes.specs.Readings.{Readings}
 use Rattle.wg_outcomes.specs.declared.status.Input.{Input}
 use Rattle.wg_outcomes.specs.declared.status.Input.TheVariants as input
-use Rattle.wg_outcomes.specs.declared.status.Status.TheVariants.{OverLimit}
 use Rattle.wg_laws.specs.Certificates.{AreStill}
 use Rattle.wg_outcomes.specs.Commands.{judged, ranks}
 use Rattle.wg_outcomes.specs.Ranked.{bounds_after, certificate_text, ranking_text}
@@ -31,7 +30,8 @@ use Rattle.wg_outcomes.specs.Verified.{first_fall, unless_falls, verified_line, 
 use Rattle.wg_laws.proofs.ClaimLemmas.{right}
 use Rattle.wg_laws.proofs.HeldLemmas.{graph_behind}
 use Rattle.wg_outcomes.proofs.RankLemmas.{are_bounds, bounds_hold}
-use Rattle.wg_outcomes.proofs.VerifyLemmas.{none_falls, not_less}
+use Rattle.wg_outcomes.proofs.VerifyLemmas.{none_falls}
+use Rattle.wg_outcomes.proofs.FileLemmas.{file_goes}
 use Rattle.wg_laws.proofs.WeightsLemmas.{weights_behind}
 
 -- ---- the text of a claim is no longer than a file may be
@@ -60,10 +60,6 @@ short_text : (c : Claim) → IsClaim c → length (text_of_claim c) ≤ MOST_BYT
 short_text c is =
     in_all _ _ _ _ (length c.low) (three_parts (named_line (codes "damping ") c.damping) (named_line (codes "pages ") (length c.low)) (bound_lines c.low))
     (short_line (codes "damping ") c.damping (omega (arith, is.damped))) (short_line (codes "pages ") (length c.low) (omega (arith, is.few))) (lines_length c.low) is.few
-
--- ---- a file that is there, and not too long
-read_whole : (i : Input) (text : List ℕ) (next : List ℕ → Judged) → length text ≤ MOST_BYTES → with_file i (Some text) next ≡ next text
-read_whole i text next short = ap (λ (b : Bool). if b then refused (OverLimit i) else next text) (not_less MOST_BYTES (length text) short)
 
 same_text : (text out text' out' : List ℕ) → certified text out ≡ certified text' out' → text ≡ text'
 same_text text out text' out' is = cc is
@@ -108,7 +104,7 @@ module _ (r : Readings) (held after : Input → Option (List ℕ)) (still : AreS
               ∙ ap (λ (o : Option (List ℕ)). weights_then weights g.nodes o (on_given g)) still.weights
               ∙ heavy.goes_on (on_given g)
               ∙ ap (λ (o : Option (List ℕ)). claim_then g.nodes o on_claim) there
-              ∙ read_whole input.Certificate text (λ bytes. with_claim g.nodes bytes on_claim) short
+              ∙ file_goes input.Certificate text short (λ bytes. with_claim g.nodes bytes on_claim)
               ∙ ap (λ (w : Result Claim CertFault). unless_bad_claim w on_claim) read
               ∙ ap (λ (o : Option ℕ). unless_falls o (gap g (by_page b.low)) (on_gap claim)) none,
         )

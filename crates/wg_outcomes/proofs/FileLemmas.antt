@@ -1,5 +1,5 @@
 -- Files of an archive that was written.
-use Rattle.std.proofs.Common.{◌≡◌, ℕ, ◌+◌, ◌-◌, ◌≤◌, List, [], ◌∷◌, length, get_or, map, sum, nat_lt, ap, ◌∙◌, arith, Some}
+use Rattle.std.proofs.Common.{◌≡◌, ℕ, ◌+◌, ◌-◌, ◌≤◌, List, [], ◌∷◌, length, get_or, map, sum, nat_lt, ap, ◌∙◌, arith, Option, Some}
 use Rattle.std.proofs.lemmas.Bool.{cond-false, le-ltb}
 use Rattle.wg_io.specs.declared.limits.TheConstants.{MOST_BYTES}
 use Rattle.wg_params.specs.Parameters.{Parameters}
@@ -29,5 +29,8 @@ pub last_bit : (p : Parameters) (lists : List (List ℕ)) → last_place (places
 last_bit p lists = last_sum 0 (map length (record_bits p lists)) ∙ values_sum p lists
 
 -- a file that is not too long is read
-pub file_goes_on : (i : Input) (bytes : List ℕ) → length bytes ≤ MOST_BYTES → (next : List ℕ → Judged) → with_file i (Some bytes) next ≡ next bytes
-file_goes_on i bytes few next = cond-false (nat_lt MOST_BYTES (length bytes)) (refused (OverLimit i)) (next bytes) (le-ltb MOST_BYTES (length bytes) few)
+pub file_goes : (i : Input) (bytes : List ℕ) → length bytes ≤ MOST_BYTES → (next : List ℕ → Judged) → with_file i (Some bytes) next ≡ next bytes
+file_goes i bytes few next = cond-false (nat_lt MOST_BYTES (length bytes)) (refused (OverLimit i)) (next bytes) (le-ltb MOST_BYTES (length bytes) few)
+
+pub held_goes : (i : Input) (held : Option (List ℕ)) (bytes : List ℕ) → held ≡ Some bytes → length bytes ≤ MOST_BYTES → (next : List ℕ → Judged) → with_file i held next ≡ next bytes
+held_goes i held bytes is few next = ap (λ (o : Option (List ℕ)). with_file i o next) is ∙ file_goes i bytes few next

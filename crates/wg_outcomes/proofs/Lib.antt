@@ -3,7 +3,6 @@ pub mod FileLemmas
 pub mod PerformsLemmas
 pub mod RankLemmas
 pub mod Statuses
-pub mod SteadyLemmas
 pub mod SureLemmas
 pub mod VerifyLemmas
 pub mod WritingLemmas

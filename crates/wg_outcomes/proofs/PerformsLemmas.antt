@@ -1,5 +1,5 @@
 -- How a job is shown to have been done, or to have ended.
-use Rattle.std.proofs.Common.{◌≡◌, ◌⊎◌, inl, inr, ℕ, ◌<◌, length, Bool, true, false, if◌then◌else◌, List, ◌++◌, take, refl, sym, ◌∙◌, ap, subst, Option, Some, None, Result, Ok, Err}
+use Rattle.std.proofs.Common.{◌≡◌, ◌⊎◌, inl, inr, ℕ, ◌<◌, length, Bool, true, false, if◌then◌else◌, List, ◌++◌, take, refl, sym, ◌∙◌, ap, subst, Option, Some, None, Result, Ok, Err, [], arith}
 use Rattle.std.specs.Bool.{IsTrue}
 use Rattle.std.specs.Result.{IfErr}
 use Rattle.std.proofs.lemmas.List.{append-nil}
@@ -9,16 +9,16 @@ use Rattle.wg_io.specs.Puts.{Puts}
 use Rattle.wg_io.specs.declared.depot.Depot as depot
 use Rattle.wg_io.specs.declared.sink.Sink as sink
 use Rattle.wg_io.specs.declared.output.Output.{Output}
-use Rattle.wg_io.specs.declared.output.Output.TheVariants.{Out, Properties, Graph, Offsets, Certificate}
+use Rattle.wg_io.specs.declared.output.Output.TheVariants.{Out, Certificate}
 use Rattle.wg_words.specs.declared.jobs.Job.{Job}
 use Rattle.wg_words.specs.declared.jobs.Job.TheVariants.{Bulk}
 use Rattle.wg_vectors.specs.Generated.{generated}
 use Rattle.wg_outcomes.specs.Bulk.{outcome_of, outcome_text}
 use Rattle.wg_outcomes.specs.Reached.{Reaches}
-use Rattle.wg_outcomes.specs.Answers.{Answers, HasOutput, IsPutLast, IsUnput, status_in}
+use Rattle.wg_outcomes.specs.Answers.{Answers, HasOutput, IsPutLast, IsUnput, status_in, IsHindrance, Steps}
 use Rattle.wg_outcomes.specs.Causes.{AreFaultless, HasCause, IncreasedAt}
 use Rattle.wg_outcomes.specs.Commands.{judged, written_by}
-use Rattle.wg_outcomes.specs.Judged.{Judged, accepted, files_of, output_of, status_of, Written, an_archive, a_certificate}
+use Rattle.wg_outcomes.specs.Judged.{Judged, accepted, files_of, output_of, status_of, Written, an_archive, a_certificate, refused}
 use Rattle.wg_encoder.specs.Archive.{Archive}
 use Rattle.wg_outcomes.specs.Promised.{ArePromised, promised_in}
 use Rattle.wg_outcomes.specs.JobFiles.{can_end, has_input, input_name, output_name, writes_files}
@@ -30,8 +30,8 @@ use Rattle.wg_outcomes.specs.Written.{AreAllWhole, ArchiveFiles, CertificateAfte
 use Rattle.wg_outcomes.specs.declared.ending.Ending.{Ending}
 use Rattle.wg_outcomes.specs.declared.status.Input.{Input}
 use Rattle.wg_outcomes.specs.declared.status.Status.{Status}
-use Rattle.wg_outcomes.specs.declared.status.Status.TheVariants.{Done, Usage, Memory, ReadFault, WriteFault, Missing, BadArcs, BadProperties, BadArchive, BadSecond, TooManyArcs, NoPage, OverLimit, BadWeights, BadText, BadMap, BadCertificate}
-use Rattle.wg_outcomes.proofs.Statuses.{cause_named, unput_cause}
+use Rattle.wg_outcomes.specs.declared.status.Status.TheVariants.{Done, Memory, ReadFault, WriteFault, Usage}
+use Rattle.wg_outcomes.proofs.Statuses.{IsRead, IsStop, by_input, by_put, cause_named, unput_cause}
 
 -- ---- what is said of a job is said of an equal one
 pub performs_at : (j k : Job) (td to : Bool) (before after : Outside) (s t : Status) (a b : ℕ) → j ≡ k → s ≡ t → a ≡ b
@@ -63,79 +63,32 @@ files_same job none before after s same r =
 pub nothing_whole : (job : Job) → writes_files job ≡ false → (r : Readings) (held : Input → Option (List ℕ)) (files : Files) → AreAllWhole (output_name job) (written_by r job held) files
 nothing_whole job none r held files = subst (λ (a : Option Written). AreAllWhole (output_name job) a files) (sym (written_none r job held none)) tt
 
--- a status before any output
-abbrev pub IsStop : Status → Type 0
-IsStop Done = ⊥
-IsStop (WriteFault o) = ⊥
-IsStop _ = Unit {0}
-
 pub stop_output : (due old new : List ℕ) (s : Status) → IsStop s → new ≡ old → HasOutput due old new s
 stop_output due old new Done stop same = absurd stop
 stop_output due old new (WriteFault o) stop same = absurd stop
 stop_output due old new Memory stop same = (0, same ∙ sym (append-nil old))
 stop_output due old new (ReadFault i) stop same = (0, same ∙ sym (append-nil old))
-stop_output due old new Usage stop same = same
-stop_output due old new (Missing i) stop same = same
-stop_output due old new (BadArcs line kind) stop same = same
-stop_output due old new (BadProperties f) stop same = same
-stop_output due old new (BadArchive f) stop same = same
-stop_output due old new (BadSecond f) stop same = same
-stop_output due old new TooManyArcs stop same = same
-stop_output due old new (NoPage page) stop same = same
-stop_output due old new (OverLimit i) stop same = same
-stop_output due old new (BadWeights f) stop same = same
-stop_output due old new (BadText line kind) stop same = same
-stop_output due old new (BadMap f) stop same = same
-stop_output due old new (BadCertificate f) stop same = same
+stop_output due old new _ stop same = same
 
 -- the files before any of them was touched
 kept_after : (a : Archive) (old new : ArchiveFiles) (s : Status) → IsStop s → new ≡ old → FilesAfter a old new s
 kept_after a old new Done stop same = absurd stop
 kept_after a old new (WriteFault o) stop same = absurd stop
 kept_after a old new Memory stop same = inl (inl same)
-kept_after a old new (ReadFault i) stop same = same
-kept_after a old new Usage stop same = same
-kept_after a old new (Missing i) stop same = same
-kept_after a old new (BadArcs line kind) stop same = same
-kept_after a old new (BadProperties f) stop same = same
-kept_after a old new (BadArchive f) stop same = same
-kept_after a old new (BadSecond f) stop same = same
-kept_after a old new TooManyArcs stop same = same
-kept_after a old new (NoPage page) stop same = same
-kept_after a old new (OverLimit i) stop same = same
-kept_after a old new (BadWeights f) stop same = same
-kept_after a old new (BadText line kind) stop same = same
-kept_after a old new (BadMap f) stop same = same
-kept_after a old new (BadCertificate f) stop same = same
+kept_after a old new _ stop same = same
 
 -- a certificate before it was touched
 certificate_kept : (text : List ℕ) (old new : Option (List ℕ)) (s : Status) → IsStop s → new ≡ old → CertificateAfter text old new s
 certificate_kept text old new Done stop same = absurd stop
 certificate_kept text old new (WriteFault o) stop same = absurd stop
 certificate_kept text old new Memory stop same = inl same
-certificate_kept text old new (ReadFault i) stop same = same
-certificate_kept text old new Usage stop same = same
-certificate_kept text old new (Missing i) stop same = same
-certificate_kept text old new (BadArcs line kind) stop same = same
-certificate_kept text old new (BadProperties f) stop same = same
-certificate_kept text old new (BadArchive f) stop same = same
-certificate_kept text old new (BadSecond f) stop same = same
-certificate_kept text old new TooManyArcs stop same = same
-certificate_kept text old new (NoPage page) stop same = same
-certificate_kept text old new (OverLimit i) stop same = same
-certificate_kept text old new (BadWeights f) stop same = same
-certificate_kept text old new (BadText line kind) stop same = same
-certificate_kept text old new (BadMap f) stop same = same
-certificate_kept text old new (BadCertificate f) stop same = same
+certificate_kept text old new _ stop same = same
 
 files_kept : (names : Output → Option (List ℕ)) (a : Option Written) (old new : Files) (s : Status) → IsStop s → new ≡ old → HasFiles names a old new s
 files_kept names None old new s stop same = same
 files_kept names (Some (a_certificate text)) old new s stop same =
     (λ name other. ap (λ (f : Files). map.get f name) same, certificate_kept text _ _ s stop (ap (λ (f : Files). content_of f (names Certificate)) same))
 files_kept names (Some (an_archive a)) old new s stop same = (λ name other. ap (λ (f : Files). map.get f name) same, kept_after a _ _ s stop (ap (archive_at names) same))
-
-no_fault : (s : Status) (o : Output) → IsStop s → s ≡ WriteFault o → ⊥
-no_fault s o stop is = subst IsStop is stop
 
 -- a job that was stopped before it wrote anything
 pub stopped : (job : Job) (td to : Bool) (before after : Outside) (s : Status) (a : ℕ)
@@ -152,7 +105,7 @@ stopped job td to before after s a stop silent same answers possible causes reac
   possible = possible;
   causes = causes;
   reached = reached;
-  needed = λ t r o is. absurd (no_fault s o stop is);
+  needed = λ t r o is. absurd (subst IsStop is stop);
   output = λ t o r. stop_output _ before.taken after.taken s stop silent;
   silent = λ apart. inr (inr silent);
   printed_last = λ t r want. inl silent;
@@ -171,30 +124,10 @@ output_put due text old new (Err e) is put (inl fault) =
     subst (λ (s : Status). HasOutput due old new s) (sym fault) (put.0, subst (λ (l : List ℕ). put.0 < length l) is put.1, put.2 ∙ ap (λ (l : List ℕ). old ++ take put.0 l) is)
 output_put due text old new (Err e) is put (inr want) = subst (λ (s : Status). HasOutput due old new s) (sym want) (put.0, put.2 ∙ ap (λ (l : List ℕ). old ++ take put.0 l) is)
 
-put_possible : (job : Job) (r : Result (Unit {0}) Ending) → IfErr r (λ e. IsUnput e.status) → IsTrue (can_end job (status_in r))
-put_possible job (Ok done) only = refl
-put_possible job (Err e) (inl fault) = subst (λ (s : Status). IsTrue (can_end job s)) (sym fault) refl
-put_possible job (Err e) (inr want) = subst (λ (s : Status). IsTrue (can_end job s)) (sym want) refl
-
-put_answers : (j : Judged) (text : List ℕ) (r : Result (Unit {0}) Ending) → j ≡ accepted text → IfErr r (λ e. IsUnput e.status) → Answers j (status_in r)
-put_answers j text (Ok done) is only = inl (sym (ap status_of is))
-put_answers j text (Err e) is (inl fault) = subst (λ (s : Status). Answers j s) (sym fault) (inr tt)
-put_answers j text (Err e) is (inr want) = subst (λ (s : Status). Answers j s) (sym want) (inr tt)
-
-put_promised : (held : Input → Option (List ℕ)) (r : Result (Unit {0}) Ending) → IfErr r (λ e. IsUnput e.status) → ArePromised held (status_in r) (promised_in r)
-put_promised held (Ok done) only = tt
-put_promised held (Err e) (inl fault) = subst (λ (s : Status). ArePromised held s e.promised) (sym fault) tt
-put_promised held (Err e) (inr want) = subst (λ (s : Status). ArePromised held s e.promised) (sym want) tt
-
 -- it is the last
 pub put_last : (r : Result (Unit {0}) Ending) (old new : List ℕ) → IfErr r (λ e. IsUnput e.status) → IsPutLast (status_in r) old new
 put_last (Ok done) old new only = inl refl
 put_last (Err e) old new only = inr (inl only)
-
-put_reads : (r : Result (Unit {0}) Ending) (i : Input) → IfErr r (λ e. IsUnput e.status) → status_in r ≡ ReadFault i → ⊥
-put_reads (Ok done) i only is = let no : Done ≡ ReadFault i = is in cc
-put_reads (Err e) i (inl fault) is = let no : WriteFault Out ≡ ReadFault i = sym fault ∙ is in cc
-put_reads (Err e) i (inr want) is = let no : Memory ≡ ReadFault i = sym want ∙ is in cc
 
 -- all was judged, and this text is put out
 pub printed_by : (job : Job) (td to : Bool) (before after : Outside) (text : Readings → List ℕ) (r : Result (Unit {0}) Ending) → writes_files job ≡ false
@@ -206,10 +139,10 @@ pub printed_by : (job : Job) (td to : Bool) (before after : Outside) (text : Rea
     → (status_in r ≡ WriteFault Out → Increased before.faults after.faults)
     → Performs job td to before after (status_in r) (promised_in r)
 printed_by job td to before after text r none is same later puts only cause = record {
-  answers = λ t q. put_answers _ (text q) r (is t q) only;
-  possible = put_possible job r only;
+  answers = λ t q. by_put (Answers (judged_on q job before.files)) r only (inl (sym (ap status_of (is t q)))) (inr tt) (inr tt);
+  possible = by_put (λ s. IsTrue (can_end job s)) r only refl refl refl;
   causes = unput_cause _ _ _ _ _ _ r only cause;
-  reached = λ t q i fault. absurd (put_reads r i only fault);
+  reached = λ t q i fault. absurd (subst IsRead fault (by_put IsRead r only tt tt tt));
   needed = λ t q o fault. ap status_of (is t q);
   output = λ t o q. output_put _ (text q) _ _ r (sym (ap output_of (is t q))) (puts o q) only;
   silent = λ apart. put_last r before.taken after.taken only;
@@ -217,43 +150,19 @@ printed_by job td to before after text r none is same later puts only cause = re
   files = λ t q. files_same job none before after (status_in r) same q;
   same = λ is. same;
   later = later;
-  promised = λ t. put_promised (held_by (input_name job) before.files) r only;
+  promised = λ t. by_put (λ s. ArePromised (held_by (input_name job) before.files) s (promised_in r)) r only tt tt tt;
 }
-
--- the same, where the text is one whatever the readings are
-pub printed : (job : Job) (td to : Bool) (before after : Outside) (text : List ℕ) (r : Result (Unit {0}) Ending) → writes_files job ≡ false
-    → (IsTrue td → (q : Readings) → judged_on q job before.files ≡ accepted text)
-    → after.files ≡ before.files
-    → NonDecreasing before.counts after.counts
-    → (IsTrue to → Puts text before.taken after.taken r)
-    → IfErr r (λ e. IsUnput e.status)
-    → (status_in r ≡ WriteFault Out → Increased before.faults after.faults)
-    → Performs job td to before after (status_in r) (promised_in r)
-printed job td to before after text r none is same later puts only cause =
-    printed_by job td to before after (λ q. text) r none is same later (λ o q. puts o) only cause
 
 -- ---- a job that was stopped where it reads an input
 abbrev pub Names : Type 0
 Names = Input → Option (List ℕ)
 
-unread_stop : (i : Input) (s : Status) → IsOfInput i s → IsStop s
-unread_stop i s (inl want) = subst IsStop (sym want) tt
-unread_stop i s (inr (inl fault)) = subst IsStop (sym fault) tt
-unread_stop i s (inr (inr (inl gone))) = subst IsStop (sym gone) tt
-unread_stop i s (inr (inr (inr long))) = subst IsStop (sym long) tt
-
 pub unread_possible : (job : Job) (i : Input) (s : Status) → IsTrue (has_input job i) → IsOfInput i s → IsTrue (can_end job s)
-unread_possible job i s has (inl want) = subst (λ (x : Status). IsTrue (can_end job x)) (sym want) refl
-unread_possible job i s has (inr (inl fault)) = subst (λ (x : Status). IsTrue (can_end job x)) (sym fault) has
-unread_possible job i s has (inr (inr (inl gone))) = subst (λ (x : Status). IsTrue (can_end job x)) (sym gone) has
-unread_possible job i s has (inr (inr (inr long))) = subst (λ (x : Status). IsTrue (can_end job x)) (sym long) has
+unread_possible job i s has only = by_input (λ x. IsTrue (can_end job x)) i s only refl has has has
 
 -- its line names nothing that is promised
 pub unread_promised : (held : Names) (i : Input) (s : Status) (a : ℕ) → IsOfInput i s → ArePromised held s a
-unread_promised held i s a (inl want) = subst (λ (x : Status). ArePromised held x a) (sym want) tt
-unread_promised held i s a (inr (inl fault)) = subst (λ (x : Status). ArePromised held x a) (sym fault) tt
-unread_promised held i s a (inr (inr (inl gone))) = subst (λ (x : Status). ArePromised held x a) (sym gone) tt
-unread_promised held i s a (inr (inr (inr long))) = subst (λ (x : Status). ArePromised held x a) (sym long) tt
+unread_promised held i s a only = by_input (λ x. ArePromised held x a) i s only tt tt tt tt
 
 -- an input was not read, which is named by this naming too
 pub unread : (names : Names) (i : Input) (job : Job) (td to : Bool) (before after : Outside) (s : Status) (a : ℕ)
@@ -266,7 +175,7 @@ pub unread : (names : Names) (i : Input) (job : Job) (td to : Bool) (before afte
     → (IsTrue td → (r : Readings) (j : Input) → s ≡ ReadFault j → Reaches r job (held_by (input_name job) before.files) j)
     → Performs job td to before after s a
 unread names i job td to before after s a has named silent only cause same later answers reached =
-    stopped job td to before after s a (unread_stop i s only) silent same answers (unread_possible job i s has only)
+    stopped job td to before after s a (by_input IsStop i s only tt tt tt tt) silent same answers (unread_possible job i s has only)
     (cause_named i s names (input_name job) (output_name job) before.counts after.counts before.faults after.faults only named cause)
     reached later (λ t. unread_promised (held_by (input_name job) before.files) i s a only)
 
@@ -278,10 +187,7 @@ not_at count (Some n) old new none more = none n more
 module _ (inputs : Names) (outputs : Output → Option (List ℕ)) (old new : List ℕ → Counts) (faults faults' : ℕ) (none : AreFaultless old new faults faults') where
   pub no_fault_in : (o : Output) → HasCause inputs outputs old new faults faults' (WriteFault o) → ⊥
   no_fault_in Out cause = none.output (cause.out_fault refl)
-  no_fault_in Properties cause = not_at (λ c. c.write_faults) (outputs Properties) old new none.writes (cause.write_fault Properties (λ same. cc) refl)
-  no_fault_in Graph cause = not_at (λ c. c.write_faults) (outputs Graph) old new none.writes (cause.write_fault Graph (λ same. cc) refl)
-  no_fault_in Offsets cause = not_at (λ c. c.write_faults) (outputs Offsets) old new none.writes (cause.write_fault Offsets (λ same. cc) refl)
-  no_fault_in Certificate cause = not_at (λ c. c.write_faults) (outputs Certificate) old new none.writes (cause.write_fault Certificate (λ same. cc) refl)
+  no_fault_in o cause = not_at (λ c. c.write_faults) (outputs o) old new none.writes (cause.write_fault o (λ same. cc) refl)
 
   -- memory alone comes in the place of the judgement
   pub unhindered : (j : Judged) (s : Status) → HasCause inputs outputs old new faults faults' s → Answers j s → (s ≡ status_of j) ⊎ (s ≡ Memory)
@@ -289,17 +195,39 @@ module _ (inputs : Names) (outputs : Output → Option (List ℕ)) (old new : Li
   unhindered j Memory cause (inr hinders) = inr refl
   unhindered j (ReadFault i) cause (inr hinders) = absurd (not_at (λ c. c.read_faults) (inputs i) old new none.reads (cause.read_fault i refl))
   unhindered j (WriteFault o) cause (inr hinders) = absurd (no_fault_in o cause)
-  unhindered j Done cause (inr hinders) = absurd hinders
-  unhindered j Usage cause (inr hinders) = absurd hinders
-  unhindered j (Missing i) cause (inr hinders) = absurd hinders
-  unhindered j (BadArcs line kind) cause (inr hinders) = absurd hinders
-  unhindered j (BadProperties f) cause (inr hinders) = absurd hinders
-  unhindered j (BadArchive f) cause (inr hinders) = absurd hinders
-  unhindered j (BadSecond f) cause (inr hinders) = absurd hinders
-  unhindered j TooManyArcs cause (inr hinders) = absurd hinders
-  unhindered j (NoPage page) cause (inr hinders) = absurd hinders
-  unhindered j (OverLimit i) cause (inr hinders) = absurd hinders
-  unhindered j (BadWeights f) cause (inr hinders) = absurd hinders
-  unhindered j (BadText line kind) cause (inr hinders) = absurd hinders
-  unhindered j (BadMap f) cause (inr hinders) = absurd hinders
-  unhindered j (BadCertificate f) cause (inr hinders) = absurd hinders
+  unhindered j _ cause (inr hinders) = absurd hinders
+
+-- ---- files in memory are never at fault, so that memory alone can hinder a step
+-- a count that stays 0
+still : ¬ Increased 0 0
+still (inl more) = omega (arith, more)
+still (inr last) = omega (arith, last)
+
+pub faultless : (old new : List ℕ → Counts) → ((n : List ℕ) → ((old n).read_faults ≡ 0) × ((new n).read_faults ≡ 0) × ((old n).write_faults ≡ 0) × ((new n).write_faults ≡ 0)) → AreFaultless old new 0 0
+faultless old new zeros = record {
+  reads = λ n more. still (subst (λ (k : ℕ). Increased k 0) (zeros n).0 (subst (λ (k : ℕ). Increased (old n).read_faults k) (zeros n).1 more));
+  writes = λ n more. still (subst (λ (k : ℕ). Increased k 0) (zeros n).2 (subst (λ (k : ℕ). Increased (old n).write_faults k) (zeros n).3 more));
+  output = still;
+}
+
+-- a step that goes on, whatever comes next, is not refused
+pub hindered : {B : Type 0} (step : (B → Judged) → Judged) (b : B) (e : Ending) → ((next : B → Judged) → step next ≡ next b) → Steps {B = B} step (Err e) → IsHindrance e.status
+hindered step b e goes ends =
+    let done : (e.status ≡ Done) ⊎ IsHindrance e.status = subst (λ (j : Judged). Answers j e.status) (goes (λ x. accepted [])) (ends (λ x. accepted [])) in
+    let usage : (e.status ≡ Usage) ⊎ IsHindrance e.status = subst (λ (j : Judged). Answers j e.status) (goes (λ x. refused Usage)) (ends (λ x. refused Usage)) in
+    elim done [
+      | inl is ↦ elim usage [
+        | inl other ↦ absurd (let no : Done ≡ Usage = sym is ∙ other in cc)
+        | inr h ↦ h
+      ]
+      | inr h ↦ h
+    ]
+
+module _ (inputs : Names) (outputs : Output → Option (List ℕ)) (old new : List ℕ → Counts) (none : AreFaultless old new 0 0) where
+  -- what came in its place is want of memory
+  pub by_memory : (s : Status) → HasCause inputs outputs old new 0 0 s → IsHindrance s → s ≡ Memory
+  by_memory s cause hinders =
+      elim (unhindered inputs outputs old new 0 0 none (accepted []) s cause (inr hinders)) [
+        | inl is ↦ absurd (subst IsHindrance is hinders)
+        | inr is ↦ is
+      ]

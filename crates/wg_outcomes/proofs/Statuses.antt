@@ -1,14 +1,16 @@
 -- What a status tells by itself, however the job has come to it.
-use Rattle.std.proofs.Common.{◌≡◌, ◌≢◌, ◌≤◌, inl, inr, ℕ, List, sym, ◌∙◌, subst, Option, Some, None, Result, Ok, Err, arith}
+use Rattle.std.proofs.Common.{◌≡◌, ◌≢◌, ◌≤◌, inl, inr, ℕ, List, sym, ◌∙◌, subst, refl, ap, Option, Some, None, Result, Ok, Err, arith}
 use Rattle.std.specs.Result.{IfErr}
 use Rattle.wg_io.specs.Outside.{Counts, Increased}
 use Rattle.wg_io.specs.declared.output.Output.{Output}
 use Rattle.wg_io.specs.declared.output.Output.TheVariants.{Out}
 use Rattle.wg_io.proofs.PutsLemmas.{not_rose, rose_on}
+use Rattle.wg_grammar.specs.declared.fault.ArchiveFault.{ArchiveFault}
 use Rattle.wg_outcomes.specs.Answers.{IsHindrance, IsUnput, status_in}
 use Rattle.wg_outcomes.specs.Causes.{HasCause, IncreasedAt}
 use Rattle.wg_outcomes.specs.Names.{IsOfInput, no_outputs}
 use Rattle.wg_outcomes.specs.Promised.{IsStopAt, IsBadFile}
+use Rattle.wg_outcomes.specs.Written.{IsStopped, IsStoppedAt}
 use Rattle.wg_outcomes.specs.declared.ending.Ending.{Ending}
 use Rattle.wg_outcomes.specs.declared.status.Input.{Input}
 use Rattle.wg_outcomes.specs.declared.status.Status.{Status}
@@ -19,13 +21,60 @@ pub rose_late : (count : Counts → ℕ) (name : Option (List ℕ)) (a b c : Lis
 rose_late count None a b c on h = h
 rose_late count (Some n) a b c on h = rose_on _ _ _ _ (on n) h (omega arith)
 
--- ---- nothing outside is the cause
+-- ---- what is said of each way to end is said of the status
+module _ (P : Status → Type 0) where
+  pub by_stop : (o : Output) (s : Status) → IsStoppedAt o s → P (WriteFault o) → P Memory → P s
+  by_stop o s (inl fault) at_fault at_want = subst P (sym fault) at_fault
+  by_stop o s (inr want) at_fault at_want = subst P (sym want) at_want
 
+  pub by_stopped : (s : Status) → IsStopped s → ((o : Output) → P (WriteFault o)) → P Memory → P s
+  by_stopped s (inl fault) at_fault at_want = subst P (sym fault.1) (at_fault fault.0)
+  by_stopped s (inr want) at_fault at_want = subst P (sym want) at_want
+
+  pub by_input : (i : Input) (s : Status) → IsOfInput i s → P Memory → P (ReadFault i) → P (Missing i) → P (OverLimit i) → P s
+  by_input i s (inl want) at_want at_fault at_gone at_long = subst P (sym want) at_want
+  by_input i s (inr (inl fault)) at_want at_fault at_gone at_long = subst P (sym fault) at_fault
+  by_input i s (inr (inr (inl gone))) at_want at_fault at_gone at_long = subst P (sym gone) at_gone
+  by_input i s (inr (inr (inr long))) at_want at_fault at_gone at_long = subst P (sym long) at_long
+
+  pub by_bad : (i : Input) (n : ℕ) (e : Ending) → IsBadFile i n e → P Memory → ((f : ArchiveFault) → P (BadArchive f)) → P e.status
+  by_bad i n e (inl want) at_want at_fault = subst P (sym want) at_want
+  by_bad i n e (inr fault) at_want at_fault = subst P (sym fault.2) (at_fault fault.0)
+
+  pub by_put : (r : Result (Unit {0}) Ending) → IfErr r (λ e. IsUnput e.status) → P Done → P (WriteFault Out) → P Memory → P (status_in r)
+  by_put (Ok done) only at_done at_fault at_want = at_done
+  by_put (Err e) only at_done at_fault at_want = by_stop Out e.status only at_fault at_want
+
+  pub by_written : (r : Result (Unit {0}) Ending) → IfErr r (λ e. IsStopped e.status) → P Done → ((o : Output) → P (WriteFault o)) → P Memory → P (status_in r)
+  by_written (Ok done) only at_done at_fault at_want = at_done
+  by_written (Err e) only at_done at_fault at_want = by_stopped e.status only at_fault at_want
+
+-- ---- what a status tells of the outside
+
+-- nothing outside is the cause
 abbrev pub IsOwn : Status → Type 0
 IsOwn (ReadFault i) = ⊥
 IsOwn (Missing i) = ⊥
 IsOwn (WriteFault o) = ⊥
 IsOwn _ = Unit {0}
+
+-- no input is
+abbrev pub IsRead : Status → Type 0
+IsRead (ReadFault i) = ⊥
+IsRead (Missing i) = ⊥
+IsRead _ = Unit {0}
+
+-- it comes before any output
+abbrev pub IsStop : Status → Type 0
+IsStop Done = ⊥
+IsStop (WriteFault o) = ⊥
+IsStop _ = Unit {0}
+
+-- no other input is
+abbrev pub IsOnly : Input → Status → Type 0
+IsOnly i (ReadFault j) = i ≡ j
+IsOnly i (Missing j) = i ≡ j
+IsOnly i _ = Unit {0}
 
 module _ (names : Input → Option (List ℕ)) (outputs : Output → Option (List ℕ)) (old new : List ℕ → Counts) (f f' : ℕ) where
   pub own_caused : (s : Status) → IsOwn s → HasCause names outputs old new f f' s
@@ -37,79 +86,72 @@ module _ (names : Input → Option (List ℕ)) (outputs : Output → Option (Lis
   }
 
   -- ---- an output is
-  pub fault_caused : (s : Status) (at : Output) → s ≡ WriteFault at → ((o : Output) → o ≢ Out → s ≡ WriteFault o → IncreasedAt (λ c. c.write_faults) (outputs o) old new)
+  pub fault_caused : (s : Status) → IsRead s → ((o : Output) → o ≢ Out → s ≡ WriteFault o → IncreasedAt (λ c. c.write_faults) (outputs o) old new)
       → (s ≡ WriteFault Out → Increased f f') → HasCause names outputs old new f f' s
-  fault_caused s at is files out = record {
-    read_fault = λ i no. absurd (let never : WriteFault at ≡ ReadFault i = sym is ∙ no in cc);
-    missing = λ i no. absurd (let never : WriteFault at ≡ Missing i = sym is ∙ no in cc);
+  fault_caused s read files out = record {
+    read_fault = λ i is. absurd (subst IsRead is read);
+    missing = λ i is. absurd (subst IsRead is read);
     write_fault = files;
     out_fault = out;
   }
 
   -- a last step that only the output can end
   pub unput_cause : (r : Result (Unit {0}) Ending) → IfErr r (λ e. IsUnput e.status) → (status_in r ≡ WriteFault Out → Increased f f') → HasCause names outputs old new f f' (status_in r)
-  unput_cause (Ok done) only rose = own_caused Done tt
-  unput_cause (Err e) (inl fault) rose =
-      fault_caused e.status Out fault (λ o other is. absurd (other (let same : WriteFault o ≡ WriteFault Out = sym is ∙ fault in cc))) rose
-  unput_cause (Err e) (inr want) rose = own_caused e.status (subst IsOwn (sym want) tt)
+  unput_cause r only rose =
+      fault_caused (status_in r) (by_put IsRead r only tt tt tt)
+      (λ o other is. absurd (by_put (λ s. s ≡ WriteFault o → ⊥) r only (λ (no : Done ≡ WriteFault o). cc) (λ (same : WriteFault Out ≡ WriteFault o). other cc) (λ (no : Memory ≡ WriteFault o). cc) is)) rose
 
   -- ---- an input is, which has this name
   module _ (i : Input) (name : List ℕ) (named : names i ≡ Some name) where
+    at_name : (count : Counts → ℕ) (j : Input) → i ≡ j → Increased (count (old name)) (count (new name)) → IncreasedAt count (names j) old new
+    at_name count j same rose = subst (λ (m : Option (List ℕ)). IncreasedAt count m old new) (sym named ∙ ap names same) rose
+
     pub failed_caused : Increased (old name).read_faults (new name).read_faults → HasCause names outputs old new f f' (ReadFault i)
     failed_caused rose = record {
-      read_fault = λ j is.
-          let same : i ≡ j = cc in
-          subst (λ (k : Input). IncreasedAt (λ c. c.read_faults) (names k) old new) same (subst (λ (m : Option (List ℕ)). IncreasedAt (λ c. c.read_faults) m old new) (sym named) rose);
+      read_fault = λ j is. at_name (λ c. c.read_faults) j (subst (IsOnly i) is refl) rose;
       missing = λ j is. absurd (let no : ReadFault i ≡ Missing j = is in cc);
-      write_fault = λ o other is. absurd (let no : ReadFault i ≡ WriteFault o = is in cc);
-      out_fault = λ is. absurd (let no : ReadFault i ≡ WriteFault Out = is in cc);
+      write_fault = λ o other is. absurd (subst IsStop is tt);
+      out_fault = λ is. absurd (subst IsStop is tt);
     }
 
     pub absent_caused : Increased (old name).absences (new name).absences → HasCause names outputs old new f f' (Missing i)
     absent_caused rose = record {
       read_fault = λ j is. absurd (let no : Missing i ≡ ReadFault j = is in cc);
-      missing = λ j is.
-          let same : i ≡ j = cc in
-          subst (λ (k : Input). IncreasedAt (λ c. c.absences) (names k) old new) same (subst (λ (m : Option (List ℕ)). IncreasedAt (λ c. c.absences) m old new) (sym named) rose);
-      write_fault = λ o other is. absurd (let no : Missing i ≡ WriteFault o = is in cc);
-      out_fault = λ is. absurd (let no : Missing i ≡ WriteFault Out = is in cc);
+      missing = λ j is. at_name (λ c. c.absences) j (subst (IsOnly i) is refl) rose;
+      write_fault = λ o other is. absurd (subst IsStop is tt);
+      out_fault = λ is. absurd (subst IsStop is tt);
     }
 
 -- ---- a file is at fault
 module _ (i : Input) (n : ℕ) (e : Ending) where
   pub bad_own : IsBadFile i n e → IsOwn e.status
-  bad_own (inl want) = subst IsOwn (sym want) tt
-  bad_own (inr fault) = subst IsOwn (sym fault.2) tt
+  bad_own bad = by_bad IsOwn i n e bad tt (λ f. tt)
 
   pub bad_unread : (j : Input) → IsBadFile i n e → e.status ≡ ReadFault j → ⊥
   bad_unread j bad is = subst IsOwn is (bad_own bad)
 
+  -- a stop at a file is not the end of a job that was done
+  pub never_done : IsStopAt i n e → e.status ≡ Done → ⊥
+  never_done (inl only) is = subst IsStop is (by_input IsStop i e.status only tt tt tt tt)
+  never_done (inr bad) is = subst IsStop is (by_bad IsStop i n e bad tt (λ f. tt))
+
 -- ---- an input was not read
 module _ (i : Input) (s : Status) where
+  is_only : IsOfInput i s → IsOnly i s
+  is_only only = by_input (IsOnly i) i s only tt refl refl tt
+
   pub no_write : (o : Output) → IsOfInput i s → s ≡ WriteFault o → ⊥
-  no_write o (inl want) is = let no : Memory ≡ WriteFault o = sym want ∙ is in cc
-  no_write o (inr (inl fault)) is = let no : ReadFault i ≡ WriteFault o = sym fault ∙ is in cc
-  no_write o (inr (inr (inl gone))) is = let no : Missing i ≡ WriteFault o = sym gone ∙ is in cc
-  no_write o (inr (inr (inr long))) is = let no : OverLimit i ≡ WriteFault o = sym long ∙ is in cc
+  no_write o only is = subst IsStop is (by_input IsStop i s only tt tt tt tt)
 
   pub own_read : (j : Input) → IsOfInput i s → s ≡ ReadFault j → i ≡ j
-  own_read j (inl want) is = absurd (let no : Memory ≡ ReadFault j = sym want ∙ is in cc)
-  own_read j (inr (inl fault)) is = let same : ReadFault i ≡ ReadFault j = sym fault ∙ is in cc
-  own_read j (inr (inr (inl gone))) is = absurd (let no : Missing i ≡ ReadFault j = sym gone ∙ is in cc)
-  own_read j (inr (inr (inr long))) is = absurd (let no : OverLimit i ≡ ReadFault j = sym long ∙ is in cc)
-
-  own_missing : (j : Input) → IsOfInput i s → s ≡ Missing j → i ≡ j
-  own_missing j (inl want) is = absurd (let no : Memory ≡ Missing j = sym want ∙ is in cc)
-  own_missing j (inr (inl fault)) is = absurd (let no : ReadFault i ≡ Missing j = sym fault ∙ is in cc)
-  own_missing j (inr (inr (inl gone))) is = let same : Missing i ≡ Missing j = sym gone ∙ is in cc
-  own_missing j (inr (inr (inr long))) is = absurd (let no : OverLimit i ≡ Missing j = sym long ∙ is in cc)
+  own_read j only is = subst (IsOnly i) is (is_only only)
 
   -- the cause of a reading, by another naming of the same input
   pub cause_named : (mine yours : Input → Option (List ℕ)) (outputs : Output → Option (List ℕ)) (old new : List ℕ → Counts) (f f' : ℕ) → IsOfInput i s → yours i ≡ mine i
       → HasCause mine no_outputs old new 0 0 s → HasCause yours outputs old new f f' s
   cause_named mine yours outputs old new f f' only same cause = record {
     read_fault = λ j is. moved (λ c. c.read_faults) j (own_read j only is) (cause.read_fault j is);
-    missing = λ j is. moved (λ c. c.absences) j (own_missing j only is) (cause.missing j is);
+    missing = λ j is. moved (λ c. c.absences) j (subst (IsOnly i) is (is_only only)) (cause.missing j is);
     write_fault = λ o other is. absurd (no_write o only is);
     out_fault = λ is. absurd (no_write Out only is);
   }
@@ -122,16 +164,6 @@ module _ (i : Input) (s : Status) where
 pub any_faults : (names : Input → Option (List ℕ)) (outputs : Output → Option (List ℕ)) (old new : List ℕ → Counts) (f f' : ℕ) (s : Status) → HasCause names outputs old new 0 0 s → HasCause names outputs old new f f' s
 any_faults names outputs old new f f' s h = record { read_fault = h.read_fault; missing = h.missing; write_fault = h.write_fault; out_fault = λ is. not_rose (h.out_fault is) }
 
--- ---- a stop at a file is not the end of a job that was done
-pub never_done : (i : Input) (n : ℕ) (e : Ending) → IsStopAt i n e → e.status ≡ Done → ⊥
-never_done i n e (inl (inl want)) is = let no : Memory ≡ Done = sym want ∙ is in cc
-never_done i n e (inl (inr (inl fault))) is = let no : ReadFault i ≡ Done = sym fault ∙ is in cc
-never_done i n e (inl (inr (inr (inl gone)))) is = let no : Missing i ≡ Done = sym gone ∙ is in cc
-never_done i n e (inl (inr (inr (inr long)))) is = let no : OverLimit i ≡ Done = sym long ∙ is in cc
-never_done i n e (inr (inl want)) is = let no : Memory ≡ Done = sym want ∙ is in cc
-never_done i n e (inr (inr fault)) is = let no : BadArchive fault.0 ≡ Done = sym fault.2 ∙ is in cc
-
 -- ---- the output hinders a job
 pub unput_hinders : (s : Status) → IsUnput s → IsHindrance s
-unput_hinders s (inl fault) = subst IsHindrance (sym fault) tt
-unput_hinders s (inr want) = subst IsHindrance (sym want) tt
+unput_hinders s only = by_stop IsHindrance Out s only tt tt

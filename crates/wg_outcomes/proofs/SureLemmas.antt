@@ -1,7 +1,8 @@
 -- Pages to which their bounds leave one position alone.
-use Rattle.std.proofs.Common.{◌≡◌, ℕ, zero, suc, ◌+◌, ◌-◌, ◌<◌, ◌≤◌, Bool, true, false, cond, nat_lt, List, ◌++◌, None, inl, inr, refl, subst, arith}
+use Rattle.std.proofs.Common.{◌≡◌, ℕ, zero, suc, ◌+◌, ◌-◌, ◌<◌, ◌≤◌, cond, nat_lt, List, ◌++◌, None, inl, inr, refl, subst, arith}
 use Rattle.std.specs.Bool.{IsTrue}
 use Rattle.std.proofs.lemmas.Bool.{cases_lt, eqb-true}
+use Rattle.std.proofs.lemmas.Bool.Decides.{nat_tests}
 use Rattle.wg_params.specs.declared.limits.TheConstants.{MOST_GENERATED}
 use Rattle.wg_graph.specs.Digraph.{Digraph}
 use Rattle.wg_vectors.specs.Generated.{generated}
@@ -19,31 +20,13 @@ use Rattle.wg_outcomes.specs.Ranked.{IsProvenRanking}
 use Rattle.wg_outcomes.specs.Readings.{Readings}
 use Rattle.wg_outcomes.specs.declared.outcome.TheConstants.{BULK_ROUNDS}
 use Rattle.wg_outcomes.proofs.RankLemmas.{proven}
-use Rattle.wg_outcomes.proofs.VerifyLemmas.{is_less, not_less}
 
 -- ---- of two numbers at most one is less than the other
 abbrev counted : ℕ → ℕ → ℕ
 counted a b = cond (nat_lt a b) 1 0
 
-counted_less : (a b : ℕ) → a < b → counted a b ≡ 1
-counted_less a b less = rw (is_less a b less) refl
-
-counted_not : (a b : ℕ) → b ≤ a → counted a b ≡ 0
-counted_not a b not = rw (not_less a b not) refl
-
 counted_once : (a b : ℕ) → counted a b + counted b a ≤ 1
-counted_once a b =
-    elim (cases_lt a b) [
-      | inl less ↦ omega (arith, counted_less a b less, counted_not b a (omega (arith, less)))
-      | inr not ↦ omega (arith, counted_not a b not, at_most b a)
-    ]
-  where
-    one_at_most : (x : Bool) → cond x 1 0 ≤ 1
-    one_at_most true = omega arith
-    one_at_most false = omega arith
-
-    at_most : (x y : ℕ) → counted x y ≤ 1
-    at_most x y = one_at_most (nat_lt x y)
+counted_once a b = grind (arith, nat_tests)
 
 -- ---- of the pages at most all have a greater or a smaller share than one, and it has neither
 module _ (f : ℕ → ℕ) (v : ℕ) where
@@ -64,7 +47,7 @@ module _ (f : ℕ → ℕ) (v : ℕ) where
         | inl before ↦ omega (arith, others_counted n before, counted_once (f v) (f n))
         | inr here ↦
             let same : v ≡ n = omega (arith, there, here) in
-            let none = counted_not (f v) (f v) (omega arith) in
+            let none : counted (f v) (f v) ≡ 0 = grind (arith, nat_tests) in
             omega (arith, all_counted n, subst (λ (x : ℕ). counted (f v) (f x) ≡ 0) same none, subst (λ (x : ℕ). counted (f x) (f v) ≡ 0) same none)
       ]
 

@@ -1,6 +1,6 @@
 -- A certificate that is judged, and what holds of one that was not refused.
-use Rattle.std.proofs.Common.{◌≡◌, ◌∙◌, ◌<◌, ◌≤◌, ◌+◌, ℕ, zero, suc, Bool, true, false, cond, nat_lt, List, find, Option, Some, None, Ok, inl, inr, refl, sym, ap, subst, arith}
-use Rattle.std.proofs.lemmas.Bool.{cases_Bool, cases_lt, ltb-false, ltb-true}
+use Rattle.std.proofs.Common.{◌≡◌, ◌∙◌, ◌<◌, ◌≤◌, ◌+◌, ℕ, zero, suc, Bool, true, false, cond, List, find, Option, Some, None, Ok, inl, inr, refl, sym, ap, subst, arith}
+use Rattle.std.proofs.lemmas.Bool.{cases_Bool, cases_lt, le-ltb, lt-ltb, ltb-false}
 use Rattle.std.specs.List.{range_with_len}
 use Rattle.wg_graph.specs.Digraph.{Digraph}
 use Rattle.wg_rank.specs.Rank.{lower, gap}
@@ -11,20 +11,6 @@ use Rattle.wg_outcomes.specs.Answers.{Steps}
 use Rattle.wg_outcomes.specs.Judged.{Judged, refused}
 use Rattle.wg_outcomes.specs.declared.status.Status.TheVariants.{BadCertificate}
 use Rattle.wg_outcomes.specs.Verified.{falls, first_fall, unless_falls, with_gap}
-
-pub not_less : (a b : ℕ) → b ≤ a → nat_lt a b ≡ false
-not_less a b le =
-    elim (cases_Bool (nat_lt a b)) [
-      | inl less ↦ absurd (let lt = ltb-true a b less in omega (arith, lt, le))
-      | inr not ↦ not
-    ]
-
-pub is_less : (a b : ℕ) → a < b → nat_lt a b ≡ true
-is_less a b lt =
-    elim (cases_Bool (nat_lt a b)) [
-      | inl less ↦ less
-      | inr not ↦ absurd (let ge = ltb-false a b not in omega (arith, lt, ge))
-    ]
 
 module _ (test : ℕ → Bool) where
   -- none of the numbers from here on
@@ -69,7 +55,7 @@ module _ (g : Digraph) (c : Claim) (given : Option (List ℕ)) where
 
   pub none_falls : Rises g c.damping w (by_page c.low) → first_fall g c given ≡ None
   none_falls rises =
-      none_from (falls g c w) 0 g.nodes (λ v from to. not_less (lower g c.damping w (by_page c.low) v) (by_page c.low v) (rises v (omega (arith, to))))
+      none_from (falls g c w) 0 g.nodes (λ v from to. le-ltb (lower g c.damping w (by_page c.low) v) (by_page c.low v) (rises v (omega (arith, to))))
 
   -- it does not fall
   pub rises_all : first_fall g c given ≡ None → Rises g c.damping w (by_page c.low)
@@ -78,8 +64,8 @@ module _ (g : Digraph) (c : Claim) (given : Option (List ℕ)) where
 
   one_falls : (page : ℕ) → FallsFirst g c.damping w (by_page c.low) page → first_fall g c given ≡ Some page
   one_falls page h =
-      first_from (falls g c w) 0 g.nodes page (omega arith) (omega (arith, h.there)) (is_less (lower g c.damping w (by_page c.low) page) (by_page c.low page) h.falls)
-      (λ v from to. not_less (lower g c.damping w (by_page c.low) v) (by_page c.low v) (h.before v to))
+      first_from (falls g c w) 0 g.nodes page (omega arith) (omega (arith, h.there)) (lt-ltb (lower g c.damping w (by_page c.low) page) (by_page c.low page) h.falls)
+      (λ v from to. le-ltb (lower g c.damping w (by_page c.low) v) (by_page c.low v) (h.before v to))
 
   -- the judgement goes on with what the bounds leave
   pub goes_on_with_gap : (left : ℕ) → Rises g c.damping w (by_page c.low) × (left ≡ gap g (by_page c.low)) → Steps {B = ℕ} (with_gap g c given) (Ok left)

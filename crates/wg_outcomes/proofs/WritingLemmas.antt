@@ -1,5 +1,5 @@
 -- What stands of a file after calls on it, and why they stopped.
-use Rattle.std.proofs.Common.{◌≡◌, ◌≢◌, inl, inr, ℕ, Bool, List, [], sym, ap, subst, ◌∙◌, Option, Some, Result, Ok, Err}
+use Rattle.std.proofs.Common.{◌≡◌, ◌≢◌, inl, inr, ℕ, Bool, List, [], refl, sym, ap, subst, ◌∙◌, Option, Some, Result, Ok, Err}
 use Rattle.std.specs.Result.{IfErr, IsErrAnd}
 use Rattle.std.specs.FinMap as map
 use Rattle.wg_io.specs.Outside.{Files, Counts, created}
@@ -11,16 +11,12 @@ use Rattle.wg_outcomes.specs.Written.{IsStopped, IsStoppedAt, Touches}
 use Rattle.wg_outcomes.specs.declared.ending.Ending.{Ending}
 use Rattle.wg_outcomes.specs.declared.status.Status.{Status}
 use Rattle.wg_outcomes.specs.declared.status.Status.TheVariants.{Memory, WriteFault}
-use Rattle.wg_outcomes.proofs.Statuses.{rose_late}
+use Rattle.wg_outcomes.proofs.Statuses.{by_stop, rose_late}
 
 -- ---- results
 pub if_that_err : {A E : Type 0} (P : E → Type 0) (r : Result A E) (e : E) → IsErrAnd r (λ x. x ≡ e) → P e → IfErr r P
 if_that_err P (Ok a) e is p = tt
 if_that_err P (Err x) e is p = subst P (sym is) p
-
-pub if_err_then : {A E : Type 0} (P Q : E → Type 0) (r : Result A E) → IfErr r P → ((e : E) → P e → Q e) → IfErr r Q
-if_err_then P Q (Ok a) p f = tt
-if_err_then P Q (Err e) p f = f e p
 
 -- ---- a file that is created
 pub created_here : (f h : Files) (m : List ℕ) → h ≡ created f m → map.get h m ≡ Some []
@@ -31,14 +27,8 @@ created_there f h m q is other = ap (λ (x : Files). map.get x q) is ∙ get-ins
 
 -- ---- why it stopped
 
--- what is said of a fault and of want of memory is said of the status
-pub by_stop : (P : Status → Type 0) (o : Output) (s : Status) → IsStoppedAt o s → P (WriteFault o) → P Memory → P s
-by_stop P o s (inl fault) at_fault at_want = subst P (sym fault) at_fault
-by_stop P o s (inr want) at_fault at_want = subst P (sym want) at_want
-
 pub stopped_at : (o : Output) (s : Status) → IsStoppedAt o s → IsStopped s
-stopped_at o s (inl fault) = inl (o, fault)
-stopped_at o s (inr want) = inr want
+stopped_at o s only = by_stop IsStopped o s only (inl (o, refl)) (inr refl)
 
 -- a fault is that of the file that was called
 pub rose_there : (names : Output → Option (List ℕ)) (o : Output) (m : List ℕ) → names o ≡ Some m → (old new : List ℕ → Counts) (s : Status) → IsStoppedAt o s

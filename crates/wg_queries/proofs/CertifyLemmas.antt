@@ -15,14 +15,14 @@ use Rattle.wg_outcomes.specs.Names.{certificate_to}
 use Rattle.wg_outcomes.specs.Readings.{Readings}
 use Rattle.wg_outcomes.specs.declared.ending.Ending.{Ending}
 use Rattle.wg_outcomes.specs.declared.status.Status.{Status}
-use Rattle.wg_outcomes.specs.declared.status.Status.TheVariants.{Memory, WriteFault}
-use Rattle.wg_outcomes.proofs.Statuses.{unput_cause}
+use Rattle.wg_outcomes.specs.declared.status.Status.TheVariants.{WriteFault}
+use Rattle.wg_outcomes.proofs.Statuses.{by_put, by_stop, unput_cause}
 use Rattle.wg_outcomes.specs.Performs.{CertifiesRanking, Outside}
 use Rattle.wg_outcomes.specs.Ranked.{certificate_text, ranking_text}
 use Rattle.wg_outcomes.specs.Written.{CertificateAfter, IsStoppedAt, OthersStay, StayBeside, Touches}
 use Rattle.wg_outcomes.proofs.BuildLemmas.{put_stopped, stopped_cause, stopped_output}
 use Rattle.wg_outcomes.proofs.PerformsLemmas.{output_put, put_last}
-use Rattle.wg_outcomes.proofs.WritingLemmas.{by_stop, rose_there, stopped_at}
+use Rattle.wg_outcomes.proofs.WritingLemmas.{rose_there, stopped_at}
 
 -- the file of a name holds this, or is as before and lacks something
 abbrev pub HoldsWhole : List ℕ → List ℕ → Files → Type 0
@@ -40,8 +40,7 @@ part_is text old new (inr less) = inr (less.0, less.2)
 
 -- the output is not the file of a certificate
 not_at_out : (s : Status) → IsStoppedAt Certificate s → s ≢ WriteFault Out
-not_at_out s (inl fault) is = let no : WriteFault Certificate ≡ WriteFault Out = sym fault ∙ is in cc
-not_at_out s (inr want) is = let no : Memory ≡ WriteFault Out = sym want ∙ is in cc
+not_at_out s only is = grind arith
 
 pub certify_exit : (b : Intervals) (name : List ℕ) (top : ℕ) (td to : Bool) (before after : Outside) (r : Result (Unit {0}) Ending) (e : Ending) → IsErrAnd r (λ x. x ≡ e)
     → CertifiesRanking b name top td to before after (Err e) → CertifiesRanking b name top td to before after r
@@ -74,10 +73,8 @@ module _ (b : Intervals) (name : List ℕ) (top : ℕ) (td to : Bool) (before af
 -- it was, and then the ranking is printed
 module _ (b : Intervals) (name : List ℕ) (top : ℕ) (td to : Bool) (before after : Outside) where
   put_certificate : (old new : Option (List ℕ)) (r : Result (Unit {0}) Ending) → IfErr r (λ e. IsUnput e.status) → new ≡ Some (certificate_text b) → CertificateAfter (certificate_text b) old new (status_in r)
-  put_certificate old new (Ok done) only whole = whole
-  put_certificate old new (Err e) (inl fault) whole = subst (CertificateAfter (certificate_text b) old new) (sym fault) whole
-  put_certificate old new (Err e) (inr want) whole =
-      subst (CertificateAfter (certificate_text b) old new) (sym want) (inr (length (certificate_text b), whole ∙ ap Some (sym (take-length (certificate_text b)))))
+  put_certificate old new r only whole =
+      by_put (CertificateAfter (certificate_text b) old new) r only whole whole (inr (length (certificate_text b), whole ∙ ap Some (sym (take-length (certificate_text b)))))
 
   pub certify_done : (r : Result (Unit {0}) Ending) → (IsTrue td → HoldsWhole name (certificate_text b) after.files) → Touches Certificate name td before.files after.files before.counts after.counts (Ok tt)
       → (IsTrue to → (q : Readings) → Puts (ranking_text q b top) before.taken after.taken r) → IfErr r (λ e. IsUnput e.status)

@@ -4,7 +4,6 @@ pub mod NumberLemmas
 pub mod OpenedLemmas
 pub mod PrintedJobs
 pub mod PrintedLines
-pub mod PrintedPass
 pub mod RankJobs
 pub mod ShowJobs
 pub mod ShownLemmas

@@ -8,7 +8,7 @@ use Rattle.wg_iterators.specs.Coming.{Coming}
 use Rattle.wg_random.specs.Answer.{Opens}
 use Rattle.wg_random.specs.declared.error.OpenError.{OpenError}
 use Rattle.wg_random.specs.declared.error.OpenError.TheVariants.{Deep, Memory}
-use Rattle.wg_outcomes.proofs.VerifyLemmas.{is_less, not_less}
+use Rattle.std.proofs.lemmas.Bool.{le-ltb, lt-ltb}
 use Rattle.wg_queries.specs.Showing.{records_for, records_for_all}
 
 module _ (records : List Whole) (page : ℕ) where
@@ -16,7 +16,7 @@ module _ (records : List Whole) (page : ℕ) where
   depth = (known_at records page).depth
 
   opened_once : (from to : ℕ) → depth < CHAIN_PAGES → to ≤ from + depth + 1 → to ≤ from + records_for records page
-  opened_once from to few most = rw (is_less depth CHAIN_PAGES few) (omega (arith, most))
+  opened_once from to few most = rw (lt-ltb depth CHAIN_PAGES few) (omega (arith, most))
 
   pub opened_all : (nodes from to : ℕ) (s : Coming) → Opens nodes page (known_at records page) (Ok s) → to ≤ from + depth + 1 → to ≤ from + records_for records page
   opened_all nodes from to s is most = opened_once from to is.1 most
@@ -30,7 +30,7 @@ module _ (records : List Whole) (page : ℕ) where
   pub opened_again : (nodes from mid to d : ℕ) (e : OpenError) → e ≡ Deep d → IsError nodes e → mid ≤ from + depth + 1 → to ≤ mid + depth + 1 → to ≤ from + records_for records page
   opened_again nodes from mid to d e deep is most more =
       let far = subst (IsError nodes) deep is in
-      rw (not_less depth CHAIN_PAGES (omega (arith, far.1, far.2))) (omega (arith, most, more))
+      rw (le-ltb depth CHAIN_PAGES (omega (arith, far.1, far.2))) (omega (arith, most, more))
 
 module _ (records : List Whole) where
   opened-append : (xs ys : List ℕ) → records_for_all records (xs ++ ys) ≡ records_for_all records xs + records_for_all records ys

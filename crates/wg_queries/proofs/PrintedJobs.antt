@@ -1,34 +1,159 @@
--- A job that judges a graph file, and then reads it again and prints a text of its graph.
-use Rattle.std.proofs.Common.{◌≡◌, ◌≢◌, inl, inr, ℕ, Bool, true, false, List, refl, sym, ◌∙◌, ap, subst, is_some, Option, Result, Ok, Err}
-use Rattle.std.specs.Result.{IfErr}
-use Rattle.wg_io.specs.Outside.{Files, Counts, NonDecreasing}
-use Rattle.wg_io.specs.declared.output.Output.{Output}
+-- A pass over a graph file that prints a text, and a job that judges the file before.
+use Rattle.std.proofs.Common.{◌≡◌, ◌⊎◌, inl, inr, ℕ, ◌<◌, ◌≤◌, Bool, List, [], ◌∷◌, ◌++◌, length, take, refl, sym, ◌∙◌, ap, subst, append_assoc, Some, Result, Ok, Err, arith, ◌≢◌, true, false, is_some, Option}
+use Rattle.std.specs.Bool.{IsTrue}
+use Rattle.std.specs.FinMap as map
+use Rattle.std.specs.Result.{IfErr, IsErrAnd}
+use Rattle.std.proofs.lemmas.List.{append-nil, length-append, take_at}
+use Rattle.wg_io.specs.Outside.{Files, Counts, Increased, NonDecreasing}
+use Rattle.wg_lines.specs.Printing.{HasPrinted, HasPrintedLess}
+use Rattle.wg_io.specs.Puts.{Puts}
 use Rattle.wg_io.specs.declared.output.Output.TheVariants.{Out}
 use Rattle.wg_io.proofs.FilesLemmas.{none_falls-trans}
-use Rattle.wg_params.specs.Parameters.{Parameters}
+use Rattle.wg_lines.proofs.PrintLemmas.{puts_in_the_end}
+use Rattle.wg_io.proofs.PutsLemmas.{is_that_err}
+use Rattle.wg_params.specs.Parameters.{Parameters, IsWithinLimits}
 use Rattle.wg_grammar.specs.Archive.{Accepted}
+use Rattle.wg_grammar.specs.Record.{Whole}
+use Rattle.wg_stream.specs.Reading.{Reading, IsInStep, IsJudged}
+use Rattle.wg_outcomes.specs.Answers.{IsHindrance, IsUnput, status_in, Answers, HasOutput, without}
+use Rattle.wg_outcomes.specs.Names.{file_of, no_outputs, held_by}
+use Rattle.wg_readings.specs.Passes.{Advances, accepted_of, graph_then}
+use Rattle.wg_outcomes.specs.Promised.{IsStopAt, ArePromised, promised_in}
+use Rattle.wg_outcomes.specs.Performs.{Outside, outside, Performs, judged_on}
+use Rattle.wg_queries.specs.Printed.{PrintsGraph, PutsUpTo}
+use Rattle.wg_outcomes.specs.declared.ending.Ending.{Ending}
+use Rattle.wg_outcomes.specs.declared.status.Input.TheVariants.{Graph}
+use Rattle.wg_outcomes.specs.declared.status.Status.TheVariants.{Memory, WriteFault}
+use Rattle.wg_readings.proofs.JudgeLemmas.{read_hindered}
+use Rattle.wg_outcomes.proofs.Statuses.{IsOwn, any_faults, bad_own, no_write, own_caused, unput_cause, unput_hinders, cause_named}
+use Rattle.wg_readings.proofs.UnderWay.{IsUnderWay, all_read, ends_caused, first_read, cause_later}
+use Rattle.wg_io.specs.declared.output.Output.{Output}
 use Rattle.wg_words.specs.declared.jobs.Job.{Job}
 use Rattle.wg_outcomes.specs.Reached.{Reaches}
-use Rattle.wg_outcomes.specs.Answers.{Answers, HasOutput, IsHindrance, status_in, without}
 use Rattle.wg_outcomes.specs.Causes.{HasCause}
 use Rattle.wg_outcomes.specs.Judged.{Judged, accepted, output_of, status_of}
 use Rattle.wg_readings.specs.Loading.{JudgesGraph}
-use Rattle.wg_outcomes.specs.Promised.{ArePromised, promised_in}
 use Rattle.wg_outcomes.specs.JobFiles.{input_name, output_name, prints_while_reading, writes_files}
-use Rattle.wg_outcomes.specs.Names.{file_of, held_by, no_outputs}
-use Rattle.wg_readings.specs.Passes.{graph_then}
-use Rattle.wg_outcomes.specs.Performs.{Outside, Performs, judged_on}
-use Rattle.wg_queries.specs.Printed.{PrintsGraph, PutsUpTo}
-use Rattle.wg_outcomes.specs.declared.ending.Ending.{Ending}
 use Rattle.wg_outcomes.specs.declared.status.Input.{Input}
-use Rattle.wg_outcomes.specs.declared.status.Input.TheVariants.{Graph}
-use Rattle.wg_outcomes.specs.declared.status.Status.TheVariants.{WriteFault}
 use Rattle.wg_readings.proofs.JobSteps.{ComesTo, Hold, reaches}
 use Rattle.wg_outcomes.proofs.PerformsLemmas.{files_same, nothing_whole}
-use Rattle.wg_outcomes.proofs.Statuses.{bad_own, cause_named, no_write, own_caused, unput_cause}
-use Rattle.wg_readings.proofs.UnderWay.{cause_later}
 use Rattle.wg_readings.proofs.JobPasses.{StopsOrUnput, graph_known, hindered_output, hindered_promised, pass_possible, pass_read}
 
+-- ---- texts that grow with the records
+
+-- each record adds something to the end of the text
+abbrev pub Grows : (Accepted → List ℕ) → Type 0
+Grows text = (w : Whole) (ws : List Whole) → (piece : List ℕ) × (text (accepted_of (w ∷ ws)) ≡ text (accepted_of ws) ++ piece)
+
+grows_on : (text : Accepted → List ℕ) → Grows text → (rest whole : List Whole) → (more : List ℕ) × (text (accepted_of (rest ++ whole)) ≡ text (accepted_of whole) ++ more)
+grows_on text grows [] whole = ([], sym (append-nil (text (accepted_of whole))))
+grows_on text grows (w ∷ rest) whole =
+    let k = grows_on text grows rest whole in
+    let s = grows w (rest ++ whole) in
+    (k.0 ++ s.0, s.1 ∙ ap (λ (l : List ℕ). l ++ s.0) k.1 ∙ append_assoc (text (accepted_of whole)) k.0 s.0)
+
+-- what went out is a prefix of a longer text
+prefix_out : (old new out left more due text : List ℕ) → new ≡ old ++ out → text ≡ out ++ left → due ≡ text ++ more → new ≡ old ++ take (length out) due
+prefix_out old new out left more due text taken bytes whole =
+    let all : due ≡ out ++ (left ++ more) = whole ∙ ap (λ (l : List ℕ). l ++ more) bytes ∙ append_assoc out left more in
+    taken ∙ ap (λ (l : List ℕ). old ++ l) (sym (ap (take (length out)) all ∙ take_at out (left ++ more) (length out) refl))
+
+-- which lacks something
+less_out : (out left more due text : List ℕ) → 0 < length left → text ≡ out ++ left → due ≡ text ++ more → length out < length due
+less_out out left more due text some bytes whole = omega (arith, some, ap length whole, ap length bytes, length-append text more, length-append out left)
+
+-- a stop at a file is no fault of an output
+not_of_out : (n : ℕ) (e : Ending) → IsStopAt Graph n e → e.status ≡ WriteFault Out → ⊥
+not_of_out n e (inl only) is = no_write Graph e.status Out only is
+not_of_out n e (inr bad) is = subst IsOwn is (bad_own Graph n e bad)
+
+puts_some : (due old new : List ℕ) (r : Result (Unit {0}) Ending) → Puts due old new r → PutsUpTo due old new r
+puts_some due old new (Ok done) put = put
+puts_some due old new (Err e) put = (put.0, λ is. put.1, put.2)
+
+-- ---- why a pass ended
+
+hinders_in : (r : Result (Unit {0}) Ending) → IfErr r (λ e. IsUnput e.status) → IfErr r (λ e. IsHindrance e.status)
+hinders_in (Ok done) only = tt
+hinders_in (Err e) only = unput_hinders e.status only
+
+only_in : (n : ℕ) (r : Result (Unit {0}) Ending) → IfErr r (λ e. IsUnput e.status) → IfErr r (λ e. IsStopAt Graph n e ⊎ IsUnput e.status)
+only_in n (Ok done) only = tt
+only_in n (Err e) only = inr only
+
+-- the exit of a `?`
+pub prints_exit : (base : List ℕ) (p : Parameters) (text : Accepted → List ℕ) (td to : Bool) (before after : Outside) (r : Result (Unit {0}) Ending) (e : Ending) → IsErrAnd r (λ x. x ≡ e)
+    → PrintsGraph base p text td to before after (Err e) → PrintsGraph base p text td to before after r
+prints_exit base p text td to before after r e is h = subst (λ (x : Result (Unit {0}) Ending). PrintsGraph base p text td to before after x) (sym (is_that_err r e is)) h
+
+module _ (base : List ℕ) (p : Parameters) (text : Accepted → List ℕ) (td to : Bool) (files : Files) (counts : List ℕ → Counts) (t0 : List ℕ) (f0 : ℕ) where
+  -- nothing was begun, since memory was out
+  pub prints_none : (e : Ending) → e.status ≡ Memory → PrintsGraph base p text td to (outside files counts t0 f0) (outside files counts t0 f0) (Err e)
+  prints_none e want = record {
+    same = refl;
+    later = record { read_faults = λ n. omega arith; write_faults = λ n. omega arith; absences = λ n. omega arith; wants = λ n. omega arith };
+    only = inr (inr want);
+    causes = own_caused _ _ _ _ _ _ e.status (subst IsOwn (sym want) tt);
+    hindered = λ t x g. unput_hinders e.status (inr want);
+    puts = λ t o x g. (0, λ is. absurd (let no : Memory ≡ WriteFault Out = sym want ∙ is in cc), sym (append-nil t0));
+  }
+
+  module _ (limits : IsWithinLimits p) (grows : Grows text) (files1 : Files) (counts1 : List ℕ → Counts) (n : ℕ) (a : Reading) (t1 : List ℕ) where
+    -- the reading stopped
+    pub prints_read : (waits : List ℕ) (h : IsUnderWay td base p files files1 counts counts1 n a (λ whole. IsTrue to → HasPrinted t0 t1 [] (text (accepted_of whole)) waits)) → n ≤ p.nodes
+        → (files2 : Files) (counts2 : List ℕ → Counts) (b : Reading) (f1 : ℕ) (e : Ending) → Advances {B = Unit {0}} td files1 files2 counts1 counts2 p a b (Err e)
+        → PrintsGraph base p text td to (outside files counts t0 f0) (outside files2 counts2 t1 f1) (Err e)
+    prints_read waits h few files2 counts2 b f1 e step = record {
+      same = step.same ∙ h.same;
+      later = none_falls-trans _ _ _ h.later step.later;
+      only = inl step.only;
+      causes = any_faults (file_of base) no_outputs counts counts2 f0 f1 e.status (ends_caused td base p files counts files1 files2 counts1 counts2 n a b _ h e step);
+      hindered = λ t x g. read_hindered base p td files counts limits files1 files2 counts1 counts2 n a b _ h e step t x g;
+      puts = λ t o x g.
+          let k = first_read td base p files counts files1 files1 counts1 counts1 n a a _ h limits few t x g in
+          let m = grows_on text grows k.2 k.0 in
+          let q = k.1 o in
+          (length q.out, λ is. absurd (not_of_out p.arcs e step.only is), prefix_out t0 t1 q.out waits m.0 (text x) (text (accepted_of k.0)) q.taken q.bytes (ap text k.3 ∙ m.1));
+    }
+
+    -- the output stopped
+    pub prints_less : (h : IsUnderWay td base p files files1 counts counts1 n a (λ whole. IsTrue to → HasPrintedLess t0 t1 [] (text (accepted_of whole)))) → n ≤ p.nodes
+        → (f1 : ℕ) (e : Ending) → IsUnput e.status → (e.status ≡ WriteFault Out → Increased f0 f1)
+        → PrintsGraph base p text td to (outside files counts t0 f0) (outside files1 counts1 t1 f1) (Err e)
+    prints_less h few f1 e only rose = record {
+      same = h.same;
+      later = h.later;
+      only = inr only;
+      causes = unput_cause (file_of base) no_outputs counts counts1 f0 f1 (Err e) only rose;
+      hindered = λ t x g. unput_hinders e.status only;
+      puts = λ t o x g.
+          let k = first_read td base p files counts files1 files1 counts1 counts1 n a a _ h limits few t x g in
+          let m = grows_on text grows k.2 k.0 in
+          let q = k.1 o in (
+            length q.out,
+            λ is. less_out q.out q.left m.0 (text x) (text (accepted_of k.0)) q.some q.bytes (ap text k.3 ∙ m.1),
+            prefix_out t0 t1 q.out q.left m.0 (text x) (text (accepted_of k.0)) q.taken q.bytes (ap text k.3 ∙ m.1),
+          );
+    }
+
+    -- all was read, and what waits goes out
+    pub prints_all : (waits : List ℕ) (h : IsUnderWay td base p files files1 counts counts1 n a (λ whole. IsTrue to → HasPrinted t0 t1 [] (text (accepted_of whole)) waits))
+        → (files2 : Files) (counts2 : List ℕ → Counts) (b : Reading) → Advances {B = Unit {0}} td files1 files2 counts1 counts2 p a b (Ok tt)
+        → (IsTrue td → (held : Files) → files1 ≡ held → (file : List ℕ) → map.get held a.name ≡ Some file → (whole : List Whole) → IsInStep file a whole → IsJudged file p (Ok (accepted_of whole)))
+        → (t2 : List ℕ) (f1 : ℕ) (r : Result (Unit {0}) Ending) → (IsTrue to → Puts waits t1 t2 r) → IfErr r (λ e. IsUnput e.status) → (status_in r ≡ WriteFault Out → Increased f0 f1)
+        → PrintsGraph base p text td to (outside files counts t0 f0) (outside files2 counts2 t2 f1) r
+    prints_all waits h files2 counts2 b step judged t2 f1 r put only rose = record {
+      same = step.same ∙ h.same;
+      later = none_falls-trans _ _ _ h.later step.later;
+      only = only_in p.arcs r only;
+      causes = unput_cause (file_of base) no_outputs counts counts2 f0 f1 r only rose;
+      hindered = λ t x g. hinders_in r only;
+      puts = λ t o x g.
+          let k = all_read td base p files counts files1 files2 counts1 counts2 n a b _ h limits judged t x g in
+          subst (λ (y : List ℕ). PutsUpTo y t0 t2 r) (sym (ap text k.2)) (puts_some (text (accepted_of k.0)) t0 t2 r (puts_in_the_end t0 t1 t2 (text (accepted_of k.0)) waits r (k.1 o) (put o)));
+    }
+
+-- ---- the job
 output_up_to : (due old new : List ℕ) (r : Result (Unit {0}) Ending) → IfErr r (λ e. IsHindrance e.status) → ((o : Output) → o ≢ Out → status_in r ≢ WriteFault o) → PutsUpTo due old new r
     → HasOutput due old new (status_in r)
 output_up_to due old new (Ok done) hindered none put = put

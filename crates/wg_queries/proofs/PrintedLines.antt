@@ -21,7 +21,7 @@ use Rattle.wg_readings.specs.Passes.{accepted_of, graph_then}
 use Rattle.wg_queries.specs.Printed.{head_of, job_of, listed, piece_of}
 use Rattle.wg_queries.specs.declared.printing.Listing.{Listing}
 use Rattle.wg_queries.specs.declared.printing.Listing.TheVariants.{Arcs, Ascii, Offsets}
-use Rattle.wg_queries.proofs.PrintedPass.{Grows}
+use Rattle.wg_queries.proofs.PrintedJobs.{Grows}
 
 -- ---- a line for each
 lines_last : {A : Type 0} (line : A → List ℕ) (xs : List A) (x : A) → joined (map line (xs ++ x ∷ [])) ≡ joined (map line xs) ++ line x

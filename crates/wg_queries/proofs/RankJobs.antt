@@ -13,7 +13,7 @@ use Rattle.wg_words.specs.declared.jobs.Job.TheVariants.{Rank}
 use Rattle.wg_outcomes.specs.Answers.{IsUnput, status_in}
 use Rattle.wg_outcomes.specs.Judged.{Judged, a_certificate, files_of, output_of, status_of}
 use Rattle.wg_readings.specs.Loading.{LoadsGraph, LoadsParams, LoadsWeights}
-use Rattle.wg_outcomes.specs.Names.{certificate_to, weights_named}
+use Rattle.wg_outcomes.specs.Names.{weights_named}
 use Rattle.wg_outcomes.specs.Promised.{promised_in}
 use Rattle.wg_outcomes.specs.Readings.{Readings}
 use Rattle.wg_outcomes.specs.declared.ending.Ending.{Ending}
@@ -22,71 +22,66 @@ use Rattle.wg_outcomes.specs.declared.status.Input.TheVariants.{Properties, Grap
 use Rattle.wg_outcomes.specs.declared.status.Status.TheVariants.{Memory, WriteFault}
 use Rattle.wg_outcomes.specs.Commands.{ranks}
 use Rattle.wg_outcomes.specs.JobFiles.{input_name, output_name, writes_files}
-use Rattle.wg_outcomes.specs.Performs.{CertifiesRanking, Outside, Performs, outside}
+use Rattle.wg_outcomes.specs.Performs.{CertifiesRanking, Outside, Performs, Produces, outside}
 use Rattle.wg_outcomes.specs.Ranked.{bounds_after, certificate_text, ranking_text}
 use Rattle.wg_outcomes.proofs.BuildLemmas.{produced}
 use Rattle.wg_readings.proofs.JobSteps.{ComesTo, ends_without, judges_rest, prints}
-use Rattle.wg_readings.proofs.WeightedJobs as weighted
-
--- weights of as many pages
-pub weights_of_graph : (name : Option (List ℕ)) (n m : ℕ) (td : Bool) (files files' : Files) (counts counts' : List ℕ → Counts) (r : Result (Option (List ℕ)) Ending) → n ≡ m
-    → LoadsWeights name n td files files' counts counts' r → LoadsWeights name m td files files' counts counts' r
-weights_of_graph name n m td files files' counts counts' r count h = subst (λ (k : ℕ). LoadsWeights name k td files files' counts counts' r) count h
+use Rattle.wg_readings.proofs.GraphJobs.{IsOfGraph, behind_graph}
+use Rattle.wg_readings.proofs.GraphJobs as graphs
 
 weights_are : (base : List ℕ) (rounds damping top : ℕ) (name certificate : Option (List ℕ)) → input_name (Rank base rounds damping top name certificate) Weights ≡ weights_named name Weights
 weights_are base rounds damping top None certificate = refl
 weights_are base rounds damping top (Some name) certificate = refl
 
+-- what is left to do with the weights
+abbrev behind : (rounds damping top : ℕ) → Option (List ℕ) → Parameters → Digraph → Option (List ℕ) → Readings → (Input → Option (List ℕ)) → Judged
+behind rounds damping top certificate p g given r h = ranks r certificate top (bounds_after g given damping rounds)
+
+pub of_graph : (base : List ℕ) (rounds damping top : ℕ) (name certificate : Option (List ℕ))
+    → IsOfGraph (Rank base rounds damping top name certificate) base (behind_graph name (behind rounds damping top certificate))
+of_graph base rounds damping top name certificate = record { text_named = refl; graph_named = refl; judges = λ r h. refl }
+
 module _ (base : List ℕ) (rounds damping top : ℕ) (name certificate : Option (List ℕ)) (td to : Bool) (before : Outside) where
   abbrev job : Job
   job = Rank base rounds damping top name certificate
 
-  -- what is left to do with the weights
-  abbrev behind : Parameters → Digraph → Option (List ℕ) → Readings → (Input → Option (List ℕ)) → Judged
-  behind p g given r h = ranks r certificate top (bounds_after g given damping rounds)
+  abbrev rest : Parameters → Digraph → Option (List ℕ) → Readings → (Input → Option (List ℕ)) → Judged
+  rest = behind rounds damping top certificate
 
-  pub no_params : (after : Outside) (e : Ending) → after.taken ≡ before.taken → LoadsParams base td before.files after.files before.counts after.counts (Err e)
-      → Performs job td to before after e.status e.promised
-  no_params after e silent l = weighted.no_params job base name td to before refl refl (weights_are base rounds damping top name certificate) behind (λ r h. refl) after e silent l
+  module _ (p : Parameters) (files : Files) (counts : List ℕ → Counts) (l : LoadsParams base td before.files files before.counts counts (Ok p))
+      (files1 : Files) (counts1 : List ℕ → Counts) (graph : Digraph) (g : LoadsGraph base p td files files1 counts counts1 (Ok graph)) where
+    pub no_weights : (after : Outside) (e : Ending) → after.taken ≡ before.taken → LoadsWeights name graph.nodes td files1 after.files counts1 after.counts (Err e)
+        → Performs job td to before after e.status e.promised
+    no_weights = graphs.no_weights job base name rest (of_graph base rounds damping top name certificate) (weights_are base rounds damping top name certificate) td to before p files counts l files1 counts1 graph g
 
-  module _ (p : Parameters) (files : Files) (counts : List ℕ → Counts) (l : LoadsParams base td before.files files before.counts counts (Ok p)) where
-    pub no_graph : (after : Outside) (e : Ending) → after.taken ≡ before.taken → LoadsGraph base p td files after.files counts after.counts (Err e) → Performs job td to before after e.status e.promised
-    no_graph after e silent g = weighted.no_graph job base name td to before refl refl (weights_are base rounds damping top name certificate) behind (λ r h. refl) p files counts l after e silent g
+    module _ (files2 : Files) (counts2 : List ℕ → Counts) (given : Option (List ℕ)) (w : LoadsWeights name graph.nodes td files1 files2 counts1 counts2 (Ok given)) where
+      come : ComesTo job p td before files2 counts2 (Weights ∷ Graph ∷ Properties ∷ []) (rest p graph given)
+      come = graphs.has_weights job base name rest (of_graph base rounds damping top name certificate) (weights_are base rounds damping top name certificate) td to before p files counts l files1 counts1 graph g files2 counts2 given w
 
-    module _ (files1 : Files) (counts1 : List ℕ → Counts) (graph : Digraph) (g : LoadsGraph base p td files files1 counts counts1 (Ok graph)) where
-      pub no_weights : (after : Outside) (e : Ending) → after.taken ≡ before.taken → LoadsWeights name graph.nodes td files1 after.files counts1 after.counts (Err e)
-          → Performs job td to before after e.status e.promised
-      no_weights after e silent w =
-          weighted.no_weights job base name td to before refl refl (weights_are base rounds damping top name certificate) behind (λ r h. refl) p files counts l files1 counts1 graph g after e silent w
+      -- memory was out before the first round
+      pub no_room : (taken : List ℕ) (faults : ℕ) (e : Ending) → taken ≡ before.taken → e.status ≡ Memory → Performs job td to before (outside files2 counts2 taken faults) e.status e.promised
+      no_room taken faults e silent want =
+          ends_without job base td to before p files2 counts2 (Weights ∷ Graph ∷ Properties ∷ []) (rest p graph given) come taken faults e silent want
 
-      module _ (files2 : Files) (counts2 : List ℕ → Counts) (given : Option (List ℕ)) (w : LoadsWeights name graph.nodes td files1 files2 counts1 counts2 (Ok given)) where
-        come : ComesTo job p td before files2 counts2 (Weights ∷ Graph ∷ Properties ∷ []) (behind p graph given)
-        come = weighted.has_weights job base name td to before refl refl (weights_are base rounds damping top name certificate) behind (λ r h. refl) p files counts l files1 counts1 graph g files2 counts2 given w
+      module _ (b : Intervals) (is : b ≡ bounds_after graph given damping rounds) where
+        -- the ranking is printed, and nothing is written
+        pub only_prints : certificate ≡ None → (taken : List ℕ) (faults : ℕ) (r : Result (Unit {0}) Ending) → (IsTrue to → (q : Readings) → Puts (ranking_text q b top) before.taken taken r)
+            → IfErr r (λ e. IsUnput e.status) → (status_in r ≡ WriteFault Out → Increased before.faults faults) → Performs job td to before (outside files2 counts2 taken faults) (status_in r) (promised_in r)
+        only_prints none taken faults r puts only rose =
+            prints job base td to before p files2 counts2 (Weights ∷ Graph ∷ Properties ∷ []) (rest p graph given) come (λ q. ranking_text q b top)
+            (λ q. ap (λ (x : Intervals). ranks q certificate top x) (sym is) ∙ ap (λ (o : Option (List ℕ)). ranks q o top b) none)
+            (ap (λ (o : Option (List ℕ)). writes_files (Rank base rounds damping top name o)) none) taken faults r puts only rose
 
-        -- memory was out before the first round
-        pub no_room : (taken : List ℕ) (faults : ℕ) (e : Ending) → taken ≡ before.taken → e.status ≡ Memory → Performs job td to before (outside files2 counts2 taken faults) e.status e.promised
-        no_room taken faults e silent want =
-            ends_without job base td to before p files2 counts2 (Weights ∷ Graph ∷ Properties ∷ []) (behind p graph given) come taken faults e silent want
-
-        module _ (b : Intervals) (is : b ≡ bounds_after graph given damping rounds) where
-          -- the ranking is printed, and nothing is written
-          pub only_prints : certificate ≡ None → (taken : List ℕ) (faults : ℕ) (r : Result (Unit {0}) Ending) → (IsTrue to → (q : Readings) → Puts (ranking_text q b top) before.taken taken r)
-              → IfErr r (λ e. IsUnput e.status) → (status_in r ≡ WriteFault Out → Increased before.faults faults) → Performs job td to before (outside files2 counts2 taken faults) (status_in r) (promised_in r)
-          only_prints none taken faults r puts only rose =
-              prints job base td to before p files2 counts2 (Weights ∷ Graph ∷ Properties ∷ []) (behind p graph given) come (λ q. ranking_text q b top)
-              (λ q. ap (λ (x : Intervals). ranks q certificate top x) (sym is) ∙ ap (λ (o : Option (List ℕ)). ranks q o top b) none)
-              (ap (λ (o : Option (List ℕ)). writes_files (Rank base rounds damping top name o)) none) taken faults r puts only rose
-
-          -- the certificate is written before
-          pub certifies : (to_name : List ℕ) → certificate ≡ Some to_name → (after : Outside) (r : Result (Unit {0}) Ending)
-              → CertifiesRanking b to_name top td to (outside files2 counts2 before.taken before.faults) after r → Performs job td to before after (status_in r) (promised_in r)
-          certifies to_name some after r h =
-              produced job td to before after files2 counts2 (certificate_to to_name) (a_certificate (certificate_text b)) (λ q. ranking_text q b top) r
-              (ap (λ (o : Option (List ℕ)). writes_files (Rank base rounds damping top name o)) some)
-              (sym (ap (λ (o : Option (List ℕ)). output_name (Rank base rounds damping top name o)) some))
-              (λ t q.
-              let judged_is =
-              judges_rest job base td to before p files2 counts2 (Weights ∷ Graph ∷ Properties ∷ []) (behind p graph given) come t q
-              ∙ ap (λ (x : Intervals). ranks q certificate top x) (sym is) ∙ ap (λ (o : Option (List ℕ)). ranks q o top b) some in
-              (ap status_of judged_is, ap output_of judged_is, ap files_of judged_is))
-              come.same come.later h
+        -- the certificate is written before
+        pub certifies : (to_name : List ℕ) → certificate ≡ Some to_name → (after : Outside) (r : Result (Unit {0}) Ending)
+            → CertifiesRanking b to_name top td to (outside files2 counts2 before.taken before.faults) after r → Performs job td to before after (status_in r) (promised_in r)
+        certifies to_name some after r h =
+            produced job td to before after files2 counts2 (a_certificate (certificate_text b)) (λ q. ranking_text q b top) r
+            (ap (λ (o : Option (List ℕ)). writes_files (Rank base rounds damping top name o)) some)
+            (λ t q.
+            let judged_is =
+            judges_rest job base td to before p files2 counts2 (Weights ∷ Graph ∷ Properties ∷ []) (rest p graph given) come t q
+            ∙ ap (λ (x : Intervals). ranks q certificate top x) (sym is) ∙ ap (λ (o : Option (List ℕ)). ranks q o top b) some in
+            (ap status_of judged_is, ap output_of judged_is, ap files_of judged_is))
+            come.same come.later
+            (subst (λ (o : Option (List ℕ)). Produces (output_name (Rank base rounds damping top name o)) (a_certificate (certificate_text b)) (λ q. ranking_text q b top) td to (outside files2 counts2 before.taken before.faults) after r) (sym some) h)

@@ -1,5 +1,5 @@
 -- How each step of `verify` leads on or ends it.
-use Rattle.std.proofs.Common.{◌≡◌, ◌⊎◌, ℕ, Bool, List, [], ◌∷◌, Option, Some, None, Result, Ok, Err, refl, subst}
+use Rattle.std.proofs.Common.{◌≡◌, ◌⊎◌, ℕ, Bool, List, [], ◌∷◌, Option, Some, None, Result, Ok, Err, refl}
 use Rattle.std.specs.Bool.{IsTrue}
 use Rattle.std.specs.Result.{IfErr}
 use Rattle.wg_io.specs.Outside.{Files, Counts, Increased}
@@ -24,8 +24,9 @@ use Rattle.wg_outcomes.specs.JobFiles.{has_input, input_name}
 use Rattle.wg_outcomes.specs.Performs.{Outside, Performs, outside}
 use Rattle.wg_outcomes.specs.Verified.{verified_line, with_gap}
 use Rattle.wg_readings.proofs.JobSteps.{ComesTo, prints}
-use Rattle.wg_readings.proofs.NamedSteps.{certificate_refused, comes_on_named, ends_named, refuses_own}
-use Rattle.wg_readings.proofs.WeightedJobs as weighted
+use Rattle.wg_readings.proofs.JobSteps.{certificate_refused, comes_on_named, ends_named, refuses_own}
+use Rattle.wg_readings.proofs.GraphJobs.{IsOfGraph, behind_graph}
+use Rattle.wg_readings.proofs.GraphJobs as graphs
 
 module _ (base certificate : List ℕ) where
   pub weights_are : (given : Option (List ℕ)) → input_name (Verify base certificate given) Weights ≡ weights_named given Weights
@@ -40,11 +41,6 @@ module _ (base certificate : List ℕ) where
   has_certificate None = refl
   has_certificate (Some name) = refl
 
--- a claim of as many pages
-pub claim_of_graph : (name : List ℕ) (n m : ℕ) (td : Bool) (files files' : Files) (counts counts' : List ℕ → Counts) (r : Result Claim Ending) → n ≡ m
-    → LoadsCertificate name n td files files' counts counts' r → LoadsCertificate name m td files files' counts counts' r
-claim_of_graph name n m td files files' counts counts' r count h = subst (λ (k : ℕ). LoadsCertificate name k td files files' counts counts' r) count h
-
 -- what is left to do with the claim
 abbrev pub behind_claim : Digraph → Option (List ℕ) → Claim → Readings → (Input → Option (List ℕ)) → Judged
 behind_claim g ws c r h = with_gap g c ws (λ left. accepted (verified_line c left))
@@ -52,52 +48,47 @@ behind_claim g ws c r h = with_gap g c ws (λ left. accepted (verified_line c le
 abbrev pub behind_weights : Parameters → Digraph → Option (List ℕ) → Readings → (Input → Option (List ℕ)) → Judged
 behind_weights p g ws r h = claim_then g.nodes (h Certificate) (λ c. behind_claim g ws c r h)
 
+pub of_graph : (base certificate : List ℕ) (given : Option (List ℕ)) → IsOfGraph (Verify base certificate given) base (behind_graph given behind_weights)
+of_graph base certificate given = record { text_named = refl; graph_named = refl; judges = λ r h. refl }
+
 module _ (base certificate : List ℕ) (given : Option (List ℕ)) (td to : Bool) (before : Outside) where
   abbrev job : Job
   job = Verify base certificate given
 
-  pub no_params : (after : Outside) (e : Ending) → after.taken ≡ before.taken → LoadsParams base td before.files after.files before.counts after.counts (Err e)
-      → Performs job td to before after e.status e.promised
-  no_params after e silent l = weighted.no_params job base given td to before refl refl (weights_are base certificate given) behind_weights (λ r h. refl) after e silent l
+  module _ (p : Parameters) (files : Files) (counts : List ℕ → Counts) (l : LoadsParams base td before.files files before.counts counts (Ok p))
+      (files1 : Files) (counts1 : List ℕ → Counts) (graph : Digraph) (g : LoadsGraph base p td files files1 counts counts1 (Ok graph)) where
+    pub no_weights : (after : Outside) (e : Ending) → after.taken ≡ before.taken → LoadsWeights given graph.nodes td files1 after.files counts1 after.counts (Err e)
+        → Performs job td to before after e.status e.promised
+    no_weights = graphs.no_weights job base given behind_weights (of_graph base certificate given) (weights_are base certificate given) td to before p files counts l files1 counts1 graph g
 
-  module _ (p : Parameters) (files : Files) (counts : List ℕ → Counts) (l : LoadsParams base td before.files files before.counts counts (Ok p)) where
-    pub no_graph : (after : Outside) (e : Ending) → after.taken ≡ before.taken → LoadsGraph base p td files after.files counts after.counts (Err e) → Performs job td to before after e.status e.promised
-    no_graph after e silent g = weighted.no_graph job base given td to before refl refl (weights_are base certificate given) behind_weights (λ r h. refl) p files counts l after e silent g
+    module _ (files2 : Files) (counts2 : List ℕ → Counts) (ws : Option (List ℕ)) (w : LoadsWeights given graph.nodes td files1 files2 counts1 counts2 (Ok ws)) where
+      come : ComesTo job p td before files2 counts2 (Weights ∷ Graph ∷ Properties ∷ []) (λ r h. claim_then graph.nodes (h Certificate) (λ c. behind_claim graph ws c r h))
+      come = graphs.has_weights job base given behind_weights (of_graph base certificate given) (weights_are base certificate given) td to before p files counts l files1 counts1 graph g files2 counts2 ws w
 
-    module _ (files1 : Files) (counts1 : List ℕ → Counts) (graph : Digraph) (g : LoadsGraph base p td files files1 counts counts1 (Ok graph)) where
-      pub no_weights : (after : Outside) (e : Ending) → after.taken ≡ before.taken → LoadsWeights given graph.nodes td files1 after.files counts1 after.counts (Err e)
+      pub no_claim : (after : Outside) (e : Ending) → after.taken ≡ before.taken → LoadsCertificate certificate graph.nodes td files2 after.files counts2 after.counts (Err e)
           → Performs job td to before after e.status e.promised
-      no_weights after e silent w =
-          weighted.no_weights job base given td to before refl refl (weights_are base certificate given) behind_weights (λ r h. refl) p files counts l files1 counts1 graph g after e silent w
+      no_claim after e silent c =
+          ends_named job base td to before p files2 counts2 (Weights ∷ Graph ∷ Properties ∷ []) Certificate (certificate_named certificate) (certificate_is base certificate given) IsBadCertificate
+          (claim_then graph.nodes) (λ x r h. behind_claim graph ws x r h) come (λ h holds. holds) (λ n. refl) (certificate_refused job p (has_certificate base certificate given))
+          (has_certificate base certificate given) after e silent c.reads
 
-      module _ (files2 : Files) (counts2 : List ℕ → Counts) (ws : Option (List ℕ)) (w : LoadsWeights given graph.nodes td files1 files2 counts1 counts2 (Ok ws)) where
-        come : ComesTo job p td before files2 counts2 (Weights ∷ Graph ∷ Properties ∷ []) (λ r h. claim_then graph.nodes (h Certificate) (λ c. behind_claim graph ws c r h))
-        come = weighted.has_weights job base given td to before refl refl (weights_are base certificate given) behind_weights (λ r h. refl) p files counts l files1 counts1 graph g files2 counts2 ws w
+      module _ (files3 : Files) (counts3 : List ℕ → Counts) (claim : Claim) (c : LoadsCertificate certificate graph.nodes td files2 files3 counts2 counts3 (Ok claim)) where
+        come_to_claim : ComesTo job p td before files3 counts3 (Certificate ∷ Weights ∷ Graph ∷ Properties ∷ []) (behind_claim graph ws claim)
+        come_to_claim =
+            comes_on_named job base td to before p files2 counts2 (Weights ∷ Graph ∷ Properties ∷ []) Certificate (certificate_named certificate) (certificate_is base certificate given) IsBadCertificate
+            (claim_then graph.nodes) (λ x r h. behind_claim graph ws x r h) come files3 counts3 claim c.reads
 
-        pub no_claim : (after : Outside) (e : Ending) → after.taken ≡ before.taken → LoadsCertificate certificate graph.nodes td files2 after.files counts2 after.counts (Err e)
-            → Performs job td to before after e.status e.promised
-        no_claim after e silent c =
-            ends_named job base td to before p files2 counts2 (Weights ∷ Graph ∷ Properties ∷ []) Certificate (certificate_named certificate) (certificate_is base certificate given) IsBadCertificate
-            (claim_then graph.nodes) (λ x r h. behind_claim graph ws x r h) come (λ h holds. holds) (λ n. refl) (certificate_refused job p (has_certificate base certificate given))
-            (has_certificate base certificate given) after e silent c.reads
+        -- the claim does not hold
+        pub no_gap : (taken : List ℕ) (faults : ℕ) (e : Ending) → taken ≡ before.taken → (e.status ≡ Memory) ⊎ IsBadCertificate e
+            → Steps {B = ℕ} (with_gap graph claim ws) (Err e) → Performs job td to before (outside files3 counts3 taken faults) e.status e.promised
+        no_gap taken faults e silent only steps =
+            refuses_own job base td to before p files3 counts3 (Certificate ∷ Weights ∷ Graph ∷ Properties ∷ []) IsBadCertificate (certificate_refused job p (has_certificate base certificate given))
+            (behind_claim graph ws claim) come_to_claim taken faults e silent only (λ t r. steps (λ left. accepted (verified_line claim left)))
 
-        module _ (files3 : Files) (counts3 : List ℕ → Counts) (claim : Claim) (c : LoadsCertificate certificate graph.nodes td files2 files3 counts2 counts3 (Ok claim)) where
-          come_to_claim : ComesTo job p td before files3 counts3 (Certificate ∷ Weights ∷ Graph ∷ Properties ∷ []) (behind_claim graph ws claim)
-          come_to_claim =
-              comes_on_named job base td to before p files2 counts2 (Weights ∷ Graph ∷ Properties ∷ []) Certificate (certificate_named certificate) (certificate_is base certificate given) IsBadCertificate
-              (claim_then graph.nodes) (λ x r h. behind_claim graph ws x r h) come files3 counts3 claim c.reads
-
-          -- the claim does not hold
-          pub no_gap : (taken : List ℕ) (faults : ℕ) (e : Ending) → taken ≡ before.taken → (e.status ≡ Memory) ⊎ IsBadCertificate e
-              → Steps {B = ℕ} (with_gap graph claim ws) (Err e) → Performs job td to before (outside files3 counts3 taken faults) e.status e.promised
-          no_gap taken faults e silent only steps =
-              refuses_own job base td to before p files3 counts3 (Certificate ∷ Weights ∷ Graph ∷ Properties ∷ []) IsBadCertificate (certificate_refused job p (has_certificate base certificate given))
-              (behind_claim graph ws claim) come_to_claim taken faults e silent only (λ t r. steps (λ left. accepted (verified_line claim left)))
-
-          -- it does
-          pub verifies : (left : ℕ) → Steps {B = ℕ} (with_gap graph claim ws) (Ok left) → (taken : List ℕ) (faults : ℕ) (r : Result (Unit {0}) Ending)
-              → (IsTrue to → Puts (verified_line claim left) before.taken taken r) → IfErr r (λ e. IsUnput e.status)
-              → (status_in r ≡ WriteFault Out → Increased before.faults faults) → Performs job td to before (outside files3 counts3 taken faults) (status_in r) (promised_in r)
-          verifies left steps taken faults r puts only rose =
-              prints job base td to before p files3 counts3 (Certificate ∷ Weights ∷ Graph ∷ Properties ∷ []) (behind_claim graph ws claim) come_to_claim
-              (λ q. verified_line claim left) (λ q. steps (λ x. accepted (verified_line claim x))) refl taken faults r (λ o q. puts o) only rose
+        -- it does
+        pub verifies : (left : ℕ) → Steps {B = ℕ} (with_gap graph claim ws) (Ok left) → (taken : List ℕ) (faults : ℕ) (r : Result (Unit {0}) Ending)
+            → (IsTrue to → Puts (verified_line claim left) before.taken taken r) → IfErr r (λ e. IsUnput e.status)
+            → (status_in r ≡ WriteFault Out → Increased before.faults faults) → Performs job td to before (outside files3 counts3 taken faults) (status_in r) (promised_in r)
+        verifies left steps taken faults r puts only rose =
+            prints job base td to before p files3 counts3 (Certificate ∷ Weights ∷ Graph ∷ Properties ∷ []) (behind_claim graph ws claim) come_to_claim
+            (λ q. verified_line claim left) (λ q. steps (λ x. accepted (verified_line claim x))) refl taken faults r (λ o q. puts o) only rose

@@ -18,7 +18,8 @@ use Rattle.wg_outcomes.specs.declared.status.Status.{Status}
 use Rattle.wg_outcomes.specs.declared.status.Status.TheVariants.{Memory, OverLimit}
 use Rattle.wg_outcomes.proofs.Statuses.{absent_caused, failed_caused, own_caused}
 use Rattle.wg_readings.specs.Finding.{IsOpenOn}
-use Rattle.wg_readings.specs.Loading.{Loads, status_at}
+use Rattle.wg_readings.specs.Loading.{Loads}
+use Rattle.wg_readings.specs.Pairing.{status_at}
 use Rattle.wg_readings.proofs.PassLemmas.{file_long}
 
 -- ---- an error of an input

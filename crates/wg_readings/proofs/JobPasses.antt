@@ -22,11 +22,11 @@ use Rattle.wg_outcomes.specs.declared.ending.Ending.{Ending}
 use Rattle.wg_outcomes.specs.declared.status.Input.{Input}
 use Rattle.wg_outcomes.specs.declared.status.Input.TheVariants.{Graph}
 use Rattle.wg_outcomes.specs.declared.status.Status.{Status}
-use Rattle.wg_outcomes.specs.declared.status.Status.TheVariants.{Done, Memory, ReadFault, WriteFault}
+use Rattle.wg_outcomes.specs.declared.status.Status.TheVariants.{Memory, ReadFault, WriteFault}
 use Rattle.wg_readings.proofs.JobSteps.{ComesTo, bad_refuses, judges_here}
 use Rattle.wg_readings.proofs.PassLemmas.{graph_goes}
 use Rattle.wg_outcomes.proofs.PerformsLemmas.{unread_possible}
-use Rattle.wg_outcomes.proofs.Statuses.{bad_unread, own_read}
+use Rattle.wg_outcomes.proofs.Statuses.{IsRead, bad_unread, by_stop, own_read}
 
 -- a prefix was put out, that lacks something where the output itself failed
 abbrev pub PutsPart : List ℕ → List ℕ → List ℕ → Status → Type 0
@@ -37,10 +37,7 @@ pub hindered_output : (due old new : List ℕ) (s : Status) → IsHindrance s �
 hindered_output due old new Memory h none put = (put.0, put.2)
 hindered_output due old new (ReadFault i) h none put = (put.0, put.2)
 hindered_output due old new (WriteFault Out) h none put = (put.0, put.1 refl, put.2)
-hindered_output due old new (WriteFault output.Properties) h none put = absurd (none output.Properties (λ same. cc) refl)
-hindered_output due old new (WriteFault output.Graph) h none put = absurd (none output.Graph (λ same. cc) refl)
-hindered_output due old new (WriteFault output.Offsets) h none put = absurd (none output.Offsets (λ same. cc) refl)
-hindered_output due old new (WriteFault output.Certificate) h none put = absurd (none output.Certificate (λ same. cc) refl)
+hindered_output due old new (WriteFault o) h none put = absurd (none o (λ same. cc) refl)
 hindered_output due old new _ h none put = absurd h
 
 pub hindered_promised : (held : Input → Option (List ℕ)) (s : Status) (n : ℕ) → IsHindrance s → ArePromised held s n
@@ -57,18 +54,13 @@ pub pass_possible : (job : Job) (n : ℕ) (r : Result (Unit {0}) Ending) → IsT
 pass_possible job n (Ok done) has only = refl
 pass_possible job n (Err e) has (inl (inl only)) = unread_possible job Graph e.status has only
 pass_possible job n (Err e) has (inl (inr bad)) = (bad_refuses job Graph n e has bad).possible
-pass_possible job n (Err e) has (inr (inl fault)) = subst (λ (s : Status). IsTrue (can_end job s)) (sym fault) refl
-pass_possible job n (Err e) has (inr (inr want)) = subst (λ (s : Status). IsTrue (can_end job s)) (sym want) refl
-
-unput_unread : (s : Status) (j : Input) → IsUnput s → s ≡ ReadFault j → ⊥
-unput_unread s j (inl fault) is = let no : WriteFault Out ≡ ReadFault j = sym fault ∙ is in cc
-unput_unread s j (inr want) is = let no : Memory ≡ ReadFault j = sym want ∙ is in cc
+pass_possible job n (Err e) has (inr unput) = by_stop (λ s. IsTrue (can_end job s)) Out e.status unput refl refl
 
 pub pass_read : (n : ℕ) (r : Result (Unit {0}) Ending) (j : Input) → IfErr r (StopsOrUnput n) → status_in r ≡ ReadFault j → Graph ≡ j
-pass_read n (Ok done) j only is = absurd (let no : Done ≡ ReadFault j = is in cc)
+pass_read n (Ok done) j only is = absurd (subst IsRead is tt)
 pass_read n (Err e) j (inl (inl only)) is = own_read Graph e.status j only is
 pass_read n (Err e) j (inl (inr bad)) is = absurd (bad_unread Graph n e j bad is)
-pass_read n (Err e) j (inr unput) is = absurd (unput_unread e.status j unput is)
+pass_read n (Err e) j (inr unput) is = absurd (subst IsRead is (by_stop IsRead Out e.status unput tt tt))
 
 -- what is known of a graph file that was judged, and of the judgement of the job
 pub graph_known : (job : Job) (base : List ℕ) (td : Bool) (before : Outside) (p : Parameters) (files files' : Files) (counts counts' : List ℕ → Counts) (read : List Input)

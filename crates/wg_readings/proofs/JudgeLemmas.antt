@@ -1,12 +1,12 @@
 -- How the judging of an archive's files ends.
 use Rattle.wg_readings.proofs.PassLemmas.{graph_goes}
 use Rattle.wg_readings.proofs.ReadingsLaws.{the_readings}
-use Rattle.wg_outcomes.proofs.Statuses.{never_done, IsOwn, own_caused}
+use Rattle.wg_outcomes.proofs.Statuses.{IsOwn, own_caused}
+use Rattle.wg_outcomes.proofs.PerformsLemmas.{hindered}
 use Rattle.wg_outcomes.specs.Judged.{Judged, accepted, with_lengths, offsets_then}
-use Rattle.wg_outcomes.specs.declared.status.Status.{Status}
-use Rattle.wg_outcomes.specs.declared.status.Status.TheVariants.{Done, Memory}
+use Rattle.wg_outcomes.specs.declared.status.Status.TheVariants.{Memory}
 use Rattle.wg_grammar.specs.Archive.{Accepted}
-use Rattle.std.proofs.Common.{◌≡◌, ◌∙◌, inl, inr, ℕ, Bool, List, Option, Result, Ok, Err, refl, sym, subst, []}
+use Rattle.std.proofs.Common.{◌≡◌, ◌∙◌, inl, inr, ℕ, Bool, List, Option, Result, Ok, Err, refl, sym, subst}
 use Rattle.std.specs.Bool.{IsTrue}
 use Rattle.std.specs.Result.{IfErr}
 use Rattle.wg_io.specs.Outside.{Files, Counts, NonDecreasing}
@@ -15,7 +15,7 @@ use Rattle.wg_params.specs.Parameters.{Parameters, IsWithinLimits}
 use Rattle.wg_grammar.specs.Record.{Whole}
 use Rattle.wg_offsets.specs.Places.{last_place}
 use Rattle.wg_stream.specs.Reading.{Reading}
-use Rattle.wg_outcomes.specs.Answers.{Answers, IsHindrance, Steps, status_in}
+use Rattle.wg_outcomes.specs.Answers.{IsHindrance, Steps, status_in}
 use Rattle.wg_outcomes.specs.Causes.{HasCause}
 use Rattle.wg_readings.specs.Loading.{JudgesFiles, JudgesGraph, JudgesOffsets, Reads, lengths_then}
 use Rattle.wg_outcomes.specs.Names.{file_of, held_by, no_outputs}
@@ -93,15 +93,10 @@ module _ (told : Bool) (base : List ℕ) (p : Parameters) (files : Files) (count
   }
 
 -- ---- a file that stands for a graph
-answers_hinder : (s : Status) (text : List ℕ) → Answers (accepted text) s → (s ≡ Done → ⊥) → IsHindrance s
-answers_hinder s text (inl is) never = absurd (never is)
-answers_hinder s text (inr hinders) never = hinders
-
 -- what stopped the reading of a file that stands for a graph is no fault of it
 pub read_hindered : (base : List ℕ) (p : Parameters) (td : Bool) (files : Files) (counts : List ℕ → Counts) → IsWithinLimits p → (files1 files2 : Files) (counts1 counts2 : List ℕ → Counts) (n : ℕ) (a b : Reading) (P : List Whole → Type 0)
     → IsUnderWay td base p files files1 counts counts1 n a P → (e : Ending) → Advances {B = Unit {0}} td files1 files2 counts1 counts2 p a b (Err e)
     → IsTrue td → (x : Accepted) → IsGraphFile (held_by (file_of base) files input.Graph) p x → IsHindrance e.status
 read_hindered base p td files counts limits files1 files2 counts1 counts2 n a b P h e step t x g =
-    let told = ends_told td base p files counts files1 files2 counts1 counts2 n a b _ h e step t limits the_readings (λ y. accepted []) in
-    let is : graph_then the_readings p (held_by (file_of base) files input.Graph) (λ y. accepted []) ≡ accepted [] = graph_goes the_readings p limits (held_by (file_of base) files input.Graph) x g (λ y. accepted []) in
-    answers_hinder e.status [] (subst (λ (j : Judged). Answers j e.status) is told) (never_done input.Graph p.arcs e step.only)
+    hindered (graph_then the_readings p (held_by (file_of base) files input.Graph)) x e (graph_goes the_readings p limits (held_by (file_of base) files input.Graph) x g)
+    (ends_told td base p files counts files1 files2 counts1 counts2 n a b _ h e step t limits the_readings)

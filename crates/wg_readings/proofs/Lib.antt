@@ -6,10 +6,8 @@ pub mod JobSteps
 pub mod JudgeLemmas
 pub mod LimitsLemmas
 pub mod LoadLemmas
-pub mod NamedSteps
 pub mod PairingLemmas
 pub mod PassLemmas
 pub mod ReadingsLaws
 pub mod ReadingsLemmas
 pub mod UnderWay
-pub mod WeightedJobs

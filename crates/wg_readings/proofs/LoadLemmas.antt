@@ -1,24 +1,23 @@
 -- A file that is read whole, and then judged.
 use Rattle.std.proofs.Common.{◌≡◌, ◌∙◌, ◌⊎◌, inl, inr, ℕ, Bool, List, Option, Result, Ok, Err, refl, sym, ap, subst}
 use Rattle.std.specs.Bool.{IsTrue}
-use Rattle.std.specs.Result.{IfErr, IfOk, IsErrAnd}
+use Rattle.std.specs.Result.{IfErr, IfOk}
 use Rattle.std.proofs.lemmas.Result.{IfErr-weaker}
 use Rattle.wg_io.specs.Outside.{Files, Counts}
 use Rattle.wg_io.specs.declared.output.Output.{Output}
 use Rattle.wg_io.proofs.FilesLemmas.{none_falls-refl}
-use Rattle.wg_io.proofs.PutsLemmas.{is_that_err}
 use Rattle.wg_params.specs.Parameters.{Parameters}
 use Rattle.wg_graph.specs.Digraph.{Digraph}
 use Rattle.wg_outcomes.specs.Answers.{IsHindrance, Steps, status_in}
 use Rattle.wg_outcomes.specs.Causes.{HasCause}
-use Rattle.wg_outcomes.specs.Judged.{Judged, with_digraph, with_file, with_list, with_text}
-use Rattle.wg_readings.specs.Loading.{Loads, LoadsGraph, LoadsList, LoadsText, Reads, ReadsNamed}
-use Rattle.wg_outcomes.specs.Names.{IsOfInput, file_of, held_by, list_named, text_named}
+use Rattle.wg_outcomes.specs.Judged.{Judged, with_digraph, with_file, with_text}
+use Rattle.wg_readings.specs.Loading.{Loads, LoadsGraph, LoadsText, Reads, ReadsNamed}
+use Rattle.wg_outcomes.specs.Names.{IsOfInput, file_of, held_by, text_named}
 use Rattle.wg_outcomes.specs.Promised.{IsBadFile}
 use Rattle.wg_outcomes.specs.Readings.{Readings}
 use Rattle.wg_outcomes.specs.declared.ending.Ending.{Ending}
 use Rattle.wg_outcomes.specs.declared.status.Input.{Input}
-use Rattle.wg_outcomes.specs.declared.status.Input.TheVariants.{ArcList, Graph, Text}
+use Rattle.wg_outcomes.specs.declared.status.Input.TheVariants.{Graph, Text}
 use Rattle.wg_outcomes.specs.declared.status.Status.TheVariants.{Done, Memory}
 use Rattle.wg_outcomes.proofs.Statuses.{IsOwn, bad_own, own_caused}
 use Rattle.wg_readings.proofs.ReadingsLaws.{the_readings}
@@ -78,19 +77,6 @@ module _ {B : Type 0} (i : Input) (names : Input → Option (List ℕ)) (IsFault
         either : (e : Ending) → (e.status ≡ Memory) ⊎ IsFault e → IsOwn e.status × (IsOfInput i e.status ⊎ IsFault e)
         either e (inl want) = (subst IsOwn (sym want) tt, inl (inl want))
         either e (inr fault) = (own e fault, inr fault)
-
--- ---- an arc list
-module _ (name : List ℕ) (n : ℕ) (td : Bool) (files files' : Files) (counts counts' : List ℕ → Counts) where
-  pub list_unloaded : (r : Result Digraph Ending) (e : Ending) → IsErrAnd r (λ x. x ≡ e) → Loads (list_named name) ArcList td files files' counts counts' (Err e) → LoadsList name n td files files' counts counts' r
-  list_unloaded r e is l =
-      rw (is_that_err r e is) (record {
-        steps = λ t q next. l.steps t (λ bytes. with_list q n bytes next);
-        only = inl l.mine;
-        nodes = tt;
-        causes = l.causes;
-        same = l.same;
-        later = l.later;
-      })
 
 -- ---- a plain text
 pub text_unloaded : (name : List ℕ) (td : Bool) (files files' : Files) (counts counts' : List ℕ → Counts) (e : Ending) → Loads (text_named name) Text td files files' counts counts' (Err e) → LoadsText name td files files' counts counts' (Err e)

@@ -1,5 +1,5 @@
 -- An offsets file that is read in pieces, in a judgement.
-use Rattle.std.proofs.Common.{◌≡◌, ◌≢◌, inl, inr, ℕ, ◌<◌, ◌≤◌, Bool, true, List, [], length, refl, sym, ◌∙◌, ap, subst, Option, Some, None, Result, Ok, Err, arith}
+use Rattle.std.proofs.Common.{◌≡◌, inl, inr, ℕ, ◌≤◌, Bool, true, List, [], length, refl, sym, ◌∙◌, ap, subst, Option, Some, None, Result, Ok, Err, arith}
 use Rattle.std.specs.Bool.{IsTrue}
 use Rattle.std.specs.Result.{OnOk, IfErr}
 use Rattle.std.proofs.lemmas.Result.{IfErr-weaker, MatchResult-weaker}
@@ -25,10 +25,9 @@ use Rattle.wg_offsets.specs.declared.error.WordError.TheVariants as words
 use Rattle.wg_stream.specs.Held.{Held, IsHeldOf}
 use Rattle.wg_stream.specs.Stepping.{HasCause as HasReadCause}
 use Rattle.wg_outcomes.specs.Answers.{Answers, Steps}
-use Rattle.wg_outcomes.specs.Causes.{HasCause, IncreasedAt}
+use Rattle.wg_outcomes.specs.Causes.{IncreasedAt}
 use Rattle.wg_outcomes.specs.Judged.{Judged, status_of, with_lengths, with_offsets, offsets_then}
-use Rattle.wg_outcomes.specs.Promised.{IsBadFile, IsStopAt}
-use Rattle.wg_outcomes.specs.Names.{no_outputs}
+use Rattle.wg_outcomes.specs.Promised.{IsBadFile}
 use Rattle.wg_readings.specs.Pairing.{ComesWith, EndsPairing, HasCome, IsPairedWith, IsStopped, IsUnread, files_then, load_ending, word_ending}
 use Rattle.wg_outcomes.specs.declared.ending.Ending.{Ending}
 use Rattle.wg_readings.specs.declared.pairing.Pairing.{Pairing}
@@ -37,32 +36,16 @@ use Rattle.wg_outcomes.specs.Readings.{Readings}
 use Rattle.wg_outcomes.specs.declared.status.Input.{Input}
 use Rattle.wg_outcomes.specs.declared.status.Input.TheVariants.{Graph, Offsets}
 use Rattle.wg_outcomes.specs.declared.status.Status.TheVariants.{BadArchive}
-use Rattle.wg_readings.proofs.PassLemmas.{file_goes, file_long, graph_goes}
-use Rattle.wg_outcomes.proofs.Statuses.{absent_caused, bad_own, failed_caused, own_caused}
+use Rattle.wg_outcomes.proofs.FileLemmas.{file_goes, held_goes}
+use Rattle.wg_readings.proofs.PassLemmas.{graph_goes}
+use Rattle.wg_outcomes.proofs.Statuses.{bad_own, own_caused}
 use Rattle.wg_readings.proofs.UnderWay.{cause_later}
+use Rattle.wg_readings.proofs.FindingLemmas.{caused_at, error_steps, nothing_held, of_input}
 use Rattle.wg_readings.proofs.LoadLemmas.{end_caused}
 use Rattle.wg_readings.proofs.ReadingsLemmas.{goes_on_from, offsets_refused, steps_alike}
 
--- ---- causes
-load_caused : (told : Bool) (name : List ℕ) (files : Files) (old new : List ℕ → Counts) (h : Held) (e : LoadError) → HasReadCause told name files old new h e
-    → (names : Input → Option (List ℕ)) → names Offsets ≡ Some name → HasCause names no_outputs old new 0 0 (load_ending e).status
-load_caused told name files old new h load.Failed cause names named = failed_caused _ _ _ _ _ _ Offsets name named (cause.failed refl)
-load_caused told name files old new h load.Absent cause names named = absent_caused _ _ _ _ _ _ Offsets name named (cause.absent refl)
-load_caused told name files old new h e cause names named = own_caused _ _ _ _ _ _ (load_ending e).status tt
-
 -- ---- what an error leads to
 module _ (r : Readings) (p : Parameters) where
-  by_file : (e : LoadError) (file : List ℕ) → e ≢ load.Absent → (e ≡ load.TooLong → MOST_BYTES < length file) → (next : List ℕ → Judged) → Answers (offsets_then r p (Some file) next) (load_ending e).status
-  by_file load.Absent file there long next = absurd (there refl)
-  by_file load.Failed file there long next = inr tt
-  by_file load.Memory file there long next = inr tt
-  by_file load.TooLong file there long next = inl (sym (ap status_of (file_long Offsets file (long refl) (λ more. with_offsets r p more next))))
-
-  load_steps : (e : LoadError) (held : Option (List ℕ)) → (held ≡ None → e ≡ load.Absent) → ((file : List ℕ) → held ≡ Some file → (e ≢ load.Absent) × (e ≡ load.TooLong → MOST_BYTES < length file))
-      → (next : List ℕ → Judged) → Answers (offsets_then r p held next) (load_ending e).status
-  load_steps e None none some next = inl (ap (λ (x : LoadError). (load_ending x).status) (none refl))
-  load_steps e (Some file) none some next = let k = some file refl in by_file e file k.0 k.1 next
-
   word_steps : IsWithinLimits p → (w : OffsetWord) (file : List ℕ) → length file ≤ MOST_BYTES → ReadsOffsets p.offsets p.nodes (bits_of file) (Err w) → (next : List ℕ → Judged)
       → Answers (offsets_then r p (Some file) next) (BadArchive (archive.Offsets w))
   word_steps limits w file short reads next =
@@ -72,24 +55,17 @@ module _ (r : Readings) (p : Parameters) where
   pub places_go : IsWithinLimits p → (held : Option (List ℕ)) (file : List ℕ) → held ≡ Some file → length file ≤ MOST_BYTES → (places : List ℕ) → ReadsOffsets p.offsets p.nodes (bits_of file) (Ok places)
       → (next : List ℕ → Judged) → offsets_then r p held next ≡ next places
   places_go limits held file is short places reads next =
-      ap (λ (o : Option (List ℕ)). offsets_then r p o next) is
-      ∙ file_goes Offsets file short (λ more. with_offsets r p more next) ∙ goes_on_from r p limits file places reads next
+      held_goes Offsets held file is short (λ more. with_offsets r p more next) ∙ goes_on_from r p limits file places reads next
 
 module _ (told : Bool) (name : List ℕ) (files : Files) (old new : List ℕ → Counts) (h : Held) (p : Parameters) where
   pub load_stopped : (e : LoadError) → HasReadCause told name files old new h e → (IsTrue told → map.get files name ≡ None → e ≡ load.Absent)
       → (IsTrue told → (file : List ℕ) → map.get files name ≡ Some file → IsHeldOf file h) → IsStopped told files old new p name (load_ending e)
   load_stopped e cause none some = record {
-    only = by_error e;
-    causes = load_caused told name files old new h e cause;
+    only = inl (of_input Offsets e);
+    causes = caused_at told name files old new h Offsets e cause;
     refused = λ t limits r next.
-        load_steps r p e (map.get files name) (none t) (λ file is. (cause.there t file is, cause.long t file is (some t file is))) next;
+        error_steps Offsets e (map.get files name) (none t) (λ file is. (cause.there t file is, cause.long t file is (some t file is))) (λ more. with_offsets r p more next);
   }
-    where
-      by_error : (e : LoadError) → IsStopAt Offsets p.arcs (load_ending e)
-      by_error load.Failed = inl (inr (inl refl))
-      by_error load.Absent = inl (inr (inr (inl refl)))
-      by_error load.TooLong = inl (inr (inr (inr refl)))
-      by_error load.Memory = inl (inl refl)
 
   pub word_stopped : (e : WordError LoadError) → OfRefusal e (HasReadCause told name files old new h) → h.looked ≡ true → (IsTrue told → (file : List ℕ) × (map.get files name ≡ Some file))
       → (IsTrue told → (file : List ℕ) → map.get files name ≡ Some file → IsHeldOf file h × OfWord e (λ w. ReadsOffsets p.offsets p.nodes (bits_of file) (Err w)))
@@ -151,8 +127,7 @@ still_named files files' m n file same named is = ap (λ (k : List ℕ). map.get
 
 -- ---- the first word
 pub unread_held : (p : Parameters) (b : Pairing) (file : List ℕ) → IsUnread p b → IsHeldOf file b.held
-unread_held p b file u =
-    subst (IsHeldOf file) (sym u.held) (record { before = []; behind = file; whole = refl; offset = refl; ended = λ e. absurd (cc e); short = λ e. absurd (cc e) })
+unread_held p b file u = nothing_held file b.held u.held
 
 pub looked_read : (p : Parameters) (a b : Pairing) (bits : List Bool) → IsUnread p a → b.words ≡ a.words → b.held ≡ record a.held { looked = true } → AreRead bits b.words b.held.at []
 looked_read p a b bits u same is =

@@ -1,8 +1,8 @@
 -- A graph file that is read in pieces, in a judgement.
-use Rattle.std.proofs.Common.{◌≡◌, ◌≢◌, inl, inr, ℕ, ◌<◌, ◌≤◌, Bool, true, false, List, nat_lt, length, refl, sym, ◌∙◌, ap, subst, Option, Some, None, Err}
+use Rattle.std.proofs.Common.{◌≡◌, ◌≢◌, inl, inr, ℕ, ◌<◌, Bool, true, false, List, nat_lt, length, refl, sym, ◌∙◌, ap, subst, Option, Some, None, Err}
 use Rattle.std.specs.Bool.{IsTrue}
 use Rattle.std.specs.FinMap as map
-use Rattle.std.proofs.lemmas.Bool.{cond-false, cond-true, le-ltb, lt-ltb}
+use Rattle.std.proofs.lemmas.Bool.{cond-true, lt-ltb}
 use Rattle.wg_io.specs.declared.limits.TheConstants.{MOST_BYTES}
 use Rattle.wg_io.specs.Outside.{Files, Counts}
 use Rattle.wg_params.specs.Parameters.{Parameters, IsWithinLimits}
@@ -30,6 +30,8 @@ use Rattle.wg_outcomes.specs.declared.ending.Ending.{Ending}
 use Rattle.wg_outcomes.specs.declared.status.Input.{Input}
 use Rattle.wg_outcomes.specs.declared.status.Input.TheVariants.{Graph}
 use Rattle.wg_outcomes.specs.declared.status.Status.TheVariants.{BadArchive, OverLimit}
+pub use Rattle.wg_outcomes.proofs.FileLemmas.{file_goes}
+use Rattle.wg_outcomes.proofs.FileLemmas.{held_goes}
 use Rattle.wg_readings.proofs.ReadingsLemmas.{goes_on, is_refused}
 use Rattle.wg_outcomes.proofs.Statuses.{absent_caused, failed_caused, own_caused}
 
@@ -56,10 +58,7 @@ module _ (told : Bool) (name : List ℕ) (files : Files) (old new : List ℕ →
 
 -- ---- what it tells of a file that is told
 
--- a file that is there, its length within the limit
-pub file_goes : (i : Input) (bytes : List ℕ) → length bytes ≤ MOST_BYTES → (next : List ℕ → Judged) → with_file i (Some bytes) next ≡ next bytes
-file_goes i bytes few next = cond-false (nat_lt MOST_BYTES (length bytes)) (refused (OverLimit i)) (next bytes) (le-ltb MOST_BYTES (length bytes) few)
-
+-- a file that is there, its length past the limit
 pub file_long : (i : Input) (bytes : List ℕ) → MOST_BYTES < length bytes → (next : List ℕ → Judged) → with_file i (Some bytes) next ≡ refused (OverLimit i)
 file_long i bytes many next = cond-true (nat_lt MOST_BYTES (length bytes)) (refused (OverLimit i)) (next bytes) (lt-ltb MOST_BYTES (length bytes) many)
 
@@ -71,9 +70,7 @@ pub record IsErrorOf (p : Parameters) (file : List ℕ) (f : First) : Type 0 whe
 
 module _ (r : Readings) (p : Parameters) (limits : IsWithinLimits p) where
   pub graph_goes : (held : Option (List ℕ)) (a : Accepted) → IsGraphFile held p a → (next : Accepted → Judged) → graph_then r p held next ≡ next a
-  graph_goes held a h next =
-      subst (λ (o : Option (List ℕ)). graph_then r p o next ≡ next a) (sym h.is)
-      (file_goes Graph h.file h.judged.short (λ bytes. with_graph r p bytes next) ∙ goes_on r p limits h.file a.graph a.places h.judged.reads next)
+  graph_goes held a h next = held_goes Graph held h.file h.is h.judged.short (λ bytes. with_graph r p bytes next) ∙ goes_on r p limits h.file a.graph a.places h.judged.reads next
 
   fault_refuses : (file : List ℕ) (x : ArchiveFault) → IsJudged file p (Err x) → (next : Accepted → Judged) → Answers (graph_then r p (Some file) next) (BadArchive x)
   fault_refuses file x h next =

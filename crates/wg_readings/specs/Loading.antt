@@ -22,6 +22,7 @@ use Rattle.wg_outcomes.specs.Causes.{HasCause}
 use Rattle.wg_outcomes.specs.Judged.{Judged, claim_then, map_then, text_then, weights_then, with_arcs, with_digraph, with_file, with_lengths, with_parameters, offsets_then}
 use Rattle.wg_outcomes.specs.Names.{IsOfInput, certificate_named, file_of, held_by, list_named, map_named, no_outputs, text_named, weights_named}
 use Rattle.wg_readings.specs.Pairing.{files_then}
+pub use Rattle.wg_readings.specs.Pairing.{status_at}
 use Rattle.wg_readings.specs.Passes.{IsGraphFile, graph_then}
 use Rattle.wg_outcomes.specs.Promised.{IsStopAt}
 use Rattle.wg_outcomes.specs.Readings.{Readings}
@@ -45,13 +46,6 @@ pub record Loads (names : Input → Option (List ℕ)) (i : Input) (told : Bool)
   pub same : files' ≡ files
   pub later : NonDecreasing counts counts'
   pub short : IfOk result (λ bytes. length bytes ≤ MOST_BYTES)
-
--- how a job ends at an error of an input
-abbrev pub status_at : Input → LoadError → Status
-status_at i load.Absent = Missing i
-status_at i load.Failed = ReadFault i
-status_at i load.TooLong = OverLimit i
-status_at i load.Memory = Memory
 
 -- goes on with the parameters that the properties file gives
 abbrev pub params_then : Option (List ℕ) → (Parameters → Judged) → Judged

@@ -24,14 +24,19 @@ use Rattle.wg_outcomes.specs.declared.ending.Ending.{Ending}
 use Rattle.wg_readings.specs.declared.pairing.Pairing.{Pairing}
 use Rattle.wg_outcomes.specs.declared.status.Input.{Input}
 use Rattle.wg_outcomes.specs.declared.status.Input.TheVariants as input
+use Rattle.wg_outcomes.specs.declared.status.Status.{Status}
 use Rattle.wg_outcomes.specs.declared.status.Status.TheVariants.{Memory, ReadFault, Missing, BadArchive, OverLimit}
+
+-- how a job ends at an error of an input
+abbrev pub status_at : Input → LoadError → Status
+status_at i load.Absent = Missing i
+status_at i load.Failed = ReadFault i
+status_at i load.TooLong = OverLimit i
+status_at i load.Memory = Memory
 
 -- how a job ends whose offsets file is not read on
 abbrev pub load_ending : LoadError → Ending
-load_ending load.Absent = record { status = Missing input.Offsets; promised = 0 }
-load_ending load.Failed = record { status = ReadFault input.Offsets; promised = 0 }
-load_ending load.TooLong = record { status = OverLimit input.Offsets; promised = 0 }
-load_ending load.Memory = record { status = Memory; promised = 0 }
+load_ending e = record { status = status_at input.Offsets e; promised = 0 }
 
 -- how it ends at a word, where the properties promise so many arcs
 abbrev pub word_ending : ℕ → WordError LoadError → Ending

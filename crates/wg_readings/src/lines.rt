@@ -4,7 +4,8 @@ ghost use Rattle.std.specs.FinMap as map;
 ghost use Rattle.wg_io.specs.Outside.{NonDecreasing};
 ghost use Rattle.wg_num.specs.Lines.{lines_of};
 ghost use Rattle.wg_lines.specs.Reading.{lines_after, IsReadable};
-ghost use Rattle.wg_readings.specs.Loading.{LoadsBy, status_at};
+ghost use Rattle.wg_readings.specs.Loading.{LoadsBy};
+ghost use Rattle.wg_readings.specs.Pairing.{status_at};
 ghost use Rattle.wg_outcomes.specs.declared.status.Input.{Input};
 
 use std::alloc::Global;

@@ -29,7 +29,7 @@ use Rattle.wg_outcomes.specs.declared.status.Input.{Input}
 use Rattle.wg_outcomes.specs.declared.status.Input.TheVariants as input
 use Rattle.wg_outcomes.specs.declared.status.Status.{Status}
 use Rattle.wg_outcomes.specs.declared.status.Status.TheVariants.{Memory, ReadFault, Missing, BadProperties, BadArchive, TooManyArcs, OverLimit}
-use Rattle.wg_outcomes.proofs.Statuses.{absent_caused, failed_caused, own_caused}
+use Rattle.wg_outcomes.proofs.Statuses.{IsStop, absent_caused, failed_caused, own_caused}
 use Rattle.wg_readings.proofs.JobSteps.{IsRefusal, ends_refused, want_refuses}
 use Rattle.wg_readings.proofs.UnderWay.{cause_later}
 use Rattle.wg_outcomes.specs.Commands.{builds, with_union}
@@ -39,7 +39,7 @@ use Rattle.wg_outcomes.specs.Performs.{BuildsArchive, Outside, Performs, judged_
 use Rattle.wg_outcomes.specs.Reached.{Reaches}
 use Rattle.wg_transforms.specs.declared.loaded.Loaded.{Loaded}
 use Rattle.wg_outcomes.proofs.BuildLemmas.{written}
-use Rattle.wg_outcomes.proofs.PerformsLemmas.{IsStop, stopped}
+use Rattle.wg_outcomes.proofs.PerformsLemmas.{stopped}
 
 -- ---- each end at an archive, and each of its files
 

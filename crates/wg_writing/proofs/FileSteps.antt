@@ -20,8 +20,8 @@ use Rattle.wg_outcomes.specs.Causes.{IncreasedAt}
 use Rattle.wg_outcomes.specs.Written.{ArchiveFiles, FaultsRose, FilesAfter, IsStopped, IsStoppedAt, StayBeside, Touches, archive_in, emptied, unnamed}
 use Rattle.wg_outcomes.specs.declared.ending.Ending.{Ending}
 use Rattle.wg_outcomes.specs.declared.status.Status.TheVariants.{Done, Memory, WriteFault}
-use Rattle.wg_outcomes.proofs.Statuses.{rose_late}
-use Rattle.wg_outcomes.proofs.WritingLemmas.{by_stop, rose_there, stopped_at}
+use Rattle.wg_outcomes.proofs.Statuses.{by_stop, rose_late}
+use Rattle.wg_outcomes.proofs.WritingLemmas.{rose_there, stopped_at}
 use Rattle.wg_outcomes.proofs.BuildLemmas.{others_twice}
 use Rattle.wg_writing.specs.Writing.{WritesFiles, names_of, whole}
 use Rattle.wg_writing.specs.declared.writing.FileNames.{FileNames}

@@ -4,7 +4,7 @@ use Rattle.wg_words.specs.declared.defaults.TheConstants.{DEFAULT_DAMPING}
 use Rattle.wg_outcomes.specs.Ranked.{bounds_after}
 use Rattle.wg_outcomes.specs.declared.outcome.TheConstants.{BULK_ROUNDS}
 use Rattle.wg_builds.proofs.BulkLemmas.{bounds_of_graph, no_graph}
-use Rattle.wg_outcomes.proofs.SteadyLemmas.{faultless}
+use Rattle.wg_outcomes.proofs.PerformsLemmas.{faultless}
 use Rattle.wg_outcomes.proofs.WritingLemmas.{if_that_err}
 use Rattle.wg_builds.proofs.generated.rounded.Goals as goal
 

@@ -1,7 +1,7 @@
 use Rattle.std.proofs.Common.{ℕ, List, refl}
 use Rattle.wg_io.specs.Memory.{steady_counts}
 use Rattle.wg_words.specs.Jobs.{job_of}
-use Rattle.wg_outcomes.proofs.SteadyLemmas.{faultless}
+use Rattle.wg_outcomes.proofs.PerformsLemmas.{faultless}
 use Rattle.wg_cli.proofs.SteadyLemmas.{no_read_fault, no_write_fault, only_wants}
 use Rattle.wg_cli.proofs.steady.run_in_memory.Goals as goal
 

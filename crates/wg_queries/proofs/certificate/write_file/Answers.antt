@@ -1,7 +1,8 @@
 use Rattle.std.proofs.Common.{ap, inl, inr}
 use Rattle.std.specs.FinMap as map
+use Rattle.std.proofs.lemmas.Result.{IfErr-weaker}
 use Rattle.wg_io.specs.Outside.{Files}
-use Rattle.wg_outcomes.proofs.WritingLemmas.{if_err_then, if_that_err, touches_exit, touches_twice}
+use Rattle.wg_outcomes.proofs.WritingLemmas.{if_that_err, touches_exit, touches_twice}
 use Rattle.wg_queries.proofs.certificate.write_file.Goals as goal
 
 pub returns-in_err-create_file-clause-err : goal.returns-in_err-create_file-clause-err
@@ -15,7 +16,7 @@ pub returns-clause-ok : goal.returns-clause-ok
 returns-clause-ok g c = λ t. c.append.ensures.ok t (c.in_ok-create_file.ensures.ok t)
 
 pub returns-clause-err : goal.returns-clause-err
-returns-clause-err g c = λ t. if_err_then _ _ c.append.result (c.append.ensures.err t (c.in_ok-create_file.ensures.ok t)) (λ e less. inr less)
+returns-clause-err g c = λ t. IfErr-weaker c.append.result _ _ (λ e less. inr less) (c.append.ensures.err t (c.in_ok-create_file.ensures.ok t))
 
 pub returns-clause-touches : goal.returns-clause-touches
 returns-clause-touches g c = touches_twice _ _ _ _ _ _ _ _ _ c.append.result c.in_ok-create_file.ensures.touches c.append.ensures.touches

@@ -4,7 +4,8 @@ use Rattle.wg_readings.proofs.LoadLemmas.{graph_loaded, graph_unloaded}
 use Rattle.wg_outcomes.specs.Answers.{HasOutput}
 use Rattle.wg_outcomes.specs.Ranked.{bounds_after, ranking_text}
 use Rattle.wg_readings.proofs.JobSteps.{performs_exit}
-use Rattle.wg_queries.proofs.RankJobs.{certifies, no_graph, no_params, no_room, no_weights, only_prints, weights_of_graph}
+use Rattle.wg_queries.proofs.RankJobs.{certifies, no_room, no_weights, of_graph, only_prints}
+use Rattle.wg_readings.proofs.GraphJobs.{no_graph, no_params}
 use Rattle.wg_queries.proofs.UntoldLemmas.{all_put, ranks_none, some_ranking, undone_graph, undone_params, undone_reading, undone_room, undone_weights, wants_since}
 use Rattle.wg_queries.proofs.rank.rank.Goals as goal
 
@@ -12,14 +13,14 @@ pub returns-in_err-params-clause-does : goal.returns-in_err-params-clause-does
 returns-in_err-params-clause-does g c =
     let asked = c.args.asked in
     performs_exit _ _ _ _ _ _ _ c.from_residual.ensures.1
-    (no_params c.args.base.now asked.rounds asked.damping asked.top c.args.weights.now c.args.certificate.now _ _ _ _ _ refl c.in_err-params.ensures)
+    (no_params _ _ _ (of_graph c.args.base.now asked.rounds asked.damping asked.top c.args.weights.now c.args.certificate.now) _ _ _ _ _ refl c.in_err-params.ensures)
 
 pub returns-in_err-bytes-clause-does : goal.returns-in_err-bytes-clause-does
 returns-in_err-bytes-clause-does g c =
     let asked = c.args.asked in
     let p = c.in_ok-params.params in
     performs_exit _ _ _ _ _ _ _ c.from_residual-in_err-bytes.ensures.1
-    (no_graph c.args.base.now asked.rounds asked.damping asked.top c.args.weights.now c.args.certificate.now _ _ _ p _ _ c.in_ok-params.ensures _ _ refl
+    (no_graph _ _ _ (of_graph c.args.base.now asked.rounds asked.damping asked.top c.args.weights.now c.args.certificate.now) _ _ _ p _ _ c.in_ok-params.ensures _ _ refl
     (graph_unloaded c.args.base.now p _ _ _ _ _ _ c.in_err-bytes.ensures))
 
 pub returns-in_err-lists-clause-does : goal.returns-in_err-lists-clause-does
@@ -28,7 +29,7 @@ returns-in_err-lists-clause-does g c =
     let p = c.in_ok-params.params in
     let e = c.in_err-lists.ensures in
     performs_exit _ _ _ _ _ _ _ c.from_residual-in_err-lists.ensures.1
-    (no_graph c.args.base.now asked.rounds asked.damping asked.top c.args.weights.now c.args.certificate.now _ _ _ p _ _ c.in_ok-params.ensures _ _ refl
+    (no_graph _ _ _ (of_graph c.args.base.now asked.rounds asked.damping asked.top c.args.weights.now c.args.certificate.now) _ _ _ p _ _ c.in_ok-params.ensures _ _ refl
     (graph_loaded c.args.base.now p _ _ _ _ _ c.in_ok-bytes.bytes _ c.as_slice.ensures c.in_ok-bytes.ensures (Err c.in_err-lists.field-0.0) e.refused e.only tt))
 
 pub returns-in_err-given-clause-does : goal.returns-in_err-given-clause-does
@@ -38,7 +39,7 @@ returns-in_err-given-clause-does g c =
     performs_exit _ _ _ _ _ _ _ c.from_residual-in_err-given.ensures.1
     (no_weights c.args.base.now asked.rounds asked.damping asked.top c.args.weights.now c.args.certificate.now _ _ _ p _ _ c.in_ok-params.ensures _ _ c.in_ok-lists.lists.graph
     (graph_loaded c.args.base.now p _ _ _ _ _ c.in_ok-bytes.bytes _ c.as_slice.ensures c.in_ok-bytes.ensures (Ok c.in_ok-lists.lists.graph) c.in_ok-lists.ensures.goes tt c.in_ok-lists.ensures.nodes)
-    _ _ refl (weights_of_graph _ _ _ _ _ _ _ _ _ c.nodes.ensures.count c.in_err-given.ensures))
+    _ _ refl (rw c.nodes.ensures.count at c.in_err-given.ensures))
 
 pub returns-in_err-first-clause-does : goal.returns-in_err-first-clause-does
 returns-in_err-first-clause-does g c =
@@ -47,7 +48,7 @@ returns-in_err-first-clause-does g c =
     performs_exit _ _ _ _ _ _ _ c.from_residual-in_err-first.ensures.1
     (no_room c.args.base.now asked.rounds asked.damping asked.top c.args.weights.now c.args.certificate.now _ g.O.Sink.told _ p _ _ c.in_ok-params.ensures _ _ c.in_ok-lists.lists.graph
     (graph_loaded c.args.base.now p _ _ _ _ _ c.in_ok-bytes.bytes _ c.as_slice.ensures c.in_ok-bytes.ensures (Ok c.in_ok-lists.lists.graph) c.in_ok-lists.ensures.goes tt c.in_ok-lists.ensures.nodes)
-    _ _ c.in_ok-given.given (weights_of_graph _ _ _ _ _ _ _ _ _ c.nodes.ensures.count c.in_ok-given.ensures)
+    _ _ c.in_ok-given.given (rw c.nodes.ensures.count at c.in_ok-given.ensures)
     _ _ _ refl c.in_err-first.ensures.only)
 
 pub returns-in-None-clause-does : goal.returns-in-None-clause-does
@@ -61,7 +62,7 @@ returns-in-None-clause-does g c =
     c.bounds_by_rounds-bounds.ensures c.in_ok-given.given f.weights ∙ ap (λ d. bounds_after graph c.in_ok-given.given d asked.rounds) f.damping in
     only_prints c.args.base.now asked.rounds asked.damping asked.top c.args.weights.now c.args.certificate.now _ g.O.Sink.told _ p _ _ c.in_ok-params.ensures _ _ graph
     (graph_loaded c.args.base.now p _ _ _ _ _ c.in_ok-bytes.bytes _ c.as_slice.ensures c.in_ok-bytes.ensures (Ok graph) c.in_ok-lists.ensures.goes tt c.in_ok-lists.ensures.nodes)
-    _ _ c.in_ok-given.given (weights_of_graph _ _ _ _ _ _ _ _ _ c.nodes.ensures.count c.in_ok-given.ensures)
+    _ _ c.in_ok-given.given (rw c.nodes.ensures.count at c.in_ok-given.ensures)
     c.bounds_by_rounds-bounds.result is c.in-None.is _ _ c.print_ranks.result o.puts o.refusals.only o.refusals.failed
 
 pub returns-clause-does : goal.returns-clause-does
@@ -74,7 +75,7 @@ returns-clause-does g c =
     c.bounds_by_rounds-bounds.ensures c.in_ok-given.given f.weights ∙ ap (λ d. bounds_after graph c.in_ok-given.given d asked.rounds) f.damping in
     certifies c.args.base.now asked.rounds asked.damping asked.top c.args.weights.now c.args.certificate.now _ g.O.Sink.told _ p _ _ c.in_ok-params.ensures _ _ graph
     (graph_loaded c.args.base.now p _ _ _ _ _ c.in_ok-bytes.bytes _ c.as_slice.ensures c.in_ok-bytes.ensures (Ok graph) c.in_ok-lists.ensures.goes tt c.in_ok-lists.ensures.nodes)
-    _ _ c.in_ok-given.given (weights_of_graph _ _ _ _ _ _ _ _ _ c.nodes.ensures.count c.in_ok-given.ensures)
+    _ _ c.in_ok-given.given (rw c.nodes.ensures.count at c.in_ok-given.ensures)
     c.bounds_by_rounds-bounds.result is c.in-Some.name c.in-Some.is _ c.certify.result c.certify.ensures.does
 
 pub returns-in_err-params-clause-anywhere : goal.returns-in_err-params-clause-anywhere
@@ -111,7 +112,7 @@ returns-in-None-clause-anywhere g c =
       wants = λ want. inr (inl (o.refusals.memory want));
       ranking = λ t done r.
           some_ranking graph c.args.weights.now c.in_ok-given.given c.in_ok-given.ensures.alike asked.rounds asked.damping asked.top c.bounds_by_rounds-bounds.result _ _ r c.requires.rounds c.requires.damping c.nodes.ensures.proper c.in_ok-lists.ensures.few
-          (weights_of_graph _ _ _ _ _ _ _ _ _ c.nodes.ensures.count c.in_ok-given.ensures).weights is (all_put (ranking_text r c.bounds_by_rounds-bounds.result asked.top) (g.O.Sink.taken c.args.out.now) (g.O.Sink.taken c.print_ranks.new.out) c.print_ranks.result o.refusals.only (o.puts t r) done);
+          (rw c.nodes.ensures.count at c.in_ok-given.ensures.weights) is (all_put (ranking_text r c.bounds_by_rounds-bounds.result asked.top) (g.O.Sink.taken c.args.out.now) (g.O.Sink.taken c.print_ranks.new.out) c.print_ranks.result o.refusals.only (o.puts t r) done);
     }
 
 pub returns-clause-anywhere : goal.returns-clause-anywhere
@@ -127,6 +128,6 @@ returns-clause-anywhere g c =
           (c.certify.ensures.wants want));
       ranking = λ t done r.
           some_ranking graph c.args.weights.now c.in_ok-given.given c.in_ok-given.ensures.alike asked.rounds asked.damping asked.top c.bounds_by_rounds-bounds.result _ _ r c.requires.rounds c.requires.damping c.nodes.ensures.proper c.in_ok-lists.ensures.few
-          (weights_of_graph _ _ _ _ _ _ _ _ _ c.nodes.ensures.count c.in_ok-given.ensures).weights is
+          (rw c.nodes.ensures.count at c.in_ok-given.ensures.weights) is
           (subst (HasOutput (ranking_text r c.bounds_by_rounds-bounds.result asked.top) (g.O.Sink.taken c.args.out.now) (g.O.Sink.taken c.certify.new.out)) done (c.certify.ensures.does.output t r));
     }

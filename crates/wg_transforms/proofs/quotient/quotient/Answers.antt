@@ -1,4 +1,4 @@
-use Rattle.std.proofs.Common.{◌≡◌, ℕ, Bool, List, [], ◌∷◌, Option, Result, Ok, Err, refl, subst}
+use Rattle.std.proofs.Common.{◌≡◌, ℕ, Bool, List, [], ◌∷◌, Option, Ok, Err, refl}
 use Rattle.wg_io.specs.Outside.{Files, Counts}
 use Rattle.wg_params.specs.Parameters.{Parameters}
 use Rattle.wg_graph.specs.Digraph.{Digraph}
@@ -17,14 +17,9 @@ use Rattle.wg_outcomes.specs.Commands.{builds}
 use Rattle.wg_outcomes.specs.Performs.{Outside, Performs}
 use Rattle.wg_readings.proofs.GraphJobs as graphs
 use Rattle.wg_readings.proofs.JobSteps.{ComesTo, ends_without, writes, performs_exit}
-use Rattle.wg_readings.proofs.NamedSteps.{comes_on_named, ends_named, map_refused}
+use Rattle.wg_readings.proofs.JobSteps.{comes_on_named, ends_named, map_refused}
 use Rattle.wg_readings.proofs.LoadLemmas.{graph_loaded, graph_unloaded}
 use Rattle.wg_transforms.proofs.quotient.quotient.Goals as goal
-
--- classes of as many pages
-map_of_graph : (name : List ℕ) (n m limit : ℕ) (td : Bool) (files files' : Files) (counts counts' : List ℕ → Counts) (r : Result (List ℕ) Ending) → n ≡ m
-    → LoadsMap name n limit td files files' counts counts' r → LoadsMap name m limit td files files' counts counts' r
-map_of_graph name n m limit td files files' counts counts' r count h = subst (λ (k : ℕ). LoadsMap name k limit td files files' counts counts' r) count h
 
 -- what is left to do with the classes, and with the graph
 abbrev behind_map : ℕ → Layout → Digraph → List ℕ → Readings → (Input → Option (List ℕ)) → Judged
@@ -33,13 +28,16 @@ behind_map classes layout g list r h = builds layout (quotient_of g list classes
 abbrev behind_graph : ℕ → Layout → Parameters → Digraph → Readings → (Input → Option (List ℕ)) → Judged
 behind_graph classes layout p g r h = map_then g.nodes classes (h Map) (λ list. behind_map classes layout g list r h)
 
+of_graph : (input map output : List ℕ) (classes : ℕ) (layout : Layout) → graphs.IsOfGraph (Quotient input map output classes layout) input (behind_graph classes layout)
+of_graph input map output classes layout = record { text_named = refl; graph_named = refl; judges = λ r h. refl }
+
 module _ (input map output : List ℕ) (classes : ℕ) (layout : Layout) (td to : Bool) (before : Outside) (p : Parameters) (files : Files) (counts : List ℕ → Counts) (l : LoadsParams input td before.files files before.counts counts (Ok p))
     (files1 : Files) (counts1 : List ℕ → Counts) (graph : Digraph) (g : LoadsGraph input p td files files1 counts counts1 (Ok graph)) where
   abbrev job : Job
   job = Quotient input map output classes layout
 
   come : ComesTo job p td before files1 counts1 (Graph ∷ Properties ∷ []) (behind_graph classes layout p graph)
-  come = graphs.has_graph job input td to before refl refl (behind_graph classes layout) (λ r h. refl) p files counts l files1 counts1 graph g
+  come = graphs.has_graph job input (behind_graph classes layout) (of_graph input map output classes layout) td to before p files counts l files1 counts1 graph g
 
   no_map : (after : Outside) (e : Ending) → after.taken ≡ before.taken → LoadsMap map graph.nodes classes td files1 after.files counts1 after.counts (Err e)
       → Performs job td to before after e.status e.promised
@@ -56,13 +54,13 @@ module _ (input map output : List ℕ) (classes : ℕ) (layout : Layout) (td to 
 pub returns-in_err-params : goal.returns-in_err-params
 returns-in_err-params g c =
     performs_exit _ _ _ _ _ _ _ c.from_residual.ensures.1
-    (graphs.no_params (Quotient c.args.input.now c.args.map.now c.args.output.now c.args.classes c.args.layout.now) c.args.input.now _ _ _ refl refl (behind_graph c.args.classes c.args.layout.now) (λ r h. refl) _ _ refl c.in_err-params.ensures)
+    (graphs.no_params _ _ _ (of_graph c.args.input.now c.args.map.now c.args.output.now c.args.classes c.args.layout.now) _ _ _ _ _ refl c.in_err-params.ensures)
 
 pub returns-in_err-bytes : goal.returns-in_err-bytes
 returns-in_err-bytes g c =
     let p = c.in_ok-params.params in
     performs_exit _ _ _ _ _ _ _ c.from_residual-in_err-bytes.ensures.1
-    (graphs.no_graph (Quotient c.args.input.now c.args.map.now c.args.output.now c.args.classes c.args.layout.now) c.args.input.now _ _ _ refl refl (behind_graph c.args.classes c.args.layout.now) (λ r h. refl) p _ _ c.in_ok-params.ensures
+    (graphs.no_graph _ _ _ (of_graph c.args.input.now c.args.map.now c.args.output.now c.args.classes c.args.layout.now) _ _ _ p _ _ c.in_ok-params.ensures
     _ _ refl (graph_unloaded c.args.input.now p _ _ _ _ _ _ c.in_err-bytes.ensures))
 
 pub returns-in_err-lists : goal.returns-in_err-lists
@@ -70,7 +68,7 @@ returns-in_err-lists g c =
     let p = c.in_ok-params.params in
     let e = c.in_err-lists.ensures in
     performs_exit _ _ _ _ _ _ _ c.from_residual-in_err-lists.ensures.1
-    (graphs.no_graph (Quotient c.args.input.now c.args.map.now c.args.output.now c.args.classes c.args.layout.now) c.args.input.now _ _ _ refl refl (behind_graph c.args.classes c.args.layout.now) (λ r h. refl) p _ _ c.in_ok-params.ensures
+    (graphs.no_graph _ _ _ (of_graph c.args.input.now c.args.map.now c.args.output.now c.args.classes c.args.layout.now) _ _ _ p _ _ c.in_ok-params.ensures
     _ _ refl (graph_loaded c.args.input.now p _ _ _ _ _ c.in_ok-bytes.bytes _ c.as_slice.ensures c.in_ok-bytes.ensures (Err c.in_err-lists.field-0.0) e.refused e.only tt))
 
 pub returns-in_err-classes_of : goal.returns-in_err-classes_of
@@ -80,7 +78,7 @@ returns-in_err-classes_of g c =
     performs_exit _ _ _ _ _ _ _ c.from_residual-in_err-classes_of.ensures.1
     (no_map c.args.input.now c.args.map.now c.args.output.now c.args.classes c.args.layout.now _ _ _ p _ _ c.in_ok-params.ensures
     _ _ graph (graph_loaded c.args.input.now p _ _ _ _ _ c.in_ok-bytes.bytes _ c.as_slice.ensures c.in_ok-bytes.ensures (Ok graph) c.in_ok-lists.ensures.goes tt c.in_ok-lists.ensures.nodes)
-    _ _ refl (map_of_graph _ _ _ _ _ _ _ _ _ _ c.nodes.ensures.count c.in_err-classes_of.ensures))
+    _ _ refl (rw c.nodes.ensures.count at c.in_err-classes_of.ensures))
 
 pub returns-in_err-made : goal.returns-in_err-made
 returns-in_err-made g c =
@@ -90,7 +88,7 @@ returns-in_err-made g c =
     (ends_without (Quotient c.args.input.now c.args.map.now c.args.output.now c.args.classes c.args.layout.now) c.args.input.now _ _ _ p _ _ _ _
     (come_to_map c.args.input.now c.args.map.now c.args.output.now c.args.classes c.args.layout.now _ g.O.Sink.told _ p _ _ c.in_ok-params.ensures
     _ _ graph (graph_loaded c.args.input.now p _ _ _ _ _ c.in_ok-bytes.bytes _ c.as_slice.ensures c.in_ok-bytes.ensures (Ok graph) c.in_ok-lists.ensures.goes tt c.in_ok-lists.ensures.nodes)
-    _ _ c.in_ok-classes_of.classes_of (map_of_graph _ _ _ _ _ _ _ _ _ _ c.nodes.ensures.count c.in_ok-classes_of.ensures))
+    _ _ c.in_ok-classes_of.classes_of (rw c.nodes.ensures.count at c.in_ok-classes_of.ensures))
     _ _ _ refl c.in_err-made.ensures.only)
 
 pub returns : goal.returns
@@ -102,5 +100,5 @@ returns g c =
     writes (Quotient c.args.input.now c.args.map.now c.args.output.now c.args.classes c.args.layout.now) c.args.input.now _ _ _ p _ _ _ _
     (come_to_map c.args.input.now c.args.map.now c.args.output.now c.args.classes c.args.layout.now _ g.O.Sink.told _ p _ _ c.in_ok-params.ensures
     _ _ graph (graph_loaded c.args.input.now p _ _ _ _ _ c.in_ok-bytes.bytes _ c.as_slice.ensures c.in_ok-bytes.ensures (Ok graph) c.in_ok-lists.ensures.goes tt c.in_ok-lists.ensures.nodes)
-    _ _ list (map_of_graph _ _ _ _ _ _ _ _ _ _ c.nodes.ensures.count c.in_ok-classes_of.ensures))
+    _ _ list (rw c.nodes.ensures.count at c.in_ok-classes_of.ensures))
     c.args.layout.now (quotient_of graph list c.args.classes) c.args.output.now (λ o. refl) refl refl _ c.build_archive.result (c.build_archive.ensures c.args.layout.now (quotient_of graph list c.args.classes) made.0 made.1)
