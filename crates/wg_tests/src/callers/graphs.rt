@@ -130,29 +130,36 @@ fn ways_by_runs_and_arcs(rt: HostRuntime) {
     assert!(rt; way_for(1, 1, 0) == Way::Lists);
 }
 
-// Along lists, along runs, and along in-lists. Page 3 dangles between two runs, and page 4, which links to itself, is a
-// run that ends at the last page.
+// Page 3 dangles between two runs to page 4, which links to itself: its last run ends at the last page.
 #[test]
-fn all_ways_leave_the_same_bounds(rt: HostRuntime) -> Result<(), Fail> {
+fn two_rounds_along_runs(rt: HostRuntime) -> Result<(), Fail> {
+    let graph = wg_arcs::read(rt.alloc(), b"0 4\n1 0\n1 4\n2 4\n4 4\n", 5)?;
+    let runs = Runs::of(rt.alloc(), &mut GraphLists::new(&graph))?;
+    let mut pulling = Pulling::new(rt.alloc(), runs)?;
+    let mut bounds = Bounds::new(rt.alloc(), 5, 850)?;
+    bounds.pull(&mut pulling);
+    bounds.pull(&mut pulling);
+    assert!(rt; pulling.nodes() == 5 && bounds.low(0) == 4785 * (UNITS / 100_000));
+    assert!(rt;
+        bounds.low(4) == 12_435 * (UNITS / 100_000) && bounds.high(0) == 149 * (UNITS / 1000)
+    );
+    Ok(())
+}
+
+// The same along in-lists.
+#[test]
+fn two_rounds_along_in_lists(rt: HostRuntime) -> Result<(), Fail> {
     let graph = wg_arcs::read(rt.alloc(), b"0 4\n1 0\n1 4\n2 4\n4 4\n", 5)?;
     let mut lists = GraphLists::new(&graph);
+    let in_lists = RunCounts::of(rt.alloc(), &mut lists)?.list(rt.alloc(), &mut lists)?;
+    let mut pulling = ListPulling::new(rt.alloc(), in_lists)?;
     let mut bounds = Bounds::new(rt.alloc(), 5, 850)?;
-    bounds.round(&mut lists);
-    bounds.round(&mut lists);
-    let runs = Runs::of(rt.alloc(), &mut lists)?;
-    let mut pulling = Pulling::new(rt.alloc(), runs)?;
-    let mut by_runs = Bounds::new(rt.alloc(), 5, 850)?;
-    by_runs.pull(&mut pulling);
-    by_runs.pull(&mut pulling);
-    assert!(rt; pulling.nodes() == 5 && by_runs.rounds() == 2);
-    assert!(rt; by_runs.lower() == bounds.lower() && by_runs.upper() == bounds.upper());
-    let counts = RunCounts::of(rt.alloc(), &mut lists)?;
-    let mut made = ListPulling::new(rt.alloc(), counts.list(rt.alloc(), &mut lists)?)?;
-    let mut by_lists = Bounds::new(rt.alloc(), 5, 850)?;
-    by_lists.pull(&mut made);
-    by_lists.pull(&mut made);
-    assert!(rt; made.nodes() == 5 && by_lists.rounds() == 2);
-    assert!(rt; by_lists.lower() == bounds.lower() && by_lists.upper() == bounds.upper());
+    bounds.pull(&mut pulling);
+    bounds.pull(&mut pulling);
+    assert!(rt; pulling.nodes() == 5 && bounds.low(0) == 4785 * (UNITS / 100_000));
+    assert!(rt;
+        bounds.low(4) == 12_435 * (UNITS / 100_000) && bounds.high(0) == 149 * (UNITS / 1000)
+    );
     Ok(())
 }
 
