@@ -1,34 +1,46 @@
 -- Sums of shares over lists of pages.
 use Rattle.std.specs.List.{sum_by}
-use Rattle.std.proofs.Common.{ℕ, ◌≡◌, ◌^◌, ◌<◌, ◌≤◌, All, List, [], ◌∷◌, length, refl, ap, sym, subst, arith, ◌∙◌}
-use Rattle.std.proofs.lemmas.List.Elements.{All-head, All-tail}
-use Rattle.std.proofs.lemmas.List.Sums.{sum_by-cons}
+use Rattle.std.proofs.Common.{ℕ, ◌≡◌, ◌-◌, ◌+◌, ◌*◌, ◌%◌, ◌^◌, ◌<◌, ◌≤◌, All, List, length, get_or, ap, arith, ◌∙◌}
+use Rattle.std.proofs.Math.Nat.{mod-eq_of_lt}
+use Rattle.std.proofs.lemmas.List.Sums.{sum_by-le}
 use Rattle.wg_params.specs.declared.limits.TheConstants.{MOST_PAGES}
 use Rattle.wg_graph.specs.Arcs.{has_arc}
 use Rattle.wg_graph.specs.Digraph.{Digraph}
 use Rattle.wg_transpose.specs.Transposed.{predecessors}
-use Rattle.wg_rank.specs.Intervals.{by_page}
+use Rattle.wg_rank.specs.Lanes.{low_bits, high_bits, in_lanes}
 use Rattle.wg_rank.specs.Shares.{AreShares}
 use Rattle.wg_rank.specs.declared.limits.TheConstants.{UNITS}
 use Rattle.wg_rank.proofs.Flow.{flow_le}
+use Rattle.wg_rank.proofs.LaneSums.{low_bits_small, high_bits_small, bits_join}
 use Rattle.wg_rank.proofs.Runs.{before_sum}
 
-module _ (n : ℕ) (s : ℕ → ℕ) (shares : List ℕ) (h : AreShares n s shares) where
-  pub shares_sum : (xs : List ℕ) → All (λ u. u < n) xs → sum_by (by_page shares) xs ≡ sum_by s xs
-  shares_sum [] within = refl
-  shares_sum (x ∷ xs) within =
-      let here = h.table.each x (All-head (λ (u : ℕ). u < n) x xs within) in
-      omega (arith, sum_by-cons (by_page shares) x xs, sum_by-cons s x xs, here, shares_sum xs (All-tail (λ (u : ℕ). u < n) x xs within))
+-- of at most 2^24 pages nothing is lost in lanes
+list_joins : (s : ℕ → ℕ) (xs : List ℕ) → length xs ≤ 2 ^ 24 → All (λ u. s u ≤ UNITS) xs
+    → sum_by (low_bits s) xs % 2 ^ 64 + sum_by (high_bits s) xs % 2 ^ 64 * 2 ^ 40 ≡ sum_by s xs
+list_joins s xs few small =
+    let lows : sum_by (low_bits s) xs ≤ length xs * (2 ^ 40 - 1) = sum_by-le (low_bits s) (2 ^ 40 - 1) xs (λ i d w. low_bits_small s (get_or xs i d)) in
+    let highs : sum_by (high_bits s) xs ≤ length xs * (2 ^ 40 - 1) = sum_by-le (high_bits s) (2 ^ 40 - 1) xs (λ i d w. high_bits_small s (get_or xs i d) (small i d w)) in
+    let a : sum_by (low_bits s) xs % 2 ^ 64 ≡ sum_by (low_bits s) xs = mod-eq_of_lt (omega arith) in
+    let b : sum_by (high_bits s) xs % 2 ^ 64 ≡ sum_by (high_bits s) xs = mod-eq_of_lt (omega arith) in
+    rw (a, b) (bits_join s xs)
 
-  -- of the pages that link to one page
-  pub shares_to : (g : Digraph) (v : ℕ) (xs : List ℕ) → xs ≡ predecessors g v → All (λ u. u < n) xs → sum_by (by_page shares) xs ≡ sum_by s (predecessors g v)
-  shares_to g v xs are within = shares_sum xs within ∙ ap (sum_by s) are
+module _ (n : ℕ) (low high : ℕ → ℕ) (shares : List (List ℕ)) (h : AreShares n low high shares) where
+  module _ (xs : List ℕ) (few : length xs ≤ 2 ^ 24) (within : All (λ u. u < length shares) xs) (lanes : List ℕ) (e : lanes ≡ in_lanes (λ s. sum_by s xs) low high) where
+    pub low_joins : get_or lanes 0 0 + get_or lanes 1 0 * 2 ^ 40 ≡ sum_by low xs
+    low_joins =
+        ap (λ (l : List ℕ). get_or l 0 0 + get_or l 1 0 * 2 ^ 40) e
+        ∙ list_joins low xs few (λ i d w. h.low_small (get_or xs i d) (omega (arith, h.pages, within i d w)))
 
-  -- no more than 1 for each page
-  pub shares_room : (g : Digraph) (v : ℕ) (xs : List ℕ) → g.nodes ≡ n → n ≤ MOST_PAGES → xs ≡ predecessors g v → All (λ u. u < n) xs → sum_by (by_page shares) xs < 2 ^ 128
-  shares_room g v xs e few are within =
-      let small : (u : ℕ) → u < g.nodes → s u ≤ UNITS = λ u w. h.small u (omega arith) in
-      omega (arith, shares_to g v xs are within, before_sum g s v, flow_le g.nodes UNITS (λ u. has_arc g u v) s small)
+    pub high_joins : get_or lanes 2 0 + get_or lanes 3 0 * 2 ^ 40 ≡ sum_by high xs
+    high_joins =
+        ap (λ (l : List ℕ). get_or l 2 0 + get_or l 3 0 * 2 ^ 40) e
+        ∙ list_joins high xs few (λ i d w. h.high_small (get_or xs i d) (omega (arith, h.pages, within i d w)))
 
   pub shares_there : (xs : List ℕ) → All (λ u. u < n) xs → All (λ u. u < length shares) xs
-  shares_there xs within = let size : n ≡ length shares = sym h.table.counted in subst (λ (m : ℕ). All (λ u. u < m) xs) size within
+  shares_there xs within = λ i d w. omega (arith, h.pages, within i d w)
+
+-- no more than 1 for each page
+pub shares_room : (g : Digraph) (v : ℕ) (s : ℕ → ℕ) (xs : List ℕ) → g.nodes ≤ MOST_PAGES → xs ≡ predecessors g v → ((u : ℕ) → u < g.nodes → s u ≤ UNITS)
+    → sum_by s xs ≤ MOST_PAGES * UNITS
+shares_room g v s xs few are small =
+    omega (arith, ap (sum_by s) are, before_sum g s v, flow_le g.nodes UNITS (λ u. has_arc g u v) s small)

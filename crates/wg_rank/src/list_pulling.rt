@@ -1,5 +1,5 @@
 //! What flows to each page, along the list of the pages that link to it.
-ghost use Rattle.std.specs.Prelude.{◌≡◌, ℕ, ◌+◌, ◌*◌, ◌^◌, ◌<◌, ◌≤◌, length, All, IfOk};
+ghost use Rattle.std.specs.Prelude.{◌≡◌, ℕ, ◌*◌, ◌<◌, ◌≤◌, length, All, IfOk};
 ghost use Rattle.std.specs.List.{sum_by};
 ghost use Rattle.wg_params.specs.declared.limits.TheConstants.{MOST_PAGES};
 ghost use Rattle.wg_graph.specs.Digraph.{Digraph, IsGraph};
@@ -8,15 +8,18 @@ ghost use Rattle.wg_runs.specs.declared.run.TheConstants.{MOST_PAGES_IN_RUNS};
 ghost use Rattle.wg_rank.specs.Rank.{sum_dangling};
 ghost use Rattle.wg_rank.specs.Intervals.{IsTable, by_page};
 ghost use Rattle.wg_rank.specs.Inflows.{low_flows, high_flows};
+ghost use Rattle.wg_rank.specs.Lanes.{in_lanes};
 ghost use Rattle.wg_rank.specs.Pulling.{low_share, high_share, given};
 ghost use Rattle.wg_rank.specs.Shares.{AreShares};
 ghost use Rattle.wg_rank.specs.declared.limits.TheConstants.{UNITS};
 
 use crate::divisor::Divisors;
 use crate::gathering::Gather;
-use crate::inflows::{high_flow, low_flow, put};
+use crate::inflows::put;
+use crate::lanes::{MOST_ADDED, from_lanes, in_lanes};
 use std::alloc::{AllocError, Global};
 use std::marker::Model;
+use std::simd::u64x4;
 use wg_runs::InLists;
 
 /// The pages that link to each page of a graph, and the room for a round along them. It is seen as the graph. It holds
@@ -24,19 +27,19 @@ use wg_runs::InLists;
 #[derive(Drop)]
 pub struct ListPulling {
     lists: InLists,
-    // What each page gives to each of its successors, below and above, side by side.
-    shares: Vec<u128>,
+    // What each page gives to each of its successors, in lanes.
+    shares: Vec<u64x4>,
 }
 
 impl Model for ListPulling {
-    ghost use Rattle.std.specs.Prelude.{◌≡◌, ◌*◌, length};
+    ghost use Rattle.std.specs.Prelude.{◌≡◌, length};
     ghost use Rattle.wg_graph.specs.Digraph.{Digraph};
 
     ghost Value = { Digraph };
 
     ghost view = { λ p. p.lists };
 
-    ghost invariant = { λ p. length p.shares.items ≡ 2 * p.lists.nodes };
+    ghost invariant = { λ p. length p.shares.items ≡ p.lists.nodes };
 }
 
 impl ListPulling {
@@ -44,7 +47,7 @@ impl ListPulling {
     pub fn new(alloc: Global, lists: InLists) -> Result<ListPulling, AllocError>
         ensures { IfOk result (λ p. p ≡ lists) }
     {
-        let shares = vec![in alloc; 0; 2 * lists.nodes() as usize]?;
+        let shares = vec![in alloc; u64x4::splat(0); lists.nodes() as usize]?;
         Ok(ListPulling { lists, shares })
     }
 
@@ -73,17 +76,15 @@ impl Gather for ListPulling {
 
 // Writes down what each page gives to each of its successors. A page without successors gives nothing there; the answer
 // is what these hold, below and above.
-fn set_shares(lists: &InLists, low: &[u128], high: &[u128], shares: &mut [u128]) -> (u128, u128)
+fn set_shares(lists: &InLists, low: &[u128], high: &[u128], shares: &mut [u64x4]) -> (u128, u128)
     requires few { length low.now ≤ MOST_PAGES }
     requires pages { lists.now.nodes ≡ length low.now }
     requires high_pages { length high.now ≡ length low.now }
-    requires share_pages { length shares.old ≡ 2 * length low.now }
+    requires share_pages { length shares.old ≡ length low.now }
     requires low_units { All (λ x. x ≤ UNITS) low.now }
     requires high_units { All (λ x. x ≤ UNITS) high.now }
-    ensures low { AreShares lists.now.nodes (given lists.now (low_share lists.now (by_page low.now)))
-        (low_flows shares.new) }
-    ensures high { AreShares lists.now.nodes (given lists.now (high_share lists.now (by_page high.now)))
-        (high_flows shares.new) }
+    ensures shares { AreShares lists.now.nodes (given lists.now (low_share lists.now (by_page low.now)))
+        (given lists.now (high_share lists.now (by_page high.now))) shares.new }
     ensures low_dangling { result.0 ≡ sum_dangling lists.now (by_page low.now) }
     ensures high_dangling { result.1 ≡ sum_dangling lists.now (by_page high.now) }
 {
@@ -95,47 +96,63 @@ fn set_shares(lists: &InLists, low: &[u128], high: &[u128], shares: &mut [u128])
         if degree == 0 {
             low_dangling += low[u];
             high_dangling += high[u];
-            put(shares, u, 0, 0);
+            shares[u] = u64x4::splat(0);
         } else {
             let outdegree = divisors.get(degree);
-            let below = outdegree.quotient(low[u]);
-            let above = outdegree.quotient_up(high[u]);
-            put(shares, u, below, above);
+            shares[u] = in_lanes(outdegree.quotient(low[u]), outdegree.quotient_up(high[u]));
         }
     }
     (low_dangling, high_dangling)
 }
 
-// The two sums of the shares of these pages.
+// What these pages give, in lanes.
 #[inline(always)]
-fn flow_from(shares: &[u128], sources: &[u32]) -> (u128, u128)
-    requires low { All (λ u. u < length (low_flows shares.now)) sources.now }
-    requires high { All (λ u. u < length (high_flows shares.now)) sources.now }
-    requires low_room { sum_by (by_page (low_flows shares.now)) sources.now < 2 ^ 128 }
-    requires high_room { sum_by (by_page (high_flows shares.now)) sources.now < 2 ^ 128 }
-    ensures low { result.0 ≡ sum_by (by_page (low_flows shares.now)) sources.now }
-    ensures high { result.1 ≡ sum_by (by_page (high_flows shares.now)) sources.now }
+fn lanes_from(shares: &[u64x4], sources: &[u32]) -> u64x4
+    requires { All (λ u. u < length shares.now) sources.now }
+    ensures { (n : ℕ) (low high : ℕ → ℕ) → AreShares n low high shares.now
+        → result ≡ in_lanes (λ s. sum_by s sources.now) low high }
+{
+    let mut flow = u64x4::splat(0);
+    for source in sources {
+        flow += shares[*source as usize];
+    }
+    flow
+}
+
+// The two sums of what these pages give, in parts that fit the lanes.
+#[inline(always)]
+fn flow_from(shares: &[u64x4], sources: &[u32]) -> (u128, u128)
+    requires within { All (λ u. u < length shares.now) sources.now }
+    requires shares { (n : ℕ) × (low : ℕ → ℕ) × (high : ℕ → ℕ) × AreShares n low high shares.now
+        × (sum_by low sources.now ≤ MOST_PAGES * UNITS) × (sum_by high sources.now ≤ MOST_PAGES * UNITS) }
+    ensures low { (n : ℕ) (low high : ℕ → ℕ) → AreShares n low high shares.now
+        → result.0 ≡ sum_by low sources.now }
+    ensures high { (n : ℕ) (low high : ℕ → ℕ) → AreShares n low high shares.now
+        → result.1 ≡ sum_by high sources.now }
 {
     let mut below = 0;
     let mut above = 0;
-    for source in sources {
-        let page = *source as usize;
-        below += low_flow(shares, page);
-        above += high_flow(shares, page);
+    let mut left = sources;
+    'parts: while left.len() > MOST_ADDED {
+        let (part, rest) = left.split_at(MOST_ADDED);
+        let (low, high) = from_lanes(lanes_from(shares, part));
+        below += low;
+        above += high;
+        left = rest;
     }
-    (below, above)
+    let (low, high) = from_lanes(lanes_from(shares, left));
+    (below + low, above + high)
 }
 
-// Puts in place for each page what its predecessors give, where `shares` has what each page gives.
-fn gather_shares(lists: &InLists, shares: &[u128], inflows: &mut [u128])
+// Puts in place for each page what its predecessors give, whatever each page gives, if `shares` has that.
+fn gather_shares(lists: &InLists, shares: &[u64x4], inflows: &mut [u128])
     requires few { lists.now.nodes ≤ MOST_PAGES }
     requires inflow_pages { length inflows.old ≡ 2 * lists.now.nodes }
-    requires low { (s : ℕ → ℕ) × AreShares lists.now.nodes s (low_flows shares.now) }
-    requires high { (s : ℕ → ℕ) × AreShares lists.now.nodes s (high_flows shares.now) }
-    ensures low { (s : ℕ → ℕ) → AreShares lists.now.nodes s (low_flows shares.now)
-        → IsTable (low_flows inflows.new) lists.now.nodes (λ v. sum_by s (predecessors lists.now v)) }
-    ensures high { (s : ℕ → ℕ) → AreShares lists.now.nodes s (high_flows shares.now)
-        → IsTable (high_flows inflows.new) lists.now.nodes (λ v. sum_by s (predecessors lists.now v)) }
+    requires shares { (low : ℕ → ℕ) × (high : ℕ → ℕ) × AreShares lists.now.nodes low high shares.now }
+    ensures low { (low high : ℕ → ℕ) → AreShares lists.now.nodes low high shares.now
+        → IsTable (low_flows inflows.new) lists.now.nodes (λ v. sum_by low (predecessors lists.now v)) }
+    ensures high { (low high : ℕ → ℕ) → AreShares lists.now.nodes low high shares.now
+        → IsTable (high_flows inflows.new) lists.now.nodes (λ v. sum_by high (predecessors lists.now v)) }
 {
     for v in 0..lists.nodes() {
         let (below, above) = flow_from(shares, lists.of_page(v));

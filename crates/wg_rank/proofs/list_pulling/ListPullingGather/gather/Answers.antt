@@ -17,7 +17,7 @@ returns-clause-low_flow c =
     let n : g.nodes ≡ length c.args.low.now = omega (arith, ap (λ (h : Digraph). h.nodes) c.self.view_is) in
     let same : c.deref.result.now ≡ c.set_shares-dangling.new.shares = c.deref.ensures.value ∙ with_items_is c.self.inside.shares c.set_shares-dangling.new.shares (omega arith) in
     let share : ℕ → ℕ = low_share g (by_page c.args.low.now) in
-    let table = c.gather_shares.ensures.low (given g share) (rw same c.set_shares-dangling.ensures.low) in
+    let table = c.gather_shares.ensures.low (given g share) (given g (high_share g (by_page c.args.high.now))) (rw same c.set_shares-dangling.ensures.shares) in
     rw (← c.self.view_is) (λ v w. table.each v (omega arith) ∙ in_sum g share v)
 
 pub returns-clause-high_flow : goal.returns-clause-high_flow
@@ -26,7 +26,7 @@ returns-clause-high_flow c =
     let n : g.nodes ≡ length c.args.low.now = omega (arith, ap (λ (h : Digraph). h.nodes) c.self.view_is) in
     let same : c.deref.result.now ≡ c.set_shares-dangling.new.shares = c.deref.ensures.value ∙ with_items_is c.self.inside.shares c.set_shares-dangling.new.shares (omega arith) in
     let share : ℕ → ℕ = high_share g (by_page c.args.high.now) in
-    let table = c.gather_shares.ensures.high (given g share) (rw same c.set_shares-dangling.ensures.high) in
+    let table = c.gather_shares.ensures.high (given g (low_share g (by_page c.args.low.now))) (given g share) (rw same c.set_shares-dangling.ensures.shares) in
     rw (← c.self.view_is) (λ v w. table.each v (omega arith) ∙ in_sum g share v)
 
 pub returns-clause-low_room : goal.returns-clause-low_room
