@@ -4,3 +4,4 @@ pub mod OneFile
 pub mod Differences
 pub mod ErrorLemmas
 pub mod ComparingLemmas
+pub mod SamplesLemmas

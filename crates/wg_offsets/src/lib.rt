@@ -10,6 +10,9 @@
 //! the records that were read; a [`Comparison`] does so record after record. The function of [`laws`] states that each
 //! file has one list of places or one first fault.
 //!
+//! [`Samples`] keep the place of one page in [`SAMPLED`] of a file that was read to its end, and find that of any other
+//! by the words in between, which are read again.
+//!
 //! An offsets file of two bytes, and one that is cut off:
 //!
 //! ```rust
@@ -23,9 +26,9 @@
 //! Ok(())
 //! ```
 //!
-//! Offsets hold 8 bytes for each offset. Memory is taken as the words come, and never by the number of pages that an
-//! archive claims; words and a comparison take none. Reading costs a pass over the file, and looking up an offset takes
-//! constant time.
+//! Offsets hold 8 bytes for each offset, and samples 16 bytes for each 1024 pages. Memory is taken as the words come, and
+//! never by the number of pages that an archive claims; words and a comparison take none. Reading costs a pass over the
+//! file. To look up an offset takes constant time, and by samples that of reading at most 1024 words.
 //!
 //! Choices:
 //!
@@ -39,9 +42,11 @@ pub mod laws;
 mod offset_words;
 mod places;
 mod reading;
+mod samples;
 
 pub use comparing::Comparison;
-pub use error::{OffsetsError, WordError};
+pub use error::{OffsetsError, PlacesError, WordError};
 pub use offset_words::OffsetWords;
 pub use places::{MOST_PLACE, Offsets};
 pub use reading::read;
+pub use samples::{Extent, SAMPLED, Samples};

@@ -1,7 +1,7 @@
 //! The words of an offsets file, one after the other.
 ghost use Rattle.std.specs.Prelude.{◌≡◌, ℕ, ◌+◌, ◌≤◌, true, Bool, List, [], ◌∷◌, ◌++◌, Ok, Err, Some, None, OnOk, OnErr, IfOk, IfErr};
 ghost use Rattle.wg_params.specs.declared.limits.TheConstants.{MOST_PAGES};
-ghost use Rattle.wg_params.specs.Codes.{is_gamma_or_delta};
+ghost use Rattle.wg_params.specs.Codes.{IsCode, is_gamma_or_delta};
 ghost use Rattle.wg_codes.specs.declared.outcome.Read.TheVariants as reads;
 ghost use Rattle.wg_offsets.specs.declared.places.TheConstants.{MOST_PLACE};
 ghost use Rattle.wg_offsets.specs.Errors.{OnWord, OnRefusal};
@@ -78,6 +78,29 @@ impl OffsetWords {
             count: 0,
             offset: 0,
         }
+    }
+
+    /// After so many words of the offsets of so many records, which lead to this offset.
+    pub fn after(pages: u64, code: Code, count: u64, offset: u64) -> OffsetWords
+        requires pages { pages ≤ MOST_PAGES }
+        requires code { IsCode code }
+        requires count { count ≤ pages + 1 }
+        requires within { offset ≤ MOST_PLACE }
+        ensures { result ≡ record { code = code; pages = pages; count = count; offset = offset } }
+    {
+        OffsetWords {
+            code,
+            pages,
+            count,
+            offset,
+        }
+    }
+
+    /// The offset that the words that were read lead to.
+    pub fn offset(&self) -> u64
+        ensures { result ≡ self.now.offset }
+    {
+        self.offset
     }
 
     /// Reads the word that comes next, and answers the offset that it leads to. If it is refused, it stays before this

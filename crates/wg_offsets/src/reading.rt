@@ -8,8 +8,7 @@ ghost use Rattle.wg_offsets.specs.Errors.{IfWordOf, IfRefusalOf, known_error};
 ghost use Rattle.wg_offsets.specs.Words.{ReadsOffsets};
 ghost use Rattle.wg_offsets.specs.Stages.{IfWord};
 
-use crate::error::PlacesError;
-use crate::{OffsetWords, Offsets, OffsetsError};
+use crate::{OffsetWords, Offsets, OffsetsError, PlacesError};
 use std::alloc::Global;
 use std::convert::Infallible;
 use wg_bits::{Bits, Cursor};

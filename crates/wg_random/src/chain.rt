@@ -9,7 +9,7 @@ ghost use Rattle.wg_random.specs.Chain.{ArePages, Fall};
 ghost use Rattle.wg_random.specs.Spot.{ChainAnswers, IsWholeChain, SpotAnswers};
 
 use crate::unchecked::{read_record, reference};
-use crate::{SpotError, Steps};
+use crate::{Indexed, Located, SpotError, Steps};
 use std::alloc::Global;
 use std::mem::replace;
 use std::sync::ledger::Ledger;
@@ -18,36 +18,37 @@ use wg_decoder::Spares;
 use wg_graph::List;
 use wg_offsets::Offsets;
 use wg_params::Params;
-use wg_stream::{PagesError, Seek};
+use wg_stream::PagesError;
 
 // Follows the references from page `x`, judges the head of each page, and answers the pages of this chain, `x` first.
-fn chain<L: Ledger, S: Seek>(
+fn chain<L: Ledger, S: Located>(
     alloc: Global,
     params: &Params,
-    offsets: &Offsets,
     x: u64,
     source: &mut S,
     steps: &mut Steps<L>,
 ) -> Result<List, PagesError<S::Refusal>>
-    requires many { length offsets.now ≡ params.now.nodes + 1 }
+    requires many { S.records source.old ≡ params.now.nodes }
     requires page { x < params.now.nodes }
     ensures reached { S.reached source.old source.new }
     ensures refused { OnRefusal result (S.caused source.old source.new) }
     ensures some { IfOk result (λ chain. 0 < length chain) }
     ensures pages { IfOk result (λ chain. ArePages params.now.nodes chain (length chain - 1)) }
     ensures fall { IfOk result Fall }
-    ensures chain { (bits : ListOf Bool) → S.reads_from source.old bits
-        → IfOk result (IsWholeChain params.now bits offsets.now x) }
+    ensures chain { (bits : ListOf Bool) (offsets : ListOf ℕ) → S.reads_from source.old bits
+        → S.lies_by source.old offsets
+        → IfOk result (IsWholeChain params.now bits offsets x) }
     ensures ticks { IfOk result (λ chain. steps.new ≡ steps.old + length chain) }
-    ensures error { (bits : ListOf Bool) → S.reads_from source.old bits
-        → IfErr result (λ e. ChainAnswers params.now bits offsets.now x steps.old steps.new (Err e)) }
+    ensures error { (bits : ListOf Bool) (offsets : ListOf ℕ) → S.reads_from source.old bits
+        → S.lies_by source.old offsets
+        → IfErr result (λ e. ChainAnswers params.now bits offsets x steps.old steps.new (Err e)) }
 {
     let mut chain = List::new(alloc);
     chain.push(x)?;
     let mut page = x;
     'down: loop {
         steps.tick();
-        let back = reference(params, offsets, page, source)?;
+        let back = reference(params, page, source)?;
         if back == 0 {
             return Ok(chain);
         }
@@ -58,42 +59,35 @@ fn chain<L: Ledger, S: Seek>(
 
 // The list of the first page of a chain. The records of its pages are judged from the last one up, each over the one
 // before.
-fn climb<S: Seek>(
+fn climb<S: Located>(
     alloc: Global,
     params: &Params,
-    offsets: &Offsets,
     chain: &[u64],
     source: &mut S,
 ) -> Result<List, PagesError<S::Refusal>>
-    requires many { length offsets.now ≡ params.now.nodes + 1 }
+    requires many { S.records source.old ≡ params.now.nodes }
     requires some { 0 < length chain.now }
     requires pages { ArePages params.now.nodes chain.now (length chain.now - 1) }
     requires fall { Fall chain.now }
     ensures reached { S.reached source.old source.new }
     ensures refused { OnRefusal result (S.caused source.old source.new) }
-    ensures reads { (bits : ListOf Bool) → S.reads_from source.old bits
-        → (x : ℕ) → IsWholeChain params.now bits offsets.now x chain.now → IfOk result (λ list. (k : Known)
-        × ChainReads params.now bits offsets.now (get_or chain.now 0 0) (drop 1 chain.now) (Ok k)
+    ensures reads { (bits : ListOf Bool) (offsets : ListOf ℕ) → S.reads_from source.old bits
+        → S.lies_by source.old offsets
+        → (x : ℕ) → IsWholeChain params.now bits offsets x chain.now → IfOk result (λ list. (k : Known)
+        × ChainReads params.now bits offsets (get_or chain.now 0 0) (drop 1 chain.now) (Ok k)
         × (list ≡ k.list)) }
-    ensures fault { (bits : ListOf Bool) → S.reads_from source.old bits
-        → (x : ℕ) → IsWholeChain params.now bits offsets.now x chain.now → OnFault result (λ f.
-        ChainReads params.now bits offsets.now (get_or chain.now 0 0) (drop 1 chain.now) (Err f)) }
+    ensures fault { (bits : ListOf Bool) (offsets : ListOf ℕ) → S.reads_from source.old bits
+        → S.lies_by source.old offsets
+        → (x : ℕ) → IsWholeChain params.now bits offsets x chain.now → OnFault result (λ f.
+        ChainReads params.now bits offsets (get_or chain.now 0 0) (drop 1 chain.now) (Err f)) }
 {
     let mut spares = Spares::new(alloc);
     let mut left = chain.len() - 1;
-    let mut known = read_record(params, offsets, chain[left], &[], 0, &mut spares, source)?;
+    let mut known = read_record(params, chain[left], &[], 0, &mut spares, source)?;
     'up: while left > 0 {
         left -= 1;
         let below = known.list.as_slice();
-        let above = read_record(
-            params,
-            offsets,
-            chain[left],
-            below,
-            known.depth,
-            &mut spares,
-            source,
-        )?;
+        let above = read_record(params, chain[left], below, known.depth, &mut spares, source)?;
         spares.take_back(replace(&mut known, above).list);
     }
     Ok(known.list)
@@ -109,26 +103,26 @@ fn climb<S: Seek>(
 /// first fault in this order is answered. No other record is read, nor the tail, nor the number of arcs; where the
 /// archive is accepted, the list is that of its graph.
 ///
-/// Each page of the chain is counted by a tick. It takes time in proportion to the words and the lists of these
-/// records, and holds a number for each page of the chain and a few lists. Memory is taken as pages and successors
-/// come.
-pub fn spot_from<L: Ledger, S: Seek>(
+/// Each page of the chain is counted by a tick, and the source is asked twice where its record lies. Beside that it takes
+/// time in proportion to the words and the lists of these records, and holds a number for each page of the chain and a
+/// few lists. Memory is taken as pages and successors come.
+pub fn spot_from<L: Ledger, S: Located>(
     alloc: Global,
     params: &Params,
-    offsets: &Offsets,
     page: u64,
     source: &mut S,
     steps: &mut Steps<L>,
 ) -> Result<List, PagesError<S::Refusal>>
-    requires many { length offsets.now ≡ params.now.nodes + 1 }
+    requires many { S.records source.old ≡ params.now.nodes }
     requires page { page < params.now.nodes }
     ensures reached { S.reached source.old source.new }
     ensures refused { OnRefusal result (S.caused source.old source.new) }
-    ensures answer { (bits : ListOf Bool) → S.reads_from source.old bits
-        → ChainAnswers params.now bits offsets.now page steps.old steps.new result }
+    ensures answer { (bits : ListOf Bool) (offsets : ListOf ℕ) → S.reads_from source.old bits
+        → S.lies_by source.old offsets
+        → ChainAnswers params.now bits offsets page steps.old steps.new result }
 {
-    let chain = chain(alloc, params, offsets, page, source, steps)?;
-    climb(alloc, params, offsets, chain.as_slice(), source)
+    let chain = chain(alloc, params, page, source, steps)?;
+    climb(alloc, params, chain.as_slice(), source)
 }
 
 /// The same of a graph file in memory, where a page that does not exist is an error. Where chains have a limit, a page
@@ -151,8 +145,11 @@ pub fn spot<L: Ledger>(
     if page >= params.nodes() {
         return Err(SpotError::NoPage);
     }
-    let mut cursor = Cursor::new(Bits::of(bytes), 0);
-    match spot_from(alloc, params, offsets, page, &mut cursor, steps) {
+    let mut source = Indexed {
+        source: Cursor::new(Bits::of(bytes), 0),
+        offsets,
+    };
+    match spot_from(alloc, params, page, &mut source, steps) {
         Ok(list) => Ok(list),
         Err(error) => match error {
             PagesError::Fault(fault) => Err(SpotError::Archive(fault)),

@@ -24,8 +24,8 @@
 //! ```
 //!
 //! [`spot_from`] reads a page of an archive that was not checked, by the offsets and the same chain alone, from any
-//! source that goes to any offset of its bits ([`Seek`](wg_stream::Seek)); of a file in a depot it reads no other
-//! record. [`spot`] does so from bytes in memory. The heads of these records are judged first, from the page down, and
+//! source that goes to any offset of its bits and tells where the record of a page lies ([`Located`]), as one does whose
+//! offsets are held ([`Indexed`]); of a file in a depot it reads no other record. [`spot`] does so from bytes in memory. The heads of these records are judged first, from the page down, and
 //! then the whole records, from the last one up, and the answer is the list of the page or the first fault. The
 //! functions of [`laws`] state that there is one answer, and that it is the page's list of the graph where the archive
 //! is accepted.
@@ -52,7 +52,7 @@
 //! | [`Records::of_pass`], [`Records::archive`] | none | constant |
 //! | [`Archive::open`] | a box for each reference of the chain | that of the words of the chain's records |
 //! | [`Archive::list`] | a number for each page of the chain, and two of its lists | that of the words and the lists of the chain's records |
-//! | [`spot`], [`spot_from`] | a number for each page of the chain, and at most 6 lists | that of the words and the lists of the chain's records |
+//! | [`spot`], [`spot_from`] | a number for each page of the chain, and at most 6 lists | that of the words and the lists of the chain's records; the source is asked twice where each of them lies |
 //! | [`Records::sweep`] | a row for each page that a reference reaches, and one | that of the rows |
 //!
 //! A page that does not exist, a chain that is too long to be opened, and want of memory are answered by [`OpenError`]
@@ -73,6 +73,7 @@ mod chain;
 mod error;
 pub mod laws;
 mod listing;
+mod located;
 mod records;
 mod steps;
 mod unchecked;
@@ -80,5 +81,6 @@ mod unchecked;
 pub use archive::Archive;
 pub use chain::{spot, spot_from};
 pub use error::{CheckError, ListError, OpenError, SpotError};
+pub use located::{Indexed, Located};
 pub use records::Records;
 pub use steps::Steps;

@@ -3,7 +3,7 @@ use Rattle.wg_readings.proofs.PassLemmas.{graph_goes}
 use Rattle.wg_readings.proofs.ReadingsLaws.{the_readings}
 use Rattle.wg_outcomes.proofs.Statuses.{IsOwn, own_caused}
 use Rattle.wg_outcomes.proofs.PerformsLemmas.{hindered}
-use Rattle.wg_outcomes.specs.Judged.{Judged, accepted, with_lengths, offsets_then}
+use Rattle.wg_outcomes.specs.Judged.{Judged, with_lengths, offsets_then}
 use Rattle.wg_outcomes.specs.declared.status.Status.TheVariants.{Memory}
 use Rattle.wg_grammar.specs.Archive.{Accepted}
 use Rattle.std.proofs.Common.{◌≡◌, ◌∙◌, inl, inr, ℕ, Bool, List, Option, Result, Ok, Err, refl, sym, subst}

@@ -10,4 +10,5 @@ pub mod PairingLemmas
 pub mod PassLemmas
 pub mod ReadingsLaws
 pub mod ReadingsLemmas
+pub mod SamplingLemmas
 pub mod UnderWay

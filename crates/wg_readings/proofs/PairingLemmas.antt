@@ -18,7 +18,9 @@ use Rattle.wg_grammar.specs.Archive.{Accepted, places_of}
 use Rattle.wg_grammar.specs.Record.{Whole}
 use Rattle.wg_offsets.specs.Places.{last_place}
 use Rattle.wg_grammar.specs.declared.fault.OffsetWord.{OffsetWord}
-use Rattle.wg_offsets.specs.Errors.{OfRefusal, OfWord}
+use Rattle.wg_offsets.specs.Errors.{OfRefusal, OfWord, IfRefusalOf, IfWordOf}
+use Rattle.wg_offsets.specs.declared.error.PlacesError.{PlacesError}
+use Rattle.wg_offsets.specs.declared.error.PlacesError.TheVariants as unread
 use Rattle.wg_offsets.specs.Words.{ReadsOffsets}
 use Rattle.wg_offsets.specs.declared.error.WordError.{WordError}
 use Rattle.wg_offsets.specs.declared.error.WordError.TheVariants as words
@@ -28,14 +30,15 @@ use Rattle.wg_outcomes.specs.Answers.{Answers, Steps}
 use Rattle.wg_outcomes.specs.Causes.{IncreasedAt}
 use Rattle.wg_outcomes.specs.Judged.{Judged, status_of, with_lengths, with_offsets, offsets_then}
 use Rattle.wg_outcomes.specs.Promised.{IsBadFile}
-use Rattle.wg_readings.specs.Pairing.{ComesWith, EndsPairing, HasCome, IsPairedWith, IsStopped, IsUnread, files_then, load_ending, word_ending}
+use Rattle.wg_readings.specs.Pairing.{ComesWith, EndsPairing, HasCome, IsPairedWith, IsStopped, IsUnread, files_then, load_ending, places_ending, word_ending}
+use Rattle.wg_readings.specs.Finding.{IsOpenOn}
 use Rattle.wg_outcomes.specs.declared.ending.Ending.{Ending}
 use Rattle.wg_readings.specs.declared.pairing.Pairing.{Pairing}
 use Rattle.wg_readings.specs.Passes.{IsGraphFile, accepted_of}
 use Rattle.wg_outcomes.specs.Readings.{Readings}
 use Rattle.wg_outcomes.specs.declared.status.Input.{Input}
 use Rattle.wg_outcomes.specs.declared.status.Input.TheVariants.{Graph, Offsets}
-use Rattle.wg_outcomes.specs.declared.status.Status.TheVariants.{BadArchive}
+use Rattle.wg_outcomes.specs.declared.status.Status.TheVariants.{BadArchive, Memory}
 use Rattle.wg_outcomes.proofs.FileLemmas.{file_goes, held_goes}
 use Rattle.wg_readings.proofs.PassLemmas.{graph_goes}
 use Rattle.wg_outcomes.proofs.Statuses.{bad_own, own_caused}
@@ -79,6 +82,26 @@ module _ (told : Bool) (name : List ℕ) (files : Files) (old new : List ℕ →
         let f = found t in
         let k = reads t f.0 f.1 in
         subst (λ (o : Option (List ℕ)). Answers (offsets_then r p o next) (BadArchive (archive.Offsets w))) (sym f.1) (word_steps r p limits w f.0 (k.0.short looked) k.1 next);
+  }
+
+  -- a file that was found is there, and no longer than the limit
+  pub places_stopped : (e : PlacesError LoadError) → IfRefusalOf e (HasReadCause told name files old new h) → (IsTrue told → IsOpenOn (map.get files name) h)
+      → (IsTrue told → (file : List ℕ) → map.get files name ≡ Some file → IsHeldOf file h → IfWordOf e (λ w. ReadsOffsets p.offsets p.nodes (bits_of file) (Err w)))
+      → IsStopped told files old new p name (places_ending p.arcs e)
+  places_stopped (unread.Refused e) cause open_on reads =
+      load_stopped e cause (λ t none. let o = open_on t in absurd (let no : None ≡ Some o.file = sym none ∙ o.is in cc))
+      (λ t file is. let o = open_on t in let one : o.file ≡ file = cc (o.is, is) in subst (λ (f : List ℕ). IsHeldOf f h) one o.held)
+  places_stopped (unread.Word w) cause open_on reads = record {
+    only = inr (inr (archive.Offsets w, refl, refl, refl));
+    causes = λ names named. own_caused _ _ _ _ _ _ (BadArchive (archive.Offsets w)) tt;
+    refused = λ t limits r next.
+        let o = open_on t in
+        subst (λ (x : Option (List ℕ)). Answers (offsets_then r p x next) (BadArchive (archive.Offsets w))) (sym o.is) (word_steps r p limits w o.file o.short (reads t o.file o.is o.held) next);
+  }
+  places_stopped unread.Memory cause open_on reads = record {
+    only = inl (inl refl);
+    causes = λ names named. own_caused _ _ _ _ _ _ Memory tt;
+    refused = λ t limits r next. inr tt;
   }
 
 pub read_at : (bits : List Bool) (w : WordsRead) (a b : ℕ) (places : List ℕ) → a ≡ b → AreRead bits w a places → AreRead bits w b places

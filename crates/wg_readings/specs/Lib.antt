@@ -2,3 +2,4 @@ pub mod Finding
 pub mod Loading
 pub mod Pairing
 pub mod Passes
+pub mod Sampling

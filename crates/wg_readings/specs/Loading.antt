@@ -1,10 +1,8 @@
 -- Steps of a job that read files, and print nothing.
-use Rattle.std.specs.Prelude.{◌≡◌, ◌⊎◌, ℕ, ◌+◌, ◌≤◌, Bool, List, length, Option, Some, None, Result, Ok, Err, IsTrue, IsSome, OnOk, IfOk, IfErr}
+use Rattle.std.specs.Prelude.{◌≡◌, ◌⊎◌, ℕ, ◌≤◌, Bool, List, length, Option, Some, None, Result, Ok, Err, IsTrue, IsSome, OnOk, IfOk, IfErr}
 use Rattle.wg_io.specs.Outside.{Files, Counts, NonDecreasing}
 use Rattle.wg_io.specs.declared.depot.Depot as depot
 use Rattle.wg_io.specs.declared.limits.TheConstants.{MOST_BYTES}
-use Rattle.wg_io.specs.declared.whole.LoadError.{LoadError}
-use Rattle.wg_io.specs.declared.whole.LoadError.TheVariants as load
 use Rattle.wg_params.specs.Parameters.{Parameters, IsWithinLimits}
 use Rattle.wg_properties.specs.Judged.{properties_of}
 use Rattle.wg_properties.specs.declared.fault.PropFault.{PropFault}
@@ -29,8 +27,7 @@ use Rattle.wg_outcomes.specs.Readings.{Readings}
 use Rattle.wg_outcomes.specs.declared.ending.Ending.{Ending}
 use Rattle.wg_outcomes.specs.declared.status.Input.{Input}
 use Rattle.wg_outcomes.specs.declared.status.Input.TheVariants as input
-use Rattle.wg_outcomes.specs.declared.status.Status.{Status}
-use Rattle.wg_outcomes.specs.declared.status.Status.TheVariants.{BadArcs, BadCertificate, BadMap, BadProperties, BadText, BadWeights, Memory, Missing, OverLimit, ReadFault}
+use Rattle.wg_outcomes.specs.declared.status.Status.TheVariants.{BadArcs, BadCertificate, BadMap, BadProperties, BadText, BadWeights}
 use Rattle.wg_outcomes.specs.declared.status.WeightsFault.{WeightsFault}
 
 -- A file of this name was read whole, as this input.
@@ -120,13 +117,6 @@ pub record JudgesOffsets (base : List ℕ) (p : Parameters) (places : List ℕ) 
   pub reads : Reads base input.Offsets p.arcs (λ r. lengths_then r p places) told files files' counts counts' result
   pub goes : IsTrue told → (r : Readings)
       → Steps (lengths_then r p places (held_by (file_of base) files input.Offsets)) result
-
--- The offsets of an archive were read whole, and held against no graph; or the job ends at their file.
-pub record LoadsOffsets (base : List ℕ) (p : Parameters) (told : Bool) (files files' : Files)
-    (counts counts' : List ℕ → Counts) (result : Result (List ℕ) Ending) : Type 0 where
-  pub reads : Reads base input.Offsets p.arcs (λ r. offsets_then r p) told files files' counts counts' result
-  pub goes : IsTrue told → (r : Readings) → Steps (offsets_then r p (held_by (file_of base) files input.Offsets)) result
-  pub count : IfOk result (λ places. length places ≡ p.nodes + 1)
 
 -- The graph of so many pages that an arc list holds was read, or the job ends at the list.
 pub record LoadsList (name : List ℕ) (n : ℕ) (told : Bool) (files files' : Files) (counts counts' : List ℕ → Counts)
@@ -237,11 +227,6 @@ abbrev pub JudgesOffsetsBy : {D : Type 0} → depot.Ghosts D → List ℕ → Pa
     → Result (Unit {0}) Ending → Type 0
 JudgesOffsetsBy d base p places before after result =
     JudgesOffsets base p places d.told (d.files before) (d.files after) (d.counts before) (d.counts after) result
-
-abbrev pub LoadsOffsetsBy : {D : Type 0} → depot.Ghosts D → List ℕ → Parameters → D → D → Result (List ℕ) Ending
-    → Type 0
-LoadsOffsetsBy d base p before after result =
-    LoadsOffsets base p d.told (d.files before) (d.files after) (d.counts before) (d.counts after) result
 
 abbrev pub LoadsTextBy : {D : Type 0} → depot.Ghosts D → List ℕ → D → D → Result Digraph Ending → Type 0
 LoadsTextBy d name before after result =

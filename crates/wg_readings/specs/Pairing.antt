@@ -12,6 +12,8 @@ use Rattle.wg_offsets.specs.Places.{last_place}
 use Rattle.wg_offsets.specs.Stages.{AreRead}
 use Rattle.wg_offsets.specs.declared.error.WordError.{WordError}
 use Rattle.wg_offsets.specs.declared.error.WordError.TheVariants as words
+use Rattle.wg_offsets.specs.declared.error.PlacesError.{PlacesError}
+use Rattle.wg_offsets.specs.declared.error.PlacesError.TheVariants as unread
 use Rattle.wg_stream.specs.Held.{IsHeldOf}
 use Rattle.wg_outcomes.specs.Answers.{Steps, status_in}
 use Rattle.wg_outcomes.specs.Causes.{HasCause}
@@ -42,6 +44,12 @@ load_ending e = record { status = status_at input.Offsets e; promised = 0 }
 abbrev pub word_ending : ℕ → WordError LoadError → Ending
 word_ending promised (words.Word w) = record { status = BadArchive (archive.Offsets w); promised = promised }
 word_ending promised (words.Refused e) = load_ending e
+
+-- how it ends where the file was not read to its end
+abbrev pub places_ending : ℕ → PlacesError LoadError → Ending
+places_ending promised (unread.Word w) = word_ending promised (words.Word w)
+places_ending promised (unread.Refused e) = load_ending e
+places_ending promised unread.Memory = record { status = Memory; promised = 0 }
 
 -- before the first word
 pub record IsUnread (p : Parameters) (b : Pairing) : Type 0 where

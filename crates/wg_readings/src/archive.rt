@@ -12,7 +12,7 @@ ghost use Rattle.wg_grammar.specs.declared.fault.ArchiveFault.{ArchiveFault};
 ghost use Rattle.wg_stream.specs.Errors.{OfFault};
 ghost use Rattle.wg_stream.specs.Sweeping.{PassFinds};
 ghost use Rattle.wg_outcomes.specs.Answers.{Steps};
-ghost use Rattle.wg_outcomes.specs.Judged.{with_parameters, with_digraph, with_graph, with_offsets, with_pages};
+ghost use Rattle.wg_outcomes.specs.Judged.{with_parameters, with_digraph, with_graph, with_pages};
 ghost use Rattle.wg_outcomes.specs.Promised.{IsBadFile};
 ghost use Rattle.wg_outcomes.specs.Readings.{Readings};
 
@@ -21,7 +21,6 @@ use std::convert::Infallible;
 use wg_bits::{Bits, Cursor};
 use wg_grammar::ArchiveFault;
 use wg_graph::Graph;
-use wg_offsets::{Offsets, OffsetsError};
 use wg_outcomes::{Ending, Input, Status};
 use wg_params::Params;
 use wg_stream::{PagesError, Passed, Sweep, pass, read_graph};
@@ -92,20 +91,6 @@ pub fn passed_of_graph(alloc: Global, params: &Params, bytes: &[u8]) -> Result<P
     match pass(alloc, bytes, *params) {
         Ok(found) => Ok(found),
         Err(error) => Err(graph_ending(error, params)),
-    }
-}
-
-/// The places that an offsets file stores. It takes 8 bytes for each.
-pub fn offsets_of_file(alloc: Global, params: &Params, bytes: &[u8]) -> Result<Offsets, Ending>
-    requires { length bytes.now ≤ MOST_BYTES }
-    ensures steps { (r : Readings) → Steps (with_offsets r params.now bytes.now) result }
-    ensures only { IfErr result (λ e. IsBadFile Input.Offsets params.now.arcs e) }
-    ensures count { IfOk result (λ places. length places ≡ params.now.nodes + 1) }
-{
-    match wg_offsets::read(alloc, bytes, params.nodes(), params.offsets()) {
-        Ok(offsets) => Ok(offsets),
-        Err(OffsetsError::Word(word)) => Err(bad_archive(ArchiveFault::Offsets(word), params)),
-        Err(OffsetsError::Memory) => Err(Ending::of(Status::Memory)),
     }
 }
 

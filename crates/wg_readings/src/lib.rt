@@ -1,10 +1,11 @@
 //! The files of an archive, texts of graphs, weights, certificates and maps, as a job reads them: each is read and judged,
 //! and the job goes on with what it holds, or ends.
 //!
-//! [`load_params`], [`load_graph`], [`load_offsets`], [`load_weights`], [`load_certificate`] and [`load_map`] read a
-//! file whole; [`judge_graph`], [`judge_files`] and [`judge_offsets`] go through the files in pieces, and so do
-//! [`open_graph`], [`next_record`] and [`end_records`], record by record. [`find_graph`] looks for a graph file, of
-//! which single records are read, and judges none. [`passed_of_graph`] finds where the records of a graph file are, and
+//! [`load_params`], [`load_graph`], [`load_weights`], [`load_certificate`] and [`load_map`] read a file whole;
+//! [`judge_graph`], [`judge_files`] and [`judge_offsets`] go through the files in pieces, and so do [`open_graph`],
+//! [`next_record`] and [`end_records`], record by record. [`find_file`] looks for a file of which parts are read, and
+//! judges nothing; [`sample_offsets`] judges an offsets file in pieces, and keeps the places of a few pages, from which
+//! [`extent_of`] finds that of any other. [`passed_of_graph`] finds where the records of a graph file are, and
 //! [`lists_of_records`] decodes their lists, as often as one likes. [`open_lines`] and [`next_lines`] lend the lines of
 //! a file, which the caller judges.
 //!
@@ -41,19 +42,19 @@
 mod archive;
 mod claims;
 mod classes;
-mod graph_file;
+mod found_file;
 mod judge;
 mod lines;
 mod loading;
 mod pairing;
 mod records;
+mod sampled;
 mod weights;
 
 pub use archive::{bad_archive, find_pages, graph_ending, lists_of_records, passed_of_graph};
-pub use graph_file::{GraphFile, find_graph};
+pub use found_file::{FoundFile, find_file};
 pub use judge::{judge_files, judge_graph, judge_offsets};
 pub use lines::{next_lines, open_lines, unread};
-pub use loading::{
-    load, load_certificate, load_graph, load_map, load_offsets, load_params, load_weights,
-};
+pub use loading::{load, load_certificate, load_graph, load_map, load_params, load_weights};
 pub use records::{end_records, next_record, open_graph};
+pub use sampled::{SampledFile, extent_of, sample_offsets};

@@ -1,12 +1,12 @@
 //! Files that are read whole and judged: those of an archive, weights, certificates and maps.
 ghost use Rattle.std.specs.Prelude.{◌≡◌, ◌≤◌, ℕ, List, Option, IsSome, Some};
 ghost use Rattle.wg_params.specs.declared.limits.TheConstants.{MOST_PAGES};
-ghost use Rattle.wg_readings.specs.Loading.{LoadsBy, LoadsCertificateBy, LoadsGraphBy, LoadsOffsetsBy, LoadsParamsBy};
+ghost use Rattle.wg_readings.specs.Loading.{LoadsBy, LoadsCertificateBy, LoadsGraphBy, LoadsParamsBy};
 ghost use Rattle.wg_readings.specs.Loading.{LoadsMapBy, LoadsWeightsBy};
 ghost use Rattle.wg_outcomes.specs.Names.{file_of, suffix_of};
 ghost use Rattle.wg_outcomes.specs.declared.status.Input.{Input};
 
-use crate::archive::{graph_of_records, offsets_of_file, parameters};
+use crate::archive::{graph_of_records, parameters};
 use crate::claims::claim_of_text;
 use crate::classes::classes_of_text;
 use crate::lines::unread;
@@ -14,7 +14,6 @@ use crate::weights::weights_of_text;
 use std::alloc::Global;
 use wg_graph::{Graph, List as Numbers};
 use wg_io::{Depot, List8, read_whole};
-use wg_offsets::Offsets;
 use wg_outcomes::{Ending, Input, file_name, suffix};
 use wg_params::Params;
 use wg_rank::Certificate;
@@ -72,20 +71,6 @@ pub fn load_graph<D: Depot>(
 {
     let bytes = load(alloc, depot, base, Input::Graph)?;
     graph_of_records(alloc, params, bytes.as_slice())
-}
-
-/// Reads the offsets of an archive, which are held against no graph. Beside them, 8 bytes each, it holds the bytes of
-/// their file, until it is read.
-pub fn load_offsets<D: Depot>(
-    alloc: Global,
-    params: &Params,
-    depot: &mut D,
-    base: &Name,
-) -> Result<Offsets, Ending>
-    ensures { LoadsOffsetsBy ⟦<D as Depot>⟧ base.now params.now depot.old depot.new result }
-{
-    let bytes = load(alloc, depot, base, Input::Offsets)?;
-    offsets_of_file(alloc, params, bytes.as_slice())
 }
 
 /// Reads the weights of so many pages, where a file of them is named; without one, each page weighs the same. Beside

@@ -39,7 +39,7 @@ pub struct Pairing {
 // How a job ends whose offsets file is not read on.
 #[cold]
 #[inline(never)]
-fn load_ending(error: LoadError) -> Ending
+pub(crate) fn load_ending(error: LoadError) -> Ending
     ensures { result ≡ load_ending error }
 {
     match error {
@@ -52,7 +52,7 @@ fn load_ending(error: LoadError) -> Ending
 
 // How a job ends at a word. It is inlined: an ending takes room in memory only where there is one.
 #[inline(always)]
-fn word_ending(error: WordError<LoadError>, params: &Params) -> Ending
+pub(crate) fn word_ending(error: WordError<LoadError>, params: &Params) -> Ending
     ensures { result ≡ word_ending params.now.arcs error }
 {
     match error {

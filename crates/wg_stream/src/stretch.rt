@@ -72,7 +72,7 @@ impl Stretch {
 
     /// The offset of the bit that comes next.
     #[inline(always)]
-    pub(crate) fn at(&self) -> u64
+    pub fn at(&self) -> u64
         ensures at { result ≡ self.now.at }
         ensures short { result ≤ 8 * MOST_BYTES }
     {

@@ -1,4 +1,4 @@
-use Rattle.std.proofs.Common.{rules, ◌≡◌, ◌+◌, ◌-◌, ◌<◌, ◌++◌, ◌∷◌, [], List, ℕ, Ok, length, refl, ap, sym, subst, arith}
+use Rattle.std.proofs.Common.{rules, ◌≡◌, ◌∙◌, ◌+◌, ◌-◌, ◌<◌, ◌++◌, ◌∷◌, [], List, ℕ, Ok, length, refl, ap, sym, subst, arith}
 use Rattle.std.specs.Prelude.{get_or}
 use Rattle.std.proofs.lemmas.Result.{err_from_is_err_and}
 use Rattle.wg_decoder.specs.Chains.{HeadReads, RefersTo}
@@ -12,12 +12,13 @@ down-init g c =
     let is : c.push.new.self ≡ c.args.x ∷ [] = search rules in
     record {
       reached = g.met.S.Seek.by_reading _ _ (g.met.S.Source.stays _);
+      many = c.requires.many;
       low = c.requires.page;
       some = omega (arith, ap length is);
       pages = one_are_pages _ _ c.args.x is c.requires.page;
       fall = one_falls _ c.args.x is;
       here = ap (λ (l : List ℕ). get_or l (length l - 1) 0) is;
-      is = λ bits r. one_page c.args.params.now bits c.args.offsets.now c.args.x c.push.new.self is;
+      is = λ bits o r l. one_page c.args.params.now bits o c.args.x c.push.new.self is;
       ticks = omega (arith, ap length is);
     }
 
@@ -30,23 +31,25 @@ returns-in_err-back-clause-refused g c =
     rw (q.1, q.2) (refusal_weaker c.in_err-back.field-0.0 _ _ (λ x h. g.met.S.Seek.cause_stays _ _ _ x c.down.invariant.reached h) c.in_err-back.ensures.refused)
 
 pub returns-in_err-back-clause-error : goal.returns-in_err-back-clause-error
-returns-in_err-back-clause-error g c = λ bits r.
+returns-in_err-back-clause-error g c = λ bits o r l.
     let h = c.down.invariant in
     let on = g.met.S.Seek.bits_stay _ _ bits h.reached r in
+    let lies = g.met.S.Located.lies_still _ _ o h.reached l in
     let ticks : c.tick.new.self ≡ c.args.steps.now + length c.down.chain = omega (arith, h.ticks, c.tick.ensures) in
     let q = err_from_is_err_and c.from_residual-in_err-back.result c.from_residual-in_err-back.ensures.1 in
-    rw (q.1, q.2) (head_error c.args.params.now bits c.args.offsets.now c.args.x c.down.chain c.down.page c.args.steps.now c.tick.new.self c.in_err-back.field-0.0 (h.is bits r) h.here ticks (c.in_err-back.ensures.fault bits on))
+    rw (q.1, q.2) (head_error c.args.params.now bits o c.args.x c.down.chain c.down.page c.args.steps.now c.tick.new.self c.in_err-back.field-0.0 (h.is bits o r l) h.here ticks (c.in_err-back.ensures.fault bits o on lies))
 
 pub returns-then-back-eq0-clause-reached : goal.returns-then-back-eq0-clause-reached
 returns-then-back-eq0-clause-reached g c = g.met.S.Seek.on_from _ _ _ c.down.invariant.reached c.in_ok-back.ensures.reached
 
 pub returns-then-back-eq0-clause-chain : goal.returns-then-back-eq0-clause-chain
-returns-then-back-eq0-clause-chain g c = λ bits r.
+returns-then-back-eq0-clause-chain g c = λ bits o r l.
     let p = c.args.params.now in
     let h = c.down.invariant in
     let on = g.met.S.Seek.bits_stay _ _ bits h.reached r in
-    let reads = subst (λ (n : ℕ). HeadReads p bits c.args.offsets.now c.down.page (Ok n)) c.if-back-eq0.true (c.in_ok-back.ensures.reads bits on) in
-    record { links = h.is bits r; last = subst (λ (k : ℕ). HeadReads p bits c.args.offsets.now k (Ok 0)) (sym h.here) reads }
+    let lies = g.met.S.Located.lies_still _ _ o h.reached l in
+    let reads = subst (λ (n : ℕ). HeadReads p bits o c.down.page (Ok n)) c.if-back-eq0.true (c.in_ok-back.ensures.reads bits o on lies) in
+    record { links = h.is bits o r l; last = subst (λ (k : ℕ). HeadReads p bits o k (Ok 0)) (sym h.here) reads }
 
 pub down-preserved : goal.down-preserved
 down-preserved g c =
@@ -57,14 +60,16 @@ down-preserved g c =
     let some : 0 < c.in_ok-back.back = omega arith in
     record {
       reached = g.met.S.Seek.on_from _ _ _ h.reached c.in_ok-back.ensures.reached;
+      many = g.met.S.Located.as_many _ _ c.in_ok-back.ensures.reached ∙ h.many;
       low = omega (arith, h.low);
       some = omega (arith, pushed_length _ _ z is);
       pages = pushed_pages c.down.chain c.push-in-down.new.self p.nodes z is h.some (omega (arith, h.low)) h.pages;
       fall = pushed_fall c.down.chain c.push-in-down.new.self c.down.page z is h.some h.here (omega (arith, some, c.in_ok-back.ensures.near)) h.fall;
       here = pushed_here c.down.chain c.push-in-down.new.self z is;
-      is = λ bits r.
+      is = λ bits o r l.
           let on = g.met.S.Seek.bits_stay _ _ bits h.reached r in
-          let refers : RefersTo p bits c.args.offsets.now c.down.page z = (c.in_ok-back.back, some, c.in_ok-back.ensures.reads bits on, refl) in
-          pushed_chain p bits c.args.offsets.now c.args.x c.down.chain c.push-in-down.new.self c.down.page z is h.here refers (h.is bits r);
+          let lies = g.met.S.Located.lies_still _ _ o h.reached l in
+          let refers : RefersTo p bits o c.down.page z = (c.in_ok-back.back, some, c.in_ok-back.ensures.reads bits o on lies, refl) in
+          pushed_chain p bits o c.args.x c.down.chain c.push-in-down.new.self c.down.page z is h.here refers (h.is bits o r l);
       ticks = omega (arith, h.ticks, c.tick.ensures, pushed_length _ _ z is);
     }

@@ -1,4 +1,4 @@
-use Rattle.std.proofs.Common.{arith}
+use Rattle.std.proofs.Common.{◌∙◌, arith}
 use Rattle.std.proofs.lemmas.Result.{err_from_is_err_and}
 use Rattle.wg_grammar.specs.Context.{Known}
 use Rattle.wg_decoder.specs.Remembered.{known_of}
@@ -6,49 +6,51 @@ use Rattle.wg_stream.proofs.ErrorLemmas.{fault_weaker, refusal_weaker, unread_fa
 use Rattle.wg_random.proofs.SpotLemmas.{length_fault, record_cut, record_fails, whole_reads}
 use Rattle.wg_random.proofs.unchecked.read_record.Goals as goal
 
-pub returns-in_err-go_to_record-clause-fault : goal.returns-in_err-go_to_record-clause-fault
-returns-in_err-go_to_record-clause-fault g c = λ bits r.
+pub returns-in_err-extent-clause-fault : goal.returns-in_err-extent-clause-fault
+returns-in_err-extent-clause-fault g c = λ bits o r l.
     let k : Known = record { list = c.args.named.now; depth = c.args.depth } in
     let q = err_from_is_err_and c.from_residual.result c.from_residual.ensures.1 in
-    rw (q.1, q.2) (fault_weaker c.in_err-go_to_record.field-0.0 _ _ (λ f cut. record_cut c.args.params.now bits c.args.offsets.now c.args.page k f cut.0 cut.1) (c.in_err-go_to_record.ensures.past bits r))
+    rw (q.1, q.2) (fault_weaker c.in_err-extent.field-0.0 _ _ (λ f cut. record_cut c.args.params.now bits o c.args.page k f cut.0 cut.1) (c.in_err-extent.ensures.past bits o r l))
 
 pub returns-in_err-decoded-clause-reached : goal.returns-in_err-decoded-clause-reached
-returns-in_err-decoded-clause-reached g c = g.met.S.Seek.on_from _ _ _ c.in_ok-go_to_record.ensures.reached (g.met.S.Seek.by_reading _ _ c.in_err-decoded.ensures.later)
+returns-in_err-decoded-clause-reached g c = g.met.S.Seek.on_from _ _ _ c.in_ok-extent.ensures.reached (g.met.S.Seek.by_reading _ _ c.in_err-decoded.ensures.later)
 
 pub returns-in_err-decoded-clause-refused : goal.returns-in_err-decoded-clause-refused
 returns-in_err-decoded-clause-refused g c =
     let q = err_from_is_err_and c.from_residual-in_err-decoded.result c.from_residual-in_err-decoded.ensures.1 in
-    rw (q.1, q.2) (refusal_weaker _ _ _ (λ x h. g.met.S.Seek.cause_stays _ _ _ x c.in_ok-go_to_record.ensures.reached h) (unread_refusal c.in_err-decoded.field-0.0 _ c.in_err-decoded.ensures.refused))
+    rw (q.1, q.2) (refusal_weaker _ _ _ (λ x h. g.met.S.Seek.cause_stays _ _ _ x c.in_ok-extent.ensures.reached h) (unread_refusal c.in_err-decoded.field-0.0 _ c.in_err-decoded.ensures.refused))
 
 pub returns-in_err-decoded-clause-fault : goal.returns-in_err-decoded-clause-fault
-returns-in_err-decoded-clause-fault g c = λ bits r.
+returns-in_err-decoded-clause-fault g c = λ bits o r l.
     let k : Known = record { list = c.args.named.now; depth = c.args.depth } in
-    let on = g.met.S.Seek.bits_stay _ _ bits c.in_ok-go_to_record.ensures.reached r in
+    let on = g.met.S.Seek.bits_stay _ _ bits c.in_ok-extent.ensures.reached r in
     let q = err_from_is_err_and c.from_residual-in_err-decoded.result c.from_residual-in_err-decoded.ensures.1 in
     rw (q.1, q.2) (unread_fault c.in_err-decoded.field-0.0 _ _
-    (λ e bad. record_fails c.args.params.now bits c.args.offsets.now c.args.page k (g.S.Source.offset c.go_to_record.new.source) e c.in_ok-go_to_record.ensures.at bad)
+    (λ e bad. record_fails c.args.params.now bits o c.args.page k (g.S.Source.offset c.go_to_record.new.source) e (c.in_ok-extent.ensures.at ∙ (c.in_ok-extent.ensures.lies o l).0) bad)
     (c.in_err-decoded.ensures.fault bits on))
 
-pub compare-requires-clause-onward : goal.compare-requires-clause-onward
-compare-requires-clause-onward g c = omega (arith, g.met.S.Source.onward _ _ c.in_ok-decoded.ensures.later, c.in_ok-go_to_record.ensures.at, c.at.ensures.value)
+pub compare-requires-clause-found : goal.compare-requires-clause-found
+compare-requires-clause-found g c = omega (arith, g.met.S.Source.onward _ _ c.in_ok-decoded.ensures.later, c.in_ok-extent.ensures.at, c.at.ensures.value)
 
 pub returns-in-Ok-clause-reached : goal.returns-in-Ok-clause-reached
-returns-in-Ok-clause-reached g c = g.met.S.Seek.on_from _ _ _ c.in_ok-go_to_record.ensures.reached (g.met.S.Seek.by_reading _ _ c.in_ok-decoded.ensures.later)
+returns-in-Ok-clause-reached g c = g.met.S.Seek.on_from _ _ _ c.in_ok-extent.ensures.reached (g.met.S.Seek.by_reading _ _ c.in_ok-decoded.ensures.later)
 
 pub returns-in-Err-clause-reached : goal.returns-in-Err-clause-reached
-returns-in-Err-clause-reached g c = g.met.S.Seek.on_from _ _ _ c.in_ok-go_to_record.ensures.reached (g.met.S.Seek.by_reading _ _ c.in_ok-decoded.ensures.later)
+returns-in-Err-clause-reached g c = g.met.S.Seek.on_from _ _ _ c.in_ok-extent.ensures.reached (g.met.S.Seek.by_reading _ _ c.in_ok-decoded.ensures.later)
 
 pub returns-in-Ok-clause-reads : goal.returns-in-Ok-clause-reads
-returns-in-Ok-clause-reads g c = λ bits r.
+returns-in-Ok-clause-reads g c = λ bits o r l.
     let k : Known = record { list = c.args.named.now; depth = c.args.depth } in
-    let on = g.met.S.Seek.bits_stay _ _ bits c.in_ok-go_to_record.ensures.reached r in
-    whole_reads c.args.params.now bits c.args.offsets.now c.args.page k (g.S.Source.offset c.go_to_record.new.source) (g.S.Source.offset c.decode_over.new.source) c.at.result (known_of c.in_ok-decoded.decoded)
-    c.in_ok-go_to_record.ensures.at (c.in_ok-decoded.ensures.reads bits on) c.at.ensures.value c.in-Ok.ensures.same
+    let on = g.met.S.Seek.bits_stay _ _ bits c.in_ok-extent.ensures.reached r in
+    let lies = c.in_ok-extent.ensures.lies o l in
+    whole_reads c.args.params.now bits o c.args.page k (g.S.Source.offset c.go_to_record.new.source) (g.S.Source.offset c.decode_over.new.source) c.at.result (known_of c.in_ok-decoded.decoded)
+    (c.in_ok-extent.ensures.at ∙ lies.0) (c.in_ok-decoded.ensures.reads bits on) c.at.ensures.value (c.in-Ok.ensures.same ∙ lies.1)
 
 pub returns-in-Err-clause-fault : goal.returns-in-Err-clause-fault
-returns-in-Err-clause-fault g c = λ bits r.
+returns-in-Err-clause-fault g c = λ bits o r l.
     let k : Known = record { list = c.args.named.now; depth = c.args.depth } in
-    let on = g.met.S.Seek.bits_stay _ _ bits c.in_ok-go_to_record.ensures.reached r in
-    let bad = c.in-Err.ensures.other in
-    length_fault c.args.params.now bits c.args.offsets.now c.args.page k (g.S.Source.offset c.go_to_record.new.source) (g.S.Source.offset c.decode_over.new.source) c.at.result (known_of c.in_ok-decoded.decoded) c.in-Err.fault
-    c.in_ok-go_to_record.ensures.at (c.in_ok-decoded.ensures.reads bits on) c.at.ensures.value bad.0 bad.1
+    let on = g.met.S.Seek.bits_stay _ _ bits c.in_ok-extent.ensures.reached r in
+    let lies = c.in_ok-extent.ensures.lies o l in
+    let bad = rw (lies.0, lies.1) at c.in-Err.ensures.other in
+    length_fault c.args.params.now bits o c.args.page k (g.S.Source.offset c.go_to_record.new.source) (g.S.Source.offset c.decode_over.new.source) c.at.result (known_of c.in_ok-decoded.decoded) c.in-Err.fault
+    (c.in_ok-extent.ensures.at ∙ lies.0) (c.in_ok-decoded.ensures.reads bits on) c.at.ensures.value bad.0 bad.1

@@ -1,15 +1,14 @@
-use Rattle.std.proofs.Common.{◌≡◌, ◌∙◌, false, Err, Ok, Some, List, ℕ, Result, refl, sym, ap}
+use Rattle.std.proofs.Common.{rules, ◌≡◌, ◌∙◌, false, Err, Ok, Some, List, ℕ, Result, ap}
 use Rattle.std.specs.FinMap as map
 use Rattle.std.proofs.lemmas.Result.{err_from_is_err_and}
 use Rattle.wg_io.specs.declared.whole.LoadError.{LoadError}
 use Rattle.wg_io.specs.declared.whole.LoadError.TheVariants as load
 use Rattle.wg_outcomes.specs.Names.{file_of}
-use Rattle.wg_outcomes.specs.declared.status.Input.TheVariants.{Graph}
 use Rattle.wg_stream.specs.Held.{Held}
 use Rattle.wg_readings.proofs.FindingLemmas.{found_open, not_found}
 use Rattle.wg_readings.proofs.LoadLemmas.{loads_none}
 use Rattle.wg_readings.proofs.PassLemmas.{found_after}
-use Rattle.wg_readings.proofs.graph_file.find_graph.Goals as goal
+use Rattle.wg_readings.proofs.found_file.find_file.Goals as goal
 
 abbrev failed : LoadError → Result (Unit {0}) LoadError
 failed e = Err e
@@ -38,6 +37,6 @@ pub returns-in-Err-clause-ends : goal.returns-in-Err-clause-ends
 returns-in-Err-clause-ends g c =
     let fresh = c.new-held.ensures in
     let e = c.in-Err.ensures in
-    let named : file_of c.args.base.now Graph ≡ Some c.as_str.result.now = ap Some (sym (c.as_str.ensures ∙ c.in_ok-name.ensures.name)) in
-    not_found Graph (file_of c.args.base.now) c.as_str.result.now g.D.Depot.told _ _ _ _ c.new-held.result c.look.new.self c.in-Err.error _ named c.unread.ensures fresh e.steps e.cause
+    let named : file_of c.args.base.now c.args.input ≡ Some c.as_str.result.now = search rules in
+    not_found c.args.input (file_of c.args.base.now) c.as_str.result.now g.D.Depot.told _ _ _ _ c.new-held.result c.look.new.self c.in-Err.error _ named c.unread.ensures fresh e.steps e.cause
     (λ t none. let a : failed c.in-Err.error ≡ failed load.Absent = e.absent t none (ap (λ (h : Held). h.looked) fresh) in cc)

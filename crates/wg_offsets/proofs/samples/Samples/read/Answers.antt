@@ -1,0 +1,50 @@
+use Rattle.std.proofs.Common.{◌≡◌, ◌∙◌, ◌+◌, [], ◌∷◌, ◌++◌, sym, arith}
+use Rattle.std.proofs.lemmas.Result.{err_from_is_err_and}
+use Rattle.wg_offsets.proofs.ErrorLemmas.{word_of_file}
+use Rattle.wg_offsets.proofs.SamplesLemmas.{read_as}
+use Rattle.wg_offsets.proofs.samples.Samples.read.Goals as goal
+
+pub returns-in_err-place-clause-fault : goal.returns-in_err-place-clause-fault
+returns-in_err-place-clause-fault g c = λ bits r.
+    let i = c.loop-page.invariant in
+    let on = g.met.S.Source.same_bits _ _ bits i.later r in
+    let a = i.read bits r in
+    let e = err_from_is_err_and c.from_residual.result c.from_residual.ensures.1 in
+    rw (e.1, e.2) (word_of_file c.in_err-place.field-0.0 _ _ (λ w h. rw (i.code, i.pages) at h) (c.in_err-place.ensures.fault bits a.0 on a.1))
+
+pub loop-page-preserved : goal.loop-page-preserved
+loop-page-preserved g c =
+    let i = c.loop-page.invariant in
+    let n = c.in_ok-place.ensures in
+    let k = c.in_ok-keep.ensures in
+    let w = c.next.new.self in
+    record {
+      code = n.code ∙ i.code;
+      pages = n.pages ∙ i.pages;
+      count = omega (arith, n.count, i.count);
+      places = omega (arith, k.places);
+      bits = k.bits;
+      within = k.within;
+      later = g.met.S.Source.goes_on _ _ _ i.later n.later;
+      read = λ file r. let a = i.read file r in (a.0 ++ w.offset ∷ [], n.reads file a.0 (g.met.S.Source.same_bits _ _ file i.later r) a.1);
+      samples = λ file r.
+          let a = i.read file r in
+          let all = n.reads file a.0 (g.met.S.Source.same_bits _ _ file i.later r) a.1 in
+          let count : w.count ≡ c.loop-page.page + 1 = omega (arith, n.count, i.count) in
+          k.each c.args.code file (a.0 ++ w.offset ∷ []) (i.samples file r) (read_as _ _ file _ _ _ _ _ _ _ (n.code ∙ i.code) count (sym c.at.ensures.value) (sym n.value) all);
+    }
+
+pub returns-in_err-finish-clause-fault : goal.returns-in_err-finish-clause-fault
+returns-in_err-finish-clause-fault g c = λ bits r.
+    let i = c.loop-page.invariant in
+    let on = g.met.S.Source.same_bits _ _ bits i.later r in
+    let a = i.read bits r in
+    let e = err_from_is_err_and c.from_residual-in_err-finish.result c.from_residual-in_err-finish.ensures.1 in
+    rw (e.1, e.2) (word_of_file c.in_err-finish.field-0.0 _ _ (λ w h. rw (i.code, i.pages) at h) (c.in_err-finish.ensures.fault bits a.0 on a.1))
+
+pub returns-clause-reads : goal.returns-clause-reads
+returns-clause-reads g c = λ file r.
+    let i = c.loop-page.invariant in
+    let on = g.met.S.Source.same_bits _ _ file i.later r in
+    let a = i.read file r in
+    (a.0, record { reads = rw (i.code, i.pages) at (c.in_ok-finish.ensures.reads file a.0 on a.1); samples = i.samples file r })
