@@ -2,8 +2,8 @@
 //!
 //! [`Records`] are the bits of a graph file that were checked and stand for one graph, with the offset of each record:
 //! by a pass of their own, or with what one that was made has found ([`Records::of_pass`]).
-//! An [`Archive`] is made of them, by their own offsets or by those of an offsets file that agrees. A page is read in
-//! two ways. Both follow the references down, with a tick of [`Steps`] for each record of the chain, and then go up the
+//! An [`Archive`] is made of them, by their own offsets or by those of an offsets file that agrees. There are two ways
+//! to a page. Both follow the references down, with a tick of [`Steps`] for each record of the chain, and then go up the
 //! same chain again.
 //!
 //! [`Archive::open`] gives the successors of a page one by one. It makes an iterator for each page of the chain, each
@@ -22,6 +22,9 @@
 //! page x --reference--> page --reference--> ... --> page without a reference     down: the pages stand in a list
 //! list of x <--copied-- list <--copied-- ... <-- list                            up: two lists, used in turn
 //! ```
+//!
+//! [`Archive::read`] serves a chain of any length too, and makes lists only where the chain is too long to be opened. It
+//! goes down once, as for a list, and then up the one way or the other. So it opens each record once.
 //!
 //! [`spot_from`] reads a page of an archive that was not checked, by the offsets and the same chain alone, from any
 //! source that goes to any offset of its bits ([`Seek`](wg_stream::Seek)); of a file in a depot it reads no other
@@ -52,6 +55,7 @@
 //! | [`Records::of_pass`], [`Records::archive`] | none | constant |
 //! | [`Archive::open`] | a box for each reference of the chain | that of the words of the chain's records |
 //! | [`Archive::list`] | a number for each page of the chain, and two of its lists | that of the words and the lists of the chain's records |
+//! | [`Archive::read`] | a number for each page of the chain; and a box for each reference, or two lists | that of the words, and of the lists if they are made |
 //! | [`spot`], [`spot_from`] | a number for each page of the chain, and at most 6 lists | that of the words and the lists of the chain's records |
 //! | [`Records::sweep`] | a row for each page that a reference reaches, and one | that of the rows |
 //!
@@ -73,6 +77,7 @@ mod chain;
 mod error;
 pub mod laws;
 mod listing;
+mod reading;
 mod records;
 mod steps;
 mod unchecked;
@@ -80,5 +85,6 @@ mod unchecked;
 pub use archive::Archive;
 pub use chain::{spot, spot_from};
 pub use error::{CheckError, ListError, OpenError, SpotError};
+pub use reading::Page;
 pub use records::Records;
 pub use steps::Steps;
