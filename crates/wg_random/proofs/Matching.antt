@@ -3,7 +3,12 @@ use Rattle.std.proofs.Common.{◌≡◌, ℕ, zero, suc, ◌+◌, ◌<◌, ◌�
 use Rattle.std.specs.Prelude.{get_or}
 use Rattle.std.proofs.lemmas.List.{ext_get_or}
 use Rattle.wg_grammar.specs.Archive.{Accepted, ReadsGraph}
+use Rattle.wg_grammar.specs.Context.{Known}
+use Rattle.wg_iterators.specs.Coming.{Coming}
 use Rattle.wg_offsets.specs.Places.{ArePlaces, AgreeInLengths}
+use Rattle.wg_random.specs.Answer.{IsReadOf, list_in}
+use Rattle.wg_random.specs.declared.reading.Page.{Page}
+use Rattle.wg_random.specs.declared.reading.Page.TheVariants.{Opened, Listed}
 use Rattle.wg_random.specs.Held.{Held}
 use Rattle.wg_stream.specs.AllRecords.{Reading, known_at}
 use Rattle.wg_stream.proofs.AcceptedRecords.{read_of, list_at}
@@ -31,3 +36,8 @@ pub graph_list : (v : Held) (x : ℕ) (list : List ℕ) → ((r : Reading v.para
 graph_list v x list is a h =
     let g = read_of v.params v.bits a h in
     is g.reading ∙ sym (list_at g.reading.records x) ∙ ap (λ (ls : List (List ℕ)). get_or ls x []) (sym g.graph)
+
+-- a page that was read has the list of the page
+pub list_read : (k : Known) (page : Page) → IsReadOf k page → list_in page ≡ k.list
+list_read k (Opened s) h = ap (λ (x : Coming). x.list) h.1
+list_read k (Listed list) h = h.1

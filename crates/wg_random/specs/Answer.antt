@@ -1,4 +1,4 @@
--- What a page's opening and its list answer.
+-- What is answered where a page is opened, listed or read.
 use Rattle.std.specs.Prelude.{◌≡◌, ℕ, ◌<◌, ◌≤◌, List, length, Result, Ok, Err}
 use Rattle.wg_grammar.specs.Context.{Known}
 use Rattle.wg_iterators.specs.Coming.{Coming}
@@ -7,6 +7,8 @@ use Rattle.wg_random.specs.declared.error.ListError.{ListError}
 use Rattle.wg_random.specs.declared.error.ListError.TheVariants as lists
 use Rattle.wg_random.specs.declared.error.OpenError.{OpenError}
 use Rattle.wg_random.specs.declared.error.OpenError.TheVariants.{NoPage, Deep, Memory}
+use Rattle.wg_random.specs.declared.reading.Page.{Page}
+use Rattle.wg_random.specs.declared.reading.Page.TheVariants.{Opened, Listed}
 
 -- all successors of the page are still to come
 abbrev pub all_of : Known → Coming
@@ -25,3 +27,19 @@ abbrev pub Lists : ℕ → ℕ → Known → Result (List ℕ) ListError → Typ
 Lists nodes x k (Ok list) = (x < nodes) × (list ≡ k.list)
 Lists nodes x k (Err lists.NoPage) = nodes ≤ x
 Lists nodes x k (Err lists.Memory) = x < nodes
+
+-- the successors of a page that was read, whether they are to come or are listed
+abbrev pub list_in : Page → List ℕ
+list_in (Opened s) = s.list
+list_in (Listed list) = list
+
+-- all of them; they are to come one by one exactly if the chain is short enough for that
+abbrev pub IsReadOf : Known → Page → Type 0
+IsReadOf k (Opened s) = (k.depth < CHAIN_PAGES) × (s ≡ all_of k)
+IsReadOf k (Listed list) = (CHAIN_PAGES ≤ k.depth) × (list ≡ k.list)
+
+-- the page, which is x; or there is no such page; or memory was wanting
+abbrev pub Reads : ℕ → ℕ → Known → Result Page ListError → Type 0
+Reads nodes x k (Ok page) = (x < nodes) × IsReadOf k page
+Reads nodes x k (Err lists.NoPage) = nodes ≤ x
+Reads nodes x k (Err lists.Memory) = x < nodes

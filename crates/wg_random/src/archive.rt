@@ -188,14 +188,15 @@ impl<'a> Archive<'a> {
 
     // Makes the pages of a chain that ends after `depth` references, from the last one up, each below the one before
     // it.
-    fn ascend(
+    pub(crate) fn ascend(
         &self,
         alloc: Global,
         x: u64,
-        chain: &[u64; CHAIN_PAGES],
+        chain: &[u64],
         depth: u64,
     ) -> Result<Successors<'a>, AllocError>
         requires near { depth < CHAIN_PAGES }
+        requires long { depth < length chain.now }
         requires pages { ArePages self.now.params.nodes chain.now depth }
         requires chain { (r : Reading self.now.params self.now.bits)
             → Ended self.now.params self.now.bits r.records chain.now x depth }

@@ -2,8 +2,8 @@
 //!
 //! [`Records`] are the bits of a graph file that were checked and stand for one graph, with the offset of each record:
 //! by a pass of their own, or with what one that was made has found ([`Records::of_pass`]).
-//! An [`Archive`] is made of them, by their own offsets or by those of an offsets file that agrees. A page is read in
-//! two ways. Both follow the references down, with a tick of [`Steps`] for each record of the chain, and then go up the
+//! An [`Archive`] is made of them, by their own offsets or by those of an offsets file that agrees. There are two ways
+//! to a page. Both follow the references down, with a tick of [`Steps`] for each record of the chain, and then go up the
 //! same chain again.
 //!
 //! [`Archive::open`] gives the successors of a page one by one. It makes an iterator for each page of the chain, each
@@ -23,12 +23,15 @@
 //! list of x <--copied-- list <--copied-- ... <-- list                            up: two lists, used in turn
 //! ```
 //!
+//! [`Archive::read`] serves a chain of any length too, and makes lists only where the chain is too long to be opened. It
+//! goes down once, as for a list, and then up the one way or the other. So it opens each record once.
+//!
 //! [`spot_from`] reads a page of an archive that was not checked, by the offsets and the same chain alone, from any
 //! source that goes to any offset of its bits and tells where the record of a page lies ([`Located`]), as one does whose
-//! offsets are held ([`Indexed`]); of a file in a depot it reads no other record. [`spot`] does so from bytes in memory. The heads of these records are judged first, from the page down, and
-//! then the whole records, from the last one up, and the answer is the list of the page or the first fault. The
-//! functions of [`laws`] state that there is one answer, and that it is the page's list of the graph where the archive
-//! is accepted.
+//! offsets are held ([`Indexed`]); of a file in a depot it reads no other record. [`spot`] does so from bytes in memory.
+//! The heads of these records are judged first, from the page down, and then the whole records, from the last one up,
+//! and the answer is the list of the page or the first fault. The functions of [`laws`] state that there is one answer,
+//! and that it is the page's list of the graph where the archive is accepted.
 //!
 //! [`Records::sweep`] needs no offsets: it makes a [`Sweep`](wg_stream::Sweep) over the lists of all pages, for which
 //! the records are not passed over again.
@@ -52,6 +55,7 @@
 //! | [`Records::of_pass`], [`Records::archive`] | none | constant |
 //! | [`Archive::open`] | a box for each reference of the chain | that of the words of the chain's records |
 //! | [`Archive::list`] | a number for each page of the chain, and two of its lists | that of the words and the lists of the chain's records |
+//! | [`Archive::read`] | a number for each page of the chain; and a box for each reference, or two lists | that of the words, and of the lists if they are made |
 //! | [`spot`], [`spot_from`] | a number for each page of the chain, and at most 6 lists | that of the words and the lists of the chain's records; the source is asked twice where each of them lies |
 //! | [`Records::sweep`] | a row for each page that a reference reaches, and one | that of the rows |
 //!
@@ -74,6 +78,7 @@ mod error;
 pub mod laws;
 mod listing;
 mod located;
+mod reading;
 mod records;
 mod steps;
 mod unchecked;
@@ -82,5 +87,6 @@ pub use archive::Archive;
 pub use chain::{spot, spot_from};
 pub use error::{CheckError, ListError, OpenError, SpotError};
 pub use located::{Indexed, Located};
+pub use reading::Page;
 pub use records::Records;
 pub use steps::Steps;

@@ -29,7 +29,7 @@ fn draw(mut successors: Successors<'_>, list: &mut List) -> Result<(), AllocErro
 
 impl<'a> Archive<'a> {
     // Follows the references from page `x`, and answers the pages of this chain, `x` first.
-    fn chain<L: Ledger>(
+    pub(crate) fn chain<L: Ledger>(
         &self,
         alloc: Global,
         x: u64,
@@ -76,15 +76,14 @@ impl<'a> Archive<'a> {
         draw(successors, list)
     }
 
-    // The list of the first page of a chain. The lists of its pages are made from the last page on, each over the one
-    // made before.
-    fn climb(&self, alloc: Global, chain: &[u64]) -> Result<List, AllocError>
+    // The list of page `x`, with which the chain begins. The lists of its pages are made from the last page on, each over
+    // the one made before.
+    pub(crate) fn climb(&self, alloc: Global, x: u64, chain: &[u64]) -> Result<List, AllocError>
         requires some { 0 < length chain.now }
         requires pages { ArePages self.now.params.nodes chain.now (length chain.now - 1) }
         requires chain { (r : Reading self.now.params self.now.bits)
-            → (x : ℕ) × Ended self.now.params self.now.bits r.records chain.now x (length chain.now - 1) }
-        ensures { (r : Reading self.now.params self.now.bits) (x : ℕ)
-            → Ended self.now.params self.now.bits r.records chain.now x (length chain.now - 1)
+            → Ended self.now.params self.now.bits r.records chain.now x (length chain.now - 1) }
+        ensures { (r : Reading self.now.params self.now.bits)
             → IfOk result (λ list. list ≡ (known_at r.records x).list) }
     {
         let mut left = chain.len() - 1;
@@ -129,6 +128,6 @@ impl<'a> Archive<'a> {
             return Err(ListError::NoPage);
         }
         let chain = self.chain(alloc, x, steps)?;
-        Ok(self.climb(alloc, chain.as_slice())?)
+        Ok(self.climb(alloc, x, chain.as_slice())?)
     }
 }

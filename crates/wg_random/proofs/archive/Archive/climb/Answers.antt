@@ -3,10 +3,9 @@ use Rattle.wg_random.proofs.ChainLemmas.{next_up}
 use Rattle.wg_random.proofs.archive.Archive.climb.Goals as goal
 
 pub fill-requires-clause-ready : goal.fill-requires-clause-ready
-fill-requires-clause-ready c r = (c.requires.chain r).1.bottom (omega (arith, c.requires.some))
+fill-requires-clause-ready c r = (c.requires.chain r).bottom (omega (arith, c.requires.some))
 
 pub fill-requires-in-up-clause-ready : goal.fill-requires-in-up-clause-ready
 fill-requires-in-up-clause-ready c r =
     let h = c.up.invariant in
-    let e = c.requires.chain r in
-    next_up c.args.self.now.params c.args.self.now.bits r.records c.args.chain.now c.as_slice.result.now e.0 _ c.up.left (omega arith) (omega (arith, h.within)) (omega (arith, c.requires.some)) (c.as_slice.ensures ∙ h.list r) e.1
+    next_up c.args.self.now.params c.args.self.now.bits r.records c.args.chain.now c.as_slice.result.now c.args.x _ c.up.left (omega arith) (omega (arith, h.within)) (omega (arith, c.requires.some)) (c.as_slice.ensures ∙ h.list r) (c.requires.chain r)
