@@ -12,9 +12,9 @@ overflow_add-below c =
     let high = c.requires.shares.2 in
     let h = c.requires.shares.3 in
     let e = c.from_lanes-low.ensures.below
-        ∙ low_joins n low high c.args.shares.now h c.split_at.result.0.now (omega arith)
-        (rw c.split_at.ensures.front (All-take (λ u. u < length c.args.shares.now) (2 ^ 24) c.parts.left.now c.parts.invariant.within))
-        c.lanes_from.result (c.lanes_from.ensures n low high h) in
+    ∙ low_joins n low high c.args.shares.now h c.split_at.result.0.now (omega arith)
+    (rw c.split_at.ensures.front (All-take (λ u. u < length c.args.shares.now) (2 ^ 24) c.parts.left.now c.parts.invariant.within))
+    c.lanes_from.result (c.lanes_from.ensures n low high h) in
     omega (
       arith,
       e,
@@ -31,9 +31,9 @@ overflow_add-above c =
     let high = c.requires.shares.2 in
     let h = c.requires.shares.3 in
     let e = c.from_lanes-low.ensures.above
-        ∙ high_joins n low high c.args.shares.now h c.split_at.result.0.now (omega arith)
-        (rw c.split_at.ensures.front (All-take (λ u. u < length c.args.shares.now) (2 ^ 24) c.parts.left.now c.parts.invariant.within))
-        c.lanes_from.result (c.lanes_from.ensures n low high h) in
+    ∙ high_joins n low high c.args.shares.now h c.split_at.result.0.now (omega arith)
+    (rw c.split_at.ensures.front (All-take (λ u. u < length c.args.shares.now) (2 ^ 24) c.parts.left.now c.parts.invariant.within))
+    c.lanes_from.result (c.lanes_from.ensures n low high h) in
     omega (
       arith,
       e,
@@ -48,9 +48,9 @@ parts-preserved c = record {
   within = rw c.split_at.ensures.back (All-drop (λ u. u < length c.args.shares.now) (2 ^ 24) c.parts.left.now c.parts.invariant.within);
   low = λ n low high h.
       let e = c.from_lanes-low.ensures.below
-        ∙ low_joins n low high c.args.shares.now h c.split_at.result.0.now (omega arith)
-        (rw c.split_at.ensures.front (All-take (λ u. u < length c.args.shares.now) (2 ^ 24) c.parts.left.now c.parts.invariant.within))
-        c.lanes_from.result (c.lanes_from.ensures n low high h) in
+      ∙ low_joins n low high c.args.shares.now h c.split_at.result.0.now (omega arith)
+      (rw c.split_at.ensures.front (All-take (λ u. u < length c.args.shares.now) (2 ^ 24) c.parts.left.now c.parts.invariant.within))
+      c.lanes_from.result (c.lanes_from.ensures n low high h) in
       omega (
         arith,
         e,
@@ -61,9 +61,9 @@ parts-preserved c = record {
       );
   high = λ n low high h.
       let e = c.from_lanes-low.ensures.above
-        ∙ high_joins n low high c.args.shares.now h c.split_at.result.0.now (omega arith)
-        (rw c.split_at.ensures.front (All-take (λ u. u < length c.args.shares.now) (2 ^ 24) c.parts.left.now c.parts.invariant.within))
-        c.lanes_from.result (c.lanes_from.ensures n low high h) in
+      ∙ high_joins n low high c.args.shares.now h c.split_at.result.0.now (omega arith)
+      (rw c.split_at.ensures.front (All-take (λ u. u < length c.args.shares.now) (2 ^ 24) c.parts.left.now c.parts.invariant.within))
+      c.lanes_from.result (c.lanes_from.ensures n low high h) in
       omega (
         arith,
         e,
@@ -81,8 +81,8 @@ overflow_add-result c =
     let high = c.requires.shares.2 in
     let h = c.requires.shares.3 in
     let e = c.from_lanes-low-2.ensures.below
-        ∙ low_joins n low high c.args.shares.now h c.parts.left.now (omega arith) c.parts.invariant.within
-        c.lanes_from-2.result (c.lanes_from-2.ensures n low high h) in
+    ∙ low_joins n low high c.args.shares.now h c.parts.left.now (omega arith) c.parts.invariant.within
+    c.lanes_from-2.result (c.lanes_from-2.ensures n low high h) in
     omega (arith, e, c.parts.invariant.low n low high h, c.requires.shares.4)
 
 pub overflow_add-result-2 : goal.overflow_add-result-2
@@ -92,21 +92,20 @@ overflow_add-result-2 c =
     let high = c.requires.shares.2 in
     let h = c.requires.shares.3 in
     let e = c.from_lanes-low-2.ensures.above
-        ∙ high_joins n low high c.args.shares.now h c.parts.left.now (omega arith) c.parts.invariant.within
-        c.lanes_from-2.result (c.lanes_from-2.ensures n low high h) in
+    ∙ high_joins n low high c.args.shares.now h c.parts.left.now (omega arith) c.parts.invariant.within
+    c.lanes_from-2.result (c.lanes_from-2.ensures n low high h) in
     omega (arith, e, c.parts.invariant.high n low high h, c.requires.shares.5)
 
 pub returns-clause-low : goal.returns-clause-low
 returns-clause-low c = λ n low high h.
     let e = c.from_lanes-low-2.ensures.below
-        ∙ low_joins n low high c.args.shares.now h c.parts.left.now (omega arith) c.parts.invariant.within
-        c.lanes_from-2.result (c.lanes_from-2.ensures n low high h) in
+    ∙ low_joins n low high c.args.shares.now h c.parts.left.now (omega arith) c.parts.invariant.within
+    c.lanes_from-2.result (c.lanes_from-2.ensures n low high h) in
     omega (arith, e, c.parts.invariant.low n low high h)
 
 pub returns-clause-high : goal.returns-clause-high
 returns-clause-high c = λ n low high h.
     let e = c.from_lanes-low-2.ensures.above
-        ∙ high_joins n low high c.args.shares.now h c.parts.left.now (omega arith) c.parts.invariant.within
-        c.lanes_from-2.result (c.lanes_from-2.ensures n low high h) in
+    ∙ high_joins n low high c.args.shares.now h c.parts.left.now (omega arith) c.parts.invariant.within
+    c.lanes_from-2.result (c.lanes_from-2.ensures n low high h) in
     omega (arith, e, c.parts.invariant.high n low high h)
-
