@@ -70,14 +70,13 @@
 //! weights it also divides teleport's two parts for each page, and if each weight is 1 once for all. A quotient by an
 //! outdegree of at most 2048 is two products with its inverse; those of outdegrees below 256 are made once a round, and
 //! take 2 KiB.
-//! For an arc it adds twice. Along runs and lists of predecessors, what a page gives is cut at 40 bits, below and above,
-//! into four lanes of 64 bits, which are added up modulo 2^64: a run takes a difference and a sum of four lanes each, and
-//! a predecessor a sum. What at most 2^24 pages give fits the lanes; longer runs of larger graphs, and longer lists, are
-//! taken in parts of so many pages. Judging does the same as a round along lists of successors with the lower bounds
-//! alone, and adds once. No other sum
-//! passes 128 bits: what flows to a page is at most one whole for each page, so below 2^36 * 10^24, and the damping
-//! multiplies it by less than 2^10; a weight is below 2^32, and teleport's part of 1 is at most 1000 * 10^24 before it
-//! is divided.
+//! For an arc it adds twice. Along runs and lists of predecessors, what a page gives is cut at 40 bits, below and
+//! above, into four lanes of 64 bits, which are added up modulo 2^64: a run takes a difference and a sum of four lanes
+//! each, and a predecessor a sum. What at most 2^24 pages give fits the lanes; longer runs of larger graphs, and longer
+//! lists, are taken in parts of so many pages. Judging does the same as a round along lists of successors with the
+//! lower bounds alone, and adds once. No other sum passes 128 bits: what flows to a page is at most one whole for each
+//! page, so below 2^36 * 10^24, and the damping multiplies it by less than 2^10; a weight is below 2^32, and teleport's
+//! part of 1 is at most 1000 * 10^24 before it is divided.
 #![tactic(auto)]
 
 mod advancing;
