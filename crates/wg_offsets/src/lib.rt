@@ -10,8 +10,8 @@
 //! the records that were read; a [`Comparison`] does so record after record. The function of [`laws`] states that each
 //! file has one list of places or one first fault.
 //!
-//! [`Samples`] keep the place of one page in [`SAMPLED`] of a file that was read to its end, and find that of any other
-//! by the words in between, which are read again.
+//! [`Samples`] keep the place of one page in [`SAMPLED`] of a file that was read to its end, and find that of any
+//! other by the words in between, which are read again.
 //!
 //! An offsets file of two bytes, and one that is cut off:
 //!
@@ -26,9 +26,9 @@
 //! Ok(())
 //! ```
 //!
-//! Offsets hold 8 bytes for each offset, and samples 16 bytes for each 1024 pages. Memory is taken as the words come, and
-//! never by the number of pages that an archive claims; words and a comparison take none. Reading costs a pass over the
-//! file. To look up an offset takes constant time, and by samples that of reading at most 1024 words.
+//! Offsets hold 8 bytes for each offset, and samples 16 bytes for each 1024 pages. Memory is taken as the words come,
+//! and never by the number of pages that an archive claims; words and a comparison take none. Reading costs a pass
+//! over the file. To look up an offset takes constant time, and by samples that of reading at most 1024 words.
 //!
 //! Choices:
 //!

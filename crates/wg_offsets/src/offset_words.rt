@@ -38,7 +38,8 @@ impl Model for OffsetWords {
 
     ghost view = { λ w. record { code = w.code; pages = w.pages; count = w.count; offset = w.offset } };
 
-    ghost invariant = { λ w. IsCode w.code × (w.pages ≤ MOST_PAGES) × (w.count ≤ w.pages + 1) × (w.offset ≤ MOST_PLACE) };
+    ghost invariant = { λ w. IsCode w.code × (w.pages ≤ MOST_PAGES)
+        × (w.count ≤ w.pages + 1) × (w.offset ≤ MOST_PLACE) };
 }
 
 // The offset that a word leads to from another, if so many words stand before it. All of it is inlined, so that no

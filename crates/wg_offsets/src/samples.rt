@@ -26,8 +26,8 @@ pub struct Extent {
     pub end: u64,
 }
 
-/// The places of one page in [`SAMPLED`], and after which bit of the offsets file the words of the pages behind it come.
-/// The place of any page is found by these words, which are read again.
+/// The places of one page in [`SAMPLED`], and after which bit of the offsets file the words of the pages behind it
+/// come. The place of any page is found by these words, which are read again.
 ///
 /// It is seen as the code, the number of records, and the places and bits that are kept. It holds 16 bytes for each of
 /// them.
@@ -51,7 +51,9 @@ impl Model for Samples {
 
     ghost view = { λ s. record { code = s.code; pages = s.pages; places = s.places.items; bits = s.bits.items } };
 
-    ghost invariant = { λ s. IsCode s.code × (s.pages ≤ MOST_PAGES) × (length s.places.items ≡ s.pages / SAMPLED + 1) × (length s.bits.items ≡ s.pages / SAMPLED + 1) × All (λ p. p ≤ MOST_PLACE) s.places.items };
+    ghost invariant = { λ s. IsCode s.code × (s.pages ≤ MOST_PAGES)
+        × (length s.places.items ≡ s.pages / SAMPLED + 1) × (length s.bits.items ≡ s.pages / SAMPLED + 1)
+        × All (λ p. p ≤ MOST_PLACE) s.places.items };
 }
 
 // Keeps the place of a page, and the bit after its word, if the page is one of those.
@@ -107,8 +109,8 @@ fn go_on<S: Source>(
 }
 
 impl Samples {
-    /// Reads all words of an offsets file of so many records, from a source that stands at its first bit, and names the
-    /// first fault. It takes one pass.
+    /// Reads all words of an offsets file of so many records, from a source that stands at its first bit, and names
+    /// the first fault. It takes one pass.
     pub fn read<S: Source>(
         alloc: Global,
         source: &mut S,

@@ -97,15 +97,15 @@ fn climb<S: Located>(
 /// Of the source the records of this chain are read and nothing else.
 ///
 /// The chain begins with the page. The heads of its pages are judged first, from the page down, each on its own: with
-/// no limit on chains, and as though no outdegrees came before it. A record that begins past the last bit is cut at its
-/// outdegree. Then the whole records are judged, from the last page of the chain up, each against the list and the
+/// no limit on chains, and as though no outdegrees came before it. A record that begins past the last bit is cut at
+/// its outdegree. Then the whole records are judged, from the last page of the chain up, each against the list and the
 /// depth of the page that it refers to; a proper record must end where the offsets say that the next one begins. The
 /// first fault in this order is answered. No other record is read, nor the tail, nor the number of arcs; where the
 /// archive is accepted, the list is that of its graph.
 ///
-/// Each page of the chain is counted by a tick, and the source is asked twice where its record lies. Beside that it takes
-/// time in proportion to the words and the lists of these records, and holds a number for each page of the chain and a
-/// few lists. Memory is taken as pages and successors come.
+/// Each page of the chain is counted by a tick, and the source is asked twice where its record lies. Beside that it
+/// takes time in proportion to the words and the lists of these records, and holds a number for each page of the chain
+/// and a few lists. Memory is taken as pages and successors come.
 pub fn spot_from<L: Ledger, S: Located>(
     alloc: Global,
     params: &Params,

@@ -1,10 +1,9 @@
 //! Pages of an archive by their offsets.
 //!
 //! [`Records`] are the bits of a graph file that were checked and stand for one graph, with the offset of each record:
-//! by a pass of their own, or with what one that was made has found ([`Records::of_pass`]).
-//! An [`Archive`] is made of them, by their own offsets or by those of an offsets file that agrees. There are two ways
-//! to a page. Both follow the references down, with a tick of [`Steps`] for each record of the chain, and then go up the
-//! same chain again.
+//! by a pass of their own, or with what one that was made has found ([`Records::of_pass`]). An [`Archive`] is made of
+//! them, by their own offsets or by those of an offsets file that agrees. There are two ways to a page. Both follow
+//! the references down, with a tick of [`Steps`] for each record of the chain, and then go up the same chain again.
 //!
 //! [`Archive::open`] gives the successors of a page one by one. It makes an iterator for each page of the chain, each
 //! in the box of the next, and no list.
@@ -23,15 +22,15 @@
 //! list of x <--copied-- list <--copied-- ... <-- list                            up: two lists, used in turn
 //! ```
 //!
-//! [`Archive::read`] serves a chain of any length too, and makes lists only where the chain is too long to be opened. It
-//! goes down once, as for a list, and then up the one way or the other. So it opens each record once.
+//! [`Archive::read`] serves a chain of any length too, and makes lists only where the chain is too long to be opened.
+//! It goes down once, as for a list, and then up the one way or the other. So it opens each record once.
 //!
 //! [`spot_from`] reads a page of an archive that was not checked, by the offsets and the same chain alone, from any
-//! source that goes to any offset of its bits and tells where the record of a page lies ([`Located`]), as one does whose
-//! offsets are held ([`Indexed`]); of a file in a depot it reads no other record. [`spot`] does so from bytes in memory.
-//! The heads of these records are judged first, from the page down, and then the whole records, from the last one up,
-//! and the answer is the list of the page or the first fault. The functions of [`laws`] state that there is one answer,
-//! and that it is the page's list of the graph where the archive is accepted.
+//! source that goes to any offset of its bits and tells where the record of a page lies ([`Located`]), as one does
+//! whose offsets are held ([`Indexed`]); of a file in a depot it reads no other record. [`spot`] does so from bytes in
+//! memory. The heads of these records are judged first, from the page down, and then the whole records, from the last
+//! one up, and the answer is the list of the page or the first fault. The functions of [`laws`] state that there is
+//! one answer, and that it is the page's list of the graph where the archive is accepted.
 //!
 //! [`Records::sweep`] needs no offsets: it makes a [`Sweep`](wg_stream::Sweep) over the lists of all pages, for which
 //! the records are not passed over again.

@@ -76,8 +76,8 @@ impl<'a> Archive<'a> {
         draw(successors, list)
     }
 
-    // The list of page `x`, with which the chain begins. The lists of its pages are made from the last page on, each over
-    // the one made before.
+    // The list of page `x`, with which the chain begins. The lists of its pages are made from the last page on, each
+    // over the one made before.
     pub(crate) fn climb(&self, alloc: Global, x: u64, chain: &[u64]) -> Result<List, AllocError>
         requires some { 0 < length chain.now }
         requires pages { ArePages self.now.params.nodes chain.now (length chain.now - 1) }

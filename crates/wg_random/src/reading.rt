@@ -39,12 +39,12 @@ impl<'a> Archive<'a> {
         }
     }
 
-    /// The successors of page `x`, however many references lead on from it: one by one, as by [`Archive::open`], or as a
-    /// list, as by [`Archive::list`], if its chain of references is too long to be opened. Each record of the chain is
-    /// opened once, with a tick.
+    /// The successors of page `x`, however many references lead on from it: one by one, as by [`Archive::open`], or as
+    /// a list, as by [`Archive::list`], if its chain of references is too long to be opened. Each record of the chain
+    /// is opened once, with a tick.
     ///
-    /// It holds a number for each page of the chain while it reads; then a box for each but the first, or two lists at a
-    /// time. It takes the time of the words of these records, and of their lists only if they are made.
+    /// It holds a number for each page of the chain while it reads; then a box for each but the first, or two lists at
+    /// a time. It takes the time of the words of these records, and of their lists only if they are made.
     pub fn read<L: Ledger>(
         &self,
         alloc: Global,

@@ -5,8 +5,8 @@
 //! with their values. `wg_tests` runs each of them through `wg_codes`, both ways.
 //!
 //! [`COPIED`] is an archive bit by bit, with the list of each page and the offset of each record. All other worked
-//! archives are rows of `wg_cli`, over which the program runs. [`bytes_of`] turns the text of some bits into bytes, and
-//! [`usual`] makes parameters in the usual codes.
+//! archives are rows of `wg_cli`, over which the program runs. [`bytes_of`] turns the text of some bits into bytes,
+//! and [`usual`] makes parameters in the usual codes.
 //!
 //! The worked archive, bit by bit, and a graph that is generated from the seed 7:
 //!
@@ -20,9 +20,9 @@
 //! Ok(())
 //! ```
 //!
-//! [`generate`] draws a graph of up to [`wg_params::MOST_GENERATED`] pages that is like a web graph: lists share members
-//! with lists close before them, and have intervals. The definition says each list, and so the same seed gives the same
-//! graph in any program that follows it.
+//! [`generate`] draws a graph of up to [`wg_params::MOST_GENERATED`] pages that is like a web graph: lists share
+//! members with lists close before them, and have intervals. The definition says each list, and so the same seed gives
+//! the same graph in any program that follows it.
 //!
 //! ```text
 //! seed --> for each page, in order: copy from a list close before --> scatter --> add an interval --> its list
