@@ -1,7 +1,6 @@
 pub mod CertifyLemmas
 pub mod CheckLemmas
 pub mod NumberLemmas
-pub mod OpenedLemmas
 pub mod PrintedJobs
 pub mod PrintedLines
 pub mod RankJobs

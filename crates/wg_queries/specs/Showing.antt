@@ -1,5 +1,5 @@
--- The line of a page, as it is printed, and how many records are opened for it.
-use Rattle.std.specs.Prelude.{◌≡◌, ℕ, ◌+◌, ◌*◌, nat_lt, if◌then◌else◌, List, [], ◌∷◌, Result, Ok, IsTrue, IfErr}
+-- The line of a page, as it is printed, and the records of its chain of references.
+use Rattle.std.specs.Prelude.{◌≡◌, ℕ, ◌+◌, List, Result, Ok, IsTrue, IfErr}
 use Rattle.wg_io.specs.Outside.{Increased}
 use Rattle.wg_lines.specs.Printing.{Prints}
 use Rattle.wg_io.specs.declared.output.Output.TheVariants.{Out}
@@ -7,7 +7,6 @@ use Rattle.wg_io.specs.declared.sink.Sink as sink
 use Rattle.wg_grammar.specs.Archive.{Accepted, ReadsGraph}
 use Rattle.wg_grammar.specs.Record.{Whole}
 use Rattle.wg_stream.specs.AllRecords.{known_at}
-use Rattle.wg_iterators.specs.declared.below.TheConstants.{CHAIN_PAGES}
 use Rattle.wg_random.specs.Held.{Held}
 use Rattle.wg_outcomes.specs.Answers.{IsUnput, status_in}
 use Rattle.wg_outcomes.specs.Commands.{line_in}
@@ -23,12 +22,6 @@ pub record PrintsLine {S : Type 0} (s : sink.Ghosts S) (archive : Held) (page : 
   pub only : IfErr result (λ e. IsUnput e.status)
   pub failed : status_in result ≡ WriteFault Out → Increased (s.faults before) (s.faults after)
 
--- How many records are opened for a page: those of its chain of references, once; or twice, if the chain is too long for
--- an iterator.
-abbrev pub records_for : List Whole → ℕ → ℕ
-records_for records page = let depth = (known_at records page).depth in if nat_lt depth CHAIN_PAGES then depth + 1
-    else 2 * (depth + 1)
-
-abbrev pub records_for_all : List Whole → List ℕ → ℕ
-records_for_all records [] = 0
-records_for_all records (page ∷ pages) = records_for records page + records_for_all records pages
+-- how many records the chain of references of a page has
+abbrev pub chain_records : List Whole → ℕ → ℕ
+chain_records records page = (known_at records page).depth + 1

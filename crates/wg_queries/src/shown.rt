@@ -5,11 +5,13 @@ ghost use Rattle.wg_io.specs.Puts.{joined};
 ghost use Rattle.wg_io.specs.Refusals.{SinkRefusals};
 ghost use Rattle.wg_outcomes.specs.Answers.{PrintRefusals};
 ghost use Rattle.wg_outcomes.specs.Commands.{spaced, successors_line};
+ghost use Rattle.wg_random.specs.Answer.{list_in};
 
 use wg_io::{Sink, WriteError};
 use wg_iterators::Successors;
 use wg_lines::Lines;
 use wg_outcomes::{Ending, output_ending};
+use wg_random::Page;
 
 // A number behind a space.
 fn write_spaced<S: Sink>(lines: &mut Lines, sink: &mut S, number: u64) -> Result<(), WriteError>
@@ -56,8 +58,8 @@ fn write_page<S: Sink>(
     lines.byte(sink, b'\n')
 }
 
-/// Prints the line of a page whose successors are all still to come.
-pub fn print_page<O: Sink>(
+// Prints the line of a page whose successors are all still to come.
+fn print_page<O: Sink>(
     lines: &mut Lines,
     out: &mut O,
     page: u64,
@@ -119,5 +121,23 @@ pub fn print_list<O: Sink>(
     match write_list(lines, out, page, list) {
         Ok(()) => Ok(()),
         Err(error) => Err(output_ending(error)),
+    }
+}
+
+/// Prints the line of a page that was read.
+pub fn print_read<O: Sink>(
+    lines: &mut Lines,
+    out: &mut O,
+    page: u64,
+    read: Page<'_>,
+) -> Result<(), Ending>
+    ensures prints { IsTrue O.told → Prints (successors_line page (list_in read.entry)) (O.taken out.old)
+        (O.taken out.new) lines.old lines.new result }
+    ensures later { O.later out.old out.new }
+    ensures refusals { PrintRefusals ⟦<O as Sink>⟧ out.old out.new result }
+{
+    match read {
+        Page::Opened(mut successors) => print_page(lines, out, page, &mut successors),
+        Page::Listed(list) => print_list(lines, out, page, list.as_slice()),
     }
 }

@@ -48,6 +48,6 @@ returns g c =
     let stands : ReadsGraph c.archive.result.params c.archive.result.bits (Ok a) = archive_reads c.archive.result c.of_pass-records.result p (bits_of c.as_slice-graph.result.now) a c.archive.ensures c.of_pass-records.ensures.params c.of_pass-records.ensures.bits read.finds.1 in
     shows c.args.base.now c.args.pages.now _ _ _ p _ _ c.in_ok-params.ensures _ _ c.in_ok-bytes.bytes c.in_ok-bytes.ensures _ c.as_slice-graph.ensures
     read.limits a read.finds.1 _ _ c.in_ok-judge_offsets.ensures
-    _ c.as_slice.ensures c.in_ok-find_pages.ensures.steps _ _ c.print_pages.result
-    (λ o. subst (λ (ps : List ℕ). Puts (successors_lines a.graph ps) (g.O.Sink.taken c.args.out.now) (g.O.Sink.taken c.print_pages.new.out) c.print_pages.result) c.as_slice-2.ensures (c.print_pages.ensures.puts o a stands))
-    c.print_pages.ensures.only c.print_pages.ensures.failed
+    _ c.as_slice.ensures c.in_ok-find_pages.ensures.steps _ _ c.print_counted.result
+    (λ o. subst (λ (ps : List ℕ). Puts (successors_lines a.graph ps) (g.O.Sink.taken c.args.out.now) (g.O.Sink.taken c.print_counted.new.out) c.print_counted.result) c.as_slice-2.ensures (c.print_counted.ensures.puts o a stands))
+    c.print_counted.ensures.only c.print_counted.ensures.failed

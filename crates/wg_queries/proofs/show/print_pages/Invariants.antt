@@ -1,17 +1,17 @@
-use Rattle.std.proofs.Common.{◌+◌, ◌≤◌, [], Ok, map, take, IsTrue}
+use Rattle.std.proofs.Common.{◌≡◌, ◌+◌, [], Ok, map, take, sum_by, IsTrue}
 use Rattle.wg_lines.specs.Printing.{HasPrinted}
 use Rattle.wg_io.specs.Puts.{joined}
 use Rattle.wg_grammar.specs.Archive.{Accepted, ReadsGraph}
 use Rattle.wg_outcomes.specs.Commands.{line_in}
 use Rattle.wg_stream.specs.AllRecords.{Reading}
-use Rattle.wg_queries.specs.Showing.{records_for_all}
-use Rattle.wg_queries.proofs.show.print_each.Given as goal
+use Rattle.wg_queries.specs.Showing.{chain_records}
+use Rattle.wg_queries.proofs.show.print_pages.Given as goal
 
--- the lines of the pages so far are printed, and their records were opened
+-- the lines of the pages so far are printed, and the records of their chains were opened
 abbrev pub invariant-loop-page : goal.invariant-loop-page
 invariant-loop-page g l = let s = g.O.Sink in record {
   printed : IsTrue s.told → (a : Accepted) → ReadsGraph l.archive.params l.archive.bits (Ok a)
       → HasPrinted (s.taken l.fn.out) (s.taken l.out) [] (joined (map (line_in a.graph) (take l.page-index l.pages))) l.lines;
   later : s.later l.fn.out l.out;
-  opened : (r : Reading l.archive.params l.archive.bits) → l.steps ≤ l.fn.steps + records_for_all r.records (take l.page-index l.pages);
+  opened : (r : Reading l.archive.params l.archive.bits) → l.steps ≡ l.fn.steps + sum_by (chain_records r.records) (take l.page-index l.pages);
 }
