@@ -22,14 +22,14 @@
 //! Ok(())
 //! ```
 //!
-//! [`check`] and [`printing`] read the graph in pieces, and [`check`] and [`show`] the offsets, so that an archive
-//! need not fit into memory; all other inputs are held whole until they are read. [`show`] opens pages by their
-//! offsets, and prints their successors as they come. [`spot`] holds the offsets, and reads no record of the graph file
-//! but those that one page refers to, a step of its own (`successors_of_page`).
+//! [`check`] and [`printing`] read the graph in pieces, and [`check`], [`show`] and [`spot`] the offsets, so that an
+//! archive need not fit into memory; all other inputs are held whole until they are read. [`show`] opens pages by their
+//! offsets, and prints their successors as they come. [`spot`] keeps samples of the offsets, and reads no record of the
+//! graph file but those that one page refers to, a step of its own (`successors_of_page`).
 #![tactic(auto)]
 
 mod certificate;
-mod chain_source;
+mod chain_files;
 mod chains;
 pub mod check;
 mod print;
