@@ -22,15 +22,15 @@
 //! Ok(())
 //! ```
 //!
-//! [`check`] and [`printing`] read the graph in pieces, and [`check`] and [`show`] the offsets, so that an archive
-//! need not fit into memory; all other inputs are held whole until they are read. [`show`] reads pages by their
+//! [`check`] and [`printing`] read the graph in pieces, and [`check`], [`show`] and [`spot`] the offsets, so that an
+//! archive need not fit into memory; all other inputs are held whole until they are read. [`show`] reads pages by their
 //! offsets, and prints their successors as they come; it opens each record of their chains of references once
-//! ([`show::print_pages`]). [`spot`] holds the offsets, and reads no record of the graph file but those that one page
-//! refers to, a step of its own (`successors_of_page`).
+//! ([`show::print_pages`]). [`spot`] keeps samples of the offsets, and reads no record of the graph file but those that
+//! one page refers to, a step of its own (`successors_of_page`).
 #![tactic(auto)]
 
 mod certificate;
-mod chain_source;
+mod chain_files;
 mod chains;
 pub mod check;
 mod print;

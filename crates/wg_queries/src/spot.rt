@@ -15,14 +15,14 @@ use crate::shown::print_list;
 use std::alloc::Global;
 use wg_io::{Depot, Sink};
 use wg_lines::Lines;
-use wg_outcomes::Ending;
-use wg_readings::{find_graph, load_offsets, load_params};
+use wg_outcomes::{Ending, Input};
+use wg_readings::{find_file, load_params, sample_offsets};
 use wg_words::Name;
 
 /// Prints the successors of a page, by its chain of references alone: of the graph file no other record is read, and
-/// the offsets are held against the records of the chain and no others. It holds 8 bytes a page for the offsets, and
-/// the bytes of their file while it is read; then a piece of the graph file, a number for each page of the chain and a
-/// few of its lists.
+/// the offsets are held against the records of the chain and no others. It goes through the offsets file once, and comes
+/// back to it for each page of the chain. It holds a piece of either file, 16 bytes for each 1024th page, a number for
+/// each page of the chain and a few of its lists.
 pub fn spot<D: Depot, O: Sink>(
     alloc: Global,
     base: &Name,
@@ -34,9 +34,9 @@ pub fn spot<D: Depot, O: Sink>(
         (Spot base.now page) depot.old depot.new out.old out.new result }
 {
     let params = load_params(alloc, depot, base)?;
-    let mut graph = find_graph(alloc, depot, base)?;
-    let offsets = load_offsets(alloc, &params, depot, base)?;
-    let list = successors_of_page(alloc, &params, &offsets, page, depot, &mut graph)?;
+    let mut graph = find_file(alloc, depot, base, Input::Graph)?;
+    let mut offsets = sample_offsets(alloc, &params, depot, base)?;
+    let list = successors_of_page(alloc, &params, page, depot, &mut graph, &mut offsets)?;
     print_line(out, page, list.as_slice())
 }
 

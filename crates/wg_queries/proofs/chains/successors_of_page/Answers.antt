@@ -4,7 +4,7 @@ use Rattle.wg_queries.proofs.SpotJobs.{unlisted}
 use Rattle.wg_queries.proofs.chains.successors_of_page.Goals as goal
 
 pub returns-then-page-nodes : goal.returns-then-page-nodes
-returns-then-page-nodes g c = λ names named open_on.
+returns-then-page-nodes g c = λ names named stored open_on sampled.
     let p = c.args.params.now in
     let le : p.nodes ≤ c.args.page = omega (arith, c.if-page-nodes.true, c.nodes.ensures.value) in
-    unlisted names c.args.graph.now.name named p c.nodes.ensures.limits c.args.offsets.now c.args.page g.D.Depot.told _ _ _ _ refl (none_falls-refl _) c.args.graph.now.held open_on le c.of.result c.of.ensures.status
+    unlisted names c.args.graph.now c.args.offsets.now named stored p c.nodes.ensures.limits c.args.page g.D.Depot.told _ _ _ _ refl (none_falls-refl _) open_on sampled le c.of.result c.of.ensures.status

@@ -1,8 +1,9 @@
-use Rattle.std.proofs.Common.{◌∙◌, Some, refl, sym, ap, subst}
+use Rattle.std.proofs.Common.{◌∙◌, refl, sym, subst}
 use Rattle.std.specs.FinMap as map
 use Rattle.wg_io.specs.Outside.{Files}
 use Rattle.wg_outcomes.specs.Names.{file_of}
 use Rattle.wg_readings.specs.Finding.{IsOpenOn}
+use Rattle.wg_readings.specs.Sampling.{IsSampled}
 use Rattle.wg_readings.proofs.JobSteps.{performs_exit}
 use Rattle.wg_queries.proofs.SpotJobs.{no_graph, no_list, no_offsets, no_params, spots}
 use Rattle.wg_queries.proofs.spot.spot.Goals as goal
@@ -20,17 +21,19 @@ returns-in_err-offsets g c =
     let f = c.in_ok-graph.ensures in
     performs_exit _ _ _ _ _ _ _ c.from_residual-in_err-offsets.ensures.1
     (no_offsets c.args.base.now c.args.page _ _ _ c.in_ok-params.params _ _ c.in_ok-params.ensures _ _ f.same f.later c.in_ok-graph.graph.name f.name c.in_ok-graph.graph.held f.found
-    _ _ refl c.in_err-offsets.ensures)
+    _ _ refl c.in_err-offsets.ensures.reads)
 
 pub returns-in_err-list : goal.returns-in_err-list
 returns-in_err-list g c =
     let f = c.in_ok-graph.ensures in
     let o = c.in_ok-offsets.ensures in
     let graph = c.in_ok-graph.graph in
-    let s = c.in_err-list.ensures (file_of c.args.base.now) (ap Some (sym f.name)) (λ t. subst (λ (x : Files). IsOpenOn (map.get x graph.name) graph.held) (sym (o.reads.same ∙ f.same)) (f.found t)) in
+    let s = c.in_err-list.ensures (file_of c.args.base.now) f.name o.name
+    (λ t. subst (λ (x : Files). IsOpenOn (map.get x graph.name) graph.held) (sym (o.reads.same ∙ f.same)) (f.found t))
+    (λ t. subst (λ (x : Files). IsSampled (file_of c.args.base.now) x c.in_ok-params.params c.in_ok-offsets.offsets) (sym o.reads.same) (o.sampled t)) in
     performs_exit _ _ _ _ _ _ _ c.from_residual-in_err-list.ensures.1
     (no_list c.args.base.now c.args.page _ _ _ c.in_ok-params.params _ _ c.in_ok-params.ensures _ _ f.same f.later graph.name f.name graph.held f.found
-    _ _ c.in_ok-offsets.offsets o _ _ _ _ _ refl s)
+    _ _ o.reads.same o.reads.later _ _ _ _ _ refl s)
 
 pub returns : goal.returns
 returns g c =
@@ -38,6 +41,8 @@ returns g c =
     let o = c.in_ok-offsets.ensures in
     let graph = c.in_ok-graph.graph in
     let p = c.print_line.ensures in
-    let s = c.in_ok-list.ensures (file_of c.args.base.now) (ap Some (sym f.name)) (λ t. subst (λ (x : Files). IsOpenOn (map.get x graph.name) graph.held) (sym (o.reads.same ∙ f.same)) (f.found t)) in
+    let s = c.in_ok-list.ensures (file_of c.args.base.now) f.name o.name
+    (λ t. subst (λ (x : Files). IsOpenOn (map.get x graph.name) graph.held) (sym (o.reads.same ∙ f.same)) (f.found t))
+    (λ t. subst (λ (x : Files). IsSampled (file_of c.args.base.now) x c.in_ok-params.params c.in_ok-offsets.offsets) (sym o.reads.same) (o.sampled t)) in
     spots c.args.base.now c.args.page _ _ _ c.in_ok-params.params _ _ c.in_ok-params.ensures _ _ f.same f.later graph.name f.name graph.held f.found
-    _ _ c.in_ok-offsets.offsets o _ _ _ _ c.in_ok-list.list s _ c.as_slice.ensures c.print_line.result p.puts p.only p.failed
+    _ _ o.reads.same o.reads.later _ _ _ _ c.in_ok-list.list s _ c.as_slice.ensures c.print_line.result p.puts p.only p.failed
