@@ -90,6 +90,18 @@ fn first_of_an_opened_page<L: Ledger>(
     Ok(())
 }
 
+// The successors of a page as a list, however short its chain of references is.
+fn list_of_a_page<L: Ledger>(
+    rt: &impl Abort,
+    alloc: Global,
+    archive: &Archive<'_>,
+    steps: &mut Steps<L>,
+) -> Result<(), Fail> {
+    let list = archive.list(alloc, 1, steps)?;
+    assert!(rt; list.as_slice() == [1, 2].as_slice());
+    Ok(())
+}
+
 fn counted<L: Ledger>(rt: &impl Abort, alloc: Global, blank: Blank) -> Result<(), Fail>
     requires name { blank.name ≡ L.name }
     requires parts { blank.parts ≡ L.parts }
@@ -99,6 +111,7 @@ fn counted<L: Ledger>(rt: &impl Abort, alloc: Global, blank: Blank) -> Result<()
     let mut steps = Steps::new(book, share);
     let records = Records::check(alloc, b"\x7D\xC6\xE0", usual(3, 4, 7, 3, 4)?)?;
     first_of_an_opened_page(rt, alloc, &records.archive(), &mut steps)?;
+    list_of_a_page(rt, alloc, &records.archive(), &mut steps)?;
     successors_one_by_one(rt, alloc, &records.archive(), &mut steps)
 }
 
