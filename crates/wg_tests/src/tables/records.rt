@@ -4,9 +4,10 @@ use wg_bits::{Bits, Cursor};
 use wg_decoder::{Known, decode_on, head};
 use wg_grammar::{ArchiveFault, Fault, Field, Kind};
 use wg_io::LoadError;
+use wg_offsets::{Extent, Samples};
 use wg_params::Code;
 use wg_random::{Archive, Records};
-use wg_stream::PagesError;
+use wg_stream::{PagesError, Seek};
 use wg_vectors::usual;
 
 // 011 1 1 1011 100  011 01 1  1: page 1 copies the list of page 0
@@ -37,6 +38,28 @@ fn records_and_their_offsets(rt: HostRuntime) -> Result<(), Fail> {
     // 1 0001101 00111 010: the words of 0, 12, 6 and 1
     let offsets = wg_offsets::read(rt.alloc(), b"\x8D\x3A", 3, Code::Gamma)?;
     assert!(rt; Archive::check(rt.alloc(), records, &offsets).is_ok());
+    Ok(())
+}
+
+#[test]
+fn places_by_samples(rt: HostRuntime) -> Result<(), Fail> {
+    // 1 0001101 00111 010: the words of 0, 12, 6 and 1
+    let mut words = Cursor::new(Bits::of(b"\x8D\x3A"), 0);
+    let Ok(samples) = Samples::read(rt.alloc(), &mut words, 3, Code::Gamma) else {
+        return Err("no samples".into());
+    };
+    let places = [0, 12, 18, 19];
+    for page in 0..3 {
+        let Ok(true) = words.go_to(samples.bit(page)) else {
+            return Err("no such bit".into());
+        };
+        let Ok(extent) = samples.extent(page, &mut words) else {
+            return Err("no such words".into());
+        };
+        let start = places[page as usize];
+        let end = places[page as usize + 1];
+        assert!(rt; extent == Extent { start, end });
+    }
     Ok(())
 }
 

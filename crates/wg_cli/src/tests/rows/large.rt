@@ -17,6 +17,23 @@ save s
 run spot g 900
 prints-file s
 
+# The place of each 1024th page is kept, and the others are found from it.
+case single pages before and behind those whose places are kept
+pieces 4096
+lists a 2500 3 400 401
+let page run show g $
+let page save s
+let page run spot g $
+let page prints-file s
+run build a g --nodes 2500
+status 0
+use page 1023
+use page 1024
+use page 1025
+use page 2047
+use page 2048
+use page 2499
+
 # The tenth digit of page 0 becomes a 9.
 case a certificate of a thousand pages
 pieces 4096
