@@ -4,12 +4,11 @@
 //! [`VECTORS`] has words of the five codes, [`NO_WORDS`] bits that are no word, and [`FOLDS`] numbers of either sign
 //! with their values. `wg_tests` runs each of them through `wg_codes`, both ways.
 //!
-//! [`COPIED`] is an archive bit by bit, with the list of each page and the offset of each record, and [`TWICE`],
-//! [`BAD_TAIL`] and [`TOO_FEW_ARCS`] are archives with a fault. All other worked archives are rows of `wg_cli`, over
-//! which the program runs. [`bytes_of`] turns the text of some bits into bytes, and [`usual`] makes parameters in the
-//! usual codes.
+//! [`COPIED`] is an archive bit by bit, with the list of each page and the offset of each record. All other worked
+//! archives are rows of `wg_cli`, over which the program runs. [`bytes_of`] turns the text of some bits into bytes, and
+//! [`usual`] makes parameters in the usual codes.
 //!
-//! One of the worked archives, bit by bit, and a graph that is generated from the seed 7:
+//! The worked archive, and a graph that is generated from the seed 7:
 //!
 //! ```rust
 //! // 011 1 1 1011 100  011 01 1  1
@@ -46,7 +45,7 @@ mod generating;
 pub mod laws;
 mod parameters;
 
-pub use archives::{BAD_TAIL, COPIED, Refused, Sample, TOO_FEW_ARCS, TWICE};
+pub use archives::{COPIED, Sample};
 pub use bits::bytes_of;
 pub use codes::{FOLDS, Folded, NO_WORDS, NoWord, VECTORS, Vector};
 pub use generating::generate;
