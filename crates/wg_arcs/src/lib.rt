@@ -13,20 +13,16 @@
 //! [`ArcLines`] reads it line by line, by the same rules, for whoever has not the whole text at once: it takes the first
 //! line off a text, and keeps what says whether the next one is in order.
 //!
-//! A text that is read and written again, and one whose second line is faulty; and the first line of a third:
+//! A text that is read and written again, and one whose second line is faulty:
 //!
 //! ```rust
 //! let graph = wg_arcs::read(rt.alloc(), b"# two arcs\n0 1\n 1\t2", 3)?;
-//! assert!(rt; graph.arcs() == 2);
 //! let mut sink = SteadySink::new(rt.alloc(), 4096);
 //! wg_arcs::write(&graph, &mut sink)?;
 //! assert!(rt; sink.bytes() == b"0 1\n1 2\n".as_slice());
 //! let twice = wg_arcs::read(rt.alloc(), b"0 1\n0 1\n", 3);
 //! let kind = ArcsKind::Order;
 //! assert!(rt; twice.err() == Some(ArcsError::Line { line: 2, kind }));
-//! let mut lines = ArcLines::new(3);
-//! let (arc, rest) = lines.read_first(b"1 2\n# the end\n")?;
-//! assert!(rt; arc == Some((1, 2)) && rest == b"# the end\n".as_slice());
 //! Ok(())
 //! ```
 //!

@@ -7,18 +7,13 @@
 //! with the line that it cuts. The last step, [`wg_writing::build_archive`], writes that archive and prints its line.
 //! So no file is touched before the text is judged to its end and the archive is whole.
 //!
-//! The archive of an arc list, in memory:
+//! The archive `g` of two pages, of the arc list that is the file `a` of any depot:
 //!
 //! ```rust
-//! let mut depot = SteadyDepot::new(rt.alloc(), 4096);
-//! depot.put_file("a", b"0 1\n")?;
-//! let list = Name::new(rt.alloc(), "a")?;
-//! let base = Name::new(rt.alloc(), "g")?;
-//! let layout = usual_layout();
-//! let mut out = SteadySink::new(rt.alloc(), 4096);
-//! let done = build(rt.alloc(), &list, &base, 2, &layout, &mut depot, &mut out);
+//! let list = Name::new(alloc, "a")?;
+//! let base = Name::new(alloc, "g")?;
+//! let done = build(alloc, &list, &base, 2, &usual_layout(), depot, out);
 //! assert!(rt; done.is_ok());
-//! assert!(rt; out.bytes() == b"ok nodes=2 arcs=1 bits=10\n".as_slice());
 //! Ok(())
 //! ```
 #![tactic(auto)]

@@ -28,9 +28,9 @@ const NAME: &str = "";
 /// Encodes lists, one after the other, into an archive in memory. They are the lists of pages 0, 1 and so on, and each
 /// is handed in once.
 ///
-/// It holds what a [`ListEncoder`] holds, and the bytes of the two files as far as they have come, each with room for
-/// at most twice as many. How many arcs the lists have need not be known before: the bytes are those of any number that
-/// is no less.
+/// It holds what an [`Encoder`](crate::Encoder) holds beside the graph, and the bytes of the two files as far as they
+/// have come, each with room for at most twice as many. How many arcs the lists have need not be known before: the
+/// bytes are those of any number that is no less.
 #[derive(Drop)]
 pub struct ArchiveEncoder {
     lists: ListEncoder,

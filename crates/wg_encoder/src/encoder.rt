@@ -21,8 +21,10 @@ use wg_params::Params;
 /// Writes a graph page by page, each by the reference that makes its record the shortest.
 ///
 /// It is seen as the graph, the page that comes next, and the bits of the two files that wait to go out. That each page
-/// before was written by the reference that is chosen is an invariant. Beside the graph it holds what a [`ListEncoder`]
-/// holds.
+/// before was written by the reference that is chosen is an invariant. Beside the graph it holds a copy of each list
+/// that a reference may name, with room for at most twice its numbers or for few, and 32 bytes beside it; 4096 bytes
+/// for each file, and their names; and memory for the longest record so far and for the lists that it was made of. Each
+/// memory serves again for later lists.
 #[derive(Drop)]
 pub struct Encoder<'a> {
     pub(crate) graph: &'a Graph,
@@ -143,7 +145,9 @@ impl<'a> Encoder<'a> {
         self.lists().chosen(self.list())
     }
 
-    /// Writes the page that comes next, and goes on to the one after it, as [`ListEncoder::next`] does.
+    /// Writes the page that comes next, and goes on to the one after it. Its record is made in memory before anything
+    /// is put. The words of the offsets file come one page later: 0 first, then the length of the record before. The
+    /// names of the two files are made when a name of an archive first comes, or another one, and then held.
     pub fn next<D: Depot>(self, depot: &mut D, base: &str) -> Result<Encoder<'a>, EncodeError>
         requires more { self.page < self.graph.nodes }
         ensures on { IfOk result (λ e. e ≡ record self.entry {

@@ -6,29 +6,25 @@
 //! bits, and of several the one with the smallest reference. The references that were chosen before bear on it by their
 //! depths alone, where the archive limits chains.
 //!
-//! A [`ListEncoder`] takes the lists of pages 0, 1 and so on, each once, and keeps a copy of those that a reference may
-//! name, with their depths: at most as many as the archive's window, each with room for at most twice its numbers, and
-//! 32 bytes beside it. For a list that comes next it tells the candidates, what each of them takes in bits, and which
-//! one is written; to count these bits makes no record. An [`Encoder`] does the same for the pages of a graph, and
-//! stands on it; a copy of each list is what it costs. No record has 2 ^ 64 bits or more.
+//! An [`Encoder`] takes the lists of a graph's pages 0, 1 and so on, each once, and keeps a copy of those that a
+//! reference may name, with their depths: at most as many as the archive's window, each with room for at most twice its
+//! numbers, and 32 bytes beside it. Of the page that comes next it tells the candidates, what each of them takes in
+//! bits, and which one is written; to count these bits makes no record. No record has 2 ^ 64 bits or more.
 //!
-//! [`ListEncoder::next`] and [`Encoder::next`] write a list, and `finish` ends the two files once all are written. Both
-//! take the archive's name, and write the files of its suffixes. The words of the offsets file are 0 and the length of
-//! each record. An encoder has a writer of 4096 bytes for each of the files. If a call of the depot fails, the
+//! [`Encoder::next`] writes a list, and [`Encoder::finish`] ends the two files once all are written. Both take the
+//! archive's name, and write the files of its suffixes. The words of the offsets file are 0 and the length of each
+//! record. An encoder has a writer of 4096 bytes for each of the files. If a call of the depot fails, the
 //! [`EncodeError`] names the file, and both files are prefixes of those that were to be written.
 //!
-//! An [`ArchiveEncoder`] takes lists in the same way and writes no file: what will be the three files is held in
-//! memory, as an [`EncodedArchive`], which tells how many bits its records have and how many of them refer to a page
-//! before. Out of memory alone can stop it. [`encode`] does so for a whole graph. The bytes are the same for each
+//! An [`ArchiveEncoder`] takes lists that come one after the other, and writes no file: what will be the three files is
+//! held in memory, as an [`EncodedArchive`], which tells how many bits its records have and how many of them refer to a
+//! page before. Out of memory alone can stop it. [`encode`] does so for a whole graph. The bytes are the same for each
 //! number of arcs that the archive is said to have, so this number may be told once all lists are encoded.
 //!
 //! The archive of a graph of three pages, in memory:
 //!
 //! ```rust
-//! let mut builder = GraphBuilder::new(rt.alloc(), 3)?;
-//! builder.push_list(&[1, 2])?;
-//! builder.push_list(&[1, 2])?;
-//! let graph = builder.finish()?;
+//! let graph = wg_arcs::read(rt.alloc(), b"0 1\n0 2\n1 1\n1 2\n", 3)?;
 //! let params = usual(graph.nodes(), graph.arcs(), 7, 3, 4)?;
 //! let archive = encode(rt.alloc(), params, &graph, b"nodes=3\n")?;
 //! assert!(rt; archive.bits() == 19 && archive.referring() == 1);
@@ -64,7 +60,7 @@
 //!   needs no depot. *Revisit if* the offsets file gets another form.
 //! - A struct can't hold lists that have left its memory. So `HasWritten` and `HasEncoded` say of any lists that they
 //!   are those that were handed in: context, lengths and bits are those of the greedy archive of these. That there
-//!   are such lists is an invariant of an [`ArchiveEncoder`], a [`ListEncoder`] over a depot in memory, by which its
+//!   are such lists is an invariant of an [`ArchiveEncoder`], a `ListEncoder` over a depot in memory, by which its
 //!   files are there at the end. *Revisit if* a struct can hold lists that are only in the proof.
 #![tactic(auto)]
 
@@ -96,4 +92,3 @@ pub use archive::EncodedArchive;
 pub use archive_encoder::{ArchiveEncoder, encode};
 pub use encoder::Encoder;
 pub use error::EncodeError;
-pub use list_encoder::ListEncoder;

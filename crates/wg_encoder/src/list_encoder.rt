@@ -37,7 +37,7 @@ use wg_params::Params;
 /// names; and memory for the longest record so far and for the lists that it was made of. Each memory serves again for
 /// later lists.
 #[derive(Drop)]
-pub struct ListEncoder {
+pub(crate) struct ListEncoder {
     pub(crate) alloc: Global,
     // how many lists were written, and how many numbers they have
     pub(crate) page: u64,
@@ -84,7 +84,7 @@ impl Model for ListEncoder {
 
 impl ListEncoder {
     /// Before the first list.
-    pub fn new(alloc: Global, params: Params) -> Result<ListEncoder, AllocError>
+    pub(crate) fn new(alloc: Global, params: Params) -> Result<ListEncoder, AllocError>
         ensures params { IfOk result (λ e. e.params ≡ params) }
         ensures written { IfOk result (λ e. HasWritten e []) }
         ensures begun { IfOk result (λ e. (files : Files) (base : List ℕ) → fin.get files (graph_name base) ≡ Some []
@@ -112,7 +112,7 @@ impl ListEncoder {
     }
 
     /// The page whose list comes next: how many lists were written.
-    pub fn page(&self) -> u64
+    pub(crate) fn page(&self) -> u64
         ensures value { result ≡ self.now.next.page }
         ensures within { result ≤ self.now.params.nodes }
     {
@@ -120,7 +120,7 @@ impl ListEncoder {
     }
 
     /// How many numbers the lists have that were written.
-    pub fn arcs(&self) -> u64
+    pub(crate) fn arcs(&self) -> u64
         ensures value { result ≡ self.now.next.arcs_before }
         ensures within { result ≤ self.now.params.arcs }
     {
@@ -128,7 +128,7 @@ impl ListEncoder {
     }
 
     /// How many of the lists that were written refer to a page before. It takes no memory, and counts nothing anew.
-    pub fn referring(&self) -> u64
+    pub(crate) fn referring(&self) -> u64
         ensures value { result ≡ self.now.referring }
         ensures within { result ≤ self.now.next.page }
     {
@@ -279,7 +279,7 @@ impl ListEncoder {
     /// Whether a list that comes next may be written by this reference: 0, or one within the window that names a page
     /// with successors, where the chain of references gets no longer than the archive allows and each value of the
     /// record has a word. It takes no memory, and time in proportion to the two lists.
-    pub fn candidate(&self, list: &[u64], r: u64) -> bool
+    pub(crate) fn candidate(&self, list: &[u64], r: u64) -> bool
         requires page { self.now.next.page < self.now.params.nodes }
         requires list { IsList self.now.params list.now }
         ensures { result ≡ is_candidate self.now.params self.now.next list.now r }
@@ -289,7 +289,7 @@ impl ListEncoder {
 
     /// How many bits the canonical record of a list that comes next takes by a candidate. It takes no memory, and time
     /// in proportion to the two lists.
-    pub fn cost(&self, list: &[u64], r: u64) -> u64
+    pub(crate) fn cost(&self, list: &[u64], r: u64) -> u64
         requires page { self.now.next.page < self.now.params.nodes }
         requires list { IsList self.now.params list.now }
         requires candidate { is_candidate self.now.params self.now.next list.now r ≡ true }
@@ -321,7 +321,7 @@ impl ListEncoder {
     /// The reference by which a list that comes next is written: of the candidates with the shortest record the
     /// smallest. It takes no memory, and counts the bits of the record by each candidate that has a successor of the
     /// list, until there are as many as the best so far has.
-    pub fn chosen(&self, list: &[u64]) -> u64
+    pub(crate) fn chosen(&self, list: &[u64]) -> u64
         requires page { self.now.next.page < self.now.params.nodes }
         requires list { IsList self.now.params list.now }
         ensures { result ≡ chosen self.now.params self.now.next list.now }

@@ -157,7 +157,7 @@ impl ListEncoder {
     /// is put. The words of the offsets file come one list later: 0 first, then the length of the record before. The
     /// names of the two files are made when a name of an archive first comes, or another one, and then held.
     #[inline(always)]
-    pub fn next<D: Depot>(
+    pub(crate) fn next<D: Depot>(
         mut self,
         list: &[u64],
         depot: &mut D,
@@ -190,7 +190,7 @@ impl ListEncoder {
 
     /// Puts the last word of the offsets, the length of the last record, and fills up both files to whole bytes. It
     /// answers how many bits the records have.
-    pub fn finish<D: Depot>(mut self, depot: &mut D, base: &str) -> Result<u64, EncodeError>
+    pub(crate) fn finish<D: Depot>(mut self, depot: &mut D, base: &str) -> Result<u64, EncodeError>
         requires { self.next.page ≡ self.params.nodes }
         ensures bits { IfOk result (λ bits. bits ≡ self.total) }
         ensures ok { (lists : ListOf (ListOf ℕ)) → HasWritten self lists → IsTrue D.told

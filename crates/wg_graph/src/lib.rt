@@ -4,7 +4,7 @@
 //! [`GraphBuilder`], which takes arcs in ascending order, or whole lists, page by page. [`Lists`] is a graph whose
 //! lists are read in order, wherever they come from; [`GraphLists`] reads those of a [`Graph`].
 //!
-//! A graph of three pages, and its lists as they are lent:
+//! A graph of three pages, and its first list as it is lent:
 //!
 //! ```rust
 //! let mut builder = GraphBuilder::new(rt.alloc(), 3)?;
@@ -13,10 +13,8 @@
 //! builder.push(1, 2)?;
 //! let graph = builder.finish()?;
 //! assert!(rt; graph.arcs() == 3);
-//! assert!(rt; graph.list(0) == [1, 2].as_slice());
 //! let mut lists = GraphLists::new(&graph);
 //! assert!(rt; lists.next_list() == Some([1, 2].as_slice()));
-//! assert!(rt; lists.next_list() == Some([2].as_slice()));
 //! Ok(())
 //! ```
 //!

@@ -16,9 +16,7 @@
 //! Two rounds at a low damping settle the ranking of the graph with the arc from page 0 to page 1:
 //!
 //! ```rust
-//! let mut builder = GraphBuilder::new(rt.alloc(), 2)?;
-//! builder.push_list(&[1])?;
-//! let graph = builder.finish()?;
+//! let graph = wg_arcs::read(rt.alloc(), b"0 1\n", 2)?;
 //! let mut lists = GraphLists::new(&graph);
 //! let mut bounds = Bounds::new(rt.alloc(), 2, 100)?;
 //! bounds.round(&mut lists);

@@ -18,7 +18,7 @@
 //! and no memory is taken; the cost is linear in the text, however long its lines, values and blanks are. Of what Java
 //! allows besides, a line that goes on in the next is a fault, and any other backslash is a byte like the rest.
 //!
-//! Parameters that are written and read again, and a text without a version:
+//! Parameters that are written and read again:
 //!
 //! ```rust
 //! let params = usual(3, 4, 7, 3, 4)?;
@@ -26,8 +26,6 @@
 //! let again = wg_properties::read(text.as_slice())?;
 //! assert!(rt; again.nodes() == 3 && again.arcs() == 4);
 //! assert!(rt; again.residuals() == Code::Zeta(3));
-//! let cut = wg_properties::read(b"graphclass=it.unimi.dsi.webgraph.BVGraph\n");
-//! assert!(rt; cut.err() == Some(PropFault::Missing(Key::Version)));
 //! Ok(())
 //! ```
 //!

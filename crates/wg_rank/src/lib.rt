@@ -28,12 +28,10 @@
 //! low, high --> set_shares: each page's shares --> gather_shares: one for each page that links there --> what flows in
 //! ```
 //!
-//! One round over the graph of two pages with the arc from page 0 to page 1:
+//! One round over the graph of two pages with the arc from page 0 to page 1, where [`wg_num::UNITS`] make 1:
 //!
 //! ```rust
-//! let mut builder = GraphBuilder::new(rt.alloc(), 2)?;
-//! builder.push_list(&[1])?;
-//! let graph = builder.finish()?;
+//! let graph = wg_arcs::read(rt.alloc(), b"0 1\n", 2)?;
 //! let mut bounds = Bounds::new(rt.alloc(), 2, 850)?;
 //! assert!(rt; bounds.low(0) == 0 && bounds.high(0) == UNITS);
 //! bounds.round(&mut GraphLists::new(&graph));
@@ -105,7 +103,8 @@ pub use certificate::Certificate;
 pub use fault::{CertError, CertFault, CertKind, JudgeError};
 pub use gathering::Gather;
 pub use judging::judge;
-pub use limits::{MOST_WEIGHT, UNITS};
+pub use limits::MOST_WEIGHT;
+pub(crate) use limits::UNITS;
 pub use list_pulling::ListPulling;
 pub use pulling::Pulling;
 pub use reading::read_certificate;

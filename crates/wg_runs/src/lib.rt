@@ -22,17 +22,10 @@
 //!
 //! ```rust
 //! let graph = wg_arcs::read(rt.alloc(), b"0 4\n1 0\n1 4\n2 4\n4 4\n", 5)?;
-//! let mut lists = GraphLists::new(&graph);
-//! let counts = RunCounts::of(rt.alloc(), &mut lists)?;
-//! assert!(rt; counts.arcs() == 5 && counts.runs() == 3);
-//! let listed = counts.list(rt.alloc(), &mut lists)?;
-//! assert!(rt; listed.of_page(4) == [0, 1, 2, 4].as_slice() && listed.of_page(3).is_empty());
-//! let runs = RunCounts::of(rt.alloc(), &mut lists)?.fill(rt.alloc(), &mut lists)?;
+//! let runs = Runs::of(rt.alloc(), &mut GraphLists::new(&graph))?;
 //! let to_last = [PageRun { from: 0, to: 3 }, PageRun { from: 4, to: 5 }];
-//! assert!(rt; runs.of_page(4) == to_last.as_slice());
+//! assert!(rt; runs.nodes() == 5 && runs.of_page(4) == to_last.as_slice());
 //! assert!(rt; runs.of_page(3).is_empty() && runs.degree(1) == 2);
-//! let again = Runs::of(rt.alloc(), &mut lists)?;
-//! assert!(rt; again.nodes() == 5 && again.of_page(0) == [PageRun { from: 1, to: 2 }].as_slice());
 //! Ok(())
 //! ```
 //!

@@ -28,7 +28,7 @@
 //!                                        sorted, each once: the list of a class
 //! ```
 //!
-//! The union of two graphs, and its quotient by two classes:
+//! The union of two graphs:
 //!
 //! ```rust
 //! let first = wg_arcs::read(rt.alloc(), b"0 1\n", 2)?;
@@ -36,17 +36,6 @@
 //! let both = union(rt.alloc(), &first, &second)?;
 //! assert!(rt; both.nodes() == 3);
 //! assert!(rt; both.list(0) == [1, 2].as_slice());
-//! // pages 0 and 1 are class 0, and page 2 is class 1
-//! let mut classes = List::new(rt.alloc());
-//! classes.extend(&[0, 0, 1])?;
-//! let graph = quotient(rt.alloc(), &both, &classes, 2)?;
-//! assert!(rt; graph.nodes() == 2 && graph.arcs() == 2);
-//! // the same, range after range of classes
-//! let mut ranges = Quotienter::new(rt.alloc(), GraphLists::new(&both), classes.as_slice(), 2)?;
-//! let mut list = Vec::new(rt.alloc());
-//! ranges.advance(rt.alloc(), 1)?;
-//! ranges.list(0, &mut list)?;
-//! assert!(rt; list.as_slice() == [0, 1].as_slice());
 //! Ok(())
 //! ```
 //!

@@ -28,15 +28,12 @@
 //! rows of the W pages before ----------+  the list that the record refers to
 //! ```
 //!
-//! A graph file of three bytes, list after list:
+//! The first list of the graph file of an archive of three pages, in any depot:
 //!
 //! ```rust
-//! let mut depot = SteadyDepot::new(rt.alloc(), 4096);
-//! depot.put_file("web.graph", b"\x7D\xC6\xE0")?;
-//! let mut reader = Reader::new(rt.alloc(), usual(3, 4, 7, 3, 4)?, "web.graph")?;
-//! assert!(rt; reader.next(&mut depot)? == Some([1, 2].as_slice()));
-//! assert!(rt; reader.next(&mut depot)? == Some([1, 2].as_slice()));
-//! assert!(rt; reader.at() == 18);
+//! let mut reader = Reader::new(alloc, usual(3, 4, 7, 3, 4)?, "web.graph")?;
+//! assert!(rt; reader.next(depot)? == Some([1, 2].as_slice()));
+//! assert!(rt; reader.at() == 12);
 //! Ok(())
 //! ```
 //!

@@ -5,20 +5,13 @@
 //! memory, and last [`wg_writing::build_archive`], which writes that archive and prints its line. So no file is touched
 //! before all inputs are judged and the archive is whole.
 //!
-//! An archive in memory, and that of its graph with each arc the other way round:
+//! The archive `t` of the graph of the archive `web` with each arc the other way round, in any depot:
 //!
 //! ```rust
-//! let mut depot = SteadyDepot::new(rt.alloc(), 4096);
-//! let text = wg_properties::write(rt.alloc(), &usual(3, 4, 7, 3, 4)?)?;
-//! depot.put_file("web.properties", text.as_slice())?;
-//! depot.put_file("web.graph", b"\x7D\xC6\xE0")?;
-//! let input = Name::new(rt.alloc(), "web")?;
-//! let output = Name::new(rt.alloc(), "t")?;
-//! let layout = usual_layout();
-//! let mut out = SteadySink::new(rt.alloc(), 4096);
-//! let done = transpose(rt.alloc(), &input, &output, &layout, &mut depot, &mut out);
+//! let input = Name::new(alloc, "web")?;
+//! let output = Name::new(alloc, "t")?;
+//! let done = transpose(alloc, &input, &output, &usual_layout(), depot, out);
 //! assert!(rt; done.is_ok());
-//! assert!(rt; depot.holds("t.graph"));
 //! Ok(())
 //! ```
 //!

@@ -1,8 +1,7 @@
 use std::test::Fail;
 use wg_grammar::{Field, Kind, Need, Progress};
 use wg_intervals::split;
-use wg_params::{Code, Key};
-use wg_properties::PropFault;
+use wg_params::Code;
 use wg_vectors::usual;
 
 // In the overview of wg_properties.
@@ -13,8 +12,6 @@ fn parameters_as_a_text(rt: HostRuntime) -> Result<(), Fail> {
     let again = wg_properties::read(text.as_slice())?;
     assert!(rt; again.nodes() == 3 && again.arcs() == 4);
     assert!(rt; again.residuals() == Code::Zeta(3));
-    let cut = wg_properties::read(b"graphclass=it.unimi.dsi.webgraph.BVGraph\n");
-    assert!(rt; cut.err() == Some(PropFault::Missing(Key::Version)));
     Ok(())
 }
 

@@ -1,7 +1,9 @@
+use std::alloc::Global;
+use std::process::Abort;
 use std::test::Fail;
 use wg_builds::build::build;
 use wg_cli::run_in_memory;
-use wg_io::{SteadyDepot, SteadySink};
+use wg_io::{Depot, Sink, SteadyDepot, SteadySink};
 use wg_outcomes::{Ending, Input, Status, as_second, params_of};
 use wg_queries::printing::{Listing, print_records};
 use wg_readings::load_params;
@@ -88,33 +90,51 @@ fn an_archive_is_written(rt: HostRuntime) -> Result<(), Fail> {
 }
 
 // In the overview of wg_builds.
+fn an_arc_list_is_built<D: Depot, S: Sink>(
+    rt: &impl Abort,
+    alloc: Global,
+    depot: &mut D,
+    out: &mut S,
+) -> Result<(), Fail> {
+    let list = Name::new(alloc, "a")?;
+    let base = Name::new(alloc, "g")?;
+    let done = build(alloc, &list, &base, 2, &usual_layout(), depot, out);
+    assert!(rt; done.is_ok());
+    Ok(())
+}
+
 #[test]
 fn an_archive_of_one_arc(rt: HostRuntime) -> Result<(), Fail> {
     let mut depot = SteadyDepot::new(rt.alloc(), 4096);
     depot.put_file("a", b"0 1\n")?;
-    let list = Name::new(rt.alloc(), "a")?;
-    let base = Name::new(rt.alloc(), "g")?;
-    let layout = usual_layout();
     let mut out = SteadySink::new(rt.alloc(), 4096);
-    let done = build(rt.alloc(), &list, &base, 2, &layout, &mut depot, &mut out);
-    assert!(rt; done.is_ok());
+    an_arc_list_is_built(&rt, rt.alloc(), &mut depot, &mut out)?;
     assert!(rt; out.bytes() == b"ok nodes=2 arcs=1 bits=10\n".as_slice());
     Ok(())
 }
 
 // In the overview of wg_transforms.
+fn web_is_transposed<D: Depot, S: Sink>(
+    rt: &impl Abort,
+    alloc: Global,
+    depot: &mut D,
+    out: &mut S,
+) -> Result<(), Fail> {
+    let input = Name::new(alloc, "web")?;
+    let output = Name::new(alloc, "t")?;
+    let done = transpose(alloc, &input, &output, &usual_layout(), depot, out);
+    assert!(rt; done.is_ok());
+    Ok(())
+}
+
 #[test]
 fn an_archive_is_transposed(rt: HostRuntime) -> Result<(), Fail> {
     let mut depot = SteadyDepot::new(rt.alloc(), 4096);
     let text = wg_properties::write(rt.alloc(), &usual(3, 4, 7, 3, 4)?)?;
     depot.put_file("web.properties", text.as_slice())?;
     depot.put_file("web.graph", b"\x7D\xC6\xE0")?;
-    let input = Name::new(rt.alloc(), "web")?;
-    let output = Name::new(rt.alloc(), "t")?;
-    let layout = usual_layout();
     let mut out = SteadySink::new(rt.alloc(), 4096);
-    let done = transpose(rt.alloc(), &input, &output, &layout, &mut depot, &mut out);
-    assert!(rt; done.is_ok());
+    web_is_transposed(&rt, rt.alloc(), &mut depot, &mut out)?;
     assert!(rt; depot.holds("t.graph"));
     Ok(())
 }

@@ -8,12 +8,12 @@ use std::test::Fail;
 use wg_bits::{Bits, Cursor};
 use wg_decoder::{Window, decode};
 use wg_grammar::OffsetWord;
-use wg_graph::{GraphLists, List, Lists};
-use wg_io::SteadyDepot;
+use wg_graph::Lists;
+use wg_io::{Depot, SteadyDepot};
 use wg_offsets::OffsetsError;
 use wg_params::Code;
 use wg_random::{Archive, Records, Steps};
-use wg_shape::{Coming, Quotienter, quotient, union};
+use wg_shape::Coming;
 use wg_stream::Reader;
 use wg_vectors::usual;
 
@@ -48,15 +48,18 @@ fn offsets_of_three_records(rt: HostRuntime) -> Result<(), Fail> {
 }
 
 // In the overview of wg_stream.
+fn web_is_read<D: Depot>(rt: &impl Abort, alloc: Global, depot: &mut D) -> Result<(), Fail> {
+    let mut reader = Reader::new(alloc, usual(3, 4, 7, 3, 4)?, "web.graph")?;
+    assert!(rt; reader.next(depot)? == Some([1, 2].as_slice()));
+    assert!(rt; reader.at() == 12);
+    Ok(())
+}
+
 #[test]
 fn lists_of_a_graph_file(rt: HostRuntime) -> Result<(), Fail> {
     let mut depot = SteadyDepot::new(rt.alloc(), 4096);
     depot.put_file("web.graph", b"\x7D\xC6\xE0")?;
-    let mut reader = Reader::new(rt.alloc(), usual(3, 4, 7, 3, 4)?, "web.graph")?;
-    assert!(rt; reader.next(&mut depot)? == Some([1, 2].as_slice()));
-    assert!(rt; reader.next(&mut depot)? == Some([1, 2].as_slice()));
-    assert!(rt; reader.at() == 18);
-    Ok(())
+    web_is_read(&rt, rt.alloc(), &mut depot)
 }
 
 // In the overview of wg_iterators.
@@ -129,27 +132,5 @@ fn records_are_checked_and_swept(rt: HostRuntime) -> Result<(), Fail> {
     assert!(rt; lists.next_list() == Some([1, 2].as_slice()));
     assert!(rt; lists.next_list() == Some([1, 2].as_slice()));
     assert!(rt; lists.next_list() == Some([].as_slice()));
-    Ok(())
-}
-
-// In the overview of wg_shape.
-#[test]
-fn a_union_and_its_quotient(rt: HostRuntime) -> Result<(), Fail> {
-    let first = wg_arcs::read(rt.alloc(), b"0 1\n", 2)?;
-    let second = wg_arcs::read(rt.alloc(), b"0 2\n1 2\n", 3)?;
-    let both = union(rt.alloc(), &first, &second)?;
-    assert!(rt; both.nodes() == 3);
-    assert!(rt; both.list(0) == [1, 2].as_slice());
-    // pages 0 and 1 are class 0, and page 2 is class 1
-    let mut classes = List::new(rt.alloc());
-    classes.extend(&[0, 0, 1])?;
-    let graph = quotient(rt.alloc(), &both, &classes, 2)?;
-    assert!(rt; graph.nodes() == 2 && graph.arcs() == 2);
-    // the same, range after range of classes
-    let mut ranges = Quotienter::new(rt.alloc(), GraphLists::new(&both), classes.as_slice(), 2)?;
-    let mut list = Vec::new(rt.alloc());
-    ranges.advance(rt.alloc(), 1)?;
-    ranges.list(0, &mut list)?;
-    assert!(rt; list.as_slice() == [0, 1].as_slice());
     Ok(())
 }

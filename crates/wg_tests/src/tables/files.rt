@@ -1,30 +1,46 @@
 // Files of the system, files of zeros, and sinks that take nothing.
+use std::alloc::Global;
 use std::fs;
 use std::io::{self, Write};
 use std::test::Fail;
 use wg_io::{
-    Depot, FolderDepot, LoadError, MOST_BYTES, StdSink, WriteError, ZeroDepot, append_all,
-    read_whole, write_all,
+    Depot, FolderDepot, LoadError, MOST_BYTES, ReadError, StdSink, WriteError, ZeroDepot,
+    append_all, read_whole, write_all,
 };
 
 const TEXT: &[u8] = b"pages and their successors";
+
+// Makes a file of two pieces.
+fn is_made<D: Depot>(depot: &mut D, name: &str) -> Result<(), Fail> {
+    depot.create(name)?;
+    append_all(depot, name, b"pages and ")?;
+    append_all(depot, name, b"their successors")?;
+    Ok(())
+}
+
+// How many bytes stand at this place, of eight at most, and which.
+fn read_at<D: Depot>(depot: &mut D, name: &str, at: u64) -> Result<(usize, [u8; 8]), ReadError> {
+    let mut buffer = [0u8; 8];
+    let count = depot.read(name, at, &mut buffer)?;
+    Ok((count, buffer))
+}
+
+// Whether the file of a name is the text.
+fn is_text<D: Depot>(alloc: Global, depot: &mut D, name: &str) -> Result<bool, Fail> {
+    let bytes = read_whole(alloc, depot, name)?;
+    Ok(bytes.as_slice() == TEXT)
+}
 
 // A file that is absent is made, added to, and read at any place, by any of its names.
 #[test]
 fn a_file_of_the_system(rt: HostRuntime) -> Result<(), Fail> {
     let (name, other) = ("wg_io_file.tmp", "./wg_io_file.tmp");
     let mut depot = FolderDepot::new(&rt);
-    let mut buffer = [0u8; 8];
-    assert!(rt; depot.read(name, 0, &mut buffer).is_err());
-    depot.create(name)?;
-    append_all(&mut depot, name, b"pages and ")?;
-    append_all(&mut depot, name, b"their successors")?;
-    let bytes = read_whole(rt.alloc(), &mut depot, name)?;
-    assert!(rt; bytes.as_slice() == TEXT);
-    assert!(rt; depot.read(name, 18, &mut buffer)? == 8 && &buffer == b"ccessors");
-    assert!(rt; depot.read(name, MOST_BYTES, &mut buffer)? == 0);
-    let again = read_whole(rt.alloc(), &mut depot, other)?;
-    assert!(rt; again.as_slice() == TEXT);
+    assert!(rt; read_at(&mut depot, name, 0).is_err());
+    is_made(&mut depot, name)?;
+    assert!(rt; is_text(rt.alloc(), &mut depot, name)?);
+    assert!(rt; read_at(&mut depot, other, 18)? == (8, *b"ccessors"));
+    assert!(rt; read_at(&mut depot, name, MOST_BYTES)?.0 == 0);
     fs::remove_file(&rt, name)?;
     Ok(())
 }
