@@ -31,7 +31,7 @@ const NAME: &str = "";
 /// It holds what an [`Encoder`](crate::Encoder) holds beside the graph, and the bytes of the two files as far as they
 /// have come, each with room for at most twice as many. How many arcs the lists have need not be known before: the
 /// bytes are those of any number that is no less.
-#[derive(Drop)]
+#[derive(Debug, Drop)]
 pub struct ArchiveEncoder {
     lists: ListEncoder,
     // in memory of its own, since an encoder is moved at each list

@@ -13,7 +13,7 @@ use wg_io::{Depot, WriteError};
 use wg_params::Code;
 
 /// A field with its code and its stored value.
-#[derive(Clone, Copy)]
+#[derive(Clone, Copy, Debug)]
 pub(crate) struct HeldField {
     pub field: Field,
     pub code: Code,
@@ -21,7 +21,7 @@ pub(crate) struct HeldField {
 }
 
 /// The fields of a record, in their order: 24 bytes each.
-#[derive(Drop)]
+#[derive(Debug, Drop)]
 pub(crate) struct HeldRecord {
     fields: Vec<HeldField>,
 }

@@ -12,7 +12,7 @@ use wg_params::Params;
 ///
 /// Each list is a copy, with room for at most twice its numbers or for few; the list that left last gives its memory to
 /// the next copy that fits there. An empty list has no memory, and nothing is kept of an archive without references.
-#[derive(Drop)]
+#[derive(Debug, Drop)]
 pub(crate) struct Kept {
     alloc: Global,
     most: u64,

@@ -36,7 +36,7 @@ use wg_params::Params;
 /// with room for at most twice its numbers or for few, and 32 bytes beside it; 4096 bytes for each file, and their
 /// names; and memory for the longest record so far and for the lists that it was made of. Each memory serves again for
 /// later lists.
-#[derive(Drop)]
+#[derive(Debug, Drop)]
 pub(crate) struct ListEncoder {
     pub(crate) alloc: Global,
     // how many lists were written, and how many numbers they have

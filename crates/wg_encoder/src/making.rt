@@ -14,7 +14,7 @@ use wg_intervals::Split;
 use wg_params::{Code, Params};
 
 /// A record that is made, and the lists that it is made of. The next record is made in the same memory.
-#[derive(Drop)]
+#[derive(Debug, Drop)]
 pub(crate) struct Draft {
     record: HeldRecord,
     blocks: Blocks,

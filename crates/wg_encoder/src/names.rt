@@ -7,7 +7,7 @@ use std::marker::Model;
 use wg_io::{GRAPH, OFFSETS};
 
 /// The name of an archive, with the names of its graph file and its offsets file.
-#[derive(Drop)]
+#[derive(Debug, Drop)]
 pub(crate) struct FileNames {
     base: String,
     graph: String,

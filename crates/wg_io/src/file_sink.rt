@@ -10,7 +10,7 @@ use crate::{Depot, Sink, WriteError};
 /// counts for its name. Nothing else in the depot changes.
 ///
 /// Each write is handed on at once, so small pieces are best gathered before.
-#[derive(Drop)]
+#[derive(Debug, Drop)]
 pub struct FileSink<'a, D: Depot> {
     pub depot: &'a mut D,
     pub name: &'a str,

@@ -22,7 +22,7 @@ use std::rt::Files;
 /// 2^46, which is asked for before the first one, is answered as if it were not there, and a read at any other place
 /// than where the last one ended is refused. Such a file stays open whatever else is read, for a pipe that is opened
 /// again may wait for ever; if there is no memory for its name, the read is out of memory.
-#[derive(Drop)]
+#[derive(Debug, Drop)]
 pub struct FolderDepot<R: Files<File = File> + AllocGlobal + Drop> {
     rt: R,
     tally: Tally,
@@ -103,7 +103,7 @@ impl<R: Files<File = File> + AllocGlobal + Drop> Depot for FolderDepot<R> {
 }
 
 // An open file, and the name that it was opened by.
-#[derive(Drop)]
+#[derive(Debug, Drop)]
 struct OpenFile {
     name: String,
     file: File,

@@ -7,7 +7,7 @@ use std::fs::File;
 use std::io::{self, ErrorKind, Read};
 
 /// An open file that can't be positioned, as a pipe or a terminal is.
-#[derive(Drop)]
+#[derive(Debug, Drop)]
 pub struct Pipe {
     name: String,
     file: File,

@@ -9,7 +9,7 @@ use std::marker::Model;
 /// A stream of the system, as the standard output. It tells no bytes.
 ///
 /// Each write is handed on at once, so small pieces are best gathered before.
-#[derive(Drop)]
+#[derive(Debug, Drop)]
 pub struct StdSink<W: Write + Drop> {
     stream: W,
     tally: Tally,

@@ -11,7 +11,7 @@ use std::marker::Model;
 pub const CHAIN_PAGES: usize = 256;
 
 // Gives the members of a list that is lent. Contracts see it as those to come.
-#[derive(Drop)]
+#[derive(Debug, Drop)]
 pub(crate) struct Lent<'a> {
     left: &'a [u64],
 }
@@ -48,7 +48,7 @@ impl<'a> Lent<'a> {
 
 // What the copied members of a record are taken from: nothing, if it has no reference; the page that it refers to; or
 // the list of that page.
-#[derive(Drop)]
+#[derive(Debug, Drop)]
 #[cycle(below)]
 pub(crate) enum Below<'a> {
     Nothing,

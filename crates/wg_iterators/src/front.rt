@@ -4,7 +4,7 @@ ghost use Rattle.wg_iterators.specs.Least.{IsLeast};
 ghost use Rattle.wg_iterators.specs.Ahead.{head_of};
 
 // The next number of a front: not read yet, taken ahead, or none left.
-#[derive(Clone, Copy)]
+#[derive(Clone, Copy, Debug)]
 pub(crate) enum Head {
     Unread,
     Next(u64),

@@ -23,7 +23,7 @@ use wg_params::Params;
 /// It is seen as the page's outdegree, how many pages are read below it, and the list of the successors that are still
 /// to come. It holds cursors over the bits and one number of each front, and the page that its record refers to; or, of
 /// that page, only the list, which is lent.
-#[derive(Drop)]
+#[derive(Debug, Drop)]
 #[cycle(below)]
 pub struct Successors<'a> {
     outdegree: u64,

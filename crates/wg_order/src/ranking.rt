@@ -16,7 +16,7 @@ use wg_rank::Bounds;
 
 /// Pages ranked by bounds. It holds 64 bytes for each page; those of a ranking that took bounds over are the bounds'
 /// own.
-#[derive(Drop)]
+#[derive(Debug, Drop)]
 pub struct Ranking {
     filled: bool,
     low: Vec<u128>,

@@ -8,7 +8,7 @@ use crate::sorting::{compare, sort_falling, sort_rising};
 use wg_rank::Bounds;
 
 /// What a ranking of pages comes to.
-#[derive(Clone, Copy, Drop)]
+#[derive(Clone, Copy, Debug, Drop)]
 pub struct RankingSummary {
     /// The first page, if there is any.
     pub first: Option<u64>,

@@ -8,7 +8,7 @@ use wg_num::decimal_into;
 pub const MOST_TEXT: usize = 192;
 
 /// A short text, built from the front in a buffer of its own.
-#[derive(Drop)]
+#[derive(Debug, Drop)]
 pub struct Text {
     bytes: ArrayVec<u8, MOST_TEXT>,
 }

@@ -83,7 +83,7 @@ fn seek_graph<D: Depot>(graph: &mut FoundFile, depot: &mut D, at: u64) -> Result
 /// The graph file and the offsets file of an archive in one depot, which is lent to one of them at a time. Its type is
 /// its own, so that the functions that read a record have instances of their own for it: those of a [`FileSource`] keep
 /// one caller, and are inlined into the loop over all records.
-#[derive(Drop)]
+#[derive(Debug, Drop)]
 pub struct ChainFiles<'a, D: Depot> {
     depot: &'a mut D,
     graph: &'a mut FoundFile,

@@ -17,7 +17,7 @@ use wg_words::Name;
 
 /// What is printed of each record: the lines of its arcs, the line of its list in the plain text, or that of the offset
 /// after it.
-#[derive(Clone, Copy)]
+#[derive(Clone, Copy, Debug)]
 pub enum Listing {
     Arcs,
     Ascii,

@@ -8,7 +8,7 @@ use wg_order::Ranking;
 use wg_rank::Bounds;
 
 /// The ranking, which has the bounds of each page.
-#[derive(Drop)]
+#[derive(Debug, Drop)]
 pub struct Ranked {
     pub ranking: Ranking,
     ghost filled: { ranking.filled ≡ true },

@@ -28,7 +28,7 @@ use wg_params::Params;
 /// The bits of an archive that stand for one graph, and the offsets of its records.
 ///
 /// It is seen as its parameters, the bits, and the offsets. It holds no memory of its own.
-#[derive(Drop)]
+#[derive(Debug, Drop)]
 pub struct Archive<'a> {
     pub(crate) bytes: &'a [u8],
     pub(crate) params: Params,

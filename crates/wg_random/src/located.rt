@@ -32,7 +32,7 @@ pub trait Located: Seek {
 }
 
 /// A source of records whose offsets are all held: one for each record, and last the offset after them.
-#[derive(Drop)]
+#[derive(Debug, Drop)]
 pub struct Indexed<'a, S: Seek> {
     pub source: S,
     pub offsets: &'a Offsets,

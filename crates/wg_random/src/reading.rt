@@ -14,7 +14,7 @@ use wg_graph::List;
 use wg_iterators::{CHAIN_PAGES, Successors};
 
 /// The successors of a page that was read.
-#[derive(Drop)]
+#[derive(Debug, Drop)]
 pub enum Page<'a> {
     /// They are still to come, one by one.
     Opened(Successors<'a>),

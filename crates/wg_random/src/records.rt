@@ -19,7 +19,7 @@ use wg_stream::{PagesError, Passed, Sweep, pass};
 /// The bits of a graph file that stand for one graph, and where their records are.
 ///
 /// It is seen as its parameters, the bits, and the offsets. It holds 8 bytes a page.
-#[derive(Drop)]
+#[derive(Debug, Drop)]
 pub struct Records<'a> {
     pub(crate) bytes: &'a [u8],
     pub(crate) params: Params,

@@ -16,7 +16,7 @@ use wg_graph::{List, Lists};
 
 /// Bounds of the PageRank of each page, in units of 10^-24. They hold 64 bytes for each page, and 8 more if weights are
 /// given.
-#[derive(Drop)]
+#[derive(Debug, Drop)]
 pub struct Bounds {
     // In thousandths.
     damping: u64,

@@ -13,7 +13,7 @@ use std::marker::Model;
 /// A claim to a lower bound of the PageRank of each page, in units of 10^-24, at some damping. The bounds add up to at
 /// most
 /// 1. It holds 16 bytes for each page.
-#[derive(Drop)]
+#[derive(Debug, Drop)]
 pub struct Certificate {
     // In thousandths.
     damping: u64,

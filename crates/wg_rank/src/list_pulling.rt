@@ -24,7 +24,7 @@ use wg_runs::InLists;
 
 /// The pages that link to each page of a graph, and the room for a round along them. It is seen as the graph. It holds
 /// 32 bytes for each page beside the lists.
-#[derive(Drop)]
+#[derive(Debug, Drop)]
 pub struct ListPulling {
     lists: InLists,
     // What each page gives to each of its successors, in lanes.

@@ -24,7 +24,7 @@ use wg_runs::{PageRun, Runs};
 
 /// The runs of a graph, and the room for a round along them. It is seen as the graph. It holds 32 bytes for each page,
 /// and 32, beside the runs.
-#[derive(Drop)]
+#[derive(Debug, Drop)]
 pub struct Pulling {
     runs: Runs,
     // For each page, and behind the last one, what all pages below it give to each of their successors, in lanes.

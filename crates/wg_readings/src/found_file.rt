@@ -14,7 +14,7 @@ use wg_stream::Stretch;
 use wg_words::Name;
 
 /// The name of a file that was found, and the piece of the file that is held.
-#[derive(Drop)]
+#[derive(Debug, Drop)]
 pub struct FoundFile {
     pub name: Name,
     pub held: Stretch,

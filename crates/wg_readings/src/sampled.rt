@@ -21,7 +21,7 @@ use wg_stream::{FileSource, Seek};
 use wg_words::Name;
 
 /// An offsets file that was read to its end, and the samples of its places.
-#[derive(Drop)]
+#[derive(Debug, Drop)]
 pub struct SampledFile {
     pub file: FoundFile,
     pub samples: Samples,

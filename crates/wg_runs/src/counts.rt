@@ -14,7 +14,7 @@ use std::marker::Model;
 use wg_graph::Lists;
 
 /// How many runs lead to each page of a graph, and how many arcs leave it. It holds 16 bytes for each page.
-#[derive(Drop)]
+#[derive(Debug, Drop)]
 pub struct RunCounts {
     counts: Vec<u64>,
     // Where the last run to each page ends.

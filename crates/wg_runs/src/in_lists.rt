@@ -13,7 +13,7 @@ use std::marker::Model;
 ///
 /// They are seen as the graph. They hold 12 bytes for each page, and 4 for each arc. Each call takes constant time, and
 /// no memory.
-#[derive(Drop)]
+#[derive(Debug, Drop)]
 pub struct InLists {
     // Where the list of each page ends; it begins where that of the page before ends.
     ends: Vec<u64>,

@@ -18,7 +18,7 @@ use wg_graph::Lists;
 ///
 /// They are seen as the graph. They hold 12 bytes for each page, and 8 for each run. Each call takes constant time, and
 /// no memory, but for [`Runs::of`].
-#[derive(Drop)]
+#[derive(Debug, Drop)]
 pub struct Runs {
     // Where the runs to each page end; they begin where those to the page before end.
     ends: Vec<u64>,

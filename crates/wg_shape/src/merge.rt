@@ -7,7 +7,7 @@ use std::marker::Model;
 
 /// Gives the numbers of two ascending lists, ascending, and a number of both once. It is seen as those that are still
 /// to come. No call takes memory.
-#[derive(Drop)]
+#[derive(Debug, Drop)]
 pub struct Merge<A: Coming, B: Coming> {
     a: A,
     b: B,

@@ -58,7 +58,7 @@ fn place<L: Lists>(lists: &mut L, classes: &[u64], from: u64, ends: &mut [u64], 
 
 /// A pass along the lists of a graph, which puts the classes of the successors of each page into the list of its class.
 /// It is seen as the graph, and the class of each page.
-#[derive(Drop)]
+#[derive(Debug, Drop)]
 pub(crate) struct Reached<'a, L: Lists> {
     lists: L,
     classes: &'a [u64],

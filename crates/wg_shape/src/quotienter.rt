@@ -19,7 +19,7 @@ use wg_transpose::ranges::Ranges;
 /// It is seen as the graph, the class of each page and the number of classes, and the range of classes whose lists are
 /// at hand: from class `from` up to the class before `to`. It holds 8 bytes for each class, and 8 for each arc that
 /// leaves a page of a class of the range, and it borrows the classes of the pages.
-#[derive(Drop)]
+#[derive(Debug, Drop)]
 pub struct Quotienter<'a, L: Lists + Drop> {
     reached: Reached<'a, L>,
     ranges: Ranges,

@@ -19,7 +19,7 @@ use wg_params::Code;
 ///
 /// A word that a piece cuts waits for the next piece, and only the end of the file cuts a word for good. What is held
 /// is to be of the same file at each call. [`Stretch::look`] tells before the first word whether the file is too long.
-#[derive(Drop)]
+#[derive(Debug, Drop)]
 pub struct FileSource<'a, D: Depot> {
     depot: &'a mut D,
     name: &'a str,

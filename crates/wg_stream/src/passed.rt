@@ -15,7 +15,7 @@ use wg_offsets::Offsets;
 use wg_params::Params;
 
 /// What a pass finds.
-#[derive(Drop)]
+#[derive(Debug, Drop)]
 pub struct Passed {
     /// The offset of each record, and last the end of the last one.
     pub offsets: Offsets,

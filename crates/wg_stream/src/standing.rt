@@ -8,7 +8,7 @@ ghost use Rattle.wg_stream.specs.OneStands.{have_one};
 use wg_params::Params;
 
 // The bytes of a graph file that stand for a graph, of which there is one.
-#[derive(Drop)]
+#[derive(Debug, Drop)]
 pub(crate) struct Standing<'a> {
     pub(crate) bytes: &'a [u8],
     pub(crate) params: Params,

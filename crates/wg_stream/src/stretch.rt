@@ -30,7 +30,7 @@ const GLANCE: u64 = 57;
 pub const MOST_HELD: usize = 4096;
 
 /// The bytes of a file from some offset on, as far as they were read and are not passed, and the bit that comes next.
-#[derive(Drop)]
+#[derive(Debug, Drop)]
 pub struct Stretch {
     bytes: [u8; MOST_HELD],
     length: usize,

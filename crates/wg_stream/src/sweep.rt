@@ -27,7 +27,7 @@ use wg_params::Params;
 /// reference may reach and for one list more, each with room for the greatest outdegree, 8 bytes a number, and 64 more;
 /// all are taken when it is made. A list then takes the time of its record's words and of the lists that it has and
 /// refers to.
-#[derive(Drop)]
+#[derive(Debug, Drop)]
 pub struct Sweep<'a> {
     archive: Standing<'a>,
     // the page whose list comes next, and where its record begins

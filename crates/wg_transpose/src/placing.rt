@@ -40,7 +40,7 @@ fn place<L: Lists>(lists: &mut L, from: u64, ends: &mut [u64], all: &mut [u64])
 }
 
 // A pass along the lists of a graph, which puts each page into the lists of its successors.
-#[derive(Drop)]
+#[derive(Debug, Drop)]
 pub(crate) struct Sources<L: Lists> {
     pub(crate) lists: L,
 }

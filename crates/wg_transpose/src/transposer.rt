@@ -18,7 +18,7 @@ use wg_graph::Lists;
 ///
 /// It is seen as the graph, and the range of pages whose lists are at hand: from page `from` up to the page before
 /// `to`. It holds 8 bytes for each page, and 8 for each arc that leads to a page of the range.
-#[derive(Drop)]
+#[derive(Debug, Drop)]
 pub struct Transposer<L: Lists + Drop> {
     sources: Sources<L>,
     ranges: Ranges,

@@ -16,7 +16,7 @@ const FEW: u64 = 32;
 /// A cursor that has the next bits at hand, so that short words that follow one another are read by one load.
 ///
 /// It is seen as the offset of the cursor among its bits.
-#[derive(Drop)]
+#[derive(Debug, Drop)]
 pub struct Lookahead<'a> {
     cursor: Cursor<'a>,
     // the bits that come next are its highest, so many of them

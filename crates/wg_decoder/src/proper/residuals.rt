@@ -12,7 +12,7 @@ use wg_params::Code;
 
 /// Gives the residuals of a record, ascending. Contracts see it as the list of those to come, and the bits behind the
 /// last.
-#[derive(Drop)]
+#[derive(Debug, Drop)]
 pub struct Residuals<'a> {
     // stands behind the residuals that were read
     cursor: Lookahead<'a>,
