@@ -5,5 +5,5 @@ use Rattle.wg_outcomes.specs.declared.pulled.Pulled.TheVariants as pulled
 
 -- that of the runs, or of the lists
 abbrev pub pulled_graph : Pulled → Digraph
-pulled_graph (pulled.Runs g) = g
-pulled_graph (pulled.InLists g) = g
+pulled_graph (pulled.Runs p) = p.graph
+pulled_graph (pulled.InLists p) = p.graph

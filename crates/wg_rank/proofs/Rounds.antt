@@ -8,7 +8,7 @@ use Rattle.wg_graph.specs.Arcs.{has_arc}
 use Rattle.wg_graph.specs.Digraph.{Digraph, IsGraph, outdegree}
 use Rattle.wg_rank.specs.Sum.{sum_below}
 use Rattle.wg_rank.specs.Rank.{total, sum_in, sum_dangling, low_flow, high_flow, lower, upper, gap, clipped, low, high}
-use Rattle.wg_rank.specs.Settling.{settled_lows, settled_high, least}
+use Rattle.wg_rank.specs.Settling.{settled_lows, settled_highs, least}
 use Rattle.wg_rank.specs.Intervals.{Intervals, IsTable, Holds, next_low, next_high, by_page}
 use Rattle.wg_rank.specs.Weights.{AreWeights, weights_or_ones}
 use Rattle.wg_rank.specs.declared.limits.TheConstants.{UNITS}
@@ -72,18 +72,18 @@ holds_more b c g d e k l h o = record {
 
 -- ---- what was gathered makes the new bounds
 
-pub settled_lower : (g : Digraph) (a k : ℕ) (w l : ℕ → ℕ) (sums : List ℕ) (d : ℕ) → k ≡ g.nodes
-    → ((v : ℕ) → v < g.nodes → get_or sums v 0 ≡ low_flow g l v) → d ≡ sum_dangling g l
-    → (v : ℕ) → v < g.nodes → settled_lows a k d w (by_page sums) v ≡ lower g a w l v
-settled_lower g a k w l sums d e flows rest v i = rw (flows v i, rest, e) refl
+pub settled_lower : (g : Digraph) (a k : ℕ) (w l x : ℕ → ℕ) (d : ℕ) → k ≡ g.nodes
+    → ((v : ℕ) → v < g.nodes → x v ≡ low_flow g l v) → d ≡ sum_dangling g l
+    → (v : ℕ) → v < g.nodes → settled_lows a k d w x v ≡ lower g a w l v
+settled_lower g a k w l x d e flows rest v i = rw (flows v i, rest, e) refl
 
-pub settled_table : (g : Digraph) (a k : ℕ) (ws : List ℕ) (l : ℕ → ℕ) (sums xs : List ℕ) (d : ℕ) → k ≡ g.nodes → length xs ≡ g.nodes
-    → ((v : ℕ) → v < g.nodes → get_or sums v 0 ≡ low_flow g l v) → d ≡ sum_dangling g l
-    → ((v : ℕ) → v < k → get_or xs v 0 ≡ settled_lows a k d (by_page (weights_or_ones k ws)) (by_page sums) v)
+pub settled_table : (g : Digraph) (a k : ℕ) (ws : List ℕ) (l : ℕ → ℕ) (xs : List ℕ) (d : ℕ) → k ≡ g.nodes → length xs ≡ g.nodes
+    → d ≡ sum_dangling g l
+    → ((v : ℕ) → v < k → get_or xs v 0 ≡ settled_lows a k d (by_page (weights_or_ones k ws)) (low_flow g l) v)
     → IsTable xs g.nodes (lower g a (by_page (weights_or_ones k ws)) l)
-settled_table g a k ws l sums xs d e m flows rest each = record {
+settled_table g a k ws l xs d e m rest each = record {
   counted = m;
-  each = λ v i. each v (omega arith) ∙ settled_lower g a k (by_page (weights_or_ones k ws)) l sums d e flows rest v i;
+  each = λ v i. each v (omega arith) ∙ settled_lower g a k (by_page (weights_or_ones k ws)) l (low_flow g l) d e (λ u j. refl) rest v i;
 }
 
 -- upper bounds never rise
@@ -109,20 +109,17 @@ module _ (g : Digraph) (a : ℕ) (w : ℕ → ℕ) where
   gap_from : (l : ℕ → ℕ) (xs : List ℕ) → IsTable xs g.nodes (lower g a w l) → UNITS - sum_below (length xs) (by_page xs) ≡ gap g (lower g a w l)
   gap_from l xs e = rw e.counted (ap (λ x. UNITS - x) (sum_same g.nodes (by_page xs) (lower g a w l) e.each))
 
-  upper_from : (h : ℕ → ℕ) (sums : List ℕ) (d n : ℕ) → n ≡ g.nodes
-      → ((v : ℕ) → v < g.nodes → get_or sums v 0 ≡ high_flow g h v) → d ≡ sum_dangling g h
-      → (v : ℕ) → v < g.nodes → settled_high a n d (sum_below n w) (w v) (get_or sums v 0) ≡ upper g a w h v
-  upper_from h sums d n m flows rest v i = rw (flows v i, rest, m) refl
+  upper_from : (h : ℕ → ℕ) (d n : ℕ) → n ≡ g.nodes → d ≡ sum_dangling g h
+      → (v : ℕ) → settled_highs a n d w (high_flow g h) v ≡ upper g a w h v
+  upper_from h d n m rest v = rw (rest, m) refl
 
   -- what flows in, what is dangling and what the lower bounds leave make the upper bounds
-  pub clipped_from : (l h : ℕ → ℕ) (xs ups : List ℕ) (d n : ℕ) → n ≡ g.nodes → IsTable xs g.nodes (lower g a w l)
-      → ((v : ℕ) → v < g.nodes → get_or ups v 0 ≡ high_flow g h v) → d ≡ sum_dangling g h
+  pub clipped_from : (l h : ℕ → ℕ) (xs : List ℕ) (d n : ℕ) → n ≡ g.nodes → IsTable xs g.nodes (lower g a w l) → d ≡ sum_dangling g h
       → (v : ℕ) → v < g.nodes
-      → least (h v) (settled_high a n d (sum_below n w) (w v) (get_or ups v 0)) (get_or xs v 0 + (UNITS - sum_below (length xs) (by_page xs)))
+      → least (h v) (settled_highs a n d w (high_flow g h) v) (get_or xs v 0 + (UNITS - sum_below (length xs) (by_page xs)))
       ≡ clipped g a w l h v
-  clipped_from l h xs ups d n m low_is flows rest v i =
-      least_same (h v) _ (upper g a w h v) _ (lower g a w l v) _ (gap g (lower g a w l))
-      (upper_from h ups d n m flows rest v i) (low_is.each v i) (gap_from l xs low_is)
+  clipped_from l h xs d n m low_is rest v i =
+      least_same (h v) _ (upper g a w h v) _ (lower g a w l v) _ (gap g (lower g a w l)) (upper_from h d n m rest v) (low_is.each v i) (gap_from l xs low_is)
 
 -- the new lower bounds add up to at most 1
 pub settled_total : (g : Digraph) (a k : ℕ) (ws : List ℕ) (l : ℕ → ℕ) (xs : List ℕ) → IsGraph g → a ≤ 1000 → AreWeights k (weights_or_ones k ws) → k ≡ g.nodes

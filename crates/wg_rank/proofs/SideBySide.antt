@@ -116,11 +116,3 @@ pub high_added : (xs : List ℕ) (v below above : ℕ) → v < length (low_flows
 high_added xs v below above h =
     high_replaced xs v _ _ h
     ∙ ap (λ y. set (high_flows xs) v (y + above)) (get_or-set_other xs (2 * v) (2 * v + 1) _ 0 (ne_next (2 * v)) ∙ high_at xs v (omega (arith, high_count xs)))
-
--- ---- what is left where both were made 0
-
-pub cleared_more : (xs : List ℕ) (v : ℕ) → 2 * v + 1 < length xs → ((k : ℕ) → k < 2 * v → get_or xs k 0 ≡ 0)
-    → (k : ℕ) → k < 2 * (v + 1) → get_or (set (set xs (2 * v) 0) (2 * v + 1) 0) k 0 ≡ 0
-cleared_more xs v w h k l =
-    table_more (2 * v + 1) (set xs (2 * v) 0) 0 (λ _. 0) (omega (arith, length-set xs (2 * v) 0)) refl
-    (table_more (2 * v) xs 0 (λ _. 0) (omega arith) refl h) k (omega arith)

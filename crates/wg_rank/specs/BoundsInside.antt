@@ -23,7 +23,6 @@ pub record AreKept (b : Inside) : Type 0 where
   pub weighed : AreWeights (length b.low.items) (weights_or_ones (length b.low.items) b.weights)
   pub high_pages : length b.high.items ≡ length b.low.items
   pub inflow_pages : length b.inflows.items ≡ 2 * length b.low.items
-  pub empty : All (λ x. x ≡ 0) b.inflows.items
   -- so that no sum passes 128 bits
   pub low_total : sum_below (length b.low.items) (by_page b.low.items) ≤ UNITS
   pub high_units : All (λ x. x ≤ UNITS) b.high.items

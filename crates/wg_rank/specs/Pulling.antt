@@ -5,6 +5,11 @@ use Rattle.std.specs.List.{sum_by}
 use Rattle.wg_graph.specs.Digraph.{Digraph, outdegree}
 use Rattle.wg_runs.specs.declared.run.PageRun.{PageRun}
 
+-- a graph, and what its pages shared out last, in lanes
+pub record Pulled : Type 0 where
+  pub graph : Digraph
+  pub lanes : List (List ℕ)
+
 -- the share of page u, rounded down, and up
 abbrev pub low_share : Digraph → (ℕ → ℕ) → ℕ → ℕ
 low_share g l u = l u / outdegree g u

@@ -11,10 +11,9 @@ ghost use Rattle.wg_rank.specs.declared.limits.TheConstants.{UNITS};
 
 use crate::UNITS;
 use crate::gathering::Gather;
-use crate::settling::{settle_high, settle_low, total};
+use crate::settling::{cut, settle, total};
 
-// Puts the new bounds in place of the old ones. Where no weights are given, each page has the weight 1. All of `inflows`
-// is 0 before and after.
+// Puts the new bounds in place of the old ones. Where no weights are given, each page has the weight 1.
 pub(crate) fn advance<G: Gather>(
     source: &mut G,
     damping: u64,
@@ -28,7 +27,6 @@ pub(crate) fn advance<G: Gather>(
     requires damped { damping ≤ MOST_DAMPING }
     requires high_pages { length high.old ≡ length low.old }
     requires inflow_pages { length inflows.old ≡ 2 * length low.old }
-    requires empty { All (λ x. x ≡ 0) inflows.old }
     requires weights { AreWeights (length low.old) (weights_or_ones (length low.old) weights.now) }
     requires low_total { sum_below (length low.old) (by_page low.old) ≤ UNITS }
     requires high_units { All (λ x. x ≤ UNITS) high.old }
@@ -41,10 +39,8 @@ pub(crate) fn advance<G: Gather>(
         (by_page high.old)) }
     ensures low_total { sum_below (length low.old) (by_page low.new) ≤ UNITS }
     ensures high_units { All (λ x. x ≤ UNITS) high.new }
-    ensures empty { All (λ x. x ≡ 0) inflows.new }
 {
-    let (dangling, high_dangling) = source.gather(low, high, inflows);
-    settle_low(low, inflows, damping, dangling, weights);
-    let gap = UNITS - total(low);
-    settle_high(high, inflows, low, damping, high_dangling, weights, gap);
+    let dangling = source.share(low, high, inflows);
+    settle(source, inflows, low, high, damping, dangling, weights);
+    cut(high, low, UNITS - total(low));
 }

@@ -25,8 +25,8 @@ pub struct Bounds {
     weights: List,
     low: Vec<u128>,
     high: Vec<u128>,
-    // What flows to each page in a round, below and above, side by side, so that an arc reaches one place in memory.
-    // All 0 between rounds.
+    // Room for what flows to each page in a round, below and above, side by side, so that an arc reaches one place in
+    // memory.
     inflows: Vec<u128>,
 }
 

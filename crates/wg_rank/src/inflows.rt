@@ -33,17 +33,6 @@ pub(crate) fn put(inflows: &mut [u128], v: usize, below: u128, above: u128)
     inflows[2 * v + 1] = above;
 }
 
-// Makes the two sums of a page 0 again.
-#[tactic(auto, using(crate::proofs::SideBySide::within))]
-#[inline(always)]
-pub(crate) fn clear(inflows: &mut [u128], v: usize)
-    requires { v < length (low_flows inflows.old) }
-    ensures { inflows.new ≡ set (set inflows.old (2 * v) 0) (2 * v + 1) 0 }
-{
-    inflows[2 * v] = 0;
-    inflows[2 * v + 1] = 0;
-}
-
 // What flows to page `v`, below.
 #[tactic(auto, using(crate::proofs::SideBySide::within, crate::proofs::SideBySide::low_at))]
 #[inline(always)]

@@ -11,7 +11,7 @@ ghost use Rattle.wg_rank.specs.declared.fault.JudgeError.TheVariants as errors;
 ghost use Rattle.wg_rank.specs.declared.limits.TheConstants.{UNITS};
 
 use crate::gathering::gather_low;
-use crate::low_parts::LowParts;
+use crate::parts::Parts;
 use crate::settling::total;
 use crate::{Certificate, JudgeError, UNITS};
 use std::alloc::{AllocError, Global};
@@ -39,9 +39,9 @@ fn first_smaller(
     if low.is_empty() {
         return None;
     }
-    let parts = LowParts::of(low.len(), damping, dangling, weights);
+    let parts = Parts::of(low.len(), damping, (dangling, dangling), weights);
     for v in 0..low.len() {
-        if parts.bound(v, inflows[v]) < low[v] {
+        if parts.low(v, inflows[v]) < low[v] {
             return Some(v as u64);
         }
     }

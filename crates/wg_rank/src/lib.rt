@@ -10,9 +10,9 @@
 //! Data flow of a round, in one pass along the lists of [`wg_graph::Lists`]:
 //!
 //! ```text
-//! low, high --> gather: each page's shares, to each of its successors --> what flows in, what dangling pages hold
-//!                                                                              |
-//!               new low, high <-- settle: the damping's part, and teleport's <-+
+//! low, high --> share: each page's shares, to each of its successors --> what flows in, what dangling pages hold
+//!                                                                             |
+//!        new low, high <-- cut <-- settle: the damping's part, and teleport's <-+
 //! ```
 //!
 //! Three ways lead to the same bounds. [`Bounds::round`] reads the lists of successors in each round. [`Bounds::pull`]
@@ -24,9 +24,12 @@
 //! for what each page gives to each of its successors; what flows to a page is then the sum over its list.
 //!
 //! ```text
-//! low, high --> share_out: each page's shares, added up --> gather_along: a difference a run --> what flows in
-//! low, high --> set_shares: each page's shares --> gather_shares: one for each page that links there --> what flows in
+//! low, high --> share: each page's shares, added up --> flow: a difference a run ---------------> what flows in
+//! low, high --> share: each page's shares ------------> flow: one for each page that links there -> what flows in
 //! ```
+//!
+//! What flows in is not kept for all pages there. It is added up for 128 pages, which are then settled: these sums wait
+//! for memory, and wait together.
 //!
 //! One round over the graph of two pages with the arc from page 0 to page 1, where [`wg_num::UNITS`] make 1:
 //!
@@ -90,7 +93,7 @@ mod lanes;
 pub mod laws;
 mod limits;
 mod list_pulling;
-mod low_parts;
+mod parts;
 mod pulling;
 mod reading;
 mod settling;

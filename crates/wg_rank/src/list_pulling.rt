@@ -2,12 +2,10 @@
 ghost use Rattle.std.specs.Prelude.{◌≡◌, ℕ, ◌*◌, ◌<◌, ◌≤◌, length, All, IfOk};
 ghost use Rattle.std.specs.List.{sum_by};
 ghost use Rattle.wg_params.specs.declared.limits.TheConstants.{MOST_PAGES};
-ghost use Rattle.wg_graph.specs.Digraph.{Digraph, IsGraph};
-ghost use Rattle.wg_transpose.specs.Transposed.{predecessors};
+ghost use Rattle.wg_graph.specs.Digraph.{IsGraph};
 ghost use Rattle.wg_runs.specs.declared.run.TheConstants.{MOST_PAGES_IN_RUNS};
 ghost use Rattle.wg_rank.specs.Rank.{sum_dangling};
-ghost use Rattle.wg_rank.specs.Intervals.{IsTable, by_page};
-ghost use Rattle.wg_rank.specs.Inflows.{low_flows, high_flows};
+ghost use Rattle.wg_rank.specs.Intervals.{by_page};
 ghost use Rattle.wg_rank.specs.Lanes.{in_lanes};
 ghost use Rattle.wg_rank.specs.Pulling.{low_share, high_share, given};
 ghost use Rattle.wg_rank.specs.Shares.{AreShares};
@@ -15,15 +13,14 @@ ghost use Rattle.wg_rank.specs.declared.limits.TheConstants.{UNITS};
 
 use crate::divisor::Divisors;
 use crate::gathering::Gather;
-use crate::inflows::put;
 use crate::lanes::{MOST_ADDED, from_lanes, in_lanes};
 use std::alloc::{AllocError, Global};
 use std::marker::Model;
 use std::simd::u64x4;
 use wg_runs::InLists;
 
-/// The pages that link to each page of a graph, and the room for a round along them. It is seen as the graph. It holds
-/// 32 bytes for each page beside the lists.
+/// The pages that link to each page of a graph, and the room for a round along them. It is seen as the graph, and what
+/// its pages give to each of their successors. It holds 32 bytes for each page beside the lists.
 #[derive(Debug, Drop)]
 pub struct ListPulling {
     lists: InLists,
@@ -33,11 +30,11 @@ pub struct ListPulling {
 
 impl Model for ListPulling {
     ghost use Rattle.std.specs.Prelude.{◌≡◌, length};
-    ghost use Rattle.wg_graph.specs.Digraph.{Digraph};
+    ghost use Rattle.wg_rank.specs.Pulling.{Pulled};
 
-    ghost Value = { Digraph };
+    ghost Value = { Pulled };
 
-    ghost view = { λ p. p.lists };
+    ghost view = { λ p. record { graph = p.lists; lanes = p.shares.items } };
 
     ghost invariant = { λ p. length p.shares.items ≡ p.lists.nodes };
 }
@@ -45,7 +42,7 @@ impl Model for ListPulling {
 impl ListPulling {
     /// Takes the room of all rounds along these lists.
     pub fn new(alloc: Global, lists: InLists) -> Result<ListPulling, AllocError>
-        ensures { IfOk result (λ p. p ≡ lists) }
+        ensures { IfOk result (λ p. p.graph ≡ lists) }
     {
         let shares = vec![in alloc; u64x4::splat(0); lists.nodes() as usize]?;
         Ok(ListPulling { lists, shares })
@@ -53,9 +50,9 @@ impl ListPulling {
 
     /// How many pages the graph has.
     pub fn nodes(&self) -> u64
-        ensures value { result ≡ self.now.nodes }
+        ensures value { result ≡ self.now.graph.nodes }
         ensures within { result ≤ MOST_PAGES_IN_RUNS }
-        ensures proper { IsGraph self.now }
+        ensures proper { IsGraph self.now.graph }
     {
         self.lists.nodes()
     }
@@ -63,14 +60,20 @@ impl ListPulling {
 
 // Each page's shares are written down, and what flows to a page is then the sum over the pages that link to it.
 impl Gather for ListPulling {
-    ghost graph = { λ p. p };
+    ghost graph = { λ p. p.graph };
 
-    fn gather(&mut self, low: &[u128], high: &[u128], inflows: &mut [u128]) -> (u128, u128) {
+    ghost has_shared = { λ p _ l h. AreShares p.graph.nodes (given p.graph (low_share p.graph l))
+        (given p.graph (high_share p.graph h)) p.lanes };
+
+    fn share(&mut self, low: &[u128], high: &[u128], _inflows: &mut [u128]) -> (u128, u128) {
         // Asked for what the graph of lists is, which its contract says.
         let _pages = self.lists.nodes();
-        let dangling = set_shares(&self.lists, low, high, &mut self.shares);
-        gather_shares(&self.lists, &self.shares, inflows);
-        dangling
+        set_shares(&self.lists, low, high, &mut self.shares)
+    }
+
+    #[inline(always)]
+    fn flow(&self, _inflows: &[u128], v: u64) -> (u128, u128) {
+        flow_from(&self.shares, self.lists.of_page(v))
     }
 }
 
@@ -142,20 +145,4 @@ fn flow_from(shares: &[u64x4], sources: &[u32]) -> (u128, u128)
     }
     let (low, high) = from_lanes(lanes_from(shares, left));
     (below + low, above + high)
-}
-
-// Puts in place for each page what its predecessors give, whatever each page gives, if `shares` has that.
-fn gather_shares(lists: &InLists, shares: &[u64x4], inflows: &mut [u128])
-    requires few { lists.now.nodes ≤ MOST_PAGES }
-    requires inflow_pages { length inflows.old ≡ 2 * lists.now.nodes }
-    requires shares { (low : ℕ → ℕ) × (high : ℕ → ℕ) × AreShares lists.now.nodes low high shares.now }
-    ensures low { (low high : ℕ → ℕ) → AreShares lists.now.nodes low high shares.now
-        → IsTable (low_flows inflows.new) lists.now.nodes (λ v. sum_by low (predecessors lists.now v)) }
-    ensures high { (low high : ℕ → ℕ) → AreShares lists.now.nodes low high shares.now
-        → IsTable (high_flows inflows.new) lists.now.nodes (λ v. sum_by high (predecessors lists.now v)) }
-{
-    for v in 0..lists.nodes() {
-        let (below, above) = flow_from(shares, lists.of_page(v));
-        put(inflows, v as usize, below, above);
-    }
 }

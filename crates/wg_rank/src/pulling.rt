@@ -7,23 +7,21 @@ ghost use Rattle.wg_transpose.specs.Transposed.{predecessors};
 ghost use Rattle.wg_runs.specs.declared.run.TheConstants.{MOST_PAGES_IN_RUNS};
 ghost use Rattle.wg_rank.specs.Sum.{sum_below};
 ghost use Rattle.wg_rank.specs.Rank.{sum_dangling};
-ghost use Rattle.wg_rank.specs.Intervals.{IsTable, by_page};
-ghost use Rattle.wg_rank.specs.Inflows.{low_flows, high_flows};
+ghost use Rattle.wg_rank.specs.Intervals.{by_page};
 ghost use Rattle.wg_rank.specs.Lanes.{in_lanes, AreSummed, AreRunsTo};
 ghost use Rattle.wg_rank.specs.Pulling.{low_share, high_share, given, along};
 ghost use Rattle.wg_rank.specs.declared.limits.TheConstants.{UNITS};
 
 use crate::divisor::Divisors;
 use crate::gathering::Gather;
-use crate::inflows::put;
 use crate::lanes::{MOST_ADDED, from_lanes, in_lanes, rise_in_parts};
 use std::alloc::{AllocError, Global};
 use std::marker::Model;
 use std::simd::u64x4;
 use wg_runs::{PageRun, Runs};
 
-/// The runs of a graph, and the room for a round along them. It is seen as the graph. It holds 32 bytes for each page,
-/// and 32, beside the runs.
+/// The runs of a graph, and the room for a round along them. It is seen as the graph, and what its pages give to their
+/// successors, added up. It holds 32 bytes for each page, and 32, beside the runs.
 #[derive(Debug, Drop)]
 pub struct Pulling {
     runs: Runs,
@@ -33,11 +31,11 @@ pub struct Pulling {
 
 impl Model for Pulling {
     ghost use Rattle.std.specs.Prelude.{◌≡◌, ◌+◌, length};
-    ghost use Rattle.wg_graph.specs.Digraph.{Digraph};
+    ghost use Rattle.wg_rank.specs.Pulling.{Pulled};
 
-    ghost Value = { Digraph };
+    ghost Value = { Pulled };
 
-    ghost view = { λ p. p.runs };
+    ghost view = { λ p. record { graph = p.runs; lanes = p.sums.items } };
 
     ghost invariant = { λ p. length p.sums.items ≡ p.runs.nodes + 1 };
 }
@@ -45,7 +43,7 @@ impl Model for Pulling {
 impl Pulling {
     /// Takes the room of all rounds along these runs.
     pub fn new(alloc: Global, runs: Runs) -> Result<Pulling, AllocError>
-        ensures { IfOk result (λ p. p ≡ runs) }
+        ensures { IfOk result (λ p. p.graph ≡ runs) }
     {
         let sums = vec![in alloc; u64x4::splat(0); runs.nodes() as usize + 1]?;
         Ok(Pulling { runs, sums })
@@ -53,9 +51,9 @@ impl Pulling {
 
     /// How many pages the graph has.
     pub fn nodes(&self) -> u64
-        ensures value { result ≡ self.now.nodes }
+        ensures value { result ≡ self.now.graph.nodes }
         ensures within { result ≤ MOST_PAGES_IN_RUNS }
-        ensures proper { IsGraph self.now }
+        ensures proper { IsGraph self.now.graph }
     {
         self.runs.nodes()
     }
@@ -64,14 +62,20 @@ impl Pulling {
 // Each page's shares are added up over all pages below it, and what flows to a page is then had from two such sums for
 // each run.
 impl Gather for Pulling {
-    ghost graph = { λ p. p };
+    ghost graph = { λ p. p.graph };
 
-    fn gather(&mut self, low: &[u128], high: &[u128], inflows: &mut [u128]) -> (u128, u128) {
+    ghost has_shared = { λ p _ l h. AreSummed p.graph.nodes (given p.graph (low_share p.graph l))
+        (given p.graph (high_share p.graph h)) p.lanes };
+
+    fn share(&mut self, low: &[u128], high: &[u128], _inflows: &mut [u128]) -> (u128, u128) {
         // Asked for what the graph of runs is, which its contract says.
         let _pages = self.runs.nodes();
-        let dangling = share_out(&self.runs, low, high, &mut self.sums);
-        gather_along(&self.runs, &self.sums, inflows);
-        dangling
+        share_out(&self.runs, low, high, &mut self.sums)
+    }
+
+    #[inline(always)]
+    fn flow(&self, _inflows: &[u128], v: u64) -> (u128, u128) {
+        flow_along(&self.sums, self.runs.of_page(v))
     }
 }
 
@@ -161,21 +165,4 @@ fn flow_along(sums: &[u64x4], runs: &[PageRun]) -> (u128, u128)
         return from_lanes(lanes_along(sums, runs));
     }
     parts_along(sums, runs)
-}
-
-// Puts in place for each page what its predecessors give, whatever each page gives, if `sums` has what all pages below
-// a page give.
-fn gather_along(runs: &Runs, sums: &[u64x4], inflows: &mut [u128])
-    requires few { runs.now.nodes ≤ MOST_PAGES }
-    requires inflow_pages { length inflows.old ≡ 2 * runs.now.nodes }
-    requires summed { (low : ℕ → ℕ) × (high : ℕ → ℕ) × AreSummed runs.now.nodes low high sums.now }
-    ensures low { (low high : ℕ → ℕ) → AreSummed runs.now.nodes low high sums.now
-        → IsTable (low_flows inflows.new) runs.now.nodes (λ v. sum_by low (predecessors runs.now v)) }
-    ensures high { (low high : ℕ → ℕ) → AreSummed runs.now.nodes low high sums.now
-        → IsTable (high_flows inflows.new) runs.now.nodes (λ v. sum_by high (predecessors runs.now v)) }
-{
-    for v in 0..runs.nodes() {
-        let (below, above) = flow_along(sums, runs.of_page(v));
-        put(inflows, v as usize, below, above);
-    }
 }

@@ -14,6 +14,6 @@ returns-clause-first g c =
     let graph = g.L.Lists.graph c.args.lists.now in
     first_of_round graph c.args.damping (length c.args.low.now) _ _ c.args.low.now c.first_smaller.result (omega arith)
     (settled_lower graph c.args.damping (length c.args.low.now) (by_page (weights_or_ones (length c.args.low.now) c.args.weights.now)) (by_page c.args.low.now)
-    c.gather_low-dangling.new.inflows c.gather_low-dangling.result (omega arith)
+    (by_page c.gather_low-dangling.new.inflows) c.gather_low-dangling.result (omega arith)
     (λ v i. c.gather_low-dangling.ensures.flow v (omega arith)) c.gather_low-dangling.ensures.dangling)
     c.first_smaller.ensures

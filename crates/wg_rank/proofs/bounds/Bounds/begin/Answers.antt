@@ -20,7 +20,6 @@ pub invariant_of-result : goal.invariant_of-result
 invariant_of-result c =
     let e1 = c.in_ok-vec.ensures.items_if_clones_equal (λ y h. search rules) in
     let e2 = c.in_ok-vec-2.ensures.items_if_clones_equal (λ y h. search rules) in
-    let e3 = c.in_ok-vec-3.ensures.items_if_clones_equal (λ y h. search rules) in
     record {
       few = omega (arith, c.in_ok-vec.ensures.len);
       damped = c.requires.damping;
@@ -28,7 +27,6 @@ invariant_of-result c =
       weighed = let e : length c.in_ok-vec.field-0.items ≡ c.args.n = omega (arith, c.in_ok-vec.ensures.len) in rw e c.requires.weights;
       high_pages = omega (arith, c.in_ok-vec.ensures.len, c.in_ok-vec-2.ensures.len);
       inflow_pages = omega (arith, c.in_ok-vec.ensures.len, c.in_ok-vec-3.ensures.len);
-      empty = rw e3 (All-replicate (λ x. x ≡ 0) (2 * c.args.n) _ refl);
       low_total = omega (arith, sum_table c.args.n _ (table_replicate c.args.n 0 _ e1));
       high_units = rw e2 (All-replicate (λ x. x ≤ UNITS) c.args.n _ (omega arith));
     }

@@ -1,4 +1,4 @@
-use Rattle.std.proofs.Common.{ℕ, ◌≡◌, ◌≢◌, ◌+◌, ◌/◌, length, get_or, refl, arith, ap, sym, ◌∙◌}
+use Rattle.std.proofs.Common.{ℕ, rules, All, ◌≡◌, ◌≢◌, ◌+◌, ◌/◌, length, get_or, refl, arith, ap, sym, ◌∙◌}
 use Rattle.std.proofs.Math.Nat.{div-le_self}
 use Rattle.wg_graph.specs.Digraph.{outdegree}
 use Rattle.std.specs.Int.{div_ceil}
@@ -7,8 +7,8 @@ use Rattle.wg_rank.specs.declared.limits.TheConstants.{UNITS}
 use Rattle.wg_rank.proofs.SideBySide.{low_count, high_count, low_none, high_none}
 use Rattle.wg_rank.proofs.Flow.{le_both, gathered_none, gathered_room, dangling_room, gathered_within, dangling_within, gathered_more, gathered_same, dangling_more, dangling_same, div_ceil_le}
 use Rattle.wg_rank.proofs.Arcs.{list_below}
-use Rattle.wg_rank.proofs.gathering.AnyGather.gather.Goals as goal
-use Rattle.wg_rank.proofs.gathering.AnyGather.gather.Goals.{in-Some+then-degree-eq0, in-Some+else-degree-eq0, in_default}
+use Rattle.wg_rank.proofs.gathering.AnyGather.share.Goals as goal
+use Rattle.wg_rank.proofs.gathering.AnyGather.share.Goals.{in-Some+then-degree-eq0, in-Some+else-degree-eq0, in_default}
 
 pub overflow_add-low_dangling : goal.overflow_add-low_dangling
 overflow_add-low_dangling g c =
@@ -41,11 +41,11 @@ spread-requires-clause-high_room g c =
     (omega (arith, c.quotient_up-above.ensures, div_ceil_le (get_or c.args.high.now c.loop-u.u 0) c.get-outdegree.result.by, c.requires.high_units c.loop-u.u 0 (omega arith))) c.loop-u.invariant.high
 
 pub loop-u-init : goal.loop-u-init
-loop-u-init g c = record {
+loop-u-init g c = let zero : All (λ x. x ≡ 0) c.fill.new.self = search rules in record {
   same = c.begin.ensures.graph;
   place = c.begin.ensures.place;
-  low = gathered_none _ _ _ _ (low_none c.args.inflows.now c.requires.empty) (low_count _ c.args.inflows.now (omega arith));
-  high = gathered_none _ _ _ _ (high_none c.args.inflows.now c.requires.empty) (high_count c.args.inflows.now ∙ low_count _ c.args.inflows.now (omega arith));
+  low = gathered_none _ _ _ _ (low_none c.fill.new.self zero) (low_count _ c.fill.new.self (omega (arith, c.fill.ensures.len)));
+  high = gathered_none _ _ _ _ (high_none c.fill.new.self zero) (high_count c.fill.new.self ∙ low_count _ c.fill.new.self (omega (arith, c.fill.ensures.len)));
   low_rest = record { total = refl };
   high_rest = record { total = refl };
 }
@@ -93,25 +93,21 @@ loop-u-preserved g c =
       | in_default w ↦ absurd (omega (arith, rw (i.same, i.place) at w.in_default.ensures.lent))
     ]
 
-pub returns-clause-low_flow : goal.returns-clause-low_flow
-returns-clause-low_flow g c =
-    λ v w. let e : c.loop-u.u ≡ (g.L.Lists.graph c.args.self.now).nodes = omega arith in rw (← e) (c.loop-u.invariant.low.each v w)
-
-pub returns-clause-high_flow : goal.returns-clause-high_flow
-returns-clause-high_flow g c =
-    λ v w. let e : c.loop-u.u ≡ (g.L.Lists.graph c.args.self.now).nodes = omega arith in rw (← e) (c.loop-u.invariant.high.each v w)
-
-pub returns-clause-low_room : goal.returns-clause-low_room
-returns-clause-low_room g c =
-    gathered_within (g.L.Lists.graph c.args.self.now) (length c.args.low.now) c.loop-u.u (λ u. get_or c.args.low.now u 0 / outdegree (g.L.Lists.graph c.args.self.now) u) _ (omega arith)
-    (low_count _ c.loop-u.inflows (omega arith))
-    (λ w i. le_both _ _ UNITS (div-le_self _ _) (c.requires.low_units w 0 (omega arith))) c.loop-u.invariant.low
-
-pub returns-clause-high_room : goal.returns-clause-high_room
-returns-clause-high_room g c =
-    gathered_within (g.L.Lists.graph c.args.self.now) (length c.args.low.now) c.loop-u.u (λ u. div_ceil (get_or c.args.high.now u 0) (outdegree (g.L.Lists.graph c.args.self.now) u)) _ (omega arith)
-    (high_count c.loop-u.inflows ∙ low_count _ c.loop-u.inflows (omega arith))
-    (λ w i. le_both _ _ UNITS (div_ceil_le _ _) (c.requires.high_units w 0 (omega arith))) c.loop-u.invariant.high
+pub returns-clause-shared : goal.returns-clause-shared
+returns-clause-shared g c =
+    let graph = g.L.Lists.graph c.args.self.now in
+    let e : c.loop-u.u ≡ graph.nodes = omega arith in
+    let pages : length (low_flows c.loop-u.inflows) ≡ graph.nodes = low_count _ c.loop-u.inflows (omega arith) in
+    rw c.loop-u.invariant.same (record {
+      low = record { counted = pages; each = λ v w. rw (← e) (c.loop-u.invariant.low.each v (omega arith)) };
+      high = record { counted = high_count c.loop-u.inflows ∙ pages; each = λ v w. rw (← e) (c.loop-u.invariant.high.each v (omega arith)) };
+      low_room = gathered_within graph (length c.args.low.now) c.loop-u.u (λ u. get_or c.args.low.now u 0 / outdegree graph u) _ (omega arith)
+          (low_count _ c.loop-u.inflows (omega arith))
+          (λ w i. le_both _ _ UNITS (div-le_self _ _) (c.requires.low_units w 0 (omega arith))) c.loop-u.invariant.low;
+      high_room = gathered_within graph (length c.args.low.now) c.loop-u.u (λ u. div_ceil (get_or c.args.high.now u 0) (outdegree graph u)) _ (omega arith)
+          (high_count c.loop-u.inflows ∙ low_count _ c.loop-u.inflows (omega arith))
+          (λ w i. le_both _ _ UNITS (div_ceil_le _ _) (c.requires.high_units w 0 (omega arith))) c.loop-u.invariant.high;
+    })
 
 pub returns-clause-low_dangling_room : goal.returns-clause-low_dangling_room
 returns-clause-low_dangling_room g c =

@@ -3,7 +3,7 @@ use Rattle.wg_graph.specs.Digraph.{outdegree}
 use Rattle.std.specs.Int.{div_ceil}
 use Rattle.wg_rank.specs.Inflows.{low_flows, high_flows}
 use Rattle.wg_rank.proofs.Flow.{Gathered, Dangling}
-use Rattle.wg_rank.proofs.gathering.AnyGather.gather.Given as goal
+use Rattle.wg_rank.proofs.gathering.AnyGather.share.Given as goal
 
 abbrev pub invariant-loop-u : goal.invariant-loop-u
 invariant-loop-u g l = record {

@@ -1,0 +1,35 @@
+use Rattle.std.proofs.Common.{ℕ, ◌≡◌, ◌+◌, ◌*◌, min, arith, length, refl, ap₂, ◌∙◌}
+use Rattle.wg_rank.specs.Rank.{low_flow, high_flow}
+use Rattle.wg_rank.proofs.Settled.{block_more, low_from, high_from}
+use Rattle.wg_rank.proofs.SideBySide.{low_count}
+use Rattle.wg_rank.proofs.settling.settle.Goals as goal
+
+pub fill-requires-clause-room : goal.fill-requires-clause-room
+fill-requires-clause-room g c = omega (arith, low_count 128 c.rest.block (omega arith))
+
+pub settle_block-requires-clause-block_pages : goal.settle_block-requires-clause-block_pages
+settle_block-requires-clause-block_pages g c = omega (arith, low_count 128 c.fill.new.block (omega arith))
+
+pub rest-preserved : goal.rest-preserved
+rest-preserved g c =
+    let graph = g.G.Gather.graph c.args.source.now in
+    let i = c.rest.invariant in
+    let n : ℕ = length c.args.low.now in
+    let from : ℕ = c.rest.from in
+    let to : ℕ = c.min-to.result in
+    let o = c.of-parts.ensures in
+    let b = c.settle_block.ensures in
+    let same : length c.rest.low ≡ n = c.rest.auto.low in
+    record {
+      low = λ f h s. block_more from to c.rest.low c.settle_block.new.low _ (i.low f h s) b.low_before
+          (λ j l. low_from n (from + j) _ _ (low_flow graph f (from + j)) _ _ _ _ _ _ _ _ (rw same at (b.low j l)) (c.fill.ensures.low f h s j l)
+          o.damping o.below o.shared o.parts o.weights);
+      high = λ f h s. block_more from to c.rest.high c.settle_block.new.high _ (i.high f h s) b.high_before
+          (λ j l. (rw same at (b.high j l))
+          ∙ ap₂ min (i.left (from + j) (omega arith))
+          (high_from n (from + j) _ _ (high_flow graph h (from + j)) _ _ _ _ _ _ _ _ refl (c.fill.ensures.high f h s j l) o.damping o.above o.shared o.parts o.weights));
+      left = λ v l. b.high_behind v l ∙ i.left v (omega arith);
+    }
+
+pub returns-clause-high : goal.returns-clause-high
+returns-clause-high g c = λ f h s v l. c.rest.invariant.high f h s v (omega arith)
