@@ -3,6 +3,7 @@ use Rattle.std.specs.Prelude.{◌≡◌, ℕ, zero, suc, ◌+◌, ◌-◌, ◌<�
 use Rattle.std.specs.List.{range_with_len}
 use Rattle.wg_params.specs.declared.limits.TheConstants.{MOST_ARCS}
 use Rattle.wg_graph.specs.Digraph.{Digraph, IsGraph, arc_count, outdegree}
+use Rattle.wg_transpose.specs.SoFar.{AreCounts}
 use Rattle.wg_transpose.specs.Transposed.{predecessors}
 use Rattle.wg_runs.specs.declared.run.PageRun.{PageRun}
 use Rattle.wg_runs.specs.declared.run.TheConstants.{MOST_PAGES_IN_RUNS}
@@ -46,9 +47,10 @@ pub record AreDegrees (g : Digraph) (degrees : List ℕ) : Type 0 where
   pub pages : length degrees ≡ g.nodes
   pub each : (u : ℕ) → u < g.nodes → get_or degrees u 0 ≡ outdegree g u
 
--- How many runs lead to each page, the outdegree of each page, and how many runs and arcs there are.
+-- How many runs and how many arcs lead to each page, its outdegree, and how many runs and arcs there are.
 pub record Counted : Type 0 where
   pub counts : List ℕ
+  pub links : List ℕ
   pub degrees : List ℕ
   pub runs : ℕ
   pub arcs : ℕ
@@ -60,6 +62,7 @@ pub record IsCountOf (g : Digraph) (c : Counted) : Type 0 where
   pub few_arcs : arc_count g ≤ MOST_ARCS
   pub pages : length c.counts ≡ g.nodes
   pub each : (v : ℕ) → v < g.nodes → get_or c.counts v 0 ≡ length (runs_to g v)
+  pub linked : AreCounts g.nodes (predecessors g) c.links
   pub degrees : AreDegrees g c.degrees
   pub runs : c.runs ≡ run_start (runs_to g) g.nodes
   pub arcs : c.arcs ≡ arc_count g

@@ -1,4 +1,4 @@
-//! How many runs lead to each page, before memory is taken for them.
+//! How many runs and arcs lead to each page, before memory is taken for them.
 ghost use Rattle.std.specs.Prelude.{◌≡◌, ℕ, ◌≤◌, length, IfOk};
 ghost use Rattle.wg_params.specs.declared.limits.TheConstants.{MOST_ARCS};
 ghost use Rattle.wg_graph.specs.Digraph.{arc_count};
@@ -13,10 +13,12 @@ use std::alloc::{AllocError, Global};
 use std::marker::Model;
 use wg_graph::Lists;
 
-/// How many runs lead to each page of a graph, and how many arcs leave it. It holds 16 bytes for each page.
+/// How many runs and arcs lead to each page of a graph, and how many arcs leave it. It holds 24 bytes for each page.
 #[derive(Debug, Drop)]
 pub struct RunCounts {
     counts: Vec<u64>,
+    // How many pages link to each page.
+    links: Vec<u64>,
     // Where the last run to each page ends.
     reach: Vec<u32>,
     degrees: Vec<u32>,
@@ -32,6 +34,7 @@ impl Model for RunCounts {
 
     ghost view = { λ c. record {
       counts = c.counts.items;
+      links = c.links.items;
       degrees = c.degrees.items;
       runs = c.runs;
       arcs = c.arcs;
@@ -50,11 +53,13 @@ impl RunCounts {
     {
         let pages = lists.nodes() as usize;
         let mut counts = vec![in alloc; 0; pages]?;
+        let mut links = vec![in alloc; 0; pages]?;
         let mut reach = vec![in alloc; u32::MAX; pages]?;
         let mut degrees = vec![in alloc; 0; pages]?;
-        let (runs, arcs) = count(lists, &mut counts, &mut reach, &mut degrees);
+        let (runs, arcs) = count(lists, &mut counts, &mut links, &mut reach, &mut degrees);
         Ok(RunCounts {
             counts,
+            links,
             reach,
             degrees,
             runs,
@@ -76,8 +81,8 @@ impl RunCounts {
         self.arcs
     }
 
-    /// Fills in the runs, in one pass over the lists of the same graph. It takes 8 bytes for each run before, and gives
-    /// back 4 for each page in the end.
+    /// Fills in the runs, in one pass over the lists of the same graph. It gives back 8 bytes for each page, takes 8 for
+    /// each run, and gives back 4 more for each page in the end.
     pub fn fill<L: Lists>(self, alloc: Global, lists: &mut L) -> Result<Runs, AllocError>
         requires counted { IsCountOf (L.graph lists.old) self }
         ensures graph { L.graph lists.new ≡ L.graph lists.old }
@@ -85,30 +90,36 @@ impl RunCounts {
     {
         let RunCounts {
             counts: mut ends,
+            links,
             mut reach,
             degrees,
             runs: count,
             ..
         } = self;
+        drop(links);
         let none = PageRun { from: 0, to: 0 };
         let mut runs = vec![in alloc; none; count as usize]?;
         fill(lists, &mut ends, &mut reach, &mut runs);
         Ok(Runs::from_parts(ends, runs, degrees))
     }
 
-    /// Lists the pages that link to each page one by one in place of runs, in two passes over the lists of the same
-    /// graph. It takes 4 bytes for each arc before, and gives back 4 for each page in the end.
+    /// Lists the pages that link to each page one by one in place of runs, in one pass over the lists of the same graph.
+    /// It gives back 12 bytes for each page, and takes 4 for each arc.
     pub fn list<L: Lists>(self, alloc: Global, lists: &mut L) -> Result<InLists, AllocError>
         requires counted { IsCountOf (L.graph lists.old) self }
         ensures graph { L.graph lists.new ≡ L.graph lists.old }
         ensures lists { IfOk result (λ made. made ≡ L.graph lists.old) }
     {
         let RunCounts {
-            counts: mut ends,
+            counts,
+            links: mut ends,
+            reach,
             degrees,
             arcs,
             ..
         } = self;
+        drop(counts);
+        drop(reach);
         let mut sources = vec![in alloc; 0; arcs as usize]?;
         list(lists, &mut ends, &mut sources);
         Ok(InLists::from_parts(ends, sources, degrees))

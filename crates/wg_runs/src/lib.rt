@@ -9,14 +9,13 @@
 //! one page longer, and else a run of u alone begins.
 //!
 //! ```text
-//! lists of the graph --> RunCounts::of: how many runs lead to each page, outdegrees
+//! lists of the graph --> RunCounts::of: how many runs and arcs lead to each page, outdegrees
 //!                              |
 //! lists of the graph --> RunCounts::fill: the runs to each page, one page after the other --> Runs
 //! ```
 //!
 //! So it is known how many runs there are before memory for them is taken. Where they are nearly as many as the arcs,
-//! [`RunCounts::list`] makes whole lists, [`InLists`], in place of them, in two passes more: one counts how many pages
-//! link to each page, and one lists them. [`Runs::of`] counts and fills.
+//! [`RunCounts::list`] makes whole lists, [`InLists`], in place of them. [`Runs::of`] counts and fills.
 //!
 //! A graph of five pages: pages 0, 1, 2 and 4 link to page 4, and page 1 links to page 0 too:
 //!
@@ -29,9 +28,9 @@
 //! Ok(())
 //! ```
 //!
-//! Each pass takes time in proportion to the arcs and pages. Counting takes 16 bytes for each page, and filling 8 for
-//! each run, or listing 4 for each arc, both before their pass; then 4 bytes a page are given back. There are no runs or
-//! in-lists yet of graphs of 2^32 pages or more.
+//! Each pass takes time in proportion to the arcs and pages. Counting takes 24 bytes for each page, of which 12 are given
+//! back in the end; filling takes 8 for each run, and listing 4 for each arc, both before their pass. There are no runs
+//! or in-lists yet of graphs of 2^32 pages or more.
 #![tactic(auto)]
 
 mod counting;

@@ -2,13 +2,12 @@
 
 ghost use Rattle.std.specs.Prelude.{◌≡◌, ℕ, ◌+◌, ◌≤◌, length};
 ghost use Rattle.wg_params.specs.declared.limits.TheConstants.{MOST_ARCS};
-ghost use Rattle.wg_graph.specs.Digraph.{Digraph, arc_count};
+ghost use Rattle.wg_graph.specs.Digraph.{Digraph, IsGraph, arc_count};
 ghost use Rattle.wg_transpose.specs.Transposed.{predecessors};
-ghost use Rattle.wg_transpose.specs.SoFar.{predecessors_below, ArePlaced, IsListOf};
+ghost use Rattle.wg_transpose.specs.SoFar.{predecessors_below, AreCounts, ArePlaced, IsListOf};
 ghost use Rattle.wg_runs.specs.declared.run.TheConstants.{MOST_PAGES_IN_RUNS};
 
 use wg_graph::Lists;
-use wg_transpose::count;
 use wg_transpose::ranges::set_starts;
 
 // Puts page `page` at the end of the lists of its successors.
@@ -46,17 +45,17 @@ fn place<L: Lists>(lists: &mut L, ends: &mut [u64], sources: &mut [u32])
     }
 }
 
-// Fills in the lists of all pages, one after the other, and their ends: one pass counts, and one places.
+// Fills in the lists of all pages, one after the other, in one pass. How many pages link to each is replaced by where
+// its list ends.
 pub(crate) fn list<L: Lists>(lists: &mut L, ends: &mut [u64], sources: &mut [u32])
+    requires proper { IsGraph (L.graph lists.old) }
     requires few_pages { (L.graph lists.old).nodes ≤ MOST_PAGES_IN_RUNS }
     requires few_arcs { arc_count (L.graph lists.old) ≤ MOST_ARCS }
-    requires pages { length ends.old ≡ (L.graph lists.old).nodes }
+    requires counted { AreCounts (L.graph lists.old).nodes (predecessors (L.graph lists.old)) ends.old }
     requires room { length sources.old ≡ arc_count (L.graph lists.old) }
     ensures graph { L.graph lists.new ≡ L.graph lists.old }
     ensures placed { ArePlaced (L.graph lists.old) (predecessors (L.graph lists.old)) ends.new sources.new }
 {
-    ends.fill(0);
-    count(lists, ends);
     set_starts(ends);
     place(lists, ends, sources);
 }

@@ -20,6 +20,7 @@ returns-clause-counted g c =
       few_arcs = c.requires.few_arcs;
       pages = h.pages;
       each = h.each;
+      linked = c.count_lists-arcs.ensures.linked;
       degrees = c.count_lists-arcs.ensures.degrees;
       runs = c.total.ensures ∙ sum_is_all graph.nodes (runs_to graph) c.count_lists-arcs.new.counts h.pages h.each;
       arcs = c.count_lists-arcs.ensures.arcs;

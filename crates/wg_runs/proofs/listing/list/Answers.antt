@@ -1,7 +1,5 @@
-use Rattle.std.proofs.Common.{subst, sym, arith, ◌∙◌}
-use Rattle.wg_graph.specs.Digraph.{Digraph}
+use Rattle.std.proofs.Common.{sym, arith, ◌∙◌}
 use Rattle.wg_transpose.specs.Transposed.{predecessors}
-use Rattle.wg_transpose.specs.SoFar.{predecessors_below, ArePlaced}
 use Rattle.wg_transpose.proofs.Totals.{start_of_all, sum_is_all}
 use Rattle.wg_transpose.proofs.Whole.{none_placed}
 use Rattle.wg_runs.proofs.listing.list.Goals as goal
@@ -9,11 +7,10 @@ use Rattle.wg_runs.proofs.listing.list.Goals as goal
 pub set_starts-requires : goal.set_starts-requires
 set_starts-requires g c =
     let graph = g.L.Lists.graph c.args.lists.now in
-    record { few = omega (arith, sum_is_all graph.nodes (predecessors graph) c.count.new.counts c.count.ensures.counted, start_of_all graph c.count.ensures.proper, c.requires.few_arcs) }
+    record { few = omega (arith, sum_is_all graph.nodes (predecessors graph) c.args.ends.now c.requires.counted, start_of_all graph c.requires.proper, c.requires.few_arcs) }
 
 pub place-requires-clause-none : goal.place-requires-clause-none
 place-requires-clause-none g c =
     let graph = g.L.Lists.graph c.args.lists.now in
-    let room = c.requires.room ∙ sym (start_of_all graph c.count.ensures.proper) in
-    let none = none_placed graph.nodes (predecessors graph) c.count.new.counts c.set_starts.new.counts c.args.sources.now c.count.ensures.counted c.set_starts.ensures.pages c.set_starts.ensures.starts room in
-    subst (λ (d : Digraph). ArePlaced d (predecessors_below d 0) c.set_starts.new.counts c.args.sources.now) (sym c.count.ensures.graph) none
+    let room = c.requires.room ∙ sym (start_of_all graph c.requires.proper) in
+    none_placed graph.nodes (predecessors graph) c.args.ends.now c.set_starts.new.counts c.args.sources.now c.requires.counted c.set_starts.ensures.pages c.set_starts.ensures.starts room

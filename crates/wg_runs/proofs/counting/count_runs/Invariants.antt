@@ -4,7 +4,7 @@ use Rattle.wg_transpose.specs.SoFar.{IsListOf}
 use Rattle.wg_transpose.proofs.Seen.{with_page}
 use Rattle.wg_runs.specs.Held.{runs_below, AreCounted}
 use Rattle.wg_runs.proofs.Steps.{runs_of}
-use Rattle.wg_runs.proofs.counting.count_arcs.Given as goal
+use Rattle.wg_runs.proofs.counting.count_runs.Given as goal
 
 abbrev pub invariant-loop-target : goal.invariant-loop-target
 invariant-loop-target l =

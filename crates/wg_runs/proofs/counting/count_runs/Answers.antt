@@ -4,8 +4,8 @@ use Rattle.wg_transpose.proofs.Steps.{page_more}
 use Rattle.wg_runs.specs.declared.run.TheConstants.{MOST_PAGES_IN_RUNS}
 use Rattle.wg_runs.specs.Held.{runs_below}
 use Rattle.wg_runs.proofs.Steps.{runs_of, counted_new, counted_longer, target_below, runs_with, runs_done, runs_yet, same_counted, target_counted}
-use Rattle.wg_runs.proofs.counting.count_arcs.Goals as goal
-use Rattle.wg_runs.proofs.counting.count_arcs.Goals.{then-reach-place, else-reach-place}
+use Rattle.wg_runs.proofs.counting.count_runs.Goals as goal
+use Rattle.wg_runs.proofs.counting.count_runs.Goals.{then-reach-place, else-reach-place}
 
 pub loop-target-init : goal.loop-target-init
 loop-target-init c = λ g is h. same_counted g.nodes (runs_below g c.args.page) (runs_of (with_page g c.args.page [])) c.args.counts.now c.args.reach.now (λ v. sym (runs_yet g c.args.page v)) h
