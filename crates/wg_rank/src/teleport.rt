@@ -25,6 +25,31 @@ pub(crate) fn total_weight(weights: &[u64], n: usize) -> u128
     sum
 }
 
+// A weight's part, rounded down. It stands alone, and so does the next: else the compiler may divide for each page where
+// no weights are given, too.
+#[inline(never)]
+fn weighted_below(shared: u128, parts: u128, weight: u64) -> u128
+    requires few { shared ≤ 1000 * UNITS }
+    requires small { weight ≤ MOST_WEIGHT }
+    requires some { 0 < parts }
+    ensures value { result ≡ shared * weight / parts }
+    ensures room { result ≤ 1000 * UNITS * MOST_WEIGHT }
+{
+    shared * u128::from(weight) / parts
+}
+
+// The same, rounded up.
+#[inline(never)]
+fn weighted_above(shared: u128, parts: u128, weight: u64) -> u128
+    requires few { shared ≤ 1000 * UNITS }
+    requires small { weight ≤ MOST_WEIGHT }
+    requires some { 0 < parts }
+    ensures value { result ≡ div_ceil (shared * weight) parts }
+    ensures room { result ≤ 1000 * UNITS * MOST_WEIGHT }
+{
+    (shared * u128::from(weight)).div_ceil(parts)
+}
+
 // What page `v` gets of what teleport shares out, rounded down. A weight of 1 gets `even`, one of `parts`.
 #[inline(always)]
 pub(crate) fn part_below(shared: u128, parts: u128, even: u128, weights: &[u64], v: usize) -> u128
@@ -39,7 +64,7 @@ pub(crate) fn part_below(shared: u128, parts: u128, even: u128, weights: &[u64],
     if weights.is_empty() {
         return even;
     }
-    shared * u128::from(weights[v]) / parts
+    weighted_below(shared, parts, weights[v])
 }
 
 // The same, rounded up.
@@ -56,5 +81,5 @@ pub(crate) fn part_above(shared: u128, parts: u128, even: u128, weights: &[u64],
     if weights.is_empty() {
         return even;
     }
-    (shared * u128::from(weights[v])).div_ceil(parts)
+    weighted_above(shared, parts, weights[v])
 }
