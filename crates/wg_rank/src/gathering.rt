@@ -21,9 +21,9 @@ pub trait Gather {
     /// These bounds were shared out last, below and above. Sums that were written down for each page stand in the list.
     ghost has_shared: { Self → List ℕ → (ℕ → ℕ) → (ℕ → ℕ) → Type 0 };
 
-    /// Shares out the bounds of each page among its successors, below and above, and gives what the dangling pages hold.
-    /// All is in units of 10^-24. `inflows` is room for two sums of each page, and may hold anything. A page's share is
-    /// divided out once. It takes no memory, and its time is by the pages, and along lists by the arcs too.
+    /// Shares out the bounds of each page among its successors, below and above, and gives what the dangling pages
+    /// hold. All is in units of 10^-24. `inflows` is room for two sums of each page, and may hold anything. A page's
+    /// share is divided out once. It takes no memory, and its time is by the pages, and along lists by the arcs too.
     fn share(&mut self, low: &[u128], high: &[u128], inflows: &mut [u128]) -> (u128, u128)
         requires few { length low.now ≤ MOST_PAGES }
         requires pages { (graph self.old).nodes ≡ length low.now }

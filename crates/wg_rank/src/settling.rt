@@ -14,8 +14,8 @@ use crate::gathering::Gather;
 use crate::inflows::{high_flow, low_flow, put};
 use crate::parts::Parts;
 
-// How many pages are settled at a time. What flows to them is added up first: these sums wait for memory, and so many of
-// them wait together.
+// How many pages are settled at a time. What flows to them is added up first: these sums wait for memory, and so many
+// of them wait together.
 const BLOCK: usize = 128;
 
 // Puts what flows to the pages from `from` on, up to `to`, into `block`.
@@ -39,7 +39,8 @@ fn fill<G: Gather>(source: &G, inflows: &[u128], from: usize, to: usize, block: 
     }
 }
 
-// Puts the new bounds of these pages in place of the old ones, from what flows to them, but for the cut of the upper ones.
+// Puts the new bounds of these pages in place of the old ones, from what flows to them. The upper ones are still to be
+// cut.
 #[inline(always)]
 fn settle_block(
     low: &mut [u128],

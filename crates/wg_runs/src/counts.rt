@@ -81,8 +81,8 @@ impl RunCounts {
         self.arcs
     }
 
-    /// Fills in the runs, in one pass over the lists of the same graph. It gives back 8 bytes for each page, takes 8 for
-    /// each run, and gives back 4 more for each page in the end.
+    /// Fills in the runs, in one pass over the lists of the same graph. It gives back 8 bytes for each page, takes 8
+    /// for each run, and gives back 4 more for each page in the end.
     pub fn fill<L: Lists>(self, alloc: Global, lists: &mut L) -> Result<Runs, AllocError>
         requires counted { IsCountOf (L.graph lists.old) self }
         ensures graph { L.graph lists.new ≡ L.graph lists.old }
@@ -103,8 +103,8 @@ impl RunCounts {
         Ok(Runs::from_parts(ends, runs, degrees))
     }
 
-    /// Lists the pages that link to each page one by one in place of runs, in one pass over the lists of the same graph.
-    /// It gives back 12 bytes for each page, and takes 4 for each arc.
+    /// Lists the pages that link to each page one by one in place of runs, in one pass over the lists of the same
+    /// graph. It gives back 12 bytes for each page, and takes 4 for each arc.
     pub fn list<L: Lists>(self, alloc: Global, lists: &mut L) -> Result<InLists, AllocError>
         requires counted { IsCountOf (L.graph lists.old) self }
         ensures graph { L.graph lists.new ≡ L.graph lists.old }

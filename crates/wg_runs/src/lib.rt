@@ -28,9 +28,9 @@
 //! Ok(())
 //! ```
 //!
-//! Each pass takes time in proportion to the arcs and pages. Counting takes 24 bytes for each page, of which 12 are given
-//! back in the end; filling takes 8 for each run, and listing 4 for each arc, both before their pass. There are no runs
-//! or in-lists yet of graphs of 2^32 pages or more.
+//! Each pass takes time in proportion to the arcs and pages. Counting takes 24 bytes for each page, of which 12 are
+//! given back in the end; filling takes 8 for each run, and listing 4 for each arc, both before their pass. There are no
+//! runs or in-lists yet of graphs of 2^32 pages or more.
 #![tactic(auto)]
 
 mod counting;
