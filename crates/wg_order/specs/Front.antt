@@ -1,6 +1,6 @@
 -- The first pages of a ranking, and what is true of the fields of all that hold them.
-use Rattle.std.specs.Prelude.{ℕ, ◌≡◌, ◌*◌, ◌<◌, ◌≤◌, true, List, ◌++◌, length, slice_index, take, drop, nat_lt, count_by}
-use Rattle.std.specs.List.{range_with_len}
+use Rattle.std.specs.Prelude.{ℕ, ◌≡◌, ◌*◌, ◌<◌, ◌≤◌, true, List, ◌++◌, length, slice_index, take, drop, nat_lt}
+use Rattle.std.specs.List.{count_by, range_with_len}
 use Rattle.std.specs.List.Sorted.{IsPermutation}
 use Rattle.wg_params.specs.declared.limits.TheConstants.{MOST_PAGES}
 use Rattle.wg_rank.specs.Intervals.{by_page}
@@ -35,7 +35,7 @@ positions_of r = record {
   pages = first_in r.count (length r.low.items) r.room.items;
 }
 
--- the room has in its second half the first pages, and in the first for each of these how many pages are surely below it
+-- the room has in its second half the first pages, and in the first one how many pages are surely below each of these
 pub record AreKept (low high room : List ℕ) (count : ℕ) : Type 0 where
   pub few : length low ≤ MOST_PAGES
   pub high_pages : length high ≡ length low

@@ -31,8 +31,8 @@ pub(crate) fn arrange(low: &[u128], high: &[u128], sorted: &mut [u128])
     sort_rising(rising, high);
 }
 
-// Leaves in the second half of `room` so many first pages of the ranking, in their order, and in the first half for each
-// of these how many pages are surely below it.
+// Leaves in the second half of `room` so many first pages of the ranking, in their order, and in the first half for
+// each of these how many pages are surely below it.
 pub(crate) fn arrange_first(low: &[u128], high: &[u128], room: &mut [u128], count: usize)
     requires high_pages { length high.now ≡ length low.now }
     requires room_pages { length room.old ≡ 2 * length low.now }

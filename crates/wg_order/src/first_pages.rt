@@ -10,8 +10,8 @@ use crate::counting::count_surely_above;
 use std::marker::Model;
 use wg_rank::Bounds;
 
-/// The first pages of the ranking by bounds, found without sorting the others. It holds the 64 bytes for each page of the
-/// graph that the bounds held.
+/// The first pages of the ranking by bounds, found without sorting the others. It holds the 64 bytes for each page of
+/// the graph that the bounds held.
 #[derive(Debug, Drop)]
 pub struct FirstPages {
     count: usize,
@@ -34,16 +34,17 @@ impl Model for FirstPages {
 }
 
 impl FirstPages {
-    /// The first `count` pages of the ranking by these bounds, which it takes over. It takes no memory, as it works where
-    /// rounds added up what flows to the pages. It takes time for one selection among all pages, a sort of the first,
-    /// and one look at each upper bound, with a binary search among the first pages for those that are below the lower
-    /// bound of one.
+    /// The first `count` pages of the ranking by these bounds, which it takes over. It takes no memory, as it works
+    /// where rounds added up what flows to the pages. It takes time for one selection among all pages, a sort of the
+    /// first, and one look at each upper bound, with a binary search among the first pages for those that are below the
+    /// lower bound of one.
     pub fn of(bounds: Bounds, count: u64) -> FirstPages
         requires few { count ≤ length bounds.low }
         ensures count { length result.pages ≡ count }
         ensures low { result.low ≡ bounds.low }
         ensures high { result.high ≡ bounds.high }
-        ensures pages { (ranked : List ℕ) → IsRanking bounds.low bounds.high ranked → result.pages ≡ take count ranked }
+        ensures pages { (ranked : List ℕ) → IsRanking bounds.low bounds.high ranked
+            → result.pages ≡ take count ranked }
     {
         let (low, high, mut room) = bounds.into_parts();
         let count = count as usize;
@@ -90,8 +91,9 @@ impl FirstPages {
         self.high[self.page(i) as usize]
     }
 
-    /// The first position, counted from 1, that the bounds leave to the page at place `i`. It takes time in the logarithm
-    /// of the first pages, if the page's lower bound is not above its upper one, as is so of all bounds of a graph.
+    /// The first position, counted from 1, that the bounds leave to the page at place `i`. It takes time in the
+    /// logarithm of the first pages, if the page's lower bound is not above its upper one, as is so of all bounds of a
+    /// graph; else it looks at all pages.
     pub fn best(&self, i: u64) -> u64
         requires { i < length self.now.pages }
         ensures { result ≡ best self.now (slice_index self.now.pages i) }

@@ -1,5 +1,5 @@
 -- Bounds that were made are those of the judgement, and so is their ranking; and what is proved of it.
-use Rattle.std.proofs.Common.{◌≡◌, ◌≤◌, ◌<◌, ℕ, List, length, take, min, Option, Result, Ok, Err, refl, sym, ◌∙◌, ap, subst, arith}
+use Rattle.std.proofs.Common.{◌≡◌, ◌≤◌, ◌<◌, ℕ, List, length, take, min, true, Option, Result, Ok, Err, refl, sym, ◌∙◌, ap, subst, arith}
 use Rattle.std.specs.Result.{IfOk}
 use Rattle.std.proofs.lemmas.List.{take_min}
 use Rattle.std.proofs.lemmas.List.Sorted.{length_permutation}
@@ -12,13 +12,12 @@ use Rattle.wg_rank.specs.Intervals.{Intervals, AreBounds, Holds, IsTable, by_pag
 use Rattle.wg_rank.specs.Weights.{AreWeights, weights_of}
 use Rattle.wg_rank.proofs.Certificates.{certified}
 use Rattle.wg_order.specs.Order.{IsRanking, Positions}
-use Rattle.wg_order.proofs.OneRanking.{ranking_one}
 use Rattle.wg_order.proofs.Surely.{surely_from}
 use Rattle.wg_outcomes.specs.Readings.{Readings}
-use Rattle.wg_outcomes.specs.Ranked.{AreReady, Ranks, RankingIsProven, bounds_after, of_pages, positions_of, rank_lines, ranking_text}
+use Rattle.wg_outcomes.specs.Ranked.{AreReady, RankingIsProven, bounds_after, of_pages, pages_of, positions_of, rank_lines, ranking_text}
 
 -- a ranking has each page once
-pub counted : (low high pages : List ℕ) → IsRanking low high pages → length pages ≡ length low
+counted : (low high pages : List ℕ) → IsRanking low high pages → length pages ≡ length low
 counted low high pages is = length_permutation _ _ is.all ∙ length-range_with_len 0 (length low)
 
 -- ---- bounds before the first round
@@ -30,20 +29,24 @@ module _ {E : Type 0} (g : Digraph) (n : ℕ) (count : n ≡ g.nodes) where
   pub weighed_by : (given : Option (List ℕ)) (r : Result Intervals E) → IfOk r (λ b. b.weights ≡ weights_of n given) → IfOk r (λ b. b.weights ≡ weights_of g.nodes given)
   weighed_by given r h = subst (λ (k : ℕ). IfOk r (λ (b : Intervals). b.weights ≡ weights_of k given)) count h
 
--- ---- the ranking by bounds
-module _ (b : Intervals) (s : Positions) (h : Ranks b s) where
-  pub positions_are : (r : Readings) → s ≡ positions_of r b
-  positions_are r =
-      let pages : s.pages ≡ r.ranking.value s.low s.high = ranking_one s.low s.high s.pages (r.ranking.value s.low s.high) h.ranked (r.ranking.reads s.low s.high) in
-      let same : r.ranking.value s.low s.high ≡ r.ranking.value b.low b.high = λ i. r.ranking.value (h.low_is i) (h.high_is i) in
-      λ i. record { filled = h.filled i; low = h.low_is i; high = h.high_is i; pages = (pages ∙ same) i }
+-- ---- the first pages of the ranking by bounds
 
-  -- the first of as many pages as are asked for, or of all
-  pub text_is : (r : Readings) (top : ℕ) → rank_lines s (take (min top (length b.low)) s.pages) ≡ ranking_text r b top
-  text_is r top =
-      let count : length s.pages ≡ length b.low = counted s.low s.high s.pages h.ranked ∙ ap length h.low_is in
-      let cut : take (min top (length b.low)) s.pages ≡ take top s.pages = ap (λ (n : ℕ). take (min top n) s.pages) (sym count) ∙ take_min top s.pages in
-      ap (rank_lines s) cut ∙ ap (λ (t : Positions). rank_lines t (take top t.pages)) (positions_are r)
+-- a line tells bounds and positions, and the order of the pages does not matter for them
+same_lines : (s : Positions) (low high pages all : List ℕ) → s.low ≡ low → s.high ≡ high → s.pages ≡ pages
+    → rank_lines s s.pages ≡ rank_lines (record { filled = true; low = low; high = high; pages = all }) pages
+same_lines s low high pages all e f h = λ i. rank_lines (record { filled = true; low = e i; high = f i; pages = all }) (h i)
+
+-- of as many pages as are asked for, or of all
+pub first_text : (b : Intervals) (s : Positions) (count : ℕ) → s.low ≡ b.low → s.high ≡ b.high
+    → ((ranked : List ℕ) → IsRanking b.low b.high ranked → s.pages ≡ take count ranked)
+    → (r : Readings) (top : ℕ) → count ≡ min top (length b.low) → rank_lines s s.pages ≡ ranking_text r b top
+first_text b s count e f h r top k =
+    let all : List ℕ = pages_of r b in
+    let is : IsRanking b.low b.high all = r.ranking.reads b.low b.high in
+    let size : length all ≡ length b.low = counted b.low b.high all is in
+    let cut : take count all ≡ take top all =
+    ap (λ (n : ℕ). take n all) k ∙ ap (λ (n : ℕ). take (min top n) all) (sym size) ∙ take_min top all in
+    same_lines s b.low b.high (take top all) all e f (h all is ∙ cut)
 
 module _ (g : Digraph) (given : Option (List ℕ)) (rounds damping : ℕ) where
   abbrev weights : List ℕ

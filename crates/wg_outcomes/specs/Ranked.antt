@@ -15,7 +15,7 @@ use Rattle.wg_rank.specs.Certified.{IsCertified}
 use Rattle.wg_rank.specs.Claims.{claim_of_bounds}
 use Rattle.wg_rank.specs.CertificateText.{text_of_claim}
 use Rattle.wg_rank.specs.Weights.{AreWeights, weights_of}
-use Rattle.wg_order.specs.Order.{Positions, IsRanking, best, worst}
+use Rattle.wg_order.specs.Order.{Positions, best, worst}
 use Rattle.wg_order.specs.Surely.{IsSurely}
 use Rattle.wg_outcomes.specs.Judged.{weights_in}
 use Rattle.wg_outcomes.specs.Readings.{Readings}
@@ -68,13 +68,6 @@ pub record AreReady (g : Digraph) (b : Intervals) : Type 0 where
   pub holds : Holds b g
   pub before : b.rounds ≡ 0
   pub bounded : length b.low ≡ g.nodes
-
--- the ranking by these bounds
-pub record Ranks (b : Intervals) (s : Positions) : Type 0 where
-  pub filled : s.filled ≡ true
-  pub low_is : s.low ≡ b.low
-  pub high_is : s.high ≡ b.high
-  pub ranked : IsRanking s.low s.high s.pages
 
 -- What the bounds and positions that are printed say: they enclose every exact iterate from these rounds on and every
 -- stationary vector, within the stated width; and pages whose intervals are disjoint are in the order of their exact

@@ -36,7 +36,6 @@ pub mod check;
 mod print;
 pub mod printing;
 pub mod rank;
-mod ranked;
 pub mod show;
 mod shown;
 pub mod spot;

@@ -1,5 +1,5 @@
 //! What goes to the output.
-ghost use Rattle.std.specs.Prelude.{◌≡◌, ◌≤◌, ◌<◌, true, length, take, IsTrue, IsErrOf, IfErr, Err};
+ghost use Rattle.std.specs.Prelude.{◌≡◌, ◌≤◌, ◌<◌, length, slice_index, IsTrue, IsErrOf, IfErr, Err};
 ghost use Rattle.wg_io.specs.Puts.{Puts};
 ghost use Rattle.wg_io.specs.Refusals.{SinkRefusals};
 ghost use Rattle.wg_outcomes.specs.Answers.{IsUnput, PrintRefusals};
@@ -13,10 +13,10 @@ ghost use Rattle.wg_outcomes.specs.Commands.{number_line, ok_line};
 ghost use Rattle.wg_outcomes.specs.Verified.{verified_line};
 ghost use Rattle.wg_io.specs.declared.output.Output.TheVariants.{Out};
 
-use crate::ranked::Ranked;
 use wg_io::{Sink, WriteError};
 use wg_lines::Lines;
 use wg_num::units_text;
+use wg_order::FirstPages;
 use wg_outcomes::{Ending, Text, output_ending, print_piece};
 use wg_rank::Certificate;
 
@@ -128,49 +128,47 @@ pub fn print_rest<O: Sink>(lines: &mut Lines, out: &mut O) -> Result<(), Ending>
     }
 }
 
-// The line of a page of the ranking.
-fn rank_line(ranked: &Ranked, page: u64) -> Text
-    requires { page < length ranked.now.ranking.low }
-    ensures text { result ≡ rank_line ranked.now.ranking page }
+// The line of the page at a place of the ranking.
+fn rank_line(first: &FirstPages, place: u64) -> Text
+    requires { place < length first.now.pages }
+    ensures text { result ≡ rank_line first.now (slice_index first.now.pages place) }
     ensures short { length result ≤ MOST_PIECE }
 {
     Text::new()
-        .with_number(page)
+        .with_number(first.page(place))
         .with(" ")
-        .with_bytes(units_text(ranked.ranking.low(page)).as_slice())
+        .with_bytes(units_text(first.low(place)).as_slice())
         .with(" ")
-        .with_bytes(units_text(ranked.ranking.high(page)).as_slice())
+        .with_bytes(units_text(first.high(place)).as_slice())
         .with(" ")
-        .with_number(ranked.ranking.best(page))
+        .with_number(first.best(place))
         .with(" ")
-        .with_number(ranked.ranking.worst(page))
+        .with_number(first.worst(place))
         .with("\n")
 }
 
-// Writes the lines of the first pages of the ranking through a fixed buffer.
-fn write_ranking<S: Sink>(sink: &mut S, ranked: &Ranked, count: u64) -> Result<(), WriteError>
-    requires { count ≤ length ranked.now.ranking.low }
-    ensures puts { IsTrue S.told → Puts (rank_lines ranked.now.ranking (take count ranked.now.ranking.pages))
+// Writes the lines of the first pages of a ranking through a fixed buffer.
+fn write_ranking<S: Sink>(sink: &mut S, first: &FirstPages) -> Result<(), WriteError>
+    ensures puts { IsTrue S.told → Puts (rank_lines first.now first.now.pages)
         (S.taken sink.old) (S.taken sink.new) result }
     ensures later { S.later sink.old sink.new }
     ensures refusals { SinkRefusals ⟦<S as Sink>⟧ sink.old sink.new result }
 {
     let mut lines = Lines::new();
-    for place in 0..count {
-        let line = rank_line(ranked, ranked.ranking.page(place));
+    for place in 0..first.len() {
+        let line = rank_line(first, place);
         lines.text(sink, line.as_bytes())?;
     }
     lines.flush(sink)
 }
 
-/// Prints the lines of the first pages of the ranking.
-pub fn print_ranking<O: Sink>(out: &mut O, ranked: &Ranked, count: u64) -> Result<(), Ending>
-    requires { count ≤ length ranked.now.ranking.low }
-    ensures puts { IsTrue O.told → Puts (rank_lines ranked.now.ranking (take count ranked.now.ranking.pages))
+/// Prints the lines of the first pages of a ranking.
+pub fn print_ranking<O: Sink>(out: &mut O, first: &FirstPages) -> Result<(), Ending>
+    ensures puts { IsTrue O.told → Puts (rank_lines first.now first.now.pages)
         (O.taken out.old) (O.taken out.new) result }
     ensures refusals { PrintRefusals ⟦<O as Sink>⟧ out.old out.new result }
 {
-    match write_ranking(out, ranked, count) {
+    match write_ranking(out, first) {
         Ok(()) => Ok(()),
         Err(error) => Err(output_ending(error)),
     }

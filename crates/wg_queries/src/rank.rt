@@ -14,10 +14,10 @@ ghost use Rattle.wg_outcomes.specs.declared.status.Status.TheVariants.{Memory};
 
 use crate::certificate::write_file;
 use crate::print::print_ranking;
-use crate::ranked::Ranked;
 use std::alloc::Global;
 use wg_graph::Lists;
 use wg_io::{Depot, Sink};
+use wg_order::FirstPages;
 use wg_outcomes::{Ending, Input, bounds_by_rounds, room_for};
 use wg_rank::Bounds;
 use wg_readings::{lists_of_records, load, load_params, load_weights};
@@ -74,8 +74,8 @@ fn print_ranks<O: Sink>(out: &mut O, bounds: Bounds, top: u64) -> Result<(), End
     ensures refusals { PrintRefusals ⟦<O as Sink>⟧ out.old out.new result }
 {
     let pages = bounds.lower().len() as u64;
-    let ranked = Ranked::of(bounds);
-    print_ranking(out, &ranked, top.min(pages))
+    let first = FirstPages::of(bounds, top.min(pages));
+    print_ranking(out, &first)
 }
 
 // Writes the certificate of these bounds, and then prints the first pages of the ranking by them. It takes no memory,

@@ -1,5 +1,5 @@
-use Rattle.std.proofs.Common.{◌≡◌, ◌<◌, ◌∙◌, [], take, get_or, length, ℕ, List, sym, ap, subst, arith}
-use Rattle.std.proofs.lemmas.List.{take_all, get_or-take, length-take}
+use Rattle.std.proofs.Common.{◌≡◌, ◌<◌, ◌∙◌, [], take, get_or, length, ℕ, List, subst, arith}
+use Rattle.std.proofs.lemmas.List.{take_all}
 use Rattle.wg_io.proofs.PutsLemmas.{is_that_err}
 use Rattle.wg_io.proofs.RefusalLemmas.{sink_after, sink_exit}
 use Rattle.wg_io.specs.declared.depot.WriteError.{WriteError}
@@ -12,11 +12,11 @@ use Rattle.wg_queries.proofs.print.write_ranking.Goals as goal
 pub loop-place-preserved : goal.loop-place-preserved
 loop-place-preserved g c =
     let l = c.loop-place in
-    let s = c.args.ranked.now.ranking in
-    let first : List ℕ = take c.args.count s.pages in
-    let inside : l.place < length first = omega (arith, length-take c.args.count s.pages, c.requires, c.args.ranked.now.counted, c.loop-place-test.true) in
+    let s = c.args.first.now in
+    let first : List ℕ = s.pages in
+    let inside : l.place < length first = omega (arith, c.len-place-end.ensures, c.loop-place-test.true) in
     let here : c.as_bytes.result.now ≡ rank_line s (get_or first l.place 0) =
-    c.as_bytes.ensures ∙ c.rank_line-line.ensures.text ∙ ap (rank_line s) (c.page.ensures.value ∙ sym (get_or-take c.args.count s.pages l.place 0 (omega (arith, c.loop-place-test.true)))) in
+    c.as_bytes.ensures ∙ c.rank_line-line.ensures.text in
     record {
       printed = λ t.
           line_printed (rank_line s) (g.S.Sink.taken c.args.sink.now) (g.S.Sink.taken l.sink) (g.S.Sink.taken c.text.new.sink) [] l.lines c.text.new.self first l.place inside (l.invariant.printed t)
@@ -27,11 +27,11 @@ loop-place-preserved g c =
 pub returns-in_err-text-clause-puts : goal.returns-in_err-text-clause-puts
 returns-in_err-text-clause-puts g c t =
     let l = c.loop-place in
-    let s = c.args.ranked.now.ranking in
-    let first : List ℕ = take c.args.count s.pages in
-    let inside : l.place < length first = omega (arith, length-take c.args.count s.pages, c.requires, c.args.ranked.now.counted, c.loop-place-test.true) in
+    let s = c.args.first.now in
+    let first : List ℕ = s.pages in
+    let inside : l.place < length first = omega (arith, c.len-place-end.ensures, c.loop-place-test.true) in
     let here : c.as_bytes.result.now ≡ rank_line s (get_or first l.place 0) =
-    c.as_bytes.ensures ∙ c.rank_line-line.ensures.text ∙ ap (rank_line s) (c.page.ensures.value ∙ sym (get_or-take c.args.count s.pages l.place 0 (omega (arith, c.loop-place-test.true)))) in
+    c.as_bytes.ensures ∙ c.rank_line-line.ensures.text in
     rw (is_that_err c.from_residual.result _ c.from_residual.ensures.1)
     (puts_of_less {E = WriteError} (g.S.Sink.taken c.args.sink.now) (g.S.Sink.taken c.text.new.sink) (rank_lines s first) c.in_err-text.field-0.0
     (line_less (rank_line s) (g.S.Sink.taken c.args.sink.now) (g.S.Sink.taken l.sink) (g.S.Sink.taken c.text.new.sink) [] l.lines first l.place inside (l.invariant.printed t)
@@ -40,9 +40,9 @@ returns-in_err-text-clause-puts g c t =
 pub returns-clause-puts : goal.returns-clause-puts
 returns-clause-puts g c t =
     let l = c.loop-place in
-    let s = c.args.ranked.now.ranking in
-    let first : List ℕ = take c.args.count s.pages in
-    let all : take l.place first ≡ first = take_all l.place first (omega (arith, length-take c.args.count s.pages, c.loop-place-test.false)) in
+    let s = c.args.first.now in
+    let first : List ℕ = s.pages in
+    let all : take l.place first ≡ first = take_all l.place first (omega (arith, c.len-place-end.ensures, c.loop-place-test.false)) in
     puts_in_the_end (g.S.Sink.taken c.args.sink.now) (g.S.Sink.taken l.sink) (g.S.Sink.taken c.flush.new.sink) (rank_lines s first) l.lines c.flush.result
     (subst (λ (ps : List ℕ). HasPrinted (g.S.Sink.taken c.args.sink.now) (g.S.Sink.taken l.sink) [] (rank_lines s ps) l.lines) all (l.invariant.printed t))
     (c.flush.ensures.puts t)
