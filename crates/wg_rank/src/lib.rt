@@ -11,7 +11,7 @@
 //!
 //! ```text
 //! low, high --> share: each page's shares, to each of its successors --> what flows in, what dangling pages hold
-//!                                                                             |
+//!                                                                               |
 //!        new low, high <-- cut <-- settle: the damping's part, and teleport's <-+
 //! ```
 //!
