@@ -25,7 +25,7 @@ pub struct Referenced {
 ///
 /// It is seen as the parameters, the page, the arcs before it, and a tally of what has been read: each field that comes
 /// once, and of the fields that come again and again how many were read, what they add to, or the last of them.
-#[derive(Clone, Debug, Drop)]
+#[derive(Debug, Drop)]
 pub struct Progress {
     params: Params,
     page: u64,

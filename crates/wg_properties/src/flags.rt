@@ -7,7 +7,7 @@ use wg_num::{without_blanks_after, without_blanks_before};
 use wg_params::{Code, Codes};
 
 /// A compression flag: a field, and the code that it is in.
-#[derive(Clone, Copy, Debug, PartialEq, Eq)]
+#[derive(Clone, Copy)]
 pub enum Flag {
     OutdegreesGamma,
     OutdegreesDelta,

@@ -15,7 +15,7 @@ use wg_num::{first_line, without_blanks_before};
 use wg_params::Key;
 
 /// The value of each key in a properties text, where it has one.
-#[derive(Debug, Drop)]
+#[derive(Drop)]
 pub struct Values<'a> {
     values: [Option<&'a [u8]>; 10],
 }

@@ -20,7 +20,6 @@ use wg_readings::{FoundFile, SampledFile, extent_of};
 use wg_stream::{FileSource, Seek};
 
 /// Which of the files was not read on, and why.
-#[derive(Clone, Copy, Debug)]
 pub enum Unread {
     Graph(LoadError),
     /// A word may be refused if the file is not the one that was sampled.
@@ -83,7 +82,7 @@ fn seek_graph<D: Depot>(graph: &mut FoundFile, depot: &mut D, at: u64) -> Result
 /// The graph file and the offsets file of an archive in one depot, which is lent to one of them at a time. Its type is
 /// its own, so that the functions that read a record have instances of their own for it: those of a [`FileSource`] keep
 /// one caller, and are inlined into the loop over all records.
-#[derive(Debug, Drop)]
+#[derive(Drop)]
 pub struct ChainFiles<'a, D: Depot> {
     depot: &'a mut D,
     graph: &'a mut FoundFile,

@@ -27,7 +27,7 @@ use wg_words::Name;
 
 /// An offsets file as far as it was read, and the lengths of the records as the graph file and this file tell them. The
 /// first error of the offsets file stays, and after it no more of that file is read.
-#[derive(Debug, Drop)]
+#[derive(Drop)]
 pub struct Pairing {
     pub name: Name,
     pub held: Stretch,

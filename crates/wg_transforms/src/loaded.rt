@@ -11,7 +11,7 @@ use wg_readings::{judge_offsets, load, load_params, passed_of_graph};
 use wg_words::Name;
 
 /// The parameters of an archive, the bytes of its graph file, and its greatest outdegree.
-#[derive(Debug, Drop)]
+#[derive(Drop)]
 pub struct Loaded {
     pub params: Params,
     pub bytes: List8,

@@ -19,7 +19,7 @@ const MOST_COPIED: usize = 64;
 const FARTHEST: u64 = 7;
 
 /// The successors of a page so far, in a buffer of their own, and the state of the generator.
-#[derive(Debug, Drop)]
+#[derive(Drop)]
 pub struct Draft {
     list: ArrayVec<u64, MOST_SUCCESSORS>,
     state: u64,

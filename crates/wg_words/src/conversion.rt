@@ -11,7 +11,7 @@ use std::alloc::{AllocError, Global};
 use wg_params::Layout;
 
 /// What a command is given that reads one archive and writes another.
-#[derive(Debug, Drop)]
+#[derive(Drop)]
 pub struct Conversion {
     /// The archive that is read.
     pub input: Name,
@@ -22,7 +22,7 @@ pub struct Conversion {
 }
 
 /// A conversion as the words give it, before its names are copied.
-#[derive(Clone, Copy, Debug)]
+#[derive(Clone, Copy)]
 pub struct Pair<'a> {
     pub input: &'a str,
     pub output: &'a str,

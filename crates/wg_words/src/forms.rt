@@ -1,7 +1,6 @@
 //! The table of the commands: what each takes.
 
 /// One argument of a command, by its name.
-#[derive(Clone, Copy, Debug)]
 pub enum Argument {
     /// A word that must be there.
     Word(&'static str),
@@ -14,7 +13,6 @@ pub enum Argument {
 }
 
 /// A command: its name, its words in their order, and its options.
-#[derive(Clone, Copy, Debug)]
 pub struct Form {
     pub name: &'static str,
     pub words: &'static [Argument],

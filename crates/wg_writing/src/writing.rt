@@ -12,7 +12,7 @@ use wg_outcomes::{Ending, Status, create_file, file_name, fill_file};
 use wg_words::Name;
 
 /// The names of an archive's files.
-#[derive(Debug, Drop)]
+#[derive(Drop)]
 pub struct FileNames {
     pub properties: Name,
     pub graph: Name,

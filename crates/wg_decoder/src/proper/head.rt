@@ -9,7 +9,7 @@ use wg_bits::Cursor;
 use wg_params::Params;
 
 /// The head of a record, as it was read.
-#[derive(Debug, Drop)]
+#[derive(Drop)]
 pub struct RecordHead<'a> {
     /// How many successors the page has.
     pub outdegree: u64,
