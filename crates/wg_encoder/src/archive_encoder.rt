@@ -31,11 +31,17 @@ const NAME: &str = "";
 /// It holds what an [`Encoder`](crate::Encoder) holds beside the graph, and the bytes of the two files as far as they
 /// have come, each with room for at most twice as many. How many arcs the lists have need not be known before: the
 /// bytes are those of any number that is no less.
-#[derive(Debug, Drop)]
+#[derive(Debug)]
 pub struct ArchiveEncoder {
     lists: ListEncoder,
     // in memory of its own, since an encoder is moved at each list
     files: Box<SteadyDepot>,
+}
+
+impl Drop for ArchiveEncoder {
+    fn drop(self) {
+        let ArchiveEncoder { lists, files } = self;
+    }
 }
 
 impl Model for ArchiveEncoder {
@@ -80,7 +86,7 @@ impl ArchiveEncoder {
 
     /// Encodes the list that comes next, by the reference that makes its record the shortest.
     #[inline(always)]
-    pub fn add(mut self, list: &[u64]) -> Result<ArchiveEncoder, AllocError>
+    pub fn add(self, list: &[u64]) -> Result<ArchiveEncoder, AllocError>
         requires page { self.page < self.params.nodes }
         requires list { IsList self.params list.now }
         requires arcs { self.arcs + length list.now ≤ self.params.arcs }
@@ -90,11 +96,9 @@ impl ArchiveEncoder {
         ensures encoded { (lists : List (List ℕ)) → HasEncoded self lists
             → IfOk result (λ e. HasEncoded e (lists ++ list.now ∷ [])) }
     {
-        match self.lists.next(list, &mut *self.files, NAME) {
-            Ok(lists) => Ok(ArchiveEncoder {
-                lists,
-                files: self.files,
-            }),
+        let ArchiveEncoder { lists, mut files } = self;
+        match lists.next(list, &mut *files, NAME) {
+            Ok(lists) => Ok(ArchiveEncoder { lists, files }),
             Err(error) => Err(wanting(error)),
         }
     }
@@ -106,9 +110,10 @@ impl ArchiveEncoder {
         ensures { (lists : List (List ℕ)) (p : Parameters) → HasEncoded self lists
             → p ≡ record self.params { arcs = p.arcs } → IfOk result (λ a. a ≡ encoded p properties.now lists) }
     {
-        let referring = self.lists.referring();
-        let mut depot = Box::into_inner(self.files);
-        match self.lists.finish(&mut depot, NAME) {
+        let ArchiveEncoder { lists, files } = self;
+        let referring = lists.referring();
+        let mut depot = Box::into_inner(files);
+        match lists.finish(&mut depot, NAME) {
             Ok(bits) => {
                 depot.put_file(PROPERTIES, properties)?;
                 let summary = Summary { bits, referring };

@@ -12,13 +12,19 @@ use wg_params::MOST_ARCS;
 
 /// A graph in the making: its lists up to the last page that is begun. Memory is taken as the arcs come, and only
 /// [`GraphBuilder::finish`] takes some for pages without arcs that follow.
-#[derive(Debug, Drop)]
+#[derive(Debug)]
 pub struct GraphBuilder {
     nodes: u64,
     // The end of the list of each page that is begun.
     ends: Vec<u64>,
     // All lists, one after the other.
     all: Vec<u64>,
+}
+
+impl Drop for GraphBuilder {
+    fn drop(self) {
+        let GraphBuilder { nodes, ends, all } = self;
+    }
 }
 
 impl Model for GraphBuilder {

@@ -9,12 +9,18 @@ use std::marker::Model;
 
 /// A graph of pages: 8 bytes for each arc, and 8 for each page. Each list ascends and has pages alone, as `proper` of
 /// [`nodes`](Graph::nodes) tells. Each call takes constant time, and no memory.
-#[derive(Clone, Debug, Drop)]
+#[derive(Clone, Debug)]
 pub struct Graph {
     // The end of each list; it begins where the one before it ends.
     pub(crate) ends: Vec<u64>,
     // All lists, one after the other.
     pub(crate) all: Vec<u64>,
+}
+
+impl Drop for Graph {
+    fn drop(self) {
+        let Graph { ends, all } = self;
+    }
 }
 
 impl Model for Graph {

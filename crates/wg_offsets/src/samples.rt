@@ -31,12 +31,23 @@ pub struct Extent {
 ///
 /// It is seen as the code, the number of records, and the places and bits that are kept. It holds 16 bytes for each of
 /// them.
-#[derive(Debug, Drop)]
+#[derive(Debug)]
 pub struct Samples {
     code: Code,
     pages: u64,
     places: Vec<u64>,
     bits: Vec<u64>,
+}
+
+impl Drop for Samples {
+    fn drop(self) {
+        let Samples {
+            code,
+            pages,
+            places,
+            bits,
+        } = self;
+    }
 }
 
 impl Model for Samples {

@@ -12,7 +12,7 @@ use wg_rank::Bounds;
 
 /// The first pages of the ranking by bounds, found without sorting the others. It holds the 64 bytes for each page of
 /// the graph that the bounds held.
-#[derive(Debug, Drop)]
+#[derive(Debug)]
 pub struct FirstPages {
     count: usize,
     low: Vec<u128>,
@@ -20,6 +20,17 @@ pub struct FirstPages {
     // In the first half, for each of the first pages, how many pages are surely below it; in the second half the first
     // pages as they are ranked.
     room: Vec<u128>,
+}
+
+impl Drop for FirstPages {
+    fn drop(self) {
+        let FirstPages {
+            count,
+            low,
+            high,
+            room,
+        } = self;
+    }
 }
 
 impl Model for FirstPages {

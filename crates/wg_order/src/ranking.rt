@@ -16,13 +16,24 @@ use wg_rank::Bounds;
 
 /// Pages ranked by bounds. It holds 64 bytes for each page; those of a ranking that took bounds over are the bounds'
 /// own.
-#[derive(Debug, Drop)]
+#[derive(Debug)]
 pub struct Ranking {
     filled: bool,
     low: Vec<u128>,
     high: Vec<u128>,
     // All pages as they are ranked, and then all upper bounds rising.
     sorted: Vec<u128>,
+}
+
+impl Drop for Ranking {
+    fn drop(self) {
+        let Ranking {
+            filled,
+            low,
+            high,
+            sorted,
+        } = self;
+    }
 }
 
 impl Model for Ranking {

@@ -16,7 +16,7 @@ use wg_graph::{List, Lists};
 
 /// Bounds of the PageRank of each page, in units of 10^-24. They hold 64 bytes for each page, and 8 more if weights are
 /// given.
-#[derive(Debug, Drop)]
+#[derive(Debug)]
 pub struct Bounds {
     // In thousandths.
     damping: u64,
@@ -28,6 +28,19 @@ pub struct Bounds {
     // Room for what flows to each page in a round, below and above, side by side, so that an arc reaches one place in
     // memory.
     inflows: Vec<u128>,
+}
+
+impl Drop for Bounds {
+    fn drop(self) {
+        let Bounds {
+            damping,
+            rounds,
+            weights,
+            low,
+            high,
+            inflows,
+        } = self;
+    }
 }
 
 impl Model for Bounds {
@@ -159,7 +172,15 @@ impl Bounds {
         ensures within { (v : ℕ) → v < length self.low → (by_page self.low v ≤ UNITS) × (by_page self.high v ≤ UNITS) }
         ensures proper { AreBounds self }
     {
-        (self.low, self.high, self.inflows)
+        let Bounds {
+            damping: _,
+            rounds: _,
+            weights: _weights,
+            low,
+            high,
+            inflows,
+        } = self;
+        (low, high, inflows)
     }
 
     /// Does one round, in one pass along the lists of a graph with as many pages. Each page's bounds are divided by its

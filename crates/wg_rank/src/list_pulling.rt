@@ -21,11 +21,17 @@ use wg_runs::InLists;
 
 /// The pages that link to each page of a graph, and the room for a round along them. It is seen as the graph, and what
 /// its pages give to each of their successors. It holds 32 bytes for each page beside the lists.
-#[derive(Debug, Drop)]
+#[derive(Debug)]
 pub struct ListPulling {
     lists: InLists,
     // What each page gives to each of its successors, in lanes.
     shares: Vec<u64x4>,
+}
+
+impl Drop for ListPulling {
+    fn drop(self) {
+        let ListPulling { lists, shares } = self;
+    }
 }
 
 impl Model for ListPulling {

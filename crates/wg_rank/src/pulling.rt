@@ -22,11 +22,17 @@ use wg_runs::{PageRun, Runs};
 
 /// The runs of a graph, and the room for a round along them. It is seen as the graph, and what its pages give to their
 /// successors, added up. It holds 32 bytes for each page, and 32, beside the runs.
-#[derive(Debug, Drop)]
+#[derive(Debug)]
 pub struct Pulling {
     runs: Runs,
     // For each page, and behind the last one, what all pages below it give to each of their successors, in lanes.
     sums: Vec<u64x4>,
+}
+
+impl Drop for Pulling {
+    fn drop(self) {
+        let Pulling { runs, sums } = self;
+    }
 }
 
 impl Model for Pulling {

@@ -14,7 +14,7 @@ use std::marker::Model;
 use wg_graph::Lists;
 
 /// How many runs and arcs lead to each page of a graph, and how many arcs leave it. It holds 24 bytes for each page.
-#[derive(Debug, Drop)]
+#[derive(Debug)]
 pub struct RunCounts {
     counts: Vec<u64>,
     // How many pages link to each page.
@@ -24,6 +24,19 @@ pub struct RunCounts {
     degrees: Vec<u32>,
     runs: u64,
     arcs: u64,
+}
+
+impl Drop for RunCounts {
+    fn drop(self) {
+        let RunCounts {
+            counts,
+            links,
+            reach,
+            degrees,
+            runs,
+            arcs,
+        } = self;
+    }
 }
 
 impl Model for RunCounts {
@@ -94,7 +107,7 @@ impl RunCounts {
             mut reach,
             degrees,
             runs: count,
-            ..
+            arcs: _,
         } = self;
         drop(links);
         let none = PageRun { from: 0, to: 0 };
@@ -115,8 +128,8 @@ impl RunCounts {
             links: mut ends,
             reach,
             degrees,
+            runs: _,
             arcs,
-            ..
         } = self;
         drop(counts);
         drop(reach);

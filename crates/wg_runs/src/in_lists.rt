@@ -13,12 +13,22 @@ use std::marker::Model;
 ///
 /// They are seen as the graph. They hold 12 bytes for each page, and 4 for each arc. Each call takes constant time, and
 /// no memory.
-#[derive(Debug, Drop)]
+#[derive(Debug)]
 pub struct InLists {
     // Where the list of each page ends; it begins where that of the page before ends.
     ends: Vec<u64>,
     sources: Vec<u32>,
     degrees: Vec<u32>,
+}
+
+impl Drop for InLists {
+    fn drop(self) {
+        let InLists {
+            ends,
+            sources,
+            degrees,
+        } = self;
+    }
 }
 
 impl Model for InLists {

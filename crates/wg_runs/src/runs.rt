@@ -18,12 +18,22 @@ use wg_graph::Lists;
 ///
 /// They are seen as the graph. They hold 12 bytes for each page, and 8 for each run. Each call takes constant time, and
 /// no memory, but for [`Runs::of`].
-#[derive(Debug, Drop)]
+#[derive(Debug)]
 pub struct Runs {
     // Where the runs to each page end; they begin where those to the page before end.
     ends: Vec<u64>,
     runs: Vec<PageRun>,
     degrees: Vec<u32>,
+}
+
+impl Drop for Runs {
+    fn drop(self) {
+        let Runs {
+            ends,
+            runs,
+            degrees,
+        } = self;
+    }
 }
 
 impl Model for Runs {

@@ -26,7 +26,7 @@ use wg_params::Params;
 /// the page that was read last. It keeps no more lists than the window of the parameters has, each with room for at most
 /// twice its numbers, or for few; three lists at most with room for as many as the longest; and two that have left the
 /// window. Hand in the same source at each call: the clauses on bits are of one that was.
-#[derive(Debug, Drop)]
+#[derive(Debug)]
 pub struct Pages {
     params: Params,
     page: u64,
@@ -34,6 +34,19 @@ pub struct Pages {
     window: Window,
     spares: Spares,
     past: List,
+}
+
+impl Drop for Pages {
+    fn drop(self) {
+        let Pages {
+            params,
+            page,
+            arcs,
+            window,
+            spares,
+            past,
+        } = self;
+    }
 }
 
 impl Model for Pages {

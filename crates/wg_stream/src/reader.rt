@@ -29,13 +29,25 @@ use wg_params::Params;
 /// lists more, whose memory is used again ([`spare_lists`](Reader::spare_lists)). Of the file it holds at most
 /// [`MOST_HELD`](crate::MOST_HELD) bytes, however long a record is: behind the record of a list that it has lent it has
 /// read no further than that. All this holds after each call, after an error too, and whatever the depot answers.
-#[derive(Debug, Drop)]
+#[derive(Debug)]
 pub struct Reader {
     pages: Pages,
     name: String,
     at: u64,
     held: Stretch,
     state: State,
+}
+
+impl Drop for Reader {
+    fn drop(self) {
+        let Reader {
+            pages,
+            name,
+            at,
+            held,
+            state,
+        } = self;
+    }
 }
 
 impl Model for Reader {

@@ -27,7 +27,7 @@ use wg_params::Params;
 /// reference may reach and for one list more, each with room for the greatest outdegree, 8 bytes a number, and 64 more;
 /// all are taken when it is made. A list then takes the time of its record's words and of the lists that it has and
 /// refers to.
-#[derive(Debug, Drop)]
+#[derive(Debug)]
 pub struct Sweep<'a> {
     archive: Standing<'a>,
     // the page whose list comes next, and where its record begins
@@ -39,6 +39,19 @@ pub struct Sweep<'a> {
     turn: u64,
     // the list of the last page
     list: Row,
+}
+
+impl Drop for Sweep<'_> {
+    fn drop(self) {
+        let Sweep {
+            archive,
+            page,
+            at,
+            kept,
+            turn,
+            list,
+        } = self;
+    }
 }
 
 impl<'a> Model for Sweep<'a> {

@@ -125,7 +125,7 @@ pub(crate) fn fill<P: Placing>(pass: &mut P, from: u64, ends: &mut [u64], all: &
 
 /// Lists of which it is counted how long each is, and of which one range after the other is at hand: from list `from` up
 /// to the list before `to`. It holds 8 bytes for each list, and 8 for each number of the range.
-#[derive(Debug, Drop)]
+#[derive(Debug)]
 pub struct Ranges {
     // For a list of the range, where it ends; for a list behind it, how long it is.
     ends: Vec<u64>,
@@ -133,6 +133,17 @@ pub struct Ranges {
     all: Vec<u64>,
     from: u64,
     to: u64,
+}
+
+impl Drop for Ranges {
+    fn drop(self) {
+        let Ranges {
+            ends,
+            all,
+            from,
+            to,
+        } = self;
+    }
 }
 
 impl Model for Ranges {

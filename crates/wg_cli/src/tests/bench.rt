@@ -8,7 +8,6 @@ use wg_io::{List8, LoadError, MemoryDepot, MemorySink, ZeroDepot, read_whole};
 // Later than any call of a case.
 const NEVER: u64 = 1_000_000_000;
 
-#[derive(Drop)]
 pub struct Bench {
     alloc: Global,
     piece: u64,
@@ -16,6 +15,19 @@ pub struct Bench {
     write: u64,
     report: u64,
     last: Ending,
+}
+
+impl Drop for Bench {
+    fn drop(self) {
+        let Bench {
+            alloc,
+            piece,
+            depot,
+            write,
+            report,
+            last,
+        } = self;
+    }
 }
 
 impl Bench {

@@ -17,7 +17,6 @@ struct Kept {
 }
 
 /// The case that is under way. Its steps up to the first run are remembered, to be done again.
-#[derive(Drop)]
 pub struct Cases {
     alloc: Global,
     piece: u64,
@@ -30,6 +29,24 @@ pub struct Cases {
     bench: Bench,
     steps: Vec<String>,
     has_run: bool,
+}
+
+impl Drop for Cases {
+    fn drop(self) {
+        let Cases {
+            alloc,
+            piece,
+            kept,
+            name,
+            begun,
+            row,
+            is_left_out,
+            case_piece,
+            bench,
+            steps,
+            has_run,
+        } = self;
+    }
 }
 
 impl Cases {

@@ -7,11 +7,16 @@ use wg_io::{Depot, MemorySink};
 use wg_words::Words;
 
 /// The exit status of a run, and what went to its two outputs.
-#[derive(Drop)]
 pub struct Ending {
     status: u8,
     out: MemorySink,
     err: MemorySink,
+}
+
+impl Drop for Ending {
+    fn drop(self) {
+        let Ending { status, out, err } = self;
+    }
 }
 
 impl Ending {
