@@ -13,11 +13,11 @@ use Rattle.wg_graph.specs.Digraph.{Digraph, IsGraph, arc_count}
 use Rattle.wg_grammar.specs.Archive.{Accepted}
 use Rattle.wg_offsets.specs.Places.{last_place}
 use Rattle.wg_offsets.specs.Words.{places_of}
-use Rattle.wg_encoder.specs.Archive.{Archive, Summarized, graph_bits, graph_file, offset_values, offsets_file}
-use Rattle.wg_encoder.specs.ArchiveInMemory.{HoldsArchive}
-use Rattle.wg_encoder.specs.Laws.{IsAcceptedArchive}
-use Rattle.wg_encoder.proofs.Accepted.{greedy_accepted}
-use Rattle.wg_encoder.proofs.ProperRecord.{canonical_proper}
+use Rattle.wg_greedy.specs.Archive.{Archive, graph_bits, graph_file, offset_values, offsets_file}
+use Rattle.wg_encoder.specs.ArchiveInMemory.{Summarized, HoldsArchive}
+use Rattle.wg_greedy.specs.Laws.{IsAcceptedArchive}
+use Rattle.wg_greedy.proofs.Accepted.{greedy_accepted}
+use Rattle.wg_greedy.proofs.ProperRecord.{canonical_proper}
 use Rattle.wg_words.specs.Layouts.{default_layout}
 use Rattle.wg_params.specs.declared.layout.Layout.{Layout}
 use Rattle.std.specs.Result.{OnOk}

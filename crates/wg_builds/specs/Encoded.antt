@@ -3,8 +3,7 @@ use Rattle.std.specs.Prelude.{◌≡◌, ℕ, Result, Ok}
 use Rattle.wg_params.specs.Parameters.{Parameters}
 use Rattle.wg_params.specs.declared.layout.Layout.{Layout}
 use Rattle.wg_graph.specs.Digraph.{Digraph, arc_count}
-use Rattle.wg_encoder.specs.Archive.{Summarized}
-use Rattle.wg_encoder.specs.ArchiveInMemory.{EncodedSoFar, HasEncoded}
+use Rattle.wg_encoder.specs.ArchiveInMemory.{Summarized, EncodedSoFar, HasEncoded}
 use Rattle.wg_outcomes.specs.Written.{params_for}
 use Rattle.wg_outcomes.specs.declared.ending.Ending.{Ending}
 use Rattle.wg_writing.specs.Writing.{archive_of}

@@ -11,7 +11,7 @@ use Rattle.wg_arcs.specs.declared.arc_lines.ArcLines.{ArcLines}
 use Rattle.wg_arcs.specs.declared.fault.ArcsError.{ArcsError}
 use Rattle.wg_arcs.specs.declared.fault.ArcsError.TheVariants as error
 use Rattle.wg_encoder.specs.ArchiveInMemory.{EncodedSoFar, HasEncoded}
-use Rattle.wg_encoder.specs.Laws.{IsList}
+use Rattle.wg_greedy.specs.Laws.{IsList}
 use Rattle.wg_outcomes.specs.declared.ending.Ending.{Ending}
 use Rattle.wg_outcomes.specs.declared.status.Status.{Status}
 use Rattle.wg_outcomes.specs.declared.status.Status.TheVariants.{BadArcs, Memory}

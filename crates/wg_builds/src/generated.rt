@@ -3,7 +3,7 @@ ghost use Rattle.std.specs.Prelude.{◌≡◌, ◌≤◌, [], length, IfOk, OnOk
 ghost use Rattle.wg_graph.specs.Digraph.{Digraph, IsGraph};
 ghost use Rattle.wg_vectors.specs.Generated.{generated};
 ghost use Rattle.wg_params.specs.declared.limits.TheConstants.{MOST_GENERATED};
-ghost use Rattle.wg_encoder.specs.Archive.{graph_bits, referring_pages};
+ghost use Rattle.wg_greedy.specs.Archive.{graph_bits, referring_pages};
 ghost use Rattle.wg_params.specs.Parameters.{IsWithinLimits};
 ghost use Rattle.wg_words.specs.declared.defaults.TheConstants.{DEFAULT_DAMPING};
 ghost use Rattle.wg_outcomes.specs.Readings.{Readings};

@@ -7,7 +7,7 @@ ghost use Rattle.wg_graph.specs.Growing.{padded};
 ghost use Rattle.wg_arcs.specs.Growing.{SoFar};
 ghost use Rattle.wg_arcs.specs.Listing.{arcs_on};
 ghost use Rattle.wg_encoder.specs.ArchiveInMemory.{HasEncoded};
-ghost use Rattle.wg_encoder.specs.Laws.{IsList};
+ghost use Rattle.wg_greedy.specs.Laws.{IsList};
 ghost use Rattle.wg_builds.specs.Encoded.{Encodes, Makes};
 ghost use Rattle.wg_builds.specs.Listed.{GoesOn, IsFault, IsUnderWay, LoadsListBy, MayTake};
 ghost use Rattle.wg_builds.specs.Listed.{done_at, list_at, status_of_list};

@@ -10,7 +10,7 @@ use Rattle.wg_params.specs.declared.code.Code.TheVariants.{Gamma}
 use Rattle.wg_intervals.specs.declared.run.Run.{Run}
 use Rattle.wg_intervals.specs.Canonical.{ends_and_lengths}
 use Rattle.wg_grammar.specs.declared.fault.Field.TheVariants as field
-use Rattle.wg_encoder.specs.Fields.{Written, written, stored_blocks, stored_gap, interval_fields, residual_fields, extras}
+use Rattle.wg_greedy.specs.Fields.{Written, written, stored_blocks, stored_gap, interval_fields, residual_fields, extras}
 use Rattle.wg_encoder.specs.InMemory.{AreLowRuns}
 use Rattle.wg_encoder.proofs.Tallied.{stored_next}
 

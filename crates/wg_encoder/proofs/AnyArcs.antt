@@ -7,9 +7,10 @@ use Rattle.wg_graph.specs.Numbers.{numbers_where}
 use Rattle.wg_params.specs.Parameters.{Parameters}
 use Rattle.wg_grammar.specs.Context.{Known, Context, referenced, depth_of}
 use Rattle.wg_grammar.specs.Refusal.{passes}
-use Rattle.wg_encoder.specs.Fields.{Written, bits_of_fields, all_have_words, record_fields}
-use Rattle.wg_encoder.specs.Greedy.{context_after, canonical, chosen, known_of, references_of, records_of}
-use Rattle.wg_encoder.specs.Archive.{refers, filled, bytes_of, graph_file, offsets_file, summary_of, encoded}
+use Rattle.wg_greedy.specs.Fields.{Written, bits_of_fields, all_have_words, record_fields}
+use Rattle.wg_greedy.specs.Greedy.{context_after, canonical, chosen, known_of, references_of, records_of}
+use Rattle.wg_greedy.specs.Archive.{refers, filled, bytes_of, graph_file, offsets_file}
+use Rattle.wg_encoder.specs.ArchiveInMemory.{summary_of, encoded}
 
 abbrev pub with_arcs : Parameters → ℕ → Parameters
 with_arcs p n = record p { arcs = n }

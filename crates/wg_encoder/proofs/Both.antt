@@ -7,10 +7,10 @@ use Rattle.wg_graph.proofs.Sets.{ascends_more, in_below, in_tail, in_head}
 use Rattle.wg_blocks.specs.Canonical.{mask_of}
 use Rattle.wg_encoder.specs.declared.blocks.BlockTally.{BlockTally}
 use Rattle.wg_encoder.specs.declared.extras.ExtraTally.{ExtraTally}
-use Rattle.wg_encoder.specs.Fields.{extras}
+use Rattle.wg_greedy.specs.Fields.{extras}
 use Rattle.wg_encoder.specs.Cost.{room_after}
 use Rattle.wg_encoder.specs.Dues.{block_dues, extra_dues, MayCome}
-use Rattle.wg_encoder.proofs.Extra.{ascends-filter}
+use Rattle.wg_greedy.proofs.Extra.{ascends-filter}
 use Rattle.wg_encoder.proofs.Rooms.{after_both, swapped, none_left, same_behind, same_before}
 
 -- ---- one member

@@ -7,14 +7,14 @@ use Rattle.wg_graph.specs.Ascending.{Ascends, Below}
 use Rattle.wg_params.specs.Parameters.{Parameters, IsWithinLimits}
 use Rattle.wg_grammar.specs.Context.{Context}
 use Rattle.wg_encoder.specs.declared.choice.Choice.{Choice}
-use Rattle.wg_encoder.specs.Fields.{Written, bits_of_fields, all_have_words, record_fields}
+use Rattle.wg_greedy.specs.Fields.{Written, bits_of_fields, all_have_words, record_fields}
 use Rattle.wg_encoder.specs.Cost.{cost_of}
-use Rattle.wg_encoder.specs.Greedy.{canonical, size_of, is_candidate, chosen}
-use Rattle.wg_encoder.specs.Laws.{IsList}
+use Rattle.wg_greedy.specs.Greedy.{canonical, size_of, is_candidate, chosen}
+use Rattle.wg_greedy.specs.Laws.{IsList}
 use Rattle.wg_encoder.specs.Encoding.{IsBest}
-use Rattle.wg_encoder.proofs.NoReference.{no_reference_has}
-use Rattle.wg_encoder.proofs.Short.{record_short}
-use Rattle.wg_encoder.proofs.Least.{chosen_candidate, chosen_shortest, within}
+use Rattle.wg_greedy.proofs.NoReference.{no_reference_has}
+use Rattle.wg_greedy.proofs.Short.{record_short}
+use Rattle.wg_greedy.proofs.Least.{chosen_candidate, chosen_shortest, within}
 
 -- ---- offers
 

@@ -5,13 +5,13 @@ use Rattle.wg_params.specs.Parameters.{Parameters, IsWithinLimits}
 use Rattle.wg_grammar.specs.Context.{Context, referenced, depth_of}
 use Rattle.wg_grammar.specs.Refusal.{passes}
 use Rattle.wg_encoder.specs.declared.choice.Choice.{Choice}
-use Rattle.wg_encoder.specs.Fields.{all_have_words}
-use Rattle.wg_encoder.specs.Greedy.{canonical, size_of, is_candidate}
-use Rattle.wg_encoder.specs.Laws.{IsList, enough_bits}
+use Rattle.wg_greedy.specs.Fields.{all_have_words}
+use Rattle.wg_greedy.specs.Greedy.{canonical, size_of, is_candidate}
+use Rattle.wg_greedy.specs.Laws.{IsList, enough_bits}
 use Rattle.wg_encoder.specs.Encoding.{Encoded, IsChosen}
-use Rattle.wg_encoder.proofs.Least.{chosen_candidate, within}
-use Rattle.wg_encoder.proofs.NoReference.{no_reference_has}
-use Rattle.wg_encoder.proofs.ShortRecords.{chosen_short}
+use Rattle.wg_greedy.proofs.Least.{chosen_candidate, within}
+use Rattle.wg_greedy.proofs.NoReference.{no_reference_has}
+use Rattle.wg_greedy.proofs.ShortRecords.{chosen_short}
 
 module _ (p : Parameters) (c : Context) (list : List ℕ) (choice : Choice) (is : IsChosen p c list choice) where
   chosen_may : is_candidate p c list choice.reference ≡ true

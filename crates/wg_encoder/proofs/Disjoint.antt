@@ -15,13 +15,13 @@ use Rattle.wg_codes.proofs.Lengths.{length-gamma, length-delta}
 use Rattle.wg_codes.proofs.CodeLaws.{word_some}
 use Rattle.wg_grammar.specs.Context.{Context, referenced}
 use Rattle.wg_grammar.specs.declared.fault.Field.TheVariants as field
-use Rattle.wg_encoder.specs.Fields.{written, bits_of_fields, extras, extra_fields, reference_fields, copy_fields, list_fields, record_fields}
+use Rattle.wg_greedy.specs.Fields.{written, bits_of_fields, extras, extra_fields, reference_fields, copy_fields, list_fields, record_fields}
 use Rattle.wg_encoder.specs.Cost.{IsFewer}
-use Rattle.wg_encoder.specs.Greedy.{size_of, is_candidate}
+use Rattle.wg_greedy.specs.Greedy.{size_of, is_candidate}
 use Rattle.wg_encoder.specs.Encoding.{offer_of}
 use Rattle.wg_encoder.specs.Sharing.{shares}
-use Rattle.wg_encoder.proofs.NoReference.{nothing_copied}
-use Rattle.wg_encoder.proofs.Short.{bits_both, bits_more}
+use Rattle.wg_greedy.proofs.NoReference.{nothing_copied}
+use Rattle.wg_greedy.proofs.Short.{bits_both, bits_more}
 
 nothing_shared : (list other : List ℕ) → shares list other ≡ false → extras list other ≡ list
 nothing_shared [] other none = refl

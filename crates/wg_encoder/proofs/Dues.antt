@@ -15,7 +15,7 @@ use Rattle.wg_encoder.specs.declared.blocks.BlockTally.{BlockTally}
 use Rattle.wg_encoder.specs.declared.extras.ExtraTally.{ExtraTally}
 use Rattle.wg_encoder.specs.declared.intervals.IntervalTally.{IntervalTally}
 use Rattle.wg_encoder.specs.declared.residuals.ResidualTally.{ResidualTally}
-use Rattle.wg_encoder.specs.Fields.{Written, written, stored_blocks, has_some, copy_fields, count_fields}
+use Rattle.wg_greedy.specs.Fields.{Written, written, stored_blocks, has_some, copy_fields, count_fields}
 use Rattle.wg_encoder.specs.Cost.{room_after}
 use Rattle.wg_encoder.specs.Dues.{stored_after, dues_of_blocks, block_dues, interval_dues, residual_dues, dues_of_runs, extra_dues}
 use Rattle.wg_encoder.proofs.Tallied.{stored_next}

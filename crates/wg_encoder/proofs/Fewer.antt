@@ -2,7 +2,7 @@
 use Rattle.std.proofs.Common.{◌≡◌, ℕ, ◌-◌, ◌<◌, ◌≤◌, Bool, true, false, List, refl, sym, ap, ◌∙◌, arith, cond, length}
 use Rattle.std.specs.Prelude.{Option, Some, None}
 use Rattle.std.specs.Option.{ForSome}
-use Rattle.wg_encoder.specs.Fields.{Written, bits_of_fields, all_have_words}
+use Rattle.wg_greedy.specs.Fields.{Written, bits_of_fields, all_have_words}
 use Rattle.wg_encoder.specs.Cost.{cost_of, room_after, IsFewer}
 
 same_bits : (m n : ℕ) → Some m ≡ Some n → m ≡ n

@@ -12,10 +12,11 @@ use Rattle.wg_bits.specs.Written.{HasPut, HasPutLess, padding}
 use Rattle.wg_bits.proofs.Words.{length-bits_of}
 use Rattle.wg_params.specs.Parameters.{Parameters}
 use Rattle.wg_encoder.specs.declared.error.EncodeError.{EncodeError}
-use Rattle.wg_encoder.specs.Archive.{graph_bits, offsets_bits, filled, graph_file, offsets_file}
+use Rattle.wg_greedy.specs.Archive.{graph_bits, offsets_bits, filled, graph_file, offsets_file}
 use Rattle.wg_encoder.specs.Encoding.{Encoded, HasWritten}
-use Rattle.wg_encoder.specs.Gone.{HasSent, HasSentAll, HasAll, IsWritten, HasStopped, HasFailedOn, HoldsFront, HoldsLess}
-use Rattle.wg_encoder.proofs.Bytes.{graph_again, offsets_again, graph_bytes, offsets_bytes}
+use Rattle.wg_greedy.specs.Held.{HoldsFront, HoldsLess}
+use Rattle.wg_encoder.specs.Gone.{HasSent, HasSentAll, HasAll, IsWritten, HasStopped, HasFailedOn}
+use Rattle.wg_greedy.proofs.Bytes.{graph_again, offsets_again, graph_bytes, offsets_bytes}
 use Rattle.wg_encoder.proofs.Texts.{sent_front, sent_whole}
 use Rattle.wg_encoder.proofs.Sent.{sent_put, put_less, other_put, other_less, sent_along}
 use Rattle.wg_encoder.proofs.Stopped.{next_word, words_put}

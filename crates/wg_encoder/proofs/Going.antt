@@ -4,10 +4,10 @@ use Rattle.wg_params.specs.Parameters.{Parameters}
 use Rattle.wg_grammar.specs.Context.{Known, Context}
 use Rattle.wg_decoder.specs.Remembered.{Serves}
 use Rattle.wg_decoder.proofs.Serving.{serves_next}
-use Rattle.wg_encoder.specs.Archive.{graph_bits, refers, referring_pages}
-use Rattle.wg_encoder.specs.Laws.{IsList}
+use Rattle.wg_greedy.specs.Archive.{graph_bits, refers, referring_pages}
+use Rattle.wg_greedy.specs.Laws.{IsList}
 use Rattle.wg_encoder.specs.Encoding.{Encoded, next_context, context_on, chosen_size, encoded_on, HasWritten}
-use Rattle.wg_encoder.specs.Greedy.{chosen}
+use Rattle.wg_greedy.specs.Greedy.{chosen}
 use Rattle.wg_encoder.proofs.Pages.{context_more, due_more, graph_more, referring_more, chosen_bits}
 
 -- one list more was written

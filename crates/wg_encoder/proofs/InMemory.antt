@@ -8,10 +8,10 @@ use Rattle.wg_io.proofs.FilesLemmas.{get-insert_same, get-insert_other}
 use Rattle.wg_encoder.proofs.FileNames.{properties_graph, properties_offsets}
 use Rattle.wg_params.specs.Parameters.{Parameters}
 use Rattle.wg_grammar.specs.Context.{Context}
-use Rattle.wg_encoder.specs.Archive.{Archive, graph_bits, referring_pages, encoded}
+use Rattle.wg_greedy.specs.Archive.{Archive, graph_bits, referring_pages}
 use Rattle.wg_encoder.specs.Encoding.{Encoded, HasWritten}
 use Rattle.wg_encoder.specs.Gone.{HasSentAll, IsWritten}
-use Rattle.wg_encoder.specs.ArchiveInMemory.{so_far, HasEncoded, archive_of, HoldsArchive}
+use Rattle.wg_encoder.specs.ArchiveInMemory.{encoded, so_far, HasEncoded, archive_of, HoldsArchive}
 use Rattle.wg_encoder.proofs.AnyArcs.{with_arcs, same_encoded}
 
 pub as_encoded : (e : Encoded) (files : Files) (lists : List (List ℕ)) → HasWritten e lists → HasSentAll files [] e lists → HasEncoded (so_far e files) lists

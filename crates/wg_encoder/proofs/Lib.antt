@@ -1,15 +1,9 @@
-mod Rows
-pub mod Least
-pub mod Bytes
 pub mod Tallied
-pub mod Extra
 pub mod Whole
 pub mod Rooms
 pub mod Fewer
 pub mod Dues
 pub mod Both
-pub mod NoReference
-pub mod Short
 pub mod Shared
 pub mod Disjoint
 pub mod Choosing
@@ -18,17 +12,6 @@ pub mod OfGraph
 pub mod Puts
 pub mod Adding
 pub mod Low
-pub mod ProperFields
-pub mod ProperStages
-pub mod ProperReading
-pub mod ProperExtras
-pub mod ProperLists
-pub mod ProperFront
-pub mod ProperRecord
-pub mod ShortRecords
-pub mod Totals
-pub mod Standing
-pub mod Accepted
 pub mod Texts
 pub mod Sent
 pub mod Failed

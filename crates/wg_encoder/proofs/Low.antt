@@ -10,8 +10,8 @@ use Rattle.wg_intervals.specs.Canonical.{runs_of, is_long, numbers_of, intervals
 use Rattle.wg_intervals.proofs.Maximal.{Cut, cut_of}
 use Rattle.wg_intervals.proofs.Divided.{of_runs, others}
 use Rattle.wg_graph.specs.Numbers.{is_in}
-use Rattle.wg_encoder.specs.Fields.{Written, has_some, count_fields, interval_fields, residual_fields, extras, extra_fields, reference_fields, copy_fields, list_fields}
-use Rattle.wg_encoder.proofs.Extra.{ascends-filter}
+use Rattle.wg_greedy.specs.Fields.{Written, has_some, count_fields, interval_fields, residual_fields, extras, extra_fields, reference_fields, copy_fields, list_fields}
+use Rattle.wg_greedy.proofs.Extra.{ascends-filter}
 use Rattle.wg_encoder.proofs.Whole.{list_whole}
 use Rattle.wg_encoder.specs.InMemory.{AreLowRuns}
 

@@ -9,11 +9,11 @@ use Rattle.wg_bits.specs.Written.{padding}
 use Rattle.wg_codes.specs.Words.{word}
 use Rattle.wg_params.specs.Parameters.{Parameters}
 use Rattle.wg_grammar.specs.Context.{Known, Context}
-use Rattle.wg_encoder.specs.Fields.{bits_of_fields}
-use Rattle.wg_encoder.specs.Greedy.{context_after, canonical, chosen, known_of, known_after, references_of, records_of}
-use Rattle.wg_encoder.specs.Archive.{record_bits, graph_bits, refers, referring_pages, offset_values, offsets_bits, graph_file, offsets_file}
+use Rattle.wg_greedy.specs.Fields.{bits_of_fields}
+use Rattle.wg_greedy.specs.Greedy.{context_after, canonical, chosen, known_of, known_after, references_of, records_of}
+use Rattle.wg_greedy.specs.Archive.{record_bits, graph_bits, refers, referring_pages, offset_values, offsets_bits, graph_file, offsets_file}
 use Rattle.wg_encoder.specs.Encoding.{next_context, context_on, due_offset, words_before}
-use Rattle.wg_encoder.proofs.Bytes.{graph_again, offsets_again}
+use Rattle.wg_greedy.proofs.Bytes.{graph_again, offsets_again}
 
 -- ---- where a record stands
 

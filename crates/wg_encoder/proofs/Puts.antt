@@ -9,7 +9,7 @@ use Rattle.wg_bits.specs.Written.{Sends}
 use Rattle.wg_bits.proofs.Sending.{Sent, sends_as, sends_then, sends_cut}
 use Rattle.wg_codes.specs.Words.{word, top}
 use Rattle.wg_encoder.specs.declared.held.HeldField.{HeldField}
-use Rattle.wg_encoder.specs.Fields.{Written, bits_of_fields, all_have_words}
+use Rattle.wg_greedy.specs.Fields.{Written, bits_of_fields, all_have_words}
 use Rattle.wg_encoder.specs.InMemory.{as_written}
 
 abbrev pub bits_held : List HeldField → List Bool

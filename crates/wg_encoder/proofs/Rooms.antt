@@ -4,7 +4,7 @@ use Rattle.std.specs.Prelude.{nat_le}
 use Rattle.std.proofs.lemmas.List.Concat.{flat_map-append}
 use Rattle.std.proofs.lemmas.List.Folds.{list_all-append}
 use Rattle.wg_codes.specs.Words.{word, top}
-use Rattle.wg_encoder.specs.Fields.{Written, bits_of_fields, all_have_words}
+use Rattle.wg_greedy.specs.Fields.{Written, bits_of_fields, all_have_words}
 use Rattle.wg_encoder.specs.Cost.{room_after}
 
 -- ---- of bits, which have words or not

@@ -1,24 +1,16 @@
 -- What a call of a writer leaves of its file, and of the others.
-use Rattle.std.proofs.Common.{◌≡◌, ◌≢◌, ℕ, ◌^◌, ◌<◌, Bool, List, [], ◌∷◌, ◌++◌, length-append, append_assoc, refl, sym, ap, ◌∙◌, arith}
-use Rattle.std.specs.Prelude.{Option, Some, unwrap_or}
+use Rattle.std.proofs.Common.{◌≡◌, ◌≢◌, ℕ, ◌^◌, ◌<◌, Bool, List, [], ◌++◌, length-append, append_assoc, sym, ap, ◌∙◌, arith}
 use Rattle.std.specs.FinMap as fin
 use Rattle.std.proofs.lemmas.List.{append-nil}
 use Rattle.std.proofs.lemmas.List.Elements.{All-append}
-use Rattle.wg_io.specs.Outside.{Files, content, appended}
-use Rattle.wg_io.proofs.FilesLemmas.{get-insert_same, get-insert_other}
+use Rattle.wg_io.specs.Outside.{Files}
 use Rattle.wg_bits.specs.Bits.{bits_of}
 use Rattle.wg_bits.specs.Written.{HasPut, HasPutLess}
 use Rattle.wg_bits.proofs.Writes.{bits_of-append}
-use Rattle.wg_encoder.specs.Gone.{AreBytes, HasSent, HoldsLess}
+use Rattle.wg_greedy.specs.Held.{AreBytes, HoldsLess}
+use Rattle.wg_greedy.proofs.Appended.{get_more, get_other}
+use Rattle.wg_encoder.specs.Gone.{HasSent}
 use Rattle.wg_encoder.proofs.Texts.{sent_less}
-
-pub get_more : (f : Files) (n sent out : List ℕ) → fin.get f n ≡ Some sent → fin.get (appended f n out) n ≡ Some (sent ++ out)
-get_more f n sent [] there = there ∙ ap Some (sym (append-nil sent))
-get_more f n sent (b ∷ bs) there = get-insert_same f n (content f n ++ b ∷ bs) ∙ ap (λ (o : Option (List ℕ)). Some (unwrap_or o [] ++ b ∷ bs)) there
-
-pub get_other : (f : Files) (n out q : List ℕ) → q ≢ n → fin.get (appended f n out) q ≡ fin.get f q
-get_other f n [] q apart = refl
-get_other f n (b ∷ bs) q apart = get-insert_other f n (content f n ++ b ∷ bs) q apart
 
 -- bits that went out between others
 went : (sent out w p left bits : List Bool) → sent ++ w ≡ bits → w ++ p ≡ out ++ left → (sent ++ out) ++ left ≡ bits ++ p

@@ -17,12 +17,13 @@ use Rattle.wg_grammar.specs.Context.{Context}
 use Rattle.wg_encoder.specs.declared.error.EncodeError.{EncodeError}
 use Rattle.wg_encoder.specs.declared.error.EncodeError.TheVariants as error
 use Rattle.wg_encoder.specs.declared.choice.Choice.{Choice}
-use Rattle.wg_encoder.specs.Fields.{Written, bits_of_fields}
-use Rattle.wg_encoder.specs.Greedy.{canonical, chosen}
-use Rattle.wg_encoder.specs.Archive.{graph_bits, graph_file, offsets_bits, offsets_file}
+use Rattle.wg_greedy.specs.Fields.{Written, bits_of_fields}
+use Rattle.wg_greedy.specs.Greedy.{canonical, chosen}
+use Rattle.wg_greedy.specs.Archive.{graph_bits, graph_file, offsets_bits, offsets_file}
 use Rattle.wg_encoder.specs.Encoding.{Encoded, due_offset, encoded_on, words_before, HasWritten, IsChosen}
-use Rattle.wg_encoder.specs.Gone.{HasSent, HasSentLists, HasSentAll, HasStopped, HasFailedOn, HoldsFront, HoldsLess}
-use Rattle.wg_encoder.proofs.Bytes.{graph_bytes, offsets_bytes}
+use Rattle.wg_greedy.specs.Held.{HoldsFront, HoldsLess}
+use Rattle.wg_encoder.specs.Gone.{HasSent, HasSentLists, HasSentAll, HasStopped, HasFailedOn}
+use Rattle.wg_greedy.proofs.Bytes.{graph_bytes, offsets_bytes}
 use Rattle.wg_encoder.proofs.Texts.{sent_front, sent_less}
 use Rattle.wg_encoder.proofs.Sent.{sent_put, put_less, other_put, other_less, sent_along}
 use Rattle.wg_encoder.proofs.Pages.{graph_more, words_whole, words_more, graph_rest, offsets_rest, graph_from, offsets_from}

@@ -6,7 +6,8 @@ use Rattle.std.proofs.lemmas.List.Elements.{All-head, All-tail}
 use Rattle.wg_bits.specs.Bits.{low_bits, bits_of}
 use Rattle.wg_bits.proofs.LowBits.{length-low_bits, low_bits-injective}
 use Rattle.wg_bits.proofs.Words.{length-bits_of}
-use Rattle.wg_encoder.specs.Gone.{AreBytes, HasSent, HoldsFront, HoldsLess}
+use Rattle.wg_greedy.specs.Held.{AreBytes, HoldsFront, HoldsLess}
+use Rattle.wg_encoder.specs.Gone.{HasSent}
 
 first_eight : (x t : ℕ) (u v : List Bool) → low_bits 8 t ++ u ≡ low_bits 8 x ++ v → (low_bits 8 t ≡ low_bits 8 x) × (u ≡ v)
 unfolding low_bits

@@ -5,7 +5,7 @@ use Rattle.wg_params.specs.Parameters.{Parameters}
 use Rattle.wg_params.specs.declared.code.Code.{Code}
 use Rattle.wg_blocks.specs.Canonical.{canonical_blocks}
 use Rattle.wg_grammar.specs.declared.fault.Field.TheVariants as field
-use Rattle.wg_encoder.specs.Fields.{written, block_fields, reference_fields, copy_fields, extras, extra_fields, list_fields, record_fields}
+use Rattle.wg_greedy.specs.Fields.{written, block_fields, reference_fields, copy_fields, extras, extra_fields, list_fields, record_fields}
 use Rattle.wg_encoder.specs.Cost.{room_after}
 use Rattle.wg_encoder.proofs.Rooms.{one_written}
 

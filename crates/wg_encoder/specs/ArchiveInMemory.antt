@@ -5,9 +5,27 @@ use Rattle.std.specs.FinMap as fin
 use Rattle.wg_io.specs.Outside.{Files, content}
 use Rattle.wg_io.specs.Suffixes.{properties_name, graph_name, offsets_name}
 use Rattle.wg_params.specs.Parameters.{Parameters}
-use Rattle.wg_encoder.specs.Archive.{Archive, graph_bits}
+use Rattle.wg_greedy.specs.Archive.{Archive, graph_bits, referring_pages, graph_file, offsets_file}
 use Rattle.wg_encoder.specs.Encoding.{Encoded, HasWritten, words_before}
 use Rattle.wg_encoder.specs.Gone.{HasSent}
+use Rattle.wg_encoder.specs.declared.summary.Summary.{Summary}
+
+-- how many bits the records have, and how many of them refer to a page before
+abbrev pub summary_of : Parameters → List (List ℕ) → Summary
+summary_of p lists = record { bits = length (graph_bits p lists); referring = referring_pages p lists }
+
+-- an archive, and what its records come to
+pub record Summarized : Type 0 where
+  pub files : Archive
+  pub summary : Summary
+
+-- the greedy archive of these lists, with this properties text
+abbrev pub encoded : Parameters → List ℕ → List (List ℕ) → Summarized
+encoded p text lists =
+    record {
+      files = record { properties = text; graph = graph_file p lists; offsets = offsets_file p lists };
+      summary = summary_of p lists;
+    }
 
 -- How many lists were encoded, and how many numbers they have; where the record that comes next stands; and the graph
 -- file and the offsets file as far as they have gone out.

@@ -1,7 +1,7 @@
 -- What fields take.
 use Rattle.std.specs.Prelude.{◌≡◌, ℕ, ◌-◌, ◌≤◌, if◌then◌else◌, List, length, Option, Some, None}
 use Rattle.std.specs.Option.{ForSome}
-use Rattle.wg_encoder.specs.Fields.{Written, bits_of_fields, all_have_words}
+use Rattle.wg_greedy.specs.Fields.{Written, bits_of_fields, all_have_words}
 
 -- their bits, where each value has a word
 abbrev pub cost_of : List Written → Option ℕ

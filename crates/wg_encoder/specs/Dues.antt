@@ -11,7 +11,7 @@ use Rattle.wg_encoder.specs.declared.blocks.BlockTally.{BlockTally}
 use Rattle.wg_encoder.specs.declared.extras.ExtraTally.{ExtraTally}
 use Rattle.wg_encoder.specs.declared.intervals.IntervalTally.{IntervalTally}
 use Rattle.wg_encoder.specs.declared.residuals.ResidualTally.{ResidualTally}
-use Rattle.wg_encoder.specs.Fields.{Written, written, stored_blocks, has_some, count_fields, interval_fields, residual_fields}
+use Rattle.wg_greedy.specs.Fields.{Written, written, stored_blocks, has_some, count_fields, interval_fields, residual_fields}
 
 -- ---- blocks
 

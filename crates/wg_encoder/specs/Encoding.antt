@@ -7,8 +7,8 @@ use Rattle.wg_params.specs.Parameters.{Parameters}
 use Rattle.wg_graph.specs.Digraph.{Digraph, successors}
 use Rattle.wg_grammar.specs.Context.{Context}
 use Rattle.wg_encoder.specs.declared.choice.Choice.{Choice}
-use Rattle.wg_encoder.specs.Greedy.{known_of, known_after, size_of, is_candidate, chosen}
-use Rattle.wg_encoder.specs.Archive.{graph_bits, refers, referring_pages, offset_values}
+use Rattle.wg_greedy.specs.Greedy.{known_of, known_after, size_of, is_candidate, chosen}
+use Rattle.wg_greedy.specs.Archive.{graph_bits, refers, referring_pages, offset_values}
 
 -- ---- one list after the other
 

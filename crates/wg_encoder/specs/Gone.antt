@@ -1,5 +1,5 @@
 -- What has gone out of an archive, and what stands of its files if the writing stopped.
-use Rattle.std.specs.Prelude.{◌≡◌, ◌≢◌, ◌⊎◌, ℕ, ◌<◌, ◌^◌, Bool, List, ◌++◌, length, take, All, Option, Some, Result}
+use Rattle.std.specs.Prelude.{◌≡◌, ◌≢◌, ◌⊎◌, ℕ, Bool, List, ◌++◌, Option, Some, Result}
 use Rattle.std.specs.Prelude.{IsTrue, IfOk, IfErr, OnErr}
 use Rattle.std.specs.FinMap as fin
 use Rattle.wg_io.specs.Outside.{Files, Counts, Increased, NonDecreasing}
@@ -10,14 +10,11 @@ use Rattle.wg_io.specs.declared.depot.Depot as depot
 use Rattle.wg_bits.specs.Bits.{bits_of}
 use Rattle.wg_bits.specs.Written.{HasPut, HasPutLess}
 use Rattle.wg_params.specs.Parameters.{Parameters}
-use Rattle.wg_encoder.specs.Archive.{graph_bits, offsets_bits, graph_file, offsets_file}
+use Rattle.wg_greedy.specs.Archive.{graph_bits, offsets_bits, graph_file, offsets_file}
+use Rattle.wg_greedy.specs.Held.{AreBytes, HoldsFront, HoldsLess}
 use Rattle.wg_encoder.specs.Encoding.{Encoded, Encoding, lists_before, words_before}
 use Rattle.wg_encoder.specs.declared.error.EncodeError.{EncodeError}
 use Rattle.wg_encoder.specs.declared.error.EncodeError.TheVariants as error
-
--- each number is a byte
-abbrev pub AreBytes : List ℕ → Type 0
-AreBytes bytes = All (λ b. b < 2 ^ 8) bytes
 
 -- The file is there, and its bits and those that wait to go out are these bits.
 pub record HasSent (file : Option (List ℕ)) (waits bits : List Bool) : Type 0 where
@@ -25,14 +22,6 @@ pub record HasSent (file : Option (List ℕ)) (waits bits : List Bool) : Type 0 
   pub there : file ≡ Some sent
   pub bytes : AreBytes sent
   pub all : bits_of sent ++ waits ≡ bits
-
--- the file holds a prefix of a text
-abbrev pub HoldsFront : Option (List ℕ) → List ℕ → Type 0
-HoldsFront file text = (k : ℕ) × (file ≡ Some (take k text))
-
--- the file holds a proper prefix of a text
-abbrev pub HoldsLess : Option (List ℕ) → List ℕ → Type 0
-HoldsLess file text = (k : ℕ) × (k < length text) × (file ≡ Some (take k text))
 
 -- no file but the graph file and the offsets file has changed
 abbrev pub OnlyTwo : List ℕ → Files → Files → Type 0

@@ -1,7 +1,7 @@
 -- What a record in memory tells.
 use Rattle.std.specs.Prelude.{ℕ, ◌+◌, ◌<◌, ◌≤◌, ◌^◌, List, [], ◌∷◌}
 use Rattle.wg_encoder.specs.declared.held.HeldField.{HeldField}
-use Rattle.wg_encoder.specs.Fields.{Written, written}
+use Rattle.wg_greedy.specs.Fields.{Written, written}
 
 -- the field that is held
 abbrev pub as_written : HeldField → Written

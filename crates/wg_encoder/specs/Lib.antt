@@ -1,10 +1,6 @@
-pub mod Fields
-pub mod Greedy
-pub mod Archive
 pub mod Cost
 pub mod Dues
 pub mod Sharing
-pub mod Laws
 pub mod Encoding
 pub mod InMemory
 pub mod Gone

@@ -18,8 +18,7 @@ pub struct EncodedArchive {
 
 impl Model for EncodedArchive {
     ghost use Rattle.std.specs.Prelude.{[]};
-    ghost use Rattle.wg_encoder.specs.Archive.{Summarized};
-    ghost use Rattle.wg_encoder.specs.ArchiveInMemory.{archive_of, HoldsArchive};
+    ghost use Rattle.wg_encoder.specs.ArchiveInMemory.{Summarized, archive_of, HoldsArchive};
 
     ghost Value = { Summarized };
 

@@ -4,9 +4,8 @@ ghost use Rattle.std.specs.FinMap as fin;
 ghost use Rattle.wg_io.specs.Suffixes.{graph_name, offsets_name};
 ghost use Rattle.wg_params.specs.Parameters.{Parameters};
 ghost use Rattle.wg_graph.specs.Digraph.{arc_count};
-ghost use Rattle.wg_encoder.specs.Archive.{encoded};
-ghost use Rattle.wg_encoder.specs.Laws.{IsList};
-ghost use Rattle.wg_encoder.specs.ArchiveInMemory.{HasEncoded};
+ghost use Rattle.wg_greedy.specs.Laws.{IsList};
+ghost use Rattle.wg_encoder.specs.ArchiveInMemory.{encoded, HasEncoded};
 ghost use Rattle.wg_encoder.specs.declared.error.EncodeError.TheVariants as errors;
 
 use crate::archive::EncodedArchive;

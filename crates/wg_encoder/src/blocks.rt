@@ -2,7 +2,7 @@
 ghost use Rattle.std.specs.Prelude.{◌≡◌, ℕ, ◌+◌, ◌-◌, ◌<◌, ◌^◌, ◌==◌, if◌then◌else◌, List, Bool, [], ◌∷◌};
 ghost use Rattle.wg_params.specs.Codes.{IsCode};
 ghost use Rattle.wg_blocks.specs.Canonical.{mask_of};
-ghost use Rattle.wg_encoder.specs.Fields.{copy_fields};
+ghost use Rattle.wg_greedy.specs.Fields.{copy_fields};
 ghost use Rattle.wg_encoder.specs.Cost.{room_after};
 ghost use Rattle.wg_encoder.specs.Dues.{dues_of_blocks, block_dues, IsWithin};
 

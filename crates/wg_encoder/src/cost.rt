@@ -3,7 +3,7 @@ ghost use Rattle.std.specs.Prelude.{◌≡◌, ◌≤◌, ◌↔◌, [], ◌∷�
 ghost use Rattle.wg_params.specs.Codes.{IsCode};
 ghost use Rattle.wg_codes.specs.Words.{top};
 ghost use Rattle.wg_grammar.specs.declared.fault.Field.{Field};
-ghost use Rattle.wg_encoder.specs.Fields.{written};
+ghost use Rattle.wg_greedy.specs.Fields.{written};
 ghost use Rattle.wg_encoder.specs.Cost.{room_after};
 
 use wg_codes::{holds, length};

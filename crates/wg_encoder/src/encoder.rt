@@ -4,9 +4,9 @@ ghost use Rattle.std.specs.FinMap as fin;
 ghost use Rattle.wg_io.specs.Outside.{Files, NonDecreasing};
 ghost use Rattle.wg_io.specs.Suffixes.{graph_name, offsets_name};
 ghost use Rattle.wg_graph.specs.Digraph.{IsGraph, arc_count};
-ghost use Rattle.wg_encoder.specs.Greedy.{size_of, is_candidate, chosen};
-ghost use Rattle.wg_encoder.specs.Archive.{graph_bits, referring_pages};
-ghost use Rattle.wg_encoder.specs.Laws.{IsList};
+ghost use Rattle.wg_greedy.specs.Greedy.{size_of, is_candidate, chosen};
+ghost use Rattle.wg_greedy.specs.Archive.{graph_bits, referring_pages};
+ghost use Rattle.wg_greedy.specs.Laws.{IsList};
 ghost use Rattle.wg_encoder.specs.Encoding.{lists_before, context_of, list_of};
 ghost use Rattle.wg_encoder.specs.Gone.{HasSentUpTo, IsWritten, HasStopped, HasFailed, OnlyTwo};
 

@@ -1,5 +1,5 @@
 ghost use Rattle.std.specs.Prelude.{◌≡◌, ◌<◌, ◌^◌};
-ghost use Rattle.wg_encoder.specs.Fields.{stored_gap};
+ghost use Rattle.wg_greedy.specs.Fields.{stored_gap};
 
 use wg_codes::fold;
 

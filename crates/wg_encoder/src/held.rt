@@ -2,7 +2,7 @@
 ghost use Rattle.std.specs.Prelude.{◌≡◌, ◌<◌, true, false, [], ◌∷◌, ◌++◌, OnOk, is_err};
 ghost use Rattle.wg_params.specs.Codes.{IsCode};
 ghost use Rattle.wg_bits.specs.Written.{Sends};
-ghost use Rattle.wg_encoder.specs.Fields.{written, bits_of_fields, all_have_words};
+ghost use Rattle.wg_greedy.specs.Fields.{written, bits_of_fields, all_have_words};
 
 use std::alloc::{AllocError, Global};
 use std::marker::Model;
@@ -29,7 +29,7 @@ pub(crate) struct HeldRecord {
 impl Model for HeldRecord {
     ghost use Rattle.std.specs.Prelude.{List, All, map};
     ghost use Rattle.wg_params.specs.Codes.{IsCode};
-    ghost use Rattle.wg_encoder.specs.Fields.{Written};
+    ghost use Rattle.wg_greedy.specs.Fields.{Written};
     ghost use Rattle.wg_encoder.specs.InMemory.{as_written};
 
     ghost Value = { List Written };

@@ -1,10 +1,4 @@
-//! What is written of a graph: its records, and the graph file and the offsets file that they make.
-//!
-//! A page may be written with no reference, or with one to a page before it that has a list to copy from. For each of
-//! these candidates there is one canonical record: the copy blocks are those of `wg_blocks`, the intervals and
-//! residuals those of `wg_intervals`. The greedy archive has for each page, in order, the candidate with the fewest
-//! bits, and of several the one with the smallest reference. The references that were chosen before bear on it by their
-//! depths alone, where the archive limits chains.
+//! Writes the greedy archive of a graph, which `wg_greedy` defines: for each page the shortest of its candidates.
 //!
 //! An [`Encoder`] takes the lists of a graph's pages 0, 1 and so on, each once, and keeps a copy of those that a
 //! reference may name, with their depths: at most as many as the archive's window, each with room for at most twice its
@@ -32,17 +26,11 @@
 //! Ok(())
 //! ```
 //!
-//! The definitions give the fields of a record with their codes and stored values, the reference that is chosen, and
-//! the bytes of the two files. The functions of [`laws`] state that no candidate's record is shorter than the one that
-//! is written, that the bytes of the files are their bits, and that these files are accepted and have the graph.
+//! The functions of [`laws`] state that no candidate's record is shorter than the one that is written, that the bytes
+//! of the files are their bits, and that these files are accepted and have the graph.
 //!
 //! Choices:
 //!
-//! - The shortest archive under a limit of chains would need a look ahead: a page gives up its shortest record for
-//!   the sake of later ones. The greedy archive needs the depths of the window alone. *Revisit if* a look ahead
-//!   spares some bits in a hundred on real crawls.
-//! - A page without successors has one record, whatever its reference. So the tie goes to 0, and the definition needs
-//!   no case for it. *Revisit if* the definition has to leave out such pages for another reason.
 //! - What a candidate takes is counted down from what the best so far takes: no sum can overflow, and a candidate is
 //!   left when nothing is left. From a limit that no record reaches the same count is exact, so that `cost` and the
 //!   choice have one body. *Revisit if* a table spares the passes over two lists.
@@ -76,7 +64,6 @@ mod gap;
 mod held;
 mod intervals;
 mod kept;
-pub mod laws;
 mod list_encoder;
 mod lists;
 mod making;
@@ -92,3 +79,4 @@ pub use archive::EncodedArchive;
 pub use archive_encoder::{ArchiveEncoder, encode};
 pub use encoder::Encoder;
 pub use error::EncodeError;
+pub use wg_greedy::laws;

@@ -10,9 +10,9 @@ ghost use Rattle.wg_graph.specs.Ascending.{Ascends, Below};
 ghost use Rattle.wg_grammar.specs.Context.{referenced, depth_of};
 ghost use Rattle.wg_grammar.specs.Refusal.{passes};
 ghost use Rattle.wg_decoder.specs.Remembered.{Serves};
-ghost use Rattle.wg_encoder.specs.Greedy.{canonical, size_of, is_candidate, chosen};
+ghost use Rattle.wg_greedy.specs.Greedy.{canonical, size_of, is_candidate, chosen};
 ghost use Rattle.wg_encoder.specs.Cost.{cost_of, IsFewer};
-ghost use Rattle.wg_encoder.specs.Laws.{IsList};
+ghost use Rattle.wg_greedy.specs.Laws.{IsList};
 ghost use Rattle.wg_encoder.specs.Encoding.{offer_of, IsChosen, HasWritten};
 ghost use Rattle.wg_encoder.specs.Gone.{HasSentAll};
 ghost use Rattle.wg_encoder.specs.Sharing.{shares};
@@ -61,7 +61,7 @@ pub(crate) struct ListEncoder {
 impl Model for ListEncoder {
     ghost use Rattle.std.specs.Prelude.{◌≡◌, ◌<◌, ◌≤◌, ◌^◌, false};
     ghost use Rattle.wg_decoder.specs.Remembered.{Serves};
-    ghost use Rattle.wg_encoder.specs.Laws.{enough_bits};
+    ghost use Rattle.wg_greedy.specs.Laws.{enough_bits};
     ghost use Rattle.wg_encoder.specs.Encoding.{Encoded};
 
     ghost Value = { Encoded };

@@ -1,7 +1,7 @@
 // The pass over a list and the list that it refers to.
 ghost use Rattle.std.specs.Prelude.{◌≡◌, ◌<◌, ◌^◌, ◌++◌};
 ghost use Rattle.wg_graph.specs.Ascending.{Ascends, Below};
-ghost use Rattle.wg_encoder.specs.Fields.{extras, copy_fields, extra_fields};
+ghost use Rattle.wg_greedy.specs.Fields.{extras, copy_fields, extra_fields};
 ghost use Rattle.wg_encoder.specs.Cost.{room_after};
 
 use crate::blocks::BlockTally;

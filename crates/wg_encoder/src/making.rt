@@ -1,7 +1,7 @@
 // A whole record, made from the two lists.
 ghost use Rattle.std.specs.Prelude.{◌≡◌, ◌<◌, ◌^◌, ◌++◌, length, OnOk};
 ghost use Rattle.wg_graph.specs.Ascending.{Ascends, Below};
-ghost use Rattle.wg_encoder.specs.Fields.{count_fields, extra_fields, reference_fields, copy_fields, list_fields, record_fields};
+ghost use Rattle.wg_greedy.specs.Fields.{count_fields, extra_fields, reference_fields, copy_fields, list_fields, record_fields};
 
 use crate::held::HeldRecord;
 use crate::parts::{add_blocks, add_intervals, add_residuals, fill_extras};
@@ -25,7 +25,7 @@ pub(crate) struct Draft {
 
 impl Model for Draft {
     ghost use Rattle.std.specs.Prelude.{List};
-    ghost use Rattle.wg_encoder.specs.Fields.{Written};
+    ghost use Rattle.wg_greedy.specs.Fields.{Written};
 
     ghost Value = { List Written };
 

@@ -5,7 +5,7 @@ ghost use Rattle.wg_graph.specs.Ascending.{Ascends, Below};
 ghost use Rattle.wg_intervals.specs.Canonical.{ends_and_lengths};
 ghost use Rattle.wg_intervals.specs.declared.run.Run.{Run};
 ghost use Rattle.wg_grammar.specs.declared.fault.Field.TheVariants as field;
-ghost use Rattle.wg_encoder.specs.Fields.{written, stored_blocks, block_fields, interval_fields, residual_fields, extras};
+ghost use Rattle.wg_greedy.specs.Fields.{written, stored_blocks, block_fields, interval_fields, residual_fields, extras};
 ghost use Rattle.wg_encoder.specs.InMemory.{AreLowRuns};
 
 use crate::blocks::stored_block;

@@ -13,10 +13,10 @@ use Rattle.wg_graph.specs.Digraph.{Digraph, arc_count}
 use Rattle.wg_offsets.specs.Places.{last_place}
 use Rattle.wg_offsets.specs.Words.{places_of}
 use Rattle.wg_grammar.specs.Archive.{Accepted}
-use Rattle.wg_encoder.specs.Archive.{Archive, graph_bits, graph_file, offset_values, offsets_file}
-use Rattle.wg_encoder.specs.Laws.{IsAcceptedArchive}
-use Rattle.wg_encoder.proofs.Accepted.{greedy_accepted}
-use Rattle.wg_encoder.proofs.ProperRecord.{canonical_proper}
+use Rattle.wg_greedy.specs.Archive.{Archive, graph_bits, graph_file, offset_values, offsets_file}
+use Rattle.wg_greedy.specs.Laws.{IsAcceptedArchive}
+use Rattle.wg_greedy.proofs.Accepted.{greedy_accepted}
+use Rattle.wg_greedy.proofs.ProperRecord.{canonical_proper}
 use Rattle.wg_arcs.specs.Reading.{AreArcs, IsListed, arcs_in}
 use Rattle.wg_arcs.specs.Text.{text_of_arcs, text_of_graph}
 use Rattle.wg_arcs.specs.declared.fault.ArcsKind.{ArcsKind}

@@ -13,7 +13,7 @@ use Rattle.wg_ascii.proofs.ReadBack as texts
 use Rattle.wg_words.specs.declared.jobs.Job.TheVariants.{Ascii, Import, Recode}
 use Rattle.wg_params.specs.declared.layout.Layout.{Layout}
 use Rattle.wg_outcomes.specs.Judged.{Judged, accepted, built, output_of, status_of, unless_bad_text, with_text}
-use Rattle.wg_encoder.specs.Archive.{Archive}
+use Rattle.wg_greedy.specs.Archive.{Archive}
 use Rattle.wg_outcomes.specs.Readings.{Readings}
 use Rattle.wg_outcomes.specs.declared.status.Input.{Input}
 use Rattle.wg_outcomes.specs.declared.status.Input.TheVariants.{Text}

@@ -10,7 +10,7 @@ use Rattle.wg_shape.specs.Quotient.{quotient_of}
 use Rattle.wg_shape.proofs.Fewer.{fewer}
 use Rattle.wg_shape.proofs.Quotients.{is_quotient}
 use Rattle.wg_outcomes.specs.Judged.{Judged, accepted, built, map_then, status_of, unless_bad_map, with_map}
-use Rattle.wg_encoder.specs.Archive.{Archive}
+use Rattle.wg_greedy.specs.Archive.{Archive}
 use Rattle.wg_outcomes.specs.Readings.{Readings}
 use Rattle.wg_outcomes.specs.declared.status.Input.TheVariants.{Map}
 use Rattle.wg_outcomes.specs.declared.status.Status.TheVariants.{BadMap}

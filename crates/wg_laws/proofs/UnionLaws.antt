@@ -17,7 +17,7 @@ use Rattle.wg_shape.specs.Graphs.{union_graph}
 use Rattle.wg_shape.proofs.GraphUnions.{is_union}
 use Rattle.wg_arcs.specs.Text.{text_of_graph}
 use Rattle.wg_outcomes.specs.Judged.{Judged, accepted, built, certified, refused, status_of, unless_bad_offsets, unless_some_differ, with_archive, with_digraph, with_file, with_graph, with_lengths, with_offsets, with_parameters, with_records}
-use Rattle.wg_encoder.specs.Archive.{Archive}
+use Rattle.wg_greedy.specs.Archive.{Archive}
 use Rattle.wg_outcomes.specs.Readings.{Readings}
 use Rattle.wg_outcomes.specs.Second.{as_second, of_second, second_held}
 use Rattle.wg_outcomes.specs.declared.status.Input.{Input}

@@ -5,7 +5,7 @@ use Rattle.wg_params.specs.Parameters.{Parameters, IsWithinLimits, params_of}
 use Rattle.wg_graph.specs.Digraph.{Digraph, IsGraph, arc_count}
 use Rattle.wg_graph.specs.Arcs.{has_arc}
 use Rattle.wg_offsets.specs.Words.{places_of}
-use Rattle.wg_encoder.specs.Archive.{Archive, graph_bits, offset_values}
+use Rattle.wg_greedy.specs.Archive.{Archive, graph_bits, offset_values}
 use Rattle.wg_num.specs.Lines.{lines_of}
 use Rattle.wg_arcs.specs.Reading.{arcs_in}
 use Rattle.wg_arcs.specs.Text.{text_of_arcs, text_of_graph}

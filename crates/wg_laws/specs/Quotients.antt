@@ -8,7 +8,7 @@ use Rattle.wg_shape.specs.Quotient.{IsQuotient}
 use Rattle.wg_arcs.specs.Numbers.{numbers_of}
 use Rattle.wg_arcs.specs.Text.{text_of_graph}
 use Rattle.wg_words.specs.declared.jobs.Job.TheVariants.{Arcs, Check, Quotient}
-use Rattle.wg_encoder.specs.Archive.{Archive}
+use Rattle.wg_greedy.specs.Archive.{Archive}
 use Rattle.wg_outcomes.specs.Judged.{accepted, built}
 use Rattle.wg_outcomes.specs.Ranked.{HoldGraph}
 use Rattle.wg_outcomes.specs.Readings.{Readings}

@@ -7,7 +7,7 @@ use Rattle.wg_arcs.specs.Text.{text_of_graph}
 use Rattle.wg_words.specs.declared.jobs.Job.TheVariants.{Arcs, Check, Union}
 use Rattle.wg_params.specs.declared.layout.Layout.{Layout}
 use Rattle.wg_outcomes.specs.Judged.{accepted, built}
-use Rattle.wg_encoder.specs.Archive.{Archive}
+use Rattle.wg_greedy.specs.Archive.{Archive}
 use Rattle.wg_outcomes.specs.Readings.{Readings}
 use Rattle.wg_outcomes.specs.Second.{second_held}
 use Rattle.wg_outcomes.specs.declared.status.Input.{Input}

@@ -15,7 +15,7 @@ use Rattle.wg_words.specs.declared.jobs.Job.{Job}
 use Rattle.wg_params.specs.declared.layout.Layout.{Layout}
 use Rattle.wg_outcomes.specs.Commands.{builds, greedy_line, written_by}
 use Rattle.wg_outcomes.specs.Judged.{Written, an_archive, files_of, output_of, status_of}
-use Rattle.wg_encoder.specs.Archive.{Archive}
+use Rattle.wg_greedy.specs.Archive.{Archive}
 use Rattle.wg_outcomes.specs.Promised.{ArePromised, promised_in}
 use Rattle.wg_outcomes.specs.JobFiles.{can_end, has_output, input_name, output_name, writes_files}
 use Rattle.wg_outcomes.specs.Names.{archive_named, held_by}

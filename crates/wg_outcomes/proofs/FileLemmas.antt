@@ -8,8 +8,8 @@ use Rattle.wg_graph.proofs.Copies.{sum_cons}
 use Rattle.wg_offsets.specs.Places.{last_place}
 use Rattle.wg_offsets.specs.Words.{places_of}
 use Rattle.wg_offsets.proofs.WordsLemmas.{length_ends}
-use Rattle.wg_encoder.specs.Archive.{graph_bits, offset_values, record_bits}
-use Rattle.wg_encoder.proofs.Totals.{values_sum}
+use Rattle.wg_greedy.specs.Archive.{graph_bits, offset_values, record_bits}
+use Rattle.wg_greedy.proofs.Totals.{values_sum}
 use Rattle.wg_outcomes.specs.Judged.{Judged, refused, with_file}
 use Rattle.wg_outcomes.specs.declared.status.Input.{Input}
 use Rattle.wg_outcomes.specs.declared.status.Status.TheVariants.{OverLimit}

@@ -19,7 +19,7 @@ use Rattle.wg_outcomes.specs.Answers.{Answers, HasOutput, IsPutLast, IsUnput, st
 use Rattle.wg_outcomes.specs.Causes.{AreFaultless, HasCause, IncreasedAt}
 use Rattle.wg_outcomes.specs.Commands.{judged, written_by}
 use Rattle.wg_outcomes.specs.Judged.{Judged, accepted, files_of, output_of, status_of, Written, an_archive, a_certificate, refused}
-use Rattle.wg_encoder.specs.Archive.{Archive}
+use Rattle.wg_greedy.specs.Archive.{Archive}
 use Rattle.wg_outcomes.specs.Promised.{ArePromised, promised_in}
 use Rattle.wg_outcomes.specs.JobFiles.{can_end, has_input, input_name, output_name, writes_files}
 use Rattle.wg_outcomes.specs.Names.{held_by, no_outputs, IsOfInput}

@@ -3,7 +3,7 @@ use Rattle.std.specs.Prelude.{◌≡◌, ℕ, ◌+◌, ◌<◌, ◌≤◌, List,
 use Rattle.wg_io.specs.Outside.{Files}
 use Rattle.wg_params.specs.Parameters.{Parameters, IsWithinLimits}
 use Rattle.wg_graph.specs.Digraph.{Digraph, IsGraph, arc_count}
-use Rattle.wg_encoder.specs.Archive.{graph_bits, referring_pages}
+use Rattle.wg_greedy.specs.Archive.{graph_bits, referring_pages}
 use Rattle.wg_rank.specs.Intervals.{Intervals}
 use Rattle.wg_order.specs.Order.{Positions, best}
 use Rattle.wg_order.specs.Summary.{is_sure, sure_pages}

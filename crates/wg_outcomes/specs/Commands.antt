@@ -8,7 +8,7 @@ use Rattle.wg_graph.specs.Digraph.{Digraph, arc_count}
 use Rattle.wg_grammar.specs.Laws.{graph_of}
 use Rattle.wg_shape.specs.Graphs.{union_graph}
 use Rattle.wg_rank.specs.Intervals.{Intervals}
-use Rattle.wg_encoder.specs.Archive.{graph_bits}
+use Rattle.wg_greedy.specs.Archive.{graph_bits}
 use Rattle.wg_shape.specs.Quotient.{quotient_of}
 use Rattle.wg_transpose.specs.Transposed.{transposed}
 use Rattle.wg_arcs.specs.Text.{text_of_graph}

@@ -8,8 +8,8 @@ use Rattle.wg_io.specs.declared.output.Output.TheVariants as output
 use Rattle.wg_params.specs.Parameters.{Parameters, params_of}
 use Rattle.wg_properties.specs.Text.{text_of}
 use Rattle.wg_graph.specs.Digraph.{Digraph, arc_count}
-use Rattle.wg_encoder.specs.Archive.{Archive, graph_file, offsets_file}
-use Rattle.wg_encoder.specs.Gone.{HoldsFront, HoldsLess}
+use Rattle.wg_greedy.specs.Archive.{Archive, graph_file, offsets_file}
+use Rattle.wg_greedy.specs.Held.{HoldsFront, HoldsLess}
 use Rattle.wg_params.specs.declared.layout.Layout.{Layout}
 use Rattle.wg_outcomes.specs.Answers.{status_in}
 use Rattle.wg_outcomes.specs.Causes.{IncreasedAt}

@@ -1,7 +1,7 @@
 //! One file that a job writes.
 ghost use Rattle.std.specs.Prelude.{◌≡◌, [], IsTrue, OnOk, IfErr, Some};
 ghost use Rattle.std.specs.FinMap as map;
-ghost use Rattle.wg_encoder.specs.Gone.{HoldsLess};
+ghost use Rattle.wg_greedy.specs.Held.{HoldsLess};
 ghost use Rattle.wg_outcomes.specs.Written.{TouchesBy};
 
 use crate::Ending;

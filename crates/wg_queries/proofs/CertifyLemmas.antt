@@ -8,7 +8,7 @@ use Rattle.wg_io.specs.Outside.{Files, Increased}
 use Rattle.wg_io.specs.Puts.{Puts}
 use Rattle.wg_io.specs.declared.output.Output.TheVariants.{Certificate, Out}
 use Rattle.wg_io.proofs.PutsLemmas.{is_that_err}
-use Rattle.wg_encoder.specs.Gone.{HoldsFront, HoldsLess}
+use Rattle.wg_greedy.specs.Held.{HoldsFront, HoldsLess}
 use Rattle.wg_rank.specs.Intervals.{Intervals}
 use Rattle.wg_outcomes.specs.Answers.{HasOutput, IsUnput, status_in}
 use Rattle.wg_outcomes.specs.Names.{certificate_to}

@@ -16,8 +16,8 @@ use Rattle.wg_bits.specs.Bits.{bits_of}
 use Rattle.wg_params.specs.Parameters.{Parameters, IsWithinLimits}
 use Rattle.wg_grammar.specs.declared.fault.ArchiveFault.{ArchiveFault}
 use Rattle.wg_grammar.specs.declared.fault.ArchiveFault.TheVariants as archive
-use Rattle.wg_stream.specs.Held.{Held}
-use Rattle.wg_stream.specs.Stepping.{HasCause as HasReadCause}
+use Rattle.wg_source.specs.Held.{Held}
+use Rattle.wg_source.specs.Stepping.{HasCause as HasReadCause}
 use Rattle.wg_stream.specs.Errors.{OfRefusal}
 use Rattle.wg_stream.specs.declared.error.PagesError.{PagesError}
 use Rattle.wg_stream.specs.declared.error.PagesError.TheVariants as errors

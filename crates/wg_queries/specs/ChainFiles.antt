@@ -3,8 +3,8 @@ use Rattle.std.specs.Prelude.{◌≡◌, ℕ, Bool, List, Some, IsTrue}
 use Rattle.std.specs.FinMap as map
 use Rattle.wg_io.specs.Outside.{Files, Counts}
 use Rattle.wg_bits.specs.Bits.{bits_of}
-use Rattle.wg_stream.specs.Held.{IsHeldOf}
-use Rattle.wg_stream.specs.Stepping.{Steps, Moves, HasCause}
+use Rattle.wg_source.specs.Held.{IsHeldOf}
+use Rattle.wg_source.specs.Stepping.{Steps, Moves, HasCause}
 use Rattle.wg_readings.specs.Sampling.{HasWordCause, IsSampledOn}
 use Rattle.wg_readings.specs.declared.found_file.FoundFile.{FoundFile}
 use Rattle.wg_readings.specs.declared.sampled.SampledFile.{SampledFile}

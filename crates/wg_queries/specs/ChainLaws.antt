@@ -6,9 +6,9 @@ use Rattle.wg_offsets.specs.Sampling.{Sampled, IsSampleOf}
 use Rattle.wg_offsets.specs.declared.error.WordError.{WordError}
 use Rattle.wg_offsets.specs.declared.error.WordError.TheVariants as words
 use Rattle.wg_io.specs.declared.whole.LoadError.{LoadError}
-use Rattle.wg_stream.specs.Held.{Held}
-use Rattle.wg_stream.specs.Stepping.{Moves}
-use Rattle.wg_stream.specs.StepLaws.{no_step, two_steps, step_moves, two_moves, there_after, cause_after}
+use Rattle.wg_source.specs.Held.{Held}
+use Rattle.wg_source.specs.Stepping.{Moves}
+use Rattle.wg_source.specs.StepLaws.{no_step, two_steps, step_moves, two_moves, there_after, cause_after}
 use Rattle.wg_readings.specs.Sampling.{HasWordCause}
 use Rattle.wg_readings.specs.declared.found_file.FoundFile.{FoundFile}
 use Rattle.wg_readings.specs.declared.sampled.SampledFile.{SampledFile}

@@ -1,7 +1,7 @@
 //! A certificate on its way into its file.
 ghost use Rattle.std.specs.Prelude.{◌≡◌, ◌⊎◌, [], IsTrue, OnOk, IfErr, Some};
 ghost use Rattle.std.specs.FinMap as map;
-ghost use Rattle.wg_encoder.specs.Gone.{HoldsLess};
+ghost use Rattle.wg_greedy.specs.Held.{HoldsLess};
 ghost use Rattle.wg_outcomes.specs.Ranked.{certificate_text};
 ghost use Rattle.wg_outcomes.specs.Written.{TouchesBy};
 

@@ -2,7 +2,7 @@
 ghost use Rattle.std.specs.Prelude.{◌≡◌, ◌<◌, false, Bool, List, ℕ, length, IsTrue, IfOk, IfErr};
 ghost use Rattle.wg_params.specs.Codes.{IsCode};
 ghost use Rattle.wg_grammar.specs.Standing.{IsReadAt, IsTailAt};
-ghost use Rattle.wg_stream.specs.Stepping.{Steps, Moves};
+ghost use Rattle.wg_source.specs.Stepping.{Steps, Moves};
 ghost use Rattle.wg_readings.specs.declared.sampled.SampledFile.{SampledFile};
 ghost use Rattle.wg_offsets.specs.Sampling.{Sampled};
 ghost use Rattle.wg_queries.specs.ChainFiles.{HasBits, HasChainCause, HasPlaces, ReadsBoth, ReadsOn};
@@ -17,7 +17,7 @@ use wg_offsets::{Extent, WordError};
 use wg_params::Code;
 use wg_random::Located;
 use wg_readings::{FoundFile, SampledFile, extent_of};
-use wg_stream::{FileSource, Seek};
+use wg_source::{FileSource, Seek};
 
 /// Which of the files was not read on, and why.
 pub enum Unread {

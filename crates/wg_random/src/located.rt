@@ -7,7 +7,7 @@ use wg_codes::Read;
 use wg_grammar::Source;
 use wg_offsets::{Extent, Offsets};
 use wg_params::Code;
-use wg_stream::Seek;
+use wg_source::Seek;
 
 /// A source of records that tells where the record of each page lies.
 pub trait Located: Seek {

@@ -24,8 +24,8 @@ use Rattle.wg_offsets.specs.declared.error.PlacesError.TheVariants as unread
 use Rattle.wg_offsets.specs.Words.{ReadsOffsets}
 use Rattle.wg_offsets.specs.declared.error.WordError.{WordError}
 use Rattle.wg_offsets.specs.declared.error.WordError.TheVariants as words
-use Rattle.wg_stream.specs.Held.{Held, IsHeldOf}
-use Rattle.wg_stream.specs.Stepping.{HasCause as HasReadCause}
+use Rattle.wg_source.specs.Held.{Held, IsHeldOf}
+use Rattle.wg_source.specs.Stepping.{HasCause as HasReadCause}
 use Rattle.wg_outcomes.specs.Answers.{Answers, Steps}
 use Rattle.wg_outcomes.specs.Causes.{IncreasedAt}
 use Rattle.wg_outcomes.specs.Judged.{Judged, status_of, with_lengths, with_offsets, offsets_then}

@@ -12,13 +12,13 @@ use Rattle.wg_grammar.specs.Archive.{Accepted}
 use Rattle.wg_stream.specs.declared.first.First.{First}
 use Rattle.wg_stream.specs.declared.first.First.TheVariants as first
 use Rattle.wg_stream.specs.FirstError.{of_first, OfGraph, OfOutside}
-use Rattle.wg_stream.specs.Held.{Held}
+use Rattle.wg_source.specs.Held.{Held}
 use Rattle.wg_grammar.specs.Record.{Whole}
 use Rattle.wg_stream.specs.declared.state.State.{State}
 use Rattle.wg_stream.specs.declared.state.State.TheVariants.{Open, Closed}
 use Rattle.wg_stream.specs.declared.stream_error.StreamError.TheVariants as errors
 use Rattle.wg_stream.specs.Reading.{Reading, AgreesIn, IsInStep, IsJudged}
-use Rattle.wg_stream.specs.Stepping.{HasCause as HasReadCause}
+use Rattle.wg_source.specs.Stepping.{HasCause as HasReadCause}
 use Rattle.wg_outcomes.specs.Answers.{Answers}
 use Rattle.wg_outcomes.specs.Causes.{HasCause}
 use Rattle.wg_outcomes.specs.Judged.{Judged, refused, status_of, with_file, with_graph}

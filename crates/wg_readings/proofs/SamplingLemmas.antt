@@ -12,9 +12,9 @@ use Rattle.wg_offsets.specs.declared.error.WordError.{WordError}
 use Rattle.wg_offsets.specs.declared.error.WordError.TheVariants as words
 use Rattle.wg_offsets.specs.declared.samples.TheConstants.{SAMPLED}
 use Rattle.wg_offsets.proofs.SamplesLemmas.{prefix_fits}
-use Rattle.wg_stream.specs.Held.{Held}
-use Rattle.wg_stream.specs.Stepping.{Moves, HasCause as HasReadCause}
-use Rattle.wg_stream.specs.StepLaws.{cause_after}
+use Rattle.wg_source.specs.Held.{Held}
+use Rattle.wg_source.specs.Stepping.{Moves, HasCause as HasReadCause}
+use Rattle.wg_source.specs.StepLaws.{cause_after}
 use Rattle.wg_readings.specs.Sampling.{HasWordCause, IsSampledOn}
 use Rattle.wg_readings.specs.declared.sampled.SampledFile.{SampledFile}
 

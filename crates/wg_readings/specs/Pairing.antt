@@ -14,7 +14,7 @@ use Rattle.wg_offsets.specs.declared.error.WordError.{WordError}
 use Rattle.wg_offsets.specs.declared.error.WordError.TheVariants as words
 use Rattle.wg_offsets.specs.declared.error.PlacesError.{PlacesError}
 use Rattle.wg_offsets.specs.declared.error.PlacesError.TheVariants as unread
-use Rattle.wg_stream.specs.Held.{IsHeldOf}
+use Rattle.wg_source.specs.Held.{IsHeldOf}
 use Rattle.wg_outcomes.specs.Answers.{Steps, status_in}
 use Rattle.wg_outcomes.specs.Causes.{HasCause}
 use Rattle.wg_outcomes.specs.Judged.{Judged, offsets_then, with_lengths}

@@ -9,7 +9,7 @@ use Rattle.wg_params.specs.Parameters.{Parameters}
 use Rattle.wg_offsets.specs.Sampling.{Sampled, IsSampleOf}
 use Rattle.wg_offsets.specs.declared.error.WordError.{WordError}
 use Rattle.wg_offsets.specs.declared.error.WordError.TheVariants as words
-use Rattle.wg_stream.specs.Stepping.{HasCause as HasReadCause}
+use Rattle.wg_source.specs.Stepping.{HasCause as HasReadCause}
 use Rattle.wg_outcomes.specs.Answers.{Steps}
 use Rattle.wg_outcomes.specs.Judged.{offsets_then}
 use Rattle.wg_outcomes.specs.Names.{file_of, held_by}

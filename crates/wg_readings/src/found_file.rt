@@ -10,7 +10,7 @@ use crate::lines::unread;
 use std::alloc::Global;
 use wg_io::Depot;
 use wg_outcomes::{Ending, Input, file_name, suffix};
-use wg_stream::Stretch;
+use wg_source::Stretch;
 use wg_words::Name;
 
 /// The name of a file that was found, and the piece of the file that is held.

@@ -5,8 +5,8 @@ ghost use Rattle.std.specs.FinMap as map;
 ghost use Rattle.wg_io.specs.Outside.{Files, Counts, NonDecreasing};
 ghost use Rattle.wg_bits.specs.Bits.{bits_of};
 ghost use Rattle.wg_params.specs.Parameters.{IsWithinLimits};
-ghost use Rattle.wg_stream.specs.Held.{IsHeldOf};
-ghost use Rattle.wg_stream.specs.Stepping.{Steps as StepsOn};
+ghost use Rattle.wg_source.specs.Held.{IsHeldOf};
+ghost use Rattle.wg_source.specs.Stepping.{Steps as StepsOn};
 ghost use Rattle.wg_offsets.specs.Stages.{AreRead};
 ghost use Rattle.wg_offsets.specs.Words.{ReadsOffsets};
 ghost use Rattle.wg_offsets.specs.Comparing.{AreCompared};
@@ -22,7 +22,7 @@ use wg_io::{Depot, LoadError, OFFSETS};
 use wg_offsets::{Comparison, OffsetWords, WordError};
 use wg_outcomes::{Ending, Input, Status};
 use wg_params::Params;
-use wg_stream::{FileSource, Stretch};
+use wg_source::{FileSource, Stretch};
 use wg_words::Name;
 
 /// An offsets file as far as it was read, and the lengths of the records as the graph file and this file tell them. The

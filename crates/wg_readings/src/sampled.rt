@@ -3,8 +3,8 @@ ghost use Rattle.std.specs.Prelude.{◌≡◌, ◌+◌, ◌<◌, ◌≤◌, ℕ,
 ghost use Rattle.std.specs.FinMap as map;
 ghost use Rattle.wg_bits.specs.Bits.{bits_of};
 ghost use Rattle.wg_params.specs.Parameters.{IsWithinLimits};
-ghost use Rattle.wg_stream.specs.Held.{IsHeldOf};
-ghost use Rattle.wg_stream.specs.Stepping.{Steps as StepsOn, Moves};
+ghost use Rattle.wg_source.specs.Held.{IsHeldOf};
+ghost use Rattle.wg_source.specs.Stepping.{Steps as StepsOn, Moves};
 ghost use Rattle.wg_readings.specs.Finding.{IsOpenOn};
 ghost use Rattle.wg_readings.specs.Pairing.{IsStopped, places_ending};
 ghost use Rattle.wg_readings.specs.Sampling.{HasWordCause, IsSampledBy, IsSampledOn, SamplesOffsetsBy};
@@ -17,7 +17,7 @@ use wg_io::{Depot, LoadError};
 use wg_offsets::{Extent, PlacesError, Samples, WordError};
 use wg_outcomes::{Ending, Input, Status};
 use wg_params::Params;
-use wg_stream::{FileSource, Seek};
+use wg_source::{FileSource, Seek};
 use wg_words::Name;
 
 /// An offsets file that was read to its end, and the samples of its places.

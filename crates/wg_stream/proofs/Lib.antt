@@ -1,9 +1,5 @@
 pub mod PrefixLemmas
 pub mod ErrorLemmas
-pub mod HeldLemmas
-pub mod NearLemmas
-pub mod FillLemmas
-pub mod TailLemmas
 pub mod FirstErrorLemmas
 pub mod ReadingLemmas
 pub mod AllRecords

@@ -4,7 +4,7 @@ use Rattle.wg_bits.specs.Bits.{bits_of}
 use Rattle.wg_grammar.specs.Record.{Whole}
 use Rattle.wg_stream.specs.declared.state.State.{State}
 use Rattle.wg_stream.specs.declared.state.State.TheVariants.{Open}
-use Rattle.wg_stream.specs.Held.{IsHeldOf}
+use Rattle.wg_source.specs.Held.{IsHeldOf}
 use Rattle.wg_stream.specs.Prefix.{AreBehind}
 use Rattle.wg_stream.specs.Reading.{Reading, AgreesIn, IsInStep, Stands}
 

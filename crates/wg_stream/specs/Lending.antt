@@ -9,7 +9,7 @@ use Rattle.wg_stream.specs.declared.stream_error.StreamError.{StreamError}
 use Rattle.wg_stream.specs.declared.stream_error.StreamError.TheVariants as errors
 use Rattle.wg_stream.specs.FirstError.{of_first}
 use Rattle.wg_stream.specs.Reading.{Reading, IsInStep}
-use Rattle.wg_stream.specs.declared.stretch.TheConstants.{MOST_HELD}
+use Rattle.wg_source.specs.declared.stretch.TheConstants.{MOST_HELD}
 use Rattle.wg_stream.specs.contracts.reader.Reader.{the_row}
 
 -- the reading comes to be one of which this holds

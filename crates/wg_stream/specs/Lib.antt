@@ -1,9 +1,6 @@
 pub mod Errors
 pub mod Prefix
 pub mod Nearest
-pub mod Held
-pub mod Stepping
-pub mod StepLaws
 pub mod FirstError
 pub mod Reading
 pub mod Lending

@@ -5,7 +5,7 @@
 //! the lists; whoever reads an archive in another way writes a loop of its own.
 //!
 //! [`Reader`] lends the lists of a graph file of a depot, which need not fit into memory. It owns a [`Pages`] and a
-//! [`Stretch`], the bytes that are held; a [`FileSource`] over these is the source of its words.
+//! `Stretch` of `wg_source`, the bytes that are held; a `FileSource` over these is the source of its words.
 //!
 //! ```text
 //! file in pieces --> Stretch --> FileSource --> Pages::next --> the list of the page --> kept, printed, counted
@@ -13,9 +13,6 @@
 //!                                                v    |
 //!                                              window of the lists before
 //! ```
-//!
-//! A record is also read on its own, by its place: a [`Seek`] is a source that goes to any offset of its bits, as a
-//! cursor and a [`FileSource`] do.
 //!
 //! A [`Sweep`] goes over the lists of bytes that are known to stand for a graph, in order and as often as one likes,
 //! and decodes each list from the bits again. It takes all its memory when it is made, so that no list can be wanting
@@ -39,39 +36,30 @@
 //!
 //! Memory is held for the lists of the window, each with room for at most twice its numbers, and for a few lists more
 //! while a record is read. A stretch is one piece of 4096 bytes; no bytes of a record are kept, however long it is. That
-//! a [`Reader`] keeps no more lists than the window has, that few wait, and that it holds at most [`MOST_HELD`] bytes, is
-//! said by clauses of its calls. The zeros of a long unary word are counted piece by piece, and a word that the end of a
-//! piece cuts is read when what follows it is there. A word that is held costs a comparison more than one from bytes in
-//! memory.
+//! a [`Reader`] keeps no more lists than the window has, that few wait, and that it holds at most
+//! [`MOST_HELD`](wg_source::MOST_HELD) bytes, is said by clauses of its calls.
 //!
 //! Of a source that cannot tell its bits it is still known that each list ascends, that its numbers are pages, and that
 //! all lists together have no more numbers than arcs are promised.
 #![tactic(auto)]
 
 mod error;
-mod file_source;
-mod filling;
 mod first;
 mod pages;
 mod parts;
 mod passed;
 mod reader;
 mod records;
-mod seek;
 mod standing;
 mod state;
 mod stream_error;
-mod stretch;
 mod sweep;
 
 pub use error::PagesError;
-pub use file_source::FileSource;
 pub use first::First;
 pub use pages::Pages;
 pub use passed::{Passed, pass};
 pub use reader::Reader;
 pub use records::read_graph;
-pub use seek::Seek;
 pub use stream_error::StreamError;
-pub use stretch::{MOST_HELD, Stretch};
 pub use sweep::Sweep;

@@ -6,15 +6,16 @@ ghost use Rattle.wg_grammar.specs.Record.{Whole};
 ghost use Rattle.wg_grammar.specs.Archive.{lists_of, places_of, ReadsGraph};
 ghost use Rattle.wg_stream.specs.Errors.{OfFault, IsOfGraph};
 ghost use Rattle.wg_stream.specs.FirstError.{Tells, Says, OfGraph, OfOutside};
-ghost use Rattle.wg_stream.specs.Held.{IsHeldOf};
+ghost use Rattle.wg_source.specs.Held.{IsHeldOf};
 ghost use Rattle.wg_stream.specs.Prefix.{AreBehind, IsOneMore};
 ghost use Rattle.wg_stream.specs.Reading.{IsJudged};
 ghost use Rattle.wg_stream.specs.declared.first.First.TheVariants as first;
-ghost use Rattle.wg_stream.specs.Stepping.{Steps, HasCause};
+ghost use Rattle.wg_source.specs.Stepping.{Steps, HasCause};
 
-use crate::{FileSource, First, Pages, PagesError, Stretch};
+use crate::{First, Pages, PagesError};
 use wg_grammar::ArchiveFault;
 use wg_io::{Depot, LoadError};
+use wg_source::{FileSource, Stretch};
 
 // The error of a reading. The records and the tail have no fault of the offsets.
 #[cold]

@@ -11,23 +11,24 @@ ghost use Rattle.wg_stream.specs.declared.state.State.TheVariants.{Open, Done, C
 ghost use Rattle.wg_stream.specs.declared.stream_error.StreamError.TheVariants as errors;
 ghost use Rattle.wg_stream.specs.FirstError.{of_first, OfOutside};
 ghost use Rattle.wg_stream.specs.Reading.{IsInStep, StaysInStep};
-ghost use Rattle.wg_stream.specs.Stepping.{HasCause};
+ghost use Rattle.wg_source.specs.Stepping.{HasCause};
 ghost use Rattle.wg_decoder.specs.declared.spares.TheConstants.{MOST_SPARES};
-ghost use Rattle.wg_stream.specs.declared.stretch.TheConstants.{MOST_HELD};
+ghost use Rattle.wg_source.specs.declared.stretch.TheConstants.{MOST_HELD};
 
 use crate::parts::go_on;
 use crate::state::State;
-use crate::{Pages, StreamError, Stretch};
+use crate::{Pages, StreamError};
 use std::alloc::{AllocError, Global};
 use std::marker::Model;
 use wg_io::Depot;
 use wg_params::Params;
+use wg_source::Stretch;
 
 /// A graph file that is read list after list, in pieces of at most 4096 bytes.
 ///
 /// It keeps no more lists of the pages before than the window of the parameters has, the list that it lends, and few
 /// lists more, whose memory is used again ([`spare_lists`](Reader::spare_lists)). Of the file it holds at most
-/// [`MOST_HELD`](crate::MOST_HELD) bytes, however long a record is: behind the record of a list that it has lent it has
+/// [`MOST_HELD`](wg_source::MOST_HELD) bytes, however long a record is: behind the record of a list that it has lent it has
 /// read no further than that. All this holds after each call, after an error too, and whatever the depot answers.
 #[derive(Debug)]
 pub struct Reader {

@@ -4,7 +4,7 @@ use Rattle.wg_io.specs.Outside.{Files, Counts}
 use Rattle.wg_io.specs.declared.depot.Depot as depot
 use Rattle.wg_params.specs.Parameters.{Parameters}
 use Rattle.wg_graph.specs.Digraph.{Digraph, arc_count}
-use Rattle.wg_encoder.specs.Archive.{Summarized}
+use Rattle.wg_encoder.specs.ArchiveInMemory.{Summarized}
 use Rattle.wg_readings.specs.Loading.{LoadsGraph}
 use Rattle.wg_writing.specs.Writing.{archive_of}
 

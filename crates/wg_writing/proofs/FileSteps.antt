@@ -12,8 +12,8 @@ use Rattle.wg_io.proofs.SuffixLemmas.{graph_offsets}
 use Rattle.wg_io.specs.declared.output.Output.{Output}
 use Rattle.wg_io.specs.declared.output.Output.TheVariants as output
 use Rattle.wg_encoder.proofs.FileNames.{properties_graph, properties_offsets}
-use Rattle.wg_encoder.specs.Archive.{Archive}
-use Rattle.wg_encoder.specs.Gone.{HoldsFront, HoldsLess}
+use Rattle.wg_greedy.specs.Archive.{Archive}
+use Rattle.wg_greedy.specs.Held.{HoldsFront, HoldsLess}
 use Rattle.wg_outcomes.specs.Answers.{status_in}
 use Rattle.wg_outcomes.specs.Names.{archive_named}
 use Rattle.wg_outcomes.specs.Causes.{IncreasedAt}

@@ -7,7 +7,8 @@ use Rattle.wg_params.specs.Parameters.{Parameters}
 use Rattle.wg_params.specs.declared.layout.Layout.{Layout}
 use Rattle.wg_properties.specs.Text.{text_of}
 use Rattle.wg_graph.specs.Digraph.{Digraph}
-use Rattle.wg_encoder.specs.Archive.{Archive, Summarized, encoded}
+use Rattle.wg_greedy.specs.Archive.{Archive}
+use Rattle.wg_encoder.specs.ArchiveInMemory.{Summarized, encoded}
 use Rattle.wg_outcomes.specs.Answers.{status_in}
 use Rattle.wg_outcomes.specs.Names.{archive_named}
 use Rattle.wg_outcomes.specs.Written.{ArchiveFiles, FaultsRose, FilesAfter, IsStopped, OthersStay, archive_in, params_for}

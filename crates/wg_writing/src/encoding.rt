@@ -2,9 +2,8 @@
 ghost use Rattle.std.specs.Prelude.{◌≡◌, ◌+◌, ◌<◌, ◌≤◌, ◌++◌, ◌∷◌, ℕ, List, [], length, IfOk, IfErr};
 ghost use Rattle.wg_properties.specs.Text.{text_of};
 ghost use Rattle.wg_graph.specs.Digraph.{arc_count};
-ghost use Rattle.wg_encoder.specs.Archive.{encoded};
-ghost use Rattle.wg_encoder.specs.ArchiveInMemory.{HasEncoded};
-ghost use Rattle.wg_encoder.specs.Laws.{IsList};
+ghost use Rattle.wg_encoder.specs.ArchiveInMemory.{encoded, HasEncoded};
+ghost use Rattle.wg_greedy.specs.Laws.{IsList};
 ghost use Rattle.wg_writing.specs.Writing.{archive_of};
 
 use std::alloc::{AllocError, Global};

@@ -1,7 +1,7 @@
 //! An archive in memory on its way into its three files. The properties come last: until they are whole, no one takes
 //! the files for an archive.
 ghost use Rattle.std.specs.Prelude.{◌≡◌, ℕ, List, IsTrue, IfOk, IfErr};
-ghost use Rattle.wg_encoder.specs.Archive.{Archive};
+ghost use Rattle.wg_greedy.specs.Archive.{Archive};
 ghost use Rattle.wg_outcomes.specs.Written.{ArchiveFiles, archive_in, emptied};
 ghost use Rattle.wg_writing.specs.Writing.{WritesFilesBy, names_of, whole};
 

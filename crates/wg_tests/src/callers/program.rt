@@ -139,6 +139,12 @@ fn an_archive_is_transposed(rt: HostRuntime) -> Result<(), Fail> {
     Ok(())
 }
 
+// In the overview of wg_greedy.
+#[test]
+fn laws_of_greedy_archives(_rt: HostRuntime) {
+    wg_greedy::laws::greedy_archives();
+}
+
 // In the overview of wg_laws.
 #[test]
 fn laws_of_readings_and_archives(_rt: HostRuntime) {

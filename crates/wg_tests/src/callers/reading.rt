@@ -6,14 +6,16 @@ use std::process::Abort;
 use std::sync::ledger::{Blank, Ledger};
 use std::test::Fail;
 use wg_bits::{Bits, Cursor};
+use wg_codes::Read;
 use wg_decoder::{Window, decode};
-use wg_grammar::OffsetWord;
+use wg_grammar::{OffsetWord, Source};
 use wg_graph::Lists;
 use wg_io::{Depot, SteadyDepot};
 use wg_offsets::OffsetsError;
 use wg_params::Code;
 use wg_random::{Archive, Records, Steps};
 use wg_shape::Coming;
+use wg_source::{FileSource, Seek, Stretch};
 use wg_stream::Reader;
 use wg_vectors::usual;
 
@@ -45,6 +47,22 @@ fn offsets_of_three_records(rt: HostRuntime) -> Result<(), Fail> {
     let word = OffsetWord::Cut(2);
     assert!(rt; cut.err() == Some(OffsetsError::Word(word)));
     Ok(())
+}
+
+// In the overview of wg_source.
+fn a_word_of_web<D: Depot>(rt: &impl Abort, depot: &mut D) -> Result<(), Fail> {
+    let mut held = Stretch::new();
+    let mut graph = FileSource::new(depot, "web.graph", &mut held);
+    assert!(rt; graph.go_to(12)?);
+    assert!(rt; graph.read(Code::Gamma)? == Read::Value(2));
+    Ok(())
+}
+
+#[test]
+fn a_word_of_a_graph_file(rt: HostRuntime) -> Result<(), Fail> {
+    let mut depot = SteadyDepot::new(rt.alloc(), 4096);
+    depot.put_file("web.graph", b"\x7D\xC6\xE0")?;
+    a_word_of_web(&rt, &mut depot)
 }
 
 // In the overview of wg_stream.
@@ -105,6 +123,17 @@ fn list_of_a_page<L: Ledger>(
     Ok(())
 }
 
+fn opened_pages<L: Ledger>(
+    rt: &impl Abort,
+    alloc: Global,
+    archive: &Archive<'_>,
+    steps: &mut Steps<L>,
+) -> Result<(), Fail> {
+    first_of_an_opened_page(rt, alloc, archive, steps)?;
+    list_of_a_page(rt, alloc, archive, steps)?;
+    successors_one_by_one(rt, alloc, archive, steps)
+}
+
 fn counted<L: Ledger>(rt: &impl Abort, alloc: Global, blank: Blank) -> Result<(), Fail>
     requires name { blank.name ≡ L.name }
     requires parts { blank.parts ≡ L.parts }
@@ -113,9 +142,7 @@ fn counted<L: Ledger>(rt: &impl Abort, alloc: Global, blank: Blank) -> Result<()
     let (book, share) = blank.open::<L>();
     let mut steps = Steps::new(book, share);
     let records = Records::check(alloc, b"\x7D\xC6\xE0", usual(3, 4, 7, 3, 4)?)?;
-    first_of_an_opened_page(rt, alloc, &records.archive(), &mut steps)?;
-    list_of_a_page(rt, alloc, &records.archive(), &mut steps)?;
-    successors_one_by_one(rt, alloc, &records.archive(), &mut steps)
+    opened_pages(rt, alloc, &records.archive(), &mut steps)
 }
 
 #[test]

@@ -7,7 +7,8 @@ use wg_io::LoadError;
 use wg_offsets::{Extent, Samples};
 use wg_params::Code;
 use wg_random::{Archive, Records};
-use wg_stream::{PagesError, Seek};
+use wg_source::Seek;
+use wg_stream::PagesError;
 use wg_vectors::usual;
 
 // 011 1 1 1011 100  011 01 1  1: page 1 copies the list of page 0

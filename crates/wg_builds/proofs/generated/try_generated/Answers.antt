@@ -2,7 +2,7 @@ use Rattle.std.proofs.Common.{◌∙◌, List, ℕ, ap, sym, subst}
 use Rattle.wg_vectors.specs.Generated.{generated}
 use Rattle.wg_outcomes.specs.Bulk.{IsBuilt}
 use Rattle.wg_outcomes.proofs.WritingLemmas.{if_that_err}
-use Rattle.wg_encoder.specs.Archive.{Summarized}
+use Rattle.wg_encoder.specs.ArchiveInMemory.{Summarized}
 use Rattle.wg_builds.proofs.BulkLemmas.{built_in}
 use Rattle.wg_builds.proofs.generated.try_generated.Goals as goal
 

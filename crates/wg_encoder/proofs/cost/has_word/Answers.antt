@@ -4,7 +4,7 @@ use Rattle.wg_params.specs.Codes.{IsCode}
 use Rattle.wg_params.specs.declared.code.Code.{Code}
 use Rattle.wg_params.specs.declared.code.Code.TheVariants.{Unary, Gamma, Delta, Zeta, Nibble}
 use Rattle.wg_codes.specs.Words.{top}
-use Rattle.wg_encoder.proofs.NoReference.{zeta_holds}
+use Rattle.wg_greedy.proofs.NoReference.{zeta_holds}
 use Rattle.wg_encoder.proofs.cost.has_word.Goals as goal
 
 low_held : (code : Code) (v : ℕ) → IsCode code → v < 2 ^ 32 → v ≤ top code

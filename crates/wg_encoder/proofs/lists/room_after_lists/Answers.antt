@@ -3,7 +3,7 @@ use Rattle.std.proofs.lemmas.List.{drop_more, drop_all}
 use Rattle.wg_graph.specs.Ascending.{Ascends, Below}
 use Rattle.wg_graph.proofs.Sets.{ascends_more}
 use Rattle.wg_blocks.specs.Canonical.{mask_of}
-use Rattle.wg_encoder.specs.Fields.{extras}
+use Rattle.wg_greedy.specs.Fields.{extras}
 use Rattle.wg_encoder.specs.Cost.{room_after}
 use Rattle.wg_encoder.specs.Dues.{block_dues, extra_dues}
 use Rattle.wg_encoder.proofs.Rooms.{none_left}

@@ -1,7 +1,7 @@
 use Rattle.std.proofs.Common.{◌≡◌, ◌++◌, drop}
 use Rattle.wg_graph.specs.Ascending.{Ascends}
 use Rattle.wg_blocks.specs.Canonical.{mask_of}
-use Rattle.wg_encoder.specs.Fields.{extras, copy_fields, extra_fields}
+use Rattle.wg_greedy.specs.Fields.{extras, copy_fields, extra_fields}
 use Rattle.wg_encoder.specs.Cost.{room_after}
 use Rattle.wg_encoder.specs.Dues.{block_dues, extra_dues, IsWithin, MayCome}
 use Rattle.wg_encoder.proofs.lists.room_after_lists.Given as goal

@@ -1,7 +1,7 @@
 use Rattle.std.proofs.Common.{◌≡◌, ◌∙◌, ◌/◌, ◌++◌, not, length, ap, subst, OnOk}
 use Rattle.std.specs.Prelude.{None}
 use Rattle.wg_intervals.specs.Canonical.{intervals_of}
-use Rattle.wg_encoder.specs.Fields.{residual_fields}
+use Rattle.wg_greedy.specs.Fields.{residual_fields}
 use Rattle.wg_encoder.proofs.Low.{intervals_low, residuals_low, some_there, half, extras_whole, on_ok}
 use Rattle.wg_encoder.proofs.making.add_extras.Goals as goal
 

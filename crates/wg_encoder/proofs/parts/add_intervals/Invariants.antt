@@ -2,7 +2,7 @@ use Rattle.std.proofs.Common.{◌≡◌, ◌*◌, List, ◌++◌, drop}
 use Rattle.std.specs.Prelude.{None}
 use Rattle.wg_intervals.specs.declared.run.Run.{Run}
 use Rattle.wg_intervals.specs.Canonical.{ends_and_lengths}
-use Rattle.wg_encoder.specs.Fields.{interval_fields}
+use Rattle.wg_greedy.specs.Fields.{interval_fields}
 use Rattle.wg_encoder.specs.InMemory.{AreLowRuns}
 use Rattle.wg_encoder.proofs.Adding.{Reaching}
 use Rattle.wg_encoder.proofs.parts.add_intervals.Given as goal

@@ -1,6 +1,6 @@
 use Rattle.std.proofs.Common.{◌≡◌, ◌++◌, map, drop}
 use Rattle.wg_grammar.specs.declared.fault.Field.TheVariants as field
-use Rattle.wg_encoder.specs.Fields.{written, stored_blocks}
+use Rattle.wg_greedy.specs.Fields.{written, stored_blocks}
 use Rattle.wg_encoder.proofs.Adding.{lengths_from}
 use Rattle.wg_encoder.proofs.parts.add_lengths.Given as goal
 

@@ -1,4 +1,4 @@
-use Rattle.wg_encoder.proofs.Extra.{below_at}
+use Rattle.wg_greedy.proofs.Extra.{below_at}
 use Rattle.wg_encoder.proofs.parts.add_residuals.Goals as goal
 
 pub stored_gap-requires-clause-number : goal.stored_gap-requires-clause-number

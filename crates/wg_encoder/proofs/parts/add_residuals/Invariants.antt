@@ -1,6 +1,6 @@
 use Rattle.std.proofs.Common.{◌≡◌, ◌++◌, drop}
 use Rattle.std.specs.Prelude.{None}
-use Rattle.wg_encoder.specs.Fields.{residual_fields}
+use Rattle.wg_greedy.specs.Fields.{residual_fields}
 use Rattle.wg_encoder.proofs.parts.add_residuals.Given as goal
 
 abbrev pub invariant-loop-y : goal.invariant-loop-y

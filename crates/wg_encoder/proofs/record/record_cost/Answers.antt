@@ -1,6 +1,6 @@
 use Rattle.std.proofs.Common.{arith}
 use Rattle.wg_grammar.specs.declared.fault.Field.TheVariants as field
-use Rattle.wg_encoder.specs.Fields.{record_fields}
+use Rattle.wg_greedy.specs.Fields.{record_fields}
 use Rattle.wg_encoder.proofs.Whole.{record_left}
 use Rattle.wg_encoder.proofs.Fewer.{none_left_fewer, left_fewer, left_within}
 use Rattle.wg_encoder.proofs.record.record_cost.Goals as goal

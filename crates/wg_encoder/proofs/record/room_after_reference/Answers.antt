@@ -1,6 +1,6 @@
 use Rattle.std.proofs.Common.{◌∷◌, [], ap, ◌∙◌, arith}
 use Rattle.wg_grammar.specs.declared.fault.Field.TheVariants as field
-use Rattle.wg_encoder.specs.Fields.{written}
+use Rattle.wg_greedy.specs.Fields.{written}
 use Rattle.wg_encoder.specs.Cost.{room_after}
 use Rattle.wg_encoder.proofs.Whole.{with_reference}
 use Rattle.wg_encoder.proofs.record.room_after_reference.Goals as goal

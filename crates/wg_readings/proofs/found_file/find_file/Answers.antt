@@ -4,7 +4,7 @@ use Rattle.std.proofs.lemmas.Result.{err_from_is_err_and}
 use Rattle.wg_io.specs.declared.whole.LoadError.{LoadError}
 use Rattle.wg_io.specs.declared.whole.LoadError.TheVariants as load
 use Rattle.wg_outcomes.specs.Names.{file_of}
-use Rattle.wg_stream.specs.Held.{Held}
+use Rattle.wg_source.specs.Held.{Held}
 use Rattle.wg_readings.proofs.FindingLemmas.{found_open, not_found}
 use Rattle.wg_readings.proofs.LoadLemmas.{loads_none}
 use Rattle.wg_readings.proofs.PassLemmas.{found_after}

@@ -1,7 +1,7 @@
 use Rattle.std.proofs.Common.{◌∙◌, ℕ, [], ◌∷◌, sym, ap, subst}
 use Rattle.wg_bits.specs.Bits.{bits_of}
 use Rattle.wg_offsets.specs.Stages.{AreRead, WordsRead}
-use Rattle.wg_stream.specs.Held.{Held}
+use Rattle.wg_source.specs.Held.{Held}
 use Rattle.wg_readings.proofs.PairingLemmas.{comes, looked_read, still_named, stopped_since, unread_held}
 use Rattle.wg_readings.proofs.pairing.begin_pairing.Goals as goal
 

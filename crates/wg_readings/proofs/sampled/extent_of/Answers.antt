@@ -1,7 +1,7 @@
 use Rattle.std.proofs.Common.{◌∙◌, ◌<◌, ℕ, List, length, rules, refl, ap, arith}
 use Rattle.std.specs.FinMap as map
 use Rattle.wg_bits.specs.Bits.{bits_of}
-use Rattle.wg_stream.specs.StepLaws.{there_after, step_moves, two_moves}
+use Rattle.wg_source.specs.StepLaws.{there_after, step_moves, two_moves}
 use Rattle.wg_readings.proofs.SamplingLemmas.{bit_fits, word_caused}
 use Rattle.wg_readings.proofs.sampled.extent_of.Goals as goal
 

@@ -1,9 +1,9 @@
 use Rattle.std.proofs.Common.{ℕ, sym, ap, subst, refl}
 use Rattle.std.proofs.lemmas.Result.{err_from_is_err_and}
 use Rattle.wg_bits.specs.Bits.{bits_of}
-use Rattle.wg_stream.specs.Held.{Held}
+use Rattle.wg_source.specs.Held.{Held}
 use Rattle.wg_stream.specs.Prefix.{AreBehind}
-use Rattle.wg_stream.specs.StepLaws.{still_there, two_steps, later_cause}
+use Rattle.wg_source.specs.StepLaws.{still_there, two_steps, later_cause}
 use Rattle.wg_stream.proofs.FirstErrorLemmas.{graph_weaker, load_graph, load_outside, outside_weaker}
 use Rattle.wg_stream.proofs.parts.go_on.Goals as goal
 

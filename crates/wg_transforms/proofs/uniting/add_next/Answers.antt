@@ -4,7 +4,7 @@ use Rattle.wg_params.specs.Parameters.{Parameters}
 use Rattle.wg_params.specs.declared.limits.TheConstants.{MOST_ARCS}
 use Rattle.wg_graph.specs.Digraph.{Digraph, arc_count}
 use Rattle.wg_encoder.specs.ArchiveInMemory.{EncodedSoFar, HasEncoded}
-use Rattle.wg_encoder.specs.Laws.{IsList}
+use Rattle.wg_greedy.specs.Laws.{IsList}
 use Rattle.wg_shape.specs.Graphs.{AreAt, both, lists_of, union_graph}
 use Rattle.wg_shape.proofs.GraphUnions.{both_ascends, both_below, part_le}
 use Rattle.wg_transforms.specs.Uniting.{IsUniting}

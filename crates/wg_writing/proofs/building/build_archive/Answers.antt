@@ -8,7 +8,8 @@ use Rattle.wg_io.proofs.PutsLemmas.{is_that_err}
 use Rattle.wg_params.specs.Parameters.{Parameters}
 use Rattle.wg_params.specs.declared.layout.Layout.{Layout}
 use Rattle.wg_graph.specs.Digraph.{Digraph}
-use Rattle.wg_encoder.specs.Archive.{Archive, Summarized}
+use Rattle.wg_greedy.specs.Archive.{Archive}
+use Rattle.wg_encoder.specs.ArchiveInMemory.{Summarized}
 use Rattle.wg_outcomes.specs.Answers.{HasOutput, IsUnput, status_in}
 use Rattle.wg_outcomes.specs.Commands.{greedy_line, ok_line}
 use Rattle.wg_outcomes.specs.Names.{archive_named}

@@ -1,8 +1,7 @@
 use Rattle.std.proofs.Common.{◌∙◌, ℕ, List, [], refl, sym, ap, subst}
 use Rattle.wg_io.specs.Memory.{SteadyFiles}
-use Rattle.wg_encoder.specs.Archive.{encoded}
 use Rattle.wg_encoder.specs.Gone.{HasSentAll}
-use Rattle.wg_encoder.specs.ArchiveInMemory.{EncodedSoFar, so_far, HasEncoded, HoldsArchive}
+use Rattle.wg_encoder.specs.ArchiveInMemory.{encoded, EncodedSoFar, so_far, HasEncoded, HoldsArchive}
 use Rattle.wg_encoder.proofs.InMemory.{as_sent, whole_archive, there, answered}
 use Rattle.wg_encoder.proofs.archive_encoder.ArchiveEncoder.finish.Goals as goal
 

@@ -1,7 +1,7 @@
 use Rattle.std.proofs.Common.{◌≡◌, ◌≤◌, true, Some, None, sym, subst, inl, inr, arith}
 use Rattle.std.proofs.lemmas.Bool.{cases_lt, cond-true}
 use Rattle.wg_encoder.specs.Cost.{IsFewer}
-use Rattle.wg_encoder.specs.Greedy.{size_of, is_candidate}
+use Rattle.wg_greedy.specs.Greedy.{size_of, is_candidate}
 use Rattle.wg_encoder.specs.Encoding.{offer_of}
 use Rattle.wg_encoder.proofs.choice.Choice.or.Goals as goal
 

@@ -1,7 +1,7 @@
 use Rattle.std.proofs.Common.{◌≡◌, ◌∙◌, ℕ, List, length, sym, ap, subst}
 use Rattle.std.specs.Result.{IfOk, IfErr, OnOk}
 use Rattle.wg_graph.specs.Digraph.{IsGraph}
-use Rattle.wg_encoder.specs.Archive.{graph_bits}
+use Rattle.wg_greedy.specs.Archive.{graph_bits}
 use Rattle.wg_encoder.specs.Encoding.{Encoding}
 use Rattle.wg_encoder.specs.Gone.{HasSentUpTo, HasStopped, IsWritten}
 use Rattle.wg_encoder.proofs.OfGraph.{front, whole_front}

@@ -1,7 +1,7 @@
 use Rattle.std.proofs.Common.{◌∷◌, ◌∙◌, ap, sym, subst, arith}
 use Rattle.wg_graph.specs.Numbers.{is_in}
 use Rattle.wg_graph.proofs.Sets.{in_tail}
-use Rattle.wg_encoder.specs.Fields.{extras}
+use Rattle.wg_greedy.specs.Fields.{extras}
 use Rattle.wg_encoder.specs.Cost.{room_after}
 use Rattle.wg_encoder.specs.Dues.{extra_dues, MayCome}
 use Rattle.wg_encoder.proofs.Both.{first_extra, extras_above}

@@ -1,7 +1,7 @@
 use Rattle.std.proofs.Common.{◌≡◌, ℕ, ◌≤◌, List, length}
 use Rattle.wg_graph.specs.Numbers.{is_in}
 use Rattle.wg_graph.specs.Ascending.{Ascends}
-use Rattle.wg_encoder.specs.Fields.{extras}
+use Rattle.wg_greedy.specs.Fields.{extras}
 use Rattle.wg_encoder.specs.Cost.{room_after}
 use Rattle.wg_encoder.specs.Dues.{extra_dues, MayCome}
 use Rattle.wg_encoder.proofs.extras.ExtraTally.add_below.Given as goal

@@ -1,7 +1,7 @@
 use Rattle.std.proofs.Common.{◌∙◌, sym, ap, map}
 use Rattle.std.proofs.lemmas.List.{append-nil}
 use Rattle.wg_bits.proofs.Sending.{sends_kept, sends_as}
-use Rattle.wg_encoder.specs.Fields.{bits_of_fields, all_have_words}
+use Rattle.wg_greedy.specs.Fields.{bits_of_fields, all_have_words}
 use Rattle.wg_encoder.specs.InMemory.{as_written}
 use Rattle.wg_encoder.proofs.Puts.{has_word, held_on, held_cut}
 use Rattle.wg_encoder.proofs.held.HeldRecord.write.Goals as goal

@@ -1,7 +1,7 @@
 use Rattle.std.proofs.Common.{◌+◌, ◌-◌, ◌∷◌, ◌∙◌, Some, ap}
 use Rattle.wg_params.specs.declared.code.Code.TheVariants.{Gamma}
 use Rattle.wg_grammar.specs.declared.fault.Field.TheVariants as field
-use Rattle.wg_encoder.specs.Fields.{written, interval_fields}
+use Rattle.wg_greedy.specs.Fields.{written, interval_fields}
 use Rattle.wg_encoder.specs.Cost.{room_after}
 use Rattle.wg_encoder.proofs.Rooms.{one_written}
 use Rattle.wg_encoder.proofs.intervals.IntervalTally.add.Goals as goal

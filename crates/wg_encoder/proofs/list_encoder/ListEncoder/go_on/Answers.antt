@@ -1,6 +1,6 @@
 use Rattle.std.proofs.Common.{◌∙◌, ◌∷◌, take, sym, ap, subst, arith}
 use Rattle.wg_decoder.specs.Remembered.{Remembered}
-use Rattle.wg_encoder.specs.Laws.{IsList}
+use Rattle.wg_greedy.specs.Laws.{IsList}
 use Rattle.wg_encoder.specs.Encoding.{Encoded}
 use Rattle.wg_encoder.proofs.Going.{ones_few, serves_on}
 use Rattle.wg_encoder.proofs.Chosen.{chosen_reach, stays_few_at}

@@ -1,7 +1,7 @@
 use Rattle.std.proofs.Common.{◌≡◌, ◌^◌, ◌∙◌, true, ap, arith}
 use Rattle.std.proofs.lemmas.Result.{on_ok_weaker}
 use Rattle.wg_graph.proofs.Sets.{below_more}
-use Rattle.wg_encoder.specs.Fields.{all_have_words, record_fields}
+use Rattle.wg_greedy.specs.Fields.{all_have_words, record_fields}
 use Rattle.wg_encoder.proofs.Chosen.{chosen_reach, chosen_words}
 use Rattle.wg_encoder.proofs.list_encoder.ListEncoder.make.Goals as goal
 

@@ -2,7 +2,7 @@ use Rattle.std.proofs.Common.{◌^◌, ◌<◌, ap, subst, refl, arith}
 use Rattle.std.specs.Option.{ForSome}
 use Rattle.wg_graph.proofs.Sets.{below_more}
 use Rattle.wg_encoder.specs.Encoding.{Encoded}
-use Rattle.wg_encoder.specs.Fields.{record_fields}
+use Rattle.wg_greedy.specs.Fields.{record_fields}
 use Rattle.wg_encoder.specs.Cost.{cost_of}
 use Rattle.wg_encoder.proofs.Choosing.{size_low}
 use Rattle.wg_encoder.proofs.list_encoder.ListEncoder.size_below.Goals as goal

@@ -2,7 +2,7 @@ use Rattle.std.proofs.Common.{◌≡◌, ◌∙◌, ◌++◌, ◌∷◌, [], len
 use Rattle.std.proofs.lemmas.Bool.{eqb-true}
 use Rattle.std.proofs.lemmas.Result.{on_ok_weaker}
 use Rattle.wg_grammar.specs.declared.fault.Field.TheVariants as field
-use Rattle.wg_encoder.specs.Fields.{written, list_fields}
+use Rattle.wg_greedy.specs.Fields.{written, list_fields}
 use Rattle.wg_encoder.proofs.Whole.{empty_record, whole_record}
 use Rattle.wg_encoder.proofs.making.Draft.fill.Goals as goal
 

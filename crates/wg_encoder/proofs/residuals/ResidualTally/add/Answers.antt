@@ -1,6 +1,6 @@
 use Rattle.std.proofs.Common.{◌∷◌, ◌∙◌, Some, ap}
 use Rattle.wg_grammar.specs.declared.fault.Field.TheVariants as field
-use Rattle.wg_encoder.specs.Fields.{written, residual_fields}
+use Rattle.wg_greedy.specs.Fields.{written, residual_fields}
 use Rattle.wg_encoder.specs.Cost.{room_after}
 use Rattle.wg_encoder.proofs.Rooms.{one_written}
 use Rattle.wg_encoder.proofs.residuals.ResidualTally.add.Goals as goal

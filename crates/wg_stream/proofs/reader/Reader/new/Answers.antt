@@ -1,6 +1,6 @@
 use Rattle.std.proofs.Common.{[], refl, sym, subst}
 use Rattle.wg_bits.specs.Bits.{bits_of}
-use Rattle.wg_stream.specs.Held.{IsHeldOf}
+use Rattle.wg_source.specs.Held.{IsHeldOf}
 use Rattle.wg_stream.proofs.reader.Reader.new.Goals as goal
 
 pub returns-clause-in_step : goal.returns-clause-in_step

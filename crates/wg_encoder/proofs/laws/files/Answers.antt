@@ -1,5 +1,0 @@
-use Rattle.wg_encoder.proofs.Bytes.{graph_again, offsets_again}
-use Rattle.wg_encoder.proofs.laws.files.Goals as goal
-
-pub returns : goal.returns
-returns c = λ p lists. (graph_again p lists, offsets_again p lists)

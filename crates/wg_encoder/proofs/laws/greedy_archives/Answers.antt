@@ -1,6 +1,0 @@
-use Rattle.wg_encoder.proofs.ProperRecord.{canonical_proper}
-use Rattle.wg_encoder.proofs.Accepted.{greedy_accepted}
-use Rattle.wg_encoder.proofs.laws.greedy_archives.Goals as goal
-
-pub returns : goal.returns
-returns c = greedy_accepted canonical_proper

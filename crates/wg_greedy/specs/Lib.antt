@@ -1,0 +1,5 @@
+pub mod Held
+pub mod Fields
+pub mod Greedy
+pub mod Archive
+pub mod Laws
