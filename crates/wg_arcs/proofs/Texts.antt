@@ -3,8 +3,8 @@ use Rattle.std.proofs.Common.{◌≡◌, ℕ, ◌+◌, ◌<◌, List, [], ◌∷
 use Rattle.std.proofs.lemmas.List.{map-append, take_more, take-append-drop}
 use Rattle.wg_lines.specs.Printing.{HasPrinted, HasPrintedLess}
 use Rattle.std.specs.Result.{IsErrAnd}
-use Rattle.wg_io.specs.Puts.{Puts, joined}
-use Rattle.wg_io.proofs.PutsLemmas.{puts_more, puts_front}
+use Rattle.wg_outside.specs.Puts.{Puts, joined}
+use Rattle.wg_outside.proofs.PutsLemmas.{puts_more, puts_front}
 use Rattle.wg_lines.proofs.PrintLemmas.{printed_more, less_after, less_before}
 use Rattle.wg_graph.specs.Digraph.{Digraph, successors}
 use Rattle.wg_graph.specs.Arcs.{arcs_from, arcs_of}

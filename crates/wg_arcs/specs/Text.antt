@@ -1,7 +1,7 @@
 -- The text of a graph: a line for each arc, ascending.
 use Rattle.std.specs.Prelude.{ℕ, ◌+◌, List, [], ◌∷◌, ◌++◌, map}
 use Rattle.wg_lines.specs.Printing.{pair_line}
-use Rattle.wg_io.specs.Puts.{joined}
+use Rattle.wg_outside.specs.Puts.{joined}
 use Rattle.wg_graph.specs.Digraph.{Digraph}
 
 -- the line of an arc: its two pages

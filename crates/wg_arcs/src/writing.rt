@@ -1,14 +1,14 @@
 ghost use Rattle.std.specs.Prelude.{◌≡◌, ◌≤◌, [], ◌++◌, take, codes, decimal, IsTrue, OnErr};
 ghost use Rattle.wg_lines.specs.Printing.{Prints};
-ghost use Rattle.wg_io.specs.Puts.{Puts};
-ghost use Rattle.wg_io.specs.Refusals.{SinkRefusals};
+ghost use Rattle.wg_outside.specs.Puts.{Puts};
+ghost use Rattle.wg_outside.specs.Refusals.{SinkRefusals};
 ghost use Rattle.wg_lines.specs.declared.lines.TheConstants.{MOST_START};
 ghost use Rattle.wg_arcs.specs.Text.{page_lines, text_of_graph};
 
 use wg_graph::Graph;
-use wg_io::{Sink, WriteError};
 use wg_lines::{Lines, MOST_START};
 use wg_num::decimal_at;
+use wg_outside::{Sink, WriteError};
 
 /// Writes what the lines of a page's arcs begin with: its number, and a space.
 pub(crate) fn write_start(page: u64, start: &mut [u8; MOST_START]) -> usize

@@ -11,7 +11,7 @@ use Rattle.wg_num.proofs.Cuts.{no_lines}
 use Rattle.wg_num.proofs.Plain.{IsPlain, line_read, digits_high, decimal_plain}
 use Rattle.wg_graph.specs.Ascending.{Below}
 use Rattle.wg_graph.specs.Digraph.{Digraph}
-use Rattle.wg_io.specs.Puts.{joined}
+use Rattle.wg_outside.specs.Puts.{joined}
 use Rattle.wg_ascii.specs.Words.{words_of}
 use Rattle.wg_ascii.specs.Text.{words_after, list_words, list_line, text_of_graph}
 use Rattle.wg_ascii.specs.Reading.{StandsFor}

@@ -1,6 +1,6 @@
 -- The plain text of a graph: the number of pages, and a line for each page.
 use Rattle.std.specs.Prelude.{ℕ, List, [], ◌∷◌, ◌++◌, map, codes, decimal}
-use Rattle.wg_io.specs.Puts.{joined}
+use Rattle.wg_outside.specs.Puts.{joined}
 use Rattle.wg_graph.specs.Digraph.{Digraph}
 
 -- a space and a number

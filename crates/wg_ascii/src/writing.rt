@@ -1,12 +1,12 @@
 ghost use Rattle.std.specs.Prelude.{◌≡◌, [], IsTrue, OnErr};
 ghost use Rattle.wg_lines.specs.Printing.{Prints};
-ghost use Rattle.wg_io.specs.Puts.{Puts};
-ghost use Rattle.wg_io.specs.Refusals.{SinkRefusals};
+ghost use Rattle.wg_outside.specs.Puts.{Puts};
+ghost use Rattle.wg_outside.specs.Refusals.{SinkRefusals};
 ghost use Rattle.wg_ascii.specs.Text.{nodes_line, word_after, words_after, list_words, list_line, text_of_graph};
 
 use wg_graph::Graph;
-use wg_io::{Sink, WriteError};
 use wg_lines::Lines;
+use wg_outside::{Sink, WriteError};
 
 /// Prints the first line of a text, which tells the number of pages.
 pub fn print_nodes<S: Sink>(lines: &mut Lines, sink: &mut S, nodes: u64) -> Result<(), WriteError>

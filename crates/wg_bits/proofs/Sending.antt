@@ -3,10 +3,10 @@ use Rattle.std.proofs.Common.{◌≡◌, ◌∙◌, ℕ, ◌+◌, ◌-◌, ◌%�
 use Rattle.std.specs.Result.{IsErrAnd}
 use Rattle.std.proofs.Math.ListN.{replicate}
 use Rattle.std.proofs.lemmas.Result.{on_ok_weaker, on_err_weaker}
-use Rattle.wg_io.specs.declared.depot.Depot as depot
-use Rattle.wg_io.specs.declared.depot.WriteError.{WriteError}
-use Rattle.wg_io.proofs.FilesLemmas.{none_falls-refl}
-use Rattle.wg_io.proofs.RefusalLemmas.{file_done, file_after, file_exit}
+use Rattle.wg_outside.specs.declared.depot.Depot as depot
+use Rattle.wg_outside.specs.declared.depot.WriteError.{WriteError}
+use Rattle.wg_outside.proofs.FilesLemmas.{none_falls-refl}
+use Rattle.wg_outside.proofs.RefusalLemmas.{file_done, file_after, file_exit}
 use Rattle.wg_bits.specs.Bits.{low_bits, bits_of}
 use Rattle.wg_bits.specs.Written.{Sends, padding}
 use Rattle.wg_bits.proofs.Writes.{put_kept, put_behind, less_behind, put_trans, put_then_less, put_less_more, sent_then, less_then, flushed, less_flushed, finished, finished_less, less_padded, zeros_more, zeros_split}

@@ -5,7 +5,7 @@ ghost use Rattle.wg_bits.specs.Written.{Sends};
 ghost use Rattle.wg_bits.specs.declared.buffer.TheConstants.{BUFFER, FULL};
 
 use std::marker::Model;
-use wg_io::{Depot, WriteError, append_all};
+use wg_outside::{Depot, WriteError, append_all};
 
 // The bytes that a buffer holds.
 const BUFFER: usize = 4096;

@@ -1,7 +1,7 @@
 -- The archive that was built of a generated graph is in order, and has this graph.
 use Rattle.std.proofs.Common.{◌≡◌, ◌≤◌, ◌∙◌, Bool, true, inr, ℕ, List, [], ◌∷◌, length, get_or, None, Result, Ok, Err, refl, sym, ap, subst, arith}
 use Rattle.std.proofs.lemmas.Option.{same_Some}
-use Rattle.wg_io.specs.Outside.{Files, Counts}
+use Rattle.wg_outside.specs.Outside.{Files, Counts}
 use Rattle.wg_params.specs.Parameters.{Parameters, IsWithinLimits, params_of}
 use Rattle.wg_params.specs.declared.limits.TheConstants.{MOST_ARCS, MOST_PAGES}
 use Rattle.wg_properties.specs.Judged.{properties_of}
@@ -41,7 +41,7 @@ use Rattle.wg_outcomes.specs.Bulk.{IsBuilt, bulk_params}
 use Rattle.wg_outcomes.specs.Ranked.{bounds_after}
 use Rattle.wg_outcomes.specs.Written.{AreWhole, archive_in}
 use Rattle.wg_outcomes.proofs.FileLemmas.{held_goes, last_bit}
-use Rattle.wg_io.proofs.FilesLemmas.{none_falls-refl}
+use Rattle.wg_outside.proofs.FilesLemmas.{none_falls-refl}
 use Rattle.wg_writing.specs.Writing.{archive_of}
 use Rattle.wg_words.specs.declared.jobs.Job.{Job}
 use Rattle.wg_outcomes.specs.JobFiles.{input_name}

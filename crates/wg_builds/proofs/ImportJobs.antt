@@ -2,9 +2,9 @@
 use Rattle.std.proofs.Common.{◌≡◌, inl, inr, ℕ, ◌≤◌, Bool, List, length, Some, Result, Ok, Err, refl, sym, ap, subst, ◌∙◌}
 use Rattle.std.specs.Bool.{IsTrue}
 use Rattle.std.specs.FinMap as map
-use Rattle.wg_io.specs.Outside.{Files, Counts, NonDecreasing}
-use Rattle.wg_io.specs.declared.limits.TheConstants.{MOST_BYTES}
-use Rattle.wg_io.proofs.FilesLemmas.{none_falls-trans}
+use Rattle.wg_outside.specs.Outside.{Files, Counts, NonDecreasing}
+use Rattle.wg_outside.specs.declared.limits.TheConstants.{MOST_BYTES}
+use Rattle.wg_outside.proofs.FilesLemmas.{none_falls-trans}
 use Rattle.wg_num.specs.Lines.{lines_of}
 use Rattle.wg_graph.specs.Digraph.{Digraph}
 use Rattle.wg_ascii.specs.Growing.{IsFirst}

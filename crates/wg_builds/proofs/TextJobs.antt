@@ -1,8 +1,8 @@
 -- A text that is there while it is read line by line.
 use Rattle.std.proofs.Common.{◌≡◌, ℕ, ◌≤◌, List, length, Option, Some, None, refl, ap, ◌∙◌}
 use Rattle.std.specs.FinMap as map
-use Rattle.wg_io.specs.Outside.{Files}
-use Rattle.wg_io.specs.declared.limits.TheConstants.{MOST_BYTES}
+use Rattle.wg_outside.specs.Outside.{Files}
+use Rattle.wg_outside.specs.declared.limits.TheConstants.{MOST_BYTES}
 use Rattle.wg_lines.specs.Reading.{IsReadable}
 
 -- ---- a file that is there

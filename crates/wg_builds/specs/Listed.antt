@@ -1,6 +1,6 @@
 -- The graph of an arc list on its way into an archive, line by line.
 use Rattle.std.specs.Prelude.{◌≡◌, ◌⊎◌, ℕ, ◌+◌, ◌<◌, ◌≤◌, List, [], ◌∷◌, ◌++◌, length, Option, Some, None, IfSome, Result}
-use Rattle.wg_io.specs.declared.depot.Depot as depot
+use Rattle.wg_outside.specs.declared.depot.Depot as depot
 use Rattle.wg_num.specs.Lines.{lines_of}
 use Rattle.wg_params.specs.declared.limits.TheConstants.{MOST_ARCS}
 use Rattle.wg_graph.specs.Digraph.{Digraph}

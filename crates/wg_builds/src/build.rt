@@ -7,8 +7,8 @@ ghost use Rattle.wg_outcomes.specs.Performs.{DoesOrEnds};
 
 use crate::listing::encode_list;
 use std::alloc::Global;
-use wg_io::{Depot, Sink};
 use wg_outcomes::Ending;
+use wg_outside::{Depot, Sink};
 use wg_params::Layout;
 use wg_words::Name;
 use wg_writing::build_archive;

@@ -6,8 +6,8 @@ ghost use Rattle.wg_outcomes.specs.Performs.{DoesAlone};
 
 use crate::generated::try_generated;
 use std::alloc::Global;
-use wg_io::Sink;
 use wg_outcomes::{Ending, print_piece};
+use wg_outside::Sink;
 
 /// Writes the archive of the generated graph of so many pages in memory, judges it as `check` does, ranks the pages of
 /// the graph that its bytes stand for, and prints in six lines what comes of this. It makes no call of a depot but its

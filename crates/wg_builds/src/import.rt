@@ -5,8 +5,8 @@ ghost use Rattle.wg_outcomes.specs.Performs.{DoesOrEnds};
 
 use crate::importing::encode_text;
 use std::alloc::Global;
-use wg_io::{Depot, Sink};
 use wg_outcomes::Ending;
+use wg_outside::{Depot, Sink};
 use wg_params::Layout;
 use wg_words::Name;
 use wg_writing::build_archive;

@@ -1,7 +1,7 @@
 //! The graph of a plain text, encoded in memory as its lines come.
 ghost use Rattle.std.specs.Prelude.{◌≡◌, ◌+◌, ◌<◌, ◌≤◌, ◌^◌, ◌++◌, ℕ, List as ListOf, [], Some, IsTrue, Err, length, OnOk, IfOk, IfErr};
 ghost use Rattle.std.specs.FinMap as map;
-ghost use Rattle.wg_io.specs.declared.limits.TheConstants.{MOST_BYTES};
+ghost use Rattle.wg_outside.specs.declared.limits.TheConstants.{MOST_BYTES};
 ghost use Rattle.wg_num.specs.Lines.{lines_of};
 ghost use Rattle.wg_lines.specs.Reading.{lines_after, IsReadable};
 ghost use Rattle.wg_params.specs.Parameters.{IsWithinLimits, params_of};
@@ -16,9 +16,9 @@ use std::alloc::Global;
 use wg_ascii::{AsciiError, PageLines};
 use wg_encoder::{ArchiveEncoder, EncodedArchive};
 use wg_graph::List;
-use wg_io::Depot;
 use wg_lines::LineReader;
 use wg_outcomes::{Ending, Input, Status, params_of};
+use wg_outside::Depot;
 use wg_params::{Layout, MOST_ARCS, Params};
 use wg_readings::{next_lines, open_lines};
 use wg_words::Name;

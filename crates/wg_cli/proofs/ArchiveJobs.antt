@@ -1,8 +1,8 @@
 -- The jobs that write an archive, and what is left of all jobs where some are taken out.
 use Rattle.std.proofs.Common.{◌≡◌, ◌≢◌, ℕ, true, false, List, Option, refl}
 use Rattle.std.specs.Bool.{IsTrue}
-use Rattle.wg_io.specs.declared.depot.Depot as depot
-use Rattle.wg_io.specs.declared.sink.Sink as sink
+use Rattle.wg_outside.specs.declared.depot.Depot as depot
+use Rattle.wg_outside.specs.declared.sink.Sink as sink
 use Rattle.wg_words.specs.declared.jobs.Job.{Job}
 use Rattle.wg_words.specs.declared.jobs.Job.TheVariants.{Check, Arcs, Ascii, Offsets, Show, Spot, Rank, Verify, Build, Import, Quotient, Recode, Union, Transpose, Bulk}
 use Rattle.wg_params.specs.declared.layout.Layout.{Layout}

@@ -1,6 +1,6 @@
 -- What a line names as promised.
 use Rattle.std.proofs.Common.{ℕ, Option, Some, None}
-use Rattle.wg_io.specs.Outside.{Files}
+use Rattle.wg_outside.specs.Outside.{Files}
 use Rattle.wg_words.specs.declared.jobs.Job.{Job}
 use Rattle.wg_cli.specs.Wanted.{ArePromisedBy}
 use Rattle.wg_outcomes.specs.declared.status.Status.TheVariants.{Memory}

@@ -1,6 +1,6 @@
 -- The name of a certificate that a job writes.
 use Rattle.std.proofs.Common.{◌≡◌, ℕ, List, Option, Some, None, refl}
-use Rattle.wg_io.specs.declared.output.Output.{Output}
+use Rattle.wg_outside.specs.declared.output.Output.{Output}
 use Rattle.wg_words.specs.declared.jobs.Job.TheVariants.{Rank}
 use Rattle.wg_outcomes.specs.JobFiles.{output_name}
 use Rattle.wg_cli.specs.Lines.{certificate_in}

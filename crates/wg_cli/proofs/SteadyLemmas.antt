@@ -1,7 +1,7 @@
 -- What runs where nothing outside is at fault tells no fault.
 use Rattle.std.proofs.Common.{◌≡◌, ◌≢◌, ◌⊎◌, inl, inr, ℕ, List, arith, refl, sym, ◌∙◌, subst, Option, Some, None}
-use Rattle.wg_io.specs.Outside.{Counts, Increased}
-use Rattle.wg_io.specs.declared.output.Output.{Output}
+use Rattle.wg_outside.specs.Outside.{Counts, Increased}
+use Rattle.wg_outside.specs.declared.output.Output.{Output}
 use Rattle.wg_words.specs.declared.jobs.Job.{Job}
 use Rattle.wg_outcomes.specs.Causes.{AreFaultless, HasCause}
 use Rattle.wg_outcomes.specs.JobFiles.{input_name, output_name}

@@ -1,6 +1,6 @@
 -- What holds of the job that some words ask for, if they ask for one.
 use Rattle.std.specs.Prelude.{ℕ, Bool, true, false, Option, Some, None}
-use Rattle.wg_io.specs.Outside.{Files}
+use Rattle.wg_outside.specs.Outside.{Files}
 use Rattle.wg_words.specs.declared.jobs.Job.{Job}
 use Rattle.wg_words.specs.declared.jobs.Job.TheVariants.{Build, Import, Quotient, Recode, Union, Transpose, Bulk}
 use Rattle.wg_outcomes.specs.JobFiles.{input_name, writes_files}

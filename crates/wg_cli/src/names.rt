@@ -1,12 +1,12 @@
 ghost use Rattle.std.specs.Prelude.{◌≡◌, ◌++◌, Some, option_map};
-ghost use Rattle.wg_io.specs.declared.suffixes.TheConstants.{PROPERTIES, GRAPH, OFFSETS};
+ghost use Rattle.wg_outside.specs.declared.suffixes.TheConstants.{PROPERTIES, GRAPH, OFFSETS};
 ghost use Rattle.wg_outcomes.specs.JobFiles.{input_name, output_name};
 ghost use Rattle.wg_outcomes.specs.Names.{archive_files, archive_named, list_named, name_of_input, record_files, second_files, text_named};
 ghost use Rattle.wg_outcomes.specs.Names.{certificate_file, certificate_to, map_file, weights_file};
 ghost use Rattle.wg_cli.specs.Lines.{certificate_in};
 
 use crate::Input;
-use wg_io::{GRAPH, OFFSETS, Output, PROPERTIES};
+use wg_outside::{GRAPH, OFFSETS, Output, PROPERTIES};
 use wg_words::{Job, Name};
 
 /// The name of a job's input, in two parts.

@@ -1,6 +1,6 @@
 ghost use Rattle.std.specs.Prelude.{◌≡◌, ◌⊎◌, ℕ, false, List, Option, Some, None, IsTrue, IfOk, IfSome};
-ghost use Rattle.wg_io.specs.Outside.{Increased, NonDecreasing};
-ghost use Rattle.wg_io.specs.declared.output.Output.{Output};
+ghost use Rattle.wg_outside.specs.Outside.{Increased, NonDecreasing};
+ghost use Rattle.wg_outside.specs.declared.output.Output.{Output};
 ghost use Rattle.wg_words.specs.Jobs.{job_of, IsWithin};
 ghost use Rattle.wg_words.specs.declared.jobs.Job.{Job};
 ghost use Rattle.wg_outcomes.specs.Reached.{Reaches};
@@ -25,8 +25,8 @@ use crate::Status;
 use crate::dispatch::perform;
 use crate::report::report;
 use std::alloc::{AllocError, Global};
-use wg_io::{Depot, Sink};
 use wg_outcomes::Ending;
+use wg_outside::{Depot, Sink};
 use wg_words::{Job, JobError, Words, job};
 
 /// Does what the words ask for: the output goes to `out`, and for every status but `Done` one line to `err`.

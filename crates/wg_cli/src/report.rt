@@ -1,15 +1,15 @@
 //! The line on standard error that says why a job was not done. It takes no memory.
 ghost use Rattle.std.specs.Prelude.{◌≡◌, ◌≢◌, ◌⊎◌, ◌≤◌, ◌∷◌, [], ◌++◌, IsTrue, IsErr, Some, None, option_map, codes};
-ghost use Rattle.wg_io.specs.Outside.{Increased};
-ghost use Rattle.wg_io.specs.Puts.{Puts};
+ghost use Rattle.wg_outside.specs.Outside.{Increased};
+ghost use Rattle.wg_outside.specs.Puts.{Puts};
 ghost use Rattle.wg_cli.specs.Lines.{naming, name_in, output_in, line_of, Reports};
 ghost use Rattle.wg_outcomes.specs.JobFiles.{input_name};
 ghost use Rattle.wg_outcomes.specs.declared.status.Status.TheVariants.{BadSecond};
 
 use crate::names::{input_parts, output_parts};
 use crate::{Input, Status, texts};
-use wg_io::{Output, Sink, WriteError, write_all, write_pieces};
 use wg_outcomes::{SecondFault, Text, second_input};
+use wg_outside::{Output, Sink, WriteError, write_all, write_pieces};
 use wg_words::Job;
 
 // The name of a job's input, in two parts.

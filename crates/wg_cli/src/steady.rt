@@ -1,6 +1,6 @@
 ghost use Rattle.std.specs.Prelude.{◌≡◌, ◌≢◌, ◌⊎◌, ℕ, Some};
-ghost use Rattle.wg_io.specs.Outside.{Increased};
-ghost use Rattle.wg_io.specs.declared.output.Output.{Output};
+ghost use Rattle.wg_outside.specs.Outside.{Increased};
+ghost use Rattle.wg_outside.specs.declared.output.Output.{Output};
 ghost use Rattle.wg_words.specs.Jobs.{job_of};
 ghost use Rattle.wg_words.specs.declared.jobs.Job.{Job};
 ghost use Rattle.wg_outcomes.specs.Answers.{HasOutput};

@@ -9,7 +9,7 @@ ghost use Rattle.wg_codes.specs.Windows.{Tells};
 
 use crate::{Read, Word, delta, gamma, nibble, unary, zeta};
 use wg_bits::{Cursor, Writer};
-use wg_io::{Depot, WriteError};
+use wg_outside::{Depot, WriteError};
 use wg_params::Code;
 
 /// What stands at the cursor. The cursor moves over a whole word, and else stands still.

@@ -17,7 +17,7 @@ ghost use Rattle.wg_codes.specs.Reading.{Reads, after};
 use crate::headed::{highest_one, number};
 use crate::{Read, gamma};
 use wg_bits::{Cursor, Writer};
-use wg_io::{Depot, WriteError};
+use wg_outside::{Depot, WriteError};
 
 // An index is at most 62, so the index of one more than it at most 5: six zeros begin no word.
 #[cold]

@@ -18,7 +18,7 @@ ghost use Rattle.wg_codes.specs.Windows.{Tells};
 use crate::headed::{highest_one, number, put_headed};
 use crate::{Read, Word, unary};
 use wg_bits::{Cursor, Writer};
-use wg_io::{Depot, WriteError};
+use wg_outside::{Depot, WriteError};
 
 // A word of a value whose index is at most `most`: by one load, if all of it lies within the next 57 bits.
 #[inline(always)]

@@ -6,7 +6,7 @@ ghost use Rattle.wg_codes.specs.Words.{highest, unary};
 ghost use Rattle.wg_codes.specs.Parts.{IsNumberAt};
 
 use wg_bits::{Cursor, Writer};
-use wg_io::{Depot, WriteError};
+use wg_outside::{Depot, WriteError};
 
 // The index of the highest one, the lowest index being 0; 0 for no one at all.
 #[inline(always)]

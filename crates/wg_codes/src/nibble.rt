@@ -20,7 +20,7 @@ ghost use Rattle.wg_codes.specs.Reading.{Reads, after};
 use crate::Read;
 use crate::headed::highest_one;
 use wg_bits::{Cursor, Writer};
-use wg_io::{Depot, WriteError};
+use wg_outside::{Depot, WriteError};
 
 // A word has at most 21 digits, and no zero digit in front.
 #[cold]

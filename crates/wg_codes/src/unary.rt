@@ -17,7 +17,7 @@ ghost use Rattle.wg_codes.specs.Windows.{Tells};
 use crate::headed::put_headed;
 use crate::{Read, Word};
 use wg_bits::{Cursor, Writer};
-use wg_io::{Depot, WriteError};
+use wg_outside::{Depot, WriteError};
 
 // A word of at most `most`: by one load, if all of it lies within the next 57 bits.
 #[inline(always)]

@@ -20,7 +20,7 @@ ghost use Rattle.wg_codes.specs.Parts.{IsShortenedAt, IsCutAt};
 use crate::headed::{highest_one, put_headed};
 use crate::{Read, Word, unary};
 use wg_bits::{Cursor, Writer};
-use wg_io::{Depot, WriteError};
+use wg_outside::{Depot, WriteError};
 
 // A word: by one load, if with its head the long form lies within the next 57 bits. Such a head is below 63 / k, too.
 #[inline(always)]

@@ -1,8 +1,8 @@
 -- A call failed on one of the two files, as seen from an earlier moment.
 use Rattle.std.proofs.Common.{◌≡◌, ℕ, ◌≤◌, List, sym, subst, inl, inr, arith}
-use Rattle.wg_io.specs.Outside.{Counts, Increased, NonDecreasing}
-use Rattle.wg_io.specs.Suffixes.{graph_name, offsets_name}
-use Rattle.wg_io.specs.declared.output.Output.TheVariants as output
+use Rattle.wg_outside.specs.Outside.{Counts, Increased, NonDecreasing}
+use Rattle.wg_outside.specs.Suffixes.{graph_name, offsets_name}
+use Rattle.wg_outside.specs.declared.output.Output.TheVariants as output
 use Rattle.wg_encoder.specs.declared.error.EncodeError.{EncodeError}
 use Rattle.wg_encoder.specs.declared.error.EncodeError.TheVariants as error
 use Rattle.wg_encoder.specs.Gone.{HasFailed, HasFailedOn}

@@ -3,10 +3,10 @@ use Rattle.std.proofs.Common.{◌≡◌, ◌≢◌, ℕ, ◌+◌, ◌-◌, ◌*�
 use Rattle.std.specs.Prelude.{Option}
 use Rattle.std.specs.FinMap as fin
 use Rattle.std.proofs.lemmas.List.{append-nil}
-use Rattle.wg_io.specs.Outside.{Files}
-use Rattle.wg_io.specs.Suffixes.{graph_name, offsets_name}
-use Rattle.wg_io.proofs.SuffixLemmas.{graph_offsets}
-use Rattle.wg_io.specs.declared.output.Output.TheVariants as output
+use Rattle.wg_outside.specs.Outside.{Files}
+use Rattle.wg_outside.specs.Suffixes.{graph_name, offsets_name}
+use Rattle.wg_outside.proofs.SuffixLemmas.{graph_offsets}
+use Rattle.wg_outside.specs.declared.output.Output.TheVariants as output
 use Rattle.wg_bits.specs.Bits.{bits_of}
 use Rattle.wg_bits.specs.Written.{HasPut, HasPutLess, padding}
 use Rattle.wg_bits.proofs.Words.{length-bits_of}

@@ -2,9 +2,9 @@
 use Rattle.std.proofs.Common.{◌≡◌, ℕ, List, [], length, refl, sym, ap, subst, ◌∙◌}
 use Rattle.std.specs.Prelude.{unwrap_or, Option}
 use Rattle.std.specs.FinMap.{insert}
-use Rattle.wg_io.specs.Outside.{Files}
-use Rattle.wg_io.specs.Suffixes.{properties_name, graph_name, offsets_name}
-use Rattle.wg_io.proofs.FilesLemmas.{get-insert_same, get-insert_other}
+use Rattle.wg_outside.specs.Outside.{Files}
+use Rattle.wg_outside.specs.Suffixes.{properties_name, graph_name, offsets_name}
+use Rattle.wg_outside.proofs.FilesLemmas.{get-insert_same, get-insert_other}
 use Rattle.wg_encoder.proofs.FileNames.{properties_graph, properties_offsets}
 use Rattle.wg_params.specs.Parameters.{Parameters}
 use Rattle.wg_grammar.specs.Context.{Context}

@@ -3,8 +3,8 @@ use Rattle.std.proofs.Common.{◌≡◌, ℕ, zero, suc, ◌+◌, ◌<◌, ◌�
 use Rattle.std.proofs.lemmas.Bool.{and_parts, leb-true}
 use Rattle.std.proofs.lemmas.List.{append-nil, map-append, take_more, take-append-drop}
 use Rattle.std.proofs.lemmas.List.Concat.{flat_map-append}
-use Rattle.wg_io.specs.declared.depot.Depot as depot
-use Rattle.wg_io.specs.declared.depot.WriteError.{WriteError}
+use Rattle.wg_outside.specs.declared.depot.Depot as depot
+use Rattle.wg_outside.specs.declared.depot.WriteError.{WriteError}
 use Rattle.wg_bits.specs.Written.{Sends}
 use Rattle.wg_bits.proofs.Sending.{Sent, sends_as, sends_then, sends_cut}
 use Rattle.wg_codes.specs.Words.{word, top}

@@ -3,7 +3,7 @@ use Rattle.std.proofs.Common.{◌≡◌, ◌≢◌, ℕ, ◌^◌, ◌<◌, Bool,
 use Rattle.std.specs.FinMap as fin
 use Rattle.std.proofs.lemmas.List.{append-nil}
 use Rattle.std.proofs.lemmas.List.Elements.{All-append}
-use Rattle.wg_io.specs.Outside.{Files}
+use Rattle.wg_outside.specs.Outside.{Files}
 use Rattle.wg_bits.specs.Bits.{bits_of}
 use Rattle.wg_bits.specs.Written.{HasPut, HasPutLess}
 use Rattle.wg_bits.proofs.Writes.{bits_of-append}

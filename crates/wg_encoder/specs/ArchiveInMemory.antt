@@ -2,8 +2,8 @@
 use Rattle.std.specs.Prelude.{◌≡◌, ℕ, List, [], length, Option, Some}
 use Rattle.std.specs.List.{sum_by}
 use Rattle.std.specs.FinMap as fin
-use Rattle.wg_io.specs.Outside.{Files, content}
-use Rattle.wg_io.specs.Suffixes.{properties_name, graph_name, offsets_name}
+use Rattle.wg_outside.specs.Outside.{Files, content}
+use Rattle.wg_outside.specs.Suffixes.{properties_name, graph_name, offsets_name}
 use Rattle.wg_params.specs.Parameters.{Parameters}
 use Rattle.wg_greedy.specs.Archive.{Archive, graph_bits, referring_pages, graph_file, offsets_file}
 use Rattle.wg_encoder.specs.Encoding.{Encoded, HasWritten, words_before}

@@ -2,11 +2,11 @@
 use Rattle.std.specs.Prelude.{◌≡◌, ◌≢◌, ◌⊎◌, ℕ, Bool, List, ◌++◌, Option, Some, Result}
 use Rattle.std.specs.Prelude.{IsTrue, IfOk, IfErr, OnErr}
 use Rattle.std.specs.FinMap as fin
-use Rattle.wg_io.specs.Outside.{Files, Counts, Increased, NonDecreasing}
-use Rattle.wg_io.specs.Suffixes.{graph_name, offsets_name}
-use Rattle.wg_io.specs.declared.output.Output.{Output}
-use Rattle.wg_io.specs.declared.output.Output.TheVariants as output
-use Rattle.wg_io.specs.declared.depot.Depot as depot
+use Rattle.wg_outside.specs.Outside.{Files, Counts, Increased, NonDecreasing}
+use Rattle.wg_outside.specs.Suffixes.{graph_name, offsets_name}
+use Rattle.wg_outside.specs.declared.output.Output.{Output}
+use Rattle.wg_outside.specs.declared.output.Output.TheVariants as output
+use Rattle.wg_outside.specs.declared.depot.Depot as depot
 use Rattle.wg_bits.specs.Bits.{bits_of}
 use Rattle.wg_bits.specs.Written.{HasPut, HasPutLess}
 use Rattle.wg_params.specs.Parameters.{Parameters}

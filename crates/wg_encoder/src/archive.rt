@@ -1,11 +1,12 @@
 //! An archive in memory.
 ghost use Rattle.std.specs.Prelude.{◌≡◌, []};
-ghost use Rattle.wg_io.specs.Outside.{content};
+ghost use Rattle.wg_outside.specs.Outside.{content};
 ghost use Rattle.wg_encoder.specs.ArchiveInMemory.{HoldsArchive};
 
 use crate::summary::Summary;
 use std::marker::Model;
-use wg_io::{GRAPH, OFFSETS, PROPERTIES, SteadyDepot};
+use wg_io::SteadyDepot;
+use wg_outside::{GRAPH, OFFSETS, PROPERTIES};
 
 /// What will be the three files of an archive, in memory, and what its records come to. It holds the bytes of the
 /// files, each with room for at most twice as many. No call takes memory.

@@ -1,7 +1,7 @@
 //! The encoding of list after list into memory.
 ghost use Rattle.std.specs.Prelude.{◌≡◌, ℕ, ◌+◌, ◌<◌, ◌≤◌, List, [], ◌∷◌, ◌++◌, length, IfOk, IfErr, Some};
 ghost use Rattle.std.specs.FinMap as fin;
-ghost use Rattle.wg_io.specs.Suffixes.{graph_name, offsets_name};
+ghost use Rattle.wg_outside.specs.Suffixes.{graph_name, offsets_name};
 ghost use Rattle.wg_params.specs.Parameters.{Parameters};
 ghost use Rattle.wg_graph.specs.Digraph.{arc_count};
 ghost use Rattle.wg_greedy.specs.Laws.{IsList};
@@ -15,7 +15,8 @@ use crate::summary::Summary;
 use std::alloc::{AllocError, Global};
 use std::marker::Model;
 use wg_graph::Graph;
-use wg_io::{GRAPH, OFFSETS, PROPERTIES, SteadyDepot};
+use wg_io::SteadyDepot;
+use wg_outside::{GRAPH, OFFSETS, PROPERTIES};
 use wg_params::Params;
 
 // No call moves more bytes than this, which is as many as there may be.

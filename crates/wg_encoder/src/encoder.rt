@@ -1,8 +1,8 @@
 //! The pages of a graph, written one after the other.
 ghost use Rattle.std.specs.Prelude.{◌≡◌, ℕ, ◌+◌, ◌<◌, ◌≤◌, true, List, [], length, Some, OnOk, IfOk, IfErr, IsTrue};
 ghost use Rattle.std.specs.FinMap as fin;
-ghost use Rattle.wg_io.specs.Outside.{Files, NonDecreasing};
-ghost use Rattle.wg_io.specs.Suffixes.{graph_name, offsets_name};
+ghost use Rattle.wg_outside.specs.Outside.{Files, NonDecreasing};
+ghost use Rattle.wg_outside.specs.Suffixes.{graph_name, offsets_name};
 ghost use Rattle.wg_graph.specs.Digraph.{IsGraph, arc_count};
 ghost use Rattle.wg_greedy.specs.Greedy.{size_of, is_candidate, chosen};
 ghost use Rattle.wg_greedy.specs.Archive.{graph_bits, referring_pages};
@@ -15,7 +15,7 @@ use crate::list_encoder::ListEncoder;
 use std::alloc::{AllocError, Global};
 use std::marker::Model;
 use wg_graph::Graph;
-use wg_io::Depot;
+use wg_outside::Depot;
 use wg_params::Params;
 
 /// Writes a graph page by page, each by the reference that makes its record the shortest.

@@ -4,7 +4,7 @@ ghost use Rattle.wg_encoder.specs.declared.error.EncodeError.TheVariants as erro
 
 use std::alloc::AllocError;
 use thiserror::Error;
-use wg_io::Output;
+use wg_outside::Output;
 
 /// Why the files of an archive were not written whole: a call on the named one failed, or memory was wanting.
 #[derive(Clone, Copy, Debug, PartialEq, Eq, Error)]

@@ -9,7 +9,7 @@ use std::marker::Model;
 use wg_bits::Writer;
 use wg_codes::write;
 use wg_grammar::Field;
-use wg_io::{Depot, WriteError};
+use wg_outside::{Depot, WriteError};
 use wg_params::Code;
 
 /// A field with its code and its stored value.

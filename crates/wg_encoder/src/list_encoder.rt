@@ -2,8 +2,8 @@
 ghost use Rattle.std.specs.Prelude.{◌≡◌, ℕ, ◌+◌, ◌<◌, ◌≤◌, ◌^◌, ◌&&◌, true, false, not, nat_le, nat_lt, min, List, [], length, IfOk, Some};
 ghost use Rattle.std.specs.Option.{ForSome};
 ghost use Rattle.std.specs.FinMap as fin;
-ghost use Rattle.wg_io.specs.Outside.{Files};
-ghost use Rattle.wg_io.specs.Suffixes.{graph_name, offsets_name};
+ghost use Rattle.wg_outside.specs.Outside.{Files};
+ghost use Rattle.wg_outside.specs.Suffixes.{graph_name, offsets_name};
 ghost use Rattle.wg_params.specs.Parameters.{IsWithinLimits};
 ghost use Rattle.wg_params.specs.declared.limits.TheConstants.{MOST_WINDOW};
 ghost use Rattle.wg_graph.specs.Ascending.{Ascends, Below};

@@ -1,10 +1,10 @@
 // The names of the two files, held from page to page.
 ghost use Rattle.std.specs.Prelude.{◌≡◌, ◌++◌, IfOk, IsTrue, string_bytes};
-ghost use Rattle.wg_io.specs.Suffixes.{graph_name, offsets_name};
+ghost use Rattle.wg_outside.specs.Suffixes.{graph_name, offsets_name};
 
 use std::alloc::{AllocError, Global};
 use std::marker::Model;
-use wg_io::{GRAPH, OFFSETS};
+use wg_outside::{GRAPH, OFFSETS};
 
 /// The name of an archive, with the names of its graph file and its offsets file.
 #[derive(Debug, Drop)]
@@ -16,7 +16,7 @@ pub(crate) struct FileNames {
 
 impl Model for FileNames {
     ghost use Rattle.std.specs.Prelude.{◌≡◌, List, ℕ, string_bytes};
-    ghost use Rattle.wg_io.specs.Suffixes.{graph_name, offsets_name};
+    ghost use Rattle.wg_outside.specs.Suffixes.{graph_name, offsets_name};
 
     ghost Value = { List ℕ };
 

@@ -1,6 +1,6 @@
 //! From list to list: what goes to the two files.
 ghost use Rattle.std.specs.Prelude.{◌≡◌, ℕ, ◌+◌, ◌<◌, ◌≤◌, true, false, cond, List as ListOf, [], ◌∷◌, ◌++◌, length, replicate, IfOk, IfErr, OnOk, OnErr, IsTrue};
-ghost use Rattle.wg_io.specs.Outside.{NonDecreasing};
+ghost use Rattle.wg_outside.specs.Outside.{NonDecreasing};
 ghost use Rattle.wg_bits.specs.Written.{padding};
 ghost use Rattle.wg_codes.specs.Words.{word};
 ghost use Rattle.wg_params.specs.Parameters.{Parameters};
@@ -21,7 +21,7 @@ use crate::names::FileNames;
 use std::alloc::AllocError;
 use wg_bits::Writer;
 use wg_codes::write;
-use wg_io::{Depot, Output, WriteError};
+use wg_outside::{Depot, Output, WriteError};
 
 // 1 for a reference to a page before, else 0.
 #[inline(always)]

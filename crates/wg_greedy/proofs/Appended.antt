@@ -3,8 +3,8 @@ use Rattle.std.proofs.Common.{◌≡◌, ◌≢◌, ℕ, List, [], ◌∷◌, �
 use Rattle.std.specs.Prelude.{Option, Some, unwrap_or}
 use Rattle.std.specs.FinMap as fin
 use Rattle.std.proofs.lemmas.List.{append-nil}
-use Rattle.wg_io.specs.Outside.{Files, content, appended}
-use Rattle.wg_io.proofs.FilesLemmas.{get-insert_same, get-insert_other}
+use Rattle.wg_outside.specs.Outside.{Files, content, appended}
+use Rattle.wg_outside.proofs.FilesLemmas.{get-insert_same, get-insert_other}
 
 pub get_more : (f : Files) (n sent out : List ℕ) → fin.get f n ≡ Some sent → fin.get (appended f n out) n ≡ Some (sent ++ out)
 get_more f n sent [] there = there ∙ ap Some (sym (append-nil sent))

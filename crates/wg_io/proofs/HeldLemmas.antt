@@ -7,10 +7,10 @@ use Rattle.std.proofs.lemmas.List.Elements.{All-push}
 use Rattle.std.proofs.lemmas.Option.{get_or_from_slice_get, slice_get-get_or}
 use Rattle.std.specs.Cmp.Lexicographic.{pointwise}
 use Rattle.std.specs.FinMap.{get, insert, get-empty}
-use Rattle.wg_io.specs.Outside.{Files, appended}
+use Rattle.wg_outside.specs.Outside.{Files, appended}
 use Rattle.wg_io.specs.Held.{files_of, IsAt, IsOther}
 use Rattle.wg_io.specs.declared.held.Held.{Held}
-use Rattle.wg_io.proofs.FilesLemmas.{is_name, same_name, get-insert_name, get-insert_same, get-insert_other, same_files, insert-insert, texts_equal, texts_differ}
+use Rattle.wg_outside.proofs.FilesLemmas.{is_name, same_name, get-insert_name, get-insert_same, get-insert_other, same_files, insert-insert, texts_equal, texts_differ}
 
 twice : {A : Type 0} (s t : Bool) (x y z : A) → (s ≡ true → t ≡ true → ⊥) → cond s x (cond t y z) ≡ cond t y (cond s x z)
 twice true true x y z apart = absurd (apart refl refl)

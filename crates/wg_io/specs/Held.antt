@@ -1,7 +1,7 @@
 -- Files in memory, in a list.
 use Rattle.std.specs.Prelude.{◌≡◌, ◌≢◌, ◌<◌, ℕ, List, length, map, take, All, Some, slice_get, string_bytes}
 use Rattle.std.specs.FinMap.{from_entries}
-use Rattle.wg_io.specs.Outside.{Files}
+use Rattle.wg_outside.specs.Outside.{Files}
 use Rattle.wg_io.specs.declared.held.Held.{Held}
 
 -- the first file of a name counts

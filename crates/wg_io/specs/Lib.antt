@@ -1,9 +1,3 @@
-pub mod Outside
-pub mod FileLaws
-pub mod Reads
-pub mod Puts
-pub mod Refusals
 pub mod Memory
 pub mod Later
 pub mod Held
-pub mod Suffixes

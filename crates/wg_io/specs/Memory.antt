@@ -2,7 +2,7 @@
 use Rattle.std.specs.Prelude.{◌≡◌, ℕ, ◌+◌, List, replicate, refl}
 use Rattle.std.specs.FinMap as map
 use Rattle.std.specs.Coded.{Coded, code_by, coded×, coded_ℕ}
-use Rattle.wg_io.specs.Outside.{Files, files_code, Counts, risen}
+use Rattle.wg_outside.specs.Outside.{Files, files_code, Counts, risen}
 
 -- how many calls of one kind there were, and which of them is to fail, counted from 1; 0 for none
 pub record Calls : Type 0 where

@@ -4,13 +4,13 @@ ghost use Rattle.std.specs.Prelude.{◌≡◌, ◌<◌, ◌≤◌, ℕ, IfOk, le
 use crate::pipe::{Pipe, read_first, read_open};
 use crate::stream::write_some;
 use crate::tally::Tally;
-use crate::{Depot, ReadError, WriteError};
 use std::alloc::Global;
 use std::fs::{File, OpenOptions};
 use std::io::{self, ErrorKind};
 use std::marker::Model;
 use std::os::unix::fs::FileExt;
 use std::rt::Files;
+use wg_outside::{Depot, ReadError, WriteError};
 
 /// Files of the system, by their paths. It tells no bytes, and counts for all names together.
 ///
@@ -32,7 +32,7 @@ pub struct FolderDepot<R: Files<File = File> + AllocGlobal + Drop> {
 }
 
 impl<R: Files<File = File> + AllocGlobal + Drop> Model for FolderDepot<R> {
-    ghost use Rattle.wg_io.specs.Outside.{Counts};
+    ghost use Rattle.wg_outside.specs.Outside.{Counts};
 
     ghost Value = { Counts };
 

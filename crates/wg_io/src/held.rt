@@ -1,7 +1,7 @@
 // Files in memory.
 ghost use Rattle.std.specs.Prelude.{◌≡◌, ◌<◌, length, All, IfOk, IfSome, IfNone, OnOk, OnErr, option_map};
 ghost use Rattle.std.specs.FinMap as map;
-ghost use Rattle.wg_io.specs.Outside.{appended};
+ghost use Rattle.wg_outside.specs.Outside.{appended};
 ghost use Rattle.wg_io.specs.Held.{files_of, IsAt, IsOther};
 
 use std::alloc::{AllocError, Global};
@@ -23,7 +23,7 @@ pub struct HeldFiles {
 }
 
 impl Model for HeldFiles {
-    ghost use Rattle.wg_io.specs.Outside.{Files, files_code};
+    ghost use Rattle.wg_outside.specs.Outside.{Files, files_code};
     ghost use Rattle.wg_io.specs.Held.{files_of};
 
     ghost Value = { Files };

@@ -2,14 +2,15 @@
 ghost use Rattle.std.specs.Prelude.{◌≡◌, ◌≢◌, ◌-◌, ◌^◌, ◌<◌, ◌≤◌, ◌↔◌, ◌⊎◌, ℕ, min, length, take, IsTrue, IfOk, IfErr, OnOk, OnErr, IsErrOf};
 ghost use Rattle.std.specs.FinMap as map;
 ghost use Rattle.wg_io.specs.Memory.{failing_counts, FailingFiles, no_calls, one_more, IsNamed};
-ghost use Rattle.wg_io.specs.Outside.{NonDecreasing, appended, content, created, risen};
-ghost use Rattle.wg_io.specs.Reads.{Reads};
+ghost use Rattle.wg_outside.specs.Outside.{NonDecreasing, appended, content, created, risen};
+ghost use Rattle.wg_outside.specs.Reads.{Reads};
 
+use crate::SteadyDepot;
 use crate::calls::Counter;
 use crate::tally::Tally;
-use crate::{Depot, ReadError, SteadyDepot, WriteError};
 use std::alloc::{AllocError, Global};
 use std::marker::Model;
+use wg_outside::{Depot, ReadError, WriteError};
 
 /// Files in memory: a depot that tells its bytes, and in which the calls fail that were named to fail. Calls of each
 /// kind are counted from 1 since `new`, failing ones too.
@@ -109,7 +110,7 @@ impl Depot for MemoryDepot {
 
     ghost counts = { λ d _. failing_counts d };
 
-    #[tactic(auto, using(crate::proofs::FilesLemmas::none_falls_once))]
+    #[tactic(auto, using(wg_outside::proofs::FilesLemmas::none_falls_once))]
     fn read(&mut self, name: &str, at: u64, buf: &mut [u8]) -> Result<usize, ReadError>
         requires { 0 < length buf.old }
         ensures count { IfOk result (λ count. count ≤ length buf.new) }
@@ -137,7 +138,7 @@ impl Depot for MemoryDepot {
         self.steady.read(name, at, buf)
     }
 
-    #[tactic(auto, using(crate::proofs::FilesLemmas::none_falls_once))]
+    #[tactic(auto, using(wg_outside::proofs::FilesLemmas::none_falls_once))]
     fn create(&mut self, name: &str) -> Result<(), WriteError>
         ensures named { IsErrOf result WriteError.Failed ↔ IsNamed self.old.creates }
         ensures ok { OnOk result (self.new ≡ record self.old {
@@ -163,7 +164,7 @@ impl Depot for MemoryDepot {
         self.steady.create(name)
     }
 
-    #[tactic(auto, using(crate::proofs::FilesLemmas::none_falls_once))]
+    #[tactic(auto, using(wg_outside::proofs::FilesLemmas::none_falls_once))]
     fn append(&mut self, name: &str, piece: &[u8]) -> Result<usize, WriteError>
         requires { 0 < length piece.now }
         ensures count { IfOk result (λ count. (0 < count) × (count ≤ length piece.now)) }

@@ -2,13 +2,14 @@
 ghost use Rattle.std.specs.Prelude.{◌≡◌, ◌+◌, ◌-◌, ◌<◌, ◌≤◌, ◌^◌, ◌↔◌, [], IsErrOf, IfOk, OnErr, IsTrue, length, take, ◌++◌, min};
 ghost use Rattle.wg_io.specs.Later.{NoneFalls};
 ghost use Rattle.wg_io.specs.Memory.{FailingBytes, failing_refusals, no_calls, one_more, IsNamed};
-ghost use Rattle.wg_io.specs.Outside.{risen};
+ghost use Rattle.wg_outside.specs.Outside.{risen};
 
+use crate::SteadySink;
 use crate::calls::Counter;
 use crate::tally::Tally;
-use crate::{Sink, SteadySink, WriteError};
 use std::alloc::Global;
 use std::marker::Model;
+use wg_outside::{Sink, WriteError};
 
 /// Bytes in memory: a sink that tells its bytes, and in which the write fails that was named to fail. Writes are
 /// counted from 1 since `new`, failing ones too.

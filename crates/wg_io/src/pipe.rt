@@ -1,10 +1,10 @@
 // Files that can be read in order alone.
 ghost use Rattle.std.specs.Prelude.{◌≤◌, IfOk, IfSome, length};
 
-use crate::MOST_BYTES;
 use std::alloc::Global;
 use std::fs::File;
 use std::io::{self, ErrorKind, Read};
+use wg_outside::MOST_BYTES;
 
 /// An open file that can't be positioned, as a pipe or a terminal is.
 #[derive(Debug, Drop)]

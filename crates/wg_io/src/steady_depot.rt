@@ -2,14 +2,14 @@
 ghost use Rattle.std.specs.Prelude.{◌≡◌, ◌≢◌, ◌-◌, ◌<◌, ◌≤◌, ℕ, min, length, take, IfOk, IfErr, OnOk, OnErr, IsOk, IsErrOf, option_map};
 ghost use Rattle.std.specs.FinMap as map;
 ghost use Rattle.wg_io.specs.Memory.{steady_counts, SteadyFiles};
-ghost use Rattle.wg_io.specs.Outside.{NonDecreasing, appended, content, created, risen};
-ghost use Rattle.wg_io.specs.Reads.{IsPieceOf, Reads};
+ghost use Rattle.wg_outside.specs.Outside.{NonDecreasing, appended, content, created, risen};
+ghost use Rattle.wg_outside.specs.Reads.{IsPieceOf, Reads};
 
 use crate::held::HeldFiles;
 use crate::tally::Tally;
-use crate::{Depot, ReadError, WriteError};
 use std::alloc::{AllocError, Global};
 use std::marker::Model;
+use wg_outside::{Depot, ReadError, WriteError};
 
 /// Files in memory: a depot that tells its bytes, and in which no call fails but for want of memory. A call goes
 /// through the names one by one.
@@ -79,7 +79,7 @@ impl Depot for SteadyDepot {
 
     ghost counts = { λ d _. steady_counts d };
 
-    #[tactic(auto, using(crate::proofs::FilesLemmas::none_falls_once))]
+    #[tactic(auto, using(wg_outside::proofs::FilesLemmas::none_falls_once))]
     fn read(&mut self, name: &str, at: u64, buf: &mut [u8]) -> Result<usize, ReadError>
         requires { 0 < length buf.old }
         ensures count { IfOk result (λ count. count ≤ length buf.new) }
@@ -100,7 +100,7 @@ impl Depot for SteadyDepot {
         }
     }
 
-    #[tactic(auto, using(crate::proofs::FilesLemmas::none_falls_once))]
+    #[tactic(auto, using(wg_outside::proofs::FilesLemmas::none_falls_once))]
     fn create(&mut self, name: &str) -> Result<(), WriteError>
         ensures ok { OnOk result (self.new ≡ record self.old { files = created self.old.files name.now }) }
         ensures wanted { OnErr result (self.new ≡ record self.old { wants = risen self.old.wants }) }
@@ -116,7 +116,7 @@ impl Depot for SteadyDepot {
         }
     }
 
-    #[tactic(auto, using(crate::proofs::FilesLemmas::none_falls_once))]
+    #[tactic(auto, using(wg_outside::proofs::FilesLemmas::none_falls_once))]
     fn append(&mut self, name: &str, piece: &[u8]) -> Result<usize, WriteError>
         requires { 0 < length piece.now }
         ensures count { IfOk result (λ count. (0 < count) × (count ≤ length piece.now)) }

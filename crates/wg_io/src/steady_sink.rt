@@ -2,12 +2,12 @@
 ghost use Rattle.std.specs.Prelude.{◌≡◌, ◌<◌, ◌≤◌, [], ◌++◌, min, length, take, IfOk, IfErr, OnErr};
 ghost use Rattle.wg_io.specs.Later.{NoneFalls};
 ghost use Rattle.wg_io.specs.Memory.{SteadyBytes, steady_refusals};
-ghost use Rattle.wg_io.specs.Outside.{risen};
+ghost use Rattle.wg_outside.specs.Outside.{risen};
 
 use crate::tally::Tally;
-use crate::{Sink, WriteError};
 use std::alloc::Global;
 use std::marker::Model;
+use wg_outside::{Sink, WriteError};
 
 /// Bytes in memory: a sink that tells its bytes, and in which no write fails but for want of memory.
 #[derive(Debug, Drop)]

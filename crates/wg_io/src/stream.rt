@@ -2,9 +2,9 @@
 ghost use Rattle.std.specs.Prelude.{◌≡◌, ◌<◌, ◌≤◌, ℕ, IfOk, length};
 
 use crate::tally::Tally;
-use crate::{Sink, WriteError};
 use std::io::{self, ErrorKind, Write};
 use std::marker::Model;
+use wg_outside::{Sink, WriteError};
 
 /// A stream of the system, as the standard output. It tells no bytes.
 ///

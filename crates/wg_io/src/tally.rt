@@ -1,10 +1,10 @@
 // How often calls were refused.
 ghost use Rattle.std.specs.Prelude.{◌≡◌, ◌≤◌, ◌↔◌};
-ghost use Rattle.wg_io.specs.Outside.{risen, NonDecreasing};
+ghost use Rattle.wg_outside.specs.Outside.{risen, NonDecreasing};
 
-use crate::{ReadError, WriteError};
 use std::io::ErrorKind;
 use std::marker::Model;
+use wg_outside::{ReadError, WriteError};
 
 /// Four counts that stand still at 2^64 - 1, for all names together.
 #[derive(Debug, Drop)]
@@ -16,7 +16,7 @@ pub struct Tally {
 }
 
 impl Model for Tally {
-    ghost use Rattle.wg_io.specs.Outside.{Counts};
+    ghost use Rattle.wg_outside.specs.Outside.{Counts};
 
     ghost Value = { Counts };
 

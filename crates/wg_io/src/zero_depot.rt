@@ -2,12 +2,12 @@
 ghost use Rattle.std.specs.Prelude.{◌≡◌, ◌-◌, ◌<◌, ◌≤◌, ℕ, min, length, take, replicate, IfOk, IfErr, OnOk, OnErr, IsErrOf};
 ghost use Rattle.std.specs.FinMap as map;
 ghost use Rattle.wg_io.specs.Memory.{zero_counts, OneFile, files_of_zeros};
-ghost use Rattle.wg_io.specs.Outside.{NonDecreasing, Increased, appended, created, risen};
-ghost use Rattle.wg_io.specs.Reads.{IsPieceOf, Reads};
+ghost use Rattle.wg_outside.specs.Outside.{NonDecreasing, Increased, appended, created, risen};
+ghost use Rattle.wg_outside.specs.Reads.{IsPieceOf, Reads};
 
 use crate::tally::Tally;
-use crate::{Depot, ReadError, WriteError};
 use std::marker::Model;
+use wg_outside::{Depot, ReadError, WriteError};
 
 /// One file of zero bytes, however long, which takes no memory: a depot that tells its bytes, and to which nothing can
 /// be written.
@@ -48,7 +48,7 @@ impl<'a> Depot for ZeroDepot<'a> {
 
     ghost counts = { λ d _. zero_counts d };
 
-    #[tactic(auto, using(crate::proofs::FilesLemmas::none_falls_once))]
+    #[tactic(auto, using(wg_outside::proofs::FilesLemmas::none_falls_once))]
     fn read(&mut self, name: &str, at: u64, buf: &mut [u8]) -> Result<usize, ReadError>
         requires { 0 < length buf.old }
         ensures count { IfOk result (λ count. count ≤ length buf.new) }
@@ -70,7 +70,7 @@ impl<'a> Depot for ZeroDepot<'a> {
         Err(ReadError::Absent)
     }
 
-    #[tactic(auto, using(crate::proofs::FilesLemmas::none_falls_once))]
+    #[tactic(auto, using(wg_outside::proofs::FilesLemmas::none_falls_once))]
     fn create(&mut self, name: &str) -> Result<(), WriteError>
         ensures fails { result ≡ Err WriteError.Failed }
         ensures ok { OnOk result (files_of_zeros self.new ≡ created (files_of_zeros self.old) name.now) }
@@ -84,7 +84,7 @@ impl<'a> Depot for ZeroDepot<'a> {
         Err(WriteError::Failed)
     }
 
-    #[tactic(auto, using(crate::proofs::FilesLemmas::none_falls_once))]
+    #[tactic(auto, using(wg_outside::proofs::FilesLemmas::none_falls_once))]
     fn append(&mut self, name: &str, piece: &[u8]) -> Result<usize, WriteError>
         requires { 0 < length piece.now }
         ensures count { IfOk result (λ count. (0 < count) × (count ≤ length piece.now)) }

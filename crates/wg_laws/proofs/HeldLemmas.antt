@@ -1,7 +1,7 @@
 -- The graph that the files of an archive stand for, from a judgement that went on with it.
 use Rattle.std.proofs.Common.{◌≡◌, ◌≤◌, ℕ, List, length, nat_lt, Option, Some, None, Result, Ok, Err, inl, inr, refl, sym, ◌∙◌, ap, subst}
 use Rattle.std.proofs.lemmas.Bool.{cases_Bool}
-use Rattle.wg_io.specs.declared.limits.TheConstants.{MOST_BYTES}
+use Rattle.wg_outside.specs.declared.limits.TheConstants.{MOST_BYTES}
 use Rattle.wg_bits.specs.Bits.{bits_of}
 use Rattle.wg_params.specs.declared.key.Key.{Key}
 use Rattle.wg_params.specs.declared.key.Key.TheVariants as key

@@ -1,7 +1,7 @@
 -- A job that imports a plain text, and what its archive is read as.
 use Rattle.std.proofs.Common.{◌≡◌, ℕ, ◌≤◌, List, length, Option, Some, Result, Ok, Err, refl, sym, ap, subst, ◌∙◌}
 use Rattle.std.proofs.lemmas.Option.{same_Some}
-use Rattle.wg_io.specs.declared.limits.TheConstants.{MOST_BYTES}
+use Rattle.wg_outside.specs.declared.limits.TheConstants.{MOST_BYTES}
 use Rattle.wg_num.specs.Lines.{lines_of}
 use Rattle.wg_params.specs.Parameters.{IsWithinLimits, params_of}
 use Rattle.wg_graph.specs.Digraph.{Digraph}

@@ -1,8 +1,8 @@
 -- Texts that are printed one after the other, and what of them is out.
 use Rattle.std.proofs.Common.{◌≡◌, ℕ, List, [], ◌++◌, length, take, drop, refl, sym, ap, subst, ◌∙◌, arith, append_assoc, length-append, length-drop, Result, Ok, Err}
 use Rattle.std.proofs.lemmas.List.{append-nil, take_at, take-append-drop}
-use Rattle.wg_io.specs.Puts.{Puts}
-use Rattle.wg_io.proofs.PutsLemmas.{puts_more}
+use Rattle.wg_outside.specs.Puts.{Puts}
+use Rattle.wg_outside.proofs.PutsLemmas.{puts_more}
 use Rattle.wg_lines.specs.Printing.{HasPrinted, HasPrintedLess, Prints}
 
 -- ---- nothing goes out

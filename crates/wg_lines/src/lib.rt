@@ -6,7 +6,8 @@
 //! of it is out. An error comes from the sink alone.
 //!
 //! [`LineReader`] reads a file in pieces, and lends the lines that end in a piece, each of them whole. The lines are
-//! those of the file, however the depot cuts it; an error is one that [`read_whole`](wg_io::read_whole) would give.
+//! those of the file, however the depot cuts it; an error is one that [`read_whole`](wg_outside::read_whole) would
+//! give.
 //!
 //! A line of text, and one of two numbers:
 //!

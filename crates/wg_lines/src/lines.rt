@@ -1,13 +1,13 @@
 // Numbers and texts into a sink, through a buffer.
 ghost use Rattle.std.specs.Prelude.{◌≡◌, ◌+◌, ◌≤◌, [], ◌∷◌, ◌++◌, length, take, codes, decimal, IsTrue, OnOk, OnErr};
-ghost use Rattle.wg_io.specs.Puts.{Puts};
+ghost use Rattle.wg_outside.specs.Puts.{Puts};
 ghost use Rattle.wg_lines.specs.Printing.{Prints, pair_line};
-ghost use Rattle.wg_io.specs.Refusals.{SinkRefusals};
+ghost use Rattle.wg_outside.specs.Refusals.{SinkRefusals};
 ghost use Rattle.wg_lines.specs.declared.lines.TheConstants.{BUFFER, MOST_PIECE, MOST_START};
 
 use std::marker::Model;
-use wg_io::{Sink, WriteError, write_all};
 use wg_num::decimal_at;
+use wg_outside::{Sink, WriteError, write_all};
 
 // The bytes that may wait.
 const BUFFER: usize = 8192;

@@ -1,15 +1,15 @@
 // Files in whole lines.
 ghost use Rattle.std.specs.Prelude.{◌≡◌, ◌+◌, ◌<◌, ◌≤◌, List, ℕ, Some, Ok, Err, true, false, [], ◌++◌, length, take, drop, IsTrue, IsErrOf, IfOk, IfErr, OnOk, OnErr};
 ghost use Rattle.std.specs.FinMap as map;
-ghost use Rattle.wg_io.specs.declared.limits.TheConstants.{MOST_BYTES};
-ghost use Rattle.wg_io.specs.Outside.{NonDecreasing, Increased};
-ghost use Rattle.wg_io.specs.Reads.{Loads};
+ghost use Rattle.wg_outside.specs.declared.limits.TheConstants.{MOST_BYTES};
+ghost use Rattle.wg_outside.specs.Outside.{NonDecreasing, Increased};
+ghost use Rattle.wg_outside.specs.Reads.{Loads};
 ghost use Rattle.wg_num.specs.Lines.{lines_of};
 ghost use Rattle.wg_lines.specs.Reading.{end_of, lines_after, lines_ahead, IsReadable, IsWhole};
 
 use std::alloc::{AllocError, Global};
 use std::marker::Model;
-use wg_io::{Depot, LoadError, MOST_BYTES};
+use wg_outside::{Depot, LoadError, MOST_BYTES};
 
 // The most bytes that are read at a time.
 const PIECE: usize = 65_536;
@@ -72,7 +72,7 @@ pub struct LineReader {
 
 impl Model for LineReader {
     ghost use Rattle.std.specs.Prelude.{◌+◌, ◌≤◌, length, take, drop};
-    ghost use Rattle.wg_io.specs.declared.limits.TheConstants.{MOST_BYTES};
+    ghost use Rattle.wg_outside.specs.declared.limits.TheConstants.{MOST_BYTES};
     ghost use Rattle.wg_lines.specs.Reading.{Held};
 
     ghost Value = { Held };

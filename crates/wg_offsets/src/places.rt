@@ -4,7 +4,7 @@ ghost use Rattle.wg_offsets.specs.declared.places.TheConstants.{MOST_PLACE};
 
 use std::alloc::{AllocError, Global};
 use std::marker::Model;
-use wg_io::MOST_BYTES;
+use wg_outside::MOST_BYTES;
 
 /// The last offset that a record may begin or end at: the end of the longest graph file, in bits.
 pub const MOST_PLACE: u64 = 8 * MOST_BYTES;

@@ -4,12 +4,12 @@ use Rattle.std.specs.Bool.{IsTrue}
 use Rattle.std.specs.Result.{IfErr}
 use Rattle.std.proofs.lemmas.List.{append-nil}
 use Rattle.std.specs.FinMap as map
-use Rattle.wg_io.specs.Outside.{Files, Counts, NonDecreasing, Increased}
-use Rattle.wg_io.specs.Puts.{Puts}
-use Rattle.wg_io.specs.declared.depot.Depot as depot
-use Rattle.wg_io.specs.declared.sink.Sink as sink
-use Rattle.wg_io.specs.declared.output.Output.{Output}
-use Rattle.wg_io.specs.declared.output.Output.TheVariants.{Out, Certificate}
+use Rattle.wg_outside.specs.Outside.{Files, Counts, NonDecreasing, Increased}
+use Rattle.wg_outside.specs.Puts.{Puts}
+use Rattle.wg_outside.specs.declared.depot.Depot as depot
+use Rattle.wg_outside.specs.declared.sink.Sink as sink
+use Rattle.wg_outside.specs.declared.output.Output.{Output}
+use Rattle.wg_outside.specs.declared.output.Output.TheVariants.{Out, Certificate}
 use Rattle.wg_words.specs.declared.jobs.Job.{Job}
 use Rattle.wg_words.specs.declared.jobs.Job.TheVariants.{Bulk}
 use Rattle.wg_vectors.specs.Generated.{generated}

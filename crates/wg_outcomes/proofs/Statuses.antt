@@ -1,10 +1,10 @@
 -- What a status tells by itself, however the job has come to it.
 use Rattle.std.proofs.Common.{◌≡◌, ◌≢◌, ◌≤◌, inl, inr, ℕ, List, sym, ◌∙◌, subst, refl, ap, Option, Some, None, Result, Ok, Err, arith}
 use Rattle.std.specs.Result.{IfErr}
-use Rattle.wg_io.specs.Outside.{Counts, Increased}
-use Rattle.wg_io.specs.declared.output.Output.{Output}
-use Rattle.wg_io.specs.declared.output.Output.TheVariants.{Out}
-use Rattle.wg_io.proofs.PutsLemmas.{not_rose, rose_on}
+use Rattle.wg_outside.specs.Outside.{Counts, Increased}
+use Rattle.wg_outside.specs.declared.output.Output.{Output}
+use Rattle.wg_outside.specs.declared.output.Output.TheVariants.{Out}
+use Rattle.wg_outside.proofs.PutsLemmas.{not_rose, rose_on}
 use Rattle.wg_grammar.specs.declared.fault.ArchiveFault.{ArchiveFault}
 use Rattle.wg_outcomes.specs.Answers.{IsHindrance, IsUnput, status_in}
 use Rattle.wg_outcomes.specs.Causes.{HasCause, IncreasedAt}

@@ -2,10 +2,10 @@
 use Rattle.std.proofs.Common.{◌≡◌, ◌≢◌, inl, inr, ℕ, Bool, List, [], refl, sym, ap, subst, ◌∙◌, Option, Some, Result, Ok, Err}
 use Rattle.std.specs.Result.{IfErr, IsErrAnd}
 use Rattle.std.specs.FinMap as map
-use Rattle.wg_io.specs.Outside.{Files, Counts, created}
-use Rattle.wg_io.proofs.FilesLemmas.{get-insert_same, get-insert_other, none_falls-trans}
-use Rattle.wg_io.proofs.PutsLemmas.{is_that_err}
-use Rattle.wg_io.specs.declared.output.Output.{Output}
+use Rattle.wg_outside.specs.Outside.{Files, Counts, created}
+use Rattle.wg_outside.proofs.FilesLemmas.{get-insert_same, get-insert_other, none_falls-trans}
+use Rattle.wg_outside.proofs.PutsLemmas.{is_that_err}
+use Rattle.wg_outside.specs.declared.output.Output.{Output}
 use Rattle.wg_outcomes.specs.Causes.{IncreasedAt}
 use Rattle.wg_outcomes.specs.Written.{IsStopped, IsStoppedAt, Touches}
 use Rattle.wg_outcomes.specs.declared.ending.Ending.{Ending}

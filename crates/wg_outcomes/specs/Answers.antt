@@ -1,8 +1,8 @@
 -- Which status a judgement leads to.
 use Rattle.std.specs.Prelude.{◌≡◌, ◌⊎◌, ℕ, ◌<◌, nat_eq, if◌then◌else◌, List, ◌++◌, length, take, Option, None, Result, Ok, Err, IfErr}
-use Rattle.wg_io.specs.Outside.{Increased}
-use Rattle.wg_io.specs.declared.sink.Sink as sink
-use Rattle.wg_io.specs.declared.output.Output.TheVariants.{Out}
+use Rattle.wg_outside.specs.Outside.{Increased}
+use Rattle.wg_outside.specs.declared.sink.Sink as sink
+use Rattle.wg_outside.specs.declared.output.Output.TheVariants.{Out}
 use Rattle.wg_outcomes.specs.Judged.{Judged, status_of}
 use Rattle.wg_outcomes.specs.Names.{input_code}
 use Rattle.wg_outcomes.specs.declared.ending.Ending.{Ending}

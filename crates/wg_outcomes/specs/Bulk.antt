@@ -1,6 +1,6 @@
 -- What comes of a generated graph.
 use Rattle.std.specs.Prelude.{◌≡◌, ℕ, ◌+◌, ◌<◌, ◌≤◌, List, ◌++◌, length, slice_get, codes, decimal, Option, Some, None, IsTrue}
-use Rattle.wg_io.specs.Outside.{Files}
+use Rattle.wg_outside.specs.Outside.{Files}
 use Rattle.wg_params.specs.Parameters.{Parameters, IsWithinLimits}
 use Rattle.wg_graph.specs.Digraph.{Digraph, IsGraph, arc_count}
 use Rattle.wg_greedy.specs.Archive.{graph_bits, referring_pages}

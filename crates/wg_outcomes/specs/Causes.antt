@@ -1,8 +1,8 @@
 -- What the outside shows of an answer.
 use Rattle.std.specs.Prelude.{◌≡◌, ◌≢◌, ℕ, List, Option, Some, None}
-use Rattle.wg_io.specs.Outside.{Counts, Increased}
-use Rattle.wg_io.specs.declared.output.Output.{Output}
-use Rattle.wg_io.specs.declared.output.Output.TheVariants as output
+use Rattle.wg_outside.specs.Outside.{Counts, Increased}
+use Rattle.wg_outside.specs.declared.output.Output.{Output}
+use Rattle.wg_outside.specs.declared.output.Output.TheVariants as output
 use Rattle.wg_outcomes.specs.declared.status.Input.{Input}
 use Rattle.wg_outcomes.specs.declared.status.Status.{Status}
 use Rattle.wg_outcomes.specs.declared.status.Status.TheVariants.{ReadFault, WriteFault, Missing}

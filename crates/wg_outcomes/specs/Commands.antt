@@ -1,7 +1,7 @@
 -- What each job comes to, by what its inputs hold, and the texts that are printed.
 use Rattle.wg_outcomes.specs.Judged.{Judged, Written, accepted, built, certified, claim_then, files_of, refused, map_then, text_then, weights_then, with_archive, with_arcs, with_digraph, with_pages, with_places, with_records, with_successors, offsets_then}
 use Rattle.std.specs.Prelude.{ℕ, List, [], ◌++◌, length, map, get_or, nat_lt, if◌then◌else◌, codes, decimal, Option, Some, None}
-use Rattle.wg_io.specs.Puts.{joined}
+use Rattle.wg_outside.specs.Puts.{joined}
 use Rattle.wg_params.specs.Parameters.{Parameters}
 use Rattle.wg_params.specs.declared.limits.TheConstants.{MOST_ARCS}
 use Rattle.wg_graph.specs.Digraph.{Digraph, arc_count}

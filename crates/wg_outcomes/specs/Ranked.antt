@@ -1,7 +1,7 @@
 -- The ranking of a graph's pages, and its text.
 use Rattle.std.specs.Prelude.{ℕ, ◌≡◌, ◌≤◌, true, List, ◌++◌, length, map, take, codes, decimal, Option, Some, None, Ok}
 use Rattle.std.specs.List.{range_with_len}
-use Rattle.wg_io.specs.Puts.{joined}
+use Rattle.wg_outside.specs.Puts.{joined}
 use Rattle.wg_num.specs.Units.{text_of_units}
 use Rattle.wg_params.specs.declared.limits.TheConstants.{MOST_PAGES, MOST_DAMPING, MOST_ROUNDS}
 use Rattle.wg_params.specs.Parameters.{Parameters}

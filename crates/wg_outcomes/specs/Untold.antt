@@ -1,8 +1,8 @@
 -- What `rank`, `verify` and `bulk` promise of every depot, whether or not it tells its bytes.
 use Rattle.std.specs.Prelude.{◌≡◌, ◌⊎◌, ℕ, List, ◌++◌, Option, None, IsTrue}
-use Rattle.wg_io.specs.Outside.{Increased}
-use Rattle.wg_io.specs.declared.depot.Depot as depot
-use Rattle.wg_io.specs.declared.sink.Sink as sink
+use Rattle.wg_outside.specs.Outside.{Increased}
+use Rattle.wg_outside.specs.declared.depot.Depot as depot
+use Rattle.wg_outside.specs.declared.sink.Sink as sink
 use Rattle.wg_graph.specs.Digraph.{Digraph}
 use Rattle.wg_rank.specs.Claims.{Claim}
 use Rattle.wg_words.specs.declared.jobs.Job.{Job}

@@ -1,10 +1,10 @@
 -- What stands of the files of a job that writes an archive or a certificate.
 use Rattle.std.specs.Prelude.{◌≡◌, ◌≢◌, ◌⊎◌, ℕ, Bool, List, [], Option, Some, None, Result, IsTrue, IfErr}
 use Rattle.std.specs.FinMap as map
-use Rattle.wg_io.specs.Outside.{Files, Counts, NonDecreasing}
-use Rattle.wg_io.specs.declared.depot.Depot as depot
-use Rattle.wg_io.specs.declared.output.Output.{Output}
-use Rattle.wg_io.specs.declared.output.Output.TheVariants as output
+use Rattle.wg_outside.specs.Outside.{Files, Counts, NonDecreasing}
+use Rattle.wg_outside.specs.declared.depot.Depot as depot
+use Rattle.wg_outside.specs.declared.output.Output.{Output}
+use Rattle.wg_outside.specs.declared.output.Output.TheVariants as output
 use Rattle.wg_params.specs.Parameters.{Parameters, params_of}
 use Rattle.wg_properties.specs.Text.{text_of}
 use Rattle.wg_graph.specs.Digraph.{Digraph, arc_count}

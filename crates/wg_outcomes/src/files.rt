@@ -6,7 +6,7 @@ ghost use Rattle.wg_outcomes.specs.Written.{TouchesBy};
 
 use crate::Ending;
 use crate::outputs::writing_ending;
-use wg_io::{Depot, Output, append_all};
+use wg_outside::{Depot, Output, append_all};
 use wg_words::Name;
 
 /// Leaves an empty file of this name, which is an output of a job. After an error it is as it was.

@@ -1,11 +1,11 @@
 ghost use Rattle.std.specs.Prelude.{◌≡◌, ◌++◌, IfOk, IfErr, option_map};
-ghost use Rattle.wg_io.specs.declared.suffixes.TheConstants.{PROPERTIES, GRAPH, OFFSETS};
+ghost use Rattle.wg_outside.specs.declared.suffixes.TheConstants.{PROPERTIES, GRAPH, OFFSETS};
 ghost use Rattle.wg_outcomes.specs.Names.{suffix_of};
 
 use crate::ending::Ending;
 use crate::{Input, Status};
 use std::alloc::Global;
-use wg_io::{GRAPH, OFFSETS, PROPERTIES};
+use wg_outside::{GRAPH, OFFSETS, PROPERTIES};
 use wg_words::Name;
 
 /// What the name of one of an archive's files ends in; other inputs are no such file.

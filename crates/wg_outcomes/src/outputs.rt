@@ -1,11 +1,11 @@
 //! How a job ends that one of its outputs stopped.
 ghost use Rattle.std.specs.Prelude.{◌≡◌};
-ghost use Rattle.wg_io.specs.declared.output.Output.TheVariants.{Out};
+ghost use Rattle.wg_outside.specs.declared.output.Output.TheVariants.{Out};
 ghost use Rattle.wg_outcomes.specs.Answers.{IsUnput};
 ghost use Rattle.wg_outcomes.specs.Written.{IsStoppedAt};
 
 use crate::{Ending, Status};
-use wg_io::{Output, WriteError};
+use wg_outside::{Output, WriteError};
 
 /// How a job ends whose output the sink does not take.
 pub fn output_ending(error: WriteError) -> Ending

@@ -1,13 +1,13 @@
 //! What goes to the output in one call.
 ghost use Rattle.std.specs.Prelude.{◌≡◌, IsTrue};
-ghost use Rattle.wg_io.specs.Puts.{Puts};
+ghost use Rattle.wg_outside.specs.Puts.{Puts};
 ghost use Rattle.wg_outcomes.specs.Answers.{PrintRefusals};
 ghost use Rattle.wg_outcomes.specs.Commands.{ok_line};
 
 use crate::Ending;
 use crate::outputs::output_ending;
 use crate::text::Text;
-use wg_io::{Sink, write_all};
+use wg_outside::{Sink, write_all};
 use wg_params::Params;
 
 /// A piece of the output, in one call where the output takes it whole.

@@ -5,7 +5,7 @@ use thiserror::Error;
 use wg_arcs::{ArcsKind, NumbersFault};
 use wg_ascii::AsciiKind;
 use wg_grammar::ArchiveFault;
-use wg_io::Output;
+use wg_outside::Output;
 use wg_properties::PropFault;
 use wg_rank::CertFault;
 

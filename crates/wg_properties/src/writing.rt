@@ -5,8 +5,8 @@ ghost use Rattle.wg_properties.specs.Words.{word_of};
 
 use crate::flags::{Flag, word_of};
 use std::alloc::{AllocError, Global};
-use wg_io::List8;
 use wg_num::decimal_into;
+use wg_outside::List8;
 use wg_params::{Code, Key, Params, key_name};
 
 fn outdegree_flag(code: Code) -> Option<Flag>

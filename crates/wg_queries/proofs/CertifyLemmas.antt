@@ -4,10 +4,10 @@ use Rattle.std.specs.Bool.{IsTrue}
 use Rattle.std.specs.FinMap as map
 use Rattle.std.specs.Result.{IfErr, IsErrAnd}
 use Rattle.std.proofs.Math.Seq.{take-length}
-use Rattle.wg_io.specs.Outside.{Files, Increased}
-use Rattle.wg_io.specs.Puts.{Puts}
-use Rattle.wg_io.specs.declared.output.Output.TheVariants.{Certificate, Out}
-use Rattle.wg_io.proofs.PutsLemmas.{is_that_err}
+use Rattle.wg_outside.specs.Outside.{Files, Increased}
+use Rattle.wg_outside.specs.Puts.{Puts}
+use Rattle.wg_outside.specs.declared.output.Output.TheVariants.{Certificate, Out}
+use Rattle.wg_outside.proofs.PutsLemmas.{is_that_err}
 use Rattle.wg_greedy.specs.Held.{HoldsFront, HoldsLess}
 use Rattle.wg_rank.specs.Intervals.{Intervals}
 use Rattle.wg_outcomes.specs.Answers.{HasOutput, IsUnput, status_in}

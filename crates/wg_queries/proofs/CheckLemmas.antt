@@ -1,8 +1,8 @@
 -- How `check` goes on from the parameters, or stops at the graph or at the offsets.
 use Rattle.std.proofs.Common.{◌≡◌, ◌⊎◌, ◌∙◌, inl, inr, ℕ, Bool, List, [], ◌∷◌, Option, None, Ok, Err, refl, sym, ap}
 use Rattle.std.specs.Bool.{IsTrue}
-use Rattle.wg_io.specs.Outside.{Files, Counts}
-use Rattle.wg_io.proofs.FilesLemmas.{none_falls-trans}
+use Rattle.wg_outside.specs.Outside.{Files, Counts}
+use Rattle.wg_outside.proofs.FilesLemmas.{none_falls-trans}
 use Rattle.wg_params.specs.Parameters.{Parameters, IsWithinLimits}
 use Rattle.wg_grammar.specs.Archive.{Accepted}
 use Rattle.wg_offsets.specs.Places.{last_place}

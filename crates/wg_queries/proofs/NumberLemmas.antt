@@ -1,7 +1,7 @@
 -- Lines about numbers, one after the other.
 use Rattle.std.proofs.Common.{◌≡◌, ℕ, ◌+◌, ◌<◌, List, [], ◌∷◌, ◌++◌, map, length, take, drop, get_or, refl, sym, ap, subst, ◌∙◌, append_assoc, append-nil}
 use Rattle.std.proofs.lemmas.List.{take_more, take-append-drop}
-use Rattle.wg_io.specs.Puts.{joined}
+use Rattle.wg_outside.specs.Puts.{joined}
 use Rattle.wg_lines.specs.Printing.{HasPrinted, HasPrintedLess}
 use Rattle.wg_lines.proofs.PrintLemmas.{printed_more, less_after, less_before}
 

@@ -4,13 +4,13 @@ use Rattle.std.specs.Bool.{IsTrue}
 use Rattle.std.specs.FinMap as map
 use Rattle.std.specs.Result.{IfErr, IsErrAnd}
 use Rattle.std.proofs.lemmas.List.{append-nil, length-append, take_at}
-use Rattle.wg_io.specs.Outside.{Files, Counts, Increased, NonDecreasing}
+use Rattle.wg_outside.specs.Outside.{Files, Counts, Increased, NonDecreasing}
 use Rattle.wg_lines.specs.Printing.{HasPrinted, HasPrintedLess}
-use Rattle.wg_io.specs.Puts.{Puts}
-use Rattle.wg_io.specs.declared.output.Output.TheVariants.{Out}
-use Rattle.wg_io.proofs.FilesLemmas.{none_falls-trans}
+use Rattle.wg_outside.specs.Puts.{Puts}
+use Rattle.wg_outside.specs.declared.output.Output.TheVariants.{Out}
+use Rattle.wg_outside.proofs.FilesLemmas.{none_falls-trans}
 use Rattle.wg_lines.proofs.PrintLemmas.{puts_in_the_end}
-use Rattle.wg_io.proofs.PutsLemmas.{is_that_err}
+use Rattle.wg_outside.proofs.PutsLemmas.{is_that_err}
 use Rattle.wg_params.specs.Parameters.{Parameters, IsWithinLimits}
 use Rattle.wg_grammar.specs.Archive.{Accepted}
 use Rattle.wg_grammar.specs.Record.{Whole}
@@ -27,7 +27,7 @@ use Rattle.wg_outcomes.specs.declared.status.Status.TheVariants.{Memory, WriteFa
 use Rattle.wg_readings.proofs.JudgeLemmas.{read_hindered}
 use Rattle.wg_outcomes.proofs.Statuses.{IsOwn, any_faults, bad_own, no_write, own_caused, unput_cause, unput_hinders, cause_named}
 use Rattle.wg_readings.proofs.UnderWay.{IsUnderWay, all_read, ends_caused, first_read, cause_later}
-use Rattle.wg_io.specs.declared.output.Output.{Output}
+use Rattle.wg_outside.specs.declared.output.Output.{Output}
 use Rattle.wg_words.specs.declared.jobs.Job.{Job}
 use Rattle.wg_outcomes.specs.Reached.{Reaches}
 use Rattle.wg_outcomes.specs.Causes.{HasCause}

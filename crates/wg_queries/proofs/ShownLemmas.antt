@@ -3,12 +3,12 @@ use Rattle.std.proofs.Common.{◌≡◌, ◌∙◌, inr, get_or, ℕ, List, [], 
 use Rattle.wg_params.specs.Parameters.{Parameters}
 use Rattle.wg_grammar.specs.Archive.{Accepted, ReadsGraph}
 use Rattle.wg_random.specs.Held.{Held}
-use Rattle.wg_io.specs.Puts.{joined}
+use Rattle.wg_outside.specs.Puts.{joined}
 use Rattle.wg_lines.specs.Printing.{HasPrinted, HasPrintedLess, Prints}
 use Rattle.wg_lines.proofs.PrintLemmas.{printed_more, less_after, less_before}
 use Rattle.std.specs.Bool.{IsTrue}
-use Rattle.wg_io.specs.declared.output.Output.TheVariants.{Out}
-use Rattle.wg_io.specs.declared.sink.Sink as sink
+use Rattle.wg_outside.specs.declared.output.Output.TheVariants.{Out}
+use Rattle.wg_outside.specs.declared.sink.Sink as sink
 use Rattle.wg_outcomes.specs.Answers.{PrintRefusals}
 use Rattle.wg_outcomes.specs.Commands.{spaced, successors_line}
 use Rattle.wg_queries.specs.Showing.{PrintsLine}

@@ -4,14 +4,14 @@ use Rattle.std.specs.Bool.{IsTrue}
 use Rattle.std.specs.FinMap as map
 use Rattle.std.specs.Prelude.{unwrap_or}
 use Rattle.std.specs.Result.{IfErr}
-use Rattle.wg_io.specs.Outside.{Files, Counts, Increased, NonDecreasing}
-use Rattle.wg_io.specs.Puts.{Puts}
-use Rattle.wg_io.specs.declared.output.Output.TheVariants.{Out}
-use Rattle.wg_io.specs.declared.whole.LoadError.{LoadError}
-use Rattle.wg_io.specs.declared.whole.LoadError.TheVariants as load
-use Rattle.wg_io.specs.declared.limits.TheConstants.{MOST_BYTES}
+use Rattle.wg_outside.specs.Outside.{Files, Counts, Increased, NonDecreasing}
+use Rattle.wg_outside.specs.Puts.{Puts}
+use Rattle.wg_outside.specs.declared.output.Output.TheVariants.{Out}
+use Rattle.wg_outside.specs.declared.whole.LoadError.{LoadError}
+use Rattle.wg_outside.specs.declared.whole.LoadError.TheVariants as load
+use Rattle.wg_outside.specs.declared.limits.TheConstants.{MOST_BYTES}
 use Rattle.wg_offsets.specs.declared.error.WordError.TheVariants as words
-use Rattle.wg_io.proofs.FilesLemmas.{none_falls-trans}
+use Rattle.wg_outside.proofs.FilesLemmas.{none_falls-trans}
 use Rattle.wg_bits.specs.Bits.{bits_of}
 use Rattle.wg_params.specs.Parameters.{Parameters, IsWithinLimits}
 use Rattle.wg_grammar.specs.declared.fault.ArchiveFault.{ArchiveFault}

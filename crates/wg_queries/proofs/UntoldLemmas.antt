@@ -1,12 +1,12 @@
 -- What `rank` and `verify` promise of every depot.
 use Rattle.std.proofs.Common.{◌≡◌, ◌≢◌, ◌⊎◌, ◌≤◌, ◌∙◌, inl, inr, ℕ, Bool, List, ◌++◌, length, Option, Some, None, Result, Ok, Err, refl, sym, ap, subst}
 use Rattle.std.specs.Result.{IfErr, IsErrAnd}
-use Rattle.wg_io.specs.Outside.{Counts, Files, NonDecreasing}
-use Rattle.wg_io.specs.Puts.{Puts}
-use Rattle.wg_io.specs.declared.depot.Depot as depot
-use Rattle.wg_io.specs.declared.sink.Sink as sink
-use Rattle.wg_io.specs.declared.output.Output.TheVariants.{Out}
-use Rattle.wg_io.proofs.PutsLemmas.{is_that_err}
+use Rattle.wg_outside.specs.Outside.{Counts, Files, NonDecreasing}
+use Rattle.wg_outside.specs.Puts.{Puts}
+use Rattle.wg_outside.specs.declared.depot.Depot as depot
+use Rattle.wg_outside.specs.declared.sink.Sink as sink
+use Rattle.wg_outside.specs.declared.output.Output.TheVariants.{Out}
+use Rattle.wg_outside.proofs.PutsLemmas.{is_that_err}
 use Rattle.wg_params.specs.declared.limits.TheConstants.{MOST_DAMPING, MOST_PAGES, MOST_ROUNDS}
 use Rattle.wg_graph.specs.Digraph.{Digraph, IsGraph}
 use Rattle.wg_rank.specs.Claims.{Claim}

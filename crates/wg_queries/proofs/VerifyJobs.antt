@@ -2,9 +2,9 @@
 use Rattle.std.proofs.Common.{◌≡◌, ◌⊎◌, ℕ, Bool, List, [], ◌∷◌, Option, Some, None, Result, Ok, Err, refl}
 use Rattle.std.specs.Bool.{IsTrue}
 use Rattle.std.specs.Result.{IfErr}
-use Rattle.wg_io.specs.Outside.{Files, Counts, Increased}
-use Rattle.wg_io.specs.Puts.{Puts}
-use Rattle.wg_io.specs.declared.output.Output.TheVariants.{Out}
+use Rattle.wg_outside.specs.Outside.{Files, Counts, Increased}
+use Rattle.wg_outside.specs.Puts.{Puts}
+use Rattle.wg_outside.specs.declared.output.Output.TheVariants.{Out}
 use Rattle.wg_params.specs.Parameters.{Parameters}
 use Rattle.wg_graph.specs.Digraph.{Digraph}
 use Rattle.wg_rank.specs.Claims.{Claim}

@@ -1,7 +1,7 @@
 -- The files that the records of a chain are read from.
 use Rattle.std.specs.Prelude.{◌≡◌, ℕ, Bool, List, Some, IsTrue}
 use Rattle.std.specs.FinMap as map
-use Rattle.wg_io.specs.Outside.{Files, Counts}
+use Rattle.wg_outside.specs.Outside.{Files, Counts}
 use Rattle.wg_bits.specs.Bits.{bits_of}
 use Rattle.wg_source.specs.Held.{IsHeldOf}
 use Rattle.wg_source.specs.Stepping.{Steps, Moves, HasCause}

@@ -1,11 +1,11 @@
 -- Readings of the files of a chain follow one another, and a cause stays one.
 use Rattle.std.proofs.Common.{◌≡◌, ℕ, Bool, List, refl, sym, ◌∙◌, ap, subst}
-use Rattle.wg_io.specs.Outside.{Files, Counts}
+use Rattle.wg_outside.specs.Outside.{Files, Counts}
 use Rattle.wg_bits.specs.Bits.{bits_of}
 use Rattle.wg_offsets.specs.Sampling.{Sampled, IsSampleOf}
 use Rattle.wg_offsets.specs.declared.error.WordError.{WordError}
 use Rattle.wg_offsets.specs.declared.error.WordError.TheVariants as words
-use Rattle.wg_io.specs.declared.whole.LoadError.{LoadError}
+use Rattle.wg_outside.specs.declared.whole.LoadError.{LoadError}
 use Rattle.wg_source.specs.Held.{Held}
 use Rattle.wg_source.specs.Stepping.{Moves}
 use Rattle.wg_source.specs.StepLaws.{no_step, two_steps, step_moves, two_moves, there_after, cause_after}

@@ -1,14 +1,14 @@
 -- A text of each record of a graph file, as it is printed.
 use Rattle.std.specs.Prelude.{◌⊎◌, ℕ, ◌<◌, ◌++◌, Bool, ◌≡◌, List, [], length, map, take, Result, Ok, Err, IsTrue, IfErr}
-use Rattle.wg_io.specs.Outside.{NonDecreasing}
-use Rattle.wg_io.specs.declared.depot.Depot as depot
-use Rattle.wg_io.specs.declared.sink.Sink as sink
+use Rattle.wg_outside.specs.Outside.{NonDecreasing}
+use Rattle.wg_outside.specs.declared.depot.Depot as depot
+use Rattle.wg_outside.specs.declared.sink.Sink as sink
 use Rattle.wg_params.specs.Parameters.{Parameters}
 use Rattle.wg_grammar.specs.Archive.{Accepted}
 use Rattle.wg_arcs.specs.Text.{lines_from, page_lines}
 use Rattle.wg_ascii.specs.Text.{list_line, nodes_line}
-use Rattle.wg_io.specs.Puts.{joined}
-use Rattle.wg_io.specs.declared.output.Output.TheVariants.{Out}
+use Rattle.wg_outside.specs.Puts.{joined}
+use Rattle.wg_outside.specs.declared.output.Output.TheVariants.{Out}
 use Rattle.wg_words.specs.declared.jobs.Job.{Job}
 use Rattle.wg_words.specs.declared.jobs.Job.TheVariants as job
 use Rattle.wg_outcomes.specs.Answers.{IsHindrance, IsUnput, status_in}

@@ -1,9 +1,9 @@
 -- The line of a page, as it is printed, and the records of its chain of references.
 use Rattle.std.specs.Prelude.{◌≡◌, ℕ, ◌+◌, List, Result, Ok, IsTrue, IfErr}
-use Rattle.wg_io.specs.Outside.{Increased}
+use Rattle.wg_outside.specs.Outside.{Increased}
 use Rattle.wg_lines.specs.Printing.{Prints}
-use Rattle.wg_io.specs.declared.output.Output.TheVariants.{Out}
-use Rattle.wg_io.specs.declared.sink.Sink as sink
+use Rattle.wg_outside.specs.declared.output.Output.TheVariants.{Out}
+use Rattle.wg_outside.specs.declared.sink.Sink as sink
 use Rattle.wg_grammar.specs.Archive.{Accepted, ReadsGraph}
 use Rattle.wg_grammar.specs.Record.{Whole}
 use Rattle.wg_stream.specs.AllRecords.{known_at}

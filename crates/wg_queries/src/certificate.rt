@@ -5,8 +5,8 @@ ghost use Rattle.wg_greedy.specs.Held.{HoldsLess};
 ghost use Rattle.wg_outcomes.specs.Ranked.{certificate_text};
 ghost use Rattle.wg_outcomes.specs.Written.{TouchesBy};
 
-use wg_io::{Depot, Output};
 use wg_outcomes::{Ending, create_file, writing_ending};
+use wg_outside::{Depot, Output};
 use wg_rank::{Bounds, write_certificate};
 use wg_words::Name;
 

@@ -12,8 +12,8 @@ ghost use Rattle.std.proofs.Common.{refl, ap, ◌∙◌};
 
 use wg_codes::Read;
 use wg_grammar::Source;
-use wg_io::{Depot, LoadError};
 use wg_offsets::{Extent, WordError};
+use wg_outside::{Depot, LoadError};
 use wg_params::Code;
 use wg_random::Located;
 use wg_readings::{FoundFile, SampledFile, extent_of};

@@ -3,8 +3,8 @@ ghost use Rattle.wg_words.specs.declared.jobs.Job.TheVariants.{Check};
 ghost use Rattle.wg_outcomes.specs.Performs.{DoesOrEnds};
 
 use std::alloc::Global;
-use wg_io::{Depot, Sink};
 use wg_outcomes::{Ending, print_ok};
+use wg_outside::{Depot, Sink};
 use wg_readings::{judge_files, load_params};
 use wg_words::Name;
 

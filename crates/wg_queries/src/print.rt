@@ -1,7 +1,7 @@
 //! What goes to the output.
 ghost use Rattle.std.specs.Prelude.{◌≡◌, ◌≤◌, ◌<◌, length, slice_index, IsTrue, IsErrOf, IfErr, Err};
-ghost use Rattle.wg_io.specs.Puts.{Puts};
-ghost use Rattle.wg_io.specs.Refusals.{SinkRefusals};
+ghost use Rattle.wg_outside.specs.Puts.{Puts};
+ghost use Rattle.wg_outside.specs.Refusals.{SinkRefusals};
 ghost use Rattle.wg_outcomes.specs.Answers.{IsUnput, PrintRefusals};
 ghost use Rattle.wg_lines.specs.Printing.{Prints};
 ghost use Rattle.wg_arcs.specs.Text.{page_lines};
@@ -11,13 +11,13 @@ ghost use Rattle.wg_outcomes.specs.Ranked.{rank_line, rank_lines};
 ghost use Rattle.wg_rank.specs.declared.limits.TheConstants.{UNITS};
 ghost use Rattle.wg_outcomes.specs.Commands.{number_line, ok_line};
 ghost use Rattle.wg_outcomes.specs.Verified.{verified_line};
-ghost use Rattle.wg_io.specs.declared.output.Output.TheVariants.{Out};
+ghost use Rattle.wg_outside.specs.declared.output.Output.TheVariants.{Out};
 
-use wg_io::{Sink, WriteError};
 use wg_lines::Lines;
 use wg_num::units_text;
 use wg_order::FirstPages;
 use wg_outcomes::{Ending, Text, output_ending, print_piece};
+use wg_outside::{Sink, WriteError};
 use wg_rank::Certificate;
 
 fn verified_line(certificate: &Certificate, left: u128) -> Text

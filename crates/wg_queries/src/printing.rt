@@ -7,9 +7,9 @@ ghost use Rattle.wg_queries.specs.Printed.{PrintsAgain, head_of, job_of, listed,
 
 use crate::print::{print_list, print_nodes, print_number, print_page, print_rest};
 use std::alloc::Global;
-use wg_io::{Depot, Sink};
 use wg_lines::Lines;
 use wg_outcomes::Ending;
+use wg_outside::{Depot, Sink};
 use wg_params::Params;
 use wg_readings::{end_records, judge_graph, load_params, next_record, open_graph};
 use wg_stream::Reader;

@@ -1,7 +1,7 @@
 //! The command `rank`: the pages by their PageRank, with bounds that enclose it.
 ghost use Rattle.std.specs.Prelude.{◌≡◌, ◌⊎◌, ◌≤◌, IsTrue, Some};
-ghost use Rattle.wg_io.specs.Outside.{Increased};
-ghost use Rattle.wg_io.specs.Puts.{Puts};
+ghost use Rattle.wg_outside.specs.Outside.{Increased};
+ghost use Rattle.wg_outside.specs.Puts.{Puts};
 ghost use Rattle.wg_params.specs.declared.limits.TheConstants.{MOST_DAMPING, MOST_ROUNDS};
 ghost use Rattle.wg_words.specs.declared.jobs.Job.TheVariants.{Rank};
 ghost use Rattle.wg_outcomes.specs.Answers.{PrintRefusals, status_in};
@@ -16,9 +16,9 @@ use crate::certificate::write_file;
 use crate::print::print_ranking;
 use std::alloc::Global;
 use wg_graph::Lists;
-use wg_io::{Depot, Sink};
 use wg_order::FirstPages;
 use wg_outcomes::{Ending, Input, bounds_by_rounds, room_for};
+use wg_outside::{Depot, Sink};
 use wg_rank::Bounds;
 use wg_readings::{lists_of_records, load, load_params, load_weights};
 use wg_words::Name;

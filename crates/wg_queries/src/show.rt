@@ -1,8 +1,8 @@
 //! The command `show`: the successors of pages, each page read by its offset.
 ghost use Rattle.std.specs.Prelude.{◌≡◌, ◌+◌, ◌<◌, ◌≤◌, Ok, IfErr, OnOk, IsTrue, All, sum_by};
-ghost use Rattle.wg_io.specs.Outside.{Increased};
-ghost use Rattle.wg_io.specs.Puts.{Puts};
-ghost use Rattle.wg_io.specs.declared.output.Output.TheVariants.{Out};
+ghost use Rattle.wg_outside.specs.Outside.{Increased};
+ghost use Rattle.wg_outside.specs.Puts.{Puts};
+ghost use Rattle.wg_outside.specs.declared.output.Output.TheVariants.{Out};
 ghost use Rattle.wg_grammar.specs.Archive.{Accepted, ReadsGraph};
 ghost use Rattle.wg_words.specs.declared.jobs.Job.TheVariants.{Show};
 ghost use Rattle.wg_outcomes.specs.Answers.{IsUnput, status_in};
@@ -17,9 +17,9 @@ use std::alloc::Global;
 use std::marker::Brand;
 use std::sync::ledger::{Blank, Ledger};
 use wg_graph::List;
-use wg_io::{Depot, Sink};
 use wg_lines::Lines;
 use wg_outcomes::{Ending, Input, Status};
+use wg_outside::{Depot, Sink};
 use wg_random::{Archive, ListError, Records, Steps};
 use wg_readings::{find_pages, judge_offsets, load, load_params, passed_of_graph};
 use wg_words::Name;

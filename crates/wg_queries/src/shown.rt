@@ -1,16 +1,16 @@
 //! The lines of pages with their successors.
 ghost use Rattle.std.specs.Prelude.{◌≡◌, map, IsTrue};
 ghost use Rattle.wg_lines.specs.Printing.{Prints};
-ghost use Rattle.wg_io.specs.Puts.{joined};
-ghost use Rattle.wg_io.specs.Refusals.{SinkRefusals};
+ghost use Rattle.wg_outside.specs.Puts.{joined};
+ghost use Rattle.wg_outside.specs.Refusals.{SinkRefusals};
 ghost use Rattle.wg_outcomes.specs.Answers.{PrintRefusals};
 ghost use Rattle.wg_outcomes.specs.Commands.{spaced, successors_line};
 ghost use Rattle.wg_random.specs.Answer.{list_in};
 
-use wg_io::{Sink, WriteError};
 use wg_iterators::Successors;
 use wg_lines::Lines;
 use wg_outcomes::{Ending, output_ending};
+use wg_outside::{Sink, WriteError};
 use wg_random::Page;
 
 // A number behind a space.

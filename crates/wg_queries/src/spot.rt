@@ -1,8 +1,8 @@
 //! The command `spot`: the successors of one page of an archive that is not checked.
 ghost use Rattle.std.specs.Prelude.{◌≡◌, IsTrue, IfErr};
-ghost use Rattle.wg_io.specs.Outside.{Increased};
-ghost use Rattle.wg_io.specs.Puts.{Puts};
-ghost use Rattle.wg_io.specs.declared.output.Output.TheVariants.{Out};
+ghost use Rattle.wg_outside.specs.Outside.{Increased};
+ghost use Rattle.wg_outside.specs.Puts.{Puts};
+ghost use Rattle.wg_outside.specs.declared.output.Output.TheVariants.{Out};
 ghost use Rattle.wg_words.specs.declared.jobs.Job.TheVariants.{Spot};
 ghost use Rattle.wg_outcomes.specs.Answers.{IsUnput, status_in};
 ghost use Rattle.wg_outcomes.specs.declared.status.Status.TheVariants.{WriteFault};
@@ -13,9 +13,9 @@ use crate::chains::successors_of_page;
 use crate::print::print_rest;
 use crate::shown::print_list;
 use std::alloc::Global;
-use wg_io::{Depot, Sink};
 use wg_lines::Lines;
 use wg_outcomes::{Ending, Input};
+use wg_outside::{Depot, Sink};
 use wg_readings::{find_file, load_params, sample_offsets};
 use wg_words::Name;
 

@@ -37,7 +37,7 @@ pub struct Archive<'a> {
 
 impl<'a> Model for Archive<'a> {
     ghost use Rattle.std.specs.Prelude.{◌≤◌, length};
-    ghost use Rattle.wg_io.specs.declared.limits.TheConstants.{MOST_BYTES};
+    ghost use Rattle.wg_outside.specs.declared.limits.TheConstants.{MOST_BYTES};
     ghost use Rattle.wg_bits.specs.Bits.{bits_of};
     ghost use Rattle.wg_random.specs.Held.{Held, StandsForGraph};
 
@@ -82,16 +82,10 @@ impl<'a> Archive<'a> {
         ensures refused { IfErr result (λ e. OfArchive e (IsLengthFault records.entry.offsets offsets.now)) }
         ensures never_memory { result ≢ Err CheckError.Memory }
     {
-        let Records {
-            bytes,
-            params,
-            offsets: found,
-            ..
-        } = records;
-        match compare(&found, offsets) {
+        match compare(&records.offsets, offsets) {
             Ok(()) => Ok(Archive {
-                bytes,
-                params,
+                bytes: records.bytes,
+                params: records.params,
                 offsets,
             }),
             Err(fault) => Err(CheckError::Archive(fault)),

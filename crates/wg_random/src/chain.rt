@@ -1,6 +1,6 @@
 //! The list of a page of an archive that was not checked.
 ghost use Rattle.std.specs.Prelude.{◌≡◌, ◌+◌, ◌-◌, ◌<◌, ◌≤◌, ℕ, Bool, List as ListOf, length, drop, get_or, Some, Ok, Err, IfOk, IfErr, OnOk};
-ghost use Rattle.wg_io.specs.declared.limits.TheConstants.{MOST_BYTES};
+ghost use Rattle.wg_outside.specs.declared.limits.TheConstants.{MOST_BYTES};
 ghost use Rattle.wg_bits.specs.Bits.{bits_of};
 ghost use Rattle.wg_grammar.specs.Context.{Known};
 ghost use Rattle.wg_decoder.specs.Chains.{ChainReads};

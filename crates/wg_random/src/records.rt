@@ -1,6 +1,6 @@
 //! Records that were checked.
 ghost use Rattle.std.specs.Prelude.{◌≡◌, ◌+◌, ◌≤◌, ℕ, List, IfOk, IfErr, Ok, Err, get_or, length};
-ghost use Rattle.wg_io.specs.declared.limits.TheConstants.{MOST_BYTES};
+ghost use Rattle.wg_outside.specs.declared.limits.TheConstants.{MOST_BYTES};
 ghost use Rattle.wg_bits.specs.Bits.{bits_of};
 ghost use Rattle.wg_grammar.specs.Archive.{Accepted, ReadsGraph};
 ghost use Rattle.wg_grammar.specs.Laws.{graph_of};
@@ -30,7 +30,7 @@ pub struct Records<'a> {
 
 impl<'a> Model for Records<'a> {
     ghost use Rattle.std.specs.Prelude.{◌≤◌, length};
-    ghost use Rattle.wg_io.specs.declared.limits.TheConstants.{MOST_BYTES};
+    ghost use Rattle.wg_outside.specs.declared.limits.TheConstants.{MOST_BYTES};
     ghost use Rattle.wg_bits.specs.Bits.{bits_of};
     ghost use Rattle.wg_random.specs.Held.{Held};
     ghost use Rattle.wg_stream.specs.Sweeping.{PassFinds};

@@ -1,9 +1,9 @@
 -- The lines of a certificate, printed part by part.
 use Rattle.std.proofs.Common.{◌≡◌, ℕ, zero, suc, ◌+◌, ◌<◌, List, [], ◌∷◌, ◌++◌, length, take, drop, get_or, refl, sym, ap, subst, ◌∙◌, arith, add-one, append_assoc, append-nil, Result, Ok, Err, OnOk, OnErr}
-use Rattle.wg_io.specs.Outside.{Files, appended, content}
-use Rattle.wg_io.specs.Puts.{Puts}
+use Rattle.wg_outside.specs.Outside.{Files, appended, content}
+use Rattle.wg_outside.specs.Puts.{Puts}
 use Rattle.wg_lines.specs.Printing.{HasPrinted, HasPrintedLess, Prints}
-use Rattle.wg_io.proofs.FilesLemmas.{file_grown}
+use Rattle.wg_outside.proofs.FilesLemmas.{file_grown}
 use Rattle.wg_lines.proofs.PrintLemmas.{printed_more, less_after, less_before}
 use Rattle.wg_rank.specs.CertificateText.{bound_line, bound_lines}
 

@@ -2,7 +2,7 @@
 use Rattle.std.specs.Prelude.{ℕ, ◌≡◌, Vec, zero, suc, ◌+◌, ◌==◌, nat_eq, nat_le, if◌then◌else◌, List, [], ◌∷◌, ◌++◌, length, drop, map, codes, decimal, Option, Some, None, Result, Ok, Err}
 use Rattle.std.specs.Global.{Global}
 use Rattle.std.specs.List.{starts_with}
-use Rattle.wg_io.specs.Puts.{joined}
+use Rattle.wg_outside.specs.Puts.{joined}
 use Rattle.wg_num.specs.Decimal.{number_of}
 use Rattle.wg_num.specs.Lines.{lines_of}
 use Rattle.wg_num.specs.Units.{text_of_units, units_of}

@@ -1,19 +1,19 @@
 // The text of a certificate.
 
 ghost use Rattle.std.specs.Prelude.{◌≡◌, ℕ, ◌<◌, ◌≤◌, All, [], length, take, codes, IsTrue, OnOk, OnErr};
-ghost use Rattle.wg_io.specs.Outside.{appended};
+ghost use Rattle.wg_outside.specs.Outside.{appended};
 ghost use Rattle.wg_lines.specs.Printing.{Prints};
-ghost use Rattle.wg_io.specs.Puts.{Puts};
-ghost use Rattle.wg_io.specs.Refusals.{FileRefusals, SinkRefusals};
+ghost use Rattle.wg_outside.specs.Puts.{Puts};
+ghost use Rattle.wg_outside.specs.Refusals.{FileRefusals, SinkRefusals};
 ghost use Rattle.wg_lines.specs.declared.lines.TheConstants.{MOST_PIECE};
 ghost use Rattle.wg_rank.specs.Claims.{claim_of_bounds};
 ghost use Rattle.wg_rank.specs.CertificateText.{named_line, bound_line, bound_lines, text_of_claim};
 ghost use Rattle.wg_rank.specs.declared.limits.TheConstants.{UNITS};
 
 use crate::Bounds;
-use wg_io::{Depot, FileSink, Sink, WriteError};
 use wg_lines::Lines;
 use wg_num::units_text;
+use wg_outside::{Depot, FileSink, Sink, WriteError};
 
 // Prints a line of a word and a number.
 fn write_named<S: Sink>(

@@ -1,6 +1,6 @@
 -- A job that reads the graph of an archive whole, and then weights, if a file of them is named.
 use Rattle.std.proofs.Common.{◌≡◌, ℕ, Bool, List, [], ◌∷◌, Option, Ok, Err, refl, true, false, Some, None, is_some, ap}
-use Rattle.wg_io.specs.Outside.{Files, Counts}
+use Rattle.wg_outside.specs.Outside.{Files, Counts}
 use Rattle.wg_params.specs.Parameters.{Parameters}
 use Rattle.wg_graph.specs.Digraph.{Digraph}
 use Rattle.wg_words.specs.declared.jobs.Job.{Job}

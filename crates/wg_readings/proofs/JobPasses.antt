@@ -2,9 +2,9 @@
 use Rattle.std.proofs.Common.{◌≡◌, ◌≢◌, ◌⊎◌, ◌<◌, inl, inr, ℕ, length, Bool, List, ◌++◌, take, refl, sym, ◌∙◌, subst, Option, Result, Ok, Err}
 use Rattle.std.specs.Bool.{IsTrue}
 use Rattle.std.specs.Result.{IfErr}
-use Rattle.wg_io.specs.Outside.{Files, Counts}
-use Rattle.wg_io.specs.declared.output.Output.{Output}
-use Rattle.wg_io.specs.declared.output.Output.TheVariants.{Out}
+use Rattle.wg_outside.specs.Outside.{Files, Counts}
+use Rattle.wg_outside.specs.declared.output.Output.{Output}
+use Rattle.wg_outside.specs.declared.output.Output.TheVariants.{Out}
 use Rattle.wg_params.specs.Parameters.{Parameters}
 use Rattle.wg_grammar.specs.Archive.{Accepted}
 use Rattle.wg_words.specs.declared.jobs.Job.{Job}

@@ -9,8 +9,8 @@ use Rattle.wg_grammar.specs.Archive.{Accepted}
 use Rattle.std.proofs.Common.{◌≡◌, ◌∙◌, inl, inr, ℕ, Bool, List, Option, Result, Ok, Err, refl, sym, subst}
 use Rattle.std.specs.Bool.{IsTrue}
 use Rattle.std.specs.Result.{IfErr}
-use Rattle.wg_io.specs.Outside.{Files, Counts, NonDecreasing}
-use Rattle.wg_io.proofs.FilesLemmas.{none_falls-refl, none_falls-trans}
+use Rattle.wg_outside.specs.Outside.{Files, Counts, NonDecreasing}
+use Rattle.wg_outside.proofs.FilesLemmas.{none_falls-refl, none_falls-trans}
 use Rattle.wg_params.specs.Parameters.{Parameters, IsWithinLimits}
 use Rattle.wg_grammar.specs.Record.{Whole}
 use Rattle.wg_offsets.specs.Places.{last_place}

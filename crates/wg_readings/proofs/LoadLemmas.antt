@@ -3,9 +3,9 @@ use Rattle.std.proofs.Common.{◌≡◌, ◌∙◌, ◌⊎◌, inl, inr, ℕ, Bo
 use Rattle.std.specs.Bool.{IsTrue}
 use Rattle.std.specs.Result.{IfErr, IfOk}
 use Rattle.std.proofs.lemmas.Result.{IfErr-weaker}
-use Rattle.wg_io.specs.Outside.{Files, Counts}
-use Rattle.wg_io.specs.declared.output.Output.{Output}
-use Rattle.wg_io.proofs.FilesLemmas.{none_falls-refl}
+use Rattle.wg_outside.specs.Outside.{Files, Counts}
+use Rattle.wg_outside.specs.declared.output.Output.{Output}
+use Rattle.wg_outside.proofs.FilesLemmas.{none_falls-refl}
 use Rattle.wg_params.specs.Parameters.{Parameters}
 use Rattle.wg_graph.specs.Digraph.{Digraph}
 use Rattle.wg_outcomes.specs.Answers.{IsHindrance, Steps, status_in}

@@ -3,8 +3,8 @@ use Rattle.std.proofs.Common.{◌≡◌, ◌≢◌, inl, inr, ℕ, ◌<◌, Bool
 use Rattle.std.specs.Bool.{IsTrue}
 use Rattle.std.specs.FinMap as map
 use Rattle.std.proofs.lemmas.Bool.{cond-true, lt-ltb}
-use Rattle.wg_io.specs.declared.limits.TheConstants.{MOST_BYTES}
-use Rattle.wg_io.specs.Outside.{Files, Counts}
+use Rattle.wg_outside.specs.declared.limits.TheConstants.{MOST_BYTES}
+use Rattle.wg_outside.specs.Outside.{Files, Counts}
 use Rattle.wg_params.specs.Parameters.{Parameters, IsWithinLimits}
 use Rattle.wg_grammar.specs.declared.fault.ArchiveFault.{ArchiveFault}
 use Rattle.wg_grammar.specs.declared.fault.ArchiveFault.TheVariants as archive

@@ -4,8 +4,8 @@ use Rattle.std.specs.Bool.{IsTrue}
 use Rattle.std.specs.FinMap as map
 use Rattle.std.specs.Result.{IfErr}
 use Rattle.wg_bits.specs.Bits.{bits_of}
-use Rattle.wg_io.specs.Outside.{Files, Counts}
-use Rattle.wg_io.specs.declared.whole.LoadError.{LoadError}
+use Rattle.wg_outside.specs.Outside.{Files, Counts}
+use Rattle.wg_outside.specs.declared.whole.LoadError.{LoadError}
 use Rattle.wg_offsets.specs.Errors.{OnRefusal, OnWord}
 use Rattle.wg_offsets.specs.Sampling.{IsSampleOf, Sampled, bit_before}
 use Rattle.wg_offsets.specs.declared.error.WordError.{WordError}

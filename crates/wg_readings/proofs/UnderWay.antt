@@ -8,9 +8,9 @@ use Rattle.wg_stream.specs.Prefix.{PagesRead, AreBehind, PrefixRead}
 use Rattle.wg_readings.specs.Passes.{accepted_of, Advances, FollowsFile, IsFound, IsFresh, IsGraphFile, graph_then}
 use Rattle.std.specs.Bool.{IsTrue}
 use Rattle.std.specs.FinMap as map
-use Rattle.wg_io.specs.Outside.{Files, Counts, NonDecreasing}
-use Rattle.wg_io.specs.declared.suffixes.TheConstants.{GRAPH}
-use Rattle.wg_io.proofs.FilesLemmas.{none_falls-refl, none_falls-trans}
+use Rattle.wg_outside.specs.Outside.{Files, Counts, NonDecreasing}
+use Rattle.wg_outside.specs.declared.suffixes.TheConstants.{GRAPH}
+use Rattle.wg_outside.proofs.FilesLemmas.{none_falls-refl, none_falls-trans}
 use Rattle.wg_bits.specs.Bits.{bits_of}
 use Rattle.wg_grammar.proofs.OneGraph.{graph_one}
 use Rattle.wg_stream.specs.declared.state.State.TheVariants.{Open}

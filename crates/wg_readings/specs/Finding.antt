@@ -1,6 +1,6 @@
 -- A file that was found, of which parts are read.
 use Rattle.std.specs.Prelude.{◌≡◌, ℕ, ◌≤◌, List, length, Option, Some}
-use Rattle.wg_io.specs.declared.limits.TheConstants.{MOST_BYTES}
+use Rattle.wg_outside.specs.declared.limits.TheConstants.{MOST_BYTES}
 use Rattle.wg_source.specs.Held.{Held, IsHeldOf}
 
 -- the file is there, and no longer than the limit, and what is held is a part of it

@@ -1,9 +1,9 @@
 -- An offsets file that is read in pieces, beside the records of its graph.
 use Rattle.std.specs.Prelude.{◌≡◌, ℕ, ◌+◌, Bool, true, false, List, [], ◌∷◌, Option, Some, Result, Ok, Err, IsTrue, IfErr, OnOk, MatchResult}
 use Rattle.std.specs.FinMap as map
-use Rattle.wg_io.specs.Outside.{Files, Counts}
-use Rattle.wg_io.specs.declared.whole.LoadError.{LoadError}
-use Rattle.wg_io.specs.declared.whole.LoadError.TheVariants as load
+use Rattle.wg_outside.specs.Outside.{Files, Counts}
+use Rattle.wg_outside.specs.declared.whole.LoadError.{LoadError}
+use Rattle.wg_outside.specs.declared.whole.LoadError.TheVariants as load
 use Rattle.wg_bits.specs.Bits.{bits_of}
 use Rattle.wg_params.specs.Parameters.{Parameters, IsWithinLimits}
 use Rattle.wg_grammar.specs.declared.fault.ArchiveFault.TheVariants as archive

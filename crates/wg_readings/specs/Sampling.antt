@@ -1,9 +1,9 @@
 -- An offsets file of which samples are kept.
 use Rattle.std.specs.Prelude.{◌≡◌, ℕ, Bool, List, Option, Some, Result, Ok, IsTrue, IfOk}
 use Rattle.std.specs.FinMap as map
-use Rattle.wg_io.specs.Outside.{Files, Counts}
-use Rattle.wg_io.specs.declared.depot.Depot as depot
-use Rattle.wg_io.specs.declared.whole.LoadError.{LoadError}
+use Rattle.wg_outside.specs.Outside.{Files, Counts}
+use Rattle.wg_outside.specs.declared.depot.Depot as depot
+use Rattle.wg_outside.specs.declared.whole.LoadError.{LoadError}
 use Rattle.wg_bits.specs.Bits.{bits_of}
 use Rattle.wg_params.specs.Parameters.{Parameters}
 use Rattle.wg_offsets.specs.Sampling.{Sampled, IsSampleOf}

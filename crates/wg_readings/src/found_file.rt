@@ -1,15 +1,15 @@
 //! Files of an archive that are read in pieces, from any place.
 ghost use Rattle.std.specs.Prelude.{◌≡◌, IfOk, IfErr, Err, Some, IsSome, IsTrue};
 ghost use Rattle.std.specs.FinMap as map;
-ghost use Rattle.wg_io.specs.Outside.{NonDecreasing};
+ghost use Rattle.wg_outside.specs.Outside.{NonDecreasing};
 ghost use Rattle.wg_outcomes.specs.Names.{file_of, suffix_of};
 ghost use Rattle.wg_readings.specs.Finding.{IsOpenOn};
 ghost use Rattle.wg_readings.specs.Loading.{LoadsBy};
 
 use crate::lines::unread;
 use std::alloc::Global;
-use wg_io::Depot;
 use wg_outcomes::{Ending, Input, file_name, suffix};
+use wg_outside::Depot;
 use wg_source::Stretch;
 use wg_words::Name;
 

@@ -5,9 +5,9 @@ ghost use Rattle.wg_readings.specs.Loading.{JudgesFilesBy, JudgesGraphBy, Judges
 use crate::pairing::{begin_pairing, end_pairing, open_offsets, pair_next};
 use crate::records::{end_records, next_record, open_graph};
 use std::alloc::Global;
-use wg_io::Depot;
 use wg_offsets::Offsets;
 use wg_outcomes::Ending;
+use wg_outside::Depot;
 use wg_params::Params;
 use wg_words::Name;
 

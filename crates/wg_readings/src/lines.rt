@@ -1,7 +1,7 @@
 //! Texts that are read line by line.
 ghost use Rattle.std.specs.Prelude.{◌≡◌, ◌+◌, ◌<◌, ℕ, List, Option, Some, true, false, [], ◌++◌, Ok, Err, length, IsTrue, OnOk, IfOk, IfErr};
 ghost use Rattle.std.specs.FinMap as map;
-ghost use Rattle.wg_io.specs.Outside.{NonDecreasing};
+ghost use Rattle.wg_outside.specs.Outside.{NonDecreasing};
 ghost use Rattle.wg_num.specs.Lines.{lines_of};
 ghost use Rattle.wg_lines.specs.Reading.{lines_after, IsReadable};
 ghost use Rattle.wg_readings.specs.Loading.{LoadsBy};
@@ -9,9 +9,9 @@ ghost use Rattle.wg_readings.specs.Pairing.{status_at};
 ghost use Rattle.wg_outcomes.specs.declared.status.Input.{Input};
 
 use std::alloc::Global;
-use wg_io::{Depot, LoadError};
 use wg_lines::LineReader;
 use wg_outcomes::{Ending, Input, Status};
+use wg_outside::{Depot, LoadError};
 
 /// How a job ends at an error of an input.
 #[cold]

@@ -2,7 +2,7 @@
 ghost use Rattle.std.specs.Prelude.{◌≡◌, ◌+◌, ◌<◌, ◌≤◌, ℕ, true, false, List, [], ◌∷◌, ◌++◌, Some, Ok, Err, OnOk};
 ghost use Rattle.std.specs.Prelude.{IfOk, IfErr, IsTrue};
 ghost use Rattle.std.specs.FinMap as map;
-ghost use Rattle.wg_io.specs.Outside.{Files, Counts, NonDecreasing};
+ghost use Rattle.wg_outside.specs.Outside.{Files, Counts, NonDecreasing};
 ghost use Rattle.wg_bits.specs.Bits.{bits_of};
 ghost use Rattle.wg_params.specs.Parameters.{IsWithinLimits};
 ghost use Rattle.wg_source.specs.Held.{IsHeldOf};
@@ -18,9 +18,9 @@ ghost use Rattle.wg_readings.specs.Pairing.{IsUnread, load_ending, word_ending};
 
 use std::alloc::Global;
 use wg_grammar::ArchiveFault;
-use wg_io::{Depot, LoadError, OFFSETS};
 use wg_offsets::{Comparison, OffsetWords, WordError};
 use wg_outcomes::{Ending, Input, Status};
+use wg_outside::{Depot, LoadError, OFFSETS};
 use wg_params::Params;
 use wg_source::{FileSource, Stretch};
 use wg_words::Name;

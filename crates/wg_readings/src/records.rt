@@ -2,7 +2,7 @@
 ghost use Rattle.std.specs.Prelude.{◌≡◌, ◌+◌, ◌<◌, ℕ, true, List as ListOf, Ok, Some, OnOk, IfOk};
 ghost use Rattle.std.specs.Prelude.{IfErr, IsTrue, length};
 ghost use Rattle.std.specs.FinMap as map;
-ghost use Rattle.wg_io.specs.Outside.{Files};
+ghost use Rattle.wg_outside.specs.Outside.{Files};
 ghost use Rattle.wg_params.specs.Parameters.{IsWithinLimits};
 ghost use Rattle.wg_grammar.specs.Archive.{lists_of, places_of};
 ghost use Rattle.wg_grammar.specs.Record.{Whole};
@@ -12,8 +12,8 @@ ghost use Rattle.wg_readings.specs.Passes.{Advances, IsFresh, ending_at, first_i
 
 use std::alloc::Global;
 use wg_grammar::ArchiveFault;
-use wg_io::{Depot, GRAPH};
 use wg_outcomes::{Ending, Input, Status};
+use wg_outside::{Depot, GRAPH};
 use wg_params::Params;
 use wg_stream::{First, Reader, StreamError};
 use wg_words::Name;

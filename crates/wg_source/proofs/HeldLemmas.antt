@@ -4,9 +4,9 @@ use Rattle.std.proofs.Math.Seq.{drop-append-add, drop-append_seam}
 use Rattle.std.proofs.lemmas.List.{drop-append-le, take-append-drop, drop-take, length-take-le, nil_from_length}
 use Rattle.std.proofs.lemmas.List.Edits.{take-paste}
 use Rattle.std.specs.List.{copy_within}
-use Rattle.wg_io.specs.declared.limits.TheConstants.{MOST_BYTES}
+use Rattle.wg_outside.specs.declared.limits.TheConstants.{MOST_BYTES}
 use Rattle.wg_bits.specs.Bits.{bits_of, Position, rest, moved}
-use Rattle.wg_io.specs.Reads.{Reads, IsPieceOf}
+use Rattle.wg_outside.specs.Reads.{Reads, IsPieceOf}
 use Rattle.wg_bits.proofs.Words.{length-bits_of}
 use Rattle.wg_bits.proofs.Writes.{bits_of-append}
 use Rattle.wg_source.specs.Held.{Held, IsHeldOf, IsInside, IsSmall, ahead}

@@ -1,6 +1,6 @@
 -- What is held of a file that is read in pieces.
 use Rattle.std.specs.Prelude.{◌≡◌, ◌⊎◌, ℕ, ◌+◌, ◌-◌, ◌*◌, ◌/◌, ◌≤◌, Bool, true, List, [], ◌++◌, length, drop}
-use Rattle.wg_io.specs.declared.limits.TheConstants.{MOST_BYTES}
+use Rattle.wg_outside.specs.declared.limits.TheConstants.{MOST_BYTES}
 use Rattle.wg_bits.specs.Bits.{bits_of}
 use Rattle.wg_source.specs.declared.stretch.TheConstants.{MOST_HELD}
 

@@ -1,9 +1,9 @@
 -- Steps follow one another, and a cause stays one.
 use Rattle.std.proofs.Common.{◌≡◌, ℕ, ◌<◌, ◌≤◌, ◌^◌, ◌-◌, Bool, List, Some, refl, sym, ◌∙◌, ap, subst, ⊎_elim, inl, inr, arith}
 use Rattle.std.specs.FinMap as map
-use Rattle.wg_io.specs.Outside.{Files, Counts, Increased}
-use Rattle.wg_io.specs.declared.whole.LoadError.{LoadError}
-use Rattle.wg_io.proofs.FilesLemmas.{none_falls-trans}
+use Rattle.wg_outside.specs.Outside.{Files, Counts, Increased}
+use Rattle.wg_outside.specs.declared.whole.LoadError.{LoadError}
+use Rattle.wg_outside.proofs.FilesLemmas.{none_falls-trans}
 use Rattle.wg_source.specs.Held.{Held, IsHeldOf, IsSmall}
 use Rattle.wg_source.specs.Stepping.{Steps, Moves, HasCause}
 

@@ -12,7 +12,7 @@ use crate::filling::{next_tail_fault, word_in_pieces};
 use crate::{Seek, Stretch};
 use wg_codes::Read;
 use wg_grammar::Source;
-use wg_io::{Depot, LoadError};
+use wg_outside::{Depot, LoadError};
 use wg_params::Code;
 
 /// A file of a depot, of which a stretch is held. It reads on in pieces of at most 4096 bytes, from any place.

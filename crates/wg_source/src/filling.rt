@@ -11,7 +11,7 @@ ghost use Rattle.wg_source.specs.declared.stretch.TheConstants.{WORD};
 
 use crate::Stretch;
 use wg_codes::Read;
-use wg_io::{Depot, LoadError};
+use wg_outside::{Depot, LoadError};
 use wg_params::Code;
 
 // The most zeros that a unary word has.

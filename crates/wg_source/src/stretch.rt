@@ -1,8 +1,8 @@
 //! The bytes of a file that are held while it is read.
 ghost use Rattle.std.specs.Prelude.{◌≡◌, ◌⊎◌, ◌+◌, ◌-◌, ◌*◌, ◌/◌, ◌<◌, ◌≤◌, ℕ, IsTrue, false, true, [], ◌++◌, List, Some, None, Err, length, drop, replicate, OnOk, OnErr, IfOk, IfErr, IfSome, IfNone};
 ghost use Rattle.std.specs.FinMap as map;
-ghost use Rattle.wg_io.specs.declared.limits.TheConstants.{MOST_BYTES};
-ghost use Rattle.wg_io.specs.declared.whole.LoadError.TheVariants as load;
+ghost use Rattle.wg_outside.specs.declared.limits.TheConstants.{MOST_BYTES};
+ghost use Rattle.wg_outside.specs.declared.whole.LoadError.TheVariants as load;
 ghost use Rattle.wg_params.specs.Codes.{IsCode};
 ghost use Rattle.wg_bits.specs.Bits.{bits_of, BeginsWithNoZero};
 ghost use Rattle.wg_codes.specs.Words.{word, top};
@@ -17,7 +17,7 @@ ghost use Rattle.wg_source.specs.declared.stretch.TheConstants.{WORD, MOST_HELD}
 use std::marker::Model;
 use wg_bits::{Bits, Cursor};
 use wg_codes::Read;
-use wg_io::{Depot, LoadError, MOST_BYTES};
+use wg_outside::{Depot, LoadError, MOST_BYTES};
 use wg_params::Code;
 
 // No word but those of unary has more bytes, wherever in a byte it begins.
@@ -44,7 +44,7 @@ pub struct Stretch {
 
 impl Model for Stretch {
     ghost use Rattle.std.specs.Prelude.{ℕ, ◌+◌, ◌*◌, ◌≤◌, take};
-    ghost use Rattle.wg_io.specs.declared.limits.TheConstants.{MOST_BYTES};
+    ghost use Rattle.wg_outside.specs.declared.limits.TheConstants.{MOST_BYTES};
     ghost use Rattle.wg_source.specs.Held.{Held};
     ghost use Rattle.wg_source.specs.declared.stretch.TheConstants.{MOST_HELD};
 

@@ -1,7 +1,7 @@
 -- What an error of the parts says of the whole.
 use Rattle.std.proofs.Common.{sym, subst}
-use Rattle.wg_io.specs.declared.whole.LoadError.{LoadError}
-use Rattle.wg_io.specs.declared.whole.LoadError.TheVariants as load
+use Rattle.wg_outside.specs.declared.whole.LoadError.{LoadError}
+use Rattle.wg_outside.specs.declared.whole.LoadError.TheVariants as load
 use Rattle.wg_grammar.specs.declared.fault.ArchiveFault.{ArchiveFault}
 use Rattle.wg_grammar.specs.declared.fault.ArchiveFault.TheVariants as archive
 use Rattle.wg_stream.specs.declared.error.PagesError.{PagesError}

@@ -1,6 +1,6 @@
 -- A reading of a graph file, and what it knows of the file.
 use Rattle.std.specs.Prelude.{◌≡◌, ℕ, ◌*◌, ◌≤◌, Bool, true, false, List, ◌∷◌, length, Result, Ok, Err}
-use Rattle.wg_io.specs.declared.limits.TheConstants.{MOST_BYTES}
+use Rattle.wg_outside.specs.declared.limits.TheConstants.{MOST_BYTES}
 use Rattle.wg_bits.specs.Bits.{bits_of}
 use Rattle.wg_params.specs.Parameters.{Parameters}
 use Rattle.wg_grammar.specs.declared.fault.ArchiveFault.{ArchiveFault}

@@ -1,6 +1,6 @@
 -- The lists of an archive that are decoded in order, page after page.
 use Rattle.std.specs.Prelude.{◌≡◌, ◌⊎◌, ℕ, ◌+◌, ◌-◌, ◌<◌, ◌≤◌, min, Bool, List, [], length, get_or, map, All, Ok}
-use Rattle.wg_io.specs.declared.limits.TheConstants.{MOST_BYTES}
+use Rattle.wg_outside.specs.declared.limits.TheConstants.{MOST_BYTES}
 use Rattle.wg_params.specs.Parameters.{Parameters, IsWithinLimits}
 use Rattle.wg_bits.specs.Bits.{bits_of}
 use Rattle.wg_graph.specs.Digraph.{IsGraph}

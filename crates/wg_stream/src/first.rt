@@ -2,7 +2,7 @@ ghost use Rattle.std.specs.Prelude.{◌≡◌};
 
 use thiserror::Error;
 use wg_grammar::Fault;
-use wg_io::LoadError;
+use wg_outside::LoadError;
 
 /// The first error of a reading.
 #[derive(Clone, Copy, Debug, PartialEq, Eq, Error)]

@@ -14,7 +14,7 @@ ghost use Rattle.wg_source.specs.Stepping.{Steps, HasCause};
 
 use crate::{First, Pages, PagesError};
 use wg_grammar::ArchiveFault;
-use wg_io::{Depot, LoadError};
+use wg_outside::{Depot, LoadError};
 use wg_source::{FileSource, Stretch};
 
 // The error of a reading. The records and the tail have no fault of the offsets.

@@ -1,8 +1,8 @@
 //! A graph file, read list after list.
 ghost use Rattle.std.specs.Prelude.{◌≡◌, ◌+◌, ◌*◌, ◌/◌, ◌≤◌, ℕ, true, false, List as ListOf, [], ◌∷◌, Some, None, Ok, Err, length, string_bytes, IsTrue, OnOk, IfOk, IfErr, IfSome, MatchOption};
 ghost use Rattle.std.specs.FinMap as map;
-ghost use Rattle.wg_io.specs.declared.limits.TheConstants.{MOST_BYTES};
-ghost use Rattle.wg_io.specs.Outside.{NonDecreasing};
+ghost use Rattle.wg_outside.specs.declared.limits.TheConstants.{MOST_BYTES};
+ghost use Rattle.wg_outside.specs.Outside.{NonDecreasing};
 ghost use Rattle.wg_params.specs.Parameters.{IsWithinLimits};
 ghost use Rattle.wg_graph.specs.Ascending.{Ascends, Below};
 ghost use Rattle.wg_grammar.specs.Record.{Whole};
@@ -20,7 +20,7 @@ use crate::state::State;
 use crate::{Pages, StreamError};
 use std::alloc::{AllocError, Global};
 use std::marker::Model;
-use wg_io::Depot;
+use wg_outside::Depot;
 use wg_params::Params;
 use wg_source::Stretch;
 

@@ -1,6 +1,6 @@
 //! The lists of an archive in the order of the pages, as often as one likes, from its bits.
 ghost use Rattle.std.specs.Prelude.{◌≡◌, ◌+◌, ◌-◌, ◌<◌, ◌≤◌, ℕ, List as ListOf, Ok, All, length, min, option_copied, IfOk};
-ghost use Rattle.wg_io.specs.declared.limits.TheConstants.{MOST_BYTES};
+ghost use Rattle.wg_outside.specs.declared.limits.TheConstants.{MOST_BYTES};
 ghost use Rattle.wg_bits.specs.Bits.{bits_of};
 ghost use Rattle.wg_graph.specs.Digraph.{successors};
 ghost use Rattle.wg_grammar.specs.Record.{Whole};

@@ -1,7 +1,7 @@
 -- The graph of an archive on its way into another, list by list.
 use Rattle.std.specs.Prelude.{◌≡◌, ℕ, Bool, List, Ok}
-use Rattle.wg_io.specs.Outside.{Files, Counts}
-use Rattle.wg_io.specs.declared.depot.Depot as depot
+use Rattle.wg_outside.specs.Outside.{Files, Counts}
+use Rattle.wg_outside.specs.declared.depot.Depot as depot
 use Rattle.wg_params.specs.Parameters.{Parameters}
 use Rattle.wg_graph.specs.Digraph.{Digraph, arc_count}
 use Rattle.wg_encoder.specs.ArchiveInMemory.{Summarized}

@@ -1,6 +1,6 @@
 //! One pass over the records of a graph file, which judges them and counts the arcs that lead to each page.
 ghost use Rattle.std.specs.Prelude.{◌≡◌, ◌≤◌, [], All, Err, IfOk, length};
-ghost use Rattle.wg_io.specs.declared.limits.TheConstants.{MOST_BYTES};
+ghost use Rattle.wg_outside.specs.declared.limits.TheConstants.{MOST_BYTES};
 ghost use Rattle.wg_bits.specs.Bits.{bits_of};
 ghost use Rattle.wg_grammar.specs.Archive.{ReadsGraph};
 ghost use Rattle.wg_params.specs.declared.limits.TheConstants.{MOST_PAGES};

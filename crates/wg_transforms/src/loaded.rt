@@ -1,11 +1,11 @@
 //! Archives whose three files are judged before a job goes on with their graph.
 ghost use Rattle.std.specs.Prelude.{◌≤◌, length};
-ghost use Rattle.wg_io.specs.declared.limits.TheConstants.{MOST_BYTES};
+ghost use Rattle.wg_outside.specs.declared.limits.TheConstants.{MOST_BYTES};
 ghost use Rattle.wg_transforms.specs.Loaded.{JudgesArchiveBy, LoadsArchiveBy, LoadsSecondBy};
 
 use std::alloc::Global;
-use wg_io::{Depot, List8};
 use wg_outcomes::{Ending, Input, as_second};
+use wg_outside::{Depot, List8};
 use wg_params::Params;
 use wg_readings::{judge_offsets, load, load_params, passed_of_graph};
 use wg_words::Name;

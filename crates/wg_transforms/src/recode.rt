@@ -8,8 +8,8 @@ ghost use Rattle.wg_transforms.specs.Recoding.{RecodesBy};
 
 use std::alloc::Global;
 use wg_encoder::EncodedArchive;
-use wg_io::{Depot, Sink};
 use wg_outcomes::{Ending, params_of};
+use wg_outside::{Depot, Sink};
 use wg_params::{Layout, Params};
 use wg_readings::{end_records, load_params, next_record, open_graph};
 use wg_words::Name;

@@ -5,8 +5,8 @@ ghost use Rattle.wg_outcomes.specs.Performs.{DoesOrEnds};
 
 use crate::transposing::{encode_transposed, ranges_of_records};
 use std::alloc::Global;
-use wg_io::{Depot, Sink};
 use wg_outcomes::{Ending, Input};
+use wg_outside::{Depot, Sink};
 use wg_params::Layout;
 use wg_readings::{load, load_params};
 use wg_words::Name;

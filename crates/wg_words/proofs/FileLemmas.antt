@@ -7,7 +7,7 @@ use Rattle.std.proofs.lemmas.Option.{none-some, same_Some}
 use Rattle.std.proofs.lemmas.List.{append_cancel_left, append_cancel_right, reverse-append, get_or_append_left}
 use Rattle.std.proofs.lemmas.Slice.Eq.{bytes_eq-Decides}
 use Rattle.wg_words.specs.Files.{is_file_of, is_given, overwrites, IsNoFileOf, KeepsInputs, ShareNoFile}
-use Rattle.wg_io.specs.declared.suffixes.TheConstants.{PROPERTIES, GRAPH, OFFSETS}
+use Rattle.wg_outside.specs.declared.suffixes.TheConstants.{PROPERTIES, GRAPH, OFFSETS}
 
 -- after the first part, the name is the whole where its rest is the second part
 pub rest_decides : (name first rest second : List ℕ) → name ≡ first ++ rest → bytes_eq rest second ≡ bytes_eq name (first ++ second)

@@ -1,7 +1,7 @@
 -- The names of an archive's files, and of a certificate beside them.
 use Rattle.std.specs.Prelude.{ℕ, ◌≢◌, ⊤, Bool, false, ◌||◌, List, ◌++◌, Option, Some, None}
 use Rattle.std.specs.Str.{bytes_eq}
-use Rattle.wg_io.specs.declared.suffixes.TheConstants.{PROPERTIES, GRAPH, OFFSETS}
+use Rattle.wg_outside.specs.declared.suffixes.TheConstants.{PROPERTIES, GRAPH, OFFSETS}
 
 -- the name is one of the archive's three
 abbrev pub is_file_of : List ℕ → List ℕ → Bool

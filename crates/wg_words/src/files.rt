@@ -2,7 +2,7 @@ ghost use Rattle.std.specs.Prelude.{◌≡◌, ◌++◌, option_map};
 ghost use Rattle.std.specs.Str.{bytes_eq};
 ghost use Rattle.wg_words.specs.Files.{is_file_of, is_given, overwrites};
 
-use wg_io::{GRAPH, OFFSETS, PROPERTIES};
+use wg_outside::{GRAPH, OFFSETS, PROPERTIES};
 
 // Whether the name is the first text with the second at its end.
 fn is_joined(first: &str, second: &str, name: &str) -> bool

@@ -4,13 +4,13 @@ use Rattle.std.specs.Bool.{IsTrue}
 use Rattle.std.specs.Result.{IfErr, IsErrAnd, OnOk}
 use Rattle.std.specs.FinMap as map
 use Rattle.std.proofs.Math.Seq.{take-length}
-use Rattle.wg_io.specs.Outside.{Files, Counts}
-use Rattle.wg_io.specs.Suffixes.{properties_name, graph_name, offsets_name}
-use Rattle.wg_io.proofs.FilesLemmas.{none_falls-refl, none_falls-trans}
-use Rattle.wg_io.proofs.PutsLemmas.{is_that_err}
-use Rattle.wg_io.proofs.SuffixLemmas.{graph_offsets}
-use Rattle.wg_io.specs.declared.output.Output.{Output}
-use Rattle.wg_io.specs.declared.output.Output.TheVariants as output
+use Rattle.wg_outside.specs.Outside.{Files, Counts}
+use Rattle.wg_outside.specs.Suffixes.{properties_name, graph_name, offsets_name}
+use Rattle.wg_outside.proofs.FilesLemmas.{none_falls-refl, none_falls-trans}
+use Rattle.wg_outside.proofs.PutsLemmas.{is_that_err}
+use Rattle.wg_outside.proofs.SuffixLemmas.{graph_offsets}
+use Rattle.wg_outside.specs.declared.output.Output.{Output}
+use Rattle.wg_outside.specs.declared.output.Output.TheVariants as output
 use Rattle.wg_encoder.proofs.FileNames.{properties_graph, properties_offsets}
 use Rattle.wg_greedy.specs.Archive.{Archive}
 use Rattle.wg_greedy.specs.Held.{HoldsFront, HoldsLess}

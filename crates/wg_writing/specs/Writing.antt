@@ -1,8 +1,8 @@
 -- An archive in memory, on its way into its files.
 use Rattle.std.specs.Prelude.{◌≡◌, ℕ, Bool, List, Some, Result, IsTrue, OnOk, IfErr}
-use Rattle.wg_io.specs.Outside.{Files, Counts, NonDecreasing}
-use Rattle.wg_io.specs.Suffixes.{properties_name, graph_name, offsets_name}
-use Rattle.wg_io.specs.declared.depot.Depot as depot
+use Rattle.wg_outside.specs.Outside.{Files, Counts, NonDecreasing}
+use Rattle.wg_outside.specs.Suffixes.{properties_name, graph_name, offsets_name}
+use Rattle.wg_outside.specs.declared.depot.Depot as depot
 use Rattle.wg_params.specs.Parameters.{Parameters}
 use Rattle.wg_params.specs.declared.layout.Layout.{Layout}
 use Rattle.wg_properties.specs.Text.{text_of}

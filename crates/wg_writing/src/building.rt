@@ -10,8 +10,8 @@ ghost use Rattle.wg_writing.specs.Writing.{archive_of};
 use crate::writing::write_archive;
 use std::alloc::Global;
 use wg_encoder::EncodedArchive;
-use wg_io::{Depot, Sink};
 use wg_outcomes::{Ending, print_ok};
+use wg_outside::{Depot, Sink};
 use wg_params::Params;
 use wg_words::Name;
 

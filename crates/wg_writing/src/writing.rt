@@ -7,8 +7,8 @@ ghost use Rattle.wg_writing.specs.Writing.{WritesFilesBy, names_of, whole};
 
 use std::alloc::Global;
 use wg_encoder::EncodedArchive;
-use wg_io::{Depot, GRAPH, OFFSETS, Output, PROPERTIES};
 use wg_outcomes::{Ending, Status, create_file, file_name, fill_file};
+use wg_outside::{Depot, GRAPH, OFFSETS, Output, PROPERTIES};
 use wg_words::Name;
 
 /// The names of an archive's files.

@@ -3,7 +3,8 @@
 use super::ending::{Ending, is_text, words_of};
 use super::spelling::{bits_of, lists_of, number_and_rest, text_of, word_and_rest};
 use std::alloc::{AllocError, Global};
-use wg_io::{List8, LoadError, MemoryDepot, MemorySink, ZeroDepot, read_whole};
+use wg_io::{MemoryDepot, MemorySink, ZeroDepot};
+use wg_outside::{List8, LoadError, read_whole};
 
 // Later than any call of a case.
 const NEVER: u64 = 1_000_000_000;

@@ -3,7 +3,8 @@
 use super::spelling::{number_and_rest, text_of};
 use crate::run;
 use std::alloc::{AllocError, Global};
-use wg_io::{Depot, MemorySink};
+use wg_io::MemorySink;
+use wg_outside::Depot;
 use wg_words::Words;
 
 /// The exit status of a run, and what went to its two outputs.

@@ -5,7 +5,8 @@ use super::ending::{Ending, words_of};
 use std::alloc::{AllocError, Global};
 use std::process::Abort;
 use std::test::Fail;
-use wg_io::{Depot, MemorySink, ReadError, WriteError};
+use wg_io::MemorySink;
+use wg_outside::{Depot, ReadError, WriteError};
 
 // 4000 pages, each with itself as its one successor: a record of 4 bits, so that a byte holds two.
 const PROPERTIES: &[u8] =

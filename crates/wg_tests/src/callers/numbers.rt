@@ -1,7 +1,7 @@
 use std::test::Fail;
 use wg_bits::{Bits, Cursor};
 use wg_codes::{Read, fold, length, unfold};
-use wg_io::{LoadError, SteadyDepot, append_all, read_whole};
+use wg_io::{FileSink, LoadError, SteadyDepot, append_all, read_whole, write_pieces};
 use wg_num::{UNITS, decimal_into, read_decimal, units_text};
 use wg_params::{BadParam, Code, Codes, Key, Layout, Params};
 
@@ -44,6 +44,17 @@ fn parameters_within_their_limits(rt: HostRuntime) -> Result<(), Fail> {
     let other = Params::with_layout(3, 4, Layout { codes, ..layout });
     let key = Key::CompressionFlags;
     assert!(rt; other.err() == Some(BadParam { key }));
+    Ok(())
+}
+
+// In the overview of wg_outside.
+#[test]
+fn a_file_as_a_sink(rt: HostRuntime) -> Result<(), Fail> {
+    let mut depot = SteadyDepot::new(rt.alloc(), 4096);
+    let mut arcs = FileSink::new(&mut depot, "arcs");
+    write_pieces(&mut arcs, &[b"0 1\n".as_slice(), b"1 0\n".as_slice()])?;
+    let bytes = read_whole(rt.alloc(), &mut depot, "arcs")?;
+    assert!(rt; bytes.as_slice() == b"0 1\n1 0\n".as_slice());
     Ok(())
 }
 

@@ -1,6 +1,6 @@
 use Rattle.std.proofs.Common.{arith, subst, List, ℕ}
-use Rattle.wg_io.proofs.PutsLemmas.{is_that_err}
-use Rattle.wg_io.proofs.RefusalLemmas.{sink_done, sink_after, sink_exit}
+use Rattle.wg_outside.proofs.PutsLemmas.{is_that_err}
+use Rattle.wg_outside.proofs.RefusalLemmas.{sink_done, sink_after, sink_exit}
 use Rattle.wg_lines.specs.Printing.{HasPrinted, HasPrintedLess}
 use Rattle.wg_arcs.proofs.Texts.{arc_printed, arc_less, line_after}
 use Rattle.wg_arcs.proofs.writing.print_list.Goals as goal

@@ -1,8 +1,8 @@
 use Rattle.std.proofs.Common.{◌≡◌, ◌++◌, ◌∙◌, take, ℕ, List, Err, ap, subst, arith}
 use Rattle.std.proofs.lemmas.List.{take_all}
-use Rattle.wg_io.proofs.RefusalLemmas.{sink_done, sink_after, sink_exit}
-use Rattle.wg_io.specs.Puts.{Puts}
-use Rattle.wg_io.specs.declared.depot.WriteError.{WriteError}
+use Rattle.wg_outside.proofs.RefusalLemmas.{sink_done, sink_after, sink_exit}
+use Rattle.wg_outside.specs.Puts.{Puts}
+use Rattle.wg_outside.specs.declared.depot.WriteError.{WriteError}
 use Rattle.wg_arcs.specs.Text.{page_lines, lines_from}
 use Rattle.wg_arcs.proofs.Texts.{page_out, page_cut_off}
 use Rattle.wg_arcs.proofs.writing.write.Goals as goal

@@ -1,6 +1,6 @@
 use Rattle.std.proofs.Common.{[], arith}
-use Rattle.wg_io.proofs.PutsLemmas.{is_that_err}
-use Rattle.wg_io.proofs.RefusalLemmas.{sink_done, sink_after, sink_exit}
+use Rattle.wg_outside.proofs.PutsLemmas.{is_that_err}
+use Rattle.wg_outside.proofs.RefusalLemmas.{sink_done, sink_after, sink_exit}
 use Rattle.wg_ascii.specs.Text.{word_after}
 use Rattle.wg_ascii.proofs.Texts.{item_printed, item_less}
 use Rattle.wg_ascii.proofs.writing.print_after.Goals as goal

@@ -1,11 +1,11 @@
 use Rattle.std.proofs.Common.{◌≡◌, [], map, take, ℕ, List, sym, subst, append-nil, arith}
 use Rattle.std.proofs.lemmas.List.{take_all}
-use Rattle.wg_io.proofs.RefusalLemmas.{sink_after, sink_exit}
-use Rattle.wg_io.proofs.PutsLemmas.{is_that_err}
+use Rattle.wg_outside.proofs.RefusalLemmas.{sink_after, sink_exit}
+use Rattle.wg_outside.proofs.PutsLemmas.{is_that_err}
 use Rattle.wg_lines.proofs.PrintLemmas.{less_before, puts_of_less, puts_in_the_end}
 use Rattle.wg_lines.specs.Printing.{HasPrinted, HasPrintedLess}
-use Rattle.wg_io.specs.Puts.{joined}
-use Rattle.wg_io.specs.declared.depot.WriteError.{WriteError}
+use Rattle.wg_outside.specs.Puts.{joined}
+use Rattle.wg_outside.specs.declared.depot.WriteError.{WriteError}
 use Rattle.wg_ascii.specs.Text.{nodes_line, list_line, text_of_graph}
 use Rattle.wg_ascii.proofs.Texts.{texts, item_printed, item_less}
 use Rattle.wg_ascii.proofs.writing.write.Goals as goal

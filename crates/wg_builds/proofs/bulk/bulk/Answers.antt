@@ -1,6 +1,6 @@
 use Rattle.std.proofs.Common.{◌∙◌, ap, refl, subst}
-use Rattle.wg_io.proofs.FilesLemmas.{none_falls-refl}
-use Rattle.wg_io.specs.Puts.{Puts}
+use Rattle.wg_outside.proofs.FilesLemmas.{none_falls-refl}
+use Rattle.wg_outside.specs.Puts.{Puts}
 use Rattle.wg_vectors.specs.Generated.{generated}
 use Rattle.wg_words.specs.declared.jobs.Job.TheVariants.{Bulk}
 use Rattle.wg_outcomes.specs.Bulk.{outcome_of, outcome_text}

@@ -1,7 +1,7 @@
 use Rattle.std.proofs.Common.{◌∙◌, [], ℕ, List, None, Ok, length, ap, refl, sym, subst, arith}
 use Rattle.std.specs.FinMap as map
-use Rattle.wg_io.specs.Outside.{Files}
-use Rattle.wg_io.proofs.FilesLemmas.{none_falls-refl, none_falls-trans}
+use Rattle.wg_outside.specs.Outside.{Files}
+use Rattle.wg_outside.proofs.FilesLemmas.{none_falls-refl, none_falls-trans}
 use Rattle.wg_num.specs.Lines.{lines_of}
 use Rattle.wg_lines.specs.Reading.{lines_after}
 use Rattle.wg_arcs.specs.Growing.{SoFar}

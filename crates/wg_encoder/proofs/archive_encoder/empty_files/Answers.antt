@@ -1,9 +1,9 @@
 use Rattle.std.proofs.Common.{◌∙◌, [], ap}
 use Rattle.std.specs.FinMap as fin
 use Rattle.wg_io.specs.Memory.{SteadyFiles}
-use Rattle.wg_io.specs.Suffixes.{graph_name, offsets_name}
-use Rattle.wg_io.proofs.FilesLemmas.{get-insert_same, get-insert_other}
-use Rattle.wg_io.proofs.SuffixLemmas.{graph_offsets}
+use Rattle.wg_outside.specs.Suffixes.{graph_name, offsets_name}
+use Rattle.wg_outside.proofs.FilesLemmas.{get-insert_same, get-insert_other}
+use Rattle.wg_outside.proofs.SuffixLemmas.{graph_offsets}
 use Rattle.wg_encoder.proofs.archive_encoder.empty_files.Goals as goal
 
 pub returns-clause-graph : goal.returns-clause-graph

@@ -1,6 +1,6 @@
 use Rattle.std.proofs.Common.{◌∙◌, Err, ap}
 use Rattle.std.proofs.lemmas.Result.{err_from_is_err_and}
-use Rattle.wg_io.proofs.FilesLemmas.{none_falls-trans}
+use Rattle.wg_outside.proofs.FilesLemmas.{none_falls-trans}
 use Rattle.wg_encoder.proofs.Failed.{failed_on_graph, failed_on_offsets, failed_since}
 use Rattle.wg_encoder.proofs.Sent.{other_put, other_less}
 use Rattle.wg_encoder.proofs.Stopped.{if_err}

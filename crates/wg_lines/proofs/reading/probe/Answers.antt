@@ -1,4 +1,4 @@
-use Rattle.wg_io.proofs.PieceLemmas.{probed}
+use Rattle.wg_outside.proofs.PieceLemmas.{probed}
 use Rattle.wg_lines.proofs.ReadingLemmas.{readable}
 use Rattle.wg_lines.proofs.reading.probe.Goals as goal
 

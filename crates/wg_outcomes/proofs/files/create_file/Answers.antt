@@ -1,6 +1,6 @@
 use Rattle.std.proofs.Common.{◌∙◌, List, ℕ, ap, rules}
 use Rattle.std.specs.FinMap as map
-use Rattle.wg_io.specs.Outside.{Files, created}
+use Rattle.wg_outside.specs.Outside.{Files, created}
 use Rattle.wg_outcomes.proofs.WritingLemmas.{created_here, created_there}
 use Rattle.wg_outcomes.proofs.files.create_file.Goals as goal
 

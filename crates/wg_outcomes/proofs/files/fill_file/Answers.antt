@@ -1,6 +1,6 @@
 use Rattle.std.proofs.Common.{◌∙◌, List, ℕ, [], take, ap, rules}
 use Rattle.std.specs.FinMap as map
-use Rattle.wg_io.specs.Outside.{Files, appended}
+use Rattle.wg_outside.specs.Outside.{Files, appended}
 use Rattle.wg_greedy.proofs.Appended.{get_more, get_other}
 use Rattle.wg_outcomes.proofs.files.fill_file.Goals as goal
 

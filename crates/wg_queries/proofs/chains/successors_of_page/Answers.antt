@@ -1,5 +1,5 @@
 use Rattle.std.proofs.Common.{refl, arith, ◌≤◌}
-use Rattle.wg_io.proofs.FilesLemmas.{none_falls-refl}
+use Rattle.wg_outside.proofs.FilesLemmas.{none_falls-refl}
 use Rattle.wg_queries.proofs.SpotJobs.{unlisted}
 use Rattle.wg_queries.proofs.chains.successors_of_page.Goals as goal
 

@@ -1,5 +1,5 @@
 use Rattle.std.proofs.Common.{◌∷◌, [], decimal}
-use Rattle.wg_io.proofs.PutsLemmas.{is_that_err}
+use Rattle.wg_outside.proofs.PutsLemmas.{is_that_err}
 use Rattle.wg_lines.proofs.PrintLemmas.{less_before}
 use Rattle.wg_queries.proofs.print.write_line.Goals as goal
 

@@ -1,8 +1,8 @@
 use Rattle.std.proofs.Common.{◌≡◌, ◌<◌, ◌∙◌, [], take, get_or, length, ℕ, List, subst, arith}
 use Rattle.std.proofs.lemmas.List.{take_all}
-use Rattle.wg_io.proofs.PutsLemmas.{is_that_err}
-use Rattle.wg_io.proofs.RefusalLemmas.{sink_after, sink_exit}
-use Rattle.wg_io.specs.declared.depot.WriteError.{WriteError}
+use Rattle.wg_outside.proofs.PutsLemmas.{is_that_err}
+use Rattle.wg_outside.proofs.RefusalLemmas.{sink_after, sink_exit}
+use Rattle.wg_outside.specs.declared.depot.WriteError.{WriteError}
 use Rattle.wg_lines.specs.Printing.{HasPrinted, HasPrintedLess}
 use Rattle.wg_lines.proofs.PrintLemmas.{puts_of_less, puts_in_the_end}
 use Rattle.wg_outcomes.specs.Ranked.{rank_line, rank_lines}

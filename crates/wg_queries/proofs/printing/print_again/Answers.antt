@@ -1,5 +1,5 @@
 use Rattle.std.proofs.Common.{arith}
-use Rattle.wg_io.proofs.PutsLemmas.{rose_on}
+use Rattle.wg_outside.proofs.PutsLemmas.{rose_on}
 use Rattle.wg_readings.proofs.UnderWay.{begins, goes_further}
 use Rattle.wg_queries.proofs.PrintedJobs.{prints_all, prints_exit, prints_less, prints_none, prints_read}
 use Rattle.wg_queries.proofs.PrintedLines.{head_less, head_printed, listed_grow, piece_less, piece_printed}

@@ -1,5 +1,5 @@
 use Rattle.std.proofs.Common.{◌∙◌, inl, inr, ap, refl, sym}
-use Rattle.wg_io.proofs.PutsLemmas.{is_that_err}
+use Rattle.wg_outside.proofs.PutsLemmas.{is_that_err}
 use Rattle.wg_outcomes.specs.Answers.{status_in}
 use Rattle.wg_queries.proofs.CertifyLemmas.{certify_done, certify_exit, certify_stopped}
 use Rattle.wg_queries.proofs.rank.certify.Goals as goal

@@ -1,5 +1,5 @@
 use Rattle.std.proofs.Common.{◌≡◌, ℕ, List, length, min, ap, subst, arith}
-use Rattle.wg_io.specs.Puts.{Puts}
+use Rattle.wg_outside.specs.Puts.{Puts}
 use Rattle.wg_outcomes.proofs.RankLemmas.{first_text}
 use Rattle.wg_queries.proofs.rank.print_ranks.Goals as goal
 

@@ -1,5 +1,5 @@
 use Rattle.std.proofs.Common.{◌≡◌, ◌∙◌, inl, inr, Ok, Err, ap, refl, subst}
-use Rattle.wg_io.proofs.FilesLemmas.{none_falls-trans}
+use Rattle.wg_outside.proofs.FilesLemmas.{none_falls-trans}
 use Rattle.wg_readings.proofs.LoadLemmas.{graph_loaded, graph_unloaded}
 use Rattle.wg_outcomes.specs.Answers.{HasOutput}
 use Rattle.wg_outcomes.specs.Ranked.{bounds_after, ranking_text}

@@ -1,9 +1,9 @@
 use Rattle.std.proofs.Common.{◌≡◌, [], List, ℕ, arith, map, subst, take}
 use Rattle.std.proofs.lemmas.List.{take_all}
 use Rattle.std.proofs.lemmas.List.Sums.{sum_by_more, sum_by_more_le}
-use Rattle.wg_io.specs.Puts.{joined}
+use Rattle.wg_outside.specs.Puts.{joined}
 use Rattle.wg_lines.specs.Printing.{HasPrinted}
-use Rattle.wg_io.proofs.PutsLemmas.{is_that_err}
+use Rattle.wg_outside.proofs.PutsLemmas.{is_that_err}
 use Rattle.wg_lines.proofs.PrintLemmas.{puts_of_less, puts_in_the_end}
 use Rattle.wg_outcomes.specs.Commands.{line_in, successors_lines}
 use Rattle.wg_outcomes.specs.declared.ending.Ending.{Ending}

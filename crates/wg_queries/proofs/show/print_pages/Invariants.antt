@@ -1,6 +1,6 @@
 use Rattle.std.proofs.Common.{◌≡◌, ◌+◌, [], Ok, map, take, sum_by, IsTrue}
 use Rattle.wg_lines.specs.Printing.{HasPrinted}
-use Rattle.wg_io.specs.Puts.{joined}
+use Rattle.wg_outside.specs.Puts.{joined}
 use Rattle.wg_grammar.specs.Archive.{Accepted, ReadsGraph}
 use Rattle.wg_outcomes.specs.Commands.{line_in}
 use Rattle.wg_stream.specs.AllRecords.{Reading}

@@ -2,7 +2,7 @@ use Rattle.std.proofs.Common.{ℕ, List, Ok, refl, subst}
 use Rattle.wg_bits.specs.Bits.{bits_of}
 use Rattle.wg_params.specs.Parameters.{Parameters}
 use Rattle.wg_grammar.specs.Archive.{Accepted, ReadsGraph}
-use Rattle.wg_io.specs.Puts.{Puts}
+use Rattle.wg_outside.specs.Puts.{Puts}
 use Rattle.wg_outcomes.specs.Commands.{successors_lines}
 use Rattle.wg_readings.proofs.JobSteps.{performs_exit}
 use Rattle.wg_queries.proofs.ShowJobs.{no_bytes, no_offsets, no_page, no_params, no_records, shows}

@@ -1,5 +1,5 @@
 use Rattle.std.proofs.Common.{◌∙◌, ◌++◌, ◌∷◌, [], ℕ, List, ap, sym, append_assoc}
-use Rattle.wg_io.proofs.PutsLemmas.{is_that_err}
+use Rattle.wg_outside.proofs.PutsLemmas.{is_that_err}
 use Rattle.wg_outcomes.specs.Commands.{spaced}
 use Rattle.wg_queries.proofs.NumberLemmas.{next_printed, next_less}
 use Rattle.wg_queries.proofs.shown.write_coming.Goals as goal

@@ -1,6 +1,6 @@
 use Rattle.std.proofs.Common.{◌≡◌, ◌++◌, ℕ, List, map, length, IsTrue}
 use Rattle.wg_lines.specs.Printing.{HasPrinted}
-use Rattle.wg_io.specs.Puts.{joined}
+use Rattle.wg_outside.specs.Puts.{joined}
 use Rattle.wg_outcomes.specs.Commands.{spaced}
 use Rattle.wg_queries.proofs.shown.write_coming.Given as goal
 

@@ -1,6 +1,6 @@
 use Rattle.std.proofs.Common.{map, codes, decimal}
-use Rattle.wg_io.specs.Puts.{joined}
-use Rattle.wg_io.proofs.PutsLemmas.{is_that_err}
+use Rattle.wg_outside.specs.Puts.{joined}
+use Rattle.wg_outside.proofs.PutsLemmas.{is_that_err}
 use Rattle.wg_outcomes.specs.Commands.{spaced}
 use Rattle.wg_queries.proofs.ShownLemmas.{less_first, less_second, prints_third}
 use Rattle.wg_queries.proofs.shown.write_list.Goals as goal

@@ -1,4 +1,4 @@
-use Rattle.wg_io.proofs.PutsLemmas.{is_that_err}
+use Rattle.wg_outside.proofs.PutsLemmas.{is_that_err}
 use Rattle.wg_outcomes.specs.Commands.{spaced}
 use Rattle.wg_queries.proofs.NumberLemmas.{line_printed, line_less}
 use Rattle.wg_queries.proofs.shown.write_listed.Goals as goal

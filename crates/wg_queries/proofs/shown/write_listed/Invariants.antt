@@ -1,6 +1,6 @@
 use Rattle.std.proofs.Common.{map, take, IsTrue}
 use Rattle.wg_lines.specs.Printing.{HasPrinted}
-use Rattle.wg_io.specs.Puts.{joined}
+use Rattle.wg_outside.specs.Puts.{joined}
 use Rattle.wg_outcomes.specs.Commands.{spaced}
 use Rattle.wg_queries.proofs.shown.write_listed.Given as goal
 

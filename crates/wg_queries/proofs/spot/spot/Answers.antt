@@ -1,6 +1,6 @@
 use Rattle.std.proofs.Common.{◌∙◌, refl, sym, subst}
 use Rattle.std.specs.FinMap as map
-use Rattle.wg_io.specs.Outside.{Files}
+use Rattle.wg_outside.specs.Outside.{Files}
 use Rattle.wg_outcomes.specs.Names.{file_of}
 use Rattle.wg_readings.specs.Finding.{IsOpenOn}
 use Rattle.wg_readings.specs.Sampling.{IsSampled}

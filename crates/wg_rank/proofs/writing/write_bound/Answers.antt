@@ -1,6 +1,6 @@
 use Rattle.std.proofs.Common.{codes}
 use Rattle.wg_lines.proofs.PrintLemmas.{less_before}
-use Rattle.wg_io.proofs.PutsLemmas.{is_that_err}
+use Rattle.wg_outside.proofs.PutsLemmas.{is_that_err}
 use Rattle.wg_num.specs.Units.{text_of_units}
 use Rattle.wg_rank.proofs.writing.write_bound.Goals as goal
 

@@ -1,6 +1,6 @@
 use Rattle.std.proofs.Common.{arith}
-use Rattle.wg_io.proofs.PutsLemmas.{is_that_err}
-use Rattle.wg_io.proofs.RefusalLemmas.{sink_done, sink_after, sink_exit}
+use Rattle.wg_outside.proofs.PutsLemmas.{is_that_err}
+use Rattle.wg_outside.proofs.RefusalLemmas.{sink_done, sink_after, sink_exit}
 use Rattle.wg_rank.proofs.Printed.{bound_printed, bound_less}
 use Rattle.wg_rank.proofs.writing.write_bounds.Goals as goal
 

@@ -1,8 +1,8 @@
 use Rattle.std.proofs.Common.{List, ℕ, subst}
 use Rattle.wg_lines.specs.Printing.{HasPrinted, HasPrintedLess}
-use Rattle.wg_io.specs.declared.depot.WriteError.{WriteError}
+use Rattle.wg_outside.specs.declared.depot.WriteError.{WriteError}
 use Rattle.wg_lines.proofs.PrintLemmas.{puts_of_less, puts_in_the_end}
-use Rattle.wg_io.proofs.PutsLemmas.{is_that_err}
+use Rattle.wg_outside.proofs.PutsLemmas.{is_that_err}
 use Rattle.wg_rank.specs.CertificateText.{text_of_claim}
 use Rattle.wg_rank.proofs.writing.write_claim.Goals as goal
 

@@ -1,5 +1,5 @@
 use Rattle.std.proofs.Common.{codes, length}
-use Rattle.wg_io.proofs.PutsLemmas.{is_that_err}
+use Rattle.wg_outside.proofs.PutsLemmas.{is_that_err}
 use Rattle.wg_rank.specs.CertificateText.{named_line, bound_lines}
 use Rattle.wg_rank.proofs.Printed.{less_first, less_second, prints_third}
 use Rattle.wg_rank.proofs.writing.write_lines.Goals as goal

@@ -1,5 +1,5 @@
 use Rattle.std.proofs.Common.{codes, decimal}
-use Rattle.wg_io.proofs.PutsLemmas.{is_that_err}
+use Rattle.wg_outside.proofs.PutsLemmas.{is_that_err}
 use Rattle.wg_rank.proofs.Printed.{less_first, less_second, prints_third}
 use Rattle.wg_rank.proofs.writing.write_named.Goals as goal
 

@@ -1,6 +1,6 @@
 use Rattle.std.proofs.Common.{◌≡◌, ℕ, List, ◌++◌, Some, IsTrue}
 use Rattle.std.specs.FinMap as map
-use Rattle.wg_io.specs.declared.suffixes.TheConstants.{OFFSETS}
+use Rattle.wg_outside.specs.declared.suffixes.TheConstants.{OFFSETS}
 use Rattle.wg_grammar.specs.Archive.{places_of}
 use Rattle.wg_offsets.specs.Places.{last_place}
 use Rattle.wg_readings.specs.Pairing.{ComesWith, HasCome}

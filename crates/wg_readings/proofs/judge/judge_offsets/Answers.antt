@@ -3,9 +3,9 @@ use Rattle.std.specs.Prelude.{get_or}
 use Rattle.std.specs.FinMap as map
 use Rattle.std.proofs.Math.Seq.{take-suc}
 use Rattle.std.proofs.lemmas.List.{take_all}
-use Rattle.wg_io.specs.declared.suffixes.TheConstants.{OFFSETS}
-use Rattle.wg_io.proofs.FilesLemmas.{none_falls-trans}
-use Rattle.wg_io.proofs.PutsLemmas.{is_that_err}
+use Rattle.wg_outside.specs.declared.suffixes.TheConstants.{OFFSETS}
+use Rattle.wg_outside.proofs.FilesLemmas.{none_falls-trans}
+use Rattle.wg_outside.proofs.PutsLemmas.{is_that_err}
 use Rattle.wg_outcomes.specs.Answers.{Steps}
 use Rattle.wg_readings.specs.Loading.{lengths_then}
 use Rattle.wg_outcomes.specs.Names.{file_of}

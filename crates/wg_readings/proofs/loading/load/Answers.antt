@@ -1,5 +1,5 @@
 use Rattle.std.proofs.Common.{rules, ◌≡◌, Some}
-use Rattle.wg_io.proofs.PutsLemmas.{is_that_err}
+use Rattle.wg_outside.proofs.PutsLemmas.{is_that_err}
 use Rattle.wg_outcomes.specs.Names.{file_of}
 use Rattle.wg_readings.proofs.LoadLemmas.{loads_none}
 use Rattle.wg_readings.proofs.loading.load.Goals as goal

@@ -1,5 +1,5 @@
 use Rattle.std.proofs.Common.{ap, subst, sym, Some}
-use Rattle.wg_io.proofs.PutsLemmas.{is_that_err}
+use Rattle.wg_outside.proofs.PutsLemmas.{is_that_err}
 use Rattle.wg_outcomes.specs.Judged.{with_claim}
 use Rattle.wg_outcomes.specs.Names.{certificate_named}
 use Rattle.wg_outcomes.specs.declared.status.Input.TheVariants.{Certificate}

@@ -1,6 +1,6 @@
 use Rattle.std.proofs.Common.{◌∙◌, ◌≡◌, inr, ap, subst, sym, Some}
 use Rattle.std.proofs.lemmas.Result.{IfOk-weaker}
-use Rattle.wg_io.proofs.PutsLemmas.{is_that_err}
+use Rattle.wg_outside.proofs.PutsLemmas.{is_that_err}
 use Rattle.wg_properties.specs.declared.fault.PropFault.{PropFault}
 use Rattle.wg_outcomes.specs.Judged.{with_parameters}
 use Rattle.wg_outcomes.specs.declared.ending.Ending.{Ending}

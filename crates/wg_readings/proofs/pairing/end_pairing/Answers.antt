@@ -1,5 +1,5 @@
 use Rattle.std.proofs.Common.{sym}
-use Rattle.wg_io.proofs.PutsLemmas.{is_that_err}
+use Rattle.wg_outside.proofs.PutsLemmas.{is_that_err}
 use Rattle.wg_readings.proofs.PairingLemmas.{ends_compared, ends_stopped, stopped_since, still_named}
 use Rattle.wg_readings.proofs.pairing.end_pairing.Goals as goal
 

@@ -1,7 +1,7 @@
 use Rattle.std.proofs.Common.{◌≡◌, ◌∙◌, ℕ, false, List, Result, Ok, Err, sym, ap}
 use Rattle.std.specs.FinMap as map
-use Rattle.wg_io.specs.declared.whole.LoadError.{LoadError}
-use Rattle.wg_io.specs.declared.whole.LoadError.TheVariants as load
+use Rattle.wg_outside.specs.declared.whole.LoadError.{LoadError}
+use Rattle.wg_outside.specs.declared.whole.LoadError.TheVariants as load
 use Rattle.wg_source.specs.Held.{Held}
 use Rattle.wg_readings.proofs.PassLemmas.{found_after}
 use Rattle.wg_readings.proofs.PairingLemmas.{load_stopped}

@@ -1,10 +1,10 @@
 use Rattle.std.proofs.Common.{◌≡◌, ◌∙◌, ◌++◌, ℕ, List, Some, Ok, refl, sym, ap, subst}
 use Rattle.std.specs.FinMap as map
 use Rattle.wg_bits.specs.Bits.{bits_of}
-use Rattle.wg_io.specs.Outside.{Files}
-use Rattle.wg_io.specs.declared.suffixes.TheConstants.{OFFSETS}
-use Rattle.wg_io.proofs.FilesLemmas.{none_falls-trans}
-use Rattle.wg_io.proofs.PutsLemmas.{is_that_err}
+use Rattle.wg_outside.specs.Outside.{Files}
+use Rattle.wg_outside.specs.declared.suffixes.TheConstants.{OFFSETS}
+use Rattle.wg_outside.proofs.FilesLemmas.{none_falls-trans}
+use Rattle.wg_outside.proofs.PutsLemmas.{is_that_err}
 use Rattle.wg_outcomes.specs.Judged.{with_offsets}
 use Rattle.wg_outcomes.specs.Names.{file_of}
 use Rattle.wg_outcomes.specs.declared.status.Input.TheVariants as input

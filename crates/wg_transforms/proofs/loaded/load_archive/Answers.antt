@@ -1,7 +1,7 @@
 use Rattle.std.proofs.Common.{◌≡◌, ◌∙◌, All, ◌≤◌, ◌⊎◌, inl, inr, length, ℕ, Bool, List, Option, Ok, Err, refl, sym, ap, subst}
 use Rattle.std.specs.Bool.{IsTrue}
-use Rattle.wg_io.specs.Outside.{Files, Counts, NonDecreasing}
-use Rattle.wg_io.proofs.FilesLemmas.{none_falls-trans}
+use Rattle.wg_outside.specs.Outside.{Files, Counts, NonDecreasing}
+use Rattle.wg_outside.proofs.FilesLemmas.{none_falls-trans}
 use Rattle.wg_bits.specs.Bits.{bits_of}
 use Rattle.wg_params.specs.Parameters.{Parameters, IsWithinLimits}
 use Rattle.wg_properties.specs.declared.fault.PropFault.{PropFault}
@@ -23,7 +23,7 @@ use Rattle.wg_readings.proofs.UnderWay.{cause_later}
 use Rattle.wg_transforms.specs.Loaded.{IsArchiveFile, IsOfArchive, JudgesArchive, LoadsArchive}
 use Rattle.wg_readings.proofs.JobSteps.{bad_promised}
 use Rattle.wg_outcomes.proofs.PerformsLemmas.{unread_promised}
-use Rattle.wg_io.proofs.PutsLemmas.{is_that_err}
+use Rattle.wg_outside.proofs.PutsLemmas.{is_that_err}
 use Rattle.wg_transforms.proofs.loaded.load_archive.Goals as goal
 
 -- ---- the end at one of the files

@@ -1,8 +1,8 @@
 use Rattle.std.proofs.Common.{◌≡◌, inr, ℕ, Bool, List, [], ◌∷◌, ◌++◌, refl, sym, ap, subst, ◌∙◌, Some, Ok, Err, length, arith}
 use Rattle.std.specs.Bool.{IsTrue}
 use Rattle.std.specs.FinMap as map
-use Rattle.wg_io.specs.Outside.{Files, Counts, NonDecreasing}
-use Rattle.wg_io.proofs.FilesLemmas.{none_falls-trans, none_falls-refl}
+use Rattle.wg_outside.specs.Outside.{Files, Counts, NonDecreasing}
+use Rattle.wg_outside.proofs.FilesLemmas.{none_falls-trans, none_falls-refl}
 use Rattle.wg_params.specs.Parameters.{Parameters, IsWithinLimits}
 use Rattle.wg_grammar.specs.Archive.{Accepted, lists_of}
 use Rattle.wg_grammar.specs.Laws.{graph_of}
@@ -19,7 +19,7 @@ use Rattle.wg_readings.specs.Passes.{Advances, accepted_of}
 use Rattle.wg_readings.proofs.JudgeLemmas.{reads_want, graph_stops}
 use Rattle.wg_readings.proofs.PassLemmas.{graph_goes}
 use Rattle.wg_readings.proofs.UnderWay.{IsUnderWay, all_read, judged_by, begins, goes_further}
-use Rattle.wg_io.proofs.PutsLemmas.{is_that_err}
+use Rattle.wg_outside.proofs.PutsLemmas.{is_that_err}
 use Rattle.wg_graph.specs.Ascending.{Below}
 use Rattle.wg_transforms.proofs.recode.recoded.Goals as goal
 

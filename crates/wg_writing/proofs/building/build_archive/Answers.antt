@@ -1,10 +1,10 @@
 use Rattle.std.proofs.Common.{◌≡◌, inl, inr, Bool, List, refl, sym, ap, subst, ◌∙◌, ℕ, Result, Ok, Err}
 use Rattle.std.specs.Bool.{IsTrue}
 use Rattle.std.specs.Result.{IfErr}
-use Rattle.wg_io.specs.Outside.{Increased}
-use Rattle.wg_io.specs.Puts.{Puts}
-use Rattle.wg_io.specs.declared.output.Output.TheVariants.{Out}
-use Rattle.wg_io.proofs.PutsLemmas.{is_that_err}
+use Rattle.wg_outside.specs.Outside.{Increased}
+use Rattle.wg_outside.specs.Puts.{Puts}
+use Rattle.wg_outside.specs.declared.output.Output.TheVariants.{Out}
+use Rattle.wg_outside.proofs.PutsLemmas.{is_that_err}
 use Rattle.wg_params.specs.Parameters.{Parameters}
 use Rattle.wg_params.specs.declared.layout.Layout.{Layout}
 use Rattle.wg_graph.specs.Digraph.{Digraph}

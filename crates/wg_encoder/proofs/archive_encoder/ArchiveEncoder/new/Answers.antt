@@ -1,7 +1,7 @@
 use Rattle.std.proofs.Common.{◌∙◌, [], ap}
 use Rattle.std.specs.FinMap as fin
 use Rattle.wg_io.specs.Memory.{SteadyFiles}
-use Rattle.wg_io.specs.Suffixes.{graph_name, offsets_name}
+use Rattle.wg_outside.specs.Suffixes.{graph_name, offsets_name}
 use Rattle.wg_encoder.proofs.InMemory.{as_encoded}
 use Rattle.wg_encoder.proofs.archive_encoder.ArchiveEncoder.new.Goals as goal
 

@@ -1,7 +1,7 @@
 use Rattle.std.proofs.Common.{◌≡◌, ◌∙◌, Err, ap}
 use Rattle.std.proofs.lemmas.Result.{err_from_is_err_and}
-use Rattle.wg_io.proofs.FilesLemmas.{none_falls-trans}
-use Rattle.wg_io.specs.Suffixes.{offsets_name}
+use Rattle.wg_outside.proofs.FilesLemmas.{none_falls-trans}
+use Rattle.wg_outside.specs.Suffixes.{offsets_name}
 use Rattle.wg_encoder.proofs.Failed.{failed_by_memory, failed_on_offsets, failed_since}
 use Rattle.wg_encoder.proofs.Sent.{other_put, other_less}
 use Rattle.wg_encoder.proofs.Stopped.{word_put, word_less, if_err, all_stopped_by_memory, all_stopped_on_offsets}

@@ -1,7 +1,7 @@
 use Rattle.std.proofs.Common.{◌≡◌, ◌∙◌, [], ◌∷◌, ◌++◌, Err, sym, ap, subst}
 use Rattle.std.proofs.lemmas.Result.{err_from_is_err_and}
-use Rattle.wg_io.proofs.FilesLemmas.{none_falls-trans}
-use Rattle.wg_io.specs.Suffixes.{graph_name, offsets_name}
+use Rattle.wg_outside.proofs.FilesLemmas.{none_falls-trans}
+use Rattle.wg_outside.specs.Suffixes.{graph_name, offsets_name}
 use Rattle.wg_encoder.specs.Encoding.{Encoded, HasWritten}
 use Rattle.wg_encoder.proofs.Failed.{failed_by_memory, failed_on_graph, failed_on_offsets, failed_since}
 use Rattle.wg_encoder.proofs.Sent.{other_put, other_less}

@@ -1,5 +1,5 @@
 use Rattle.std.proofs.Common.{subst}
-use Rattle.wg_io.specs.Outside.{Counts, NonDecreasing}
+use Rattle.wg_outside.specs.Outside.{Counts, NonDecreasing}
 use Rattle.wg_io.proofs.folder.FolderDepotDepot.append.Goals as goal
 
 pub returns-in-Err-clause-later : goal.returns-in-Err-clause-later

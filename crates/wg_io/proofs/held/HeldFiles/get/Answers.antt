@@ -1,7 +1,7 @@
 use Rattle.std.proofs.Common.{sym, ◌∙◌, ap, subst, ℕ, List, Option, Some, Bor, All}
 use Rattle.std.specs.Option.{option_map}
 use Rattle.std.specs.FinMap.{get}
-use Rattle.wg_io.specs.Outside.{Files}
+use Rattle.wg_outside.specs.Outside.{Files}
 use Rattle.wg_io.specs.Held.{IsAt, IsOther}
 use Rattle.wg_io.specs.declared.held.Held.{Held}
 use Rattle.wg_io.proofs.HeldLemmas.{get_at, content_nowhere}

@@ -1,8 +1,8 @@
 use Rattle.std.proofs.Common.{ap, ◌∙◌, sym, replicate}
 use Rattle.std.specs.FinMap.{get}
 use Rattle.wg_io.specs.Memory.{OneFile, files_of_zeros}
-use Rattle.wg_io.proofs.FilesLemmas.{texts_equal, texts_differ, get-one_file, get-no_other_file}
-use Rattle.wg_io.proofs.PieceLemmas.{reads_piece, reads_absent}
+use Rattle.wg_outside.proofs.FilesLemmas.{texts_equal, texts_differ, get-one_file, get-no_other_file}
+use Rattle.wg_outside.proofs.PieceLemmas.{reads_piece, reads_absent}
 use Rattle.wg_io.proofs.zero_depot.ZeroDepotDepot.read.Goals as goal
 
 pub returns-then-eq-clause-bytes : goal.returns-then-eq-clause-bytes

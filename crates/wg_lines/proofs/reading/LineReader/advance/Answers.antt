@@ -1,6 +1,6 @@
 use Rattle.std.proofs.Common.{◌≡◌, Some, Ok, refl, sym, ap, ◌∙◌, arith}
 use Rattle.std.specs.FinMap as map
-use Rattle.wg_io.specs.Outside.{Files}
+use Rattle.wg_outside.specs.Outside.{Files}
 use Rattle.wg_lines.specs.Reading.{Held}
 use Rattle.wg_lines.proofs.LineLemmas.{none_of, passed_ahead}
 use Rattle.wg_lines.proofs.ReadingLemmas.{none_lent}

@@ -1,7 +1,7 @@
 use Rattle.std.proofs.Common.{length, ◌-◌, ◌+◌, ◌≡◌, ◌≤◌, List, ℕ, IsTrue, Some}
 use Rattle.std.specs.FinMap as map
-use Rattle.wg_io.specs.Outside.{NonDecreasing}
-use Rattle.wg_io.specs.declared.limits.TheConstants.{MOST_BYTES}
+use Rattle.wg_outside.specs.Outside.{NonDecreasing}
+use Rattle.wg_outside.specs.declared.limits.TheConstants.{MOST_BYTES}
 use Rattle.wg_lines.specs.Reading.{end_of, lines_after, lines_ahead}
 use Rattle.wg_lines.proofs.reading.LineReader.advance.Given as goal
 

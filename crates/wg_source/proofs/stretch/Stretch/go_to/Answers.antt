@@ -1,5 +1,5 @@
 use Rattle.std.proofs.Common.{◌∙◌, ◌<◌, ◌-◌, ◌/◌, refl, sym, ap, subst, arith}
-use Rattle.wg_io.proofs.FilesLemmas.{none_falls-refl}
+use Rattle.wg_outside.proofs.FilesLemmas.{none_falls-refl}
 use Rattle.wg_source.specs.Held.{Held, IsHeldOf}
 use Rattle.wg_source.proofs.HeldLemmas.{begun, piece_at, taken_up}
 use Rattle.wg_source.proofs.stretch.Stretch.go_to.Goals as goal

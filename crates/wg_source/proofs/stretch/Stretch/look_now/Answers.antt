@@ -1,5 +1,5 @@
 use Rattle.std.proofs.Common.{arith, length-drop}
-use Rattle.wg_io.specs.declared.limits.TheConstants.{MOST_BYTES}
+use Rattle.wg_outside.specs.declared.limits.TheConstants.{MOST_BYTES}
 use Rattle.wg_source.proofs.HeldLemmas.{piece_at}
 use Rattle.wg_source.proofs.stretch.Stretch.look_now.Goals as goal
 

@@ -1,6 +1,6 @@
 use Rattle.std.proofs.Common.{◌∙◌, ℕ, ap, subst, arith}
 use Rattle.std.proofs.lemmas.List.{length-take}
-use Rattle.wg_io.specs.Reads.{IsPieceOf}
+use Rattle.wg_outside.specs.Reads.{IsPieceOf}
 use Rattle.wg_source.specs.Held.{Held}
 use Rattle.wg_source.proofs.HeldLemmas.{added, added_small, at_end, end_small, piece_at}
 use Rattle.wg_source.proofs.stretch.Stretch.read_piece.Goals as goal
