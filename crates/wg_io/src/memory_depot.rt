@@ -14,13 +14,25 @@ use wg_outside::{Depot, ReadError, WriteError};
 
 /// Files in memory: a depot that tells its bytes, and in which the calls fail that were named to fail. Calls of each
 /// kind are counted from 1 since `new`, failing ones too.
-#[derive(Debug, Drop)]
+#[derive(Debug)]
 pub struct MemoryDepot {
     steady: SteadyDepot,
     reads: Counter,
     creates: Counter,
     appends: Counter,
     tally: Tally,
+}
+
+impl Drop for MemoryDepot {
+    fn drop(self) {
+        let MemoryDepot {
+            steady,
+            reads,
+            creates,
+            appends,
+            tally,
+        } = self;
+    }
 }
 
 impl Model for MemoryDepot {

@@ -13,11 +13,21 @@ use wg_outside::{Sink, WriteError};
 
 /// Bytes in memory: a sink that tells its bytes, and in which the write fails that was named to fail. Writes are
 /// counted from 1 since `new`, failing ones too.
-#[derive(Debug, Drop)]
+#[derive(Debug)]
 pub struct MemorySink {
     steady: SteadySink,
     writes: Counter,
     tally: Tally,
+}
+
+impl Drop for MemorySink {
+    fn drop(self) {
+        let MemorySink {
+            steady,
+            writes,
+            tally,
+        } = self;
+    }
 }
 
 impl Model for MemorySink {

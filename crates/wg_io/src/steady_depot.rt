@@ -13,11 +13,21 @@ use wg_outside::{Depot, ReadError, WriteError};
 
 /// Files in memory: a depot that tells its bytes, and in which no call fails but for want of memory. A call goes
 /// through the names one by one.
-#[derive(Debug, Drop)]
+#[derive(Debug)]
 pub struct SteadyDepot {
     files: HeldFiles,
     piece: u64,
     tally: Tally,
+}
+
+impl Drop for SteadyDepot {
+    fn drop(self) {
+        let SteadyDepot {
+            files,
+            piece,
+            tally,
+        } = self;
+    }
 }
 
 impl Model for SteadyDepot {

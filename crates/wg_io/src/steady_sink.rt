@@ -10,11 +10,21 @@ use std::marker::Model;
 use wg_outside::{Sink, WriteError};
 
 /// Bytes in memory: a sink that tells its bytes, and in which no write fails but for want of memory.
-#[derive(Debug, Drop)]
+#[derive(Debug)]
 pub struct SteadySink {
     taken: Vec<u8>,
     piece: u64,
     tally: Tally,
+}
+
+impl Drop for SteadySink {
+    fn drop(self) {
+        let SteadySink {
+            taken,
+            piece,
+            tally,
+        } = self;
+    }
 }
 
 impl Model for SteadySink {

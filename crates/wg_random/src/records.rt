@@ -19,13 +19,24 @@ use wg_stream::{PagesError, Passed, Sweep, pass};
 /// The bits of a graph file that stand for one graph, and where their records are.
 ///
 /// It is seen as its parameters, the bits, and the offsets. It holds 8 bytes a page.
-#[derive(Debug, Drop)]
+#[derive(Debug)]
 pub struct Records<'a> {
     pub(crate) bytes: &'a [u8],
     pub(crate) params: Params,
     pub(crate) offsets: Offsets,
     // at least the outdegree of each page
     pub(crate) greatest: u64,
+}
+
+impl<'a> Drop for Records<'a> {
+    fn drop(self) {
+        let Records {
+            bytes,
+            params,
+            offsets,
+            greatest,
+        } = self;
+    }
 }
 
 impl<'a> Model for Records<'a> {
