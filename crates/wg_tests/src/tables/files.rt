@@ -2,6 +2,7 @@
 use std::alloc::Global;
 use std::fs;
 use std::io::{self, Write};
+use std::process::Abort;
 use std::test::Fail;
 use wg_io::{
     Depot, FolderDepot, LoadError, MOST_BYTES, ReadError, StdSink, WriteError, ZeroDepot,
@@ -32,15 +33,25 @@ fn is_text<D: Depot>(alloc: Global, depot: &mut D, name: &str) -> Result<bool, F
 }
 
 // A file that is absent is made, added to, and read at any place, by any of its names.
+fn is_kept<D: Depot>(
+    rt: &impl Abort,
+    alloc: Global,
+    depot: &mut D,
+    name: &str,
+    other: &str,
+) -> Result<(), Fail> {
+    assert!(rt; read_at(depot, name, 0).is_err());
+    is_made(depot, name)?;
+    assert!(rt; is_text(alloc, depot, name)?);
+    assert!(rt; read_at(depot, other, 18)? == (8, *b"ccessors"));
+    assert!(rt; read_at(depot, name, MOST_BYTES)?.0 == 0);
+    Ok(())
+}
+
 #[test]
 fn a_file_of_the_system(rt: HostRuntime) -> Result<(), Fail> {
     let (name, other) = ("wg_io_file.tmp", "./wg_io_file.tmp");
-    let mut depot = FolderDepot::new(&rt);
-    assert!(rt; read_at(&mut depot, name, 0).is_err());
-    is_made(&mut depot, name)?;
-    assert!(rt; is_text(rt.alloc(), &mut depot, name)?);
-    assert!(rt; read_at(&mut depot, other, 18)? == (8, *b"ccessors"));
-    assert!(rt; read_at(&mut depot, name, MOST_BYTES)?.0 == 0);
+    is_kept(&rt, rt.alloc(), &mut FolderDepot::new(&rt), name, other)?;
     fs::remove_file(&rt, name)?;
     Ok(())
 }
