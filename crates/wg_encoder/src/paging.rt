@@ -42,6 +42,14 @@ fn failed_on(output: Output, error: WriteError) -> EncodeError
     }
 }
 
+// What is made in memory for a list before anything is put.
+#[derive(Drop)]
+struct Ready {
+    draft: Box<Draft>,
+    names: Box<FileNames>,
+    choice: Choice,
+}
+
 impl ListEncoder {
     // The memory of the record before, or some that is new.
     #[inline(always)]
@@ -83,6 +91,29 @@ impl ListEncoder {
         draft.fill(&*self.params, self.page, choice.reference, referenced, list)
     }
 
+    // Makes what the list that comes next takes of memory: its record, by the best choice, and the names of the files.
+    #[inline(always)]
+    fn prepare(&mut self, list: &[u64], base: &str) -> Result<Ready, AllocError>
+        requires page { self.old.next.page < self.old.params.nodes }
+        requires list { IsList self.old.params list.now }
+        ensures same { self.new ≡ self.old }
+        ensures chosen { IfOk result (λ r. IsChosen self.old.params self.old.next list.now r.choice) }
+        ensures record_is { IfOk result (λ r. r.draft.value
+            ≡ canonical self.old.params self.old.next list.now r.choice.reference) }
+        ensures words { IfOk result (λ r. all_have_words r.draft.value ≡ true) }
+        ensures names { IfOk result (λ r. r.names.value ≡ base.now) }
+    {
+        let choice = self.choose(list);
+        let mut draft = self.take_draft()?;
+        self.make(list, &mut *draft, choice)?;
+        let names = self.take_names(base)?;
+        Ok(Ready {
+            draft,
+            names,
+            choice,
+        })
+    }
+
     // Puts the word of the offsets file that is due: 0 for page 0, else the length of the record before.
     #[inline(always)]
     fn put_offset<D: Depot>(mut self, depot: &mut D, name: &str) -> Result<ListEncoder, EncodeError>
@@ -122,23 +153,22 @@ impl ListEncoder {
         }
     }
 
-    // Goes on to the next page, where the list of this one is written by this choice. The draft and the names are kept
-    // for the page after it.
+    // Goes on to the next page, where the list of this one is written by the choice that was made. The draft and the
+    // names are kept for the page after it.
     #[inline(always)]
-    fn go_on(
-        mut self,
-        list: &[u64],
-        draft: Box<Draft>,
-        names: Box<FileNames>,
-        choice: Choice,
-    ) -> Result<ListEncoder, AllocError>
+    fn go_on(mut self, list: &[u64], ready: Ready) -> Result<ListEncoder, AllocError>
         requires page { self.next.page < self.params.nodes }
         requires list { IsList self.params list.now }
         requires arcs { self.next.arcs_before + length list.now ≤ self.params.arcs }
-        requires chosen { IsChosen self.params self.next list.now choice }
+        requires chosen { IsChosen self.params self.next list.now ready.choice }
         ensures { IfOk result (λ e. e ≡ encoded_on self list.now self.graph_waits self.offsets_waits) }
     {
         self.limits();
+        let Ready {
+            draft,
+            names,
+            choice,
+        } = ready;
         let depth = self.depth(choice.reference);
         self.kept.keep(list, depth)?;
         self.page += 1;
@@ -179,13 +209,10 @@ impl ListEncoder {
         ensures fault { IfErr result (HasFailed base.now (D.counts depot.old) (D.counts depot.new)) }
         ensures later { NonDecreasing (D.counts depot.old) (D.counts depot.new) }
     {
-        let choice = self.choose(list);
-        let mut draft = self.take_draft()?;
-        self.make(list, &mut *draft, choice)?;
-        let names = self.take_names(base)?;
-        let begun = self.put_offset(depot, names.offsets())?;
-        let put = begun.put_record(draft.record(), depot, names.graph())?;
-        Ok(put.go_on(list, draft, names, choice)?)
+        let ready = self.prepare(list, base)?;
+        let begun = self.put_offset(depot, ready.names.offsets())?;
+        let put = begun.put_record(ready.draft.record(), depot, ready.names.graph())?;
+        Ok(put.go_on(list, ready)?)
     }
 
     /// Puts the last word of the offsets, the length of the last record, and fills up both files to whole bytes. It

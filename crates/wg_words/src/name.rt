@@ -4,9 +4,15 @@ use std::alloc::{AllocError, Global};
 use std::marker::Model;
 
 /// The name of a file or of an archive, as part of a job.
-#[derive(Clone, Debug, Drop)]
+#[derive(Clone, Debug)]
 pub struct Name {
     text: String,
+}
+
+impl Drop for Name {
+    fn drop(self) {
+        let Name { text } = self;
+    }
 }
 
 impl Model for Name {

@@ -7,16 +7,16 @@ use Rattle.wg_encoder.proofs.Chosen.{chosen_reach, stays_few_at}
 use Rattle.wg_encoder.proofs.list_encoder.ListEncoder.go_on.Goals as goal
 
 pub depth-depth-requires : goal.depth-depth-requires
-depth-depth-requires c = chosen_reach c.args.self.params c.args.self.next c.args.list.now c.args.choice c.requires.chosen
+depth-depth-requires c = chosen_reach c.args.self.params c.args.self.next c.args.list.now c.args.ready.choice c.requires.chosen
 
 pub overflow_add-self-3 : goal.overflow_add-self-3
 overflow_add-self-3 c =
-    let s = stays_few_at c.args.self _ c.args.list.now c.args.choice c.self.view_is c.limits.ensures.within c.requires.page c.requires.list c.requires.arcs c.requires.chosen c.self.invariant.7 in
+    let s = stays_few_at c.args.self _ c.args.list.now c.args.ready.choice c.self.view_is c.limits.ensures.within c.requires.page c.requires.list c.requires.arcs c.requires.chosen c.self.invariant.7 in
     omega (arith, s.room)
 
 pub invariant_of-self : goal.invariant_of-self
 invariant_of-self c =
-    let s = stays_few_at c.args.self _ c.args.list.now c.args.choice c.self.view_is c.limits.ensures.within c.requires.page c.requires.list c.requires.arcs c.requires.chosen c.self.invariant.7 in
+    let s = stays_few_at c.args.self _ c.args.list.now c.args.ready.choice c.self.view_is c.limits.ensures.within c.requires.page c.requires.list c.requires.arcs c.requires.chosen c.self.invariant.7 in
     let page = ap (λ (e : Encoded). e.next.page) c.self.view_is in
     let nodes = ap (λ (e : Encoded). e.params.nodes) c.self.view_is in
     let arcs = ap (λ (e : Encoded). e.next.arcs_before) c.self.view_is in
@@ -33,5 +33,5 @@ invariant_of-self c =
       c.self.invariant.5,
       s.last,
       s.total,
-      omega (arith, c.self.invariant.8, ones_few c.args.choice.reference, c.ones.ensures),
+      omega (arith, c.self.invariant.8, ones_few c.args.ready.choice.reference, c.ones.ensures),
     )
