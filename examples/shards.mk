@@ -20,7 +20,7 @@ lists $(parts:=.arcs) &: list
 	    /^[ \t\r]*(#|$$)/ { next } \
 	    { \
 	        part = int($$1 * parts / nodes); \
-	        if (part >= parts) part = parts - 1; \
+	        if (part < 0 || part >= parts) part = parts - 1; \
 	        file = parts + part ".arcs"; \
 	        if (file != last) { if (last) close(last); last = file } \
 	        print >>file \
