@@ -1,9 +1,10 @@
 -- The files of a job.
 use Rattle.wg_outcomes.specs.Names.{name_of_input, name_of_output, record_files, archive_files, second_files, list_file, text_file, weights_file, certificate_file, map_file, archive_outputs, certificate_output, held_by, file_of_fault}
-use Rattle.std.specs.Prelude.{ℕ, Bool, true, false, nat_lt, List, [], ◌++◌, length, Option, Some, is_some}
+use Rattle.std.specs.Prelude.{ℕ, Bool, true, false, nat_lt, ◌==◌, List, [], ◌++◌, length, Option, Some, is_some}
 use Rattle.wg_outside.specs.Outside.{Files}
 use Rattle.wg_outside.specs.declared.output.Output.{Output}
 use Rattle.wg_outside.specs.declared.output.Output.TheVariants as output
+use Rattle.wg_graph.specs.Numbers.{is_in}
 use Rattle.wg_words.specs.declared.jobs.Job.{Job}
 use Rattle.wg_words.specs.declared.jobs.Job.TheVariants.{Check, Arcs, Ascii, Offsets, Show, Spot, Rank, Verify, Build, Import, Quotient, Recode, Union, Transpose, Bulk}
 use Rattle.wg_outcomes.specs.declared.status.Input.{Input}
@@ -65,11 +66,11 @@ abbrev pub has_output : Job → Output → Bool
 has_output job output.Out = true
 has_output job o = is_some (output_name job o)
 
--- whether a job asks for pages by their numbers
-abbrev pub names_pages : Job → Bool
-names_pages (Show base pages) = true
-names_pages (Spot base page) = true
-names_pages _ = false
+-- whether a job asks for the successors of this page
+abbrev pub asks_for : Job → ℕ → Bool
+asks_for (Show base pages) page = is_in page pages
+asks_for (Spot base asked) page = page == asked
+asks_for _ page = false
 
 -- whether a job prints while it reads a file again
 abbrev pub prints_while_reading : Job → Bool
@@ -92,7 +93,7 @@ can_end job (BadArchive f) = has_input job (file_of_fault f)
 can_end job (BadSecond (second.Properties f)) = has_input job input.SecondProperties
 can_end job (BadSecond (second.Archive f)) = has_input job (second_input (file_of_fault f))
 can_end job TooManyArcs = has_input job input.SecondGraph
-can_end job (NoPage page) = names_pages job
+can_end job (NoPage page) = asks_for job page
 can_end job (OverLimit i) = has_input job i
 can_end job (BadWeights f) = has_input job input.Weights
 can_end job (BadText line kind) = has_input job input.Text

@@ -8,6 +8,7 @@ use Rattle.wg_outside.specs.declared.output.Output.TheVariants.{Out}
 use Rattle.wg_bits.specs.Bits.{bits_of}
 use Rattle.wg_params.specs.Parameters.{Parameters, IsWithinLimits}
 use Rattle.wg_grammar.specs.Archive.{Accepted, ReadsGraph}
+use Rattle.wg_graph.specs.Numbers.{is_in}
 use Rattle.wg_words.specs.declared.jobs.Job.{Job}
 use Rattle.wg_words.specs.declared.jobs.Job.TheVariants.{Show}
 use Rattle.wg_outcomes.specs.Answers.{Answers, IsUnput, Steps, status_in}
@@ -88,10 +89,11 @@ module _ (base pages : List ℕ) (td to : Bool) (before : Outside) where
               files2 counts2 tt o.goes o.reads.same o.reads.later
 
           module _ (asked : List ℕ) (asked_is : asked ≡ pages) where
-            pub no_page : (taken : List ℕ) (faults : ℕ) (e : Ending) → taken ≡ before.taken → ((page : ℕ) × (e.status ≡ NoPage page)) → Steps {B = Unit {0}} (with_pages p.nodes asked) (Err e)
-                → Performs job td to before (outside files2 counts2 taken faults) e.status e.promised
+            pub no_page : (taken : List ℕ) (faults : ℕ) (e : Ending) → taken ≡ before.taken → (page : ℕ) × IsTrue (is_in page asked) × (e.status ≡ NoPage page)
+                → Steps {B = Unit {0}} (with_pages p.nodes asked) (Err e) → Performs job td to before (outside files2 counts2 taken faults) e.status e.promised
             no_page taken faults e silent bad steps =
-                refuses_page job base td to before p files2 counts2 (Offsets ∷ Graph ∷ Properties ∷ []) (λ r h. behind_lengths p a) k4 refl taken faults e silent bad
+                refuses_page job base td to before p files2 counts2 (Offsets ∷ Graph ∷ Properties ∷ []) (λ r h. behind_lengths p a) k4 bad.0
+                (subst (λ (x : List ℕ). IsTrue (is_in bad.0 x)) asked_is bad.1) taken faults e silent bad.2
                 (λ t r. subst (λ (x : List ℕ). Answers (with_pages p.nodes x (λ all. lines a)) e.status) asked_is (steps (λ all. lines a)))
 
             pub shows : Steps (with_pages p.nodes asked) (Ok tt) → (taken : List ℕ) (faults : ℕ) (r : Result (Unit {0}) Ending) → (IsTrue to → Puts (successors_lines a.graph pages) before.taken taken r)

@@ -2,6 +2,7 @@
 use Rattle.std.proofs.Common.{◌≡◌, ◌≢◌, ◌⊎◌, ◌∙◌, arith, length, inl, inr, ℕ, ◌<◌, ◌≤◌, Bool, List, [], ◌∷◌, Option, Some, Result, Ok, Err, option_and_then, refl, sym, ap, subst}
 use Rattle.std.specs.Bool.{IsTrue}
 use Rattle.std.specs.FinMap as map
+use Rattle.std.proofs.lemmas.Bool.{eq-eqb}
 use Rattle.std.specs.Prelude.{unwrap_or}
 use Rattle.std.specs.Result.{IfErr}
 use Rattle.wg_outside.specs.Outside.{Files, Counts, Increased, NonDecreasing}
@@ -254,7 +255,7 @@ module _ (base : List ℕ) (page : ℕ) (td to : Bool) (before : Outside) where
 
               by_only : IsBadPage td page p.arcs e → Performs job td to before (outside files3 counts3 taken faults) e.status e.promised
               by_only (inl none) =
-                  refuses_page job base td to before p files3 counts3 (Graph ∷ Properties ∷ []) (behind_both p) k4 refl taken faults e silent (page, none) answers
+                  refuses_page job base td to before p files3 counts3 (Graph ∷ Properties ∷ []) (behind_both p) k4 page (eq-eqb page page refl) taken faults e silent none answers
               by_only (inr (inl (inl bad))) =
                   refuses job base td to before p files3 counts3 (Graph ∷ Properties ∷ []) (behind_both p) k4 Graph refl taken faults e silent bad answers
               by_only (inr (inl (inr bad))) =

@@ -22,7 +22,7 @@ use Rattle.wg_outcomes.specs.Causes.{HasCause}
 use Rattle.wg_outcomes.specs.Commands.{builds, judged}
 use Rattle.wg_outcomes.specs.Judged.{Judged, accepted, refused}
 use Rattle.wg_readings.specs.Loading.{EndsAt, IsPropertiesFile, LoadsParams, Reads, params_then, IsBadCertificate, IsBadMap, IsBadWeights, ReadsNamed}
-use Rattle.wg_outcomes.specs.JobFiles.{can_end, has_input, input_name, names_pages, output_name, writes_files}
+use Rattle.wg_outcomes.specs.JobFiles.{asks_for, can_end, has_input, input_name, output_name, writes_files}
 use Rattle.wg_outcomes.specs.Names.{archive_named, file_of, held_by, no_outputs, IsOfInput}
 use Rattle.wg_outcomes.specs.Promised.{ArePromised, IsBadFile, IsPromised, promised_in}
 use Rattle.wg_outcomes.specs.Performs.{BuildsArchive, Outside, Performs, judged_on, outside}
@@ -241,11 +241,11 @@ module _ (job : Job) (base : List ℕ) (td to : Bool) (before : Outside) where
           → (IsTrue td → (r : Readings) → Answers (rest r held) e.status) → Performs job td to before (outside files counts taken faults) e.status e.promised
       refuses i has taken faults e silent bad answers = refuses_so taken faults e silent (bad_refuses job i p.arcs e has bad) (λ t. bad_promised held p i e (k.given t) bad) answers
 
-      -- a page that the graph does not have ends it
-      pub refuses_page : IsTrue (names_pages job) → (taken : List ℕ) (faults : ℕ) (e : Ending) → taken ≡ before.taken → ((page : ℕ) × (e.status ≡ NoPage page))
+      -- a page that is asked for and that the graph does not have ends it
+      pub refuses_page : (page : ℕ) → IsTrue (asks_for job page) → (taken : List ℕ) (faults : ℕ) (e : Ending) → taken ≡ before.taken → e.status ≡ NoPage page
           → (IsTrue td → (r : Readings) → Answers (rest r held) e.status) → Performs job td to before (outside files counts taken faults) e.status e.promised
-      refuses_page names taken faults e silent bad answers =
-          refuses_so taken faults e silent (subst (IsRefusal job) (sym bad.1) (record { own = tt; stop = tt; possible = names })) (λ t. subst (λ (s : Status). ArePromised held s e.promised) (sym bad.1) tt) answers
+      refuses_page page asked taken faults e silent is answers =
+          refuses_so taken faults e silent (subst (IsRefusal job) (sym is) (record { own = tt; stop = tt; possible = asked })) (λ t. subst (λ (s : Status). ArePromised held s e.promised) (sym is) tt) answers
 
       -- ---- the last step prints a text
       pub prints : (text : Readings → List ℕ) → ((r : Readings) → rest r held ≡ accepted (text r)) → writes_files job ≡ false

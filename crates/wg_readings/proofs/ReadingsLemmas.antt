@@ -1,6 +1,7 @@
 -- Files that were read, in a judgement.
-use Rattle.std.proofs.Common.{◌≡◌, ◌∙◌, ◌<◌, ◌≤◌, ℕ, Bool, if◌then◌else◌, refl, List, [], ◌∷◌, ap, subst, sym, Some, None, Ok, Err, Result}
-use Rattle.std.proofs.lemmas.Bool.{le-leb, lt-leb}
+use Rattle.std.proofs.Common.{◌≡◌, ◌∙◌, ◌<◌, ◌≤◌, ℕ, zero, suc, Bool, if◌then◌else◌, refl, List, [], ◌∷◌, length, get_or, eqb, inl, inr, arith, ap, subst, sym, Some, None, Ok, Err, Result}
+use Rattle.std.proofs.lemmas.Bool.{cases_Bool, le-leb, lt-leb}
+use Rattle.std.specs.Bool.{IsTrue}
 use Rattle.wg_bits.specs.Bits.{bits_of}
 use Rattle.wg_params.specs.Parameters.{Parameters, IsWithinLimits}
 use Rattle.wg_params.specs.declared.code.Code.{Code}
@@ -18,6 +19,8 @@ use Rattle.wg_stream.proofs.SpotOne.{chain_one}
 use Rattle.wg_offsets.proofs.Differences.{none_differ, first_differs}
 use Rattle.wg_num.specs.Lines.{lines_of}
 use Rattle.wg_graph.specs.Digraph.{Digraph}
+use Rattle.wg_graph.specs.Numbers.{is_in}
+use Rattle.wg_graph.proofs.Sets.{in_head}
 use Rattle.wg_arcs.specs.declared.fault.ArcsKind.{ArcsKind}
 use Rattle.wg_arcs.specs.Reading.{AreArcs, IsFirstFault, IsListed}
 use Rattle.wg_arcs.proofs.Unique.{listed_one}
@@ -140,3 +143,12 @@ pub one_differs : (found stored : List ℕ) (page here there : ℕ) → IsFirstM
 one_differs found stored page here there h next =
     let first = first_differs found stored page here there h in
     rw (h.here_is, h.there_is) (ap (λ (l : List ℕ). unless_some_differ l found stored next) first.1)
+
+-- a number of a list stands in it
+pub in_at : (xs : List ℕ) (k d : ℕ) → k < length xs → IsTrue (is_in (get_or xs k d) xs)
+in_at [] k d lt = elim lt [ ]
+in_at (x ∷ xs) zero d lt = in_head x xs
+in_at (x ∷ xs) (suc k) d lt =
+    let y : ℕ = get_or xs k d in
+    let rest : IsTrue (is_in y xs) = in_at xs k d (omega arith) in
+    elim (cases_Bool (eqb y x)) [ inl h ↦ rw h refl | inr h ↦ rw (h, rest) refl ]

@@ -1,5 +1,5 @@
 //! The files of an archive that are held whole, each judged as far as it goes by itself.
-ghost use Rattle.std.specs.Prelude.{◌≡◌, ◌<◌, ◌≤◌, ℕ, All, Bool, IfErr, IfOk, List, OnOk, Ok, Err, length, ◌+◌};
+ghost use Rattle.std.specs.Prelude.{◌≡◌, ◌<◌, ◌≤◌, ℕ, All, Bool, IfErr, IfOk, IsTrue, List, OnOk, Ok, Err, length, ◌+◌};
 ghost use Rattle.wg_outside.specs.declared.limits.TheConstants.{MOST_BYTES};
 ghost use Rattle.wg_bits.specs.Bits.{bits_of};
 ghost use Rattle.wg_params.specs.Parameters.{IsWithinLimits};
@@ -8,6 +8,7 @@ ghost use Rattle.wg_properties.specs.Judged.{properties_of};
 ghost use Rattle.wg_properties.specs.declared.fault.PropFault.{PropFault};
 ghost use Rattle.wg_grammar.specs.Archive.{Accepted, ReadsGraph};
 ghost use Rattle.wg_graph.specs.Digraph.{Digraph, arc_count};
+ghost use Rattle.wg_graph.specs.Numbers.{is_in};
 ghost use Rattle.wg_grammar.specs.declared.fault.ArchiveFault.{ArchiveFault};
 ghost use Rattle.wg_stream.specs.Errors.{OfFault};
 ghost use Rattle.wg_stream.specs.Sweeping.{PassFinds};
@@ -121,7 +122,7 @@ pub fn lists_of_records<'a>(
 pub fn find_pages(params: &Params, pages: &[u64]) -> Result<(), Ending>
     ensures steps { Steps (with_pages params.now.nodes pages.now) result }
     ensures all { OnOk result (All (λ page. page < params.now.nodes) pages.now) }
-    ensures only { IfErr result (λ e. (page : ℕ) × (e.status ≡ Status.NoPage page)) }
+    ensures only { IfErr result (λ e. (page : ℕ) × IsTrue (is_in page pages.now) × (e.status ≡ Status.NoPage page)) }
 {
     for page in pages {
         if *page >= params.nodes() {
