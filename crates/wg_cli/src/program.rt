@@ -120,6 +120,7 @@ pub fn run<D: Depot, O: Sink, E: Sink>(
         → (promised : ℕ) × (IsTrue D.told → ArePromisedBy (job_of words.now) (D.files depot.old) result promised)
         × Reports (line_of (job_of words.now) promised result) (E.taken err.old) (E.taken err.new)
         (Increased (E.faults err.old) (E.faults err.new) ⊎ Increased (E.wants err.old) (E.wants err.new)) }
+    ensures quiet { result ≡ Status.Done → err.new ≡ err.old }
 {
     let Ok(wanted) = find_job(alloc, words) else {
         report(err, &None, 0, Status::Memory);

@@ -127,6 +127,7 @@ fn write_line<S: Sink>(
         (S.taken sink.new) result }
     ensures cause { IsErr result → Increased (S.faults sink.old) (S.faults sink.new)
         ⊎ Increased (S.wants sink.old) (S.wants sink.new) }
+    ensures quiet { status ≡ Status.Done → sink.new ≡ sink.old }
 {
     match status {
         Status::Done => Ok(()),
@@ -234,10 +235,11 @@ fn write_six<'x, S: Sink>(
     write_pieces(sink, &[a, b, c, d, e, b"\n"])
 }
 
-/// Writes the line of a status, as far as the sink takes it.
+/// Writes the line of a status, as far as the sink takes it. At `Done` there is none, and the sink is not called.
 pub fn report<S: Sink>(sink: &mut S, job: &Option<Job>, promised: u64, status: Status)
-    ensures { IsTrue S.told → Reports (line_of job.now promised status) (S.taken sink.old) (S.taken sink.new)
+    ensures line { IsTrue S.told → Reports (line_of job.now promised status) (S.taken sink.old) (S.taken sink.new)
         (Increased (S.faults sink.old) (S.faults sink.new) ⊎ Increased (S.wants sink.old) (S.wants sink.new)) }
+    ensures quiet { status ≡ Status.Done → sink.new ≡ sink.old }
 {
     let _ = write_line(sink, job, promised, status);
 }

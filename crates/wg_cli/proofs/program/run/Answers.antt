@@ -15,7 +15,7 @@ use Rattle.wg_laws.proofs.WrittenLemmas.{written_accepted}
 use Rattle.wg_cli.proofs.program.run.Goals as goal
 
 pub returns-in_default-clause-line : goal.returns-in_default-clause-line
-returns-in_default-clause-line g c = λ e. (0, λ t. nothing_promised (job_of c.args.words.now) (g.D.Depot.files c.args.depot.now) 0, c.report.ensures e)
+returns-in_default-clause-line g c = λ e. (0, λ t. nothing_promised (job_of c.args.words.now) (g.D.Depot.files c.args.depot.now) 0, c.report.ensures.line e)
 
 pub returns-in_default-clause-printed_last : goal.returns-in_default-clause-printed_last
 returns-in_default-clause-printed_last g c = λ t r job is want. inl refl
