@@ -2,6 +2,7 @@
 ghost use Rattle.std.specs.Prelude.{◌≡◌, ◌+◌, ◌^◌, ◌<◌, ◌≤◌, Bool, List, None, Some, IfOk};
 ghost use Rattle.std.specs.Option.{ForSome};
 ghost use Rattle.wg_params.specs.Codes.{IsCode};
+ghost use Rattle.wg_params.specs.declared.limits.TheConstants.{MOST_PAGES};
 ghost use Rattle.wg_codes.specs.Fold.{number_of_gap};
 ghost use Rattle.wg_decoder.specs.Answer.{OnFault, OnRefusal, WantsNoMemory};
 ghost use Rattle.wg_decoder.specs.Stages.{IsWordAt, IsNoWordAt, IsNumberAt, IsNoNumberAt};
@@ -86,7 +87,7 @@ pub fn number<S: Source>(
     code: Code,
     source: &mut S,
 ) -> Result<u64, Unread<S::Refusal>>
-    requires page { page < 2 ^ 36 }
+    requires page { page ≤ MOST_PAGES }
     requires code { IsCode code }
     requires before { ForSome before (λ b. b < 2 ^ 63) }
     ensures later { S.later source.old source.new }
@@ -115,7 +116,7 @@ pub fn first_number<S: Source>(
     code: Code,
     source: &mut S,
 ) -> Result<u64, Unread<S::Refusal>>
-    requires page { page < 2 ^ 36 }
+    requires page { page ≤ MOST_PAGES }
     requires code { IsCode code }
     ensures later { S.later source.old source.new }
     ensures refused { OnRefusal result (S.caused source.old source.new) }

@@ -10,6 +10,7 @@ ghost use Rattle.wg_stream.specs.declared.state.State.TheVariants.{Open};
 ghost use Rattle.wg_stream.specs.Reading.{IsInStep, IsJudged, StaysInStep};
 ghost use Rattle.wg_readings.specs.Passes.{Advances, IsFresh, ending_at, first_in};
 
+use crate::archive::bad_archive;
 use std::alloc::Global;
 use wg_grammar::ArchiveFault;
 use wg_outcomes::{Ending, Input, Status};
@@ -43,9 +44,9 @@ fn ending_at(first: First, params: &Params) -> Ending
     ensures { result ≡ ending_at params.now.arcs first }
 {
     match first {
-        First::Fault(fault) => bad_graph(ArchiveFault::Record(fault), params),
-        First::Tail(at) => bad_graph(ArchiveFault::Tail(at), params),
-        First::ArcsShort(total) => bad_graph(ArchiveFault::ArcsShort(total), params),
+        First::Fault(fault) => bad_archive(ArchiveFault::Record(fault), params),
+        First::Tail(at) => bad_archive(ArchiveFault::Tail(at), params),
+        First::ArcsShort(total) => bad_archive(ArchiveFault::ArcsShort(total), params),
         First::Failed => Ending::of(Status::ReadFault(Input::Graph)),
         First::Absent => Ending::of(Status::Missing(Input::Graph)),
         First::TooLong => Ending::of(Status::OverLimit(Input::Graph)),
@@ -59,15 +60,6 @@ fn ending_of(error: StreamError, params: &Params) -> Ending
     ensures { result ≡ ending_at params.now.arcs (first_in error) }
 {
     ending_at(first_in(error), params)
-}
-
-fn bad_graph(fault: ArchiveFault, params: &Params) -> Ending
-    ensures { result ≡ record { status = Status.BadArchive fault; promised = params.now.arcs } }
-{
-    Ending {
-        status: Status::BadArchive(fault),
-        promised: params.arcs(),
-    }
 }
 
 /// Begins to read the graph file of an archive.

@@ -21,9 +21,11 @@ use wg_params::Code;
 /// is to be of the same file at each call. [`Stretch::look`] tells before the first word whether the file is too long.
 #[derive(Debug, Drop)]
 pub struct FileSource<'a, D: Depot> {
-    depot: &'a mut D,
-    name: &'a str,
-    held: &'a mut Stretch,
+    pub depot: &'a mut D,
+    /// The name of the file.
+    pub name: &'a str,
+    /// What is held of it.
+    pub held: &'a mut Stretch,
 }
 
 impl<'a, D: Depot> FileSource<'a, D> {
