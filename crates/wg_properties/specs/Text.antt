@@ -82,7 +82,7 @@ pair k value = name_of k ++ (61 ∷ value)
 abbrev pub ended : List ℕ → List ℕ
 ended line = line ++ (10 ∷ [])
 
--- The class comes last, so that a text that is cut short lacks it.
+-- The class comes last, so that a prefix that lacks more than the last LF lacks it.
 unfoldable pub written_lines : Parameters → List (List ℕ)
 written_lines p =
     codes "#BVGraph properties"

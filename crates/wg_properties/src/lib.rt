@@ -30,7 +30,7 @@
 //! ```
 //!
 //! A text that is written takes some 200 bytes, in a `List8`. The function of [`laws`] states that it is read
-//! again, and that no text that was cut short is read.
+//! again, and that no prefix of it is that lacks more than the last LF.
 #![tactic(auto)]
 
 mod fault;

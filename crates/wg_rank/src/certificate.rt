@@ -10,9 +10,8 @@ use crate::UNITS;
 use crate::settling::total;
 use std::marker::Model;
 
-/// A claim to a lower bound of the PageRank of each page, in units of 10^-24, at some damping. The bounds add up to at
-/// most
-/// 1. It holds 16 bytes for each page.
+/// A claim to a lower bound of the PageRank of each page, in units of 10^-24, at some damping. All bounds together are
+/// at most 1. It holds 16 bytes for each page.
 #[derive(Debug, Drop)]
 pub struct Certificate {
     // In thousandths.

@@ -59,7 +59,7 @@ impl<L: Lists> Gather for L {
     ghost has_shared = { λ lists inflows l h. AreFlows (L.graph lists) l h inflows };
 
     fn share(&mut self, low: &[u128], high: &[u128], inflows: &mut [u128]) -> (u128, u128) {
-        // Asked for what a graph's lists are, which its contract says.
+        // tells that they are those of a graph
         let _pages = self.nodes();
         self.begin();
         inflows.fill(0);
@@ -107,7 +107,7 @@ pub(crate) fn gather_low<L: Lists>(lists: &mut L, low: &[u128], inflows: &mut [u
     ensures room { All (λ x. x ≤ MOST_PAGES * UNITS) inflows.new }
     ensures dangling_room { result ≤ MOST_PAGES * UNITS }
 {
-    // Asked for what a graph's lists are, which its contract says.
+    // tells that they are those of a graph
     let _pages = lists.nodes();
     lists.begin();
     let divisors = Divisors::new();

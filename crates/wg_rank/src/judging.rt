@@ -112,7 +112,7 @@ pub fn judge<L: Lists>(
         (b : Intervals) → AreBounds b → Holds b (L.graph lists.old) → claim_of_bounds b ≡ c → b.weights ≡ w
         → (page : ℕ) → result ≢ Err (errors.Falls page) }
 {
-    // Asked for what a graph's lists are, which its contract says.
+    // tells that they are those of a graph
     let _pages = lists.nodes();
     let damping = certificate.damping();
     let low = certificate.as_slice();

@@ -72,7 +72,7 @@ impl Gather for ListPulling {
         (given p.graph (high_share p.graph h)) p.lanes };
 
     fn share(&mut self, low: &[u128], high: &[u128], _inflows: &mut [u128]) -> (u128, u128) {
-        // Asked for what the graph of lists is, which its contract says.
+        // tells that the lists are those of a graph
         let _pages = self.lists.nodes();
         set_shares(&self.lists, low, high, &mut self.shares)
     }

@@ -74,7 +74,7 @@ impl Gather for Pulling {
         (given p.graph (high_share p.graph h)) p.lanes };
 
     fn share(&mut self, low: &[u128], high: &[u128], _inflows: &mut [u128]) -> (u128, u128) {
-        // Asked for what the graph of runs is, which its contract says.
+        // tells that the lists are those of a graph
         let _pages = self.runs.nodes();
         share_out(&self.runs, low, high, &mut self.sums)
     }

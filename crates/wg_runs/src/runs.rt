@@ -49,7 +49,7 @@ impl Model for Runs {
 
 impl Runs {
     /// The runs of a graph whose lists are read in order, in two passes. All memory is taken before the one and before
-    /// the other: 16 bytes for each page, and 8 for each run.
+    /// the other: 24 bytes for each page while they are counted, and then 16, and 8 for each run.
     pub fn of<L: Lists>(alloc: Global, lists: &mut L) -> Result<Runs, AllocError>
         requires few_pages { (L.graph lists.old).nodes ≤ MOST_PAGES_IN_RUNS }
         requires few_arcs { arc_count (L.graph lists.old) ≤ MOST_ARCS }

@@ -39,7 +39,7 @@ const LAYOUT: &[Argument] = &[
     Argument::Optional("offsets"),
 ];
 
-/// All commands, in the order of the help.
+/// All commands.
 pub const FORMS: [Form; 15] = [
     Form {
         name: "check",
