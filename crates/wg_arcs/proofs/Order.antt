@@ -1,5 +1,5 @@
 -- Which arc comes after those of a graph.
-use Rattle.std.proofs.Common.{◌≡◌, ℕ, suc, ◌+◌, ◌-◌, ◌<◌, ◌≤◌, true, false, ltb, List, [], ◌∷◌, ◌++◌, map, length, take, get_or, Option, Some, None, refl, sym, ap, subst, ◌∙◌, arith, inl, inr, eq-eqb, ne_eqb}
+use Rattle.std.proofs.Common.{◌≡◌, ℕ, suc, ◌+◌, ◌-◌, ◌<◌, true, false, ltb, List, [], ◌∷◌, ◌++◌, map, length, take, get_or, Option, Some, None, refl, sym, ap, subst, ◌∙◌, arith, inl, inr, eq-eqb, ne_eqb}
 use Rattle.std.specs.List.{last_or}
 use Rattle.std.proofs.lemmas.Bool.{cases_lt, cases_eq, lt-ltb, le-ltb, ltb-true, lt-leb}
 use Rattle.std.proofs.lemmas.List.{get_or_past, length-take-le}
@@ -10,7 +10,6 @@ use Rattle.wg_graph.specs.Arcs.{arcs_of, arcs_from}
 use Rattle.wg_graph.specs.Growing.{ComesAfter}
 use Rattle.wg_graph.proofs.Arcs.{last_list, split_last}
 use Rattle.wg_graph.proofs.Growth.{past_last}
-use Rattle.wg_arcs.specs.declared.fault.ArcsKind.TheVariants as kind
 use Rattle.wg_arcs.specs.Reading.{is_before, is_after, refusal_after}
 
 abbrev pub Arc : Type 0
@@ -86,12 +85,6 @@ after_all g x v up ends b =
     ]
 
 -- ---- why an arc is refused
-
-pub refused_for_order : (n u v count : ℕ) (last : Option Arc) → u < n → v < n → is_after last (u, v) ≡ false → refusal_after n last count (Some (u, v)) ≡ Some kind.Order
-refused_for_order n u v count last source target late = rw (lt-leb n u source, lt-leb n v target, late) refl
-
-pub refused_for_number : (n u v count : ℕ) (last : Option Arc) → u < n → v < n → is_after last (u, v) ≡ true → MOST_ARCS ≤ count → refusal_after n last count (Some (u, v)) ≡ Some kind.TooMany
-refused_for_number n u v count last source target after many = rw (lt-leb n u source, lt-leb n v target, after, le-ltb count MOST_ARCS many) refl
 
 pub not_refused : (n u v count : ℕ) (last : Option Arc) → u < n → v < n → is_after last (u, v) ≡ true → count < MOST_ARCS → refusal_after n last count (Some (u, v)) ≡ None
 not_refused n u v count last source target after few = rw (lt-leb n u source, lt-leb n v target, after, lt-ltb count MOST_ARCS few) refl

@@ -6,9 +6,6 @@ use Rattle.wg_arcs.specs.Numbers.{numbers_on, and_then, numbers_from, numbers_of
 use Rattle.wg_arcs.specs.declared.numbers_fault.NumbersFault.{NumbersFault}
 use Rattle.wg_arcs.specs.declared.numbers_fault.NumbersFault.TheVariants as fault
 
-Told : Type 0
-Told = Result (List ℕ) NumbersFault
-
 -- these numbers, and then others
 abbrev pub after_these : List ℕ → Result (List ℕ) NumbersFault → Result (List ℕ) NumbersFault
 after_these xs told = and_then told (λ ys. Ok (xs ++ ys))

@@ -1,5 +1,5 @@
 -- The successors of a page, read word by word.
-use Rattle.std.proofs.Common.{◌≡◌, ℕ, suc, ◌+◌, ◌<◌, ◌≤◌, ◌^◌, List, [], ◌∷◌, ◌++◌, map, length, decimal, Some, None, refl, sym, ap, subst, ◌∙◌, arith, append_assoc, append-nil}
+use Rattle.std.proofs.Common.{◌≡◌, ℕ, suc, ◌+◌, ◌<◌, ◌≤◌, ◌^◌, List, [], ◌∷◌, ◌++◌, map, length, decimal, Some, None, refl, sym, ap, subst, ◌∙◌, arith, append_assoc}
 use Rattle.std.proofs.lemmas.Bool.{lt-leb, lt-ltb, le-ltb}
 use Rattle.std.proofs.lemmas.List.{map-append, length_push}
 use Rattle.wg_params.specs.declared.limits.TheConstants.{MOST_ARCS}
@@ -10,7 +10,7 @@ use Rattle.wg_graph.proofs.Sets.{ascends_push, below_push, below_more}
 use Rattle.wg_ascii.specs.declared.fault.AsciiError.{AsciiError}
 use Rattle.wg_ascii.specs.declared.fault.AsciiError.TheVariants as error
 use Rattle.wg_ascii.specs.Reading.{refusal_of, fault_of_words}
-use Rattle.wg_ascii.specs.Growing.{IsRefused, IsNumber, IsList}
+use Rattle.wg_ascii.specs.Growing.{IsRefused, IsNumber}
 
 -- ---- one word
 
@@ -57,9 +57,6 @@ order_more n arcs list least count v h low page room = record {
   small = omega arith;
 }
 
-pub order_room : (n arcs : ℕ) (list : List ℕ) (least count : ℕ) → InOrder n arcs list least count → arcs + length list ≤ MOST_ARCS
-order_room n arcs list least count h = let at = h.counted in let room = h.room in omega arith
-
 -- some of the words of a page's line are read, and these come after them
 pub record ListSoFar (n arcs : ℕ) (words rest : List (List ℕ)) (list : List ℕ) (least count : ℕ) : Type 0 where
   pub text : words ≡ map decimal list ++ rest
@@ -77,14 +74,6 @@ list_more n arcs words after word list new least count v small h is more =
       order = order_more n arcs list least count v h.order is.low is.page is.room;
       fault = h.fault ∙ past_word n least count word after v small is;
     })
-
-pub list_done : (n arcs : ℕ) (words : List (List ℕ)) (list : List ℕ) (least count : ℕ) → ListSoFar n arcs words [] list least count → IsList n arcs words list
-list_done n arcs words list least count h = record {
-  text = h.text ∙ append-nil (map decimal list);
-  ascends = h.order.ascends;
-  below = h.order.below;
-  room = order_room n arcs list least count h.order;
-}
 
 pub list_refused : (n arcs : ℕ) (words after : List (List ℕ)) (word list : List ℕ) (least count line : ℕ) (e : AsciiError) → ListSoFar n arcs words (word ∷ after) list least count
     → IsRefused line (refusal_of n least count (number_of word)) e → IsRefused line (fault_of_words n 0 arcs words) e

@@ -3,7 +3,6 @@ use Rattle.std.proofs.Math.Nat.{div-mul-le_self, mul_comm}
 use Rattle.std.proofs.Math.Pow.{pow_mono}
 use Rattle.std.proofs.lemmas.Bool.{cond-true, cond-false, lt-ltb, le-ltb}
 use Rattle.std.proofs.lemmas.Nat.{le-div, mul-le}
-use Rattle.std.specs.Int.Count.{count_leading_zeros}
 use Rattle.wg_bits.specs.Bits.{low_bits}
 use Rattle.wg_bits.proofs.LowBits.{length-low_bits}
 use Rattle.wg_codes.specs.Words.{highest, unary, gamma, delta, zeta, nibble, shortened, with_low_bits}
@@ -11,10 +10,6 @@ use Rattle.wg_codes.proofs.UnaryWords.{length-unary}
 use Rattle.wg_codes.proofs.ZetaWords.{zeta_top, headed_zeta, room, bounds_of, least_is}
 use Rattle.wg_codes.proofs.Writing.{zeta_put}
 use Rattle.wg_codes.proofs.NibbleWords.{open_digits, split_word, length-open_digits}
-
-pub highest_value : (y n : ℕ) → n ≡ 63 - count_leading_zeros 64 y → n ≡ highest y
-unfolding highest
-highest_value y n e = e
 
 pub length-with_low_bits : (heads : ℕ → List Bool) (v m : ℕ) → m ≡ highest (v + 1) → length (with_low_bits heads v) ≡ length (heads m) + m
 length-with_low_bits heads v m e =

@@ -1,6 +1,6 @@
 -- Records on their own.
 use Rattle.std.proofs.Common.{◌≡◌, ◌⊎◌, ◌∙◌, ℕ, zero, suc, ◌+◌, ◌<◌, ◌≤◌, Bool, true, false, cond, ltb, inl, inr, List, [], ◌∷◌, length, replicate, min, is_none, Some, None, Result, Err, refl, sym, ap, subst, arith}
-use Rattle.std.proofs.lemmas.Bool.{le-leb, lt-leb, le-ltb, lt-ltb, ltb-true, ltb-false, and_parts, cases_lt}
+use Rattle.std.proofs.lemmas.Bool.{le-ltb, lt-ltb, ltb-true, ltb-false, and_parts, cases_lt}
 use Rattle.std.proofs.lemmas.List.{get_or-replicate, length-replicate}
 use Rattle.wg_params.specs.declared.code.Code.{Code}
 use Rattle.wg_params.specs.Parameters.{Parameters}
@@ -16,7 +16,6 @@ use Rattle.wg_grammar.specs.declared.need.Need.{Need}
 use Rattle.wg_grammar.specs.declared.need.Need.TheVariants as need
 use Rattle.wg_grammar.specs.declared.progress.Referenced.{Referenced}
 use Rattle.wg_grammar.specs.Context.{Known, Context, referenced, depth_of, no_page}
-use Rattle.wg_grammar.specs.Judging.{named}
 use Rattle.wg_grammar.specs.SoFar.{SoFar, nothing_yet, after}
 use Rattle.wg_grammar.specs.Next.{next}
 use Rattle.wg_grammar.specs.Record.{Whole, Stands, Refused, ReadsRecord}
@@ -42,18 +41,6 @@ rest_reads p page begin start d r list depth bits at w arcs_before behind e rest
     subst (λ (k : ℕ). ReadsRecord p c bits k w) e (rest arcs_before behind lists depths (subst (λ (k : ℕ). IsHead p c bits k d r at) (sym e) head))
 
 -- ---- the page that a reference names
-
-pub named_zero : (p : Parameters) (page arcs_before : ℕ) (k : Known) (r : ℕ) → r ≡ 0 → None ≡ named p (page_on p page arcs_before k) r
-named_zero p page arcs_before k zero e = refl
-named_zero p page arcs_before k (suc r) e = absurd (omega (arith, e))
-
-pub named_far : (p : Parameters) (page arcs_before : ℕ) (k : Known) (r : ℕ) → min p.window page < r → None ≡ named p (page_on p page arcs_before k) r
-named_far p page arcs_before k zero far = refl
-named_far p page arcs_before k (suc r) far = rw (lt-leb (suc r) (min p.window page) far) refl
-
-pub named_near : (p : Parameters) (page arcs_before : ℕ) (k : Known) (below : Referenced) (r : ℕ) → 0 < r → r ≤ min p.window page → below ≡ told k → Some below ≡ named p (page_on p page arcs_before k) r
-named_near p page arcs_before k below zero some near e = absurd (omega (arith, some))
-named_near p page arcs_before k below (suc r) some near e = rw (le-leb (suc r) (min p.window page) near, get_or-replicate p.window r k no_page (omega (arith, near))) (ap (λ (x : Referenced). Some x) e)
 
 pub over_list : (p : Parameters) (k : Known) (r : ℕ) → 0 < r → r ≤ p.window → referenced (replicate p.window k) r ≡ k.list
 over_list p k zero some near = absurd (omega (arith, some))

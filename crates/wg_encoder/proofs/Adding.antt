@@ -1,7 +1,7 @@
 -- The parts of a record, added field by field.
-use Rattle.std.proofs.Common.{◌≡◌, ℕ, zero, suc, ◌+◌, ◌-◌, ◌*◌, ◌^◌, ◌<◌, ◌≤◌, Bool, not, cond, eqb, List, [], ◌∷◌, ◌++◌, length, map, drop, get_or, refl, sym, ap, subst, ◌∙◌, inl, inr, arith, append_assoc}
+use Rattle.std.proofs.Common.{◌≡◌, ℕ, zero, suc, ◌+◌, ◌-◌, ◌*◌, ◌^◌, ◌<◌, ◌≤◌, Bool, not, cond, List, [], ◌∷◌, ◌++◌, length, map, drop, get_or, refl, sym, ap, subst, ◌∙◌, inl, inr, arith, append_assoc}
 use Rattle.std.specs.Prelude.{Option, Some}
-use Rattle.std.proofs.lemmas.Bool.{cases_Bool, ne_eqb, cond-true, cond-false, not_from_true, not_from_false}
+use Rattle.std.proofs.lemmas.Bool.{cases_Bool, cond-true, cond-false, not_from_true, not_from_false}
 use Rattle.std.proofs.lemmas.List.{append-nil, drop_more, drop_all}
 use Rattle.wg_graph.specs.Numbers.{is_in}
 use Rattle.wg_graph.specs.Ascending.{Ascends}
@@ -12,7 +12,6 @@ use Rattle.wg_intervals.specs.Canonical.{ends_and_lengths}
 use Rattle.wg_grammar.specs.declared.fault.Field.TheVariants as field
 use Rattle.wg_greedy.specs.Fields.{Written, written, stored_blocks, stored_gap, interval_fields, residual_fields, extras}
 use Rattle.wg_encoder.specs.InMemory.{AreLowRuns}
-use Rattle.wg_encoder.proofs.Tallied.{stored_next}
 
 -- one field more
 grow : (fields new whole rest : List Written) (w : Written) → new ≡ fields ++ w ∷ [] → fields ++ w ∷ rest ≡ whole → new ++ rest ≡ whole
@@ -27,14 +26,6 @@ pub record Leaving (list referenced asked : List ℕ) (i : ℕ) (others : List �
   pub up : Ascends least (drop i list)
   pub same : (y : ℕ) → least ≤ y → is_in y asked ≡ is_in y referenced
 
-pub leaving_begun : (list referenced asked others : List ℕ) → others ≡ [] → asked ≡ referenced → Ascends 0 list → Leaving list referenced asked 0 others
-leaving_begun list referenced asked others none asks up = record {
-  all = ap (λ xs. xs ++ extras list referenced) none;
-  least = 0;
-  up = up;
-  same = λ y low. ap (is_in y) asks;
-}
-
 first_extra : (y : ℕ) (rest referenced : List ℕ) (told : Bool) → told ≡ is_in y referenced → cond told [] (y ∷ []) ++ extras rest referenced ≡ extras (y ∷ rest) referenced
 first_extra y rest referenced told tells =
     let more : List ℕ = extras rest referenced in
@@ -42,24 +33,6 @@ first_extra y rest referenced told tells =
       | inl there ↦ ap (λ xs. xs ++ more) (cond-true told [] (y ∷ []) (tells ∙ there)) ∙ sym (cond-false (not (is_in y referenced)) (y ∷ more) more (not_from_true _ there))
       | inr absent ↦ ap (λ xs. xs ++ more) (cond-false told [] (y ∷ []) (tells ∙ absent)) ∙ sym (cond-true (not (is_in y referenced)) (y ∷ more) more (not_from_false _ absent))
     ]
-
-pub leaving_more : (list referenced asked left others new : List ℕ) (i : ℕ) (told : Bool) → i < length list → Leaving list referenced asked i others → told ≡ is_in (get_or list i 0) asked
-    → ((y : ℕ) → get_or list i 0 ≤ y → is_in y left ≡ is_in y asked) → new ≡ others ++ cond told [] (get_or list i 0 ∷ []) → Leaving list referenced left (i + 1) new
-leaving_more list referenced asked left others new i told lt l tells later added =
-    let y : ℕ = get_or list i 0 in
-    let rest : List ℕ = drop (i + 1) list in
-    let split : drop i list ≡ y ∷ rest = drop_more list i 0 lt in
-    let up : Ascends l.least (y ∷ rest) = subst (Ascends l.least) split l.up in
-    record {
-      all = ap (λ xs. xs ++ extras rest referenced) added ∙ append_assoc others (cond told [] (y ∷ [])) (extras rest referenced)
-          ∙ ap (λ xs. others ++ xs) (first_extra y rest referenced told (tells ∙ l.same y up.0) ∙ ap (λ xs. extras xs referenced) (sym split)) ∙ l.all;
-      least = suc y;
-      up = up.1;
-      same = λ z low. later z (omega arith) ∙ l.same z (let first : l.least ≤ y = up.0 in omega arith);
-    }
-
-pub leaving_done : (list referenced asked others : List ℕ) (i : ℕ) → length list ≤ i → Leaving list referenced asked i others → others ≡ extras list referenced
-leaving_done list referenced asked others i le l = sym (append-nil others) ∙ ap (λ xs. others ++ extras xs referenced) (sym (drop_all i list le)) ∙ l.all
 
 -- ---- blocks
 
@@ -70,28 +43,6 @@ stored_from (suc i) bs = map (λ n. n - 1) bs
 
 abbrev pub lengths_from : Code → ℕ → List ℕ → List Written
 lengths_from code i bs = map (written field.Block code) (stored_from i bs)
-
-stored_step : (i b : ℕ) (rest : List ℕ) → stored_from i (b ∷ rest) ≡ stored_next i b ∷ stored_from (suc i) rest
-stored_step zero b rest = refl
-stored_step (suc i) b rest = ap (λ k. k ∷ map (λ n. n - 1) rest) (sym (cond-false (eqb (suc i) 0) b (b - 1) (ne_eqb (suc i) 0 (λ e. omega arith))))
-
-stored_none : (i : ℕ) → stored_from i [] ≡ []
-stored_none zero = refl
-stored_none (suc i) = refl
-
-pub lengths_more : (code : Code) (fields new whole : List Written) (blocks : List ℕ) (i count stored : ℕ) → i < length blocks → fields ++ lengths_from code i (drop i blocks) ≡ whole → count ≡ i
-    → stored ≡ stored_next count (get_or blocks i 0) → new ≡ fields ++ written field.Block code stored ∷ [] → new ++ lengths_from code (i + 1) (drop (i + 1) blocks) ≡ whole
-lengths_more code fields new whole blocks i count stored lt is counted how added =
-    let b : ℕ = get_or blocks i 0 in
-    let rest : List ℕ = drop (i + 1) blocks in
-    let next : suc i ≡ i + 1 = omega arith in
-    let first : stored_from i (drop i blocks) ≡ stored ∷ stored_from (i + 1) rest =
-    ap (stored_from i) (drop_more blocks i 0 lt) ∙ stored_step i b rest ∙ ap (λ k. stored_next i b ∷ stored_from k rest) next ∙ ap (λ k. k ∷ stored_from (i + 1) rest) (ap (λ k. stored_next k b) (sym counted) ∙ sym how) in
-    grow fields new whole (lengths_from code (i + 1) rest) (written field.Block code stored) added (ap (λ xs. fields ++ map (written field.Block code) xs) (sym first) ∙ is)
-
-pub lengths_done : (code : Code) (fields whole : List Written) (blocks : List ℕ) (i : ℕ) → length blocks ≤ i → fields ++ lengths_from code i (drop i blocks) ≡ whole → fields ≡ whole
-lengths_done code fields whole blocks i le is =
-    sym (append-nil fields) ∙ ap (λ xs. fields ++ map (written field.Block code) xs) (sym (ap (stored_from i) (drop_all i blocks le) ∙ stored_none i)) ∙ is
 
 -- ---- residuals
 

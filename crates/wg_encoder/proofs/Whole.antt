@@ -15,9 +15,6 @@ with_reference p r some = sym (cond-true (ltb 0 p.window) (written field.Referen
 pub no_reference : (p : Parameters) (r : ℕ) → p.window ≤ 0 → [] ≡ reference_fields p r
 no_reference p r none = sym (cond-false (ltb 0 p.window) (written field.Reference p.references r ∷ []) [] (le-ltb 0 p.window none))
 
-pub with_blocks : (p : Parameters) (r : ℕ) (referenced list : List ℕ) → 0 < r → block_fields p (canonical_blocks list referenced) ≡ copy_fields p r referenced list
-with_blocks p r referenced list some = sym (cond-true (ltb 0 r) (block_fields p (canonical_blocks list referenced)) [] (lt-ltb 0 r some))
-
 pub no_blocks : (p : Parameters) (r : ℕ) (referenced list : List ℕ) → r ≤ 0 → [] ≡ copy_fields p r referenced list
 no_blocks p r referenced list none = sym (cond-false (ltb 0 r) (block_fields p (canonical_blocks list referenced)) [] (le-ltb 0 r none))
 

@@ -63,9 +63,6 @@ passed_all p n (b ∷ bs) le =
 
 -- ---- one block more
 
-is_even : ℕ → Bool
-is_even n = eqb (n % 2) 0
-
 before_end : (bs : List ℕ) (b q : ℕ) → q < sum bs + b → is_copied (bs ++ b ∷ []) q ≡ is_copied bs q
 before_end bs b q lt =
     let late : leb (0 + sum bs + b) q ≡ false = lt-leb _ _ (omega arith) in

@@ -9,10 +9,6 @@ use Rattle.wg_greedy.specs.Fields.{extras}
 use Rattle.wg_greedy.proofs.Extra.{ascends-filter}
 use Rattle.wg_greedy.proofs.Short.{below_filter}
 
-and_true : (b : Bool) → (b && true) ≡ b
-and_true true = refl
-and_true false = refl
-
 and_swap : (a b : Bool) → (a && b) ≡ (b && a)
 and_swap true true = refl
 and_swap true false = refl

@@ -1,8 +1,8 @@
 -- Lines of a file that is read in pieces.
-use Rattle.std.proofs.Common.{◌≡◌, inl, inr, ℕ, ◌+◌, ◌-◌, ◌<◌, ◌≤◌, Bool, true, false, cond, List, [], ◌∷◌, ◌++◌, length, map, take, drop, get_or, refl, sym, ap, ◌∙◌, arith, append_assoc, length-append, length-drop}
+use Rattle.std.proofs.Common.{◌≡◌, inl, inr, ℕ, ◌+◌, ◌-◌, ◌<◌, ◌≤◌, Bool, true, false, cond, List, [], ◌∷◌, ◌++◌, length, map, take, drop, refl, sym, ap, ◌∙◌, arith, append_assoc, length-append, length-drop}
 use Rattle.std.specs.List.{slice_split, onto_first, copy_within}
 use Rattle.std.specs.Str.Lines.{strip_carriage_return}
-use Rattle.std.proofs.lemmas.List.{append-nil, drop_all, drop-drop, map-append, take_all, take_more, take-append-drop}
+use Rattle.std.proofs.lemmas.List.{append-nil, drop_all, drop-drop, map-append, take_all, take-append-drop}
 use Rattle.std.proofs.lemmas.List.Edits.{take-paste}
 use Rattle.std.proofs.lemmas.List.Splits.{length-slice_split}
 use Rattle.wg_num.specs.Lines.{lines_of, without_empty_end}
@@ -45,10 +45,6 @@ after_whole xs ys (inr end) =
     let lines : List (List ℕ) = map strip_carriage_return (slice_split is_end end.0) in
     let alone : lines_of xs ≡ lines = ap lines_of end.1 ∙ after_end end.0 [] ∙ ap (λ (l : List (List ℕ)). lines ++ l) (none_of [] refl) ∙ append-nil lines in
     ap (λ (l : List ℕ). lines_of (l ++ ys)) end.1 ∙ ap lines_of (append_assoc end.0 (10 ∷ []) ys) ∙ after_end end.0 ys ∙ ap (λ (l : List (List ℕ)). l ++ lines_of ys) (sym alone)
-
--- bytes up to an LF
-pub whole_to : (bytes : List ℕ) (i : ℕ) → i < length bytes → get_or bytes i 0 ≡ 10 → IsWhole (take (i + 1) bytes)
-whole_to bytes i lt end = inr (take i bytes, take_more bytes i 0 lt ∙ ap (λ (b : ℕ). take i bytes ++ b ∷ []) end)
 
 -- ---- what is held
 

@@ -7,9 +7,6 @@ use Rattle.wg_lines.specs.Printing.{HasPrinted, HasPrintedLess, Prints}
 
 -- ---- nothing goes out
 
-pub none_printed : (old : List ℕ) → HasPrinted old old [] [] []
-none_printed old = record { out = []; taken = sym (append-nil old); bytes = refl }
-
 pub kept : (old waited text waits : List ℕ) → waits ≡ waited ++ text → HasPrinted old old waited text waits
 kept old waited text waits is = record { out = []; taken = sym (append-nil old); bytes = sym is }
 

@@ -1,5 +1,5 @@
 -- Words of an offsets file, one after the other.
-use Rattle.std.proofs.Common.{◌≡◌, ℕ, suc, ◌+◌, ◌-◌, ◌≤◌, Bool, true, false, cond, nat_lt, ◌==◌, ◌&&◌, List, [], ◌∷◌, ◌++◌, length, drop, sum, None, Some, Ok, Err, inl, inr, refl, sym, ◌∙◌, ap, subst, arith, length-append}
+use Rattle.std.proofs.Common.{◌≡◌, ℕ, suc, ◌+◌, ◌-◌, ◌≤◌, Bool, true, false, cond, nat_lt, ◌==◌, ◌&&◌, List, [], ◌∷◌, ◌++◌, length, drop, sum, None, Some, Ok, Err, inl, refl, sym, ◌∙◌, ap, subst, arith, length-append}
 use Rattle.std.proofs.lemmas.List.{get_or_push}
 use Rattle.std.proofs.lemmas.Bool.{ltb-false}
 use Rattle.wg_params.specs.declared.code.Code.{Code}
@@ -9,7 +9,7 @@ use Rattle.wg_codes.specs.Words.{word, top}
 use Rattle.wg_codes.specs.Reading.{Reads}
 use Rattle.wg_graph.specs.Copied.{ends_of}
 use Rattle.wg_graph.proofs.Copies.{sum_cons, sum_push}
-use Rattle.wg_grammar.specs.Archive.{IsTail, IsTailFault}
+use Rattle.wg_grammar.specs.Archive.{IsTail}
 use Rattle.wg_grammar.specs.declared.fault.OffsetWord.{OffsetWord}
 use Rattle.wg_grammar.specs.declared.fault.OffsetWord.TheVariants as faults
 use Rattle.wg_offsets.specs.Words.{places_of, refusal, Words, IsRefused, ReadsOffsets}
@@ -74,9 +74,6 @@ module _ (c : Code) (bits : List Bool) where
   -- all words stand, and what follows them decides
   pub all_stand : (n at offset : ℕ) (places : List ℕ) → PrefixRead c bits (n + 1) at offset places → IsTail bits at → ReadsOffsets c n bits (Ok places)
   all_stand n at offset places h tail = (h.read, h.values, at, h.words, (h.number, tail, h.lead))
-
-  pub tail_refuses : (n at offset : ℕ) (places : List ℕ) (end : ℕ) → PrefixRead c bits (n + 1) at offset places → IsTailFault bits at end → ReadsOffsets c n bits (Err (faults.Tail end))
-  tail_refuses n at offset places end h fault = (h.read, h.values, at, h.words, inr (h.number, (end, fault, refl)))
 
 -- the last offset after one more
 pub last_more : (places : List ℕ) (p : ℕ) → last_place (places ++ p ∷ []) ≡ p

@@ -77,10 +77,6 @@ name_from_key name k e = found_passes (λ key. bytes_eq name (name_of key)) KEYS
 key_from_name : (name : List ℕ) (k : Key) → bytes_eq name (name_of k) ≡ true → key_of name ≡ Some k
 key_from_name name k e = ap key_of ((bytes_eq-Decides name (name_of k)).0 e) ∙ key_of-name_of k
 
--- a line that is skipped has no pair
-pub pairs_none : (line : List ℕ) → is_skipped (without_blanks_before line) ≡ true → pairs_of (line ∷ []) ≡ []
-pairs_none line e = ap (λ t. map (λ line. (key_in line, value_in line)) (cond (not t) (without_blanks_before line ∷ []) [])) e
-
 pub pairs_one : (line : List ℕ) → is_skipped (without_blanks_before line) ≡ false → pairs_of (line ∷ []) ≡ (key_in (without_blanks_before line), value_in (without_blanks_before line)) ∷ []
 pairs_one line e = ap (λ t. map (λ line. (key_in line, value_in line)) (cond (not t) (without_blanks_before line ∷ []) [])) e
 

@@ -36,9 +36,6 @@ module _ (n : ℕ) (low high : ℕ → ℕ) (shares : List (List ℕ)) (h : AreS
         ap (λ (l : List ℕ). get_or l 2 0 + get_or l 3 0 * 2 ^ 40) e
         ∙ list_joins high xs few (λ i d w. h.high_small (get_or xs i d) (omega (arith, h.pages, within i d w)))
 
-  pub shares_there : (xs : List ℕ) → All (λ u. u < n) xs → All (λ u. u < length shares) xs
-  shares_there xs within = λ i d w. omega (arith, h.pages, within i d w)
-
 -- no more than 1 for each page
 pub shares_room : (g : Digraph) (v : ℕ) (s : ℕ → ℕ) (xs : List ℕ) → g.nodes ≤ MOST_PAGES → xs ≡ predecessors g v → ((u : ℕ) → u < g.nodes → s u ≤ UNITS)
     → sum_by s xs ≤ MOST_PAGES * UNITS

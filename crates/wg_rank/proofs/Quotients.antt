@@ -3,7 +3,7 @@ use Rattle.std.proofs.Common.{ℕ, ◌≡◌, ◌+◌, ◌-◌, ◌*◌, ◌/◌
 use Rattle.std.specs.Int.{div_ceil}
 use Rattle.std.proofs.lemmas.Grind.{div_ceil_times}
 use Rattle.std.proofs.Math.Nat.{div-mul-le_self, lt-div-mul-add, mul-le-mul_left, mul-le-mul_right, lt_of_mul-lt-mul_right}
-use Rattle.std.proofs.lemmas.Nat.{div-mul-add, div-add-mod', mod_below, mul-add-lt}
+use Rattle.std.proofs.lemmas.Nat.{div-mul-add, div-add-mod', mod_below}
 
 -- a multiple of the divisor leaves the rest as it is
 add_multiple : (a d x : ℕ) → 0 < d → (a * d + x) / d ≡ a + x / d
@@ -25,10 +25,6 @@ cut_damped a q m d e p =
     let k : a * q + e ≡ a * h / d * m * d + (a * h % d * m + a * l + e) =
     omega (arith, ap (λ n. a * n) (div-add-mod' q m), ap (λ n. n * m) (div-add-mod' (a * h) d)) in
     sym (ap (λ n. n / d) k ∙ add_multiple (a * h / d * m) d (a * h % d * m + a * l + e) p)
-
--- a rest goes before what is below
-pub rest_below : (h d low m : ℕ) → 0 < d → low < m → h % d * m + low < m * d
-rest_below h d low m p l = mul-add-lt (h % d) m low d (mod_below h d p) l
 
 -- what the quotient is, by its bounds
 pub quotient_near : (v d n : ℕ) → n * d ≤ v → v - n * d < d → n ≡ v / d

@@ -4,7 +4,6 @@ use Rattle.std.proofs.Math.Seq.{drop-append-add, drop-append_seam}
 use Rattle.std.proofs.lemmas.List.{drop-append-le, take-append-drop, drop-take, length-take-le, nil_from_length}
 use Rattle.std.proofs.lemmas.List.Edits.{take-paste}
 use Rattle.std.specs.List.{copy_within}
-use Rattle.wg_outside.specs.declared.limits.TheConstants.{MOST_BYTES}
 use Rattle.wg_bits.specs.Bits.{bits_of, Position, rest, moved}
 use Rattle.wg_outside.specs.Reads.{Reads, IsPieceOf}
 use Rattle.wg_bits.proofs.Words.{length-bits_of}
@@ -104,11 +103,6 @@ pub ahead_moved : (g h : Held) (p q : Position) (n : ℕ) → IsInside g → p �
 ahead_moved g h p q n inside ep eq eh =
     let offset : g.at - 8 * g.first + n ≡ g.at + n - 8 * g.first = omega (arith, inside.from) in
     ap rest (eq ∙ ap (λ (x : Position). moved x n) ep) ∙ ap (λ m. drop m (bits_of g.bytes)) offset ∙ ap ahead (sym eh)
-
--- the byte at the limit was asked for, and there is none
-pub looked_at : (file : List ℕ) (h1 h2 : Held) → length file ≤ MOST_BYTES → h2 ≡ record h1 { looked = true } → IsHeldOf file h1 → IsHeldOf file h2
-looked_at file h1 h2 short same i =
-    subst (IsHeldOf file) (sym same) (record { before = i.before; behind = i.behind; whole = i.whole; offset = i.offset; ended = i.ended; short = λ _. short })
 
 -- in place of what was held, a piece of the file is, from some byte on
 pub taken_up : (file : List ℕ) (h1 h2 : Held) (buf : List ℕ) (first at count : ℕ) → 0 < count → IsPieceOf file first buf count

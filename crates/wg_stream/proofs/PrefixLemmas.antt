@@ -5,13 +5,12 @@ use Rattle.std.proofs.lemmas.List.Sums.{sum_by-cons, sum_by-append}
 use Rattle.wg_params.specs.Parameters.{Parameters}
 use Rattle.wg_graph.specs.Digraph.{Digraph, arc_count}
 use Rattle.wg_grammar.specs.declared.fault.Fault.{Fault}
-use Rattle.wg_grammar.specs.declared.fault.ArchiveFault.{ArchiveFault}
 use Rattle.wg_grammar.specs.declared.fault.ArchiveFault.TheVariants as faults
 use Rattle.wg_grammar.specs.Context.{Known, Context}
 use Rattle.wg_grammar.specs.Record.{Whole, ReadsRecord}
 use Rattle.wg_grammar.specs.Archive.{Pages, context_of, lists_of, places_of, ReadsGraph}
 use Rattle.wg_decoder.specs.Answer.{context_at}
-use Rattle.wg_stream.specs.Prefix.{PrefixRead, IsEnded, IsEndFault}
+use Rattle.wg_stream.specs.Prefix.{PrefixRead, IsEnded}
 
 -- a record more after no record
 first_page : (p : Parameters) (bits : List Bool) (first last : List Whole) (at mid : ℕ) (w : Whole) → last ≡ first → mid ≡ at
@@ -104,13 +103,6 @@ module _ (p : Parameters) (bits : List Bool) where
   pub all_stand : (arcs at : ℕ) (kept : List Known) (behind : List Whole) → PrefixRead p bits p.nodes arcs at kept behind → arcs ≤ p.arcs → IsEnded p.arcs arcs bits at
       → ReadsGraph p bits (Ok (record { graph = lists_of behind; places = places_of behind }))
   all_stand arcs at kept behind h within e = (h.stood, behind, at, h.records, (h.count, e.tail, omega (arith, h.total, within, e.enough), refl, refl))
-
-  pub end_refuses : (arcs at : ℕ) (kept : List Known) (behind : List Whole) (f : ArchiveFault) → PrefixRead p bits p.nodes arcs at kept behind → IsEndFault p.arcs arcs bits at f → ReadsGraph p bits (Err f)
-  end_refuses arcs at kept behind (faults.Tail offset) h fault = (h.stood, behind, at, h.records, (h.count, fault))
-  end_refuses arcs at kept behind (faults.ArcsShort total) h fault = (h.stood, behind, at, h.records, (h.count, fault.0, fault.1 ∙ sym h.total, omega (arith, fault.1, fault.2)))
-  end_refuses arcs at kept behind (faults.Record e) h fault = absurd fault
-  end_refuses arcs at kept behind (faults.Offsets e) h fault = absurd fault
-  end_refuses arcs at kept behind (faults.Length page found stored) h fault = absurd fault
 
 -- the same end by another name
 pub read_to : (p : Parameters) (bits : List Bool) (pages arcs a b : ℕ) (kept : List Known) (behind : List Whole) → a ≡ b → PrefixRead p bits pages arcs a kept behind → PrefixRead p bits pages arcs b kept behind

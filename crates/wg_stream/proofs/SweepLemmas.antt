@@ -74,9 +74,6 @@ kept_more records page turn next rows list within on kept is row back lt some be
 pub kept_none : (records : List Whole) (page turn : ℕ) (rows : List Filled) → page ≡ 0 → AreKept records page rows turn
 kept_none records page turn rows none row back lt some before near there = absurd (omega (arith, none, some, before))
 
-pub kept_nowhere : (records : List Whole) (page turn : ℕ) (rows : List Filled) → length rows ≡ 0 → AreKept records page rows turn
-kept_nowhere records page turn rows none row back lt some before near there = absurd (omega (arith, none, lt))
-
 -- the row of a page that a reference reaches
 pub list_there : (records : List Whole) (page turn back at : ℕ) (rows : List Filled) (row : Filled) (result : Option (List ℕ)) → 0 < back → back ≤ page → back ≤ length rows → at < length rows → IsBack (length rows) turn back at
     → row ≡ get_or rows at no_row → result ≡ Some row.list → AreKept records page rows turn → result ≡ below_at records page back

@@ -73,11 +73,6 @@ not_before n (suc j) (x ∷ xs) up lt =
     let above : suc x ≤ get_or xs j 0 = member_from (suc x) j xs up.1 (omega arith) in
     rw (ne_eqb (get_or xs j 0) x (λ e. omega arith)) (not_before (suc x) j xs up.1 (omega arith))
 
-pub member_in : (j : ℕ) (xs : List ℕ) → j < length xs → is_in (get_or xs j 0) xs ≡ true
-member_in j [] lt = absurd (omega arith)
-member_in zero (x ∷ xs) lt = rw (eq-eqb x x refl) refl
-member_in (suc j) (x ∷ xs) lt = elim (cases_Bool (eqb (get_or xs j 0) x)) [ inl e ↦ rw e refl | inr e ↦ rw e (member_in j xs (omega arith)) ]
-
 -- ---- the lists of predecessors
 
 -- those below page k, and page k itself in the lists of the targets that were seen

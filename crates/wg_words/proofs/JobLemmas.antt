@@ -3,7 +3,6 @@ use Rattle.std.proofs.Common.{◌≡◌, ℕ, ◌≤◌, Bool, true, false, List
 use Rattle.std.specs.Str.{bytes_eq}
 use Rattle.std.proofs.lemmas.Option.{none-some, same_Some, option_and_then_some}
 use Rattle.clap.specs.Words.{Row, Text, first_of}
-use Rattle.wg_params.specs.Parameters.{IsWithinLimits, params_of}
 use Rattle.wg_params.specs.declared.limits.TheConstants.{MOST_PAGES, MOST_DAMPING, MOST_ROUNDS, MOST_GENERATED}
 use Rattle.wg_words.specs.Asked.{IsAsked}
 use Rattle.wg_words.specs.Commands.{parsed}
@@ -13,10 +12,9 @@ use Rattle.wg_words.specs.Jobs.{show_on, spot_on, rank_from, rank_with, rank_on,
 use Rattle.wg_words.specs.declared.conversion.Conversion.{Conversion}
 use Rattle.wg_words.specs.declared.defaults.TheConstants.{DEFAULT_DAMPING, DEFAULT_ROUNDS, DEFAULT_TOP}
 use Rattle.wg_words.specs.declared.jobs.Job.{Job}
-use Rattle.wg_words.specs.declared.jobs.Job.TheVariants.{Check, Arcs, Ascii, Offsets, Show, Spot, Rank, Verify, Build, Import, Quotient, Recode, Union, Transpose, Bulk}
+use Rattle.wg_words.specs.declared.jobs.Job.TheVariants.{Check, Arcs, Ascii, Offsets, Show, Spot, Rank, Verify, Build, Import, Quotient, Union, Bulk}
 use Rattle.wg_words.specs.declared.jobs.JobError.{JobError}
 use Rattle.wg_words.specs.declared.jobs.JobError.TheVariants.{Usage}
-use Rattle.wg_params.specs.declared.layout.Layout.{Layout}
 use Rattle.wg_words.proofs.FileLemmas.{no_file, keeps_inputs, no_file_shared_unless}
 use Rattle.wg_words.proofs.LayoutLemmas.{layout_in_within}
 use Rattle.wg_words.proofs.ValueLemmas.{up_to_within, number_within, some_unless}
@@ -199,28 +197,6 @@ asked_none words wanted answer is asked usage = sym is ∙ subst (IsAsked wanted
 -- what a caller knows of the numbers and the files of a ranking
 pub rank_within : (words : List Text) (base : Text) (rounds damping top : ℕ) (weights certificate : Option Text) → job_of words ≡ Some (Rank base rounds damping top weights certificate) → (rounds ≤ MOST_ROUNDS) × (damping ≤ MOST_DAMPING) × (top ≤ MOST_PAGES) × KeepsInputs base weights certificate
 rank_within words base rounds damping top weights certificate is = job_within words (Rank base rounds damping top weights certificate) is
-
--- what a caller knows of the building of an archive
-pub build_within : (words : List Text) (arcs base : Text) (nodes : ℕ) (layout : Layout) → job_of words ≡ Some (Build arcs base nodes layout) → (nodes ≤ MOST_PAGES) × IsWithinLimits (params_of layout nodes 0) × IsNoFileOf base arcs
-build_within words arcs base nodes layout is = job_within words (Build arcs base nodes layout) is
-
-pub import_within : (words : List Text) (text base : Text) (layout : Layout) → job_of words ≡ Some (Import text base layout) → IsWithinLimits (params_of layout 0 0) × IsNoFileOf base text
-import_within words text base layout is = job_within words (Import text base layout) is
-
-pub quotient_within : (words : List Text) (input map output : Text) (classes : ℕ) (layout : Layout) → job_of words ≡ Some (Quotient input map output classes layout)
-    → (classes ≤ MOST_PAGES) × IsConversion input output layout × IsNoFileOf output map
-quotient_within words input map output classes layout is = job_within words (Quotient input map output classes layout) is
-
--- what a caller knows of a command that reads one archive and writes another
-pub recode_within : (words : List Text) (input output : Text) (layout : Layout) → job_of words ≡ Some (Recode input output layout) → IsConversion input output layout
-recode_within words input output layout is = job_within words (Recode input output layout) is
-
--- what a caller knows of a union
-pub union_within : (words : List Text) (first second output : Text) (layout : Layout) → job_of words ≡ Some (Union first second output layout) → IsConversion first output layout × ShareNoFile second output
-union_within words first second output layout is = job_within words (Union first second output layout) is
-
-pub transpose_within : (words : List Text) (input output : Text) (layout : Layout) → job_of words ≡ Some (Transpose input output layout) → IsConversion input output layout
-transpose_within words input output layout is = job_within words (Transpose input output layout) is
 
 -- what a caller knows of a generated graph
 pub bulk_within : (words : List Text) (seed pages : ℕ) → job_of words ≡ Some (Bulk seed pages) → pages ≤ MOST_GENERATED

@@ -125,10 +125,6 @@ layout_for_any layout pages links other_pages other_links within few_pages few =
   offsets = within.offsets;
 }
 
--- the arcs are counted only when they have been read, and do not change what else is within its limits
-pub layout_within : (layout : Layout) (pages links : ℕ) → IsWithinLimits (params_of layout pages 0) → links ≤ MOST_ARCS → IsWithinLimits (params_of layout pages links)
-layout_within layout pages links within few = layout_for_any layout pages links pages 0 within within.nodes few
-
 not_zero : (n : ℕ) → 1 ≤ n → (n == 0) ≡ false
 not_zero n some = grind arith
 

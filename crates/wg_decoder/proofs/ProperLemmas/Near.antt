@@ -24,9 +24,6 @@ use Rattle.wg_decoder.specs.Proper.Near.{IsNear}
 pub near_all : (near : ℕ) (z : List Bool) → low_bits 64 near ≡ front 64 z → IsNear near 64 z
 near_all near z e = (omega arith, front_agrees near z e)
 
-pub near_none : (near : ℕ) (z : List Bool) → IsNear near 0 z
-near_none near z = (omega arith, λ i l. absurd (omega arith))
-
 -- a bit of a number that is shifted up
 shift_at : (n s i : ℕ) → i + s < 64 → get_or (low_bits 64 (n * 2 ^ s % 2 ^ 64)) i false ≡ get_or (low_bits 64 n) (s + i) false
 shift_at n s i l =
