@@ -4,7 +4,6 @@ pub mod ListedLemmas
 pub mod NumberLines
 pub mod NumbersBack
 pub mod Order
-pub mod Parted
 pub mod ReadBack
 pub mod ReadNumbers
 pub mod SomeGraph

@@ -7,13 +7,14 @@ use Rattle.std.proofs.lemmas.Option.{none-some, same_Some}
 use Rattle.std.proofs.lemmas.List.{take_at, get_or_at, length_push}
 use Rattle.std.proofs.lemmas.List.Elements.{filter_map-append}
 use Rattle.wg_num.specs.Lines.{lines_of}
+use Rattle.wg_num.specs.Words.{words_of}
 use Rattle.wg_arcs.specs.declared.numbers_fault.NumbersError.{NumbersError}
 use Rattle.wg_arcs.specs.declared.numbers_fault.NumbersError.TheVariants as error
 use Rattle.wg_arcs.specs.declared.numbers_fault.NumbersFault.{NumbersFault}
 use Rattle.wg_arcs.specs.declared.numbers_fault.NumbersFault.TheVariants as fault
 use Rattle.wg_arcs.specs.declared.numbers_fault.NumbersKind.{NumbersKind}
 use Rattle.wg_arcs.specs.declared.numbers_fault.NumbersKind.TheVariants as kind
-use Rattle.wg_arcs.specs.Reading.{words_of, is_skipped}
+use Rattle.wg_arcs.specs.Reading.{is_skipped}
 use Rattle.wg_arcs.specs.Numbers.{number_in, judged, numbers_on, numbers_from, numbers_of, AreRead}
 use Rattle.wg_arcs.specs.NumberTexts.{number_at, numbers_in, number_refusal, number_fault, number_fault_at, AreNumbers, IsFirstFaultyLine, AreTooFew, IsOutcome, AreListed}
 use Rattle.wg_arcs.specs.Laws.{NumbersAreThose, FaultsAreFirst, OutcomesAreOne}

@@ -7,10 +7,11 @@ use Rattle.std.proofs.lemmas.List.{take-map, get_or-map, length-map, length-take
 use Rattle.std.proofs.lemmas.List.Elements.{All-weaker, All-take}
 use Rattle.std.proofs.lemmas.List.Splits.{slice_split_none}
 use Rattle.wg_num.specs.Lines.{lines_of, is_blank}
+use Rattle.wg_num.specs.Words.{words_of}
 use Rattle.wg_num.proofs.Cuts.{no_lines}
 use Rattle.wg_num.proofs.Plain.{line_read, digits_high, decimal_plain}
 use Rattle.wg_num.proofs.Numbers.{number_of-decimal}
-use Rattle.wg_arcs.specs.Reading.{words_of, is_skipped}
+use Rattle.wg_arcs.specs.Reading.{is_skipped}
 use Rattle.wg_arcs.specs.Numbers.{number_in}
 use Rattle.wg_arcs.specs.NumberTexts.{text_of_numbers, number_at, numbers_in, number_refusal, number_fault, number_fault_at, AreNumbers}
 use Rattle.wg_arcs.specs.Laws.{NumbersReadBack}

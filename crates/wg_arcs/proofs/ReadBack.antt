@@ -8,6 +8,7 @@ use Rattle.std.proofs.lemmas.List.Elements.{All-append, All-cons, All-weaker}
 use Rattle.std.proofs.lemmas.List.Splits.{slice_split_at, slice_split_none}
 use Rattle.wg_params.specs.declared.limits.TheConstants.{MOST_ARCS}
 use Rattle.wg_num.specs.Lines.{lines_of, is_blank}
+use Rattle.wg_num.specs.Words.{words_of}
 use Rattle.wg_num.proofs.Cuts.{no_lines}
 use Rattle.wg_num.proofs.Plain.{line_read, digits_high, decimal_plain}
 use Rattle.wg_num.proofs.Numbers.{number_of-decimal}
@@ -15,7 +16,7 @@ use Rattle.wg_graph.specs.Digraph.{arc_count}
 use Rattle.wg_graph.specs.Arcs.{arcs_of}
 use Rattle.wg_graph.proofs.Arcs.{length-arcs_from}
 use Rattle.wg_arcs.specs.Text.{arc_line, text_of_arcs, text_of_graph}
-use Rattle.wg_arcs.specs.Reading.{words_of, is_skipped, arc_in, arc_at, arcs_in, refusal_after, fault_after, fault_of, fault_at, AreArcs}
+use Rattle.wg_arcs.specs.Reading.{is_skipped, arc_in, arc_at, arcs_in, refusal_after, fault_after, fault_of, fault_at, AreArcs}
 use Rattle.wg_arcs.proofs.Texts.{text_is_of_arcs}
 use Rattle.wg_arcs.proofs.Order.{Arc, not_refused}
 use Rattle.wg_arcs.proofs.Climbing.{Within, within_from, within_at, Climbs, climbs_from, climbs_at}

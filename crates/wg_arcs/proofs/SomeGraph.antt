@@ -7,6 +7,7 @@ use Rattle.std.proofs.lemmas.Option.{none-some}
 use Rattle.std.proofs.lemmas.List.{get_or_past}
 use Rattle.std.proofs.lemmas.List.Elements.{All-get_or, All-set, All-append, All-replicate}
 use Rattle.wg_num.specs.Lines.{lines_of}
+use Rattle.wg_num.specs.Words.{words_of}
 use Rattle.wg_params.specs.declared.limits.TheConstants.{MOST_ARCS}
 use Rattle.wg_graph.specs.Ascending.{Ascends, Below}
 use Rattle.wg_graph.specs.Digraph.{Digraph, IsGraph}
@@ -18,7 +19,7 @@ use Rattle.wg_graph.proofs.Sets.{ascends_push, below_push}
 use Rattle.wg_arcs.specs.declared.fault.ArcsKind.{ArcsKind}
 use Rattle.wg_arcs.specs.declared.fault.ArcsKind.TheVariants as kind
 use Rattle.wg_arcs.specs.Growing.{Begins, MayCome, SoFar}
-use Rattle.wg_arcs.specs.Reading.{words_of, is_skipped, arc_in, arc_at, is_after, refusal_after, fault_of, IsListed}
+use Rattle.wg_arcs.specs.Reading.{is_skipped, arc_in, arc_at, is_after, refusal_after, fault_of, IsListed}
 use Rattle.wg_arcs.specs.Laws.{TextsAreSome}
 use Rattle.wg_arcs.proofs.Order.{Arc, after_all}
 use Rattle.wg_arcs.proofs.Soundness.{so_far_none, so_far_more, first_fault, all_read}

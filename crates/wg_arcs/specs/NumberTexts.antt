@@ -4,7 +4,8 @@ use Rattle.std.specs.Prelude.{map, codes, decimal, Option, Some, None, Result, O
 use Rattle.std.specs.List.{filter_map}
 use Rattle.wg_outside.specs.Puts.{joined}
 use Rattle.wg_num.specs.Lines.{lines_of}
-use Rattle.wg_arcs.specs.Reading.{words_of, is_skipped}
+use Rattle.wg_num.specs.Words.{words_of}
+use Rattle.wg_arcs.specs.Reading.{is_skipped}
 use Rattle.wg_arcs.specs.Numbers.{number_in}
 use Rattle.wg_arcs.specs.declared.numbers_fault.NumbersError.{NumbersError}
 use Rattle.wg_arcs.specs.declared.numbers_fault.NumbersError.TheVariants as error

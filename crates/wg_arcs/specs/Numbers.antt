@@ -2,7 +2,8 @@
 use Rattle.std.specs.Prelude.{◌≡◌, ℕ, ◌+◌, nat_le, nat_lt, if◌then◌else◌, List, [], ◌∷◌, ◌++◌, length, Option, Some, None, Result, Ok, Err}
 use Rattle.wg_num.specs.Decimal.{number_of}
 use Rattle.wg_num.specs.Lines.{lines_of}
-use Rattle.wg_arcs.specs.Reading.{words_of, is_skipped}
+use Rattle.wg_num.specs.Words.{words_of}
+use Rattle.wg_arcs.specs.Reading.{is_skipped}
 use Rattle.wg_arcs.specs.declared.numbers_fault.NumbersError.{NumbersError}
 use Rattle.wg_arcs.specs.declared.numbers_fault.NumbersError.TheVariants as error
 use Rattle.wg_arcs.specs.declared.numbers_fault.NumbersFault.{NumbersFault}

@@ -1,21 +1,18 @@
 -- The graph that a text of arcs stands for, or its first faulty line.
 use Rattle.std.specs.Prelude.{◌≡◌, ℕ, ◌+◌, ◌<◌, Bool, true, not, ◌&&◌, ◌||◌, ◌==◌, nat_lt, nat_le, if◌then◌else◌}
-use Rattle.std.specs.Prelude.{List, [], ◌∷◌, length, take, get_or, filter, slice_index, Option, Some, None, Result}
+use Rattle.std.specs.Prelude.{List, [], ◌∷◌, length, take, get_or, slice_index, Option, Some, None, Result}
 use Rattle.std.specs.Prelude.{Ok, Err}
-use Rattle.std.specs.List.{slice_split, filter_map, last_or}
+use Rattle.std.specs.List.{filter_map, last_or}
 use Rattle.wg_params.specs.declared.limits.TheConstants.{MOST_ARCS}
 use Rattle.wg_num.specs.Decimal.{number_of}
-use Rattle.wg_num.specs.Lines.{lines_of, is_blank}
+use Rattle.wg_num.specs.Lines.{lines_of}
+use Rattle.wg_num.specs.Words.{words_of}
 use Rattle.wg_graph.specs.Digraph.{Digraph, IsGraph}
 use Rattle.wg_graph.specs.Arcs.{arcs_of}
 use Rattle.wg_arcs.specs.declared.fault.ArcsKind.{ArcsKind}
 use Rattle.wg_arcs.specs.declared.fault.ArcsKind.TheVariants as kind
 use Rattle.wg_arcs.specs.declared.fault.ArcsError.{ArcsError}
 use Rattle.wg_arcs.specs.declared.fault.ArcsError.TheVariants as error
-
--- the words of a line, parted by blanks
-unfoldable pub words_of : List ℕ → List (List ℕ)
-words_of line = filter (λ word. not (length word == 0)) (slice_split is_blank line)
 
 -- a line without words, or a comment, whose first word begins with `#` (35)
 abbrev pub is_skipped : List (List ℕ) → Bool

@@ -1,31 +1,11 @@
-// The words of a line.
+// What the words of a line write.
 
-ghost use Rattle.std.specs.Prelude.{◌≡◌, ◌<◌, [], ◌∷◌, length, IfSome, is_none};
-ghost use Rattle.std.specs.List.{before_first};
-ghost use Rattle.wg_num.specs.Lines.{is_blank};
+ghost use Rattle.std.specs.Prelude.{◌≡◌, ◌∷◌, IfSome, is_none};
+ghost use Rattle.wg_num.specs.Words.{words_of};
 ghost use Rattle.wg_arcs.specs.Numbers.{number_in};
-ghost use Rattle.wg_arcs.specs.Reading.{words_of, is_skipped, arc_in};
+ghost use Rattle.wg_arcs.specs.Reading.{is_skipped, arc_in};
 
-use wg_num::{is_blank, read_decimal, without_blanks_before};
-
-// How many bytes come before the first blank.
-#[inline(always)]
-fn word_length(text: &[u8]) -> usize
-    ensures { result ≡ length (before_first is_blank text.now) }
-{
-    text.iter().take_while(|byte| !is_blank(**byte)).count()
-}
-
-/// The first word and what follows it; the word is empty where there is none.
-#[inline(always)]
-pub fn first_word(text: &[u8]) -> (&[u8], &[u8])
-    ensures none { length result.0.now ≡ 0 → words_of text.now ≡ [] }
-    ensures some { 0 < length result.0.now → words_of text.now ≡ result.0.now ∷ words_of result.1.now }
-{
-    let text = without_blanks_before(text);
-    let end = word_length(text);
-    (&text[..end], &text[end..])
-}
+use wg_num::{first_word, read_decimal};
 
 /// The first word of a line and what follows it, unless the line is skipped: it has no words, or is a comment.
 #[inline(always)]

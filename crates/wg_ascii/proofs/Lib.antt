@@ -1,8 +1,6 @@
 pub mod PageLemmas
 pub mod Pages
-pub mod Parted
 pub mod ReadBack
-pub mod Shorter
 pub mod Some
 pub mod Successors
 pub mod Texts

@@ -4,9 +4,9 @@ use Rattle.std.proofs.lemmas.Bool.{cases_lt}
 use Rattle.std.proofs.lemmas.List.{length_push}
 use Rattle.std.proofs.lemmas.List.Sums.{sum_by_push}
 use Rattle.wg_num.specs.Lines.{lines_of}
+use Rattle.wg_num.specs.Words.{words_of}
 use Rattle.wg_graph.specs.Digraph.{Digraph, arc_count}
 use Rattle.wg_graph.specs.Growing.{padded}
-use Rattle.wg_ascii.specs.Words.{words_of}
 use Rattle.wg_ascii.specs.Reading.{StandsFor, IsFirstFault, IsRead, fault_of_words}
 use Rattle.wg_ascii.specs.Growing.{HasList, HasNoList, HasLists, IsList, IsRefused, Tells, BlankSoFar, IsUpTo, IsFirst, IsFirstAfter, IsFirstExtra}
 use Rattle.wg_ascii.specs.declared.page_lines.PageLines.{PageLines}

@@ -7,12 +7,12 @@ use Rattle.std.proofs.lemmas.List.{length-map}
 use Rattle.std.proofs.lemmas.List.Elements.{All-head, All-tail, All-append, All-cons, All-weaker}
 use Rattle.std.proofs.lemmas.List.Splits.{slice_split_at, slice_split_none}
 use Rattle.wg_num.specs.Lines.{lines_of, is_blank}
+use Rattle.wg_num.specs.Words.{words_of}
 use Rattle.wg_num.proofs.Cuts.{no_lines}
 use Rattle.wg_num.proofs.Plain.{IsPlain, line_read, digits_high, decimal_plain}
 use Rattle.wg_graph.specs.Ascending.{Below}
 use Rattle.wg_graph.specs.Digraph.{Digraph}
 use Rattle.wg_outside.specs.Puts.{joined}
-use Rattle.wg_ascii.specs.Words.{words_of}
 use Rattle.wg_ascii.specs.Text.{words_after, list_words, list_line, text_of_graph}
 use Rattle.wg_ascii.specs.Reading.{StandsFor}
 use Rattle.wg_ascii.specs.Laws.{TextsReadBack, HaveSameWords, SpellingsAgree}

@@ -5,10 +5,10 @@ use Rattle.std.proofs.lemmas.Option.{none-some}
 use Rattle.wg_params.specs.declared.limits.TheConstants.{MOST_ARCS, MOST_PAGES}
 use Rattle.wg_num.specs.Decimal.{number_of}
 use Rattle.wg_num.specs.Lines.{lines_of}
+use Rattle.wg_num.specs.Words.{words_of}
 use Rattle.wg_num.proofs.Numbers.{decimal-number_of}
 use Rattle.wg_graph.specs.Ascending.{Ascends, Below}
 use Rattle.wg_graph.specs.Digraph.{Digraph, arc_count}
-use Rattle.wg_ascii.specs.Words.{words_of}
 use Rattle.wg_ascii.specs.declared.fault.AsciiKind.{AsciiKind}
 use Rattle.wg_ascii.specs.declared.fault.AsciiKind.TheVariants as kind
 use Rattle.wg_ascii.specs.declared.fault.AsciiError.TheVariants as error

@@ -5,10 +5,10 @@ use Rattle.std.proofs.lemmas.Option.{none-some, same_Some}
 use Rattle.std.proofs.lemmas.List.{ext_get_or, get_or_past}
 use Rattle.std.proofs.lemmas.List.Elements.{All-get_or}
 use Rattle.wg_num.specs.Decimal.{number_of}
+use Rattle.wg_num.specs.Words.{words_of}
 use Rattle.wg_num.proofs.Numbers.{number_of-decimal}
 use Rattle.wg_graph.specs.Ascending.{Below}
 use Rattle.wg_graph.specs.Digraph.{Digraph}
-use Rattle.wg_ascii.specs.Words.{words_of}
 use Rattle.wg_ascii.specs.declared.fault.AsciiKind.{AsciiKind}
 use Rattle.wg_ascii.specs.Reading.{StandsFor, fault_after, fault_at, IsFirstFault}
 use Rattle.wg_ascii.specs.Laws.{HaveSameWords, TextsAreOne}

@@ -5,10 +5,10 @@ use Rattle.std.proofs.lemmas.List.{get_or-drop, get_or_past}
 use Rattle.wg_params.specs.declared.limits.TheConstants.{MOST_PAGES}
 use Rattle.wg_num.specs.Decimal.{number_of}
 use Rattle.wg_num.specs.Lines.{lines_of}
+use Rattle.wg_num.specs.Words.{words_of}
 use Rattle.wg_num.proofs.Numbers.{number_of-decimal}
 use Rattle.wg_graph.specs.Digraph.{Digraph}
 use Rattle.wg_graph.proofs.Prefixes.{graph_of_prefix}
-use Rattle.wg_ascii.specs.Words.{words_of}
 use Rattle.wg_ascii.specs.declared.fault.AsciiKind.{AsciiKind}
 use Rattle.wg_ascii.specs.declared.fault.AsciiKind.TheVariants as kind
 use Rattle.wg_ascii.specs.declared.fault.AsciiError.{AsciiError}

@@ -1,10 +1,10 @@
 -- A graph that is read line by line.
 use Rattle.std.specs.Prelude.{◌≡◌, ◌≢◌, ℕ, ◌+◌, ◌<◌, ◌≤◌, List, [], ◌∷◌, ◌++◌, length, map, drop, get_or, decimal, Option, Some, None}
 use Rattle.std.specs.List.{sum_by}
+use Rattle.wg_num.specs.Words.{words_of}
 use Rattle.wg_params.specs.declared.limits.TheConstants.{MOST_ARCS, MOST_PAGES}
 use Rattle.wg_graph.specs.Ascending.{Ascends, Below}
 use Rattle.wg_graph.specs.Digraph.{Digraph, IsGraphPrefix, arc_count, successors}
-use Rattle.wg_ascii.specs.Words.{words_of}
 use Rattle.wg_ascii.specs.Reading.{fault_of_words, fault_after, IsFirstFault}
 use Rattle.wg_ascii.specs.declared.page_lines.PageLines.{PageLines}
 use Rattle.wg_ascii.specs.declared.fault.AsciiKind.{AsciiKind}

@@ -2,4 +2,3 @@ pub mod Growing
 pub mod Laws
 pub mod Reading
 pub mod Text
-pub mod Words

@@ -4,12 +4,12 @@ ghost use Rattle.std.specs.Prelude.{◌≡◌, ◌+◌, ◌<◌, ◌≤◌, [], 
 ghost use Rattle.wg_params.specs.declared.limits.TheConstants.{MOST_ARCS, MOST_PAGES};
 ghost use Rattle.wg_num.specs.Decimal.{number_of};
 ghost use Rattle.wg_num.specs.Lines.{lines_of};
-ghost use Rattle.wg_ascii.specs.Words.{words_of};
+ghost use Rattle.wg_num.specs.Words.{words_of};
 ghost use Rattle.wg_ascii.specs.Reading.{refusal_of, fault_of_words};
 ghost use Rattle.wg_ascii.specs.Growing.{IsRefused, IsNumber, IsList, HasList, HasNoList};
 
 use crate::plain::plain_list;
-use crate::words::first_word;
+use crate::words::next_word;
 use crate::{AsciiError, AsciiKind};
 use wg_graph::List;
 use wg_num::{first_line, read_decimal};
@@ -71,7 +71,7 @@ fn read_list(list: &mut List, line: u64, text: &[u8], n: u64, arcs: u64) -> Resu
     let mut least = 0;
     let mut count = arcs;
     let mut rest = text;
-    'words: while let Some((word, after)) = first_word(rest) {
+    'words: while let Some((word, after)) = next_word(rest) {
         least = add(list, line, word, n, least, count)? + 1;
         count += 1;
         rest = after;

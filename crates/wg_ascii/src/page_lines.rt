@@ -1,13 +1,13 @@
 ghost use Rattle.std.specs.Prelude.{◌≡◌, ℕ, List as ListOf, ◌+◌, ◌<◌, ◌≤◌, ◌==◌, ◌^◌, nat_le, ◌++◌, [], ◌∷◌, Some, decimal, length, MatchOption, OnOk, IfOk, IfErr};
 ghost use Rattle.wg_params.specs.declared.limits.TheConstants.{MOST_ARCS, MOST_PAGES};
 ghost use Rattle.wg_num.specs.Lines.{lines_of};
+ghost use Rattle.wg_num.specs.Words.{words_of};
 ghost use Rattle.wg_graph.specs.Ascending.{Ascends, Below};
-ghost use Rattle.wg_ascii.specs.Words.{words_of};
 ghost use Rattle.wg_ascii.specs.Reading.{fault_of_first, StandsFor};
 ghost use Rattle.wg_ascii.specs.Growing.{IsFirst, IsUpTo};
 
 use crate::lists::read_first;
-use crate::words::first_word;
+use crate::words::next_word;
 use crate::{AsciiError, AsciiKind};
 use wg_graph::List;
 use wg_num::{first_line, read_decimal};
@@ -18,8 +18,8 @@ fn sole_word(line: &[u8]) -> Option<&[u8]>
     ensures { MatchOption result (fault_of_first (words_of line.now) ≡ Some AsciiKind.Shape)
         (λ word. words_of line.now ≡ word.now ∷ []) }
 {
-    let (word, rest) = first_word(line)?;
-    match first_word(rest) {
+    let (word, rest) = next_word(line)?;
+    match next_word(rest) {
         Some(_) => None,
         None => Some(word),
     }
@@ -143,7 +143,7 @@ impl PageLines {
         let mut rest = bytes;
         'lines: while !rest.is_empty() {
             let (text, after) = first_line(rest);
-            if first_word(text).is_some() {
+            if next_word(text).is_some() {
                 return Err(AsciiError::Line {
                     line: self.line + 1,
                     kind: AsciiKind::Extra,

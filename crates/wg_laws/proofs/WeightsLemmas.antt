@@ -4,8 +4,9 @@ use Rattle.std.proofs.lemmas.Bool.{cases_Bool, leb-false, lt-ltb, ltb-false, ltb
 use Rattle.std.proofs.lemmas.List.{length-append}
 use Rattle.std.proofs.lemmas.List.Elements.{All-append, All-cons, All-nil, All-weaker}
 use Rattle.wg_num.specs.Lines.{lines_of}
+use Rattle.wg_num.specs.Words.{words_of}
 use Rattle.wg_arcs.specs.Numbers.{and_then, judged, number_in, numbers_from, numbers_of, numbers_on}
-use Rattle.wg_arcs.specs.Reading.{is_skipped, words_of}
+use Rattle.wg_arcs.specs.Reading.{is_skipped}
 use Rattle.wg_arcs.specs.declared.numbers_fault.NumbersFault.{NumbersFault}
 use Rattle.wg_arcs.specs.declared.numbers_fault.NumbersFault.TheVariants.{Count, Line}
 use Rattle.wg_arcs.specs.declared.numbers_fault.NumbersKind.TheVariants.{Range, Shape, TooMany}

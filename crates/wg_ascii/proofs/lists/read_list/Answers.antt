@@ -1,5 +1,5 @@
 use Rattle.std.proofs.Common.{◌∷◌, subst, List, ℕ, arith}
-use Rattle.wg_ascii.specs.Words.{words_of}
+use Rattle.wg_num.specs.Words.{words_of}
 use Rattle.wg_ascii.proofs.Successors.{ListSoFar, list_more}
 use Rattle.wg_ascii.proofs.lists.read_list.Goals as goal
 

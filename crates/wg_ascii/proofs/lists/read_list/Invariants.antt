@@ -1,5 +1,5 @@
 use Rattle.std.proofs.Common.{length}
-use Rattle.wg_ascii.specs.Words.{words_of}
+use Rattle.wg_num.specs.Words.{words_of}
 use Rattle.wg_ascii.proofs.Successors.{ListSoFar}
 use Rattle.wg_ascii.proofs.lists.read_list.Given as goal
 

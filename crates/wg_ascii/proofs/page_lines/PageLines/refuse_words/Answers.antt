@@ -1,7 +1,7 @@
 use Rattle.std.proofs.Common.{rules, ◌≡◌, ◌≢◌, ◌++◌, ◌+◌, ◌<◌, [], ℕ, List, length, refl, subst, arith}
 use Rattle.wg_num.specs.Lines.{lines_of}
+use Rattle.wg_num.specs.Words.{words_of}
 use Rattle.wg_num.proofs.Cuts.{no_lines}
-use Rattle.wg_ascii.specs.Words.{words_of}
 use Rattle.wg_ascii.specs.Growing.{IsUpTo}
 use Rattle.wg_ascii.proofs.Whole.{is_some_word, is_no_word}
 use Rattle.wg_ascii.proofs.PageLemmas.{blank_read, word_refused}
@@ -11,7 +11,7 @@ pub returns-then-is_some-clause-fault : goal.returns-then-is_some-clause-fault
 returns-then-is_some-clause-fault c = λ all later lists h.
     let s = c.lines.self in
     let left : 0 < length c.lines.rest.now = search rules in
-    let some : words_of c.first_line.result.0.now ≢ [] = is_some_word c.first_word.result _ c.first_word.ensures.words (search rules) in
+    let some : words_of c.first_line.result.0.now ≢ [] = is_some_word c.next_word.result _ c.next_word.ensures.words (search rules) in
     word_refused all (lines_of c.lines.rest.now) later (lines_of c.first_line.result.1.now) lists c.first_line.result.0.now s (s.line + 1) (c.lines.invariant.over left) refl
     c.first_line.ensures.lines some (c.lines.invariant.read all later lists h)
 
@@ -22,7 +22,7 @@ lines-preserved c =
     let i = c.lines.invariant in
     let left : 0 < length c.lines.rest.now = search rules in
     let over : s.nodes < s.line = i.over left in
-    let none : words_of c.first_line.result.0.now ≡ [] = is_no_word c.first_word.result _ c.first_word.ensures.words (search rules) in
+    let none : words_of c.first_line.result.0.now ≡ [] = is_no_word c.next_word.result _ c.next_word.ensures.words (search rules) in
     record {
       nodes = i.nodes;
       arcs = i.arcs;

@@ -1,12 +1,12 @@
 -- The words of a line, one after the other.
-use Rattle.std.proofs.Common.{◌≡◌, ℕ, suc, ◌+◌, ◌-◌, ◌<◌, Bool, true, false, not, cond, eqb, List, [], ◌∷◌, length, take, drop, refl, sym, ap, subst, ◌∙◌, arith, inl, inr, filter, ne_eqb}
+use Rattle.std.proofs.Common.{◌≡◌, ℕ, suc, ◌+◌, ◌-◌, ◌<◌, Bool, true, false, not, cond, eqb, List, [], ◌∷◌, length, take, drop, refl, sym, ap, subst, ◌∙◌, arith, inl, inr, filter, ne_eqb, length-drop}
 use Rattle.std.specs.List.{slice_split, onto_first, position_or_len, before_first, take_while}
 use Rattle.std.proofs.lemmas.Bool.{cases_Bool}
-use Rattle.std.proofs.lemmas.List.{take_rest}
+use Rattle.std.proofs.lemmas.List.{take_rest, length-take}
 use Rattle.std.proofs.lemmas.List.Folds.{length-prefix_len}
 use Rattle.std.proofs.lemmas.List.Sums.{take_while-cons}
 use Rattle.wg_num.specs.Lines.{is_blank, without_blanks_before}
-use Rattle.wg_ascii.specs.Words.{words_of}
+use Rattle.wg_num.specs.Words.{words_of}
 
 abbrev is_word : List ℕ → Bool
 is_word word = not (eqb (length word) 0)
@@ -105,3 +105,10 @@ first_some text bare end is at some =
     let stands : end ≡ position_or_len is_blank bare = at ∙ length-prefix_len (λ (b : ℕ). not (is_blank b)) bare in
     let words : words_of bare ≡ take end bare ∷ words_of (drop end bare) = rw stands (one_word bare (subst (λ (n : ℕ). 0 < length (take n bare)) stands some)) in
     sym (words_after_blanks text) ∙ ap words_of (sym is) ∙ words ∙ ap (λ (l : List ℕ). take end bare ∷ words_of l) (sym (take_rest bare end))
+
+-- what follows the first word is shorter than the text
+pub rest_shorter : (text bare : List ℕ) (end : ℕ) → bare ≡ without_blanks_before text → 0 < length (take end bare) → length (take (length bare - end) (drop end bare)) < length text
+unfolding without_blanks_before
+rest_shorter text bare end is some =
+    let whole = ap length is ∙ length-drop _ text in
+    omega (arith, whole, some, length-take end bare, length-take (length bare - end) (drop end bare), length-drop end bare)
