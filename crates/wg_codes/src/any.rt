@@ -55,7 +55,7 @@ fn read_in_steps(code: Code, mut cursor: Cursor<'_>) -> (Read, u64)
 {
     let start = cursor.at();
     let read = match code {
-        Code::Unary => unary::read(&mut cursor, (1 << 32) - 1),
+        Code::Unary => unary::read(&mut cursor, unary::MOST_ZEROS),
         Code::Gamma => gamma::read(&mut cursor, 62),
         Code::Delta => delta::read(&mut cursor),
         Code::Zeta(k) => zeta::read(&mut cursor, k),
@@ -72,7 +72,7 @@ pub fn word_in(code: Code, window: u64) -> Option<Word>
     ensures { IfSome result (Tells (word code) (top code) window) }
 {
     match code {
-        Code::Unary => unary::word_in(window, (1 << 32) - 1),
+        Code::Unary => unary::word_in(window, unary::MOST_ZEROS),
         Code::Gamma => gamma::word_in(window, 62),
         Code::Zeta(k) => zeta::word_in(window, k),
         _ => None,
@@ -127,7 +127,7 @@ pub fn holds(code: Code, v: u64) -> bool
     ensures { IsTrue result ↔ (v ≤ top code) }
 {
     v <= match code {
-        Code::Unary => (1 << 32) - 1,
+        Code::Unary => unary::MOST_ZEROS,
         Code::Gamma | Code::Delta => (1 << 63) - 2,
         Code::Zeta(k) => (1 << (k * zeta::over(63, k))) - 2,
         Code::Nibble => (1 << 63) - 1,

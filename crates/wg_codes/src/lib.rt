@@ -55,3 +55,4 @@ mod zeta;
 pub use any::{holds, length, read, word_in, write};
 pub use folding::{fold, number_of_gap, unfold, unfold_from};
 pub use outcome::{Read, Word};
+pub use unary::MOST_ZEROS;

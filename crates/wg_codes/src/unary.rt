@@ -19,6 +19,9 @@ use crate::{Read, Word};
 use wg_bits::{Cursor, Writer};
 use wg_outside::{Depot, WriteError};
 
+/// The most zeros that a unary word has, and so the greatest value.
+pub const MOST_ZEROS: u64 = (1 << 32) - 1;
+
 // A word of at most `most`: by one load, if all of it lies within the next 57 bits.
 #[inline(always)]
 pub fn read(cursor: &mut Cursor<'_>, most: u64) -> Read

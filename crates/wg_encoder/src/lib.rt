@@ -1,11 +1,11 @@
 //! Writes the greedy archive of a graph, which `wg_greedy` defines: for each page the shortest of its candidates.
 //!
-//! An [`Encoder`] takes the lists of a graph's pages 0, 1 and so on, each once, and keeps a copy of those that a
+//! An [`Encoder`] goes through the lists of a graph, those of pages 0, 1 and so on, and keeps a copy of those that a
 //! reference may name, with their depths: at most as many as the archive's window, each with room for at most twice its
 //! numbers, and 32 bytes beside it. Of the page that comes next it tells the candidates, what each of them takes in
 //! bits, and which one is written; to count these bits makes no record. No record has 2 ^ 64 bits or more.
 //!
-//! [`Encoder::next`] writes a list, and [`Encoder::finish`] ends the two files once all are written. Both take the
+//! [`Encoder::next`] writes the next list, and [`Encoder::finish`] ends the two files once all are written. Both take the
 //! archive's name, and write the files of its suffixes. The words of the offsets file are 0 and the length of each
 //! record. An encoder has a writer of 4096 bytes for each of the files. If a call of the depot fails, the
 //! [`EncodeError`] names the file, and both files are prefixes of those that were to be written.

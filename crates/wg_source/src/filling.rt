@@ -10,12 +10,9 @@ ghost use Rattle.wg_source.specs.Stepping.{Steps, HasCause};
 ghost use Rattle.wg_source.specs.declared.stretch.TheConstants.{WORD};
 
 use crate::Stretch;
-use wg_codes::Read;
+use wg_codes::{MOST_ZEROS, Read};
 use wg_outside::{Depot, LoadError};
 use wg_params::Code;
-
-// The most zeros that a unary word has.
-const MOST_ZEROS: u64 = (1 << 32) - 1;
 
 // Reads on until the bytes of a word are held from the next bit on, or the file ends.
 fn fill<D: Depot>(held: &mut Stretch, depot: &mut D, name: &str) -> Result<(), LoadError>

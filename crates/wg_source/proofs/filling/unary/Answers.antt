@@ -3,7 +3,7 @@ use Rattle.std.proofs.Math.ListN.{replicate}
 use Rattle.wg_bits.specs.Bits.{bits_of}
 use Rattle.wg_codes.proofs.UnaryWords.{unary_none}
 use Rattle.wg_source.specs.Held.{Held}
-use Rattle.wg_source.specs.declared.filling.TheConstants.{MOST_ZEROS}
+use Rattle.wg_codes.specs.declared.unary.TheConstants.{MOST_ZEROS}
 use Rattle.wg_source.specs.StepLaws.{two_steps, then_moved}
 use Rattle.wg_source.proofs.FillLemmas.{more_zeros, moved_held, one_follows, nothing_follows, some_zeros}
 use Rattle.wg_source.proofs.filling.unary.Goals as goal

@@ -4,7 +4,7 @@ use Rattle.std.specs.FinMap as map
 use Rattle.wg_bits.specs.Bits.{bits_of}
 use Rattle.wg_source.specs.Held.{IsHeldOf}
 use Rattle.wg_source.specs.Stepping.{Steps}
-use Rattle.wg_source.specs.declared.filling.TheConstants.{MOST_ZEROS}
+use Rattle.wg_codes.specs.declared.unary.TheConstants.{MOST_ZEROS}
 use Rattle.wg_source.proofs.filling.unary.Given as goal
 
 abbrev pub invariant-loop-held : goal.invariant-loop-held
