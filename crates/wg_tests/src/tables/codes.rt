@@ -1,12 +1,15 @@
-// Words of the five codes, and numbers of either sign.
+// Words of the five codes, read and written, and numbers of either sign.
 ghost use Rattle.std.specs.Prelude.{IfSome};
 ghost use Rattle.wg_params.specs.Codes.{IsCode};
 
+use std::alloc::Global;
 use std::process::Abort;
-use wg_bits::{Bits, Cursor};
-use wg_codes::{Read, fold, read, unfold};
+use std::test::Fail;
+use wg_bits::{Bits, Cursor, Writer};
+use wg_codes::{Read, fold, holds, length, read, unfold, write};
+use wg_io::{Depot, SteadyDepot};
 use wg_params::Code;
-use wg_vectors::{FOLDS, NO_WORDS, VECTORS};
+use wg_vectors::{FOLDS, NO_WORDS, VECTORS, Vector, bytes_of};
 
 // The bits of a text, of at most 128, behind zeros.
 fn packed(text: &[u8]) -> [u8; 16] {
@@ -61,6 +64,37 @@ fn stands(rt: &impl Abort, code: Code, text: &str, read: Read, length: u64) {
             "{text}"
         );
     }
+}
+
+// Writes the word of a value into a file, and tells how many bits it has.
+fn put_word<D: Depot>(rt: &impl Abort, code: Code, value: u64, depot: &mut D) -> Result<u64, Fail> {
+    let Some(code) = tried(code) else {
+        return Err("no code".into());
+    };
+    assert!(rt; holds(code, value));
+    let mut writer = Writer::new();
+    write(code, value, &mut writer, depot, "word")?;
+    writer.finish(depot, "word")?;
+    Ok(length(code, value))
+}
+
+// The word of the value is written, and zeros after it that fill the last byte.
+fn is_written(rt: &impl Abort, alloc: Global, vector: &Vector) -> Result<(), Fail> {
+    let word = vector.word;
+    let mut depot = SteadyDepot::new(alloc, 3);
+    let bits = put_word(rt, vector.code, vector.value, &mut depot)?;
+    assert!(rt; bits == word.len() as u64, "{word}");
+    let bytes = bytes_of(alloc, word)?;
+    assert!(rt; depot.file("word") == Some(bytes.as_slice()), "{word}");
+    Ok(())
+}
+
+#[test]
+fn each_word_is_written(rt: HostRuntime) -> Result<(), Fail> {
+    for vector in &VECTORS {
+        is_written(&rt, rt.alloc(), vector)?;
+    }
+    Ok(())
 }
 
 #[test]

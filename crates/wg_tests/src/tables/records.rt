@@ -1,9 +1,13 @@
-// Records over a page that is handed in, an archive of records and offsets, and a fault in words.
+// Records over a page that is handed in, pages that are written one by one, an archive of records and offsets, and a
+// fault in words.
+use std::alloc::Global;
 use std::test::Fail;
 use wg_bits::{Bits, Cursor};
 use wg_decoder::{Known, decode_on, head};
+use wg_encoder::Encoder;
 use wg_grammar::{ArchiveFault, Fault, Field, Kind};
-use wg_io::LoadError;
+use wg_graph::Graph;
+use wg_io::{Depot, LoadError, SteadyDepot};
 use wg_offsets::{Extent, Samples};
 use wg_params::Code;
 use wg_random::{Archive, Records};
@@ -30,6 +34,26 @@ fn a_record_over_a_page_that_is_handed_in(rt: HostRuntime) -> Result<(), Fail> {
     let second = decode_on(rt.alloc(), &params, 1, 2, Some(known), &mut cursor)?;
     assert!(rt; second.list.as_slice() == [1, 2].as_slice());
     assert!(rt; second.depth == 1 && cursor.at() == 18);
+    Ok(())
+}
+
+// Writes the pages of a graph, and tells how many bits their records have.
+fn put_pages<D: Depot>(alloc: Global, graph: &Graph, depot: &mut D) -> Result<u64, Fail> {
+    let params = usual(graph.nodes(), graph.arcs(), 7, 3, 4)?;
+    let mut encoder = Encoder::new(alloc, params, graph)?;
+    for _page in 0..graph.nodes() {
+        encoder = encoder.next(depot, "g")?;
+    }
+    Ok(encoder.finish(depot, "g")?)
+}
+
+#[test]
+fn pages_are_written_one_by_one(rt: HostRuntime) -> Result<(), Fail> {
+    let graph = wg_arcs::read(rt.alloc(), b"0 1\n0 2\n1 1\n1 2\n", 3)?;
+    let mut depot = SteadyDepot::new(rt.alloc(), 4096);
+    assert!(rt; put_pages(rt.alloc(), &graph, &mut depot)? == 19);
+    assert!(rt; depot.file("g.graph") == Some(COPIED));
+    assert!(rt; depot.file("g.offsets") == Some(b"\x8D\x3A".as_slice()));
     Ok(())
 }
 

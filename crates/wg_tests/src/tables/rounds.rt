@@ -1,14 +1,20 @@
-// Rounds along runs and along in-lists, and which of them there are.
+// Rounds along runs, along in-lists and along the lists of an archive, and which of them there are.
 ghost use Rattle.std.specs.Prelude.{◌≡◌, ◌+◌, ◌≤◌, length};
 
-use std::alloc::Global;
+use std::alloc::{AllocError, Global};
 use std::process::Abort;
 use std::test::Fail;
-use wg_graph::GraphLists;
+use wg_encoder::encode;
+use wg_graph::{Graph, GraphLists, Lists};
+use wg_io::MOST_BYTES;
 use wg_num::UNITS;
 use wg_outcomes::{Way, way_for};
+use wg_params::Params;
+use wg_random::Records;
 use wg_rank::{Bounds, Gather, ListPulling, Pulling};
 use wg_runs::{RunCounts, Runs};
+use wg_stream::Sweep;
+use wg_vectors::{generate, usual};
 
 // Page 3 dangles between two runs to page 4, which links to itself: its last run ends at the last page.
 const ARCS: &[u8] = b"0 4\n1 0\n1 4\n2 4\n4 4\n";
@@ -54,6 +60,43 @@ fn two_rounds_along_in_lists(rt: HostRuntime) -> Result<(), Fail> {
     let mut pulling = ListPulling::new(rt.alloc(), in_lists)?;
     assert!(rt; pulling.nodes() == 5);
     has_worked_bounds(&rt, rt.alloc(), &mut pulling)
+}
+
+// The bounds of a graph of 500 pages after five rounds.
+fn after_five_rounds<G: Gather>(alloc: Global, source: &mut G) -> Result<Bounds, AllocError>
+    requires { (G.graph source.old).nodes ≡ 500 }
+{
+    let mut bounds = Bounds::new(alloc, 500, 850)?;
+    two_rounds(source, &mut bounds);
+    two_rounds(source, &mut bounds);
+    bounds.pull(source);
+    Ok(bounds)
+}
+
+// The same of an archive, whose lists are decoded from its bits in each round.
+fn swept(rt: &impl Abort, alloc: Global, bytes: &[u8], params: Params) -> Result<Bounds, Fail> {
+    assert!(rt; bytes.len() as u64 <= MOST_BYTES);
+    Records::check(alloc, bytes, params)?;
+    let mut sweep = Sweep::new(alloc, bytes, params)?;
+    assert!(rt; sweep.nodes() == 500);
+    Ok(after_five_rounds(alloc, &mut sweep)?)
+}
+
+// The same of the archive of a graph.
+fn archived(rt: &impl Abort, alloc: Global, graph: &Graph) -> Result<Bounds, Fail> {
+    let params = usual(graph.nodes(), graph.arcs(), 7, 3, 4)?;
+    let archive = encode(alloc, params, graph, b"")?;
+    swept(rt, alloc, archive.graph(), params)
+}
+
+#[test]
+fn an_archive_has_the_bounds_of_its_graph(rt: HostRuntime) -> Result<(), Fail> {
+    let graph = generate(rt.alloc(), 3, 500)?;
+    assert!(rt; graph.nodes() == 500);
+    let one = after_five_rounds(rt.alloc(), &mut GraphLists::new(&graph))?;
+    let other = archived(&rt, rt.alloc(), &graph)?;
+    assert!(rt; one.lower() == other.lower() && one.upper() == other.upper());
+    Ok(())
 }
 
 // With 148 bytes a page for runs of 8 bytes, or for arcs of 4: runs, arcs and pages, and the way.
