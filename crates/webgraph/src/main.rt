@@ -4,9 +4,9 @@
 #![tactic(auto)]
 
 use std::env;
-use std::io::{ErrorKind, Write};
+use std::io::ErrorKind;
 use std::process::ExitCode;
-use wg_cli::{Status, Words, run};
+use wg_cli::{Status, Words, report, run};
 use wg_io::{FolderDepot, StdSink};
 
 // The words after the program's name, or why there are none: a word that is not UTF-8 is no word of a command.
@@ -28,24 +28,21 @@ fn words(rt: &HostRuntime) -> Result<Words, Status> {
     Ok(words)
 }
 
-// Says on standard error why there is no job to run.
-fn refuse(rt: &HostRuntime, status: Status) -> ExitCode {
-    let line = match status {
-        Status::Usage => b"wg: bad command line\n".as_slice(),
-        _ => b"wg: out of memory\n".as_slice(),
+// Runs the job of the words. If there are none, it says on standard error why.
+fn status(rt: &HostRuntime) -> Status {
+    let mut err = StdSink::new(rt.stderr());
+    let words = match words(rt) {
+        Ok(words) => words,
+        Err(status) => {
+            report(&mut err, &None, 0, status);
+            return status;
+        }
     };
-    let _ = rt.stderr().write_all(line);
-    ExitCode::from(status.code())
+    let mut depot = FolderDepot::new(rt);
+    let mut out = StdSink::new(rt.stdout());
+    run(rt.alloc(), &words, &mut depot, &mut out, &mut err)
 }
 
 fn main(rt: HostRuntime) -> ExitCode {
-    let words = match words(&rt) {
-        Ok(words) => words,
-        Err(status) => return refuse(&rt, status),
-    };
-    let mut depot = FolderDepot::new(&rt);
-    let mut out = StdSink::new(rt.stdout());
-    let mut err = StdSink::new(rt.stderr());
-    let status = run(rt.alloc(), &words, &mut depot, &mut out, &mut err);
-    ExitCode::from(status.code())
+    ExitCode::from(status(&rt).code())
 }

@@ -6,7 +6,7 @@
 //! promised of a job (`Performs`), by the words and by what each input holds: which status comes, what stands on the
 //! output and in the files, and that faults of the outside are reported only where their counts rose. Besides it says
 //! which line is reported (`line_of`). [`run_in_memory`] is the same over files and outputs in memory, which are never
-//! at fault.
+//! at fault. [`report`] writes such a line alone, for whoever can't collect the words.
 //!
 //! Besides this crate a caller needs `wg_io` alone, for its depot and its sinks: the words, the status and all that a
 //! status names are exported here.
@@ -37,11 +37,12 @@
 mod dispatch;
 mod names;
 mod program;
-mod report;
+mod reporting;
 mod steady;
 mod texts;
 
 pub use program::run;
+pub use reporting::report;
 pub use steady::run_in_memory;
 pub use wg_arcs::{ArcsKind, NumbersFault, NumbersKind};
 pub use wg_ascii::AsciiKind;

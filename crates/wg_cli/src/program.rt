@@ -23,7 +23,7 @@ ghost use Rattle.wg_outcomes.specs.declared.status.Input.{Input};
 
 use crate::Status;
 use crate::dispatch::perform;
-use crate::report::report;
+use crate::reporting::report;
 use std::alloc::{AllocError, Global};
 use wg_outcomes::Ending;
 use wg_outside::{Depot, Sink};

@@ -1,5 +1,5 @@
 use Rattle.std.proofs.Common.{◌∙◌}
-use Rattle.wg_cli.proofs.report.write_line.Goals as goal
+use Rattle.wg_cli.proofs.reporting.write_line.Goals as goal
 
 pub returns-in-Usage-clause-puts : goal.returns-in-Usage-clause-puts
 returns-in-Usage-clause-puts g c = rw c.in-Usage.is c.write_all.ensures.puts
