@@ -71,8 +71,9 @@ pub fn run<D: Depot, O: Sink, E: Sink>(
 
     // What is printed of a ranking: intervals that enclose each exact iterate from the last round on, within the
     // stated width, with teleport by the weights that were read or to each page alike; and whatever the depot, those of
-    // some graph. If memory runs out, nothing is printed or written yet. Of a generated graph, each page that is counted
-    // as sure has one position in every such iterate.
+    // some graph. If memory runs out, nothing is printed or written yet, unless the output or the certificate's file
+    // was out of memory. Of a generated graph, each page that is counted as sure has one position in every such
+    // iterate.
     ensures certified { IsTrue D.told → IsTrue O.told → (r : Readings) (base : List ℕ) (rounds damping top : ℕ)
         (weights certificate : Option (List ℕ))
         → job_of words.now ≡ Some (Job.Rank base rounds damping top weights certificate) → result ≡ Status.Done
