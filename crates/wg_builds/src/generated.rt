@@ -14,7 +14,7 @@ ghost use Rattle.wg_writing.specs.Writing.{archive_of};
 
 use std::alloc::Global;
 use wg_encoder::EncodedArchive;
-use wg_graph::{Graph, GraphLists};
+use wg_graph::GraphLists;
 use wg_io::SteadyDepot;
 use wg_order::RankingSummary;
 use wg_outcomes::{BULK_ROUNDS, Ending, Outcome, Status, last_bounds, params_of, room_for};
@@ -25,34 +25,6 @@ use wg_vectors::generate;
 use wg_words::{DEFAULT_DAMPING, Name, usual_layout};
 use wg_writing::encode_graph;
 
-fn out_of_memory() -> Ending
-    ensures { result.status ≡ Status.Memory }
-{
-    Ending::of(Status::Memory)
-}
-
-// The name of an archive that is held in memory, which is empty.
-fn archive_name(alloc: Global) -> Result<Name, Ending>
-    ensures name { IfOk result (λ name. name ≡ []) }
-    ensures only { IfErr result (λ e. e.status ≡ Status.Memory) }
-{
-    match Name::new(alloc, "") {
-        Ok(name) => Ok(name),
-        Err(_) => Err(out_of_memory()),
-    }
-}
-
-fn drawn(alloc: Global, seed: u64, pages: u64) -> Result<Graph, Ending>
-    requires { pages ≤ MOST_GENERATED }
-    ensures exact { IfOk result (λ g. g ≡ generated seed pages) }
-    ensures only { IfErr result (λ e. e.status ≡ Status.Memory) }
-{
-    match generate(alloc, seed, pages) {
-        Ok(graph) => Ok(graph),
-        Err(_) => Err(out_of_memory()),
-    }
-}
-
 // Encodes the archive of the graph, which is let go.
 fn build(alloc: Global, seed: u64, pages: u64) -> Result<EncodedArchive, Ending>
     requires { pages ≤ MOST_GENERATED }
@@ -60,7 +32,7 @@ fn build(alloc: Global, seed: u64, pages: u64) -> Result<EncodedArchive, Ending>
     ensures sound { let g = generated seed pages in OnOk result (IsGraph g × IsWithinLimits (bulk_params g)) }
     ensures only { IfErr result (λ e. e.status ≡ Status.Memory) }
 {
-    let graph = drawn(alloc, seed, pages)?;
+    let graph = generate(alloc, seed, pages)?;
     let params = params_of(&usual_layout(), graph.nodes(), graph.arcs());
     encode_graph(alloc, &params, &graph)
 }
@@ -134,7 +106,8 @@ pub fn try_generated(alloc: Global, seed: u64, pages: u64) -> Result<Outcome, En
     ensures value { (r : Readings) → IfOk result (λ o. o ≡ outcome_of r (generated seed pages)) }
     ensures only { IfErr result (λ e. e.status ≡ Status.Memory) }
 {
-    let base = archive_name(alloc)?;
+    // held in memory, it needs no name
+    let base = Name::new(alloc, "")?;
     let archive = build(alloc, seed, pages)?;
     let referring = archive.referring();
     let mut depot = archive.into_depot();

@@ -153,10 +153,8 @@ fn encode_lines<D: Depot>(
             Err(error) => return Err(ending_at(error)),
         };
     }
-    match end_pages(encoder, &mut list, nodes) {
-        Ok(encoder) => Ok((encoder, lines.arcs)),
-        Err(_) => Err(Ending::of(Status::Memory)),
-    }
+    let encoder = end_pages(encoder, &mut list, nodes)?;
+    Ok((encoder, lines.arcs))
 }
 
 /// The archive of the graph of so many pages that an arc list holds, and its parameters. It goes through the list

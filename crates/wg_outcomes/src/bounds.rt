@@ -59,8 +59,5 @@ pub fn room_for<L: Lists>(
     ensures damping { IfOk result (λ b. b.damping ≡ damping) }
     ensures only { IfErr result (λ e. e.status ≡ Status.Memory) }
 {
-    match first_bounds(alloc, lists, &weights, damping) {
-        Ok(bounds) => Ok(bounds),
-        Err(_) => Err(Ending::of(Status::Memory)),
-    }
+    Ok(first_bounds(alloc, lists, &weights, damping)?)
 }

@@ -1,6 +1,7 @@
 ghost use Rattle.std.specs.Prelude.{◌≡◌};
 
 use crate::Status;
+use std::alloc::AllocError;
 
 /// The status that ends a job, with what the properties promise if the line on standard error names it: the number of
 /// arcs beside fewer that were found, or of pages beside fewer numbers.
@@ -20,5 +21,15 @@ impl Ending {
             status,
             promised: 0,
         }
+    }
+}
+
+impl From<AllocError> for Ending {
+    ghost use Rattle.wg_outcomes.specs.declared.status.Status.TheVariants.{Memory};
+
+    ghost from_gives = { λ _ e. e ≡ record { status = Memory; promised = 0 } };
+
+    fn from(_error: AllocError) -> Self {
+        Ending::of(Status::Memory)
     }
 }

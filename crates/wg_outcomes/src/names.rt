@@ -26,8 +26,5 @@ pub fn file_name(alloc: Global, base: &Name, suffix: &str) -> Result<Name, Endin
     ensures name { IfOk result (λ name. name ≡ base.now ++ suffix.now) }
     ensures only { IfErr result (λ e. e.status ≡ Status.Memory) }
 {
-    match base.with_suffix(alloc, suffix) {
-        Ok(name) => Ok(name),
-        Err(_) => Err(Ending::of(Status::Memory)),
-    }
+    Ok(base.with_suffix(alloc, suffix)?)
 }

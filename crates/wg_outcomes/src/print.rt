@@ -15,10 +15,7 @@ pub fn print_piece<O: Sink>(out: &mut O, piece: &[u8]) -> Result<(), Ending>
     ensures puts { IsTrue O.told → Puts piece.now (O.taken out.old) (O.taken out.new) result }
     ensures refusals { PrintRefusals ⟦<O as Sink>⟧ out.old out.new result }
 {
-    match write_all(out, piece) {
-        Ok(()) => Ok(()),
-        Err(error) => Err(output_ending(error)),
-    }
+    write_all(out, piece).map_err(output_ending)
 }
 
 fn ok_line(params: &Params, bits: u64) -> Text

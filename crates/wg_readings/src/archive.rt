@@ -112,10 +112,7 @@ pub fn lists_of_records<'a>(
     ensures only { IfErr result (λ e. IsBadFile Input.Graph params.now.arcs e) }
 {
     let found = passed_of_graph(alloc, params, bytes)?;
-    match Sweep::with_room(alloc, bytes, *params, found.greatest) {
-        Ok(sweep) => Ok(sweep),
-        Err(_) => Err(Ending::of(Status::Memory)),
-    }
+    Ok(Sweep::with_room(alloc, bytes, *params, found.greatest)?)
 }
 
 /// Looks whether the graph has all these pages: else the first that it does not have ends the job.

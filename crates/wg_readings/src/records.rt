@@ -67,13 +67,8 @@ pub fn open_graph(alloc: Global, params: &Params, base: &Name) -> Result<Reader,
     ensures fresh { IfOk result (IsFresh base.now params.now) }
     ensures only { IfErr result (λ e. e.status ≡ Status.Memory) }
 {
-    let Ok(name) = base.with_suffix(alloc, GRAPH) else {
-        return Err(Ending::of(Status::Memory));
-    };
-    match Reader::new(alloc, *params, name.as_str()) {
-        Ok(reader) => Ok(reader),
-        Err(_) => Err(Ending::of(Status::Memory)),
-    }
+    let name = base.with_suffix(alloc, GRAPH)?;
+    Ok(Reader::new(alloc, *params, name.as_str())?)
 }
 
 // Reads the record that comes next, or judges the end, if there is none.

@@ -51,10 +51,8 @@ fn counted_ranges<'a>(
     ensures ends { IfErr result (IsGraphEnd params.now bytes.now) }
 {
     let found = counted_of_graph(alloc, params, bytes)?;
-    match Sweep::with_room(alloc, bytes, *params, found.greatest) {
-        Ok(lists) => Ok(Transposer::with_counts(alloc, lists, found.counts)),
-        Err(_) => Err(Ending::of(Status::Memory)),
-    }
+    let lists = Sweep::with_room(alloc, bytes, *params, found.greatest)?;
+    Ok(Transposer::with_counts(alloc, lists, found.counts))
 }
 
 // The same, where they are judged first.
@@ -70,10 +68,7 @@ fn judged_ranges<'a>(
     // tells the limits
     params.nodes();
     let lists = lists_of_records(alloc, params, bytes)?;
-    match Transposer::new(alloc, lists) {
-        Ok(ranges) => Ok(ranges),
-        Err(_) => Err(Ending::of(Status::Memory)),
-    }
+    Ok(Transposer::new(alloc, lists)?)
 }
 
 /// The lists of the transposed graph of a graph file, before the first range of pages. The pass that judges the records
@@ -109,8 +104,5 @@ pub fn encode_transposed<L: Lists + Drop>(
     ensures made { IfOk result (λ made. IsArchiveOf layout.now (transposed ranges.graph) made) }
     ensures only { IfErr result (λ e. e.status ≡ Status.Memory) }
 {
-    match archive_of_ranges(alloc, layout, ranges, range_room(arcs)) {
-        Ok(made) => Ok(made),
-        Err(_) => Err(Ending::of(Status::Memory)),
-    }
+    Ok(archive_of_ranges(alloc, layout, ranges, range_room(arcs))?)
 }

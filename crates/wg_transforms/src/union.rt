@@ -56,15 +56,8 @@ fn lists_of<'a>(alloc: Global, archive: &'a Loaded) -> Result<Sweep<'a>, Ending>
     ensures few { IfOk result (λ s. s.graph.nodes ≤ MOST_PAGES) }
     ensures only { IfErr result (λ e. e.status ≡ Status.Memory) }
 {
-    match Sweep::with_room(
-        alloc,
-        archive.bytes.as_slice(),
-        archive.params,
-        archive.greatest,
-    ) {
-        Ok(lists) => Ok(lists),
-        Err(_) => Err(Ending::of(Status::Memory)),
-    }
+    let bytes = archive.bytes.as_slice();
+    Ok(Sweep::with_room(alloc, bytes, archive.params, archive.greatest)?)
 }
 
 // The archive of the union of the graphs of two archives, which are let go, and its parameters.

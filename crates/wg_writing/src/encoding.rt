@@ -20,10 +20,7 @@ pub fn begin_archive(alloc: Global, params: &Params) -> Result<ArchiveEncoder, E
     ensures encoded { IfOk result (λ e. HasEncoded e []) }
     ensures only { IfErr result (λ e. e.status ≡ Status.Memory) }
 {
-    match ArchiveEncoder::new(alloc, *params) {
-        Ok(encoder) => Ok(encoder),
-        Err(_) => Err(Ending::of(Status::Memory)),
-    }
+    Ok(ArchiveEncoder::new(alloc, *params)?)
 }
 
 /// Encodes the list that comes next.
@@ -39,10 +36,7 @@ pub fn add_list(encoder: ArchiveEncoder, list: &[u64]) -> Result<ArchiveEncoder,
         → IfOk result (λ e. HasEncoded e (lists ++ list.now ∷ [])) }
     ensures only { IfErr result (λ e. e.status ≡ Status.Memory) }
 {
-    match encoder.add(list) {
-        Ok(encoder) => Ok(encoder),
-        Err(_) => Err(Ending::of(Status::Memory)),
-    }
+    Ok(encoder.add(list)?)
 }
 
 /// The archive, once the lists of all pages are encoded. Its properties text is that of these parameters, in which the
@@ -58,13 +52,10 @@ pub fn end_archive(
         → IfOk result (λ a. a ≡ encoded params.now (text_of params.now) lists) }
     ensures only { IfErr result (λ e. e.status ≡ Status.Memory) }
 {
-    match with_properties(alloc, encoder, params) {
-        Ok(archive) => Ok(archive),
-        Err(_) => Err(Ending::of(Status::Memory)),
-    }
+    Ok(with_properties(alloc, encoder, params)?)
 }
 
-/// The same, where want of memory is told as such.
+/// The same, with out of memory as its only error.
 pub fn with_properties(
     alloc: Global,
     encoder: ArchiveEncoder,
@@ -86,17 +77,6 @@ pub fn encode_graph(alloc: Global, params: &Params, graph: &Graph) -> Result<Enc
     ensures encoded { IfOk result (λ a. a ≡ archive_of params.now graph.now) }
     ensures only { IfErr result (λ e. e.status ≡ Status.Memory) }
 {
-    match encoded(alloc, params, graph) {
-        Ok(archive) => Ok(archive),
-        Err(_) => Err(Ending::of(Status::Memory)),
-    }
-}
-
-fn encoded(alloc: Global, params: &Params, graph: &Graph) -> Result<EncodedArchive, AllocError>
-    requires nodes { params.now.nodes ≡ graph.now.nodes }
-    requires arcs { params.now.arcs ≡ arc_count graph.now }
-    ensures { IfOk result (λ a. a ≡ archive_of params.now graph.now) }
-{
     let text = wg_properties::write(alloc, params)?;
-    encode(alloc, *params, graph, text.as_slice())
+    Ok(encode(alloc, *params, graph, text.as_slice())?)
 }

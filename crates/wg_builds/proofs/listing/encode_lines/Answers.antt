@@ -98,13 +98,13 @@ end_pages-requires-clause-list g c =
     let w = c.loop-list.invariant.way in
     may_take c.loop-list.encoder w.0 c.loop-list.list None c.loop-list.lines w.1.encoded w.1.nodes w.1.most w.1.listed
 
-pub returns-in-Ok-end_pages-clause-encodes : goal.returns-in-Ok-end_pages-clause-encodes
-returns-in-Ok-end_pages-clause-encodes g c =
+pub returns-clause-encodes : goal.returns-clause-encodes
+returns-clause-encodes g c =
     let i = c.loop-list.invariant in
     let r = c.in_ok-next_lines.ensures in
-    let e = c.in-Ok-end_pages.ensures in
+    let e = c.in_ok-encoder.ensures in
     let name = c.args.name.now in
     list_encoded name c.args.nodes _ _ _ _ _ (r.same ∙ i.same) (none_falls-trans _ _ _ i.later r.later) c.loop-list.lines i.way.0 c.loop-list.list i.nodes i.way.1.listed (λ t.
     let f = still name _ _ i.same (i.readable t) in
     (f.0, f.1, f.2, subst (λ (next : List (List ℕ)). SoFar c.args.nodes (lines_of f.0) next c.loop-list.lines.line (arcs_on i.way.0 c.loop-list.list)) (r.end t f.0 f.3 (ap (λ b. Ok b) c.if-branch.false)) (i.way.2 t f.0 f.1)))
-    c.in-Ok-end_pages.encoder (e.encoded i.way.0 i.way.1.encoded) e.page
+    c.in_ok-encoder.encoder (e.encoded i.way.0 i.way.1.encoded) e.page

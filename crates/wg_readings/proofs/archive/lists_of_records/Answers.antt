@@ -1,4 +1,4 @@
-use Rattle.std.proofs.Common.{◌≡◌, ◌≤◌, ◌∙◌, ap, subst, sym}
+use Rattle.std.proofs.Common.{◌≤◌, ◌∙◌, ap, subst, sym}
 use Rattle.wg_params.specs.declared.limits.TheConstants.{MOST_PAGES}
 use Rattle.wg_graph.specs.Digraph.{Digraph, arc_count}
 use Rattle.wg_grammar.specs.Archive.{Accepted}
@@ -8,13 +8,13 @@ use Rattle.wg_grammar.proofs.ProperGraphs.{arcs_promised}
 use Rattle.wg_readings.proofs.ReadingsLemmas.{goes_on}
 use Rattle.wg_readings.proofs.archive.lists_of_records.Goals as goal
 
-pub returns-in-Ok : goal.returns-in-Ok
-returns-in-Ok c =
+pub returns : goal.returns
+returns c =
     let p = c.args.params.now in
     let bytes = c.args.bytes.now in
     let r = c.in_ok-found.ensures in
     let a : Accepted = record { graph = r.finds.0; places = c.in_ok-found.found.offsets } in
-    let is : c.in-Ok.sweep.graph ≡ graph_of p a = c.in-Ok.ensures.graph a r.finds.1 in
+    let is = c.in_ok-with_room.ensures.graph a r.finds.1 in
     record {
       nodes = ap (λ (g : Digraph). g.nodes) is;
       few = subst (λ (g : Digraph). g.nodes ≤ MOST_PAGES) (sym is) r.limits.nodes;

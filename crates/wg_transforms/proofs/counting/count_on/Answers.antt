@@ -1,4 +1,4 @@
-use Rattle.std.proofs.Common.{rules, ◌≡◌, ◌+◌, ◌∙◌, ℕ, [], ◌∷◌, Ok, Err, length, refl, sym, ap, subst, arith}
+use Rattle.std.proofs.Common.{rules, ◌≡◌, ◌+◌, ◌∙◌, ℕ, ◌∷◌, Ok, Err, length, refl, sym, ap, subst, arith}
 use Rattle.std.specs.Prelude.{max}
 use Rattle.std.proofs.lemmas.Result.{err_from_is_err_and}
 use Rattle.wg_params.specs.Parameters.{Parameters}

@@ -23,19 +23,19 @@ with_counts-requires c =
     let p = c.args.params.now in
     let r = c.in_ok-found.ensures in
     let f = r.finds in
-    let is : c.in-Ok.lists.graph ≡ graph_of p f.accepted = c.in-Ok.ensures.graph f.accepted f.reads in
+    let is : c.in_ok-lists.lists.graph ≡ graph_of p f.accepted = c.in_ok-lists.ensures.graph f.accepted f.reads in
     record {
       few_pages = subst (λ (g : Digraph). g.nodes ≤ MOST_PAGES) (sym is) r.limits.nodes;
       few_arcs = omega (arith, ap arc_count is, arcs_promised p (bits_of c.args.bytes.now) f.accepted f.reads, r.limits.arcs);
       counted = subst (λ (g : Digraph). AreCounts g.nodes (predecessors g) c.in_ok-found.found.counts.items) (sym is) f.counted;
     }
 
-pub returns-in-Ok-clause-goes : goal.returns-in-Ok-clause-goes
-returns-in-Ok-clause-goes c =
+pub returns-clause-goes : goal.returns-clause-goes
+returns-clause-goes c =
     let p = c.args.params.now in
     let r = c.in_ok-found.ensures in
     let f = r.finds in
-    let is = c.with_counts.ensures.graph ∙ c.in-Ok.ensures.graph f.accepted f.reads in
+    let is = c.with_counts.ensures.graph ∙ c.in_ok-lists.ensures.graph f.accepted f.reads in
     record {
       none = c.with_counts.ensures.to;
       nodes = ap (λ (g : Digraph). g.nodes) is;
