@@ -150,10 +150,10 @@ module _ (names : Input → Option (List ℕ)) (g : FoundFile) (s : SampledFile)
   unspotted lt (errors.Refused (unread.Graph x)) e from to is answers cause =
       unread_from Graph g.name g.held named open_on x e is (λ own. inl own) cause
   unspotted lt (errors.Refused (unread.Offsets (words.Refused x))) e from to is answers cause =
-      unread_from Offsets s.file.name s.file.held stored (λ t. (sampled t).on.open_on) x e is (λ own. inr own) cause
+      unread_from Offsets s.file.name s.file.held stored (λ t. (sampled t).on.open_on) x e (ap (λ (d : Ending). d.status) is) (λ own. inr own) cause
   unspotted lt (errors.Refused (unread.Offsets (words.Word w))) e from to is answers cause = record {
-    only = bad_chain told page p.arcs (archive.Offsets w) e is.0 is.1;
-    causes = own_caused _ _ _ _ _ _ e.status (subst IsOwn (sym is.0) tt);
+    only = bad_chain told page p.arcs (archive.Offsets w) e (ap (λ (d : Ending). d.status) is) (ap (λ (d : Ending). d.promised) is);
+    causes = own_caused _ _ _ _ _ _ e.status (subst (λ (d : Ending). IsOwn d.status) (sym is) tt);
     steps = λ t r next. absurd (cause t (sampled t).places (sampled t).on);
     same = same;
     later = later;

@@ -2,11 +2,7 @@
 use Rattle.std.specs.Prelude.{◌≡◌, ◌⊎◌, ℕ, Bool, List, Option, Result, IsTrue, IfErr}
 use Rattle.wg_outside.specs.Outside.{Files, Counts, NonDecreasing}
 use Rattle.wg_outside.specs.declared.depot.Depot as depot
-use Rattle.wg_outside.specs.declared.whole.LoadError.{LoadError}
 use Rattle.wg_params.specs.Parameters.{Parameters}
-use Rattle.wg_grammar.specs.declared.fault.ArchiveFault.TheVariants as archive
-use Rattle.wg_offsets.specs.declared.error.WordError.{WordError}
-use Rattle.wg_offsets.specs.declared.error.WordError.TheVariants as words
 use Rattle.wg_stream.specs.declared.error.PagesError.{PagesError}
 use Rattle.wg_stream.specs.declared.error.PagesError.TheVariants as errors
 use Rattle.wg_outcomes.specs.Answers.{IsHindrance, Steps, status_in}
@@ -19,21 +15,16 @@ use Rattle.wg_outcomes.specs.declared.ending.Ending.{Ending}
 use Rattle.wg_outcomes.specs.declared.status.Input.{Input}
 use Rattle.wg_outcomes.specs.declared.status.Input.TheVariants as input
 use Rattle.wg_outcomes.specs.declared.status.Status.TheVariants.{BadArchive, Memory, NoPage}
-use Rattle.wg_readings.specs.Loading.{status_at}
+use Rattle.wg_readings.specs.Pairing.{status_at, word_ending}
 use Rattle.wg_queries.specs.declared.chain_files.Unread.{Unread}
 use Rattle.wg_queries.specs.declared.chain_files.Unread.TheVariants as unread
 
--- how a job ends whose offsets file was not read again, where the properties promise so many arcs
-abbrev pub StopsBy : ℕ → WordError LoadError → Ending → Type 0
-StopsBy promised (words.Word w) e = (e.status ≡ BadArchive (archive.Offsets w)) × (e.promised ≡ promised)
-StopsBy promised (words.Refused x) e = e.status ≡ status_at input.Offsets x
-
--- how it ends at a page that was not read
+-- how a job ends at a page that was not read, where the properties promise so many arcs
 abbrev pub EndsBy : ℕ → PagesError Unread → Ending → Type 0
 EndsBy promised (errors.Fault f) e = (e.status ≡ BadArchive f) × (e.promised ≡ promised)
 EndsBy promised errors.Memory e = e.status ≡ Memory
 EndsBy promised (errors.Refused (unread.Graph x)) e = e.status ≡ status_at input.Graph x
-EndsBy promised (errors.Refused (unread.Offsets x)) e = StopsBy promised x e
+EndsBy promised (errors.Refused (unread.Offsets x)) e = e ≡ word_ending promised x
 
 -- goes on with the successors of a page, by these offsets and the records of its chain in the graph file
 abbrev pub successors_then : Readings → Parameters → List ℕ → ℕ → Option (List ℕ) → (List ℕ → Judged) → Judged

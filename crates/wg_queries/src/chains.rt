@@ -4,20 +4,18 @@ ghost use Rattle.std.specs.FinMap as map;
 ghost use Rattle.wg_outcomes.specs.declared.status.Input.{Input};
 ghost use Rattle.wg_readings.specs.Finding.{IsOpenOn};
 ghost use Rattle.wg_readings.specs.Sampling.{IsSampled};
-ghost use Rattle.wg_queries.specs.Spotting.{EndsBy, SpotsPageBy, StopsBy};
+ghost use Rattle.wg_queries.specs.Spotting.{EndsBy, SpotsPageBy};
 
 use crate::chain_files::{ChainFiles, Unread};
 use std::alloc::Global;
 use std::marker::Brand;
 use std::sync::ledger::{Blank, Ledger};
-use wg_grammar::ArchiveFault;
 use wg_graph::List;
-use wg_offsets::WordError;
 use wg_outcomes::{Ending, Input, Status};
-use wg_outside::{Depot, LoadError};
+use wg_outside::Depot;
 use wg_params::Params;
 use wg_random::{Steps as Ticks, spot_from};
-use wg_readings::{FoundFile, SampledFile, bad_archive, unread};
+use wg_readings::{FoundFile, SampledFile, bad_archive, unread, word_ending};
 use wg_stream::PagesError;
 
 /// The successors of a page, by the records of its chain of references alone: no other record of the graph file is read,
@@ -85,16 +83,6 @@ fn ending_of(error: PagesError<Unread>, params: &Params) -> Ending
         PagesError::Fault(fault) => bad_archive(fault, params),
         PagesError::Memory => Ending::of(Status::Memory),
         PagesError::Refused(Unread::Graph(error)) => unread(error, Input::Graph),
-        PagesError::Refused(Unread::Offsets(error)) => offsets_ending(error, params),
-    }
-}
-
-// How it ends whose offsets file was not read again.
-fn offsets_ending(error: WordError<LoadError>, params: &Params) -> Ending
-    ensures { StopsBy params.now.arcs error result }
-{
-    match error {
-        WordError::Word(word) => bad_archive(ArchiveFault::Offsets(word), params),
-        WordError::Refused(error) => unread(error, Input::Offsets),
+        PagesError::Refused(Unread::Offsets(error)) => word_ending(error, params),
     }
 }

@@ -30,7 +30,7 @@ use Rattle.wg_outcomes.specs.Answers.{Answers, Steps}
 use Rattle.wg_outcomes.specs.Causes.{IncreasedAt}
 use Rattle.wg_outcomes.specs.Judged.{Judged, status_of, with_lengths, with_offsets, offsets_then}
 use Rattle.wg_outcomes.specs.Promised.{IsBadFile}
-use Rattle.wg_readings.specs.Pairing.{ComesWith, EndsPairing, HasCome, IsPairedWith, IsStopped, IsUnread, files_then, load_ending, places_ending, word_ending}
+use Rattle.wg_readings.specs.Pairing.{ComesWith, EndsPairing, HasCome, IsPairedWith, IsStopped, IsUnread, files_then, places_ending, status_at, word_ending}
 use Rattle.wg_readings.specs.Finding.{IsOpenOn}
 use Rattle.wg_outcomes.specs.declared.ending.Ending.{Ending}
 use Rattle.wg_readings.specs.declared.pairing.Pairing.{Pairing}
@@ -62,7 +62,7 @@ module _ (r : Readings) (p : Parameters) where
 
 module _ (told : Bool) (name : List ℕ) (files : Files) (old new : List ℕ → Counts) (h : Held) (p : Parameters) where
   pub load_stopped : (e : LoadError) → HasReadCause told name files old new h e → (IsTrue told → map.get files name ≡ None → e ≡ load.Absent)
-      → (IsTrue told → (file : List ℕ) → map.get files name ≡ Some file → IsHeldOf file h) → IsStopped told files old new p name (load_ending e)
+      → (IsTrue told → (file : List ℕ) → map.get files name ≡ Some file → IsHeldOf file h) → IsStopped told files old new p name (record { status = status_at Offsets e; promised = 0 })
   load_stopped e cause none some = record {
     only = inl (of_input Offsets e);
     causes = caused_at told name files old new h Offsets e cause;

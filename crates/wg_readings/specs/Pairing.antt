@@ -36,19 +36,15 @@ status_at i load.Failed = ReadFault i
 status_at i load.TooLong = OverLimit i
 status_at i load.Memory = Memory
 
--- how a job ends whose offsets file is not read on
-abbrev pub load_ending : LoadError → Ending
-load_ending e = record { status = status_at input.Offsets e; promised = 0 }
-
--- how it ends at a word, where the properties promise so many arcs
+-- how a job ends whose offsets file is not read on: at a word, where the properties promise so many arcs, or at its input
 abbrev pub word_ending : ℕ → WordError LoadError → Ending
 word_ending promised (words.Word w) = record { status = BadArchive (archive.Offsets w); promised = promised }
-word_ending promised (words.Refused e) = load_ending e
+word_ending promised (words.Refused e) = record { status = status_at input.Offsets e; promised = 0 }
 
 -- how it ends where the file was not read to its end
 abbrev pub places_ending : ℕ → PlacesError LoadError → Ending
 places_ending promised (unread.Word w) = word_ending promised (words.Word w)
-places_ending promised (unread.Refused e) = load_ending e
+places_ending promised (unread.Refused e) = word_ending promised (words.Refused e)
 places_ending promised unread.Memory = record { status = Memory; promised = 0 }
 
 -- before the first word

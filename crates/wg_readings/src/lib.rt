@@ -56,5 +56,6 @@ pub use found_file::{FoundFile, find_file};
 pub use judge::{judge_files, judge_graph, judge_offsets};
 pub use lines::{next_lines, open_lines, unread};
 pub use loading::{load, load_certificate, load_graph, load_map, load_params, load_weights};
+pub use pairing::word_ending;
 pub use records::{end_records, next_record, open_graph};
 pub use sampled::{SampledFile, extent_of, sample_offsets};

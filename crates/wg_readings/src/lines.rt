@@ -17,7 +17,8 @@ use wg_outside::{Depot, LoadError};
 #[cold]
 #[inline(never)]
 pub fn unread(error: LoadError, input: Input) -> Ending
-    ensures { result.status ≡ status_at input error }
+    ensures status { result.status ≡ status_at input error }
+    ensures promised { result.promised ≡ 0 }
 {
     Ending::of(match error {
         LoadError::Absent => Status::Missing(input),

@@ -14,8 +14,9 @@ ghost use Rattle.wg_outcomes.specs.Answers.{Steps};
 ghost use Rattle.wg_outcomes.specs.Judged.{with_lengths};
 ghost use Rattle.wg_outcomes.specs.Promised.{IsBadFile};
 ghost use Rattle.wg_readings.specs.Pairing.{ComesWith, EndsPairing, HasCome, IsPaired, IsPairedWith, IsStopped};
-ghost use Rattle.wg_readings.specs.Pairing.{IsUnread, load_ending, word_ending};
+ghost use Rattle.wg_readings.specs.Pairing.{IsUnread, word_ending};
 
+use crate::lines::unread;
 use std::alloc::Global;
 use wg_grammar::ArchiveFault;
 use wg_offsets::{Comparison, OffsetWords, WordError};
@@ -36,23 +37,10 @@ pub struct Pairing {
     pub so_far: Result<(), Ending>,
 }
 
-// How a job ends whose offsets file is not read on.
-#[cold]
-#[inline(never)]
-pub(crate) fn load_ending(error: LoadError) -> Ending
-    ensures { result ≡ load_ending error }
-{
-    match error {
-        LoadError::Absent => Ending::of(Status::Missing(Input::Offsets)),
-        LoadError::Failed => Ending::of(Status::ReadFault(Input::Offsets)),
-        LoadError::TooLong => Ending::of(Status::OverLimit(Input::Offsets)),
-        LoadError::Memory => Ending::of(Status::Memory),
-    }
-}
-
-// How a job ends at a word. It is inlined: an ending takes room in memory only where there is one.
+/// How a job ends whose offsets file is not read on, at a word or at its input. It is inlined: an ending takes room in
+/// memory only where there is one.
 #[inline(always)]
-pub(crate) fn word_ending(error: WordError<LoadError>, params: &Params) -> Ending
+pub fn word_ending(error: WordError<LoadError>, params: &Params) -> Ending
     ensures { result ≡ word_ending params.now.arcs error }
 {
     match error {
@@ -60,7 +48,7 @@ pub(crate) fn word_ending(error: WordError<LoadError>, params: &Params) -> Endin
             status: Status::BadArchive(ArchiveFault::Offsets(word)),
             promised: params.arcs(),
         },
-        WordError::Refused(error) => load_ending(error),
+        WordError::Refused(error) => unread(error, Input::Offsets),
     }
 }
 
@@ -70,16 +58,14 @@ pub fn open_offsets(alloc: Global, params: &Params, base: &Name) -> Result<Pairi
     ensures unread { IfOk result (IsUnread params.now) }
     ensures only { IfErr result (λ e. e.status ≡ Status.Memory) }
 {
-    match base.with_suffix(alloc, OFFSETS) {
-        Ok(name) => Ok(Pairing {
-            name,
-            held: Stretch::new(),
-            words: OffsetWords::new(params.nodes(), params.offsets()),
-            lengths: Comparison::new(),
-            so_far: Ok(()),
-        }),
-        Err(_) => Err(Ending::of(Status::Memory)),
-    }
+    let name = base.with_suffix(alloc, OFFSETS)?;
+    Ok(Pairing {
+        name,
+        held: Stretch::new(),
+        words: OffsetWords::new(params.nodes(), params.offsets()),
+        lengths: Comparison::new(),
+        so_far: Ok(()),
+    })
 }
 
 // Looks whether the file is there, and not too long.
@@ -99,7 +85,7 @@ fn look<D: Depot>(pairing: &mut Pairing, depot: &mut D, params: &Params) -> Resu
 {
     match pairing.held.look(depot, pairing.name.as_str()) {
         Ok(()) => Ok(()),
-        Err(error) => Err(load_ending(error)),
+        Err(error) => Err(unread(error, Input::Offsets)),
     }
 }
 

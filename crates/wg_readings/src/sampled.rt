@@ -10,7 +10,7 @@ ghost use Rattle.wg_readings.specs.Pairing.{IsStopped, places_ending};
 ghost use Rattle.wg_readings.specs.Sampling.{HasWordCause, IsSampledBy, IsSampledOn, SamplesOffsetsBy};
 
 use crate::found_file::{FoundFile, find_file};
-use crate::pairing::{load_ending, word_ending};
+use crate::pairing::word_ending;
 use std::alloc::Global;
 use wg_grammar::OffsetWord;
 use wg_offsets::{Extent, PlacesError, Samples, WordError};
@@ -35,7 +35,7 @@ fn places_ending(error: PlacesError<LoadError>, params: &Params) -> Ending
 {
     match error {
         PlacesError::Word(word) => word_ending(WordError::Word(word), params),
-        PlacesError::Refused(error) => load_ending(error),
+        PlacesError::Refused(error) => word_ending(WordError::Refused(error), params),
         PlacesError::Memory => Ending::of(Status::Memory),
     }
 }

@@ -38,5 +38,5 @@ returns-in-Err-clause-ends g c =
     let fresh = c.new-held.ensures in
     let e = c.in-Err.ensures in
     let named : file_of c.args.base.now c.args.input ≡ Some c.as_str.result.now = search rules in
-    not_found c.args.input (file_of c.args.base.now) c.as_str.result.now g.D.Depot.told _ _ _ _ c.new-held.result c.look.new.self c.in-Err.error _ named c.unread.ensures fresh e.steps e.cause
+    not_found c.args.input (file_of c.args.base.now) c.as_str.result.now g.D.Depot.told _ _ _ _ c.new-held.result c.look.new.self c.in-Err.error _ named c.unread.ensures.status fresh e.steps e.cause
     (λ t none. let a : failed c.in-Err.error ≡ failed load.Absent = e.absent t none (ap (λ (h : Held). h.looked) fresh) in cc)
