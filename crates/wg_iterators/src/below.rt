@@ -4,47 +4,11 @@ ghost use Rattle.wg_graph.specs.Coming.{Gives};
 ghost use Rattle.wg_iterators.specs.Below.{depth_on, list_on};
 
 use crate::Successors;
-use std::marker::Model;
+use wg_shape::{Coming, ListWalk};
 
 /// How many pages a chain of references may have if its first page is to be given number by number: a call of `next`
 /// goes down through all of them.
 pub const CHAIN_PAGES: usize = 256;
-
-// Gives the members of a list that is lent. Contracts see it as those to come.
-#[derive(Debug, Drop)]
-pub(crate) struct Lent<'a> {
-    left: &'a [u64],
-}
-
-impl<'a> Model for Lent<'a> {
-    ghost use Rattle.std.specs.Prelude.{List, ℕ};
-
-    ghost Value = { List ℕ };
-
-    ghost view = { λ m. m.left.now };
-}
-
-impl<'a> Lent<'a> {
-    // All members of the list.
-    pub(crate) fn new(list: &'a [u64]) -> Lent<'a>
-        ensures { result ≡ list.now }
-    {
-        Lent { left: list }
-    }
-
-    // The next member; none if none is left, again and again.
-    pub(crate) fn next(&mut self) -> Option<u64>
-        ensures { Gives self.old result self.new }
-    {
-        match self.left.split_first() {
-            None => None,
-            Some((first, left)) => {
-                self.left = left;
-                Some(*first)
-            }
-        }
-    }
-}
 
 // What the copied members of a record are taken from: nothing, if it has no reference; the page that it refers to; or
 // the list of that page.
@@ -53,7 +17,7 @@ impl<'a> Lent<'a> {
 pub(crate) enum Below<'a> {
     Nothing,
     Page(Box<Successors<'a>>),
-    Lent(Lent<'a>),
+    Lent(ListWalk<'a>),
 }
 
 impl<'a> Below<'a> {
@@ -66,7 +30,7 @@ impl<'a> Below<'a> {
         match self {
             Below::Nothing => None,
             Below::Page(page) => Successors::next(page),
-            Below::Lent(members) => members.next(),
+            Below::Lent(members) => Coming::next(members),
         }
     }
 }

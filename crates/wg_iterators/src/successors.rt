@@ -8,7 +8,7 @@ ghost use Rattle.wg_decoder.specs.Proper.{IsRecord};
 ghost use Rattle.wg_iterators.specs.Below.{depth_on, list_on, list_below, depth_of, listed, IsFresh};
 ghost use Rattle.wg_iterators.specs.Ahead.{ahead, head_of};
 
-use crate::below::{Below, Lent};
+use crate::below::Below;
 use crate::fields::find_fronts;
 use crate::front::{Front, Head, least};
 use std::marker::Model;
@@ -17,6 +17,7 @@ use wg_blocks::Mask;
 use wg_decoder::proper::Residuals;
 use wg_intervals::IntervalWalk;
 use wg_params::Params;
+use wg_shape::ListWalk;
 
 /// The successors of a page, given one by one.
 ///
@@ -211,7 +212,7 @@ impl<'a> Successors<'a> {
                 page,
                 cursor,
                 Some(list.len() as u64),
-                Below::Lent(Lent::new(list)),
+                Below::Lent(ListWalk::new(list)),
             ),
         }
     }
