@@ -163,7 +163,7 @@ module _ (g : Digraph) (base : List ℕ) (files : Files) (is : IsBuilt g base fi
           high = text (λ d. (bounds_after d None damping rounds).high) i;
         }
 
--- ---- a command without files ended for want of memory
+-- ---- a command without files ended out of memory
 
 pub ends_alone : (job : Job) (told_files told_out : Bool) (files : Files) (counts : List ℕ → Counts) (taken : List ℕ) (faults : ℕ) (e : Ending) → e.status ≡ Memory
     → Performs job told_files told_out (outside files counts taken faults) (outside files counts taken faults) e.status e.promised

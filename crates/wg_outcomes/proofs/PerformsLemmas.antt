@@ -224,7 +224,7 @@ hindered step b e goes ends =
     ]
 
 module _ (inputs : Names) (outputs : Output → Option (List ℕ)) (old new : List ℕ → Counts) (none : AreFaultless old new 0 0) where
-  -- what came in its place is want of memory
+  -- what came in its place is out of memory
   pub by_memory : (s : Status) → HasCause inputs outputs old new 0 0 s → IsHindrance s → s ≡ Memory
   by_memory s cause hinders =
       elim (unhindered inputs outputs old new 0 0 none (accepted []) s cause (inr hinders)) [

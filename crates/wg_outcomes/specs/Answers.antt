@@ -10,7 +10,7 @@ use Rattle.wg_outcomes.specs.declared.status.Input.{Input}
 use Rattle.wg_outcomes.specs.declared.status.Status.{Status}
 use Rattle.wg_outcomes.specs.declared.status.Status.TheVariants.{Done, Memory, ReadFault, WriteFault}
 
--- what may come in place of the judgement: want of memory, or a fault of the outside
+-- what may come in place of the judgement: out of memory, or a fault of the outside
 abbrev pub IsHindrance : Status → Type 0
 IsHindrance Memory = Unit {0}
 IsHindrance (ReadFault i) = Unit {0}
@@ -49,7 +49,7 @@ HasOutput due old new _ = new ≡ old
 abbrev pub IsUnput : Status → Type 0
 IsUnput status = (status ≡ WriteFault Out) ⊎ (status ≡ Memory)
 
--- nothing was printed, unless the job was done or ended at its output or for want of memory
+-- nothing was printed, unless the job was done or ended at its output or out of memory
 abbrev pub IsPutLast : Status → List ℕ → List ℕ → Type 0
 IsPutLast status old new = (status ≡ Done) ⊎ IsUnput status ⊎ (new ≡ old)
 

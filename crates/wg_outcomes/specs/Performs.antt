@@ -43,7 +43,7 @@ judged_on r job files = judged r job (held_by (input_name job) files)
 -- only of a depot and an output whose ghosts are told.
 pub record Performs (job : Job) (told_files told_out : Bool) (before after : Outside) (status : Status) (number : ℕ)
     : Type 0 where
-  -- the status is the one that the job and its inputs lead to, or a fault of the outside or want of memory came in its
+  -- the status is the one that the job and its inputs lead to, or a fault of the outside or out of memory came in its
   -- place
   pub answers : IsTrue told_files → (r : Readings) → Answers (judged_on r job before.files) status
   -- it is one of those that this job can have at all

@@ -103,7 +103,7 @@ pub record Touches (o : Output) (name : List ℕ) (told : Bool) (files files' : 
   pub only : IfErr result (λ e. IsStoppedAt o e.status)
   -- a fault is told only where the count of the file rose
   pub cause : status_in result ≡ WriteFault o → IncreasedAt (λ c. c.write_faults) (Some name) counts counts'
-  -- and so is want of memory
+  -- and so is out of memory
   pub memory : status_in result ≡ Memory → IncreasedAt (λ c. c.wants) (Some name) counts counts'
   -- no count of the depot falls
   pub later : NonDecreasing counts counts'
@@ -116,7 +116,7 @@ TouchesBy d o name before after result =
 abbrev pub IsStopped : Status → Type 0
 IsStopped status = ((o : Output) × (status ≡ WriteFault o)) ⊎ (status ≡ Memory)
 
--- What stands once the job has ended so. A fault names the file that it stopped at; want of memory may stop it
+-- What stands once the job has ended so. A fault names the file that it stopped at; out of memory may stop it
 -- anywhere; and nothing has changed where it was refused or its input could not be read.
 abbrev pub FilesAfter : Archive → ArchiveFiles → ArchiveFiles → Status → Type 0
 FilesAfter a old new Done = AreWhole a new

@@ -58,7 +58,7 @@
 //! | [`spot`], [`spot_from`] | a number for each page of the chain, and at most 6 lists | that of the words and the lists of the chain's records; the source is asked twice where each of them lies |
 //! | [`Records::sweep`] | a row for each page that a reference reaches, and one | that of the rows |
 //!
-//! A page that does not exist, a chain that is too long to be opened, and want of memory are answered by [`OpenError`]
+//! A page that does not exist, a chain that is too long to be opened, and out of memory are answered by [`OpenError`]
 //! and [`ListError`]; there is no other reason, since the archive was checked. Why a file is no archive is told by
 //! [`CheckError`] and [`ArchiveFault`](wg_grammar::ArchiveFault), and why a page of one that was not checked has no
 //! list by [`SpotError`], or by [`PagesError`](wg_stream::PagesError), which also tells why a word was refused.
