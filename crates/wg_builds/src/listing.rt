@@ -21,7 +21,7 @@ use wg_outside::Depot;
 use wg_params::{Layout, MOST_ARCS, Params};
 use wg_readings::{next_lines, open_lines};
 use wg_words::Name;
-use wg_writing::{begin_archive, end_archive};
+use wg_writing::end_archive;
 
 // How a job ends at an error of an arc list.
 #[cold]
@@ -174,7 +174,7 @@ pub fn encode_list<D: Depot>(
     ensures ends { IfErr result (λ e. LoadsListBy ⟦<D as Depot>⟧ name.now nodes depot.old depot.new (Err e)) }
 {
     // how many arcs there are is known at the end
-    let encoder = begin_archive(alloc, &params_of(layout, nodes, MOST_ARCS))?;
+    let encoder = ArchiveEncoder::new(alloc, params_of(layout, nodes, MOST_ARCS))?;
     let (encoder, arcs) = encode_lines(alloc, encoder, nodes, depot, name.as_str())?;
     let params = params_of(layout, nodes, arcs);
     let archive = end_archive(alloc, encoder, &params)?;

@@ -7,13 +7,13 @@ ghost use Rattle.wg_readings.specs.Loading.{LoadsGraphBy};
 ghost use Rattle.wg_transforms.specs.Recoding.{RecodesBy};
 
 use std::alloc::Global;
-use wg_encoder::EncodedArchive;
+use wg_encoder::{ArchiveEncoder, EncodedArchive};
 use wg_outcomes::{Ending, params_of};
 use wg_outside::{Depot, Sink};
 use wg_params::{Layout, Params};
 use wg_readings::{end_records, load_params, next_record, open_graph};
 use wg_words::Name;
-use wg_writing::{add_list, begin_archive, build_archive, end_archive};
+use wg_writing::{build_archive, end_archive};
 
 /// Writes the greedy archive of an archive's graph, in the layout that is given, and prints the line of what it
 /// holds. It goes through the graph file once, and judges the whole graph before it touches a file. It holds a piece
@@ -53,10 +53,10 @@ fn recoded<D: Depot>(
     ensures ends { IfErr result (λ e. LoadsGraphBy ⟦<D as Depot>⟧ input.now params.now depot.old depot.new (Err e)) }
 {
     let mut reader = open_graph(alloc, params, input)?;
-    let mut encoder = begin_archive(alloc, made)?;
+    let mut encoder = ArchiveEncoder::new(alloc, *made)?;
     for _page in 0..params.nodes() {
         next_record(&mut reader, depot, params)?;
-        encoder = add_list(encoder, reader.list())?;
+        encoder = encoder.add(reader.list())?;
     }
     end_records(&mut reader, depot, params)?;
     let archive = end_archive(alloc, encoder, made)?;

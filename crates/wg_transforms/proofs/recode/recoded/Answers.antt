@@ -62,7 +62,7 @@ pub returns-in_err-reader-clause-ends : goal.returns-in_err-reader-clause-ends
 returns-in_err-reader-clause-ends g c = rw (is_that_err c.from_residual.result _ c.from_residual.ensures.1) (graph_wants _ _ _ _ _ _ _ _ refl (none_falls-refl _) c.in_err-reader.ensures.only)
 
 pub returns-in_err-encoder-clause-ends : goal.returns-in_err-encoder-clause-ends
-returns-in_err-encoder-clause-ends g c = rw (is_that_err c.from_residual-in_err-encoder.result _ c.from_residual-in_err-encoder.ensures.1) (graph_wants _ _ _ _ _ _ _ _ refl (none_falls-refl _) c.in_err-encoder.ensures.only)
+returns-in_err-encoder-clause-ends g c = rw (is_that_err c.from_residual-in_err-encoder.result _ c.from_residual-in_err-encoder.ensures.1) (graph_wants _ _ _ _ _ _ _ _ refl (none_falls-refl _) refl)
 
 pub loop-page-init : goal.loop-page-init
 loop-page-init g c =
@@ -80,8 +80,8 @@ returns-in_err-next_record-clause-ends g c =
     (graph_stopped _ _ _ _ _ _ _ _
     (graph_stops _ _ _ _ _ _ _ _ _ _ _ _ _ c.loop-page.invariant.so_far.2 c.nodes-page-end.ensures.limits _ c.in_err-next_record.ensures.advances))
 
-pub add_list-requires-clause-list : goal.add_list-requires-clause-list
-add_list-requires-clause-list g c =
+pub add-requires-clause-list : goal.add-requires-clause-list
+add-requires-clause-list g c =
     let i = c.loop-page.invariant in
     let same : c.next_record.new.reader.pages.params.nodes ≡ c.loop-page.encoder.params.nodes =
     ap (λ (q : Parameters). q.nodes) (c.in_ok-next_record.ensures.advances.params ∙ i.so_far.2.params) ∙ sym c.requires.nodes ∙ sym (ap (λ (q : Parameters). q.nodes) i.params) in
@@ -92,7 +92,7 @@ returns-in_err-encoder-2-clause-ends g c =
     let way = c.loop-page.invariant.so_far.2 in
     let step = c.in_ok-next_record.ensures.advances in
     rw (is_that_err c.from_residual-in_err-encoder-2.result _ c.from_residual-in_err-encoder-2.ensures.1)
-    (graph_wants _ _ _ _ _ _ _ _ (step.same ∙ way.same) (none_falls-trans _ _ _ way.later step.later) c.in_err-encoder-2.ensures.only)
+    (graph_wants _ _ _ _ _ _ _ _ (step.same ∙ way.same) (none_falls-trans _ _ _ way.later step.later) refl)
 
 pub loop-page-preserved : goal.loop-page-preserved
 loop-page-preserved g c =
@@ -124,7 +124,7 @@ returns-in_err-archive-clause-ends g c =
     let way = c.loop-page.invariant.so_far.2 in
     let step = c.in_ok-end_records.ensures.advances in
     rw (is_that_err c.from_residual-in_err-archive.result _ c.from_residual-in_err-archive.ensures.1)
-    (graph_wants _ _ _ _ _ _ _ _ (step.same ∙ way.same) (none_falls-trans _ _ _ way.later step.later) c.in_err-archive.ensures.only)
+    (graph_wants _ _ _ _ _ _ _ _ (step.same ∙ way.same) (none_falls-trans _ _ _ way.later step.later) refl)
 
 pub returns-clause-makes : goal.returns-clause-makes
 returns-clause-makes g c =
@@ -135,5 +135,5 @@ returns-clause-makes g c =
       graph = record { nodes = c.args.params.now.nodes; lists = i.so_far.0 };
       loads = graph_read _ _ _ _ _ _ _ _ _ _ _ _ i.so_far.0 i.so_far.2 c.nodes-page-end.ensures.limits e.advances e.judged;
       arcs = sym i.so_far.1.arcs ∙ i.arcs ∙ e.total;
-      is = c.in_ok-archive.ensures.encoded i.so_far.0 i.so_far.1 (λ j. record (made_is j) { arcs = c.args.made.now.arcs });
+      is = c.in_ok-archive.ensures i.so_far.0 i.so_far.1 (λ j. record (made_is j) { arcs = c.args.made.now.arcs });
     }
