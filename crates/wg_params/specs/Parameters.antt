@@ -2,6 +2,7 @@
 use Rattle.std.specs.Prelude.{◌≡◌, ℕ, ◌≤◌, Bool, true, not, ◌&&◌, ◌||◌, ◌==◌, nat_lt, if◌then◌else◌, Option, Some, None, unwrap_or}
 use Rattle.wg_params.specs.declared.limits.TheConstants.{MOST_PAGES, MOST_ARCS, MOST_WINDOW, MOST_CHAIN, MOST_INTERVAL, MOST_ZETA}
 use Rattle.wg_params.specs.declared.code.Code.{Code}
+use Rattle.wg_params.specs.declared.code.Code.TheVariants.{Unary, Gamma, Zeta}
 use Rattle.wg_params.specs.declared.key.Key.{Key}
 use Rattle.wg_params.specs.declared.key.Key.TheVariants as key
 use Rattle.wg_params.specs.declared.layout.Codes.{Codes}
@@ -57,6 +58,17 @@ layout_of p = record {
     residuals = p.residuals;
     offsets = p.offsets;
   };
+}
+
+-- the default codes, with this shrinking factor
+abbrev pub default_codes : ℕ → Codes
+default_codes zeta = record {
+  outdegrees = Gamma;
+  references = Unary;
+  block_counts = Gamma;
+  blocks = Gamma;
+  residuals = Zeta zeta;
+  offsets = Gamma;
 }
 
 -- each field is in a code that it may have

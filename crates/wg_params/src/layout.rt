@@ -1,3 +1,6 @@
+ghost use Rattle.std.specs.Prelude.{◌≡◌};
+ghost use Rattle.wg_params.specs.Parameters.{default_codes};
+
 use crate::Code;
 
 /// The code of each field.
@@ -10,6 +13,23 @@ pub struct Codes {
     pub residuals: Code,
     /// The code of the words of an offsets file.
     pub offsets: Code,
+}
+
+impl Codes {
+    /// The default codes of the format, with this shrinking factor: references in unary, residuals in zeta, and the
+    /// other fields in gamma.
+    pub fn defaults(zeta: u32) -> Codes
+        ensures { result ≡ default_codes zeta }
+    {
+        Codes {
+            outdegrees: Code::Gamma,
+            references: Code::Unary,
+            block_counts: Code::Gamma,
+            blocks: Code::Gamma,
+            residuals: Code::Zeta(zeta),
+            offsets: Code::Gamma,
+        }
+    }
 }
 
 /// How an archive is written, whatever graph it holds: all its parameters but the numbers of its pages and arcs.

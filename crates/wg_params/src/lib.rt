@@ -7,7 +7,7 @@
 //! [`Key`] that is out of its limits. Whoever holds a `Params` can rely on the limits: each call that reads a field
 //! ensures them.
 //!
-//! Parameters of an archive in the usual codes, and some that are refused:
+//! Parameters of an archive in the default codes ([`Codes::defaults`]), and some that are refused:
 //!
 //! ```rust
 //! let params = Params::new(

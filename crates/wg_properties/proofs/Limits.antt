@@ -3,11 +3,11 @@ use Rattle.std.proofs.Common.{◌≡◌, ℕ, ◌+◌, ◌≤◌, Bool, true, fa
 use Rattle.std.specs.Str.{bytes_eq}
 use Rattle.std.proofs.lemmas.Bool.{ltb-false, le-ltb, ne_eqb}
 use Rattle.wg_num.specs.Decimal.{number_of}
-use Rattle.wg_params.specs.Parameters.{Parameters, AreCodes, IsWithinLimits, first_bad}
+use Rattle.wg_params.specs.Parameters.{Parameters, AreCodes, IsWithinLimits, first_bad, default_codes}
 use Rattle.wg_params.specs.declared.key.Key.{Key}
 use Rattle.wg_params.specs.declared.key.Key.TheVariants as key
 use Rattle.wg_params.specs.declared.limits.TheConstants.{MOST_PAGES, MOST_ARCS, MOST_WINDOW, MOST_CHAIN, MOST_INTERVAL, MOST_ZETA}
-use Rattle.wg_properties.specs.Flags.{default_codes, with_flag, codes_from, codes_of, pieces_of, flag_of}
+use Rattle.wg_properties.specs.Flags.{with_flag, codes_from, codes_of, pieces_of, flag_of}
 use Rattle.wg_properties.specs.Judged.{and_then, within, judged_number, judged_chain, judged_zeta, judged_flags}
 use Rattle.wg_properties.specs.declared.fault.PropFault.{PropFault}
 use Rattle.wg_properties.specs.declared.fault.PropFault.TheVariants as fault

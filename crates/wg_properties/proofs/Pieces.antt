@@ -2,7 +2,8 @@
 use Rattle.std.proofs.Common.{◌≡◌, ℕ, ◌+◌, ◌<◌, Bool, List, [], ◌∷◌, length, get_or, drop, map, Option, Some, None, Ok, Err, refl, ap, sym, ◌∙◌, arith, ◌==◌, add-one, drop-cons}
 use Rattle.std.specs.List.{slice_split}
 use Rattle.std.proofs.lemmas.List.{get_or-map, length-map, drop_all}
-use Rattle.wg_properties.specs.Flags.{default_codes, with_flag, flag_of, pieces_of, codes_from, codes_of}
+use Rattle.wg_params.specs.Parameters.{default_codes}
+use Rattle.wg_properties.specs.Flags.{with_flag, flag_of, pieces_of, codes_from, codes_of}
 use Rattle.wg_num.specs.Lines.{without_blanks_before, without_blanks_after}
 use Rattle.wg_properties.specs.declared.fault.PropFault.TheVariants as fault
 use Rattle.wg_params.specs.declared.layout.Codes.{Codes}

@@ -6,22 +6,12 @@ use Rattle.wg_params.specs.declared.code.Code.TheVariants.{Unary, Gamma, Delta, 
 use Rattle.wg_properties.specs.declared.fault.PropFault.{PropFault}
 use Rattle.wg_properties.specs.declared.fault.PropFault.TheVariants as fault
 use Rattle.wg_params.specs.declared.layout.Codes.{Codes}
+use Rattle.wg_params.specs.Parameters.{default_codes}
 use Rattle.wg_properties.specs.declared.flags.Flag.{Flag}
 use Rattle.wg_properties.specs.declared.flags.Flag.TheVariants.{OutdegreesGamma, OutdegreesDelta, BlocksGamma, BlocksDelta, ReferencesUnary, ReferencesGamma, ReferencesDelta, BlockCountUnary, BlockCountGamma, BlockCountDelta, ResidualsGamma, ResidualsDelta, ResidualsZeta, ResidualsNibble, OffsetsGamma, OffsetsDelta}
 use Rattle.wg_properties.specs.declared.flags.TheConstants.{FLAGS}
 use Rattle.wg_num.specs.Lines.{without_blanks_before, without_blanks_after}
 use Rattle.wg_properties.specs.Words.{word_of}
-
--- the codes where no flag says otherwise
-abbrev pub default_codes : ℕ → Codes
-default_codes zeta = record {
-  outdegrees = Gamma;
-  references = Unary;
-  block_counts = Gamma;
-  blocks = Gamma;
-  residuals = Zeta zeta;
-  offsets = Gamma;
-}
 
 -- the codes after one more flag
 abbrev pub with_flag : ℕ → Codes → Flag → Codes

@@ -1,5 +1,5 @@
 ghost use Rattle.std.specs.Prelude.{◌≡◌};
-ghost use Rattle.wg_properties.specs.Flags.{default_codes, with_flag, flag_of, codes_of};
+ghost use Rattle.wg_properties.specs.Flags.{with_flag, flag_of, codes_of};
 ghost use Rattle.wg_properties.specs.Words.{word_of};
 
 use crate::PropFault;
@@ -72,20 +72,6 @@ pub fn word_of(flag: Flag) -> &'static [u8]
     }
 }
 
-/// The codes where no flag says otherwise.
-pub fn default_codes(zeta: u32) -> Codes
-    ensures { result ≡ default_codes zeta }
-{
-    Codes {
-        outdegrees: Code::Gamma,
-        references: Code::Unary,
-        block_counts: Code::Gamma,
-        blocks: Code::Gamma,
-        residuals: Code::Zeta(zeta),
-        offsets: Code::Gamma,
-    }
-}
-
 /// The codes after one more flag.
 pub fn with_flag(zeta: u32, codes: Codes, flag: Flag) -> Codes
     ensures { result ≡ with_flag zeta codes flag }
@@ -124,7 +110,7 @@ pub fn flag_of(word: &[u8]) -> Option<Flag>
 pub fn codes_of(zeta: u32, value: &[u8]) -> Result<Codes, PropFault>
     ensures { result ≡ codes_of zeta value.now }
 {
-    let mut codes = default_codes(zeta);
+    let mut codes = Codes::defaults(zeta);
     if value.is_empty() {
         return Ok(codes);
     }

@@ -1,21 +1,9 @@
 -- The parameters of worked archives.
 use Rattle.std.specs.Prelude.{ℕ, Some}
-use Rattle.wg_params.specs.Parameters.{Parameters}
-use Rattle.wg_params.specs.declared.code.Code.TheVariants.{Unary, Gamma, Zeta}
+use Rattle.wg_params.specs.Parameters.{Parameters, params_of, default_codes}
 
--- those of an archive in the usual codes
+-- those of an archive in the default codes, with k = 3
 abbrev pub usual_parameters : ℕ → ℕ → ℕ → ℕ → ℕ → Parameters
-usual_parameters nodes arcs window chain interval = record {
-  nodes = nodes;
-  arcs = arcs;
-  window = window;
-  chain = Some chain;
-  interval = interval;
-  zeta = 3;
-  outdegrees = Gamma;
-  references = Unary;
-  block_counts = Gamma;
-  blocks = Gamma;
-  residuals = Zeta 3;
-  offsets = Gamma;
-}
+usual_parameters nodes arcs window chain interval = params_of
+    (record { window = window; chain = Some chain; interval = interval; zeta = 3; codes = default_codes 3 })
+    nodes arcs

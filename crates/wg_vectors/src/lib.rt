@@ -6,7 +6,7 @@
 //!
 //! [`COPIED`] is an archive bit by bit, with the list of each page and the offset of each record. All other worked
 //! archives are rows of `wg_cli`, over which the program runs. [`bytes_of`] turns the text of some bits into bytes,
-//! and [`usual`] makes parameters in the usual codes.
+//! and [`usual`] makes parameters in the default codes.
 //!
 //! The worked archive, bit by bit, and a graph that is generated from the seed 7:
 //!

@@ -1,11 +1,10 @@
-// Parameters in the usual codes.
+// Parameters in the default codes.
 ghost use Rattle.std.specs.Prelude.{◌≡◌, IfOk};
 ghost use Rattle.wg_vectors.specs.Usual.{usual_parameters};
 
-use wg_params::{BadParam, Code, Params};
+use wg_params::{BadParam, Codes, Layout, Params};
 
-/// The parameters of an archive in the usual codes: references in unary, residuals in zeta with k = 3, and the other
-/// fields in gamma.
+/// The parameters of an archive in the default codes, with k = 3.
 pub fn usual(
     nodes: u64,
     arcs: u64,
@@ -15,18 +14,12 @@ pub fn usual(
 ) -> Result<Params, BadParam>
     ensures { IfOk result (λ p. p ≡ usual_parameters nodes arcs window chain interval) }
 {
-    Params::new(
-        nodes,
-        arcs,
+    let layout = Layout {
         window,
-        Some(chain),
+        chain: Some(chain),
         interval,
-        3,
-        Code::Gamma,
-        Code::Unary,
-        Code::Gamma,
-        Code::Gamma,
-        Code::Zeta(3),
-        Code::Gamma,
-    )
+        zeta: 3,
+        codes: Codes::defaults(3),
+    };
+    Params::with_layout(nodes, arcs, layout)
 }

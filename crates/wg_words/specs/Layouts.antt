@@ -8,6 +8,7 @@ use Rattle.wg_params.specs.declared.limits.TheConstants.{MOST_WINDOW, MOST_CHAIN
 use Rattle.wg_words.specs.Values.{number_up_to, number_in, word_in}
 use Rattle.wg_words.specs.declared.defaults.TheConstants.{DEFAULT_WINDOW, DEFAULT_CHAIN, DEFAULT_INTERVAL, DEFAULT_ZETA, DEFAULT_OUTDEGREES, DEFAULT_REFERENCES, DEFAULT_BLOCK_COUNTS, DEFAULT_BLOCKS, DEFAULT_RESIDUALS, DEFAULT_OFFSETS}
 use Rattle.wg_params.specs.declared.layout.Codes.{Codes}
+use Rattle.wg_params.specs.Parameters.{default_codes}
 use Rattle.wg_params.specs.declared.layout.Layout.{Layout}
 
 -- how an archive is written where no option says otherwise
@@ -17,14 +18,7 @@ default_layout = record {
   chain = Some DEFAULT_CHAIN;
   interval = DEFAULT_INTERVAL;
   zeta = DEFAULT_ZETA;
-  codes = record {
-    outdegrees = Gamma;
-    references = Unary;
-    block_counts = Gamma;
-    blocks = Gamma;
-    residuals = Zeta DEFAULT_ZETA;
-    offsets = Gamma;
-  };
+  codes = default_codes DEFAULT_ZETA;
 }
 
 -- none for no limit, or the limit

@@ -3,7 +3,7 @@ ghost use Rattle.wg_params.specs.Parameters.{IsWithinLimits, params_of};
 ghost use Rattle.wg_words.specs.Layouts.{default_layout, layout_in};
 
 use crate::defaults::{DEFAULT_CHAIN, DEFAULT_INTERVAL, DEFAULT_WINDOW, DEFAULT_ZETA};
-use wg_params::{Code, Codes, Layout};
+use wg_params::{Codes, Layout};
 
 /// The layout where no option says otherwise.
 pub fn usual_layout() -> Layout
@@ -16,13 +16,6 @@ pub fn usual_layout() -> Layout
         chain: Some(DEFAULT_CHAIN),
         interval: DEFAULT_INTERVAL,
         zeta: DEFAULT_ZETA,
-        codes: Codes {
-            outdegrees: Code::Gamma,
-            references: Code::Unary,
-            block_counts: Code::Gamma,
-            blocks: Code::Gamma,
-            residuals: Code::Zeta(DEFAULT_ZETA),
-            offsets: Code::Gamma,
-        },
+        codes: Codes::defaults(DEFAULT_ZETA),
     }
 }

@@ -9,11 +9,11 @@ use Rattle.wg_properties.proofs.Pieces.{is_bar, no_flags, all_flags, flags_of, k
 use Rattle.wg_properties.proofs.flags.codes_of.Goals as goal
 
 pub returns-then-is_empty : goal.returns-then-is_empty
-returns-then-is_empty c = ap Ok c.default_codes-codes.ensures ∙ sym (no_flags c.args.zeta c.args.value.now (search rules))
+returns-then-is_empty c = ap Ok c.defaults-codes.ensures ∙ sym (no_flags c.args.zeta c.args.value.now (search rules))
 
 pub loop-piece-init : goal.loop-piece-init
 loop-piece-init c =
-    (refl, ap (λ codes. codes_from c.args.zeta 1 codes (flags_of c.args.value.now)) c.default_codes-codes.ensures ∙ all_flags c.args.zeta c.args.value.now)
+    (refl, ap (λ codes. codes_from c.args.zeta 1 codes (flags_of c.args.value.now)) c.defaults-codes.ensures ∙ all_flags c.args.zeta c.args.value.now)
 
 pub loop-piece-preserved : goal.loop-piece-preserved
 loop-piece-preserved c =

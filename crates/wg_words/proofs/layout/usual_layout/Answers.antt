@@ -3,7 +3,7 @@ use Rattle.wg_words.proofs.LayoutLemmas.{layout_in_within}
 use Rattle.wg_words.proofs.layout.usual_layout.Goals as goal
 
 pub returns-clause-given : goal.returns-clause-given
-returns-clause-given c = refl
+returns-clause-given c = rw c.defaults.ensures refl
 
 pub returns-clause-within : goal.returns-clause-within
-returns-clause-within c = layout_in_within [] _ 0 (omega arith) refl
+returns-clause-within c = rw c.defaults.ensures (layout_in_within [] _ 0 (omega arith) refl)
