@@ -2,6 +2,7 @@
 ghost use Rattle.std.specs.Prelude.{◌≡◌, ℕ, ◌+◌, ◌-◌, ◌*◌, ◌^◌, ◌<◌, ◌≤◌, Bool, false, List, [], ◌∷◌, ◌++◌, length, get_or, replicate, IfSome, IfNone};
 ghost use Rattle.wg_outside.specs.declared.limits.TheConstants.{MOST_BYTES};
 ghost use Rattle.wg_bits.specs.Bits.{bits_of, low_bits, front, Position, rest, moved, BeginsWithNoZero};
+ghost use Rattle.wg_bits.specs.declared.window.TheConstants.{GLANCE_BITS};
 
 use crate::Bits;
 use crate::window::{glance, window};
@@ -85,11 +86,11 @@ impl<'a> Cursor<'a> {
         window(self.bytes, self.at)
     }
 
-    /// The next 57 bits as the highest of a number, the first of them its highest. What stands behind them is not told, so
-    /// that it takes less than to [`peek`](Cursor::peek).
+    /// The next [`GLANCE_BITS`](crate::GLANCE_BITS) bits as the highest of a number, the first of them its highest. What
+    /// stands behind them is not told, so that it takes less than to [`peek`](Cursor::peek).
     #[inline(always)]
     pub fn glance(&self) -> u64
-        ensures { (i : ℕ) → i < 57 → get_or (low_bits 64 result) i false ≡ get_or (rest self.now) i false }
+        ensures { (i : ℕ) → i < GLANCE_BITS → get_or (low_bits 64 result) i false ≡ get_or (rest self.now) i false }
     {
         glance(self.bytes, self.at)
     }

@@ -17,10 +17,10 @@ ghost use Rattle.wg_codes.specs.Windows.{Tells};
 
 use crate::headed::{highest_one, number, put_headed};
 use crate::{Read, Word, unary};
-use wg_bits::{Cursor, Writer};
+use wg_bits::{Cursor, GLANCE_BITS, Writer};
 use wg_outside::{Depot, WriteError};
 
-// A word of a value whose index is at most `most`: by one load, if all of it lies within the next 57 bits.
+// A word of a value whose index is at most `most`: by one load, if all of it can be seen at a glance.
 #[inline(always)]
 pub fn read(cursor: &mut Cursor<'_>, most: u64) -> Read
     requires { most ≤ 62 }
@@ -36,14 +36,14 @@ pub fn read(cursor: &mut Cursor<'_>, most: u64) -> Read
     read_in_steps(cursor, most)
 }
 
-// The word that 64 bits begin with, if all of it lies within the first 57 of them.
+// The word that 64 bits begin with, if all of it can be seen at a glance.
 #[inline(always)]
 pub fn word_in(window: u64, most: u64) -> Option<Word>
     requires { most ≤ 62 }
     ensures { IfSome result (Tells gamma (2 ^ (most + 1) - 2) window) }
 {
     let index = window.leading_zeros();
-    if index as u64 > most.min(28) {
+    if index as u64 > most.min((GLANCE_BITS / 2) as u64) {
         return None;
     }
     Some(Word {

@@ -24,7 +24,7 @@
 //! [`Code`] works for a `Zeta(k)` with `k` from 1 to 31 and for every other code.
 //!
 //! No call takes memory. A word is read and written by a fixed number of loads and shifts, and never bit by bit; a
-//! word of gamma or zeta that lies within 57 bits, as nearly all do, by one load. Two loops are left: unary goes over
+//! word of gamma or zeta that can be seen at a glance, as nearly all can, by one load. Two loops are left: unary goes over
 //! 64 zeros at a time, and nibble digit by digit, over at most 21.
 //!
 //! Choices:
@@ -33,7 +33,7 @@
 //!   word has, and each value fits a `u64`. These values are above all numbers that a record or an offset can have,
 //!   but for a block count in unary, which ends at 2^32 - 1. *Revisit if* an archive has greater values; the limits
 //!   of pages and arcs have to grow first.
-//! - [`word_in`] knows words of up to 57 bits, for so many lie in 8 bytes wherever in a byte they begin. Longer
+//! - [`word_in`] knows words that can be seen at a [`glance`](wg_bits::Cursor::glance), which takes one load. Longer
 //!   words, in gamma from the value 2^29 - 1 on and in zeta 3 from 2^42 - 1 on, are read in steps. *Revisit if*
 //!   graphs with so far distances are in use.
 //! - No table has the short words of zeta. It could have those of 11 bits at most, as 9 of 100 residuals of the

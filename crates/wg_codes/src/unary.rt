@@ -16,13 +16,13 @@ ghost use Rattle.wg_codes.specs.Windows.{Tells};
 
 use crate::headed::put_headed;
 use crate::{Read, Word};
-use wg_bits::{Cursor, Writer};
+use wg_bits::{Cursor, GLANCE_BITS, Writer};
 use wg_outside::{Depot, WriteError};
 
 /// The most zeros that a unary word has, and so the greatest value.
 pub const MOST_ZEROS: u64 = (1 << 32) - 1;
 
-// A word of at most `most`: by one load, if all of it lies within the next 57 bits.
+// A word of at most `most`: by one load, if all of it can be seen at a glance.
 #[inline(always)]
 pub fn read(cursor: &mut Cursor<'_>, most: u64) -> Read
     requires { most < 2 ^ 32 }
@@ -38,14 +38,14 @@ pub fn read(cursor: &mut Cursor<'_>, most: u64) -> Read
     read_in_steps(cursor, most)
 }
 
-// The word that 64 bits begin with, if all of it lies within the first 57 of them.
+// The word that 64 bits begin with, if all of it can be seen at a glance.
 #[inline(always)]
 pub fn word_in(window: u64, most: u64) -> Option<Word>
     requires { most < 2 ^ 32 }
     ensures { IfSome result (Tells unary most window) }
 {
     let zeros = window.leading_zeros() as u64;
-    if zeros >= 57 || zeros > most {
+    if zeros >= GLANCE_BITS as u64 || zeros > most {
         return None;
     }
     Some(Word {

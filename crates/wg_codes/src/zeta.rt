@@ -19,10 +19,10 @@ ghost use Rattle.wg_codes.specs.Parts.{IsShortenedAt, IsCutAt};
 
 use crate::headed::{highest_one, put_headed};
 use crate::{Read, Word, unary};
-use wg_bits::{Cursor, Writer};
+use wg_bits::{Cursor, GLANCE_BITS, Writer};
 use wg_outside::{Depot, WriteError};
 
-// A word: by one load, if with its head the long form lies within the next 57 bits. Such a head is below 63 / k, too.
+// A word: by one load, if with its head the long form can be seen at a glance. Such a head is below 63 / k, too.
 #[inline(always)]
 pub fn read(cursor: &mut Cursor<'_>, k: u32) -> Read
     requires { (1 ≤ k) × (k ≤ 31) }
@@ -38,7 +38,7 @@ pub fn read(cursor: &mut Cursor<'_>, k: u32) -> Read
     read_in_steps(cursor, k)
 }
 
-// The word that 64 bits begin with, if with its head the long form lies within the first 57 of them.
+// The word that 64 bits begin with, if its head with the long form can be seen at a glance.
 #[inline(always)]
 pub fn word_in(window: u64, k: u32) -> Option<Word>
     requires { (1 ≤ k) × (k ≤ 31) }
@@ -46,7 +46,7 @@ pub fn word_in(window: u64, k: u32) -> Option<Word>
 {
     let head = window.leading_zeros();
     let width = head * k + k;
-    if head + width + 1 > 57 {
+    if head + width + 1 > GLANCE_BITS {
         return None;
     }
     // what stands behind the head, its first bit the highest; the short form has no one among the first k - 1 bits

@@ -9,6 +9,7 @@ use Rattle.std.proofs.lemmas.List.{get_or_past, get_or_default}
 use Rattle.std.proofs.lemmas.List.Elements.{All-cons, All-weaker}
 use Rattle.std.proofs.lemmas.Str.Parse.{digit_at}
 use Rattle.wg_num.specs.Lines.{lines_of}
+use Rattle.wg_num.specs.declared.units.TheConstants.{UNITS}
 use Rattle.wg_num.specs.Units.{last_digits, text_of_units}
 use Rattle.wg_num.proofs.Cuts.{line_with_end}
 
@@ -54,5 +55,5 @@ last_plain (suc k) v = All-cons (λ b. 32 ≤ b) (48 + v / 10 ^ k % 10) (last_di
 pub units_plain : (v : ℕ) → IsPlain (text_of_units v)
 unfolding text_of_units
 units_plain v =
-    All-cons (λ b. 32 ≤ b) (48 + v / 10 ^ 24) (46 ∷ last_digits 24 v) (omega arith)
+    All-cons (λ b. 32 ≤ b) (48 + v / UNITS) (46 ∷ last_digits 24 v) (omega arith)
     (All-cons (λ b. 32 ≤ b) 46 (last_digits 24 v) (omega arith) (last_plain 24 v))

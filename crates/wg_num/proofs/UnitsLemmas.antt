@@ -4,6 +4,7 @@ use Rattle.std.proofs.Math.Nat.{div-div-eq-div-mul, pow-suc, pow-succ', one-le-p
 use Rattle.std.proofs.Math.Arith.{mod-mul}
 use Rattle.std.proofs.lemmas.List.{drop-set, length-set}
 use Rattle.std.proofs.lemmas.Nat.{pow-add, div-add-mod'}
+use Rattle.wg_num.specs.declared.units.TheConstants.{UNITS}
 use Rattle.wg_num.specs.Units.{last_digits, text_of_units}
 
 -- the last k digits stand from the index on, and the rest is to be written
@@ -47,8 +48,8 @@ same_digits (suc k) v w e =
 pub same_units : (v w : ℕ) → text_of_units v ≡ text_of_units w → v ≡ w
 unfolding text_of_units
 same_units v w e =
-    let whole : v / 10 ^ 24 ≡ w / 10 ^ 24 = omega (arith, ap (λ l. get_or l 0 0) e) in
-    let part : v % 10 ^ 24 ≡ w % 10 ^ 24 = same_digits 24 v w (ap (λ l. drop 2 l) e) in
+    let whole : v / UNITS ≡ w / UNITS = omega (arith, ap (λ l. get_or l 0 0) e) in
+    let part : v % UNITS ≡ w % UNITS = same_digits 24 v w (ap (λ l. drop 2 l) e) in
     omega (arith, whole, part)
 
 -- a number has the last digits of what it leaves
@@ -75,7 +76,7 @@ pub text_written : (v half half' : ℕ) (high low : List ℕ) → half ≡ 10 ^ 
     → (48 + v / half / 10 ^ 12) ∷ 46 ∷ (high ++ low) ≡ text_of_units v
 unfolding text_of_units
 text_written v half half' high low e e' h l =
-    let whole : v / half / 10 ^ 12 ≡ v / 10 ^ 24 = ap (λ d. v / d / 10 ^ 12) e ∙ omega arith in
+    let whole : v / half / 10 ^ 12 ≡ v / UNITS = ap (λ d. v / d / 10 ^ 12) e ∙ omega arith in
     let part : low ≡ last_digits 12 v =
     l ∙ ap (λ d. last_digits 12 (v % d)) e' ∙ sym (last_after 12 (v / 10 ^ 12) (v % 10 ^ 12)) ∙ ap (last_digits 12) (div-add-mod' v (10 ^ 12)) in
     let rest : high ++ low ≡ last_digits 24 v =

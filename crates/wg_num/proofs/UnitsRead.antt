@@ -12,6 +12,7 @@ use Rattle.std.proofs.lemmas.Slice.Eq.{bytes_eq-Decides}
 use Rattle.std.specs.Char.{digit_value}
 use Rattle.std.specs.Str.Parse.{AllDigits, digits_value_after, digits_value}
 use Rattle.std.proofs.lemmas.Str.{digit_value_digit}
+use Rattle.wg_num.specs.declared.units.TheConstants.{UNITS}
 use Rattle.wg_num.specs.Units.{last_digits, text_of_units, value_of_units, units_of}
 use Rattle.wg_num.proofs.UnitsLemmas.{div_next, last_after}
 
@@ -31,35 +32,35 @@ digits_of_last (suc k) v =
     let e : v / 10 ^ suc k * 10 + digit_value (48 + v / 10 ^ k % 10) ≡ v / 10 ^ k = omega (arith, digit_next v k, digit_read (v / 10 ^ k % 10) (omega arith)) in
     ap (λ x. digits_value_after 10 x (last_digits k v)) e ∙ digits_of_last k v
 
-pub value_of_text : (v : ℕ) → v ≤ 10 ^ 24 → value_of_units (text_of_units v) ≡ v
+pub value_of_text : (v : ℕ) → v ≤ UNITS → value_of_units (text_of_units v) ≡ v
 unfolding text_of_units
 value_of_text v h =
-    let e : 0 * 10 + digit_value (48 + v / 10 ^ 24) ≡ v / 10 ^ 24 = omega (arith, digit_read (v / 10 ^ 24) (omega arith)) in
+    let e : 0 * 10 + digit_value (48 + v / UNITS) ≡ v / UNITS = omega (arith, digit_read (v / UNITS) (omega arith)) in
     ap (λ x. digits_value_after 10 x (last_digits 24 v)) e ∙ digits_of_last 24 v
 
-pub units_of-text : (v : ℕ) → v ≤ 10 ^ 24 → units_of (text_of_units v) ≡ Some v
+pub units_of-text : (v : ℕ) → v ≤ UNITS → units_of (text_of_units v) ≡ Some v
 unfolding units_of
 units_of-text v h =
     let e = value_of_text v h in
     let same : bytes_eq (text_of_units (value_of_units (text_of_units v))) (text_of_units v) ≡ true = (bytes_eq-Decides _ _).1 (ap text_of_units e) in
-    let few : leb (value_of_units (text_of_units v)) (10 ^ 24) ≡ true = le-leb _ _ (omega (arith, e)) in
+    let few : leb (value_of_units (text_of_units v)) UNITS ≡ true = le-leb _ _ (omega (arith, e)) in
     (λ i. cond (few i && same i) (Some (value_of_units (text_of_units v))) None) ∙ ap Some e
 
-text-units_of : (text : List ℕ) (v : ℕ) → units_of text ≡ Some v → (v ≤ 10 ^ 24) × (text ≡ text_of_units v)
+text-units_of : (text : List ℕ) (v : ℕ) → units_of text ≡ Some v → (v ≤ UNITS) × (text ≡ text_of_units v)
 unfolding units_of
 text-units_of text v e =
     let k = cond_some _ _ _ e in
-    let b = and_parts (leb (value_of_units text) (10 ^ 24)) (bytes_eq (text_of_units (value_of_units text)) text) k.0 in
+    let b = and_parts (leb (value_of_units text) UNITS) (bytes_eq (text_of_units (value_of_units text)) text) k.0 in
     (omega (arith, k.1, leb-true _ _ b.0), sym ((bytes_eq-Decides _ _).0 b.1) ∙ ap text_of_units k.1)
 
-pub units_unless : (text : List ℕ) → ((v : ℕ) → v ≤ 10 ^ 24 → text ≡ text_of_units v → ⊥) → units_of text ≡ None
+pub units_unless : (text : List ℕ) → ((v : ℕ) → v ≤ UNITS → text ≡ text_of_units v → ⊥) → units_of text ≡ None
 units_unless text h = at (units_of text) refl
   where
     at : (r : Option ℕ) → units_of text ≡ r → units_of text ≡ None
     at None e = e
     at (Some v) e = let k = text-units_of text v e in absurd (h v k.0 k.1)
 
-pub units_exact : (text : List ℕ) (r : Option ℕ) → r ≡ units_of text → (v : ℕ) → v ≤ 10 ^ 24 → text ≡ text_of_units v → r ≡ Some v
+pub units_exact : (text : List ℕ) (r : Option ℕ) → r ≡ units_of text → (v : ℕ) → v ≤ UNITS → text ≡ text_of_units v → r ≡ Some v
 units_exact text r e v h is = e ∙ ap units_of is ∙ units_of-text v h
 
 -- a text has 26 bytes
@@ -122,7 +123,7 @@ text_read (x ∷ []) v n point p e = absurd (omega (arith, n))
 text_read (x ∷ y ∷ rest) v n point p e =
     let last : last_digits 25 v ≡ x ∷ rest = ap (last_digits 25) e ∙ digits_last 25 (x ∷ rest) (omega (arith, n)) p in
     let small : v < 10 ^ 25 = omega (arith, e, few_digits 25 (x ∷ rest) (omega (arith, n)) p) in
-    let head : x ≡ 48 + v / 10 ^ 24 = omega (arith, ap (λ l. get_or l 0 0) last, small) in
+    let head : x ≡ 48 + v / UNITS = omega (arith, ap (λ l. get_or l 0 0) last, small) in
     λ i. head i ∷ point i ∷ ap (drop 1) (sym last) i
 
 last_all : (k v : ℕ) → AllDigits 10 (last_digits k v)
@@ -130,10 +131,10 @@ last_all zero v = tt
 last_all (suc k) v = (omega (arith, digit_read (v / 10 ^ k % 10) (omega arith)), last_all k v)
 
 -- the text of units is such digits
-pub text_digits : (text : List ℕ) (v : ℕ) → v ≤ 10 ^ 24 → text ≡ text_of_units v → AllDigits 10 (take 1 text ++ drop 2 text)
+pub text_digits : (text : List ℕ) (v : ℕ) → v ≤ UNITS → text ≡ text_of_units v → AllDigits 10 (take 1 text ++ drop 2 text)
 unfolding text_of_units
 text_digits text v h is =
-    subst (λ t. AllDigits 10 (take 1 t ++ drop 2 t)) (sym is) (omega (arith, digit_read (v / 10 ^ 24) (omega arith)), last_all 24 v)
+    subst (λ t. AllDigits 10 (take 1 t ++ drop 2 t)) (sym is) (omega (arith, digit_read (v / UNITS) (omega arith)), last_all 24 v)
 
 pub text_point : (text : List ℕ) (v : ℕ) → text ≡ text_of_units v → get_or text 1 0 ≡ 46
 unfolding text_of_units

@@ -1,6 +1,7 @@
-ghost use Rattle.std.specs.Prelude.{◌≡◌, ℕ, ◌≤◌, ◌^◌, IfSome, Some, ◌++◌, length, take, drop};
+ghost use Rattle.std.specs.Prelude.{◌≡◌, ℕ, ◌≤◌, IfSome, Some, ◌++◌, length, take, drop};
 ghost use Rattle.std.specs.Option.{SomeIff};
 ghost use Rattle.std.specs.Str.Parse.{AllDigits};
+ghost use Rattle.wg_num.specs.declared.units.TheConstants.{UNITS};
 ghost use Rattle.wg_num.specs.Units.{last_digits, text_of_units, value_of_units, units_of};
 
 use crate::decimal::value_of;
@@ -49,9 +50,9 @@ fn write_digits(value: u64, to: &mut [u8])
 
 /// The text of so many units of 10^-24. Another number of units has another text.
 pub fn units_text(value: u128) -> UnitsText
-    requires { value ≤ 10 ^ 24 }
+    requires { value ≤ UNITS }
     ensures text { result ≡ text_of_units value }
-    ensures exact { (other : ℕ) → other ≤ 10 ^ 24 → result ≡ text_of_units other → other ≡ value }
+    ensures exact { (other : ℕ) → other ≤ UNITS → result ≡ text_of_units other → other ≡ value }
 {
     let high = (value / u128::from(HALF)) as u64;
     let low = (value % u128::from(HALF)) as u64;
@@ -78,8 +79,8 @@ fn digits_of(text: &[u8]) -> Option<u128>
 pub fn read_units(text: &[u8]) -> Option<u128>
     ensures value { result ≡ units_of text.now }
     ensures read { IfSome result (λ v. text.now ≡ text_of_units v) }
-    ensures within { IfSome result (λ v. v ≤ 10 ^ 24) }
-    ensures exact { (v : ℕ) → v ≤ 10 ^ 24 → text.now ≡ text_of_units v → result ≡ Some v }
+    ensures within { IfSome result (λ v. v ≤ UNITS) }
+    ensures exact { (v : ℕ) → v ≤ UNITS → text.now ≡ text_of_units v → result ≡ Some v }
 {
     if text.len() != 26 {
         return None;

@@ -15,16 +15,13 @@ ghost use Rattle.wg_source.specs.Stepping.{Steps, Moves, HasCause};
 ghost use Rattle.wg_source.specs.declared.stretch.TheConstants.{WORD, MOST_HELD};
 
 use std::marker::Model;
-use wg_bits::{Bits, Cursor};
+use wg_bits::{Bits, Cursor, GLANCE_BITS};
 use wg_codes::Read;
 use wg_outside::{Depot, LoadError, MOST_BYTES};
 use wg_params::Code;
 
 // No word but those of unary has more bytes, wherever in a byte it begins.
 pub const WORD: usize = 17;
-
-// So many bits are seen at a glance. The words that are told by 64 bits have no more.
-const GLANCE: u64 = 57;
 
 /// The most bytes of a file that are held at a time, and that one call reads.
 pub const MOST_HELD: usize = 4096;
@@ -335,7 +332,7 @@ impl Stretch {
         }
         let near = Cursor::new(Bits::of(&self.bytes[from..from + WORD]), self.here % 8);
         let found = wg_codes::word_in(code, near.glance())?;
-        if found.bits > GLANCE {
+        if found.bits > GLANCE_BITS as u64 {
             return None;
         }
         self.here += found.bits;

@@ -1,5 +1,6 @@
 use Rattle.std.proofs.Common.{◌≡◌, ℕ, ◌+◌, ◌-◌, ◌*◌, ◌/◌, ◌%◌, ◌≤◌, ◌++◌, Bool, List, length, take, drop, sym, ap, subst, ◌∙◌, arith, length-drop}
 use Rattle.wg_bits.specs.Bits.{bits_of, rest}
+use Rattle.wg_bits.specs.declared.window.TheConstants.{GLANCE_BITS}
 use Rattle.wg_codes.specs.Reading.{Reads}
 use Rattle.wg_codes.specs.Words.{word, top}
 use Rattle.wg_codes.specs.declared.outcome.Read.TheVariants.{Value}
@@ -29,8 +30,8 @@ returns-clause-found c =
     ∙ ap (λ (h : Held). drop (8 * (s.here / 8) + s.here % 8) (bits_of h.bytes)) (sym c.self.view_is)
     ∙ near_bits s.bytes s.length (s.here / 8) (s.here % 8) m (omega arith) (omega (arith, c.self.invariant.0)) (omega arith)
     ∙ ap (λ (z : List Bool). z ++ behind) (sym near) in
-    let fits : 57 ≤ length (rest c.new-near.result) =
+    let fits : GLANCE_BITS ≤ length (rest c.new-near.result) =
     omega (arith, ap length near, length-drop (s.here % 8) (bits_of (take m (drop (s.here / 8) s.bytes))), long) in
     subst (λ (z : List Bool). Reads (word c.args.code) (top c.args.code) z (Value c.in_ok-found.found.value)) (sym whole)
     (prefix_value (word c.args.code) (top c.args.code) c.in_ok-found.found.value (rest c.new-near.result) behind
-    (told_here (word c.args.code) (top c.args.code) c.glance.result 57 (rest c.new-near.result) fits c.glance.ensures c.in_ok-found.found c.in_ok-found.ensures (omega arith)))
+    (told_here (word c.args.code) (top c.args.code) c.glance.result GLANCE_BITS (rest c.new-near.result) fits c.glance.ensures c.in_ok-found.found c.in_ok-found.ensures (omega arith)))
