@@ -11,7 +11,7 @@ use std::alloc::{AllocError, Global};
 use std::marker::Model;
 use wg_outside::{Depot, ReadError, WriteError};
 
-/// Files in memory: a depot that tells its bytes, and in which no call fails but for want of memory. A call goes
+/// Files in memory: a depot that tells its bytes, and in which a call fails only if memory runs out. A call goes
 /// through the names one by one.
 #[derive(Debug)]
 pub struct SteadyDepot {

@@ -9,7 +9,7 @@ use std::alloc::Global;
 use std::marker::Model;
 use wg_outside::{Sink, WriteError};
 
-/// Bytes in memory: a sink that tells its bytes, and in which no write fails but for want of memory.
+/// Bytes in memory: a sink that tells its bytes, and in which a write fails only if memory runs out.
 #[derive(Debug)]
 pub struct SteadySink {
     taken: Vec<u8>,

@@ -31,7 +31,7 @@ abbrev pub of_word : {R : Type 0} → WordError R → PlacesError R
 of_word (words.Word w) = reads.Word w
 of_word (words.Refused r) = reads.Refused r
 
--- what holds of the fault of the file, or of the refusal; out of memory may come at any time
+-- what holds of the fault of the file, or of the refusal; memory may run out at any time
 abbrev pub IfWordOf : {R : Type 0} → PlacesError R → (OffsetWord → Type 0) → Type 0
 IfWordOf (reads.Word w) P = P w
 IfWordOf (reads.Refused r) P = Unit {0}

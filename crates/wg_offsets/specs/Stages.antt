@@ -10,7 +10,7 @@ use Rattle.wg_offsets.specs.declared.error.OffsetsError.{OffsetsError}
 use Rattle.wg_offsets.specs.declared.error.OffsetsError.TheVariants as errors
 use Rattle.wg_offsets.specs.Words.{refusal, Words, places_of}
 
--- what holds of the fault, if the error is one; out of memory may come at any time
+-- what holds of the fault, if the error is one; memory may run out at any time
 abbrev pub IfWord : OffsetsError → (OffsetWord → Type 0) → Type 0
 IfWord (errors.Word w) P = P w
 IfWord errors.Memory P = Unit {0}

@@ -13,7 +13,7 @@ of_unread (unread.Fault f) = Fault (archive.Record f)
 of_unread unread.Memory = Memory
 of_unread (unread.Refused r) = Refused r
 
--- what holds of the fault, where the error is one; want of memory may come at any time
+-- what holds of the fault, where the error is one; memory may run out at any time
 abbrev pub OfFault : {R : Type 0} → PagesError R → (ArchiveFault → Type 0) → Type 0
 OfFault (Fault f) P = P f
 OfFault Memory P = Unit {0}

@@ -51,7 +51,7 @@ OfGraph first.Absent P = Unit {0}
 OfGraph first.TooLong P = Unit {0}
 OfGraph first.Memory P = Unit {0}
 
--- what holds of the refusal of the outside, if the error is one; out of memory may come at any time
+-- what holds of the refusal of the outside, if the error is one; memory may run out at any time
 abbrev pub OfOutside : First → (LoadError → Type 0) → Type 0
 OfOutside first.Failed P = P load.Failed
 OfOutside first.Absent P = P load.Absent
