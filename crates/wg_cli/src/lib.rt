@@ -1,12 +1,12 @@
 //! The program over any outside: the words' job, done over a depot of files, with its output and a line on standard
 //! error.
 //!
-//! [`run`] is the one call. It asks `wg_words` for the job, has `perform` do it by the commands of `wg_queries`,
-//! `wg_builds` and `wg_transforms`, reports how it ended, and returns the [`Status`]. Its contract spells out what is
-//! promised of a job (`Performs`), by the words and by what each input holds: which status comes, what stands on the
-//! output and in the files, and that faults of the outside are reported only where their counts rose. Besides it says
-//! which line is reported (`line_of`). [`run_in_memory`] is the same over files and outputs in memory, which are never
-//! at fault. [`report`] writes such a line alone, for whoever can't collect the words.
+//! [`run`] is the one call. It asks `wg_words` for the job, has `perform` do it by the commands of `wg_lookups`,
+//! `wg_queries`, `wg_builds` and `wg_transforms`, reports how it ended, and returns the [`Status`]. Its contract spells
+//! out what is promised of a job (`Performs`), by the words and by what each input holds: which status comes, what
+//! stands on the output and in the files, and that faults of the outside are reported only where their counts rose.
+//! Besides it says which line is reported (`line_of`). [`run_in_memory`] is the same over files and outputs in memory,
+//! which are never at fault. [`report`] writes such a line alone, for whoever can't collect the words.
 //!
 //! Besides this crate a caller needs `wg_io` alone, for its depot and its sinks: the words, the status and all that a
 //! status names are exported here.

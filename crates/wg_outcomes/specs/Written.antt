@@ -116,8 +116,8 @@ TouchesBy d o name before after result =
 abbrev pub IsStopped : Status → Type 0
 IsStopped status = ((o : Output) × (status ≡ WriteFault o)) ⊎ (status ≡ Memory)
 
--- What stands once the job has ended so. A fault names the file that it stopped at; out of memory may stop it
--- anywhere; and nothing has changed where it was refused or its input could not be read.
+-- What stands once the job has ended so. A fault names the file that it stopped at; memory may run out anywhere; and
+-- nothing has changed where it was refused or its input could not be read.
 abbrev pub FilesAfter : Archive → ArchiveFiles → ArchiveFiles → Status → Type 0
 FilesAfter a old new Done = AreWhole a new
 FilesAfter a old new (WriteFault output.Out) = AreWhole a new

@@ -7,6 +7,7 @@ ghost use Rattle.wg_outcomes.specs.Commands.{ok_line};
 use crate::Ending;
 use crate::outputs::output_ending;
 use crate::text::Text;
+use wg_lines::Lines;
 use wg_outside::{Sink, write_all};
 use wg_params::Params;
 
@@ -16,6 +17,15 @@ pub fn print_piece<O: Sink>(out: &mut O, piece: &[u8]) -> Result<(), Ending>
     ensures refusals { PrintRefusals ⟦<O as Sink>⟧ out.old out.new result }
 {
     write_all(out, piece).map_err(output_ending)
+}
+
+/// Sends out what waits to be printed.
+pub fn print_rest<O: Sink>(lines: &mut Lines, out: &mut O) -> Result<(), Ending>
+    ensures puts { IsTrue O.told → Puts lines.old (O.taken out.old) (O.taken out.new) result }
+    ensures later { O.later out.old out.new }
+    ensures refusals { PrintRefusals ⟦<O as Sink>⟧ out.old out.new result }
+{
+    lines.flush(out).map_err(output_ending)
 }
 
 fn ok_line(params: &Params, bits: u64) -> Text

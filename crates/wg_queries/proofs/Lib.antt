@@ -1,11 +1,7 @@
 pub mod CertifyLemmas
 pub mod CheckLemmas
-pub mod NumberLemmas
 pub mod PrintedJobs
 pub mod PrintedLines
 pub mod RankJobs
-pub mod ShowJobs
-pub mod ShownLemmas
-pub mod SpotJobs
 pub mod UntoldLemmas
 pub mod VerifyJobs

@@ -1,5 +1,1 @@
-pub mod ChainFiles
-pub mod ChainLaws
 pub mod Printed
-pub mod Showing
-pub mod Spotting

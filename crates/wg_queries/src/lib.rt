@@ -1,5 +1,4 @@
-//! The commands that read an archive and print: `check`, `arcs`, `ascii`, `offsets`, `show`, `spot`, `rank`,
-//! `verify`.
+//! The commands that read an archive whole and print: `check`, `arcs`, `ascii`, `offsets`, `rank`, `verify`.
 //!
 //! Each is a function over any outside, with one clause: `DoesOrEnds` of its job (`wg_outcomes`). A command is a
 //! chain of steps: those of `wg_readings`, which read the files of an archive and judge them, and last one that
@@ -22,21 +21,13 @@
 //! Ok(())
 //! ```
 //!
-//! [`check`] and [`printing`] read the graph in pieces, and [`check`], [`show`] and [`spot`] the offsets, so that an
-//! archive need not fit into memory; all other inputs are held whole until they are read. [`show`] reads pages by their
-//! offsets, and prints their successors as they come; it opens each record of their chains of references once
-//! ([`show::print_pages`]). [`spot`] keeps samples of the offsets, and reads no record of the graph file but those that
-//! one page refers to, a step of its own (`successors_of_page`).
+//! [`check`] and [`printing`] read the graph in pieces, and [`check`] the offsets, so that an archive need not fit into
+//! memory; all other inputs are held whole until they are read.
 #![tactic(auto)]
 
 mod certificate;
-mod chain_files;
-mod chains;
 pub mod check;
 mod print;
 pub mod printing;
 pub mod rank;
-pub mod show;
-mod shown;
-pub mod spot;
 pub mod verify;

@@ -116,18 +116,6 @@ pub fn print_list<O: Sink>(lines: &mut Lines, out: &mut O, list: &[u64]) -> Resu
     }
 }
 
-/// Sends out what waits to be printed.
-pub fn print_rest<O: Sink>(lines: &mut Lines, out: &mut O) -> Result<(), Ending>
-    ensures puts { IsTrue O.told → Puts lines.old (O.taken out.old) (O.taken out.new) result }
-    ensures later { O.later out.old out.new }
-    ensures refusals { PrintRefusals ⟦<O as Sink>⟧ out.old out.new result }
-{
-    match lines.flush(out) {
-        Ok(()) => Ok(()),
-        Err(error) => Err(output_ending(error)),
-    }
-}
-
 // The line of the page at a place of the ranking.
 fn rank_line(first: &FirstPages, place: u64) -> Text
     requires { place < length first.now.pages }

@@ -5,10 +5,10 @@ ghost use Rattle.wg_outcomes.specs.Answers.{PrintRefusals};
 ghost use Rattle.wg_outcomes.specs.Performs.{DoesOrEnds};
 ghost use Rattle.wg_queries.specs.Printed.{PrintsAgain, head_of, job_of, listed, piece_of};
 
-use crate::print::{print_list, print_nodes, print_number, print_page, print_rest};
+use crate::print::{print_list, print_nodes, print_number, print_page};
 use std::alloc::Global;
 use wg_lines::Lines;
-use wg_outcomes::Ending;
+use wg_outcomes::{Ending, print_rest};
 use wg_outside::{Depot, Sink};
 use wg_params::Params;
 use wg_readings::{end_records, judge_graph, load_params, next_record, open_graph};

@@ -10,5 +10,4 @@ pub mod PairingLemmas
 pub mod PassLemmas
 pub mod ReadingsLaws
 pub mod ReadingsLemmas
-pub mod SamplingLemmas
 pub mod UnderWay

@@ -2,4 +2,3 @@ pub mod Finding
 pub mod Loading
 pub mod Pairing
 pub mod Passes
-pub mod Sampling

@@ -3,11 +3,9 @@
 //!
 //! [`load_params`], [`load_graph`], [`load_weights`], [`load_certificate`] and [`load_map`] read a file whole;
 //! [`judge_graph`], [`judge_files`] and [`judge_offsets`] go through the files in pieces, and so do [`open_graph`],
-//! [`next_record`] and [`end_records`], record by record. [`find_file`] looks for a file of which parts are read, and
-//! judges nothing; [`sample_offsets`] judges an offsets file in pieces, and keeps the places of a few pages, from which
-//! [`extent_of`] finds that of any other. [`passed_of_graph`] finds where the records of a graph file are, and
-//! [`lists_of_records`] decodes their lists, as often as one likes. [`open_lines`] and [`next_lines`] lend the lines of
-//! a file, which the caller judges.
+//! [`next_record`] and [`end_records`], record by record. [`passed_of_graph`] finds where the records of a graph file
+//! are, and [`lists_of_records`] decodes their lists, as often as one likes. [`open_lines`] and [`next_lines`] lend the
+//! lines of a file, which the caller judges.
 //!
 //! Each promises that it is a step of a judgement (`Judged`): it either yields a value or ends the job with a
 //! [`Status`](wg_outcomes::Status), and later inputs do not matter, unless running out of memory or a fault of the
@@ -42,20 +40,16 @@
 mod archive;
 mod claims;
 mod classes;
-mod found_file;
 mod judge;
 mod lines;
 mod loading;
 mod pairing;
 mod records;
-mod sampled;
 mod weights;
 
 pub use archive::{bad_archive, find_pages, graph_ending, lists_of_records, passed_of_graph};
-pub use found_file::{FoundFile, find_file};
 pub use judge::{judge_files, judge_graph, judge_offsets};
 pub use lines::{next_lines, open_lines, unread};
 pub use loading::{load, load_certificate, load_graph, load_map, load_params, load_weights};
 pub use pairing::word_ending;
 pub use records::{end_records, next_record, open_graph};
-pub use sampled::{SampledFile, extent_of, sample_offsets};

@@ -13,7 +13,7 @@ use crate::lines::unread;
 use crate::weights::weights_of_text;
 use std::alloc::Global;
 use wg_graph::{Graph, List as Numbers};
-use wg_outcomes::{Ending, Input, file_name, suffix};
+use wg_outcomes::{Ending, Input, suffix};
 use wg_outside::{Depot, List8, read_whole};
 use wg_params::Params;
 use wg_rank::Certificate;
@@ -48,7 +48,7 @@ pub fn load<D: Depot>(
     let Some(suffix) = suffix(input) else {
         unreachable!()
     };
-    let name = file_name(alloc, base, suffix)?;
+    let name = base.with_suffix(alloc, suffix)?;
     load_file(alloc, depot, name.as_str(), input)
 }
 

@@ -1,13 +1,13 @@
 //! An archive in memory on its way into its three files. The properties come last: until they are whole, no one takes
 //! the files for an archive.
-ghost use Rattle.std.specs.Prelude.{◌≡◌, ℕ, List, IsTrue, IfOk, IfErr};
+ghost use Rattle.std.specs.Prelude.{◌≡◌, ℕ, List, IsTrue, IfOk};
 ghost use Rattle.wg_greedy.specs.Archive.{Archive};
 ghost use Rattle.wg_outcomes.specs.Written.{ArchiveFiles, archive_in, emptied};
 ghost use Rattle.wg_writing.specs.Writing.{WritesFilesBy, names_of, whole};
 
-use std::alloc::Global;
+use std::alloc::{AllocError, Global};
 use wg_encoder::EncodedArchive;
-use wg_outcomes::{Ending, Status, create_file, file_name, fill_file};
+use wg_outcomes::{Ending, create_file, fill_file};
 use wg_outside::{Depot, GRAPH, OFFSETS, Output, PROPERTIES};
 use wg_words::Name;
 
@@ -20,13 +20,12 @@ pub struct FileNames {
 }
 
 // The names of an archive's files, before any of them is touched.
-fn names_of(alloc: Global, base: &Name) -> Result<FileNames, Ending>
-    ensures names { IfOk result (λ names. names ≡ names_of base.now) }
-    ensures only { IfErr result (λ e. e.status ≡ Status.Memory) }
+fn names_of(alloc: Global, base: &Name) -> Result<FileNames, AllocError>
+    ensures { IfOk result (λ names. names ≡ names_of base.now) }
 {
-    let properties = file_name(alloc, base, PROPERTIES)?;
-    let graph = file_name(alloc, base, GRAPH)?;
-    let offsets = file_name(alloc, base, OFFSETS)?;
+    let properties = base.with_suffix(alloc, PROPERTIES)?;
+    let graph = base.with_suffix(alloc, GRAPH)?;
+    let offsets = base.with_suffix(alloc, OFFSETS)?;
     Ok(FileNames {
         properties,
         graph,

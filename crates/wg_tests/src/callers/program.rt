@@ -4,6 +4,7 @@ use std::test::Fail;
 use wg_builds::build::build;
 use wg_cli::run_in_memory;
 use wg_io::{Depot, Sink, SteadyDepot, SteadySink};
+use wg_lookups::spot::spot;
 use wg_outcomes::{Ending, Input, Status, as_second, params_of};
 use wg_queries::printing::{Listing, print_records};
 use wg_readings::load_params;
@@ -69,6 +70,23 @@ fn arcs_of_an_archive(rt: HostRuntime) -> Result<(), Fail> {
     let done = print_records(rt.alloc(), &base, Listing::Arcs, &mut depot, &mut out);
     assert!(rt; done.is_ok());
     assert!(rt; out.bytes() == b"0 1\n0 2\n1 1\n1 2\n".as_slice());
+    Ok(())
+}
+
+// In the overview of wg_lookups.
+#[test]
+fn a_page_is_looked_up(rt: HostRuntime) -> Result<(), Fail> {
+    let mut depot = SteadyDepot::new(rt.alloc(), 4096);
+    let text = wg_properties::write(rt.alloc(), &usual(3, 4, 7, 3, 4)?)?;
+    depot.put_file("web.properties", text.as_slice())?;
+    depot.put_file("web.graph", b"\x7D\xC6\xE0")?;
+    // 1 0001101 00111 010: the words of 0, 12, 6 and 1
+    depot.put_file("web.offsets", b"\x8D\x3A")?;
+    let base = Name::new(rt.alloc(), "web")?;
+    let mut out = SteadySink::new(rt.alloc(), 4096);
+    let done = spot(rt.alloc(), &base, 1, &mut depot, &mut out);
+    assert!(rt; done.is_ok());
+    assert!(rt; out.bytes() == b"1 1 2\n".as_slice());
     Ok(())
 }
 

@@ -6,7 +6,7 @@ use Rattle.wg_outside.specs.declared.depot.WriteError.{WriteError}
 use Rattle.wg_lines.specs.Printing.{HasPrinted, HasPrintedLess}
 use Rattle.wg_lines.proofs.PrintLemmas.{puts_of_less, puts_in_the_end}
 use Rattle.wg_outcomes.specs.Ranked.{rank_line, rank_lines}
-use Rattle.wg_queries.proofs.NumberLemmas.{line_printed, line_less}
+use Rattle.wg_lines.proofs.NumberLines.{line_printed, line_less}
 use Rattle.wg_queries.proofs.print.write_ranking.Goals as goal
 
 pub loop-place-preserved : goal.loop-place-preserved

@@ -1,0 +1,4 @@
+pub mod SamplingLemmas
+pub mod ShowJobs
+pub mod ShownLemmas
+pub mod SpotJobs

@@ -1,0 +1,77 @@
+-- The lines of pages with their successors, part by part.
+use Rattle.std.proofs.Common.{◌≡◌, ◌∙◌, inr, get_or, ℕ, List, [], ◌++◌, map, length, codes, decimal, Bool, Result, Ok, Err, arith, refl, sym, append-nil, length-append, subst}
+use Rattle.wg_params.specs.Parameters.{Parameters}
+use Rattle.wg_grammar.specs.Archive.{Accepted, ReadsGraph}
+use Rattle.wg_random.specs.Held.{Held}
+use Rattle.wg_outside.specs.Puts.{joined}
+use Rattle.wg_lines.specs.Printing.{HasPrinted, HasPrintedLess, Prints}
+use Rattle.wg_lines.proofs.PrintLemmas.{printed_more, less_after, less_before}
+use Rattle.std.specs.Bool.{IsTrue}
+use Rattle.wg_outside.specs.declared.output.Output.TheVariants.{Out}
+use Rattle.wg_outside.specs.declared.sink.Sink as sink
+use Rattle.wg_outcomes.specs.Answers.{PrintRefusals}
+use Rattle.wg_outcomes.specs.Commands.{spaced, successors_line}
+use Rattle.wg_lookups.specs.Showing.{PrintsLine}
+use Rattle.wg_outcomes.specs.declared.ending.Ending.{Ending}
+use Rattle.wg_outcomes.specs.declared.status.Status.TheVariants.{Memory, WriteFault}
+
+-- a text is printed, and then another one is
+pub prints_after : {E : Type 0} (a b c waited mid waits t u : List ℕ) (r : Result (Unit {0}) E) → HasPrinted a b waited t mid → Prints u b c mid waits r → Prints (t ++ u) a c waited waits r
+prints_after a b c waited mid waits t u (Ok done) h g = printed_more a b c waited mid waits t u h g
+prints_after a b c waited mid waits t u (Err e) h g = less_after a b c waited mid t u h g
+
+-- three texts, of which the first was not printed
+pub less_first : (a b waited t u v : List ℕ) → HasPrintedLess a b waited t → HasPrintedLess a b waited (t ++ u ++ v)
+less_first a b waited t u v h = less_before a b waited (t ++ u) v (less_before a b waited t u h)
+
+-- or the second was not
+pub less_second : (a b c waited mid t u v : List ℕ) → HasPrinted a b waited t mid → HasPrintedLess b c mid u → HasPrintedLess a c waited (t ++ u ++ v)
+less_second a b c waited mid t u v h g = less_before a c waited (t ++ u) v (less_after a b c waited mid t u h g)
+
+-- or all but the third were
+pub prints_third : {E : Type 0} (a b c d waited mid next waits t u v : List ℕ) (r : Result (Unit {0}) E) → HasPrinted a b waited t mid → HasPrinted b c mid u next → Prints v c d next waits r
+    → Prints (t ++ u ++ v) a d waited waits r
+prints_third a b c d waited mid next waits t u v r h g k = prints_after a c d waited next waits (t ++ u) v r (printed_more a b c waited mid next t u h g) k
+
+-- ---- a page that is not opened
+
+-- an archive stands for the graph of the records that it is made of
+pub archive_reads : (archive records : Held) (p : Parameters) (bits : List Bool) (a : Accepted) → archive ≡ records → records.params ≡ p → records.bits ≡ bits → ReadsGraph p bits (Ok a) → ReadsGraph archive.params archive.bits (Ok a)
+archive_reads archive records p bits a same params is read =
+    subst (λ (h : Held). ReadsGraph h.params h.bits (Ok a)) (sym same)
+    (subst (λ (q : Parameters). ReadsGraph q records.bits (Ok a)) (sym params) (subst (λ (b : List Bool). ReadsGraph p b (Ok a)) (sym is) read))
+
+-- no line is empty, and so where nothing was printed of it something is left out
+pub none_of_line : (old waited : List ℕ) (page : ℕ) (list : List ℕ) → HasPrintedLess old old waited (successors_line page list)
+none_of_line old waited page list =
+    let start : List ℕ = decimal page ++ joined (map spaced list) in
+    let end : List ℕ = codes "\n" in
+    let last : length end ≡ 1 = refl in
+    record {
+      out = [];
+      left = waited ++ successors_line page list;
+      some = omega (arith, last, length-append start end, length-append waited (successors_line page list));
+      taken = sym (append-nil old);
+      bytes = refl;
+    }
+
+-- memory was wanting before anything of the line was printed
+pub line_unbegun : {S : Type 0} (s : sink.Ghosts S) (archive : Held) (page : ℕ) (sink : S) (waited waits : List ℕ) (e : Ending) → s.later sink sink → e.status ≡ Memory → PrintsLine s archive page sink sink waited waits (Err e)
+line_unbegun s archive page sink waited waits e stays is = record {
+  prints = λ t a read. none_of_line (s.taken sink) waited page (get_or a.graph page []);
+  later = stays;
+  only = inr is;
+  failed = λ fault. absurd (let no : Memory ≡ WriteFault Out = sym is ∙ fault in cc);
+}
+
+-- the line of a page was printed by its list
+pub line_by_list : {S : Type 0} (s : sink.Ghosts S) (archive : Held) (page : ℕ) (before after : S) (waited waits list : List ℕ) (r : Result (Unit {0}) Ending)
+    → ((a : Accepted) → ReadsGraph archive.params archive.bits (Ok a) → list ≡ get_or a.graph page [])
+    → (IsTrue s.told → Prints (successors_line page list) (s.taken before) (s.taken after) waited waits r) → s.later before after → PrintRefusals s before after r
+    → PrintsLine s archive page before after waited waits r
+line_by_list s archive page before after waited waits list r is prints later refusals = record {
+  prints = λ t a read. subst (λ (l : List ℕ). Prints (successors_line page l) (s.taken before) (s.taken after) waited waits r) (is a read) (prints t);
+  later = later;
+  only = refusals.only;
+  failed = refusals.failed;
+}

@@ -1,0 +1,61 @@
+-- A page of an archive that is not checked, in a judgement.
+use Rattle.std.specs.Prelude.{◌≡◌, ◌⊎◌, ℕ, Bool, List, Option, Result, IsTrue, IfErr}
+use Rattle.wg_outside.specs.Outside.{Files, Counts, NonDecreasing}
+use Rattle.wg_outside.specs.declared.depot.Depot as depot
+use Rattle.wg_params.specs.Parameters.{Parameters}
+use Rattle.wg_stream.specs.declared.error.PagesError.{PagesError}
+use Rattle.wg_stream.specs.declared.error.PagesError.TheVariants as errors
+use Rattle.wg_outcomes.specs.Answers.{IsHindrance, Steps, status_in}
+use Rattle.wg_outcomes.specs.Causes.{HasCause}
+use Rattle.wg_outcomes.specs.Judged.{Judged, offsets_then, with_file, with_successors}
+use Rattle.wg_outcomes.specs.Names.{IsOfInput, held_by, no_outputs}
+use Rattle.wg_outcomes.specs.Promised.{IsBadFile}
+use Rattle.wg_outcomes.specs.Readings.{Readings}
+use Rattle.wg_outcomes.specs.declared.ending.Ending.{Ending}
+use Rattle.wg_outcomes.specs.declared.status.Input.{Input}
+use Rattle.wg_outcomes.specs.declared.status.Input.TheVariants as input
+use Rattle.wg_outcomes.specs.declared.status.Status.TheVariants.{BadArchive, Memory, NoPage}
+use Rattle.wg_readings.specs.Pairing.{status_at, word_ending}
+use Rattle.wg_lookups.specs.declared.chain_files.Unread.{Unread}
+use Rattle.wg_lookups.specs.declared.chain_files.Unread.TheVariants as unread
+
+-- how a job ends at a page that was not read, where the properties promise so many arcs
+abbrev pub EndsBy : ℕ → PagesError Unread → Ending → Type 0
+EndsBy promised (errors.Fault f) e = (e.status ≡ BadArchive f) × (e.promised ≡ promised)
+EndsBy promised errors.Memory e = e.status ≡ Memory
+EndsBy promised (errors.Refused (unread.Graph x)) e = e.status ≡ status_at input.Graph x
+EndsBy promised (errors.Refused (unread.Offsets x)) e = e ≡ word_ending promised x
+
+-- goes on with the successors of a page, by these offsets and the records of its chain in the graph file
+abbrev pub successors_then : Readings → Parameters → List ℕ → ℕ → Option (List ℕ) → (List ℕ → Judged) → Judged
+successors_then r p places page held next =
+    with_file input.Graph held (λ bytes. with_successors r p bytes places page next)
+
+-- the same, by the places that the offsets file stores
+abbrev pub spotted_then : Readings → Parameters → ℕ → Option (List ℕ) → Option (List ℕ) → (List ℕ → Judged) → Judged
+spotted_then r p page stored held next = offsets_then r p stored (λ places. successors_then r p places page held next)
+
+-- The successors of a page were not read: there is no such page, or one of the two files is at fault, or was not read;
+-- and if the depot tells its bytes, both are there, so that something hindered it.
+abbrev pub IsBadPage : Bool → ℕ → ℕ → Ending → Type 0
+IsBadPage told page promised e =
+    (e.status ≡ NoPage page) ⊎ (IsBadFile input.Graph promised e ⊎ IsBadFile input.Offsets promised e)
+    ⊎ ((IsOfInput input.Graph e.status ⊎ IsOfInput input.Offsets e.status) × (IsTrue told → IsHindrance e.status))
+
+-- The successors of a page were read, by the files of these names, or the job ends.
+pub record SpotsPage (names : Input → Option (List ℕ)) (p : Parameters) (page : ℕ) (told : Bool) (files files' : Files)
+    (counts counts' : List ℕ → Counts) (result : Result (List ℕ) Ending) : Type 0 where
+  pub only : IfErr result (IsBadPage told page p.arcs)
+  -- an absence or a fault is told only where the outside counted it
+  pub causes : HasCause names no_outputs counts counts' 0 0 (status_in result)
+  -- it goes on with the successors, or ends like this
+  pub steps : IsTrue told → (r : Readings)
+      → Steps (spotted_then r p page (held_by names files input.Offsets) (held_by names files input.Graph)) result
+  -- no file has changed, and no count of the depot falls
+  pub same : files' ≡ files
+  pub later : NonDecreasing counts counts'
+
+abbrev pub SpotsPageBy : {D : Type 0} → depot.Ghosts D → (Input → Option (List ℕ)) → Parameters → ℕ → D → D
+    → Result (List ℕ) Ending → Type 0
+SpotsPageBy d names p page before after result =
+    SpotsPage names p page d.told (d.files before) (d.files after) (d.counts before) (d.counts after) result
