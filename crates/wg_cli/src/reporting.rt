@@ -1,9 +1,8 @@
 //! The line on standard error that says why a job was not done. It takes no memory.
-ghost use Rattle.std.specs.Prelude.{◌≡◌, ◌≢◌, ◌⊎◌, ◌≤◌, ◌∷◌, [], ◌++◌, IsTrue, IsErr, Some, None, option_map, codes};
+ghost use Rattle.std.specs.Prelude.{◌≡◌, ◌≢◌, ◌⊎◌, [], ◌++◌, IsTrue, IsErr, Some, None, option_map, codes};
 ghost use Rattle.wg_outside.specs.Outside.{Increased};
 ghost use Rattle.wg_outside.specs.Puts.{Puts};
 ghost use Rattle.wg_cli.specs.Lines.{naming, name_in, output_in, line_of, Reports};
-ghost use Rattle.wg_outcomes.specs.JobFiles.{input_name};
 ghost use Rattle.wg_outcomes.specs.declared.status.Status.TheVariants.{BadSecond};
 
 use crate::names::{input_parts, output_parts};

@@ -9,7 +9,7 @@ ghost use Rattle.wg_grammar.specs.declared.need.Need.{Need};
 ghost use Rattle.wg_grammar.specs.Context.{Known, Context};
 ghost use Rattle.wg_grammar.specs.Judging.{Gives, named};
 ghost use Rattle.wg_grammar.specs.Next.{next};
-ghost use Rattle.wg_grammar.specs.Record.{ReadsRecord, Stands, Refused};
+ghost use Rattle.wg_grammar.specs.Record.{ReadsRecord};
 ghost use Rattle.wg_grammar.specs.Refusal.{refusal};
 ghost use Rattle.wg_grammar.specs.SoFar.{SoFar, after};
 ghost use Rattle.wg_grammar.specs.Tally.{Follows, need_of};

@@ -1,5 +1,5 @@
 //! The value of one field, and the page that it means.
-ghost use Rattle.std.specs.Prelude.{◌≡◌, ◌+◌, ◌^◌, ◌<◌, ◌≤◌, Bool, List, None, Some, IfOk};
+ghost use Rattle.std.specs.Prelude.{◌+◌, ◌^◌, ◌<◌, ◌≤◌, Bool, List, None, Some, IfOk};
 ghost use Rattle.std.specs.Option.{ForSome};
 ghost use Rattle.wg_params.specs.Codes.{IsCode};
 ghost use Rattle.wg_params.specs.declared.limits.TheConstants.{MOST_PAGES};

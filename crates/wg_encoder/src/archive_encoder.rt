@@ -1,5 +1,5 @@
 //! The encoding of list after list into memory.
-ghost use Rattle.std.specs.Prelude.{◌≡◌, ℕ, ◌+◌, ◌<◌, ◌≤◌, List, [], ◌∷◌, ◌++◌, length, IfOk, IfErr, Some};
+ghost use Rattle.std.specs.Prelude.{◌≡◌, ℕ, ◌+◌, ◌<◌, ◌≤◌, List, [], ◌∷◌, ◌++◌, length, IfOk, Some};
 ghost use Rattle.std.specs.FinMap as fin;
 ghost use Rattle.wg_outside.specs.Suffixes.{graph_name, offsets_name};
 ghost use Rattle.wg_params.specs.Parameters.{Parameters};

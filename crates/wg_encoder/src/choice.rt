@@ -1,4 +1,4 @@
-ghost use Rattle.std.specs.Prelude.{◌≡◌, ℕ, ◌+◌, List};
+ghost use Rattle.std.specs.Prelude.{ℕ, ◌+◌, List};
 ghost use Rattle.wg_params.specs.Parameters.{Parameters};
 ghost use Rattle.wg_grammar.specs.Context.{Context};
 ghost use Rattle.wg_encoder.specs.Cost.{IsFewer};

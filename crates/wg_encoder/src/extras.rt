@@ -4,7 +4,7 @@ ghost use Rattle.wg_intervals.specs.declared.run.Run.{Run};
 ghost use Rattle.wg_graph.specs.Ascending.{Ascends, Below};
 ghost use Rattle.wg_graph.specs.Numbers.{is_in};
 ghost use Rattle.wg_intervals.specs.Canonical.{is_long};
-ghost use Rattle.wg_greedy.specs.Fields.{extras, count_fields, extra_fields};
+ghost use Rattle.wg_greedy.specs.Fields.{extras, extra_fields};
 ghost use Rattle.wg_encoder.specs.Cost.{room_after};
 ghost use Rattle.wg_encoder.specs.Dues.{dues_of_runs, extra_dues, IsReady, MayCome};
 

@@ -1,5 +1,5 @@
 //! From list to list: what goes to the two files.
-ghost use Rattle.std.specs.Prelude.{◌≡◌, ℕ, ◌+◌, ◌<◌, ◌≤◌, true, false, cond, List as ListOf, [], ◌∷◌, ◌++◌, length, replicate, IfOk, IfErr, OnOk, OnErr, IsTrue};
+ghost use Rattle.std.specs.Prelude.{◌≡◌, ℕ, ◌+◌, ◌<◌, ◌≤◌, true, false, cond, List as ListOf, [], ◌∷◌, ◌++◌, length, replicate, IfOk, IfErr, OnOk, IsTrue};
 ghost use Rattle.wg_outside.specs.Outside.{NonDecreasing};
 ghost use Rattle.wg_bits.specs.Written.{padding};
 ghost use Rattle.wg_codes.specs.Words.{word};

@@ -1,5 +1,5 @@
 // What a whole record takes.
-ghost use Rattle.std.specs.Prelude.{◌≡◌, ◌<◌, ◌^◌, length};
+ghost use Rattle.std.specs.Prelude.{◌≡◌, ◌<◌, ◌^◌};
 ghost use Rattle.wg_graph.specs.Ascending.{Ascends, Below};
 ghost use Rattle.wg_greedy.specs.Fields.{reference_fields, list_fields, record_fields};
 ghost use Rattle.wg_encoder.specs.Cost.{cost_of, room_after, IsFewer};

@@ -1,7 +1,7 @@
 //! Maximal runs of consecutive numbers.
 ghost use Rattle.std.specs.Prelude.{◌≡◌, ◌+◌, ◌<◌, ◌≤◌, ◌^◌, List, ℕ, [], ◌∷◌, ◌++◌, option_to_list, IfSome, OnSome};
 ghost use Rattle.wg_graph.specs.Ascending.{Ascends};
-ghost use Rattle.wg_intervals.specs.Canonical.{runs_of, runs_from};
+ghost use Rattle.wg_intervals.specs.Canonical.{runs_from};
 
 /// Consecutive numbers: the first, and how many there are.
 #[derive(Clone, Copy, Debug)]

@@ -1,5 +1,5 @@
 // A depot in memory with calls that are to fail.
-ghost use Rattle.std.specs.Prelude.{◌≡◌, ◌≢◌, ◌-◌, ◌^◌, ◌<◌, ◌≤◌, ◌↔◌, ◌⊎◌, ℕ, min, length, take, IsTrue, IfOk, IfErr, OnOk, OnErr, IsErrOf};
+ghost use Rattle.std.specs.Prelude.{◌≡◌, ◌≢◌, ◌-◌, ◌^◌, ◌<◌, ◌≤◌, ◌↔◌, min, length, take, IsTrue, IfOk, IfErr, OnOk, OnErr, IsErrOf};
 ghost use Rattle.std.specs.FinMap as map;
 ghost use Rattle.wg_io.specs.Memory.{failing_counts, FailingFiles, no_calls, one_more, IsNamed};
 ghost use Rattle.wg_outside.specs.Outside.{NonDecreasing, appended, content, created, risen};

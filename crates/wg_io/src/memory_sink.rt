@@ -1,5 +1,5 @@
 // A sink in memory with a write that is to fail.
-ghost use Rattle.std.specs.Prelude.{◌≡◌, ◌+◌, ◌-◌, ◌<◌, ◌≤◌, ◌^◌, ◌↔◌, [], IsErrOf, IfOk, OnErr, IsTrue, length, take, ◌++◌, min};
+ghost use Rattle.std.specs.Prelude.{◌≡◌, ◌+◌, ◌-◌, ◌<◌, ◌≤◌, ◌^◌, ◌↔◌, [], IsErrOf, IfOk, length, take, ◌++◌, min};
 ghost use Rattle.wg_io.specs.Later.{NoneFalls};
 ghost use Rattle.wg_io.specs.Memory.{FailingBytes, failing_refusals, no_calls, one_more, IsNamed};
 ghost use Rattle.wg_outside.specs.Outside.{risen};

@@ -1,5 +1,5 @@
 // A depot in memory.
-ghost use Rattle.std.specs.Prelude.{◌≡◌, ◌≢◌, ◌-◌, ◌<◌, ◌≤◌, ℕ, min, length, take, IfOk, IfErr, OnOk, OnErr, IsOk, IsErrOf, option_map};
+ghost use Rattle.std.specs.Prelude.{◌≡◌, ◌-◌, ◌<◌, ◌≤◌, min, length, take, IfOk, IfErr, OnOk, OnErr, option_map};
 ghost use Rattle.std.specs.FinMap as map;
 ghost use Rattle.wg_io.specs.Memory.{steady_counts, SteadyFiles};
 ghost use Rattle.wg_outside.specs.Outside.{NonDecreasing, appended, content, created, risen};

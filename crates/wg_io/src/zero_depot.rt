@@ -1,5 +1,5 @@
 // A depot of one file of zeros.
-ghost use Rattle.std.specs.Prelude.{◌≡◌, ◌-◌, ◌<◌, ◌≤◌, ℕ, min, length, take, replicate, IfOk, IfErr, OnOk, OnErr, IsErrOf};
+ghost use Rattle.std.specs.Prelude.{◌≡◌, ◌-◌, ◌<◌, ◌≤◌, min, length, take, replicate, IfOk, IfErr, OnOk, OnErr, IsErrOf};
 ghost use Rattle.std.specs.FinMap as map;
 ghost use Rattle.wg_io.specs.Memory.{zero_counts, OneFile, files_of_zeros};
 ghost use Rattle.wg_outside.specs.Outside.{NonDecreasing, Increased, appended, created, risen};

@@ -1,5 +1,4 @@
 //! The successors of a page, as a list whose numbers come one by one.
-ghost use Rattle.std.specs.Prelude.{◌≡◌};
 
 use crate::Successors;
 use wg_shape::Coming;

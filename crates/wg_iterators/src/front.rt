@@ -1,5 +1,5 @@
 //! Which of the three fronts comes next.
-ghost use Rattle.std.specs.Prelude.{◌≡◌, ◌≤◌, ◌<◌, None, Some, Option};
+ghost use Rattle.std.specs.Prelude.{◌≡◌, ◌<◌, None, Some, Option};
 ghost use Rattle.wg_iterators.specs.Least.{IsLeast};
 ghost use Rattle.wg_iterators.specs.Ahead.{head_of};
 

@@ -1,5 +1,5 @@
 //! The files that the records of one chain are read from.
-ghost use Rattle.std.specs.Prelude.{◌≡◌, ◌<◌, false, Bool, List, ℕ, length, IsTrue, IfOk, IfErr};
+ghost use Rattle.std.specs.Prelude.{◌≡◌, ◌<◌, false, Bool, List, length, IsTrue, IfOk, IfErr};
 ghost use Rattle.wg_params.specs.Codes.{IsCode};
 ghost use Rattle.wg_grammar.specs.Standing.{IsReadAt, IsTailAt};
 ghost use Rattle.wg_source.specs.Stepping.{Steps, Moves};

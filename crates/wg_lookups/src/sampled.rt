@@ -1,7 +1,6 @@
 //! The offsets file of an archive, of which samples are kept.
 ghost use Rattle.std.specs.Prelude.{◌≡◌, ◌+◌, ◌<◌, ◌≤◌, ℕ, List, get_or, Some, IsTrue, IfOk, IfErr};
 ghost use Rattle.std.specs.FinMap as map;
-ghost use Rattle.wg_bits.specs.Bits.{bits_of};
 ghost use Rattle.wg_params.specs.Parameters.{IsWithinLimits};
 ghost use Rattle.wg_source.specs.Held.{IsHeldOf};
 ghost use Rattle.wg_source.specs.Stepping.{Steps as StepsOn, Moves};

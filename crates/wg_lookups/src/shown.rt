@@ -1,5 +1,5 @@
 //! The lines of pages with their successors.
-ghost use Rattle.std.specs.Prelude.{◌≡◌, map, IsTrue};
+ghost use Rattle.std.specs.Prelude.{map, IsTrue};
 ghost use Rattle.wg_lines.specs.Printing.{Prints};
 ghost use Rattle.wg_outside.specs.Puts.{joined};
 ghost use Rattle.wg_outside.specs.Refusals.{SinkRefusals};

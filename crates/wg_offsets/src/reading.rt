@@ -1,5 +1,5 @@
 //! All words of an offsets file.
-ghost use Rattle.std.specs.Prelude.{◌≡◌, ℕ, ◌+◌, ◌≤◌, true, Bool, List, length, Ok, Err, IfOk, IfErr};
+ghost use Rattle.std.specs.Prelude.{◌≡◌, ◌+◌, ◌≤◌, true, Bool, List, length, Ok, Err, IfOk, IfErr};
 ghost use Rattle.wg_params.specs.declared.limits.TheConstants.{MOST_PAGES};
 ghost use Rattle.wg_params.specs.Codes.{is_gamma_or_delta};
 ghost use Rattle.wg_outside.specs.declared.limits.TheConstants.{MOST_BYTES};

@@ -1,17 +1,16 @@
 //! What goes to the output.
-ghost use Rattle.std.specs.Prelude.{◌≡◌, ◌≤◌, ◌<◌, length, slice_index, IsTrue, IsErrOf, IfErr, Err};
+ghost use Rattle.std.specs.Prelude.{◌≡◌, ◌≤◌, ◌<◌, length, slice_index, IsTrue, Err};
 ghost use Rattle.wg_outside.specs.Puts.{Puts};
 ghost use Rattle.wg_outside.specs.Refusals.{SinkRefusals};
-ghost use Rattle.wg_outcomes.specs.Answers.{IsUnput, PrintRefusals};
+ghost use Rattle.wg_outcomes.specs.Answers.{PrintRefusals};
 ghost use Rattle.wg_lines.specs.Printing.{Prints};
 ghost use Rattle.wg_arcs.specs.Text.{page_lines};
 ghost use Rattle.wg_ascii.specs.Text.{list_line, nodes_line};
 ghost use Rattle.wg_lines.specs.declared.lines.TheConstants.{MOST_PIECE};
 ghost use Rattle.wg_outcomes.specs.Ranked.{rank_line, rank_lines};
 ghost use Rattle.wg_rank.specs.declared.limits.TheConstants.{UNITS};
-ghost use Rattle.wg_outcomes.specs.Commands.{number_line, ok_line};
+ghost use Rattle.wg_outcomes.specs.Commands.{number_line};
 ghost use Rattle.wg_outcomes.specs.Verified.{verified_line};
-ghost use Rattle.wg_outside.specs.declared.output.Output.TheVariants.{Out};
 
 use wg_lines::Lines;
 use wg_num::units_text;

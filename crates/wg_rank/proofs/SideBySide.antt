@@ -3,7 +3,6 @@ use Rattle.std.proofs.Common.{ℕ, zero, suc, ◌≡◌, ◌≢◌, ◌+◌, ◌
 use Rattle.std.proofs.lemmas.List.{length-set}
 use Rattle.std.proofs.lemmas.List.Elements.{All-from_get_or}
 use Rattle.wg_rank.specs.Inflows.{low_flows, high_flows}
-use Rattle.wg_rank.proofs.Settled.{table_more}
 
 -- ---- how many there are
 

@@ -1,6 +1,6 @@
 // One round, over the bounds as slices.
 
-ghost use Rattle.std.specs.Prelude.{◌≡◌, ℕ, ◌*◌, ◌≤◌, ◌<◌, length, slice_index, All};
+ghost use Rattle.std.specs.Prelude.{◌≡◌, ◌*◌, ◌≤◌, ◌<◌, length, All};
 ghost use Rattle.wg_params.specs.declared.limits.TheConstants.{MOST_PAGES, MOST_DAMPING};
 ghost use Rattle.wg_graph.specs.Digraph.{IsGraph};
 ghost use Rattle.wg_rank.specs.Sum.{sum_below};

@@ -1,6 +1,6 @@
 // A certificate from its text.
 
-ghost use Rattle.std.specs.Prelude.{◌≡◌, ℕ, ◌+◌, ◌<◌, ◌≤◌, All, Ok, Err, IfOk, IfErr, OnOk, MatchOption, [], ◌∷◌, ◌++◌, length, drop, codes, vec_len};
+ghost use Rattle.std.specs.Prelude.{◌≡◌, ℕ, ◌+◌, ◌<◌, ◌≤◌, All, Ok, Err, IfOk, IfErr, OnOk, MatchOption, [], ◌∷◌, ◌++◌, length, drop, vec_len};
 ghost use Rattle.wg_params.specs.declared.limits.TheConstants.{MOST_PAGES, MOST_DAMPING};
 ghost use Rattle.wg_num.specs.Lines.{lines_of};
 ghost use Rattle.wg_rank.specs.CertificateLines.{StandsFor};

@@ -1,6 +1,6 @@
 // The text of a certificate.
 
-ghost use Rattle.std.specs.Prelude.{◌≡◌, ℕ, ◌<◌, ◌≤◌, All, [], length, take, codes, IsTrue, OnOk, OnErr};
+ghost use Rattle.std.specs.Prelude.{◌≡◌, ℕ, ◌<◌, ◌≤◌, All, [], length, take, IsTrue, OnOk, OnErr};
 ghost use Rattle.wg_outside.specs.Outside.{appended};
 ghost use Rattle.wg_lines.specs.Printing.{Prints};
 ghost use Rattle.wg_outside.specs.Puts.{Puts};

@@ -1,6 +1,5 @@
 //! Files that are read whole and judged: those of an archive, weights, certificates and maps.
-ghost use Rattle.std.specs.Prelude.{◌≡◌, ◌≤◌, ℕ, List, Option, IsSome, Some};
-ghost use Rattle.wg_params.specs.declared.limits.TheConstants.{MOST_PAGES};
+ghost use Rattle.std.specs.Prelude.{◌≡◌, ℕ, List, Option, IsSome, Some};
 ghost use Rattle.wg_readings.specs.Loading.{LoadsBy, LoadsCertificateBy, LoadsGraphBy, LoadsParamsBy};
 ghost use Rattle.wg_readings.specs.Loading.{LoadsMapBy, LoadsWeightsBy};
 ghost use Rattle.wg_outcomes.specs.Names.{file_of, suffix_of};

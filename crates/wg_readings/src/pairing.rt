@@ -1,5 +1,5 @@
 //! The words of an offsets file, read in pieces beside the records of its graph.
-ghost use Rattle.std.specs.Prelude.{◌≡◌, ◌+◌, ◌<◌, ◌≤◌, ℕ, true, false, List, [], ◌∷◌, ◌++◌, Some, Ok, Err, OnOk};
+ghost use Rattle.std.specs.Prelude.{◌≡◌, ◌+◌, ◌<◌, ◌≤◌, ℕ, true, List, [], ◌∷◌, ◌++◌, Some, Ok, Err, OnOk};
 ghost use Rattle.std.specs.Prelude.{IfOk, IfErr, IsTrue};
 ghost use Rattle.std.specs.FinMap as map;
 ghost use Rattle.wg_outside.specs.Outside.{Files, Counts, NonDecreasing};
@@ -13,7 +13,7 @@ ghost use Rattle.wg_offsets.specs.Comparing.{AreCompared};
 ghost use Rattle.wg_outcomes.specs.Answers.{Steps};
 ghost use Rattle.wg_outcomes.specs.Judged.{with_lengths};
 ghost use Rattle.wg_outcomes.specs.Promised.{IsBadFile};
-ghost use Rattle.wg_readings.specs.Pairing.{ComesWith, EndsPairing, HasCome, IsPaired, IsPairedWith, IsStopped};
+ghost use Rattle.wg_readings.specs.Pairing.{ComesWith, EndsPairing, HasCome, IsPaired, IsStopped};
 ghost use Rattle.wg_readings.specs.Pairing.{IsUnread, word_ending};
 
 use crate::lines::unread;

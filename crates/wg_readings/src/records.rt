@@ -3,7 +3,6 @@ ghost use Rattle.std.specs.Prelude.{◌≡◌, ◌+◌, ◌<◌, ℕ, true, List
 ghost use Rattle.std.specs.Prelude.{IfErr, IsTrue, length};
 ghost use Rattle.std.specs.FinMap as map;
 ghost use Rattle.wg_outside.specs.Outside.{Files};
-ghost use Rattle.wg_params.specs.Parameters.{IsWithinLimits};
 ghost use Rattle.wg_grammar.specs.Archive.{lists_of, places_of};
 ghost use Rattle.wg_grammar.specs.Record.{Whole};
 ghost use Rattle.wg_stream.specs.declared.state.State.TheVariants.{Open};

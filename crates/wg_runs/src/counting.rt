@@ -1,6 +1,6 @@
 // How many runs and arcs lead to each page, and how many arcs leave it.
 
-ghost use Rattle.std.specs.Prelude.{◌≡◌, ℕ, ◌+◌, ◌<◌, ◌≤◌, length, sum, All};
+ghost use Rattle.std.specs.Prelude.{◌≡◌, ◌+◌, ◌<◌, ◌≤◌, length, sum, All};
 ghost use Rattle.wg_params.specs.declared.limits.TheConstants.{MOST_ARCS};
 ghost use Rattle.wg_graph.specs.Digraph.{Digraph, IsGraph, arc_count};
 ghost use Rattle.wg_transpose.specs.Transposed.{predecessors};

@@ -1,6 +1,6 @@
 // The runs to each page, one page after the other in one array.
 
-ghost use Rattle.std.specs.Prelude.{◌≡◌, ℕ, ◌+◌, ◌<◌, ◌≤◌, length, get_or, All};
+ghost use Rattle.std.specs.Prelude.{◌≡◌, ℕ, ◌+◌, ◌<◌, ◌≤◌, length, get_or};
 ghost use Rattle.wg_params.specs.declared.limits.TheConstants.{MOST_ARCS};
 ghost use Rattle.wg_graph.specs.Digraph.{Digraph};
 ghost use Rattle.wg_transpose.specs.SoFar.{IsListOf};

@@ -1,6 +1,6 @@
 // The pages that link to each page, one list after the other in one array.
 
-ghost use Rattle.std.specs.Prelude.{◌≡◌, ℕ, ◌+◌, ◌≤◌, length};
+ghost use Rattle.std.specs.Prelude.{◌≡◌, ◌+◌, ◌≤◌, length};
 ghost use Rattle.wg_params.specs.declared.limits.TheConstants.{MOST_ARCS};
 ghost use Rattle.wg_graph.specs.Digraph.{Digraph, IsGraph, arc_count};
 ghost use Rattle.wg_transpose.specs.Transposed.{predecessors};

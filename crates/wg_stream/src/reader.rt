@@ -1,5 +1,5 @@
 //! A graph file, read list after list.
-ghost use Rattle.std.specs.Prelude.{◌≡◌, ◌+◌, ◌*◌, ◌/◌, ◌≤◌, ℕ, true, false, List as ListOf, [], ◌∷◌, Some, None, Ok, Err, length, string_bytes, IsTrue, OnOk, IfOk, IfErr, IfSome, MatchOption};
+ghost use Rattle.std.specs.Prelude.{◌≡◌, ◌+◌, ◌*◌, ◌/◌, ◌≤◌, ℕ, true, false, List as ListOf, [], Some, None, Ok, Err, length, string_bytes, IsTrue, IfOk, IfErr, IfSome, MatchOption};
 ghost use Rattle.std.specs.FinMap as map;
 ghost use Rattle.wg_outside.specs.declared.limits.TheConstants.{MOST_BYTES};
 ghost use Rattle.wg_outside.specs.Outside.{NonDecreasing};

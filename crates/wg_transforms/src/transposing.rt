@@ -1,5 +1,5 @@
 //! The archive of a transposed graph, encoded in memory, range after range of pages.
-ghost use Rattle.std.specs.Prelude.{◌≡◌, ◌≤◌, Err, ℕ, IfErr, IfOk, length};
+ghost use Rattle.std.specs.Prelude.{◌≡◌, ◌≤◌, Err, IfErr, IfOk, length};
 ghost use Rattle.wg_outside.specs.declared.limits.TheConstants.{MOST_BYTES};
 ghost use Rattle.wg_bits.specs.Bits.{bits_of};
 ghost use Rattle.wg_params.specs.Parameters.{IsWithinLimits, params_of};

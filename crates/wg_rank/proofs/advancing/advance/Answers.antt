@@ -1,7 +1,5 @@
-use Rattle.std.proofs.Common.{ℕ, ◌≡◌, ◌-◌, ◌≤◌, ◌+◌, min, arith, length, get_or, ap, ap₂, ◌∙◌}
-use Rattle.wg_rank.specs.Rank.{high_flow}
+use Rattle.std.proofs.Common.{ℕ, ◌≡◌, ◌-◌, ◌+◌, min, arith, length, get_or, ap, ◌∙◌}
 use Rattle.wg_rank.specs.Intervals.{by_page}
-use Rattle.wg_rank.specs.Settling.{settled_highs}
 use Rattle.wg_rank.specs.Sum.{sum_below}
 use Rattle.wg_rank.specs.Weights.{weights_or_ones}
 use Rattle.wg_rank.specs.declared.limits.TheConstants.{UNITS}

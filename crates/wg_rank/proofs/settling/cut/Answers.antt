@@ -1,4 +1,4 @@
-use Rattle.std.proofs.Common.{arith, refl}
+use Rattle.std.proofs.Common.{arith}
 use Rattle.wg_rank.proofs.Settled.{table_more, table_left}
 use Rattle.wg_rank.proofs.settling.cut.Goals as goal
 

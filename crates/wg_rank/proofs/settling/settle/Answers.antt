@@ -1,4 +1,4 @@
-use Rattle.std.proofs.Common.{ℕ, ◌≡◌, ◌+◌, ◌*◌, min, arith, length, refl, ap₂, ◌∙◌}
+use Rattle.std.proofs.Common.{ℕ, ◌≡◌, ◌+◌, min, arith, length, refl, ap₂, ◌∙◌}
 use Rattle.wg_rank.specs.Rank.{low_flow, high_flow}
 use Rattle.wg_rank.proofs.Settled.{block_more, low_from, high_from}
 use Rattle.wg_rank.proofs.SideBySide.{low_count}

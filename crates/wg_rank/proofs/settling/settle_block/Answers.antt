@@ -1,5 +1,5 @@
 use Rattle.std.proofs.Common.{ℕ, ◌+◌, min, arith, length, get_or, ap, ap₂, ◌∙◌}
-use Rattle.wg_rank.specs.Inflows.{low_flows, high_flows}
+use Rattle.wg_rank.specs.Inflows.{low_flows}
 use Rattle.wg_rank.specs.Settling.{low_of, high_of}
 use Rattle.wg_rank.proofs.Settled.{part_more, part_before, table_left}
 use Rattle.wg_rank.proofs.SideBySide.{high_count}

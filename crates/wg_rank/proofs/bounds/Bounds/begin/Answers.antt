@@ -1,4 +1,4 @@
-use Rattle.std.proofs.Common.{arith, rules, ℕ, ◌≡◌, ◌*◌, ◌≤◌, List, length, get_or, replicate, refl, ap, ◌∙◌}
+use Rattle.std.proofs.Common.{arith, rules, ℕ, ◌≡◌, ◌≤◌, List, length, get_or, replicate, ap, ◌∙◌}
 use Rattle.std.proofs.lemmas.List.{length-replicate, get_or-replicate}
 use Rattle.std.proofs.lemmas.List.Elements.{All-replicate}
 use Rattle.wg_rank.specs.Sum.{sum_below}

@@ -1,4 +1,4 @@
-use Rattle.std.proofs.Common.{ℕ, ◌≡◌, arith, ◌∙◌}
+use Rattle.std.proofs.Common.{arith, ◌∙◌}
 use Rattle.wg_rank.proofs.gathering.AnyGather.flow.Goals as goal
 
 pub low_flow-requires : goal.low_flow-requires

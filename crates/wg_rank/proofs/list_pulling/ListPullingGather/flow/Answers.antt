@@ -1,8 +1,7 @@
 use Rattle.std.specs.List.{sum_by}
-use Rattle.std.proofs.Common.{ℕ, ◌≡◌, ◌*◌, ◌≤◌, ap, ◌∙◌, arith}
+use Rattle.std.proofs.Common.{ℕ, ◌≤◌, ap, ◌∙◌, arith}
 use Rattle.wg_params.specs.declared.limits.TheConstants.{MOST_PAGES}
 use Rattle.wg_rank.specs.Pulling.{Pulled, low_share, high_share, given}
-use Rattle.wg_rank.specs.declared.limits.TheConstants.{UNITS}
 use Rattle.wg_rank.proofs.Runs.{in_sum}
 use Rattle.wg_rank.proofs.Listed.{shares_room}
 use Rattle.wg_rank.proofs.list_pulling.ListPullingGather.flow.Goals as goal

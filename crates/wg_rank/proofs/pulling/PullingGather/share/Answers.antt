@@ -1,4 +1,4 @@
-use Rattle.std.proofs.Common.{◌≡◌, length, get_or, arith, ap, ◌∙◌}
+use Rattle.std.proofs.Common.{◌≡◌, length, get_or, arith, ap}
 use Rattle.std.proofs.lemmas.List.{with_items_is}
 use Rattle.wg_rank.specs.Pulling.{Pulled}
 use Rattle.wg_rank.proofs.Flow.{dangling_within}
