@@ -24,8 +24,8 @@
 //! [`Code`] works for a `Zeta(k)` with `k` from 1 to 31 and for every other code.
 //!
 //! No call takes memory. A word is read and written by a fixed number of loads and shifts, and never bit by bit; a
-//! word of gamma or zeta that can be seen at a glance, as nearly all can, by one load. Two loops are left: unary goes over
-//! 64 zeros at a time, and nibble digit by digit, over at most 21.
+//! word of gamma or zeta that can be seen at a glance, as nearly all can, by one load. Two loops are left: unary goes
+//! over 64 zeros at a time, and nibble digit by digit, over at most 21.
 //!
 //! Choices:
 //!
