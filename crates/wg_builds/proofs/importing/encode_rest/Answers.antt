@@ -1,24 +1,30 @@
 use Rattle.std.proofs.Common.{◌∙◌, ℕ, List, Ok, refl, length, ap, sym, subst, arith}
 use Rattle.std.specs.FinMap as map
+use Rattle.std.proofs.lemmas.Result.{err_from_is_err_and}
 use Rattle.wg_outside.specs.Outside.{Files}
 use Rattle.wg_outside.proofs.FilesLemmas.{none_falls-trans}
 use Rattle.wg_num.specs.Lines.{lines_of}
 use Rattle.wg_lines.specs.Reading.{lines_after}
 use Rattle.wg_ascii.specs.Growing.{IsUpTo}
 use Rattle.wg_outcomes.specs.Names.{text_named}
-use Rattle.wg_outcomes.proofs.WritingLemmas.{if_that_err}
 use Rattle.wg_readings.proofs.LoadLemmas.{text_unloaded}
 use Rattle.wg_builds.proofs.ImportJobs.{text_after, text_read, text_stops}
 use Rattle.wg_builds.proofs.ImportingLemmas.{lent}
 use Rattle.wg_builds.proofs.TextJobs.{still}
 use Rattle.wg_builds.proofs.importing.encode_rest.Goals as goal
 
-pub returns-in_err-next_lines-clause-ends : goal.returns-in_err-next_lines-clause-ends
-returns-in_err-next_lines-clause-ends g c =
+pub returns-in_err-next_lines : goal.returns-in_err-next_lines
+returns-in_err-next_lines g c =
     let i = c.loop-encoder.invariant in
     let name = c.args.name.now in
-    if_that_err _ _ _ c.from_residual.ensures.1
-    (text_after name _ _ _ _ _ _ _ _ i.same i.later (text_unloaded name _ _ _ _ _ c.in_err-next_lines.field-0.0 (c.in_err-next_lines.ensures.ends (text_named name) refl)))
+    let q = err_from_is_err_and c.from_residual.result c.from_residual.ensures.1 in
+    rw (q.1, q.2) record {
+      params = tt;
+      nodes = tt;
+      few = tt;
+      encodes = tt;
+      ends = text_after name _ _ _ _ _ _ _ _ i.same i.later (text_unloaded name _ _ _ _ _ c.in_err-next_lines.field-0.0 (c.in_err-next_lines.ensures.ends (text_named name) refl));
+    }
 
 pub returns-in-Err-clause-ends : goal.returns-in-Err-clause-ends
 returns-in-Err-clause-ends g c =

@@ -1,5 +1,6 @@
-use Rattle.std.proofs.Common.{◌∙◌, [], ℕ, List, None, Ok, length, ap, refl, sym, subst, arith}
+use Rattle.std.proofs.Common.{rules, ◌∙◌, [], ℕ, List, None, Ok, length, ap, refl, sym, subst, arith}
 use Rattle.std.specs.FinMap as map
+use Rattle.std.proofs.lemmas.Result.{err_from_is_err_and}
 use Rattle.wg_outside.specs.Outside.{Files}
 use Rattle.wg_outside.proofs.FilesLemmas.{none_falls-refl, none_falls-trans}
 use Rattle.wg_num.specs.Lines.{lines_of}
@@ -8,25 +9,34 @@ use Rattle.wg_arcs.specs.Growing.{SoFar}
 use Rattle.wg_arcs.specs.Listing.{AreListed, arcs_on}
 use Rattle.wg_arcs.proofs.ListedLemmas.{none_listed}
 use Rattle.wg_outcomes.specs.Names.{list_named}
-use Rattle.wg_outcomes.proofs.WritingLemmas.{if_that_err}
 use Rattle.wg_builds.specs.Listed.{IsFault}
 use Rattle.wg_builds.proofs.ListedJobs.{lent_now, list_encoded, list_stops, list_unread_after}
 use Rattle.wg_builds.proofs.ListingLemmas.{may_take}
 use Rattle.wg_builds.proofs.TextJobs.{still}
 use Rattle.wg_builds.proofs.listing.encode_lines.Goals as goal
 
-pub returns-in_err-reader-clause-ends : goal.returns-in_err-reader-clause-ends
-returns-in_err-reader-clause-ends g c =
+pub returns-in_err-reader : goal.returns-in_err-reader
+returns-in_err-reader g c =
     let name = c.args.name.now in
-    if_that_err _ _ _ c.from_residual.ensures.1
-    (list_unread_after name c.args.nodes _ _ _ _ _ _ _ c.in_err-reader.field-0.0 refl (none_falls-refl _) (c.in_err-reader.ensures.ends (list_named name) refl))
+    let q = err_from_is_err_and c.from_residual.result c.from_residual.ensures.1 in
+    rw (q.1, q.2) record {
+      params = tt;
+      few = tt;
+      encodes = tt;
+      ends = list_unread_after name c.args.nodes _ _ _ _ _ _ _ c.in_err-reader.field-0.0 refl (none_falls-refl _) (c.in_err-reader.ensures.ends (list_named name) refl);
+    }
 
-pub returns-in_err-next_lines-clause-ends : goal.returns-in_err-next_lines-clause-ends
-returns-in_err-next_lines-clause-ends g c =
+pub returns-in_err-next_lines : goal.returns-in_err-next_lines
+returns-in_err-next_lines g c =
     let i = c.loop-list.invariant in
     let name = c.args.name.now in
-    if_that_err _ _ _ c.from_residual-in_err-next_lines.ensures.1
-    (list_unread_after name c.args.nodes _ _ _ _ _ _ _ c.in_err-next_lines.field-0.0 i.same i.later (c.in_err-next_lines.ensures.ends (list_named name) refl))
+    let q = err_from_is_err_and c.from_residual-in_err-next_lines.result c.from_residual-in_err-next_lines.ensures.1 in
+    rw (q.1, q.2) record {
+      params = tt;
+      few = tt;
+      encodes = tt;
+      ends = list_unread_after name c.args.nodes _ _ _ _ _ _ _ c.in_err-next_lines.field-0.0 i.same i.later (c.in_err-next_lines.ensures.ends (list_named name) refl);
+    }
 
 pub returns-in-Err-clause-ends : goal.returns-in-Err-clause-ends
 returns-in-Err-clause-ends g c =
@@ -97,6 +107,11 @@ pub end_pages-requires-clause-list : goal.end_pages-requires-clause-list
 end_pages-requires-clause-list g c =
     let w = c.loop-list.invariant.way in
     may_take c.loop-list.encoder w.0 c.loop-list.list None c.loop-list.lines w.1.encoded w.1.nodes w.1.most w.1.listed
+
+pub returns-in_err-encoder : goal.returns-in_err-encoder
+returns-in_err-encoder g c =
+    let q = err_from_is_err_and c.from_residual-in_err-encoder.result c.from_residual-in_err-encoder.ensures.1 in
+    rw (q.1, q.2) record { params = tt; few = tt; encodes = tt; ends = search rules }
 
 pub returns-clause-encodes : goal.returns-clause-encodes
 returns-clause-encodes g c =

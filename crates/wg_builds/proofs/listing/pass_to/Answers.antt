@@ -1,4 +1,4 @@
-use Rattle.std.proofs.Common.{◌+◌, ◌++◌, ◌∷◌, [], List, ℕ, length, ap, sym, subst, ◌∙◌, arith}
+use Rattle.std.proofs.Common.{◌≡◌, ◌+◌, ◌++◌, ◌∷◌, [], List, ℕ, length, ap, sym, subst, ◌∙◌, arith}
 use Rattle.std.proofs.lemmas.List.{length_push}
 use Rattle.wg_params.specs.Parameters.{Parameters}
 use Rattle.wg_graph.specs.Growing.{padded}
@@ -37,3 +37,9 @@ loop-encoder-preserved c =
           let more = padded_more k all (omega (arith, length_push done c.args.list.now, h.page, i.page)) in
           subst (HasEncoded f) (more ∙ ap (λ (n : ℕ). padded n all) (sym e.page)) (e.encoded (padded k all) (i.encoded done h));
     }
+
+pub returns-clause-encoded : goal.returns-clause-encoded
+returns-clause-encoded c = λ done h.
+    let i = c.loop-encoder.invariant in
+    let end : c.loop-encoder.encoder.page ≡ c.args.page = omega (arith, i.within, c.page.ensures.value, c.loop-encoder-test.false) in
+    subst (λ (n : ℕ). HasEncoded c.loop-encoder.encoder (padded n (done ++ c.args.list.now ∷ []))) end (i.encoded done h)

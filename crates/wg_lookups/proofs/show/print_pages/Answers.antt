@@ -1,15 +1,19 @@
-use Rattle.std.proofs.Common.{◌≡◌, [], List, ℕ, arith, map, subst, take}
+use Rattle.std.proofs.Common.{◌≡◌, ◌+◌, ◌∙◌, [], List, ℕ, Result, Ok, Err, OnOk, ap, arith, map, subst, sum_by, take}
 use Rattle.std.proofs.lemmas.List.{take_all}
 use Rattle.std.proofs.lemmas.List.Sums.{sum_by_more, sum_by_more_le}
 use Rattle.wg_outside.specs.Puts.{joined}
 use Rattle.wg_lines.specs.Printing.{HasPrinted}
-use Rattle.wg_outside.proofs.PutsLemmas.{is_that_err}
+use Rattle.wg_outside.proofs.PutsLemmas.{is_that_err, rose_on}
 use Rattle.wg_lines.proofs.PrintLemmas.{puts_of_less, puts_in_the_end}
 use Rattle.wg_outcomes.specs.Commands.{line_in, successors_lines}
 use Rattle.wg_outcomes.specs.declared.ending.Ending.{Ending}
 use Rattle.wg_lines.proofs.NumberLines.{line_printed, line_less}
 use Rattle.wg_lookups.specs.Showing.{chain_records}
 use Rattle.wg_lookups.proofs.show.print_pages.Goals as goal
+
+if_always : {A E P : Type 0} (r : Result A E) → P → OnOk r P
+if_always (Ok x) p = p
+if_always (Err e) p = tt
 
 pub loop-page-preserved : goal.loop-page-preserved
 loop-page-preserved g c = record {
@@ -21,22 +25,39 @@ loop-page-preserved g c = record {
   opened = λ r. omega (arith, c.loop-page.invariant.opened r, c.in_ok-show_page.ensures.each r, sum_by_more (chain_records r.records) c.args.pages.now c.loop-page.page-index 0 c.loop-page-test.true);
 }
 
-pub returns-in_err-show_page-clause-puts : goal.returns-in_err-show_page-clause-puts
-returns-in_err-show_page-clause-puts g c t a read =
+pub returns-in_err-show_page : goal.returns-in_err-show_page
+returns-in_err-show_page g c =
     let taken = g.O.Sink.taken in
-    rw (is_that_err c.from_residual.result _ c.from_residual.ensures.1)
-    (puts_of_less {E = Ending} (taken c.args.out.now) (taken c.show_page.new.out) (successors_lines a.graph c.args.pages.now) c.in_err-show_page.field-0.0
-    (line_less (line_in a.graph) (taken c.args.out.now) (taken c.loop-page.out) (taken c.show_page.new.out) [] c.loop-page.lines c.args.pages.now c.loop-page.page-index c.loop-page-test.true
-    (c.loop-page.invariant.printed t a read) (c.in_err-show_page.ensures.line.prints t a read)))
+    let faults = g.O.Sink.faults in
+    let i = c.loop-page.invariant in
+    let n = c.in_err-show_page.ensures in
+    let pages = c.args.pages.now in
+    let out = c.show_page.new.out in
+    rw (is_that_err c.from_residual.result _ c.from_residual.ensures.1) record {
+      puts = λ t a read.
+          puts_of_less {E = Ending} (taken c.args.out.now) (taken out) (successors_lines a.graph pages) c.in_err-show_page.field-0.0
+          (line_less (line_in a.graph) (taken c.args.out.now) (taken c.loop-page.out) (taken out) [] c.loop-page.lines pages c.loop-page.page-index c.loop-page-test.true (i.printed t a read) (n.line.prints t a read));
+      only = n.line.only;
+      failed = λ is. rose_on (faults c.args.out.now) (faults c.loop-page.out) (faults out) (faults out) (g.met.O.Sink.onward _ _ i.later).0 (n.line.failed is) (omega arith);
+      each = λ r. tt;
+      most = λ r. omega (arith, i.opened r, n.most r, sum_by_more_le (chain_records r.records) pages c.loop-page.page-index 0 c.loop-page-test.true);
+    }
 
-pub returns-in_err-show_page-clause-most : goal.returns-in_err-show_page-clause-most
-returns-in_err-show_page-clause-most g c r =
-    omega (arith, c.loop-page.invariant.opened r, c.in_err-show_page.ensures.most r, sum_by_more_le (chain_records r.records) c.args.pages.now c.loop-page.page-index 0 c.loop-page-test.true)
-
-pub returns-clause-puts : goal.returns-clause-puts
-returns-clause-puts g c t a read =
+pub returns : goal.returns
+returns g c =
     let taken = g.O.Sink.taken in
-    let all : take c.loop-page.page-index c.args.pages.now ≡ c.args.pages.now = take_all c.loop-page.page-index c.args.pages.now (omega (arith, c.loop-page-test.false)) in
-    puts_in_the_end (taken c.args.out.now) (taken c.loop-page.out) (taken c.print_rest.new.out) (successors_lines a.graph c.args.pages.now) c.loop-page.lines c.print_rest.result
-    (subst (λ (ps : List ℕ). HasPrinted (taken c.args.out.now) (taken c.loop-page.out) [] (joined (map (line_in a.graph) ps)) c.loop-page.lines) all (c.loop-page.invariant.printed t a read))
-    (c.print_rest.ensures.puts t)
+    let faults = g.O.Sink.faults in
+    let i = c.loop-page.invariant in
+    let n = c.print_rest.ensures in
+    let pages = c.args.pages.now in
+    let out = c.print_rest.new.out in
+    let all : take c.loop-page.page-index pages ≡ pages = take_all c.loop-page.page-index pages (omega (arith, c.loop-page-test.false)) in
+    record {
+      puts = λ t a read.
+          puts_in_the_end (taken c.args.out.now) (taken c.loop-page.out) (taken out) (successors_lines a.graph pages) c.loop-page.lines c.print_rest.result
+          (subst (λ (ps : List ℕ). HasPrinted (taken c.args.out.now) (taken c.loop-page.out) [] (joined (map (line_in a.graph) ps)) c.loop-page.lines) all (i.printed t a read)) (n.puts t);
+      only = n.refusals.only;
+      failed = λ is. rose_on (faults c.args.out.now) (faults c.loop-page.out) (faults out) (faults out) (g.met.O.Sink.onward _ _ i.later).0 (n.refusals.failed is) (omega arith);
+      each = λ r. if_always c.print_rest.result (i.opened r ∙ ap (λ (ps : List ℕ). c.args.steps.now + sum_by (chain_records r.records) ps) all);
+      most = λ r. omega (arith, i.opened r, ap (λ (ps : List ℕ). sum_by (chain_records r.records) ps) all);
+    }

@@ -1,8 +1,10 @@
-use Rattle.std.proofs.Common.{ℕ, Ok, Err, subst}
+use Rattle.std.proofs.Common.{◌∙◌, ℕ, Ok, Err, subst, arith}
+use Rattle.std.proofs.lemmas.List.{length_push}
 use Rattle.std.proofs.lemmas.Result.{err_from_is_err_and}
 use Rattle.wg_params.specs.declared.code.Code.{Code}
 use Rattle.wg_offsets.specs.Words.{ReadsOffsets}
 use Rattle.wg_offsets.proofs.ErrorLemmas.{word_of_file, refusal_of_file}
+use Rattle.wg_offsets.proofs.WordsLemmas.{last_more}
 use Rattle.wg_offsets.proofs.reading.read_from.Goals as goal
 
 pub returns-in_err-offset-clause-fault : goal.returns-in_err-offset-clause-fault
@@ -34,3 +36,35 @@ returns-clause-reads g c = λ bits r.
     let on = g.met.S.Source.same_bits _ _ bits i.later r in
     let all = c.in_ok-finish.ensures.reads bits c.loop-word.offsets on (i.read bits r) in
     subst (λ (n : ℕ). ReadsOffsets c.args.code n bits (Ok c.loop-word.offsets)) i.pages (subst (λ (k : Code). ReadsOffsets k c.loop-word.words.pages bits (Ok c.loop-word.offsets)) i.code all)
+
+pub returns-in_err-offset-clause-later : goal.returns-in_err-offset-clause-later
+returns-in_err-offset-clause-later g c = g.met.S.Source.goes_on _ _ _ c.loop-word.invariant.later c.in_err-offset.ensures.later
+
+pub returns-in_err-offset-clause-refused : goal.returns-in_err-offset-clause-refused
+returns-in_err-offset-clause-refused g c =
+    let e = err_from_is_err_and c.from_residual.result c.from_residual.ensures.1 in
+    rw (e.1, e.2) (refusal_of_file c.in_err-offset.field-0.0 _ _ (λ x h. g.met.S.Source.still_caused _ _ _ x c.loop-word.invariant.later h) c.in_err-offset.ensures.refused)
+
+pub returns-in_err-push-clause-later : goal.returns-in_err-push-clause-later
+returns-in_err-push-clause-later g c = g.met.S.Source.goes_on _ _ _ c.loop-word.invariant.later c.in_ok-offset.ensures.later
+
+pub returns-in_err-finish-clause-later : goal.returns-in_err-finish-clause-later
+returns-in_err-finish-clause-later g c = g.met.S.Source.goes_on _ _ _ c.loop-word.invariant.later c.in_err-finish.ensures.later
+
+pub returns-clause-later : goal.returns-clause-later
+returns-clause-later g c = g.met.S.Source.goes_on _ _ _ c.loop-word.invariant.later c.in_ok-finish.ensures.later
+
+pub loop-word-preserved : goal.loop-word-preserved
+loop-word-preserved g c =
+    let i = c.loop-word.invariant in
+    let n = c.in_ok-offset.ensures in
+    let p = c.in_ok-push.ensures.ok in
+    record {
+      code = n.code ∙ i.code;
+      pages = n.pages ∙ i.pages;
+      count = omega (arith, n.count, i.count);
+      counted = rw p (omega (arith, length_push c.loop-word.offsets c.in_ok-offset.offset, i.counted));
+      last = rw p (last_more c.loop-word.offsets c.in_ok-offset.offset ∙ n.value);
+      later = g.met.S.Source.goes_on _ _ _ i.later n.later;
+      read = λ bits r. rw (p, n.value) (n.reads bits c.loop-word.offsets (g.met.S.Source.same_bits _ _ bits i.later r) (i.read bits r));
+    }

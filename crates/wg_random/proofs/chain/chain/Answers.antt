@@ -22,22 +22,53 @@ down-init g c =
       ticks = omega (arith, ap length is);
     }
 
-pub returns-in_err-back-clause-reached : goal.returns-in_err-back-clause-reached
-returns-in_err-back-clause-reached g c = g.met.S.Seek.on_from _ _ _ c.down.invariant.reached c.in_err-back.ensures.reached
+pub returns-in_err-push : goal.returns-in_err-push
+returns-in_err-push g c =
+    let q = err_from_is_err_and c.from_residual.result c.from_residual.ensures.1 in
+    rw (q.1, q.2) record {
+      reached = g.met.S.Seek.by_reading _ _ (g.met.S.Source.stays _);
+      refused = tt;
+      some = tt;
+      pages = tt;
+      fall = tt;
+      chain = λ bits o r l. tt;
+      ticks = tt;
+      error = λ bits o r l. (c.args.x ∷ [], one_page c.args.params.now bits o c.args.x _ refl, omega arith);
+    }
 
-pub returns-in_err-back-clause-refused : goal.returns-in_err-back-clause-refused
-returns-in_err-back-clause-refused g c =
-    let q = err_from_is_err_and c.from_residual-in_err-back.result c.from_residual-in_err-back.ensures.1 in
-    rw (q.1, q.2) (refusal_weaker c.in_err-back.field-0.0 _ _ (λ x h. g.met.S.Seek.cause_stays _ _ _ x c.down.invariant.reached h) c.in_err-back.ensures.refused)
-
-pub returns-in_err-back-clause-error : goal.returns-in_err-back-clause-error
-returns-in_err-back-clause-error g c = λ bits o r l.
+pub returns-in_err-back : goal.returns-in_err-back
+returns-in_err-back g c =
     let h = c.down.invariant in
-    let on = g.met.S.Seek.bits_stay _ _ bits h.reached r in
-    let lies = g.met.S.Located.lies_still _ _ o h.reached l in
-    let ticks : c.tick.new.self ≡ c.args.steps.now + length c.down.chain = omega (arith, h.ticks, c.tick.ensures) in
+    let n = c.in_err-back.ensures in
     let q = err_from_is_err_and c.from_residual-in_err-back.result c.from_residual-in_err-back.ensures.1 in
-    rw (q.1, q.2) (head_error c.args.params.now bits o c.args.x c.down.chain c.down.page c.args.steps.now c.tick.new.self c.in_err-back.field-0.0 (h.is bits o r l) h.here ticks (c.in_err-back.ensures.fault bits o on lies))
+    rw (q.1, q.2) record {
+      reached = g.met.S.Seek.on_from _ _ _ h.reached n.reached;
+      refused = refusal_weaker c.in_err-back.field-0.0 _ _ (λ x y. g.met.S.Seek.cause_stays _ _ _ x h.reached y) n.refused;
+      some = tt;
+      pages = tt;
+      fall = tt;
+      chain = λ bits o r l. tt;
+      ticks = tt;
+      error = λ bits o r l.
+          let on = g.met.S.Seek.bits_stay _ _ bits h.reached r in
+          let lies = g.met.S.Located.lies_still _ _ o h.reached l in
+          let ticks : c.tick.new.self ≡ c.args.steps.now + length c.down.chain = omega (arith, h.ticks, c.tick.ensures) in
+          head_error c.args.params.now bits o c.args.x c.down.chain c.down.page c.args.steps.now c.tick.new.self c.in_err-back.field-0.0 (h.is bits o r l) h.here ticks (n.fault bits o on lies);
+    }
+
+pub returns-in_err-push-2 : goal.returns-in_err-push-2
+returns-in_err-push-2 g c =
+    let q = err_from_is_err_and c.from_residual-in_err-push-2.result c.from_residual-in_err-push-2.ensures.1 in
+    rw (q.1, q.2) record {
+      reached = g.met.S.Seek.on_from _ _ _ c.down.invariant.reached c.in_ok-back.ensures.reached;
+      refused = tt;
+      some = tt;
+      pages = tt;
+      fall = tt;
+      chain = λ bits o r l. tt;
+      ticks = tt;
+      error = λ bits o r l. (c.down.chain, c.down.invariant.is bits o r l, omega (arith, c.down.invariant.ticks, c.tick.ensures));
+    }
 
 pub returns-then-back-eq0-clause-reached : goal.returns-then-back-eq0-clause-reached
 returns-then-back-eq0-clause-reached g c = g.met.S.Seek.on_from _ _ _ c.down.invariant.reached c.in_ok-back.ensures.reached

@@ -1,14 +1,49 @@
-use Rattle.std.proofs.Common.{ℕ, ◌≡◌, ◌+◌, min, arith, length, refl, ap₂, ◌∙◌}
+use Rattle.std.proofs.Common.{ℕ, ◌≡◌, ◌+◌, min, rules, arith, length, refl, sym, ap, ap₂, ◌∙◌}
 use Rattle.wg_rank.specs.Rank.{low_flow, high_flow}
 use Rattle.wg_rank.proofs.Settled.{block_more, low_from, high_from}
 use Rattle.wg_rank.proofs.SideBySide.{low_count}
+use Rattle.wg_rank.proofs.Weighing.{given_some}
 use Rattle.wg_rank.proofs.settling.settle.Goals as goal
 
-pub fill-requires-clause-room : goal.fill-requires-clause-room
-fill-requires-clause-room g c = omega (arith, low_count 128 c.rest.block (omega arith))
+pub of-parts-requires : goal.of-parts-requires
+of-parts-requires g c = record {
+  some = search rules;
+  few = c.requires.few;
+  damped = c.requires.damped;
+  below_room = c.requires.below_room;
+  above_room = c.requires.above_room;
+  weights = c.requires.weights;
+}
 
-pub settle_block-requires-clause-block_pages : goal.settle_block-requires-clause-block_pages
-settle_block-requires-clause-block_pages g c = omega (arith, low_count 128 c.fill.new.block (omega arith))
+pub rest-init : goal.rest-init
+rest-init g c = record {
+  low = λ f h s v l. absurd (omega (arith, l));
+  high = λ f h s v l. absurd (omega (arith, l));
+  left = λ v l. refl;
+}
+
+pub overflow_add-from : goal.overflow_add-from
+overflow_add-from g c = omega (arith, c.rest-test.true, c.rest.auto.low, c.requires.few)
+
+pub fill-requires : goal.fill-requires
+fill-requires g c = record {
+  few = rw c.requires.pages c.requires.few;
+  ordered = omega (arith, c.min-to.ensures, c.rest-test.true);
+  within = omega (arith, c.min-to.ensures, c.requires.pages, c.rest.auto.low);
+  room = omega (arith, c.min-to.ensures, low_count 128 c.rest.block c.min-to.array_long);
+  shared = c.requires.shared;
+}
+
+pub settle_block-requires : goal.settle_block-requires
+settle_block-requires g c = record {
+  ordered = omega (arith, c.min-to.ensures, c.rest-test.true);
+  within = omega (arith, c.min-to.ensures);
+  high_pages = c.rest.auto.high ∙ c.requires.high_pages ∙ sym c.rest.auto.low;
+  block_pages = omega (arith, low_count 128 c.fill.new.block (omega arith));
+  pages = rw c.of-parts.ensures.weights (λ some. ap length (sym (given_some _ _ some)) ∙ c.requires.weights.pages ∙ sym c.rest.auto.low);
+  low_room = c.fill.ensures.low_room;
+  high_room = c.fill.ensures.high_room;
+}
 
 pub rest-preserved : goal.rest-preserved
 rest-preserved g c =

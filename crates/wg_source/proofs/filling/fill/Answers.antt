@@ -1,6 +1,7 @@
 use Rattle.std.proofs.Common.{◌∙◌, ◌/◌, sym, ap, refl, arith}
+use Rattle.std.proofs.lemmas.Result.{err_from_is_err_and}
 use Rattle.wg_source.specs.Held.{Held}
-use Rattle.wg_source.specs.StepLaws.{no_step}
+use Rattle.wg_source.specs.StepLaws.{no_step, two_steps, later_cause}
 use Rattle.wg_source.proofs.FillLemmas.{fewer_waits, passed_dropped, dropped_small}
 use Rattle.wg_source.proofs.filling.fill.Goals as goal
 
@@ -23,3 +24,29 @@ loop-held-init g c =
 
 pub loop-held-smaller : goal.loop-held-smaller
 loop-held-smaller g c = fewer_waits c.loop-held.held c.read_piece.new.self (c.is_ready-in-loop-held.ensures.more c.loop-held-test.true) (omega (arith, c.is_ready-in-loop-held.ensures.few c.loop-held-test.true, c.loop-held.invariant.first)) c.in_ok-read_piece.ensures.least c.in_ok-read_piece.ensures.more
+
+pub returns-then-is_ready-clause-steps : goal.returns-then-is_ready-clause-steps
+returns-then-is_ready-clause-steps g c = no_step _ _ _ _ _
+
+pub loop-held-preserved : goal.loop-held-preserved
+loop-held-preserved g c =
+    let v = c.loop-held.invariant in
+    let n = c.in_ok-read_piece.ensures in
+    record {
+      steps = two_steps _ _ _ _ _ _ _ _ _ _ _ _ refl v.steps n.steps;
+      at = n.at ∙ v.at;
+      first = n.first ∙ v.first ∙ ap (λ m. m / 8) (sym n.at);
+    }
+
+pub returns-in_err-read_piece : goal.returns-in_err-read_piece
+returns-in_err-read_piece g c =
+    let v = c.loop-held.invariant in
+    let n = c.in_err-read_piece.ensures in
+    let e = err_from_is_err_and c.from_residual.result c.from_residual.ensures.1 in
+    rw (e.1, e.2) record {
+      steps = two_steps _ _ _ _ _ _ _ _ _ _ _ _ refl v.steps n.steps;
+      cause = later_cause _ _ _ _ _ _ _ _ _ _ _ refl v.steps n.cause;
+      next = tt;
+      at = n.at ∙ v.at;
+      inside = tt;
+    }

@@ -1,16 +1,24 @@
 use Rattle.std.proofs.Common.{◌≡◌, ◌∙◌, ◌+◌, [], ◌∷◌, ◌++◌, sym, arith}
 use Rattle.std.proofs.lemmas.Result.{err_from_is_err_and}
-use Rattle.wg_offsets.proofs.ErrorLemmas.{word_of_file}
+use Rattle.wg_offsets.proofs.ErrorLemmas.{word_of_file, refusal_of_file}
 use Rattle.wg_offsets.proofs.SamplesLemmas.{read_as}
 use Rattle.wg_offsets.proofs.samples.Samples.read.Goals as goal
 
-pub returns-in_err-place-clause-fault : goal.returns-in_err-place-clause-fault
-returns-in_err-place-clause-fault g c = λ bits r.
+pub returns-in_err-place : goal.returns-in_err-place
+returns-in_err-place g c =
     let i = c.loop-page.invariant in
-    let on = g.met.S.Source.same_bits _ _ bits i.later r in
-    let a = i.read bits r in
+    let n = c.in_err-place.ensures in
     let e = err_from_is_err_and c.from_residual.result c.from_residual.ensures.1 in
-    rw (e.1, e.2) (word_of_file c.in_err-place.field-0.0 _ _ (λ w h. rw (i.code, i.pages) at h) (c.in_err-place.ensures.fault bits a.0 on a.1))
+    rw (e.1, e.2) record {
+      pages = tt;
+      code = tt;
+      later = g.met.S.Source.goes_on _ _ _ i.later n.later;
+      refused = refusal_of_file c.in_err-place.field-0.0 _ _ (λ x h. g.met.S.Source.still_caused _ _ _ x i.later h) n.refused;
+      reads = λ bits r. tt;
+      fault = λ bits r.
+          let a = i.read bits r in
+          word_of_file c.in_err-place.field-0.0 _ _ (λ w h. rw (i.code, i.pages) at h) (n.fault bits a.0 (g.met.S.Source.same_bits _ _ bits i.later r) a.1);
+    }
 
 pub loop-page-preserved : goal.loop-page-preserved
 loop-page-preserved g c =
@@ -34,13 +42,33 @@ loop-page-preserved g c =
           k.each c.args.code file (a.0 ++ w.offset ∷ []) (i.samples file r) (read_as _ _ file _ _ _ _ _ _ _ (n.code ∙ i.code) count (sym c.at.ensures.value) (sym n.value) all);
     }
 
-pub returns-in_err-finish-clause-fault : goal.returns-in_err-finish-clause-fault
-returns-in_err-finish-clause-fault g c = λ bits r.
+pub returns-in_err-keep : goal.returns-in_err-keep
+returns-in_err-keep g c =
+    let e = err_from_is_err_and c.from_residual-in_err-keep.result c.from_residual-in_err-keep.ensures.1 in
+    rw (e.1, e.2) record {
+      pages = tt;
+      code = tt;
+      later = g.met.S.Source.goes_on _ _ _ c.loop-page.invariant.later c.in_ok-place.ensures.later;
+      refused = tt;
+      reads = λ bits r. tt;
+      fault = λ bits r. tt;
+    }
+
+pub returns-in_err-finish : goal.returns-in_err-finish
+returns-in_err-finish g c =
     let i = c.loop-page.invariant in
-    let on = g.met.S.Source.same_bits _ _ bits i.later r in
-    let a = i.read bits r in
+    let n = c.in_err-finish.ensures in
     let e = err_from_is_err_and c.from_residual-in_err-finish.result c.from_residual-in_err-finish.ensures.1 in
-    rw (e.1, e.2) (word_of_file c.in_err-finish.field-0.0 _ _ (λ w h. rw (i.code, i.pages) at h) (c.in_err-finish.ensures.fault bits a.0 on a.1))
+    rw (e.1, e.2) record {
+      pages = tt;
+      code = tt;
+      later = g.met.S.Source.goes_on _ _ _ i.later n.later;
+      refused = refusal_of_file c.in_err-finish.field-0.0 _ _ (λ x h. g.met.S.Source.still_caused _ _ _ x i.later h) n.refused;
+      reads = λ bits r. tt;
+      fault = λ bits r.
+          let a = i.read bits r in
+          word_of_file c.in_err-finish.field-0.0 _ _ (λ w h. rw (i.code, i.pages) at h) (n.fault bits a.0 (g.met.S.Source.same_bits _ _ bits i.later r) a.1);
+    }
 
 pub returns-clause-reads : goal.returns-clause-reads
 returns-clause-reads g c = λ file r.
@@ -48,3 +76,6 @@ returns-clause-reads g c = λ file r.
     let on = g.met.S.Source.same_bits _ _ file i.later r in
     let a = i.read file r in
     (a.0, record { reads = rw (i.code, i.pages) at (c.in_ok-finish.ensures.reads file a.0 on a.1); samples = i.samples file r })
+
+pub returns-clause-later : goal.returns-clause-later
+returns-clause-later g c = g.met.S.Source.goes_on _ _ _ c.loop-page.invariant.later c.in_ok-finish.ensures.later

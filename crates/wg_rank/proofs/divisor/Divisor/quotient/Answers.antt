@@ -1,7 +1,39 @@
-use Rattle.std.proofs.Common.{◌≡◌, ◌+◌, ◌-◌, ◌*◌, ◌/◌, ◌%◌, ◌∙◌, ℕ, ap, arith}
-use Rattle.std.proofs.lemmas.Nat.{div-add-mod'}
+use Rattle.std.proofs.Common.{◌≡◌, ◌+◌, ◌-◌, ◌*◌, ◌/◌, ◌%◌, ◌∙◌, ◌<◌, ◌≤◌, ℕ, ap, arith}
+use Rattle.std.proofs.lemmas.Nat.{div-add-mod', mod_below}
 use Rattle.wg_rank.proofs.Quotients.{cut_quotient}
+use Rattle.wg_rank.proofs.Weighing.{weighted_room}
 use Rattle.wg_rank.proofs.divisor.Divisor.quotient.Goals as goal
+
+pub exact-high-requires : goal.exact-high-requires
+exact-high-requires c =
+    omega (arith, weighted_room (c.args.value / 1099511627776) c.args.self.now.by 4503599627370495 2048 (omega (arith, c.if-value.false)) (omega (arith, c.if-self.false)))
+
+pub overflow_mul-rest : goal.overflow_mul-rest
+overflow_mul-rest c =
+    omega (arith, c.if-value.false, ap (λ n. n * c.args.self.now.by) c.exact-high.ensures, div-add-mod' (c.args.value / 1099511627776) c.args.self.now.by)
+
+pub overflow_add-rest : goal.overflow_add-rest
+overflow_add-rest c =
+    let d : ℕ = c.args.self.now.by in
+    let top : ℕ = c.args.value / 1099511627776 in
+    omega (arith, ap (λ n. n * d) c.exact-high.ensures, div-add-mod' top d, mod_below top d c.args.self.now.some, c.if-self.false)
+
+pub overflow_mul-rest-2 : goal.overflow_mul-rest-2
+overflow_mul-rest-2 c =
+    let d : ℕ = c.args.self.now.by in
+    let top : ℕ = c.args.value / 1099511627776 in
+    omega (arith, ap (λ n. n * d) c.exact-high.ensures, div-add-mod' top d, mod_below top d c.args.self.now.some, c.if-self.false)
+
+pub exact-low-requires : goal.exact-low-requires
+exact-low-requires c =
+    let v : ℕ = c.args.value in
+    let d : ℕ = c.args.self.now.by in
+    let m : ℕ = 1099511627776 in
+    let top : ℕ = v / m in
+    let rest : top - c.exact-high.result * d ≡ top % d = omega (arith, ap (λ n. n * d) c.exact-high.ensures, div-add-mod' top d) in
+    let low : top % d < d = mod_below top d c.args.self.now.some in
+    let at : (top - c.exact-high.result * d) * m + v % m ≤ 2251799813685247 = omega (arith, rest, low, c.if-self.false) in
+    omega (arith, weighted_room ((top - c.exact-high.result * d) * m + v % m) d 2251799813685247 2048 at (omega (arith, c.if-self.false)))
 
 pub returns : goal.returns
 returns c =

@@ -1,7 +1,8 @@
-use Rattle.std.proofs.Common.{◌∙◌, ℕ, ap, subst, arith}
+use Rattle.std.proofs.Common.{◌∙◌, ℕ, refl, sym, ap, subst, arith, true≢false}
 use Rattle.std.proofs.lemmas.List.{length-take}
 use Rattle.wg_outside.specs.Reads.{IsPieceOf}
 use Rattle.wg_source.specs.Held.{Held}
+use Rattle.wg_source.proofs.CauseLemmas.{too_long}
 use Rattle.wg_source.proofs.HeldLemmas.{added, added_small, at_end, end_small, piece_at}
 use Rattle.wg_source.proofs.stretch.Stretch.read_piece.Goals as goal
 
@@ -27,6 +28,33 @@ returns-clause-steps g c = record {
       let p = piece_at _ file c.last-end.result _ c.in_ok-count.count is (c.in_ok-count.ensures.bytes t) in
       let piece = subst (λ (n : ℕ). IsPieceOf file n c.read.new.buf c.in_ok-count.count) c.last-end.ensures.offset p in
       added file c.args.self.now c.extend.new.self c.read.new.buf c.in_ok-count.count piece.bytes (ap (λ (h : Held). h.bytes) c.extend.ensures) (ap (λ (h : Held). h.first) c.extend.ensures)
-      (λ e. cc (e, ap (λ (h : Held). h.ended) c.extend.ensures, c.requires.more)) (ap (λ (h : Held). h.looked) c.extend.ensures) i;
+      (λ e. true≢false (sym e ∙ ap (λ (h : Held). h.ended) c.extend.ensures ∙ c.requires.more)) (ap (λ (h : Held). h.looked) c.extend.ensures) i;
   small = λ s. added_small _ _ _ (omega (arith, c.requires.room, length-take c.in_ok-count.count c.read.new.buf, c.in_ok-count.ensures.count)) c.extend.ensures s;
+}
+
+pub returns-in_err-count-clause-steps : goal.returns-in_err-count-clause-steps
+returns-in_err-count-clause-steps g c = record {
+  same = c.in_err-count.ensures.same;
+  later = c.in_err-count.ensures.later;
+  onward = omega arith;
+  looked = λ e. e;
+  in_step = λ t file is i. i;
+  small = λ s. s;
+}
+
+pub returns-then-end-count-gt-MOST_BYTES : goal.returns-then-end-count-gt-MOST_BYTES
+returns-then-end-count-gt-MOST_BYTES g c = record {
+  steps = record {
+    same = c.in_ok-count.ensures.same;
+    later = c.in_ok-count.ensures.later;
+    onward = omega arith;
+    looked = λ e. e;
+    in_step = λ t file is i. i;
+    small = λ s. s;
+  };
+  cause = too_long _ _ _ _ _ _ c.last-end.result _ c.in_ok-count.count c.in_ok-count.ensures.bytes c.if-count-eq0.false c.if-end-count-gt-MOST_BYTES.true;
+  more = tt;
+  least = omega arith;
+  first = refl;
+  at = refl;
 }

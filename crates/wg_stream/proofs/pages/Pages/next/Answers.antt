@@ -1,4 +1,4 @@
-use Rattle.std.proofs.Common.{◌≡◌, ◌+◌, ◌<◌, ◌∙◌, ℕ, List, ◌∷◌, length, take, Err, refl, sym, ap, subst}
+use Rattle.std.proofs.Common.{◌≡◌, ◌+◌, ◌<◌, ◌∙◌, ℕ, List, ◌∷◌, length, take, Err, refl, sym, ap, subst, arith}
 use Rattle.wg_grammar.specs.Context.{Known}
 use Rattle.wg_grammar.specs.Record.{Whole}
 use Rattle.wg_decoder.specs.Remembered.{known_of}
@@ -6,6 +6,7 @@ use Rattle.wg_stream.specs.Prefix.{PagesRead, PrefixRead}
 use Rattle.std.proofs.lemmas.Result.{err_from_is_err_and}
 use Rattle.wg_grammar.specs.Archive.{ReadsGraph}
 use Rattle.wg_grammar.specs.declared.fault.ArchiveFault.TheVariants as archive
+use Rattle.wg_decoder.proofs.Serving.{serves_next}
 use Rattle.wg_stream.proofs.ErrorLemmas.{unread_of_graph, unread_fault, unread_refusal}
 use Rattle.wg_stream.proofs.PrefixLemmas.{one_more, one_refused}
 use Rattle.wg_stream.proofs.pages.Pages.next.Goals as goal
@@ -30,23 +31,72 @@ returns-clause-reads g c = λ bits behind r h.
           (subst (λ (n : ℕ). PrefixRead i.params bits (i.page + 1) n end (take i.params.window (w.known ∷ i.window.behind)) (w ∷ behind)) counted more),
     )
 
-pub returns-in_err-decoded-clause-graph : goal.returns-in_err-decoded-clause-graph
-returns-in_err-decoded-clause-graph g c =
-    let e = err_from_is_err_and c.from_residual.result c.from_residual.ensures.1 in
-    rw (e.1, e.2) (unread_of_graph c.in_err-decoded.field-0.0)
+pub decode_from-requires : goal.decode_from-requires
+decode_from-requires g c = record {
+  page = subst (λ (s : PagesRead). s.page < s.params.nodes) (sym c.self.view_is) c.requires.more;
+  before = c.self.invariant.1.within;
+  serves = c.self.invariant.1.serves;
+}
 
-pub returns-in_err-decoded-clause-refused : goal.returns-in_err-decoded-clause-refused
-returns-in_err-decoded-clause-refused g c =
-    let e = err_from_is_err_and c.from_residual.result c.from_residual.ensures.1 in
-    rw (e.1, e.2) (unread_refusal c.in_err-decoded.field-0.0 _ c.in_err-decoded.ensures.refused)
+pub invariant_of-self : goal.invariant_of-self
+invariant_of-self g c = c.self.invariant
 
-pub returns-in_err-decoded-clause-fault : goal.returns-in_err-decoded-clause-fault
-returns-in_err-decoded-clause-fault g c = λ bits behind r h.
+pub returns-in_err-decoded : goal.returns-in_err-decoded
+returns-in_err-decoded g c =
     let i = c.self.inside in
+    let n = c.in_err-decoded.ensures in
     let at = g.S.Source.offset c.args.source.now in
-    let here = subst (λ (s : PagesRead). PrefixRead s.params bits s.page s.arcs at s.kept behind) (sym c.self.view_is) h in
     let next = subst (λ (s : PagesRead). s.page < s.params.nodes) (sym c.self.view_is) c.requires.more in
     let e = err_from_is_err_and c.from_residual.result c.from_residual.ensures.1 in
-    rw (e.1, e.2) (unread_fault c.in_err-decoded.field-0.0 _ _
-    (λ f refused. subst (λ (s : PagesRead). ReadsGraph s.params bits (Err (archive.Record f))) c.self.view_is (one_refused i.params bits i.page i.arcs at i.window.behind behind f here next refused))
-    (c.in_err-decoded.ensures.fault bits r))
+    rw (e.1, e.2) record {
+      params = ap (λ (s : PagesRead). s.params) c.self.view_is;
+      page = tt;
+      arcs = tt;
+      err = c.self.view_is;
+      graph = unread_of_graph c.in_err-decoded.field-0.0;
+      later = n.later;
+      refused = unread_refusal c.in_err-decoded.field-0.0 _ n.refused;
+      reads = λ bits behind r h. tt;
+      fault = λ bits behind r h.
+          let here = subst (λ (s : PagesRead). PrefixRead s.params bits s.page s.arcs at s.kept behind) (sym c.self.view_is) h in
+          unread_fault c.in_err-decoded.field-0.0 _ _
+          (λ f refused. subst (λ (s : PagesRead). ReadsGraph s.params bits (Err (archive.Record f))) c.self.view_is (one_refused i.params bits i.page i.arcs at i.window.behind behind f here next refused))
+          (n.fault bits r);
+      few = c.self.invariant.1.near;
+    }
+
+pub invariant_of-self-in_err-keep : goal.invariant_of-self-in_err-keep
+invariant_of-self-in_err-keep g c = rw (c.in_err-keep.ensures.err, c.in_err-keep.ensures.same) c.self.invariant
+
+pub returns-in_err-keep : goal.returns-in_err-keep
+returns-in_err-keep g c =
+    let e = err_from_is_err_and c.from_residual-in_err-keep.result c.from_residual-in_err-keep.ensures.1 in
+    rw (e.1, e.2, c.in_err-keep.ensures.err, c.in_err-keep.ensures.same) record {
+      params = ap (λ (s : PagesRead). s.params) c.self.view_is;
+      page = tt;
+      arcs = tt;
+      err = c.self.view_is;
+      graph = tt;
+      later = c.in_ok-decoded.ensures.later;
+      refused = tt;
+      reads = λ bits behind r h. tt;
+      fault = λ bits behind r h. tt;
+      few = c.self.invariant.1.near;
+    }
+
+pub invariant_of-self-2 : goal.invariant_of-self-2
+invariant_of-self-2 g c =
+    let v = c.self.invariant in
+    let n = c.in_ok-decoded.ensures in
+    let k = c.in_ok-keep.ensures in
+    let next = subst (λ (s : PagesRead). s.page < s.params.nodes) (sym c.self.view_is) c.requires.more in (
+      k.window ∙ v.0,
+      rw (k.list, k.ok, v.0, c.as_slice.ensures) record {
+        few = omega (arith, next);
+        within = n.total;
+        serves = serves_next _ _ _ (known_of c.in_ok-decoded.decoded) v.1.serves n.ascends n.below n.depth;
+        ascends = n.ascends;
+        below = n.below;
+        near = rw (k.ok, k.window, v.0) at k.few;
+      },
+    )
