@@ -10,7 +10,7 @@ mod shrinking;
 mod spelling;
 
 use cases::{Cases, WHOLE};
-use rows::{LARGE_ROWS, ROWS, WRONG};
+use rows::WRONG;
 
 // What is told of the rows that are not so, where a call moves at most so many bytes.
 fn wrong_rows(alloc: Global, piece: u64, texts: &[&str]) -> Result<String, AllocError> {
@@ -31,16 +31,12 @@ fn go_through(cases: &mut Cases, text: &str, wrong: &mut String) -> Result<(), A
     Ok(())
 }
 
-// Apart from the loop below, since the prover takes a constant of this size anew for each step beside it.
-fn wrong_worked_rows(alloc: Global, piece: u64) -> Result<String, AllocError> {
-    wrong_rows(alloc, piece, &ROWS)
-}
-
 // The rows at the end are spoiled: they alone are wrong, and what is told of them is known.
 #[test]
 fn worked_rows(rt: HostRuntime) -> Result<(), Fail> {
+    let rows = rows::rows();
     for piece in [WHOLE, 3, 1] {
-        let wrong = wrong_worked_rows(rt.alloc(), piece)?;
+        let wrong = wrong_rows(rt.alloc(), piece, &rows)?;
         assert!(rt; wrong.as_str() == WRONG, "pieces of {piece}: {wrong}");
     }
     Ok(())
@@ -48,7 +44,7 @@ fn worked_rows(rt: HostRuntime) -> Result<(), Fail> {
 
 #[test]
 fn large_rows(rt: HostRuntime) -> Result<(), Fail> {
-    let wrong = wrong_rows(rt.alloc(), WHOLE, &LARGE_ROWS)?;
+    let wrong = wrong_rows(rt.alloc(), WHOLE, &rows::large_rows())?;
     assert!(rt; wrong.as_str() == WRONG, "{wrong}");
     Ok(())
 }
