@@ -1,5 +1,5 @@
 -- The jobs that write an archive, and what is left of all jobs where some are taken out.
-use Rattle.std.proofs.Common.{◌≡◌, ◌≢◌, ℕ, true, false, List, Option, refl}
+use Rattle.std.proofs.Common.{◌≡◌, ◌≢◌, ℕ, Bool, true, false, List, Option, refl, sym, ◌∙◌}
 use Rattle.std.specs.Bool.{IsTrue}
 use Rattle.wg_outside.specs.declared.depot.Depot as depot
 use Rattle.wg_outside.specs.declared.sink.Sink as sink
@@ -79,6 +79,10 @@ calls_left (Quotient input map output classes layout) b = refl
 calls_left (Recode input output layout) b = refl
 calls_left (Union first second output layout) b = refl
 calls_left (Transpose input output layout) b = refl
+
+-- which is not so of a job that makes no call
+pub calls : {A : Type 0} {b : Bool} → b ≡ true → b ≡ false → A
+calls is none = let no : true ≡ false = sym is ∙ none in absurd cc
 
 pub anywhere_left : {D O : Type 0} (d : depot.Ghosts D) (o : sink.Ghosts O) (j : Job) (before after : D) (out out' : O)
     (s : Status)

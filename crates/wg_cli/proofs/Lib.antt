@@ -4,3 +4,4 @@ pub mod ProvenLemmas
 pub mod SteadyLemmas
 pub mod LineLemmas
 pub mod ArchiveJobs
+pub mod RunLemmas

@@ -129,6 +129,8 @@ pub fn run<D: Depot, O: Sink, E: Sink>(
     };
     let ending = try_job(alloc, &wanted, depot, out);
     report(err, &wanted, ending.promised, ending.status);
+    // By this call, since it is proved once how each job is let go.
+    drop(wanted);
     ending.status
 }
 

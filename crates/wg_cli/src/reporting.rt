@@ -21,62 +21,53 @@ fn parts_of_input(job: &Option<Job>, input: Input) -> Option<(&str, &'static str
     }
 }
 
-// A line that names a file by the two parts of its name.
-fn naming<S: Sink>(
-    sink: &mut S,
-    before: &str,
-    stem: &str,
-    suffix: &str,
-    after: &[u8],
-) -> Result<(), WriteError>
-    ensures puts { IsTrue S.told → Puts (naming before.now (Some (stem.now ++ suffix.now)) after.now)
+// A line that ends with the name of a file, in two parts.
+fn naming<S: Sink>(sink: &mut S, before: &str, stem: &str, suffix: &str) -> Result<(), WriteError>
+    ensures puts { IsTrue S.told → Puts (naming before.now (Some (stem.now ++ suffix.now)) [])
         (S.taken sink.old) (S.taken sink.new) result }
     ensures cause { IsErr result → Increased (S.faults sink.old) (S.faults sink.new)
         ⊎ Increased (S.wants sink.old) (S.wants sink.new) }
 {
-    write_five(
+    write_four(
         sink,
         before.as_bytes(),
         stem.as_bytes(),
         suffix.as_bytes(),
-        after,
         b"\n",
     )
 }
 
-// Five pieces, one after the other.
-fn write_five<'x, S: Sink>(
+// Four pieces, one after the other.
+fn write_four<'x, S: Sink>(
     sink: &mut S,
     a: &'x [u8],
     b: &'x [u8],
     c: &'x [u8],
     d: &'x [u8],
-    e: &'x [u8],
 ) -> Result<(), WriteError>
-    ensures puts { IsTrue S.told → Puts (a.now ++ (b.now ++ c.now) ++ d.now ++ e.now) (S.taken sink.old)
+    ensures puts { IsTrue S.told → Puts (a.now ++ (b.now ++ c.now) ++ d.now) (S.taken sink.old)
         (S.taken sink.new) result }
     ensures cause { IsErr result → Increased (S.faults sink.old) (S.faults sink.new)
         ⊎ Increased (S.wants sink.old) (S.wants sink.new) }
 {
-    write_pieces(sink, &[a, b, c, d, e])
+    write_pieces(sink, &[a, b, c, d])
 }
 
-// A line that names a file of the job.
+// A line that ends with the name of a file of the job.
 fn about<S: Sink>(
     sink: &mut S,
     before: &str,
     job: &Option<Job>,
     input: Input,
-    after: &[u8],
 ) -> Result<(), WriteError>
-    ensures puts { IsTrue S.told → Puts (naming before.now (name_in job.now input) after.now) (S.taken sink.old)
+    ensures puts { IsTrue S.told → Puts (naming before.now (name_in job.now input) []) (S.taken sink.old)
         (S.taken sink.new) result }
     ensures cause { IsErr result → Increased (S.faults sink.old) (S.faults sink.new)
         ⊎ Increased (S.wants sink.old) (S.wants sink.new) }
 {
     match parts_of_input(job, input) {
         None => Ok(()),
-        Some((stem, suffix)) => naming(sink, before, stem, suffix, after),
+        Some((stem, suffix)) => naming(sink, before, stem, suffix),
     }
 }
 
@@ -89,7 +80,7 @@ fn about_output<S: Sink>(sink: &mut S, job: &Option<Job>, output: Output) -> Res
 {
     match parts_of_output(job, output) {
         None => Ok(()),
-        Some((stem, suffix)) => naming(sink, "wg: write failed: ", stem, suffix, b""),
+        Some((stem, suffix)) => naming(sink, "wg: write failed: ", stem, suffix),
     }
 }
 
@@ -132,34 +123,34 @@ fn write_line<S: Sink>(
         Status::Done => Ok(()),
         Status::Usage => write_all(sink, b"wg: bad command line\n"),
         Status::Memory => write_all(sink, b"wg: out of memory\n"),
-        Status::ReadFault(input) => about(sink, "wg: read failed: ", job, input, b""),
+        Status::ReadFault(input) => about(sink, "wg: read failed: ", job, input),
         Status::WriteFault(output) => about_output(sink, job, output),
-        Status::Missing(input) => about(sink, "wg: missing: ", job, input, b""),
+        Status::Missing(input) => about(sink, "wg: missing: ", job, input),
         Status::BadArcs { line, kind } => {
-            fault_in(sink, job, Input::ArcList, &texts::line(line, kind))
+            fault_in(sink, job, Input::ArcList, texts::line(line, kind))
         }
         Status::BadProperties(fault) => {
-            fault_in(sink, job, Input::Properties, &texts::properties(fault))
+            fault_in(sink, job, Input::Properties, texts::properties(fault))
         }
         Status::BadArchive(fault) => {
             let input = texts::file_of_fault(fault);
-            fault_in(sink, job, input, &texts::archive(promised, fault))
+            fault_in(sink, job, input, texts::archive(promised, fault))
         }
         Status::BadSecond(fault) => fault_of_second(sink, job, promised, fault),
         Status::TooManyArcs => write_all(sink, b"wg: too many arcs\n"),
         Status::NoPage(page) => write_all(sink, texts::no_page(page).as_bytes()),
-        Status::OverLimit(input) => about(sink, "wg: too long: ", job, input, b""),
+        Status::OverLimit(input) => about(sink, "wg: too long: ", job, input),
         Status::BadWeights(fault) => {
-            fault_in(sink, job, Input::Weights, &texts::weights(promised, fault))
+            fault_in(sink, job, Input::Weights, texts::weights(promised, fault))
         }
         Status::BadText { line, kind } => {
-            fault_in(sink, job, Input::Text, &texts::plain(line, kind))
+            fault_in(sink, job, Input::Text, texts::plain(line, kind))
         }
         Status::BadMap(fault) => {
-            fault_in(sink, job, Input::Map, &texts::numbers(promised, fault))
+            fault_in(sink, job, Input::Map, texts::numbers(promised, fault))
         }
         Status::BadCertificate(fault) => {
-            fault_in(sink, job, Input::Certificate, &texts::certificate(fault))
+            fault_in(sink, job, Input::Certificate, texts::certificate(fault))
         }
     }
 }
@@ -178,16 +169,11 @@ fn fault_of_second<S: Sink>(
 {
     match fault {
         SecondFault::Properties(fault) => {
-            fault_in(
-                sink,
-                job,
-                Input::SecondProperties,
-                &texts::properties(fault),
-            )
+            fault_in(sink, job, Input::SecondProperties, texts::properties(fault))
         }
         SecondFault::Archive(fault) => {
             let input = second_input(texts::file_of_fault(fault));
-            fault_in(sink, job, input, &texts::archive(promised, fault))
+            fault_in(sink, job, input, texts::archive(promised, fault))
         }
     }
 }
@@ -197,9 +183,9 @@ fn fault_in<S: Sink>(
     sink: &mut S,
     job: &Option<Job>,
     input: Input,
-    text: &Text,
+    text: Text,
 ) -> Result<(), WriteError>
-    ensures puts { IsTrue S.told → Puts (naming (codes "wg: ") (name_in job.now input) (codes ": " ++ text.now))
+    ensures puts { IsTrue S.told → Puts (naming (codes "wg: ") (name_in job.now input) (codes ": " ++ text))
         (S.taken sink.old) (S.taken sink.new) result }
     ensures cause { IsErr result → Increased (S.faults sink.old) (S.faults sink.new)
         ⊎ Increased (S.wants sink.old) (S.wants sink.new) }

@@ -1,50 +1,48 @@
-use Rattle.std.proofs.Common.{◌≡◌, ◌∙◌, true, false, refl, sym}
-use Rattle.wg_outcomes.proofs.PerformsLemmas.{anywhere_at, generates, performs_at}
-use Rattle.wg_cli.proofs.ArchiveJobs.{anywhere_left, archive_left, calls_left}
+use Rattle.std.proofs.Common.{refl}
+use Rattle.wg_outcomes.proofs.PerformsLemmas.{generates}
+use Rattle.wg_cli.proofs.ArchiveJobs.{anywhere_left, archive_left, calls, calls_left}
 use Rattle.wg_cli.proofs.dispatch.do_job.Goals as goal
 
-pub returns-in-Check-clause-does : goal.returns-in-Check-clause-does
-returns-in-Check-clause-does g c = performs_at _ _ _ _ _ _ _ _ _ _ c.in-Check.is refl refl c.check.ensures
+pub returns-in-Check : goal.returns-in-Check
+returns-in-Check g c = rw c.in-Check.is record { does = c.check.ensures; anywhere = tt; untouched = λ none. calls refl none }
 
-pub returns-in-Arcs-clause-does : goal.returns-in-Arcs-clause-does
-returns-in-Arcs-clause-does g c = performs_at _ _ _ _ _ _ _ _ _ _ c.in-Arcs.is refl refl c.print_records.ensures
+pub returns-in-Arcs : goal.returns-in-Arcs
+returns-in-Arcs g c = rw c.in-Arcs.is record { does = c.print_records.ensures; anywhere = tt; untouched = λ none. calls refl none }
 
-pub returns-in-Ascii-clause-does : goal.returns-in-Ascii-clause-does
-returns-in-Ascii-clause-does g c = performs_at _ _ _ _ _ _ _ _ _ _ c.in-Ascii.is refl refl c.print_records-in-Ascii.ensures
+pub returns-in-Ascii : goal.returns-in-Ascii
+returns-in-Ascii g c = rw c.in-Ascii.is record { does = c.print_records-in-Ascii.ensures; anywhere = tt; untouched = λ none. calls refl none }
 
-pub returns-in-Offsets-clause-does : goal.returns-in-Offsets-clause-does
-returns-in-Offsets-clause-does g c = performs_at _ _ _ _ _ _ _ _ _ _ c.in-Offsets.is refl refl c.print_records-in-Offsets.ensures
+pub returns-in-Offsets : goal.returns-in-Offsets
+returns-in-Offsets g c = rw c.in-Offsets.is record { does = c.print_records-in-Offsets.ensures; anywhere = tt; untouched = λ none. calls refl none }
 
-pub returns-in-Show-clause-does : goal.returns-in-Show-clause-does
-returns-in-Show-clause-does g c = performs_at _ _ _ _ _ _ _ _ _ _ c.in-Show.is refl refl c.show.ensures
+pub returns-in-Show : goal.returns-in-Show
+returns-in-Show g c = rw c.in-Show.is record { does = c.show.ensures; anywhere = tt; untouched = λ none. calls refl none }
 
-pub returns-in-Spot-clause-does : goal.returns-in-Spot-clause-does
-returns-in-Spot-clause-does g c = performs_at _ _ _ _ _ _ _ _ _ _ c.in-Spot.is refl refl c.spot.ensures
+pub returns-in-Spot : goal.returns-in-Spot
+returns-in-Spot g c = rw c.in-Spot.is record { does = c.spot.ensures; anywhere = tt; untouched = λ none. calls refl none }
 
-pub returns-in-Rank-clause-does : goal.returns-in-Rank-clause-does
-returns-in-Rank-clause-does g c = performs_at _ _ _ _ _ _ _ _ _ _ c.in-Rank.is refl refl c.rank.ensures.does
+pub returns-in-Rank : goal.returns-in-Rank
+returns-in-Rank g c =
+    rw c.in-Rank.is record { does = c.rank.ensures.does; anywhere = c.rank.ensures.anywhere; untouched = λ none. calls refl none }
 
-pub returns-in-Verify-clause-does : goal.returns-in-Verify-clause-does
-returns-in-Verify-clause-does g c = performs_at _ _ _ _ _ _ _ _ _ _ c.in-Verify.is refl refl c.verify.ensures.does
+pub returns-in-Verify : goal.returns-in-Verify
+returns-in-Verify g c =
+    rw c.in-Verify.is record { does = c.verify.ensures.does; anywhere = c.verify.ensures.anywhere; untouched = λ none. calls refl none }
 
-pub returns-in-Bulk-clause-does : goal.returns-in-Bulk-clause-does
-returns-in-Bulk-clause-does g c = performs_at _ _ _ _ _ _ _ _ _ _ c.in-Bulk.is refl refl (c.bulk.ensures _ _ _)
-
-pub returns-in-Rank-clause-anywhere : goal.returns-in-Rank-clause-anywhere
-returns-in-Rank-clause-anywhere g c = anywhere_at g.D.Depot g.O.Sink _ _ _ _ _ _ _ _ c.in-Rank.is refl c.rank.ensures.anywhere
-
-pub returns-in-Verify-clause-anywhere : goal.returns-in-Verify-clause-anywhere
-returns-in-Verify-clause-anywhere g c = anywhere_at g.D.Depot g.O.Sink _ _ _ _ _ _ _ _ c.in-Verify.is refl c.verify.ensures.anywhere
-
-pub returns-in-Bulk-clause-anywhere : goal.returns-in-Bulk-clause-anywhere
-returns-in-Bulk-clause-anywhere g c =
-    anywhere_at g.D.Depot g.O.Sink _ _ _ _ _ _ _ _ c.in-Bulk.is refl (generates g.O.Sink _ _ c.args.out.now c.bulk.new.out c.bulk.result c.bulk.ensures)
+pub returns-in-Bulk : goal.returns-in-Bulk
+returns-in-Bulk g c =
+    rw c.in-Bulk.is record {
+      does = c.bulk.ensures _ _ _;
+      anywhere = generates g.O.Sink _ _ c.args.out.now c.bulk.new.out c.bulk.result c.bulk.ensures;
+      untouched = λ none. refl;
+    }
 
 pub write_archive-requires-clause-writes : goal.write_archive-requires-clause-writes
 write_archive-requires-clause-writes g c = archive_left _ c.in_default.not-Check c.in_default.not-Arcs c.in_default.not-Ascii c.in_default.not-Offsets c.in_default.not-Show c.in_default.not-Spot c.in_default.not-Rank c.in_default.not-Verify c.in_default.not-Bulk
 
-pub returns-in_default-clause-anywhere : goal.returns-in_default-clause-anywhere
-returns-in_default-clause-anywhere g c = anywhere_left g.D.Depot g.O.Sink _ _ _ _ _ _ c.in_default.not-Rank c.in_default.not-Verify c.in_default.not-Bulk
-
-pub returns-in_default-clause-untouched : goal.returns-in_default-clause-untouched
-returns-in_default-clause-untouched g c = λ none. let no : true ≡ false = sym (calls_left _ c.in_default.not-Bulk) ∙ none in cc
+pub returns-in_default : goal.returns-in_default
+returns-in_default g c = record {
+  does = c.write_archive.ensures;
+  anywhere = anywhere_left g.D.Depot g.O.Sink _ _ _ _ _ _ c.in_default.not-Rank c.in_default.not-Verify c.in_default.not-Bulk;
+  untouched = λ none. calls (calls_left _ c.in_default.not-Bulk) none;
+}

@@ -1,102 +1,112 @@
-use Rattle.std.proofs.Common.{◌∙◌, inl, inr, refl, subst}
+use Rattle.std.proofs.Common.{◌≡◌, ◌∙◌, inl, inr, refl, sym, ap, subst, Option, Some}
 use Rattle.wg_words.specs.Jobs.{job_of}
+use Rattle.wg_words.specs.declared.jobs.Job.{Job}
 use Rattle.wg_words.specs.declared.jobs.Job.TheVariants.{Bulk, Rank, Verify}
 use Rattle.wg_outcomes.specs.Answers.{Answers, HasOutput}
 use Rattle.wg_outcomes.specs.Judged.{Judged, output_of}
 use Rattle.wg_outcomes.specs.JobFiles.{held_for}
-use Rattle.wg_outcomes.specs.Performs.{judged_on}
+use Rattle.wg_outcomes.specs.Performs.{Outside, Performs, judged_on, outside}
+use Rattle.wg_outcomes.specs.declared.status.Status.TheVariants.{Memory}
+use Rattle.wg_cli.specs.Wanted.{ArePromisedBy, some_calls_depot, some_writes_files}
 use Rattle.wg_cli.proofs.LineLemmas.{nothing_promised}
+use Rattle.wg_cli.proofs.RunLemmas.{not_begun, not_done, not_usage}
 use Rattle.wg_words.proofs.JobLemmas.{bulk_within, rank_within}
 use Rattle.wg_outcomes.proofs.PerformsLemmas.{unhindered}
+use Rattle.wg_outcomes.proofs.Statuses.{IsRead, IsStop}
+use Rattle.wg_outside.proofs.FilesLemmas.{none_falls-refl}
 use Rattle.wg_cli.proofs.ProvenLemmas.{proven_ranking, when_done}
 use Rattle.wg_outcomes.proofs.SureLemmas.{proven_outcome}
 use Rattle.wg_laws.proofs.VerifiedLemmas.{proven_gap}
 use Rattle.wg_laws.proofs.WrittenLemmas.{written_accepted}
 use Rattle.wg_cli.proofs.program.run.Goals as goal
 
-pub returns-in_default-clause-line : goal.returns-in_default-clause-line
-returns-in_default-clause-line g c = λ e. (0, λ t. nothing_promised (job_of c.args.words.now) (g.D.Depot.files c.args.depot.now) 0, c.report.ensures.line e)
+pub returns-in_default : goal.returns-in_default
+returns-in_default g c =
+    let counts = g.D.Depot.counts c.args.depot.now in
+    let at : Outside = outside (g.D.Depot.files c.args.depot.now) counts (g.O.Sink.taken c.args.out.now) (g.O.Sink.faults c.args.out.now) in
+    let stop : (job : Job) → Performs job g.D.Depot.told g.O.Sink.told at at Memory 0 = λ job. not_begun job g.D.Depot.told g.O.Sink.told at in
+    record {
+      usage = λ is. not_usage is;
+      no_job = λ none. inr refl;
+      no_output = λ none. refl;
+      answers = λ t r job asked. inr tt;
+      possible = λ job asked. refl;
+      complete = λ t r job asked quiet. inr refl;
+      causes = λ job asked. (stop job).causes;
+      reached = λ t r job asked i is. absurd (subst IsRead is tt);
+      needed = λ t r job asked o is. absurd (subst IsStop is tt);
+      silent = λ job asked apart. inr (inr refl);
+      printed_last = λ t r job asked want. inl refl;
+      certified = λ t o r base rounds damping top weights certificate asked is. not_done is;
+      ranked = λ o r base rounds damping top weights certificate asked is. not_done is;
+      wants_first = λ base rounds damping top weights certificate asked want. inl (refl, refl);
+      sure = λ o r seed pages asked is. not_done is;
+      verified = λ t o r base certificate weights asked is. not_done is;
+      leaves = λ o base certificate weights asked is. not_done is;
+      accepts = λ t r base certificate weights asked holds. inr tt;
+      output = λ t o r job asked. (stop job).output t o r;
+      files = λ t r job asked. (stop job).files t r;
+      same = λ none. refl;
+      untouched = λ none. refl;
+      later = none_falls-refl counts;
+      line = λ e. (0, λ t. nothing_promised (job_of c.args.words.now) (g.D.Depot.files c.args.depot.now) 0, c.report.ensures.line e);
+      quiet = λ is. not_done is;
+    }
 
-pub returns-in_default-clause-printed_last : goal.returns-in_default-clause-printed_last
-returns-in_default-clause-printed_last g c = λ t r job is want. inl refl
-
-pub returns-clause-answers : goal.returns-clause-answers
-returns-clause-answers g c = λ t r job is. (c.try_job-ending.ensures.performs job (c.in-Ok.ensures.job ∙ is)).answers t r
-
-pub returns-clause-possible : goal.returns-clause-possible
-returns-clause-possible g c = λ job is. (c.try_job-ending.ensures.performs job (c.in-Ok.ensures.job ∙ is)).possible
-
-pub returns-clause-causes : goal.returns-clause-causes
-returns-clause-causes g c = λ job is. (c.try_job-ending.ensures.performs job (c.in-Ok.ensures.job ∙ is)).causes
-
-pub returns-clause-reached : goal.returns-clause-reached
-returns-clause-reached g c = λ t r job is i fault. (c.try_job-ending.ensures.performs job (c.in-Ok.ensures.job ∙ is)).reached t r i fault
-
-pub returns-clause-needed : goal.returns-clause-needed
-returns-clause-needed g c = λ t r job is o fault. (c.try_job-ending.ensures.performs job (c.in-Ok.ensures.job ∙ is)).needed t r o fault
-
-pub returns-clause-silent : goal.returns-clause-silent
-returns-clause-silent g c = λ job is apart. (c.try_job-ending.ensures.performs job (c.in-Ok.ensures.job ∙ is)).silent apart
-
-pub returns-clause-printed_last : goal.returns-clause-printed_last
-returns-clause-printed_last g c = λ t r job is want. (c.try_job-ending.ensures.performs job (c.in-Ok.ensures.job ∙ is)).printed_last t r want
-
-pub returns-clause-output : goal.returns-clause-output
-returns-clause-output g c = λ t o r job is. (c.try_job-ending.ensures.performs job (c.in-Ok.ensures.job ∙ is)).output t o r
-
-pub returns-clause-files : goal.returns-clause-files
-returns-clause-files g c = λ t r job is. (c.try_job-ending.ensures.performs job (c.in-Ok.ensures.job ∙ is)).files t r
-
-pub returns-in_default-clause-silent : goal.returns-in_default-clause-silent
-returns-in_default-clause-silent g c = λ job is apart. inr (inr refl)
-
-pub returns-in_default-clause-wants_first : goal.returns-in_default-clause-wants_first
-returns-in_default-clause-wants_first g c = λ base rounds damping top weights certificate is want. inl (refl, refl)
-
-pub returns-clause-ranked : goal.returns-clause-ranked
-returns-clause-ranked g c = λ o r base rounds damping top weights certificate is done.
-    (c.try_job-ending.ensures.anywhere (Rank base rounds damping top weights certificate) (c.in-Ok.ensures.job ∙ is)).ranking o done r
-
-pub returns-clause-wants_first : goal.returns-clause-wants_first
-returns-clause-wants_first g c = λ base rounds damping top weights certificate is.
-    (c.try_job-ending.ensures.anywhere (Rank base rounds damping top weights certificate) (c.in-Ok.ensures.job ∙ is)).wants
-
-pub returns-clause-leaves : goal.returns-clause-leaves
-returns-clause-leaves g c = λ o base certificate weights is done. c.try_job-ending.ensures.anywhere (Verify base certificate weights) (c.in-Ok.ensures.job ∙ is) o done
-
-pub returns-clause-sure : goal.returns-clause-sure
-returns-clause-sure g c = λ o r seed pages is done.
-    proven_outcome r seed pages _ _ (bulk_within c.args.words.now seed pages is) (c.try_job-ending.ensures.anywhere (Bulk seed pages) (c.in-Ok.ensures.job ∙ is) o done r)
-
-pub returns-clause-complete : goal.returns-clause-complete
-returns-clause-complete g c = λ t r job is quiet.
-    let does = c.try_job-ending.ensures.performs job (c.in-Ok.ensures.job ∙ is) in
-    unhindered _ _ _ _ _ _ quiet (judged_on r job (g.D.Depot.files c.args.depot.now)) _ does.causes (does.answers t r)
-
-pub returns-clause-certified : goal.returns-clause-certified
-returns-clause-certified g c = λ t o r base rounds damping top weights certificate is done.
-    let job = Rank base rounds damping top weights certificate in
+pub returns : goal.returns
+returns g c =
+    let e = c.in-Ok.ensures.job in
+    let ended = c.try_job-ending.ensures in
     let files = g.D.Depot.files c.args.depot.now in
-    let does = c.try_job-ending.ensures.performs job (c.in-Ok.ensures.job ∙ is) in
-    let within = rank_within c.args.words.now base rounds damping top weights certificate is in
-    proven_ranking r (held_for job files) base rounds damping top weights certificate _ _ within.0 within.1
-    (when_done (judged_on r job files) (subst (Answers (judged_on r job files)) done (does.answers t r)))
-    (subst (HasOutput (output_of (judged_on r job files)) (g.O.Sink.taken c.args.out.now) (g.O.Sink.taken c.try_job-ending.new.out)) done (does.output t o r))
+    let does = λ (job : Job) (asked : job_of c.args.words.now ≡ Some job). ended.performs job (e ∙ asked) in
+    record {
+      usage = λ is. sym e ∙ ended.usage is;
+      no_job = λ none. inl (ended.no_job (e ∙ none));
+      no_output = λ none. ended.no_output (e ∙ none);
+      answers = λ t r job asked. (does job asked).answers t r;
+      possible = λ job asked. (does job asked).possible;
+      complete = λ t r job asked quiet.
+          unhindered _ _ _ _ _ _ quiet (judged_on r job files) _ (does job asked).causes ((does job asked).answers t r);
+      causes = λ job asked. (does job asked).causes;
+      reached = λ t r job asked i fault. (does job asked).reached t r i fault;
+      needed = λ t r job asked o fault. (does job asked).needed t r o fault;
+      silent = λ job asked apart. (does job asked).silent apart;
+      printed_last = λ t r job asked want. (does job asked).printed_last t r want;
+      certified = λ t o r base rounds damping top weights certificate asked done.
+          let job = Rank base rounds damping top weights certificate in
+          let within = rank_within c.args.words.now base rounds damping top weights certificate asked in
+          proven_ranking r (held_for job files) base rounds damping top weights certificate _ _ within.0 within.1
+          (when_done (judged_on r job files) (subst (Answers (judged_on r job files)) done ((does job asked).answers t r)))
+          (subst (HasOutput (output_of (judged_on r job files)) (g.O.Sink.taken c.args.out.now) (g.O.Sink.taken c.try_job-ending.new.out)) done ((does job asked).output t o r));
+      ranked = λ o r base rounds damping top weights certificate asked done.
+          (ended.anywhere (Rank base rounds damping top weights certificate) (e ∙ asked)).ranking o done r;
+      wants_first = λ base rounds damping top weights certificate asked. (ended.anywhere (Rank base rounds damping top weights certificate) (e ∙ asked)).wants;
+      sure = λ o r seed pages asked done.
+          proven_outcome r seed pages _ _ (bulk_within c.args.words.now seed pages asked) (ended.anywhere (Bulk seed pages) (e ∙ asked) o done r);
+      verified = λ t o r base certificate weights asked done.
+          let job = Verify base certificate weights in
+          proven_gap r (held_for job files) base certificate weights _ _
+          (when_done (judged_on r job files) (subst (Answers (judged_on r job files)) done ((does job asked).answers t r)))
+          (subst (HasOutput (output_of (judged_on r job files)) (g.O.Sink.taken c.args.out.now) (g.O.Sink.taken c.try_job-ending.new.out)) done ((does job asked).output t o r));
+      leaves = λ o base certificate weights asked done. ended.anywhere (Verify base certificate weights) (e ∙ asked) o done;
+      accepts = λ t r base certificate weights asked holds.
+          let job = Verify base certificate weights in
+          let held = held_for job files in
+          let accepted = written_accepted r held held (record { properties = refl; graph = refl; weights = refl }) base certificate holds.rounds holds.damping holds.top weights holds.text
+          holds.out holds.few holds.damped holds.ranked holds.there in
+          subst (λ (j : Judged). Answers j c.try_job-ending.result.status) accepted.1 ((does job asked).answers t r);
+      output = λ t o r job asked. (does job asked).output t o r;
+      files = λ t r job asked. (does job asked).files t r;
+      same = λ none. ended.same (ap some_writes_files e ∙ none);
+      untouched = λ none. ended.untouched (ap some_calls_depot e ∙ none);
+      later = ended.later;
+      line = λ told. (
+        c.try_job-ending.result.promised,
+        λ t. subst (λ (asked : Option Job). ArePromisedBy asked files c.try_job-ending.result.status c.try_job-ending.result.promised) e (ended.promised t),
+        rw e at c.report-2.ensures.line told,
+      );
+      quiet = λ is. c.report-2.ensures.quiet is;
+    }
 
-pub returns-clause-verified : goal.returns-clause-verified
-returns-clause-verified g c = λ t o r base certificate weights is done.
-    let job = Verify base certificate weights in
-    let files = g.D.Depot.files c.args.depot.now in
-    let does = c.try_job-ending.ensures.performs job (c.in-Ok.ensures.job ∙ is) in
-    proven_gap r (held_for job files) base certificate weights _ _
-    (when_done (judged_on r job files) (subst (Answers (judged_on r job files)) done (does.answers t r)))
-    (subst (HasOutput (output_of (judged_on r job files)) (g.O.Sink.taken c.args.out.now) (g.O.Sink.taken c.try_job-ending.new.out)) done (does.output t o r))
-
-pub returns-clause-accepts : goal.returns-clause-accepts
-returns-clause-accepts g c = λ t r base certificate weights is holds.
-    let job = Verify base certificate weights in
-    let held = held_for job (g.D.Depot.files c.args.depot.now) in
-    let does = c.try_job-ending.ensures.performs job (c.in-Ok.ensures.job ∙ is) in
-    let accepted = written_accepted r held held (record { properties = refl; graph = refl; weights = refl }) base certificate holds.rounds holds.damping holds.top weights holds.text
-    holds.out holds.few holds.damped holds.ranked holds.there in
-    subst (λ (j : Judged). Answers j c.try_job-ending.result.status) accepted.1 (does.answers t r)
+pub try_job-ending-requires : goal.try_job-ending-requires
+try_job-ending-requires g c = c.in-Ok.ensures.within
