@@ -1,5 +1,5 @@
 -- What an error of the parts says of the whole.
-use Rattle.std.proofs.Common.{sym, subst}
+use Rattle.std.proofs.Common.{◌≡◌, Result, Err, refl, sym, subst}
 use Rattle.wg_outside.specs.declared.whole.LoadError.{LoadError}
 use Rattle.wg_outside.specs.declared.whole.LoadError.TheVariants as load
 use Rattle.wg_grammar.specs.declared.fault.ArchiveFault.{ArchiveFault}
@@ -23,6 +23,13 @@ load_outside load.Absent P h = h
 load_outside load.Failed P h = h
 load_outside load.TooLong P h = h
 load_outside load.Memory P h = tt
+
+-- an absent file is told as one
+pub load_absent : {A : Type 0} (l : LoadError) → ◌≡◌ {A = Result A LoadError} (Err l) (Err load.Absent) → (B : Type 0) → ◌≡◌ {A = Result B First} (Err (of_load l)) (Err first.Absent)
+load_absent load.Absent is B = refl
+load_absent load.Failed is B = absurd (cc is)
+load_absent load.TooLong is B = absurd (cc is)
+load_absent load.Memory is B = absurd (cc is)
 
 fault_graph : (f : ArchiveFault) (e : First) (P : ArchiveFault → Type 0) → Tells f e → P f → OfGraph e P
 fault_graph (archive.Record f) e P is h = subst (λ (x : First). OfGraph x P) (sym is) h

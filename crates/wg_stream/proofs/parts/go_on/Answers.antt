@@ -1,80 +1,120 @@
-use Rattle.std.proofs.Common.{ℕ, sym, ap, subst, refl}
+use Rattle.std.proofs.Common.{rules, Bool, ℕ, sym, ap, subst, refl}
 use Rattle.std.proofs.lemmas.Result.{err_from_is_err_and}
 use Rattle.wg_bits.specs.Bits.{bits_of}
 use Rattle.wg_source.specs.Held.{Held}
 use Rattle.wg_stream.specs.Prefix.{AreBehind}
 use Rattle.wg_source.specs.StepLaws.{still_there, two_steps, later_cause}
-use Rattle.wg_stream.proofs.FirstErrorLemmas.{graph_weaker, load_graph, load_outside, outside_weaker}
+use Rattle.wg_stream.proofs.ErrorLemmas.{no_ok, no_err, no_more, no_end}
+use Rattle.wg_stream.proofs.FirstErrorLemmas.{graph_weaker, load_absent, load_graph, load_outside, outside_weaker}
 use Rattle.wg_stream.proofs.parts.go_on.Goals as goal
 
-pub returns-in_err-judge_end-clause-fault : goal.returns-in_err-judge_end-clause-fault
-returns-in_err-judge_end-clause-fault g c = λ t file is i behind r.
-    let s = c.in_ok-look.ensures.steps in
-    let there = still_there _ _ _ _ _ _ _ _ _ file refl s is in
-    let j = s.in_step t file is i in
-    let short = j.short (ap (λ (h : Held). h.looked) c.in_ok-look.ensures.ok) in
-    let here = subst (λ (n : ℕ). AreBehind (bits_of file) c.args.pages.now n behind) (sym (ap (λ (h : Held). h.at) c.in_ok-look.ensures.ok)) r in
-    let e = err_from_is_err_and c.from_residual-in_err-judge_end.result c.from_residual-in_err-judge_end.ensures.1 in
-    rw (e.1, e.2) (graph_weaker c.in_err-judge_end.field-0.0 _ _ (λ f h. record { short = short; reads = h }) (c.in_err-judge_end.ensures.fault t file there j behind here))
-
-pub returns-then-is_done-clause-judged : goal.returns-then-is_done-clause-judged
-returns-then-is_done-clause-judged g c = λ t file is i behind r _.
-    let s = c.in_ok-look.ensures.steps in
-    let there = still_there _ _ _ _ _ _ _ _ _ file refl s is in
-    let j = s.in_step t file is i in
-    let here = subst (λ (n : ℕ). AreBehind (bits_of file) c.args.pages.now n behind) (sym (ap (λ (h : Held). h.at) c.in_ok-look.ensures.ok)) r in
-    record { short = j.short (ap (λ (h : Held). h.looked) c.in_ok-look.ensures.ok); reads = c.in_ok-judge_end.ensures.reads t file there j behind here }
-
-pub returns-in_err-next_record-clause-fault : goal.returns-in_err-next_record-clause-fault
-returns-in_err-next_record-clause-fault g c = λ t file is i behind r.
-    let s = c.in_ok-look.ensures.steps in
-    let there = still_there _ _ _ _ _ _ _ _ _ file refl s is in
-    let j = s.in_step t file is i in
-    let short = j.short (ap (λ (h : Held). h.looked) c.in_ok-look.ensures.ok) in
-    let here = subst (λ (n : ℕ). AreBehind (bits_of file) c.args.pages.now n behind) (sym (ap (λ (h : Held). h.at) c.in_ok-look.ensures.ok)) r in
-    let e = err_from_is_err_and c.from_residual-in_err-next_record.result c.from_residual-in_err-next_record.ensures.1 in
-    rw (e.1, e.2) (graph_weaker c.in_err-next_record.field-0.0 _ _ (λ f h. record { short = short; reads = h }) (c.in_err-next_record.ensures.fault t file there j behind here))
-
 -- the error of the look
-pub returns-in_err-look-clause-steps : goal.returns-in_err-look-clause-steps
-returns-in_err-look-clause-steps g c = c.in_err-look.ensures.steps
-
-pub returns-in_err-look-clause-cause : goal.returns-in_err-look-clause-cause
-returns-in_err-look-clause-cause g c =
+pub returns-in_err-look : goal.returns-in_err-look
+returns-in_err-look g c =
     let e = err_from_is_err_and c.from_residual.result c.from_residual.ensures.1 in
-    rw (e.1, e.2) (load_outside c.in_err-look.field-0.0 _ c.in_err-look.ensures.cause)
+    rw (e.1, e.2) record {
+      params = refl;
+      looked = tt;
+      more = λ x. absurd (no_ok x);
+      end = λ x. absurd (no_ok x);
+      steps = c.in_err-look.ensures.steps;
+      cause = load_outside c.in_err-look.field-0.0 _ c.in_err-look.ensures.cause;
+      absent = λ t n l. load_absent c.in_err-look.field-0.0 (c.in_err-look.ensures.absent t n l) Bool;
+      reads = λ t file is i behind r x. absurd (no_ok x);
+      judged = λ t file is i behind r x. absurd (no_ok x);
+      fault = λ t file is i behind r. load_graph c.in_err-look.field-0.0 _;
+      few = λ h. h;
+    }
 
-pub returns-in_err-look-clause-fault : goal.returns-in_err-look-clause-fault
-returns-in_err-look-clause-fault g c = λ t file is i behind r.
-    let e = err_from_is_err_and c.from_residual.result c.from_residual.ensures.1 in
-    rw (e.1, e.2) (load_graph c.in_err-look.field-0.0 _)
-
--- the steps of the look and of what comes after it
-pub returns-in_err-judge_end-clause-steps : goal.returns-in_err-judge_end-clause-steps
-returns-in_err-judge_end-clause-steps g c = two_steps _ _ _ _ _ _ _ _ _ _ _ _ refl c.in_ok-look.ensures.steps c.in_err-judge_end.ensures.steps
-
-pub returns-then-is_done-clause-steps : goal.returns-then-is_done-clause-steps
-returns-then-is_done-clause-steps g c = two_steps _ _ _ _ _ _ _ _ _ _ _ _ refl c.in_ok-look.ensures.steps c.in_ok-judge_end.ensures.steps
-
-pub returns-in_err-next_record-clause-steps : goal.returns-in_err-next_record-clause-steps
-returns-in_err-next_record-clause-steps g c = two_steps _ _ _ _ _ _ _ _ _ _ _ _ refl c.in_ok-look.ensures.steps c.in_err-next_record.ensures.steps
-
-pub returns-clause-steps : goal.returns-clause-steps
-returns-clause-steps g c = two_steps _ _ _ _ _ _ _ _ _ _ _ _ refl c.in_ok-look.ensures.steps c.in_ok-next_record.ensures.steps
-
-pub returns-in_err-judge_end-clause-cause : goal.returns-in_err-judge_end-clause-cause
-returns-in_err-judge_end-clause-cause g c =
-    let e = err_from_is_err_and c.from_residual-in_err-judge_end.result c.from_residual-in_err-judge_end.ensures.1 in
-    rw (e.1, e.2) (outside_weaker c.in_err-judge_end.field-0.0 _ _ (λ l h. later_cause _ _ _ _ _ _ _ _ _ _ l refl c.in_ok-look.ensures.steps h) c.in_err-judge_end.ensures.cause)
-
-pub returns-in_err-next_record-clause-cause : goal.returns-in_err-next_record-clause-cause
-returns-in_err-next_record-clause-cause g c =
-    let e = err_from_is_err_and c.from_residual-in_err-next_record.result c.from_residual-in_err-next_record.ensures.1 in
-    rw (e.1, e.2) (outside_weaker c.in_err-next_record.field-0.0 _ _ (λ l h. later_cause _ _ _ _ _ _ _ _ _ _ l refl c.in_ok-look.ensures.steps h) c.in_err-next_record.ensures.cause)
-
-pub returns-clause-reads : goal.returns-clause-reads
-returns-clause-reads g c = λ t file is i behind r _.
+-- the end of the file, after the look
+pub returns-in_err-judge_end : goal.returns-in_err-judge_end
+returns-in_err-judge_end g c =
     let s = c.in_ok-look.ensures.steps in
-    let there = still_there _ _ _ _ _ _ _ _ _ file refl s is in
-    let here = subst (λ (n : ℕ). AreBehind (bits_of file) c.args.pages.now n behind) (sym (ap (λ (h : Held). h.at) c.in_ok-look.ensures.ok)) r in
-    c.in_ok-next_record.ensures.reads t file there (s.in_step t file is i) behind here
+    let h = c.in_err-judge_end.ensures in
+    let e = err_from_is_err_and c.from_residual-in_err-judge_end.result c.from_residual-in_err-judge_end.ensures.1 in
+    rw (e.1, e.2) record {
+      params = refl;
+      looked = tt;
+      more = λ x. absurd (no_ok x);
+      end = λ x. absurd (no_ok x);
+      steps = two_steps _ _ _ _ _ _ _ _ _ _ _ _ refl s h.steps;
+      cause = outside_weaker c.in_err-judge_end.field-0.0 _ _ (λ l x. later_cause _ _ _ _ _ _ _ _ _ _ l refl s x) h.cause;
+      absent = λ t n l. absurd (no_err (c.in_ok-look.ensures.absent t n l));
+      reads = λ t file is i behind r x. absurd (no_ok x);
+      judged = λ t file is i behind r x. absurd (no_ok x);
+      fault = λ t file is i behind r.
+          let there = still_there _ _ _ _ _ _ _ _ _ file refl s is in
+          let j = s.in_step t file is i in
+          let short = j.short (ap (λ (h : Held). h.looked) c.in_ok-look.ensures.ok) in
+          let here = subst (λ (n : ℕ). AreBehind (bits_of file) c.args.pages.now n behind) (sym (ap (λ (h : Held). h.at) c.in_ok-look.ensures.ok)) r in
+          graph_weaker c.in_err-judge_end.field-0.0 _ _ (λ f x. record { short = short; reads = x }) (h.fault t file there j behind here);
+      few = λ x. x;
+    }
+
+pub returns-then-is_done : goal.returns-then-is_done
+returns-then-is_done g c =
+    let s = c.in_ok-look.ensures.steps in
+    let h = c.in_ok-judge_end.ensures in
+    record {
+      params = refl;
+      looked = h.steps.looked (ap (λ (h : Held). h.looked) c.in_ok-look.ensures.ok);
+      more = λ x. absurd (no_more x);
+      end = λ _. (refl, c.is_done.ensures.done c.if-is_done.true, h.total);
+      steps = two_steps _ _ _ _ _ _ _ _ _ _ _ _ refl s h.steps;
+      cause = tt;
+      absent = λ t n l. absurd (no_err (c.in_ok-look.ensures.absent t n l));
+      reads = λ t file is i behind r x. absurd (no_more x);
+      judged = λ t file is i behind r _.
+          let there = still_there _ _ _ _ _ _ _ _ _ file refl s is in
+          let j = s.in_step t file is i in
+          let here = subst (λ (n : ℕ). AreBehind (bits_of file) c.args.pages.now n behind) (sym (ap (λ (h : Held). h.at) c.in_ok-look.ensures.ok)) r in
+          record { short = j.short (ap (λ (h : Held). h.looked) c.in_ok-look.ensures.ok); reads = h.reads t file there j behind here };
+      fault = λ t file is i behind r. tt;
+      few = λ x. x;
+    }
+
+-- the next record, after the look
+pub returns-in_err-next_record : goal.returns-in_err-next_record
+returns-in_err-next_record g c =
+    let s = c.in_ok-look.ensures.steps in
+    let h = c.in_err-next_record.ensures in
+    let e = err_from_is_err_and c.from_residual-in_err-next_record.result c.from_residual-in_err-next_record.ensures.1 in
+    rw (e.1, e.2) record {
+      params = h.params;
+      looked = tt;
+      more = λ x. absurd (no_ok x);
+      end = λ x. absurd (no_ok x);
+      steps = two_steps _ _ _ _ _ _ _ _ _ _ _ _ refl s h.steps;
+      cause = outside_weaker c.in_err-next_record.field-0.0 _ _ (λ l x. later_cause _ _ _ _ _ _ _ _ _ _ l refl s x) h.cause;
+      absent = λ t n l. absurd (no_err (c.in_ok-look.ensures.absent t n l));
+      reads = λ t file is i behind r x. absurd (no_ok x);
+      judged = λ t file is i behind r x. absurd (no_ok x);
+      fault = λ t file is i behind r.
+          let there = still_there _ _ _ _ _ _ _ _ _ file refl s is in
+          let j = s.in_step t file is i in
+          let short = j.short (ap (λ (h : Held). h.looked) c.in_ok-look.ensures.ok) in
+          let here = subst (λ (n : ℕ). AreBehind (bits_of file) c.args.pages.now n behind) (sym (ap (λ (h : Held). h.at) c.in_ok-look.ensures.ok)) r in
+          graph_weaker c.in_err-next_record.field-0.0 _ _ (λ f x. record { short = short; reads = x }) (h.fault t file there j behind here);
+      few = λ _. h.few;
+    }
+
+pub returns : goal.returns
+returns g c =
+    let s = c.in_ok-look.ensures.steps in
+    let h = c.in_ok-next_record.ensures in
+    record {
+      params = h.params;
+      looked = h.steps.looked (ap (λ (h : Held). h.looked) c.in_ok-look.ensures.ok);
+      more = λ _. (h.page, search rules, h.arcs);
+      end = λ x. absurd (no_end x);
+      steps = two_steps _ _ _ _ _ _ _ _ _ _ _ _ refl s h.steps;
+      cause = tt;
+      absent = λ t n l. absurd (no_err (c.in_ok-look.ensures.absent t n l));
+      reads = λ t file is i behind r _.
+          let there = still_there _ _ _ _ _ _ _ _ _ file refl s is in
+          let here = subst (λ (n : ℕ). AreBehind (bits_of file) c.args.pages.now n behind) (sym (ap (λ (h : Held). h.at) c.in_ok-look.ensures.ok)) r in
+          h.reads t file there (s.in_step t file is i) behind here;
+      judged = λ t file is i behind r x. absurd (no_end x);
+      fault = λ t file is i behind r. tt;
+      few = λ _. h.few;
+    }
