@@ -1,4 +1,6 @@
-use Rattle.std.proofs.Common.{arith}
+use Rattle.std.proofs.Common.{refl}
+use Rattle.wg_outside.proofs.PutsLemmas.{is_that_err}
+use Rattle.wg_random.proofs.Answered.{no_page_of, page_of, not_both, no_error, not_listed, none_more, ticks_of}
 use Rattle.wg_random.proofs.ChainLemmas.{ended_as}
 use Rattle.wg_random.proofs.Matching.{graph_list, list_read}
 use Rattle.wg_random.proofs.Readings.{few_opened}
@@ -8,19 +10,74 @@ use Rattle.wg_random.proofs.archive.Archive.read.Goals as goal
 pub open_or_list-requires-clause-chain : goal.open_or_list-requires-clause-chain
 open_or_list-requires-clause-chain g c r = ended_as _ _ _ _ _ _ c.as_slice.ensures (c.in_ok-chain.ensures.chain r)
 
-pub returns-clause-answer : goal.returns-clause-answer
-returns-clause-answer g c r = (omega arith, c.in_ok-open_or_list.ensures r)
+pub returns-then-x-nodes : goal.returns-then-x-nodes
+returns-then-x-nodes g c =
+    let n = c.nodes.ensures in
+    let none = no_page_of _ _ _ c.if-x-nodes.true n.count in
+    record {
+      answer = λ r. none;
+      graph = λ a h. tt;
+      ticks = λ r. tt;
+      most = λ r. none_more _ _;
+      none = λ _. refl;
+      stands = n.stands;
+      records = n.records;
+      no_page = λ _. refl;
+      no_page_only_then = λ _. none;
+      few = few_opened _ _ c.args.x _ _ n.records (λ r. none_more _ _);
+    }
 
-pub returns-clause-graph : goal.returns-clause-graph
-returns-clause-graph g c =
-    let page = c.in_ok-open_or_list.field-0 in
-    graph_list c.args.self.now c.args.x (list_in page) (λ r. list_read _ page (c.in_ok-open_or_list.ensures r))
+pub returns-in_err-chain : goal.returns-in_err-chain
+returns-in_err-chain g c =
+    let n = c.nodes.ensures in
+    let most = c.in_err-chain.ensures.most in
+    let page = page_of _ _ _ c.if-x-nodes.false n.count in
+    rw (is_that_err c.from_residual.result _ c.from_residual.ensures.1) record {
+      answer = λ r. page;
+      graph = λ a h. tt;
+      ticks = λ r. tt;
+      most = most;
+      none = λ le. absurd (not_both _ _ page le);
+      stands = n.stands;
+      records = n.records;
+      no_page = λ le. absurd (not_both _ _ page le);
+      no_page_only_then = λ x. absurd (not_listed x);
+      few = few_opened _ _ c.args.x _ _ n.records most;
+    }
 
-pub returns-in_err-chain-clause-few : goal.returns-in_err-chain-clause-few
-returns-in_err-chain-clause-few g c = few_opened _ _ c.args.x _ _ c.nodes.ensures.records c.in_err-chain.ensures.most
+pub returns-in_err-open_or_list : goal.returns-in_err-open_or_list
+returns-in_err-open_or_list g c =
+    let n = c.nodes.ensures in
+    let most = c.in_ok-chain.ensures.most in
+    let page = page_of _ _ _ c.if-x-nodes.false n.count in
+    rw (is_that_err c.from_residual-in_err-open_or_list.result _ c.from_residual-in_err-open_or_list.ensures.1) record {
+      answer = λ r. page;
+      graph = λ a h. tt;
+      ticks = λ r. tt;
+      most = most;
+      none = λ le. absurd (not_both _ _ page le);
+      stands = n.stands;
+      records = n.records;
+      no_page = λ le. absurd (not_both _ _ page le);
+      no_page_only_then = λ x. absurd (not_listed x);
+      few = few_opened _ _ c.args.x _ _ n.records most;
+    }
 
-pub returns-in_err-open_or_list-clause-few : goal.returns-in_err-open_or_list-clause-few
-returns-in_err-open_or_list-clause-few g c = few_opened _ _ c.args.x _ _ c.nodes.ensures.records c.in_ok-chain.ensures.most
-
-pub returns-clause-few : goal.returns-clause-few
-returns-clause-few g c = few_opened _ _ c.args.x _ _ c.nodes.ensures.records c.in_ok-chain.ensures.most
+pub returns : goal.returns
+returns g c =
+    let n = c.nodes.ensures in
+    let h = c.in_ok-chain.ensures in
+    let page = page_of _ _ _ c.if-x-nodes.false n.count in
+    let is = c.in_ok-open_or_list.ensures in
+    record {
+      answer = λ r. (page, is r);
+      graph = graph_list c.args.self.now c.args.x (list_in c.in_ok-open_or_list.field-0) (λ r. list_read _ c.in_ok-open_or_list.field-0 (is r));
+      ticks = λ r. ticks_of _ _ _ _ h.ticks h.some (h.chain r).deep;
+      most = h.most;
+      none = λ le. absurd (not_both _ _ page le);
+      stands = n.stands;
+      records = n.records;
+      no_page = λ le. absurd (not_both _ _ page le);
+      no_page_only_then = λ x. absurd (no_error x);
+      few = few_opened _ _ c.args.x _ _ n.records h.most;
+    }
