@@ -10,7 +10,7 @@ use Rattle.wg_grammar.specs.Context.{Known, Context}
 use Rattle.wg_grammar.specs.Record.{Whole, ReadsRecord}
 use Rattle.wg_grammar.specs.Archive.{Pages, context_of, lists_of, places_of, ReadsGraph}
 use Rattle.wg_decoder.specs.Answer.{context_at}
-use Rattle.wg_stream.specs.Prefix.{PrefixRead, IsEnded}
+use Rattle.wg_stream.specs.Prefix.{PagesRead, PrefixRead, IsOneMore, IsEnded}
 
 -- a record more after no record
 first_page : (p : Parameters) (bits : List Bool) (first last : List Whole) (at mid : ℕ) (w : Whole) → last ≡ first → mid ≡ at
@@ -105,5 +105,5 @@ module _ (p : Parameters) (bits : List Bool) where
   all_stand arcs at kept behind h within e = (h.stood, behind, at, h.records, (h.count, e.tail, omega (arith, h.total, within, e.enough), refl, refl))
 
 -- the same end by another name
-pub read_to : (p : Parameters) (bits : List Bool) (pages arcs a b : ℕ) (kept : List Known) (behind : List Whole) → a ≡ b → PrefixRead p bits pages arcs a kept behind → PrefixRead p bits pages arcs b kept behind
-read_to p bits pages arcs a b kept behind same h = subst (λ (n : ℕ). PrefixRead p bits pages arcs n kept behind) same h
+pub one_more_to : (bits : List Bool) (r : PagesRead) (a b : ℕ) (behind : List Whole) → a ≡ b → IsOneMore bits r a behind → IsOneMore bits r b behind
+one_more_to bits r a b behind same h = subst (λ (n : ℕ). IsOneMore bits r n behind) same h

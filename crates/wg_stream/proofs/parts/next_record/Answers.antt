@@ -2,7 +2,7 @@ use Rattle.std.proofs.Common.{Err, refl, rules}
 use Rattle.wg_bits.specs.Bits.{bits_of}
 use Rattle.wg_grammar.specs.Archive.{ReadsGraph}
 use Rattle.wg_stream.proofs.FirstErrorLemmas.{says_graph, says_outside}
-use Rattle.wg_stream.proofs.PrefixLemmas.{read_to}
+use Rattle.wg_stream.proofs.PrefixLemmas.{one_more_to}
 use Rattle.wg_stream.proofs.parts.next_record.Goals as goal
 
 pub returns-in-Ok-clause-reads : goal.returns-in-Ok-clause-reads
@@ -11,8 +11,7 @@ returns-in-Ok-clause-reads g c = λ t file is i behind r.
     let h = c.new-source.ensures.held in
     let n = c.new-source.ensures.name in
     let x = c.in-Ok.ensures.reads (bits_of file) behind (rw (d, h, n) (t, (file, is, i, refl))) (rw h r) in
-    let end = x.2 in
-    (x.0, x.1, search (rules, end), read_to _ _ _ _ _ _ _ _ (search rules) x.3)
+    one_more_to (bits_of file) c.next.new.self _ _ behind (search rules) x
 
 pub returns-in-Err-clause-fault : goal.returns-in-Err-clause-fault
 returns-in-Err-clause-fault g c = λ t file is i behind r.
