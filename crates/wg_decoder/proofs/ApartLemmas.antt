@@ -1,5 +1,5 @@
 -- Records on their own.
-use Rattle.std.proofs.Common.{◌≡◌, ◌⊎◌, ◌∙◌, ℕ, zero, suc, ◌+◌, ◌<◌, ◌≤◌, Bool, true, false, cond, ltb, inl, inr, List, [], ◌∷◌, length, replicate, min, is_none, Some, None, Result, Err, refl, sym, ap, subst, arith}
+use Rattle.std.proofs.Common.{◌≡◌, ◌⊎◌, ◌∙◌, ℕ, zero, suc, ◌+◌, ◌<◌, ◌≤◌, Bool, true, false, cond, ltb, inl, inr, List, [], ◌∷◌, length, replicate, min, is_none, Option, Some, None, Result, Err, refl, sym, ap, subst, arith}
 use Rattle.std.proofs.lemmas.Bool.{le-ltb, lt-ltb, ltb-true, ltb-false, and_parts, cases_lt}
 use Rattle.std.proofs.lemmas.List.{get_or-replicate, length-replicate}
 use Rattle.wg_params.specs.declared.code.Code.{Code}
@@ -21,6 +21,7 @@ use Rattle.wg_grammar.specs.Next.{next}
 use Rattle.wg_grammar.specs.Record.{Whole, Stands, Refused, ReadsRecord}
 use Rattle.wg_grammar.specs.Refusal.{refusal, judged}
 use Rattle.wg_grammar.specs.Tally.{Tally, tally, need_of}
+use Rattle.wg_grammar.specs.Judging.{Gives}
 use Rattle.wg_grammar.proofs.Chain.{field_of, tested, tests}
 use Rattle.wg_grammar.proofs.Tallies.{next_by_numbers}
 use Rattle.wg_decoder.specs.Answer.{context_at}
@@ -83,6 +84,10 @@ refers_some p c zero e = absurd cc
 refers_some p c (suc d) e = omega arith
 
 -- ---- the head
+
+-- an outdegree names no page
+pub gives_nothing : (n : Option Referenced) (p : Parameters) (c : Context) (d : ℕ) → Gives n p c field.Outdegree d
+gives_nothing n p c d same = absurd cc
 
 pub after_outdegree : (p : Parameters) (c : Context) (d : ℕ) → after p c nothing_yet field.Outdegree d ≡ of_outdegree d
 unfolding after

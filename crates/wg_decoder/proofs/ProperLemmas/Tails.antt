@@ -21,6 +21,41 @@ use Rattle.wg_decoder.proofs.ProperLemmas.Going.{step_of, stop_of, end_of, state
 use Rattle.wg_decoder.specs.Stages.{LeadsTo}
 use Rattle.wg_decoder.proofs.InsideLists.{past_of, past_push}
 
+-- ---- numbers
+
+more_left : (a count : ℕ) → a ≡ suc count → 0 < a
+more_left a count left = omega arith
+
+one_less : (a s l k count : ℕ) → a - (s + l) ≡ suc count → k ≡ l + 1 → a - (s + k) ≡ count
+one_less a s l k count left longer = omega arith
+
+below_most : (y n m : ℕ) → y < n → n ≤ m → y < m
+below_most y n m low few = omega arith
+
+no_more : (a b : ℕ) → a ≡ b → a ≤ b
+no_more a b same = omega arith
+
+some_more : (a count n : ℕ) → a + suc count ≡ n → a < n
+some_more a count n total = omega arith
+
+one_longer : (a b k : ℕ) → a ≡ b → k ≡ a + 1 → b < k
+one_longer a b k same longer = omega arith
+
+both_longer : (a b k m : ℕ) → a ≡ b → k ≡ a + 1 → m ≡ b + 1 → k ≡ m
+both_longer a b k m same longer as_long = omega arith
+
+still_total : (a k count n : ℕ) → a + suc count ≡ n → k ≡ a + 1 → k + count ≡ n
+still_total a k count n total longer = omega arith
+
+still_fit : (s t m most : ℕ) → s ≤ most → m ≤ most - (s + 0) → t ≡ s + m → t ≤ most
+still_fit s t m most fit room now = omega arith
+
+left_within : (k l v least n most : ℕ) → k + v + least ≤ n → n ≤ most → k ≡ l → l ≤ most
+left_within k l v least n most within few last = omega arith
+
+end_within : (k l v least n most : ℕ) → k + v + least ≤ n → n ≤ most → k ≡ l → l + (v + least) ≤ most + 1
+end_within k l v least n most within few last = omega arith
+
 -- ---- residuals
 
 -- the last one, where there is one
@@ -50,18 +85,18 @@ residuals_go zero p c bits d r n bs k i ls ns xs at t end h few ends left on =
     let done : next p c (state d r n bs k i ls ns xs) ≡ need.End = next_residual p c d r n bs k i ls ns xs h false (ap (λ (j : ℕ). ltb 0 j) left) in
     record { ys = []; all = refl; stand = ap (λ (j : ℕ). drop j bits) (end_of p c bits (state d r n bs k i ls ns xs) at t end done on); whole = stop_of p c bits (state d r n bs k i ls ns xs) at t end done on ∙ ap (λ (l : List ℕ). state d r n bs k i ls ns l) (sym (append-nil xs)) }
 residuals_go (suc count) p c bits d r n bs k i ls ns xs at t end h few ends left on =
-    let due : next p c (state d r n bs k i ls ns xs) ≡ need.Read field.Residual p.residuals = next_residual p c d r n bs k i ls ns xs h true (lt-ltb 0 _ (omega (arith, left))) in
+    let due : next p c (state d r n bs k i ls ns xs) ≡ need.Read field.Residual p.residuals = next_residual p c d r n bs k i ls ns xs h true (lt-ltb 0 _ (more_left _ _ left)) in
     let f = step_of p c bits (state d r n bs k i ls ns xs) at field.Residual p.residuals t end due ends on in
     let own = page_of p (own_residual c (state d r n bs k i ls ns xs) f.v) f.fine in
     let y : ℕ = own.0 in
     let same : value_or_0 (own_residual c (state d r n bs k i ls ns xs) f.v) ≡ y = ap value_or_0 own.1 in
     let low : y < p.nodes = ltb-true _ _ own.2 in
     let on_more : LeadsTo p c bits (state d r n bs k i ls ns (xs ++ y ∷ [])) f.mid t end = subst (λ (j : ℕ). LeadsTo p c bits (state d r n bs k i ls ns (xs ++ j ∷ [])) f.mid t end) same f.on in
-    let g = residuals_go count p c bits d r n bs k i ls ns (xs ++ y ∷ []) f.mid t end h few ends (omega (arith, left, length_push xs y)) on_more in
+    let g = residuals_go count p c bits d r n bs k i ls ns (xs ++ y ∷ []) f.mid t end h few ends (one_less _ _ _ _ _ left (length_push xs y)) on_more in
     record {
       ys = y ∷ g.ys;
       all = ap (λ (j : ℕ). suc j) g.all;
-      stand = (drop f.mid bits, record { v = f.v; word = f.stands; means = sym (own_is c d r n bs k i ls ns xs f.v) ∙ own.1; low = omega (arith, low, few) }, subst (λ (o : Option ℕ). ResidualsTo p.residuals c.page o g.ys (drop f.mid bits) (drop end bits)) (last_one_push xs y) g.stand);
+      stand = (drop f.mid bits, record { v = f.v; word = f.stands; means = sym (own_is c d r n bs k i ls ns xs f.v) ∙ own.1; low = below_most _ _ _ low few }, subst (λ (o : Option ℕ). ResidualsTo p.residuals c.page o g.ys (drop f.mid bits) (drop end bits)) (last_one_push xs y) g.stand);
       whole = g.whole ∙ ap (λ (l : List ℕ). state d r n bs k i ls ns l) (append_assoc xs (y ∷ []) g.ys);
     }
 
@@ -104,20 +139,20 @@ intervals_go zero p c bits d r n bs k i ls ns at t end h no_count few ends some 
   on = subst (λ (l : List ℕ). LeadsTo p c bits (state d r n bs k i (ls ++ []) l []) at t end) (sym (append-nil ns)) (subst (λ (l : List ℕ). LeadsTo p c bits (state d r n bs k i l ns []) at t end) (sym (append-nil ls)) on);
 }
 intervals_go (suc count) p c bits d r n bs k i ls ns at t end h no_count few ends some same total fit on =
-    let left_due : next p c (state d r n bs k i ls ns []) ≡ need.Read field.Left Gamma = next_left p c d r n bs k i ls ns [] h no_count (le-ltb (length ns) (length ls) (omega (arith, same))) (lt-ltb (length ls) (value_or_0 i) (omega (arith, total))) in
+    let left_due : next p c (state d r n bs k i ls ns []) ≡ need.Read field.Left Gamma = next_left p c d r n bs k i ls ns [] h no_count (le-ltb (length ns) (length ls) (no_more _ _ same)) (lt-ltb (length ls) (value_or_0 i) (some_more _ count _ total)) in
     let f = step_of p c bits (state d r n bs k i ls ns []) at field.Left Gamma t end left_due ends on in
     let own = page_of p (own_left c (state d r n bs k i ls ns []) f.v) f.fine in
     let l : ℕ = own.0 in
     let left_same : value_or_0 (own_left c (state d r n bs k i ls ns []) f.v) ≡ l = ap value_or_0 own.1 in
     let on_left : LeadsTo p c bits (state d r n bs k i (ls ++ l ∷ []) ns []) f.mid t end = subst (λ (j : ℕ). LeadsTo p c bits (state d r n bs k i (ls ++ j ∷ []) ns []) f.mid t end) left_same f.on in
-    let length_due : next p c (state d r n bs k i (ls ++ l ∷ []) ns []) ≡ need.Read field.Length Gamma = next_length p c d r n bs k i (ls ++ l ∷ []) ns [] h no_count (lt-ltb (length ns) (length (ls ++ l ∷ [])) (omega (arith, same, length_push ls l))) in
+    let length_due : next p c (state d r n bs k i (ls ++ l ∷ []) ns []) ≡ need.Read field.Length Gamma = next_length p c d r n bs k i (ls ++ l ∷ []) ns [] h no_count (lt-ltb (length ns) (length (ls ++ l ∷ [])) (one_longer _ _ _ same (length_push ls l))) in
     let g = step_of p c bits (state d r n bs k i (ls ++ l ∷ []) ns []) f.mid field.Length Gamma t end length_due ends on_left in
     let neither = one_reason _ kind.Range g.fine in
     let room : g.v + p.interval ≤ d - length (copy c r bs) - (sum ns + 0) = ltb-false _ _ (or_left _ _ neither) in
     let within : last_of (ls ++ l ∷ []) + g.v + p.interval ≤ p.nodes = ltb-false _ _ (or_right _ _ neither) in
     let m : ℕ = g.v + p.interval in
     let sum_now : sum (ns ++ m ∷ []) ≡ sum ns + m = sum_push ns m in
-    let rests = intervals_go count p c bits d r n bs k i (ls ++ l ∷ []) (ns ++ m ∷ []) g.mid t end h no_count few ends some (omega (arith, same, length_push ls l, length_push ns m)) (omega (arith, total, length_push ls l)) (omega (arith, fit, room, sum_now)) g.on in
+    let rests = intervals_go count p c bits d r n bs k i (ls ++ l ∷ []) (ns ++ m ∷ []) g.mid t end h no_count few ends some (both_longer _ _ _ _ same (length_push ls l) (length_push ns m)) (still_total _ _ count _ total (length_push ls l)) (still_fit (sum ns) _ m _ fit room sum_now) g.on in
     let one : IsInterval c.page p.interval (past_of ls ns) l m (drop at bits) (drop g.mid bits) = record {
       v = f.v;
       w = g.v;
@@ -126,8 +161,8 @@ intervals_go (suc count) p c bits d r n bs k i ls ns at t end h no_count few end
       length_word = g.stands;
       left_is = sym (left_is c d r n bs k i ls ns [] f.v) ∙ own.1;
       length_is = refl;
-      left_low = omega (arith, within, few, last_push ls l);
-      low = omega (arith, within, few, last_push ls l);
+      left_low = left_within _ l g.v p.interval _ _ within few (last_push ls l);
+      low = end_within _ l g.v p.interval _ (2 ^ 62) within few (last_push ls l);
     } in
     record {
       mid = rests.mid;

@@ -5,18 +5,31 @@ use Rattle.wg_codes.specs.Fold.{number_of_gap}
 use Rattle.wg_graph.specs.Joined.{Joined}
 use Rattle.wg_graph.proofs.Unions.{joined_none}
 use Rattle.wg_decoder.proofs.Faults.{fault_weaker, refusal_weaker}
+use Rattle.wg_decoder.proofs.Orders.{from_0, from_next}
 use Rattle.wg_decoder.proofs.ResidualLemmas.{residuals_begin, residuals_fail, own_first, joining_first, joining_more, joining_fails, joining_all}
 use Rattle.wg_decoder.proofs.residuals.residuals_in.Goals as goal
 
-pub returns-in_err-last-clause-fault : goal.returns-in_err-last-clause-fault
-returns-in_err-last-clause-fault g c = λ bits r.
+pub returns-in_err-last : goal.returns-in_err-last
+returns-in_err-last g c =
     let q = c.args.params.now in
     let page = c.args.page in
     let at = g.S.Source.offset c.args.source.now in
+    let n = c.in_err-last.ensures in
     let p = err_from_is_err_and c.from_residual.result c.from_residual.ensures.1 in
-    rw (p.1, p.2) (fault_weaker c.in_err-last.field-0.0 _ _
-    (λ e h. residuals_fail q page c.args.missing (number_of_gap page None) bits at [] at e (omega arith) (own_first page) (residuals_begin q page c.args.missing bits at) h)
-    (rw (c.requires.code, c.nodes-nodes.ensures.value) at (c.in_err-last.ensures.fault bits r)))
+    rw (p.1, p.2) record {
+      later = n.later;
+      refused = n.refused;
+      ok = tt;
+      fault = λ bits r.
+          fault_weaker c.in_err-last.field-0.0 _ _
+          (λ e h. residuals_fail q page c.args.missing (number_of_gap page None) bits at [] at e c.requires.some (own_first page) (residuals_begin q page c.args.missing bits at) h)
+          (rw (c.requires.code, c.nodes-nodes.ensures.value) at (n.fault bits r));
+    }
+
+pub returns-in_err-taken : goal.returns-in_err-taken
+returns-in_err-taken g c =
+    let p = err_from_is_err_and c.from_residual-in_err-taken.result c.from_residual-in_err-taken.ensures.1 in
+    rw (p.1, p.2) record { later = c.in_ok-last.ensures.later; refused = tt; ok = tt; fault = λ bits r. tt }
 
 pub rest-init : goal.rest-init
 rest-init g c =
@@ -25,14 +38,14 @@ rest-init g c =
     let members = c.args.others.now in
     let y = c.in_ok-last.last in
     let taken = c.in_ok-taken.taken in
-    let fits : y < q.nodes = omega (arith, c.in_ok-last.ensures.below, c.nodes-nodes.ensures.value) in
+    let fits : y < q.nodes = rw c.nodes-nodes.ensures.value at c.in_ok-last.ensures.below in
     let none : Joined members [] 0 c.args.list.now 0 = subst (λ (out : List ℕ). Joined members [] 0 out 0) (sym c.requires.empty) (joined_none members c.requires.ascends) in
     record {
       later = c.in_ok-last.ensures.later;
       inside = fits;
       within = c.in_ok-taken.ensures.within;
-      joining = joining_first q c.args.page c.args.missing members (s.reads_from c.args.source.now) (s.offset c.args.source.now) y taken c.join.new.out (s.offset c.first_number.new.source) (omega arith)
-          (λ bits r. rw c.requires.code at (c.in_ok-last.ensures.ok bits r)) fits (c.in_ok-taken.ensures.joined [] 0 (omega arith) none);
+      joining = joining_first q c.args.page c.args.missing members (s.reads_from c.args.source.now) (s.offset c.args.source.now) y taken c.join.new.out (s.offset c.first_number.new.source) c.requires.some
+          (λ bits r. rw c.requires.code at (c.in_ok-last.ensures.ok bits r)) fits (c.in_ok-taken.ensures.joined [] 0 (from_0 y) none);
     }
 
 pub rest-preserved : goal.rest-preserved
@@ -43,9 +56,9 @@ rest-preserved g c =
     let i = c.rest.invariant in
     let x = c.rest.last in
     let y = c.in_ok-last-2.last in
-    let fits : y < q.nodes = omega (arith, c.in_ok-last-2.ensures.below, c.nodes-nodes.ensures.value) in
+    let fits : y < q.nodes = rw c.nodes-nodes.ensures.value at c.in_ok-last-2.ensures.below in
     let h = i.joining in
-    let joined = c.in_ok-taken-2.ensures.joined h.residuals (suc x) (omega (arith, c.in_ok-last-2.ensures.above)) h.joined in
+    let joined = c.in_ok-taken-2.ensures.joined h.residuals (suc x) (from_next x y c.in_ok-last-2.ensures.above) h.joined in
     record {
       later = g.met.S.Source.goes_on _ _ _ i.later c.in_ok-last-2.ensures.later;
       inside = fits;
@@ -54,65 +67,48 @@ rest-preserved g c =
           (λ bits r. rw c.requires.code at (c.in_ok-last-2.ensures.ok bits (g.met.S.Source.same_bits _ _ bits i.later r))) fits joined;
     }
 
-pub returns-in_err-last-2-clause-later : goal.returns-in_err-last-2-clause-later
-returns-in_err-last-2-clause-later g c = g.met.S.Source.goes_on _ _ _ c.rest.invariant.later c.in_err-last-2.ensures.later
-
-pub returns-in_err-last-2-clause-refused : goal.returns-in_err-last-2-clause-refused
-returns-in_err-last-2-clause-refused g c =
-    let p = err_from_is_err_and c.from_residual-in_err-last-2.result c.from_residual-in_err-last-2.ensures.1 in
-    rw (p.1, p.2) (refusal_weaker c.in_err-last-2.field-0.0 _ _ (λ x h. g.met.S.Source.still_caused _ _ _ x c.rest.invariant.later h) c.in_err-last-2.ensures.refused)
-
-pub returns-in_err-last-2-clause-fault : goal.returns-in_err-last-2-clause-fault
-returns-in_err-last-2-clause-fault g c = λ bits r.
+pub returns-in_err-last-2 : goal.returns-in_err-last-2
+returns-in_err-last-2 g c =
     let q = c.args.params.now in
     let s = g.S.Source in
     let i = c.rest.invariant in
+    let n = c.in_err-last-2.ensures in
     let p = err_from_is_err_and c.from_residual-in_err-last-2.result c.from_residual-in_err-last-2.ensures.1 in
-    rw (p.1, p.2) (fault_weaker c.in_err-last-2.field-0.0 _ _
-    (λ e h. joining_fails q c.args.page c.args.missing c.args.others.now (s.reads_from c.args.source.now) bits (s.offset c.args.source.now) c.rest._count c.rest.last c.rest.taken c.rest.list (s.offset c.rest.source) e (omega arith) (omega arith) r i.joining h)
-    (rw (c.requires.code, c.nodes-nodes.ensures.value) at (c.in_err-last-2.ensures.fault bits (g.met.S.Source.same_bits _ _ bits i.later r))))
+    rw (p.1, p.2) record {
+      later = g.met.S.Source.goes_on _ _ _ i.later n.later;
+      refused = refusal_weaker c.in_err-last-2.field-0.0 _ _ (λ x h. g.met.S.Source.still_caused _ _ _ x i.later h) n.refused;
+      ok = tt;
+      fault = λ bits r.
+          fault_weaker c.in_err-last-2.field-0.0 _ _
+          (λ e h. joining_fails q c.args.page c.args.missing c.args.others.now (s.reads_from c.args.source.now) bits (s.offset c.args.source.now) c.rest._count c.rest.last c.rest.taken c.rest.list (s.offset c.rest.source) e (omega arith) (omega arith) r i.joining h)
+          (rw (c.requires.code, c.nodes-nodes.ensures.value) at (n.fault bits (g.met.S.Source.same_bits _ _ bits i.later r)));
+    }
 
-pub returns-in_err-taken-2-clause-later : goal.returns-in_err-taken-2-clause-later
-returns-in_err-taken-2-clause-later g c = g.met.S.Source.goes_on _ _ _ c.rest.invariant.later c.in_ok-last-2.ensures.later
+pub returns-in_err-taken-2 : goal.returns-in_err-taken-2
+returns-in_err-taken-2 g c =
+    let p = err_from_is_err_and c.from_residual-in_err-taken-2.result c.from_residual-in_err-taken-2.ensures.1 in
+    rw (p.1, p.2) record {
+      later = g.met.S.Source.goes_on _ _ _ c.rest.invariant.later c.in_ok-last-2.ensures.later;
+      refused = tt;
+      ok = tt;
+      fault = λ bits r. tt;
+    }
 
-pub returns-clause-ok : goal.returns-clause-ok
-returns-clause-ok g c =
+pub returns-in_err-extend : goal.returns-in_err-extend
+returns-in_err-extend g c =
+    let p = err_from_is_err_and c.from_residual-in_err-extend.result c.from_residual-in_err-extend.ensures.1 in
+    rw (p.1, p.2) record { later = c.rest.invariant.later; refused = tt; ok = tt; fault = λ bits r. tt }
+
+pub returns : goal.returns
+returns g c =
     let q = c.args.params.now in
     let s = g.S.Source in
     let members = c.args.others.now in
     let i = c.rest.invariant in
     let is : c.extend.new.self ≡ c.rest.list ++ drop c.rest.taken members = c.in_ok-extend.ensures.ok ∙ ap (λ (xs : List ℕ). c.rest.list ++ xs) (take_rest members c.rest.taken) in
-    joining_all q c.args.page c.args.missing members (s.reads_from c.args.source.now) (s.offset c.args.source.now) c.rest._count c.rest.last c.rest.taken c.rest.list (s.offset c.rest.source) c.extend.new.self (omega arith) i.inside c.requires.below i.joining is
-
-pub returns-in_err-taken-clause-fault : goal.returns-in_err-taken-clause-fault
-returns-in_err-taken-clause-fault g c = λ bits r. let p = err_from_is_err_and c.from_residual-in_err-taken.result c.from_residual-in_err-taken.ensures.1 in rw (p.1, p.2) tt
-
-pub returns-in_err-taken-clause-refused : goal.returns-in_err-taken-clause-refused
-returns-in_err-taken-clause-refused g c = let p = err_from_is_err_and c.from_residual-in_err-taken.result c.from_residual-in_err-taken.ensures.1 in rw (p.1, p.2) tt
-
-pub returns-in_err-taken-2-clause-fault : goal.returns-in_err-taken-2-clause-fault
-returns-in_err-taken-2-clause-fault g c = λ bits r. let p = err_from_is_err_and c.from_residual-in_err-taken-2.result c.from_residual-in_err-taken-2.ensures.1 in rw (p.1, p.2) tt
-
-pub returns-in_err-taken-2-clause-refused : goal.returns-in_err-taken-2-clause-refused
-returns-in_err-taken-2-clause-refused g c = let p = err_from_is_err_and c.from_residual-in_err-taken-2.result c.from_residual-in_err-taken-2.ensures.1 in rw (p.1, p.2) tt
-
-pub returns-in_err-extend-clause-fault : goal.returns-in_err-extend-clause-fault
-returns-in_err-extend-clause-fault g c = λ bits r. let p = err_from_is_err_and c.from_residual-in_err-extend.result c.from_residual-in_err-extend.ensures.1 in rw (p.1, p.2) tt
-
-pub returns-in_err-extend-clause-refused : goal.returns-in_err-extend-clause-refused
-returns-in_err-extend-clause-refused g c = let p = err_from_is_err_and c.from_residual-in_err-extend.result c.from_residual-in_err-extend.ensures.1 in rw (p.1, p.2) tt
-
-pub returns-in_err-last-clause-later : goal.returns-in_err-last-clause-later
-returns-in_err-last-clause-later g c = c.in_err-last.ensures.later
-
-pub returns-in_err-taken-clause-later : goal.returns-in_err-taken-clause-later
-returns-in_err-taken-clause-later g c = c.in_ok-last.ensures.later
-
-pub returns-in_err-extend-clause-later : goal.returns-in_err-extend-clause-later
-returns-in_err-extend-clause-later g c = c.rest.invariant.later
-
-pub returns-clause-later : goal.returns-clause-later
-returns-clause-later g c = c.rest.invariant.later
-
-pub returns-in_err-last-clause-refused : goal.returns-in_err-last-clause-refused
-returns-in_err-last-clause-refused g c = let p = err_from_is_err_and c.from_residual.result c.from_residual.ensures.1 in rw (p.1, p.2) c.in_err-last.ensures.refused
+    record {
+      later = i.later;
+      refused = tt;
+      ok = joining_all q c.args.page c.args.missing members (s.reads_from c.args.source.now) (s.offset c.args.source.now) c.rest._count c.rest.last c.rest.taken c.rest.list (s.offset c.rest.source) c.extend.new.self (omega arith) i.inside c.requires.below i.joining is;
+      fault = λ bits r. tt;
+    }
