@@ -1,10 +1,9 @@
-use Rattle.std.proofs.Common.{◌+◌, ◌<◌, ◌∙◌, drop, Err, sym, ap, subst, arith}
+use Rattle.std.proofs.Common.{◌+◌, ◌<◌, ◌∙◌, drop, sym, ap, subst, arith}
 use Rattle.std.proofs.lemmas.Result.{err_from_is_err_and}
 use Rattle.wg_graph.specs.Digraph.{IsGraph, successors}
 use Rattle.wg_grammar.specs.Context.{Context}
 use Rattle.wg_encoder.specs.Encoding.{Encoded, Encoding, HasWritten}
 use Rattle.wg_encoder.specs.Gone.{HasSentAll, HasSentUpTo}
-use Rattle.wg_encoder.proofs.Stopped.{if_err}
 use Rattle.wg_encoder.proofs.OfGraph.{front, front_on, stopped, arcs_fit}
 use Rattle.wg_encoder.proofs.encoder.Encoder.next.Goals as goal
 
@@ -15,17 +14,25 @@ next-requires-clause-arcs g c =
     let list = c.list-list.ensures.value ∙ ap (successors c.self.inside.graph.now) c.page.ensures.value in
     arcs_fit c.self.inside.graph.now c.self.inside.lists.next.page _ _ c.list-list.result.now is here list c.self.invariant.2 (ap (λ (k : Context). k.arcs_before) c.self.invariant.3.context)
 
-pub returns-in_err-lists-clause-err : goal.returns-in_err-lists-clause-err
-returns-in_err-lists-clause-err g c t h =
+pub returns-in_err-lists : goal.returns-in_err-lists
+returns-in_err-lists g c =
+    let n = c.in_err-lists.ensures in
     let e = err_from_is_err_and c.from_residual.result c.from_residual.ensures.1 in
     let is = subst (λ (e : Encoding). IsGraph e.graph) (sym c.self.view_is) c.limits.ensures in
     let here = subst (λ (e : Encoding). e.page < e.graph.nodes) (sym c.self.view_is) c.requires.more in
     let list = c.list-list.ensures.value ∙ ap (successors c.self.inside.graph.now) c.page.ensures.value in
     let page = c.self.inside.lists.next.page in
-    let sent = subst (HasSentUpTo (g.D.Depot.files c.args.depot.now) c.args.base.now) (sym c.self.view_is) h in
-    if_err _ _ c.in_err-lists.field-0.0 (e.1 ∙ ap Err e.2)
-    (stopped _ c.args.base.now c.args.self _ c.list-list.result.now c.in_err-lists.field-0.0 c.self.view_is is here list
-    (c.in_err-lists.ensures.err (front c.self.inside.graph.now page) (drop (page + 1) c.self.inside.graph.now.lists) c.self.invariant.3 t sent))
+    rw (e.1, e.2) record {
+      on = tt;
+      ok = λ t h. tt;
+      err = λ t h.
+          let sent = subst (HasSentUpTo (g.D.Depot.files c.args.depot.now) c.args.base.now) (sym c.self.view_is) h in
+          stopped _ c.args.base.now c.args.self _ c.list-list.result.now c.in_err-lists.field-0.0 c.self.view_is is here list
+          (n.err (front c.self.inside.graph.now page) (drop (page + 1) c.self.inside.graph.now.lists) c.self.invariant.3 t sent);
+      only_two = n.only_two;
+      fault = n.fault;
+      later = n.later;
+    }
 
 pub invariant_of-result : goal.invariant_of-result
 invariant_of-result g c =
