@@ -1,4 +1,4 @@
-use Rattle.std.proofs.Common.{◌≡◌, ◌∙◌, ◌++◌, inr, false, ℕ, List, Option, Some, None, sym, subst, refl, append-nil, arith}
+use Rattle.std.proofs.Common.{◌≡◌, ◌∙◌, ◌++◌, inl, inr, false, ℕ, List, Option, Some, None, sym, subst, refl, append-nil, arith}
 use Rattle.std.specs.Prelude.{is_some, option_to_list}
 use Rattle.std.proofs.lemmas.Result.{err_from_is_err_and}
 use Rattle.wg_num.specs.Lines.{lines_of}
@@ -20,13 +20,33 @@ not_some : (o : Option Arc) → is_some o ≡ false → o ≡ None
 not_some None e = refl
 not_some (Some a) e = absurd (cc e)
 
-pub returns-in_err-arc-clause-fault : goal.returns-in_err-arc-clause-fault
-returns-in_err-arc-clause-fault c = λ done all later at h so.
+pub returns-in_err-arc : goal.returns-in_err-arc
+returns-in_err-arc c =
     let i = c.lines.invariant in
     let e = c.in_err-arc.field-0.0 in
     let p = err_from_is_err_and c.from_residual.result c.from_residual.ensures.1 in
-    let up = come_to c.args.self.now.nodes all (lines_of c.lines.rest.now ++ later) done c.lines.list c.lines.self i.nodes (i.listed done at h) (i.read done all later at h so) in
-    rw (p.1, p.2) (inr (subst (λ (n : ℕ). IsFirst n all e) i.nodes (c.in_err-arc.ensures.fault all later (arcs_on done c.lines.list) up)))
+    rw (p.1, p.2) record {
+      nodes = c.in_err-arc.ensures.nodes ∙ i.nodes;
+      line = tt;
+      shorter = tt;
+      listed = λ done at h. tt;
+      read = λ done all later at h so. tt;
+      fault = λ done all later at h so.
+          let up = come_to c.args.self.now.nodes all (lines_of c.lines.rest.now ++ later) done c.lines.list c.lines.self i.nodes (i.listed done at h) (i.read done all later at h so) in
+          inr (subst (λ (n : ℕ). IsFirst n all e) i.nodes (c.in_err-arc.ensures.fault all later (arcs_on done c.lines.list) up));
+    }
+
+pub returns-in_err-next : goal.returns-in_err-next
+returns-in_err-next c =
+    let p = err_from_is_err_and c.from_residual-in_err-next.result c.from_residual-in_err-next.ensures.1 in
+    rw (p.1, p.2) record {
+      nodes = c.in_ok-arc.ensures.nodes ∙ c.lines.invariant.nodes;
+      line = tt;
+      shorter = tt;
+      listed = λ done at h. tt;
+      read = λ done all later at h so. tt;
+      fault = λ done all later at h so. inl refl;
+    }
 
 pub returns-then-is_some-clause-listed : goal.returns-then-is_some-clause-listed
 returns-then-is_some-clause-listed c = λ done at h.
