@@ -5,7 +5,7 @@ use Rattle.wg_codes.specs.Fold.{number_of_gap}
 use Rattle.wg_graph.specs.Joined.{Joined}
 use Rattle.wg_graph.proofs.Unions.{joined_none}
 use Rattle.wg_decoder.proofs.Faults.{fault_weaker, refusal_weaker}
-use Rattle.wg_decoder.proofs.Orders.{from_0, from_next}
+use Rattle.wg_decoder.proofs.Orders.{from_0, from_1, from_next}
 use Rattle.wg_decoder.proofs.ResidualLemmas.{residuals_begin, residuals_fail, own_first, joining_first, joining_more, joining_fails, joining_all}
 use Rattle.wg_decoder.proofs.residuals.residuals_in.Goals as goal
 
@@ -63,7 +63,7 @@ rest-preserved g c =
       later = g.met.S.Source.goes_on _ _ _ i.later c.in_ok-last-2.ensures.later;
       inside = fits;
       within = c.in_ok-taken-2.ensures.within;
-      joining = joining_more q c.args.page c.args.missing members (s.reads_from c.args.source.now) (s.offset c.args.source.now) c.rest._count x c.rest.taken c.rest.list (s.offset c.rest.source) y c.in_ok-taken-2.taken c.join-in-rest.new.out (s.offset c.later_number.new.source) (omega arith) (omega arith) h
+      joining = joining_more q c.args.page c.args.missing members (s.reads_from c.args.source.now) (s.offset c.args.source.now) c.rest._count x c.rest.taken c.rest.list (s.offset c.rest.source) y c.in_ok-taken-2.taken c.join-in-rest.new.out (s.offset c.later_number.new.source) (from_1 _ c.rest.auto._count) c.rest-test.true h
           (λ bits r. rw c.requires.code at (c.in_ok-last-2.ensures.ok bits (g.met.S.Source.same_bits _ _ bits i.later r))) fits joined;
     }
 
@@ -80,7 +80,7 @@ returns-in_err-last-2 g c =
       ok = tt;
       fault = λ bits r.
           fault_weaker c.in_err-last-2.field-0.0 _ _
-          (λ e h. joining_fails q c.args.page c.args.missing c.args.others.now (s.reads_from c.args.source.now) bits (s.offset c.args.source.now) c.rest._count c.rest.last c.rest.taken c.rest.list (s.offset c.rest.source) e (omega arith) (omega arith) r i.joining h)
+          (λ e h. joining_fails q c.args.page c.args.missing c.args.others.now (s.reads_from c.args.source.now) bits (s.offset c.args.source.now) c.rest._count c.rest.last c.rest.taken c.rest.list (s.offset c.rest.source) e (from_1 _ c.rest.auto._count) c.rest-test.true r i.joining h)
           (rw (c.requires.code, c.nodes-nodes.ensures.value) at (n.fault bits (g.met.S.Source.same_bits _ _ bits i.later r)));
     }
 
