@@ -1,6 +1,6 @@
 use Rattle.std.proofs.Common.{◌≡◌, ◌∙◌, ◌+◌, [], ◌∷◌, ◌++◌, sym, arith}
 use Rattle.std.proofs.lemmas.Result.{err_from_is_err_and}
-use Rattle.wg_offsets.proofs.ErrorLemmas.{word_of_file, refusal_of_file}
+use Rattle.wg_offsets.proofs.ErrorLemmas.{fault_of_file, refusal_of_file}
 use Rattle.wg_offsets.proofs.SamplesLemmas.{read_as}
 use Rattle.wg_offsets.proofs.samples.Samples.read.Goals as goal
 
@@ -17,7 +17,7 @@ returns-in_err-place g c =
       reads = λ bits r. tt;
       fault = λ bits r.
           let a = i.read bits r in
-          word_of_file c.in_err-place.field-0.0 _ _ (λ w h. rw (i.code, i.pages) at h) (n.fault bits a.0 (g.met.S.Source.same_bits _ _ bits i.later r) a.1);
+          fault_of_file c.in_err-place.field-0.0 c.loop-page.words _ _ bits i.code i.pages (n.fault bits a.0 (g.met.S.Source.same_bits _ _ bits i.later r) a.1);
     }
 
 pub loop-page-preserved : goal.loop-page-preserved
@@ -67,7 +67,7 @@ returns-in_err-finish g c =
       reads = λ bits r. tt;
       fault = λ bits r.
           let a = i.read bits r in
-          word_of_file c.in_err-finish.field-0.0 _ _ (λ w h. rw (i.code, i.pages) at h) (n.fault bits a.0 (g.met.S.Source.same_bits _ _ bits i.later r) a.1);
+          fault_of_file c.in_err-finish.field-0.0 c.loop-page.words _ _ bits i.code i.pages (n.fault bits a.0 (g.met.S.Source.same_bits _ _ bits i.later r) a.1);
     }
 
 pub returns-clause-reads : goal.returns-clause-reads
