@@ -5,6 +5,7 @@ use Rattle.std.specs.Str.Lines.{strip_carriage_return}
 use Rattle.std.proofs.lemmas.List.{append-nil, drop_all, drop-drop, map-append, take_all, take-append-drop}
 use Rattle.std.proofs.lemmas.List.Edits.{take-paste}
 use Rattle.std.proofs.lemmas.List.Splits.{length-slice_split}
+use Rattle.wg_outside.specs.declared.limits.TheConstants.{MOST_BYTES}
 use Rattle.wg_num.specs.Lines.{lines_of, without_empty_end}
 use Rattle.wg_num.proofs.Cuts.{is_end, not_the_end, no_lines}
 use Rattle.wg_lines.specs.Reading.{Held, end_of, lines_after, lines_ahead, IsWhole}
@@ -79,6 +80,9 @@ rest_ahead file g h none end is =
     rest_lent file g h none end is ∙ ap (λ (x : Held). lines_of x.lines) is
     ∙ sym (ap (λ (l : List (List ℕ)). l ++ lines_of (g.rest ++ drop (end_of g) file)) (none_of g.lines none)
     ∙ ap (λ (l : List ℕ). lines_of (g.rest ++ l)) (drop_all (end_of g) file end) ∙ ap lines_of (append-nil g.rest))
+
+pub rest_short : (g h : Held) → h ≡ record g { lines = g.rest; rest = [] } → end_of g ≤ MOST_BYTES → end_of h ≤ MOST_BYTES
+rest_short g h is le = omega (arith, ap (λ (x : Held). x.first) is, ap (λ (x : Held). length x.lines) is, ap (λ (x : Held). length x.rest) is, le)
 
 -- a piece more is held
 pub held_end : (g h : Held) (piece : List ℕ) (count : ℕ) → g.lines ≡ [] → h.first ≡ g.first → h.lines ++ h.rest ≡ g.rest ++ piece → length piece ≡ count → end_of h ≡ end_of g + count

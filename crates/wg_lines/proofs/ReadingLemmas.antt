@@ -1,10 +1,13 @@
 -- What the reads of a file say that is read in lines.
-use Rattle.std.proofs.Common.{◌≡◌, ℕ, ◌≤◌, ◌==◌, Bool, false, not, ne_eqb, List, [], ◌∷◌, length, refl, sym, ap, ◌∙◌, subst, arith, Option, Some, None, Result, Ok, Err}
-use Rattle.std.specs.Result.{IfErr}
+use Rattle.std.proofs.Common.{◌≡◌, ◌≢◌, ℕ, ◌+◌, ◌≤◌, ◌==◌, ◌<◌, Bool, true, false, not, ne_eqb, List, [], ◌∷◌, length, refl, ap, ◌∙◌, subst, arith, Option, Some, None, Result, Ok, Err}
 use Rattle.wg_outside.specs.declared.limits.TheConstants.{MOST_BYTES}
 use Rattle.wg_outside.specs.declared.whole.LoadError.{LoadError}
-use Rattle.wg_outside.specs.Reads.{Reads, Loads, IsPieceOf}
-use Rattle.wg_lines.specs.Reading.{IsReadable}
+use Rattle.wg_outside.specs.declared.whole.LoadError.TheVariants as load
+use Rattle.wg_outside.specs.Outside.{Increased}
+use Rattle.wg_outside.specs.Reads.{Reads, IsPieceOf}
+use Rattle.wg_outside.proofs.PutsLemmas.{rose_on}
+use Rattle.wg_num.specs.Lines.{lines_of}
+use Rattle.wg_lines.specs.Reading.{Held, IsReadable, lines_ahead}
 
 -- no byte is at the limit
 pub readable : (o : Option (List ℕ)) (buf : List ℕ) (count : ℕ) → Reads o (MOST_BYTES) buf (Ok count) → count ≤ 0 → IsReadable o
@@ -15,11 +18,61 @@ readable (Some file) buf count told none = told.end (omega (arith, none))
 pub piece_of : (o : Option (List ℕ)) (file : List ℕ) (at : ℕ) (buf : List ℕ) (count : ℕ) → o ≡ Some file → Reads o at buf (Ok count) → IsPieceOf file at buf count
 piece_of o file at buf count is told = subst (λ (q : Option (List ℕ)). Reads q at buf (Ok count)) is told
 
--- an error that is handed on
-pub refused : {B : Type 0} (o : Option (List ℕ)) (r : Result B LoadError) (e : LoadError) → r ≡ Err e → Loads o (Err e) → IfErr r (λ x. Loads o (Err x))
-refused o r e is h = subst (λ (q : Result _ LoadError). IfErr q (λ x. Loads o (Err x))) (sym is) h
-
 -- no lines are lent where that is the answer
 pub none_lent : (lines lent : List ℕ) (b : Bool) → lent ≡ lines → b ≡ (length lent == 0) → ◌≡◌ {A = Result Bool LoadError} (Ok (not b)) (Ok false) → lines ≡ []
 none_lent [] lent b is empty ok = refl
 none_lent (x ∷ xs) lent b is empty ok = absurd (let some : b ≡ false = empty ∙ ap (λ (l : List ℕ). length l == 0) is ∙ ne_eqb (length (x ∷ xs)) 0 (λ e. omega arith) in cc (some, ok))
+
+-- some are lent where that is the answer
+pub some_lent : (lines lent : List ℕ) (b : Bool) → lent ≡ lines → b ≡ (length lent == 0) → ◌≡◌ {A = Result Bool LoadError} (Ok (not b)) (Ok true) → 0 < length lines
+some_lent [] lent b is empty ok = absurd (let none : b ≡ true = empty ∙ ap (λ (l : List ℕ). length l == 0) is in cc (none, ok))
+some_lent (x ∷ xs) lent b is empty ok = omega arith
+
+-- one answer is no other, and no error
+pub no_answer : {A : Type 0} (e : LoadError) (a : A) → ◌≡◌ {A = Result A LoadError} (Err e) (Ok a) → ⊥
+no_answer e a is = cc is
+
+pub no_error : {A : Type 0} (e : LoadError) (a : A) → ◌≡◌ {A = Result A LoadError} (Ok a) (Err e) → ⊥
+no_error e a is = cc is
+
+pub not_false : ◌≡◌ {A = Result Bool LoadError} (Ok true) (Ok false) → ⊥
+not_false is = cc is
+
+pub not_true : ◌≡◌ {A = Result Bool LoadError} (Ok false) (Ok true) → ⊥
+not_true is = cc is
+
+-- want of memory, and a file that is too long, are no faults of a depot
+pub held_not_absent : ◌≡◌ {A = Result Bool LoadError} (Err load.Memory) (Err load.Absent) → ⊥
+held_not_absent is = cc is
+
+pub held_not_failed : ◌≡◌ {A = Result Bool LoadError} (Err load.Memory) (Err load.Failed) → ⊥
+held_not_failed is = cc is
+
+pub long_not_absent : ◌≡◌ {A = Result Bool LoadError} (Err load.TooLong) (Err load.Absent) → ⊥
+long_not_absent is = cc is
+
+pub long_not_failed : ◌≡◌ {A = Result Bool LoadError} (Err load.TooLong) (Err load.Failed) → ⊥
+long_not_failed is = cc is
+
+-- what is said of the end of a file, in a case that does not come
+pub not_ended : (file : List ℕ) (h : Held) → ⊥ → lines_ahead file h ≡ lines_of h.lines
+not_ended file h bad = absurd bad
+
+-- no count rises in a case that does not come
+pub no_rise : (a b : ℕ) → ⊥ → Increased a b
+no_rise a b bad = absurd bad
+
+-- what rose in a later call has risen
+pub risen : (a b c : ℕ) → a ≤ b → Increased b c → Increased a c
+risen a b c le up = rose_on a b c c le up (omega arith)
+
+-- where the reading stands after a piece more
+pub more_read : (from to count : ℕ) → to ≡ from + count → count ≢ 0 → from < to
+more_read from to count is some = omega (arith, is, some)
+
+pub short_read : (from to end count : ℕ) → to ≡ from + count → end ≡ from → end + count ≤ MOST_BYTES → to ≤ MOST_BYTES
+short_read from to end count is at le = omega (arith, is, at, le)
+
+-- nothing is left behind the end
+pub read_out : (size end from : ℕ) → size ≤ end → end ≡ from → size ≤ from
+read_out size end from le at = omega (arith, le, at)
