@@ -129,7 +129,7 @@ pub fn run<D: Depot, O: Sink, E: Sink>(
     };
     let ending = try_job(alloc, &wanted, depot, out);
     report(err, &wanted, ending.promised, ending.status);
-    // By this call, since it is proved once how each job is let go.
+    // By a call: the drop of a job is then proved once, and not at each step of this function.
     drop(wanted);
     ending.status
 }

@@ -50,8 +50,8 @@ mod words;
 
 pub use spoiled::WRONG;
 
-/// Those that are gone through where a call moves at most 4096, 3, and 1 bytes. (The prover takes a constant of this
-/// size anew for each step beside it, and what a function returns but once.)
+/// Those that are gone through where a call moves at most 4096, 3, and 1 bytes. (A function, since the prover would take
+/// a constant of this size anew at each step beside it.)
 pub fn rows() -> [&'static str; 17] {
     [
         kept::KEPT,
