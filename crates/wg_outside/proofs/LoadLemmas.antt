@@ -1,8 +1,10 @@
 -- What the reads of a file that is read whole say of it.
-use Rattle.std.proofs.Common.{◌≡◌, ◌≢◌, ℕ, ◌+◌, ◌<◌, List, refl, sym, subst, arith, length-drop, Option, Some, None, Result, Ok, Err}
+use Rattle.std.proofs.Common.{◌≡◌, ◌≢◌, ℕ, ◌+◌, ◌<◌, ◌≤◌, List, refl, sym, subst, arith, length-drop, Option, Some, None, Result, Ok, Err}
 use Rattle.std.specs.Result.{IsErrOf}
 use Rattle.wg_outside.specs.declared.limits.TheConstants.{MOST_BYTES}
+use Rattle.wg_outside.specs.Outside.{Increased}
 use Rattle.wg_outside.specs.Reads.{Reads, Loads, load_error}
+use Rattle.wg_outside.proofs.PutsLemmas.{rose_on}
 use Rattle.wg_outside.specs.declared.depot.ReadError.{ReadError}
 use Rattle.wg_outside.specs.declared.depot.ReadError.TheVariants as read
 use Rattle.wg_outside.specs.declared.whole.LoadError.{LoadError}
@@ -43,3 +45,26 @@ unheld o at buf count r is t = subst (λ (x : Result (List ℕ) LoadError). Load
 pub past_limit : (o : Option (List ℕ)) (at : ℕ) (buf : List ℕ) (count : ℕ) → Reads o at buf (Ok count) → count ≢ 0 → MOST_BYTES < at + count → Loads o (Err load.TooLong)
 past_limit None at buf count t some more = absurd (cc (t))
 past_limit (Some file) at buf count t some more = (λ e. cc (e), λ e. omega (arith, t.within, length-drop at file))
+
+-- one answer is no error, and want of memory and a file that is too long are no faults of a depot
+pub no_error : {A : Type 0} (e : LoadError) (a : A) → ◌≡◌ {A = Result A LoadError} (Ok a) (Err e) → ⊥
+no_error e a is = cc is
+
+pub held_not_absent : {A : Type 0} → ◌≡◌ {A = Result A LoadError} (Err load.Memory) (Err load.Absent) → ⊥
+held_not_absent is = cc is
+
+pub held_not_failed : {A : Type 0} → ◌≡◌ {A = Result A LoadError} (Err load.Memory) (Err load.Failed) → ⊥
+held_not_failed is = cc is
+
+pub long_not_absent : {A : Type 0} → ◌≡◌ {A = Result A LoadError} (Err load.TooLong) (Err load.Absent) → ⊥
+long_not_absent is = cc is
+
+pub long_not_failed : {A : Type 0} → ◌≡◌ {A = Result A LoadError} (Err load.TooLong) (Err load.Failed) → ⊥
+long_not_failed is = cc is
+
+-- no count rises in a case that does not come, and what rose in a later call has risen
+pub no_rise : (a b : ℕ) → ⊥ → Increased a b
+no_rise a b bad = absurd bad
+
+pub risen : (a b c : ℕ) → a ≤ b → Increased b c → Increased a c
+risen a b c le up = rose_on a b c c le up (omega arith)

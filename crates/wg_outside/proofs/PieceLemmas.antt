@@ -41,3 +41,7 @@ longer file bytes buf at count piece front le = (
   ap (λ (l : List ℕ). l ++ take count buf) front ∙ ap (λ (l : List ℕ). take at file ++ l) piece.bytes ∙ sym (take-add at count file),
   omega (arith, piece.within, length-drop at file),
 )
+
+pub grown : (file now bytes buf : List ℕ) (at count size : ℕ) → now ≡ bytes ++ take count buf → size ≡ at + count
+    → (bytes ++ take count buf ≡ take (at + count) file) × (at + count ≤ length file) → (now ≡ take size file) × (size ≤ length file)
+grown file now bytes buf at count size is long more = (is ∙ more.0 ∙ ap (λ (n : ℕ). take n file) (sym long), subst (λ (n : ℕ). n ≤ length file) (sym long) more.1)

@@ -1,25 +1,104 @@
-use Rattle.std.proofs.Common.{rules, arith, ◌≡◌, ◌+◌, ◌≤◌, ◌∙◌, ap, refl, sym, subst, length, take, List, ℕ, Option, Ok, Err, vec_len}
+use Rattle.std.proofs.Common.{◌≡◌, ◌+◌, ◌<◌, ◌≤◌, ◌∙◌, ap, refl, sym, subst, length, take, List, ℕ, Option, Ok, Err, vec_len}
 use Rattle.std.proofs.lemmas.List.{length-take-le}
+use Rattle.std.proofs.lemmas.Result.{err_from_is_err_and}
 use Rattle.std.specs.FinMap as map
+use Rattle.wg_outside.specs.declared.limits.TheConstants.{MOST_BYTES}
 use Rattle.wg_outside.specs.Outside.{Files}
 use Rattle.wg_outside.specs.Reads.{Reads, IsPieceOf}
 use Rattle.wg_outside.proofs.FilesLemmas.{none_falls-trans}
-use Rattle.wg_outside.proofs.LoadLemmas.{was_absent, was_failed, unread, unheld, past_limit}
-use Rattle.wg_outside.proofs.PieceLemmas.{probed, loaded, longer}
-use Rattle.wg_outside.proofs.PutsLemmas.{is_that_err, rose_on}
+use Rattle.wg_outside.proofs.LoadLemmas.{held_not_absent, held_not_failed, long_not_absent, long_not_failed, no_error, no_rise, past_limit, risen, unheld, unread, was_absent, was_failed}
+use Rattle.wg_outside.proofs.PieceLemmas.{probed, loaded, longer, grown}
 use Rattle.wg_outside.proofs.whole.read_whole.Goals as goal
 
-pub returns-then-branch-gt0-clause-bytes : goal.returns-then-branch-gt0-clause-bytes
-returns-then-branch-gt0-clause-bytes g c = λ t. probed _ c.read.new.buf c.in_ok-read.field-0 (c.in_ok-read.ensures.bytes t) c.if-branch-gt0.true
+pub returns-in_err-read : goal.returns-in_err-read
+returns-in_err-read g c =
+    let r = c.in_err-read.ensures in
+    let e = err_from_is_err_and c.from_residual.result c.from_residual.ensures.1 in
+    rw (e.1, e.2) record {
+      bytes = λ t. unread _ _ _ _ _ refl (r.bytes t);
+      same = r.same;
+      absent = λ e. r.absent (was_absent _ _ _ refl refl e);
+      failed = λ e. r.failed (was_failed _ _ _ refl refl e);
+      later = r.later;
+      short = tt;
+    }
 
-pub returns-clause-bytes : goal.returns-clause-bytes
-returns-clause-bytes g c = λ t.
-    let buf = c.read-in-loop-bytes.new.buf in
-    let at = c.len.result in
+pub returns-then-branch-gt0 : goal.returns-then-branch-gt0
+returns-then-branch-gt0 g c =
+    let r = c.in_ok-read.ensures in
+    record {
+      bytes = λ t. probed _ c.read.new.buf c.in_ok-read.field-0 (r.bytes t) c.if-branch-gt0.true;
+      same = r.same;
+      absent = λ e. no_rise _ _ (long_not_absent e);
+      failed = λ e. no_rise _ _ (long_not_failed e);
+      later = r.later;
+      short = tt;
+    }
+
+pub returns-in_err-count : goal.returns-in_err-count
+returns-in_err-count g c =
+    let v = c.loop-bytes.invariant in
+    let r = c.in_err-count.ensures in
     let name = c.args.name.now in
-    let at_is : at ≡ vec_len c.loop-bytes.bytes = search rules in
-    let told = subst (λ (f : Files). Reads (map.get f name) at buf (Ok c.in_ok-count.count)) c.loop-bytes.invariant.same (c.in_ok-count.ensures.bytes t) in
-    loaded _ c.loop-bytes.bytes.items buf (vec_len c.loop-bytes.bytes) c.in_ok-count.count (subst (λ (n : ℕ). Reads (map.get (g.D.Depot.files c.args.depot.now) name) n buf (Ok c.in_ok-count.count)) at_is told) c.if-count-eq0.true (c.loop-bytes.invariant.front t)
+    let e = err_from_is_err_and c.from_residual-in_err-count.result c.from_residual-in_err-count.ensures.1 in
+    rw (e.1, e.2) record {
+      bytes = λ t. unread _ _ _ _ _ refl (subst (λ (f : Files). Reads (map.get f name) c.len.result c.read-in-loop-bytes.new.buf (Err c.in_err-count.field-0.0)) v.same (r.bytes t));
+      same = r.same ∙ v.same;
+      absent = λ e. risen _ _ _ (v.later.absences name) (r.absent (was_absent _ _ _ refl refl e));
+      failed = λ e. risen _ _ _ (v.later.read_faults name) (r.failed (was_failed _ _ _ refl refl e));
+      later = none_falls-trans _ _ _ v.later r.later;
+      short = tt;
+    }
+
+pub returns-in_err-extend_from_slice : goal.returns-in_err-extend_from_slice
+returns-in_err-extend_from_slice g c =
+    let v = c.loop-bytes.invariant in
+    let r = c.in_ok-count.ensures in
+    let e = err_from_is_err_and c.from_residual-in_err-extend_from_slice.result c.from_residual-in_err-extend_from_slice.ensures.1 in
+    rw (e.1, e.2) record {
+      bytes = λ t. unheld _ _ _ _ _ refl (subst (λ (f : Files). Reads (map.get f c.args.name.now) c.len.result c.read-in-loop-bytes.new.buf (Ok c.in_ok-count.count)) v.same (r.bytes t));
+      same = r.same ∙ v.same;
+      absent = λ e. no_rise _ _ (held_not_absent e);
+      failed = λ e. no_rise _ _ (held_not_failed e);
+      later = none_falls-trans _ _ _ v.later r.later;
+      short = tt;
+    }
+
+pub returns-then-len-count : goal.returns-then-len-count
+returns-then-len-count g c =
+    let v = c.loop-bytes.invariant in
+    let r = c.in_ok-count.ensures in
+    let at = vec_len c.loop-bytes.bytes in
+    let count = c.in_ok-count.count in
+    record {
+      bytes = λ t.
+          let told = subst (λ (f : Files). Reads (map.get f c.args.name.now) c.len.result c.read-in-loop-bytes.new.buf (Ok count)) v.same (r.bytes t) in
+          past_limit _ at c.read-in-loop-bytes.new.buf count (subst (λ (n : ℕ). Reads (map.get (g.D.Depot.files c.args.depot.now) c.args.name.now) n c.read-in-loop-bytes.new.buf (Ok count)) c.len.ensures told)
+          c.if-count-eq0.false (subst (λ (n : ℕ). MOST_BYTES < n + count) c.len-in-loop-bytes.ensures c.if-len-count.true);
+      same = r.same ∙ v.same;
+      absent = λ e. no_rise _ _ (long_not_absent e);
+      failed = λ e. no_rise _ _ (long_not_failed e);
+      later = none_falls-trans _ _ _ v.later r.later;
+      short = tt;
+    }
+
+pub returns : goal.returns
+returns g c =
+    let v = c.loop-bytes.invariant in
+    let r = c.in_ok-count.ensures in
+    let buf = c.read-in-loop-bytes.new.buf in
+    let at = vec_len c.loop-bytes.bytes in
+    let count = c.in_ok-count.count in
+    record {
+      bytes = λ t.
+          let told = subst (λ (f : Files). Reads (map.get f c.args.name.now) c.len.result buf (Ok count)) v.same (r.bytes t) in
+          loaded _ c.loop-bytes.bytes.items buf at count (subst (λ (n : ℕ). Reads (map.get (g.D.Depot.files c.args.depot.now) c.args.name.now) n buf (Ok count)) c.len.ensures told) c.if-count-eq0.true (v.front t);
+      same = r.same ∙ v.same;
+      absent = λ e. no_rise _ _ (no_error _ _ e);
+      failed = λ e. no_rise _ _ (no_error _ _ e);
+      later = none_falls-trans _ _ _ v.later r.later;
+      short = subst (λ (n : ℕ). n ≤ MOST_BYTES) c.loop-bytes.bytes.ok.0 v.short;
+    }
 
 pub loop-bytes-preserved : goal.loop-bytes-preserved
 loop-bytes-preserved g c =
@@ -27,75 +106,16 @@ loop-bytes-preserved g c =
     let at = vec_len c.loop-bytes.bytes in
     let count = c.in_ok-count.count in
     let name = c.args.name.now in
-    let at_is : c.len.result ≡ at = search rules in
-    let at_is_2 : c.len-in-loop-bytes.result ≡ at = search rules in
     let few : count ≤ length buf = c.in_ok-count.ensures.count in
-    let long : vec_len c.extend_from_slice.new.self ≡ at + count = c.in_ok-extend_from_slice.ensures.len ∙ ap (λ (n : ℕ). at + n) (length-take-le count buf few) in
+    let long : vec_len c.extend_from_slice.new.self ≡ at + count = ◌∙◌ {b = at + length (take count buf)} c.in_ok-extend_from_slice.ensures.len (ap (λ (n : ℕ). at + n) (length-take-le count buf few)) in
     record {
-      short = omega arith;
+      short = subst (λ (n : ℕ). n ≤ MOST_BYTES) (sym long) (subst (λ (n : ℕ). n + count ≤ MOST_BYTES) c.len-in-loop-bytes.ensures c.if-len-count.false);
       same = c.in_ok-count.ensures.same ∙ c.loop-bytes.invariant.same;
       front = λ t file is.
           let told = subst (λ (f : Files). Reads (map.get f name) c.len.result buf (Ok count)) c.loop-bytes.invariant.same (c.in_ok-count.ensures.bytes t) in
           let front = c.loop-bytes.invariant.front t file is in
-          let piece_of : IsPieceOf file at buf count = subst (λ (n : ℕ). IsPieceOf file n buf count) at_is (subst (λ (o : Option (List ℕ)). Reads o c.len.result buf (Ok count)) is told) in
-          let more = longer file c.loop-bytes.bytes.items buf at count piece_of front.0 front.1 in (
-            c.in_ok-extend_from_slice.ensures.items ∙ more.0 ∙ ap (λ (n : ℕ). take n file) (sym long),
-            omega (arith, more.1, long),
-            front.2,
-          );
+          let piece_of : IsPieceOf file at buf count = subst (λ (n : ℕ). IsPieceOf file n buf count) c.len.ensures (subst (λ (o : Option (List ℕ)). Reads o c.len.result buf (Ok count)) is told) in
+          let more = grown file _ c.loop-bytes.bytes.items buf at count _ c.in_ok-extend_from_slice.ensures.items long (longer file c.loop-bytes.bytes.items buf at count piece_of front.0 front.1) in
+          (more.0, more.1, front.2);
       later = none_falls-trans _ _ _ c.loop-bytes.invariant.later c.in_ok-count.ensures.later;
     }
-
-pub returns-in_err-read-clause-bytes : goal.returns-in_err-read-clause-bytes
-returns-in_err-read-clause-bytes g c = λ t. unread _ _ _ _ _ (is_that_err _ _ c.from_residual.ensures.1) (c.in_err-read.ensures.bytes t)
-
-pub returns-in_err-read-clause-absent : goal.returns-in_err-read-clause-absent
-returns-in_err-read-clause-absent g c = λ e. c.in_err-read.ensures.absent (was_absent _ _ _ refl (is_that_err _ _ c.from_residual.ensures.1) e)
-
-pub returns-in_err-read-clause-failed : goal.returns-in_err-read-clause-failed
-returns-in_err-read-clause-failed g c = λ e. c.in_err-read.ensures.failed (was_failed _ _ _ refl (is_that_err _ _ c.from_residual.ensures.1) e)
-
-pub returns-in_err-count-clause-bytes : goal.returns-in_err-count-clause-bytes
-returns-in_err-count-clause-bytes g c = λ t.
-    unread _ _ _ _ _ (is_that_err _ _ c.from_residual-in_err-count.ensures.1)
-    (subst (λ (f : Files). Reads (map.get f c.args.name.now) c.len.result c.read-in-loop-bytes.new.buf (Err c.in_err-count.field-0.0)) c.loop-bytes.invariant.same (c.in_err-count.ensures.bytes t))
-
-pub returns-in_err-count-clause-absent : goal.returns-in_err-count-clause-absent
-returns-in_err-count-clause-absent g c = λ e.
-    rose_on _ _ _ _ (c.loop-bytes.invariant.later.absences c.args.name.now)
-    (c.in_err-count.ensures.absent (was_absent _ _ _ refl (is_that_err _ _ c.from_residual-in_err-count.ensures.1) e)) (omega arith)
-
-pub returns-in_err-count-clause-failed : goal.returns-in_err-count-clause-failed
-returns-in_err-count-clause-failed g c = λ e.
-    rose_on _ _ _ _ (c.loop-bytes.invariant.later.read_faults c.args.name.now)
-    (c.in_err-count.ensures.failed (was_failed _ _ _ refl (is_that_err _ _ c.from_residual-in_err-count.ensures.1) e)) (omega arith)
-
-pub returns-in_err-count-clause-later : goal.returns-in_err-count-clause-later
-returns-in_err-count-clause-later g c = none_falls-trans _ _ _ c.loop-bytes.invariant.later c.in_err-count.ensures.later
-
-pub returns-in_err-extend_from_slice-clause-bytes : goal.returns-in_err-extend_from_slice-clause-bytes
-returns-in_err-extend_from_slice-clause-bytes g c = λ t.
-    unheld _ _ _ _ _ (is_that_err _ _ c.from_residual-in_err-extend_from_slice.ensures.1)
-    (subst (λ (f : Files). Reads (map.get f c.args.name.now) c.len.result c.read-in-loop-bytes.new.buf (Ok c.in_ok-count.count)) c.loop-bytes.invariant.same (c.in_ok-count.ensures.bytes t))
-
-pub returns-in_err-extend_from_slice-clause-absent : goal.returns-in_err-extend_from_slice-clause-absent
-returns-in_err-extend_from_slice-clause-absent g c = λ e. let is = is_that_err _ _ c.from_residual-in_err-extend_from_slice.ensures.1 in absurd (cc (is, e))
-
-pub returns-in_err-extend_from_slice-clause-failed : goal.returns-in_err-extend_from_slice-clause-failed
-returns-in_err-extend_from_slice-clause-failed g c = λ e. let is = is_that_err _ _ c.from_residual-in_err-extend_from_slice.ensures.1 in absurd (cc (is, e))
-
-pub returns-in_err-extend_from_slice-clause-later : goal.returns-in_err-extend_from_slice-clause-later
-returns-in_err-extend_from_slice-clause-later g c = none_falls-trans _ _ _ c.loop-bytes.invariant.later c.in_ok-count.ensures.later
-
-pub returns-then-len-count-clause-bytes : goal.returns-then-len-count-clause-bytes
-returns-then-len-count-clause-bytes g c = λ t.
-    past_limit _ (vec_len c.loop-bytes.bytes) c.read-in-loop-bytes.new.buf c.in_ok-count.count
-    (subst (λ (n : ℕ). Reads (map.get (g.D.Depot.files c.args.depot.now) c.args.name.now) n c.read-in-loop-bytes.new.buf (Ok c.in_ok-count.count)) (search rules)
-    (subst (λ (f : Files). Reads (map.get f c.args.name.now) c.len.result c.read-in-loop-bytes.new.buf (Ok c.in_ok-count.count)) c.loop-bytes.invariant.same (c.in_ok-count.ensures.bytes t)))
-    c.if-count-eq0.false (omega arith)
-
-pub returns-then-len-count-clause-later : goal.returns-then-len-count-clause-later
-returns-then-len-count-clause-later g c = none_falls-trans _ _ _ c.loop-bytes.invariant.later c.in_ok-count.ensures.later
-
-pub returns-clause-later : goal.returns-clause-later
-returns-clause-later g c = none_falls-trans _ _ _ c.loop-bytes.invariant.later c.in_ok-count.ensures.later
