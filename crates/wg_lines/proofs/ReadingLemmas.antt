@@ -28,12 +28,9 @@ pub some_lent : (lines lent : List ℕ) (b : Bool) → lent ≡ lines → b ≡ 
 some_lent [] lent b is empty ok = absurd (let none : b ≡ true = empty ∙ ap (λ (l : List ℕ). length l == 0) is in cc (none, ok))
 some_lent (x ∷ xs) lent b is empty ok = omega arith
 
--- one answer is no other, and no error
+-- an error is no answer, and one answer is not the other
 pub no_answer : {A : Type 0} (e : LoadError) (a : A) → ◌≡◌ {A = Result A LoadError} (Err e) (Ok a) → ⊥
 no_answer e a is = cc is
-
-pub no_error : {A : Type 0} (e : LoadError) (a : A) → ◌≡◌ {A = Result A LoadError} (Ok a) (Err e) → ⊥
-no_error e a is = cc is
 
 pub not_false : ◌≡◌ {A = Result Bool LoadError} (Ok true) (Ok false) → ⊥
 not_false is = cc is
@@ -41,30 +38,9 @@ not_false is = cc is
 pub not_true : ◌≡◌ {A = Result Bool LoadError} (Ok false) (Ok true) → ⊥
 not_true is = cc is
 
--- want of memory, and a file that is too long, are no faults of a depot
-pub held_not_absent : ◌≡◌ {A = Result Bool LoadError} (Err load.Memory) (Err load.Absent) → ⊥
-held_not_absent is = cc is
-
-pub held_not_failed : ◌≡◌ {A = Result Bool LoadError} (Err load.Memory) (Err load.Failed) → ⊥
-held_not_failed is = cc is
-
-pub long_not_absent : ◌≡◌ {A = Result Bool LoadError} (Err load.TooLong) (Err load.Absent) → ⊥
-long_not_absent is = cc is
-
-pub long_not_failed : ◌≡◌ {A = Result Bool LoadError} (Err load.TooLong) (Err load.Failed) → ⊥
-long_not_failed is = cc is
-
 -- what is said of the end of a file, in a case that does not come
 pub not_ended : (file : List ℕ) (h : Held) → ⊥ → lines_ahead file h ≡ lines_of h.lines
 not_ended file h bad = absurd bad
-
--- no count rises in a case that does not come
-pub no_rise : (a b : ℕ) → ⊥ → Increased a b
-no_rise a b bad = absurd bad
-
--- what rose in a later call has risen
-pub risen : (a b c : ℕ) → a ≤ b → Increased b c → Increased a c
-risen a b c le up = rose_on a b c c le up (omega arith)
 
 -- where the reading stands after a piece more
 pub more_read : (from to count : ℕ) → to ≡ from + count → count ≢ 0 → from < to

@@ -4,9 +4,10 @@ use Rattle.std.proofs.lemmas.Result.{err_from_is_err_and}
 use Rattle.wg_outside.specs.Outside.{Files}
 use Rattle.wg_outside.specs.Reads.{Loads}
 use Rattle.wg_outside.proofs.FilesLemmas.{none_falls-trans}
+use Rattle.wg_outside.proofs.LoadLemmas.{no_error, no_rise, risen}
 use Rattle.wg_lines.specs.Reading.{Held}
 use Rattle.wg_lines.proofs.LineLemmas.{none_of, passed_ahead}
-use Rattle.wg_lines.proofs.ReadingLemmas.{no_answer, no_error, no_rise, none_lent, not_false, risen, some_lent}
+use Rattle.wg_lines.proofs.ReadingLemmas.{no_answer, none_lent, not_false, some_lent}
 use Rattle.wg_lines.proofs.reading.LineReader.advance.Goals as goal
 
 pub loop-self-init : goal.loop-self-init

@@ -2,10 +2,10 @@ use Rattle.std.proofs.Common.{◌≡◌, ◌≤◌, ℕ, take, drop, refl, ap, s
 use Rattle.std.proofs.lemmas.List.{length-take-le}
 use Rattle.std.proofs.lemmas.Result.{err_from_is_err_and}
 use Rattle.wg_outside.specs.declared.limits.TheConstants.{MOST_BYTES}
-use Rattle.wg_outside.proofs.LoadLemmas.{was_absent, was_failed, unread, unheld, past_limit}
+use Rattle.wg_outside.proofs.LoadLemmas.{held_not_absent, held_not_failed, long_not_absent, long_not_failed, no_error, no_rise, past_limit, unheld, unread, was_absent, was_failed}
 use Rattle.wg_lines.specs.Reading.{Held}
 use Rattle.wg_lines.proofs.LineLemmas.{held_ahead, held_end, rest_ahead, rest_lent, rest_short}
-use Rattle.wg_lines.proofs.ReadingLemmas.{held_not_absent, held_not_failed, long_not_absent, long_not_failed, more_read, no_answer, no_error, no_rise, not_ended, not_false, not_true, piece_of, read_out, short_read}
+use Rattle.wg_lines.proofs.ReadingLemmas.{more_read, no_answer, not_ended, not_false, not_true, piece_of, read_out, short_read}
 use Rattle.wg_lines.proofs.reading.LineReader.read_piece.Goals as goal
 
 pub returns-in_err-count : goal.returns-in_err-count
