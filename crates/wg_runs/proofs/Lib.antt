@@ -4,3 +4,4 @@ pub mod Stands
 pub mod Steps
 pub mod Whole
 pub mod Placed
+pub mod Made

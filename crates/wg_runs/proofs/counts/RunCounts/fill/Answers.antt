@@ -1,14 +1,45 @@
-use Rattle.std.proofs.Common.{◌≡◌, ◌≤◌, length, ap, ◌∙◌, arith}
-use Rattle.wg_params.specs.declared.limits.TheConstants.{MOST_ARCS}
-use Rattle.wg_runs.specs.Runs.{Counted, runs_to, run_start}
-use Rattle.wg_runs.proofs.Whole.{few_in_all}
+use Rattle.std.proofs.Common.{◌∙◌, ℕ, List, get_or, length, refl, sym, ap, subst}
+use Rattle.std.proofs.lemmas.List.{with_items_is}
+use Rattle.std.proofs.lemmas.Result.{IfOk-from_err}
+use Rattle.wg_runs.specs.Runs.{Counted, IsCountOf}
+use Rattle.wg_runs.proofs.Made.{few_counted, runs_held}
 use Rattle.wg_runs.proofs.counts.RunCounts.fill.Goals as goal
 
-pub fill-requires-clause-few_runs : goal.fill-requires-clause-few_runs
-fill-requires-clause-few_runs g c =
+pub fill-requires : goal.fill-requires
+fill-requires g c =
     let graph = g.L.Lists.graph c.args.lists.now in
-    let h = c.requires.counted in
-    let some : c.self.inside.runs ≡ run_start (runs_to graph) graph.nodes = ap (λ (k : Counted). k.runs) c.self.view_is ∙ h.runs in
-    let size : length c.deref_mut-3.result.now ≡ c.self.inside.runs = c.deref_mut-3.ensures.len ∙ c.in_ok-runs.ensures.len in
-    let few : run_start (runs_to graph) graph.nodes ≤ MOST_ARCS = omega (arith, few_in_all graph h.proper, h.few_arcs) in
-    omega (arith, some, size, few)
+    let h = subst (λ (k : Counted). IsCountOf graph k) (sym c.self.view_is) c.requires.counted in
+    let size = c.deref_mut-3.ensures.len ∙ c.in_ok-runs.ensures.len in
+    record {
+      few_pages = h.few_pages;
+      few_runs = few_counted graph _ _ h size;
+      pages = ap length c.deref_mut.ensures.value ∙ h.pages;
+      reach = ap length c.deref_mut-2.ensures.value ∙ c.self.invariant ∙ h.pages;
+      counted = λ v lt. ap (λ (l : List ℕ). get_or l v 0) c.deref_mut.ensures.value ∙ h.each v lt;
+      room = size ∙ h.runs;
+    }
+
+pub from_parts-requires : goal.from_parts-requires
+from_parts-requires g c =
+    let graph = g.L.Lists.graph c.args.lists.now in
+    let h = subst (λ (k : Counted). IsCountOf graph k) (sym c.self.view_is) c.requires.counted in
+    let ends = with_items_is c.self.inside.counts c.fill.new.ends (c.fill.auto.ends ∙ c.deref_mut.ensures.len) in
+    let runs = with_items_is c.in_ok-runs.runs c.fill.new.runs (c.fill.auto.runs ∙ c.deref_mut-3.ensures.len) in
+    (graph, runs_held graph _ _ _ _ _ h ends runs c.fill.ensures.filled)
+
+pub returns-in_err-runs : goal.returns-in_err-runs
+returns-in_err-runs g c = record {
+  graph = refl;
+  runs = IfOk-from_err c.from_residual.result _ c.from_residual.ensures.0;
+}
+
+pub returns : goal.returns
+returns g c =
+    let graph = g.L.Lists.graph c.args.lists.now in
+    let h = subst (λ (k : Counted). IsCountOf graph k) (sym c.self.view_is) c.requires.counted in
+    let ends = with_items_is c.self.inside.counts c.fill.new.ends (c.fill.auto.ends ∙ c.deref_mut.ensures.len) in
+    let runs = with_items_is c.in_ok-runs.runs c.fill.new.runs (c.fill.auto.runs ∙ c.deref_mut-3.ensures.len) in
+    record {
+      graph = c.fill.ensures.graph;
+      runs = c.from_parts.ensures graph (runs_held graph _ _ _ _ _ h ends runs c.fill.ensures.filled);
+    }
