@@ -5,4 +5,5 @@ pub mod Places
 pub mod Steps
 pub mod Whole
 pub mod Held
+pub mod Next
 pub mod InOrder
