@@ -1,3 +1,4 @@
+pub mod ListsLemmas
 pub mod PageLemmas
 pub mod Pages
 pub mod ReadBack

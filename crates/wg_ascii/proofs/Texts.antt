@@ -1,10 +1,11 @@
 -- Texts that are printed one after the other.
-use Rattle.std.proofs.Common.{◌≡◌, ℕ, ◌+◌, ◌<◌, List, [], ◌∷◌, ◌++◌, map, length, take, drop, get_or, Result, Ok, Err, refl, sym, ap, subst, ◌∙◌, append_assoc, append-nil}
+use Rattle.std.proofs.Common.{◌≡◌, ℕ, ◌+◌, ◌<◌, ◌≤◌, List, [], ◌∷◌, ◌++◌, map, length, take, drop, get_or, Result, Ok, Err, refl, sym, ap, subst, ◌∙◌, append_assoc, append-nil, arith}
 use Rattle.std.specs.Result.{IsErrAnd}
-use Rattle.std.proofs.lemmas.List.{map-append, take_more, take-append-drop}
+use Rattle.std.proofs.lemmas.List.{map-append, take_all, take_more, take-append-drop}
 use Rattle.wg_lines.specs.Printing.{HasPrinted, HasPrintedLess, Prints}
 use Rattle.wg_outside.specs.Puts.{joined}
-use Rattle.wg_lines.proofs.PrintLemmas.{printed_more, less_after, less_before}
+use Rattle.wg_ascii.specs.Text.{list_words}
+use Rattle.wg_lines.proofs.PrintLemmas.{kept, printed_more, less_after, less_before}
 use Rattle.wg_outside.proofs.PutsLemmas.{is_that_err}
 
 -- ---- two texts
@@ -16,6 +17,11 @@ prints_then a b c waited mid waits t u (Err e) h g = less_after a b c waited mid
 -- the first was cut off, whatever would have followed
 pub prints_cut : {E : Type 0} (a c waited waits t u : List ℕ) (r : Result (Unit {0}) E) (e : E) → IsErrAnd r (λ x. x ≡ e) → HasPrintedLess a c waited t → Prints (t ++ u) a c waited waits r
 prints_cut a c waited waits t u r e is h = subst (λ q. Prints (t ++ u) a c waited waits q) (sym (is_that_err r e is)) (less_before a c waited t u h)
+
+-- nothing is printed
+pub none_printed : (a waited list : List ℕ) → length list ≡ 0 → HasPrinted a a waited (list_words list) waited
+none_printed a waited [] none = kept a waited [] waited (sym (append-nil waited))
+none_printed a waited (x ∷ xs) none = absurd (omega (arith, none))
 
 -- ---- a text for each of some items
 
@@ -53,3 +59,9 @@ module _ {A : Type 0} (text : A → List ℕ) where
       let more : HasPrintedLess a c waited (texts front (take (i + 1) xs)) =
       subst (λ (t : List ℕ). HasPrintedLess a c waited t) (sym (texts_more front xs i d lt)) (less_after a b c waited mid (texts front (take i xs)) (text (get_or xs i d)) h g) in
       subst (λ (t : List ℕ). HasPrintedLess a c waited t) (sym (texts_split front xs (i + 1))) (less_before a c waited (texts front (take (i + 1) xs)) (joined (map text (drop (i + 1) xs))) more)
+
+  -- all items are printed
+  pub all_printed : (a c waited waits front : List ℕ) (xs : List A) (i : ℕ) → length xs ≤ i
+      → HasPrinted a c waited (texts front (take i xs)) waits → HasPrinted a c waited (texts front xs) waits
+  all_printed a c waited waits front xs i past =
+      subst (λ (l : List A). HasPrinted a c waited (texts front l) waits) (take_all i xs past)

@@ -5,6 +5,15 @@ use Rattle.wg_ascii.specs.Growing.{IsUpTo}
 use Rattle.wg_ascii.proofs.PageLemmas.{read_of_first, stands_alone}
 use Rattle.wg_ascii.proofs.reading.read.Goals as goal
 
+pub new-requires : goal.new-requires
+new-requires c = c.in_ok-lines.ensures.few
+
+pub read_lists-requires : goal.read_lists-requires
+read_lists-requires c =
+    let n = c.in_ok-lines.ensures in
+    let b = c.in_ok-builder.ensures in
+    record { nodes = sym b.nodes; few = n.few; none = b.lists; first = n.line; arcs = n.arcs }
+
 pub returns-in_err-lines : goal.returns-in_err-lines
 returns-in_err-lines c =
     let p = err_from_is_err_and c.from_residual.result c.from_residual.ensures.1 in
