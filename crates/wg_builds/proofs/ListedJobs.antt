@@ -1,5 +1,5 @@
 -- An arc list that is read line by line, while its lists are encoded: how it ends.
-use Rattle.std.proofs.Common.{◌≡◌, inl, inr, ℕ, ◌≤◌, Bool, List, [], ◌∷◌, ◌++◌, length, take, Some, None, Err, refl, sym, ap, subst, ◌∙◌}
+use Rattle.std.proofs.Common.{rules, ◌≡◌, inl, inr, ℕ, ◌≤◌, Bool, List, [], ◌∷◌, ◌++◌, length, take, Some, None, Err, refl, sym, ap, subst, ◌∙◌}
 use Rattle.std.specs.Bool.{IsTrue}
 use Rattle.std.specs.FinMap as map
 use Rattle.wg_outside.specs.Outside.{Files, Counts, NonDecreasing}
@@ -46,6 +46,10 @@ pub lent_now : (n m : ℕ) (all next later : List (List ℕ)) (text lent : List 
 lent_now n m all next later text lent count arcs nodes lines same so =
     subst (λ (k : ℕ). SoFar k all (lines_of text ++ later) count arcs) (sym nodes)
     (subst (λ (ls : List (List ℕ)). SoFar n all ls count arcs) (lines ∙ ap (λ (l : List ℕ). lines_of l ++ later) (sym same)) so)
+
+-- no memory is left
+pub list_unheld : (name : List ℕ) (n : ℕ) (td : Bool) (f h : Files) (a c : List ℕ → Counts) → h ≡ f → NonDecreasing a c → LoadsList name n td f h a c (Err (record { status = Memory; promised = 0 }))
+list_unheld name n td f h a c same later = search rules
 
 -- other reads came before
 pub list_unread_after : (name : List ℕ) (n : ℕ) (td : Bool) (f g h : Files) (a b c : List ℕ → Counts) (e : Ending) → g ≡ f → NonDecreasing a b → Loads (list_named name) ArcList td g h b c (Err e) → LoadsList name n td f h a c (Err e)

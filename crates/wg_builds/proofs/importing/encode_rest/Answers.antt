@@ -26,16 +26,23 @@ returns-in_err-next_lines g c =
       ends = text_after name _ _ _ _ _ _ _ _ i.same i.later (text_unloaded name _ _ _ _ _ c.in_err-next_lines.field-0.0 (c.in_err-next_lines.ensures.ends (text_named name) refl));
     }
 
-pub returns-in-Err-clause-ends : goal.returns-in-Err-clause-ends
-returns-in-Err-clause-ends g c =
+pub returns-in-Err : goal.returns-in-Err
+returns-in-Err g c =
     let i = c.loop-encoder.invariant in
     let r = c.in_ok-next_lines.ensures in
     let name = c.args.name.now in
     let new = c.next_lines.new.reader in
-    text_stops name _ _ _ _ _ (r.same ∙ i.same) (none_falls-trans _ _ _ i.later r.later) c.ending_at.result c.in-Err.error c.ending_at.ensures (λ t.
-    let f = still name _ _ i.same (c.requires.readable t) in
-    let up = lent (lines_of f.0) _ (lines_after f.0 new) i.way.0 c.lines.result.now new.lines c.loop-encoder.lines (r.lines t f.0 f.3) c.lines.ensures.value (i.way.2 t f.0 f.1) in
-    (f.0, f.1, f.2, c.in-Err.ensures.fault (lines_of f.0) (lines_after f.0 new) i.way.0 i.way.1 up))
+    record {
+      params = tt;
+      nodes = tt;
+      few = tt;
+      encodes = tt;
+      ends =
+          text_stops name _ _ _ _ _ (r.same ∙ i.same) (none_falls-trans _ _ _ i.later r.later) c.ending_at.result c.in-Err.error c.ending_at.ensures (λ t.
+          let f = still name _ _ i.same (c.requires.readable t) in
+          let up = lent (lines_of f.0) _ (lines_after f.0 new) i.way.0 c.lines.result.now new.lines c.loop-encoder.lines (r.lines t f.0 f.3) c.lines.ensures.value (i.way.2 t f.0 f.1) in
+          (f.0, f.1, f.2, c.in-Err.ensures.fault (lines_of f.0) (lines_after f.0 new) i.way.0 i.way.1 up));
+    }
 
 pub loop-encoder-preserved : goal.loop-encoder-preserved
 loop-encoder-preserved g c =
@@ -81,13 +88,20 @@ returns-in-Ok-end-clause-encodes g c =
       page = i.pace.over e.over;
     }
 
-pub returns-in-Err-end-clause-ends : goal.returns-in-Err-end-clause-ends
-returns-in-Err-end-clause-ends g c =
+pub returns-in-Err-end : goal.returns-in-Err-end
+returns-in-Err-end g c =
     let i = c.loop-encoder.invariant in
     let r = c.in_ok-next_lines.ensures in
     let name = c.args.name.now in
     let s = c.loop-encoder.lines in
     let lists = i.way.0 in
-    text_stops name _ _ _ _ _ (r.same ∙ i.same) (none_falls-trans _ _ _ i.later r.later) c.ending_at-in-Err-end.result c.in-Err-end.error c.ending_at-in-Err-end.ensures (λ t.
-    let f = still name _ _ i.same (c.requires.readable t) in
-    (f.0, f.1, f.2, c.in-Err-end.ensures.fault (lines_of f.0) lists (subst (λ (ls : List (List ℕ)). IsUpTo (lines_of f.0) ls lists s) (r.end t f.0 f.3 (ap (λ b. Ok b) c.if-branch.false)) (i.way.2 t f.0 f.1))))
+    record {
+      params = tt;
+      nodes = tt;
+      few = tt;
+      encodes = tt;
+      ends =
+          text_stops name _ _ _ _ _ (r.same ∙ i.same) (none_falls-trans _ _ _ i.later r.later) c.ending_at-in-Err-end.result c.in-Err-end.error c.ending_at-in-Err-end.ensures (λ t.
+          let f = still name _ _ i.same (c.requires.readable t) in
+          (f.0, f.1, f.2, c.in-Err-end.ensures.fault (lines_of f.0) lists (subst (λ (ls : List (List ℕ)). IsUpTo (lines_of f.0) ls lists s) (r.end t f.0 f.3 (ap (λ b. Ok b) c.if-branch.false)) (i.way.2 t f.0 f.1))));
+    }

@@ -1,4 +1,4 @@
-use Rattle.std.proofs.Common.{rules, ◌∙◌, [], ℕ, List, None, Ok, length, ap, refl, sym, subst, arith}
+use Rattle.std.proofs.Common.{◌∙◌, [], ℕ, List, None, Ok, length, ap, refl, sym, subst, arith}
 use Rattle.std.specs.FinMap as map
 use Rattle.std.proofs.lemmas.Result.{err_from_is_err_and}
 use Rattle.wg_outside.specs.Outside.{Files}
@@ -10,7 +10,7 @@ use Rattle.wg_arcs.specs.Listing.{AreListed, arcs_on}
 use Rattle.wg_arcs.proofs.ListedLemmas.{none_listed}
 use Rattle.wg_outcomes.specs.Names.{list_named}
 use Rattle.wg_builds.specs.Listed.{IsFault}
-use Rattle.wg_builds.proofs.ListedJobs.{lent_now, list_encoded, list_stops, list_unread_after}
+use Rattle.wg_builds.proofs.ListedJobs.{lent_now, list_encoded, list_stops, list_unheld, list_unread_after}
 use Rattle.wg_builds.proofs.ListingLemmas.{may_take}
 use Rattle.wg_builds.proofs.TextJobs.{still}
 use Rattle.wg_builds.proofs.listing.encode_lines.Goals as goal
@@ -38,17 +38,23 @@ returns-in_err-next_lines g c =
       ends = list_unread_after name c.args.nodes _ _ _ _ _ _ _ c.in_err-next_lines.field-0.0 i.same i.later (c.in_err-next_lines.ensures.ends (list_named name) refl);
     }
 
-pub returns-in-Err-clause-ends : goal.returns-in-Err-clause-ends
-returns-in-Err-clause-ends g c =
+pub returns-in-Err : goal.returns-in-Err
+returns-in-Err g c =
     let i = c.loop-list.invariant in
     let r = c.in_ok-next_lines.ensures in
     let name = c.args.name.now in
     let n = c.args.nodes in
-    list_stops name n _ _ _ _ _ (r.same ∙ i.same) (none_falls-trans _ _ _ i.later r.later) c.ending_at.result c.in-Err.error c.ending_at.ensures (λ t.
-    let f = still name _ _ i.same (i.readable t) in
-    let later = lines_after f.0 c.next_lines.new.reader in
-    let here = lent_now n c.loop-list.lines.nodes (lines_of f.0) _ later c.lines.result.now c.next_lines.new.reader.lines c.loop-list.lines.line _ i.nodes (r.lines t f.0 f.3) c.lines.ensures.value (i.way.2 t f.0 f.1) in
-    (f.0, f.1, f.2, subst (λ (m : ℕ). IsFault m (lines_of f.0) c.in-Err.error) i.nodes (c.in-Err.ensures.fault i.way.0 (lines_of f.0) later i.way.1 here)))
+    record {
+      params = tt;
+      few = tt;
+      encodes = tt;
+      ends =
+          list_stops name n _ _ _ _ _ (r.same ∙ i.same) (none_falls-trans _ _ _ i.later r.later) c.ending_at.result c.in-Err.error c.ending_at.ensures (λ t.
+          let f = still name _ _ i.same (i.readable t) in
+          let later = lines_after f.0 c.next_lines.new.reader in
+          let here = lent_now n c.loop-list.lines.nodes (lines_of f.0) _ later c.lines.result.now c.next_lines.new.reader.lines c.loop-list.lines.line _ i.nodes (r.lines t f.0 f.3) c.lines.ensures.value (i.way.2 t f.0 f.1) in
+          (f.0, f.1, f.2, subst (λ (m : ℕ). IsFault m (lines_of f.0) c.in-Err.error) i.nodes (c.in-Err.ensures.fault i.way.0 (lines_of f.0) later i.way.1 here)));
+    }
 
 pub loop-list-init : goal.loop-list-init
 loop-list-init g c =
@@ -110,8 +116,18 @@ end_pages-requires-clause-list g c =
 
 pub returns-in_err-encoder : goal.returns-in_err-encoder
 returns-in_err-encoder g c =
+    let i = c.loop-list.invariant in
+    let r = c.in_ok-next_lines.ensures in
     let q = err_from_is_err_and c.from_residual-in_err-encoder.result c.from_residual-in_err-encoder.ensures.1 in
-    rw (q.1, q.2) record { params = tt; few = tt; encodes = tt; ends = search rules }
+    rw (q.1, q.2) record {
+      params = tt;
+      few = tt;
+      encodes = tt;
+      ends = list_unheld c.args.name.now c.args.nodes _ _ _ _ _ (r.same ∙ i.same) (none_falls-trans _ _ _ i.later r.later);
+    }
+
+pub returns-clause-params : goal.returns-clause-params
+returns-clause-params g c = c.in_ok-encoder.ensures.params ∙ c.loop-list.invariant.params
 
 pub returns-clause-encodes : goal.returns-clause-encodes
 returns-clause-encodes g c =
