@@ -1,17 +1,19 @@
 -- What bounds certify that hold of a graph.
-use Rattle.std.proofs.Common.{ℕ, ◌≡◌, ◌+◌, ◌-◌, ◌*◌, ◌<◌, ◌≤◌, List, length, arith, ap, sym, ◌∙◌, subst, add-one, inl, inr}
+use Rattle.std.proofs.Common.{ℕ, ◌≡◌, ◌+◌, ◌-◌, ◌*◌, ◌<◌, ◌≤◌, All, List, length, arith, ap, sym, ◌∙◌, subst, add-one, inl, inr}
 use Rattle.std.proofs.lemmas.List.FromFn.{fill_by_all}
 use Rattle.wg_graph.specs.Digraph.{Digraph, IsGraph, arc_count}
 use Rattle.wg_params.specs.declared.limits.TheConstants.{MOST_PAGES, MOST_DAMPING, MOST_ROUNDS}
 use Rattle.wg_rank.specs.Sum.{sum_below}
 use Rattle.wg_rank.specs.Rank.{total, gap, low, high, IsStationary, Encloses}
-use Rattle.wg_rank.specs.Intervals.{Intervals, AreBounds, IsTable, Holds, by_page}
+use Rattle.wg_rank.specs.Intervals.{Intervals, AreBounds, IsTable, Holds, next_low, next_high, by_page}
 use Rattle.wg_rank.specs.Certified.{IsCertified}
 use Rattle.wg_rank.specs.Weights.{AreWeights}
+use Rattle.wg_rank.specs.BoundsInside.{intervals_of, AreKept}
+use Rattle.wg_rank.specs.declared.bounds.Bounds.TheInside.{Inside}
 use Rattle.wg_rank.specs.declared.limits.TheConstants.{UNITS}
 use Rattle.wg_rank.proofs.Sums.{sum_same}
 use Rattle.wg_rank.proofs.Pageranks.{numerators_total, gap_shrinks, encloses_iterates, encloses_stationary, low_le_high, within_gap, width_is, low_rises, high_falls, low_total, rising_encloses}
-use Rattle.wg_rank.proofs.Rounds.{lower_same}
+use Rattle.wg_rank.proofs.Rounds.{lower_same, holds_more}
 use Rattle.wg_rank.specs.Claims.{Rises}
 use Rattle.std.proofs.lemmas.Bool.{cases_lt}
 
@@ -25,6 +27,25 @@ are_bounds b few damped counted high weighed = record {
   high_pages = high;
   weight_pages = weighed.pages;
   some_weight = weighed.some;
+}
+
+-- the fields of bounds are within them
+pub kept_bounds : (b : Inside) → AreKept b → AreBounds (intervals_of b)
+kept_bounds b k = are_bounds (intervals_of b) k.few k.damped k.counted k.high_pages k.weighed
+
+-- and stay so in a round
+pub kept_round : (b c : Inside) → AreKept b → c.damping ≡ b.damping → c.rounds ≡ b.rounds + 1 → b.rounds < MOST_ROUNDS → c.weights ≡ b.weights
+    → length c.low.items ≡ length b.low.items → length c.high.items ≡ length b.high.items → length c.inflows.items ≡ length b.inflows.items
+    → (old low high : List ℕ) → old ≡ b.low.items → c.low.items ≡ low → c.high.items ≡ high → sum_below (length old) (by_page low) ≤ UNITS → All (λ x. x ≤ UNITS) high → AreKept c
+kept_round b c k d r more w l h i old low high e m q t u = record {
+  few = rw l k.few;
+  damped = rw d k.damped;
+  counted = omega (arith, r, more);
+  weighed = rw (l, w) k.weighed;
+  high_pages = h ∙ k.high_pages ∙ sym l;
+  inflow_pages = rw l (i ∙ k.inflow_pages);
+  low_total = rw (l, m) (rw e at t);
+  high_units = rw q u;
 }
 
 -- ---- what they certify
@@ -66,6 +87,23 @@ module _ (b c : Intervals) (g : Digraph) (ok : IsGraph g) (p : AreBounds b) (o :
   gap_less so =
       let f = rw (d, e, k) at (gap_of c g q) in
       rw (f, gap_of b g o) (gap_shrinks g b.damping (by_page b.weights) ok (omega (arith, p.damped)) so (some_weight b g p o so) b.rounds)
+
+-- what a round does to bounds: they hold again, are certified, and lie within those before, whose gap they narrow
+pub record IsNext (b c : Intervals) (g : Digraph) : Type 0 where
+  pub holds : Holds b g → Holds c g
+  pub certified : Holds b g → IsCertified c g
+  pub nested : Holds b g → (v : ℕ) → v < length b.low → (by_page b.low v ≤ by_page c.low v) × (by_page c.high v ≤ by_page b.high v)
+  pub gap : Holds b g → 0 < g.nodes
+      → 1000 * gap g (by_page c.low) ≤ b.damping * gap g (by_page b.low) + b.damping * arc_count g + 3 * 1000 * g.nodes
+
+pub round_done : (b c : Intervals) (g : Digraph) → IsGraph g → AreBounds b → AreBounds c → g.nodes ≡ length b.low → c.damping ≡ b.damping → c.weights ≡ b.weights
+    → c.rounds ≡ b.rounds + 1 → IsTable c.low g.nodes (next_low g b) → IsTable c.high g.nodes (next_high g b) → IsNext b c g
+round_done b c g ok p q n d e k l h = record {
+  holds = holds_more b c g d e k l h;
+  certified = λ o. certified c g ok q (holds_more b c g d e k l h o);
+  nested = λ o v i. nested b c g ok p o (holds_more b c g d e k l h o) d e k v (omega (arith, n, i));
+  gap = λ o so. gap_less b c g ok p o (holds_more b c g d e k l h o) d e k so;
+}
 
 -- ---- tables of one function are one list
 

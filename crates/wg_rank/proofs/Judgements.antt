@@ -1,11 +1,12 @@
 -- What a judged certificate says of stationary vectors, and of bounds that rounds have found.
-use Rattle.std.proofs.Common.{ℕ, ◌≡◌, ◌<◌, List, length, Option, Some, None, MatchOption, Result, Ok, Err, IfOk, sym, subst, arith}
+use Rattle.std.proofs.Common.{ℕ, ◌≡◌, ◌-◌, ◌<◌, List, length, Option, Some, None, MatchOption, Result, Ok, Err, IfOk, refl, sym, subst, arith}
 use Rattle.wg_graph.specs.Digraph.{Digraph, IsGraph}
 use Rattle.wg_rank.specs.Sum.{sum_below}
-use Rattle.wg_rank.specs.Rank.{lower, EnclosesStationary}
+use Rattle.wg_rank.specs.Rank.{lower, gap, EnclosesStationary}
 use Rattle.wg_rank.specs.Intervals.{Intervals, AreBounds, Holds, by_page}
 use Rattle.wg_rank.specs.Weights.{AreWeights, weights_or_ones}
 use Rattle.wg_rank.specs.Claims.{Claim, IsClaim, claim_of_bounds, AreAtMost, Rises, FallsFirst, IsJudged}
+use Rattle.wg_rank.specs.declared.limits.TheConstants.{UNITS}
 use Rattle.wg_rank.specs.declared.fault.JudgeError.{JudgeError}
 use Rattle.wg_rank.specs.declared.fault.JudgeError.TheVariants as errors
 use Rattle.wg_rank.proofs.Certificates.{enclosing, complete}
@@ -40,3 +41,7 @@ first_of_round g a n w next low (Some x) e is h = record {
   falls = omega (arith, h.1, is x (omega (arith, h.0)));
   before = λ v i. omega (arith, h.2 v i, is v (omega (arith, h.0, i)));
 }
+
+-- what bounds leave of 1
+pub left_of : (g : Digraph) (xs : List ℕ) (t : ℕ) → t ≡ sum_below (length xs) (by_page xs) → g.nodes ≡ length xs → UNITS - t ≡ gap g (by_page xs)
+left_of g xs t is m = rw (is, m) refl

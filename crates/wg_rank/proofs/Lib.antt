@@ -12,6 +12,7 @@ pub mod Weighing
 pub mod Settled
 pub mod Rounds
 pub mod Runs
+pub mod Shared
 pub mod Listed
 pub mod LaneSums
 pub mod Quotients

@@ -1,5 +1,6 @@
 -- The lines of a certificate, printed part by part.
-use Rattle.std.proofs.Common.{◌≡◌, ℕ, zero, suc, ◌+◌, ◌<◌, List, [], ◌∷◌, ◌++◌, length, take, drop, get_or, refl, sym, ap, subst, ◌∙◌, arith, add-one, append_assoc, append-nil, Result, Ok, Err, OnOk, OnErr}
+use Rattle.std.proofs.Common.{◌≡◌, ℕ, zero, suc, ◌+◌, ◌<◌, ◌≤◌, List, [], ◌∷◌, ◌++◌, length, take, drop, get_or, refl, sym, ap, subst, ◌∙◌, arith, add-one, append_assoc, append-nil, Result, Ok, Err, OnOk, OnErr}
+use Rattle.std.proofs.lemmas.List.{take_all}
 use Rattle.wg_outside.specs.Outside.{Files, appended, content}
 use Rattle.wg_outside.specs.Puts.{Puts}
 use Rattle.wg_lines.specs.Printing.{HasPrinted, HasPrintedLess, Prints}
@@ -53,6 +54,10 @@ module _ (a b c waited mid xs : List ℕ) (i : ℕ) (there : i < length xs) (h :
       let front : HasPrintedLess a c waited (bound_lines (take (i + 1) xs)) =
       subst (λ (t : List ℕ). HasPrintedLess a c waited t) (sym (lines_more xs i there)) (less_after a b c waited mid (bound_lines (take i xs)) (bound_line (get_or xs i 0)) h g) in
       subst (λ (t : List ℕ). HasPrintedLess a c waited t) (sym (lines_split xs (i + 1))) (less_before a c waited (bound_lines (take (i + 1) xs)) (bound_lines (drop (i + 1) xs)) front)
+
+-- the lines of all bounds are printed
+pub lines_printed : (a b waited waits xs : List ℕ) (i : ℕ) → length xs ≤ i → HasPrinted a b waited (bound_lines (take i xs)) waits → HasPrinted a b waited (bound_lines xs) waits
+lines_printed a b waited waits xs i le h = subst (λ (l : List ℕ). HasPrinted a b waited (bound_lines l) waits) (take_all i xs le) h
 
 -- ---- what went into a file
 

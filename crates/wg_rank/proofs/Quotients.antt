@@ -54,3 +54,10 @@ quotient_above x d some =
     let n : ℕ = div_ceil x d in
     let t : (x ≤ n * d) × (n * d < x + d) = div_ceil_times x d some in
     sym (quotient_near (x + (d - 1)) d n (omega (arith, t.1)) (omega (arith, t.0, t.1, some)))
+
+-- what the quotient leaves, and that it is small where the divisor is
+pub rest_is : (v d n : ℕ) → n ≡ v / d → v - n * d ≡ v % d
+rest_is v d n is = omega (arith, ap (λ k. k * d) is, div-add-mod' v d)
+
+pub rest_small : (v d n : ℕ) → 0 < d → d ≤ 2048 → n ≡ v / d → v - n * d < 2048
+rest_small v d n some few is = omega (arith, rest_is v d n is, mod_below v d some, few)

@@ -1,6 +1,6 @@
 -- What a round leaves, from what was gathered.
 use Rattle.std.specs.Int.{div_ceil}
-use Rattle.std.proofs.Common.{ℕ, ◌≡◌, ◌+◌, ◌-◌, ◌*◌, ◌/◌, ◌<◌, ◌≤◌, ◌==◌, List, All, length, get_or, cond, refl, ap, arith, ◌∙◌, subst, add-one, inl, inr}
+use Rattle.std.proofs.Common.{ℕ, ◌≡◌, ◌+◌, ◌-◌, ◌*◌, ◌/◌, ◌<◌, ◌≤◌, ◌==◌, List, All, length, get_or, cond, min, refl, ap, arith, ◌∙◌, subst, add-one, inl, inr}
 use Rattle.std.proofs.lemmas.Bool.{cases_lt}
 use Rattle.std.proofs.lemmas.List.Elements.{All-from_get_or}
 use Rattle.wg_params.specs.declared.limits.TheConstants.{MOST_PAGES}
@@ -120,6 +120,12 @@ module _ (g : Digraph) (a : ℕ) (w : ℕ → ℕ) where
       ≡ clipped g a w l h v
   clipped_from l h xs d n m low_is rest v i =
       least_same (h v) _ (upper g a w h v) _ (lower g a w l v) _ (gap g (lower g a w l)) (upper_from h d n m rest v) (low_is.each v i) (gap_from l xs low_is)
+
+  -- so does what was settled and then cut
+  pub clipped_at : (l h : ℕ → ℕ) (xs : List ℕ) (d n x s t v : ℕ) → n ≡ g.nodes → IsTable xs g.nodes (lower g a w l) → d ≡ sum_dangling g h → v < g.nodes
+      → x ≡ min s (get_or xs v 0 + (UNITS - t)) → t ≡ sum_below (length xs) (by_page xs) → s ≡ min (h v) (settled_highs a n d w (high_flow g h) v)
+      → x ≡ clipped g a w l h v
+  clipped_at l h xs d n x s t v m low_is rest i cut all settled = rw (cut, all, settled) (clipped_from l h xs d n m low_is rest v i)
 
 -- the new lower bounds add up to at most 1
 pub settled_total : (g : Digraph) (a k : ℕ) (ws : List ℕ) (l : ℕ → ℕ) (xs : List ℕ) → IsGraph g → a ≤ 1000 → AreWeights k (weights_or_ones k ws) → k ≡ g.nodes

@@ -1,13 +1,32 @@
-use Rattle.std.proofs.Common.{ℕ, ◌≡◌, ◌-◌, ◌+◌, min, arith, length, get_or, ap, ◌∙◌}
+use Rattle.std.proofs.Common.{ℕ, ◌≡◌, ◌-◌, ◌+◌, min, arith, length, get_or, ap, sym, ◌∙◌}
+use Rattle.wg_graph.specs.Digraph.{Digraph}
 use Rattle.wg_rank.specs.Intervals.{by_page}
-use Rattle.wg_rank.specs.Sum.{sum_below}
 use Rattle.wg_rank.specs.Weights.{weights_or_ones}
 use Rattle.wg_rank.specs.declared.limits.TheConstants.{UNITS}
-use Rattle.wg_rank.proofs.Rounds.{all_within_total, settled_table, settled_total, clipped_from, least_within}
+use Rattle.wg_rank.proofs.Rounds.{all_within_total, settled_table, settled_total, clipped_at, least_within}
 use Rattle.wg_rank.proofs.advancing.advance.Goals as goal
 
-pub share-dangling-requires-clause-low_units : goal.share-dangling-requires-clause-low_units
-share-dangling-requires-clause-low_units g c = all_within_total UNITS _ c.requires.low_total
+pub share-dangling-requires : goal.share-dangling-requires
+share-dangling-requires g c = record {
+  few = c.requires.few;
+  pages = c.requires.pages;
+  high_pages = c.requires.high_pages;
+  inflow_pages = c.requires.inflow_pages;
+  low_units = all_within_total UNITS c.args.low.now c.requires.low_total;
+  high_units = c.requires.high_units;
+}
+
+pub settle-requires : goal.settle-requires
+settle-requires g c = record {
+  pages = ap (λ (d : Digraph). d.nodes) c.share-dangling.ensures.graph ∙ c.requires.pages;
+  damped = c.requires.damped;
+  few = c.requires.few;
+  high_pages = c.requires.high_pages;
+  below_room = c.share-dangling.ensures.low_dangling_room;
+  above_room = c.share-dangling.ensures.high_dangling_room;
+  weights = c.requires.weights;
+  shared = (by_page c.args.low.now, by_page c.args.high.now, c.share-dangling.ensures.shared);
+}
 
 pub total-requires-clause-units : goal.total-requires-clause-units
 total-requires-clause-units g c = all_within_total UNITS c.settle.new.low
@@ -50,11 +69,9 @@ returns-clause-high g c =
     record {
       counted = omega arith;
       each = λ v i.
-          let e = rw c.total.ensures at (c.cut.ensures v (omega arith)) in
-          e
-          ∙ ap (λ x. min x (get_or c.settle.new.low v 0 + (UNITS - sum_below (length c.settle.new.low) (by_page c.settle.new.low)))) (new v (omega arith))
-          ∙ clipped_from graph c.args.damping (by_page (weights_or_ones n c.args.weights.now)) (by_page c.args.low.now) (by_page c.args.high.now) c.settle.new.low
-          c.share-dangling.result.1 n (omega arith) (returns-clause-low g c) c.share-dangling.ensures.high_dangling v i;
+          clipped_at graph c.args.damping (by_page (weights_or_ones n c.args.weights.now)) (by_page c.args.low.now) (by_page c.args.high.now) c.settle.new.low
+          c.share-dangling.result.1 n _ (get_or c.settle.new.high v 0) c.total.result v (sym c.requires.pages) (returns-clause-low g c) c.share-dangling.ensures.high_dangling i
+          (c.cut.ensures v (omega arith)) c.total.ensures (new v (omega arith));
     }
 
 pub returns-clause-low_total : goal.returns-clause-low_total

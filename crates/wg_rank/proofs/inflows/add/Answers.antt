@@ -28,3 +28,15 @@ bounds-inflows-at c = omega (arith, within c.args.inflows.now, c.requires.page)
 
 pub bounds-inflows-at-2 : goal.bounds-inflows-at-2
 bounds-inflows-at-2 c = omega (arith, within c.args.inflows.now, c.requires.page)
+
+pub overflow_mul-at : goal.overflow_mul-at
+overflow_mul-at c = omega (arith, within c.args.inflows.now, c.requires.page)
+
+pub overflow_add-inflows-2 : goal.overflow_add-inflows-2
+overflow_add-inflows-2 c = omega (arith, within c.args.inflows.now, c.requires.page)
+
+pub offset_bounds-inflows-at : goal.offset_bounds-inflows-at
+offset_bounds-inflows-at c = omega (arith, within c.args.inflows.now, c.requires.page)
+
+pub offset_bounds-inflows-at-2 : goal.offset_bounds-inflows-at-2
+offset_bounds-inflows-at-2 c = omega (arith, within c.args.inflows.now, c.requires.page)

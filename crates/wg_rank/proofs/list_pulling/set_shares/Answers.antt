@@ -1,33 +1,27 @@
 use Rattle.std.specs.Int.{div_ceil}
-use Rattle.std.proofs.Common.{ℕ, ◌≡◌, ◌≢◌, ◌/◌, ◌≤◌, [], get_or, refl, sym, arith, ◌∙◌}
+use Rattle.std.proofs.Common.{ℕ, ◌≡◌, ◌≢◌, ◌/◌, ◌≤◌, [], length, get_or, refl, sym, arith, ◌∙◌}
 use Rattle.std.proofs.Math.Nat.{div-le_self}
 use Rattle.wg_graph.specs.Digraph.{outdegree}
-use Rattle.wg_rank.specs.Intervals.{by_page}
 use Rattle.wg_rank.specs.Lanes.{in_lanes}
-use Rattle.wg_rank.specs.Pulling.{low_share, high_share, given}
+use Rattle.wg_rank.specs.Pulling.{given}
 use Rattle.wg_rank.specs.declared.limits.TheConstants.{UNITS}
 use Rattle.wg_rank.proofs.Settled.{list_more}
-use Rattle.wg_rank.proofs.Flow.{le_both, div_ceil_le, dangling_room, dangling_more, dangling_same}
+use Rattle.wg_rank.proofs.Flow.{le_both, div_ceil_le, dangling_more, dangling_same}
 use Rattle.wg_rank.proofs.LaneSums.{lanes_of_page}
-use Rattle.wg_rank.proofs.Runs.{given_le, given_none, given_some}
+use Rattle.wg_rank.proofs.Runs.{given_none, given_some}
+use Rattle.wg_rank.proofs.Shared.{all_pages, dangling_fits, dangling_all, low_unit, high_unit, shares_end}
 use Rattle.wg_rank.proofs.list_pulling.set_shares.Goals as goal
 use Rattle.wg_rank.proofs.list_pulling.set_shares.Goals.{then-degree-eq0, else-degree-eq0}
 
 pub overflow_add-low_dangling : goal.overflow_add-low_dangling
 overflow_add-low_dangling c =
-    omega (
-      arith,
-      dangling_room c.args.lists.now c.loop-u.u (λ u. get_or c.args.low.now u 0) c.loop-u.low_dangling (get_or c.args.low.now c.loop-u.u 0) (omega arith)
-          (λ w i. c.requires.low_units w 0 (omega arith)) (c.requires.low_units c.loop-u.u 0 (omega arith)) c.loop-u.invariant.low_rest,
-    )
+    omega (arith, dangling_fits c.args.lists.now (length c.args.low.now) c.loop-u.u c.args.low.now c.loop-u.low_dangling c.requires.few refl c.loop-u-test.true
+    c.requires.low_units c.loop-u.invariant.low_rest)
 
 pub overflow_add-high_dangling : goal.overflow_add-high_dangling
 overflow_add-high_dangling c =
-    omega (
-      arith,
-      dangling_room c.args.lists.now c.loop-u.u (λ u. get_or c.args.high.now u 0) c.loop-u.high_dangling (get_or c.args.high.now c.loop-u.u 0) (omega arith)
-          (λ w i. c.requires.high_units w 0 (omega arith)) (c.requires.high_units c.loop-u.u 0 (omega arith)) c.loop-u.invariant.high_rest,
-    )
+    omega (arith, dangling_fits c.args.lists.now (length c.args.low.now) c.loop-u.u c.args.high.now c.loop-u.high_dangling c.requires.few c.requires.high_pages c.loop-u-test.true
+    c.requires.high_units c.loop-u.invariant.high_rest)
 
 pub loop-u-init : goal.loop-u-init
 loop-u-init c = record {
@@ -71,10 +65,21 @@ loop-u-preserved c =
           }
     ]
 
-pub returns-clause-shares : goal.returns-clause-shares
-returns-clause-shares c = record {
-  pages = omega arith;
-  each = λ v w. c.loop-u.invariant.each v (omega arith);
-  low_small = λ w h. given_le c.args.lists.now (low_share c.args.lists.now (by_page c.args.low.now)) w UNITS (le_both _ _ UNITS (div-le_self _ _) (c.requires.low_units w 0 (omega arith)));
-  high_small = λ w h. given_le c.args.lists.now (high_share c.args.lists.now (by_page c.args.high.now)) w UNITS (le_both _ _ UNITS (div_ceil_le _ _) (c.requires.high_units w 0 (omega arith)));
+pub returns : goal.returns
+returns c =
+    let g = c.args.lists.now in
+    let n : ℕ = length c.args.low.now in
+    let r = c.requires in
+    let i = c.loop-u.invariant in
+    let all : c.loop-u.u ≡ g.nodes = all_pages c.loop-u.u n g.nodes r.pages c.loop-u.auto.u-end c.loop-u-test.false in
+    record {
+      shares = shares_end g n c.loop-u.u c.args.low.now c.args.high.now c.loop-u.shares r.pages all refl r.high_pages (c.loop-u.auto.shares ∙ r.share_pages) r.low_units r.high_units i.each;
+      low_dangling = dangling_all g c.loop-u.u c.args.low.now c.loop-u.low_dangling all i.low_rest;
+      high_dangling = dangling_all g c.loop-u.u c.args.high.now c.loop-u.high_dangling all i.high_rest;
+    }
+
+pub in_lanes-requires : goal.in_lanes-requires
+in_lanes-requires c = record {
+  below = low_unit (length c.args.low.now) c.loop-u.u _ c.quotient.result c.args.low.now refl c.loop-u-test.true c.requires.low_units c.quotient.ensures;
+  above = high_unit (length c.args.low.now) c.loop-u.u _ c.quotient_up.result c.args.high.now c.requires.high_pages c.loop-u-test.true c.requires.high_units c.quotient_up.ensures;
 }

@@ -11,6 +11,7 @@ use Rattle.wg_rank.specs.declared.limits.TheConstants.{UNITS}
 use Rattle.wg_rank.proofs.Settled.{list_more}
 use Rattle.wg_rank.proofs.Flow.{le_both, div_ceil_le, dangling_room, dangling_more, dangling_same}
 use Rattle.wg_rank.proofs.Runs.{given_le, sums_more_none, sums_more_some, summed_end}
+use Rattle.wg_rank.proofs.Shared.{low_unit, high_unit}
 use Rattle.wg_rank.proofs.pulling.share_out.Goals as goal
 use Rattle.wg_rank.proofs.pulling.share_out.Goals.{then-degree-eq0, else-degree-eq0}
 
@@ -79,3 +80,9 @@ returns-clause-summed c =
     summed_end c.args.runs.now.nodes (length c.args.low.now) c.loop-u.u _ _ c.loop-u.total c.loop-u.sums (omega arith) (omega arith) (omega arith) c.loop-u.invariant.total c.loop-u.invariant.each
     (λ w h. given_le c.args.runs.now (low_share c.args.runs.now (by_page c.args.low.now)) w UNITS (le_both _ _ UNITS (div-le_self _ _) (c.requires.low_units w 0 (omega arith))))
     (λ w h. given_le c.args.runs.now (high_share c.args.runs.now (by_page c.args.high.now)) w UNITS (le_both _ _ UNITS (div_ceil_le _ _) (c.requires.high_units w 0 (omega arith))))
+
+pub in_lanes-total-requires : goal.in_lanes-total-requires
+in_lanes-total-requires c = record {
+  below = low_unit (length c.args.low.now) c.loop-u.u _ c.quotient.result c.args.low.now refl c.loop-u-test.true c.requires.low_units c.quotient.ensures;
+  above = high_unit (length c.args.low.now) c.loop-u.u _ c.quotient_up.result c.args.high.now c.requires.high_pages c.loop-u-test.true c.requires.high_units c.quotient_up.ensures;
+}

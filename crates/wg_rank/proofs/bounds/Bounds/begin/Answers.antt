@@ -1,8 +1,10 @@
-use Rattle.std.proofs.Common.{arith, rules, ℕ, ◌≡◌, ◌≤◌, List, length, get_or, replicate, ap, ◌∙◌}
+use Rattle.std.proofs.Common.{arith, rules, ℕ, ◌≡◌, ◌≤◌, List, length, get_or, replicate, refl, ap, ◌∙◌}
 use Rattle.std.proofs.lemmas.List.{length-replicate, get_or-replicate}
 use Rattle.std.proofs.lemmas.List.Elements.{All-replicate}
+use Rattle.std.proofs.lemmas.Result.{err_from_is_err_and}
 use Rattle.wg_rank.specs.Sum.{sum_below}
 use Rattle.wg_rank.specs.Intervals.{IsTable}
+use Rattle.wg_rank.specs.Weights.{weights_or_ones}
 use Rattle.wg_rank.specs.declared.limits.TheConstants.{UNITS}
 use Rattle.wg_rank.proofs.Sums.{sum_same, sum_zero}
 use Rattle.wg_rank.proofs.bounds.Bounds.begin.Goals as goal
@@ -30,3 +32,34 @@ invariant_of-result c =
       low_total = omega (arith, sum_table c.args.n _ (table_replicate c.args.n 0 _ e1));
       high_units = rw e2 (All-replicate (λ x. x ≤ UNITS) c.args.n _ (omega arith));
     }
+
+pub returns : goal.returns
+returns c =
+    let e1 = c.in_ok-vec.ensures.items_if_clones_equal (λ y h. search rules) in
+    let e2 = c.in_ok-vec-2.ensures.items_if_clones_equal (λ y h. search rules) in
+    let pages : length c.in_ok-vec.field-0.items ≡ c.args.n = (table_replicate c.args.n 0 _ e1).counted in
+    record {
+      damping = refl;
+      weights = ap (λ (k : ℕ). weights_or_ones k c.args.weights) pages;
+      pages = pages;
+      rounds = refl;
+      holds = λ d is. record {
+        low_is = rw is (table_replicate c.args.n 0 _ e1);
+        high_is = rw is (table_replicate c.args.n UNITS _ e2);
+      };
+    }
+
+pub returns-in_err-vec : goal.returns-in_err-vec
+returns-in_err-vec c =
+    let e = err_from_is_err_and c.from_residual.result c.from_residual.ensures.1 in
+    rw (e.1) record { damping = tt; weights = tt; pages = tt; rounds = tt; holds = tt }
+
+pub returns-in_err-vec-2 : goal.returns-in_err-vec-2
+returns-in_err-vec-2 c =
+    let e = err_from_is_err_and c.from_residual-in_err-vec-2.result c.from_residual-in_err-vec-2.ensures.1 in
+    rw (e.1) record { damping = tt; weights = tt; pages = tt; rounds = tt; holds = tt }
+
+pub returns-in_err-vec-3 : goal.returns-in_err-vec-3
+returns-in_err-vec-3 c =
+    let e = err_from_is_err_and c.from_residual-in_err-vec-3.result c.from_residual-in_err-vec-3.ensures.1 in
+    rw (e.1) record { damping = tt; weights = tt; pages = tt; rounds = tt; holds = tt }

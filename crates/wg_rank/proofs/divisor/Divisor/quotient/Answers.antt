@@ -1,6 +1,6 @@
-use Rattle.std.proofs.Common.{◌≡◌, ◌+◌, ◌-◌, ◌*◌, ◌/◌, ◌%◌, ◌∙◌, ◌<◌, ◌≤◌, ℕ, ap, arith}
-use Rattle.std.proofs.lemmas.Nat.{div-add-mod', mod_below}
-use Rattle.wg_rank.proofs.Quotients.{cut_quotient}
+use Rattle.std.proofs.Common.{◌+◌, ◌-◌, ◌*◌, ◌/◌, ◌%◌, ◌∙◌, ◌≤◌, ℕ, ap, arith}
+use Rattle.std.proofs.lemmas.Nat.{div-add-mod'}
+use Rattle.wg_rank.proofs.Quotients.{cut_quotient, rest_is, rest_small}
 use Rattle.wg_rank.proofs.Weighing.{weighted_room}
 use Rattle.wg_rank.proofs.divisor.Divisor.quotient.Goals as goal
 
@@ -14,26 +14,20 @@ overflow_mul-rest c =
 
 pub overflow_add-rest : goal.overflow_add-rest
 overflow_add-rest c =
-    let d : ℕ = c.args.self.now.by in
-    let top : ℕ = c.args.value / 1099511627776 in
-    omega (arith, ap (λ n. n * d) c.exact-high.ensures, div-add-mod' top d, mod_below top d c.args.self.now.some, c.if-self.false)
+    omega (arith, rest_small (c.args.value / 1099511627776) c.args.self.now.by c.exact-high.result c.args.self.now.some c.if-self.false c.exact-high.ensures)
 
 pub overflow_mul-rest-2 : goal.overflow_mul-rest-2
 overflow_mul-rest-2 c =
-    let d : ℕ = c.args.self.now.by in
-    let top : ℕ = c.args.value / 1099511627776 in
-    omega (arith, ap (λ n. n * d) c.exact-high.ensures, div-add-mod' top d, mod_below top d c.args.self.now.some, c.if-self.false)
+    omega (arith, rest_small (c.args.value / 1099511627776) c.args.self.now.by c.exact-high.result c.args.self.now.some c.if-self.false c.exact-high.ensures)
 
 pub exact-low-requires : goal.exact-low-requires
 exact-low-requires c =
     let v : ℕ = c.args.value in
     let d : ℕ = c.args.self.now.by in
     let m : ℕ = 1099511627776 in
-    let top : ℕ = v / m in
-    let rest : top - c.exact-high.result * d ≡ top % d = omega (arith, ap (λ n. n * d) c.exact-high.ensures, div-add-mod' top d) in
-    let low : top % d < d = mod_below top d c.args.self.now.some in
-    let at : (top - c.exact-high.result * d) * m + v % m ≤ 2251799813685247 = omega (arith, rest, low, c.if-self.false) in
-    omega (arith, weighted_room ((top - c.exact-high.result * d) * m + v % m) d 2251799813685247 2048 at (omega (arith, c.if-self.false)))
+    let rest : ℕ = v / m - c.exact-high.result * d in
+    let at : rest * m + v % m ≤ 2251799813685247 = omega (arith, rest_small (v / m) d c.exact-high.result c.args.self.now.some c.if-self.false c.exact-high.ensures) in
+    omega (arith, weighted_room (rest * m + v % m) d 2251799813685247 2048 at (omega (arith, c.if-self.false)))
 
 pub returns : goal.returns
 returns c =
@@ -41,7 +35,7 @@ returns c =
     let d : ℕ = c.args.self.now.by in
     let m : ℕ = 1099511627776 in
     let top : ℕ = v / m in
-    let rest : top - c.exact-high.result * d ≡ top % d = omega (arith, ap (λ n. n * d) c.exact-high.ensures, div-add-mod' top d) in
+    let rest = rest_is top d c.exact-high.result c.exact-high.ensures in
     ap (λ n. n * m + c.exact-low.result) c.exact-high.ensures
     ∙ ap (λ n. top / d * m + n) (c.exact-low.ensures ∙ ap (λ r. (r * m + v % m) / d) rest)
     ∙ cut_quotient v d m c.args.self.now.some

@@ -1,54 +1,46 @@
-use Rattle.std.proofs.Common.{ℕ, rules, All, ◌≡◌, ◌≢◌, ◌+◌, ◌/◌, length, get_or, refl, arith, ap, sym, ◌∙◌}
-use Rattle.std.proofs.Math.Nat.{div-le_self}
+use Rattle.std.proofs.Common.{ℕ, ◌≡◌, ◌≢◌, ◌+◌, ◌/◌, ◌<◌, length, get_or, refl, ap, sym, subst, ◌∙◌, arith}
 use Rattle.wg_graph.specs.Digraph.{outdegree}
 use Rattle.std.specs.Int.{div_ceil}
 use Rattle.wg_rank.specs.Inflows.{low_flows}
-use Rattle.wg_rank.specs.declared.limits.TheConstants.{UNITS}
 use Rattle.wg_rank.proofs.SideBySide.{low_count, high_count, low_none, high_none}
-use Rattle.wg_rank.proofs.Flow.{le_both, gathered_none, gathered_room, dangling_room, gathered_within, dangling_within, gathered_more, gathered_same, dangling_more, dangling_same, div_ceil_le}
-use Rattle.wg_rank.proofs.Arcs.{list_below}
+use Rattle.wg_rank.proofs.Flow.{gathered_none, gathered_more, gathered_same, dangling_more, dangling_same}
+use Rattle.wg_rank.proofs.Arcs.{list_below, list_ascends}
+use Rattle.wg_rank.proofs.Shared.{all_pages, no_list, all_none, dangling_fits, dangling_all, dangling_small, low_sums_fit, high_sums_fit, flows_end, twice_pages}
 use Rattle.wg_rank.proofs.gathering.AnyGather.share.Goals as goal
 use Rattle.wg_rank.proofs.gathering.AnyGather.share.Goals.{in-Some+then-degree-eq0, in-Some+else-degree-eq0, in_default}
 
 pub overflow_add-low_dangling : goal.overflow_add-low_dangling
 overflow_add-low_dangling g c =
-    omega (
-      arith,
-      dangling_room (g.L.Lists.graph c.args.self.now) c.loop-u.u (λ u. get_or c.args.low.now u 0) c.loop-u.low_dangling (get_or c.args.low.now c.loop-u.u 0) (omega arith)
-          (λ w i. c.requires.low_units w 0 (omega arith)) (c.requires.low_units c.loop-u.u 0 (omega arith)) c.loop-u.invariant.low_rest,
-    )
+    omega (arith, dangling_fits (g.L.Lists.graph c.args.self.now) (length c.args.low.now) c.loop-u.u c.args.low.now c.loop-u.low_dangling c.requires.few refl c.loop-u-test.true
+    c.requires.low_units c.loop-u.invariant.low_rest)
 
 pub overflow_add-high_dangling : goal.overflow_add-high_dangling
 overflow_add-high_dangling g c =
-    omega (
-      arith,
-      dangling_room (g.L.Lists.graph c.args.self.now) c.loop-u.u (λ u. get_or c.args.high.now u 0) c.loop-u.high_dangling (get_or c.args.high.now c.loop-u.u 0) (omega arith)
-          (λ w i. c.requires.high_units w 0 (omega arith)) (c.requires.high_units c.loop-u.u 0 (omega arith)) c.loop-u.invariant.high_rest,
-    )
+    omega (arith, dangling_fits (g.L.Lists.graph c.args.self.now) (length c.args.low.now) c.loop-u.u c.args.high.now c.loop-u.high_dangling c.requires.few c.requires.high_pages c.loop-u-test.true
+    c.requires.high_units c.loop-u.invariant.high_rest)
 
 pub spread-requires-clause-low_room : goal.spread-requires-clause-low_room
 spread-requires-clause-low_room g c =
-    gathered_room _ (length c.args.low.now) c.loop-u.u (λ u. get_or c.args.low.now u 0 / outdegree (g.L.Lists.graph c.args.self.now) u) _ c.quotient-below.result (omega arith)
-    (low_count _ c.loop-u.inflows (omega arith))
-    (λ w i. le_both _ _ UNITS (div-le_self _ _) (c.requires.low_units w 0 (omega arith)))
-    (omega (arith, c.quotient-below.ensures, div-le_self (get_or c.args.low.now c.loop-u.u 0) c.get-outdegree.result.by, c.requires.low_units c.loop-u.u 0 (omega arith))) c.loop-u.invariant.low
+    low_sums_fit (g.L.Lists.graph c.args.self.now) (length c.args.low.now) c.loop-u.u c.get-outdegree.result.by c.quotient-below.result c.args.low.now c.loop-u.inflows c.requires.few refl
+    (twice_pages (length c.args.low.now) c.loop-u.inflows c.fill.new.self c.args.inflows.now c.loop-u.auto.inflows c.fill.ensures.len c.requires.inflow_pages) c.loop-u-test.true c.requires.low_units c.quotient-below.ensures c.loop-u.invariant.low
 
 pub spread-requires-clause-high_room : goal.spread-requires-clause-high_room
 spread-requires-clause-high_room g c =
-    gathered_room _ (length c.args.low.now) c.loop-u.u (λ u. div_ceil (get_or c.args.high.now u 0) (outdegree (g.L.Lists.graph c.args.self.now) u)) _ c.quotient_up-above.result (omega arith)
-    (high_count c.loop-u.inflows ∙ low_count _ c.loop-u.inflows (omega arith))
-    (λ w i. le_both _ _ UNITS (div_ceil_le _ _) (c.requires.high_units w 0 (omega arith)))
-    (omega (arith, c.quotient_up-above.ensures, div_ceil_le (get_or c.args.high.now c.loop-u.u 0) c.get-outdegree.result.by, c.requires.high_units c.loop-u.u 0 (omega arith))) c.loop-u.invariant.high
+    high_sums_fit (g.L.Lists.graph c.args.self.now) (length c.args.low.now) c.loop-u.u c.get-outdegree.result.by c.quotient_up-above.result c.args.high.now c.loop-u.inflows c.requires.few
+    c.requires.high_pages (twice_pages (length c.args.low.now) c.loop-u.inflows c.fill.new.self c.args.inflows.now c.loop-u.auto.inflows c.fill.ensures.len c.requires.inflow_pages) c.loop-u-test.true c.requires.high_units c.quotient_up-above.ensures c.loop-u.invariant.high
 
 pub loop-u-init : goal.loop-u-init
-loop-u-init g c = let zero : All (λ x. x ≡ 0) c.fill.new.self = search rules in record {
-  same = c.begin.ensures.graph;
-  place = c.begin.ensures.place;
-  low = gathered_none _ _ _ _ (low_none c.fill.new.self zero) (low_count _ c.fill.new.self (omega (arith, c.fill.ensures.len)));
-  high = gathered_none _ _ _ _ (high_none c.fill.new.self zero) (high_count c.fill.new.self ∙ low_count _ c.fill.new.self (omega (arith, c.fill.ensures.len)));
-  low_rest = record { total = refl };
-  high_rest = record { total = refl };
-}
+loop-u-init g c =
+    let zero = all_none _ c.fill.new.self (c.fill.ensures.after (λ y same. same)) in
+    let pages = low_count (length c.args.low.now) c.fill.new.self (c.fill.ensures.len ∙ c.requires.inflow_pages) in
+    record {
+      same = c.begin.ensures.graph;
+      place = c.begin.ensures.place;
+      low = gathered_none _ _ _ _ (low_none c.fill.new.self zero) pages;
+      high = gathered_none _ _ _ _ (high_none c.fill.new.self zero) (high_count c.fill.new.self ∙ pages);
+      low_rest = record { total = refl };
+      high_rest = record { total = refl };
+    }
 
 pub loop-u-preserved : goal.loop-u-preserved
 loop-u-preserved g c =
@@ -57,7 +49,7 @@ loop-u-preserved g c =
     let graph = g.L.Lists.graph c.args.self.now in
     let n : ℕ = length c.args.low.now in
     let u : ℕ = c.loop-u.u in
-    let pages : length (low_flows c.loop-u.inflows) ≡ n = low_count n c.loop-u.inflows (omega arith) in
+    let pages : length (low_flows c.loop-u.inflows) ≡ n = low_count n c.loop-u.inflows (twice_pages (length c.args.low.now) c.loop-u.inflows c.fill.new.self c.args.inflows.now c.loop-u.auto.inflows c.fill.ensures.len c.requires.inflow_pages) in
     let low : ℕ → ℕ = λ u. get_or c.args.low.now u 0 in
     let high : ℕ → ℕ = λ u. get_or c.args.high.now u 0 in
     let low_share : ℕ → ℕ = λ u. low u / outdegree graph u in
@@ -86,41 +78,44 @@ loop-u-preserved g c =
             same = rw w.self-is (p.0 ∙ i.same);
             place = rw w.self-is (p.1 ∙ ap (λ k. k + 1) i.place);
             low = rw w.inflows-is (gathered_more graph n u low_share _ _ pages i.low s1);
-            high = rw w.inflows-is (gathered_more graph n u high_share _ _ (high_count c.loop-u.inflows ∙ pages) i.high (λ v k. s2 v (omega (arith, high_count c.loop-u.inflows))));
+            high = rw w.inflows-is (gathered_more graph n u high_share _ _ (high_count c.loop-u.inflows ∙ pages) i.high (λ v k. s2 v (subst (λ (m : ℕ). v < m) (high_count c.loop-u.inflows) k)));
             low_rest = rw w.low_dangling-is (dangling_same graph u low _ e i.low_rest);
             high_rest = rw w.high_dangling-is (dangling_same graph u high _ e i.high_rest);
           }
-      | in_default w ↦ absurd (omega (arith, rw (i.same, i.place) at w.in_default.ensures.lent))
+      | in_default w ↦ absurd (no_list u n graph.nodes c.requires.pages c.loop-u-test.true (rw (i.same, i.place) at w.in_default.ensures.lent))
     ]
-
-pub returns-clause-shared : goal.returns-clause-shared
-returns-clause-shared g c =
-    let graph = g.L.Lists.graph c.args.self.now in
-    let e : c.loop-u.u ≡ graph.nodes = omega arith in
-    let pages : length (low_flows c.loop-u.inflows) ≡ graph.nodes = low_count _ c.loop-u.inflows (omega arith) in
-    rw c.loop-u.invariant.same (record {
-      low = record { counted = pages; each = λ v w. rw (← e) (c.loop-u.invariant.low.each v (omega arith)) };
-      high = record { counted = high_count c.loop-u.inflows ∙ pages; each = λ v w. rw (← e) (c.loop-u.invariant.high.each v (omega arith)) };
-      low_room = gathered_within graph (length c.args.low.now) c.loop-u.u (λ u. get_or c.args.low.now u 0 / outdegree graph u) _ (omega arith)
-          (low_count _ c.loop-u.inflows (omega arith))
-          (λ w i. le_both _ _ UNITS (div-le_self _ _) (c.requires.low_units w 0 (omega arith))) c.loop-u.invariant.low;
-      high_room = gathered_within graph (length c.args.low.now) c.loop-u.u (λ u. div_ceil (get_or c.args.high.now u 0) (outdegree graph u)) _ (omega arith)
-          (high_count c.loop-u.inflows ∙ low_count _ c.loop-u.inflows (omega arith))
-          (λ w i. le_both _ _ UNITS (div_ceil_le _ _) (c.requires.high_units w 0 (omega arith))) c.loop-u.invariant.high;
-    })
-
-pub returns-clause-low_dangling_room : goal.returns-clause-low_dangling_room
-returns-clause-low_dangling_room g c =
-    dangling_within (g.L.Lists.graph c.args.self.now) c.loop-u.u (λ u. get_or c.args.low.now u 0) _ (omega arith)
-    (λ w i. c.requires.low_units w 0 (omega arith)) c.loop-u.invariant.low_rest
-
-pub returns-clause-high_dangling_room : goal.returns-clause-high_dangling_room
-returns-clause-high_dangling_room g c =
-    dangling_within (g.L.Lists.graph c.args.self.now) c.loop-u.u (λ u. get_or c.args.high.now u 0) _ (omega arith)
-    (λ w i. c.requires.high_units w 0 (omega arith)) c.loop-u.invariant.high_rest
 
 pub spread-requires-clause-below : goal.spread-requires-clause-below
 spread-requires-clause-below g c =
     let l = rw (c.loop-u.invariant.same, c.loop-u.invariant.place) at c.in-Some.ensures.lent in
-    let below = list_below (g.L.Lists.graph c.args.self.now) c.nodes-pages.ensures.proper c.loop-u.u (omega arith) in
-    rw (low_count (length c.args.low.now) c.loop-u.inflows (omega arith), l.1, ← c.requires.pages) below
+    let graph = g.L.Lists.graph c.args.self.now in
+    let below = list_below graph c.nodes-pages.ensures.proper c.loop-u.u (subst (λ (m : ℕ). c.loop-u.u < m) (sym c.requires.pages) c.loop-u-test.true) in
+    let pages = low_count (length c.args.low.now) c.loop-u.inflows (twice_pages (length c.args.low.now) c.loop-u.inflows c.fill.new.self c.args.inflows.now c.loop-u.auto.inflows c.fill.ensures.len c.requires.inflow_pages) in
+    rw (pages, l.1, ← c.requires.pages) below
+
+pub returns : goal.returns
+returns g c =
+    let graph = g.L.Lists.graph c.args.self.now in
+    let n : ℕ = length c.args.low.now in
+    let r = c.requires in
+    let i = c.loop-u.invariant in
+    let all : c.loop-u.u ≡ graph.nodes = all_pages c.loop-u.u n graph.nodes r.pages c.loop-u.auto.u-end c.loop-u-test.false in
+    let low = dangling_all graph c.loop-u.u c.args.low.now c.loop-u.low_dangling all i.low_rest in
+    let high = dangling_all graph c.loop-u.u c.args.high.now c.loop-u.high_dangling all i.high_rest in
+    record {
+      graph = i.same;
+      proper = c.nodes-pages.ensures.proper;
+      shared = rw i.same
+          (flows_end graph n c.loop-u.u c.args.low.now c.args.high.now c.loop-u.inflows r.few r.pages all refl r.high_pages
+          (twice_pages (length c.args.low.now) c.loop-u.inflows c.fill.new.self c.args.inflows.now c.loop-u.auto.inflows c.fill.ensures.len c.requires.inflow_pages) r.low_units r.high_units i.low i.high);
+      low_dangling = low;
+      high_dangling = high;
+      low_dangling_room = dangling_small graph n c.args.low.now c.loop-u.low_dangling r.few r.pages refl r.low_units low;
+      high_dangling_room = dangling_small graph n c.args.high.now c.loop-u.high_dangling r.few r.pages r.high_pages r.high_units high;
+    }
+
+pub spread-requires-clause-ascending : goal.spread-requires-clause-ascending
+spread-requires-clause-ascending g c =
+    let l = rw (c.loop-u.invariant.same, c.loop-u.invariant.place) at c.in-Some.ensures.lent in
+    let graph = g.L.Lists.graph c.args.self.now in
+    rw l.1 (list_ascends graph c.nodes-pages.ensures.proper c.loop-u.u (subst (λ (m : ℕ). c.loop-u.u < m) (sym c.requires.pages) c.loop-u-test.true))

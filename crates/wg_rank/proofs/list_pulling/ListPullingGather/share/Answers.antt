@@ -1,22 +1,43 @@
-use Rattle.std.proofs.Common.{◌≡◌, length, get_or, arith, ap}
+use Rattle.std.proofs.Common.{ℕ, ◌≡◌, length, refl, ap, subst, ◌∙◌}
 use Rattle.std.proofs.lemmas.List.{with_items_is}
+use Rattle.wg_graph.specs.Digraph.{IsGraph}
+use Rattle.wg_rank.specs.Rank.{sum_dangling}
+use Rattle.wg_rank.specs.Intervals.{by_page}
 use Rattle.wg_rank.specs.Pulling.{Pulled}
-use Rattle.wg_rank.proofs.Flow.{dangling_within}
+use Rattle.wg_rank.proofs.Shared.{dangling_small}
 use Rattle.wg_rank.proofs.list_pulling.ListPullingGather.share.Goals as goal
 
-pub returns-clause-shared : goal.returns-clause-shared
-returns-clause-shared c =
-    let same = with_items_is c.self.inside.shares c.set_shares.new.shares (omega arith) in
-    rw same c.set_shares.ensures.shares
+pub returns : goal.returns
+returns c =
+    let g = c.self.inside.lists in
+    let n : ℕ = length c.args.low.now in
+    let r = c.requires in
+    let e = c.set_shares.ensures in
+    let pages : g.nodes ≡ n = ap (λ (p : Pulled). p.graph.nodes) c.self.view_is ∙ r.pages in
+    let same = with_items_is c.self.inside.shares c.set_shares.new.shares (c.set_shares.auto.shares ∙ c.deref_mut.ensures.len) in
+    record {
+      graph = ap (λ (p : Pulled). p.graph) c.self.view_is;
+      proper = subst (λ (p : Pulled). IsGraph p.graph) c.self.view_is c.nodes-pages.ensures.proper;
+      shared = rw same e.shares;
+      low_dangling = subst (λ (p : Pulled). c.set_shares.result.0 ≡ sum_dangling p.graph (by_page c.args.low.now)) c.self.view_is e.low_dangling;
+      high_dangling = subst (λ (p : Pulled). c.set_shares.result.1 ≡ sum_dangling p.graph (by_page c.args.high.now)) c.self.view_is e.high_dangling;
+      low_dangling_room = dangling_small g n c.args.low.now c.set_shares.result.0 r.few pages refl r.low_units e.low_dangling;
+      high_dangling_room = dangling_small g n c.args.high.now c.set_shares.result.1 r.few pages r.high_pages r.high_units e.high_dangling;
+    }
 
-pub returns-clause-low_dangling_room : goal.returns-clause-low_dangling_room
-returns-clause-low_dangling_room c =
-    let n : c.self.inside.lists.nodes ≡ length c.args.low.now = omega (arith, ap (λ (p : Pulled). p.graph.nodes) c.self.view_is) in
-    dangling_within c.self.inside.lists c.self.inside.lists.nodes (λ u. get_or c.args.low.now u 0) _ (omega arith)
-    (λ w i. c.requires.low_units w 0 (omega arith)) (record { total = c.set_shares.ensures.low_dangling })
+pub set_shares-requires : goal.set_shares-requires
+set_shares-requires c =
+    let pages : c.self.inside.lists.nodes ≡ length c.args.low.now = ap (λ (p : Pulled). p.graph.nodes) c.self.view_is ∙ c.requires.pages in
+    record {
+      few = c.requires.few;
+      pages = pages;
+      high_pages = c.requires.high_pages;
+      share_pages = ap length c.deref_mut.ensures.value ∙ c.self.invariant ∙ pages;
+      low_units = c.requires.low_units;
+      high_units = c.requires.high_units;
+    }
 
-pub returns-clause-high_dangling_room : goal.returns-clause-high_dangling_room
-returns-clause-high_dangling_room c =
-    let n : c.self.inside.lists.nodes ≡ length c.args.low.now = omega (arith, ap (λ (p : Pulled). p.graph.nodes) c.self.view_is) in
-    dangling_within c.self.inside.lists c.self.inside.lists.nodes (λ u. get_or c.args.high.now u 0) _ (omega arith)
-    (λ w i. c.requires.high_units w 0 (omega arith)) (record { total = c.set_shares.ensures.high_dangling })
+pub invariant_of-self : goal.invariant_of-self
+invariant_of-self c =
+    ap length (with_items_is c.self.inside.shares c.set_shares.new.shares (c.set_shares.auto.shares ∙ c.deref_mut.ensures.len))
+    ∙ c.set_shares.auto.shares ∙ ap length c.deref_mut.ensures.value ∙ c.self.invariant
