@@ -6,6 +6,7 @@ pub mod JobSteps
 pub mod JudgeLemmas
 pub mod LimitsLemmas
 pub mod LoadLemmas
+pub mod OutsideLemmas
 pub mod PairingLemmas
 pub mod PassLemmas
 pub mod ReadingsLaws

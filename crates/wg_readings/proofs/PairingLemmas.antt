@@ -1,7 +1,7 @@
 -- An offsets file that is read in pieces, in a judgement.
-use Rattle.std.proofs.Common.{◌≡◌, inl, inr, ℕ, ◌≤◌, Bool, true, List, [], length, refl, sym, ◌∙◌, ap, subst, Option, Some, None, Result, Ok, Err, arith}
+use Rattle.std.proofs.Common.{◌≡◌, inl, inr, ℕ, ◌+◌, ◌<◌, ◌≤◌, Bool, true, List, [], length, refl, sym, ◌∙◌, ap, subst, Option, Some, None, Result, Ok, Err, arith}
 use Rattle.std.specs.Bool.{IsTrue}
-use Rattle.std.specs.Result.{OnOk, IfErr}
+use Rattle.std.specs.Result.{OnOk, IfErr, MatchResult}
 use Rattle.std.proofs.lemmas.Result.{IfErr-weaker, MatchResult-weaker}
 use Rattle.std.specs.FinMap as map
 use Rattle.wg_outside.specs.declared.limits.TheConstants.{MOST_BYTES}
@@ -25,12 +25,12 @@ use Rattle.wg_offsets.specs.Words.{ReadsOffsets}
 use Rattle.wg_offsets.specs.declared.error.WordError.{WordError}
 use Rattle.wg_offsets.specs.declared.error.WordError.TheVariants as words
 use Rattle.wg_source.specs.Held.{Held, IsHeldOf}
-use Rattle.wg_source.specs.Stepping.{HasCause as HasReadCause}
+use Rattle.wg_source.specs.Stepping.{Steps as StepsOn, HasCause as HasReadCause}
 use Rattle.wg_outcomes.specs.Answers.{Answers, Steps}
 use Rattle.wg_outcomes.specs.Causes.{IncreasedAt}
 use Rattle.wg_outcomes.specs.Judged.{Judged, status_of, with_lengths, with_offsets, offsets_then}
 use Rattle.wg_outcomes.specs.Promised.{IsBadFile}
-use Rattle.wg_readings.specs.Pairing.{ComesWith, EndsPairing, HasCome, IsPairedWith, IsStopped, IsUnread, files_then, places_ending, status_at, word_ending}
+use Rattle.wg_readings.specs.Pairing.{ComesWith, EndsPairing, HasCome, IsAt, IsPaired, IsPairedWith, IsStopped, IsUnread, files_then, places_ending, status_at, word_ending}
 use Rattle.wg_readings.specs.Finding.{IsOpenOn}
 use Rattle.wg_outcomes.specs.declared.ending.Ending.{Ending}
 use Rattle.wg_readings.specs.declared.pairing.Pairing.{Pairing}
@@ -156,6 +156,86 @@ pub looked_read : (p : Parameters) (a b : Pairing) (bits : List Bool) → IsUnre
 looked_read p a b bits u same is =
     let at : b.held.at ≡ 0 = ap (λ (h : Held). h.at) is ∙ ap (λ (h : Held). h.at) u.held in
     subst (λ (w : WordsRead). AreRead bits w b.held.at []) (sym same) (subst (λ (n : ℕ). AreRead bits a.words n []) (sym at) (u.none bits))
+
+-- ---- a source that was made of a depot and what is held of a file
+pub steps_as : {D : Type 0} (told : Bool) (files : D → Files) (counts : D → List ℕ → Counts) (m n : List ℕ) (x a y b : D) (s h k : Held) → m ≡ n → x ≡ a → y ≡ b → s ≡ h → StepsOn told m (files x) (files y) (counts x) (counts y) s k
+    → StepsOn told n (files a) (files b) (counts a) (counts b) h k
+steps_as told files counts m n x a y b s h k named depot after held steps =
+    subst (λ (i : Held). StepsOn told n (files a) (files b) (counts a) (counts b) i k) held
+    (subst (λ z. StepsOn told n (files a) (files z) (counts a) (counts z) s k) after
+    (subst (λ z. StepsOn told n (files z) (files y) (counts z) (counts y) s k) depot
+    (subst (λ (l : List ℕ). StepsOn told l (files x) (files y) (counts x) (counts y) s k) named steps)))
+
+-- no error came up to the end of so many records
+pub goes_at : (told : Bool) (files : Files) (c0 c1 : List ℕ → Counts) (p : Parameters) (name : List ℕ) (n at : ℕ) (b : Pairing) → b.so_far ≡ Ok tt → IsAt told files p name n at b → HasCome told files c0 c1 p name n at b
+goes_at told files c0 c1 p name n at b going is = subst (λ (r : Result (Unit {0}) Ending). MatchResult r (λ done. IsAt told files p name n at b) (IsStopped told files c0 c1 p name)) (sym going) is
+
+pub was_at : (told : Bool) (files : Files) (c0 c1 : List ℕ → Counts) (p : Parameters) (name : List ℕ) (n at : ℕ) (b : Pairing) → b.so_far ≡ Ok tt → HasCome told files c0 c1 p name n at b → IsAt told files p name n at b
+was_at told files c0 c1 p name n at b going h = subst (λ (r : Result (Unit {0}) Ending). MatchResult r (λ done. IsAt told files p name n at b) (IsStopped told files c0 c1 p name)) going h
+
+pub came : (file : List ℕ) (b : Pairing) (here : List ℕ) → b.so_far ≡ Ok tt → ComesWith file b here → (there : List ℕ) × IsPairedWith file b here there
+came file b here going h = subst (λ (r : Result (Unit {0}) Ending). OnOk r ((l : List ℕ) × IsPairedWith file b here l)) going h
+
+on_ok : {A B : Type 0} (r : Result (Unit {0}) Ending) (Q : Ending → Type 0) → MatchResult r (λ done. B) Q → (B → A) → OnOk r A
+on_ok (Ok done) Q h f = f h
+on_ok (Err e) Q h f = tt
+
+-- what the next step asks, if no error came
+module _ (told : Bool) (files : Files) (c0 c1 : List ℕ → Counts) (p : Parameters) (name : List ℕ) (n at : ℕ) (b : Pairing) (h : HasCome told files c0 c1 p name n at b) where
+  pub come_paired : OnOk b.so_far (IsPaired p b)
+  come_paired = on_ok b.so_far _ h (λ k. k.0)
+
+  pub come_before : (m nodes : ℕ) → n < m → m ≡ nodes → OnOk b.so_far (b.lengths.page < nodes)
+  come_before m nodes lt is = on_ok b.so_far _ h (λ k. omega (arith, k.1, lt, is))
+
+  pub come_last : (m nodes : ℕ) → m ≤ n → n ≤ m → m ≡ nodes → OnOk b.so_far (b.lengths.page ≡ nodes)
+  come_last m nodes le ge is = on_ok b.so_far _ h (λ k. omega (arith, k.1, le, ge, is))
+
+  pub come_here : (next here : ℕ) → at ≤ next → here ≡ next → OnOk b.so_far (b.lengths.here ≤ here)
+  come_here next here le is = on_ok b.so_far _ h (λ k. omega (arith, k.2, le, is))
+
+pub page_before : (page n m nodes : ℕ) → page ≡ n → n < m → m ≡ nodes → page < nodes
+page_before page n m nodes at lt is = omega (arith, at, lt, is)
+
+pub page_last : (page n m nodes : ℕ) → page ≡ n → m ≤ n → n ≤ m → m ≡ nodes → page ≡ nodes
+page_last page n m nodes at le ge is = omega (arith, at, le, ge, is)
+
+-- after the first word
+pub first_paired : (p : Parameters) (a m b : Pairing) → IsUnread p a → m.words ≡ a.words → m.lengths ≡ a.lengths → m.held ≡ record a.held { looked = true } → b.lengths ≡ m.lengths → b.words.code ≡ m.words.code
+    → b.words.pages ≡ m.words.pages → b.words.count ≡ m.words.count + 1 → (m.words.count ≡ 0 → m.words.offset ≡ 0 → b.words.offset ≡ 0) → (m.held.looked ≡ true → b.held.looked ≡ true)
+    → IsPaired p b × (b.lengths.page ≡ 0) × (b.lengths.here ≡ 0)
+first_paired p a m b u words lengths held kept code pages count first looked =
+    let w = words ∙ u.words in
+    let page : b.lengths.page ≡ 0 = ap (λ (l : Compared). l.page) (kept ∙ lengths) ∙ u.page in
+    let zero = first (ap (λ (x : WordsRead). x.count) w) (ap (λ (x : WordsRead). x.offset) w) in
+    (
+      record {
+        code = code ∙ ap (λ (x : WordsRead). x.code) w;
+        pages = pages ∙ ap (λ (x : WordsRead). x.pages) w;
+        count = count ∙ ap (λ (x : WordsRead). x.count + 1) w ∙ ap (λ (k : ℕ). k + 1) (sym page);
+        there = ap (λ (l : Compared). l.there) (kept ∙ lengths) ∙ u.there ∙ sym zero;
+        looked = looked (ap (λ (h : Held). h.looked) held);
+      },
+      page,
+      ap (λ (l : Compared). l.here) (kept ∙ lengths) ∙ u.here,
+    )
+
+-- after one word more
+pub next_paired : (p : Parameters) (a b : Pairing) (l : Compared) (there : ℕ) → IsPaired p a → b.lengths ≡ a.lengths → b.words.code ≡ a.words.code → b.words.pages ≡ a.words.pages → b.words.count ≡ a.words.count + 1
+    → (a.held.looked ≡ true → b.held.looked ≡ true) → l.page ≡ b.lengths.page + 1 → l.there ≡ there → there ≡ b.words.offset → IsPaired p (record b { lengths = l }) × (l.page ≡ a.lengths.page + 1)
+next_paired p a b l there h kept code pages count looked page is value =
+    let more : l.page ≡ a.lengths.page + 1 = page ∙ ap (λ (k : Compared). k.page + 1) kept in
+    (record { code = code ∙ h.code; pages = pages ∙ h.pages; count = count ∙ ap (λ (k : ℕ). k + 1) (h.count ∙ sym more); there = is ∙ value; looked = looked h.looked }, more)
+
+-- after an error nothing more is read
+pub stays_stopped : (told : Bool) (files : Files) (c0 c1 : List ℕ → Counts) (p : Parameters) (name : List ℕ) (n at k here : ℕ) (b : Pairing) (e : Ending) → b.so_far ≡ Err e → HasCome told files c0 c1 p name n at b
+    → HasCome told files c0 c1 p name k here b
+stays_stopped told files c0 c1 p name n at k here b e stopped h =
+    subst (λ (r : Result (Unit {0}) Ending). MatchResult r (λ done. IsAt told files p name k here b) (IsStopped told files c0 c1 p name)) (sym stopped)
+    (subst (λ (r : Result (Unit {0}) Ending). MatchResult r (λ done. IsAt told files p name n at b) (IsStopped told files c0 c1 p name)) stopped h)
+
+pub none_come : (file : List ℕ) (b : Pairing) (places : List ℕ) (e : Ending) → b.so_far ≡ Err e → ComesWith file b places
+none_come file b places e stopped = subst (λ (r : Result (Unit {0}) Ending). OnOk r ((there : List ℕ) × IsPairedWith file b places there)) (sym stopped) tt
 
 -- a pairing that stopped before
 pub ends_stopped : (told : Bool) (files : Files) (c0 c1 : List ℕ → Counts) (p : Parameters) (name : List ℕ) (b : Pairing) (e : Ending) → IsStopped told files c0 c1 p name e

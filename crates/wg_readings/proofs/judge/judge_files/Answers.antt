@@ -9,7 +9,7 @@ use Rattle.wg_offsets.proofs.WordsLemmas.{last_more}
 use Rattle.wg_stream.proofs.PrefixLemmas.{places_more}
 use Rattle.wg_outcomes.specs.Names.{file_of, held_by}
 use Rattle.wg_readings.specs.Pairing.{ComesWith}
-use Rattle.wg_readings.proofs.PairingLemmas.{both_done, both_stop, come_at, come_until}
+use Rattle.wg_readings.proofs.PairingLemmas.{both_done, both_stop, come_at, come_before, come_here, come_last, come_paired, come_until, page_before, page_last}
 use Rattle.wg_readings.proofs.UnderWay.{all_read, begins, goes_further, judged_by, way_later}
 use Rattle.wg_readings.proofs.JudgeLemmas.{files_stop, files_unread}
 use Rattle.wg_readings.proofs.judge.judge_files.Goals as goal
@@ -125,3 +125,42 @@ returns g c =
       same = s.same ∙ r.advances.same ∙ h.way.same;
       later = none_falls-trans _ _ _ h.way.later (none_falls-trans _ _ _ r.advances.later s.later);
     }
+
+pub begin_pairing-requires : goal.begin_pairing-requires
+begin_pairing-requires g c = c.in_ok-pairing.ensures.unread
+
+pub next_record-requires-clause-open : goal.next_record-requires-clause-open
+next_record-requires-clause-open g c = c.loop-page.invariant.way.state
+
+pub next_record-requires-clause-params : goal.next_record-requires-clause-params
+next_record-requires-clause-params g c = c.loop-page.invariant.way.params
+
+pub next_record-requires-clause-more : goal.next_record-requires-clause-more
+next_record-requires-clause-more g c = page_before _ _ _ _ c.loop-page.invariant.way.page c.loop-page-test.true c.nodes-page-end.ensures.value
+
+pub pair_next-requires-clause-limits : goal.pair_next-requires-clause-limits
+pair_next-requires-clause-limits g c = c.nodes-page-end.ensures.limits
+
+pub pair_next-requires-clause-paired : goal.pair_next-requires-clause-paired
+pair_next-requires-clause-paired g c = come_paired _ _ _ _ _ _ _ _ c.loop-page.pairing c.loop-page.invariant.come
+
+pub pair_next-requires-clause-more : goal.pair_next-requires-clause-more
+pair_next-requires-clause-more g c = come_before _ _ _ _ _ _ _ _ c.loop-page.pairing c.loop-page.invariant.come _ _ c.loop-page-test.true c.nodes-page-end.ensures.value
+
+pub pair_next-requires-clause-here : goal.pair_next-requires-clause-here
+pair_next-requires-clause-here g c = come_here _ _ _ _ _ _ _ _ c.loop-page.pairing c.loop-page.invariant.come _ _ c.in_ok-next_record.ensures.advances.onward c.at.ensures.value
+
+pub end_records-requires-clause-open : goal.end_records-requires-clause-open
+end_records-requires-clause-open g c = c.loop-page.invariant.way.state
+
+pub end_records-requires-clause-params : goal.end_records-requires-clause-params
+end_records-requires-clause-params g c = c.loop-page.invariant.way.params
+
+pub end_records-requires-clause-done : goal.end_records-requires-clause-done
+end_records-requires-clause-done g c = page_last _ _ _ _ c.loop-page.invariant.way.page c.loop-page-test.false c.loop-page.auto._page-end c.nodes-page-end.ensures.value
+
+pub end_pairing-requires-clause-paired : goal.end_pairing-requires-clause-paired
+end_pairing-requires-clause-paired g c = come_paired _ _ _ _ _ _ _ _ c.loop-page.pairing c.loop-page.invariant.come
+
+pub end_pairing-requires-clause-done : goal.end_pairing-requires-clause-done
+end_pairing-requires-clause-done g c = come_last _ _ _ _ _ _ _ _ c.loop-page.pairing c.loop-page.invariant.come _ _ c.loop-page-test.false c.loop-page.auto._page-end c.nodes-page-end.ensures.value

@@ -10,7 +10,7 @@ use Rattle.wg_outcomes.specs.Answers.{Steps}
 use Rattle.wg_readings.specs.Loading.{lengths_then}
 use Rattle.wg_outcomes.specs.Names.{file_of}
 use Rattle.wg_readings.specs.Pairing.{ComesWith}
-use Rattle.wg_readings.proofs.PairingLemmas.{come_at}
+use Rattle.wg_readings.proofs.PairingLemmas.{come_at, come_before, come_last, come_paired}
 use Rattle.wg_readings.proofs.JudgeLemmas.{offsets_judged, offsets_unread}
 use Rattle.wg_readings.proofs.judge.judge_offsets.Goals as goal
 
@@ -82,3 +82,21 @@ returns g c =
     subst (λ (l : List ℕ). Steps {B = Unit {0}} (lengths_then r p l (map.get files name)) c.end_pairing.result) (take_all (page + 1) found all)
     (e.steps t c.nodes-page-end.ensures.limits (take (page + 1) found) (λ file is. h.reads t file is) r))
     (s.same ∙ h.same) (none_falls-trans _ _ _ h.later s.later)
+
+pub begin_pairing-requires : goal.begin_pairing-requires
+begin_pairing-requires g c = c.in_ok-pairing.ensures.unread
+
+pub pair_next-requires-clause-limits : goal.pair_next-requires-clause-limits
+pair_next-requires-clause-limits g c = c.nodes-page-end.ensures.limits
+
+pub pair_next-requires-clause-paired : goal.pair_next-requires-clause-paired
+pair_next-requires-clause-paired g c = come_paired _ _ _ _ _ _ _ _ c.loop-page.pairing c.loop-page.invariant.come
+
+pub pair_next-requires-clause-more : goal.pair_next-requires-clause-more
+pair_next-requires-clause-more g c = come_before _ _ _ _ _ _ _ _ c.loop-page.pairing c.loop-page.invariant.come _ _ c.loop-page-test.true c.nodes-page-end.ensures.value
+
+pub end_pairing-requires-clause-paired : goal.end_pairing-requires-clause-paired
+end_pairing-requires-clause-paired g c = come_paired _ _ _ _ _ _ _ _ c.loop-page.pairing c.loop-page.invariant.come
+
+pub end_pairing-requires-clause-done : goal.end_pairing-requires-clause-done
+end_pairing-requires-clause-done g c = come_last _ _ _ _ _ _ _ _ c.loop-page.pairing c.loop-page.invariant.come _ _ c.loop-page-test.false c.loop-page.auto.page-end c.nodes-page-end.ensures.value

@@ -1,7 +1,7 @@
 use Rattle.std.proofs.Common.{◌∙◌, ℕ, List, rules, refl, ap}
 use Rattle.std.specs.FinMap as map
 use Rattle.wg_bits.specs.Bits.{bits_of}
-use Rattle.wg_readings.proofs.PairingLemmas.{read_at, word_stopped}
+use Rattle.wg_readings.proofs.PairingLemmas.{read_at, steps_as, word_stopped}
 use Rattle.wg_readings.proofs.pairing.next_word.Goals as goal
 
 pub returns-in-Err-clause-stopped : goal.returns-in-Err-clause-stopped
@@ -28,3 +28,41 @@ returns-in-Ok-clause-reads g c = λ t file is i places r.
     let is' = ap (λ (n : List ℕ). map.get files n) c.as_str.ensures ∙ is in
     let x = c.in-Ok.ensures.reads (bits_of file) places (rw (d, h, n) (t, (file, is', i, refl))) (rw h r) in
     read_at (bits_of file) c.next.new.self c.next.new.source.held.now.at _ _ (search rules) x
+
+pub returns-in-Ok-clause-kept : goal.returns-in-Ok-clause-kept
+returns-in-Ok-clause-kept g c = (refl, refl, refl)
+
+pub returns-in-Ok-clause-words : goal.returns-in-Ok-clause-words
+returns-in-Ok-clause-words g c = (c.in-Ok.ensures.code, c.in-Ok.ensures.pages, c.in-Ok.ensures.onward)
+
+pub returns-in-Err-clause-kept : goal.returns-in-Err-clause-kept
+returns-in-Err-clause-kept g c = (refl, refl, refl)
+
+pub returns-in-Err-clause-words : goal.returns-in-Err-clause-words
+returns-in-Err-clause-words g c = (c.in-Err.ensures.code, c.in-Err.ensures.pages, c.in-Err.ensures.onward)
+
+pub returns-in-Ok-clause-value : goal.returns-in-Ok-clause-value
+returns-in-Ok-clause-value g c = (c.in-Ok.ensures.value, c.in-Ok.ensures.count)
+
+pub returns-in-Ok-clause-first : goal.returns-in-Ok-clause-first
+returns-in-Ok-clause-first g c = c.in-Ok.ensures.first
+
+pub returns-in-Ok-clause-stopped : goal.returns-in-Ok-clause-stopped
+returns-in-Ok-clause-stopped g c = λ looked found reads. tt
+
+pub returns-in-Err-clause-reads : goal.returns-in-Err-clause-reads
+returns-in-Err-clause-reads g c = λ t file is i places r. tt
+
+pub returns-in-Ok-clause-steps : goal.returns-in-Ok-clause-steps
+returns-in-Ok-clause-steps g c =
+    let d = c.new-source.ensures.depot in
+    let h = c.new-source.ensures.held in
+    steps_as _ g.D.Depot.files g.D.Depot.counts _ _ _ c.args.depot.now _ _ _ c.args.pairing.now.held _
+    (c.new-source.ensures.name ∙ c.as_str.ensures) (ap (λ b. b.now) d) (search rules) (ap (λ b. b.now) h) c.in-Ok.ensures.later.3
+
+pub returns-in-Err-clause-steps : goal.returns-in-Err-clause-steps
+returns-in-Err-clause-steps g c =
+    let d = c.new-source.ensures.depot in
+    let h = c.new-source.ensures.held in
+    steps_as _ g.D.Depot.files g.D.Depot.counts _ _ _ c.args.depot.now _ _ _ c.args.pairing.now.held _
+    (c.new-source.ensures.name ∙ c.as_str.ensures) (ap (λ b. b.now) d) (search rules) (ap (λ b. b.now) h) c.in-Err.ensures.later.3
