@@ -1,3 +1,4 @@
+pub mod LentLemmas
 pub mod SamplingLemmas
 pub mod ShowJobs
 pub mod ShownLemmas

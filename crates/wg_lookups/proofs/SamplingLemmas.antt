@@ -1,5 +1,5 @@
 -- Words of an offsets file that are read again.
-use Rattle.std.proofs.Common.{◌<◌, ◌≤◌, ◌/◌, ℕ, Bool, List, length, Result, Ok, Err, refl}
+use Rattle.std.proofs.Common.{◌≡◌, ◌<◌, ◌≤◌, ◌/◌, ℕ, Bool, List, length, Result, Ok, Err, arith, refl}
 use Rattle.std.specs.Bool.{IsTrue}
 use Rattle.std.specs.FinMap as map
 use Rattle.std.specs.Result.{IfErr}
@@ -28,3 +28,7 @@ word_caused told f1 f2 c1 c2 c3 s h (Err (words.Word w)) moves cause right = λ 
 -- a bit that is kept is one of the file that was sampled
 pub bit_fits : (s : Sampled) (bytes : List ℕ) (places : List ℕ) (page : ℕ) → page / SAMPLED < length s.places → IsSampleOf (bits_of bytes) s places → bit_before s page ≤ length (bits_of bytes)
 bit_fits s bytes places page lt h = let a = h.samples (page / SAMPLED) lt in prefix_fits s.code (bits_of bytes) _ _ _ a.0 a.1
+
+-- so no such file ends before it
+pub not_cut : (s : Sampled) (bytes places : List ℕ) (page bit : ℕ) → length (bits_of bytes) < bit → page / SAMPLED < length s.places → bit ≡ bit_before s page → IsSampleOf (bits_of bytes) s places → ⊥
+not_cut s bytes places page bit past lt is h = omega (arith, past, is, bit_fits s bytes places page lt h)

@@ -1,5 +1,5 @@
 -- The lines of pages with their successors, part by part.
-use Rattle.std.proofs.Common.{◌≡◌, ◌∙◌, inr, get_or, ℕ, List, [], ◌++◌, map, length, codes, decimal, Bool, Result, Ok, Err, arith, refl, sym, append-nil, length-append, subst}
+use Rattle.std.proofs.Common.{◌≡◌, ◌≤◌, ◌∙◌, inr, get_or, ℕ, List, [], ◌++◌, map, length, codes, decimal, Bool, Result, Ok, Err, arith, refl, sym, ap, append-nil, length-append, subst}
 use Rattle.wg_params.specs.Parameters.{Parameters}
 use Rattle.wg_grammar.specs.Archive.{Accepted, ReadsGraph}
 use Rattle.wg_random.specs.Held.{Held}
@@ -7,6 +7,9 @@ use Rattle.wg_outside.specs.Puts.{joined}
 use Rattle.wg_lines.specs.Printing.{HasPrinted, HasPrintedLess, Prints}
 use Rattle.wg_lines.proofs.PrintLemmas.{printed_more, less_after, less_before}
 use Rattle.std.specs.Bool.{IsTrue}
+use Rattle.std.specs.Result.{IsErrAnd}
+use Rattle.wg_outside.proofs.PutsLemmas.{is_that_err, rose_on}
+use Rattle.wg_outside.specs.Outside.{Increased}
 use Rattle.wg_outside.specs.declared.output.Output.TheVariants.{Out}
 use Rattle.wg_outside.specs.declared.sink.Sink as sink
 use Rattle.wg_outcomes.specs.Answers.{PrintRefusals}
@@ -20,6 +23,10 @@ pub prints_after : {E : Type 0} (a b c waited mid waits t u : List ℕ) (r : Res
 prints_after a b c waited mid waits t u (Ok done) h g = printed_more a b c waited mid waits t u h g
 prints_after a b c waited mid waits t u (Err e) h g = less_after a b c waited mid t u h g
 
+-- a text that was left out, at an early exit
+pub prints_exit : {E : Type 0} (r : Result (Unit {0}) E) (e : E) (t a b waited waits : List ℕ) → IsErrAnd r (λ x. x ≡ e) → HasPrintedLess a b waited t → Prints t a b waited waits r
+prints_exit r e t a b waited waits is less = subst (Prints t a b waited waits) (sym (is_that_err r e is)) less
+
 -- three texts, of which the first was not printed
 pub less_first : (a b waited t u v : List ℕ) → HasPrintedLess a b waited t → HasPrintedLess a b waited (t ++ u ++ v)
 less_first a b waited t u v h = less_before a b waited (t ++ u) v (less_before a b waited t u h)
@@ -32,6 +39,19 @@ less_second a b c waited mid t u v h g = less_before a c waited (t ++ u) v (less
 pub prints_third : {E : Type 0} (a b c d waited mid next waits t u v : List ℕ) (r : Result (Unit {0}) E) → HasPrinted a b waited t mid → HasPrinted b c mid u next → Prints v c d next waits r
     → Prints (t ++ u ++ v) a d waited waits r
 prints_third a b c d waited mid next waits t u v r h g k = prints_after a c d waited next waits (t ++ u) v r (printed_more a b c waited mid next t u h g) k
+
+-- the successors that are printed are all of them
+pub lines_printed : (a b waited waits given all : List ℕ) → given ≡ all → HasPrinted a b waited (joined (map spaced given)) waits → HasPrinted a b waited (joined (map spaced all)) waits
+lines_printed a b waited waits given all is h = subst (λ (l : List ℕ). HasPrinted a b waited (joined (map spaced l)) waits) is h
+
+-- no successor is left
+pub all_printed : (a b waited waits given coming all : List ℕ) → all ≡ given ++ coming → coming ≡ [] → HasPrinted a b waited (joined (map spaced given)) waits → HasPrinted a b waited (joined (map spaced all)) waits
+all_printed a b waited waits given coming all is none h =
+    lines_printed a b waited waits given all (sym (is ∙ ap (λ (l : List ℕ). given ++ l) none ∙ append-nil given)) h
+
+-- what rose when the rest was sent out has risen
+pub failed_after : (a b c : ℕ) → a ≤ b → Increased b c → Increased a c
+failed_after a b c le up = rose_on a b c c le up (omega arith)
 
 -- ---- a page that is not opened
 

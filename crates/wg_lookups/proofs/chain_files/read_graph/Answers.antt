@@ -1,19 +1,33 @@
-use Rattle.std.proofs.Common.{◌≡◌, ◌∙◌, ℕ, Bool, List, rules, ap, subst}
-use Rattle.std.specs.FinMap as map
-use Rattle.wg_params.specs.declared.code.Code.{Code}
-use Rattle.wg_codes.specs.declared.outcome.Read.{Read}
-use Rattle.wg_grammar.specs.Standing.{IsReadAt}
+use Rattle.std.proofs.Common.{◌∙◌, ap, sym, refl}
+use Rattle.wg_lookups.proofs.LentLemmas.{bits_lent, cause_lent, read_lent, steps_lent}
 use Rattle.wg_lookups.proofs.chain_files.read_graph.Goals as goal
 
-read_until : (code : Code) (bits : List Bool) (at : ℕ) (r : Read) (a b : ℕ) → a ≡ b → IsReadAt code bits at r a → IsReadAt code bits at r b
-read_until code bits at r a b same h = subst (λ (k : ℕ). IsReadAt code bits at r k) same h
+pub returns-in-Ok : goal.returns-in-Ok
+returns-in-Ok g c =
+    let l = c.in-Ok.ensures.later in
+    let a = c.new-source.ensures in
+    let lent = ap (λ d. d.now) a.depot in
+    let left = sym (l.0 ∙ ap (λ d. d.ghost_name) a.depot) in
+    let named = a.name ∙ c.as_str.ensures in
+    let held = ap (λ h. h.now) a.held in
+    record {
+      name = refl;
+      steps = steps_lent g.D.Depot.files g.D.Depot.counts _ _ _ _ _ _ (assumption) lent left _ _ named _ _ held g.D.Depot.told _ l.3;
+      cause = λ s. tt;
+      found = λ bits r. read_lent c.args.code bits _ _ c.in-Ok.read _ held (c.in-Ok.ensures.found bits (bits_lent g.D.Depot.files _ _ lent _ _ named _ _ held g.D.Depot.told bits r));
+    }
 
-pub returns-in-Ok-clause-found : goal.returns-in-Ok-clause-found
-returns-in-Ok-clause-found g c = λ bits r.
-    let d = c.new-source.ensures.depot in
-    let h = c.new-source.ensures.held in
-    let n = c.new-source.ensures.name in
-    let files = g.D.Depot.files c.args.depot.now in
-    let is = ap (λ (n : List ℕ). map.get files n) c.as_str.ensures ∙ r.1.1 in
-    let x = rw h at (c.in-Ok.ensures.found bits (rw (d, h, n) (r.0, (r.1.0, is, r.1.2, r.1.3)))) in
-    read_until c.args.code bits c.args.graph.now.held.at c.in-Ok.read c.read.new.self.held.now.at _ (search rules) x
+pub returns-in-Err : goal.returns-in-Err
+returns-in-Err g c =
+    let l = c.in-Err.ensures.later in
+    let a = c.new-source.ensures in
+    let lent = ap (λ d. d.now) a.depot in
+    let left = sym (l.0 ∙ ap (λ d. d.ghost_name) a.depot) in
+    let named = a.name ∙ c.as_str.ensures in
+    let held = ap (λ h. h.now) a.held in
+    record {
+      name = refl;
+      steps = steps_lent g.D.Depot.files g.D.Depot.counts _ _ _ _ _ _ (assumption) lent left _ _ named _ _ held g.D.Depot.told _ l.3;
+      cause = λ s. cause_lent g.D.Depot.files g.D.Depot.counts _ _ _ _ _ _ (assumption) lent left _ _ named _ _ held g.D.Depot.told c.in-Err.error c.in-Err.ensures.refused;
+      found = λ bits r. tt;
+    }

@@ -1,12 +1,33 @@
-use Rattle.std.proofs.Common.{◌∙◌, ℕ, List, ap}
-use Rattle.std.specs.FinMap as map
+use Rattle.std.proofs.Common.{◌∙◌, ap, sym, refl}
+use Rattle.wg_lookups.proofs.LentLemmas.{bits_lent, cause_lent, steps_lent, tail_lent}
 use Rattle.wg_lookups.proofs.chain_files.tail_of_graph.Goals as goal
 
-pub returns-in-Ok-clause-tail : goal.returns-in-Ok-clause-tail
-returns-in-Ok-clause-tail g c = λ bits r.
-    let d = c.new-source.ensures.depot in
-    let h = c.new-source.ensures.held in
-    let n = c.new-source.ensures.name in
-    let files = g.D.Depot.files c.args.depot.now in
-    let is = ap (λ (n : List ℕ). map.get files n) c.as_str.ensures ∙ r.1.1 in
-    rw h at (c.in-Ok.ensures.tail bits (rw (d, h, n) (r.0, (r.1.0, is, r.1.2, r.1.3))))
+pub returns-in-Ok : goal.returns-in-Ok
+returns-in-Ok g c =
+    let l = c.in-Ok.ensures.later in
+    let a = c.new-source.ensures in
+    let lent = ap (λ d. d.now) a.depot in
+    let left = sym (l.0 ∙ ap (λ d. d.ghost_name) a.depot) in
+    let named = a.name ∙ c.as_str.ensures in
+    let held = ap (λ h. h.now) a.held in
+    record {
+      name = refl;
+      steps = steps_lent g.D.Depot.files g.D.Depot.counts _ _ _ _ _ _ (assumption) lent left _ _ named _ _ held g.D.Depot.told _ l.3;
+      cause = λ s. tt;
+      tail = λ bits r. tail_lent bits _ _ c.in-Ok.fault held (c.in-Ok.ensures.tail bits (bits_lent g.D.Depot.files _ _ lent _ _ named _ _ held g.D.Depot.told bits r));
+    }
+
+pub returns-in-Err : goal.returns-in-Err
+returns-in-Err g c =
+    let l = c.in-Err.ensures.later in
+    let a = c.new-source.ensures in
+    let lent = ap (λ d. d.now) a.depot in
+    let left = sym (l.0 ∙ ap (λ d. d.ghost_name) a.depot) in
+    let named = a.name ∙ c.as_str.ensures in
+    let held = ap (λ h. h.now) a.held in
+    record {
+      name = refl;
+      steps = steps_lent g.D.Depot.files g.D.Depot.counts _ _ _ _ _ _ (assumption) lent left _ _ named _ _ held g.D.Depot.told _ l.3;
+      cause = λ s. cause_lent g.D.Depot.files g.D.Depot.counts _ _ _ _ _ _ (assumption) lent left _ _ named _ _ held g.D.Depot.told c.in-Err.error c.in-Err.ensures.refused;
+      tail = λ bits r. tt;
+    }

@@ -1,5 +1,7 @@
-use Rattle.std.proofs.Common.{rules, ◌≡◌, ◌∙◌, false, Err, Ok, Some, List, ℕ, Result, ap, refl}
+use Rattle.std.proofs.Common.{rules, ◌≡◌, ◌∙◌, false, true, Err, Ok, Some, Result, ap, refl}
 use Rattle.std.specs.FinMap as map
+use Rattle.std.proofs.lemmas.Result.{IfOk-from_err}
+use Rattle.wg_outside.proofs.FilesLemmas.{none_falls-refl}
 use Rattle.wg_outside.proofs.PutsLemmas.{is_that_err}
 use Rattle.wg_outside.specs.declared.whole.LoadError.{LoadError}
 use Rattle.wg_outside.specs.declared.whole.LoadError.TheVariants as load
@@ -16,26 +18,56 @@ failed e = Err e
 abbrev done : Result (Unit {0}) LoadError
 done = Ok tt
 
-pub returns-in_err-name-clause-ends : goal.returns-in_err-name-clause-ends
-returns-in_err-name-clause-ends g c =
-    rw (is_that_err c.from_residual.result _ c.from_residual.ensures.1) (loads_none _ _ _ _ _ _ refl)
+not_absent : done ≡ failed load.Absent → ⊥
+not_absent is = cc is
 
-pub returns-in-Ok-clause-found : goal.returns-in-Ok-clause-found
-returns-in-Ok-clause-found g c = λ t.
+not_looked : false ≡ true → ⊥
+not_looked is = cc is
+
+same_error : (e f : LoadError) → failed e ≡ failed f → e ≡ f
+same_error e f is = cc is
+
+pub returns-in_err-name : goal.returns-in_err-name
+returns-in_err-name g c = record {
+  same = refl;
+  later = none_falls-refl _;
+  name = IfOk-from_err c.from_residual.result _ c.from_residual.ensures.0;
+  start = IfOk-from_err c.from_residual.result _ c.from_residual.ensures.0;
+  found = λ t. IfOk-from_err c.from_residual.result _ c.from_residual.ensures.0;
+  ends = rw (is_that_err c.from_residual.result _ c.from_residual.ensures.1) (loads_none _ _ _ _ _ _ refl);
+}
+
+pub returns-in-Ok : goal.returns-in-Ok
+returns-in-Ok g c =
     let files = g.D.Depot.files c.args.depot.now in
     let fresh = c.new-held.ensures in
     let named = c.as_str.ensures in
-    let found = found_after (map.get files c.in_ok-name.name) false
-    (λ none unlooked.
-    let a : done ≡ failed load.Absent = c.in-Ok.ensures.absent t (ap (λ (n : List ℕ). map.get files n) named ∙ none) (ap (λ (h : Held). h.looked) fresh) in
-    absurd cc)
-    (λ looked. absurd (cc looked)) in
-    found_open files c.in_ok-name.name g.D.Depot.told _ _ _ c.new-held.result c.look.new.self found t fresh (ap (λ (h : Held). h.looked) c.in-Ok.ensures.ok) (rw named at c.in-Ok.ensures.steps)
+    let r = c.in-Ok.ensures in
+    record {
+      same = r.steps.same;
+      later = r.steps.later;
+      name = search rules;
+      start = ap (λ (h : Held). h.at) r.ok ∙ ap (λ (h : Held). h.at) fresh;
+      found = λ t.
+          let found = found_after (map.get files c.in_ok-name.name) false
+          (λ none unlooked. absurd (not_absent (r.absent t (ap (map.get files) named ∙ none) (ap (λ (h : Held). h.looked) fresh))))
+          (λ looked. absurd (not_looked looked)) in
+          found_open files c.in_ok-name.name g.D.Depot.told _ _ _ c.new-held.result c.look.new.self found t fresh (ap (λ (h : Held). h.looked) r.ok) (rw named at r.steps);
+      ends = tt;
+    }
 
-pub returns-in-Err-clause-ends : goal.returns-in-Err-clause-ends
-returns-in-Err-clause-ends g c =
+pub returns-in-Err : goal.returns-in-Err
+returns-in-Err g c =
     let fresh = c.new-held.ensures in
     let e = c.in-Err.ensures in
     let named : file_of c.args.base.now c.args.input ≡ Some c.as_str.result.now = search rules in
-    not_found c.args.input (file_of c.args.base.now) c.as_str.result.now g.D.Depot.told _ _ _ _ c.new-held.result c.look.new.self c.in-Err.error _ named c.unread.ensures.status fresh e.steps e.cause
-    (λ t none. let a : failed c.in-Err.error ≡ failed load.Absent = e.absent t none (ap (λ (h : Held). h.looked) fresh) in cc)
+    record {
+      same = e.steps.same;
+      later = e.steps.later;
+      name = tt;
+      start = tt;
+      found = λ t. tt;
+      ends =
+          not_found c.args.input (file_of c.args.base.now) c.as_str.result.now g.D.Depot.told _ _ _ _ c.new-held.result c.look.new.self c.in-Err.error _ named c.unread.ensures.status fresh e.steps e.cause
+          (λ t none. same_error _ _ (e.absent t none (ap (λ (h : Held). h.looked) fresh)));
+    }

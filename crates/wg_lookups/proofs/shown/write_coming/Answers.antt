@@ -1,7 +1,8 @@
-use Rattle.std.proofs.Common.{◌∙◌, ◌++◌, ◌∷◌, [], ℕ, List, ap, sym, append_assoc}
-use Rattle.wg_outside.proofs.PutsLemmas.{is_that_err}
+use Rattle.std.proofs.Common.{◌∙◌, ◌++◌, ◌∷◌, [], ℕ, List, Err, ap, sym, append_assoc}
+use Rattle.wg_outside.proofs.RefusalLemmas.{sink_after, sink_done, sink_exit}
 use Rattle.wg_outcomes.specs.Commands.{spaced}
 use Rattle.wg_lines.proofs.NumberLines.{next_printed, next_less}
+use Rattle.wg_lookups.proofs.ShownLemmas.{all_printed, prints_exit}
 use Rattle.wg_lookups.proofs.shown.write_coming.Goals as goal
 
 pub successors-preserved : goal.successors-preserved
@@ -16,10 +17,27 @@ successors-preserved g c =
       later = g.met.S.Sink.goes_on _ _ _ i.later c.in_ok-write_spaced.ensures.later;
     }
 
-pub returns-in_err-write_spaced-clause-prints : goal.returns-in_err-write_spaced-clause-prints
-returns-in_err-write_spaced-clause-prints g c t =
-    let taken = g.S.Sink.taken in
+pub returns-in_err-write_spaced : goal.returns-in_err-write_spaced
+returns-in_err-write_spaced g c =
     let i = c.successors.invariant in
-    rw (is_that_err c.from_residual.result _ c.from_residual.ensures.1)
-    (next_less spaced (taken c.args.sink.now) (taken c.successors.sink) (taken c.write_spaced.new.sink) c.args.lines.now c.successors.lines i.given c.next.new.self.list c.args.successors.now.list c.in-Some.successor
-    (i.list ∙ ap (λ (l : List ℕ). i.given ++ l) c.in-Some.ensures.gives) (i.printed t) (c.in_err-write_spaced.ensures.prints t))
+    let e = c.in_err-write_spaced.ensures in
+    record {
+      prints = λ t.
+          prints_exit c.from_residual.result c.in_err-write_spaced.field-0.0 _ _ _ _ _ c.from_residual.ensures.1
+          (next_less spaced _ _ _ _ _ i.given c.next.new.self.list c.args.successors.now.list c.in-Some.successor
+          (i.list ∙ ap (λ (l : List ℕ). i.given ++ l) c.in-Some.ensures.gives) (i.printed t) (e.prints t));
+      later = g.met.S.Sink.goes_on _ _ _ i.later e.later;
+      refusals =
+          sink_exit g.S.Sink c.args.sink.now c.write_spaced.new.sink c.from_residual.result c.in_err-write_spaced.field-0.0 c.from_residual.ensures.1
+          (sink_after g.S.Sink c.args.sink.now c.successors.sink c.write_spaced.new.sink (Err c.in_err-write_spaced.field-0.0)
+          (g.met.S.Sink.onward c.args.sink.now c.successors.sink i.later) e.refusals);
+    }
+
+pub returns : goal.returns
+returns g c =
+    let i = c.successors.invariant in
+    record {
+      prints = λ t. all_printed _ _ _ _ i.given _ c.args.successors.now.list i.list c.in_default.ensures.gives.0 (i.printed t);
+      later = i.later;
+      refusals = sink_done _ _ _ tt (g.met.S.Sink.onward _ _ i.later);
+    }

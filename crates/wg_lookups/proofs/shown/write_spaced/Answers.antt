@@ -1,15 +1,24 @@
 use Rattle.std.proofs.Common.{◌∷◌, [], decimal}
-use Rattle.wg_outside.proofs.PutsLemmas.{is_that_err}
+use Rattle.wg_outside.proofs.RefusalLemmas.{sink_after, sink_exit}
 use Rattle.wg_lines.proofs.PrintLemmas.{less_before}
-use Rattle.wg_lookups.proofs.ShownLemmas.{prints_after}
+use Rattle.wg_lookups.proofs.ShownLemmas.{prints_after, prints_exit}
 use Rattle.wg_lookups.proofs.shown.write_spaced.Goals as goal
 
-pub returns-in_err-byte-clause-prints : goal.returns-in_err-byte-clause-prints
-returns-in_err-byte-clause-prints g c t =
-    rw (is_that_err c.from_residual.result _ c.from_residual.ensures.1)
-    (less_before (g.S.Sink.taken c.args.sink.now) (g.S.Sink.taken c.byte.new.sink) c.args.lines.now (32 ∷ []) (decimal c.args.number) (c.in_err-byte.ensures.prints t))
+pub returns-in_err-byte : goal.returns-in_err-byte
+returns-in_err-byte g c =
+    let e = c.in_err-byte.ensures in
+    record {
+      prints = λ t. prints_exit _ _ _ _ _ _ _ c.from_residual.ensures.1 (less_before _ _ _ (32 ∷ []) (decimal c.args.number) (e.prints t));
+      later = e.later;
+      refusals = sink_exit _ _ _ _ _ c.from_residual.ensures.1 e.refusals;
+    }
 
-pub returns-clause-prints : goal.returns-clause-prints
-returns-clause-prints g c t =
-    prints_after (g.S.Sink.taken c.args.sink.now) (g.S.Sink.taken c.byte.new.sink) (g.S.Sink.taken c.number.new.sink) c.args.lines.now c.byte.new.self c.number.new.self (32 ∷ []) (decimal c.args.number) c.number.result
-    (c.in_ok-byte.ensures.prints t) (c.number.ensures.prints t)
+pub returns : goal.returns
+returns g c =
+    let b = c.in_ok-byte.ensures in
+    let e = c.number.ensures in
+    record {
+      prints = λ t. prints_after _ _ _ _ _ _ (32 ∷ []) (decimal c.args.number) c.number.result (b.prints t) (e.prints t);
+      later = g.met.S.Sink.goes_on _ _ _ b.later e.later;
+      refusals = sink_after _ _ _ _ _ b.refusals.counts e.refusals;
+    }

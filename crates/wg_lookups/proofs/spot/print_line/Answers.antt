@@ -1,23 +1,38 @@
 use Rattle.std.proofs.Common.{List, ℕ, subst}
 use Rattle.wg_lines.specs.Printing.{HasPrinted, HasPrintedLess}
+use Rattle.wg_lines.proofs.PrintLemmas.{puts_in_the_end, puts_of_less}
 use Rattle.wg_outside.proofs.PutsLemmas.{is_that_err}
-use Rattle.wg_lines.proofs.PrintLemmas.{puts_of_less, puts_in_the_end}
 use Rattle.wg_outcomes.specs.Commands.{successors_line}
 use Rattle.wg_outcomes.specs.declared.ending.Ending.{Ending}
+use Rattle.wg_lookups.proofs.ShownLemmas.{failed_after}
 use Rattle.wg_lookups.proofs.spot.print_line.Goals as goal
 
-pub returns-in_err-print_list-clause-puts : goal.returns-in_err-print_list-clause-puts
-returns-in_err-print_list-clause-puts g c t =
+pub returns-in_err-print_list : goal.returns-in_err-print_list
+returns-in_err-print_list g c =
     let taken = g.O.Sink.taken in
     let line : List ℕ = successors_line c.args.page c.args.list.now in
-    rw (is_that_err c.from_residual.result _ c.from_residual.ensures.1)
-    (puts_of_less {E = Ending} (taken c.args.out.now) (taken c.print_list.new.out) line c.in_err-print_list.field-0.0
-    (subst (λ (l : List ℕ). HasPrintedLess (taken c.args.out.now) (taken c.print_list.new.out) l line) c.new-lines.ensures (c.in_err-print_list.ensures.prints t)))
+    let e = c.in_err-print_list.ensures in
+    rw (is_that_err c.from_residual.result _ c.from_residual.ensures.1) record {
+      puts = λ t.
+          puts_of_less {E = Ending} (taken c.args.out.now) (taken c.print_list.new.out) line c.in_err-print_list.field-0.0
+          (subst (λ (l : List ℕ). HasPrintedLess (taken c.args.out.now) (taken c.print_list.new.out) l line)
+          c.new-lines.ensures (e.prints t));
+      only = e.refusals.only;
+      failed = e.refusals.failed;
+    }
 
-pub returns-clause-puts : goal.returns-clause-puts
-returns-clause-puts g c t =
+pub returns : goal.returns
+returns g c =
     let taken = g.O.Sink.taken in
     let line : List ℕ = successors_line c.args.page c.args.list.now in
-    puts_in_the_end (taken c.args.out.now) (taken c.print_list.new.out) (taken c.print_rest.new.out) line c.print_list.new.lines c.print_rest.result
-    (subst (λ (l : List ℕ). HasPrinted (taken c.args.out.now) (taken c.print_list.new.out) l line c.print_list.new.lines) c.new-lines.ensures (c.in_ok-print_list.ensures.prints t))
-    (c.print_rest.ensures.puts t)
+    let l = c.in_ok-print_list.ensures in
+    let e = c.print_rest.ensures in
+    record {
+      puts = λ t.
+          puts_in_the_end (taken c.args.out.now) (taken c.print_list.new.out) (taken c.print_rest.new.out) line c.print_list.new.lines c.print_rest.result
+          (subst (λ (l : List ℕ). HasPrinted (taken c.args.out.now) (taken c.print_list.new.out) l line c.print_list.new.lines)
+          c.new-lines.ensures (l.prints t))
+          (e.puts t);
+      only = e.refusals.only;
+      failed = λ fault. failed_after _ _ _ (g.met.O.Sink.onward _ _ l.later).0 (e.refusals.failed fault);
+    }
