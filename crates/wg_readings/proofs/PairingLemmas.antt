@@ -207,8 +207,7 @@ pub first_paired : (p : Parameters) (a m b : Pairing) → IsUnread p a → m.wor
 first_paired p a m b u words lengths held kept code pages count first looked =
     let w = words ∙ u.words in
     let page : b.lengths.page ≡ 0 = ap (λ (l : Compared). l.page) (kept ∙ lengths) ∙ u.page in
-    let zero = first (ap (λ (x : WordsRead). x.count) w) (ap (λ (x : WordsRead). x.offset) w) in
-    (
+    let zero = first (ap (λ (x : WordsRead). x.count) w) (ap (λ (x : WordsRead). x.offset) w) in (
       record {
         code = code ∙ ap (λ (x : WordsRead). x.code) w;
         pages = pages ∙ ap (λ (x : WordsRead). x.pages) w;

@@ -87,9 +87,9 @@ module _ {lists : ℕ → List ℕ} {r now : Ranging} {seen : List ℕ} (is : r 
     next_enough room total sums enough =
         subst (λ (s : Ranging). r.to + p < length s.ends → room ≤ numbers_between lists s.to (r.to + p)) is
         (λ lt.
-            let k : r.to + p - r.to ≡ p = omega arith in
-            let full = enough (omega (arith, lt, ap length behind_is, length-drop r.to r.ends)) in
-            omega (arith, full, sums, numbers_are p (omega arith), ap (start (onward r.to lists)) k))
+        let k : r.to + p - r.to ≡ p = omega arith in
+        let full = enough (omega (arith, lt, ap length behind_is, length-drop r.to r.ends)) in
+        omega (arith, full, sums, numbers_are p (omega arith), ap (start (onward r.to lists)) k))
 
     pub next_least : (room : ℕ) → ((k : ℕ) → 0 < k → k < p → sum (take k behind) < room)
         → (list : ℕ) → now.to < list → list < r.to + p → numbers_between lists now.to list < room

@@ -121,8 +121,8 @@ module _ (counts : List ℕ) (room page arcs : ℕ) where
       least_next few k some le =
           elim (cases_lt page k) [
             | inl last ↦
-              let e : page + 1 ≡ k = omega (arith, last, le) in
-              subst (λ (j : ℕ). sum (take j counts) < room) e (omega (arith, few, sum_next))
+                let e : page + 1 ≡ k = omega (arith, last, le) in
+                subst (λ (j : ℕ). sum (take j counts) < room) e (omega (arith, few, sum_next))
             | inr before ↦ least k some before
           ]
 
@@ -152,9 +152,9 @@ module _ (counts items : List ℕ) (at begin : ℕ) (long : length items ≡ len
         elim (cases_lt v at) [
           | inl before ↦ get_or-set_other items at v begin 0 (λ e. omega (arith, e, before)) ∙ done v before
           | inr behind ↦
-            let e : at ≡ v = omega (arith, low, behind) in
-            subst (λ (j : ℕ). get_or (set items at begin) j 0 ≡ sum (take j counts)) e
-            (get_or-set_same items at begin 0 (at_item lt) ∙ total)
+              let e : at ≡ v = omega (arith, low, behind) in
+              subst (λ (j : ℕ). get_or (set items at begin) j 0 ≡ sum (take j counts)) e
+              (get_or-set_same items at begin 0 (at_item lt) ∙ total)
         ]
 
     pub left_next : (v : ℕ) → at + 1 ≤ v → get_or (set items at begin) v 0 ≡ get_or counts v 0

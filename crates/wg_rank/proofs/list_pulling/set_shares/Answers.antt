@@ -15,13 +15,19 @@ use Rattle.wg_rank.proofs.list_pulling.set_shares.Goals.{then-degree-eq0, else-d
 
 pub overflow_add-low_dangling : goal.overflow_add-low_dangling
 overflow_add-low_dangling c =
-    omega (arith, dangling_fits c.args.lists.now (length c.args.low.now) c.loop-u.u c.args.low.now c.loop-u.low_dangling c.requires.few refl c.loop-u-test.true
-    c.requires.low_units c.loop-u.invariant.low_rest)
+    omega (
+      arith,
+      dangling_fits c.args.lists.now (length c.args.low.now) c.loop-u.u c.args.low.now c.loop-u.low_dangling c.requires.few refl c.loop-u-test.true
+          c.requires.low_units c.loop-u.invariant.low_rest,
+    )
 
 pub overflow_add-high_dangling : goal.overflow_add-high_dangling
 overflow_add-high_dangling c =
-    omega (arith, dangling_fits c.args.lists.now (length c.args.low.now) c.loop-u.u c.args.high.now c.loop-u.high_dangling c.requires.few c.requires.high_pages c.loop-u-test.true
-    c.requires.high_units c.loop-u.invariant.high_rest)
+    omega (
+      arith,
+      dangling_fits c.args.lists.now (length c.args.low.now) c.loop-u.u c.args.high.now c.loop-u.high_dangling c.requires.few c.requires.high_pages c.loop-u-test.true
+          c.requires.high_units c.loop-u.invariant.high_rest,
+    )
 
 pub loop-u-init : goal.loop-u-init
 loop-u-init c = record {

@@ -38,17 +38,17 @@ returns g c =
     let graph = g.G.Gather.graph c.args.source.now in
     let view = c.self.view_is in
     let low = subst (λ (b : Intervals). IsTable (with_items c.self.inside.low c.advance.new.low).items graph.nodes (next_low graph b)) view
-        (lower_table graph c.self.inside.damping _ c.advance.new.low c.self.inside.low.items c.deref_mut.result.now c.self.inside.weights c.as_slice.result.now
-        (with_items_is c.self.inside.low c.advance.new.low (c.advance.auto.low ∙ c.deref_mut.ensures.len))
-        c.deref_mut.ensures.value c.as_slice.ensures c.advance.ensures.low) in
+    (lower_table graph c.self.inside.damping _ c.advance.new.low c.self.inside.low.items c.deref_mut.result.now c.self.inside.weights c.as_slice.result.now
+    (with_items_is c.self.inside.low c.advance.new.low (c.advance.auto.low ∙ c.deref_mut.ensures.len))
+    c.deref_mut.ensures.value c.as_slice.ensures c.advance.ensures.low) in
     let high = subst (λ (b : Intervals). IsTable (with_items c.self.inside.high c.advance.new.high).items graph.nodes (next_high graph b)) view
-        (clipped_table graph c.self.inside.damping _ c.advance.new.high c.self.inside.low.items c.deref_mut.result.now c.self.inside.high.items c.deref_mut-2.result.now
-        c.self.inside.weights c.as_slice.result.now
-        (with_items_is c.self.inside.high c.advance.new.high (c.advance.auto.high ∙ c.deref_mut-2.ensures.len))
-        c.deref_mut.ensures.value c.deref_mut-2.ensures.value c.as_slice.ensures c.advance.ensures.high) in
+    (clipped_table graph c.self.inside.damping _ c.advance.new.high c.self.inside.low.items c.deref_mut.result.now c.self.inside.high.items c.deref_mut-2.result.now
+    c.self.inside.weights c.as_slice.result.now
+    (with_items_is c.self.inside.high c.advance.new.high (c.advance.auto.high ∙ c.deref_mut-2.ensures.len))
+    c.deref_mut.ensures.value c.deref_mut-2.ensures.value c.as_slice.ensures c.advance.ensures.high) in
     let weights = ap (λ n. weights_or_ones n c.self.inside.weights) (low.counted ∙ c.requires.pages ∙ sym (ap (λ b. length b.low) view)) ∙ ap (λ b. b.weights) view in
     let next = round_done c.args.self.now _ graph c.advance.ensures.proper (subst (λ (b : Intervals). AreBounds b) view (kept_bounds c.self.inside c.self.invariant))
-        (kept_bounds _ (invariant_of-self g c)) c.requires.pages (ap (λ b. b.damping) view) weights (ap (λ b. b.rounds + 1) view) low high in
+    (kept_bounds _ (invariant_of-self g c)) c.requires.pages (ap (λ b. b.damping) view) weights (ap (λ b. b.rounds + 1) view) low high in
     record {
       graph = c.advance.ensures.graph;
       damping = ap (λ b. b.damping) view;

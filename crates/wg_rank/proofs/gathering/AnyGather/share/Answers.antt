@@ -11,13 +11,19 @@ use Rattle.wg_rank.proofs.gathering.AnyGather.share.Goals.{in-Some+then-degree-e
 
 pub overflow_add-low_dangling : goal.overflow_add-low_dangling
 overflow_add-low_dangling g c =
-    omega (arith, dangling_fits (g.L.Lists.graph c.args.self.now) (length c.args.low.now) c.loop-u.u c.args.low.now c.loop-u.low_dangling c.requires.few refl c.loop-u-test.true
-    c.requires.low_units c.loop-u.invariant.low_rest)
+    omega (
+      arith,
+      dangling_fits (g.L.Lists.graph c.args.self.now) (length c.args.low.now) c.loop-u.u c.args.low.now c.loop-u.low_dangling c.requires.few refl c.loop-u-test.true
+          c.requires.low_units c.loop-u.invariant.low_rest,
+    )
 
 pub overflow_add-high_dangling : goal.overflow_add-high_dangling
 overflow_add-high_dangling g c =
-    omega (arith, dangling_fits (g.L.Lists.graph c.args.self.now) (length c.args.low.now) c.loop-u.u c.args.high.now c.loop-u.high_dangling c.requires.few c.requires.high_pages c.loop-u-test.true
-    c.requires.high_units c.loop-u.invariant.high_rest)
+    omega (
+      arith,
+      dangling_fits (g.L.Lists.graph c.args.self.now) (length c.args.low.now) c.loop-u.u c.args.high.now c.loop-u.high_dangling c.requires.few c.requires.high_pages c.loop-u-test.true
+          c.requires.high_units c.loop-u.invariant.high_rest,
+    )
 
 pub spread-requires-clause-low_room : goal.spread-requires-clause-low_room
 spread-requires-clause-low_room g c =

@@ -25,7 +25,7 @@ from_parts-requires g c =
     let h = subst (λ (k : Counted). IsCountOf graph k) (sym c.self.view_is) c.requires.counted in
     let ends = with_items_is c.self.inside.links c.list.new.ends (c.list.auto.ends ∙ c.deref_mut.ensures.len) in
     let sources = with_items_is c.in_ok-sources.sources c.list.new.sources
-        (c.list.auto.sources ∙ c.deref_mut-2.ensures.len) in
+    (c.list.auto.sources ∙ c.deref_mut-2.ensures.len) in
     (graph, lists_held graph _ _ _ _ _ h ends sources c.list.ensures.placed)
 
 pub returns-in_err-sources : goal.returns-in_err-sources
@@ -40,7 +40,7 @@ returns g c =
     let h = subst (λ (k : Counted). IsCountOf graph k) (sym c.self.view_is) c.requires.counted in
     let ends = with_items_is c.self.inside.links c.list.new.ends (c.list.auto.ends ∙ c.deref_mut.ensures.len) in
     let sources = with_items_is c.in_ok-sources.sources c.list.new.sources
-        (c.list.auto.sources ∙ c.deref_mut-2.ensures.len) in
+    (c.list.auto.sources ∙ c.deref_mut-2.ensures.len) in
     record {
       graph = c.list.ensures.graph;
       lists = c.from_parts.ensures graph (lists_held graph _ _ _ _ _ h ends sources c.list.ensures.placed);

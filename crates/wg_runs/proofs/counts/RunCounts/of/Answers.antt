@@ -58,11 +58,11 @@ invariant_of-result g c =
 pub returns : goal.returns
 returns g c =
     let counts = with_items_is c.in_ok-counts.counts c.count-runs.new.counts
-        (c.count-runs.auto.counts ∙ c.deref_mut.ensures.len) in
+    (c.count-runs.auto.counts ∙ c.deref_mut.ensures.len) in
     let links = with_items_is c.in_ok-links.links c.count-runs.new.links
-        (c.count-runs.auto.links ∙ c.deref_mut-2.ensures.len) in
+    (c.count-runs.auto.links ∙ c.deref_mut-2.ensures.len) in
     let degrees = with_items_is c.in_ok-degrees.degrees c.count-runs.new.degrees
-        (c.count-runs.auto.degrees ∙ c.deref_mut-4.ensures.len) in
+    (c.count-runs.auto.degrees ∙ c.deref_mut-4.ensures.len) in
     record {
       graph = c.count-runs.ensures.graph;
       counted = counts_held (g.L.Lists.graph c.args.lists.now) _ _ _ _ _ _ _ _ counts links degrees
