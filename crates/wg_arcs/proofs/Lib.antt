@@ -1,5 +1,6 @@
 pub mod Climbing
 pub mod FewArcs
+pub mod LineLemmas
 pub mod ListedLemmas
 pub mod NumberLines
 pub mod NumbersBack

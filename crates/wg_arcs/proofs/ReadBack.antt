@@ -28,7 +28,7 @@ use Rattle.wg_arcs.specs.Laws.{TextsReadBack}
 abbrev pub bare : Arc → List ℕ
 bare a = decimal a.0 ++ 32 ∷ decimal a.1
 
-with_end : (a : Arc) (rest : List ℕ) → arc_line a ++ rest ≡ bare a ++ 10 ∷ rest
+pub with_end : (a : Arc) (rest : List ℕ) → arc_line a ++ rest ≡ bare a ++ 10 ∷ rest
 with_end a rest =
     ap (λ (l : List ℕ). l ++ 10 ∷ [] ++ rest) (append_assoc (decimal a.0) (32 ∷ []) (decimal a.1)) ∙ append_assoc (bare a) (10 ∷ []) rest
 

@@ -2,7 +2,9 @@
 use Rattle.std.proofs.Common.{ℕ, ◌≡◌, ◌+◌, ◌<◌, ◌≤◌, List, [], ◌∷◌, ◌++◌, length, cond, Result, Ok, Err, refl, ap, sym, ◌∙◌, append_assoc, append-nil, length-append, lt-ltb}
 use Rattle.std.proofs.lemmas.Bool.{le-ltb}
 use Rattle.wg_num.specs.Lines.{lines_of}
-use Rattle.wg_arcs.specs.Numbers.{numbers_on, and_then, numbers_from, numbers_of}
+use Rattle.wg_arcs.specs.Numbers.{numbers_on, and_then, numbers_from, numbers_of, AreRead, IsRefused}
+use Rattle.wg_arcs.specs.declared.numbers_fault.NumbersError.{NumbersError}
+use Rattle.wg_arcs.specs.declared.numbers_fault.NumbersError.TheVariants as error
 use Rattle.wg_arcs.specs.declared.numbers_fault.NumbersFault.{NumbersFault}
 use Rattle.wg_arcs.specs.declared.numbers_fault.NumbersFault.TheVariants as fault
 
@@ -41,6 +43,14 @@ module _ (n limit : ℕ) where
       so_far
       ∙ ap (λ ls. after_these xs (numbers_from n limit line (length xs) ls)) cut
       ∙ ap (λ told. after_these xs (and_then told (λ these. and_then (numbers_from n limit (line + 1) (length xs + length these) after) (λ others. Ok (these ++ others))))) on
+
+  -- a line is refused, or memory is wanting
+  pub refused : (line : ℕ) (all : Result (List ℕ) NumbersFault) (xs text : List ℕ) (rest after : List (List ℕ))
+      (e : NumbersError) → rest ≡ text ∷ after → all ≡ after_these xs (numbers_from n limit line (length xs) rest)
+      → IsRefused (numbers_on n limit line (length xs) text) e → AreRead all (Err e)
+  refused line all xs text rest after (error.Fault f) cut so_far on =
+      stopped line all xs text rest after f cut so_far on
+  refused line all xs text rest after error.Memory cut so_far on = tt
 
   pub ended : (line : ℕ) (all : Result (List ℕ) NumbersFault) (xs : List ℕ) (rest : List (List ℕ)) → rest ≡ [] → n ≤ length xs
       → all ≡ after_these xs (numbers_from n limit line (length xs) rest) → all ≡ Ok xs

@@ -1,6 +1,6 @@
 -- The text of arcs, one after the other.
-use Rattle.std.proofs.Common.{◌≡◌, ℕ, ◌+◌, ◌<◌, List, [], ◌∷◌, ◌++◌, map, length, take, drop, get_or, codes, decimal, refl, sym, ap, subst, ◌∙◌, append_assoc, append-nil, Result, Err}
-use Rattle.std.proofs.lemmas.List.{map-append, take_more, take-append-drop}
+use Rattle.std.proofs.Common.{◌≡◌, ℕ, ◌+◌, ◌<◌, ◌≤◌, List, [], ◌∷◌, ◌++◌, map, length, take, drop, get_or, codes, decimal, refl, sym, ap, subst, ◌∙◌, append_assoc, append-nil, Result, Err}
+use Rattle.std.proofs.lemmas.List.{map-append, take_all, take_more, take-append-drop}
 use Rattle.wg_lines.specs.Printing.{HasPrinted, HasPrintedLess}
 use Rattle.std.specs.Result.{IsErrAnd}
 use Rattle.wg_outside.specs.Puts.{Puts, joined}
@@ -48,6 +48,12 @@ arc_less a b c waited mid vs u i lt h g =
     let more : HasPrintedLess a c waited (page_lines u (take (i + 1) vs)) =
     subst (λ (t : List ℕ). HasPrintedLess a c waited t) (sym (page_lines_more u vs i lt)) (less_after a b c waited mid (page_lines u (take i vs)) (arc_line (u, get_or vs i 0)) h g) in
     subst (λ (t : List ℕ). HasPrintedLess a c waited t) (sym (page_lines_split u vs (i + 1))) (less_before a c waited (page_lines u (take (i + 1) vs)) (page_lines u (drop (i + 1) vs)) more)
+
+-- all arcs of a list are printed
+pub all_printed : (a c waited waits vs : List ℕ) (u i : ℕ) → length vs ≤ i
+    → HasPrinted a c waited (page_lines u (take i vs)) waits → HasPrinted a c waited (page_lines u vs) waits
+all_printed a c waited waits vs u i past =
+    subst (λ (l : List ℕ). HasPrinted a c waited (page_lines u l) waits) (take_all i vs past)
 
 -- ---- the pages of a graph
 

@@ -1,11 +1,13 @@
-use Rattle.std.proofs.Common.{rules, ◌≡◌, ◌+◌, length, ap, arith, Ok, Err}
+use Rattle.std.proofs.Common.{◌≡◌, ℕ, ◌+◌, ◌<◌, ◌≤◌, List, length, ap, subst, refl, arith, Ok, Err}
+use Rattle.std.proofs.lemmas.Result.{err_from_is_err_and}
 use Rattle.wg_num.specs.Lines.{lines_of}
 use Rattle.wg_num.proofs.Cuts.{no_lines}
 use Rattle.wg_arcs.specs.declared.numbers_fault.NumbersError.TheVariants as error
 use Rattle.wg_arcs.specs.declared.numbers_fault.NumbersFault.TheVariants as fault
 use Rattle.wg_arcs.specs.Numbers.{numbers_of, AreRead}
+use Rattle.wg_arcs.proofs.LineLemmas.{as_many, is_empty, line_on}
 use Rattle.wg_arcs.proofs.NumberLines.{listed}
-use Rattle.wg_arcs.proofs.ReadNumbers.{begun, ended, too_few}
+use Rattle.wg_arcs.proofs.ReadNumbers.{begun, ended, refused, step, too_few}
 use Rattle.wg_arcs.proofs.numbers.read_numbers.Goals as goal
 
 pub lines-init : goal.lines-init
@@ -16,25 +18,65 @@ lines-init c = record {
   short = omega arith;
 }
 
-pub returns-then-found-n-clause-read : goal.returns-then-found-n-clause-read
-returns-then-found-n-clause-read c =
-    let none : length c.lines.rest.now ≡ 0 = search rules in
+pub lines-preserved : goal.lines-preserved
+lines-preserved c =
+    let i = c.lines.invariant in
+    let r = c.in_ok-read_line.ensures in
+    record {
+      so_far =
+          step c.args.n c.args.limit (c.lines.line + 1) _ c.lines.numbers r.added.0 c.read_line.new.numbers
+          c.first_line.result.0.now (lines_of c.lines.rest.now) (lines_of c.first_line.result.1.now)
+          c.first_line.ensures.lines i.so_far r.added.1 r.added.2;
+      few = r.few i.few;
+      below = r.below i.below;
+      short = line_on _ c.lines.line _ _ _ i.short refl c.first_line.ensures.shorter;
+    }
+
+pub returns-in_err-read_line : goal.returns-in_err-read_line
+returns-in_err-read_line c =
+    let all = numbers_of c.args.n c.args.limit c.args.bytes.now in
+    let e = c.in_err-read_line.field-0.0 in
+    let p = err_from_is_err_and c.from_residual.result c.from_residual.ensures.1 in
+    let read : AreRead all (Err e) =
+    refused c.args.n c.args.limit (c.lines.line + 1) all c.lines.numbers c.first_line.result.0.now
+    (lines_of c.lines.rest.now) (lines_of c.first_line.result.1.now) e c.first_line.ensures.lines
+    c.lines.invariant.so_far c.in_err-read_line.ensures.err in
+    rw (p.1, p.2) record {
+      read = read;
+      listed = listed c.args.n c.args.limit c.args.bytes.now (Err e) read;
+      count = tt;
+      below = tt;
+    }
+
+pub returns-then-found-n : goal.returns-then-found-n
+returns-then-found-n c =
+    let all = numbers_of c.args.n c.args.limit c.args.bytes.now in
     let found : length c.as_slice.result.now ≡ length c.lines.numbers = ap length c.as_slice.ensures in
-    rw found (too_few c.args.n c.args.limit (c.lines.line + 1) _ c.lines.numbers (lines_of c.lines.rest.now) (no_lines c.lines.rest.now none) (omega (arith, found)) c.lines.invariant.so_far)
+    let read : all ≡ Err (fault.Count (length c.as_slice.result.now)) =
+    rw found
+    (too_few c.args.n c.args.limit (c.lines.line + 1) all c.lines.numbers (lines_of c.lines.rest.now)
+    (no_lines c.lines.rest.now (is_empty _ c.lines-test.ensures))
+    (subst (λ (k : ℕ). k < c.args.n) found c.if-found-n.true) c.lines.invariant.so_far) in
+    record {
+      read = read;
+      listed =
+          listed c.args.n c.args.limit c.args.bytes.now (Err (error.Fault (fault.Count (length c.as_slice.result.now))))
+          read;
+      count = tt;
+      below = tt;
+    }
 
-pub returns-clause-read : goal.returns-clause-read
-returns-clause-read c =
-    let none : length c.lines.rest.now ≡ 0 = search rules in
-    let found : length c.as_slice.result.now ≡ length c.lines.numbers = ap length c.as_slice.ensures in
-    ended c.args.n c.args.limit (c.lines.line + 1) _ c.lines.numbers (lines_of c.lines.rest.now) (no_lines c.lines.rest.now none) (omega (arith, found)) c.lines.invariant.so_far
-
-pub returns-in_err-read_line-clause-listed : goal.returns-in_err-read_line-clause-listed
-returns-in_err-read_line-clause-listed c =
-    let read : AreRead (numbers_of c.args.n c.args.limit c.args.bytes.now) c.from_residual.result = search rules in
-    listed c.args.n c.args.limit c.args.bytes.now c.from_residual.result read
-
-pub returns-then-found-n-clause-listed : goal.returns-then-found-n-clause-listed
-returns-then-found-n-clause-listed c = listed c.args.n c.args.limit c.args.bytes.now (Err (error.Fault (fault.Count (length c.as_slice.result.now)))) (returns-then-found-n-clause-read c)
-
-pub returns-clause-listed : goal.returns-clause-listed
-returns-clause-listed c = listed c.args.n c.args.limit c.args.bytes.now (Ok c.lines.numbers) (returns-clause-read c)
+pub returns : goal.returns
+returns c =
+    let all = numbers_of c.args.n c.args.limit c.args.bytes.now in
+    let enough : c.args.n ≤ length c.lines.numbers =
+    subst (λ (l : List ℕ). c.args.n ≤ length l) c.as_slice.ensures c.if-found-n.false in
+    let read : all ≡ Ok c.lines.numbers =
+    ended c.args.n c.args.limit (c.lines.line + 1) all c.lines.numbers (lines_of c.lines.rest.now)
+    (no_lines c.lines.rest.now (is_empty _ c.lines-test.ensures)) enough c.lines.invariant.so_far in
+    record {
+      read = read;
+      listed = listed c.args.n c.args.limit c.args.bytes.now (Ok c.lines.numbers) read;
+      count = as_many _ _ enough c.lines.invariant.few;
+      below = c.lines.invariant.below;
+    }

@@ -1,10 +1,11 @@
-use Rattle.std.proofs.Common.{◌≡◌, ◌∙◌, ◌++◌, inl, inr, false, ℕ, List, Option, Some, None, sym, subst, refl, append-nil, arith}
+use Rattle.std.proofs.Common.{◌≡◌, ◌∙◌, ◌++◌, inl, inr, false, ℕ, List, Option, Some, None, sym, subst, refl, append-nil}
 use Rattle.std.specs.Prelude.{is_some, option_to_list}
 use Rattle.std.proofs.lemmas.Result.{err_from_is_err_and}
 use Rattle.wg_num.specs.Lines.{lines_of}
 use Rattle.wg_arcs.specs.declared.arc_lines.ArcLines.{ArcLines}
 use Rattle.wg_arcs.specs.Growing.{IsFirst, IsUpTo, SoFar}
 use Rattle.wg_arcs.specs.Listing.{AreListed, arcs_on}
+use Rattle.wg_arcs.proofs.LineLemmas.{all_left, is_left, line_fits, line_on, no_more, none_shorter, short_on, shorter_on}
 use Rattle.wg_arcs.proofs.ListedLemmas.{listed_line, up_to}
 use Rattle.wg_arcs.proofs.Order.{Arc}
 use Rattle.wg_arcs.proofs.arc_lines.ArcLines.fill.Goals as goal
@@ -48,20 +49,63 @@ returns-in_err-next c =
       fault = λ done all later at h so. inl refl;
     }
 
-pub returns-then-is_some-clause-listed : goal.returns-then-is_some-clause-listed
-returns-then-is_some-clause-listed c = λ done at h.
-    (listed_line done c.lines.list c.lines.self c.read_next.new.self c.in_ok-arc.arc c.args.page c.put.new.list c.in_ok-next.next at (c.lines.invariant.listed done at h)
-    c.in_ok-arc.ensures.comes c.in_ok-arc.ensures.ok c.in_ok-next.ensures.list c.in_ok-next.ensures.later).0
-
-pub returns-then-is_some-clause-read : goal.returns-then-is_some-clause-read
-returns-then-is_some-clause-read c = λ done all later at h so.
+pub returns-then-is_some : goal.returns-then-is_some
+returns-then-is_some c =
     let i = c.lines.invariant in
-    let next = lines_of c.in_ok-arc.after.now ++ later in
-    let up = come_to c.args.self.now.nodes all (lines_of c.lines.rest.now ++ later) done c.lines.list c.lines.self i.nodes (i.listed done at h) (i.read done all later at h so) in
-    let line = listed_line done c.lines.list c.lines.self c.read_next.new.self c.in_ok-arc.arc c.args.page c.put.new.list c.in_ok-next.next at (i.listed done at h)
-    c.in_ok-arc.ensures.comes c.in_ok-arc.ensures.ok c.in_ok-next.ensures.list c.in_ok-next.ensures.later in
-    read_on c.args.self.now.nodes all next (arcs_on done c.lines.list ++ option_to_list c.in_ok-arc.arc) _ c.read_next.new.self (c.in_ok-arc.ensures.nodes ∙ i.nodes) line.1
-    (c.in_ok-arc.ensures.read all later (arcs_on done c.lines.list) up)
+    let r = c.in_ok-arc.ensures in
+    record {
+      nodes = r.nodes ∙ i.nodes;
+      line = line_on _ c.lines.self.line _ _ _ i.line r.line r.shorter;
+      shorter = λ some. shorter_on _ _ _ r.shorter i.short;
+      listed = λ done at h.
+          (listed_line done c.lines.list c.lines.self c.read_next.new.self c.in_ok-arc.arc c.args.page c.put.new.list
+          c.in_ok-next.next at (i.listed done at h) r.comes r.ok c.in_ok-next.ensures.list c.in_ok-next.ensures.later).0;
+      read = λ done all later at h so.
+          let next = lines_of c.in_ok-arc.after.now ++ later in
+          let before = i.listed done at h in
+          let up = come_to c.args.self.now.nodes all (lines_of c.lines.rest.now ++ later) done c.lines.list c.lines.self
+          i.nodes before (i.read done all later at h so) in
+          let line = listed_line done c.lines.list c.lines.self c.read_next.new.self c.in_ok-arc.arc c.args.page
+          c.put.new.list c.in_ok-next.next at before r.comes r.ok c.in_ok-next.ensures.list c.in_ok-next.ensures.later in
+          read_on c.args.self.now.nodes all next (arcs_on done c.lines.list ++ option_to_list c.in_ok-arc.arc) _
+          c.read_next.new.self (r.nodes ∙ i.nodes) line.1 (r.read all later (arcs_on done c.lines.list) up);
+      fault = λ done all later at h so. tt;
+    }
+
+pub lines-init : goal.lines-init
+lines-init c = record {
+  nodes = refl;
+  line = all_left _;
+  short = all_left _;
+  listed = λ done at h. h;
+  read = λ done all later at h so. so;
+}
+
+pub returns : goal.returns
+returns c =
+    let i = c.lines.invariant in
+    record {
+      nodes = i.nodes;
+      line = i.line;
+      shorter = none_shorter _ _ c.lines-test.ensures;
+      listed = i.listed;
+      read = λ done all later at h so.
+          no_more c.args.self.now.nodes c.lines.self.line all (lines_of c.lines.rest.now ++ later)
+          (arcs_on done c.lines.list) (i.read done all later at h so);
+      fault = λ done all later at h so. tt;
+    }
+
+pub read_next-requires : goal.read_next-requires
+read_next-requires c =
+    let some = is_left _ c.lines-test.ensures in
+    record {
+      some = some;
+      line = line_fits c.lines.self.line _ _ c.lines.invariant.line c.requires some;
+      start = c.write_start-count.ensures.start;
+    }
+
+pub lines-smaller : goal.lines-smaller
+lines-smaller c = c.in_ok-arc.ensures.shorter
 
 pub lines-preserved : goal.lines-preserved
 lines-preserved c =
@@ -70,8 +114,8 @@ lines-preserved c =
     let none : c.in_ok-next.next ≡ None = not_some c.in_ok-next.next (sym c.is_some.ensures ∙ c.if-is_some.false) in
     record {
       nodes = r.nodes ∙ i.nodes;
-      line = omega (arith, i.line, r.line, r.shorter);
-      short = omega (arith, i.short, r.shorter);
+      line = line_on _ c.lines.self.line _ _ _ i.line r.line r.shorter;
+      short = short_on _ _ _ r.shorter i.short;
       listed = λ done at h.
           (listed_line done c.lines.list c.lines.self c.read_next.new.self c.in_ok-arc.arc c.args.page c.put.new.list None at (i.listed done at h)
           r.comes r.ok c.in_ok-next.ensures.list (sym none ∙ c.in_ok-next.ensures.later)).0;

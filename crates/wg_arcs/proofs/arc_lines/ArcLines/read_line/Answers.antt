@@ -1,0 +1,72 @@
+use Rattle.std.proofs.Common.{◌+◌, ◌∙◌, Option, None, Some, refl, sym, subst}
+use Rattle.std.proofs.lemmas.Result.{err_from_is_err_and}
+use Rattle.wg_num.specs.Words.{words_of}
+use Rattle.wg_arcs.specs.Growing.{IsRefusedLine}
+use Rattle.wg_arcs.specs.declared.fault.ArcsKind.{ArcsKind}
+use Rattle.wg_arcs.proofs.LineLemmas.{entry_arc, entry_fault, shape_refused}
+use Rattle.wg_arcs.proofs.Order.{Arc}
+use Rattle.wg_arcs.proofs.arc_lines.ArcLines.read_line.Goals as goal
+
+pub returns-in-None : goal.returns-in-None
+returns-in-None c = record {
+  fine = rw c.in-None.ensures.skipped refl;
+  comes = tt;
+  arc = rw c.in-None.ensures.skipped refl;
+  ok = refl;
+  nodes = refl;
+  err = tt;
+}
+
+pub returns-in_err-take-in-Some-arc : goal.returns-in_err-take-in-Some-arc
+returns-in_err-take-in-Some-arc c =
+    let s = c.args.self.now in
+    let w = c.in-Some.ensures in
+    let n = c.in_err-take-in-Some-arc.ensures in
+    let e = c.in_err-take-in-Some-arc.field-0.0 in
+    let a : Arc = (c.in-Some-arc.u, c.in-Some-arc.v) in
+    let p = err_from_is_err_and c.from_residual.result c.from_residual.ensures.1 in
+    rw (p.1, p.2) record {
+      fine = tt;
+      comes = tt;
+      arc = tt;
+      ok = tt;
+      nodes = n.nodes;
+      err =
+          subst (λ (f : Option ArcsKind). IsRefusedLine (s.line + 1) f e)
+          (sym (entry_fault c.args.text.now c.in-Some.words.0.now (words_of c.in-Some.words.1.now) w.words w.skipped
+          s.nodes s.arcs s.last (Some a) c.in-Some-arc.ensures)) n.err;
+    }
+
+pub returns-in_ok-take-in-Some-arc : goal.returns-in_ok-take-in-Some-arc
+returns-in_ok-take-in-Some-arc c =
+    let s = c.args.self.now in
+    let w = c.in-Some.ensures in
+    let n = c.in_ok-take-in-Some-arc.ensures in
+    let a : Arc = (c.in-Some-arc.u, c.in-Some-arc.v) in
+    let words = words_of c.in-Some.words.1.now in
+    record {
+      fine =
+          entry_fault c.args.text.now c.in-Some.words.0.now words w.words w.skipped s.nodes s.arcs s.last (Some a)
+          c.in-Some-arc.ensures ∙ n.fine;
+      comes = n.comes;
+      arc = entry_arc c.args.text.now c.in-Some.words.0.now words w.words w.skipped (Some a) c.in-Some-arc.ensures;
+      ok = n.ok;
+      nodes = n.nodes;
+      err = tt;
+    }
+
+pub returns-in-None-arc : goal.returns-in-None-arc
+returns-in-None-arc c =
+    let s = c.args.self.now in
+    let w = c.in-Some.ensures in
+    record {
+      fine = tt;
+      comes = tt;
+      arc = tt;
+      ok = tt;
+      nodes = refl;
+      err =
+          shape_refused (s.line + 1) _ c.fault.result c.fault.ensures
+          (entry_fault c.args.text.now c.in-Some.words.0.now (words_of c.in-Some.words.1.now) w.words w.skipped
+          s.nodes s.arcs s.last None c.in-None-arc.ensures);
+    }
