@@ -1,6 +1,9 @@
-use Rattle.std.proofs.Common.{◌≡◌, ℕ, Bool, List, [], ◌∷◌, Option, Ok, Err, refl}
+use Rattle.std.proofs.Common.{◌≡◌, ◌∙◌, ◌≤◌, ℕ, Bool, List, [], ◌∷◌, length, Option, Ok, Err, refl, sym, ap, subst}
 use Rattle.wg_outside.specs.Outside.{Files, Counts}
+use Rattle.wg_outside.specs.declared.limits.TheConstants.{MOST_BYTES}
 use Rattle.wg_params.specs.Parameters.{Parameters}
+use Rattle.wg_params.specs.declared.limits.TheConstants.{MOST_ARCS}
+use Rattle.wg_graph.specs.Ascending.{Below}
 use Rattle.wg_graph.specs.Digraph.{Digraph}
 use Rattle.wg_shape.specs.Quotient.{quotient_of}
 use Rattle.wg_words.specs.declared.jobs.Job.{Job}
@@ -102,3 +105,19 @@ returns g c =
     _ _ graph (graph_loaded c.args.input.now p _ _ _ _ _ c.in_ok-bytes.bytes _ c.as_slice.ensures c.in_ok-bytes.ensures (Ok graph) c.in_ok-lists.ensures.goes tt c.in_ok-lists.ensures.nodes)
     _ _ list (rw c.nodes.ensures.count at c.in_ok-classes_of.ensures))
     c.args.layout.now (quotient_of graph list c.args.classes) c.args.output.now (λ o. refl) refl refl _ c.build_archive.result (c.build_archive.ensures c.args.layout.now (quotient_of graph list c.args.classes) made.0 made.1)
+
+pub encode_quotient-requires : goal.encode_quotient-requires
+encode_quotient-requires g c =
+    let list = c.in_ok-classes_of.ensures in
+    let lists = c.in_ok-lists.ensures in
+    record {
+      layout = c.requires.layout;
+      few_pages = lists.few;
+      few_arcs = subst (λ (k : ℕ). k ≤ MOST_ARCS) (sym lists.arcs) c.arcs-arcs.ensures.within;
+      each = ap (λ (l : List ℕ). length l) c.as_slice-2.ensures ∙ list.each ∙ c.nodes.ensures.count;
+      below = subst (Below c.args.classes) (sym c.as_slice-2.ensures) list.below;
+      few = c.requires.few;
+    }
+
+pub lists_of_records-requires : goal.lists_of_records-requires
+lists_of_records-requires g c = subst (λ (l : List ℕ). length l ≤ MOST_BYTES) (sym c.as_slice.ensures) c.in_ok-bytes.ensures.short

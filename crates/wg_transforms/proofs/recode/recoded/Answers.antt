@@ -1,4 +1,4 @@
-use Rattle.std.proofs.Common.{◌≡◌, inr, ℕ, Bool, List, [], ◌∷◌, ◌++◌, refl, sym, ap, subst, ◌∙◌, Some, Ok, Err, length, arith}
+use Rattle.std.proofs.Common.{◌≡◌, inr, ℕ, ◌+◌, ◌<◌, ◌≤◌, Bool, List, [], ◌∷◌, ◌++◌, refl, sym, ap, subst, ◌∙◌, Some, Ok, Err, length, arith}
 use Rattle.std.specs.Bool.{IsTrue}
 use Rattle.std.specs.FinMap as map
 use Rattle.wg_outside.specs.Outside.{Files, Counts, NonDecreasing}
@@ -58,11 +58,30 @@ graph_read base p td files files1 files2 counts counts1 counts2 n a b lists h li
   nodes = refl;
 }
 
-pub returns-in_err-reader-clause-ends : goal.returns-in_err-reader-clause-ends
-returns-in_err-reader-clause-ends g c = rw (is_that_err c.from_residual.result _ c.from_residual.ensures.1) (graph_wants _ _ _ _ _ _ _ _ refl (none_falls-refl _) c.in_err-reader.ensures.only)
+-- this page is one of the graph
+page_below : (x page end n : ℕ) → x ≡ page → page < end → end ≡ n → x < n
+page_below x page end n is more all = omega (arith, is, more, all)
 
-pub returns-in_err-encoder-clause-ends : goal.returns-in_err-encoder-clause-ends
-returns-in_err-encoder-clause-ends g c = rw (is_that_err c.from_residual-in_err-encoder.result _ c.from_residual-in_err-encoder.ensures.1) (graph_wants _ _ _ _ _ _ _ _ refl (none_falls-refl _) refl)
+-- the list's arcs are among those that were read
+arcs_fit : (a b b' k k' m m' : ℕ) → a ≡ b → b' ≡ b + k' → k ≡ k' → b' ≤ m → m ≡ m' → a + k ≤ m'
+arcs_fit a b b' k k' m m' is more same within most = omega (arith, is, more, same, within, most)
+
+-- a page more is behind, and its arcs
+one_behind : (x page before : ℕ) → x ≡ before + 1 → before ≡ page → x ≡ page + 1
+one_behind x page before on is = omega (arith, on, is)
+
+arcs_behind : (a b c k k' c' : ℕ) → a ≡ b + k → b ≡ c → k ≡ k' → c' ≡ c + k' → a ≡ c'
+arcs_behind a b c k k' c' on is same read = omega (arith, on, is, same, read)
+
+pub returns-in_err-reader : goal.returns-in_err-reader
+returns-in_err-reader g c =
+    rw (is_that_err c.from_residual.result _ c.from_residual.ensures.1)
+    record { makes = tt; ends = graph_wants _ _ _ _ _ _ _ _ refl (none_falls-refl _) c.in_err-reader.ensures.only }
+
+pub returns-in_err-encoder : goal.returns-in_err-encoder
+returns-in_err-encoder g c =
+    rw (is_that_err c.from_residual-in_err-encoder.result _ c.from_residual-in_err-encoder.ensures.1)
+    record { makes = tt; ends = graph_wants _ _ _ _ _ _ _ _ refl (none_falls-refl _) refl }
 
 pub loop-page-init : goal.loop-page-init
 loop-page-init g c =
@@ -74,25 +93,46 @@ loop-page-init g c =
       arcs = e.arcs ∙ sym c.in_ok-reader.ensures.fresh.arcs;
     }
 
-pub returns-in_err-next_record-clause-ends : goal.returns-in_err-next_record-clause-ends
-returns-in_err-next_record-clause-ends g c =
+pub returns-in_err-next_record : goal.returns-in_err-next_record
+returns-in_err-next_record g c =
     rw (is_that_err c.from_residual-in_err-next_record.result _ c.from_residual-in_err-next_record.ensures.1)
-    (graph_stopped _ _ _ _ _ _ _ _
-    (graph_stops _ _ _ _ _ _ _ _ _ _ _ _ _ c.loop-page.invariant.so_far.2 c.nodes-page-end.ensures.limits _ c.in_err-next_record.ensures.advances))
+    record {
+      makes = tt;
+      ends =
+          graph_stopped _ _ _ _ _ _ _ _
+          (graph_stops _ _ _ _ _ _ _ _ _ _ _ _ _ c.loop-page.invariant.so_far.2 c.nodes-page-end.ensures.limits _ c.in_err-next_record.ensures.advances);
+    }
 
-pub add-requires-clause-list : goal.add-requires-clause-list
-add-requires-clause-list g c =
+pub next_record-requires : goal.next_record-requires
+next_record-requires g c =
+    let way = c.loop-page.invariant.so_far.2 in
+    record {
+      «open» = way.state;
+      params = way.params;
+      more = page_below _ _ _ _ way.page c.loop-page-test.true c.nodes-page-end.ensures.value;
+    }
+
+pub add-requires : goal.add-requires
+add-requires g c =
     let i = c.loop-page.invariant in
-    let same : c.next_record.new.reader.pages.params.nodes ≡ c.loop-page.encoder.params.nodes =
-    ap (λ (q : Parameters). q.nodes) (c.in_ok-next_record.ensures.advances.params ∙ i.so_far.2.params) ∙ sym c.requires.nodes ∙ sym (ap (λ (q : Parameters). q.nodes) i.params) in
-    record { ascends = c.list.ensures.ascends; below = subst (λ (n : ℕ). Below n c.list.result.now) same c.list.ensures.below }
+    let way = i.so_far.2 in
+    let r = c.in_ok-next_record.ensures in
+    let one = r.advances.params ∙ way.params in
+    let nodes = ap (λ (q : Parameters). q.nodes) one ∙ sym c.requires.nodes ∙ sym (ap (λ (q : Parameters). q.nodes) i.params) in
+    let arcs = ap (λ (q : Parameters). q.arcs) one ∙ sym c.requires.arcs ∙ sym (ap (λ (q : Parameters). q.arcs) i.params) in
+    record {
+      page = subst (λ (n : ℕ). c.loop-page.encoder.page < n) (sym c.requires.nodes ∙ sym (ap (λ (q : Parameters). q.nodes) i.params))
+          (page_below _ _ _ _ i.page c.loop-page-test.true c.nodes-page-end.ensures.value);
+      list = record { ascends = c.list.ensures.ascends; below = subst (λ (n : ℕ). Below n c.list.result.now) nodes c.list.ensures.below };
+      arcs = arcs_fit _ _ _ _ _ _ _ i.arcs r.arcs (ap (λ (l : List ℕ). length l) c.list.ensures.value) c.list.ensures.within arcs;
+    }
 
-pub returns-in_err-encoder-2-clause-ends : goal.returns-in_err-encoder-2-clause-ends
-returns-in_err-encoder-2-clause-ends g c =
+pub returns-in_err-encoder-2 : goal.returns-in_err-encoder-2
+returns-in_err-encoder-2 g c =
     let way = c.loop-page.invariant.so_far.2 in
     let step = c.in_ok-next_record.ensures.advances in
     rw (is_that_err c.from_residual-in_err-encoder-2.result _ c.from_residual-in_err-encoder-2.ensures.1)
-    (graph_wants _ _ _ _ _ _ _ _ (step.same ∙ way.same) (none_falls-trans _ _ _ way.later step.later) refl)
+    record { makes = tt; ends = graph_wants _ _ _ _ _ _ _ _ (step.same ∙ way.same) (none_falls-trans _ _ _ way.later step.later) refl }
 
 pub loop-page-preserved : goal.loop-page-preserved
 loop-page-preserved g c =
@@ -109,31 +149,38 @@ loop-page-preserved g c =
             (λ whole w count is end had. lists_on w whole lists list had (is ∙ sym c.list.ensures.value)),
       );
       params = n.params ∙ i.params;
-      page = omega (arith, n.page, i.page);
-      arcs = omega (arith, n.arcs, i.arcs, r.arcs, ap (λ (l : List ℕ). length l) c.list.ensures.value);
+      page = one_behind _ _ _ n.page i.page;
+      arcs = arcs_behind _ _ _ _ _ _ n.arcs i.arcs (ap (λ (l : List ℕ). length l) c.list.ensures.value) r.arcs;
     }
 
-pub returns-in_err-end_records-clause-ends : goal.returns-in_err-end_records-clause-ends
-returns-in_err-end_records-clause-ends g c =
+pub returns-in_err-end_records : goal.returns-in_err-end_records
+returns-in_err-end_records g c =
     rw (is_that_err c.from_residual-in_err-end_records.result _ c.from_residual-in_err-end_records.ensures.1)
-    (graph_stopped _ _ _ _ _ _ _ _
-    (graph_stops _ _ _ _ _ _ _ _ _ _ _ _ _ c.loop-page.invariant.so_far.2 c.nodes-page-end.ensures.limits _ c.in_err-end_records.ensures.advances))
+    record {
+      makes = tt;
+      ends =
+          graph_stopped _ _ _ _ _ _ _ _
+          (graph_stops _ _ _ _ _ _ _ _ _ _ _ _ _ c.loop-page.invariant.so_far.2 c.nodes-page-end.ensures.limits _ c.in_err-end_records.ensures.advances);
+    }
 
-pub returns-in_err-archive-clause-ends : goal.returns-in_err-archive-clause-ends
-returns-in_err-archive-clause-ends g c =
+pub returns-in_err-archive : goal.returns-in_err-archive
+returns-in_err-archive g c =
     let way = c.loop-page.invariant.so_far.2 in
     let step = c.in_ok-end_records.ensures.advances in
     rw (is_that_err c.from_residual-in_err-archive.result _ c.from_residual-in_err-archive.ensures.1)
-    (graph_wants _ _ _ _ _ _ _ _ (step.same ∙ way.same) (none_falls-trans _ _ _ way.later step.later) refl)
+    record { makes = tt; ends = graph_wants _ _ _ _ _ _ _ _ (step.same ∙ way.same) (none_falls-trans _ _ _ way.later step.later) refl }
 
-pub returns-clause-makes : goal.returns-clause-makes
-returns-clause-makes g c =
+pub returns : goal.returns
+returns g c =
     let i = c.loop-page.invariant in
     let e = c.in_ok-end_records.ensures in
     let made_is = sym i.params in
     record {
-      graph = record { nodes = c.args.params.now.nodes; lists = i.so_far.0 };
-      loads = graph_read _ _ _ _ _ _ _ _ _ _ _ _ i.so_far.0 i.so_far.2 c.nodes-page-end.ensures.limits e.advances e.judged;
-      arcs = sym i.so_far.1.arcs ∙ i.arcs ∙ e.total;
-      is = c.in_ok-archive.ensures i.so_far.0 i.so_far.1 (λ j. record (made_is j) { arcs = c.args.made.now.arcs });
+      makes = record {
+        graph = record { nodes = c.args.params.now.nodes; lists = i.so_far.0 };
+        loads = graph_read _ _ _ _ _ _ _ _ _ _ _ _ i.so_far.0 i.so_far.2 c.nodes-page-end.ensures.limits e.advances e.judged;
+        arcs = sym i.so_far.1.arcs ∙ i.arcs ∙ e.total;
+        is = c.in_ok-archive.ensures i.so_far.0 i.so_far.1 (λ j. record (made_is j) { arcs = c.args.made.now.arcs });
+      };
+      ends = tt;
     }

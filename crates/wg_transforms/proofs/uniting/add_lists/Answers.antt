@@ -1,4 +1,5 @@
 use Rattle.std.proofs.Common.{rules, ◌≡◌, ◌∙◌, max, refl, sym, subst, arith}
+use Rattle.std.proofs.lemmas.Result.{err_from_is_err_and}
 use Rattle.wg_encoder.specs.ArchiveInMemory.{HasEncoded}
 use Rattle.wg_shape.specs.Graphs.{lists_of}
 use Rattle.wg_transforms.proofs.uniting.add_lists.Goals as goal
@@ -34,10 +35,27 @@ pages-preserved g c =
       way = rw (i.first, i.second) at n.way;
     }
 
-pub returns-clause-encoded : goal.returns-clause-encoded
-returns-clause-encoded g c =
+pub returns-in_err-encoder : goal.returns-in_err-encoder
+returns-in_err-encoder g c =
+    let i = c.pages.invariant in
+    let e = err_from_is_err_and c.from_residual.result c.from_residual.ensures.1 in
+    let n = c.in_err-encoder.ensures in
+    rw (e.1, e.2) record {
+      params = tt;
+      all = tt;
+      encoded = tt;
+      too_many = rw (i.first, i.second) at n.too_many;
+    }
+
+pub returns : goal.returns
+returns g c =
     let first = g.A.Lists.graph c.args.first.now in
     let second = g.B.Lists.graph c.args.second.now in
     let i = c.pages.invariant in
     let all : c.pages.encoder.page ≡ max first.nodes second.nodes = omega arith in
-    subst (λ n. HasEncoded c.pages.encoder (lists_of first second n)) all i.way.encoded
+    record {
+      params = i.params;
+      all = all ∙ sym i.way.nodes;
+      encoded = subst (λ n. HasEncoded c.pages.encoder (lists_of first second n)) all i.way.encoded;
+      too_many = tt;
+    }

@@ -1,4 +1,5 @@
-use Rattle.std.proofs.Common.{◌≡◌, ◌∙◌, ℕ, ◌+◌, ◌<◌, max, List, [], ◌∷◌, ◌++◌, length, sym, ap, subst, arith}
+use Rattle.std.proofs.Common.{◌≡◌, ◌∙◌, ℕ, ◌+◌, ◌-◌, ◌<◌, ◌≤◌, max, List, [], ◌∷◌, ◌++◌, length, sym, ap, subst, arith}
+use Rattle.std.proofs.lemmas.Result.{err_from_is_err_and}
 use Rattle.std.proofs.lemmas.List.FromFn.{map-range_with_len_more}
 use Rattle.wg_params.specs.Parameters.{Parameters}
 use Rattle.wg_params.specs.declared.limits.TheConstants.{MOST_ARCS}
@@ -8,6 +9,7 @@ use Rattle.wg_greedy.specs.Laws.{IsList}
 use Rattle.wg_shape.specs.Graphs.{AreAt, both, lists_of, union_graph}
 use Rattle.wg_shape.proofs.GraphUnions.{both_ascends, both_below, part_le}
 use Rattle.wg_transforms.specs.Uniting.{IsUniting}
+use Rattle.wg_transforms.proofs.EncodingLemmas.{next_page, no_arcs}
 use Rattle.wg_transforms.proofs.uniting.add_next.Goals as goal
 
 module _ (g h : Digraph) (a b : ℕ) (e : EncodedSoFar) (way : IsUniting g a h b e) (more : e.page < e.params.nodes) (list : List ℕ) (is : list ≡ both g h e.page) where
@@ -39,21 +41,68 @@ module _ (g h : Digraph) (a b : ℕ) (e : EncodedSoFar) (way : IsUniting g a h b
       lists : lists_of g h x ++ list ∷ [] ≡ lists_of g h e'.page
       lists = ap (λ (l : List ℕ). lists_of g h x ++ l ∷ []) is ∙ sym (map-range_with_len_more (both g h) 0 x x (omega arith)) ∙ ap (lists_of g h) (sym page)
 
-pub returns-then-arcs-as_slice-clause-too_many : goal.returns-then-arcs-as_slice-clause-too_many
-returns-then-arcs-as_slice-clause-too_many g c =
+-- there is no room for so many numbers more
+past_room : (m a b n : ℕ) → MOST_ARCS - a < n → a ≡ b → a ≤ m → m ≡ MOST_ARCS → MOST_ARCS < b + n
+past_room m a b n past is within most = omega (arith, past, is, within, most)
+
+pub returns-in_err-next_union : goal.returns-in_err-next_union
+returns-in_err-next_union g c =
+    let n = c.next_union.ensures in
+    let e = err_from_is_err_and c.from_residual.result c.from_residual.ensures.1 in
+    rw (e.1, e.2) record {
+      way = tt;
+      params = tt;
+      page = tt;
+      too_many = λ is. no_arcs _ _ is;
+      first = n.first_graph;
+      second = n.second_graph;
+    }
+
+pub returns-then-arcs-as_slice : goal.returns-then-arcs-as_slice
+returns-then-arcs-as_slice g c =
     let way = c.requires.way in
+    let n = c.next_union.ensures in
     let is = c.as_slice.ensures ∙ c.in_ok-next_union.ensures.list c.args.encoder.page way.place in
-    λ e. too_many _ _ _ _ c.args.encoder way c.requires.page c.as_slice.result.now is (omega (arith, c.if-arcs-as_slice.true, c.arcs.ensures.value, c.arcs.ensures.within, way.most))
+    record {
+      way = tt;
+      params = tt;
+      page = tt;
+      too_many = λ e. too_many _ _ _ _ c.args.encoder way c.requires.page c.as_slice.result.now is
+          (past_room _ _ _ _ c.if-arcs-as_slice.true c.arcs.ensures.value c.arcs.ensures.within way.most);
+      first = n.first_graph;
+      second = n.second_graph;
+    }
+
+pub returns-in_err-encoder : goal.returns-in_err-encoder
+returns-in_err-encoder g c =
+    let n = c.next_union.ensures in
+    let e = err_from_is_err_and c.from_residual-in_err-encoder.result c.from_residual-in_err-encoder.ensures.1 in
+    rw (e.1, e.2) record {
+      way = tt;
+      params = tt;
+      page = tt;
+      too_many = λ is. no_arcs _ _ is;
+      first = n.first_graph;
+      second = n.second_graph;
+    }
 
 pub add-requires-clause-list : goal.add-requires-clause-list
 add-requires-clause-list g c =
     let way = c.requires.way in
     is_list _ _ _ _ c.args.encoder way c.requires.page c.as_slice-2.result.now (c.as_slice-2.ensures ∙ c.in_ok-next_union.ensures.list c.args.encoder.page way.place)
 
-pub returns-clause-way : goal.returns-clause-way
-returns-clause-way g c =
+pub returns : goal.returns
+returns g c =
     let way = c.requires.way in
     let n = c.next_union.ensures in
     let e = c.in_ok-encoder.ensures in
-    one_on _ _ _ _ c.args.encoder way c.requires.page c.as_slice-2.result.now (c.as_slice-2.ensures ∙ c.in_ok-next_union.ensures.list c.args.encoder.page way.place) _ _ c.in_ok-encoder.encoder
-    e.params e.page (e.encoded _ way.encoded) (n.go c.args.encoder.page way.place)
+    record {
+      way =
+          one_on _ _ _ _ c.args.encoder way c.requires.page c.as_slice-2.result.now (c.as_slice-2.ensures ∙ c.in_ok-next_union.ensures.list c.args.encoder.page way.place)
+          _ _ c.in_ok-encoder.encoder e.params e.page (e.encoded _ way.encoded) (n.go c.args.encoder.page way.place);
+      params = e.params;
+      page = next_page _ _ e.page;
+      too_many = tt;
+      first = n.first_graph;
+      second = n.second_graph;
+    }
