@@ -6,17 +6,17 @@ use Rattle.wg_transforms.proofs.uniting.encode_union.Goals as goal
 pub returns-in_err-begun : goal.returns-in_err-begun
 returns-in_err-begun g c =
     let e = err_from_is_err_and c.from_residual.result c.from_residual.ensures.1 in
-    rw (e.1, e.2) record { made = tt; few = tt; too_many = λ is. no_arcs _ _ is; }
+    rw (e.1, e.2) record { made = tt; few = tt; too_many = λ is. no_arcs _ _ is }
 
 pub returns-in_err-encoder : goal.returns-in_err-encoder
 returns-in_err-encoder g c =
     let e = err_from_is_err_and c.from_residual-in_err-encoder.result c.from_residual-in_err-encoder.ensures.1 in
-    rw (e.1, e.2) record { made = tt; few = tt; too_many = c.in_err-encoder.ensures.too_many; }
+    rw (e.1, e.2) record { made = tt; few = tt; too_many = c.in_err-encoder.ensures.too_many }
 
 pub returns-in_err-archive : goal.returns-in_err-archive
 returns-in_err-archive g c =
     let e = err_from_is_err_and c.from_residual-in_err-archive.result c.from_residual-in_err-archive.ensures.1 in
-    rw (e.1, e.2) record { made = tt; few = tt; too_many = λ is. no_arcs _ _ is; }
+    rw (e.1, e.2) record { made = tt; few = tt; too_many = λ is. no_arcs _ _ is }
 
 pub returns : goal.returns
 returns g c =
