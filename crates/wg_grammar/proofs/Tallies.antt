@@ -1,6 +1,6 @@
 -- The numbers that a progress keeps judge a value, and change with it, as the record does.
-use Rattle.std.proofs.Common.{◌≡◌, ℕ, zero, suc, ◌+◌, ◌≤◌, min, Bool, true, false, cond, ltb, List, [], ◌∷◌, ◌++◌, length, Option, Some, None, refl, sym, ap, subst, ◌∙◌, arith, is_none}
-use Rattle.std.proofs.lemmas.Bool.{ltb-true, ltb-false, le-leb, and_parts}
+use Rattle.std.proofs.Common.{◌≡◌, ℕ, zero, suc, ◌+◌, ◌<◌, ◌≤◌, min, Bool, true, false, cond, ltb, List, [], ◌∷◌, ◌++◌, length, Option, Some, None, refl, sym, ap, subst, ◌∙◌, arith, is_none}
+use Rattle.std.proofs.lemmas.Bool.{ltb-true, ltb-false, lt-ltb, le-ltb, le-leb, and_parts}
 use Rattle.std.proofs.lemmas.List.{length_push, get_or_push, nil_from_length}
 use Rattle.wg_params.specs.Parameters.{Parameters}
 use Rattle.wg_params.specs.declared.code.Code.{Code}
@@ -64,6 +64,10 @@ length_named p c (suc v) le = rw (le-leb (suc v) (min p.window c.page) le) refl
 reference_refusal : (b : Bool) (r : Option ℕ) (x y : ℕ) → (b ≡ false → x ≡ y) → cond b (Some kind.Range) (cond (passes r x) (Some kind.Chain) None) ≡ cond b (Some kind.Range) (cond (passes r y) (Some kind.Chain) None)
 reference_refusal true r x y e = refl
 reference_refusal false r x y e = ap (λ (d : ℕ). cond (passes r d) (Some kind.Chain) None) (e refl)
+
+pub chain_refused : (t : Tally) (given : Option Referenced) (v limit : ℕ) → v ≤ min t.params.window t.page → t.params.chain ≡ Some limit → limit < given_depth given → refusal_of t given field.Reference v ≡ Some kind.Chain
+unfolding refusal_of
+chain_refused t given v limit near has deep = rw (le-ltb _ _ near, has, lt-ltb _ _ deep) refl
 
 pub refusal_by_numbers : (p : Parameters) (c : Context) (s : SoFar) (given : Option Referenced) (f : Field) (v : ℕ) → Gives given p c f v → refusal_of (tally p c s) given f v ≡ refusal p c s f v
 unfolding refusal refusal_of
