@@ -1,6 +1,6 @@
 use Rattle.std.specs.Int.{div_ceil}
 use Rattle.std.specs.Simd.Lanes.{zip2}
-use Rattle.std.proofs.Common.{ℕ, ◌≡◌, ◌≢◌, ◌+◌, ◌/◌, ◌%◌, ◌^◌, ◌≤◌, List, [], ap, length, get_or, refl, arith, ◌∙◌}
+use Rattle.std.proofs.Common.{ℕ, zero, suc, ◌≡◌, ◌≢◌, ◌+◌, ◌/◌, ◌%◌, ◌^◌, ◌<◌, ◌≤◌, List, [], ap, length, get_or, refl, sym, subst, arith, ◌∙◌}
 use Rattle.std.proofs.Math.Nat.{div-le_self}
 use Rattle.wg_graph.specs.Digraph.{outdegree}
 use Rattle.wg_rank.specs.Sum.{sum_below}
@@ -11,9 +11,54 @@ use Rattle.wg_rank.specs.declared.limits.TheConstants.{UNITS}
 use Rattle.wg_rank.proofs.Settled.{list_more}
 use Rattle.wg_rank.proofs.Flow.{le_both, div_ceil_le, dangling_room, dangling_more, dangling_same}
 use Rattle.wg_rank.proofs.Runs.{given_le, sums_more_none, sums_more_some, summed_end}
-use Rattle.wg_rank.proofs.Shared.{low_unit, high_unit}
+use Rattle.wg_rank.proofs.Shared.{low_unit, high_unit, all_pages, dangling_all}
 use Rattle.wg_rank.proofs.pulling.share_out.Goals as goal
 use Rattle.wg_rank.proofs.pulling.share_out.Goals.{then-degree-eq0, else-degree-eq0}
+
+-- there is one sum more than pages
+place : (u n m k : ℕ) → m ≡ k → k ≡ n + 1 → u < n → u < m
+place u n m k e f l = omega (arith, e, f, l)
+
+last : (n m k : ℕ) → m ≡ k → k ≡ n + 1 → n < m
+last n m k e f = omega (arith, e, f)
+
+some : (d : ℕ) → d ≢ 0 → 0 < d
+some zero h = absurd (h refl)
+some (suc d) h = omega arith
+
+pub bounds-sums-u : goal.bounds-sums-u
+bounds-sums-u c = place c.loop-u.u (length c.args.low.now) _ _ c.loop-u.auto.sums c.requires.sum_pages c.loop-u-test.true
+
+pub degree-requires : goal.degree-requires
+degree-requires c = subst (λ (n : ℕ). c.loop-u.u < n) (sym c.requires.pages) c.loop-u-test.true
+
+pub bounds-low-u : goal.bounds-low-u
+bounds-low-u c = c.loop-u-test.true
+
+pub bounds-high-u : goal.bounds-high-u
+bounds-high-u c = subst (λ (n : ℕ). c.loop-u.u < n) (sym c.requires.high_pages) c.loop-u-test.true
+
+pub get-outdegree-requires : goal.get-outdegree-requires
+get-outdegree-requires c = some _ c.if-degree-eq0.false
+
+pub bounds-low-u-else-degree-eq0 : goal.bounds-low-u-else-degree-eq0
+bounds-low-u-else-degree-eq0 c = c.loop-u-test.true
+
+pub bounds-high-u-else-degree-eq0 : goal.bounds-high-u-else-degree-eq0
+bounds-high-u-else-degree-eq0 c = subst (λ (n : ℕ). c.loop-u.u < n) (sym c.requires.high_pages) c.loop-u-test.true
+
+pub bounds-sums-low : goal.bounds-sums-low
+bounds-sums-low c = last (length c.args.low.now) _ _ c.loop-u.auto.sums c.requires.sum_pages
+
+pub returns-clause-low_dangling : goal.returns-clause-low_dangling
+returns-clause-low_dangling c =
+    let all : c.loop-u.u ≡ c.args.runs.now.nodes = all_pages c.loop-u.u (length c.args.low.now) _ c.requires.pages c.loop-u.auto.u-end c.loop-u-test.false in
+    dangling_all c.args.runs.now c.loop-u.u c.args.low.now c.loop-u.low_dangling all c.loop-u.invariant.low_rest
+
+pub returns-clause-high_dangling : goal.returns-clause-high_dangling
+returns-clause-high_dangling c =
+    let all : c.loop-u.u ≡ c.args.runs.now.nodes = all_pages c.loop-u.u (length c.args.low.now) _ c.requires.pages c.loop-u.auto.u-end c.loop-u-test.false in
+    dangling_all c.args.runs.now c.loop-u.u c.args.high.now c.loop-u.high_dangling all c.loop-u.invariant.high_rest
 
 pub overflow_add-low_dangling : goal.overflow_add-low_dangling
 overflow_add-low_dangling c =

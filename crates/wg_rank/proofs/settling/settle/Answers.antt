@@ -24,7 +24,7 @@ rest-init g c = record {
 }
 
 pub overflow_add-from : goal.overflow_add-from
-overflow_add-from g c = omega (arith, c.rest-test.true, c.rest.auto.low, c.requires.few)
+overflow_add-from g c = omega (arith, c.rest.auto.low, c.requires.few)
 
 pub fill-requires : goal.fill-requires
 fill-requires g c =
