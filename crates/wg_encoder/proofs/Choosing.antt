@@ -1,5 +1,5 @@
 -- The references of a page that are looked at one after the other.
-use Rattle.std.proofs.Common.{◌≡◌, ◌^◌, ℕ, ◌<◌, ◌≤◌, min, true, List, length, sym, ◌∙◌, inl, inr, arith}
+use Rattle.std.proofs.Common.{◌≡◌, ◌^◌, ℕ, ◌+◌, ◌<◌, ◌≤◌, min, true, List, length, sym, subst, ◌∙◌, inl, inr, arith}
 use Rattle.std.specs.Prelude.{Option, Some, None}
 use Rattle.std.specs.Option.{ForSome}
 use Rattle.std.proofs.lemmas.Bool.{cases_lt, cases_eq, cases_Bool, cond-true, cond-false}
@@ -11,7 +11,7 @@ use Rattle.wg_greedy.specs.Fields.{Written, bits_of_fields, all_have_words, reco
 use Rattle.wg_encoder.specs.Cost.{cost_of}
 use Rattle.wg_greedy.specs.Greedy.{canonical, size_of, is_candidate, chosen}
 use Rattle.wg_greedy.specs.Laws.{IsList}
-use Rattle.wg_encoder.specs.Encoding.{IsBest}
+use Rattle.wg_encoder.specs.Encoding.{IsBest, offer_of}
 use Rattle.wg_greedy.proofs.NoReference.{no_reference_has}
 use Rattle.wg_greedy.proofs.Short.{record_short}
 use Rattle.wg_greedy.proofs.Least.{chosen_candidate, chosen_shortest, within}
@@ -56,3 +56,26 @@ best_chosen p c list n best all is =
         | inr ge ↦ absurd (let l = is.first r (omega arith) may in let k = least.0 in omega (arith, l, k, is.bits))
       ]
     ]
+
+-- a reference that comes next and takes fewer bits is the best so far
+pub best_so_far : (p : Parameters) (c : Context) (list : List ℕ) (n bits : ℕ) (best : Choice) → IsBest p c list n best → offer_of p c list n ≡ Some bits → bits < best.bits
+    → IsBest p c list (n + 1) (record { reference = n; bits = bits })
+best_so_far p c list n bits best is offered fewer = elim (cases_Bool (is_candidate p c list n)) [
+  | inl may ↦ (let same : size_of p c list n ≡ bits = some_is _ _ (sym (cond-true (is_candidate p c list n) (Some (size_of p c list n)) None may) ∙ offered) in record {
+    candidate = may;
+    bits = sym same;
+    among = omega arith;
+    shortest = λ r lt can. elim (cases_lt r n) [
+      | inl low ↦ (let s = is.shortest r low can in omega (arith, s, fewer))
+      | inr high ↦ (let at : r ≡ n = omega arith in subst (λ m. bits ≤ size_of p c list m) (sym at) (omega (arith, same)))
+    ];
+    first = λ r low can. (let s = is.shortest r low can in omega (arith, s, fewer));
+  })
+  | inr none ↦ absurd (no_is bits (sym (cond-false (is_candidate p c list n) (Some (size_of p c list n)) None none) ∙ offered))
+]
+  where
+    some_is : (a b : ℕ) → Some a ≡ Some b → a ≡ b
+    some_is a b e = cc
+
+    no_is : (a : ℕ) → None ≡ Some a → ⊥
+    no_is a e = cc

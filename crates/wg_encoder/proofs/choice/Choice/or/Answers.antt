@@ -3,6 +3,7 @@ use Rattle.std.proofs.lemmas.Bool.{cases_lt, cond-true}
 use Rattle.wg_encoder.specs.Cost.{IsFewer}
 use Rattle.wg_greedy.specs.Greedy.{size_of, is_candidate}
 use Rattle.wg_encoder.specs.Encoding.{offer_of}
+use Rattle.wg_encoder.proofs.Choosing.{best_so_far}
 use Rattle.wg_encoder.proofs.choice.Choice.or.Goals as goal
 
 pub returns-in-None : goal.returns-in-None
@@ -20,3 +21,7 @@ returns-in-None c = λ p k list best fewer.
       ];
       first = best.first;
     }
+
+pub returns-then-bits-self : goal.returns-then-bits-self
+returns-then-bits-self c = λ p k list best fewer.
+    best_so_far p k list _ _ _ best (subst (IsFewer c.args.self.bits (offer_of p k list c.args.reference)) c.in-Some.is fewer) c.if-bits-self.true
