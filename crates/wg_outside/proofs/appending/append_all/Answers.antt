@@ -1,4 +1,5 @@
 use Rattle.std.proofs.Common.{◌-◌, take, drop, List, ℕ, arith, ap, ◌∙◌, length}
+use Rattle.std.proofs.lemmas.List.{take_all}
 use Rattle.wg_outside.proofs.PieceLemmas.{next_piece}
 use Rattle.wg_outside.specs.Outside.{Files, appended}
 use Rattle.wg_outside.proofs.RefusalLemmas.{file_done, file_after, file_exit}
@@ -26,6 +27,11 @@ pub returns-in_err-at-clause-refusals : goal.returns-in_err-at-clause-refusals
 returns-in_err-at-clause-refusals g c =
     file_exit _ _ _ _ _ c.from_residual.ensures.1 (file_after _ _ _ _ _ c.loop-at.invariant.later
     (record { failed = c.in_err-at.ensures.failed; memory = c.in_err-at.ensures.memory; later = c.in_err-at.ensures.later }))
+
+pub returns-clause-ok : goal.returns-clause-ok
+returns-clause-ok g c =
+    let old = g.D.Depot.files c.args.depot.now in
+    λ t. c.loop-at.invariant.out t ∙ ap (λ (l : List ℕ). appended old c.args.name.now l) (take_all c.loop-at.at c.args.piece.now c.loop-at-test.false)
 
 pub returns-clause-refusals : goal.returns-clause-refusals
 returns-clause-refusals g c = file_done _ _ _ _ c.loop-at.invariant.later
