@@ -1,5 +1,5 @@
 use Rattle.wg_codes.specs.Words.{unary, gamma}
-use Rattle.wg_codes.proofs.Prefix.{rest_after}
+use Rattle.wg_codes.proofs.Prefix.{rest_after, restored}
 use Rattle.wg_codes.proofs.Highest.{low_head_cut, low_head_none, low_cut, low_value, low_place}
 use Rattle.wg_codes.proofs.gamma.read_in_steps.Goals as goal
 
@@ -27,3 +27,7 @@ pub returns-in-Some-clause-moves : goal.returns-in-Some-clause-moves
 unfolding gamma
 returns-in-Some-clause-moves c =
     low_place unary _ _ _ _ _ c.in-Value.ensures.moves c.in-Some.ensures.some.1 c.in-Some.ensures.some.0.index
+
+pub returns-in-None-clause-moves : goal.returns-in-None-clause-moves
+returns-in-None-clause-moves c =
+    restored c.args.cursor.now _ _ _ _ _ c.in-Value.ensures.moves c.in-None.ensures.none.1 c.at-start.ensures.offset c.seek_back.ensures
