@@ -1,4 +1,4 @@
-use Rattle.std.proofs.Common.{rules, ◌≡◌, ◌∙◌, max, refl, sym, subst, arith}
+use Rattle.std.proofs.Common.{rules, ◌≡◌, ◌≤◌, ◌∙◌, max, refl, sym, subst, arith}
 use Rattle.std.proofs.lemmas.Result.{err_from_is_err_and}
 use Rattle.wg_encoder.specs.ArchiveInMemory.{HasEncoded}
 use Rattle.wg_shape.specs.Graphs.{lists_of}
@@ -52,6 +52,7 @@ returns g c =
     let first = g.A.Lists.graph c.args.first.now in
     let second = g.B.Lists.graph c.args.second.now in
     let i = c.pages.invariant in
+    let none_left : c.max-nodes.result ≤ c.pages.encoder.page = subst (λ n. c.max-nodes.result ≤ n) c.page.ensures.value c.pages-test.false in
     let all : c.pages.encoder.page ≡ max first.nodes second.nodes = omega arith in
     record {
       params = i.params;

@@ -1,10 +1,15 @@
-use Rattle.std.proofs.Common.{◌∙◌, arith}
+use Rattle.std.proofs.Common.{◌≡◌, ◌∙◌, List, ℕ, ap, arith}
+use Rattle.wg_graph.specs.Digraph.{Digraph, successors}
 use Rattle.wg_shape.specs.Classes.{whole}
 use Rattle.wg_shape.proofs.Quotients.{is_proper}
 use Rattle.wg_transforms.specs.Encoding.{IsNextList}
 use Rattle.wg_transforms.proofs.ranging.QuotienterRanged.add.Goals as goal
 use Rattle.wg_transforms.proofs.ranging.QuotienterRanged.add.Goals.{After-deref}
 use Rattle.wg_transforms.proofs.ranging.QuotienterRanged.add.Given.{Over}
+
+-- the list of a class, under another name of it
+list_at : {list : List ℕ} (g : Digraph) (x y : ℕ) → list ≡ successors g x → x ≡ y → list ≡ successors g y
+list_at g x y is same = is ∙ ap (successors g) same
 
 next : (g : Over) (c : After-deref g) → IsNextList (whole c.args.self.now.pages) c.args.encoder c.deref.result.now
 next g c =
@@ -14,7 +19,7 @@ next g c =
       few = c.nodes.ensures.few;
       so_far = c.requires.so_far;
       page = omega (arith, c.requires.to, c.to.ensures.within);
-      is = c.deref.ensures.value ∙ (rw c.page.ensures.value at c.in_ok-list.ensures.value);
+      is = c.deref.ensures.value ∙ list_at (whole p) _ _ c.in_ok-list.ensures.value (omega arith);
     }
 
 pub add_list-requires : goal.add_list-requires
