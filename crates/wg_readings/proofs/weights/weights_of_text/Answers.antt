@@ -1,4 +1,4 @@
-use Rattle.std.proofs.Common.{◌≡◌, inl, inr, ℕ, nat_eq, true, List, length, sym, ap, subst}
+use Rattle.std.proofs.Common.{◌≡◌, inl, inr, ℕ, nat_eq, true, List, length, sym, ap, subst, arith}
 use Rattle.wg_rank.specs.Sum.{sum_below}
 use Rattle.wg_rank.specs.Intervals.{by_page}
 use Rattle.wg_outcomes.specs.Answers.{Answers}
@@ -30,7 +30,7 @@ returns-then-all_zero c =
     record {
       steps = λ next.
           subst (λ (s : Status). Answers (with_weights c.args.nodes c.args.bytes.now next) s) (sym is)
-          (weights_zero c.args.nodes c.args.bytes.now next c.in-Ok.weights c.in-Ok.ensures.read (some_pages c.args.nodes c.in-Ok.weights _ c.if-nodes-gt0.true c.in-Ok.ensures.count
+          (weights_zero c.args.nodes c.args.bytes.now next c.in-Ok.weights c.in-Ok.ensures.read (some_pages c.args.nodes c.in-Ok.weights _ (omega arith) c.in-Ok.ensures.count
           (sym (subst (λ (ws : List ℕ). true ≡ nat_eq (sum_below (length ws) (by_page ws)) 0) c.as_slice.ensures c.if-all_zero.ensures))));
       only = inr (weights.Zero, is, ap (λ (e : Ending). e.promised) e);
       weights = tt;
