@@ -5,7 +5,7 @@
 //! | of the system: tells no bytes | [`FolderDepot`] | [`StdSink`] |
 //! | in memory | [`SteadyDepot`] | [`SteadySink`] |
 //! | in memory, with a call that is to fail | [`MemoryDepot`] | [`MemorySink`] |
-//! | zeros without end | [`ZeroDepot`] | |
+//! | one file of so many zeros | [`ZeroDepot`] | |
 //!
 //! The traits that they implement, [`Depot`] and [`Sink`], with all that reads and writes by them, are those of
 //! `wg_outside`, and stand here too.

@@ -1,16 +1,16 @@
 //! The offsets of an archive: where each record of the graph file begins.
 //!
 //! An offsets file holds one word for each page and one more, in gamma or delta, and then a tail of zero bits. The
-//! first word is 0, and each later one is the length of a record, in bits. So the sums of the words are the places of
-//! the records, and the last of them is the offset after the last record.
+//! first word is 0, and each later one is the length of a record, in bits. So the sums of the words are the offsets of
+//! the records ([`Offsets::place`]), and the last of them is the offset after the last record.
 //!
 //! [`OffsetWords`] reads such a file word by word, from any source, and keeps the last offset only. [`read`] reads
 //! bytes in memory, and keeps all of them as [`Offsets`]; each names the first fault of the file.
 //! [`Offsets::first_mismatch`] compares the lengths of records that two of them tell, as those of a file and those of
 //! the records that were read; a [`Comparison`] does so record after record. The function of [`laws`] states that each
-//! file has one list of places or one first fault.
+//! file has one list of offsets or one first fault.
 //!
-//! [`Samples`] keep the place of one page in [`SAMPLED`] of a file that was read to its end, and find that of any
+//! [`Samples`] keep the offset of one page in [`SAMPLED`] of a file that was read to its end, and find that of any
 //! other by the words in between, which are read again.
 //!
 //! An offsets file of two bytes, and one that is cut off:

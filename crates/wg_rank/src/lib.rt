@@ -16,10 +16,10 @@
 //! ```
 //!
 //! Three ways lead to the same bounds. [`Bounds::round`] reads the lists of successors in each round. [`Bounds::pull`]
-//! does so too, or goes along what was made of them once. [`wg_runs::Runs`] are of use where the pages that link to one
+//! does so too, or goes along what was made of them once. [`wg_runs::Runs`] are of use if the pages that link to one
 //! page are often neighbours, as those of a folder, so that a few runs hold many arcs. First it adds up what each page
 //! gives to each of its successors, over all pages below each page; a dangling page gives nothing there. What the pages
-//! of a run give is then the difference of two such sums. A [`Pulling`] has the runs and the room for these sums. Where
+//! of a run give is then the difference of two such sums. A [`Pulling`] has the runs and the room for these sums. If
 //! runs are rare, a [`ListPulling`] has [`wg_runs::InLists`], the pages that link to each page one by one, and the room
 //! for what each page gives to each of its successors; what flows to a page is then the sum over its list.
 //!
@@ -60,24 +60,31 @@
 //! or come after the last bound, and the bounds add up to at most 1. Each text gives either one certificate or one
 //! fault ([`laws::certificate_texts`]).
 //!
-//! Bounds take memory by [`Bounds::new`] alone: four numbers of 16 bytes for each page; [`Bounds::weighted`], by which
-//! teleport goes to the pages by weights, takes 8 bytes more, and [`Pulling::new`] and [`ListPulling::new`] 32. The two
-//! sums of what flows to a page lie side by side, so that an arc reaches one place in memory. Between rounds they say
-//! nothing, and [`Bounds::into_parts`] hands them on as room. Writing takes none. A certificate holds 16 bytes for each
-//! page, taken as its lines come. Judging takes 16 more, for what flows to a page below: each new bound is compared as
-//! it is made, and kept nowhere.
+//! | call | memory | time |
+//! |---|---|---|
+//! | [`Bounds::new`] | four numbers of 16 bytes for each page | that of the pages |
+//! | [`Bounds::weighted`] | the same, and 8 bytes for each page | that of the pages |
+//! | [`Pulling::new`], [`ListPulling::new`] | 32 bytes for each page | that of the pages |
+//! | [`Bounds::round`] | none | quotients by its outdegree and by 1000 for each page, and two sums for each arc |
+//! | [`Bounds::pull`] along runs | none | the same for each page; a difference and a sum of four lanes for each run |
+//! | [`Bounds::pull`] along lists of predecessors | none | the same for each page; a sum of four lanes for each arc |
+//! | [`write_certificate`] | none | that of the text |
+//! | [`read_certificate`] | 16 bytes for each page, taken as its lines come | that of the text |
+//! | [`judge`] | 16 bytes more for each page, for what flows to it below | that of a round, with one sum for each arc |
+//!
+//! Bounds take no memory after they are made. By those of [`Bounds::weighted`], teleport goes to the pages by weights.
+//! The two sums of what flows to a page lie side by side, so that an arc reaches one place in memory. Between rounds
+//! they say nothing, and [`Bounds::into_parts`] hands them on as room. [`judge`] does a round of lower bounds alone,
+//! along lists of successors; each new bound is compared as it is made, and kept nowhere.
 //!
 //! A round divides each page's two bounds by its outdegree, once and not for each arc, and what flows in by 1000; by
 //! weights it also divides teleport's two parts for each page, and if each weight is 1 once for all. A quotient by an
 //! outdegree of at most 2048 is two products with its inverse; those of outdegrees below 256 are made once a round, and
-//! take 2 KiB.
-//! For an arc it adds twice. Along runs and lists of predecessors, what a page gives is cut at 40 bits, below and
-//! above, into four lanes of 64 bits, which are added up modulo 2^64: a run takes a difference and a sum of four lanes
-//! each, and a predecessor a sum. What at most 2^24 pages give fits the lanes; longer runs of larger graphs, and longer
-//! lists, are taken in parts of so many pages. Judging does the same as a round along lists of successors with the
-//! lower bounds alone, and adds once. No other sum passes 128 bits: what flows to a page is at most one whole for each
-//! page, so below 2^36 * 10^24, and the damping multiplies it by less than 2^10; a weight is below 2^32, and teleport's
-//! part of 1 is at most 1000 * 10^24 before it is divided.
+//! take 2 KiB. Along runs and lists of predecessors, what a page gives is cut at 40 bits, below and above, into four
+//! lanes of 64 bits, which are added up modulo 2^64. What at most 2^24 pages give fits the lanes; longer runs of larger
+//! graphs, and longer lists, are taken in parts of so many pages. No other sum passes 128 bits: what flows to a page is
+//! at most one whole for each page, so below 2^36 * 10^24, and the damping multiplies it by less than 2^10; a weight is
+//! below 2^32, and teleport's part of 1 is at most 1000 * 10^24 before it is divided.
 #![tactic(auto)]
 
 mod advancing;

@@ -2,8 +2,8 @@
 //!
 //! [`Words`] holds the words after the program's name. [`job`] reads them with `clap`, by the one table of commands and
 //! options in `forms`, and answers the [`Job`]: an enum with a variant for each command, which owns the names and
-//! numbers that the words give. There is no job where `clap` refuses the words, a request for help being such a
-//! refusal, or where a value is out of its range. The definition of the job, `job_of`, is over the matches that `clap`
+//! numbers that the words give. There is no job if `clap` refuses the words, a request for help being such a
+//! refusal, or if a value is out of its range. The definition of the job, `job_of`, is over the matches that `clap`
 //! defines for these words.
 //!
 //! The words of a command, and the job that they ask for:
@@ -25,7 +25,7 @@
 //!
 //! A command that writes an archive takes the options of `options`, and its job has a [`Layout`](wg_params::Layout):
 //! what the words say of the archive's parameters, all but the numbers of pages and arcs. No such job reads one of the
-//! files that it writes. What `recode` and `transpose` take is one `Conversion`, which becomes the job of either.
+//! files that it writes. The commands that read an archive and write another share `Conversion`.
 //!
 //! `rank` and `verify` may name a file of weights. The certificate that `rank` writes is none of the files that it
 //! reads, which the definitions say by `KeepsInputs`.
