@@ -99,7 +99,7 @@ module _ (text first : List ℕ) (words : List (List ℕ)) (is : words_of text �
       → fault_after n last count text ≡ refusal_after n last count a
   entry_fault n count last a e = rw entry (ap (refusal_after n last count) (ap arc_in is ∙ sym e))
 
-  -- its number is judged
+  -- its number is checked
   pub entry_judged : (n limit line before : ℕ) (a : Option ℕ) → a ≡ number_in (first ∷ words)
       → numbers_on n limit line before text ≡ judged n limit line before a
   entry_judged n limit line before a e = rw entry (ap (judged n limit line before) (ap number_in is ∙ sym e))
@@ -167,7 +167,7 @@ module _ (n limit line before number : ℕ) where
 pub as_long : (n : ℕ) (list slice : List ℕ) → slice ≡ list → n ≤ length slice → n ≤ length list
 as_long n list slice same le = subst (λ (l : List ℕ). n ≤ length l) same le
 
--- the list has room where its slice has
+-- the list has room if its slice has
 pub room_left : (n : ℕ) (list slice : List ℕ) → slice ≡ list → length slice < n → length list < n
 room_left n list slice same lt = subst (λ (l : List ℕ). length l < n) same lt
 

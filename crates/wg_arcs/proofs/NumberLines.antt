@@ -179,7 +179,7 @@ one_outcome n limit lines (Err (fault.Count found)) (Ok ys) a b = absurd (number
 one_outcome n limit lines (Err (fault.Count found)) (Err (fault.Line line k)) a b = absurd (sound_or_faulty n limit lines line k a.sound b)
 one_outcome n limit lines (Err (fault.Count found)) (Err (fault.Count found1)) a b = ap (λ (m : ℕ). Err (fault.Count m)) (a.counted ∙ sym b.counted)
 
--- the reading gives this exactly where it is the outcome
+-- the reading gives this exactly if it is the outcome
 given : (n limit : ℕ) (bytes : List ℕ) (w : Result (List ℕ) NumbersFault) → numbers_of n limit bytes ≡ w → IsOutcome n limit (lines_of bytes) w
 given n limit bytes w e = subst (IsOutcome n limit (lines_of bytes)) e (outcome n limit bytes)
 

@@ -44,7 +44,7 @@ module _ (n limit : ℕ) where
       ∙ ap (λ ls. after_these xs (numbers_from n limit line (length xs) ls)) cut
       ∙ ap (λ told. after_these xs (and_then told (λ these. and_then (numbers_from n limit (line + 1) (length xs + length these) after) (λ others. Ok (these ++ others))))) on
 
-  -- a line is refused, or memory is wanting
+  -- a line is refused, or memory runs out
   pub refused : (line : ℕ) (all : Result (List ℕ) NumbersFault) (xs text : List ℕ) (rest after : List (List ℕ))
       (e : NumbersError) → rest ≡ text ∷ after → all ≡ after_these xs (numbers_from n limit line (length xs) rest)
       → IsRefused (numbers_on n limit line (length xs) text) e → AreRead all (Err e)

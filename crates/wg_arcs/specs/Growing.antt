@@ -9,7 +9,7 @@ use Rattle.wg_arcs.specs.declared.fault.ArcsKind.{ArcsKind}
 use Rattle.wg_arcs.specs.declared.fault.ArcsError.{ArcsError}
 use Rattle.wg_arcs.specs.declared.fault.ArcsError.TheVariants as error
 
--- the arc may come after so many, of which this is the last one, where n pages are given
+-- the arc may come after so many, of which this is the last one, if n pages are given
 pub record MayCome (n : ℕ) (last : Option (ℕ × ℕ)) (count : ℕ) (a : ℕ × ℕ) : Type 0 where
   pub source : a.0 < n
   pub target : a.1 < n

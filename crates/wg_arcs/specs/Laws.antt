@@ -28,12 +28,12 @@ pub record TextsAreOne : Type 0 where
 abbrev pub TextsAreSome : Type 0
 TextsAreSome = (n : ℕ) (bytes : List ℕ) → (w : Result Digraph (ℕ × ArcsKind)) × IsListed n bytes w
 
--- A text gives these numbers exactly where no line is faulty and they are those of the lines, as many as are wanted.
+-- A text gives these numbers exactly if no line is faulty and they are those of the lines, as many as are wanted.
 abbrev pub NumbersAreThose : Type 0
 NumbersAreThose = (n limit : ℕ) (bytes xs : List ℕ)
     → (numbers_of n limit bytes ≡ Ok xs) ↔ AreNumbers n limit (lines_of bytes) xs
 
--- It gives this fault exactly where this is its first one.
+-- It gives this fault exactly if this is its first one.
 abbrev pub FaultsAreFirst : Type 0
 FaultsAreFirst =
     (n limit : ℕ) (bytes : List ℕ) (f : NumbersFault)

@@ -1,4 +1,4 @@
--- The numbers that a text stands for, where n of them below a limit are wanted, or its first fault.
+-- The numbers that a text stands for, if n of them below a limit are wanted, or its first fault.
 use Rattle.std.specs.Prelude.{◌≡◌, ℕ, ◌+◌, ◌<◌, nat_le, nat_lt, if◌then◌else◌, List, [], ◌++◌, length, take, get_or}
 use Rattle.std.specs.Prelude.{map, codes, decimal, Option, Some, None, Result, Ok, Err}
 use Rattle.std.specs.List.{filter_map}
@@ -65,7 +65,7 @@ pub record AreTooFew (n limit : ℕ) (lines : List (List ℕ)) (found : ℕ) : T
   pub counted : found ≡ length (numbers_in lines)
   pub few : found < n
 
--- the first fault: a faulty line, or, where none is, that numbers are missing
+-- the first fault: a faulty line, or, if none is, that numbers are missing
 abbrev pub IsFirstNumberFault : ℕ → ℕ → List (List ℕ) → NumbersFault → Type 0
 IsFirstNumberFault n limit lines (fault.Line line kind) = IsFirstFaultyLine n limit lines line kind
 IsFirstNumberFault n limit lines (fault.Count found) = AreTooFew n limit lines found
@@ -75,7 +75,7 @@ abbrev pub IsOutcome : ℕ → ℕ → List (List ℕ) → Result (List ℕ) Num
 IsOutcome n limit lines (Ok xs) = AreNumbers n limit lines xs
 IsOutcome n limit lines (Err f) = IsFirstNumberFault n limit lines f
 
--- the text stands for these numbers, or this is its first fault, or memory was wanting
+-- the text stands for these numbers, or this is its first fault, or memory ran out
 abbrev pub AreListed : ℕ → ℕ → List ℕ → Result (List ℕ) NumbersError → Type 0
 AreListed n limit bytes (Ok xs) = AreNumbers n limit (lines_of bytes) xs
 AreListed n limit bytes (Err (error.Fault f)) = IsFirstNumberFault n limit (lines_of bytes) f

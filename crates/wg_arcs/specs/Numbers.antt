@@ -15,14 +15,14 @@ abbrev pub number_in : List (List ℕ) → Option ℕ
 number_in (word ∷ []) = number_of word
 number_in words = None
 
--- a line's number after so many others, where n below a limit are wanted, or why the line is refused
+-- a line's number after so many others, if n below a limit are wanted, or why the line is refused
 abbrev pub judged : ℕ → ℕ → ℕ → ℕ → Option ℕ → Result (List ℕ) NumbersFault
 judged n limit line before None = Err (fault.Line line kind.Shape)
 judged n limit line before (Some v) =
     if nat_le limit v then Err (fault.Line line kind.Range)
     else if nat_lt before n then Ok (v ∷ []) else Err (fault.Line line kind.TooMany)
 
--- the numbers on a line, none where it is skipped, and one or a fault elsewhere
+-- the numbers on a line, none if it is skipped, and one or a fault elsewhere
 abbrev pub numbers_on : ℕ → ℕ → ℕ → ℕ → List ℕ → Result (List ℕ) NumbersFault
 numbers_on n limit line before text =
     if is_skipped (words_of text) then Ok [] else judged n limit line before (number_in (words_of text))
@@ -44,7 +44,7 @@ numbers_from n limit line before (text ∷ lines) =
 unfoldable pub numbers_of : ℕ → ℕ → List ℕ → Result (List ℕ) NumbersFault
 numbers_of n limit bytes = numbers_from n limit 1 0 (lines_of bytes)
 
--- these are the numbers, or this is the first fault, or memory was wanting
+-- these are the numbers, or this is the first fault, or memory ran out
 abbrev pub AreRead : Result (List ℕ) NumbersFault → Result (List ℕ) NumbersError → Type 0
 AreRead told (Ok list) = told ≡ Ok list
 AreRead told (Err (error.Fault f)) = told ≡ Err f
@@ -54,7 +54,7 @@ AreRead told (Err error.Memory) = Unit {0}
 abbrev pub AreAdded : Result (List ℕ) NumbersFault → List ℕ → List ℕ → Type 0
 AreAdded told old new = (these : List ℕ) × (told ≡ Ok these) × (new ≡ old ++ these)
 
--- the line has this fault, or memory was wanting
+-- the line has this fault, or memory ran out
 abbrev pub IsRefused : Result (List ℕ) NumbersFault → NumbersError → Type 0
 IsRefused told (error.Fault f) = told ≡ Err f
 IsRefused told error.Memory = Unit {0}

@@ -19,7 +19,7 @@ abbrev pub is_skipped : List (List ℕ) → Bool
 is_skipped [] = true
 is_skipped (word ∷ words) = slice_index word 0 == 35
 
--- two numbers, where both are there
+-- two numbers, if both are there
 abbrev pub both : Option ℕ → Option ℕ → Option (ℕ × ℕ)
 both (Some u) (Some v) = Some (u, v)
 both a b = None
@@ -53,7 +53,7 @@ refusal_after n last count (Some arc) =
     if nat_le n arc.0 || nat_le n arc.1 then Some kind.Range else if not (is_after last arc) then Some kind.Order
     else if nat_lt count MOST_ARCS then None else Some kind.TooMany
 
--- what is wrong with a line after so many arcs, of which this is the last one, where n pages are given
+-- what is wrong with a line after so many arcs, of which this is the last one, if n pages are given
 abbrev pub fault_after : ℕ → Option (ℕ × ℕ) → ℕ → List ℕ → Option ArcsKind
 fault_after n last count line = if is_skipped (words_of line) then None
     else refusal_after n last count (arc_in (words_of line))
@@ -81,7 +81,7 @@ pub record IsFirstFault (n : ℕ) (lines : List (List ℕ)) (line : ℕ) (kind :
   pub fault : fault_at n lines index ≡ Some kind
   pub sound : (i : ℕ) → i < index → fault_at n lines i ≡ None
 
--- the text stands for this graph of n pages, or this is its first fault, or memory was wanting
+-- the text stands for this graph of n pages, or this is its first fault, or memory ran out
 abbrev pub IsRead : ℕ → List ℕ → Result Digraph ArcsError → Type 0
 IsRead n bytes (Ok g) = AreArcs n (lines_of bytes) g
 IsRead n bytes (Err (error.Line line kind)) = IsFirstFault n (lines_of bytes) line kind

@@ -171,7 +171,7 @@ impl ArcLines {
         }
     }
 
-    // The same, where lines of this page begin with these bytes.
+    // The same, if lines of this page begin with these bytes.
     #[inline(always)]
     fn read_next<'a>(
         &mut self,

@@ -13,8 +13,8 @@ pub fn one_graph()
     ensures some { TextsAreSome }
 {}
 
-/// A text of numbers gives numbers exactly where no line is faulty and they are those of the lines, and a fault exactly
-/// where it is the first one; so each text has one outcome. Numbers below a limit, written one on a line, are read as
+/// A text of numbers gives numbers exactly if no line is faulty and they are those of the lines, and a fault exactly
+/// if it is the first one; so each text has one outcome. Numbers below a limit, written one on a line, are read as
 /// these numbers.
 pub fn numbers_texts()
     ensures numbers { NumbersAreThose }

@@ -27,7 +27,7 @@
 //! ```
 //!
 //! [`read_numbers`] reads a text of as many numbers as are wanted, each below a limit and on a line of its own, or
-//! names its first fault, a [`NumbersFault`]: the first faulty line, or, where no line is faulty, that numbers are
+//! names its first fault, a [`NumbersFault`]: the first faulty line, or, if no line is faulty, that numbers are
 //! missing. Blanks, lines without words, comments and a CR are as in the text of a graph. Each text gives either its
 //! numbers or one fault, and numbers written one on a line are read as these numbers ([`laws::numbers_texts`]).
 //!

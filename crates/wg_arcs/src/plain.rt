@@ -4,7 +4,7 @@ ghost use Rattle.wg_arcs.specs.Text.{arc_line};
 
 use wg_num::leading_decimal;
 
-// The text after its first byte, where that is this one.
+// The text after its first byte, if that is this one.
 #[inline(always)]
 fn after(text: &[u8], byte: u8) -> Option<&[u8]>
     ensures { IfSome result (λ rest. text.now ≡ byte ∷ rest.now) }
@@ -15,7 +15,7 @@ fn after(text: &[u8], byte: u8) -> Option<&[u8]>
     None
 }
 
-/// The arc of the first line and the text after it, where the line is two numbers, one space between them, and its end.
+/// The arc of the first line and the text after it, if the line is two numbers, one space between them, and its end.
 /// It goes over the line once.
 #[inline(always)]
 pub fn plain_arc(text: &[u8]) -> Option<(u64, u64, &[u8])>
@@ -46,7 +46,7 @@ fn begins_with(text: &[u8], front: &[u8]) -> bool
     true
 }
 
-/// The second number of the first line and the text after it, where the line is in that form and begins with `start`:
+/// The second number of the first line and the text after it, if the line is in that form and begins with `start`:
 /// the digits of this page, and a space. It goes over the line once.
 #[inline(always)]
 pub fn plain_arc_of<'a>(page: u64, start: &[u8], text: &'a [u8]) -> Option<(u64, &'a [u8])>

@@ -71,7 +71,7 @@ none_line text after list first is end none =
 pub none_room : (arcs : ℕ) (list : List ℕ) → list ≡ [] → arcs ≤ MOST_ARCS → arcs + length list ≤ MOST_ARCS
 none_room arcs list none room = omega (arith, ap length none, room)
 
--- the number is added where it is no want of memory
+-- the number is added if memory did not run out
 pub added : {E : Type 0} (r : Result (Unit {0}) E) (list new : List ℕ) (v : ℕ) → OnOk r (new ≡ list ++ v ∷ [])
     → false ≡ is_err r → new ≡ list ++ v ∷ []
 added (Ok done) list new v ok fine = ok

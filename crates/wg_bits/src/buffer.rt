@@ -67,7 +67,7 @@ impl Buffer {
         self.len += 8;
     }
 
-    /// Sends all bytes out, by one call where the depot takes them all. Those that it does not take are lost.
+    /// Sends all bytes out, by one call if the depot takes them all. Those that it does not take are lost.
     #[cold]
     #[inline(never)]
     pub(crate) fn send<D: Depot>(&mut self, depot: &mut D, name: &str) -> Result<(), WriteError>
@@ -80,7 +80,7 @@ impl Buffer {
         sent
     }
 
-    /// Puts a word, and sends all bytes out where there is no room for another one then.
+    /// Puts a word, and sends all bytes out if there is no room for another one then.
     #[inline(never)]
     pub(crate) fn put<D: Depot>(
         &mut self,

@@ -12,7 +12,7 @@ use std::marker::Model;
 ///
 /// A call that answers `None` leaves it where it was. The readers of codes look ahead with [`peek`](Cursor::peek), know
 /// by [`remaining`](Cursor::remaining) whether what they saw is there, and then move once, with
-/// [`advance`](Cursor::advance); where a word turns out to be cut they go [`seek_back`](Cursor::seek_back).
+/// [`advance`](Cursor::advance); if a word turns out to be cut they go [`seek_back`](Cursor::seek_back).
 #[derive(Clone, Debug, Drop)]
 pub struct Cursor<'a> {
     bytes: &'a [u8],

@@ -61,7 +61,7 @@ module _ (name : List ℕ) (td : Bool) (files files' : Files) (counts counts' : 
     later = later;
   }
 
-  -- ---- memory was out, or a line is at fault
+  -- ---- memory ran out, or a line is at fault
   pub text_wants : (e : Ending) → e.status ≡ Memory → LoadsText name td files files' counts counts' (Err e)
   text_wants e want = record {
     steps = λ t r next. inr (subst IsHindrance (sym want) tt);

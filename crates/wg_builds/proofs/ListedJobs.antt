@@ -63,7 +63,7 @@ list_unread_after name n td f g h a b c e same later l = record {
 }
 
 module _ (name : List ℕ) (n : ℕ) (td : Bool) (files files' : Files) (counts counts' : List ℕ → Counts) (same : files' ≡ files) (later : NonDecreasing counts counts') where
-  -- ---- memory was out, or a line is at fault
+  -- ---- memory ran out, or a line is at fault
   list_wants : (e : Ending) → e.status ≡ Memory → LoadsList name n td files files' counts counts' (Err e)
   list_wants e want = record {
     steps = λ t r next. inr (subst IsHindrance (sym want) tt);

@@ -22,7 +22,7 @@ abbrev pub status_of_list : ArcsError → Status
 status_of_list (error.Line line kind) = BadArcs line kind
 status_of_list error.Memory = Memory
 
--- memory was out, or this is the first fault of these lines
+-- memory ran out, or this is the first fault of these lines
 abbrev pub IsFault : ℕ → List (List ℕ) → ArcsError → Type 0
 IsFault n all e = (e ≡ error.Memory) ⊎ IsFirst n all e
 

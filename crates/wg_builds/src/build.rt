@@ -14,7 +14,7 @@ use wg_words::Name;
 use wg_writing::build_archive;
 
 /// Writes the greedy archive of a graph that is listed arc by arc, and prints the line of what it holds. It goes
-/// through the list once, and judges all of it before it touches a file. It holds up to 65536 bytes of the list and
+/// through the list once, and validates all of it before it touches a file. It holds up to 65536 bytes of the list and
 /// the line that they cut, the list of one page, and the archive, in most graphs little more than a byte an arc and two
 /// a page, and up to twice that while it grows.
 pub fn build<D: Depot, O: Sink>(

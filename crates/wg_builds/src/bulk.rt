@@ -9,9 +9,9 @@ use std::alloc::Global;
 use wg_outcomes::{Ending, print_piece};
 use wg_outside::Sink;
 
-/// Writes the archive of the generated graph of so many pages in memory, judges it as `check` does, ranks the pages of
-/// the graph that its bytes stand for, and prints in six lines what comes of this. It makes no call of a depot but its
-/// own, and the archive is never refused: out of memory or a fault of the output alone can stop it.
+/// Writes the archive of the generated graph of so many pages in memory, validates it as `check` does, ranks the pages
+/// of the graph that its bytes stand for, and prints in six lines what comes of this. It makes no call of a depot but
+/// its own, and the archive is never refused: out of memory or a fault of the output alone can stop it.
 ///
 /// First it holds the generated graph and the archive, then the archive and what `check` holds; then the archive, the
 /// bytes of its graph file again and the graph that they stand for; and last this graph and the bounds of its pages. A

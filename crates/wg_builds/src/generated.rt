@@ -37,14 +37,14 @@ fn build(alloc: Global, seed: u64, pages: u64) -> Result<EncodedArchive, Ending>
     encode_graph(alloc, &params, &graph)
 }
 
-// An archive that was judged.
+// An archive that was validated.
 #[derive(Drop)]
 struct Checked {
     params: Params,
     bits: u64,
 }
 
-// Judges the archive as `check` does.
+// Validates the archive as `check` does.
 fn judge(alloc: Global, base: &Name, depot: &mut SteadyDepot) -> Result<Checked, Ending>
     ensures same { depot.new.files ≡ depot.old.files }
     ensures params { (g : Digraph) → IsBuilt g base.now depot.old.files → IfOk result (λ j. j.params ≡ bulk_params g) }
@@ -80,7 +80,7 @@ fn rounded(
     Ok(last_bounds(first, &mut lists, BULK_ROUNDS))
 }
 
-// What comes of an archive that was judged, by the bounds of its pages.
+// What comes of an archive that was validated, by the bounds of its pages.
 fn summed(checked: &Checked, referring: u64, bounds: Bounds) -> Outcome
     ensures { (r : Readings) (g : Digraph) → checked.now.params ≡ bulk_params g
         → checked.now.bits ≡ length (graph_bits (bulk_params g) g.lists)
@@ -98,8 +98,8 @@ fn summed(checked: &Checked, referring: u64, bounds: Bounds) -> Outcome
     }
 }
 
-/// Encodes the archive of the generated graph of so many pages in memory, judges it, ranks the pages of the graph that
-/// its bytes stand for, and answers what comes of this. Out of memory alone can stop it: what was written is not
+/// Encodes the archive of the generated graph of so many pages in memory, validates it, ranks the pages of the graph
+/// that its bytes stand for, and answers what comes of this. Out of memory alone can stop it: what was written is not
 /// refused.
 pub fn try_generated(alloc: Global, seed: u64, pages: u64) -> Result<Outcome, Ending>
     requires { pages ≤ MOST_GENERATED }

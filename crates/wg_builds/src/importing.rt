@@ -147,7 +147,7 @@ fn encode_pages<D: Depot>(
 }
 
 /// The archive of the graph that a plain text holds, and its parameters. It goes through the text once, and holds a
-/// piece of it with the line that the piece cuts, the list of one page, and the archive. Each line is judged as it
+/// piece of it with the line that the piece cuts, the list of one page, and the archive. Each line is validated as it
 /// comes; after a fault the archive is let go.
 pub fn encode_text<D: Depot>(
     alloc: Global,

@@ -5,7 +5,7 @@
 //! no call of a depot, has it of any depot by `DoesAlone`. `build` and `import` read their text in pieces, line after
 //! line, and encode the list of a page when the page is over; they hold the archive in memory, one list, and a piece
 //! with the line that it cuts. The last step, [`wg_writing::build_archive`], writes that archive and prints its line.
-//! So no file is touched before the text is judged to its end and the archive is whole.
+//! So no file is touched before the text is validated to its end and the archive is whole.
 //!
 //! The archive `g` of two pages, of the arc list that is the file `a` of any depot:
 //!

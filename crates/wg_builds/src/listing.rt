@@ -159,7 +159,7 @@ fn encode_lines<D: Depot>(
 
 /// The archive of the graph of so many pages that an arc list holds, and its parameters. It goes through the list
 /// once, and holds a piece of it with the line that the piece cuts, the list of one page, and the archive. Each line is
-/// judged as it comes; after a fault the archive is let go.
+/// validated as it comes; after a fault the archive is let go.
 pub fn encode_list<D: Depot>(
     alloc: Global,
     nodes: u64,

@@ -1,4 +1,4 @@
--- The jobs that write an archive, and what is left of all jobs where some are taken out.
+-- The jobs that write an archive, and what is left of all jobs if some are taken out.
 use Rattle.std.proofs.Common.{◌≡◌, ◌≢◌, ℕ, Bool, true, false, List, Option, refl, sym, ◌∙◌}
 use Rattle.std.specs.Bool.{IsTrue}
 use Rattle.wg_outside.specs.declared.depot.Depot as depot

@@ -16,7 +16,7 @@ use Rattle.wg_laws.proofs.RoundsLemmas.{text_ranked}
 use Rattle.wg_outcomes.proofs.RankLemmas.{proven}
 use Rattle.wg_laws.proofs.WeightsLemmas.{weights_behind}
 
--- Done is the status of the judgement itself
+-- Done is the status of the validation itself
 pub when_done : (j : Judged) → Answers j Done → Done ≡ status_of j
 when_done j (inl is) = is
 when_done j (inr hinders) = absurd hinders

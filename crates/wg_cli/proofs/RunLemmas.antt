@@ -1,4 +1,4 @@
--- How a run ends: with the job that is wanted, or before it was begun, since memory was out.
+-- How a run ends: with the job that is wanted, or before it was begun, since memory ran out.
 use Rattle.std.specs.Bool.{IsTrue}
 use Rattle.std.proofs.Common.{◌≡◌, inr, Bool, true, false, Some, None, refl, subst}
 use Rattle.wg_outside.proofs.FilesLemmas.{none_falls-refl}

@@ -1,4 +1,4 @@
--- What runs where nothing outside is at fault tells no fault.
+-- What runs if nothing outside is at fault reports no fault.
 use Rattle.std.proofs.Common.{◌≡◌, ◌≢◌, ◌⊎◌, inl, inr, ℕ, List, arith, refl, sym, ◌∙◌, subst, Option, Some, None}
 use Rattle.wg_outside.specs.Outside.{Counts, Increased}
 use Rattle.wg_outside.specs.declared.output.Output.{Output}
@@ -28,7 +28,7 @@ module _ (old new : List ℕ → Counts) (faults faults' : ℕ) (quiet : AreFaul
       no_fault_in (input_name job) (output_name job) old new faults faults' quiet o
       (subst (λ (x : Status). HasCause (input_name job) (output_name job) old new faults faults' x) is (some job refl))
 
--- what counts no fault reports only in part where it was out of memory
+-- what counts no fault reports only in part if it was out of memory
 in_want : (W : Type 0) → Increased 0 0 ⊎ W → W
 in_want W (inl (inl less)) = absurd (omega (arith, less))
 in_want W (inl (inr last)) = absurd (omega (arith, last))

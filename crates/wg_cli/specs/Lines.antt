@@ -13,7 +13,7 @@ use Rattle.wg_outcomes.specs.declared.status.SecondFault.TheVariants as second
 use Rattle.wg_outcomes.specs.Second.{second_input}
 use Rattle.wg_cli.specs.Texts.{text_of_line, text_of_properties, text_of_archive, text_of_numbers, text_of_weights, text_of_plain, text_of_certificate, no_page_line}
 
--- a line that names a file; none where the job has no such file
+-- a line that names a file; none if the job has no such file
 abbrev pub naming : List ℕ → Option (List ℕ) → List ℕ → List ℕ
 naming before None after = []
 naming before (Some name) after = before ++ name ++ after ++ codes "\n"
@@ -33,7 +33,7 @@ abbrev pub certificate_in : Option (List ℕ) → Output → Option (List ℕ)
 certificate_in None o = None
 certificate_in (Some name) o = certificate_to name o
 
--- The line of a status, where the properties promise so many arcs or pages.
+-- The line of a status, if the properties promise so many arcs or pages.
 abbrev pub line_of : Option Job → ℕ → Status → List ℕ
 line_of job promised Done = []
 line_of job promised Usage = codes "wg: bad command line\n"
@@ -63,6 +63,6 @@ line_of job promised (BadMap f) =
 line_of job promised (BadCertificate f) =
     naming (codes "wg: ") (name_in job input.Certificate) (codes ": " ++ text_of_certificate f)
 
--- the line is there, or a prefix of it, and this only where the sink failed
+-- the line is there, or a prefix of it, and this only if the sink failed
 abbrev pub Reports : List ℕ → List ℕ → List ℕ → Type 0 → Type 0
 Reports line old new failed = (new ≡ old ++ line) ⊎ ((k : ℕ) × (k < length line) × (new ≡ old ++ take k line) × failed)

@@ -32,7 +32,7 @@ abbrev pub some_calls_depot : Option Job → Bool
 some_calls_depot None = false
 some_calls_depot (Some job) = calls_depot job
 
--- what its properties promise, where the line of the status names it
+-- what its properties promise, if the line of the status names it
 abbrev pub ArePromisedBy : Option Job → Files → Status → ℕ → Type 0
 ArePromisedBy None files status promised = Unit {0}
 ArePromisedBy (Some job) files status promised = ArePromised (held_by (input_name job) files) status promised

@@ -4,7 +4,7 @@
 //! [`run`] is the one call. It asks `wg_words` for the job, has `perform` do it by the commands of `wg_lookups`,
 //! `wg_queries`, `wg_builds` and `wg_transforms`, reports how it ended, and returns the [`Status`]. Its contract spells
 //! out what is promised of a job (`Performs`), by the words and by what each input holds: which status comes, what
-//! stands on the output and in the files, and that faults of the outside are reported only where their counts rose.
+//! stands on the output and in the files, and that faults of the outside are reported only if their counts rose.
 //! Besides it says which line is reported (`line_of`). [`run_in_memory`] is the same over files and outputs in memory,
 //! which are never at fault. [`report`] writes such a line alone, for whoever can't collect the words.
 //!

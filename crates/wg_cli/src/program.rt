@@ -51,7 +51,7 @@ pub fn run<D: Depot, O: Sink, E: Sink>(
         → AreFaultless (D.counts depot.old) (D.counts depot.new) (O.faults out.old) (O.faults out.new)
         → (result ≡ status_of (judged_on r job (D.files depot.old))) ⊎ (result ≡ Status.Memory) }
 
-    // A fault or an absence is told only if the outside counted it, and only if the job had come so far.
+    // A fault or an absence is reported only if the outside counted it, and only if the job had come so far.
     ensures causes { (job : Job) → job_of words.now ≡ Some job
         → HasCause (input_name job) (output_name job) (D.counts depot.old) (D.counts depot.new)
         (O.faults out.old) (O.faults out.new) result }
@@ -62,7 +62,7 @@ pub fn run<D: Depot, O: Sink, E: Sink>(
         → status_of (judged_on r job (D.files depot.old)) ≡ Status.Done }
 
     // What is printed comes last, but for the jobs that print while they read: nothing is printed at a refusal, at a
-    // read fault, if a file could not be written, or if memory was out before the files were whole.
+    // read fault, if a file could not be written, or if memory ran out before the files were whole.
     ensures silent { (job : Job) → job_of words.now ≡ Some job → prints_while_reading job ≡ false
         → IsPutLast result (O.taken out.old) (O.taken out.new) }
     ensures printed_last { IsTrue D.told → (r : Readings) (job : Job) → job_of words.now ≡ Some job

@@ -20,7 +20,7 @@ use wg_io::{SteadyDepot, SteadySink};
 use wg_words::Words;
 
 /// Does what the words ask for over files and outputs in memory, of which none is ever at fault: the status is the
-/// one that the job and its files lead to, with its output, its files and its line; or memory was out.
+/// one that the job and its files lead to, with its output, its files and its line; or memory ran out.
 pub fn run_in_memory(
     alloc: Global,
     words: &Words,

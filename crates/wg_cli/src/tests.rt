@@ -12,7 +12,7 @@ mod spelling;
 use cases::{Cases, WHOLE};
 use rows::WRONG;
 
-// What is told of the rows that are not so, where a call moves at most so many bytes.
+// What is reported of the rows that are not so, if a call moves at most so many bytes.
 fn wrong_rows(alloc: Global, piece: u64, texts: &[&str]) -> Result<String, AllocError> {
     let mut cases = Cases::new(alloc, piece);
     let mut wrong = String::new(alloc);
@@ -31,7 +31,7 @@ fn go_through(cases: &mut Cases, text: &str, wrong: &mut String) -> Result<(), A
     Ok(())
 }
 
-// The rows at the end are spoiled: they alone are wrong, and what is told of them is known.
+// The rows at the end are spoiled: they alone are wrong, and what is reported of them is known.
 #[test]
 fn worked_rows(rt: HostRuntime) -> Result<(), Fail> {
     let rows = rows::rows();

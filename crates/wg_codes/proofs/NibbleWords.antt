@@ -181,7 +181,7 @@ first_digit (suc n) v x y f e =
     (λ (low : 8 ^ suc n ≤ v). let least : 1 ≤ v / 8 ^ suc n = le-div 1 v (8 ^ suc n) pos (omega arith) in omega arith)
     f.1
 
--- a word's first digit is not zero, where it is not the last
+-- a word's first digit is not zero, if it is not the last
 pub zero_first : (z y : List Bool) → z ≡ false ∷ (low_bits 3 0 ++ y) → Reads nibble (2 ^ 63 - 1) z NoWord
 unfolding open_digits
 zero_first z y e = none_from z (λ v x w l h. first_digit (highest v / 3) v x (y ++ w) (full_of v l).0

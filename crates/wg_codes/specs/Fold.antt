@@ -15,7 +15,7 @@ abbrev pub unfolded_from : ℕ → ℕ → Option ℕ
 unfolded_from x v =
     if v % 2 == 0 then Some (x + v / 2) else if nat_le (v / 2 + 1) x then Some (x - (v / 2 + 1)) else None
 
--- The number that a stored gap v means: where nothing comes before it, the one whose distance from x folds to v; else
+-- The number that a stored gap v means: if nothing comes before it, the one whose distance from x folds to v; else
 -- its distance from what comes before, less 1, is v.
 abbrev pub number_of_gap : ℕ → Option ℕ → ℕ → Option ℕ
 number_of_gap x None v = unfolded_from x v

@@ -64,7 +64,7 @@ fn read_in_steps(code: Code, mut cursor: Cursor<'_>) -> (Read, u64)
     (read, cursor.at() - start)
 }
 
-/// The word that 64 bits begin with, the first of them the number's highest. It is told of unary, gamma and zeta, where
+/// The word that 64 bits begin with, the first of them the number's highest. It is told of unary, gamma and zeta, if
 /// it lies within the 64 bits with some room; of other words there is none.
 #[inline(always)]
 pub fn word_in(code: Code, window: u64) -> Option<Word>

@@ -40,7 +40,7 @@ pub fn unfold_from(from: u64, value: u64) -> Option<u64>
     Some(from.wrapping_add(far))
 }
 
-/// The number that a stored gap means, where it is known to mean one: by its distance from `from`, where nothing comes
+/// The number that a stored gap means, if it is known to mean one: by its distance from `from`, if nothing comes
 /// before it; else by its distance from `before`, less 1.
 #[inline(always)]
 pub fn number_of_gap(from: u64, before: Option<u64>, gap: u64) -> u64

@@ -29,7 +29,7 @@ pub fn number(cursor: &mut Cursor<'_>, index: u32) -> Option<u64>
 }
 
 // A head in unary, and behind it a field of `width` bits. The one of the head is put as a bit more of the field, and
-// its zeros with them, where all of these fit a word.
+// its zeros with them, if all of these fit a word.
 #[inline(always)]
 pub fn put_headed<D: Depot>(
     writer: &mut Writer,

@@ -1,4 +1,4 @@
-//! Zeta with a shrinking factor k, as the WebGraph paper of Boldi and Vigna has it: with y one more than the value, m
+//! Zeta with the parameter k, as the WebGraph paper of Boldi and Vigna has it: with y one more than the value, m
 //! the index of its highest one, h = m / k and least = 2^(hk), the unary word of h, then y in its shortened form:
 //! y - least in hk + k - 1 bits if that is below least, else y in hk + k bits. The words of k = 3, and of k = 2:
 //!

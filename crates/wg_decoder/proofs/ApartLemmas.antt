@@ -72,7 +72,7 @@ window_of : (t : Tally) → tests t field.Reference → 0 < t.params.window
 unfolding tests
 window_of t h = ltb-true 0 t.params.window (and_parts (ltb 0 t.params.window) (is_none t.reference) h.0).0
 
--- it comes only where the archive has a window
+-- it comes only if the archive has a window
 pub refers_window : (p : Parameters) (c : Context) (d : ℕ) → RefersNext p c d → 0 < p.window
 refers_window p c d e =
     let t = tally p c (of_outdegree d) in window_of t (tests_at t p.references (sym (next_by_numbers p c (of_outdegree d)) ∙ e))
@@ -180,7 +180,7 @@ head_refused p c bits start e h = of_part h.0 h.1
         let read = outdegree_leads p c bits start k.0 k.1 k.2 in
         (read.0, of_outdegree k.0, k.1, read.1, (subst (λ (m : Need). Refused m p c bits start (of_outdegree k.0) k.1 e) (sym k.3.0) k.3.1, page))
 
--- ---- whatever the pages before are, where chains may have any length
+-- ---- whatever the pages before are, if chains may have any length
 
 pub stands_anywhere : (p : Parameters) (page arcs_before : ℕ) (behind others : List Known) (bits : List Bool) (start d r end : ℕ) → HeadStands (endless p) (context_at page arcs_before behind) bits start d r end →
     HeadStands (endless p) (context_at page arcs_before others) bits start d r end

@@ -1,4 +1,4 @@
--- Records on their own, where no page before is known but the one that they refer to.
+-- Records on their own, when no page before is known but the one that they refer to.
 use Rattle.std.specs.Prelude.{◌≡◌, ◌⊎◌, ℕ, Bool, List, length, replicate, Result}
 use Rattle.wg_params.specs.Parameters.{Parameters}
 use Rattle.wg_grammar.specs.declared.fault.Fault.{Fault}
@@ -13,7 +13,7 @@ use Rattle.wg_decoder.specs.Answer.{context_at}
 use Rattle.wg_decoder.specs.Head.{of_outdegree}
 use Rattle.wg_decoder.specs.Members.{IsHead}
 
--- a page with so many arcs before it, where each reference names this page
+-- a page with so many arcs before it, if each reference names this page
 abbrev pub page_on : Parameters → ℕ → ℕ → Known → Context
 page_on p page arcs_before k = context_at page arcs_before (replicate p.window k)
 
@@ -34,7 +34,7 @@ abbrev pub OutdegreeStands : Parameters → Context → List Bool → ℕ → �
 OutdegreeStands p c bits start d end =
     Stands (need.Read field.Outdegree p.outdegrees) p c bits nothing_yet start d end (of_outdegree d)
 
--- The reference r stands from the bit at to the bit end, after the outdegree d. Where none comes, it is 0.
+-- The reference r stands from the bit at to the bit end, after the outdegree d. If none comes, it is 0.
 abbrev pub ReferenceStands : Parameters → Context → List Bool → ℕ → ℕ → ℕ → ℕ → Type 0
 ReferenceStands p c bits d at r end =
     (RefersNext p c d × Stands (need.Read field.Reference p.references) p c bits (of_outdegree d) at r end
@@ -58,7 +58,7 @@ HeadFails p c bits start e =
     ⊎ ((d : ℕ) × (mid : ℕ) × OutdegreeStands p c bits start d mid × ReferenceFails p c bits start d mid e))
     × (e.page ≡ c.page)
 
--- Where the head of a record stands from the bit start to the bit at, and its reference names this list and leads to
+-- If the head of a record stands from the bit start to the bit at, and its reference names this list and leads to
 -- this depth, the record is this one.
 abbrev pub IsRest : Parameters → ℕ → ℕ → ℕ → ℕ → List ℕ → ℕ → List Bool → ℕ → Result Whole Fault → Type 0
 IsRest p page start d r named depth bits at w =

@@ -16,14 +16,14 @@ endless p = record p { chain = None }
 abbrev pub start_of : List ℕ → ℕ → ℕ
 start_of offsets page = get_or offsets page 0
 
--- The head of a page's record refers so many pages back, or to none where this is 0; or it is refused as the fault
--- says. It is judged on its own: there is no limit on chains, and no outdegrees come before.
+-- The head of a page's record refers so many pages back, or to none if this is 0; or it is refused as the fault
+-- says. It is validated on its own: there is no limit on chains, and no outdegrees come before.
 abbrev pub HeadReads : Parameters → List Bool → List ℕ → ℕ → Result ℕ Fault → Type 0
 HeadReads p bits offsets page (Ok r) = (d : ℕ) × (end : ℕ)
     × HeadStands (endless p) (page_over p page no_page) bits (start_of offsets page) d r end
 HeadReads p bits offsets page (Err e) = HeadFails (endless p) (page_over p page no_page) bits (start_of offsets page) e
 
--- The whole record of a page is this, where the page that it refers to is known, and no outdegrees come before. A
+-- The whole record of a page is this, if the page that it refers to is known, and no outdegrees come before. A
 -- proper record must end where the next begins.
 abbrev pub RecordReads : Parameters → List Bool → List ℕ → ℕ → Known → Result Known ArchiveFault → Type 0
 RecordReads p bits offsets page below (Ok k) =
@@ -44,7 +44,7 @@ RecordReads p bits offsets page below (Err (faults.Offsets word)) = ⊥
 abbrev pub RefersTo : Parameters → List Bool → List ℕ → ℕ → ℕ → Type 0
 RefersTo p bits offsets y z = (r : ℕ) × (0 < r) × HeadReads p bits offsets y (Ok r) × (z ≡ y - r)
 
--- what the last page of a chain is: by its record where its head is right, else by the fault of its head
+-- what the last page of a chain is: by its record if its head is right, else by the fault of its head
 abbrev pub EndReads : Parameters → List Bool → List ℕ → ℕ → Result ℕ Fault → Result Known ArchiveFault → Type 0
 EndReads p bits offsets y (Ok zero) w = RecordReads p bits offsets y no_page w
 EndReads p bits offsets y (Ok (suc r)) w = ⊥

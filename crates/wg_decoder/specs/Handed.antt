@@ -7,7 +7,7 @@ use Rattle.wg_decoder.specs.declared.handed.Known.{Known as Lent}
 abbrev pub page_of : List ℕ → ℕ → Known
 page_of list depth = record { list = list; depth = depth }
 
--- a page without successors where none is handed in
+-- a page without successors if none is handed in
 abbrev pub handed : Option Lent → Known
 handed None = no_page
 handed (Some k) = page_of k.list.now k.depth

@@ -12,7 +12,7 @@ use Rattle.wg_decoder.specs.Answer.{context_at}
 use Rattle.wg_decoder.specs.Head.{of_outdegree, of_head}
 use Rattle.wg_decoder.specs.Stages.{LeadsTo}
 
--- the head stands from the bit start to the bit end: the outdegree d, and where it is not 0 the reference r
+-- the head stands from the bit start to the bit end: the outdegree d, and if it is not 0 the reference r
 pub record IsHead (p : Parameters) (c : Context) (bits : List Bool) (start d r end : ℕ) : Type 0 where
   pub none : d ≡ 0 → LeadsTo p c bits nothing_yet start (of_outdegree d) end
   pub some : 0 < d → LeadsTo p c bits nothing_yet start (of_head p d r) end
@@ -27,7 +27,7 @@ pub record AllRead (p : Parameters) (c : Context) (bits : List Bool) (start d r 
   pub refers : value_or_0 so_far.reference ≡ r
   pub is : list_of p c so_far ≡ list
 
--- where this head ends at the bit at, and the reference names this list, the record has this list and ends at the bit
+-- if this head ends at the bit at, and the reference names this list, the record has this list and ends at the bit
 -- end
 abbrev pub AreMembers : Parameters → ℕ → ℕ → ℕ → List ℕ → List Bool → ℕ → List ℕ → ℕ → Type 0
 AreMembers p page d r named bits at list end =

@@ -1,4 +1,4 @@
--- A proper record at a position, judged against the list of the page that it refers to.
+-- A proper record at a position, validated against the list of the page that it refers to.
 pub mod Disjoint
 pub mod Near
 pub mod Remaining
@@ -19,7 +19,7 @@ use Rattle.wg_grammar.specs.Record.{Fields}
 abbrev pub unlimited : Parameters → Parameters
 unlimited p = record p { chain = None; arcs = p.nodes }
 
--- the pages before it: each reference names the page below, where there is one
+-- the pages before it: each reference names the page below, if there is one
 abbrev pub behind_of : Parameters → Option (List ℕ) → List Known
 behind_of p None = []
 behind_of p (Some list) = replicate p.window (record { list = list; depth = 0 })
@@ -27,7 +27,7 @@ behind_of p (Some list) = replicate p.window (record { list = list; depth = 0 })
 abbrev pub context_on : Parameters → ℕ → Option (List ℕ) → Context
 context_on p page below = record { page = page; arcs_before = 0; behind = behind_of p below }
 
--- At the position stands a proper record of the page with this list. It has a reference exactly where there is a list
+-- At the position stands a proper record of the page with this list. It has a reference exactly if there is a list
 -- below, to which it refers.
 pub record IsRecord (p : Parameters) (page : ℕ) (below : Option (List ℕ)) (position : Position) (list : List ℕ)
     : Type 0 where

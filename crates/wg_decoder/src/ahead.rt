@@ -27,8 +27,8 @@ fn endless(params: &Params) -> Params
 
 /// The head of the record that comes next from a source, of a page with `arcs_before` arcs before it; or the fault that
 /// its outdegree or its reference has. Chains may have any length, so it is the same whatever the pages before are. It
-/// takes no memory, and reads two words at most. The source may stand anywhere in the record where it has a fault, or
-/// where a word was refused.
+/// takes no memory, and reads two words at most. The source may stand anywhere in the record if it has a fault, or
+/// if a word was refused.
 pub fn head_from<S: Source>(
     params: &Params,
     page: u64,

@@ -1,4 +1,4 @@
-//! Records on their own, where no page before is known but the one that they refer to.
+//! Records on their own, when no page before is known but the one that they refer to.
 ghost use Rattle.std.specs.Prelude.{◌≡◌, ◌<◌, ◌≤◌, ℕ, Bool, List as ListOf, length, min, Some, None, Ok, Err, IfOk};
 ghost use Rattle.std.specs.Option.{ForSome};
 ghost use Rattle.wg_graph.specs.Ascending.{Ascends, Below};
@@ -57,7 +57,7 @@ fn accepted<R>(
     }
 }
 
-// What is known of the page that a reference names, where it names one.
+// What is known of the page that a reference names, if it names one.
 fn known_named(params: &Params, page: u64, below: Referenced, reference: u64) -> Option<Referenced>
     ensures named { (arcs_before : ℕ) (k : Known) → below ≡ told k
         → result ≡ named params.now (page_on params.now page arcs_before k) reference }
@@ -73,7 +73,7 @@ fn known_named(params: &Params, page: u64, below: Referenced, reference: u64) ->
     Some(below)
 }
 
-// The reference that comes next, judged; 0 where the archive has no window.
+// The reference that comes next, validated; 0 if the archive has no window.
 fn reference_over<S: Source>(
     progress: &mut Progress,
     params: &Params,
@@ -111,8 +111,8 @@ fn reference_over<S: Source>(
     Ok(reference)
 }
 
-// The head of the record of a page with `arcs_before` arcs before it, whose reference, where it has one, names a page
-// of which this is told. Where the outdegree is 0, nothing follows it. It reads two words at most.
+// The head of the record of a page with `arcs_before` arcs before it, whose reference, if it has one, names a page
+// of which this is told. If the outdegree is 0, nothing follows it. It reads two words at most.
 pub(crate) fn read_head_over<S: Source>(
     params: &Params,
     page: u64,
@@ -153,8 +153,8 @@ pub(crate) fn read_head_over<S: Source>(
 }
 
 /// The record that comes next from a source, of a page with `arcs_before` arcs before it. Nothing is known of the pages
-/// before but one, which its reference names, where it has one: its list and its depth. The source moves over the
-/// record, and may stand anywhere in it where it is refused, memory is wanting or a word was refused.
+/// before but one, which its reference names, if it has one: its list and its depth. The source moves over the
+/// record, and may stand anywhere in it if it is refused, memory runs out or a word was refused.
 pub fn decode_over<S: Source>(
     params: &Params,
     page: u64,

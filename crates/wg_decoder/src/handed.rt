@@ -1,4 +1,4 @@
-//! Records at a cursor, where the page that they refer to is handed in.
+//! Records at a cursor, when the page that they refer to is handed in.
 ghost use Rattle.std.specs.Prelude.{◌≡◌, ◌<◌, ◌≤◌, Ok, Err, IfOk, OnErr};
 ghost use Rattle.std.specs.Option.{ForSome};
 ghost use Rattle.wg_graph.specs.Ascending.{Ascends, Below};
@@ -22,7 +22,7 @@ pub struct Known<'a> {
     pub depth: u64,
 }
 
-// The record at the cursor over this list and depth. The cursor stands still where there is an error.
+// The record at the cursor over this list and depth. The cursor stands still if there is an error.
 fn decode_at(
     alloc: Global,
     params: &Params,
@@ -60,10 +60,10 @@ fn decode_at(
 }
 
 /// The record at the cursor, of a page with `arcs_before` arcs before it, which refers to the page that is handed in;
-/// none is where it refers to none, as [`head`](crate::head) tells. Where none is handed in all the same, it is read
-/// over a page without successors. The cursor moves over the record, and stands still where it is refused or memory is
-/// wanting. Memory is taken as successors come, and not by the outdegree; it costs a word of each field, and a pass
-/// over the list that is handed in.
+/// none is if it refers to none, as [`head`](crate::head) tells. If none is handed in all the same, it is read over a
+/// page without successors. The cursor moves over the record, and stands still if it is refused or memory runs out.
+/// Memory is taken as successors come, and not by the outdegree; it costs a word of each field, and a pass over the
+/// list that is handed in.
 pub fn decode_on(
     alloc: Global,
     params: &Params,

@@ -17,7 +17,7 @@ use wg_graph::List;
 use wg_params::Params;
 
 /// Fills an empty list with that of a record with this head, whose reference names the list `named`. It may be shorter
-/// than the outdegree, where a number stands twice. Memory is taken as numbers come, and not by the outdegree.
+/// than the outdegree, if a number stands twice. Memory is taken as numbers come, and not by the outdegree.
 #[inline(always)]
 pub fn members<S: Source>(
     list: &mut List,

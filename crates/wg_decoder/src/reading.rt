@@ -62,7 +62,7 @@ pub(crate) fn decode_members<S: Source>(
 }
 
 /// The record that comes next from a source, of a page with `arcs_before` arcs before it. The source moves over the
-/// record, and may stand anywhere in it where it is refused, memory is wanting or a word was refused. Of the window only
+/// record, and may stand anywhere in it if it is refused, memory runs out or a word was refused. Of the window only
 /// the pages count that a reference may name.
 #[inline(always)]
 pub fn decode_from<S: Source>(
@@ -108,7 +108,7 @@ pub(crate) fn error_of(unread: Unread<Infallible>) -> DecodeError
 }
 
 /// The record at the cursor, of a page with `arcs_before` arcs before it. The cursor moves over the record, and stands
-/// still where it is refused or memory is wanting. Memory is taken as successors come, and not by the outdegree; it
+/// still if it is refused or memory runs out. Memory is taken as successors come, and not by the outdegree; it
 /// costs a word of each field, and a pass over the list that is referred to. Of the window only the pages count that a
 /// reference may name.
 pub fn decode(

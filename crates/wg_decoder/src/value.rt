@@ -51,7 +51,7 @@ pub fn value<S: Source>(
     }
 }
 
-/// The same, where the code is most likely the usual one: it is asked for first, so that its words need not be told from
+/// The same, if the code is most likely the usual one: it is asked for first, so that its words need not be told from
 /// those of five.
 #[inline(always)]
 pub fn usual_value<S: Source>(
@@ -76,7 +76,7 @@ pub fn usual_value<S: Source>(
     value(page, field, code, source)
 }
 
-/// The page that the word that comes next means: by its distance from `page`, where nothing comes before it; else by
+/// The page that the word that comes next means: by its distance from `page`, if nothing comes before it; else by
 /// its distance from `before`, less 1.
 #[inline(always)]
 pub fn number<S: Source>(

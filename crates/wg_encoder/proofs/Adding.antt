@@ -36,7 +36,7 @@ first_extra y rest referenced told tells =
 
 -- ---- blocks
 
--- how blocks are stored where i are behind
+-- how blocks are stored if i are behind
 abbrev pub stored_from : ℕ → List ℕ → List ℕ
 stored_from zero bs = stored_blocks bs
 stored_from (suc i) bs = map (λ n. n - 1) bs

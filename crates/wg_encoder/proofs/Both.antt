@@ -57,7 +57,7 @@ passed y members new rest false up told past later =
       others = ap (λ xs. extras xs (y ∷ rest)) past ∙ extras_past y new rest above;
     }
 
--- what may come may come where the first member is passed
+-- what may come may come if the first member is passed
 pub come_past : (t : ExtraTally) (y : ℕ) (members new : List ℕ) (copied : Bool) → members ≡ cond copied (y ∷ new) new → MayCome t members → MayCome t new
 come_past t y members new false past come = subst (MayCome t) past come
 come_past t y members new true past come =

@@ -1,4 +1,4 @@
--- What is wanted only where it is below a bound.
+-- What is wanted only if it is below a bound.
 use Rattle.std.proofs.Common.{◌≡◌, ℕ, ◌-◌, ◌<◌, ◌≤◌, Bool, true, false, List, refl, sym, ap, ◌∙◌, arith, cond, length}
 use Rattle.std.specs.Prelude.{Option, Some, None}
 use Rattle.std.specs.Option.{ForSome}
@@ -11,7 +11,7 @@ same_bits m n e = cc
 none_some : (n : ℕ) → None ≡ Some n → ⊥
 none_some n e = cc
 
--- no room is left where the fields are not fewer
+-- no room is left if the fields are not fewer
 none_fewer : (most bits : ℕ) (words : Bool) → cond words (most - bits) 0 ≡ 0 → IsFewer most (cond words (Some bits) None) None
 none_fewer most bits true none n e = let same = same_bits bits n e in omega arith
 none_fewer most bits false none n e = absurd (none_some n e)

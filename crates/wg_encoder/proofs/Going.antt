@@ -30,7 +30,7 @@ ones_few r = at (refers r)
     at true = omega arith
     at false = omega arith
 
--- nothing is kept where no reference may be
+-- nothing is kept if no reference may be
 pub none_kept : (w : ℕ) (behind more : List Known) → w ≡ 0 → length behind ≤ w → behind ≡ take w more
 none_kept zero [] more none few = refl
 none_kept zero (k ∷ ks) more none few = absurd (omega (arith, few))

@@ -91,7 +91,7 @@ list_joined p page r referenced list others old first second third some e one tw
     three ∙ ap (λ xs. second ++ extra_fields p page xs) e ∙ ap (λ z. z ++ extra_fields p page (extras list referenced)) (two ∙ ap (λ z. z ++ copy_fields p r referenced list) one)
     ∙ three_parts old (reference_fields p r) (copy_fields p r referenced list) (extra_fields p page (extras list referenced)) ∙ ap (λ z. old ++ z) (list_whole p page r referenced list some)
 
--- what holds where a call succeeds
+-- what holds if a call succeeds
 pub on_ok : {A E P Q : Type 0} (r : Result A E) → (P → Q) → OnOk r P → OnOk r Q
 on_ok (Ok done) more p = more p
 on_ok (Err e) more p = tt

@@ -45,14 +45,14 @@ swapped room xs ys = less_swapped room (length (bits_of_fields xs)) (length (bit
 pub one_written : (room left : ℕ) (f : Written) (rest : List Written) → left ≡ room_after room (f ∷ []) → room_after left rest ≡ room_after room (f ∷ rest)
 one_written room left f rest is = ap (λ n. room_after n rest) is ∙ sym (after_both room (f ∷ []) rest)
 
--- no room is left where there was none
+-- no room is left if there was none
 pub none_left : (xs : List Written) → room_after 0 xs ≡ 0
 none_left xs = less_none (length (bits_of_fields xs)) (all_have_words xs)
 
 pub nothing_more : (room : ℕ) → room_after room [] ≡ room
 nothing_more room = omega arith
 
--- ---- where two lists of fields leave the same, each of another room
+-- ---- if two lists of fields leave the same, each of another room
 
 pub same_behind : (a b : ℕ) (front xs ys : List Written) → room_after a xs ≡ room_after b ys → room_after a (front ++ xs) ≡ room_after b (front ++ ys)
 same_behind a b front xs ys same =

@@ -183,7 +183,7 @@ stopped_on_offsets a b base e lists more old new why less failed written h =
           subst (HasStopped b base p all) (sym m) (let both : HoldsFront (fin.get b (graph_name base)) (graph_file p all) × HoldsLess (fin.get b (offsets_name base)) (offsets_file p all) = (graph, offsets) in inr both)
     ]
 
--- the same where no list follows
+-- the same if no list follows
 pub all_stopped_by_memory : (files : Files) (base : List ℕ) (e : Encoded) (lists : List (List ℕ)) (why : EncodeError) → HasSentAll files base e lists → why ≡ error.Memory → HasStopped files base e.params lists why
 all_stopped_by_memory files base e lists why h is = subst (λ ls. HasStopped files base e.params ls why) (append-nil lists) (stopped_by_memory files base e lists [] why h is)
 

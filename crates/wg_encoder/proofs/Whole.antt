@@ -31,7 +31,7 @@ pub whole_record : (p : Parameters) (page r : ℕ) (referenced list : List ℕ) 
 unfolding record_fields
 whole_record p page r referenced list = refl
 
--- what a record leaves, where its outdegree and its list are taken one after the other
+-- what a record leaves, if its outdegree and its list are taken one after the other
 pub record_left : (p : Parameters) (page r : ℕ) (referenced list : List ℕ) (most room left : ℕ) (code : Code) → code ≡ p.outdegrees → room ≡ room_after most (written field.Outdegree code (length list) ∷ [])
     → left ≡ room_after room (list_fields p page r referenced list) → left ≡ room_after most (record_fields p page r referenced list)
 record_left p page r referenced list most room left code is outdegree rest =

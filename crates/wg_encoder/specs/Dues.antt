@@ -1,4 +1,4 @@
--- Which fields of a record are still to come, where some of its members are behind.
+-- Which fields of a record are still to come, if some of its members are behind.
 use Rattle.std.specs.Prelude.{ℕ, ◌+◌, ◌-◌, ◌==◌, ◌<◌, ◌≤◌, ◌^◌, Bool, not, if◌then◌else◌, List, [], ◌∷◌, ◌++◌, length, map, filter}
 use Rattle.std.specs.List.{flat_map}
 use Rattle.wg_params.specs.Codes.{IsCode}
@@ -15,17 +15,17 @@ use Rattle.wg_greedy.specs.Fields.{Written, written, stored_blocks, has_some, co
 
 -- ---- blocks
 
--- how blocks are stored where n are before them: the first of all is stored as it is, later ones less 1
+-- how blocks are stored if n are before them: the first of all is stored as it is, later ones less 1
 abbrev pub stored_after : ℕ → List ℕ → List ℕ
 stored_after n blocks = if n == 0 then stored_blocks blocks else map (λ b. b - 1) blocks
 
--- the count of all blocks and those that come, where blocks are written
+-- the count of all blocks and those that come, if blocks are written
 abbrev pub dues_of_blocks : BlockTally → List ℕ → List Written
 dues_of_blocks t blocks = if t.is_written
     then written field.BlockCount t.counts (t.count + length blocks) ∷ map (written field.Block t.code)
     (stored_after t.count blocks) else []
 
--- the same, where this mask comes
+-- the same, if this mask comes
 abbrev pub block_dues : BlockTally → List Bool → List Written
 block_dues t mask = dues_of_blocks t (blocks_from t.run mask)
 
@@ -52,7 +52,7 @@ dues_of_runs t found runs =
     ++ interval_dues t.intervals (filter (is_long t.intervals.least) runs))
     ++ residual_dues t.residuals (flat_map numbers_of (filter (λ r. not (is_long t.intervals.least r)) runs))
 
--- the same, where these numbers come
+-- the same, if these numbers come
 abbrev pub extra_dues : ExtraTally → List ℕ → List Written
 extra_dues t numbers = dues_of_runs t (has_some (numbers_of t.run ++ numbers)) (runs_from t.run numbers)
 

@@ -76,7 +76,7 @@ pub record HasWritten (e : Encoded) (lists : List (List ℕ)) : Type 0 where
 
 -- ---- the pages of a graph
 
--- The page that comes next, where each page before it is written by the reference that is chosen; and the bits of the
+-- The page that comes next, if each page before it is written by the reference that is chosen; and the bits of the
 -- two files that wait to go out.
 pub record Encoding : Type 0 where
   pub params : Parameters
@@ -99,7 +99,7 @@ list_of e = successors e.graph e.page
 
 -- ---- the best reference
 
--- how many bits the record has by a reference, where it may be written so
+-- how many bits the record has by a reference, if it may be written so
 abbrev pub offer_of : Parameters → Context → List ℕ → ℕ → Option ℕ
 offer_of p c list r = if is_candidate p c list r then Some (size_of p c list r) else None
 

@@ -72,7 +72,7 @@ impl EncodedArchive {
     }
 }
 
-// What a file holds, and nothing where there is none of this name.
+// What a file holds, and nothing if there is none of this name.
 fn bytes<'a>(depot: &'a SteadyDepot, name: &str) -> &'a [u8]
     ensures { result.now ≡ content depot.now.files name.now }
 {

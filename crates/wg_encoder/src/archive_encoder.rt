@@ -135,7 +135,7 @@ fn empty_files(alloc: Global) -> Result<SteadyDepot, AllocError>
     Ok(depot)
 }
 
-// Memory alone can be wanting where the files are in memory.
+// Out of memory is the only error if the files are in memory.
 fn wanting(error: EncodeError) -> AllocError
     requires { error ≡ errors.Memory }
 {

@@ -66,7 +66,7 @@ impl BlockTally {
         room
     }
 
-    /// What is left of the room where no member comes any more.
+    /// What is left of the room if no member comes any more.
     #[inline(always)]
     pub(crate) fn last(&self, room: u64) -> u64
         requires { (i : ℕ) × IsWithin self.now i }

@@ -12,7 +12,7 @@ pub(crate) struct Choice {
 }
 
 impl Choice {
-    /// This choice, or the reference that comes next where that one is offered with fewer bits; an offer of more is not
+    /// This choice, or the reference that comes next if that one is offered with fewer bits; an offer of more is not
     /// asked for.
     #[inline(always)]
     pub(crate) fn or(self, reference: u64, offered: Option<u64>) -> Choice

@@ -21,7 +21,7 @@ fn has_word(code: Code, value: u64) -> bool
     holds(code, value)
 }
 
-/// How much of a room of so many bits is left by one field: nothing, where it fills the room or its value has no word.
+/// How much of a room of so many bits is left by one field: nothing, if it fills the room or its value has no word.
 /// So no sum of bits can overflow, and whoever finds nothing left need not go on.
 #[inline(always)]
 pub(crate) fn room_after(room: u64, code: Code, value: u64) -> u64

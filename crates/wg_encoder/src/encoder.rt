@@ -69,7 +69,7 @@ impl<'a> Encoder<'a> {
         Ok(Encoder { graph, lists })
     }
 
-    /// The page that comes next; the number of pages where all are done.
+    /// The page that comes next; the number of pages if all are done.
     pub fn page(&self) -> u64
         ensures value { result ≡ self.now.page }
         ensures within { result ≤ self.now.graph.nodes }
@@ -114,7 +114,7 @@ impl<'a> Encoder<'a> {
     }
 
     /// Whether the page that comes next may be written by this reference: 0, or one within the window that names a page
-    /// with successors, where the chain of references gets no longer than the archive allows and each value of the
+    /// with successors, if the chain of references gets no longer than the archive allows and each value of the
     /// record has a word. It takes no memory, and time in proportion to the two lists.
     pub fn candidate(&self, r: u64) -> bool
         requires page { self.now.page < self.now.graph.nodes }

@@ -6,7 +6,7 @@ use std::alloc::AllocError;
 use thiserror::Error;
 use wg_outside::Output;
 
-/// Why the files of an archive were not written whole: a call on the named one failed, or memory was wanting.
+/// Why the files of an archive were not written whole: a call on the named one failed, or memory ran out.
 #[derive(Clone, Copy, Debug, PartialEq, Eq, Error)]
 pub enum EncodeError {
     #[error("write failed")]

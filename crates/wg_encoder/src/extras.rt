@@ -79,7 +79,7 @@ impl ExtraTally {
         }
     }
 
-    /// Adds the members that come next and are below a number, and answers what is left of the room. It stops where
+    /// Adds the members that come next and are below a number, and answers what is left of the room. It stops if
     /// nothing is left.
     #[inline(always)]
     pub(crate) fn add_below(&mut self, room: u64, members: &mut Members<'_>, number: u64) -> u64
@@ -101,7 +101,7 @@ impl ExtraTally {
         room
     }
 
-    /// What is left of the room where no number comes any more.
+    /// What is left of the room if no number comes any more.
     #[inline(always)]
     pub(crate) fn last(self, room: u64) -> u64
         requires { MayCome self [] }

@@ -3,7 +3,7 @@ ghost use Rattle.wg_greedy.specs.Fields.{stored_gap};
 
 use wg_codes::fold;
 
-/// How a number is stored: by its distance from the page, folded, where nothing comes before it; else by its distance
+/// How a number is stored: by its distance from the page, folded, if nothing comes before it; else by its distance
 /// from what comes before, less 1.
 #[inline(always)]
 pub(crate) fn stored_gap(page: u64, before: Option<u64>, number: u64) -> u64

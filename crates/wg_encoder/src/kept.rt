@@ -84,7 +84,7 @@ impl Kept {
         self.spares.copy_of(list)
     }
 
-    // Keeps the memory of a list for the next copy, where it has some.
+    // Keeps the memory of a list for the next copy, if it has some.
     #[inline(always)]
     fn take_furthest(&mut self, furthest: Option<Decoded>)
         ensures { self.new ≡ self.old }
@@ -96,7 +96,7 @@ impl Kept {
         }
     }
 
-    /// Keeps the list of the page that comes next, and lets the furthest one go where there is one too many.
+    /// Keeps the list of the page that comes next, and lets the furthest one go if there is one too many.
     #[inline(always)]
     pub(crate) fn keep(&mut self, list: &[u64], depth: u64) -> Result<(), AllocError>
         ensures window { self.new.window ≡ self.old.window }

@@ -199,7 +199,7 @@ impl ListEncoder {
         shares(list, self.referenced_list(r))
     }
 
-    // What the record takes by a reference, where that is wanted only below `most` and each value has a word. It is
+    // What the record takes by a reference, if that is wanted only below `most` and each value has a word. It is
     // less than 2 ^ 63 bits: a word but that of the reference and of the block count has at most 2 ^ 8.
     fn size_below(&self, list: &[u64], r: u64, most: u64) -> Option<u64>
         requires page { self.now.next.page < self.now.params.nodes }
@@ -239,7 +239,7 @@ impl ListEncoder {
         self.size(list, 0)
     }
 
-    // What the record takes by a reference, where this is a candidate.
+    // What the record takes by a reference, if this is a candidate.
     fn offer(&self, list: &[u64], r: u64) -> Option<u64>
         requires page { self.now.next.page < self.now.params.nodes }
         requires list { IsList self.now.params list.now }
@@ -254,7 +254,7 @@ impl ListEncoder {
         self.size(list, r)
     }
 
-    // The same of a reference but 0, where it is wanted only below `most`, which is no more than what the record takes
+    // The same of a reference but 0, if it is wanted only below `most`, which is no more than what the record takes
     // without a reference. So a page that has no successor of the list is not looked at any further: nothing is copied,
     // and no reference has a shorter word than 0.
     #[inline(always)]
@@ -277,7 +277,7 @@ impl ListEncoder {
     }
 
     /// Whether a list that comes next may be written by this reference: 0, or one within the window that names a page
-    /// with successors, where the chain of references gets no longer than the archive allows and each value of the
+    /// with successors, if the chain of references gets no longer than the archive allows and each value of the
     /// record has a word. It takes no memory, and time in proportion to the two lists.
     pub(crate) fn candidate(&self, list: &[u64], r: u64) -> bool
         requires page { self.now.next.page < self.now.params.nodes }
@@ -338,7 +338,7 @@ fn writer(alloc: Global) -> Result<Box<Writer>, AllocError>
     Ok(Box::new(alloc, Writer::new())?)
 }
 
-// Whether a depth passes the limit, where there is one.
+// Whether a depth passes the limit, if there is one.
 #[inline(always)]
 fn passes(limit: Option<u64>, depth: u64) -> bool
     ensures { result ≡ passes limit depth }

@@ -60,7 +60,7 @@ fn add_copies(
     Ok(())
 }
 
-// The interval count is there where something is not copied and the archive has intervals.
+// The interval count is there if something is not copied and the archive has intervals.
 fn add_count(fields: &mut HeldRecord, found: bool, least: u64, count: u64) -> Result<(), AllocError>
     ensures { OnOk result (fields.new ≡ fields.old ++ count_fields found least count) }
 {

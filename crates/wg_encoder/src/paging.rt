@@ -153,7 +153,7 @@ impl ListEncoder {
         }
     }
 
-    // Goes on to the next page, where the list of this one is written by the choice that was made. The draft and the
+    // Goes on to the next page, with the list of this one written by the choice that was made. The draft and the
     // names are kept for the page after it.
     #[inline(always)]
     fn go_on(mut self, list: &[u64], ready: Ready) -> Result<ListEncoder, AllocError>

@@ -16,7 +16,7 @@ use wg_grammar::Field;
 use wg_graph::{List as Numbers, Members};
 use wg_params::{Code, Params};
 
-// Adds a number where it is not known.
+// Adds a number if it is not known.
 #[inline(always)]
 fn add_unless(others: &mut Numbers, known: bool, number: u64) -> Result<(), AllocError>
     ensures { OnOk result (others.new ≡ others.old ++ (if known then [] else number ∷ [])) }
@@ -73,7 +73,7 @@ fn add_lengths(fields: &mut HeldRecord, code: Code, blocks: &[u64]) -> Result<()
     Ok(())
 }
 
-/// The left ends and lengths of the intervals, where these come one after the other in `ends`.
+/// The left ends and lengths of the intervals, if these come one after the other in `ends`.
 pub(crate) fn add_intervals(
     fields: &mut HeldRecord,
     page: u64,

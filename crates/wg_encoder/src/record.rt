@@ -40,7 +40,7 @@ fn room_after_list(
 }
 
 /// How many bits the canonical record of a page takes by a reference, where `referenced` is the list that this names,
-/// empty for 0, where that is wanted only below `most`; none where it is no less, or some value of the record has no
+/// empty for 0, if that is wanted only below `most`; none if it is no less, or some value of the record has no
 /// word in its code. It takes no memory, and one pass over the two lists, which ends at so many bits.
 pub(crate) fn record_cost(
     params: &Params,

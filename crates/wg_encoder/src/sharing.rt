@@ -4,7 +4,7 @@ ghost use Rattle.wg_graph.specs.Ascending.{Ascends};
 ghost use Rattle.wg_encoder.specs.Sharing.{shares};
 
 /// Whether some number stands in both lists. It takes no memory, and one pass over both, which ends at the first such
-/// number, or where one of the lists ends.
+/// number, or if one of the lists ends.
 #[inline(always)]
 pub(crate) fn shares(list: &[u64], referenced: &[u64]) -> bool
     requires list { Ascends 0 list.now }

@@ -1,4 +1,4 @@
--- What is so where a field is next, by the tests that choose it.
+-- What is so if a field is next, by the tests that choose it.
 use Rattle.std.proofs.Common.{◌&&◌, not, ltb, eqb, is_none, ◌≡◌, Bool, true, false, cond, refl}
 use Rattle.wg_params.specs.Codes.{IsCode}
 use Rattle.wg_params.specs.Parameters.{Parameters, IsWithinLimits}
@@ -13,7 +13,7 @@ use Rattle.wg_grammar.specs.Next.{next}
 use Rattle.wg_grammar.specs.Tally.{Tally, extra_of, missing_of}
 use Rattle.wg_grammar.proofs.FieldCodes.{gamma_or_delta, unary_gamma_or_delta, residual_code}
 
--- the field that is needed; Copied for the check, and Record where nothing is
+-- the field that is needed; Copied for the check, and Record if nothing is
 abbrev pub field_of : Need → Field
 field_of (need.Read f code) = f
 field_of need.Check = field.Copied

@@ -176,7 +176,7 @@ copied_none c s e =
     let none : source c s ≡ [] = ap (referenced c.behind) e in
     omega (arith, length-at_positions (is_copied s.blocks) 0 (source c s), ap length none)
 
--- where nothing more is needed
+-- if nothing more is needed
 checked_at_end : (p : Parameters) (c : Context) (s : SoFar) → next p c s ≡ need.End → (value_or_0 s.outdegree ≡ 0 → ⊥) → no_check s ≡ false
 unfolding tests
 checked_at_end p c s is some =

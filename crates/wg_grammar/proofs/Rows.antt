@@ -1,4 +1,4 @@
--- Records of small archives, judged by the definitions.
+-- Records of small archives, validated by the definitions.
 use Rattle.std.proofs.Common.{◌≡◌, ℕ, Bool, true, false, ◌==◌, List, [], ◌∷◌, drop, Some, Ok, Err, refl, lit<, lit≤}
 use Rattle.wg_params.specs.Parameters.{Parameters}
 use Rattle.wg_params.specs.declared.code.Code.TheVariants.{Unary, Gamma, Zeta}
@@ -71,7 +71,7 @@ one_residual =
     let s4 = after (usual 2 1 4) page_0 s3 field.Residual 2 in
     (1 ∷ 0 ∷ 0 ∷ 2 ∷ [], s4, 9, (s1, 3, ((lit≤ tt, (drop 3 bits, refl)), refl, refl, refl), (s2, 4, ((lit≤ tt, (drop 4 bits, refl)), refl, refl, refl), (s3, 5, ((lit≤ tt, (drop 5 bits, refl)), refl, refl, refl), (s4, 9, ((lit≤ tt, (drop 9 bits, refl)), refl, refl, refl), (refl, refl))))), (refl, refl, refl, refl, refl))
 
--- intervals 1, 2 and 4, 5 where the least length is 2
+-- intervals 1, 2 and 4, 5 if the least length is 2
 two_intervals : ReadsRecord (usual 6 4 2) page_0 (spelled (0 ∷ 0 ∷ 1 ∷ 0 ∷ 1 ∷ 1 ∷ 0 ∷ 1 ∷ 1 ∷ 0 ∷ 1 ∷ 1 ∷ 1 ∷ 1 ∷ 1 ∷ [])) 0 (Ok (record { known = record { list = 1 ∷ 2 ∷ 4 ∷ 5 ∷ []; depth = 0 }; end = 15 }))
 unfolding usual spelled page_0 next refusal after list_of copied_members highest unary gamma zeta low_bits count_leading_zeros
 two_intervals =
@@ -106,7 +106,7 @@ reference_too_far =
     let s1 = after (usual 8 7 4) page_1 nothing_yet field.Outdegree 1 in
     (1 ∷ [], s1, 3, (s1, 3, ((lit≤ tt, (drop 3 bits, refl)), refl, refl, refl), (refl, refl)), ((reads.Value 2, (lit≤ tt, ([], refl)), refl, refl, refl), refl))
 
--- four members are copied where there are three successors
+-- four members are copied if there are three successors
 more_copied_than_successors : ReadsRecord (usual 8 7 4) page_1 (spelled (0 ∷ 0 ∷ 1 ∷ 0 ∷ 0 ∷ 0 ∷ 1 ∷ 1 ∷ [])) 0 (Err (record { page = 1; at = 8; field = field.Copied; kind = kind.Copied }))
 unfolding usual spelled page_1 next refusal after list_of copied_members highest unary gamma zeta low_bits count_leading_zeros
 more_copied_than_successors =

@@ -1,4 +1,4 @@
--- The numbers that a progress keeps judge a value, and change with it, as the record does.
+-- The numbers that a progress keeps check a value, and change with it, as the record does.
 use Rattle.std.proofs.Common.{◌≡◌, ℕ, zero, suc, ◌+◌, ◌<◌, ◌≤◌, min, Bool, true, false, cond, ltb, List, [], ◌∷◌, ◌++◌, length, Option, Some, None, refl, sym, ap, subst, ◌∙◌, arith, is_none}
 use Rattle.std.proofs.lemmas.Bool.{ltb-true, ltb-false, lt-ltb, le-ltb, le-leb, and_parts}
 use Rattle.std.proofs.lemmas.List.{length_push, get_or_push, nil_from_length}
@@ -28,7 +28,7 @@ next_by_numbers p c s = refl
 pub need_follows : (q : Tally) (p : Parameters) (c : Context) (s : SoFar) → Follows q p c s → need_of q ≡ next p c s
 need_follows q p c s f = ap need_of f ∙ sym (next_by_numbers p c s)
 
--- ---- what is so where a field is next
+-- ---- what is so if a field is next
 
 is_none_is : {A : Type 0} (o : Option A) → is_none o ≡ true → o ≡ None
 is_none_is None e = refl
@@ -115,7 +115,7 @@ after_by_numbers p c s given field.Record v g early fine = refl
 
 -- ---- one call
 
--- the numbers judge a value as the record does
+-- the numbers check a value as the record does
 pub refusal_follows : (q : Tally) (p : Parameters) (c : Context) (s : SoFar) (given : Option Referenced) (f : Field) (v : ℕ) →
     Follows q p c s → Gives given p c f v → refusal p c s f v ≡ refusal_of q given f v
 refusal_follows q p c s given f v follows gives = sym (ap (λ (t : Tally). refusal_of t given f v) follows ∙ refusal_by_numbers p c s given f v gives)

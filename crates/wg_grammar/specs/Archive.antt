@@ -51,7 +51,7 @@ lists_of behind = reverse (map (λ w. w.known.list) behind)
 abbrev pub places_of : List Whole → List ℕ
 places_of behind = 0 ∷ reverse (map (λ w. w.end) behind)
 
--- what the file is, where these records are behind and no more proper ones are taken
+-- what the file is, if these records are behind and no more proper ones are taken
 abbrev pub EndsAs : Parameters → List Bool → List Whole → ℕ → Result Accepted ArchiveFault → Type 0
 EndsAs p bits behind at (Ok a) =
     (length behind ≡ p.nodes) × IsTail bits at × (arcs_of behind ≡ p.arcs) × (a.graph ≡ lists_of behind)

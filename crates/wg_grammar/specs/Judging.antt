@@ -7,7 +7,7 @@ use Rattle.wg_grammar.specs.declared.fault.Kind.{Kind}
 use Rattle.wg_grammar.specs.declared.progress.Referenced.{Referenced}
 use Rattle.wg_grammar.specs.Context.{Context, no_page}
 
--- what is told of the page that a reference of v names: nothing where the reference is 0 or out of its range
+-- what is told of the page that a reference of v names: nothing if the reference is 0 or out of its range
 abbrev pub named : Parameters → Context → ℕ → Option Referenced
 named p c zero = None
 named p c (suc r) =

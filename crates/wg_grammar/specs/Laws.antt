@@ -39,7 +39,7 @@ NeverTooMany =
     → Fields p c bits nothing_yet start vs s at
     → next p c s ≡ End → length (list_of p c s) ≤ value_or_0 s.outdegree
 
--- Where chains of references have a limit, no more references than that lead on from the page of a record.
+-- If chains of references have a limit, no more references than that lead on from the page of a record.
 abbrev pub ChainsAreLimited : Type 0
 ChainsAreLimited =
     (p : Parameters) (c : Context) (bits : List Bool) (start limit : ℕ) (w : Whole) → p.chain ≡ Some limit

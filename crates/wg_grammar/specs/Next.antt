@@ -8,9 +8,9 @@ use Rattle.wg_grammar.specs.declared.need.Need.TheVariants as need
 use Rattle.wg_grammar.specs.Context.{Context}
 use Rattle.wg_grammar.specs.SoFar.{SoFar, value_or_0, extra, missing}
 
--- The outdegree comes first, and a page without successors has nothing more. A reference comes where the archive has a
--- window; where it is not 0, the block count, the blocks, and then the check of what is copied. An interval count comes
--- where some successors are not copied and the archive has intervals; then each interval's left end and length.
+-- The outdegree comes first, and a page without successors has nothing more. A reference comes if the archive has a
+-- window; if it is not 0, the block count, the blocks, and then the check of what is copied. An interval count comes
+-- if some successors are not copied and the archive has intervals; then each interval's left end and length.
 -- Residuals come while some are missing.
 unfoldable pub next : Parameters → Context → SoFar → Need
 next p c s =

@@ -16,7 +16,7 @@ use Rattle.wg_grammar.specs.Next.{next}
 use Rattle.wg_grammar.specs.Refusal.{refusal, judged}
 use Rattle.wg_grammar.specs.Members.{list_of}
 
--- Where this is needed, the value v stands at the bit at, up to end, and is allowed. The check has the value 0 and no
+-- If this is needed, the value v stands at the bit at, up to end, and is allowed. The check has the value 0 and no
 -- bits.
 abbrev pub Stands : Need → Parameters → Context → List Bool → SoFar → ℕ → ℕ → ℕ → SoFar → Type 0
 Stands (need.Read f code) p c bits s at v end t =
@@ -33,7 +33,7 @@ Fields p c bits s at [] t end = (t ≡ s) × (end ≡ at)
 Fields p c bits s at (v ∷ vs) t end = (u : SoFar) × (mid : ℕ) × Stands (next p c s) p c bits s at v mid u
     × Fields p c bits u mid vs t end
 
--- What is needed at the bit at is refused as the fault says. A record of which all is read is refused where it has too
+-- What is needed at the bit at is refused as the fault says. A record of which all is read is refused if it has too
 -- few successors.
 abbrev pub Refused : Need → Parameters → Context → List Bool → ℕ → SoFar → ℕ → Fault → Type 0
 Refused (need.Read f code) p c bits start s at e =
@@ -50,7 +50,7 @@ pub record Whole : Type 0 where
   pub known : Known
   pub end : ℕ
 
--- what a record that begins at the bit start is, where s has been read up to the bit at and nothing more is allowed
+-- what a record that begins at the bit start is, if s has been read up to the bit at and nothing more is allowed
 abbrev pub Stops : Parameters → Context → List Bool → ℕ → SoFar → ℕ → Result Whole Fault → Type 0
 Stops p c bits start s at (Ok w) =
     (next p c s ≡ need.End) × (length (list_of p c s) ≡ value_or_0 s.outdegree) × (w.known.list ≡ list_of p c s)

@@ -15,7 +15,7 @@ abbrev pub is_page : Parameters → Option ℕ → Bool
 is_page p None = false
 is_page p (Some y) = nat_lt y p.nodes
 
--- whether a depth passes the limit, where there is one
+-- whether a depth passes the limit, if there is one
 abbrev pub passes : Option ℕ → ℕ → Bool
 passes None depth = false
 passes (Some limit) depth = nat_lt limit depth
@@ -39,7 +39,7 @@ refusal p c s field.Length v =
 refusal p c s field.Residual v = if is_page p (own_residual c s v) then None else Some kind.Range
 refusal p c s field.Record v = None
 
--- what stands at a field's first bit, judged
+-- what stands at a field's first bit, validated
 abbrev pub judged : Parameters → Context → SoFar → Field → Read → Option Kind
 judged p c s f (reads.Value v) = refusal p c s f v
 judged p c s f reads.Cut = Some kind.Cut

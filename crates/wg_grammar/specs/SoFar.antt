@@ -59,7 +59,7 @@ abbrev pub own_block : SoFar → ℕ → ℕ
 own_block s v = block_at (length s.blocks) v
 
 -- The first left end is stored as the fold of its distance from the page, a later one as its distance from the end of
--- the interval before, less 1, where the end is one past the last number; none where the number would be below 0.
+-- the interval before, less 1, where the end is one past the last number; none if the number would be below 0.
 abbrev pub own_left : Context → SoFar → ℕ → Option ℕ
 own_left c s v =
     if length s.lefts == 0 then number_of_gap c.page None v

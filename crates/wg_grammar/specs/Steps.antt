@@ -1,4 +1,4 @@
--- How the private steps of a `Progress` judge and take a value, by the numbers that it keeps.
+-- How the private steps of a `Progress` check and take a value, by the numbers that it keeps.
 use Rattle.std.specs.Prelude.{◌≡◌, ℕ, suc, ◌+◌, ◌-◌, ◌*◌, ◌%◌, ◌<◌, min, ◌||◌, true, ◌==◌, nat_lt, if◌then◌else◌, Option, Some, None}
 use Rattle.wg_codes.specs.Fold.{number_of_gap}
 use Rattle.wg_graph.specs.Copied.{block_at}
@@ -20,7 +20,7 @@ abbrev pub given_depth : Option Referenced → ℕ
 given_depth None = 0
 given_depth (Some r) = suc r.depth
 
--- the number, where it is a page
+-- the number, if it is a page
 abbrev pub within : Parameters → Option ℕ → Option ℕ
 within p o = if is_page p o then o else None
 
@@ -84,7 +84,7 @@ after_of t given field.Residual v =
     record t { residuals = t.residuals + 1; last_residual = value_or_0 (residual_of t v) }
 after_of t given field.Record v = t
 
--- what is so of the numbers where a field is next
+-- what is so of the numbers if a field is next
 abbrev pub Due : Tally → Field → Type 0
 Due t field.Outdegree = t.outdegree ≡ None
 Due t field.Reference = t.reference ≡ None

@@ -2,14 +2,14 @@
 use std::fmt;
 use thiserror::Error;
 
-/// A field of a record, by its place in BVGraph's format, or what is judged beside the fields.
+/// A field of a record, by its place in BVGraph's format, or what is checked beside the fields.
 #[derive(Clone, Copy, Debug, PartialEq, Eq)]
 pub enum Field {
     Outdegree,
     Reference,
     BlockCount,
     Block,
-    /// How many members are copied, judged after the blocks; it has no bits.
+    /// How many members are copied, checked after the blocks; it has no bits.
     Copied,
     IntervalCount,
     /// The left end of an interval.

@@ -12,7 +12,7 @@ pub fn lists()
     ensures never_too_many { NeverTooMany }
 {}
 
-/// Where chains of references have a limit, no page of an archive is deeper: no more references than that lead on from
+/// If chains of references have a limit, no page of an archive is deeper: no more references than that lead on from
 /// it, one after the other.
 pub fn chains_are_limited()
     ensures records { ChainsAreLimited }

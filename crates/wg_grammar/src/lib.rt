@@ -6,18 +6,18 @@
 //! | field | there | stored as |
 //! |---|---|---|
 //! | outdegree | always; 0 ends the record | itself |
-//! | reference | where the archive has a window | how many pages back; 0 for none |
-//! | block count | where there is a reference | itself |
-//! | blocks | where there is a reference | the first as it is, later ones less 1 |
-//! | interval count | where not all successors are copied, and the archive has intervals | itself |
+//! | reference | if the archive has a window | how many pages back; 0 for none |
+//! | block count | if there is a reference | itself |
+//! | blocks | if there is a reference | the first as it is, later ones less 1 |
+//! | interval count | if not all successors are copied, and the archive has intervals | itself |
 //! | left end and length of each interval | | the first left end folded as the distance from `x`, later ones as the distance from the end of the interval before, less 1; a length less the least length |
 //! | residuals | while successors are missing | the first folded as the distance from `x`, later ones as the distance from the residual before, less 1 |
 //!
 //! The definitions say what comes next, what is refused and why, which list a record has, and which graph a file holds;
 //! the functions of [`laws`] state that each file is one graph or has one first fault, and that the graph has one
 //! ascending list of pages for each page and the promised arcs. [`Progress`] is what a reader of records runs: it tells
-//! the next [`Need`], a field and its code, and judges the value that was read there. A refused field is named by a
-//! [`Fault`], and the first fault of a whole archive by an [`ArchiveFault`]. [`tail_fault`] judges the tail.
+//! the next [`Need`], a field and its code, and validates the value that was read there. A refused field is named by a
+//! [`Fault`], and the first fault of a whole archive by an [`ArchiveFault`]. [`tail_fault`] validates the tail.
 //!
 //! Words and tail are read from a [`Source`], wherever its bits come from; whoever reads records is generic over it. A
 //! cursor over bytes in memory is a source that refuses nothing; one that takes its bytes in pieces from a file may
@@ -54,8 +54,8 @@
 //! - [`ArchiveFault`] has the faults of the offsets file too, so that a status, a text and a place of each stand
 //!   together; the grammar of the graph file has none of them. *Revisit if* the two have to be told apart by type.
 //! - A [`Progress`] is seen as numbers, from which `need_of` tells what comes next, since a condition of `accept` can't
-//!   cite a call. What it judges and leaves is said by `exact` alone, over lists. The definitions of `Steps` serve its
-//!   private functions, whose clauses can cite no private definition. *Revisit if* a condition can cite what a call
+//!   cite a call. What it validates and leaves is said by `exact` alone, over lists. The definitions of `Steps` serve
+//!   its private functions, whose clauses can cite no private definition. *Revisit if* a condition can cite what a call
 //!   answers.
 #![tactic(auto)]
 

@@ -6,7 +6,7 @@ use wg_params::Code;
 pub enum Need {
     /// A word of this field, in this code.
     Read(Field, Code),
-    /// The judgement of how many members are copied.
+    /// The check of how many members are copied.
     Check,
     /// Nothing: all fields have been read.
     End,

@@ -39,7 +39,7 @@ pub struct Progress {
     // how many blocks have been read, and what they add to
     blocks: u64,
     blocks_sum: u64,
-    // how many members are copied, where no more blocks come
+    // how many members are copied, if no more blocks come
     copied: u64,
     checked: bool,
     interval_count: Option<u64>,
@@ -200,7 +200,7 @@ impl Progress {
     }
 
     /// Takes a value of the field that [`need`](Progress::need) says to read, or answers the first reason to refuse it.
-    /// `referenced` is the page that the value names, where the value is a reference, is not 0, and does not pass the
+    /// `referenced` is the page that the value names, if the value is a reference, is not 0, and does not pass the
     /// window or the first page; else none.
     pub fn accept(&mut self, value: u64, referenced: Option<Referenced>) -> Result<(), Kind>
         requires reads { (f : Field) × (code : Code) × (need_of self.old ≡ Need.Read f code) }
@@ -227,7 +227,7 @@ impl Progress {
         }
     }
 
-    /// Passes the check after the blocks, where [`need`](Progress::need) says to make it, or answers that more members
+    /// Passes the check after the blocks, if [`need`](Progress::need) says to make it, or answers that more members
     /// are copied than the page has successors.
     pub fn check_copied(&mut self) -> Result<(), Kind>
         requires checks { need_of self.old ≡ Need.Check }

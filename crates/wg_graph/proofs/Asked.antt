@@ -34,7 +34,7 @@ head_is n y x xs le up =
       | inr other ↦ rw (ne_eqb x y other, ne_eqb y x (λ e. other (sym e)), in_below (suc x) y xs up (omega arith)) refl
     ]
 
--- y is a member where the rest begins with it
+-- y is a member if the rest begins with it
 pub begins_from_on : (n y : ℕ) (xs : List ℕ) → Ascends n xs → begins_with y (from_on y xs) ≡ is_in y xs
 begins_from_on n y [] up = refl
 begins_from_on n y (x ∷ xs) up =

@@ -82,7 +82,7 @@ flops n e = eq-eqb _ _ (let g : n % 2 ≡ 0 → ⊥ = eqb-false _ _ e in omega a
 abbrev pub copied_front : List ℕ → ℕ → List ℕ → List ℕ
 copied_front bs b list = at_positions (is_copied bs) 0 (take (sum bs + b) list)
 
--- where the blocks run to their end at list, the rest is as the number of blocks says
+-- if the blocks run to their end at list, the rest is as the number of blocks says
 pub copied_split : (bs list : List ℕ) (n : ℕ) → sum bs ≤ n → n ≤ length list → copied_members bs list ≡ at_positions (is_copied bs) 0 (take n list) ++ cond (eqb (length bs % 2) 0) (drop n list) []
 unfolding copied_members
 copied_split bs list n low high =

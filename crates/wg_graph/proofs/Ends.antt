@@ -7,7 +7,7 @@ use Rattle.wg_graph.specs.Pieces.{pieces, EndsAt}
 
 -- ---- one piece
 
--- it stays where more follows
+-- it stays if more follows
 range_stays : (all more : List ℕ) (i j : ℕ) → i ≤ j → j ≤ length all → slice_range (all ++ more) i j ≡ slice_range all i j
 range_stays all more i j le fits =
     let in_all : i ≤ length all = omega arith in

@@ -1,4 +1,4 @@
--- Two graphs have the same lists exactly where the numbers are the same by which they are held.
+-- Two graphs have the same lists exactly if the numbers are the same by which they are held.
 use Rattle.std.proofs.Common.{◌≡◌, ℕ, ◌+◌, ◌-◌, ◌≤◌, ◌&&◌, List, [], ◌∷◌, ◌++◌, length, drop, slice_range, take-append-drop, bytes_eq, refl, sym, ap, ap₂, subst, ◌∙◌, arith}
 use Rattle.std.specs.Cmp.Lexicographic.{pointwise, pointwise_decides, bytes_decides}
 use Rattle.std.specs.Cmp.{first_so, second_so}

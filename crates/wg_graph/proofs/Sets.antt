@@ -18,7 +18,7 @@ pub where_none : (t : ℕ → Bool) (n k : ℕ) → ((y : ℕ) → n ≤ y → y
 where_none t n zero h = refl
 where_none t n (suc k) h = let here : t n ≡ false = h n (omega arith) (omega arith) in rw here (where_none t (n + 1) k (λ y low high. h y (omega arith) (omega arith)))
 
--- one more number, where none is between
+-- one more number, if none is between
 pub grow : (t : ℕ → Bool) (m x : ℕ) → m ≤ x → ((y : ℕ) → m ≤ y → y < x → t y ≡ false) → t x ≡ true → numbers_where t 0 m ++ x ∷ [] ≡ numbers_where t 0 (suc x)
 grow t m x le none here =
     let e : suc x ≡ m + ((x - m) + 1) = omega arith in

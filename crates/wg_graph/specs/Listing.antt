@@ -7,6 +7,6 @@ pub record Listing : Type 0 where
   pub graph : Digraph
   pub place : ℕ
 
--- where a reading stands afterwards: one further where a list was lent, else where it stood
+-- where a reading stands afterwards: one further if a list was lent, else where it stood
 abbrev pub PlaceAfter : {X : Type 0} → Option X → ℕ → ℕ → Type 0
 PlaceAfter lent before after = MatchOption lent (after ≡ before) (λ _. after ≡ before + 1)

@@ -52,7 +52,7 @@ impl GraphBuilder {
         })
     }
 
-    /// The successors that page `x` has so far; none where it is not begun. It takes constant time.
+    /// The successors that page `x` has so far; none if it is not begun. It takes constant time.
     #[inline(always)]
     pub fn list_so_far(&self, x: u64) -> &[u64]
         ensures value { result.now ≡ successors self.now x }

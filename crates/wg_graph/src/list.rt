@@ -86,7 +86,7 @@ fn put(numbers: &mut Vec<u64>, len: usize, more: &[u64]) -> Result<(), AllocErro
     Ok(())
 }
 
-// Puts the first of these numbers, so many, behind the first `len`: up to a piece without a call, where there is a piece
+// Puts the first of these numbers, so many, behind the first `len`: up to a piece without a call, if there is a piece
 // and room for it.
 #[inline(always)]
 fn put_first(
@@ -157,7 +157,7 @@ impl List {
         self.numbers.capacity()
     }
 
-    /// Makes room for so many numbers more, and for others where it is made anew.
+    /// Makes room for so many numbers more, and for others if it is made anew.
     #[inline(always)]
     pub fn reserve(&mut self, room: usize) -> Result<(), AllocError>
         ensures { self.new ≡ self.old }
@@ -196,7 +196,7 @@ impl List {
         Ok(())
     }
 
-    /// Adds the first of these numbers, so many, at the end; up to eight without a call, where there are eight and room
+    /// Adds the first of these numbers, so many, at the end; up to eight without a call, if there are eight and room
     /// for them.
     #[inline(always)]
     pub fn extend_first(&mut self, numbers: &[u64], count: usize) -> Result<(), AllocError>

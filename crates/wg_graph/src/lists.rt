@@ -24,7 +24,7 @@ pub trait Lists {
         ensures graph { graph self.new ≡ graph self.old }
         ensures place { place self.new ≡ 0 };
 
-    /// Lends the successors of the page that comes next, and moves on; `None` where all pages are behind.
+    /// Lends the successors of the page that comes next, and moves on; `None` if all pages are behind.
     fn next_list(&mut self) -> Option<&[u64]>
         ensures lent { MatchOption result ((graph self.old).nodes ≤ place self.old)
             (λ s. (place self.old < (graph self.old).nodes) × (s.now ≡ successors (graph self.old) (place self.old))) }

@@ -72,7 +72,7 @@ impl<'a> Members<'a> {
         begins_with(self.left, number)
     }
 
-    /// The next member that is left, where it is below the number. It goes past this member.
+    /// The next member that is left, if it is below the number. It goes past this member.
     #[inline(always)]
     pub fn next_below(&mut self, number: u64) -> Option<u64>
         ensures some { IfSome result (λ x. (x < number) × (self.old ≡ x ∷ self.new)) }

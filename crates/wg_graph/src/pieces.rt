@@ -19,7 +19,7 @@ pub(crate) fn copy_piece(to: &mut [u64], at: usize, from: &[u64])
     to[at..at + PIECE].copy_from_slice(&from[..PIECE]);
 }
 
-// Copies the first numbers, so many, to this place and on: up to a piece without a call, where there is a piece.
+// Copies the first numbers, so many, to this place and on: up to a piece without a call, if there is a piece.
 #[inline(always)]
 pub(crate) fn copy(to: &mut [u64], at: usize, from: &[u64], count: usize)
     requires to { at + count + PIECE ≤ length to.old }

@@ -74,7 +74,7 @@ impl Row {
         self.len += 1;
     }
 
-    /// Adds the first of these numbers, so many, at the end of the list; up to eight without a call, where there are
+    /// Adds the first of these numbers, so many, at the end of the list; up to eight without a call, if there are
     /// eight.
     #[inline(always)]
     pub fn extend(&mut self, numbers: &[u64], count: usize)

@@ -76,7 +76,7 @@ sum_inside (r ∷ rs) = omega (arith, sum_cons r.length (lengths_of rs), length-
 still_there : (p : Parameters) (c : Context) (s : SoFar) → IsPastCopies p c s → s ≡ with_extras s None [] [] []
 still_there p c s past = λ i. record s { interval_count = past.no_count i; lefts = past.no_lefts i; lengths = past.no_lengths i; residuals = past.no_residuals i }
 
--- what is counted, where so many intervals come
+-- what is counted, if so many intervals come
 abbrev Counts : Parameters → Context → SoFar → List ℕ → ℕ → Type 0
 Counts p c s xs count = (n : Option ℕ) × (value_or_0 n ≡ count) × IsCounted p c s n × Admits p c s (count_fields (has_some xs) p.interval count) (with_extras s n [] [] [])
 

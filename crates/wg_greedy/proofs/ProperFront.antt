@@ -61,7 +61,7 @@ reference_admitted p c d r some near chain =
 
 -- ---- the blocks
 
--- where a reference has been read
+-- if a reference has been read
 abbrev pub referring : ℕ → ℕ → ℕ → List ℕ → Bool → SoFar
 referring d r n blocks checked = reading d (Some r) (Some n) blocks checked
 

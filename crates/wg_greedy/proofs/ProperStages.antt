@@ -4,7 +4,8 @@ use Rattle.wg_params.specs.Parameters.{Parameters}
 use Rattle.wg_grammar.specs.Context.{Context}
 use Rattle.wg_grammar.specs.SoFar.{SoFar, value_or_0}
 
--- All that comes before the successors that are not copied has been read: the outdegree is not 0, and the reference, the blocks and their check are read where they are there.
+-- All that comes before the successors that are not copied has been read: the outdegree is not 0, and the reference,
+-- the blocks and their check are read if they are there.
 pub record IsPastCopies (p : Parameters) (c : Context) (s : SoFar) : Type 0 where
   pub degree : ℕ
   pub outdegree : s.outdegree ≡ Some degree

@@ -48,7 +48,7 @@ has_reference p c (y ∷ ys) = refl
 
 -- ---- the records that come
 
--- the record of a list that comes next, where it begins at the bit at
+-- the record of a list that comes next, if it begins at the bit at
 abbrev pub next_whole : Parameters → List Known → ℕ → List ℕ → Whole
 next_whole p behind at list = record {
   known = known_of p (context_after p behind) list;

@@ -43,7 +43,7 @@ numbers_in lists = sum_by (λ list. length list) lists
 
 -- ---- records
 
--- the bits of the records of these lists, where these pages are behind
+-- the bits of the records of these lists, if these pages are behind
 abbrev pub bits_after : Parameters → List Known → List (List ℕ) → List Bool
 bits_after p behind lists = flat_map (λ bits. bits) (map bits_of_fields (records_of p behind lists))
 

@@ -37,7 +37,7 @@ abbrev pub stored_blocks : List ℕ → List ℕ
 stored_blocks [] = []
 stored_blocks (b ∷ bs) = b ∷ map (λ n. n - 1) bs
 
--- A number is stored by its distance from the page, folded, where nothing comes before it; else by its distance from
+-- A number is stored by its distance from the page, folded, if nothing comes before it; else by its distance from
 -- what comes before, less 1.
 abbrev pub stored_gap : ℕ → Option ℕ → ℕ → ℕ
 stored_gap page None y = folded (pos y -ℤ pos page)
@@ -71,7 +71,7 @@ abbrev pub has_some : List ℕ → Bool
 has_some [] = false
 has_some (y ∷ ys) = true
 
--- how many intervals there are, where something is not copied and the archive has intervals
+-- how many intervals there are, if something is not copied and the archive has intervals
 abbrev pub count_fields : Bool → ℕ → ℕ → List Written
 count_fields found least count = if found && nat_lt 0 least then written field.IntervalCount Gamma count ∷ [] else []
 
@@ -82,11 +82,11 @@ extra_fields p page xs =
     ++ interval_fields page p.interval None (intervals_of p.interval xs))
     ++ residual_fields p.residuals page None (residuals_of p.interval xs)
 
--- a reference, where the archive has a window
+-- a reference, if the archive has a window
 abbrev pub reference_fields : Parameters → ℕ → List Written
 reference_fields p r = if nat_lt 0 p.window then written field.Reference p.references r ∷ [] else []
 
--- the blocks against the list that r names, where r is not 0
+-- the blocks against the list that r names, if r is not 0
 abbrev pub copy_fields : Parameters → ℕ → List ℕ → List ℕ → List Written
 copy_fields p r referenced list = if nat_lt 0 r then block_fields p (canonical_blocks list referenced) else []
 

@@ -20,7 +20,7 @@ canonical p c list r = record_fields p c.page r (referenced c.behind r) list
 abbrev pub size_of : Parameters → Context → List ℕ → ℕ → ℕ
 size_of p c list r = length (bits_of_fields (canonical p c list r))
 
--- No reference is always a candidate. A reference is one within the window, where the page that it names has
+-- No reference is always a candidate. A reference within the window is one if the page that it names has
 -- successors, the chain of references gets no longer than the archive allows, and each value of the record has a word.
 abbrev pub is_candidate : Parameters → Context → List ℕ → ℕ → Bool
 is_candidate p c list r =
@@ -46,13 +46,13 @@ abbrev pub known_after : Parameters → List Known → List (List ℕ) → List 
 known_after p behind [] = behind
 known_after p behind (list ∷ lists) = known_after p (known_of p (context_after p behind) list ∷ behind) lists
 
--- the references by which these lists are written, one after the other, where these pages are behind
+-- the references by which these lists are written, one after the other, if these pages are behind
 abbrev pub references_of : Parameters → List Known → List (List ℕ) → List ℕ
 references_of p behind [] = []
 references_of p behind (list ∷ lists) =
     chosen p (context_after p behind) list ∷ references_of p (known_of p (context_after p behind) list ∷ behind) lists
 
--- the records of these lists, one after the other, where these pages are behind
+-- the records of these lists, one after the other, if these pages are behind
 abbrev pub records_of : Parameters → List Known → List (List ℕ) → List (List Written)
 records_of p behind [] = []
 records_of p behind (list ∷ lists) =

@@ -35,7 +35,7 @@ pub record IsList (p : Parameters) (list : List ℕ) : Type 0 where
   pub ascends : Ascends 0 list
   pub below : Below p.nodes list
 
--- The canonical record of a list by a candidate is a proper record of this list, wherever its bits stand. Where the
+-- The canonical record of a list by a candidate is a proper record of this list, wherever its bits stand. If the
 -- list is empty it has no reference.
 abbrev pub CanonicalIsProper : Type 0
 CanonicalIsProper =

@@ -4,7 +4,7 @@
 //! these candidates there is one canonical record: the copy blocks are those of `wg_blocks`, the intervals and
 //! residuals those of `wg_intervals`. The greedy archive has for each page, in order, the candidate with the fewest
 //! bits, and of several the one with the smallest reference. The references that were chosen before bear on it by their
-//! depths alone, where the archive limits chains.
+//! depths alone, if the archive limits chains.
 //!
 //! The definitions give the fields of a record with their codes and stored values, the reference that is chosen, and
 //! the bytes of the two files. The functions of [`laws`] do nothing, and hold no memory. They state that no candidate's

@@ -59,7 +59,7 @@ impl HeldFiles {
         put(self.alloc, &mut self.helds, name, bytes)
     }
 
-    /// Adds bytes at the end of a file, which is begun where it is absent.
+    /// Adds bytes at the end of a file, which is begun if it is absent.
     pub fn extend(&mut self, name: &str, piece: &[u8]) -> Result<(), AllocError>
         requires { 0 < length piece.now }
         ensures ok { OnOk result (self.new ≡ appended self.old name.now piece.now) }

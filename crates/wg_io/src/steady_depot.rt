@@ -64,7 +64,7 @@ impl SteadyDepot {
         self.files.put(name, bytes)
     }
 
-    /// Lends the bytes of a file, where there is one of this name.
+    /// Lends the bytes of a file, if there is one of this name.
     pub fn file(&self, name: &str) -> Option<&[u8]>
         ensures { option_map (λ bytes. bytes.now) result ≡ map.get self.now.files name.now }
     {

@@ -71,7 +71,7 @@ first_residual_on x zs a b xs ys le_a le_b h =
       },
     )
 
--- where none is left
+-- if none is left
 pub nothing_left : (a b c : Option ℕ) (xs ys zs : List ℕ) → a ≡ None → b ≡ None → c ≡ None → union_of (front a xs) (union_of (front b ys) (front c zs)) ≡ []
 nothing_left a b c xs ys zs ea eb ec = rw (ea, eb, ec) refl
 

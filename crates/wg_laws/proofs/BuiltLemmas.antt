@@ -1,4 +1,4 @@
--- An archive that was built, in a judgement.
+-- An archive that was built, in a validation.
 use Rattle.std.proofs.Common.{◌≡◌, ℕ, ◌≤◌, List, length, nat_lt, refl, sym, ap, subst, ◌∙◌, arith, inl, inr, Option, Some, None, Result, Ok, Err}
 use Rattle.std.proofs.lemmas.Bool.{cases_Bool}
 use Rattle.std.proofs.lemmas.Option.{none-some, same_Some}
@@ -88,7 +88,7 @@ built_accepted r p g base limits is nodes arcs = accepted_as r p g limits nodes 
 
 -- ---- from what was built back to its graph
 
--- the archive and the line, where there are some
+-- the archive and the line, if there are some
 abbrev built_in : Judged → Option (Archive × List ℕ)
 built_in (refused status) = None
 built_in (accepted out) = None

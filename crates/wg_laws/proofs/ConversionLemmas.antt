@@ -21,7 +21,7 @@ use Rattle.wg_outcomes.specs.Written.{greedy_archive, params_for}
 use Rattle.wg_laws.proofs.BuiltLemmas.{built_accepted, lists_go_on, same_built}
 use Rattle.wg_laws.proofs.HeldLemmas.{graph_behind}
 
--- the archive of a graph is accepted with its line, and each judgement goes on with that graph
+-- the archive of a graph is accepted with its line, and each validation goes on with that graph
 pub record IsReadAgain (r : Readings) (g : Digraph) (a : Archive) (out : List ℕ) : Type 0 where
   pub check : (base : List ℕ) → judged r (Check base) (holding a) ≡ accepted out
   pub goes_on : (next : Digraph → Judged) → with_records (holding a) (λ q bytes. with_digraph r q bytes next) ≡ next g

@@ -1,4 +1,4 @@
--- The graph that the files of an archive stand for, from a judgement that went on with it.
+-- The graph that the files of an archive stand for, from a validation that went on with it.
 use Rattle.std.proofs.Common.{◌≡◌, ◌≤◌, ℕ, List, length, nat_lt, Option, Some, None, Result, Ok, Err, inl, inr, refl, sym, ◌∙◌, ap, subst}
 use Rattle.std.proofs.lemmas.Bool.{cases_Bool}
 use Rattle.wg_outside.specs.declared.limits.TheConstants.{MOST_BYTES}
@@ -80,7 +80,7 @@ pub graph_read : (w : Result Accepted ArchiveFault) (next : Accepted → Judged)
 graph_read (Ok a) next is = (a, refl, λ n. refl)
 graph_read (Err f) next is = absurd (let no : BadArchive f ≡ Done = is in cc)
 
--- the graph behind the files, which is a proper one within the limits, and with which each judgement goes on
+-- the graph behind the files, which is a proper one within the limits, and with which each validation goes on
 pub record GraphBehind (r : Readings) (held : Input → Option (List ℕ)) : Type 0 where
   pub graph : Digraph
   pub stored : HoldGraph r held graph

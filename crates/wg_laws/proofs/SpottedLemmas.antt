@@ -29,7 +29,7 @@ use Rattle.wg_laws.proofs.HeldLemmas.{file_read, graph_read, read_within, text_r
 
 -- ---- places that agree in all lengths
 
--- where no number passes a test, each fails it
+-- if no number passes a test, each fails it
 none_passes : (t : ℕ → Bool) (n k : ℕ) → numbers_where t n k ≡ [] → (y : ℕ) → n ≤ y → y < n + k → t y ≡ false
 none_passes t n zero none y low high = absurd (omega (arith, low, high))
 none_passes t n (suc k) none y low high =
@@ -95,7 +95,7 @@ none_differs : (l found stored : List ℕ) (next : Unit {0} → Judged) → stat
 none_differs [] found stored next is = refl
 none_differs (x ∷ rest) found stored next is = absurd (let no : BadArchive (archive.Length x (record_length found x) (record_length stored x)) ≡ Done = is in cc)
 
--- the parameters and the graph file of an archive, with which each judgement goes on
+-- the parameters and the graph file of an archive, with which each validation goes on
 record RecordsBehind (held : Input → Option (List ℕ)) : Type 0 where
   pub parameters : Parameters
   pub bytes : List ℕ
@@ -118,7 +118,7 @@ records_behind held last done =
 
 -- ---- the page
 
--- the judgements of one page of a graph, by its chain and by its list
+-- the validations of one page of a graph, by its chain and by its list
 spot_is_show : (r : Readings) (p : Parameters) (limits : IsWithinLimits p) (bytes : List ℕ) (a : Accepted) (page : ℕ) → ReadsGraph p (bits_of bytes) (Ok a)
     → with_successors r p bytes a.places page (λ list. accepted (successors_line page list)) ≡ with_pages p.nodes (page ∷ []) (λ all. accepted (successors_lines a.graph (page ∷ [])))
 spot_is_show r p limits bytes a page reads = elim (cases_lt page p.nodes) [

@@ -39,7 +39,7 @@ none_differ : (found stored : List ℕ) (differ : List ℕ) (next : Unit {0} →
 none_differ found stored [] next is = λ n. refl
 none_differ found stored (x ∷ rest) next is = absurd (let no : BadArchive (archive.Length x (record_length found x) (record_length stored x)) ≡ Done = is in cc)
 
--- the archive behind the files, with which each judgement goes on
+-- the archive behind the files, with which each validation goes on
 pub record ArchiveBehind (r : Readings) (held : Input → Option (List ℕ)) : Type 0 where
   pub parameters : Parameters
   pub read : Accepted
@@ -91,7 +91,7 @@ module _ (r : Readings) (held : Input → Option (List ℕ)) where
         graph_goes_on = λ n. to_graph (λ q x. n (graph_of q x));
       }
 
--- a second archive that is not refused is judged as a first is
+-- a second archive that is not refused is validated as a first is
 behind_second : (j : Judged) (a : Archive) (out : List ℕ) → of_second j ≡ built a out → j ≡ built a out
 behind_second (refused s) a out is = absurd (none_built (as_second s) a out is)
 behind_second (accepted text) a out is = is

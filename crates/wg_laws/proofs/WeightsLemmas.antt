@@ -1,4 +1,4 @@
--- Weights that a text gives are weights of the pages, and a judgement that went on has them from its file.
+-- Weights that a text gives are weights of the pages, and a validation that went on has them from its file.
 use Rattle.std.proofs.Common.{◌≡◌, ◌≤◌, ◌<◌, ◌+◌, ℕ, zero, suc, Bool, true, false, nat_eq, nat_le, nat_lt, ◌&&◌, if◌then◌else◌, All, List, [], ◌∷◌, ◌++◌, length, Option, Some, None, Result, Ok, Err, inl, inr, refl, sym, ◌∙◌, ap, subst, arith}
 use Rattle.std.proofs.lemmas.Bool.{cases_Bool, leb-false, lt-ltb, ltb-false, ltb-true}
 use Rattle.std.proofs.lemmas.List.{length-append}
@@ -121,7 +121,7 @@ weights_read n bytes ws is = by_result (numbers_of n (MOST_WEIGHT + 1) bytes) re
 
 -- ---- from a job that was done back to the weights
 
--- the weights behind the files, with which each judgement goes on
+-- the weights behind the files, with which each validation goes on
 pub record WeightsBehind (name : Option (List ℕ)) (held : Input → Option (List ℕ)) (n : ℕ) : Type 0 where
   pub given : Option (List ℕ)
   pub stored : HoldWeights name held n given

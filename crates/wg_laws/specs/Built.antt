@@ -79,7 +79,7 @@ pub record IsAcceptedImport (r : Readings) (held : Input → Option (List ℕ)) 
       → (text : List ℕ) × (judged r (Ascii base) (holding a) ≡ accepted text)
       × HaveSameWords (lines_of bytes) (lines_of text)
 
--- It does for each text and each layout within the limits; and to import the plain text of an archive, where a file may
+-- It does for each text and each layout within the limits; and to import the plain text of an archive, if a file may
 -- be so long, is to recode the archive.
 pub record ImportsAreAccepted (r : Readings) : Type 0 where
   pub import : (name base : List ℕ) (layout : Layout) (held : Input → Option (List ℕ)) (a : Archive) (out : List ℕ)

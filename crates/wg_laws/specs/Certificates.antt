@@ -1,4 +1,4 @@
--- What is proved of certificates that are written and judged.
+-- What is proved of certificates that are written and verified.
 use Rattle.std.specs.Prelude.{ℕ, ◌≡◌, ◌≤◌, List, ◌++◌, Option, Some}
 use Rattle.wg_params.specs.declared.limits.TheConstants.{MOST_DAMPING, MOST_ROUNDS}
 use Rattle.wg_words.specs.declared.jobs.Job.TheVariants.{Rank, Verify}

@@ -26,7 +26,7 @@ pub fn rankings()
 {}
 
 /// Of an archive that `check` accepts, `spot` prints the line that `show` prints of the page, or refuses the page as
-/// `show` does, although it judges the records of one chain alone.
+/// `show` does, although it validates the records of one chain alone.
 pub fn spotted_pages()
     ensures { (r : Readings) → SpotsAreShown r }
 {}
@@ -43,7 +43,7 @@ pub fn built_archives()
 
 /// What is imported is accepted, whatever plain text was read, with a layout within the limits: `check` prints of the
 /// three files the very line that was printed, and `ascii` a text of the same words, line by line. And to import what
-/// `ascii` prints of an archive, where a file may be so long, is to recode the archive.
+/// `ascii` prints of an archive, if a file may be so long, is to recode the archive.
 pub fn imported_archives()
     ensures { (r : Readings) → ImportsAreAccepted r }
 {}

@@ -18,12 +18,12 @@ readable (Some file) buf count told none = told.end (omega (arith, none))
 pub piece_of : (o : Option (List ℕ)) (file : List ℕ) (at : ℕ) (buf : List ℕ) (count : ℕ) → o ≡ Some file → Reads o at buf (Ok count) → IsPieceOf file at buf count
 piece_of o file at buf count is told = subst (λ (q : Option (List ℕ)). Reads q at buf (Ok count)) is told
 
--- no lines are lent where that is the answer
+-- no lines are lent if that is the answer
 pub none_lent : (lines lent : List ℕ) (b : Bool) → lent ≡ lines → b ≡ (length lent == 0) → ◌≡◌ {A = Result Bool LoadError} (Ok (not b)) (Ok false) → lines ≡ []
 none_lent [] lent b is empty ok = refl
 none_lent (x ∷ xs) lent b is empty ok = absurd (let some : b ≡ false = empty ∙ ap (λ (l : List ℕ). length l == 0) is ∙ ne_eqb (length (x ∷ xs)) 0 (λ e. omega arith) in cc (some, ok))
 
--- some are lent where that is the answer
+-- some are lent if that is the answer
 pub some_lent : (lines lent : List ℕ) (b : Bool) → lent ≡ lines → b ≡ (length lent == 0) → ◌≡◌ {A = Result Bool LoadError} (Ok (not b)) (Ok true) → 0 < length lines
 some_lent [] lent b is empty ok = absurd (let none : b ≡ true = empty ∙ ap (λ (l : List ℕ). length l == 0) is in cc (none, ok))
 some_lent (x ∷ xs) lent b is empty ok = omega arith

@@ -2,7 +2,7 @@
 //! bytes; and files that are read in whole lines.
 //!
 //! [`Lines`] prints a number in decimal digits, a byte, a text of up to [`MOST_PIECE`] bytes, or a line of two numbers.
-//! What was printed goes out in order, and all of it once it is flushed; where the sink refuses a write, a proper prefix
+//! What was printed goes out in order, and all of it once it is flushed; if the sink refuses a write, a proper prefix
 //! of it is out. An error comes from the sink alone.
 //!
 //! [`LineReader`] reads a file in pieces, and lends the lines that end in a piece, each of them whole. The lines are

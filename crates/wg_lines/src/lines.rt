@@ -96,7 +96,7 @@ impl Lines {
         self.len += count;
     }
 
-    // Sends all out where there is no room for one more line.
+    // Sends all out if there is no room for one more line.
     #[inline(always)]
     fn make_room<S: Sink>(&mut self, sink: &mut S) -> Result<(), WriteError>
         ensures room { OnOk result (length self.new + MOST_PIECE ≤ BUFFER) }

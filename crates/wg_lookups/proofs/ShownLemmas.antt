@@ -61,7 +61,7 @@ archive_reads archive records p bits a same params is read =
     subst (λ (h : Held). ReadsGraph h.params h.bits (Ok a)) (sym same)
     (subst (λ (q : Parameters). ReadsGraph q records.bits (Ok a)) (sym params) (subst (λ (b : List Bool). ReadsGraph p b (Ok a)) (sym is) read))
 
--- no line is empty, and so where nothing was printed of it something is left out
+-- no line is empty, and so if nothing was printed of it something is left out
 pub none_of_line : (old waited : List ℕ) (page : ℕ) (list : List ℕ) → HasPrintedLess old old waited (successors_line page list)
 none_of_line old waited page list =
     let start : List ℕ = decimal page ++ joined (map spaced list) in
@@ -75,7 +75,7 @@ none_of_line old waited page list =
       bytes = refl;
     }
 
--- memory was wanting before anything of the line was printed
+-- memory ran out before anything of the line was printed
 pub line_unbegun : {S : Type 0} (s : sink.Ghosts S) (archive : Held) (page : ℕ) (sink : S) (waited waits : List ℕ) (e : Ending) → s.later sink sink → e.status ≡ Memory → PrintsLine s archive page sink sink waited waits (Err e)
 line_unbegun s archive page sink waited waits e stays is = record {
   prints = λ t a read. none_of_line (s.taken sink) waited page (get_or a.graph page []);

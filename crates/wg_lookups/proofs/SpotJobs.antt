@@ -85,7 +85,7 @@ module _ (names : Input → Option (List ℕ)) (g : FoundFile) (s : SampledFile)
   abbrev judges : Readings → (List ℕ → Judged) → Judged
   judges r next = spotted_then r p page (held_by names files Offsets) (held_by names files Graph) next
 
-  -- what the judgement goes on with, of the files that are there
+  -- what the validation goes on with, of the files that are there
   goes : (t : IsTrue told) (r : Readings) (next : List ℕ → Judged) → judges r next ≡ with_successors r p (open_on t).file (sampled t).places page next
   goes t r next =
       (sampled t).goes r (λ places. successors_then r p places page (held_by names files Graph) next)
@@ -267,7 +267,7 @@ module _ (base : List ℕ) (page : ℕ) (td to : Bool) (before : Outside) where
           ends_reading job base td to before p files1 counts1 (Graph ∷ Properties ∷ []) Offsets refl (λ r. offsets_then r p) (λ places r h. with_successors r p bytes places page line) k2
           (λ h holds. holds) (λ t r n. refl) refl after e silent o
 
-      -- both files were found, and are judged from here on
+      -- both files were found, and are validated from here on
       module _ (files2 : Files) (counts2 : List ℕ → Counts) (same2 : files2 ≡ files1) (later2 : NonDecreasing counts1 counts2) where
         k1' : ComesTo job p td before files2 counts2 (Properties ∷ []) (behind_params p)
         k1' = record { goes = k1.goes; given = k1.given; same = same2 ∙ same ∙ k1.same; later = none_falls-trans _ _ _ (none_falls-trans _ _ _ k1.later later) later2 }

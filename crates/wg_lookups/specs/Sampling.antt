@@ -30,13 +30,13 @@ pub record IsSampledOn (found : Option (List ℕ)) (s : SampledFile) (places : L
   pub open_on : IsOpenOn found s.file.held
   pub is : IsSampleOf (bits_of open_on.file) s.samples places
 
--- The offsets file of these names is the one that was sampled, and a judgement goes on with its places.
+-- The offsets file of these names is the one that was sampled, and a validation goes on with its places.
 pub record IsSampled (names : Input → Option (List ℕ)) (files : Files) (p : Parameters) (s : SampledFile) : Type 0 where
   pub places : List ℕ
   pub on : IsSampledOn (map.get files s.file.name) s places
   pub goes : (r : Readings) → Steps {B = List ℕ} (offsets_then r p (held_by names files input.Offsets)) (Ok places)
 
--- The offsets file of an archive was judged, held against no graph, and samples of its places were kept; or the job
+-- The offsets file of an archive was validated, held against no graph, and samples of its places were kept; or the job
 -- ends at this file.
 pub record SamplesOffsets (base : List ℕ) (p : Parameters) (told : Bool) (files files' : Files)
     (counts counts' : List ℕ → Counts) (result : Result SampledFile Ending) : Type 0 where

@@ -13,7 +13,7 @@ use Rattle.wg_outcomes.specs.Commands.{line_in}
 use Rattle.wg_outcomes.specs.declared.ending.Ending.{Ending}
 use Rattle.wg_outcomes.specs.declared.status.Status.TheVariants.{WriteFault}
 
--- the line of a page of the archive is printed, or a prefix of it and then memory or the output was wanting
+-- the line of a page of the archive is printed, or a prefix of it and then memory ran out or the output failed
 pub record PrintsLine {S : Type 0} (s : sink.Ghosts S) (archive : Held) (page : ℕ) (before after : S)
     (waited waits : List ℕ) (result : Result (Unit {0}) Ending) : Type 0 where
   pub prints : IsTrue s.told → (a : Accepted) → ReadsGraph archive.params archive.bits (Ok a)

@@ -1,4 +1,4 @@
--- A page of an archive that is not checked, in a judgement.
+-- A page of an archive that is not checked, in a validation.
 use Rattle.std.specs.Prelude.{◌≡◌, ◌⊎◌, ℕ, Bool, List, Option, Result, IsTrue, IfErr}
 use Rattle.wg_outside.specs.Outside.{Files, Counts, NonDecreasing}
 use Rattle.wg_outside.specs.declared.depot.Depot as depot
@@ -19,7 +19,7 @@ use Rattle.wg_readings.specs.Pairing.{status_at, word_ending}
 use Rattle.wg_lookups.specs.declared.chain_files.Unread.{Unread}
 use Rattle.wg_lookups.specs.declared.chain_files.Unread.TheVariants as unread
 
--- how a job ends at a page that was not read, where the properties promise so many arcs
+-- how a job ends at a page that was not read, if the properties promise so many arcs
 abbrev pub EndsBy : ℕ → PagesError Unread → Ending → Type 0
 EndsBy promised (errors.Fault f) e = (e.status ≡ BadArchive f) × (e.promised ≡ promised)
 EndsBy promised errors.Memory e = e.status ≡ Memory
@@ -46,7 +46,7 @@ IsBadPage told page promised e =
 pub record SpotsPage (names : Input → Option (List ℕ)) (p : Parameters) (page : ℕ) (told : Bool) (files files' : Files)
     (counts counts' : List ℕ → Counts) (result : Result (List ℕ) Ending) : Type 0 where
   pub only : IfErr result (IsBadPage told page p.arcs)
-  -- an absence or a fault is told only where the outside counted it
+  -- an absence or a fault is reported only if the outside counted it
   pub causes : HasCause names no_outputs counts counts' 0 0 (status_in result)
   -- it goes on with the successors, or ends like this
   pub steps : IsTrue told → (r : Readings)

@@ -45,7 +45,7 @@ fn read_graph<D: Depot>(graph: &mut FoundFile, depot: &mut D, code: Code) -> Res
     }
 }
 
-// Judges what follows the last word.
+// Checks what follows the last word.
 fn tail_of_graph<D: Depot>(graph: &mut FoundFile, depot: &mut D) -> Result<Option<u64>, Unread>
     ensures name { graph.new.name ≡ graph.old.name }
     ensures steps { Steps D.told graph.old.name (D.files depot.old) (D.files depot.new) (D.counts depot.old)

@@ -39,7 +39,7 @@ fn places_ending(error: PlacesError<LoadError>, params: &Params) -> Ending
     }
 }
 
-// Judges all words of the file.
+// Validates all words of the file.
 fn samples_of_file<D: Depot>(
     alloc: Global,
     params: &Params,
@@ -65,8 +65,8 @@ fn samples_of_file<D: Depot>(
     }
 }
 
-/// Judges the offsets file of an archive, which is held against no graph, and keeps samples of its places: 16 bytes for
-/// each 1024 of them. It goes through the file once, and holds a piece of it.
+/// Validates the offsets file of an archive, which is held against no graph, and keeps samples of its places: 16 bytes
+/// for each 1024 of them. It goes through the file once, and holds a piece of it.
 pub fn sample_offsets<D: Depot>(
     alloc: Global,
     params: &Params,

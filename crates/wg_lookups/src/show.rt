@@ -23,9 +23,9 @@ use wg_random::{Archive, ListError, Records, Steps};
 use wg_readings::{find_pages, judge_offsets, load, load_params, passed_of_graph};
 use wg_words::Name;
 
-/// Prints the successors of pages, a line for each. It judges the three files before it prints, and looks whether all
-/// pages are there that it is asked for. It holds the bytes of the graph file and 8 bytes a page for the offsets; the
-/// offsets file is read in pieces. Then it prints as [`print_pages`] does.
+/// Prints the successors of pages, a line for each. It validates the three files before it prints, and looks whether
+/// all pages are there that it is asked for. It holds the bytes of the graph file and 8 bytes a page for the offsets;
+/// the offsets file is read in pieces. Then it prints as [`print_pages`] does.
 pub fn show<D: Depot, O: Sink>(
     alloc: Global,
     base: &Name,

@@ -13,7 +13,7 @@ fn word_length(text: &[u8]) -> usize
     text.iter().take_while(|byte| !is_blank(**byte)).count()
 }
 
-/// The first word of a line, and the text after it. The word is empty where there is none.
+/// The first word of a line, and the text after it. The word is empty if there is none.
 #[inline(always)]
 pub fn first_word(text: &[u8]) -> (&[u8], &[u8])
     ensures none { length result.0.now ≡ 0 → words_of text.now ≡ [] }

@@ -10,7 +10,7 @@ pub record ArePlaces (places : List ℕ) : Type 0 where
   pub never_fall : IsNonDecreasing places
   pub within : All (λ p. p ≤ MOST_PLACE) places
 
--- the last of the places, or 0 where there is none
+-- the last of the places, or 0 if there is none
 abbrev pub last_place : List ℕ → ℕ
 last_place places = get_or places (length places - 1) 0
 

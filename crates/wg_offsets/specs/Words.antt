@@ -16,7 +16,7 @@ use Rattle.wg_offsets.specs.declared.places.TheConstants.{MOST_PLACE}
 abbrev pub places_of : List ℕ → List ℕ
 places_of values = ends_of 0 values
 
--- Why a word is refused, where so many words stand before it and lead to this offset: it is cut; it is none; the first
+-- Why a word is refused, if so many words stand before it and lead to this offset: it is cut; it is none; the first
 -- is not 0; or it leads past the last bit that a graph file may have.
 abbrev pub refusal : ℕ → ℕ → Read → Option OffsetWord
 refusal number offset Cut = Some (faults.Cut number)
@@ -34,7 +34,7 @@ Words c bits before at (v ∷ vs) last end =
     Reads (word c) (top c) (drop at bits) (Value v) × (refusal (length before) (sum before) (Value v) ≡ None)
     × Words c bits (before ++ v ∷ []) (at + length (word c v)) vs last end
 
--- what stands at the bit at is refused, where so many words stand before it and lead to this offset
+-- what stands at the bit at is refused, if so many words stand before it and lead to this offset
 abbrev pub IsRefused : Code → List Bool → ℕ → ℕ → ℕ → OffsetWord → Type 0
 IsRefused c bits number offset at e = (r : Read) × Reads (word c) (top c) (drop at bits) r
     × (refusal number offset r ≡ Some e)
@@ -43,7 +43,7 @@ IsRefused c bits number offset at e = (r : Read) × Reads (word c) (top c) (drop
 abbrev pub HasNoTail : List Bool → ℕ → OffsetWord → Type 0
 HasNoTail bits at e = (offset : ℕ) × IsTailFault bits at offset × (e ≡ faults.Tail offset)
 
--- what the file is, where the words of these values stand and no more are taken
+-- what the file is, if the words of these values stand and no more are taken
 abbrev pub EndsAs : Code → ℕ → List Bool → List ℕ → ℕ → Result (List ℕ) OffsetWord → Type 0
 EndsAs c n bits values at (Ok places) = (length values ≡ n + 1) × IsTail bits at × (places ≡ places_of values)
 EndsAs c n bits values at (Err e) =

@@ -136,7 +136,7 @@ impl OffsetWords {
         Ok(offset)
     }
 
-    /// Judges the tail that follows the words.
+    /// Validates the tail that follows the words.
     pub fn finish<S: Source>(&self, source: &mut S) -> Result<(), WordError<S::Refusal>>
         requires done { self.now.count ≡ self.now.pages + 1 }
         ensures later { S.later source.old source.new }

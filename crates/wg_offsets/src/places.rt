@@ -85,7 +85,7 @@ impl Offsets {
         self.places[x as usize]
     }
 
-    /// The offset after the last record, or 0 where there are no places.
+    /// The offset after the last record, or 0 if there are no places.
     pub fn end(&self) -> u64
         ensures { result ≡ last_place self.now }
     {

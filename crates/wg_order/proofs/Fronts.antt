@@ -1,4 +1,4 @@
--- The first pages of a ranking, where the others are not sorted.
+-- The first pages of a ranking, if the others are not sorted.
 use Rattle.std.specs.Cmp.{IsStrictWeakOrder}
 use Rattle.std.specs.Ordering.{is_lt}
 use Rattle.std.specs.List.{range_with_len, count_by, All, Contains}

@@ -35,7 +35,7 @@ before low high u v ne h =
 abbrev pub IsFirst : List ℕ → List ℕ → ℕ → ℕ → Type 0
 IsFirst low high n f = (u : ℕ) → u < n → u ≢ f → ComesBefore low high f u
 
--- the first stays where one page more does not come before it
+-- the first stays if one page more does not come before it
 pub stays : (low high : List ℕ) (n f : ℕ) → f < n → IsFirst low high n f → is_lt (compared low high n f) ≡ false → IsFirst low high (n + 1) f
 stays low high n f l h t u w ne =
     elim (cases_eq u n) [

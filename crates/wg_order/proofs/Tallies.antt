@@ -8,7 +8,7 @@ use Rattle.std.proofs.lemmas.List.Folds.{sum_by-replicate}
 use Rattle.std.proofs.lemmas.List.Sums.{sum_by-cons, sum_by-set, sum_by-drop_more, sum_by-take-drop, sum_by_more}
 use Rattle.wg_order.proofs.Counts.{one, count_none, falling_parts}
 
--- ---- the numbers that pass a test, where they come first
+-- ---- the numbers that pass a test, if they come first
 
 ltb_next : (i n : ℕ) → nat_lt (suc i) (1 + n) ≡ nat_lt i n
 ltb_next i n =
@@ -42,7 +42,7 @@ first_pass p (x ∷ xs) h i w =
           le-ltb i (count_by p (x ∷ xs)) (omega (arith, c)) ∙ sym (fails p x xs f h i 0 w)
     ]
 
--- ---- a sum from a place on, where one number is raised
+-- ---- a sum from a place on, if one number is raised
 
 pub raised : (xs : List ℕ) (i k y : ℕ) → k < length xs → y ≡ get_or xs k 0 + 1 → sum (drop i (set xs k y)) ≡ sum (drop i xs) + one (nat_lt i (k + 1))
 raised xs i k y w e =

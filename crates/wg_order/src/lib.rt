@@ -1,7 +1,7 @@
 //! Pages ranked by the bounds of their PageRank, and the positions that the bounds leave to each.
 //!
 //! A [`Ranking`] sorts the pages of a [`wg_rank::Bounds`] by lower bounds falling, then by upper bounds falling, then by
-//! numbers rising; and it sorts the upper bounds by themselves. Where the lower bound of one page is above the upper
+//! numbers rising; and it sorts the upper bounds by themselves. If the lower bound of one page is above the upper
 //! bound of another, the first has the greater share, whatever the exact shares are ([`Ranking::surely_above`]). So a
 //! page stands after those that are surely above it ([`Ranking::best`]) and before those that are surely below it
 //! ([`Ranking::worst`]). Both are counted by a binary search of a sorted list:
@@ -57,7 +57,7 @@
 //!   many are asked for, for each upper bound that is below any of their lower bounds.
 //! - What is surely above a page comes before it, and so is among the first pages, if the lower bound of that page is
 //!   not above its own upper bound. Nothing here says so of all bounds, though those of a graph are such. So
-//!   [`FirstPages::best`] looks, and counts among all pages where it is not so.
+//!   [`FirstPages::best`] looks, and counts among all pages if it is not so.
 #![tactic(auto)]
 
 mod arranging;

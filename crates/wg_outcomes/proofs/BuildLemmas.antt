@@ -74,7 +74,7 @@ cause_since inputs names old mid new faults faults' r only later cause =
     fault_caused _ _ _ _ _ _ (status_in r) (by_written IsRead r only tt (λ o. tt) tt)
     (λ o other is. rose_late (λ k. k.write_faults) (names o) old mid new later.write_faults (cause.write_fault o other is)) cause.out_fault
 
--- all was judged, and what the job writes is written, and its text printed
+-- all was validated, and what the job writes is written, and its text printed
 pub produced : (job : Job) (td to : Bool) (before after : Outside) (files : Files) (counts : List ℕ → Counts) (what : Written) (text : Readings → List ℕ) (r : Result (Unit {0}) Ending)
     → writes_files job ≡ true
     → (IsTrue td → (q : Readings) → (status_of (judged_on q job before.files) ≡ Done) × (output_of (judged_on q job before.files) ≡ text q) × (files_of (judged_on q job before.files) ≡ Some what))

@@ -129,7 +129,7 @@ pub put_last : (r : Result (Unit {0}) Ending) (old new : List ℕ) → IfErr r (
 put_last (Ok done) old new only = inl refl
 put_last (Err e) old new only = inr (inl only)
 
--- all was judged, and this text is put out
+-- all was validated, and this text is put out
 pub printed_by : (job : Job) (td to : Bool) (before after : Outside) (text : Readings → List ℕ) (r : Result (Unit {0}) Ending) → writes_files job ≡ false
     → (IsTrue td → (q : Readings) → judged_on q job before.files ≡ accepted (text q))
     → after.files ≡ before.files
@@ -189,7 +189,7 @@ module _ (inputs : Names) (outputs : Output → Option (List ℕ)) (old new : Li
   no_fault_in Out cause = none.output (cause.out_fault refl)
   no_fault_in o cause = not_at (λ c. c.write_faults) (outputs o) old new none.writes (cause.write_fault o (λ same. cc) refl)
 
-  -- memory alone comes in the place of the judgement
+  -- memory alone comes in the place of the validation
   pub unhindered : (j : Judged) (s : Status) → HasCause inputs outputs old new faults faults' s → Answers j s → (s ≡ status_of j) ⊎ (s ≡ Memory)
   unhindered j s cause (inl is) = inl is
   unhindered j Memory cause (inr hinders) = inr refl

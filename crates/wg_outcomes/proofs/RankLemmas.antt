@@ -1,4 +1,4 @@
--- Bounds that were made are those of the judgement, and so is their ranking; and what is proved of it.
+-- Bounds that were made are those of the validation, and so is their ranking; and what is proved of it.
 use Rattle.std.proofs.Common.{◌≡◌, ◌≤◌, ◌<◌, ℕ, List, length, take, min, true, Option, Result, Ok, Err, refl, sym, ◌∙◌, ap, subst, arith}
 use Rattle.std.specs.Result.{IfOk}
 use Rattle.std.proofs.lemmas.List.{take_min}

@@ -1,4 +1,4 @@
--- A certificate that is judged, and what holds of one that was not refused.
+-- A certificate that is verified, and what holds of one that was not refused.
 use Rattle.std.proofs.Common.{◌≡◌, ◌∙◌, ◌<◌, ◌≤◌, ◌+◌, ℕ, zero, suc, Bool, true, false, cond, List, find, Option, Some, None, Ok, inl, inr, refl, sym, ap, subst, arith}
 use Rattle.std.proofs.lemmas.Bool.{cases_Bool, cases_lt, le-ltb, lt-ltb, ltb-false}
 use Rattle.std.specs.List.{range_with_len}
@@ -67,7 +67,7 @@ module _ (g : Digraph) (c : Claim) (given : Option (List ℕ)) where
       first_from (falls g c w) 0 g.nodes page (omega arith) (omega (arith, h.there)) (lt-ltb (lower g c.damping w (by_page c.low) page) (by_page c.low page) h.falls)
       (λ v from to. le-ltb (lower g c.damping w (by_page c.low) v) (by_page c.low v) (h.before v to))
 
-  -- the judgement goes on with what the bounds leave
+  -- the validation goes on with what the bounds leave
   pub goes_on_with_gap : (left : ℕ) → Rises g c.damping w (by_page c.low) × (left ≡ gap g (by_page c.low)) → Steps {B = ℕ} (with_gap g c given) (Ok left)
   goes_on_with_gap left h next =
       ap (λ (o : Option ℕ). unless_falls o (gap g (by_page c.low)) next) (none_falls h.0) ∙ ap next (sym h.1)

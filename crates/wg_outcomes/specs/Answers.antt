@@ -1,4 +1,4 @@
--- Which status a judgement leads to.
+-- Which status a validation leads to.
 use Rattle.std.specs.Prelude.{◌≡◌, ◌⊎◌, ℕ, ◌<◌, nat_eq, if◌then◌else◌, List, ◌++◌, length, take, Option, None, Result, Ok, Err, IfErr}
 use Rattle.wg_outside.specs.Outside.{Increased}
 use Rattle.wg_outside.specs.declared.sink.Sink as sink
@@ -10,18 +10,18 @@ use Rattle.wg_outcomes.specs.declared.status.Input.{Input}
 use Rattle.wg_outcomes.specs.declared.status.Status.{Status}
 use Rattle.wg_outcomes.specs.declared.status.Status.TheVariants.{Done, Memory, ReadFault, WriteFault}
 
--- what may come in place of the judgement: out of memory, or a fault of the outside
+-- what may come in place of the validation: out of memory, or a fault of the outside
 abbrev pub IsHindrance : Status → Type 0
 IsHindrance Memory = Unit {0}
 IsHindrance (ReadFault i) = Unit {0}
 IsHindrance (WriteFault o) = Unit {0}
 IsHindrance _ = ⊥
 
--- the status is that of the judgement, or something came in its place
+-- the status is that of the validation, or something came in its place
 abbrev pub Answers : Judged → Status → Type 0
 Answers judgement status = (status ≡ status_of judgement) ⊎ IsHindrance status
 
--- One step of a judgement: it goes on with this value whatever comes next, or it ends like this whatever would come
+-- One step of a validation: it goes on with this value whatever comes next, or it ends like this whatever would come
 -- next.
 abbrev pub Steps : {B : Type 0} → ((B → Judged) → Judged) → Result B Ending → Type 0
 Steps {B} step (Ok b) = (next : B → Judged) → step next ≡ next b
@@ -36,8 +36,8 @@ status_in (Err e) = e.status
 abbrev pub without : Input → (Input → Option (List ℕ)) → Input → Option (List ℕ)
 without i held j = if nat_eq (input_code i) (input_code j) then None else held j
 
--- all of the output at Done; a prefix of it where memory was wanting or an input was not read; a prefix that lacks
--- something where the output itself failed; and nothing at a refusal, or where a file could not be written
+-- all of the output at Done; a prefix of it if memory ran out or an input was not read; a prefix that lacks
+-- something if the output itself failed; and nothing at a refusal, or if a file could not be written
 abbrev pub HasOutput : List ℕ → List ℕ → List ℕ → Status → Type 0
 HasOutput due old new Done = new ≡ old ++ due
 HasOutput due old new Memory = (k : ℕ) × (new ≡ old ++ take k due)
@@ -53,7 +53,7 @@ IsUnput status = (status ≡ WriteFault Out) ⊎ (status ≡ Memory)
 abbrev pub IsPutLast : Status → List ℕ → List ℕ → Type 0
 IsPutLast status old new = (status ≡ Done) ⊎ IsUnput status ⊎ (new ≡ old)
 
--- a job ended at its output, and only where the output counted a fault or that it was out of memory
+-- a job ended at its output, and only if the output counted a fault or that it was out of memory
 pub record PrintRefusals {S A : Type 0} (s : sink.Ghosts S) (before after : S) (result : Result A Ending) : Type 0 where
   pub only : IfErr result (λ e. IsUnput e.status)
   pub failed : status_in result ≡ WriteFault Out → Increased (s.faults before) (s.faults after)

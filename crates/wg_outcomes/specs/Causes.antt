@@ -12,7 +12,7 @@ abbrev pub IncreasedAt : (Counts → ℕ) → Option (List ℕ) → (List ℕ �
 IncreasedAt count None old new = ⊥
 IncreasedAt count (Some name) old new = Increased (count (old name)) (count (new name))
 
--- a fault or an absence is told only where the count of its own file rose, and a fault of the output where the output's
+-- a fault or an absence is reported only if the count of its own file rose, and a fault of the output if the output's
 -- faults rose
 pub record HasCause (inputs : Input → Option (List ℕ)) (outputs : Output → Option (List ℕ))
     (old new : List ℕ → Counts) (faults faults' : ℕ) (status : Status) : Type 0 where

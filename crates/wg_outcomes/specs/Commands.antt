@@ -62,7 +62,7 @@ greedy_line p g = ok_line p (length (graph_bits p g.lists))
 abbrev pub builds : Layout → Digraph → Judged
 builds l g = built (greedy_archive (params_for l g) g) (greedy_line (params_for l g) g)
 
--- goes on with the union of two graphs, where it has no more arcs than a graph may have
+-- goes on with the union of two graphs, if it has no more arcs than a graph may have
 abbrev pub with_union : Digraph → Digraph → (Digraph → Judged) → Judged
 with_union g h next = if nat_lt MOST_ARCS (arc_count (union_graph g h)) then refused TooManyArcs
     else next (union_graph g h)

@@ -61,7 +61,7 @@ files_of (accepted out) = None
 files_of (built files out) = Some (an_archive files)
 files_of (certified text out) = Some (a_certificate text)
 
--- goes on with the bytes of an input, where it is held and not too long
+-- goes on with the bytes of an input, if it is held and not too long
 abbrev pub with_file : Input → Option (List ℕ) → (List ℕ → Judged) → Judged
 with_file i None next = refused (Missing i)
 with_file i (Some bytes) next = if nat_lt MOST_BYTES (length bytes) then refused (OverLimit i) else next bytes
@@ -103,7 +103,7 @@ unless_some_differ [] found stored next = next tt
 unless_some_differ (x ∷ rest) found stored next =
     refused (BadArchive (archive.Length x (record_length found x) (record_length stored x)))
 
--- goes on where each record has the length that is stored
+-- goes on if each record has the length that is stored
 abbrev pub with_lengths : List ℕ → List ℕ → (Unit {0} → Judged) → Judged
 with_lengths found stored next = unless_some_differ (pages_that_differ found stored) found stored next
 
@@ -111,7 +111,7 @@ abbrev pub unless_no_page : Option ℕ → (Unit {0} → Judged) → Judged
 unless_no_page None next = next tt
 unless_no_page (Some page) next = refused (NoPage page)
 
--- goes on where a graph of so many pages has all of these; else the first that it does not have is refused
+-- goes on if a graph of so many pages has all of these; else the first that it does not have is refused
 abbrev pub with_pages : ℕ → List ℕ → (Unit {0} → Judged) → Judged
 with_pages n pages next = unless_no_page (find (λ page. nat_le n page) pages) next
 
@@ -154,14 +154,14 @@ with_records held next =
     with_file input.Properties (held input.Properties) (λ text. with_parameters text (λ p.
     with_file input.Graph (held input.Graph) (λ bytes. next p bytes)))
 
--- goes on with the graph of an archive, and the places of its records, where its offsets file stores the same lengths
+-- goes on with the graph of an archive, and the places of its records, if its offsets file stores the same lengths
 abbrev pub with_archive : Readings → (Input → Option (List ℕ)) → (Parameters → Accepted → Judged) → Judged
 with_archive r held next =
     with_records held (λ p bytes. with_graph r p bytes (λ a.
     with_file input.Offsets (held input.Offsets) (λ more. with_offsets r p more (λ stored.
     with_lengths a.places stored (λ same. next p a)))))
 
--- weights of n pages, which may not add up to 0 where there are pages
+-- weights of n pages, which may not add up to 0 if there are pages
 abbrev pub unless_zero : ℕ → Result (List ℕ) NumbersFault → Result (List ℕ) WeightsFault
 unless_zero n (Ok ws) = if nat_lt 0 n && nat_eq (sum_below n (by_page ws)) 0 then Err weights.Zero else Ok ws
 unless_zero n (Err f) = Err (weights.Numbers f)
@@ -178,7 +178,7 @@ unless_bad_weights (Err f) next = refused (BadWeights f)
 abbrev pub with_weights : ℕ → List ℕ → (List ℕ → Judged) → Judged
 with_weights n bytes next = unless_bad_weights (weights_in n bytes) next
 
--- goes on with the weights of so many pages, where a file of them is named, and else without weights
+-- goes on with the weights of so many pages, if a file of them is named, and else without weights
 abbrev pub weights_then : Option (List ℕ) → ℕ → Option (List ℕ) → (Option (List ℕ) → Judged) → Judged
 weights_then None n held next = next None
 weights_then (Some name) n held next =

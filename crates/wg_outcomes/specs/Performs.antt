@@ -1,4 +1,4 @@
--- What stands where a job has ended.
+-- What stands when a job has ended.
 use Rattle.std.specs.Prelude.{◌≡◌, ◌⊎◌, ℕ, Bool, false, List, Option, Some, Result, IsTrue, IfErr}
 use Rattle.wg_outside.specs.Outside.{Files, Counts, NonDecreasing}
 use Rattle.wg_outside.specs.declared.depot.Depot as depot
@@ -39,7 +39,7 @@ outside files counts taken faults = record { files = files; counts = counts; tak
 abbrev pub judged_on : Readings → Job → Files → Judged
 judged_on r job files = judged r job (held_by (input_name job) files)
 
--- The job was done or has ended with this status and this promised number. What the files or the output hold is told
+-- The job was done or has ended with this status and this promised number. What the files or the output hold is stated
 -- only of a depot and an output whose ghosts are told.
 pub record Performs (job : Job) (told_files told_out : Bool) (before after : Outside) (status : Status) (number : ℕ)
     : Type 0 where
@@ -48,12 +48,12 @@ pub record Performs (job : Job) (told_files told_out : Bool) (before after : Out
   pub answers : IsTrue told_files → (r : Readings) → Answers (judged_on r job before.files) status
   -- it is one of those that this job can have at all
   pub possible : IsTrue (can_end job status)
-  -- a fault or an absence is told only where the outside counted it
+  -- a fault or an absence is reported only if the outside counted it
   pub causes : HasCause (input_name job) (output_name job) before.counts after.counts before.faults after.faults status
-  -- a fault of an input is told only where the job had come so far
+  -- a fault of an input is reported only if the job had come so far
   pub reached : IsTrue told_files → (r : Readings) (i : Input) → status ≡ ReadFault i
       → Reaches r job (held_by (input_name job) before.files) i
-  -- a fault of an output is told only where nothing was to be refused
+  -- a fault of an output is reported only if nothing was to be refused
   pub needed : IsTrue told_files → (r : Readings) (o : Output) → status ≡ WriteFault o
       → status_of (judged_on r job before.files) ≡ Done
   -- what stands on the output
@@ -61,7 +61,7 @@ pub record Performs (job : Job) (told_files told_out : Bool) (before after : Out
       → HasOutput (output_of (judged_on r job before.files)) before.taken after.taken status
   -- what is printed comes last, told or not, but for a job that prints while it reads
   pub silent : prints_while_reading job ≡ false → IsPutLast status before.taken after.taken
-  -- nothing is printed where memory was out before the files were whole
+  -- nothing is printed if memory ran out before the files were whole
   pub printed_last : IsTrue told_files → (r : Readings) → status ≡ Memory
       → (after.taken ≡ before.taken) ⊎ AreAllWhole (output_name job)
       (written_by r job (held_by (input_name job) before.files)) after.files
@@ -73,7 +73,7 @@ pub record Performs (job : Job) (told_files told_out : Bool) (before after : Out
   pub same : writes_files job ≡ false → after.files ≡ before.files
   -- no count of the depot falls
   pub later : NonDecreasing before.counts after.counts
-  -- the number is promised, where the line of the status names it
+  -- the number is promised, if the line of the status names it
   pub promised : IsTrue told_files → ArePromised (held_by (input_name job) before.files) status number
 
 -- the same, of a depot and an output that a function changes
@@ -100,14 +100,14 @@ pub record Produces (names : Output → Option (List ℕ)) (what : Written) (tex
     (told_files told_out : Bool) (before after : Outside) (result : Result (Unit {0}) Ending) : Type 0 where
   -- a file, the output or memory alone can stop it
   pub only : IfErr result (λ e. IsStopped e.status)
-  -- a fault is told only where the outside counted it
+  -- a fault is reported only if the outside counted it
   pub causes : (inputs : Input → Option (List ℕ))
       → HasCause inputs names before.counts after.counts before.faults after.faults (status_in result)
   -- what stands on the output
   pub output : IsTrue told_out → (r : Readings) → HasOutput (text r) before.taken after.taken (status_in result)
   -- what is printed comes last, told or not
   pub silent : IsPutLast (status_in result) before.taken after.taken
-  -- nothing is printed where memory was out before the files were whole
+  -- nothing is printed if memory ran out before the files were whole
   pub printed_last : IsTrue told_files → status_in result ≡ Memory
       → (after.taken ≡ before.taken) ⊎ AreAllWhole names (Some what) after.files
   -- what stands in the files

@@ -18,7 +18,7 @@ abbrev pub IsPromised : Option (List ℕ) → (Parameters → ℕ) → ℕ → T
 IsPromised held number promised = (text : List ℕ) (p : Parameters) → held ≡ Some text → properties_of text ≡ Ok p
     → promised ≡ number p
 
--- what the properties promise, where the line of the status names it: arcs beside fewer, or pages beside numbers
+-- what the properties promise, if the line of the status names it: arcs beside fewer, or pages beside numbers
 abbrev pub ArePromised : (Input → Option (List ℕ)) → Status → ℕ → Type 0
 ArePromised held (BadArchive (archive.ArcsShort total)) promised =
     IsPromised (held input.Properties) (λ p. p.arcs) promised
@@ -28,7 +28,7 @@ ArePromised held (BadWeights (weights.Numbers f)) promised = IsPromised (held in
 ArePromised held (BadMap f) promised = IsPromised (held input.Properties) (λ p. p.nodes) promised
 ArePromised held status promised = Unit {0}
 
--- memory was wanting, or this file is at fault, and the ending names what is promised
+-- memory ran out, or this file is at fault, and the ending names what is promised
 abbrev pub IsBadFile : Input → ℕ → Ending → Type 0
 IsBadFile i promised e =
     (e.status ≡ Memory) ⊎

@@ -1,5 +1,5 @@
--- An archive that a job reads as its second: its files are inputs of their own, and its faults are told as those of the
--- second.
+-- An archive that a job reads as its second: its files are inputs of their own, and its faults are reported as those of
+-- the second.
 use Rattle.std.specs.Prelude.{ℕ, List, Option}
 use Rattle.wg_outcomes.specs.Judged.{Judged, refused}
 use Rattle.wg_outcomes.specs.declared.ending.Ending.{Ending}
@@ -32,7 +32,7 @@ second_ending e = record { status = as_second e.status; promised = e.promised }
 abbrev pub second_held : (Input → Option (List ℕ)) → Input → Option (List ℕ)
 second_held held i = held (second_input i)
 
--- what a judgement of the second archive comes to in a job
+-- what a validation of the second archive comes to in a job
 abbrev pub of_second : Judged → Judged
 of_second (refused status) = refused (as_second status)
 of_second judgement = judgement

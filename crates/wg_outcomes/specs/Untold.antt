@@ -29,7 +29,7 @@ PrintsSomeGap weights old new =
     (graph : Digraph) × (given : Option (List ℕ)) × (weights ≡ None → given ≡ None) × (claim : Claim)
     × PrintsGapOf graph given claim old new
 
--- Memory was wanting only before a file was changed or anything was printed, or where the output or the file of this
+-- Memory ran out only before a file was changed or anything was printed, or if the output or the file of this
 -- name counted it.
 abbrev pub WantsFirst : {D O : Type 0} → depot.Ghosts D → sink.Ghosts O → Option (List ℕ) → D → D → O → O → Status
     → Type 0

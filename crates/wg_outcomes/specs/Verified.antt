@@ -28,7 +28,7 @@ abbrev pub unless_falls : Option ℕ → ℕ → (ℕ → Judged) → Judged
 unless_falls None left next = next left
 unless_falls (Some page) left next = refused (BadCertificate (Falls page))
 
--- goes on with what the bounds leave of 1, where a round lowers none of them
+-- goes on with what the bounds leave of 1, if a round lowers none of them
 abbrev pub with_gap : Digraph → Claim → Option (List ℕ) → (ℕ → Judged) → Judged
 with_gap g c given next = unless_falls (first_fall g c given) (gap g (by_page c.low)) next
 

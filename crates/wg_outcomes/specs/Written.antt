@@ -27,7 +27,7 @@ params_for l g = params_of l g.nodes (arc_count g)
 abbrev pub greedy_archive : Parameters → Digraph → Archive
 greedy_archive p g = record { properties = text_of p; graph = graph_file p g.lists; offsets = offsets_file p g.lists }
 
--- what the three files of an archive hold, each where it is there
+-- what the three files of an archive hold, each if it is there
 pub record ArchiveFiles : Type 0 where
   pub properties : Option (List ℕ)
   pub graph : Option (List ℕ)
@@ -86,7 +86,7 @@ emptied = record { properties = Some []; graph = Some []; offsets = Some [] }
 abbrev pub unnamed : Archive → ArchiveFiles
 unnamed a = record { properties = Some []; graph = Some a.graph; offsets = Some a.offsets }
 
--- a call on this file failed, or memory was wanting
+-- a call on this file failed, or memory ran out
 abbrev pub IsStoppedAt : Output → Status → Type 0
 IsStoppedAt o status = (status ≡ WriteFault o) ⊎ (status ≡ Memory)
 
@@ -101,7 +101,7 @@ pub record Touches (o : Output) (name : List ℕ) (told : Bool) (files files' : 
   pub others : IsTrue told → StayBeside name files files'
   -- this file or memory alone can stop them
   pub only : IfErr result (λ e. IsStoppedAt o e.status)
-  -- a fault is told only where the count of the file rose
+  -- a fault is reported only if the count of the file rose
   pub cause : status_in result ≡ WriteFault o → IncreasedAt (λ c. c.write_faults) (Some name) counts counts'
   -- and so is out of memory
   pub memory : status_in result ≡ Memory → IncreasedAt (λ c. c.wants) (Some name) counts counts'
@@ -112,12 +112,12 @@ abbrev pub TouchesBy : {D : Type 0} → depot.Ghosts D → Output → List ℕ �
 TouchesBy d o name before after result =
     Touches o name d.told (d.files before) (d.files after) (d.counts before) (d.counts after) result
 
--- a call on one of the files failed, or memory was wanting
+-- a call on one of the files failed, or memory ran out
 abbrev pub IsStopped : Status → Type 0
 IsStopped status = ((o : Output) × (status ≡ WriteFault o)) ⊎ (status ≡ Memory)
 
 -- What stands once the job has ended so. A fault names the file that it stopped at; memory may run out anywhere; and
--- nothing has changed where it was refused or its input could not be read.
+-- nothing has changed if it was refused or its input could not be read.
 abbrev pub FilesAfter : Archive → ArchiveFiles → ArchiveFiles → Status → Type 0
 FilesAfter a old new Done = AreWhole a new
 FilesAfter a old new (WriteFault output.Out) = AreWhole a new
@@ -128,12 +128,12 @@ FilesAfter a old new Memory =
     StopAtProperties a old new ⊎ StopAtGraph a old new ⊎ StopAtOffsets a old new ⊎ AreWhole a new
 FilesAfter a old new _ = new ≡ old
 
--- a fault of one of these files is told only where the count of that file rose
+-- a fault of one of these files is reported only if the count of that file rose
 abbrev pub FaultsRose : List ℕ → (List ℕ → Counts) → (List ℕ → Counts) → Status → Type 0
 FaultsRose base old new status = (o : Output) → status ≡ WriteFault o
     → IncreasedAt (λ c. c.write_faults) (archive_named base o) old new
 
--- What stands of the file of a certificate once the job has ended so. It is as before, or lacks something, where a call
+-- What stands of the file of a certificate once the job has ended so. It is as before, or lacks something, if a call
 -- on it failed; it is whole before anything is printed.
 abbrev pub CertificateAfter : List ℕ → Option (List ℕ) → Option (List ℕ) → Status → Type 0
 CertificateAfter text old new Done = new ≡ Some text

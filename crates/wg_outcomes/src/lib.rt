@@ -1,9 +1,9 @@
-//! What a job comes to: which of its inputs are judged in which order, what it prints and writes, how it may end, and
-//! what stands on its output and in its files then.
+//! What a job comes to: which of its inputs are validated in which order, what it prints and writes, how it may end,
+//! and what stands on its output and in its files then.
 //!
 //! `Commands` has an equation for each command: from what its inputs hold to its output or its first fault.
 //! `Performs` is the whole contract of a job: the status is the one of that equation, or running out of memory or a
-//! fault of the outside came in its place; faults are reported only where their counts rose; and for each status it
+//! fault of the outside came in its place; faults are reported only if their counts rose; and for each status it
 //! says what stands on the output, in the three files of a written archive and in a written certificate. `DoesOrEnds`
 //! says the same of a command that is a function with a [`Result`], and `DoesAlone` of one that makes no call of a
 //! depot.

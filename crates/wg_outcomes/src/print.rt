@@ -11,7 +11,7 @@ use wg_lines::Lines;
 use wg_outside::{Sink, write_all};
 use wg_params::Params;
 
-/// A piece of the output, in one call where the output takes it whole.
+/// A piece of the output, in one call if the output takes it whole.
 pub fn print_piece<O: Sink>(out: &mut O, piece: &[u8]) -> Result<(), Ending>
     ensures puts { IsTrue O.told → Puts piece.now (O.taken out.old) (O.taken out.new) result }
     ensures refusals { PrintRefusals ⟦<O as Sink>⟧ out.old out.new result }
@@ -41,7 +41,7 @@ fn ok_line(params: &Params, bits: u64) -> Text
         .with("\n")
 }
 
-/// Prints the line of an accepted archive, in one call where the output takes it whole.
+/// Prints the line of an accepted archive, in one call if the output takes it whole.
 pub fn print_ok<O: Sink>(out: &mut O, params: &Params, bits: u64) -> Result<(), Ending>
     ensures puts { IsTrue O.told → Puts (ok_line params.now bits) (O.taken out.old) (O.taken out.new) result }
     ensures refusals { PrintRefusals ⟦<O as Sink>⟧ out.old out.new result }

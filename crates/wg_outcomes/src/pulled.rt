@@ -1,4 +1,4 @@
-//! Rounds along the pages that link to each page, where these fit in memory.
+//! Rounds along the pages that link to each page, if these fit in memory.
 ghost use Rattle.std.specs.Prelude.{◌≡◌, ◌≤◌, ℕ, List, Option, IfOk, IfSome};
 ghost use Rattle.wg_params.specs.declared.limits.TheConstants.{MOST_ARCS, MOST_ROUNDS};
 ghost use Rattle.wg_runs.specs.declared.run.TheConstants.{MOST_PAGES_IN_RUNS};
@@ -58,7 +58,7 @@ fn fitting<L: Lists>(alloc: Global, lists: &mut L) -> Result<Option<Pulled>, All
     }
 }
 
-// The same, where memory suffices for it.
+// The same, if memory suffices for it.
 fn pulled_for<L: Lists>(alloc: Global, lists: &mut L) -> Option<Pulled>
     requires few_arcs { arc_count (L.graph lists.old) ≤ MOST_ARCS }
     ensures graph { L.graph lists.new ≡ L.graph lists.old }

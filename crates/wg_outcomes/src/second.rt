@@ -30,7 +30,7 @@ fn second_status(status: Status) -> Status
     }
 }
 
-/// How a job ends at its second archive, where it would have ended like this had the archive been its first.
+/// How a job ends at its second archive, if it would have ended like this had the archive been its first.
 pub fn as_second(ending: Ending) -> Ending
     ensures { result ≡ second_ending ending }
 {

@@ -52,7 +52,7 @@ pub enum SecondFault {
 /// How a run ended.
 #[derive(Clone, Copy, Debug, PartialEq, Eq)]
 pub enum Status {
-    /// The job was done, and all that it reads was judged to its end.
+    /// The job was done, and all that it reads was validated to its end.
     Done,
     /// The words ask for no job.
     Usage,
@@ -64,7 +64,7 @@ pub enum Status {
     BadArcs { line: u64, kind: ArcsKind },
     BadProperties(PropFault),
     BadArchive(ArchiveFault),
-    /// The first fault of the second archive, where the first has none.
+    /// The first fault of the second archive, if the first has none.
     BadSecond(SecondFault),
     /// The graph that was to be written would have more than 2^40 arcs.
     TooManyArcs,

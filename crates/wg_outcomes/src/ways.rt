@@ -19,7 +19,7 @@ pub enum Way {
 
 /// The way for a graph of so many runs, arcs and pages: along runs or along in-lists, whichever take less, if they fit
 /// [`MOST_ROUND_ROOM`]. Runs take 8 bytes each, in-lists 4 for each arc, and both 44 for each page. So it is along runs
-/// where at most every other arc begins one; then there are no more places to read than along in-lists.
+/// if at most every other arc begins one; then there are no more places to read than along in-lists.
 pub fn way_for(runs: u64, arcs: u64, pages: u64) -> Way
     requires pages { pages ≤ MOST_PAGES }
     ensures runs { result ≡ Way.Runs → (2 * runs ≤ arcs) × (8 * runs + 44 * pages ≤ MOST_ROUND_ROOM * pages) }

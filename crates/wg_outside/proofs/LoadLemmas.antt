@@ -46,7 +46,7 @@ pub past_limit : (o : Option (List ℕ)) (at : ℕ) (buf : List ℕ) (count : �
 past_limit None at buf count t some more = absurd (cc (t))
 past_limit (Some file) at buf count t some more = (λ e. cc (e), λ e. omega (arith, t.within, length-drop at file))
 
--- one answer is no error, and want of memory and a file that is too long are no faults of a depot
+-- one answer is no error, and running out of memory and a file that is too long are no faults of a depot
 pub no_error : {A : Type 0} (e : LoadError) (a : A) → ◌≡◌ {A = Result A LoadError} (Ok a) (Err e) → ⊥
 no_error e a is = cc is
 

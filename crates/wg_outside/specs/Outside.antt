@@ -12,7 +12,7 @@ Files = map.FinMap (slice_cmp nat_cmp) (List ℕ)
 abbrev pub files_code : Coded Files
 files_code = map.code (coded_list coded_ℕ) (coded_list coded_ℕ)
 
--- what a name holds, and nothing where there is no such file
+-- what a name holds, and nothing if there is no such file
 abbrev pub content : Files → List ℕ → List ℕ
 content files name = unwrap_or (map.get files name) []
 
@@ -20,7 +20,7 @@ content files name = unwrap_or (map.get files name) []
 abbrev pub created : Files → List ℕ → Files
 created files name = map.insert files name []
 
--- with these bytes more at the end of that file, which is begun where it is absent
+-- with these bytes more at the end of that file, which is begun if it is absent
 abbrev pub appended : Files → List ℕ → List ℕ → Files
 appended files name [] = files
 appended files name (b ∷ bs) = map.insert files name (content files name ++ b ∷ bs)

@@ -21,7 +21,7 @@ load_error read.Failed = load.Failed
 load_error read.Absent = load.Absent
 load_error read.Memory = load.Memory
 
--- a file that is read whole: absent exactly where there is none, too long exactly where it is longer than the limit
+-- a file that is read whole: absent exactly if there is none, too long exactly if it is longer than the limit
 abbrev pub Loads : Option (List ℕ) → Result (List ℕ) LoadError → Type 0
 Loads None r = r ≡ Err load.Absent
 Loads (Some file) r =

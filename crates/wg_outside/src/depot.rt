@@ -30,7 +30,7 @@ pub enum WriteError {
 ///
 /// A depot in memory can tell what it holds, and one of the system's files cannot: what others write there meanwhile is
 /// not ours to say. So each clause on bytes stands under `told`. What holds of every depot is that it owns up to what
-/// it refuses: an error comes only where a count rose. An implementation may keep one count for all names.
+/// it refuses: an error comes only if a count rose. An implementation may keep one count for all names.
 pub trait Depot {
     /// Whether `files` is what is there. It is a constant of the type.
     ghost told: { Bool };

@@ -6,7 +6,7 @@ ghost use Rattle.std.proofs.Common.{refl, ◌∙◌};
 
 use crate::{Depot, Sink, WriteError};
 
-/// A file of a depot, to the end of which bytes go. It tells its bytes where the depot does, and counts what the depot
+/// A file of a depot, to the end of which bytes go. It tells its bytes if the depot does, and counts what the depot
 /// counts for its name. Nothing else in the depot changes.
 ///
 /// Each write is handed on at once, so small pieces are best gathered before.

@@ -18,7 +18,7 @@
 //! Ok(())
 //! ```
 //!
-//! An error is never made up: `Failed`, `Absent` and `Memory` come from an outside only where it counted them, which is
+//! An error is never made up: `Failed`, `Absent` and `Memory` come from an outside only if it counted them, which is
 //! how a contract far above can say that a failed job was the outside's fault.
 //!
 //! No call holds memory but for the bytes that it answers.

@@ -4,7 +4,7 @@ use Rattle.wg_params.specs.declared.limits.TheConstants.{MOST_ZETA}
 use Rattle.wg_params.specs.declared.code.Code.{Code}
 use Rattle.wg_params.specs.declared.code.Code.TheVariants.{Unary, Gamma, Delta, Zeta, Nibble}
 
--- a zeta code has a shrinking factor of 1 to 31
+-- the parameter k of a zeta code is 1 to 31
 abbrev pub IsCode : Code → Type 0
 IsCode (Zeta k) = (1 ≤ k) × (k ≤ MOST_ZETA)
 IsCode Unary = Unit {0}
@@ -28,7 +28,7 @@ is_unary_gamma_or_delta Delta = true
 is_unary_gamma_or_delta (Zeta k) = false
 is_unary_gamma_or_delta Nibble = false
 
--- residuals: gamma, delta, nibble, or zeta with the archive's own shrinking factor
+-- residuals: gamma, delta, nibble, or zeta with the archive's own parameter k
 abbrev pub is_residual_code : ℕ → Code → Bool
 is_residual_code zeta Gamma = true
 is_residual_code zeta Delta = true

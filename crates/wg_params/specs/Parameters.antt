@@ -10,7 +10,7 @@ use Rattle.wg_params.specs.declared.layout.Layout.{Layout}
 use Rattle.wg_params.specs.Codes.{is_gamma_or_delta, is_unary_gamma_or_delta, is_residual_code}
 
 -- Pages and arcs; how many pages back a reference may reach; how many references may lead from one page to the next,
--- where this is limited; the least length of an interval, 0 for no intervals; the shrinking factor of zeta; and the
+-- if this is limited; the least length of an interval, 0 for no intervals; the parameter k of zeta; and the
 -- code of each field.
 pub record Parameters : Type 0 where
   pub nodes : ℕ
@@ -60,7 +60,7 @@ layout_of p = record {
   };
 }
 
--- the default codes, with this shrinking factor
+-- the default codes, with this parameter k of zeta
 abbrev pub default_codes : ℕ → Codes
 default_codes zeta = record {
   outdegrees = Gamma;
@@ -89,7 +89,7 @@ first_bad p =
     else if not (has_its_codes p) then Some key.CompressionFlags
     else None
 
--- each field is in a code that it may have, with this shrinking factor
+-- each field is in a code that it may have, with this parameter k of zeta
 pub record AreCodes (zeta : ℕ) (c : Codes) : Type 0 where
   pub outdegrees : is_gamma_or_delta c.outdegrees ≡ true
   pub references : is_unary_gamma_or_delta c.references ≡ true

@@ -1,4 +1,4 @@
-/// A code for whole numbers, by its name in BVGraph's documentation. The parameter of `Zeta` is its shrinking factor.
+/// A code for whole numbers, by its name in BVGraph's documentation. The number of `Zeta` is its parameter k.
 #[derive(Clone, Copy, Debug, PartialEq, Eq)]
 pub enum Code {
     Unary,

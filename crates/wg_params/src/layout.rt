@@ -16,7 +16,7 @@ pub struct Codes {
 }
 
 impl Codes {
-    /// The default codes of the format, with this shrinking factor: references in unary, residuals in zeta, and the
+    /// The default codes of the format, with this parameter k of zeta: references in unary, residuals in zeta, and the
     /// other fields in gamma.
     pub fn defaults(zeta: u32) -> Codes
         ensures { result ≡ default_codes zeta }
@@ -41,7 +41,7 @@ pub struct Layout {
     pub chain: Option<u64>,
     /// The least length of an interval; 0 for no intervals.
     pub interval: u64,
-    /// The shrinking factor of zeta codes.
+    /// The parameter k of zeta codes.
     pub zeta: u32,
     pub codes: Codes,
 }

@@ -13,7 +13,7 @@ pub const MOST_CHAIN: u64 = 2_147_483_647;
 /// The greatest least length of an interval.
 pub const MOST_INTERVAL: u64 = 2_147_483_647;
 
-/// The greatest shrinking factor of a zeta code.
+/// The greatest parameter k of a zeta code.
 pub const MOST_ZETA: u32 = 31;
 
 /// The greatest damping of a ranking, in thousandths.

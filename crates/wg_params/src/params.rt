@@ -98,7 +98,7 @@ fn has_its_codes(layout: &Layout) -> bool
 impl Params {
     /// The parameters of an archive, one by one: pages and arcs, how many pages back a reference may reach, how many
     /// references may lead from one page to the next (`None` for any number), the least length of an interval (0 for no
-    /// intervals), the shrinking factor of zeta, and the code of each field. The first that is out of its limits is
+    /// intervals), the parameter k of zeta, and the code of each field. The first that is out of its limits is
     /// refused by its key; a code that its field may not have counts as the compression flags. It takes no memory.
     pub fn new(
         nodes: u64,
@@ -231,7 +231,7 @@ impl Params {
         self.layout.interval
     }
 
-    /// The shrinking factor of zeta codes.
+    /// The parameter k of zeta codes.
     pub fn zeta(&self) -> u32
         ensures value { result ≡ self.now.zeta }
         ensures within { (1 ≤ self.now.zeta) × (self.now.zeta ≤ MOST_ZETA) }

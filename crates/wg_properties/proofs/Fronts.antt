@@ -170,7 +170,7 @@ no_class whole [] are is =
 no_class whole (b ∷ bs) are is =
     ap classes (lines_front whole (b ∷ bs) (are_plain whole are) is.plain (omega arith)) ∙ classes_skip whole ((b ∷ bs) ∷ []) are ∙ class_skips (b ∷ bs) [] is.other
 
--- ---- judged
+-- ---- validated
 
 unless_refused : (first : Option ℕ) (r : Result Parameters PropFault) → is_err r ≡ true → is_err (unless_continued first r) ≡ true
 unless_refused None r h = h

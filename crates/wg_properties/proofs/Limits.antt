@@ -1,4 +1,4 @@
--- What is judged is within the limits of the parameters.
+-- What is validated is within the limits of the parameters.
 use Rattle.std.proofs.Common.{◌≡◌, ℕ, ◌+◌, ◌≤◌, Bool, true, false, ◌||◌, cond, ltb, List, [], ◌∷◌, map, Option, Some, None, Result, Ok, Err, unwrap_or, refl, subst, arith, codes, eq-eqb}
 use Rattle.std.specs.Str.{bytes_eq}
 use Rattle.std.proofs.lemmas.Bool.{ltb-false, le-ltb, ne_eqb}
@@ -87,7 +87,7 @@ none_bad p h =
     let zeta = le-ltb MOST_ZETA p.zeta h.zeta in
     rw (nodes, arcs, window, chain, interval, some, zeta, h.outdegrees, h.references, h.block_counts, h.blocks, h.residuals, h.offsets)
 
--- what was judged key by key can be made parameters
+-- what was validated key by key can be made parameters
 pub never_bad : (v : Key → Option (List ℕ)) (nodes arcs window : ℕ) (chain : Option ℕ) (interval zeta : ℕ) (c : Codes) → judged_number key.Nodes MOST_PAGES (v key.Nodes) ≡ Ok nodes → judged_number key.Arcs MOST_ARCS (v key.Arcs) ≡ Ok arcs → judged_number key.WindowSize MOST_WINDOW (v key.WindowSize) ≡ Ok window → judged_chain (v key.MaxRefCount) ≡ Ok chain → judged_number key.MinIntervalLength MOST_INTERVAL (v key.MinIntervalLength) ≡ Ok interval → judged_zeta (v key.ZetaK) ≡ Ok zeta → judged_flags zeta (v key.CompressionFlags) ≡ Ok c → first_bad (record { nodes = nodes; arcs = arcs; window = window; chain = chain; interval = interval; zeta = zeta; outdegrees = c.outdegrees; references = c.references; block_counts = c.block_counts; blocks = c.blocks; residuals = c.residuals; offsets = c.offsets }) ≡ None
 never_bad v nodes arcs window chain interval zeta c e1 e2 e3 e4 e5 e6 e7 =
     let fields = codes_ok zeta (unwrap_or (v key.CompressionFlags) []) c e7 in

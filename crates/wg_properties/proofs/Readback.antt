@@ -153,7 +153,7 @@ text_pairs p is = ap pairs_of (text_lines p is) ∙ after_comment (map line_of (
 pub text_goes_on : (p : Parameters) → IsWithinLimits p → first_continued (lines_of (text_of p)) ≡ None
 text_goes_on p is = ap first_continued (text_lines p is) ∙ comment_stops (map line_of (written_pairs p)) (none_continued 2 (written_pairs p) (values_are p is))
 
--- ---- judged
+-- ---- validated
 
 judged_again : (v : Key → Option (List ℕ)) (p : Parameters)
     → judged_class (v key.GraphClass) ≡ Ok tt → judged_version (v key.Version) ≡ Ok tt → judged_endianness (v key.Endianness) ≡ Ok tt

@@ -55,7 +55,7 @@ other_class : properties_of (written ++ codes "graphclass=BVGraph") ≡ Err faul
 unfolding properties_of judged codes_of flag_of lines_of without_blanks_before without_blanks_after is_continued key_in value_in name_of word_of class_name long_class_name number_of digits
 other_class = refl
 
--- the version, which is judged after the class and before the rest
+-- the version, which is validated after the class and before the rest
 other_version : properties_of (written ++ line (codes "version=1") (codes "nodes=x")) ≡ Err fault.Version
 unfolding properties_of judged codes_of flag_of lines_of without_blanks_before without_blanks_after is_continued key_in value_in name_of word_of class_name long_class_name number_of digits
 other_version = refl
@@ -95,12 +95,12 @@ no_limit : properties_of (written ++ codes "maxrefcount=-1") ≡ Ok (record thre
 unfolding properties_of judged codes_of flag_of lines_of without_blanks_before without_blanks_after is_continued key_in value_in name_of word_of class_name long_class_name number_of digits
 no_limit = refl
 
--- a shrinking factor of 0 is out of its limits
+-- k = 0 for zeta is out of its limits
 no_zeta : properties_of (written ++ codes "zetak=0") ≡ Err (fault.Range key.ZetaK)
 unfolding properties_of judged codes_of flag_of lines_of without_blanks_before without_blanks_after is_continued key_in value_in name_of word_of class_name long_class_name number_of digits
 no_zeta = refl
 
--- of two flags for one field the later holds, and the zeta code has the archive's own shrinking factor
+-- of two flags for one field the later holds, and the zeta code has the archive's own k
 flags : properties_of (written ++ line (codes "compressionflags= RESIDUALS_NIBBLE | RESIDUALS_ZETA|OFFSETS_DELTA") (codes "zetak=5")) ≡ Ok (record three { zeta = 5; residuals = Zeta 5; offsets = Delta })
 unfolding properties_of judged codes_of flag_of lines_of without_blanks_before without_blanks_after is_continued key_in value_in name_of word_of class_name long_class_name number_of digits
 flags = refl

@@ -48,16 +48,16 @@ judged_chain (Some value) =
     if bytes_eq value (codes "-1") then Ok None
     else and_then (within key.MaxRefCount 0 MOST_CHAIN (number_of value)) (λ n. Ok (Some n))
 
--- 3 where it is absent
+-- 3 if it is absent
 abbrev pub judged_zeta : Option (List ℕ) → Result ℕ PropFault
 judged_zeta None = Ok 3
 judged_zeta (Some value) = within key.ZetaK 1 MOST_ZETA (number_of value)
 
--- no flags where they are absent
+-- no flags if they are absent
 abbrev pub judged_flags : ℕ → Option (List ℕ) → Result Codes PropFault
 judged_flags zeta value = codes_of zeta (unwrap_or value [])
 
--- the keys' values, judged one by one in the order of the keys
+-- the keys' values, validated one by one in the order of the keys
 unfoldable pub judged : (Key → Option (List ℕ)) → Result Parameters PropFault
 judged value =
     and_then (judged_class (value key.GraphClass)) (λ _.

@@ -10,7 +10,7 @@ use Rattle.wg_properties.specs.Words.{name_of, word_of, class_name}
 use Rattle.wg_properties.specs.declared.flags.Flag.{Flag}
 use Rattle.wg_properties.specs.declared.flags.Flag.TheVariants.{OutdegreesDelta, BlocksDelta, ReferencesGamma, ReferencesDelta, BlockCountUnary, BlockCountDelta, ResidualsGamma, ResidualsDelta, ResidualsNibble, OffsetsDelta}
 
--- the flag of each field's code, none where it is the field's default
+-- the flag of each field's code, none if it is the field's default
 abbrev pub outdegree_flag : Code → Option Flag
 outdegree_flag Delta = Some OutdegreesDelta
 outdegree_flag Gamma = None

@@ -106,7 +106,7 @@ pub fn flag_of(word: &[u8]) -> Option<Flag>
     FLAGS.iter().copied().find(|flag| word == word_of(*flag))
 }
 
-/// The codes that the flags of a value give, where each is known.
+/// The codes that the flags of a value give, if each is known.
 pub fn codes_of(zeta: u32, value: &[u8]) -> Result<Codes, PropFault>
     ensures { result ≡ codes_of zeta value.now }
 {

@@ -3,7 +3,7 @@ ghost use Rattle.wg_properties.specs.Pairs.{key_of};
 
 use wg_params::{Key, key_name};
 
-/// All keys, in the order in which their values are judged.
+/// All keys, in the order in which their values are validated.
 pub const KEYS: [Key; 10] = [
     Key::GraphClass,
     Key::Version,

@@ -1,7 +1,7 @@
 //! The properties of an archive: a text of keys and values, in the form of Java's property files.
 //!
 //! [`read`] gives the parameters of a text or its first fault, [`PropFault`], and [`write`] gives the text of
-//! parameters. A line is a comment where it begins with `#` or `!`; else it has a key, and after `=`, `:` or blanks its
+//! parameters. A line is a comment if it begins with `#` or `!`; else it has a key, and after `=`, `:` or blanks its
 //! value:
 //!
 //! ```text
@@ -13,7 +13,7 @@
 //! ```
 //!
 //! The text goes through three steps. One pass cuts it into lines, takes the pair of each, and keeps for each of the
-//! ten keys where its last value stands. Then the values are judged one by one in the order of the keys, numbers by
+//! ten keys where its last value stands. Then the values are validated one by one in the order of the keys, numbers by
 //! `wg_num`, and at last the flags, which say in which codes the fields of a record are. Only the ten places are held,
 //! and no memory is taken; the cost is linear in the text, however long its lines, values and blanks are. Of what Java
 //! allows besides, a line that goes on in the next is a fault, and any other backslash is a byte like the rest.

@@ -14,7 +14,7 @@ use std::marker::Model;
 use wg_num::{first_line, without_blanks_before};
 use wg_params::Key;
 
-/// The value of each key in a properties text, where it has one.
+/// The value of each key in a properties text, if it has one.
 #[derive(Drop)]
 pub struct Values<'a> {
     values: [Option<&'a [u8]>; 10],

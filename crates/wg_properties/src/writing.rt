@@ -67,7 +67,7 @@ fn offset_flag(code: Code) -> Option<Flag>
     }
 }
 
-// The flag of each field, where its code is not the default.
+// The flag of each field, if its code is not the default.
 fn flags_of(params: &Params) -> [Option<Flag>; 6]
     ensures { result ≡ flags_of params.now }
 {

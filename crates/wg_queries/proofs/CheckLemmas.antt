@@ -52,7 +52,7 @@ module _ (base : List ℕ) (p : Parameters) (td to : Bool) (before : Outside) (f
     later = none_falls-trans _ _ _ k.later j.later;
   }
 
-  -- the judgement as a step at one file, where the other holds what it does
+  -- the validation as a step at one file, if the other holds what it does
   by_graph : ComesTo (Check base) p td before files counts (Offsets ∷ Properties ∷ []) (λ r h. both r (h Graph) (held_by (file_of base) files Offsets) line)
   by_graph = record {
     goes = λ t r h holds. k.goes t r h holds.1 ∙ ap (λ (o : Option (List ℕ)). both r (h Graph) o line) (holds.0 ∙ here Offsets);

@@ -1,4 +1,4 @@
--- A pass over a graph file that prints a text, and a job that judges the file before.
+-- A pass over a graph file that prints a text, and a job that validates the file before.
 use Rattle.std.proofs.Common.{◌≡◌, ◌⊎◌, inl, inr, ℕ, ◌<◌, ◌≤◌, Bool, List, [], ◌∷◌, ◌++◌, length, take, refl, sym, ◌∙◌, ap, subst, append_assoc, Some, Result, Ok, Err, arith, ◌≢◌, true, false, is_some, Option}
 use Rattle.std.specs.Bool.{IsTrue}
 use Rattle.std.specs.FinMap as map
@@ -87,7 +87,7 @@ pub prints_exit : (base : List ℕ) (p : Parameters) (text : Accepted → List �
 prints_exit base p text td to before after r e is h = subst (λ (x : Result (Unit {0}) Ending). PrintsGraph base p text td to before after x) (sym (is_that_err r e is)) h
 
 module _ (base : List ℕ) (p : Parameters) (text : Accepted → List ℕ) (td to : Bool) (files : Files) (counts : List ℕ → Counts) (t0 : List ℕ) (f0 : ℕ) where
-  -- nothing was begun, since memory was out
+  -- nothing was begun, since memory ran out
   pub prints_none : (e : Ending) → e.status ≡ Memory → PrintsGraph base p text td to (outside files counts t0 f0) (outside files counts t0 f0) (Err e)
   prints_none e want = record {
     same = refl;
@@ -182,7 +182,7 @@ pass_caused names inputs outputs n old mid new f f' (Err e) named (inl (inl only
 pass_caused names inputs outputs n old mid new f f' (Err e) named (inl (inr bad)) later h = own_caused inputs outputs old new f f' e.status (bad_own Graph n e bad)
 pass_caused names inputs outputs n old mid new f f' (Err e) named (inr unput) later h = unput_cause inputs outputs old new f f' (Err e) unput h.out_fault
 
--- the file was judged, and a text of its graph was printed while it was read again
+-- the file was validated, and a text of its graph was printed while it was read again
 pub printed_again : (base : List ℕ) (p : Parameters) (print : Accepted → List ℕ) (job : Job) (td to : Bool) (before mid after : Outside) (read : List Input) (files : Files) (counts : List ℕ → Counts) (r : Result (Unit {0}) Ending)
     → writes_files job ≡ false → prints_while_reading job ≡ true → (named : input_name job Graph ≡ file_of base Graph)
     → mid.taken ≡ before.taken → mid.faults ≡ before.faults

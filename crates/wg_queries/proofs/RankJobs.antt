@@ -58,7 +58,7 @@ module _ (base : List ℕ) (rounds damping top : ℕ) (name certificate : Option
       come : ComesTo job p td before files2 counts2 (Weights ∷ Graph ∷ Properties ∷ []) (rest p graph given)
       come = graphs.has_weights job base name rest (of_graph base rounds damping top name certificate) (weights_are base rounds damping top name certificate) td to before p files counts l files1 counts1 graph g files2 counts2 given w
 
-      -- memory was out before the first round
+      -- memory ran out before the first round
       pub no_room : (taken : List ℕ) (faults : ℕ) (e : Ending) → taken ≡ before.taken → e.status ≡ Memory → Performs job td to before (outside files2 counts2 taken faults) e.status e.promised
       no_room taken faults e silent want =
           ends_without job base td to before p files2 counts2 (Weights ∷ Graph ∷ Properties ∷ []) (rest p graph given) come taken faults e silent want

@@ -48,7 +48,7 @@ listed Arcs n a = lines_from 0 a.graph
 listed Ascii n a = nodes_line n ++ joined (map list_line a.graph)
 listed Offsets n a = number_lines a.places
 
--- all of the text at Ok, and else a prefix of it, that lacks something where the output itself failed
+-- all of the text at Ok, and else a prefix of it, that lacks something if the output itself failed
 abbrev pub PutsUpTo : List ℕ → List ℕ → List ℕ → Result (Unit {0}) Ending → Type 0
 PutsUpTo due old new (Ok done) = new ≡ old ++ due
 PutsUpTo due old new (Err e) = (k : ℕ) × (e.status ≡ WriteFault Out → k < length due) × (new ≡ old ++ take k due)

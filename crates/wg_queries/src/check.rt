@@ -8,7 +8,7 @@ use wg_outside::{Depot, Sink};
 use wg_readings::{judge_files, load_params};
 use wg_words::Name;
 
-/// Judges the three files of an archive, and prints the line of what they hold. It goes through the graph and the
+/// Validates the three files of an archive, and prints the line of what they hold. It goes through the graph and the
 /// offsets once, beside each other, and holds a piece of each, and the lists that a reference may reach, with a few
 /// that wait to be used again.
 pub fn check<D: Depot, O: Sink>(

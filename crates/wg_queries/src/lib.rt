@@ -1,7 +1,7 @@
 //! The commands that read an archive whole and print: `check`, `arcs`, `ascii`, `offsets`, `rank`, `verify`.
 //!
 //! Each is a function over any outside, with one clause: `DoesOrEnds` of its job (`wg_outcomes`). A command is a
-//! chain of steps: those of `wg_readings`, which read the files of an archive and judge them, and last one that
+//! chain of steps: those of `wg_readings`, which read the files of an archive and validate them, and last one that
 //! prints. `rank` writes a certificate too, if it is asked for one. A command more is an equation of `judged`, the
 //! lists of its inputs and outputs, and a module beside [`check`] with that clause; its proof is a line for each
 //! exit, by the lemmas of `wg_readings` on steps of jobs.

@@ -33,7 +33,7 @@ fn verified_line(certificate: &Certificate, left: u128) -> Text
         .with("\n")
 }
 
-/// Prints the line of a certificate that holds, in one call where the output takes it whole.
+/// Prints the line of a certificate that holds, in one call if the output takes it whole.
 pub fn print_verified<O: Sink>(
     out: &mut O,
     certificate: &Certificate,

@@ -24,7 +24,7 @@ pub enum Listing {
     Offsets,
 }
 
-/// Prints a text of each record of a graph. It goes through the graph file twice: it judges the whole graph before
+/// Prints a text of each record of a graph. It goes through the graph file twice: it validates the whole graph before
 /// it prints. It holds a piece of the file, and the lists that a reference may reach, with a few that wait to be
 /// used again.
 pub fn print_records<D: Depot, O: Sink>(

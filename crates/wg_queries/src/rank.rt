@@ -33,7 +33,7 @@ pub struct Asked {
 
 /// Prints the first pages of the ranking, with their bounds and positions, with teleport by the weights that are named
 /// or to each page alike. If a certificate is named, the lower bounds are written to it before anything is printed. It
-/// judges the whole graph and the weights before that, and takes all its memory before the first round: the bytes of
+/// validates the whole graph and the weights before that, and takes all its memory before the first round: the bytes of
 /// the graph file, a row of the greatest outdegree for each page that a reference reaches and one more, and 64 bytes a
 /// page for bounds and ranking, 8 more with weights. Rounds go along the runs of the pages that link to each page, if
 /// these fit 192 bytes a page and memory suffices; else each round decodes all lists again.

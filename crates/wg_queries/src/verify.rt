@@ -19,11 +19,11 @@ use wg_rank::{CertFault, Certificate, JudgeError, judge};
 use wg_readings::{lists_of_records, load, load_certificate, load_params, load_weights};
 use wg_words::Name;
 
-/// Judges the graph of an archive, and whether one round of PageRank on it lowers no bound of a certificate, with
-/// teleport by the weights that are named or to each page alike; then it prints what the bounds leave of 1. It goes
-/// once along the lists of the graph. It holds the bytes of the graph file, a row of the greatest outdegree for each
-/// page that a reference reaches and one more, and 16 bytes a page for the bounds and 16 for what flows to it, 8 more
-/// with weights.
+/// Validates the graph of an archive, and checks whether one round of PageRank on it lowers no bound of a certificate,
+/// with teleport by the weights that are named or to each page alike; then it prints what the bounds leave of 1. It
+/// goes once along the lists of the graph. It holds the bytes of the graph file, a row of the greatest outdegree for
+/// each page that a reference reaches and one more, and 16 bytes a page for the bounds and 16 for what flows to it, 8
+/// more with weights.
 pub fn verify<D: Depot, O: Sink>(
     alloc: Global,
     base: &Name,

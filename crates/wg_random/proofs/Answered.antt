@@ -1,4 +1,4 @@
--- What is answered where a page is opened, listed or read.
+-- What is answered when a page is opened, listed or read.
 use Rattle.std.proofs.Common.{◌≡◌, ℕ, ◌+◌, ◌-◌, ◌<◌, ◌≤◌, Result, Ok, Err, arith}
 use Rattle.wg_random.specs.declared.error.ListError.{ListError}
 use Rattle.wg_random.specs.declared.error.ListError.TheVariants as lists

@@ -84,7 +84,7 @@ set_going p bits ws chain x page depth back some lt h g =
     (λ near. set_here chain depth (page - back) lt)
     h g (omega (arith, lt, len))
 
--- where it has no room, it stays
+-- if it has no room, it stays
 pub full_going : (p : Parameters) (bits : List Bool) (ws : List Whole) (chain : List ℕ) (x page depth back : ℕ) → 0 < back → length chain ≤ depth + 1 → 0 < length chain
     → Refers p bits ws page back → Going p bits ws chain x page depth → Going p bits ws chain x (page - back) (depth + 1)
 full_going p bits ws chain x page depth back some full there h g =

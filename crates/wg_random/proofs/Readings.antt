@@ -39,7 +39,7 @@ depth_within p bits first at (w ∷ ws) last end (suc x) limit has h = depth_wit
 pub depth_limited : (p : Parameters) (bits : List Bool) (r : Reading p bits) (x limit : ℕ) → p.chain ≡ Some limit → (known_at r.records x).depth ≤ limit
 depth_limited p bits r x limit has = depth_within p bits [] 0 r.records r.behind r.end x limit has r.pages
 
--- so few records are read where as many are read as its chain has
+-- so few records are read if as many are read as its chain has
 pub few_opened : (p : Parameters) (bits : List Bool) (x from to : ℕ) → Reading p bits → ((r : Reading p bits) → to ≤ from + (known_at r.records x).depth + 1) → (limit : ℕ) → p.chain ≡ Some limit → to ≤ from + limit + 1
 few_opened p bits x from to r most limit has = omega (arith, most r, depth_limited p bits r x limit has)
 

@@ -170,7 +170,7 @@ counted chain from to some ticks = omega (arith, length-drop 1 chain)
 pub cut_short : (p : Parameters) (bits : List Bool) (offsets : List ℕ) (x : ℕ) (chain : List ℕ) (from to : ℕ) → IsChain p bits offsets x chain → to ≤ from + length chain → (chain : List ℕ) × IsChain p bits offsets x chain × (to ≤ from + length chain)
 cut_short p bits offsets x chain from to h few = (chain, h, few)
 
--- the head of the last page is refused, or memory was wanting, or a word was refused
+-- the head of the last page is refused, or memory ran out, or a word was refused
 pub head_error : {R : Type 0} (p : Parameters) (bits : List Bool) (offsets : List ℕ) (x : ℕ) (chain : List ℕ) (page from to : ℕ) (e : PagesError R) → IsChain p bits offsets x chain → get_or chain (length chain - 1) 0 ≡ page → to ≡ from + length chain →
     OfFault e (IsHeadFault p bits offsets page) → ChainAnswers {R = R} p bits offsets x from to (Err e)
 head_error p bits offsets x chain page from to (pages.Fault f) h here ticks bad =
@@ -181,7 +181,7 @@ head_error p bits offsets x chain page from to (pages.Fault f) h here ticks bad 
 head_error p bits offsets x chain page from to pages.Memory h here ticks bad = cut_short p bits offsets x chain from to h (omega (arith, ticks))
 head_error p bits offsets x chain page from to (pages.Refused r) h here ticks bad = cut_short p bits offsets x chain from to h (omega (arith, ticks))
 
--- the answer, where all heads are right
+-- the answer, if all heads are right
 pub answer_of : {R : Type 0} (p : Parameters) (bits : List Bool) (offsets : List ℕ) (x : ℕ) (chain lent : List ℕ) (from to : ℕ) (result : Result (List ℕ) (PagesError R)) → lent ≡ chain → IsChain p bits offsets x chain → to ≡ from + length chain →
     IfOk result (λ list. (k : Known) × ChainReads p bits offsets (get_or lent 0 0) (drop 1 lent) (Ok k) × (list ≡ k.list)) →
     OnFault result (λ f. ChainReads p bits offsets (get_or lent 0 0) (drop 1 lent) (Err f)) → ChainAnswers {R = R} p bits offsets x from to result

@@ -1,4 +1,4 @@
--- What is answered where a page is opened, listed or read.
+-- What is answered when a page is opened, listed or read.
 use Rattle.std.specs.Prelude.{◌≡◌, ℕ, ◌<◌, ◌≤◌, List, length, Result, Ok, Err}
 use Rattle.wg_grammar.specs.Context.{Known}
 use Rattle.wg_iterators.specs.Coming.{Coming}
@@ -14,7 +14,7 @@ use Rattle.wg_random.specs.declared.reading.Page.TheVariants.{Opened, Listed}
 abbrev pub all_of : Known → Coming
 all_of k = record { outdegree = length k.list; depth = k.depth; list = k.list }
 
--- the page, which is x; or there is no such page; or it is too deep; or memory was wanting, for a page that refers to
+-- the page, which is x; or there is no such page; or it is too deep; or memory ran out, for a page that refers to
 -- another
 abbrev pub Opens : ℕ → ℕ → Known → Result Coming OpenError → Type 0
 Opens nodes x k (Ok s) = (x < nodes) × (k.depth < CHAIN_PAGES) × (s ≡ all_of k)
@@ -22,7 +22,7 @@ Opens nodes x k (Err NoPage) = nodes ≤ x
 Opens nodes x k (Err (Deep d)) = (x < nodes) × (d ≡ k.depth) × (CHAIN_PAGES ≤ d)
 Opens nodes x k (Err Memory) = (x < nodes) × (k.depth < CHAIN_PAGES) × (0 < k.depth)
 
--- the list of the page, which is x; or there is no such page; or memory was wanting
+-- the list of the page, which is x; or there is no such page; or memory ran out
 abbrev pub Lists : ℕ → ℕ → Known → Result (List ℕ) ListError → Type 0
 Lists nodes x k (Ok list) = (x < nodes) × (list ≡ k.list)
 Lists nodes x k (Err lists.NoPage) = nodes ≤ x
@@ -38,7 +38,7 @@ abbrev pub IsReadOf : Known → Page → Type 0
 IsReadOf k (Opened s) = (k.depth < CHAIN_PAGES) × (s ≡ all_of k)
 IsReadOf k (Listed list) = (CHAIN_PAGES ≤ k.depth) × (list ≡ k.list)
 
--- the page, which is x; or there is no such page; or memory was wanting
+-- the page, which is x; or there is no such page; or memory ran out
 abbrev pub Reads : ℕ → ℕ → Known → Result Page ListError → Type 0
 Reads nodes x k (Ok page) = (x < nodes) × IsReadOf k page
 Reads nodes x k (Err lists.NoPage) = nodes ≤ x

@@ -13,8 +13,8 @@ pub record IsWholeChain (p : Parameters) (bits : List Bool) (offsets : List ℕ)
   pub links : IsChain p bits offsets x chain
   pub last : HeadReads p bits offsets (get_or chain (length chain - 1) 0) (Ok 0)
 
--- The list of page x, or why there is none: this is the fault of its chain, or memory was wanting, or a word was
--- refused. The count rises by one for each page of the chain, and by no more than that where the chain was not read to
+-- The list of page x, or why there is none: this is the fault of its chain, or memory ran out, or a word was
+-- refused. The count rises by one for each page of the chain, and by no more than that if the chain was not read to
 -- its end.
 abbrev pub ChainAnswers : {R : Type 0} → Parameters → List Bool → List ℕ → ℕ → ℕ → ℕ → Result (List ℕ) (PagesError R)
     → Type 0

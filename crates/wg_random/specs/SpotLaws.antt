@@ -18,7 +18,7 @@ SpotIsSome =
     (p : Parameters) (bits : List Bool) (offsets : List ℕ) (x : ℕ) → IsWithinLimits p
     → (w : Result Known ArchiveFault) × SpotReads p bits offsets x w
 
--- Where the bits stand for a graph, and the offsets are those of its records, a page has its list of this graph.
+-- If the bits stand for a graph, and the offsets are those of its records, a page has its list of this graph.
 abbrev pub SpotAgrees : Type 0
 SpotAgrees =
     (p : Parameters) (bits : List Bool) (a : Accepted) (x : ℕ) → ReadsGraph p bits (Ok a) → x < p.nodes

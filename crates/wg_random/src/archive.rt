@@ -122,7 +122,7 @@ impl<'a> Archive<'a> {
         reference(&self.params, self.cursor(page))
     }
 
-    // The page, where all of its successors are to come.
+    // The page, if all of its successors are to come.
     fn stand(&self, page: u64, below: Option<Box<Successors<'a>>>) -> Successors<'a>
         requires page { page < self.now.params.nodes }
         requires fresh { IsFresh below }
@@ -137,7 +137,7 @@ impl<'a> Archive<'a> {
         Successors::begin(&self.params, page, self.cursor(page), below)
     }
 
-    // The page, where all of its successors are to come. The list of the page that it refers to is lent.
+    // The page, if all of its successors are to come. The list of the page that it refers to is lent.
     pub(crate) fn stand_on<'b>(&self, page: u64, below: Option<&'b [u64]>) -> Successors<'b>
     where
         'a: 'b,

@@ -20,7 +20,7 @@ use wg_offsets::Offsets;
 use wg_params::Params;
 use wg_stream::PagesError;
 
-// Follows the references from page `x`, judges the head of each page, and answers the pages of this chain, `x` first.
+// Follows the references from page `x`, validates each head, and answers the pages of this chain, `x` first.
 fn chain<L: Ledger, S: Located>(
     alloc: Global,
     params: &Params,
@@ -57,7 +57,7 @@ fn chain<L: Ledger, S: Located>(
     }
 }
 
-// The list of the first page of a chain. The records of its pages are judged from the last one up, each over the one
+// The list of the first page of a chain. The records of its pages are validated from the last one up, each over the one
 // before.
 fn climb<S: Located>(
     alloc: Global,
@@ -96,12 +96,12 @@ fn climb<S: Located>(
 /// The successors of a page of an archive that was not checked, or the first fault that its chain of references shows.
 /// Of the source the records of this chain are read and nothing else.
 ///
-/// The chain begins with the page. The heads of its pages are judged first, from the page down, each on its own: with
-/// no limit on chains, and as though no outdegrees came before it. A record that begins past the last bit is cut at
-/// its outdegree. Then the whole records are judged, from the last page of the chain up, each against the list and the
-/// depth of the page that it refers to; a proper record must end where the offsets say that the next one begins. The
-/// first fault in this order is answered. No other record is read, nor the tail, nor the number of arcs; where the
-/// archive is accepted, the list is that of its graph.
+/// The chain begins with the page. The heads of its pages are validated first, from the page down, each on its own:
+/// with no limit on chains, and as though no outdegrees came before it. A record that begins past the last bit is cut
+/// at its outdegree. Then the whole records are validated, from the last page of the chain up, each against the list
+/// and the depth of the page that it refers to; a proper record must end where the offsets say that the next one
+/// begins. The first fault in this order is answered. No other record is read, nor the tail, nor the number of arcs; if
+/// the archive is accepted, the list is that of its graph.
 ///
 /// Each page of the chain is counted by a tick, and the source is asked twice where its record lies. Beside that it
 /// takes time in proportion to the words and the lists of these records, and holds a number for each page of the chain
@@ -125,8 +125,8 @@ pub fn spot_from<L: Ledger, S: Located>(
     climb(alloc, params, chain.as_slice(), source)
 }
 
-/// The same of a graph file in memory, where a page that does not exist is an error. Where chains have a limit, a page
-/// with a list has no more references than that; one with a fault may have more, since the heads are judged with no
+/// The same of a graph file in memory, where a page that does not exist is an error. If chains have a limit, a page
+/// with a list has no more references than that; one with a fault may have more, since the heads are validated with no
 /// limit.
 pub fn spot<L: Ledger>(
     alloc: Global,

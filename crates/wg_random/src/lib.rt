@@ -22,15 +22,15 @@
 //! list of x <--copied-- list <--copied-- ... <-- list                            up: two lists, used in turn
 //! ```
 //!
-//! [`Archive::read`] serves a chain of any length too, and makes lists only where the chain is too long to be opened.
+//! [`Archive::read`] serves a chain of any length too, and makes lists only if the chain is too long to be opened.
 //! It goes down once, as for a list, and then up the one way or the other. So it opens each record once.
 //!
 //! [`spot_from`] reads a page of an archive that was not checked, by the offsets and the same chain alone, from any
 //! source that goes to any offset of its bits and tells where the record of a page lies ([`Located`]), as one does
 //! whose offsets are held ([`Indexed`]); of a file in a depot it reads no other record. [`spot`] does so from bytes in
-//! memory. The heads of these records are judged first, from the page down, and then the whole records, from the last
-//! one up, and the answer is the list of the page or the first fault. The functions of [`laws`] state that there is
-//! one answer, and that it is the page's list of the graph where the archive is accepted.
+//! memory. The heads of these records are validated first, from the page down, and then the whole records, from the
+//! last one up, and the answer is the list of the page or the first fault. The functions of [`laws`] state that there
+//! is one answer, and that it is the page's list of the graph if the archive is accepted.
 //!
 //! [`Records::sweep`] needs no offsets: it makes a [`Sweep`](wg_stream::Sweep) over the lists of all pages, for which
 //! the records are not passed over again.
@@ -59,7 +59,7 @@
 //! | [`Records::sweep`] | a row for each page that a reference reaches, and one | that of the rows |
 //!
 //! A page that does not exist, a chain that is too long to be opened, and out of memory are answered by [`OpenError`]
-//! and [`ListError`]; there is no other reason, since the archive was checked. Why a file is no archive is told by
+//! and [`ListError`]; there is no other reason, since the archive was checked. Why a file is no archive is reported by
 //! [`CheckError`] and [`ArchiveFault`](wg_grammar::ArchiveFault), and why a page of one that was not checked has no
 //! list by [`SpotError`], or by [`PagesError`](wg_stream::PagesError), which also tells why a word was refused.
 //!
@@ -67,7 +67,7 @@
 //!
 //! - The records of a checked archive are proper. So the way down reads their heads by
 //!   [`reference`](wg_decoder::proper::reference), and the way up of [`Archive::list`] goes by iterators over lent
-//!   lists: neither judges a word again. [`spot_from`] judges, and reads both by the calls that name faults.
+//!   lists: neither validates a word again. [`spot_from`] validates, and reads both by the calls that name faults.
 //!   *Revisit if* these take no more time.
 #![tactic(auto)]
 

@@ -55,7 +55,7 @@ impl<'a> Model for Records<'a> {
 }
 
 impl<'a> Records<'a> {
-    /// Judges the records of all pages, the tail and the number of arcs, and keeps where the records are and the
+    /// Validates the records of all pages, the tail and the number of arcs, and keeps where the records are and the
     /// greatest outdegree. It takes one pass over the bytes and the lists.
     pub fn check(alloc: Global, bytes: &'a [u8], params: Params) -> Result<Records<'a>, CheckError>
         requires { length bytes.now ≤ MOST_BYTES }
@@ -73,7 +73,7 @@ impl<'a> Records<'a> {
         }
     }
 
-    /// The records that a pass has judged, with what it found. It takes no memory, and constant time.
+    /// The records that a pass has validated, with what it found. It takes no memory, and constant time.
     pub fn of_pass(bytes: &'a [u8], params: Params, found: Passed) -> Records<'a>
         requires short { length bytes.now ≤ MOST_BYTES }
         requires finds { PassFinds params (bits_of bytes.now) found.offsets found.greatest }

@@ -16,7 +16,7 @@ use wg_offsets::Extent;
 use wg_params::Params;
 use wg_stream::PagesError;
 
-// Goes to the record of a page, and tells where it lies. Where that begins past the last bit, its outdegree is cut.
+// Goes to the record of a page, and tells where it lies. If that begins past the last bit, its outdegree is cut.
 fn go_to_record<S: Located>(page: u64, source: &mut S) -> Result<Extent, PagesError<S::Refusal>>
     requires { page < S.records source.old }
     ensures reached { S.reached source.old source.new }
@@ -50,7 +50,7 @@ fn go_to_record<S: Located>(page: u64, source: &mut S) -> Result<Extent, PagesEr
     }
 }
 
-/// How many pages back the record of a page refers; 0 for none. Its head alone is read and judged.
+/// How many pages back the record of a page refers; 0 for none. Its head alone is read and validated.
 pub fn reference<S: Located>(
     params: &Params,
     page: u64,

@@ -239,7 +239,7 @@ one_outcome n lines (Err fault.Sum) (Err fault.Sum) a b = refl
 one_outcome n lines (Err (fault.Falls page)) x a b = absurd a
 one_outcome n lines w (Err (fault.Falls page)) a b = absurd b
 
--- the reading gives this exactly where it is the outcome
+-- the reading gives this exactly if it is the outcome
 given : (n : ℕ) (bytes : List ℕ) (w : Result Claim CertFault) → claim_of n bytes ≡ w → IsOutcome n (lines_of bytes) w
 unfolding claim_of
 given n bytes w e = subst (IsOutcome n (lines_of bytes)) e (outcome n (lines_of bytes))

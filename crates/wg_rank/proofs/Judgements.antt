@@ -1,4 +1,4 @@
--- What a judged certificate says of stationary vectors, and of bounds that rounds have found.
+-- What a verified certificate says of stationary vectors, and of bounds that rounds have found.
 use Rattle.std.proofs.Common.{ℕ, ◌≡◌, ◌-◌, ◌<◌, List, length, Option, Some, None, MatchOption, Result, Ok, Err, IfOk, refl, sym, subst, arith}
 use Rattle.wg_graph.specs.Digraph.{Digraph, IsGraph}
 use Rattle.wg_rank.specs.Sum.{sum_below}

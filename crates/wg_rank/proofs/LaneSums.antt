@@ -45,7 +45,7 @@ pub lanes_of_page : (low high : ℕ → ℕ) (u x y : ℕ) → x ≡ low u → y
     → (x % 2 ^ 40 ∷ x / 2 ^ 40 ∷ y % 2 ^ 40 ∷ y / 2 ^ 40 ∷ []) ≡ in_lanes (λ s. s u) low high
 lanes_of_page low high u x y d e h k = four _ _ _ _ _ _ _ _ (omega (arith, d)) (omega (arith, d)) (omega (arith, e)) (omega (arith, e))
 
--- where a page gives nothing, the sums stay
+-- if a page gives nothing, the sums stay
 pub lanes_none : (low high : ℕ → ℕ) (u : ℕ) → low u ≡ 0 → high u ≡ 0 → in_lanes (sum_below u) low high ≡ in_lanes (sum_below (suc u)) low high
 lanes_none low high u d e = four _ _ _ _ _ _ _ _ (omega (arith, d)) (omega (arith, d)) (omega (arith, e)) (omega (arith, e))
 
@@ -71,7 +71,7 @@ more_small t a (suc k) m h =
     let e : sum_below (a + suc k) t ≡ sum_below (suc (a + k)) t = ap (λ (i : ℕ). sum_below i t) {y = suc (a + k)} (omega arith) in
     omega (arith, e, more_small t a k m (λ u w. h u (omega arith)), h (a + k) (omega arith))
 
--- where both parts of a sum grow by at most 2^40 for each of at most 2^24 numbers, nothing is lost in lanes
+-- if both parts of a sum grow by at most 2^40 for each of at most 2^24 numbers, nothing is lost in lanes
 growth_joins : (x y p q k s t : ℕ) → p ≤ x → q ≤ y → x ≤ p + k * (2 ^ 40 - 1) → y ≤ q + k * (2 ^ 40 - 1) → k ≤ 2 ^ 24
     → p + q * 2 ^ 40 ≡ s → x + y * 2 ^ 40 ≡ t → s + ((x - p) % 2 ^ 64 + (y - q) % 2 ^ 64 * 2 ^ 40) ≡ t
 growth_joins x y p q k s t h1 h2 h3 h4 h5 e f =

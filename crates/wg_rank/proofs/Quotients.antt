@@ -55,7 +55,7 @@ quotient_above x d some =
     let t : (x ≤ n * d) × (n * d < x + d) = div_ceil_times x d some in
     sym (quotient_near (x + (d - 1)) d n (omega (arith, t.1)) (omega (arith, t.0, t.1, some)))
 
--- what the quotient leaves, and that it is small where the divisor is
+-- what the quotient leaves, and that it is small if the divisor is
 pub rest_is : (v d n : ℕ) → n ≡ v / d → v - n * d ≡ v % d
 rest_is v d n is = omega (arith, ap (λ k. k * d) is, div-add-mod' v d)
 

@@ -34,7 +34,7 @@ run_sum s a (suc k) =
     let e2 : sum_below (a + 1 + k) s ≡ sum_below (a + suc k) s = ap (λ (m : ℕ). sum_below m s) (omega arith) in
     omega (arith, sum_by-cons s a (range_with_len (a + 1) k), run_sum s (a + 1) k, e1, e2)
 
--- the numbers that pass a test add up to as much as all, where the others count 0
+-- the numbers that pass a test add up to as much as all, if the others count 0
 where_sum : (s : ℕ → ℕ) (t : ℕ → Bool) (n k : ℕ)
     → sum_below n (λ u. cond (t u) (s u) 0) + sum_by s (numbers_where t n k) ≡ sum_below (n + k) (λ u. cond (t u) (s u) 0)
 where_sum s t n zero =

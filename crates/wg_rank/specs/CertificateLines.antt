@@ -70,7 +70,7 @@ pub record ArePastOne (n : ℕ) (lines : List (List ℕ)) : Type 0 where
   pub sound : (i : ℕ) → fault_at n lines i ≡ None
   pub past : UNITS < sum_below (length (bounds_on lines)) (by_page (bounds_on lines))
 
--- the first fault: a faulty line, or, where none is, a sum of more than 1; reading finds no bound that falls
+-- the first fault: a faulty line, or, if none is, a sum of more than 1; reading finds no bound that falls
 abbrev pub IsFirstFault : ℕ → List (List ℕ) → CertFault → Type 0
 IsFirstFault n lines (fault.Line line kind) = IsFirstFaultyLine n lines line kind
 IsFirstFault n lines fault.Sum = ArePastOne n lines
@@ -81,7 +81,7 @@ abbrev pub IsOutcome : ℕ → List (List ℕ) → Result Claim CertFault → Ty
 IsOutcome n lines (Ok c) = IsClaimed n lines c
 IsOutcome n lines (Err f) = IsFirstFault n lines f
 
--- the text stands for this claim, or this is its first fault, or memory was wanting
+-- the text stands for this claim, or this is its first fault, or memory ran out
 abbrev pub StandsFor : ℕ → List ℕ → Result Claim CertError → Type 0
 StandsFor n bytes (Ok c) = IsClaimed n (lines_of bytes) c
 StandsFor n bytes (Err (error.Fault f)) = IsFirstFault n (lines_of bytes) f

@@ -37,7 +37,7 @@ text_of_claim c =
 
 -- ---- as it is read
 
--- the number after a word, where a line is both and nothing else
+-- the number after a word, if a line is both and nothing else
 abbrev pub number_after : List ℕ → List ℕ → Option ℕ
 number_after word line = if starts_with nat_eq line word then number_of (drop (length word) line) else None
 
@@ -98,7 +98,7 @@ claim_in n lines =
 unfoldable pub claim_of : ℕ → List ℕ → Result Claim CertFault
 claim_of n bytes = claim_in n (lines_of bytes)
 
--- a text gives this, or it has this first fault, or memory was wanting
+-- a text gives this, or it has this first fault, or memory ran out
 abbrev pub IsRead : {A : Type 0} → Result A CertFault → Result A CertError → Type 0
 IsRead told (Ok x) = told ≡ Ok x
 IsRead told (Err (error.Fault f)) = told ≡ Err f

@@ -25,7 +25,7 @@ pub record IsClaim (c : Claim) : Type 0 where
 abbrev pub claim_of_bounds : Intervals → Claim
 claim_of_bounds b = record { damping = b.damping; low = b.low }
 
--- the weights by which it is judged: those that are given, or 1 for each page
+-- the weights by which it is verified: those that are given, or 1 for each page
 abbrev pub weights_for : Claim → Option (List ℕ) → List ℕ
 weights_for c given = weights_of (length c.low) given
 
@@ -43,8 +43,8 @@ pub record FallsFirst (g : Digraph) (a : ℕ) (w l : ℕ → ℕ) (page : ℕ) :
   pub falls : lower g a w l page < l page
   pub before : AreAtMost page l (lower g a w l)
 
--- a round lowers none of the bounds, which leave so much of 1, or this page is the first that falls, or memory was
--- wanting
+-- a round lowers none of the bounds, which leave so much of 1, or this page is the first that falls, or memory
+-- ran out
 abbrev pub IsJudged : Digraph → Claim → (ℕ → ℕ) → Result ℕ JudgeError → Type 0
 IsJudged g c w (Ok left) = Rises g c.damping w (by_page c.low) × (left ≡ gap g (by_page c.low))
 IsJudged g c w (Err (error.Falls page)) = FallsFirst g c.damping w (by_page c.low) page

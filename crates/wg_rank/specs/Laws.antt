@@ -45,11 +45,11 @@ LowerBoundsRise =
 abbrev pub ClaimsReadBack : Type 0
 ClaimsReadBack = (c : Claim) → IsClaim c → claim_of (length c.low) (text_of_claim c) ≡ Ok c
 
--- A text gives this claim exactly where no line is faulty and it is that of the lines.
+-- A text gives this claim exactly if no line is faulty and it is that of the lines.
 abbrev pub ClaimsAreThose : Type 0
 ClaimsAreThose = (n : ℕ) (bytes : List ℕ) (c : Claim) → (claim_of n bytes ≡ Ok c) ↔ IsClaimed n (lines_of bytes) c
 
--- It gives this fault exactly where this is its first one.
+-- It gives this fault exactly if this is its first one.
 abbrev pub FaultsAreFirst : Type 0
 FaultsAreFirst = (n : ℕ) (bytes : List ℕ) (f : CertFault)
     → (claim_of n bytes ≡ Err f) ↔ IsFirstFault n (lines_of bytes) f

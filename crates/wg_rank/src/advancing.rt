@@ -13,7 +13,7 @@ use crate::UNITS;
 use crate::gathering::Gather;
 use crate::settling::{cut, settle, total};
 
-// Puts the new bounds in place of the old ones. Where no weights are given, each page has the weight 1.
+// Puts the new bounds in place of the old ones. If no weights are given, each page has the weight 1.
 pub(crate) fn advance<G: Gather>(
     source: &mut G,
     damping: u64,

@@ -70,7 +70,7 @@ impl Bounds {
         Bounds::begin(alloc, n, damping, List::new(alloc))
     }
 
-    /// The same, where teleport goes to the pages by their weights, of which they keep a copy.
+    /// The same, if teleport goes to the pages by their weights, of which they keep a copy.
     pub fn weighted(
         alloc: Global,
         n: u64,
@@ -91,7 +91,7 @@ impl Bounds {
         Bounds::begin(alloc, n, damping, held)
     }
 
-    // The bounds before the first round, by these weights, or by the weight 1 where none are given.
+    // The bounds before the first round, by these weights, or by the weight 1 if none are given.
     fn begin(alloc: Global, n: u64, damping: u64, weights: List) -> Result<Bounds, AllocError>
         requires pages { n ≤ MOST_PAGES }
         requires damping { damping ≤ MOST_DAMPING }

@@ -92,8 +92,8 @@ fn judge_by<L: Lists>(
     }
 }
 
-/// Judges a certificate by one round of lower bounds, in one pass along the lists of a graph with as many pages. If the
-/// round lowers none of its bounds, the answer is what they leave of 1, in units. Without weights, teleport goes to
+/// Verifies a certificate by one round of lower bounds, in one pass along the lists of a graph with as many pages. If
+/// the round lowers none of its bounds, the answer is what they leave of 1, in units. Without weights, teleport goes to
 /// each page alike. It takes 16 bytes for each page, for what flows to it, beside the 16 of the certificate.
 pub fn judge<L: Lists>(
     alloc: Global,

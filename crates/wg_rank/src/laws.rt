@@ -20,8 +20,8 @@ pub fn certificates()
     ensures read_back { ClaimsReadBack }
 {}
 
-/// The text of a certificate gives a claim exactly where no line is faulty and the claim is that of the lines, and a
-/// fault exactly where it is the first one; so each text has one outcome.
+/// The text of a certificate gives a claim exactly if no line is faulty and the claim is that of the lines, and a
+/// fault exactly if it is the first one; so each text has one outcome.
 pub fn certificate_texts()
     ensures claim { ClaimsAreThose }
     ensures fault { FaultsAreFirst }

@@ -39,7 +39,7 @@ pub(crate) struct Parts<'a> {
 }
 
 impl<'a> Parts<'a> {
-    // The parts of `n` pages, where the dangling pages hold so much, below and above.
+    // The parts of `n` pages, if the dangling pages hold so much, below and above.
     #[tactic(auto, using(crate::proofs::Room::damped_room, crate::proofs::Flow::div_ceil_le))]
     pub(crate) fn of(
         n: usize,

@@ -133,7 +133,7 @@ fn lanes_along(sums: &[u64x4], runs: &[PageRun]) -> u64x4
     flow
 }
 
-// What the sums rise by along runs, where these may have more pages than are added up in lanes.
+// What the sums rise by along runs, if these may have more pages than are added up in lanes.
 fn parts_along(sums: &[u64x4], runs: &[PageRun]) -> (u128, u128)
     requires ordered { All (λ r. r.from ≤ r.to) runs.now }
     requires within { All (λ r. r.to < length sums.now) runs.now }

@@ -22,7 +22,7 @@ fn next_line(rest: &[u8]) -> Option<(&[u8], &[u8])>
     Some(first_line(rest))
 }
 
-// The number after a word, where a line is both and nothing else.
+// The number after a word, if a line is both and nothing else.
 fn number_after(word: &[u8], line: &[u8]) -> Option<u64>
     ensures { result ≡ number_after word.now line.now }
 {

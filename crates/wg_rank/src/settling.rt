@@ -126,7 +126,7 @@ pub(crate) fn total(low: &[u128]) -> u128
     sum
 }
 
-// Cuts the upper bounds where they are more than `gap` above the lower ones.
+// Cuts the upper bounds if they are more than `gap` above the lower ones.
 pub(crate) fn cut(high: &mut [u128], low: &[u128], gap: u128)
     requires low_pages { length low.now ≡ length high.old }
     requires low_room { All (λ x. x ≤ UNITS) low.now }

@@ -27,7 +27,7 @@ pub(crate) fn spread(inflows: &mut [u128], list: &[u64], below: u128, above: u12
     }
 }
 
-// The same below alone, where there is one sum for each page.
+// The same below alone, if there is one sum for each page.
 #[tactic(auto, using(crate::proofs::Spread::below_at))]
 #[inline(always)]
 pub(crate) fn spread_low(sums: &mut [u128], list: &[u64], share: u128)

@@ -8,7 +8,7 @@ ghost use Rattle.wg_rank.specs.Intervals.{by_page};
 ghost use Rattle.wg_rank.specs.Weights.{AreWeights, weights_or_ones};
 ghost use Rattle.wg_rank.specs.declared.limits.TheConstants.{UNITS, MOST_WEIGHT};
 
-// The sum of the weights of `n` pages; where none are given, each is 1.
+// The sum of the weights of `n` pages; if none are given, each is 1.
 pub(crate) fn total_weight(weights: &[u64], n: usize) -> u128
     requires few { n ≤ MOST_PAGES }
     requires weights { AreWeights n (weights_or_ones n weights.now) }
@@ -26,7 +26,7 @@ pub(crate) fn total_weight(weights: &[u64], n: usize) -> u128
 }
 
 // A weight's part, rounded down. It is called, as the next one is: made part of its caller, it was divided for each page
-// where no weights are given, too.
+// if no weights are given, too.
 #[inline(never)]
 fn weighted_below(shared: u128, parts: u128, weight: u64) -> u128
     requires few { shared ≤ 1000 * UNITS }

@@ -31,7 +31,7 @@ by_fault told e f is read = subst (λ (k : NumbersError). AreRead told (Err k)) 
 pub map_refused : (n limit : ℕ) (bytes : List ℕ) (f : NumbersFault) → numbers_of n limit bytes ≡ Err f → (next : List ℕ → Judged) → Answers (with_map n limit bytes next) (BadMap f)
 map_refused n limit bytes f read next = inl (sym (ap status_of (ap (λ (r : Result (List ℕ) NumbersFault). unless_bad_map r next) read)))
 
--- memory was out
+-- memory ran out
 pub is_out : {s : Status} → s ≡ Memory → IsHindrance s
 is_out out = subst IsHindrance (sym out) tt
 
@@ -49,6 +49,6 @@ module _ (n : ℕ) (bytes : List ℕ) (next : List ℕ → Judged) where
   pub weights_refused : (f : NumbersFault) → numbers_of n (MOST_WEIGHT + 1) bytes ≡ Err f → Answers (with_weights n bytes next) (BadWeights (weights.Numbers f))
   weights_refused f read = inl (sym (ap status_of (ap (λ (r : Result (List ℕ) NumbersFault). unless_bad_weights (unless_zero n r) next) read)))
 
--- where there are pages, their weights tell whether all are 0
+-- if there are pages, their weights tell whether all are 0
 pub some_pages : (n : ℕ) (ws : List ℕ) (b : Bool) → 0 < n → length ws ≡ n → nat_eq (sum_below (length ws) (by_page ws)) 0 ≡ b → (nat_lt 0 n && nat_eq (sum_below n (by_page ws)) 0) ≡ b
 some_pages n ws b some count is = ap (λ (k : Bool). k && nat_eq (sum_below n (by_page ws)) 0) (lt-ltb 0 n some) ∙ subst (λ (k : ℕ). nat_eq (sum_below k (by_page ws)) 0 ≡ b) count is

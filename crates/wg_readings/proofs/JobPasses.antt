@@ -1,4 +1,4 @@
--- A job that judges a graph file in pieces, and reads it again to print a text of its graph.
+-- A job that validates a graph file in pieces, and reads it again to print a text of its graph.
 use Rattle.std.proofs.Common.{◌≡◌, ◌≢◌, ◌⊎◌, ◌<◌, inl, inr, ℕ, length, Bool, List, ◌++◌, take, refl, sym, ◌∙◌, subst, Option, Result, Ok, Err}
 use Rattle.std.specs.Bool.{IsTrue}
 use Rattle.std.specs.Result.{IfErr}
@@ -27,11 +27,11 @@ use Rattle.wg_readings.proofs.PassLemmas.{graph_goes}
 use Rattle.wg_outcomes.proofs.PerformsLemmas.{unread_possible}
 use Rattle.wg_outcomes.proofs.Statuses.{IsRead, bad_unread, by_stop, own_read}
 
--- a prefix was put out, that lacks something where the output itself failed
+-- a prefix was put out, that lacks something if the output itself failed
 abbrev pub PutsPart : List ℕ → List ℕ → List ℕ → Status → Type 0
 PutsPart due old new s = (k : ℕ) × (s ≡ WriteFault Out → k < length due) × (new ≡ old ++ take k due)
 
--- what was put out where something hindered, and no file that is written
+-- what was put out if something hindered, and no file that is written
 pub hindered_output : (due old new : List ℕ) (s : Status) → IsHindrance s → ((o : Output) → o ≢ Out → s ≢ WriteFault o) → PutsPart due old new s → HasOutput due old new s
 hindered_output due old new Memory h none put = (put.0, put.2)
 hindered_output due old new (ReadFault i) h none put = (put.0, put.2)
@@ -61,7 +61,7 @@ pass_read n (Err e) j (inl (inl only)) is = own_read Graph e.status j only is
 pass_read n (Err e) j (inl (inr bad)) is = absurd (bad_unread Graph n e j bad is)
 pass_read n (Err e) j (inr unput) is = absurd (subst IsRead is (by_stop IsRead Out e.status unput tt tt))
 
--- what is known of a graph file that was judged, and of the judgement of the job
+-- what is known of a graph file that was validated, and of the validation of the job
 pub graph_known : (job : Job) (base : List ℕ) (td : Bool) (before : Outside) (p : Parameters) (files files' : Files) (counts counts' : List ℕ → Counts) (read : List Input)
     (next : Accepted → Readings → (Input → Option (List ℕ)) → Judged) → input_name job Graph ≡ file_of base Graph
     → ComesTo job p td before files counts read (λ q h. graph_then q p (h Graph) (λ a. next a q h))

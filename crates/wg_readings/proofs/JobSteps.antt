@@ -96,7 +96,7 @@ module _ (job : Job) (td to : Bool) (before after : Outside) (e : Ending) (silen
       (λ t r j is. subst (λ (k : Input). Reaches r job (held_by (input_name job) before.files) k) (own_read i e.status j only is) (reaches t r))
   ends_at names i IsFault named has (inr fault) causes reaches refuses promised = ends_refused (refuses fault) (λ t. promised t fault)
 
--- faults of what a file holds, with which the job can end where its archive has these parameters
+-- faults of what a file holds, with which the job can end if its archive has these parameters
 pub record AreRefusals (job : Job) (p : Parameters) (IsFault : Ending → Type 0) : Type 0 where
   pub refusal : (e : Ending) → IsFault e → IsRefusal job e.status
   pub promised : (held : Input → Option (List ℕ)) (e : Ending) → IsPropertiesFile (held input.Properties) p → IsFault e → ArePromised held e.status e.promised
@@ -139,7 +139,8 @@ pub gone : (i : Input) (held : Input → Option (List ℕ)) → without i held i
 gone input.Properties held = refl
 gone _ held = refl
 
--- A job has read these inputs, and goes on by the rest of its judgement, whatever its other inputs hold. Nothing has changed.
+-- A job has read these inputs, and goes on by the rest of its validation, whatever its other inputs hold. Nothing has
+-- changed.
 pub record ComesTo (job : Job) (p : Parameters) (td : Bool) (before : Outside) (files : Files) (counts : List ℕ → Counts) (read : List Input) (rest : Readings → (Input → Option (List ℕ)) → Judged) : Type 0 where
   pub goes : IsTrue td → (r : Readings) (held : Input → Option (List ℕ)) → Hold (input_name job) before.files read held → judged r job held ≡ rest r held
   pub given : IsTrue td → IsPropertiesFile (held_by (input_name job) before.files input.Properties) p
@@ -195,7 +196,7 @@ module _ (job : Job) (base : List ℕ) (td to : Bool) (before : Outside) where
         later = none_falls-trans _ _ _ k.later later;
       }
 
-      -- the judgement at it
+      -- the validation at it
       pub judges_here : IsTrue td → (r : Readings) → judged_on r job before.files ≡ step r (held_by (file_of base) files i) (λ b. next b r held)
       judges_here t r = k.goes t r held (hold_all (input_name job) before.files read) ∙ ap (λ (o : Option (List ℕ)). step r o (λ b. next b r held)) here
 
@@ -232,7 +233,7 @@ module _ (job : Job) (base : List ℕ) (td to : Bool) (before : Outside) where
         refuses_so is promised answers =
             ends_refused job td to before (outside files counts taken faults) e silent k.same k.later (λ t r. subst (λ (j : Judged). Answers j e.status) (sym (judges_rest t r)) (answers t r)) is promised
 
-        -- memory was out
+        -- memory ran out
         pub ends_without : e.status ≡ Memory → Performs job td to before (outside files counts taken faults) e.status e.promised
         ends_without want =
             refuses_so (want_refuses job e.status want) (λ t. subst (λ (s : Status). ArePromised held s e.promised) (sym want) tt) (λ t r. inr (subst IsHindrance (sym want) tt))
@@ -295,7 +296,7 @@ module _ (job : Job) (base : List ℕ) (td to : Bool) (before : Outside) where
             names i IsFault named has h.only (cause_later names before.counts counts after.counts e.status k.later h.causes) reaches_named
             (refusals.refusal e) (λ t fault. refusals.promised held e (k.given t) fault)
 
-    -- a step that reads nothing ends it, with such a fault or since memory was out
+    -- a step that reads nothing ends it, with such a fault or since memory ran out
     module _ (IsFault : Ending → Type 0) (refusals : AreRefusals job p IsFault) (rest : Readings → (Input → Option (List ℕ)) → Judged) (k : ComesTo job p td before files counts read rest) where
       pub refuses_own : (taken : List ℕ) (faults : ℕ) (e : Ending) → taken ≡ before.taken → (e.status ≡ Memory) ⊎ IsFault e
           → (IsTrue td → (r : Readings) → Answers (rest r held) e.status) → Performs job td to before (outside files counts taken faults) e.status e.promised

@@ -1,4 +1,4 @@
--- How the judging of an archive's files ends.
+-- How the validation of an archive's files ends.
 use Rattle.wg_readings.proofs.PassLemmas.{graph_goes}
 use Rattle.wg_readings.proofs.ReadingsLaws.{the_readings}
 use Rattle.wg_outcomes.proofs.Statuses.{IsOwn, own_caused}
@@ -36,7 +36,7 @@ offsets_judged base p places td files files' counts counts' (Ok done) only cause
 offsets_judged base p places td files files' counts counts' (Err e) only cause steps same later =
     record { reads = record { ends = record { only = only; causes = cause; refused = steps }; same = same; later = later }; goes = steps }
 
--- ---- memory was out
+-- ---- memory ran out
 pub reads_want : {A B : Type 0} (base : List ℕ) (i : Input) (n : ℕ) (step : Readings → Option (List ℕ) → (B → Judged) → Judged) (td : Bool) (files files' : Files) (counts counts' : List ℕ → Counts) (e : Ending) → e.status ≡ Memory
     → files' ≡ files → NonDecreasing counts counts' → Reads {A = A} {B = B} base i n step td files files' counts counts' (Err e)
 reads_want base i n step td files files' counts counts' e want same later = record {

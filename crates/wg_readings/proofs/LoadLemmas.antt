@@ -1,4 +1,4 @@
--- A file that is read whole, and then judged.
+-- A file that is read whole, and then validated.
 use Rattle.std.proofs.Common.{◌≡◌, ◌∙◌, ◌⊎◌, inl, inr, ℕ, Bool, List, Option, Result, Ok, Err, refl, sym, ap, subst}
 use Rattle.std.specs.Bool.{IsTrue}
 use Rattle.std.specs.Result.{IfErr, IfOk}
@@ -23,7 +23,7 @@ use Rattle.wg_outcomes.proofs.Statuses.{IsOwn, bad_own, own_caused}
 use Rattle.wg_readings.proofs.ReadingsLaws.{the_readings}
 use Rattle.wg_readings.proofs.ReadingsLemmas.{steps_alike}
 
--- memory was out before the file was asked for
+-- memory ran out before the file was asked for
 pub loads_none : (names : Input → Option (List ℕ)) (i : Input) (td : Bool) (files : Files) (counts : List ℕ → Counts) (e : Ending) → e.status ≡ Memory → Loads names i td files files counts counts (Err e)
 loads_none names i td files counts e want = record {
   steps = λ t next. inr (subst IsHindrance (sym want) tt);
@@ -40,7 +40,7 @@ pub end_caused : {B : Type 0} (names : Input → Option (List ℕ)) (outputs : O
 end_caused names outputs old new f f' (Ok b) own = own_caused _ _ _ _ _ _ Done tt
 end_caused names outputs old new f f' (Err e) own = own_caused _ _ _ _ _ _ e.status own
 
--- ---- a file that is judged as `inner` says
+-- ---- a file that is validated as `inner` says
 module _ {B : Type 0} (i : Input) (names : Input → Option (List ℕ)) (IsFault : Ending → Type 0) (inner : List ℕ → (B → Judged) → Judged) (td : Bool) (files files' : Files) (counts counts' : List ℕ → Counts) where
   abbrev step : Option (List ℕ) → (B → Judged) → Judged
   step held next = with_file i held (λ bytes. inner bytes next)

@@ -92,7 +92,7 @@ no_answer e b is = cc is
 pub none_of : {A : Type 0} → ⊥ → A
 none_of bad = absurd bad
 
--- ---- memory is out
+-- ---- memory ran out
 pub is_memory : {B : Type 0} (r : Result B Ending) → IsErrAnd r (λ e. e ≡ record { status = Memory; promised = 0 }) → IfErr r (λ e. e.status ≡ Memory)
 is_memory (Ok b) is = tt
 is_memory (Err e) is = ap (λ (x : Ending). x.status) is

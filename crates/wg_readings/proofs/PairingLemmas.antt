@@ -1,4 +1,4 @@
--- An offsets file that is read in pieces, in a judgement.
+-- An offsets file that is read in pieces, in a validation.
 use Rattle.std.proofs.Common.{◌≡◌, inl, inr, ℕ, ◌+◌, ◌<◌, ◌≤◌, Bool, true, List, [], length, refl, sym, ◌∙◌, ap, subst, Option, Some, None, Result, Ok, Err, arith}
 use Rattle.std.specs.Bool.{IsTrue}
 use Rattle.std.specs.Result.{OnOk, IfErr, MatchResult}

@@ -1,4 +1,4 @@
--- A graph file that is read in pieces, in a judgement.
+-- A graph file that is read in pieces, in a validation.
 use Rattle.std.proofs.Common.{◌≡◌, ◌≢◌, inl, inr, ℕ, ◌<◌, Bool, true, false, List, nat_lt, length, refl, sym, ◌∙◌, ap, subst, Option, Some, None, Err}
 use Rattle.std.specs.Bool.{IsTrue}
 use Rattle.std.specs.FinMap as map

@@ -20,7 +20,7 @@ use Rattle.wg_order.proofs.OneRanking.{ranking_some, ranking_one}
 use Rattle.wg_readings.proofs.LimitsLemmas.{within_limits, coded}
 use Rattle.wg_readings.proofs.ReadingsLemmas.{decided_one, pages_one}
 
--- what is read, where no key is bad
+-- what is read, if no key is bad
 abbrev in_limits : {A : Type 0} (p : Parameters) (bad : Option Key) → first_bad p ≡ bad → (IsWithinLimits p → A) → A → A
 in_limits p None none read other = read (within_limits p none)
 in_limits p (Some key) none read other = other

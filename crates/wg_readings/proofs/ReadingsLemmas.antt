@@ -1,4 +1,4 @@
--- Files that were read, in a judgement.
+-- Files that were read, in a validation.
 use Rattle.std.proofs.Common.{◌≡◌, ◌∙◌, ◌<◌, ◌≤◌, ℕ, zero, suc, Bool, if◌then◌else◌, refl, List, [], ◌∷◌, length, get_or, eqb, inl, inr, arith, ap, subst, sym, Some, None, Ok, Err, Result}
 use Rattle.std.proofs.lemmas.Bool.{cases_Bool, le-leb, lt-leb}
 use Rattle.std.specs.Bool.{IsTrue}

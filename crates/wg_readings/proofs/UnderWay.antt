@@ -128,7 +128,7 @@ module _ (told : Bool) (base : List ℕ) (p : Parameters) (files : Files) (count
       pub ends_caused : HasCause (file_of base) no_outputs counts counts2 0 0 e.status
       ends_caused = cause_later (file_of base) counts counts1 counts2 e.status h.later (step.causes (file_of base) (ap Some (sym h.name)))
 
-    -- what was judged to its end
+    -- what was validated to its end
     pub judged_by : Advances {B = Unit {0}} told files1 files2 counts1 counts2 p a b (Ok tt)
         → (IsTrue told → (held : Files) → files1 ≡ held → (file : List ℕ) → map.get held a.name ≡ Some file → (whole : List Whole) → IsInStep file a whole → IsJudged file p (Ok (accepted_of whole)))
         → IsTrue told → (x : Accepted) × IsGraphFile (held_by (file_of base) files Graph) p x

@@ -36,7 +36,7 @@ pub record Loads (names : Input → Option (List ℕ)) (i : Input) (told : Bool)
   -- it goes on with the bytes, or ends at the input
   pub steps : IsTrue told → Steps (with_file i (held_by names files i)) result
   pub held : IsTrue told → IfOk result (λ bytes. held_by names files i ≡ Some bytes)
-  -- an absence or a fault is told only where the outside counted it
+  -- an absence or a fault is reported only if the outside counted it
   pub causes : HasCause names no_outputs counts counts' 0 0 (status_in result)
   pub mine : IfErr result (λ e. IsOfInput i e.status)
   -- no file has changed, and no count of the depot falls
@@ -61,25 +61,25 @@ pub record LoadsParams (base : List ℕ) (told : Bool) (files files' : Files) (c
   pub steps : IsTrue told → Steps (params_then (held_by (file_of base) files input.Properties)) result
   pub given : IsTrue told → IfOk result (IsPropertiesFile (held_by (file_of base) files input.Properties))
   pub only : IfErr result (λ e. IsOfInput input.Properties e.status ⊎ ((f : PropFault) × (e.status ≡ BadProperties f)))
-  -- an absence or a fault is told only where the outside counted it
+  -- an absence or a fault is reported only if the outside counted it
   pub causes : HasCause (file_of base) no_outputs counts counts' 0 0 (status_in result)
   -- no file has changed, and no count of the depot falls
   pub same : files' ≡ files
   pub later : NonDecreasing counts counts'
 
--- A step of a judgement that looks at one file of an archive ended the job, whatever would have come next. The
+-- A step of a validation that looks at one file of an archive ended the job, whatever would have come next. The
 -- properties promise so many arcs.
 pub record EndsAt {B : Type 0} (base : List ℕ) (i : Input) (promised : ℕ)
     (step : Readings → Option (List ℕ) → (B → Judged) → Judged) (told : Bool) (files : Files)
     (counts counts' : List ℕ → Counts) (e : Ending) : Type 0 where
   -- the file was not read, or is at fault
   pub only : IsStopAt i promised e
-  -- an absence or a fault is told only where the outside counted it
+  -- an absence or a fault is reported only if the outside counted it
   pub causes : HasCause (file_of base) no_outputs counts counts' 0 0 e.status
   -- the step ends like this, or something came in its place
   pub refused : IsTrue told → (r : Readings) → Steps {B = B} (step r (held_by (file_of base) files i)) (Err e)
 
--- A step of a judgement that looks at one file of an archive was done, or ended the job.
+-- A step of a validation that looks at one file of an archive was done, or ended the job.
 pub record Reads {A B : Type 0} (base : List ℕ) (i : Input) (promised : ℕ)
     (step : Readings → Option (List ℕ) → (B → Judged) → Judged) (told : Bool) (files files' : Files)
     (counts counts' : List ℕ → Counts) (result : Result A Ending) : Type 0 where
@@ -92,7 +92,7 @@ pub record Reads {A B : Type 0} (base : List ℕ) (i : Input) (promised : ℕ)
 abbrev pub digraph_then : Readings → Parameters → Option (List ℕ) → (Digraph → Judged) → Judged
 digraph_then r p held next = with_file input.Graph held (λ bytes. with_digraph r p bytes next)
 
--- The graph file of an archive was judged: it stands for a graph, or the job ends at it.
+-- The graph file of an archive was validated: it stands for a graph, or the job ends at it.
 pub record JudgesGraph (base : List ℕ) (p : Parameters) (told : Bool) (files files' : Files)
     (counts counts' : List ℕ → Counts) (result : Result (Unit {0}) Ending) : Type 0 where
   pub reads : Reads base input.Graph p.arcs (λ r. graph_then r p) told files files' counts counts' result
@@ -110,8 +110,8 @@ pub record LoadsGraph (base : List ℕ) (p : Parameters) (told : Bool) (files fi
 abbrev pub lengths_then : Readings → Parameters → List ℕ → Option (List ℕ) → (Unit {0} → Judged) → Judged
 lengths_then r p places held next = offsets_then r p held (λ stored. with_lengths places stored next)
 
--- The offsets file of an archive was judged: it stores the lengths of the records with these places, or the job ends at
--- this file.
+-- The offsets file of an archive was validated: it stores the lengths of the records with these places, or the job ends
+-- at this file.
 pub record JudgesOffsets (base : List ℕ) (p : Parameters) (places : List ℕ) (told : Bool) (files files' : Files)
     (counts counts' : List ℕ → Counts) (result : Result (Unit {0}) Ending) : Type 0 where
   pub reads : Reads base input.Offsets p.arcs (λ r. lengths_then r p places) told files files' counts counts' result
@@ -125,7 +125,7 @@ pub record LoadsList (name : List ℕ) (n : ℕ) (told : Bool) (files files' : F
   pub only : IfErr result
       (λ e. IsOfInput input.ArcList e.status ⊎ ((line : ℕ) × (kind : ArcsKind) × (e.status ≡ BadArcs line kind)))
   pub nodes : IfOk result (λ g. g.nodes ≡ n)
-  -- an absence or a fault is told only where the outside counted it
+  -- an absence or a fault is reported only if the outside counted it
   pub causes : HasCause (list_named name) no_outputs counts counts' 0 0 (status_in result)
   -- no file has changed, and no count of the depot falls
   pub same : files' ≡ files
@@ -139,20 +139,20 @@ pub record LoadsText (name : List ℕ) (told : Bool) (files files' : Files) (cou
     (result : Result Digraph Ending) : Type 0 where
   pub steps : IsTrue told → (r : Readings) → Steps (text_then r (held_by (text_named name) files input.Text)) result
   pub only : IfErr result (λ e. IsOfInput input.Text e.status ⊎ IsBadText e)
-  -- an absence or a fault is told only where the outside counted it
+  -- an absence or a fault is reported only if the outside counted it
   pub causes : HasCause (text_named name) no_outputs counts counts' 0 0 (status_in result)
   -- no file has changed, and no count of the depot falls
   pub same : files' ≡ files
   pub later : NonDecreasing counts counts'
 
--- A file that is no archive's was read whole and judged, as this input, or the job ends at it, at last with a fault of
--- what it holds.
+-- A file that is no archive's was read whole and validated, as this input, or the job ends at it, at last with a fault
+-- of what it holds.
 pub record ReadsNamed {B : Type 0} (i : Input) (names : Input → Option (List ℕ)) (IsFault : Ending → Type 0)
     (step : Option (List ℕ) → (B → Judged) → Judged) (told : Bool) (files files' : Files)
     (counts counts' : List ℕ → Counts) (result : Result B Ending) : Type 0 where
   pub steps : IsTrue told → Steps (step (held_by names files i)) result
   pub only : IfErr result (λ e. IsOfInput i e.status ⊎ IsFault e)
-  -- an absence or a fault is told only where the outside counted it
+  -- an absence or a fault is reported only if the outside counted it
   pub causes : HasCause names no_outputs counts counts' 0 0 (status_in result)
   -- no file has changed, and no count of the depot falls
   pub same : files' ≡ files
@@ -165,7 +165,7 @@ IsBadWeights n e = (f : WeightsFault) × (e.status ≡ BadWeights f) × (e.promi
 abbrev pub IsBadCertificate : Ending → Type 0
 IsBadCertificate e = (f : CertFault) × (e.status ≡ BadCertificate f)
 
--- The weights of so many pages were read, where a file of them is named; or the job ends at this file.
+-- The weights of so many pages were read, if a file of them is named; or the job ends at this file.
 pub record LoadsWeights (given : Option (List ℕ)) (n : ℕ) (told : Bool) (files files' : Files)
     (counts counts' : List ℕ → Counts) (result : Result (Option (List ℕ)) Ending) : Type 0 where
   pub reads : ReadsNamed input.Weights (weights_named given) (IsBadWeights n) (weights_then given n)
@@ -195,15 +195,15 @@ pub record LoadsMap (name : List ℕ) (n limit : ℕ) (told : Bool) (files files
   pub each : IfOk result (λ classes. length classes ≡ n)
   pub below : IfOk result (λ classes. Below limit classes)
 
--- The graph file and the offsets file of an archive were judged beside each other, or the job ends at one of them: at
--- the offsets file only if the graph is in order.
+-- The graph file and the offsets file of an archive were validated beside each other, or the job ends at one of them:
+-- at the offsets file only if the graph is in order.
 pub record JudgesFiles (base : List ℕ) (p : Parameters) (told : Bool) (files files' : Files)
     (counts counts' : List ℕ → Counts) (result : Result ℕ Ending) : Type 0 where
   pub steps : IsTrue told → (r : Readings) → Steps (files_then r p (held_by (file_of base) files)) result
   pub limits : OnOk result (IsWithinLimits p)
   pub only : IfErr result (λ e. IsStopAt input.Graph p.arcs e ⊎ (IsStopAt input.Offsets p.arcs e × IsWithinLimits p
       × (IsTrue told → (a : Accepted) × IsGraphFile (held_by (file_of base) files input.Graph) p a)))
-  -- an absence or a fault is told only where the outside counted it
+  -- an absence or a fault is reported only if the outside counted it
   pub causes : HasCause (file_of base) no_outputs counts counts' 0 0 (status_in result)
   -- no file has changed, and no count of the depot falls
   pub same : files' ≡ files

@@ -36,12 +36,12 @@ status_at i load.Failed = ReadFault i
 status_at i load.TooLong = OverLimit i
 status_at i load.Memory = Memory
 
--- how a job ends whose offsets file is not read on: at a word, where the properties promise so many arcs, or at its input
+-- how a job ends whose offsets file is not read on: at a word, if the properties promise so many arcs, or at its input
 abbrev pub word_ending : ℕ → WordError LoadError → Ending
 word_ending promised (words.Word w) = record { status = BadArchive (archive.Offsets w); promised = promised }
 word_ending promised (words.Refused e) = record { status = status_at input.Offsets e; promised = 0 }
 
--- how it ends where the file was not read to its end
+-- how it ends if the file was not read to its end
 abbrev pub places_ending : ℕ → PlacesError LoadError → Ending
 places_ending promised (unread.Word w) = word_ending promised (words.Word w)
 places_ending promised (unread.Refused e) = word_ending promised (words.Refused e)
@@ -98,8 +98,8 @@ HasCome told files counts counts' p name n at b =
 abbrev pub ComesWith : List ℕ → Pairing → List ℕ → Type 0
 ComesWith file b here = OnOk b.so_far ((there : List ℕ) × IsPairedWith file b here there)
 
--- What the end of a pairing is: the offsets file is judged to its end, and then the lengths that it tells are compared
--- with those of the records.
+-- What the end of a pairing is: the offsets file is validated to its end, and then the lengths that it tells are
+-- compared with those of the records.
 pub record EndsPairing (told : Bool) (files : Files) (counts counts' : List ℕ → Counts) (p : Parameters)
     (name : List ℕ) (b : Pairing) (result : Result (Unit {0}) Ending) : Type 0 where
   pub only : IfErr result (IsStopAt input.Offsets p.arcs)

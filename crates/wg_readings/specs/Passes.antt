@@ -49,7 +49,7 @@ first_in errors.TooLong = first.TooLong
 first_in errors.Memory = first.Memory
 first_in (errors.Closed f) = f
 
--- how a job ends at the first error of its graph file, where the properties promise so many arcs
+-- how a job ends at the first error of its graph file, if the properties promise so many arcs
 abbrev pub ending_at : ℕ → First → Ending
 ending_at promised (first.Fault f) = record { status = BadArchive (archive.Record f); promised = promised }
 ending_at promised (first.Tail offset) = record { status = BadArchive (archive.Tail offset); promised = promised }

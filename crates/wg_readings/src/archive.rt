@@ -1,4 +1,4 @@
-//! The files of an archive that are held whole, each judged as far as it goes by itself.
+//! The files of an archive that are held whole, each validated as far as it goes by itself.
 ghost use Rattle.std.specs.Prelude.{◌≡◌, ◌<◌, ◌≤◌, ℕ, All, Bool, IfErr, IfOk, IsTrue, List, OnOk, Ok, Err, length, ◌+◌};
 ghost use Rattle.wg_outside.specs.declared.limits.TheConstants.{MOST_BYTES};
 ghost use Rattle.wg_bits.specs.Bits.{bits_of};
@@ -76,7 +76,7 @@ pub fn graph_ending(error: PagesError<Infallible>, params: &Params) -> Ending
     }
 }
 
-/// Judges the records of a graph file, in one pass, and keeps where they are and the greatest outdegree. It takes 8
+/// Validates the records of a graph file, in one pass, and keeps where they are and the greatest outdegree. It takes 8
 /// bytes a page, and holds the lists of a window while it runs.
 pub fn passed_of_graph(alloc: Global, params: &Params, bytes: &[u8]) -> Result<Passed, Ending>
     requires { length bytes.now ≤ MOST_BYTES }
@@ -96,7 +96,7 @@ pub fn passed_of_graph(alloc: Global, params: &Params, bytes: &[u8]) -> Result<P
 }
 
 /// The lists of the graph of a graph file, from its bits, as often as one likes. Beside them it holds where the records
-/// are, until all have been judged.
+/// are, until all have been validated.
 pub fn lists_of_records<'a>(
     alloc: Global,
     params: &Params,

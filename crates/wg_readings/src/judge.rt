@@ -1,4 +1,4 @@
-//! The files of an archive, judged as they are read in pieces.
+//! The files of an archive, validated as they are read in pieces.
 ghost use Rattle.std.specs.Prelude.{◌≡◌, ◌+◌, length};
 ghost use Rattle.wg_readings.specs.Loading.{JudgesFilesBy, JudgesGraphBy, JudgesOffsetsBy};
 
@@ -11,7 +11,7 @@ use wg_outside::Depot;
 use wg_params::Params;
 use wg_words::Name;
 
-/// Judges the records of a graph file, and what follows them.
+/// Validates the records of a graph file, and what follows them.
 pub fn judge_graph<D: Depot>(
     alloc: Global,
     params: &Params,
@@ -28,8 +28,8 @@ pub fn judge_graph<D: Depot>(
     Ok(())
 }
 
-/// Judges the graph and the offsets, and answers how many bits the records have. After an error of the offsets file
-/// that file is read no further, and the error is told once the graph is judged to its end: a fault of the graph
+/// Validates the graph and the offsets, and answers how many bits the records have. After an error of the offsets file
+/// that file is read no further, and the error is reported once the graph is validated to its end: a fault of the graph
 /// comes before it.
 pub fn judge_files<D: Depot>(
     alloc: Global,
@@ -52,8 +52,8 @@ pub fn judge_files<D: Depot>(
     Ok(bits)
 }
 
-/// Judges the offsets file of an archive, and whether it stores the lengths of the records with these offsets, of which
-/// there is one for each page and one more. It goes through the file once, and holds a piece of it.
+/// Validates the offsets file of an archive, and checks whether it stores the lengths of the records with these
+/// offsets, of which there is one for each page and one more. It goes through the file once, and holds a piece of it.
 pub fn judge_offsets<D: Depot>(
     alloc: Global,
     params: &Params,

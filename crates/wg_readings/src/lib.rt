@@ -1,15 +1,15 @@
-//! The files of an archive, texts of graphs, weights, certificates and maps, as a job reads them: each is read and judged,
-//! and the job goes on with what it holds, or ends.
+//! The files of an archive, texts of graphs, weights, certificates and maps, as a job reads them: each is read and
+//! validated, and the job goes on with what it holds, or ends.
 //!
 //! [`load_params`], [`load_graph`], [`load_weights`], [`load_certificate`] and [`load_map`] read a file whole;
 //! [`judge_graph`], [`judge_files`] and [`judge_offsets`] go through the files in pieces, and so do [`open_graph`],
 //! [`next_record`] and [`end_records`], record by record. [`passed_of_graph`] finds where the records of a graph file
 //! are, and [`lists_of_records`] decodes their lists, as often as one likes. [`open_lines`] and [`next_lines`] lend the
-//! lines of a file, which the caller judges.
+//! lines of a file, which the caller validates.
 //!
-//! Each promises that it is a step of a judgement (`Judged`): it either yields a value or ends the job with a
+//! Each promises that it is a step of a validation (`Judged`): it either yields a value or ends the job with a
 //! [`Status`](wg_outcomes::Status), and later inputs do not matter, unless running out of memory or a fault of the
-//! outside came in its place (`Steps`). A fault or an absence is reported only where its count rose, and no file
+//! outside came in its place (`Steps`). A fault or an absence is reported only if its count rose, and no file
 //! changes. Which steps a job takes, and what it prints and writes, is said in `wg_outcomes`; the lemmas here on steps
 //! of jobs are what the commands are proved by.
 //!
@@ -32,7 +32,7 @@
 //! Ok(())
 //! ```
 //!
-//! A judgement takes the graph of a file from a function that reads all graph files (`Readings`); the grammar leaves
+//! A validation takes the graph of a file from a function that reads all graph files (`Readings`); the grammar leaves
 //! exactly one such function. The second archive of a job is read as a first is, and
 //! [`as_second`](wg_outcomes::as_second) turns the ending that this gives.
 #![tactic(auto)]

@@ -1,4 +1,4 @@
-//! Files that are read whole and judged: those of an archive, weights, certificates and maps.
+//! Files that are read whole and validated: those of an archive, weights, certificates and maps.
 ghost use Rattle.std.specs.Prelude.{◌≡◌, ℕ, List, Option, IsSome, Some};
 ghost use Rattle.wg_readings.specs.Loading.{LoadsBy, LoadsCertificateBy, LoadsGraphBy, LoadsParamsBy};
 ghost use Rattle.wg_readings.specs.Loading.{LoadsMapBy, LoadsWeightsBy};
@@ -72,7 +72,7 @@ pub fn load_graph<D: Depot>(
     graph_of_records(alloc, params, bytes.as_slice())
 }
 
-/// Reads the weights of so many pages, where a file of them is named; without one, each page weighs the same. Beside
+/// Reads the weights of so many pages, if a file of them is named; without one, each page weighs the same. Beside
 /// the weights, 8 bytes each, it holds the bytes of the file, until it is read.
 pub fn load_weights<D: Depot>(
     alloc: Global,

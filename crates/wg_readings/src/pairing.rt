@@ -38,7 +38,7 @@ pub struct Pairing {
 }
 
 /// How a job ends whose offsets file is not read on, at a word or at its input. It is inlined: an ending takes room in
-/// memory only where there is one.
+/// memory only if there is one.
 #[inline(always)]
 pub fn word_ending(error: WordError<LoadError>, params: &Params) -> Ending
     ensures { result ≡ word_ending params.now.arcs error }
@@ -126,7 +126,7 @@ fn next_word<D: Depot>(pairing: &mut Pairing, depot: &mut D, params: &Params) ->
     }
 }
 
-// Judges what follows the words.
+// Checks what follows the words.
 fn end_words<D: Depot>(pairing: &mut Pairing, depot: &mut D, params: &Params) -> Result<(), Ending>
     requires code { pairing.old.words.code ≡ params.now.offsets }
     requires pages { pairing.old.words.pages ≡ params.now.nodes }
@@ -222,7 +222,7 @@ fn same_lengths(pairing: &Pairing, params: &Params) -> Result<(), Ending>
     }
 }
 
-/// Judges what follows the words, and the lengths that they tell, if no error came before.
+/// Checks what follows the words, and the lengths that they tell, if no error came before.
 pub fn end_pairing<D: Depot>(
     pairing: &mut Pairing,
     depot: &mut D,

@@ -53,7 +53,7 @@ fn ending_at(first: First, params: &Params) -> Ending
     }
 }
 
-// How a job ends at an error of a reader. It is inlined: an ending takes room in memory only where there is one.
+// How a job ends at an error of a reader. It is inlined: an ending takes room in memory only if there is one.
 #[inline(always)]
 fn ending_of(error: StreamError, params: &Params) -> Ending
     ensures { result ≡ ending_at params.now.arcs (first_in error) }
@@ -70,7 +70,7 @@ pub fn open_graph(alloc: Global, params: &Params, base: &Name) -> Result<Reader,
     Ok(Reader::new(alloc, *params, name.as_str())?)
 }
 
-// Reads the record that comes next, or judges the end, if there is none.
+// Reads the record that comes next, or checks the end, if there is none.
 #[inline(always)]
 fn go_on<D: Depot>(reader: &mut Reader, depot: &mut D, params: &Params) -> Result<(), Ending>
     requires open { reader.old.state ≡ Open }
@@ -122,7 +122,7 @@ pub fn next_record<D: Depot>(
     Ok(())
 }
 
-/// Judges what follows the records.
+/// Checks what follows the records.
 pub fn end_records<D: Depot>(
     reader: &mut Reader,
     depot: &mut D,

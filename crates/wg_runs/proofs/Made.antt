@@ -1,4 +1,4 @@
--- What is made where runs and arcs were counted: the counts, the runs, and the lists.
+-- What is made when runs and arcs were counted: the counts, the runs, and the lists.
 use Rattle.std.proofs.Common.{◌≡◌, ℕ, ◌≤◌, All, List, replicate, refl, sym, subst, arith}
 use Rattle.std.proofs.lemmas.List.Elements.{All-replicate}
 use Rattle.wg_params.specs.declared.limits.TheConstants.{MOST_ARCS}

@@ -22,7 +22,7 @@ pub start_few : (lists : ℕ → List PageRun) (others : ℕ → List ℕ) → (
 start_few lists others few zero = omega arith
 start_few lists others few (suc n) = omega (arith, start_few lists others few n, few n)
 
--- where it was counted how long each list is
+-- if it was counted how long each list is
 module _ (n : ℕ) (lists : ℕ → List PageRun) (counts : List ℕ) (size : length counts ≡ n) (each : (v : ℕ) → v < n → get_or counts v 0 ≡ length (lists v)) where
   pub sum_is_start : (v : ℕ) → v ≤ n → sum (take v counts) ≡ run_start lists v
   sum_is_start zero le = refl

@@ -56,7 +56,7 @@ fn place<L: Lists>(lists: &mut L, ends: &mut [u64], reach: &mut [u32], runs: &mu
     }
 }
 
-// Fills in the runs to all pages, one page after the other, and their ends, where it was counted how many there are.
+// Fills in the runs to all pages, one page after the other, and their ends, if it was counted how many there are.
 pub(crate) fn fill<L: Lists>(
     lists: &mut L,
     ends: &mut [u64],

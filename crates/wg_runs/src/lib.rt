@@ -14,7 +14,7 @@
 //! lists of the graph --> RunCounts::fill: the runs to each page, one page after the other --> Runs
 //! ```
 //!
-//! So it is known how many runs there are before memory for them is taken. Where they are nearly as many as the arcs,
+//! So it is known how many runs there are before memory for them is taken. If they are nearly as many as the arcs,
 //! [`RunCounts::list`] makes whole lists, [`InLists`], in place of them. [`Runs::of`] counts and fills.
 //!
 //! A graph of five pages: pages 0, 1, 2 and 4 link to page 4, and page 1 links to page 0 too:

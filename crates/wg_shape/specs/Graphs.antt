@@ -5,7 +5,7 @@ use Rattle.wg_graph.specs.Digraph.{Digraph, IsGraph, successors, arc_count}
 use Rattle.wg_graph.specs.Arcs.{has_arc}
 use Rattle.wg_graph.specs.Unions.{union_of}
 
--- the graph u has as many pages as the larger of the two, and an arc exactly where one of them has it
+-- the graph u has as many pages as the larger of the two, and an arc exactly if one of them has it
 pub record IsUnion (g h u : Digraph) : Type 0 where
   pub nodes : u.nodes ≡ max g.nodes h.nodes
   pub proper : IsGraph u

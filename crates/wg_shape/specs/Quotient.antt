@@ -16,7 +16,7 @@ pub record Leads (g : Digraph) (classes : List ℕ) (i j : ℕ) : Type 0 where
   pub leaves : class_of classes from ≡ i
   pub arrives : class_of classes to ≡ j
 
--- the graph q has n classes as its pages, and an arc exactly where one leads from class to class
+-- the graph q has n classes as its pages, and an arc exactly if one leads from class to class
 pub record IsQuotient (g : Digraph) (classes : List ℕ) (n : ℕ) (q : Digraph) : Type 0 where
   pub nodes : q.nodes ≡ n
   pub proper : IsGraph q

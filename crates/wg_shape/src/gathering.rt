@@ -10,7 +10,7 @@ use std::alloc::{AllocError, Global};
 use wg_graph::{Graph, GraphBuilder, GraphLists, List, Lists};
 use wg_params::MOST_ARCS;
 
-// The graph of all lists, where the range has all classes.
+// The graph of all lists, if the range has all classes.
 fn gather<'a, L: Lists + Drop>(
     alloc: Global,
     ranges: &Quotienter<'a, L>,
@@ -31,7 +31,7 @@ fn gather<'a, L: Lists + Drop>(
 }
 
 /// The graph of the classes of pages, where the class of page `u` is the number at `u` in `classes_of`. Its pages are
-/// the classes; it has an arc from class to class exactly where some page of the one has an arc to some page of the
+/// the classes; it has an arc from class to class exactly if some page of the one has an arc to some page of the
 /// other. An arc inside a class is an arc from the class to itself.
 ///
 /// It takes time in proportion to the pages and the classes, and what sorting takes for the arcs of each class. Beside

@@ -1,6 +1,6 @@
 //! Unions and quotients of graphs.
 //!
-//! The union of two graphs has as many pages as the larger, and an arc exactly where one of them has it. It is made
+//! The union of two graphs has as many pages as the larger, and an arc exactly if one of them has it. It is made
 //! page after page: each list comes number by number, as a [`Coming`] does; [`Merge`] gives the numbers of two, which
 //! are never held side by side; [`add_union`] makes them the successors of a page, and [`union`] does so for all pages
 //! of two graphs in memory. [`next_union`] holds no graph: of two graphs whose lists are lent one by one, wherever they
@@ -14,7 +14,7 @@
 //! ```
 //!
 //! The quotient of a graph by classes of its pages is the graph of the classes: an arc leads from class to class
-//! exactly where one leads from some page of the one to some page of the other. It is made as a graph is transposed, by
+//! exactly if one leads from some page of the one to some page of the other. It is made as a graph is transposed, by
 //! counting and then placing: the classes that the arcs of a class lead to stand one after the other in one array, as
 //! they come, and its list is these, sorted, each once. A [`Quotienter`] gives the lists range after range of classes,
 //! for a graph whose lists are read in order: one pass counts, and then each range takes one. So it holds what the arcs
@@ -40,7 +40,7 @@
 //! ```
 //!
 //! Both take time in proportion to the pages, classes and arcs, but that the arcs of each class are sorted. What each
-//! holds is told at the functions.
+//! holds is stated at the functions.
 #![tactic(auto)]
 
 mod adding;

@@ -20,7 +20,7 @@ fn fill<A: Coming>(list: &mut List, mut numbers: A) -> Result<(), AllocError>
 
 /// Puts the successors that a page has in one of two graphs, or in both, in place of the numbers of `list`. The lists
 /// of this page come next in both graphs; a graph that has no page more has none. It takes time in proportion to the
-/// two lists, besides what these take themselves, and no memory where `list` has room.
+/// two lists, besides what these take themselves, and no memory if `list` has room.
 pub fn next_union<A: Lists, B: Lists>(
     first: &mut A,
     second: &mut B,

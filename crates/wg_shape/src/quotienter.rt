@@ -108,7 +108,7 @@ impl<'a, L: Lists + Drop> Quotienter<'a, L> {
     }
 
     /// Goes to the next range, in one pass along the lists: it ends with the class by which `room` arcs or more leave
-    /// its pages, or with the last class. The memory of the range before is given back first. Where there is none for
+    /// its pages, or with the last class. The memory of the range before is given back first. If there is none for
     /// the next, the range is empty, and stands before the same class.
     pub fn advance(&mut self, alloc: Global, room: u64) -> Result<(), AllocError>
         ensures pages { self.new.pages ≡ self.old.pages }

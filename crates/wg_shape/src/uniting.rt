@@ -8,7 +8,7 @@ use crate::{ListWalk, Merge, ShapeError, add_union};
 use std::alloc::Global;
 use wg_graph::{Graph, GraphBuilder};
 
-// The successors of a page; none where the graph does not have it.
+// The successors of a page; none if the graph does not have it.
 fn list_of(graph: &Graph, page: u64) -> &[u64]
     ensures list { result.now ≡ successors graph.now page }
     ensures proper { IsGraph graph.now }

@@ -118,7 +118,7 @@ nothing_follows file h start n most few inside i none ended zeros =
     unary_cut most n (drop start (bits_of file)) (drop h.at (bits_of file)) few zeros
     (rest_of_file file h i inside ∙ ap (λ (x : List Bool). x ++ bits_of i.behind) none ∙ no_bits i.behind (i.ended ended))
 
--- where zeros are all that was held, there was one
+-- if zeros are all that was held, there was one
 pub some_zeros : (g h : Held) (r : ℕ) → IsInside g → HoldsNext WORD g → ¬ (h.ended ≡ true) → h.ended ≡ g.ended → ahead h ≡ [] → ahead g ≡ replicate r false ++ ahead h → 0 < r
 some_zeros g h r inside next more same none zeros = ⊎_elim
     (λ (e : g.ended ≡ true). absurd (more (same ∙ e)))

@@ -74,7 +74,7 @@ added file h1 h2 buf count piece bytes first more looked i =
       short = λ e. i.short (sym looked ∙ e);
     }
 
--- few bytes are held with one piece more, and where there is none
+-- few bytes are held with one piece more, and if there is none
 pub added_small : (g h : Held) (piece : List ℕ) → length g.bytes + length piece ≤ MOST_HELD → h ≡ record g { bytes = g.bytes ++ piece } → IsSmall g → IsSmall h
 added_small g h piece room e s = subst IsSmall (sym e) (record { few = omega (arith, length-append g.bytes piece, room); from = s.from })
 

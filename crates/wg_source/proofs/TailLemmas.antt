@@ -55,7 +55,7 @@ fault_of_file file h offset i inside low f =
           f.why;
     }
 
--- the tail that is judged by what is held is that of the file
+-- the tail that is validated by what is held is that of the file
 pub judged_of_file : (file : List ℕ) (h : Held) (o : Option ℕ) → IsHeldOf file h → IsInside h → HoldsNext WORD h → IfNone o (IsTail (bits_of h.bytes) (h.at - 8 * h.first))
     → IfSome o (λ at. (8 * h.first ≤ at) × IsTailFault (bits_of h.bytes) (h.at - 8 * h.first) (at - 8 * h.first)) → IsTailAt (bits_of file) h.at o
 judged_of_file file h None i inside next none some = tail_of_file file h i inside next none

@@ -267,7 +267,7 @@ impl Stretch {
 
     /// Goes to a bit of the file, forwards or back, or to the end of its bits, and answers whether it has so many. If
     /// that bit is not held, one piece is read, which begins with the byte of the bit before: the file has this byte
-    /// exactly if it has so many bits. Where it has not, what is held stays as it is.
+    /// exactly if it has so many bits. If it has not, what is held stays as it is.
     pub fn go_to<D: Depot>(&mut self, depot: &mut D, name: &str, at: u64) -> Result<bool, LoadError>
         ensures moves { Moves D.told name.now (D.files depot.old) (D.files depot.new) (D.counts depot.old)
             (D.counts depot.new) self.old self.new }

@@ -24,7 +24,7 @@ load_outside load.Failed P h = h
 load_outside load.TooLong P h = h
 load_outside load.Memory P h = tt
 
--- an absent file is told as one
+-- an absent file is reported as one
 pub load_absent : {A : Type 0} (l : LoadError) → ◌≡◌ {A = Result A LoadError} (Err l) (Err load.Absent) → (B : Type 0) → ◌≡◌ {A = Result B First} (Err (of_load l)) (Err first.Absent)
 load_absent load.Absent is B = refl
 load_absent load.Failed is B = absurd (cc is)

@@ -48,7 +48,7 @@ onward_of r n at is stands on same =
 pub not_before : (n : ℕ) → n ≤ n
 not_before n = omega arith
 
--- the error that the first one is told as tells which it is
+-- the error that the first one is reported as tells which it is
 abbrev told_first : StreamError → First
 told_first (errors.Fault f) = first.Fault f
 told_first (errors.Tail offset) = first.Tail offset

@@ -37,7 +37,7 @@ graph_there p q xs ys g same is b =
 
 -- ---- rows in turn
 
--- Where the turn went on by one row, one row back is the one that was filled, and any other is one row nearer before that.
+-- If the turn went on by one row, one row back is the one that was filled, and any other is one row nearer before that.
 one_more : (n turn next row back : ℕ) → turn < n → row < n → 1 < back → back ≤ n → IsBack n next 1 turn → IsBack n next back row → (row ≢ turn) × IsBack n turn (back - 1) row
 one_more n turn next row back within lt some near (inl on) (inl there) = (λ e. omega (arith, on, there, e, some), inl (omega (arith, on, there, some)))
 one_more n turn next row back within lt some near (inl on) (inr there) = (λ e. omega (arith, on, there, e, near), inr (omega (arith, on, there, some)))
@@ -70,7 +70,7 @@ kept_more records page turn next rows list within on kept is row back lt some be
           ∙ ap (λ (k : ℕ). (known_at records (page - k)).list) (sym one)
     ]
 
--- there is none to keep before the first page, or where there are no rows
+-- there is none to keep before the first page, or if there are no rows
 pub kept_none : (records : List Whole) (page turn : ℕ) (rows : List Filled) → page ≡ 0 → AreKept records page rows turn
 kept_none records page turn rows none row back lt some before near there = absurd (omega (arith, none, some, before))
 

@@ -13,7 +13,7 @@ of_unread (unread.Fault f) = Fault (archive.Record f)
 of_unread unread.Memory = Memory
 of_unread (unread.Refused r) = Refused r
 
--- what holds of the fault, where the error is one; memory may run out at any time
+-- what holds of the fault, if the error is one; memory may run out at any time
 abbrev pub OfFault : {R : Type 0} → PagesError R → (ArchiveFault → Type 0) → Type 0
 OfFault (Fault f) P = P f
 OfFault Memory P = Unit {0}
@@ -31,7 +31,7 @@ IsOfGraph (archive.ArcsShort total) = Unit {0}
 IsOfGraph (archive.Offsets f) = ⊥
 IsOfGraph (archive.Length page found stored) = ⊥
 
--- what holds of the refusal, where the error is one
+-- what holds of the refusal, if the error is one
 abbrev pub OfRefusal : {R : Type 0} → PagesError R → (R → Type 0) → Type 0
 OfRefusal (Fault f) P = Unit {0}
 OfRefusal Memory P = Unit {0}

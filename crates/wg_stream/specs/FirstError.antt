@@ -31,7 +31,7 @@ Says (Fault f) e = Tells f e
 Says Memory e = e ≡ first.Memory
 Says (Refused l) e = e ≡ of_load l
 
--- the error as it is told the first time
+-- the error as it is reported the first time
 abbrev pub of_first : First → StreamError
 of_first (first.Fault f) = errors.Fault f
 of_first (first.Tail offset) = errors.Tail offset

@@ -1,6 +1,6 @@
 //! The records of an archive, all of them in order: from any source of words, or from a file that is read in pieces.
 //!
-//! [`Pages`] reads record after record, and judges what follows the last: the tail and the number of arcs. It keeps the
+//! [`Pages`] reads record after record, and checks what follows the last: the tail and the number of arcs. It keeps the
 //! lists that a reference may reach, and lends each page's list in turn. [`read_graph`] is a loop over it that keeps
 //! the lists; whoever reads an archive in another way writes a loop of its own.
 //!
@@ -15,9 +15,9 @@
 //! ```
 //!
 //! A [`Sweep`] goes over the lists of bytes that are known to stand for a graph, in order and as often as one likes,
-//! and decodes each list from the bits again. It takes all its memory when it is made, so that no list can be wanting
-//! later: rows for the pages that a reference reaches, and one. [`pass`] finds how long they have to be, in one pass
-//! over all records.
+//! and decodes each list from the bits again. It takes all its memory when it is made, so that later calls cannot run
+//! out of memory: rows for the pages that a reference reaches, and one. [`pass`] finds how long they have to be, in one
+//! pass over all records.
 //!
 //! ```text
 //! record of page x --decode_behind--> row --lent--> list of x      then the row is kept in the place of that of x - W

@@ -62,7 +62,7 @@ impl Model for Pages {
         × AreSound (record { params = r.params; page = r.page; arcs = r.arcs; kept = r.window.behind; list = nearest r.window.behind r.past }) };
 }
 
-// Keeps the page in the window. The list that leaves it is the one past the window; where the window keeps none, that is
+// Keeps the page in the window. The list that leaves it is the one past the window; if the window keeps none, that is
 // the page's own. What was past the window serves for a later list.
 #[inline(always)]
 fn keep(
@@ -133,7 +133,7 @@ impl Pages {
         self.page == self.params.nodes()
     }
 
-    /// Reads the record of the page that comes next, and goes on to the one after it. Where it is refused, it stays at
+    /// Reads the record of the page that comes next, and goes on to the one after it. If it is refused, it stays at
     /// this page. It takes time in proportion to the words of the record, to its list and to the one that it refers to.
     pub fn next<S: Source>(&mut self, source: &mut S) -> Result<(), PagesError<S::Refusal>>
         requires more { self.old.page < self.old.params.nodes }
@@ -167,7 +167,7 @@ impl Pages {
         Ok(())
     }
 
-    /// Judges what follows the records: the tail, and whether there are as many arcs as are promised.
+    /// Checks what follows the records: the tail, and whether there are as many arcs as are promised.
     pub fn finish<S: Source>(&self, source: &mut S) -> Result<(), PagesError<S::Refusal>>
         requires done { self.now.page ≡ self.now.params.nodes }
         ensures total { OnOk result (self.now.arcs ≡ self.now.params.arcs) }

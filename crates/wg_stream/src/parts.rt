@@ -1,4 +1,4 @@
-// The parts of a graph file, each judged as it comes.
+// The parts of a graph file, each validated as it comes.
 ghost use Rattle.std.specs.Prelude.{◌≡◌, ◌+◌, ◌<◌, ◌≤◌, ℕ, true, false, List as ListOf, Some, None, Ok, Err, length, IsTrue, OnOk, IfErr};
 ghost use Rattle.std.specs.FinMap as map;
 ghost use Rattle.wg_bits.specs.Bits.{bits_of};
@@ -76,7 +76,7 @@ pub fn next_record<D: Depot>(
     }
 }
 
-/// Judges what follows the records.
+/// Checks what follows the records.
 #[cold]
 #[inline(never)]
 pub fn judge_end<D: Depot>(
@@ -108,7 +108,7 @@ pub fn judge_end<D: Depot>(
     }
 }
 
-/// Reads the record that comes next, or judges the end, if there is none. Before all else it looks whether the file is
+/// Reads the record that comes next, or checks the end, if there is none. Before all else it looks whether the file is
 /// too long.
 pub fn go_on<D: Depot>(
     pages: &mut Pages,

@@ -23,8 +23,8 @@ pub struct Passed {
     pub greatest: u64,
 }
 
-/// Judges the records of all pages, the tail and the number of arcs. It takes the time of all bits and lists, holds the
-/// lists of a window while it runs, and takes 8 bytes a page, as the records come.
+/// Validates the records of all pages, the tail and the number of arcs. It takes the time of all bits and lists, holds
+/// the lists of a window while it runs, and takes 8 bytes a page, as the records come.
 pub fn pass(alloc: Global, bytes: &[u8], params: Params) -> Result<Passed, PagesError<Infallible>>
     requires { length bytes.now ≤ MOST_BYTES }
     ensures finds { IfOk result (λ found. PassFinds params (bits_of bytes.now) found.offsets found.greatest) }
@@ -38,7 +38,7 @@ pub fn pass(alloc: Global, bytes: &[u8], params: Params) -> Result<Passed, Pages
     Ok(Passed { offsets, greatest })
 }
 
-// The same from the first page on, where no offset is kept yet; it gives the greatest outdegree.
+// The same from the first page on, if no offset is kept yet; it gives the greatest outdegree.
 fn pass_on(
     nodes: u64,
     source: &mut Cursor<'_>,

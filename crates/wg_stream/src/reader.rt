@@ -114,7 +114,7 @@ impl Reader {
         self.pages.spare_lists()
     }
 
-    /// Reads the record that comes next, or judges the end, if there is none; from then on, and after an error, it
+    /// Reads the record that comes next, or checks the end, if there is none; from then on, and after an error, it
     /// reads nothing. The list is that of [`list`](Reader::list).
     pub fn advance<D: Depot>(&mut self, depot: &mut D) -> Result<bool, StreamError>
         ensures done { self.old.state ≡ Done → (result ≡ Ok false) × (self.new ≡ self.old) × (depot.new ≡ depot.old) }

@@ -11,7 +11,7 @@ use wg_grammar::Source;
 use wg_graph::{Graph, GraphBuilder};
 use wg_params::Params;
 
-// Reads the records of all pages into a graph that has no list yet, and judges what follows them.
+// Reads the records of all pages into a graph that has no list yet, and checks what follows them.
 fn read_lists<S: Source>(
     pages: &mut Pages,
     graph: &mut GraphBuilder,
@@ -66,7 +66,7 @@ fn read_into<S: Source>(
     read_lists(&mut pages, graph, source)
 }
 
-/// Judges the records of all pages, the tail and the number of arcs, and answers the graph. The source stands at its
+/// Validates the records of all pages, the tail and the number of arcs, and answers the graph. The source stands at its
 /// first bit. Besides what [`Pages`] holds it takes 8 bytes an arc and 8 a page, as they come.
 pub fn read_graph<S: Source>(
     alloc: Global,

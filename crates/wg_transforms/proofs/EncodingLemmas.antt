@@ -12,7 +12,7 @@ use Rattle.wg_shape.specs.declared.error.ShapeError.{ShapeError}
 use Rattle.wg_shape.specs.declared.error.ShapeError.TheVariants as errors
 use Rattle.wg_writing.specs.Writing.{IsArchiveOf}
 
--- want of memory does not tell of too many arcs
+-- running out of memory does not tell of too many arcs
 pub no_arcs : (a b : ℕ) → ◌≡◌ {A = ShapeError} errors.Memory errors.TooManyArcs → a < b
 no_arcs a b is = cc is
 
@@ -53,7 +53,7 @@ module _ (l : Layout) (n : ℕ) (p begun : Parameters) (is : p ≡ params_of l n
         ends g.lists lists (made_is ∙ (λ i. params_of l n (sym (ap (λ (q : Parameters). q.arcs) made_is) i)) ∙ (λ i. record (sym (same ∙ begun_is ∙ is) i) { arcs = made.arcs })),
       )
 
--- an ending for want of memory tells nothing of the arcs
+-- an ending by running out of memory tells nothing of the arcs
 pub no_status : (a b : ℕ) (s : Status) → s ≡ status.Memory → s ≡ status.TooManyArcs → a < b
 no_status a b s memory arcs = cc (memory, arcs)
 

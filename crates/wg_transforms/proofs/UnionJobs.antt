@@ -254,7 +254,7 @@ module _ (first second output : List ℕ) (layout : Layout) (td to : Bool) (befo
           (λ t q. goes t q ∙ ap (λ (x : Bool). of_second (if x then refused TooManyArcs else builds layout both)) (le-ltb MOST_ARCS (arc_count both) few))
           same (none_falls-trans _ _ _ l.later h.later) h'
 
--- what was read of the second archive, where nothing ended it
+-- what was read of the second archive, if nothing ended it
 pub second_read : (base : List ℕ) (td : Bool) (files files' : Files) (counts counts' : List ℕ → Counts) (read : Result Loaded Ending) (l : Loaded) → LoadsArchive base td files files' counts counts' read
     → Ok l ≡ result_of_second read → LoadsArchive base td files files' counts counts' (Ok l)
 second_read base td files files' counts counts' (Ok x) l h is =

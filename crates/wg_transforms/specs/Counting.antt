@@ -1,4 +1,4 @@
--- The arcs of a graph file, counted at their targets while its records are judged.
+-- The arcs of a graph file, counted at their targets while its records are validated.
 use Rattle.std.specs.Prelude.{◌≡◌, ℕ, ◌≤◌, All, Bool, List, length, Ok, Err}
 use Rattle.wg_params.specs.Parameters.{Parameters}
 use Rattle.wg_graph.specs.Digraph.{Digraph}
@@ -22,7 +22,7 @@ pub record CountsArcs (p : Parameters) (bits : List Bool) (greatest : ℕ) (coun
   pub room : All (λ list. length list ≤ greatest) accepted.graph
   pub counted : AreCounts p.nodes (predecessors (graph_of p accepted)) counts
 
--- The graph of a graph file was judged, and the first range of the lists of the transposed graph is still to come.
+-- The graph of a graph file was validated, and the first range of the lists of the transposed graph is still to come.
 pub record IsReversed (p : Parameters) (bytes : List ℕ) (t : Transposing) : Type 0 where
   pub none : t.to ≡ 0
   pub nodes : t.graph.nodes ≡ p.nodes

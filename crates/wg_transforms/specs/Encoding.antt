@@ -4,7 +4,7 @@ use Rattle.wg_params.specs.declared.limits.TheConstants.{MOST_ARCS}
 use Rattle.wg_graph.specs.Digraph.{Digraph, IsGraph, arc_count, successors}
 use Rattle.wg_encoder.specs.ArchiveInMemory.{EncodedSoFar, HasEncoded}
 
--- the lists of the pages before the next one are encoded, where it is not told how many arcs there are
+-- the lists of the pages before the next one are encoded, if it is not told how many arcs there are
 pub record IsEncoding (g : Digraph) (e : EncodedSoFar) : Type 0 where
   pub nodes : e.params.nodes ≡ g.nodes
   pub most : e.params.arcs ≡ MOST_ARCS

@@ -1,4 +1,4 @@
--- An archive whose three files are judged before a job goes on with its graph.
+-- An archive whose three files are validated before a job goes on with its graph.
 use Rattle.std.specs.Prelude.{◌≡◌, ◌⊎◌, ℕ, ◌≤◌, Bool, List, length, Result, Ok, Err, IsTrue, All, IfOk, IfErr}
 use Rattle.wg_outside.specs.Outside.{Files, Counts, NonDecreasing}
 use Rattle.wg_outside.specs.declared.depot.Depot as depot
@@ -28,7 +28,7 @@ IsArchiveFile Graph = Unit {0}
 IsArchiveFile Offsets = Unit {0}
 IsArchiveFile _ = ⊥
 
--- how the reading and judging of an archive can end a job
+-- how the reading and validation of an archive can end a job
 abbrev pub IsOfArchive : Status → Type 0
 IsOfArchive Memory = Unit {0}
 IsOfArchive (ReadFault i) = IsArchiveFile i
@@ -48,7 +48,7 @@ pub record IsLoaded (l : Loaded) (a : Accepted) : Type 0 where
   pub short : length l.bytes ≤ MOST_BYTES
   pub judged : IsJudged l.params l.bytes l.greatest a
 
--- The graph file of an archive that is held, and its offsets file, were judged.
+-- The graph file of an archive that is held, and its offsets file, were validated.
 pub record JudgesArchive (base : List ℕ) (p : Parameters) (bytes : List ℕ) (told : Bool) (files files' : Files)
     (counts counts' : List ℕ → Counts) (result : Result ℕ Ending) : Type 0 where
   pub limits : IsWithinLimits p
@@ -68,7 +68,7 @@ abbrev pub JudgesArchiveBy : {D : Type 0} → depot.Ghosts D → List ℕ → Pa
 JudgesArchiveBy d base p bytes before after result =
     JudgesArchive base p bytes d.told (d.files before) (d.files after) (d.counts before) (d.counts after) result
 
--- The three files of an archive were judged, and its graph file is held, or the job ends at one of them.
+-- The three files of an archive were validated, and its graph file is held, or the job ends at one of them.
 pub record LoadsArchive (base : List ℕ) (told : Bool) (files files' : Files) (counts counts' : List ℕ → Counts)
     (result : Result Loaded Ending) : Type 0 where
   -- it goes on with the graph
@@ -80,7 +80,7 @@ pub record LoadsArchive (base : List ℕ) (told : Bool) (files files' : Files) (
       → IfErr result (λ e. (next : Parameters → Accepted → Judged)
       → Answers (with_archive r (held_by (file_of base) files) next) e.status)
   pub only : IfErr result (λ e. IsOfArchive e.status)
-  -- an absence or a fault is told only where the outside counted it
+  -- an absence or a fault is reported only if the outside counted it
   pub causes : HasCause (file_of base) no_outputs counts counts' 0 0 (status_in result)
   -- a file that could not be read is the first that would be missed
   pub reached : IsTrue told → (r : Readings) (i : Input) → status_in result ≡ ReadFault i
@@ -96,7 +96,7 @@ abbrev pub LoadsArchiveBy : {D : Type 0} → depot.Ghosts D → List ℕ → D �
 LoadsArchiveBy d base before after result =
     LoadsArchive base d.told (d.files before) (d.files after) (d.counts before) (d.counts after) result
 
--- the same of an archive that is the second of its job: its end is told as the second's
+-- the same of an archive that is the second of its job: its end is reported as the second's
 abbrev pub result_of_second : Result Loaded Ending → Result Loaded Ending
 result_of_second (Ok l) = Ok l
 result_of_second (Err e) = Err (second_ending e)

@@ -1,4 +1,4 @@
-//! One pass over the records of a graph file, which judges them and counts the arcs that lead to each page.
+//! One pass over the records of a graph file, which validates them and counts the arcs that lead to each page.
 ghost use Rattle.std.specs.Prelude.{◌≡◌, ◌≤◌, [], All, Err, IfOk, length};
 ghost use Rattle.wg_outside.specs.declared.limits.TheConstants.{MOST_BYTES};
 ghost use Rattle.wg_bits.specs.Bits.{bits_of};
@@ -24,8 +24,8 @@ pub(crate) struct Counted {
     pub(crate) greatest: u64,
 }
 
-/// Judges the records of all pages, the tail and the number of arcs, as [`wg_stream::pass`] does, and counts the arcs at
-/// their targets. It holds the lists of a window while it runs, and takes 8 bytes a page at once.
+/// Validates the records of all pages, the tail and the number of arcs, as [`wg_stream::pass`] does, and counts the
+/// arcs at their targets. It holds the lists of a window while it runs, and takes 8 bytes a page at once.
 pub(crate) fn count_records(
     alloc: Global,
     bytes: &[u8],
@@ -43,7 +43,7 @@ pub(crate) fn count_records(
     Ok(Counted { counts, greatest })
 }
 
-// The same from the first page on, where no arc is counted yet; it gives the greatest outdegree.
+// The same from the first page on, if no arc is counted yet; it gives the greatest outdegree.
 fn count_on(
     nodes: u64,
     source: &mut Cursor<'_>,

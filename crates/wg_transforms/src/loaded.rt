@@ -1,4 +1,4 @@
-//! Archives whose three files are judged before a job goes on with their graph.
+//! Archives whose three files are validated before a job goes on with their graph.
 ghost use Rattle.std.specs.Prelude.{◌≤◌, length};
 ghost use Rattle.wg_outside.specs.declared.limits.TheConstants.{MOST_BYTES};
 ghost use Rattle.wg_transforms.specs.Loaded.{JudgesArchiveBy, LoadsArchiveBy, LoadsSecondBy};
@@ -18,7 +18,7 @@ pub struct Loaded {
     pub greatest: u64,
 }
 
-// Judges the graph file of an archive, which is held, and then its offsets file; it gives the greatest outdegree.
+// Validates the graph file of an archive, which is held, and then its offsets file; it gives the greatest outdegree.
 fn judge_archive<D: Depot>(
     alloc: Global,
     params: &Params,
@@ -34,8 +34,8 @@ fn judge_archive<D: Depot>(
     Ok(found.greatest)
 }
 
-/// Reads and judges the three files of an archive, as `check` does, and keeps the bytes of its graph file. Until the
-/// offsets are judged, of which it holds a piece, it holds 8 bytes a page besides.
+/// Reads and validates the three files of an archive, as `check` does, and keeps the bytes of its graph file. Until the
+/// offsets are validated, of which it holds a piece, it holds 8 bytes a page besides.
 pub fn load_archive<D: Depot>(alloc: Global, depot: &mut D, base: &Name) -> Result<Loaded, Ending>
     ensures { LoadsArchiveBy ⟦<D as Depot>⟧ base.now depot.old depot.new result }
 {
@@ -49,7 +49,7 @@ pub fn load_archive<D: Depot>(alloc: Global, depot: &mut D, base: &Name) -> Resu
     })
 }
 
-/// The same of the second archive of a job: where it ends the job, the second is named.
+/// The same of the second archive of a job: if it ends the job, the second is named.
 pub fn load_second<D: Depot>(alloc: Global, depot: &mut D, base: &Name) -> Result<Loaded, Ending>
     ensures { LoadsSecondBy ⟦<D as Depot>⟧ base.now depot.old depot.new result }
 {

@@ -17,8 +17,8 @@ use wg_writing::build_archive;
 
 /// Writes the greedy archive of the graph of classes of an archive's pages, in the layout that is given, and prints the
 /// line of what it holds: an arc leads from class to class exactly if one leads from a page of the first to a page of
-/// the second. The map has a line for each page with its class, which is below their number. It judges the whole graph,
-/// and then the map, before it touches a file.
+/// the second. The map has a line for each page with its class, which is below their number. It validates the whole
+/// graph, and then the map, before it touches a file.
 ///
 /// It holds the bytes of the graph file, from which it decodes the lists again for each range of classes, and a row of
 /// the greatest outdegree for each page that a reference reaches and one more. Beside them it holds 8 bytes a page for

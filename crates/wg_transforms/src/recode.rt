@@ -16,7 +16,7 @@ use wg_words::Name;
 use wg_writing::{build_archive, end_archive};
 
 /// Writes the greedy archive of an archive's graph, in the layout that is given, and prints the line of what it
-/// holds. It goes through the graph file once, and judges the whole graph before it touches a file. It holds a piece
+/// holds. It goes through the graph file once, and validates the whole graph before it touches a file. It holds a piece
 /// of the file, and twice the lists that a reference may reach, with a few that wait to be used again; one record; and
 /// the archive that it makes, in most graphs little more than a byte an arc and two a page, and up to twice that while
 /// it grows.
@@ -38,8 +38,8 @@ pub fn recode<D: Depot, O: Sink>(
     build_archive(alloc, &made, &archive, output, depot, out)
 }
 
-// The archive with other parameters, in memory. Each list is judged, and encoded as it comes; after a fault the archive
-// is let go.
+// The archive with other parameters, in memory. Each list is validated, and encoded as it comes; after a fault the
+// archive is let go.
 fn recoded<D: Depot>(
     alloc: Global,
     params: &Params,

@@ -13,10 +13,10 @@ use wg_words::Name;
 use wg_writing::build_archive;
 
 /// Writes the greedy archive of an archive's graph with each arc the other way round, in the layout that is given,
-/// and prints the line of what it holds. It judges the whole graph before it touches a file, and holds the bytes of
+/// and prints the line of what it holds. It validates the whole graph before it touches a file, and holds the bytes of
 /// its file, from which it decodes the lists again for each range of pages, and a row of the greatest outdegree for
 /// each page that a reference reaches and one more. Beside them it holds 8 bytes a page, which it takes before the
-/// records are judged; 8 an arc of one range of pages, and the archive that it makes.
+/// records are validated; 8 an arc of one range of pages, and the archive that it makes.
 pub fn transpose<D: Depot, O: Sink>(
     alloc: Global,
     input: &Name,

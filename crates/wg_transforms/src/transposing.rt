@@ -23,7 +23,7 @@ use wg_readings::{graph_ending, lists_of_records};
 use wg_stream::Sweep;
 use wg_transpose::{Transposer, range_room};
 
-// Judges the records of a graph file, and counts the arcs that lead to each page, in one pass.
+// Validates the records of a graph file, and counts the arcs that lead to each page, in one pass.
 fn counted_of_graph(alloc: Global, params: &Params, bytes: &[u8]) -> Result<Counted, Ending>
     requires { length bytes.now ≤ MOST_BYTES }
     ensures limits { IsWithinLimits params.now }
@@ -40,7 +40,7 @@ fn counted_of_graph(alloc: Global, params: &Params, bytes: &[u8]) -> Result<Coun
     }
 }
 
-// The lists of the transposed graph of a graph file whose arcs are counted while its records are judged.
+// The lists of the transposed graph of a graph file whose arcs are counted while its records are validated.
 fn counted_ranges<'a>(
     alloc: Global,
     params: &Params,
@@ -55,7 +55,7 @@ fn counted_ranges<'a>(
     Ok(Transposer::with_counts(alloc, lists, found.counts))
 }
 
-// The same, where they are judged first.
+// The same, if they are validated first.
 fn judged_ranges<'a>(
     alloc: Global,
     params: &Params,
@@ -71,9 +71,9 @@ fn judged_ranges<'a>(
     Ok(Transposer::new(alloc, lists)?)
 }
 
-/// The lists of the transposed graph of a graph file, before the first range of pages. The pass that judges the records
-/// counts the arcs, too, for which it takes 8 bytes a page. But a record has one bit at least: where the file has fewer
-/// bits than pages, nothing is taken for these, and its first fault is found.
+/// The lists of the transposed graph of a graph file, before the first range of pages. The pass that validates the
+/// records counts the arcs, too, for which it takes 8 bytes a page. But a record has one bit at least: if the file has
+/// fewer bits than pages, nothing is taken for these, and its first fault is found.
 pub fn ranges_of_records<'a>(
     alloc: Global,
     params: &Params,

@@ -24,11 +24,11 @@ use wg_words::Name;
 use wg_writing::build_archive;
 
 /// Writes the greedy archive of the union of two archives' graphs, in the layout that is given, and prints the line of
-/// what it holds. All of the first archive is judged before the second is read, and both before a file is touched. It
-/// holds the bytes of both graph files, and 8 bytes a page of an archive while its offsets are judged. Then the lists
-/// of both are gone through side by side, and those of the union encoded as they come: each archive has rows for the
-/// lists that a reference may reach, with room for its greatest outdegree, and the archive that is made takes, in most
-/// graphs, little more than a byte an arc and two a page, and up to twice that while it grows.
+/// what it holds. All of the first archive is validated before the second is read, and both before a file is touched.
+/// It holds the bytes of both graph files, and 8 bytes a page of an archive while its offsets are validated. Then the
+/// lists of both are gone through side by side, and those of the union encoded as they come: each archive has rows for
+/// the lists that a reference may reach, with room for its greatest outdegree, and the archive that is made takes, in
+/// most graphs, little more than a byte an arc and two a page, and up to twice that while it grows.
 pub fn union<D: Depot, O: Sink>(
     alloc: Global,
     first: &Name,

@@ -1,4 +1,4 @@
-//! Lists that stand one after the other in an array, range after range of lists, where it is counted how long each is.
+//! Lists that stand one after the other in an array, range after range of lists, if it is counted how long each is.
 ghost use Rattle.std.specs.Prelude.{◌≡◌, ◌⊎◌, ℕ, ◌+◌, ◌-◌, ◌*◌, ◌^◌, ◌<◌, ◌≤◌, List, [], length, get_or, take, sum, slice_index, slice_range, slice_set, OnOk, OnErr};
 ghost use Rattle.wg_params.specs.declared.limits.TheConstants.{MOST_ARCS};
 ghost use Rattle.wg_transpose.specs.SoFar.{onward, start, AreCounts, ArePrefixes};
@@ -15,7 +15,7 @@ pub trait Placing {
     /// The second goes over the same as the first.
     ghost same: { Self → Self → Type 0 };
 
-    /// Makes the lists from list `from` on, where each place in `ends` has the start of one: it puts each number behind
+    /// Makes the lists from list `from` on, if each place in `ends` has the start of one: it puts each number behind
     /// those of its list so far, and leaves out the numbers of other lists. The starts become ends.
     fn place(&mut self, from: u64, ends: &mut [u64], all: &mut [u64])
         requires none { ArePrefixes (length ends.old) (onward from (lists self.old)) (λ _. []) ends.old all.old }
@@ -27,7 +27,7 @@ pub trait Placing {
 }
 
 /// How many arcs a range is to have at least, so that a graph of so many arcs is gone through in 15 ranges at most: a
-/// fourteenth of them, and 2^24 where that is more.
+/// fourteenth of them, and 2^24 if that is more.
 pub fn range_room(arcs: u64) -> u64
     ensures least { 2 ^ 24 ≤ result }
     ensures few { arcs ≤ 14 * result }
@@ -110,7 +110,7 @@ fn span(ends: &[u64], all: &[u64], from: u64, list: u64) -> (usize, usize)
     (ends[list as usize - 1] as usize, end)
 }
 
-// Makes the lists from list `from` on, one after the other, and their ends, where it was counted how long they are.
+// Makes the lists from list `from` on, one after the other, and their ends, if it was counted how long they are.
 pub(crate) fn fill<P: Placing>(pass: &mut P, from: u64, ends: &mut [u64], all: &mut [u64])
     requires counted { AreCounts (length ends.old) (onward from (P.lists pass.old)) ends.old }
     requires room { length all.old ≡ start (onward from (P.lists pass.old)) (length ends.old) }
@@ -196,7 +196,7 @@ impl Ranges {
     }
 
     /// Goes to the next range, in one pass: it ends with the list by which it has `room` numbers or more, or with the
-    /// last list. The memory of the range before is given back first. Where there is none for the next, the range is
+    /// last list. The memory of the range before is given back first. If there is none for the next, the range is
     /// empty, and stands before the same list.
     pub fn advance<P: Placing>(
         &mut self,

@@ -48,7 +48,7 @@ impl<L: Lists + Drop> Transposer<L> {
         Ok(Transposer::with_counts(alloc, lists, counts))
     }
 
-    /// The same where the arcs that lead to each page have been counted, as by [`count_arcs`](crate::count_arcs). It
+    /// The same if the arcs that lead to each page have been counted, as by [`count_arcs`](crate::count_arcs). It
     /// goes over no list, and takes no memory.
     pub fn with_counts(alloc: Global, lists: L, counts: Vec<u64>) -> Transposer<L>
         requires few_pages { (L.graph lists).nodes ≤ MOST_PAGES }
@@ -95,7 +95,7 @@ impl<L: Lists + Drop> Transposer<L> {
     }
 
     /// Goes to the next range, in one pass along the lists: it ends with the page by which it has `room` arcs or more,
-    /// or with the last page. The memory of the range before is given back first. Where there is none for the next,
+    /// or with the last page. The memory of the range before is given back first. If there is none for the next,
     /// the range is empty, and stands before the same page.
     pub fn advance(&mut self, alloc: Global, room: u64) -> Result<(), AllocError>
         ensures graph { self.new.graph ≡ self.old.graph }

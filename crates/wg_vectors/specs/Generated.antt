@@ -31,7 +31,7 @@ with_successor y d = record d { list = with_number y d.list }
 
 -- ---- the first step: members of a list close before
 
--- A draw tells whether a member is copied: not at a multiple of 8, and not where there are 64 successors.
+-- A draw tells whether a member is copied: not at a multiple of 8, and not if there are 64 successors.
 abbrev pub is_taken : Drafted → Bool
 is_taken d = not (drawn d.state % 8 == 0) && nat_lt (length d.list) 64
 

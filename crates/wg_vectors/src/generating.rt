@@ -15,7 +15,7 @@ use wg_graph::{Graph, GraphBuilder};
 /// most 78 successors, and some ten on average.
 ///
 /// It takes time in proportion to the arcs and pages, and holds the graph alone: 8 bytes for each arc and 8 for each
-/// page, and while the lists grow up to twice that. It is refused only where memory runs out.
+/// page, and while the lists grow up to twice that. It is refused only if memory runs out.
 pub fn generate(alloc: Global, seed: u64, n: u64) -> Result<Graph, AllocError>
     requires { n ≤ MOST_GENERATED }
     ensures { IfOk result (λ g. g ≡ generated seed n) }

@@ -17,12 +17,12 @@ none_where_kind : {X : Type 0} (kinds : Kinds) (k : ErrorKind) (o : Option X) �
 none_where_kind [] k o among = absurd among
 none_where_kind (x ∷ xs) k o among = refl
 
--- where clap refuses the words, nothing is parsed
+-- if clap refuses the words, nothing is parsed
 pub parsed_none : (words : List Text) (k : ErrorKind) → IsAmong k (fault_of command_app words) → parsed words ≡ None
 unfolding parsed
 parsed_none words k among = none_where_kind (fault_of command_app words) k (subcommand_of command_app words) among
 
--- where it takes them, what it found is parsed
+-- if it takes them, what it found is parsed
 pub parsed_some : (words : List Text) (found : Option (Text × List Row)) → fault_of command_app words ≡ [] → found ≡ subcommand_of command_app words → found ≡ parsed words
 unfolding parsed
 parsed_some words found none is = is ∙ sym (ap (λ (ks : Kinds). where_empty ks (subcommand_of command_app words)) none)

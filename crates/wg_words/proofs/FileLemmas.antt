@@ -9,7 +9,7 @@ use Rattle.std.proofs.lemmas.Slice.Eq.{bytes_eq-Decides}
 use Rattle.wg_words.specs.Files.{is_file_of, is_given, overwrites, IsNoFileOf, KeepsInputs, ShareNoFile}
 use Rattle.wg_outside.specs.declared.suffixes.TheConstants.{PROPERTIES, GRAPH, OFFSETS}
 
--- after the first part, the name is the whole where its rest is the second part
+-- after the first part, the name is the whole if its rest is the second part
 pub rest_decides : (name first rest second : List ℕ) → name ≡ first ++ rest → bytes_eq rest second ≡ bytes_eq name (first ++ second)
 rest_decides name first rest second is =
     let whole = bytes_eq-Decides name (first ++ second) in

@@ -190,7 +190,7 @@ pub asked_within : (words : List Text) (wanted : Option Job) (answer : Result Jo
 asked_within words wanted (Ok job) is asked = job_within words job (sym is ∙ asked)
 asked_within words wanted (Err e) is asked = tt
 
--- where the answer is that there is none, there is none
+-- if the answer is that there is none, there is none
 pub asked_none : (words : List Text) (wanted : Option Job) (answer : Result Job JobError) → wanted ≡ job_of words → IsAsked wanted answer → answer ≡ Err Usage → job_of words ≡ None
 asked_none words wanted answer is asked usage = sym is ∙ subst (IsAsked wanted) usage asked
 

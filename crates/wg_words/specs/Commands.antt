@@ -146,12 +146,12 @@ command_app =
     quotient_app)
     (conversion_app (codes "recode"))) union_app) (conversion_app (codes "transpose"))) bulk_app
 
--- nothing where the words are refused
+-- nothing if the words are refused
 abbrev pub where_empty : {X : Type 0} → Kinds → Option X → Option X
 where_empty [] o = o
 where_empty (k ∷ ks) o = None
 
--- the subcommand that the words name, with its matches; none where clap refuses the words
+-- the subcommand that the words name, with its matches; none if clap refuses the words
 unfoldable pub parsed : List Text → Option (Text × List Row)
 parsed words = where_empty (fault_of command_app words) (subcommand_of command_app words)
 

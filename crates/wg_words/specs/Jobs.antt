@@ -18,7 +18,7 @@ use Rattle.wg_params.specs.declared.layout.Layout.{Layout}
 abbrev pub show_on : List Row → Text → Option Job
 show_on rows base = option_map (Show base) (numbers_in rows (codes "page"))
 
--- the successors of the page of an archive that the words name, where the archive is not checked
+-- the successors of the page of an archive that the words name, if the archive is not checked
 abbrev pub spot_on : List Row → Text → Option Job
 spot_on rows base = option_map (Spot base) (unlimited_in rows (codes "page"))
 
@@ -44,7 +44,7 @@ rank_on rows base =
     (optional_name_in rows (codes "certificate")))
     (optional_name_in rows (codes "weights"))
 
--- the judging of a certificate against an archive, with weights if the option names them
+-- the verification of a certificate against an archive, with weights if the option names them
 abbrev pub verify_on : List Row → Text → Option Job
 verify_on rows base =
     option_and_then (λ certificate. option_map (Verify base certificate) (optional_name_in rows (codes "weights")))
@@ -161,7 +161,7 @@ job_from found =
     else if bytes_eq found.0 (codes "bulk") then bulk_in found.1
     else job_on_base found.0 found.1
 
--- the job of the words: none where clap refuses them, or where a part of the job is out of its range
+-- the job of the words: none if clap refuses them, or if a part of the job is out of its range
 abbrev pub job_of : List Text → Option Job
 job_of words = option_and_then job_from (parsed words)
 

@@ -11,7 +11,7 @@ use Rattle.wg_params.specs.declared.layout.Codes.{Codes}
 use Rattle.wg_params.specs.Parameters.{default_codes}
 use Rattle.wg_params.specs.declared.layout.Layout.{Layout}
 
--- how an archive is written where no option says otherwise
+-- how an archive is written if no option says otherwise
 abbrev pub default_layout : Layout
 default_layout = record {
   window = DEFAULT_WINDOW;
@@ -34,7 +34,7 @@ chain_or (Some text) = chain_of text
 abbrev pub chain_in : List Row → Option (Option ℕ)
 chain_in rows = chain_or (first_of (codes "chain") rows)
 
--- a shrinking factor is not 0
+-- the parameter k of zeta is not 0
 abbrev pub factor_of : ℕ → Option ℕ
 factor_of n = if n == 0 then None else Some n
 
@@ -53,14 +53,14 @@ gamma_or_delta word =
 abbrev pub unary_gamma_or_delta : Text → Option Code
 unary_gamma_or_delta word = if bytes_eq word (codes "unary") then Some Unary else gamma_or_delta word
 
--- the words for residuals; zeta is the code with this shrinking factor
+-- the words for residuals; zeta is the code with this parameter k
 abbrev pub residual_code : ℕ → Text → Option Code
 residual_code factor word =
     if bytes_eq word (codes "zeta") then Some (Zeta factor)
     else if bytes_eq word (codes "nibble") then Some Nibble
     else gamma_or_delta word
 
--- the codes that the options give, with this shrinking factor: none where a word is unknown
+-- the codes that the options give, with this parameter k of zeta: none if a word is unknown
 abbrev pub codes_in : List Row → ℕ → Option Codes
 codes_in rows factor =
     option_and_then (λ outdegrees.
@@ -84,7 +84,7 @@ codes_in rows factor =
     (unary_gamma_or_delta (word_in rows (codes "references") DEFAULT_REFERENCES.now)))
     (gamma_or_delta (word_in rows (codes "outdegrees") DEFAULT_OUTDEGREES.now))
 
--- the layout that the options give: none where one is out of its range
+-- the layout that the options give: none if one is out of its range
 abbrev pub layout_in : List Row → Option Layout
 layout_in rows =
     option_and_then (λ window.

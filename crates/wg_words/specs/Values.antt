@@ -25,11 +25,11 @@ optional_name_in rows id = name_or_none (first_of id rows)
 abbrev pub limited : ℕ → ℕ → Option ℕ
 limited most n = if nat_le n most then Some n else None
 
--- the number whose decimal the text is, where it is within the limit
+-- the number whose decimal the text is, if it is within the limit
 abbrev pub number_up_to : ℕ → Text → Option ℕ
 number_up_to most text = option_and_then (limited most) (number_of text)
 
--- the default where there is no text
+-- the default if there is no text
 abbrev pub number_or : ℕ → ℕ → Option Text → Option ℕ
 number_or default most None = Some default
 number_or default most (Some text) = number_up_to most text
@@ -46,7 +46,7 @@ required_in rows id most = option_and_then (number_up_to most) (first_of id rows
 abbrev pub unlimited_in : List Row → Text → Option ℕ
 unlimited_in rows id = option_and_then number_of (first_of id rows)
 
--- the numbers whose decimals the texts are, where each text is a decimal
+-- the numbers whose decimals the texts are, if each text is a decimal
 abbrev pub numbers_of : List Text → Option (List ℕ)
 numbers_of [] = Some []
 numbers_of (text ∷ texts) = option_and_then (λ n. option_map (λ ns. n ∷ ns) (numbers_of texts)) (number_of text)

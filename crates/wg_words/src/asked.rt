@@ -281,7 +281,7 @@ fn optional(alloc: Global, name: Option<&str>) -> Result<Option<Name>, AllocErro
     }
 }
 
-// The judging of a certificate against an archive, with weights if the option names them.
+// The verification of a certificate against an archive, with weights if the option names them.
 fn verify_on(alloc: Global, found: &ArgMatches<'_>, base: &str) -> Result<Job, JobError>
     ensures { IsAsked (verify_on (rows_of (found_of found.now)) base.now) result }
 {

@@ -24,7 +24,7 @@ pub fn unary_gamma_or_delta(word: &str) -> Option<Code>
     }
 }
 
-/// The code of residuals that the word names, in an archive of this shrinking factor.
+/// The code of residuals that the word names, in an archive with this parameter k of zeta.
 pub fn residual_code(zeta: u32, word: &str) -> Option<Code>
     ensures { result ≡ residual_code zeta word.now }
 {

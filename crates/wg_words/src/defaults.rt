@@ -16,7 +16,7 @@ pub const DEFAULT_CHAIN: u64 = 3;
 /// The least length of an interval.
 pub const DEFAULT_INTERVAL: u64 = 4;
 
-/// The shrinking factor of zeta codes.
+/// The parameter k of zeta codes.
 pub const DEFAULT_ZETA: u32 = 3;
 
 /// The word for the code of outdegrees.

@@ -5,7 +5,7 @@ ghost use Rattle.wg_words.specs.Layouts.{default_layout, layout_in};
 use crate::defaults::{DEFAULT_CHAIN, DEFAULT_INTERVAL, DEFAULT_WINDOW, DEFAULT_ZETA};
 use wg_params::{Codes, Layout};
 
-/// The layout where no option says otherwise.
+/// The layout if no option says otherwise.
 pub fn usual_layout() -> Layout
     ensures value { result ≡ default_layout }
     ensures given { layout_in [] ≡ Some result }

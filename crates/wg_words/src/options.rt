@@ -11,7 +11,7 @@ use crate::values::{number_at, number_up_to, text_at, word_at};
 use clap::ArgMatches;
 use wg_params::{Codes, Layout, MOST_CHAIN, MOST_INTERVAL, MOST_WINDOW, MOST_ZETA};
 
-/// The layout that the options of an archive that is written give: none where one is out of its range.
+/// The layout that the options of an archive that is written give: none if one is out of its range.
 pub fn layout_at(found: &ArgMatches<'_>) -> Option<Layout>
     ensures { result ≡ layout_in (rows_of (found_of found.now)) }
 {
@@ -48,7 +48,7 @@ fn chain_of(text: &str) -> Option<Option<u64>>
     Some(Some(number_up_to(text, MOST_CHAIN)?))
 }
 
-// The shrinking factor of zeta codes.
+// The parameter k of zeta codes.
 fn zeta_at(found: &ArgMatches<'_>) -> Option<u32>
     ensures { result ≡ zeta_in (rows_of (found_of found.now)) }
 {
@@ -59,7 +59,7 @@ fn zeta_at(found: &ArgMatches<'_>) -> Option<u32>
     u32::try_from(zeta).ok()
 }
 
-// The codes that the options give, with this shrinking factor: none where a word is unknown.
+// The codes that the options give, with this parameter k of zeta: none if a word is unknown.
 fn codes_at(found: &ArgMatches<'_>, zeta: u32) -> Option<Codes>
     ensures { result ≡ codes_in (rows_of (found_of found.now)) zeta }
 {

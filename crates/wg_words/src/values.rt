@@ -14,7 +14,7 @@ pub fn text_at<'a>(found: &ArgMatches<'a>, id: &str) -> Option<&'a str>
     found.get_str(id)
 }
 
-/// The name that an argument gives: none where the argument is absent or empty.
+/// The name that an argument gives: none if the argument is absent or empty.
 pub fn name_at<'a>(found: &ArgMatches<'a>, id: &str) -> Option<&'a str>
     ensures { option_map (λ s. s.now) result ≡ name_in (rows_of (found_of found.now)) id.now }
 {
@@ -30,7 +30,7 @@ fn nonempty(text: &str) -> Option<&str>
     Some(text)
 }
 
-/// The name that an option gives, if it is there: outside, none where the name is empty.
+/// The name that an option gives, if it is there: outside, none if the name is empty.
 pub fn optional_name_at<'a>(found: &ArgMatches<'a>, id: &str) -> Option<Option<&'a str>>
     ensures { option_map (option_map (λ s. s.now)) result ≡ optional_name_in (rows_of (found_of found.now)) id.now }
 {
@@ -40,7 +40,7 @@ pub fn optional_name_at<'a>(found: &ArgMatches<'a>, id: &str) -> Option<Option<&
     }
 }
 
-/// The number that an option gives: its default where the option is absent.
+/// The number that an option gives: its default if the option is absent.
 pub fn number_at(found: &ArgMatches<'_>, id: &str, default: u64, most: u64) -> Option<u64>
     ensures { result ≡ number_in (rows_of (found_of found.now)) id.now default most }
 {
@@ -74,7 +74,7 @@ pub fn required_at(found: &ArgMatches<'_>, id: &str, most: u64) -> Option<u64>
     number_up_to(text_at(found, id)?, most)
 }
 
-/// The number below 2^64 that an argument gives: none where it is absent or no decimal.
+/// The number below 2^64 that an argument gives: none if it is absent or no decimal.
 pub fn unlimited_at(found: &ArgMatches<'_>, id: &str) -> Option<u64>
     ensures { result ≡ unlimited_in (rows_of (found_of found.now)) id.now }
 {
@@ -88,7 +88,7 @@ fn texts_at<'a, 'b>(found: &'b ArgMatches<'a>, id: &str) -> Option<&'b [&'a str]
     found.get_strs(id)
 }
 
-/// The numbers that an argument of several values gives: none where it is absent, or where one of its texts is no
+/// The numbers that an argument of several values gives: none if it is absent, or if one of its texts is no
 /// number. They take 8 bytes each.
 pub fn numbers_at(
     alloc: Global,
@@ -116,7 +116,7 @@ fn numbers_of(alloc: Global, texts: &[&str]) -> Result<Option<List>, AllocError>
     Ok(Some(numbers))
 }
 
-/// The word that an option gives: its default where the option is absent.
+/// The word that an option gives: its default if the option is absent.
 pub fn word_at<'a>(found: &ArgMatches<'a>, id: &str, default: &'a str) -> &'a str
     ensures { result.now ≡ word_in (rows_of (found_of found.now)) id.now default.now }
 {

@@ -149,7 +149,7 @@ module _ (base : List ℕ) where
     writes_exit x y f h b c r e is w =
         subst (λ (z : Result (Unit {0}) Ending). WritesFiles a base first y told f h b c z) (sym (is_that_err r e is)) (record { ok = λ t. tt; err = w.err; others = w.others; only = w.only; causes = w.causes; later = w.later })
 
-  -- memory was out before a file was touched
+  -- memory ran out before a file was touched
   pub none_written : (a : Archive) (told : Bool) (y : ArchiveFiles) (f : Files) (b : List ℕ → Counts) (e : Ending) → e.status ≡ Memory → WritesFiles a base (archive_in base f) y told f f b b (Err e)
   none_written a told y f b e want = record {
     ok = λ t. tt;

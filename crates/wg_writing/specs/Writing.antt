@@ -27,7 +27,7 @@ IsArchiveOf l g made = (made.0 ≡ params_for l g) × (made.1 ≡ archive_of mad
 abbrev pub names_of : List ℕ → FileNames
 names_of base = record { properties = properties_name base; graph = graph_name base; offsets = offsets_name base }
 
--- the three files, where they hold all of the archive
+-- the three files, if they hold all of the archive
 abbrev pub whole : Archive → ArchiveFiles
 whole a = record { properties = Some a.properties; graph = Some a.graph; offsets = Some a.offsets }
 
@@ -42,7 +42,7 @@ pub record WritesFiles (a : Archive) (base : List ℕ) (first reached : ArchiveF
   pub others : IsTrue told → OthersStay (archive_named base) files files'
   -- one of the files or memory alone can stop it
   pub only : IfErr result (λ e. IsStopped e.status)
-  -- a fault is told only where the count of its file rose
+  -- a fault is reported only if the count of its file rose
   pub causes : FaultsRose base counts counts' (status_in result)
   -- no count of the depot falls
   pub later : NonDecreasing counts counts'

@@ -5,7 +5,7 @@ use super::spelling::{number_and_rest, word_and_rest};
 use std::alloc::{AllocError, Global};
 use std::{mem, str};
 
-/// How many bytes a call moves where nothing is cut. Cases that say themselves how many move are gone through once,
+/// How many bytes a call moves if nothing is cut. Cases that say themselves how many move are gone through once,
 /// with the others at this number.
 pub const WHOLE: u64 = 4096;
 
@@ -50,7 +50,7 @@ impl Drop for Cases {
 }
 
 impl Cases {
-    /// Cases in which a call moves at most so many bytes, where they do not say otherwise.
+    /// Cases in which a call moves at most so many bytes, if they do not say otherwise.
     pub fn new(alloc: Global, piece: u64) -> Cases {
         Cases {
             alloc,
@@ -199,7 +199,7 @@ impl Cases {
         Ok(!steps.is_empty())
     }
 
-    // Begins anew and does the first run once more, where the call of this kind and number fails.
+    // Begins anew and does the first run once more, if the call of this kind and number fails.
     fn fail(&mut self, rest: &str) -> Result<bool, AllocError> {
         let (call, number) = word_and_rest(rest);
         match number_and_rest(number) {

@@ -6,8 +6,8 @@
 //!
 //! | step | what it does |
 //! |---|---|
-//! | `case NAME` | begins anew, with no files; it is gone through where a call moves 4096, 3, and 1 bytes |
-//! | `pieces K` | begins anew; this case is gone through once, where a call moves at most `K` bytes |
+//! | `case NAME` | begins anew, with no files; it is gone through with calls that move 4096, 3, and 1 bytes |
+//! | `pieces K` | begins anew; this case is gone through once, with calls that move at most `K` bytes |
 //! | `let NAME STEP` | keeps a step; several may have one name |
 //! | `use NAME BASE TEXT` | does the steps of this name, with `BASE` for `$` and `TEXT` for `&` |
 //! | `text FILE TEXT`, `bits FILE BITS` | gives a file |
@@ -50,8 +50,8 @@ mod words;
 
 pub use spoiled::WRONG;
 
-/// Those that are gone through where a call moves at most 4096, 3, and 1 bytes. (A function, since the prover would take
-/// a constant of this size anew at each step beside it.)
+/// Those that are gone through with calls that move at most 4096, 3, and 1 bytes. (A function, since the prover would
+/// take a constant of this size anew at each step beside it.)
 pub fn rows() -> [&'static str; 17] {
     [
         kept::KEPT,

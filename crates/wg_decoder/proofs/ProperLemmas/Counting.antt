@@ -60,7 +60,7 @@ crowded xs g n most y there few also =
     let same : numbers_where (λ z. is_in z xs || g z) 0 n ≡ numbers_where (λ z. is_in z (removed y xs) || g z) 0 n = where_same (λ z. is_in z xs || g z) (λ z. is_in z (removed y xs) || g z) 0 n (λ z low high. in_removed y z n xs g also there (omega (arith, high))) in
     omega (arith, few, ap (λ (l : List ℕ). length l) same, many_or (λ z. is_in z (removed y xs)) g 0 n, many_in (removed y xs) 0 n, removed_count y xs there)
 
--- where none is too many
+-- if none is too many
 pub record Alone (xs : List ℕ) (g : ℕ → Bool) (n : ℕ) : Type 0 where
   pub below : (y : ℕ) → is_in y xs ≡ true → y < n
   pub only : (y : ℕ) → is_in y xs ≡ true → g y ≡ false
@@ -195,7 +195,7 @@ union_is xs ys zs n up_xs up_ys up_zs all =
     all_is (union_of xs (union_of ys zs)) xs ys zs n (union_ascends 0 xs (union_of ys zs) up_xs (union_ascends 0 ys zs up_ys up_zs))
     (λ y. in_union y xs (union_of ys zs) ∙ ap (λ (b : Bool). is_in y xs || b) (in_union y ys zs) ∙ sym (group_first (is_in y xs) (is_in y ys) (is_in y zs))) all
 
--- also where the first two come first
+-- also if the first two come first
 joined_is : (xs ys zs : List ℕ) (n : ℕ) → Ascends 0 xs → Ascends 0 ys → Ascends 0 zs → many (any_of xs ys zs) 0 n ≡ length xs + length ys + length zs → union_of (union_of xs ys) zs ≡ numbers_where (any_of xs ys zs) 0 n
 joined_is xs ys zs n up_xs up_ys up_zs all =
     all_is (union_of (union_of xs ys) zs) xs ys zs n (union_ascends 0 (union_of xs ys) zs (union_ascends 0 xs ys up_xs up_ys) up_zs)

@@ -37,7 +37,7 @@ same_means : (page : ℕ) (past : Option ℕ) (l v w : ℕ) → v ≡ w → (lea
 same_means page None l v w is least n z mid i same = ap (number_of_gap page None) (sym (same ∙ is)) ∙ i.left_is
 same_means page (Some p) l v w is least n z mid i same = ap (number_of_gap page (Some p)) (sym (same ∙ is)) ∙ i.left_is
 
--- the next interval, where the words of its two values were read
+-- the next interval, if the words of its two values were read
 pub record Interval (page least count : ℕ) (all : List ℕ) (behind : List Bool) (index : ℕ) (past : Option ℕ) (row members : List ℕ) (z : List Bool) : Type 0 where
   pub left : ℕ
   pub len : ℕ
@@ -119,7 +119,7 @@ interval_taken page least count all behind index past row members z mid new v w 
       up = range_ascends first first (w + least) (numbers_inside h.lefts h.lengths) (omega arith) (later_ascend page least (first + (w + least)) h.lefts h.lengths new behind stand);
     }
 
--- where the members below it and its numbers were added
+-- if the members below it and its numbers were added
 pub covered_more : (page least count : ℕ) (all : List ℕ) (behind : List Bool) (index : ℕ) (row members mid left more : List ℕ) (new : List Bool) (first run : ℕ) → ((others : List ℕ) → Ascends first others → Joining all row members others → Added all mid left others first) → more ≡ mid ++ range_with_len first run
     → Taken page least count all behind index row members new first run → Covered page least count all behind (index + 1) (Some (first + run)) more left new
 covered_more page least count all behind index row members mid left more new first run moves more_is h =

@@ -73,7 +73,7 @@ members_joined all row new members left others bound t first up h =
     let g = below_joined t.0 all row left others bound t.1 up (subst (λ (l : List ℕ). Joining all row l others) t.2 h) in
     record { on = subst (λ (r : List ℕ). Joining all r left others) (sym t.3) g; up = ascends_from bound left first g.joinable.members_ascend }
 
--- ---- another number, where no member is below it
+-- ---- another number, if no member is below it
 
 pub given_number : (all row members coming left : List ℕ) (x : ℕ) → coming ≡ x ∷ left → Joining all row members coming → Joining all row members (x ∷ left)
 given_number all row members coming left x is h = subst (λ (l : List ℕ). Joining all row members l) is h

@@ -35,7 +35,7 @@ behind_on c is page last (y ∷ ys) z behind h = ap (λ (l : List Bool). behind_
 pub behind_all : (c : Code) → IsCode c → (page : ℕ) (last : Option ℕ) (n : ℕ) (ys : List ℕ) (z behind : List Bool) → length ys ≡ n → ResidualsTo c page last ys z behind → behind_values c n z ≡ behind
 behind_all c is page last n ys z behind len h = subst (λ (k : ℕ). behind_values c k z ≡ behind) len (behind_on c is page last ys z behind h)
 
--- none where none is left
+-- none if none is left
 pub none_at : (c : Code) (page : ℕ) (last : Option ℕ) (n : ℕ) (z : List Bool) → n ≡ 0 → residuals_at c page last n z ≡ []
 unfolding residuals_at
 none_at c page last zero z none = refl
@@ -75,7 +75,7 @@ given c is page last n old new w number takes some is_number (y ∷ ys, end, len
     ∙ ap (λ (l : List Bool). y ∷ residuals_at c page (Some y) (n - 1) l) e.1
     ∙ ap (λ (k : ℕ). k ∷ residuals_at c page (Some k) (n - 1) new) (same_number c page last y number old new h.0 w takes is_number h.1)
 
--- what stands behind all of them stays where one is given
+-- what stands behind all of them stays if one is given
 pub behind_same : (c : Code) → IsCode c → (page : ℕ) (last : Option ℕ) (n : ℕ) (old new : List Bool) (w : ℕ) → Takes c old new w → 0 < n → Left c page last n old → behind_values c n old ≡ behind_values c (n - 1) new
 unfolding behind_values
 behind_same c is page last n old new w takes some ([], end, len, h) = absurd (omega (arith, some, len))
@@ -84,7 +84,7 @@ behind_same c is page last n old new w takes some (y ∷ ys, end, len, h) =
     let count : n ≡ suc (n - 1) = omega (arith, some) in
     ap (λ (k : ℕ). behind_values c k old) count ∙ ap (λ (l : List Bool). behind_values c (n - 1) l) (behind_is c is h.1.v old h.0 h.1.word ∙ e.1)
 
--- where no residual is left, these are the bits that stand there
+-- if no residual is left, these are the bits that stand there
 pub behind_none : (c : Code) (page : ℕ) (last : Option ℕ) (n : ℕ) (z : List Bool) → residuals_at c page last n z ≡ [] → behind_values c n z ≡ z
 unfolding behind_values residuals_at
 behind_none c page last zero z none = refl

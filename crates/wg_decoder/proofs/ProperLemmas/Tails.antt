@@ -58,7 +58,7 @@ end_within k l v least n most within few last = omega arith
 
 -- ---- residuals
 
--- the last one, where there is one
+-- the last one, if there is one
 abbrev pub last_one : List ℕ → Option ℕ
 last_one [] = None
 last_one (x ∷ xs) = Some (last_of (x ∷ xs))

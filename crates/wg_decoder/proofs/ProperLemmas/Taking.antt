@@ -18,7 +18,7 @@ Takes c old new w = (v : ℕ) (behind : List Bool) → IsWord c v old behind →
 pub takes_from : (c : Code) (p q : Position) (new : List Bool) (w : ℕ) → q ≡ p → Takes c (rest q) new w → Takes c (rest p) new w
 takes_from c p q new w e takes = subst (λ x. Takes c (rest x) new w) e takes
 
--- where not all of the words that stand there were taken, one comes next
+-- if not all of the words that stand there were taken, one comes next
 pub word_at : (code : Code) (count : ℕ) (behind : List Bool) (index : ℕ) (z : List Bool) (todo : List ℕ) → index < count → length todo + index ≡ count → WordsTo code todo z behind → (v : ℕ) × (y : List Bool) × IsWord code v z y
 word_at code count behind index z [] lt more stand = absurd (omega (arith, lt, more))
 word_at code count behind index z (v ∷ vs) lt more stand = (v, stand.0, stand.1)

@@ -86,7 +86,7 @@ fields_near : (p : Parameters) (c : Context) (bits : List Bool) (s : SoFar) (at 
 fields_near p c bits s at [] t end h near = near_of p c s t h.0 near
 fields_near p c bits s at (v ∷ vs) t end h near = fields_near p c bits h.0 h.1 vs t end h.3 (stands_near (next p c s) p c bits s at v h.1 h.0 h.2 near)
 
--- ---- the same fields, judged against one list
+-- ---- the same fields, validated against one list
 
 same_after : (p : Parameters) (c : Context) (below : Option (List ℕ)) (s : SoFar) (f : Field) (v : ℕ) → after p c s f v ≡ after (unlimited p) (context_on p c.page below) s f v
 unfolding after
@@ -150,7 +150,7 @@ fields_same p c below bits s at (v ∷ vs) t end e h =
     let here : SameSource p c below s = same_source p c below s t (fields_keep p c bits s at (v ∷ vs) t end h) e in
     (h.0, h.1, subst (λ (m : Need). Stands m (unlimited p) (context_on p c.page below) bits s at v h.1 h.0) (same_next p c below s here) (stands_same (next p c s) p c below bits s at v h.1 h.0 here h.2), fields_same p c below bits h.0 h.1 vs t end e h.3)
 
--- the list that a reference names, where it is one
+-- the list that a reference names, if it is one
 abbrev pub below_of : Context → ℕ → Option (List ℕ)
 below_of c zero = None
 below_of c (suc r) = Some (referenced c.behind (suc r))

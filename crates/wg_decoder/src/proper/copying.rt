@@ -11,7 +11,7 @@ use super::lookahead::{Lookahead, value};
 use wg_graph::Row;
 use wg_params::Code;
 
-// Adds the first of the members, so many, where this is the first run, or the second from there, and so on.
+// Adds the first of the members, so many, if this is the first run, or the second from there, and so on.
 #[inline(always)]
 fn keep(row: &mut Row, members: &[u64], count: usize, index: u64)
     requires within { count ≤ length members.now }

@@ -35,7 +35,7 @@ fn is_lent(below: Option<&[u64]>) -> bool
     }
 }
 
-/// The same as [`decode_into`](crate::proper::decode_into), where the record's head has been read: whoever asks for the
+/// The same as [`decode_into`](crate::proper::decode_into), if the record's head has been read: whoever asks for the
 /// reference first has it at hand.
 pub fn decode_behind<'a>(
     params: &Params,
@@ -84,7 +84,7 @@ pub fn decode_behind<'a>(
 /// ([`reference`](crate::proper::reference) tells). The row has room for the list.
 ///
 /// It takes no memory, and the time of the record's words, of the members that are copied, and of the list: a number of
-/// it is written five times at most, since it waits and is put back where intervals or residuals are joined to it. Each
+/// it is written five times at most, since it waits and is put back if intervals or residuals are joined to it. Each
 /// word is read once.
 pub fn decode_into(
     params: &Params,

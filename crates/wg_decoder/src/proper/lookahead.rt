@@ -65,7 +65,7 @@ impl<'a> Lookahead<'a> {
         self.cursor.remaining()
     }
 
-    // Loads bits where few are at hand.
+    // Loads bits if few are at hand.
     #[inline(always)]
     fn look(&mut self)
         ensures { self.new ≡ self.old }
@@ -77,7 +77,7 @@ impl<'a> Lookahead<'a> {
     }
 }
 
-/// Reads a value whose word stands at the cursor. Where the bits at hand tell it, no test is left of whether it is cut.
+/// Reads a value whose word stands at the cursor. If the bits at hand tell it, no test is left of whether it is cut.
 #[inline(always)]
 pub fn value(code: Code, cursor: &mut Lookahead<'_>) -> u64
     requires code { IsCode code }

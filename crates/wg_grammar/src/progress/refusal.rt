@@ -9,7 +9,7 @@ impl Progress {
     ghost use Rattle.wg_grammar.specs.Steps.{within, left_of, residual_of, refusal_of};
     ghost use Rattle.wg_grammar.specs.declared.fault.Field.{Field};
 
-    // The number, where it is a page.
+    // The number, if it is a page.
     fn within(&self, number: u64) -> Option<u64>
         ensures { result ≡ within self.now.params (Some number) }
     {
@@ -37,7 +37,7 @@ impl Progress {
         }
     }
 
-    // The left end that the value stands for, where it is a page.
+    // The left end that the value stands for, if it is a page.
     pub(super) fn left(&self, value: u64) -> Option<u64>
         ensures { result ≡ within self.now.params (left_of self.now value) }
     {
@@ -50,7 +50,7 @@ impl Progress {
         self.within(self.last_left + self.last_length + 1 + value)
     }
 
-    // The residual that the value stands for, where it is a page.
+    // The residual that the value stands for, if it is a page.
     pub(super) fn residual(&self, value: u64) -> Option<u64>
         ensures { result ≡ within self.now.params (residual_of self.now value) }
     {

@@ -22,7 +22,7 @@ fn packed(text: &[u8]) -> [u8; 16] {
     bytes
 }
 
-// The code, where it is one that the calls take.
+// The code, if it is one that the calls take.
 fn tried(code: Code) -> Option<Code>
     ensures { IfSome result (λ code. IsCode code) }
 {

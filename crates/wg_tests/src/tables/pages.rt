@@ -25,14 +25,14 @@ fn copies(alloc: Global) -> Result<Vec<u8>, AllocError> {
     bytes_of(alloc, bits.as_str())
 }
 
-// Their parameters, where references may lead on without end.
+// Their parameters, if references may lead on without end.
 fn endless() -> Result<Params, BadParam> {
     let layout = usual(257, 514, 7, 0, 4)?.layout();
     let chain = None;
     Params::with_layout(257, 514, Layout { chain, ..layout })
 }
 
-// How many references lead on from a page, where they are too many for it to be opened.
+// How many references lead on from a page, if they are too many for it to be opened.
 fn too_deep<L: Ledger>(
     alloc: Global,
     archive: &Archive<'_>,

@@ -1,6 +1,6 @@
 //! Properties texts.
 
-/// Texts that say the same, and what is told of others. Each text has the end that is named.
+/// Texts that say the same, and what is reported of others. Each text has the end that is named.
 pub const PROPERTIES: &str = r"
 let same text $.properties #BVGraph properties|graphclass=it.unimi.dsi.webgraph.BVGraph|version=0|arcs=4|\
     windowsize=7|maxrefcount=3|minintervallength=4|zetak=3|compressionflags=|&

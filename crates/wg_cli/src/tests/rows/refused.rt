@@ -220,7 +220,7 @@ refuses 9 wg: g.offsets: word 0 cut|
 
 ";
 
-/// What is said of properties, and where files are not there or too long.
+/// What is said of properties, and if files are not there or too long.
 pub const UNREAD: &str = r"
 case properties in another spelling
 text g.properties graphclass = class it.unimi.dsi.webgraph.BVGraph%0D|version=0%0D|nodes=9%0D|# Thu Nov 26%0D|\

@@ -10,7 +10,7 @@ statos 0
 each read 1 to 1 refuses 5 wg: read failed: g.properties|
 ";
 
-/// What is told of them.
+/// What is reported of them.
 pub const WRONG: &str = r"spoiled: prints 2 0|
 status 0, printed:
 2

@@ -1,6 +1,6 @@
 //! Creates and appends that fail, each once.
 
-/// What stands where an archive h is stopped.
+/// What stands when an archive h is stopped.
 pub const FILES: &str = r"
 # The files are created in this order, and then written: the graph, the offsets, and last the properties.
 let stops failing create 1

@@ -1,6 +1,6 @@
 //! Words that ask for a job, and words that do not.
 
-/// Each over no files: a job misses its first input, and where there is no job the words are refused.
+/// Each over no files: a job misses its first input, and if there is no job the words are refused.
 pub const WORDS: &str = r"
 case words that are a job
 use misses g.properties check g

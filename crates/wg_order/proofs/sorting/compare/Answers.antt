@@ -3,7 +3,7 @@ use Rattle.std.proofs.Common.{Ordering, Less, Equal, Greater, ◌≡◌, ◌∙�
 use Rattle.wg_rank.specs.Intervals.{by_page}
 use Rattle.wg_order.proofs.sorting.compare.Goals as goal
 
--- one comparison, and another where it is equal
+-- one comparison, and another if it is equal
 then_is : (Q : Type 0) (a b r : Ordering) → MatchOrdering a (r ≡ Less) Q (r ≡ Greater) → (Q → r ≡ b) → r ≡ ordering_then a b
 then_is Q Less b r m f = m
 then_is Q Equal b r m f = f m

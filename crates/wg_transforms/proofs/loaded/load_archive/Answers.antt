@@ -171,7 +171,7 @@ module _ (base : List ℕ) (td : Bool) (files : Files) (counts : List ℕ → Co
           later = none_falls-trans _ _ _ (none_falls-trans _ _ _ l.later b.later) o.reads.later;
         }
 
-      -- both files were judged, or one of them ends it
+      -- both files were validated, or one of them ends it
       not_judged : (files' : Files) (counts' : List ℕ → Counts) (e : Ending) → JudgesArchive base p slice td files2 files' counts2 counts' (Err e) → LoadsArchive base td files files' counts counts' (Err e)
       not_judged files' counts' e j = by_file j.ends
         where

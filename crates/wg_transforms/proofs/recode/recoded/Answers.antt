@@ -39,7 +39,7 @@ module _ (base : List ℕ) (p : Parameters) (td : Bool) (files files' : Files) (
     nodes = tt;
   }
 
-  -- memory was out
+  -- memory ran out
   graph_wants : files' ≡ files → NonDecreasing counts counts' → e.status ≡ Memory → LoadsGraph base p td files files' counts counts' (Err e)
   graph_wants same later want = record { reads = reads_want _ _ _ _ _ _ _ _ _ e want same later; goes = λ t r next. inr (subst IsHindrance (sym want) tt); nodes = tt }
 
