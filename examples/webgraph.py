@@ -7,9 +7,9 @@
     print(first.page, float(first.low), float(first.high - first.low))
     gap = web.verify("web.ranks")
 
-Each call runs the program once. Options are named as those of its commands: `rank(damping=500)` is `rank --damping=500`.
-The program is the script `webgraph` of this repository, or what WEBGRAPH in the environment names. `arcs` and `pieces`
-need numpy, and `csr` needs scipy; nothing else is needed.
+Each call runs the program once. Options are named as those of its commands: `rank(damping=500)` is
+`rank --damping=500`. The program is the script `webgraph` of this repository, or what WEBGRAPH in the environment
+names. `arcs` and `pieces` need numpy, and `csr` needs scipy; nothing else is needed.
 """
 
 import os
