@@ -5,6 +5,15 @@ use Rattle.wg_outcomes.proofs.PerformsLemmas.{faultless}
 use Rattle.wg_cli.proofs.SteadyLemmas.{no_read_fault, no_write_fault, only_wants}
 use Rattle.wg_cli.proofs.steady.run_in_memory.Goals as goal
 
+pub returns-clause-usage : goal.returns-clause-usage
+returns-clause-usage c = c.run.ensures.usage
+
+pub returns-clause-no_job : goal.returns-clause-no_job
+returns-clause-no_job c = c.run.ensures.no_job
+
+pub returns-clause-no_output : goal.returns-clause-no_output
+returns-clause-no_output c = c.run.ensures.no_output
+
 pub returns-clause-answers : goal.returns-clause-answers
 returns-clause-answers c = λ r job is. c.run.ensures.complete refl r job is (faultless _ _ (λ n. (refl, refl, refl, refl)))
 
@@ -26,3 +35,9 @@ returns-clause-files c = λ r job is. c.run.ensures.files refl r job is
 
 pub returns-clause-line : goal.returns-clause-line
 returns-clause-line c = let told = c.run.ensures.line refl in (told.0, told.1 refl, only_wants _ _ _ _ told.2)
+
+pub returns-clause-same : goal.returns-clause-same
+returns-clause-same c = c.run.ensures.same
+
+pub returns-clause-quiet : goal.returns-clause-quiet
+returns-clause-quiet c = c.run.ensures.quiet
