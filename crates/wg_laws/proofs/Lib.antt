@@ -3,6 +3,7 @@ pub mod ClaimLemmas
 pub mod ConversionLemmas
 pub mod HeldLemmas
 pub mod ImportLemmas
+pub mod OutcomeLemmas
 pub mod QuotientLemmas
 pub mod RoundsLemmas
 pub mod SpottedLemmas

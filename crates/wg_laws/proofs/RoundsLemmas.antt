@@ -5,7 +5,8 @@ use Rattle.wg_graph.specs.Digraph.{Digraph}
 use Rattle.wg_rank.specs.Rank.{high, low, total}
 use Rattle.wg_rank.specs.Intervals.{Intervals, by_page}
 use Rattle.wg_rank.specs.Weights.{weights_of}
-use Rattle.wg_rank.proofs.Pageranks.{high_falls, low_rises}
+use Rattle.wg_rank.proofs.Certificates.{gap_of}
+use Rattle.wg_rank.proofs.Pageranks.{gap_shrinks, high_falls, low_rises}
 use Rattle.wg_words.specs.declared.jobs.Job.TheVariants.{Rank}
 use Rattle.wg_outcomes.specs.Judged.{Judged, output_of, status_of, weights_then}
 use Rattle.wg_outcomes.specs.Ranked.{bounds_after, ranking_text}
@@ -73,4 +74,7 @@ more_narrow r held base fewer more damping top weights certificate le damped don
             rw ((bounds_hold g given fewer damping).high_is.each v lt, (bounds_hold g given more damping).high_is.each v lt)
             (falls (λ k. high g damping w k v) (λ k. high_falls g damping w behind.proper (omega (arith, damped)) (omega arith) (some (omega arith)) k v) fewer more le);
       };
+      gap = λ next so.
+          rw (gap_of (bounds_after g given damping more) g (bounds_hold g given more damping), gap_of (bounds_after g given damping fewer) g (bounds_hold g given fewer damping), next)
+          (gap_shrinks g damping w behind.proper (omega (arith, damped)) so (some so) fewer);
     }

@@ -1,5 +1,6 @@
 pub mod Built
 pub mod Certificates
+pub mod Judgements
 pub mod Quotients
 pub mod Rounds
 pub mod Spotted

@@ -1,8 +1,9 @@
 -- What is proved of a ranking after more rounds.
-use Rattle.std.specs.Prelude.{◌≡◌, ℕ, ◌<◌, ◌≤◌, List, Option}
+use Rattle.std.specs.Prelude.{◌≡◌, ℕ, ◌+◌, ◌*◌, ◌<◌, ◌≤◌, List, Option}
 use Rattle.wg_params.specs.declared.limits.TheConstants.{MOST_DAMPING}
-use Rattle.wg_graph.specs.Digraph.{Digraph}
+use Rattle.wg_graph.specs.Digraph.{Digraph, arc_count}
 use Rattle.wg_rank.specs.Intervals.{Intervals, by_page}
+use Rattle.wg_rank.specs.Rank.{gap}
 use Rattle.wg_words.specs.declared.jobs.Job.TheVariants.{Rank}
 use Rattle.wg_outcomes.specs.Judged.{output_of, status_of}
 use Rattle.wg_outcomes.specs.Ranked.{HoldGraph, HoldWeights, bounds_after, ranking_text}
@@ -30,6 +31,11 @@ pub record ArePrintedInside (r : Readings) (held : Input → Option (List ℕ)) 
   pub more_printed : output_of (judged r (Rank base more damping top weights certificate) held) ≡ ranking_text r
       (bounds_after graph given damping more) top
   pub inside : AreInside graph.nodes (bounds_after graph given damping more) (bounds_after graph given damping fewer)
+  -- a single round more shrinks the gap by the damping, but for what is rounded
+  pub gap : more ≡ fewer + 1 → 0 < graph.nodes
+      → 1000 * gap graph (by_page (bounds_after graph given damping more).low)
+      ≤ damping * gap graph (by_page (bounds_after graph given damping fewer).low) + damping * arc_count graph
+      + 3 * 1000 * graph.nodes
 
 -- They are for all files of which a ranking is printed.
 abbrev pub MoreRoundsNarrow : Readings → Type 0

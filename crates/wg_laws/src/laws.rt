@@ -4,6 +4,7 @@ ghost use Rattle.wg_laws.specs.Built.{BuildsAreAccepted, BuiltAreAccepted, Conve
 ghost use Rattle.wg_laws.specs.Certificates.{AcceptedAreProven, WrittenAreAccepted};
 ghost use Rattle.wg_outcomes.specs.Readings.{Readings, ReadingsAreOne};
 ghost use Rattle.wg_outcomes.specs.Ranked.{RankingIsProven};
+ghost use Rattle.wg_laws.specs.Judgements.{JudgementsAreOne};
 ghost use Rattle.wg_laws.specs.Quotients.{QuotientsAreAccepted};
 ghost use Rattle.wg_laws.specs.Rounds.{MoreRoundsNarrow};
 ghost use Rattle.wg_laws.specs.Spotted.{SpotsAreShown};
@@ -12,10 +13,12 @@ ghost use Rattle.wg_laws.specs.Unions.{UnionsAreAccepted};
 /// There are functions that give for all parameters and all bytes the graph or the places that they stand for or
 /// their first fault, for all pages what they are by their chain of references alone, for all bounds their ranking, and
 /// for all arc lists and all plain texts their graph or their first faulty line; within the limits of the parameters
-/// there is only one of each. So a clause about each such six speaks of these, and is never empty.
+/// there is only one of each, and a job comes to the same by any two such six. So a clause about each six speaks of one
+/// status, one output and one set of files, and is never empty.
 pub fn readings()
     ensures some { Readings }
     ensures one { ReadingsAreOne }
+    ensures outcome { JudgementsAreOne }
 {}
 
 /// What is proved of every ranking: its intervals enclose each exact iterate from its rounds on, within the stated

@@ -50,7 +50,7 @@ kept_round b c k d r more w l h i old low high e m q t u = record {
 
 -- ---- what they certify
 
-gap_of : (b : Intervals) (g : Digraph) → Holds b g → gap g (by_page b.low) ≡ gap g (low g b.damping (by_page b.weights) b.rounds)
+pub gap_of : (b : Intervals) (g : Digraph) → Holds b g → gap g (by_page b.low) ≡ gap g (low g b.damping (by_page b.weights) b.rounds)
 gap_of b g o = ap (λ x. UNITS - x) (sum_same g.nodes (by_page b.low) (low g b.damping (by_page b.weights) b.rounds) o.low_is.each)
 
 some_weight : (b : Intervals) (g : Digraph) → AreBounds b → Holds b g → 0 < g.nodes → 0 < total g (by_page b.weights)

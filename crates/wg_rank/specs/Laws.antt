@@ -1,7 +1,7 @@
 -- What holds of exact iterates and of bounds, for every graph.
-use Rattle.std.specs.Prelude.{ℕ, ◌≡◌, ◌<◌, ◌≤◌, ◌↔◌, List, length, Result, Ok, Err}
+use Rattle.std.specs.Prelude.{ℕ, ◌+◌, ◌*◌, ◌≡◌, ◌<◌, ◌≤◌, ◌↔◌, List, length, Result, Ok, Err}
 use Rattle.wg_num.specs.Lines.{lines_of}
-use Rattle.wg_graph.specs.Digraph.{Digraph, IsGraph}
+use Rattle.wg_graph.specs.Digraph.{Digraph, IsGraph, arc_count}
 use Rattle.wg_rank.specs.Rank.{total, gap, numerator, denominator, EnclosesStationary}
 use Rattle.wg_rank.specs.Intervals.{Intervals, AreBounds, Holds, by_page}
 use Rattle.wg_rank.specs.Claims.{Claim, IsClaim, Rises}
@@ -28,6 +28,13 @@ BoundsAreOne =
     (b c : Intervals) (g : Digraph) → Holds b g → Holds c g → c.damping ≡ b.damping → c.weights ≡ b.weights
     → c.rounds ≡ b.rounds
     → (c.low ≡ b.low) × (c.high ≡ b.high)
+
+-- One round more leaves a narrower gap.
+abbrev pub GapsNarrow : Type 0
+GapsNarrow =
+    (b c : Intervals) (g : Digraph) → IsGraph g → AreBounds b → Holds b g → Holds c g → c.damping ≡ b.damping
+    → c.weights ≡ b.weights → c.rounds ≡ b.rounds + 1 → 0 < g.nodes
+    → 1000 * gap g (by_page c.low) ≤ b.damping * gap g (by_page b.low) + b.damping * arc_count g + 3 * 1000 * g.nodes
 
 -- Lower bounds that a round does not lower enclose each stationary vector, with what they leave of 1.
 abbrev pub RisingBoundsEnclose : Type 0

@@ -1,4 +1,4 @@
-ghost use Rattle.wg_rank.specs.Laws.{SharesAddUp, BoundsAreCertified, BoundsAreOne, RisingBoundsEnclose, LowerBoundsRise, ClaimsReadBack, ClaimsAreThose, FaultsAreFirst, OutcomesAreOne};
+ghost use Rattle.wg_rank.specs.Laws.{SharesAddUp, BoundsAreCertified, BoundsAreOne, GapsNarrow, RisingBoundsEnclose, LowerBoundsRise, ClaimsReadBack, ClaimsAreThose, FaultsAreFirst, OutcomesAreOne};
 
 /// The shares of each exact iterate add up to 1.
 pub fn iterates()
@@ -6,10 +6,12 @@ pub fn iterates()
 {}
 
 /// Bounds that hold of a graph enclose its exact iterates and stationary vectors, within a stated width; and they are
-/// the same by whatever lists of the graph they were found.
+/// the same by whatever lists of the graph they were found. What the lower bounds leave of 1, the gap, shrinks from round
+/// to round by the damping, but for what is rounded: less than a unit for each arc and three for each page.
 pub fn bounds()
     ensures certified { BoundsAreCertified }
     ensures one { BoundsAreOne }
+    ensures narrower { GapsNarrow }
 {}
 
 /// Lower bounds that a round does not lower enclose every stationary vector, with what they leave of 1, and those that
