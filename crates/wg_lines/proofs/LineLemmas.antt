@@ -1,9 +1,8 @@
 -- Lines of a file that is read in pieces.
-use Rattle.std.proofs.Common.{◌≡◌, inl, inr, ℕ, ◌+◌, ◌-◌, ◌<◌, ◌≤◌, Bool, true, false, cond, List, [], ◌∷◌, ◌++◌, length, map, take, drop, refl, sym, ap, ◌∙◌, arith, append_assoc, length-append, length-drop}
-use Rattle.std.specs.List.{slice_split, onto_first, copy_within}
+use Rattle.std.proofs.Common.{◌≡◌, inl, inr, ℕ, ◌+◌, ◌<◌, ◌≤◌, Bool, true, false, cond, List, [], ◌∷◌, ◌++◌, length, map, take, drop, refl, sym, ap, ◌∙◌, arith, append_assoc, length-append}
+use Rattle.std.specs.List.{slice_split, onto_first}
 use Rattle.std.specs.Str.Lines.{strip_carriage_return}
-use Rattle.std.proofs.lemmas.List.{append-nil, drop_all, drop-drop, map-append, take_all, take-append-drop}
-use Rattle.std.proofs.lemmas.List.Edits.{take-paste}
+use Rattle.std.proofs.lemmas.List.{append-nil, drop_all, drop-drop, map-append, take-append-drop}
 use Rattle.std.proofs.lemmas.List.Splits.{length-slice_split}
 use Rattle.wg_outside.specs.declared.limits.TheConstants.{MOST_BYTES}
 use Rattle.wg_num.specs.Lines.{lines_of, without_empty_end}
@@ -48,14 +47,6 @@ after_whole xs ys (inr end) =
     ap (λ (l : List ℕ). lines_of (l ++ ys)) end.1 ∙ ap lines_of (append_assoc end.0 (10 ∷ []) ys) ∙ after_end end.0 ys ∙ ap (λ (l : List (List ℕ)). l ++ lines_of ys) (sym alone)
 
 -- ---- what is held
-
--- the first bytes are let go
-pub front_dropped : (bytes : List ℕ) (k : ℕ) → k ≤ length bytes → take (length bytes - k) (copy_within bytes k (length bytes) 0) ≡ drop k bytes
-front_dropped bytes k few =
-    let n : ℕ = length bytes - k in
-    let none : n ≡ 0 + n = omega arith in
-    ap (λ m. take m (copy_within bytes k (length bytes) 0)) none ∙ take-paste bytes 0 (drop k bytes) n (omega arith) (omega (arith, length-drop k bytes))
-    ∙ take_all n (drop k bytes) (omega (arith, length-drop k bytes))
 
 -- the lines that were lent are passed
 pub passed_ahead : (file : List ℕ) (g h : Held) → h ≡ record g { first = g.first + length g.lines; lines = [] } → lines_after file g ≡ lines_ahead file h

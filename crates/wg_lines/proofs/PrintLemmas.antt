@@ -43,12 +43,24 @@ less_before a c waited t u h = record {
   bytes = sym (append_assoc waited t u) ∙ ap (λ (l : List ℕ). l ++ u) h.bytes ∙ append_assoc h.out h.left u;
 }
 
--- room is made for a text, which waits then
-pub held : (a b waited mid waits t : List ℕ) → HasPrinted a b waited [] mid → waits ≡ mid ++ t → HasPrinted a b waited t waits
-held a b waited mid waits t h is = printed_more a b b waited mid waits [] t h (kept b mid t waits is)
-
 pub less_held : (a c waited t : List ℕ) → HasPrintedLess a c waited [] → HasPrintedLess a c waited t
 less_held a c waited t h = less_before a c waited [] t h
+
+-- a text is printed, and then another one is
+pub prints_after : {E : Type 0} (a b c waited mid waits t u : List ℕ) (r : Result (Unit {0}) E) → HasPrinted a b waited t mid → Prints u b c mid waits r → Prints (t ++ u) a c waited waits r
+prints_after a b c waited mid waits t u (Ok done) h g = printed_more a b c waited mid waits t u h g
+prints_after a b c waited mid waits t u (Err e) h g = less_after a b c waited mid t u h g
+
+-- three texts, of which the first or the second was not printed, or of which the third is printed last
+pub less_first : (a b waited t u v : List ℕ) → HasPrintedLess a b waited t → HasPrintedLess a b waited (t ++ u ++ v)
+less_first a b waited t u v h = less_before a b waited (t ++ u) v (less_before a b waited t u h)
+
+pub less_second : (a b c waited mid t u v : List ℕ) → HasPrinted a b waited t mid → HasPrintedLess b c mid u → HasPrintedLess a c waited (t ++ u ++ v)
+less_second a b c waited mid t u v h g = less_before a c waited (t ++ u) v (less_after a b c waited mid t u h g)
+
+pub prints_third : {E : Type 0} (a b c d waited mid next waits t u v : List ℕ) (r : Result (Unit {0}) E) → HasPrinted a b waited t mid → HasPrinted b c mid u next → Prints v c d next waits r
+    → Prints (t ++ u ++ v) a d waited waits r
+prints_third a b c d waited mid next waits t u v r h g k = prints_after a c d waited next waits (t ++ u) v r (printed_more a b c waited mid next t u h g) k
 
 -- ---- what a sink has taken
 

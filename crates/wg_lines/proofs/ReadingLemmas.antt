@@ -2,10 +2,7 @@
 use Rattle.std.proofs.Common.{◌≡◌, ◌≢◌, ℕ, ◌+◌, ◌≤◌, ◌==◌, ◌<◌, Bool, true, false, not, ne_eqb, List, [], ◌∷◌, length, refl, ap, ◌∙◌, subst, arith, Option, Some, None, Result, Ok, Err}
 use Rattle.wg_outside.specs.declared.limits.TheConstants.{MOST_BYTES}
 use Rattle.wg_outside.specs.declared.whole.LoadError.{LoadError}
-use Rattle.wg_outside.specs.declared.whole.LoadError.TheVariants as load
-use Rattle.wg_outside.specs.Outside.{Increased}
 use Rattle.wg_outside.specs.Reads.{Reads, IsPieceOf}
-use Rattle.wg_outside.proofs.PutsLemmas.{rose_on}
 use Rattle.wg_num.specs.Lines.{lines_of}
 use Rattle.wg_lines.specs.Reading.{Held, IsReadable, lines_ahead}
 
