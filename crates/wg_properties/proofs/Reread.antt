@@ -133,9 +133,6 @@ pub none_continued : (n : ℕ) (ps : List (Key × List ℕ)) → AreValues ps �
 none_continued n [] are = refl
 none_continued n (p ∷ ps) are = cond-false (is_continued (line_of p)) (Some n) (position_from is_continued (n + 1) (map line_of ps)) (not_continued (line_of p) (plain_line p.0 p.1 are.0)) ∙ none_continued (n + 1) ps are.1
 
-abbrev named : Key × List ℕ → List ℕ × List ℕ
-named p = (name_of p.0, p.1)
-
 abbrev pair_in : List ℕ → List ℕ × List ℕ
 pair_in line = (key_in line, value_in line)
 

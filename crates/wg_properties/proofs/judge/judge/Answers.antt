@@ -1,137 +1,54 @@
-use Rattle.std.proofs.Common.{◌≡◌, ◌∙◌, Result, Ok, Err, ap, sym}
-use Rattle.std.specs.Result.{IsErrAnd}
+use Rattle.std.proofs.Common.{◌∙◌, sym, rules}
 use Rattle.std.proofs.lemmas.Option.{none-some}
-use Rattle.wg_params.specs.Parameters.{Parameters}
+use Rattle.wg_outside.proofs.PutsLemmas.{is_that_err}
 use Rattle.wg_properties.specs.Values.{value_at}
 use Rattle.wg_properties.specs.Judged.{judged}
-use Rattle.wg_properties.specs.declared.fault.PropFault.{PropFault}
 use Rattle.wg_properties.proofs.Limits.{never_bad}
 use Rattle.wg_properties.proofs.judge.judge.Goals as goal
 
--- a fault that is handed on
-handed : (r : Result Parameters PropFault) (e : PropFault) → IsErrAnd r (λ y. y ≡ e) → r ≡ Err e
-handed (Ok p) e h = absurd h
-handed (Err y) e h = ap Err h
-
 pub returns-in_err-judge_class : goal.returns-in_err-judge_class
 unfolding judged
-returns-in_err-judge_class c =
-    let e1 = sym c.judge_class.ensures ∙ c.in_err-judge_class.was in
-    rw e1 (handed c.from_residual.result _ c.from_residual.ensures.1)
+returns-in_err-judge_class c = let h = is_that_err c.from_residual.result _ c.from_residual.ensures.1 in search rules
 
 pub returns-in_err-judge_version : goal.returns-in_err-judge_version
 unfolding judged
-returns-in_err-judge_version c =
-    let e1 = sym c.judge_class.ensures ∙ c.in_ok-judge_class.was in
-    let e2 = sym c.judge_version.ensures ∙ c.in_err-judge_version.was in
-    rw (e1, e2) (handed c.from_residual-in_err-judge_version.result _ c.from_residual-in_err-judge_version.ensures.1)
+returns-in_err-judge_version c = let h = is_that_err c.from_residual-in_err-judge_version.result _ c.from_residual-in_err-judge_version.ensures.1 in search rules
 
 pub returns-in_err-judge_endianness : goal.returns-in_err-judge_endianness
 unfolding judged
-returns-in_err-judge_endianness c =
-    let e1 = sym c.judge_class.ensures ∙ c.in_ok-judge_class.was in
-    let e2 = sym c.judge_version.ensures ∙ c.in_ok-judge_version.was in
-    let e3 = sym c.judge_endianness.ensures ∙ c.in_err-judge_endianness.was in
-    rw (e1, e2, e3) (handed c.from_residual-in_err-judge_endianness.result _ c.from_residual-in_err-judge_endianness.ensures.1)
+returns-in_err-judge_endianness c = let h = is_that_err c.from_residual-in_err-judge_endianness.result _ c.from_residual-in_err-judge_endianness.ensures.1 in search rules
 
 pub returns-in_err-nodes : goal.returns-in_err-nodes
 unfolding judged
-returns-in_err-nodes c =
-    let e1 = sym c.judge_class.ensures ∙ c.in_ok-judge_class.was in
-    let e2 = sym c.judge_version.ensures ∙ c.in_ok-judge_version.was in
-    let e3 = sym c.judge_endianness.ensures ∙ c.in_ok-judge_endianness.was in
-    let e4 = sym c.judge_number.ensures ∙ c.in_err-nodes.was in
-    rw (e1, e2, e3, e4) (handed c.from_residual-in_err-nodes.result _ c.from_residual-in_err-nodes.ensures.1)
+returns-in_err-nodes c = let h = is_that_err c.from_residual-in_err-nodes.result _ c.from_residual-in_err-nodes.ensures.1 in search rules
 
 pub returns-in_err-arcs : goal.returns-in_err-arcs
 unfolding judged
-returns-in_err-arcs c =
-    let e1 = sym c.judge_class.ensures ∙ c.in_ok-judge_class.was in
-    let e2 = sym c.judge_version.ensures ∙ c.in_ok-judge_version.was in
-    let e3 = sym c.judge_endianness.ensures ∙ c.in_ok-judge_endianness.was in
-    let e4 = sym c.judge_number.ensures ∙ c.in_ok-nodes.was in
-    let e5 = sym c.judge_number-2.ensures ∙ c.in_err-arcs.was in
-    rw (e1, e2, e3, e4, e5) (handed c.from_residual-in_err-arcs.result _ c.from_residual-in_err-arcs.ensures.1)
+returns-in_err-arcs c = let h = is_that_err c.from_residual-in_err-arcs.result _ c.from_residual-in_err-arcs.ensures.1 in search rules
 
 pub returns-in_err-window : goal.returns-in_err-window
 unfolding judged
-returns-in_err-window c =
-    let e1 = sym c.judge_class.ensures ∙ c.in_ok-judge_class.was in
-    let e2 = sym c.judge_version.ensures ∙ c.in_ok-judge_version.was in
-    let e3 = sym c.judge_endianness.ensures ∙ c.in_ok-judge_endianness.was in
-    let e4 = sym c.judge_number.ensures ∙ c.in_ok-nodes.was in
-    let e5 = sym c.judge_number-2.ensures ∙ c.in_ok-arcs.was in
-    let e6 = sym c.judge_number-3.ensures ∙ c.in_err-window.was in
-    rw (e1, e2, e3, e4, e5, e6) (handed c.from_residual-in_err-window.result _ c.from_residual-in_err-window.ensures.1)
+returns-in_err-window c = let h = is_that_err c.from_residual-in_err-window.result _ c.from_residual-in_err-window.ensures.1 in search rules
 
 pub returns-in_err-chain : goal.returns-in_err-chain
 unfolding judged
-returns-in_err-chain c =
-    let e1 = sym c.judge_class.ensures ∙ c.in_ok-judge_class.was in
-    let e2 = sym c.judge_version.ensures ∙ c.in_ok-judge_version.was in
-    let e3 = sym c.judge_endianness.ensures ∙ c.in_ok-judge_endianness.was in
-    let e4 = sym c.judge_number.ensures ∙ c.in_ok-nodes.was in
-    let e5 = sym c.judge_number-2.ensures ∙ c.in_ok-arcs.was in
-    let e6 = sym c.judge_number-3.ensures ∙ c.in_ok-window.was in
-    let e7 = sym c.judge_chain.ensures ∙ c.in_err-chain.was in
-    rw (e1, e2, e3, e4, e5, e6, e7) (handed c.from_residual-in_err-chain.result _ c.from_residual-in_err-chain.ensures.1)
+returns-in_err-chain c = let h = is_that_err c.from_residual-in_err-chain.result _ c.from_residual-in_err-chain.ensures.1 in search rules
 
 pub returns-in_err-interval : goal.returns-in_err-interval
 unfolding judged
-returns-in_err-interval c =
-    let e1 = sym c.judge_class.ensures ∙ c.in_ok-judge_class.was in
-    let e2 = sym c.judge_version.ensures ∙ c.in_ok-judge_version.was in
-    let e3 = sym c.judge_endianness.ensures ∙ c.in_ok-judge_endianness.was in
-    let e4 = sym c.judge_number.ensures ∙ c.in_ok-nodes.was in
-    let e5 = sym c.judge_number-2.ensures ∙ c.in_ok-arcs.was in
-    let e6 = sym c.judge_number-3.ensures ∙ c.in_ok-window.was in
-    let e7 = sym c.judge_chain.ensures ∙ c.in_ok-chain.was in
-    let e8 = sym c.judge_number-4.ensures ∙ c.in_err-interval.was in
-    rw (e1, e2, e3, e4, e5, e6, e7, e8) (handed c.from_residual-in_err-interval.result _ c.from_residual-in_err-interval.ensures.1)
+returns-in_err-interval c = let h = is_that_err c.from_residual-in_err-interval.result _ c.from_residual-in_err-interval.ensures.1 in search rules
 
 pub returns-in_err-zeta : goal.returns-in_err-zeta
 unfolding judged
-returns-in_err-zeta c =
-    let e1 = sym c.judge_class.ensures ∙ c.in_ok-judge_class.was in
-    let e2 = sym c.judge_version.ensures ∙ c.in_ok-judge_version.was in
-    let e3 = sym c.judge_endianness.ensures ∙ c.in_ok-judge_endianness.was in
-    let e4 = sym c.judge_number.ensures ∙ c.in_ok-nodes.was in
-    let e5 = sym c.judge_number-2.ensures ∙ c.in_ok-arcs.was in
-    let e6 = sym c.judge_number-3.ensures ∙ c.in_ok-window.was in
-    let e7 = sym c.judge_chain.ensures ∙ c.in_ok-chain.was in
-    let e8 = sym c.judge_number-4.ensures ∙ c.in_ok-interval.was in
-    let e9 = sym c.judge_zeta.ensures ∙ c.in_err-zeta.was in
-    rw (e1, e2, e3, e4, e5, e6, e7, e8, e9) (handed c.from_residual-in_err-zeta.result _ c.from_residual-in_err-zeta.ensures.1)
+returns-in_err-zeta c = let h = is_that_err c.from_residual-in_err-zeta.result _ c.from_residual-in_err-zeta.ensures.1 in search rules
 
 pub returns-in_err-codes : goal.returns-in_err-codes
 unfolding judged
-returns-in_err-codes c =
-    let e1 = sym c.judge_class.ensures ∙ c.in_ok-judge_class.was in
-    let e2 = sym c.judge_version.ensures ∙ c.in_ok-judge_version.was in
-    let e3 = sym c.judge_endianness.ensures ∙ c.in_ok-judge_endianness.was in
-    let e4 = sym c.judge_number.ensures ∙ c.in_ok-nodes.was in
-    let e5 = sym c.judge_number-2.ensures ∙ c.in_ok-arcs.was in
-    let e6 = sym c.judge_number-3.ensures ∙ c.in_ok-window.was in
-    let e7 = sym c.judge_chain.ensures ∙ c.in_ok-chain.was in
-    let e8 = sym c.judge_number-4.ensures ∙ c.in_ok-interval.was in
-    let e9 = sym c.judge_zeta.ensures ∙ c.in_ok-zeta.was in
-    let e10 = sym c.judge_flags.ensures ∙ c.in_err-codes.was in
-    rw (e1, e2, e3, e4, e5, e6, e7, e8, e9, e10) (handed c.from_residual-in_err-codes.result _ c.from_residual-in_err-codes.ensures.1)
+returns-in_err-codes c = let h = is_that_err c.from_residual-in_err-codes.result _ c.from_residual-in_err-codes.ensures.1 in search rules
 
 pub returns-in-Ok : goal.returns-in-Ok
 unfolding judged
-returns-in-Ok c =
-    let e1 = sym c.judge_class.ensures ∙ c.in_ok-judge_class.was in
-    let e2 = sym c.judge_version.ensures ∙ c.in_ok-judge_version.was in
-    let e3 = sym c.judge_endianness.ensures ∙ c.in_ok-judge_endianness.was in
-    let e4 = sym c.judge_number.ensures ∙ c.in_ok-nodes.was in
-    let e5 = sym c.judge_number-2.ensures ∙ c.in_ok-arcs.was in
-    let e6 = sym c.judge_number-3.ensures ∙ c.in_ok-window.was in
-    let e7 = sym c.judge_chain.ensures ∙ c.in_ok-chain.was in
-    let e8 = sym c.judge_number-4.ensures ∙ c.in_ok-interval.was in
-    let e9 = sym c.judge_zeta.ensures ∙ c.in_ok-zeta.was in
-    let e10 = sym c.judge_flags.ensures ∙ c.in_ok-codes.was in
-    rw (e1, e2, e3, e4, e5, e6, e7, e8, e9, e10) (ap Ok c.in-Ok.ensures.ok)
+returns-in-Ok c = let h = c.in-Ok.ensures.ok in search rules
 
 pub returns-in-Err : goal.returns-in-Err
 returns-in-Err c =
