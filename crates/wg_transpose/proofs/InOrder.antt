@@ -1,14 +1,11 @@
 -- The lists of a graph, taken one after the other.
 use Rattle.std.proofs.Common.{◌≡◌, ◌∙◌, ℕ, ◌+◌, ◌<◌, ◌≤◌, List, [], ◌∷◌, ◌++◌, length, take, sym, ap, arith}
 use Rattle.std.specs.List.{sum_by}
-use Rattle.std.proofs.lemmas.List.{length-take-le, take_all, take_more}
+use Rattle.std.proofs.lemmas.List.{take_all, take_more}
 use Rattle.std.proofs.lemmas.List.Sums.{sum_by_more_le}
 use Rattle.wg_graph.specs.Digraph.{Digraph, IsGraph, successors, arc_count}
 
 module _ (g : Digraph) (ok : IsGraph g) where
-  pub lists_before : (page : ℕ) → page ≤ g.nodes → length (take page g.lists) ≡ page
-  lists_before page le = length-take-le page g.lists (omega (arith, ok.counted))
-
   pub all_lists : (page : ℕ) → g.nodes ≤ page → take page g.lists ≡ g.lists
   all_lists page le = take_all page g.lists (omega (arith, ok.counted))
 
