@@ -92,12 +92,6 @@ module _ (n : ℕ) (whole : ℕ → List PageRun) (ends : List ℕ) (runs : List
     pub end_within : get_or ends v 0 ≤ length runs
     end_within = omega (arith, h.ended v lt, h.room, start_le whole (suc v) n (omega arith))
 
-    pub begins_first : v ≡ 0 → 0 ≡ get_or (0 ∷ ends) v 0
-    begins_first first = ap (λ (m : ℕ). get_or (0 ∷ ends) m 0) (sym first)
-
-    pub begins_next : 0 < v → get_or ends (v - 1) 0 ≡ get_or (0 ∷ ends) v 0
-    begins_next behind = let next : suc (v - 1) ≡ v = omega arith in ap (λ (m : ℕ). get_or (0 ∷ ends) m 0) next
-
     pub in_order : (begin : ℕ) → begin ≡ get_or (0 ∷ ends) v 0 → begin ≤ get_or ends v 0
     in_order begin is = omega (arith, is, h.ended v lt, begins_at v lt)
 
