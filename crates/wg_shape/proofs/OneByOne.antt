@@ -21,18 +21,6 @@ pub below_at : (m : ℕ) (xs : List ℕ) (v : ℕ) (ys : List ℕ) → Below m (
 below_at m [] v ys h = h.0
 below_at m (x ∷ xs) v ys h = below_at m xs v ys h.1
 
-pub added_none : (list : List ℕ) (x : ℕ) (b : Digraph) → length b.lists ≤ x + 1 → successors b x ≡ [] → Added list x (length (successors b x)) b b
-added_none list x b last none =
-    let zero_long : length (successors b x) ≡ 0 = ap length none in
-    record {
-      nodes = refl;
-      begun = last;
-      within = omega (arith, zero_long);
-      here = none ∙ sym (ap (λ (k : ℕ). take k list) zero_long);
-      others = λ y other. refl;
-      arcs = omega (arith, zero_long);
-    }
-
 pub added_more : (list rest : List ℕ) (x v : ℕ) (before b after : Digraph) → Added list x (length (successors b x)) before b → list ≡ successors b x ++ v ∷ rest → after.nodes ≡ b.nodes → after.lists ≡ with_arc b.lists x v
     → Added list x (length (successors after x)) before after
 added_more list rest x v before b after h parts nodes lists =

@@ -1,6 +1,6 @@
 -- What the arcs of each class lead to, while the pages are gone through.
 use Rattle.std.proofs.Common.{◌≡◌, ℕ, zero, suc, ◌+◌, ◌-◌, ◌<◌, ◌≤◌, Bool, true, false, cond, eqb, List, [], ◌∷◌, ◌++◌, length, take, map, get_or, set, refl, sym, ap, ◌∙◌, arith, inl, inr, append-nil, length-append, length-set, get_or-set_same, get_or-set_other}
-use Rattle.std.proofs.lemmas.Bool.{cases_Bool, cases_eq, ne_eqb, eq-eqb}
+use Rattle.std.proofs.lemmas.Bool.{cases_eq, ne_eqb, eq-eqb}
 use Rattle.std.proofs.lemmas.List.{take_all, take_more, map-append, append_assoc, length-map}
 use Rattle.wg_graph.specs.Digraph.{Digraph, successors}
 use Rattle.wg_graph.specs.Numbers.{numbers_where}
@@ -29,9 +29,6 @@ module _ (g : Digraph) (classes : List ℕ) (k : ℕ) where
   all_seen i =
       let t : ℕ → Bool = λ u. eqb i (class_of classes u) in
       ap (reached g classes) (where_more t k) ∙ page_if (numbers_where t 0 k) (t k)
-
-  pub none_seen : (i : ℕ) → with_arcs [] i ≡ reached_below g classes k i
-  none_seen i = elim (cases_Bool (eqb i (class_of classes k))) [ inl e ↦ rw e (append-nil (reached_below g classes k i)) | inr e ↦ rw e (append-nil (reached_below g classes k i)) ]
 
   pub class_more : (j : ℕ) (list : List ℕ) → j < length list → OneMore (with_arcs (take j list)) (with_arcs (take (j + 1) list)) (class_of classes k) (class_of classes (get_or list j 0))
   class_more j list lt =
@@ -113,9 +110,6 @@ counted_more g classes n k list counts below is h =
 module _ (g : Digraph) (classes : List ℕ) (first n k : ℕ) (ends all : List ℕ) where
   abbrev whole : ℕ → List ℕ
   whole = onward first (reached_by g classes)
-
-  pub none_yet : ArePrefixes n whole (onward first (reached_below g classes k)) ends all → ArePrefixes n whole (onward first (with_arcs g classes k [])) ends all
-  none_yet h = same_prefixes n whole (onward first (reached_below g classes k)) (onward first (with_arcs g classes k [])) ends all (λ w lt. sym (none_seen g classes k (first + w))) h
 
   pub page_end : (j : ℕ) (list : List ℕ) → length list ≤ j → list ≡ successors g k → ArePrefixes n whole (onward first (with_arcs g classes k (take j list))) ends all
       → ArePrefixes n whole (onward first (reached_below g classes (k + 1))) ends all

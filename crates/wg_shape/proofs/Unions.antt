@@ -13,13 +13,6 @@ with_same x ys = rw (le-ltb x x (omega arith), eq-eqb x x refl) refl
 pub union_both : (x : ℕ) (xs ys : List ℕ) → Ascends (suc x) xs → union_of (x ∷ xs) (x ∷ ys) ≡ x ∷ union_of xs ys
 union_both x xs ys h = ap (with_number x) (union_second x xs ys h) ∙ with_same x (union_of xs ys)
 
-pub union_none : (xs : List ℕ) → Ascends 0 xs → union_of xs [] ≡ xs
-union_none xs h = none_after 0 xs h
-  where
-    none_after : (n : ℕ) (xs : List ℕ) → Ascends n xs → union_of xs [] ≡ xs
-    none_after n [] h = refl
-    none_after n (x ∷ xs) h = ap (with_number x) (none_after (suc x) xs h.1) ∙ union_first x [] xs tt h.1
-
 -- ---- numbers that are taken ahead
 
 pub front_gives : (old new : List ℕ) (answer : Option ℕ) → Gives old answer new → front answer new ≡ old
