@@ -1,6 +1,7 @@
 -- What one line more changes.
 use Rattle.std.proofs.Common.{◌≡◌, ℕ, ◌+◌, ◌<◌, ◌≤◌, ◌^◌, true, false, ◌==◌, List, [], ◌∷◌, ◌++◌, length, codes, decimal, Option, Some, None, Result, Ok, Err, refl, sym, ap, subst, ◌∙◌, arith, length-append, append-nil, append_assoc, ◌-◌, take, drop, get_or}
 use Rattle.std.specs.List.{All}
+use Rattle.std.specs.Prelude.{option_to_list}
 use Rattle.std.proofs.lemmas.Bool.{eqb-true, eqb-false, le-leb, lt-leb, le-ltb, lt-ltb}
 use Rattle.std.proofs.lemmas.List.Elements.{All-push}
 use Rattle.wg_arcs.specs.declared.numbers_fault.NumbersFault.{NumbersFault}
@@ -8,7 +9,8 @@ use Rattle.wg_arcs.specs.declared.numbers_fault.NumbersFault.TheVariants as numb
 use Rattle.wg_arcs.specs.declared.numbers_fault.NumbersKind.TheVariants as numbers_kind
 use Rattle.std.proofs.lemmas.List.{length_push, take_all, take_more, take_rest, take-append-drop}
 use Rattle.wg_arcs.specs.declared.arc_lines.ArcLines.{ArcLines}
-use Rattle.wg_arcs.specs.Growing.{IsRefusedLine, SoFar, with_line}
+use Rattle.wg_arcs.specs.Growing.{IsFirst, IsRefusedLine, IsUpTo, SoFar, with_line}
+use Rattle.wg_num.specs.Lines.{lines_of}
 use Rattle.wg_num.specs.Words.{words_of}
 use Rattle.wg_arcs.specs.Numbers.{judged, number_in, numbers_on}
 use Rattle.wg_arcs.specs.Reading.{arc_at, arc_in, fault_after, is_skipped, refusal_after}
@@ -18,7 +20,8 @@ use Rattle.wg_arcs.specs.declared.fault.ArcsKind.{ArcsKind}
 use Rattle.wg_arcs.specs.declared.fault.ArcsError.{ArcsError}
 use Rattle.wg_arcs.specs.Text.{arc_line}
 use Rattle.wg_arcs.proofs.Order.{Arc}
-use Rattle.wg_arcs.proofs.ReadBack.{bare, plain_fault, with_end}
+use Rattle.wg_arcs.proofs.ReadBack.{arc_at_bare, bare, plain_fault, plain_line, with_end}
+use Rattle.wg_arcs.proofs.Soundness.{line_read, line_refused}
 
 -- at first all is left
 pub all_left : (size : ℕ) → size ≤ size
@@ -39,13 +42,19 @@ line_taken u v text rest is =
     let all = length-append (decimal u ++ codes " " ++ decimal v) (codes "\n") in
     omega (arith, ap length is, length-append (arc_line (u, v)) rest, all)
 
--- a plain line is refused for its arc
-pub plain_refused : (s : ArcLines) (a : Arc) (e : ArcsError) → a.0 < 2 ^ 64 → a.1 < 2 ^ 64
-    → IsRefusedLine (s.line + 1) (refusal_after s.nodes s.last s.arcs (Some a)) e
-    → IsRefusedLine (s.line + 1) (fault_after s.nodes s.last s.arcs (bare a)) e
-plain_refused s a e low low' refused =
-    subst (λ (f : Option ArcsKind). IsRefusedLine (s.line + 1) f e)
-    (sym (plain_fault s.nodes s.arcs s.last a low low')) refused
+-- a plain line is read, or refused for its arc
+module _ (a : Arc) (text rest : List ℕ) (line : text ≡ arc_line a ++ rest) (low : (a.0 < 2 ^ 64) × (a.1 < 2 ^ 64)) (s : ArcLines) (all later : List (List ℕ)) (arcs : List Arc) (up : IsUpTo all (lines_of text ++ later) arcs s) where
+  here : lines_of text ≡ bare a ∷ lines_of rest
+  here = ap lines_of line ∙ plain_line a rest low.0 low.1
+
+  fault : fault_after s.nodes s.last s.arcs (bare a) ≡ refusal_after s.nodes s.last s.arcs (Some a)
+  fault = plain_fault s.nodes s.arcs s.last a low.0 low.1
+
+  pub plain_read : (t : ArcLines) → refusal_after s.nodes s.last s.arcs (Some a) ≡ None → t ≡ with_line s (Some a) → IsUpTo all (lines_of rest ++ later) (arcs ++ option_to_list (Some a)) t
+  plain_read t fine new = line_read all later text rest (bare a) arcs s t (Some a) here (fault ∙ fine) (sym (arc_at_bare a low.0 low.1)) new up
+
+  pub plain_refused : (e : ArcsError) → IsRefusedLine (s.line + 1) (refusal_after s.nodes s.last s.arcs (Some a)) e → IsFirst s.nodes all e
+  plain_refused e refused = line_refused all later text rest (bare a) arcs s e here (subst (λ (f : Option ArcsKind). IsRefusedLine (s.line + 1) f e) (sym fault) refused) up
 
 -- a number at the front, and the byte behind it
 pub after_number : (text rest digits : List ℕ) (i byte : ℕ) → take i text ≡ digits

@@ -1,5 +1,5 @@
 use Rattle.std.proofs.Common.{◌≡◌, ℕ, ◌+◌, ◌<◌, ◌≤◌, List, length, ap, subst, refl, arith, Ok, Err}
-use Rattle.std.proofs.lemmas.Result.{err_from_is_err_and}
+use Rattle.wg_outside.proofs.PutsLemmas.{is_that_err}
 use Rattle.wg_num.specs.Lines.{lines_of}
 use Rattle.wg_num.proofs.Cuts.{no_lines}
 use Rattle.wg_arcs.specs.declared.numbers_fault.NumbersError.TheVariants as error
@@ -36,12 +36,11 @@ pub returns-in_err-read_line : goal.returns-in_err-read_line
 returns-in_err-read_line c =
     let all = numbers_of c.args.n c.args.limit c.args.bytes.now in
     let e = c.in_err-read_line.field-0.0 in
-    let p = err_from_is_err_and c.from_residual.result c.from_residual.ensures.1 in
     let read : AreRead all (Err e) =
     refused c.args.n c.args.limit (c.lines.line + 1) all c.lines.numbers c.first_line.result.0.now
     (lines_of c.lines.rest.now) (lines_of c.first_line.result.1.now) e c.first_line.ensures.lines
     c.lines.invariant.so_far c.in_err-read_line.ensures.err in
-    rw (p.1, p.2) record {
+    rw (is_that_err c.from_residual.result _ c.from_residual.ensures.1) record {
       read = read;
       listed = listed c.args.n c.args.limit c.args.bytes.now (Err e) read;
       count = tt;

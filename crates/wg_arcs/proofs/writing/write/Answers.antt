@@ -18,20 +18,18 @@ loop-page-preserved g c =
       later = g.met.S.Sink.goes_on _ _ _ c.loop-page.invariant.later c.in_ok-write_list.ensures.later;
     }
 
-pub returns-in_err-write_list-clause-puts : goal.returns-in_err-write_list-clause-puts
-returns-in_err-write_list-clause-puts g c t =
-    let n = c.nodes-page-end.ensures.proper.counted in
-    let taken = g.S.Sink.taken in
-    let e : WriteError = c.in_err-write_list.field-0.0 in
-    page_cut_off (taken c.args.sink.now) (taken c.loop-page.sink) (taken c.write_list.new.sink) c.args.graph.now c.loop-page.page c.from_residual.result e (omega arith) (c.loop-page.invariant.out t) c.from_residual.ensures.1
-    (subst (λ (vs : List ℕ). Puts {E = WriteError} (page_lines c.loop-page.page vs) (taken c.loop-page.sink) (taken c.write_list.new.sink) (Err e)) c.list.ensures.value (c.in_err-write_list.ensures.puts t))
-
-pub returns-in_err-write_list-clause-later : goal.returns-in_err-write_list-clause-later
-returns-in_err-write_list-clause-later g c = g.met.S.Sink.goes_on _ _ _ c.loop-page.invariant.later c.in_err-write_list.ensures.later
-
-pub returns-in_err-write_list-clause-refusals : goal.returns-in_err-write_list-clause-refusals
-returns-in_err-write_list-clause-refusals g c =
-    sink_exit _ _ _ _ _ c.from_residual.ensures.1 (sink_after _ _ _ _ _ (g.met.S.Sink.onward _ _ c.loop-page.invariant.later) c.in_err-write_list.ensures.refusals)
+pub returns-in_err-write_list : goal.returns-in_err-write_list
+returns-in_err-write_list g c = record {
+  puts = λ t.
+      let n = c.nodes-page-end.ensures.proper.counted in
+      let taken = g.S.Sink.taken in
+      let e : WriteError = c.in_err-write_list.field-0.0 in
+      page_cut_off (taken c.args.sink.now) (taken c.loop-page.sink) (taken c.write_list.new.sink) c.args.graph.now c.loop-page.page c.from_residual.result e (omega arith) (c.loop-page.invariant.out t) c.from_residual.ensures.1
+      (subst (λ (vs : List ℕ). Puts {E = WriteError} (page_lines c.loop-page.page vs) (taken c.loop-page.sink) (taken c.write_list.new.sink) (Err e)) c.list.ensures.value (c.in_err-write_list.ensures.puts t));
+  later = g.met.S.Sink.goes_on _ _ _ c.loop-page.invariant.later c.in_err-write_list.ensures.later;
+  refusals =
+      sink_exit _ _ _ _ _ c.from_residual.ensures.1 (sink_after _ _ _ _ _ (g.met.S.Sink.onward _ _ c.loop-page.invariant.later) c.in_err-write_list.ensures.refusals);
+}
 
 pub returns-clause-puts : goal.returns-clause-puts
 returns-clause-puts g c t =

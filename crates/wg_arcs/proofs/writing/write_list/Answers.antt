@@ -16,14 +16,12 @@ returns-in_err-print_list-clause-puts g c t =
 pub returns-in_err-print_list-clause-refusals : goal.returns-in_err-print_list-clause-refusals
 returns-in_err-print_list-clause-refusals g c = sink_exit _ _ _ _ _ c.from_residual.ensures.1 c.in_err-print_list.ensures.refusals
 
-pub returns-clause-puts : goal.returns-clause-puts
-returns-clause-puts g c t =
-    puts_in_the_end _ _ _ _ _ c.flush.result
-    (subst (λ (l : List ℕ). HasPrinted (g.S.Sink.taken c.args.sink.now) (g.S.Sink.taken c.print_list.new.sink) l (page_lines c.args.page c.args.list.now) c.print_list.new.lines) c.new-lines.ensures (c.in_ok-print_list.ensures.prints t))
-    (c.flush.ensures.puts t)
-
-pub returns-clause-later : goal.returns-clause-later
-returns-clause-later g c = g.met.S.Sink.goes_on _ _ _ c.in_ok-print_list.ensures.later c.flush.ensures.later
-
-pub returns-clause-refusals : goal.returns-clause-refusals
-returns-clause-refusals g c = sink_after _ _ _ _ _ c.in_ok-print_list.ensures.refusals.counts c.flush.ensures.refusals
+pub returns : goal.returns
+returns g c = record {
+  puts = λ t.
+      puts_in_the_end _ _ _ _ _ c.flush.result
+      (subst (λ (l : List ℕ). HasPrinted (g.S.Sink.taken c.args.sink.now) (g.S.Sink.taken c.print_list.new.sink) l (page_lines c.args.page c.args.list.now) c.print_list.new.lines) c.new-lines.ensures (c.in_ok-print_list.ensures.prints t))
+      (c.flush.ensures.puts t);
+  later = g.met.S.Sink.goes_on _ _ _ c.in_ok-print_list.ensures.later c.flush.ensures.later;
+  refusals = sink_after _ _ _ _ _ c.in_ok-print_list.ensures.refusals.counts c.flush.ensures.refusals;
+}

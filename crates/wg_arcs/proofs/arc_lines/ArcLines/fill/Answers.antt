@@ -1,6 +1,6 @@
 use Rattle.std.proofs.Common.{◌≡◌, ◌∙◌, ◌++◌, inl, inr, false, ℕ, List, Option, Some, None, sym, subst, refl, append-nil}
 use Rattle.std.specs.Prelude.{is_some, option_to_list}
-use Rattle.std.proofs.lemmas.Result.{err_from_is_err_and}
+use Rattle.wg_outside.proofs.PutsLemmas.{is_that_err}
 use Rattle.wg_num.specs.Lines.{lines_of}
 use Rattle.wg_arcs.specs.declared.arc_lines.ArcLines.{ArcLines}
 use Rattle.wg_arcs.specs.Growing.{IsFirst, IsUpTo, SoFar}
@@ -25,8 +25,7 @@ pub returns-in_err-arc : goal.returns-in_err-arc
 returns-in_err-arc c =
     let i = c.lines.invariant in
     let e = c.in_err-arc.field-0.0 in
-    let p = err_from_is_err_and c.from_residual.result c.from_residual.ensures.1 in
-    rw (p.1, p.2) record {
+    rw (is_that_err c.from_residual.result _ c.from_residual.ensures.1) record {
       nodes = c.in_err-arc.ensures.nodes ∙ i.nodes;
       line = tt;
       shorter = tt;
@@ -39,8 +38,7 @@ returns-in_err-arc c =
 
 pub returns-in_err-next : goal.returns-in_err-next
 returns-in_err-next c =
-    let p = err_from_is_err_and c.from_residual-in_err-next.result c.from_residual-in_err-next.ensures.1 in
-    rw (p.1, p.2) record {
+    rw (is_that_err c.from_residual-in_err-next.result _ c.from_residual-in_err-next.ensures.1) record {
       nodes = c.in_ok-arc.ensures.nodes ∙ c.lines.invariant.nodes;
       line = tt;
       shorter = tt;

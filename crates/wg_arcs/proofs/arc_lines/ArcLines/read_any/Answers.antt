@@ -1,4 +1,4 @@
-use Rattle.std.proofs.lemmas.Result.{err_from_is_err_and}
+use Rattle.wg_outside.proofs.PutsLemmas.{is_that_err}
 use Rattle.wg_arcs.proofs.LineLemmas.{line_more}
 use Rattle.wg_arcs.proofs.Soundness.{line_read, line_refused}
 use Rattle.wg_arcs.proofs.arc_lines.ArcLines.read_any.Goals as goal
@@ -6,8 +6,7 @@ use Rattle.wg_arcs.proofs.arc_lines.ArcLines.read_any.Goals as goal
 pub returns-in_err-arc : goal.returns-in_err-arc
 returns-in_err-arc c =
     let n = c.in_err-arc.ensures in
-    let p = err_from_is_err_and c.from_residual.result c.from_residual.ensures.1 in
-    rw (p.1, p.2) record {
+    rw (is_that_err c.from_residual.result _ c.from_residual.ensures.1) record {
       nodes = n.nodes;
       line = tt;
       ok = tt;

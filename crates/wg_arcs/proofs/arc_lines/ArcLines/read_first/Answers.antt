@@ -1,21 +1,14 @@
-use Rattle.std.proofs.Common.{◌∙◌, Some, ap, sym}
-use Rattle.std.proofs.lemmas.Result.{err_from_is_err_and}
-use Rattle.wg_num.specs.Lines.{lines_of}
-use Rattle.wg_arcs.proofs.LineLemmas.{line_more, line_taken, plain_refused}
+use Rattle.std.proofs.Common.{Some}
+use Rattle.wg_outside.proofs.PutsLemmas.{is_that_err}
+use Rattle.wg_arcs.proofs.LineLemmas.{line_more, line_taken, plain_read, plain_refused}
 use Rattle.wg_arcs.proofs.Order.{Arc}
-use Rattle.wg_arcs.proofs.ReadBack.{bare, plain_line, plain_fault, arc_at_bare}
-use Rattle.wg_arcs.proofs.Soundness.{line_read, line_refused}
 use Rattle.wg_arcs.proofs.arc_lines.ArcLines.read_first.Goals as goal
 
 pub returns-in_err-take-in-Some : goal.returns-in_err-take-in-Some
 returns-in_err-take-in-Some c =
     let a : Arc = (c.in-Some.u, c.in-Some.v) in
-    let s = c.args.self.now in
-    let low = c.in-Some.ensures.low in
     let n = c.in_err-take-in-Some.ensures in
-    let e = c.in_err-take-in-Some.field-0.0 in
-    let p = err_from_is_err_and c.from_residual.result c.from_residual.ensures.1 in
-    rw (p.1, p.2) record {
+    rw (is_that_err c.from_residual.result _ c.from_residual.ensures.1) record {
       nodes = n.nodes;
       line = tt;
       ok = tt;
@@ -23,28 +16,21 @@ returns-in_err-take-in-Some c =
       comes = tt;
       read = λ all later arcs up. tt;
       fault = λ all later arcs up.
-          line_refused all later c.args.bytes.now c.in-Some.after.now (bare a) arcs s e
-          (ap lines_of c.in-Some.ensures.line ∙ plain_line a c.in-Some.after.now low.0 low.1)
-          (plain_refused s a e low.0 low.1 n.err) up;
+          plain_refused a c.args.bytes.now c.in-Some.after.now c.in-Some.ensures.line c.in-Some.ensures.low c.args.self.now all later arcs up c.in_err-take-in-Some.field-0.0 n.err;
     }
 
 pub returns-in_ok-take-in-Some : goal.returns-in_ok-take-in-Some
 returns-in_ok-take-in-Some c =
     let a : Arc = (c.in-Some.u, c.in-Some.v) in
-    let s = c.args.self.now in
-    let low = c.in-Some.ensures.low in
     let n = c.in_ok-take-in-Some.ensures in
     record {
       nodes = n.nodes;
-      line = line_more s c.take.new.self (Some a) n.ok;
+      line = line_more c.args.self.now c.take.new.self (Some a) n.ok;
       ok = n.ok;
       shorter = line_taken a.0 a.1 c.args.bytes.now c.in-Some.after.now c.in-Some.ensures.line;
       comes = n.comes;
       read = λ all later arcs up.
-          line_read all later c.args.bytes.now c.in-Some.after.now (bare a) arcs s c.take.new.self (Some a)
-          (ap lines_of c.in-Some.ensures.line ∙ plain_line a c.in-Some.after.now low.0 low.1)
-          (plain_fault s.nodes s.arcs s.last a low.0 low.1 ∙ n.fine)
-          (sym (arc_at_bare a low.0 low.1)) n.ok up;
+          plain_read a c.args.bytes.now c.in-Some.after.now c.in-Some.ensures.line c.in-Some.ensures.low c.args.self.now all later arcs up c.take.new.self n.fine n.ok;
       fault = λ all later arcs up. tt;
     }
 

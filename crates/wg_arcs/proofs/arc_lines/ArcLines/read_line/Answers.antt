@@ -1,5 +1,5 @@
 use Rattle.std.proofs.Common.{◌+◌, ◌∙◌, Option, None, Some, refl, sym, subst}
-use Rattle.std.proofs.lemmas.Result.{err_from_is_err_and}
+use Rattle.wg_outside.proofs.PutsLemmas.{is_that_err}
 use Rattle.wg_num.specs.Words.{words_of}
 use Rattle.wg_arcs.specs.Growing.{IsRefusedLine}
 use Rattle.wg_arcs.specs.declared.fault.ArcsKind.{ArcsKind}
@@ -24,8 +24,7 @@ returns-in_err-take-in-Some-arc c =
     let n = c.in_err-take-in-Some-arc.ensures in
     let e = c.in_err-take-in-Some-arc.field-0.0 in
     let a : Arc = (c.in-Some-arc.u, c.in-Some-arc.v) in
-    let p = err_from_is_err_and c.from_residual.result c.from_residual.ensures.1 in
-    rw (p.1, p.2) record {
+    rw (is_that_err c.from_residual.result _ c.from_residual.ensures.1) record {
       fine = tt;
       comes = tt;
       arc = tt;
