@@ -17,9 +17,6 @@ use Rattle.wg_ascii.specs.Reading.{fault_after, fault_of_words, words_in}
 use Rattle.wg_ascii.specs.Growing.{HasPage, IsRefused, HasLists, IsFirstAfter}
 use Rattle.wg_ascii.proofs.Successors.{fine_words}
 
-Lines : Type 0
-Lines = List (List ℕ)
-
 -- ---- lines whose words are lists
 
 -- the first lines list these

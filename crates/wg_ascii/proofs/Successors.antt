@@ -7,10 +7,8 @@ use Rattle.wg_num.specs.Decimal.{number_of}
 use Rattle.wg_num.proofs.Numbers.{number_of-decimal}
 use Rattle.wg_graph.specs.Ascending.{Ascends, Below}
 use Rattle.wg_graph.proofs.Sets.{ascends_push, below_push, below_more}
-use Rattle.wg_ascii.specs.declared.fault.AsciiError.{AsciiError}
-use Rattle.wg_ascii.specs.declared.fault.AsciiError.TheVariants as error
 use Rattle.wg_ascii.specs.Reading.{refusal_of, fault_of_words}
-use Rattle.wg_ascii.specs.Growing.{IsRefused, IsNumber}
+use Rattle.wg_ascii.specs.Growing.{IsNumber}
 
 -- ---- one word
 
@@ -63,9 +61,6 @@ pub record ListSoFar (n arcs : ℕ) (words rest : List (List ℕ)) (list : List 
   pub order : InOrder n arcs list least count
   pub fault : fault_of_words n 0 arcs words ≡ fault_of_words n least count rest
 
-pub list_none : (n arcs : ℕ) (words : List (List ℕ)) → arcs ≤ MOST_ARCS → ListSoFar n arcs words words [] 0 arcs
-list_none n arcs words room = record { text = refl; order = order_none n arcs room; fault = refl }
-
 pub list_more : (n arcs : ℕ) (words after : List (List ℕ)) (word list new : List ℕ) (least count v : ℕ) → n ≤ 2 ^ 64 → ListSoFar n arcs words (word ∷ after) list least count → IsNumber n least count word v → new ≡ list ++ v ∷ []
     → ListSoFar n arcs words after new (v + 1) (count + 1)
 list_more n arcs words after word list new least count v small h is more =
@@ -74,9 +69,3 @@ list_more n arcs words after word list new least count v small h is more =
       order = order_more n arcs list least count v h.order is.low is.page is.room;
       fault = h.fault ∙ past_word n least count word after v small is;
     })
-
-pub list_refused : (n arcs : ℕ) (words after : List (List ℕ)) (word list : List ℕ) (least count line : ℕ) (e : AsciiError) → ListSoFar n arcs words (word ∷ after) list least count
-    → IsRefused line (refusal_of n least count (number_of word)) e → IsRefused line (fault_of_words n 0 arcs words) e
-list_refused n arcs words after word list least count line (error.Line l k) h r =
-    let fault = r.1 in (r.0, h.fault ∙ rw fault refl)
-list_refused n arcs words after word list least count line error.Memory h r = tt

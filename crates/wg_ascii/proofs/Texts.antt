@@ -1,22 +1,10 @@
 -- Texts that are printed one after the other.
-use Rattle.std.proofs.Common.{◌≡◌, ℕ, ◌+◌, ◌<◌, ◌≤◌, List, [], ◌∷◌, ◌++◌, map, length, take, drop, get_or, Result, Ok, Err, refl, sym, ap, subst, ◌∙◌, append_assoc, append-nil, arith}
-use Rattle.std.specs.Result.{IsErrAnd}
+use Rattle.std.proofs.Common.{◌≡◌, ℕ, ◌+◌, ◌<◌, ◌≤◌, List, [], ◌∷◌, ◌++◌, map, length, take, drop, get_or, refl, sym, ap, subst, ◌∙◌, append_assoc, append-nil, arith}
 use Rattle.std.proofs.lemmas.List.{map-append, take_all, take_more, take-append-drop}
-use Rattle.wg_lines.specs.Printing.{HasPrinted, HasPrintedLess, Prints}
+use Rattle.wg_lines.specs.Printing.{HasPrinted, HasPrintedLess}
 use Rattle.wg_outside.specs.Puts.{joined}
 use Rattle.wg_ascii.specs.Text.{list_words}
 use Rattle.wg_lines.proofs.PrintLemmas.{kept, printed_more, less_after, less_before}
-use Rattle.wg_outside.proofs.PutsLemmas.{is_that_err}
-
--- ---- two texts
-
-pub prints_then : {E : Type 0} (a b c waited mid waits t u : List ℕ) (r : Result (Unit {0}) E) → HasPrinted a b waited t mid → Prints u b c mid waits r → Prints (t ++ u) a c waited waits r
-prints_then a b c waited mid waits t u (Ok done) h g = printed_more a b c waited mid waits t u h g
-prints_then a b c waited mid waits t u (Err e) h g = less_after a b c waited mid t u h g
-
--- the first was cut off, whatever would have followed
-pub prints_cut : {E : Type 0} (a c waited waits t u : List ℕ) (r : Result (Unit {0}) E) (e : E) → IsErrAnd r (λ x. x ≡ e) → HasPrintedLess a c waited t → Prints (t ++ u) a c waited waits r
-prints_cut a c waited waits t u r e is h = subst (λ q. Prints (t ++ u) a c waited waits q) (sym (is_that_err r e is)) (less_before a c waited t u h)
 
 -- nothing is printed
 pub none_printed : (a waited list : List ℕ) → length list ≡ 0 → HasPrinted a a waited (list_words list) waited

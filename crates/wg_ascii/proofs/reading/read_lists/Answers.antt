@@ -1,5 +1,5 @@
 use Rattle.std.proofs.Common.{◌≤◌, ◌++◌, ◌∷◌, ◌∙◌, [], ℕ, List as ListOf, refl, sym, ap, subst}
-use Rattle.std.proofs.lemmas.Result.{err_from_is_err_and}
+use Rattle.wg_outside.proofs.PutsLemmas.{is_that_err}
 use Rattle.wg_params.specs.declared.limits.TheConstants.{MOST_PAGES}
 use Rattle.wg_num.specs.Lines.{lines_of}
 use Rattle.wg_graph.specs.Ascending.{Ascends, Below}
@@ -37,8 +37,7 @@ read_page-requires c =
 pub returns-in_err-rest : goal.returns-in_err-rest
 returns-in_err-rest c =
     let v = c.pages.invariant in
-    let e = err_from_is_err_and c.from_residual.result c.from_residual.ensures.1 in
-    rw (e.1, e.2) record {
+    rw (is_that_err c.from_residual.result _ c.from_residual.ensures.1) record {
       nodes = c.in_err-rest.ensures.nodes ∙ v.nodes;
       same = tt;
       few = tt;
@@ -90,8 +89,7 @@ pages-preserved c =
 
 pub returns-in_err-push_list : goal.returns-in_err-push_list
 returns-in_err-push_list c =
-    let e = err_from_is_err_and c.from_residual-in_err-push_list.result c.from_residual-in_err-push_list.ensures.1 in
-    rw (e.1, e.2) record {
+    rw (is_that_err c.from_residual-in_err-push_list.result _ c.from_residual-in_err-push_list.ensures.1) record {
       nodes = c.in_ok-rest.ensures.nodes ∙ c.pages.invariant.nodes;
       same = tt;
       few = tt;

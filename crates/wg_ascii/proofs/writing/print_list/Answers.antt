@@ -1,9 +1,8 @@
 use Rattle.std.proofs.Common.{[], ◌∷◌}
 use Rattle.wg_outside.proofs.PutsLemmas.{is_that_err}
 use Rattle.wg_outside.proofs.RefusalLemmas.{sink_after}
-use Rattle.wg_lines.proofs.PrintLemmas.{less_before}
+use Rattle.wg_lines.proofs.PrintLemmas.{less_before, prints_after}
 use Rattle.wg_ascii.specs.Text.{list_words}
-use Rattle.wg_ascii.proofs.Texts.{prints_then}
 use Rattle.wg_ascii.proofs.writing.print_list.Goals as goal
 
 pub returns-in_err-print_words : goal.returns-in_err-print_words
@@ -22,7 +21,7 @@ returns g c =
     let r = c.byte.ensures in
     record {
       prints = λ t.
-          prints_then _ _ _ _ _ _ (list_words c.args.list.now) (10 ∷ []) c.byte.result (n.prints t) (r.prints t);
+          prints_after _ _ _ _ _ _ (list_words c.args.list.now) (10 ∷ []) c.byte.result (n.prints t) (r.prints t);
       empty = r.empty;
       later = g.met.S.Sink.goes_on _ _ _ n.later r.later;
       refusals =

@@ -1,8 +1,7 @@
 use Rattle.std.proofs.Common.{[], ◌∷◌, decimal}
 use Rattle.wg_outside.proofs.PutsLemmas.{is_that_err}
 use Rattle.wg_outside.proofs.RefusalLemmas.{sink_after}
-use Rattle.wg_lines.proofs.PrintLemmas.{less_before}
-use Rattle.wg_ascii.proofs.Texts.{prints_then}
+use Rattle.wg_lines.proofs.PrintLemmas.{less_before, prints_after}
 use Rattle.wg_ascii.proofs.writing.print_nodes.Goals as goal
 
 pub returns-in_err-number : goal.returns-in_err-number
@@ -20,7 +19,7 @@ returns g c =
     let n = c.in_ok-number.ensures in
     let r = c.byte.ensures in
     record {
-      prints = λ t. prints_then _ _ _ _ _ _ (decimal c.args.nodes) (10 ∷ []) c.byte.result (n.prints t) (r.prints t);
+      prints = λ t. prints_after _ _ _ _ _ _ (decimal c.args.nodes) (10 ∷ []) c.byte.result (n.prints t) (r.prints t);
       empty = r.empty;
       later = g.met.S.Sink.goes_on _ _ _ n.later r.later;
       refusals =

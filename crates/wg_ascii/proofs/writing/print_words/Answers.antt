@@ -1,9 +1,9 @@
 use Rattle.std.proofs.Common.{decimal}
 use Rattle.wg_outside.proofs.PutsLemmas.{is_that_err}
 use Rattle.wg_outside.proofs.RefusalLemmas.{sink_after, sink_done}
-use Rattle.wg_lines.proofs.PrintLemmas.{less_before}
+use Rattle.wg_lines.proofs.PrintLemmas.{less_before, prints_after}
 use Rattle.wg_ascii.specs.Text.{words_after}
-use Rattle.wg_ascii.proofs.Texts.{none_printed, prints_then}
+use Rattle.wg_ascii.proofs.Texts.{none_printed}
 use Rattle.wg_ascii.proofs.writing.print_words.Goals as goal
 
 pub returns-in_err-number-in-Some : goal.returns-in_err-number-in-Some
@@ -25,7 +25,7 @@ returns-in_ok-number-in-Some g c =
     record {
       prints = λ t.
           rw c.in-Some.ensures.cases.0
-          (prints_then _ _ _ _ _ _ (decimal c.in-Some.first.now) (words_after c.in-Some.others.now) c.print_after.result
+          (prints_after _ _ _ _ _ _ (decimal c.in-Some.first.now) (words_after c.in-Some.others.now) c.print_after.result
           (n.prints t) (r.prints t));
       empty = r.empty;
       later = g.met.S.Sink.goes_on _ _ _ n.later r.later;

@@ -44,33 +44,29 @@ returns-in_err-print_nodes-clause-puts g c t =
     (puts_of_less {E = WriteError} (taken c.args.sink.now) (taken c.print_nodes.new.sink) (text_of_graph c.args.graph.now) c.in_err-print_nodes.field-0.0
     (less_before (taken c.args.sink.now) (taken c.print_nodes.new.sink) [] (nodes_line n) (joined (map list_line c.args.graph.now.lists)) first))
 
-pub returns-in_err-print_list-clause-puts : goal.returns-in_err-print_list-clause-puts
-returns-in_err-print_list-clause-puts g c t =
-    let n = c.nodes-page-end.ensures.proper.counted in
-    let taken = g.S.Sink.taken in
-    rw (is_that_err c.from_residual-in_err-print_list.result _ c.from_residual-in_err-print_list.ensures.1)
-    (puts_of_less {E = WriteError} (taken c.args.sink.now) (taken c.print_list.new.sink) (text_of_graph c.args.graph.now) c.in_err-print_list.field-0.0
-    (item_less list_line (taken c.args.sink.now) (taken c.loop-page.sink) (taken c.print_list.new.sink) [] c.loop-page.lines (nodes_line c.args.graph.now.nodes) c.args.graph.now.lists c.loop-page.page [] (omega arith) (c.loop-page.invariant.printed t)
-    (subst (λ (vs : List ℕ). HasPrintedLess (taken c.loop-page.sink) (taken c.print_list.new.sink) c.loop-page.lines (list_line vs)) c.list.ensures.value (c.in_err-print_list.ensures.prints t))))
+pub returns-in_err-print_list : goal.returns-in_err-print_list
+returns-in_err-print_list g c = record {
+  puts = λ t.
+      let n = c.nodes-page-end.ensures.proper.counted in
+      let taken = g.S.Sink.taken in
+      rw (is_that_err c.from_residual-in_err-print_list.result _ c.from_residual-in_err-print_list.ensures.1)
+      (puts_of_less {E = WriteError} (taken c.args.sink.now) (taken c.print_list.new.sink) (text_of_graph c.args.graph.now) c.in_err-print_list.field-0.0
+      (item_less list_line (taken c.args.sink.now) (taken c.loop-page.sink) (taken c.print_list.new.sink) [] c.loop-page.lines (nodes_line c.args.graph.now.nodes) c.args.graph.now.lists c.loop-page.page [] (omega arith) (c.loop-page.invariant.printed t)
+      (subst (λ (vs : List ℕ). HasPrintedLess (taken c.loop-page.sink) (taken c.print_list.new.sink) c.loop-page.lines (list_line vs)) c.list.ensures.value (c.in_err-print_list.ensures.prints t))));
+  later = g.met.S.Sink.goes_on _ _ _ c.loop-page.invariant.later c.in_err-print_list.ensures.later;
+  refusals =
+      sink_exit _ _ _ _ _ c.from_residual-in_err-print_list.ensures.1 (sink_after _ _ _ _ _ (g.met.S.Sink.onward _ _ c.loop-page.invariant.later) c.in_err-print_list.ensures.refusals);
+}
 
-pub returns-clause-puts : goal.returns-clause-puts
-returns-clause-puts g c t =
-    let n = c.nodes-page-end.ensures.proper.counted in
-    let taken = g.S.Sink.taken in
-    let all : take c.loop-page.page c.args.graph.now.lists ≡ c.args.graph.now.lists = take_all c.loop-page.page c.args.graph.now.lists (omega arith) in
-    puts_in_the_end (taken c.args.sink.now) (taken c.loop-page.sink) (taken c.flush.new.sink) (text_of_graph c.args.graph.now) c.loop-page.lines c.flush.result
-    (subst (λ (ls : List (List ℕ)). HasPrinted (taken c.args.sink.now) (taken c.loop-page.sink) [] (texts list_line (nodes_line c.args.graph.now.nodes) ls) c.loop-page.lines) all (c.loop-page.invariant.printed t))
-    (c.flush.ensures.puts t)
-
-pub returns-in_err-print_list-clause-later : goal.returns-in_err-print_list-clause-later
-returns-in_err-print_list-clause-later g c = g.met.S.Sink.goes_on _ _ _ c.loop-page.invariant.later c.in_err-print_list.ensures.later
-
-pub returns-in_err-print_list-clause-refusals : goal.returns-in_err-print_list-clause-refusals
-returns-in_err-print_list-clause-refusals g c =
-    sink_exit _ _ _ _ _ c.from_residual-in_err-print_list.ensures.1 (sink_after _ _ _ _ _ (g.met.S.Sink.onward _ _ c.loop-page.invariant.later) c.in_err-print_list.ensures.refusals)
-
-pub returns-clause-later : goal.returns-clause-later
-returns-clause-later g c = g.met.S.Sink.goes_on _ _ _ c.loop-page.invariant.later c.flush.ensures.later
-
-pub returns-clause-refusals : goal.returns-clause-refusals
-returns-clause-refusals g c = sink_after _ _ _ _ _ (g.met.S.Sink.onward _ _ c.loop-page.invariant.later) c.flush.ensures.refusals
+pub returns : goal.returns
+returns g c = record {
+  puts = λ t.
+      let n = c.nodes-page-end.ensures.proper.counted in
+      let taken = g.S.Sink.taken in
+      let all : take c.loop-page.page c.args.graph.now.lists ≡ c.args.graph.now.lists = take_all c.loop-page.page c.args.graph.now.lists (omega arith) in
+      puts_in_the_end (taken c.args.sink.now) (taken c.loop-page.sink) (taken c.flush.new.sink) (text_of_graph c.args.graph.now) c.loop-page.lines c.flush.result
+      (subst (λ (ls : List (List ℕ)). HasPrinted (taken c.args.sink.now) (taken c.loop-page.sink) [] (texts list_line (nodes_line c.args.graph.now.nodes) ls) c.loop-page.lines) all (c.loop-page.invariant.printed t))
+      (c.flush.ensures.puts t);
+  later = g.met.S.Sink.goes_on _ _ _ c.loop-page.invariant.later c.flush.ensures.later;
+  refusals = sink_after _ _ _ _ _ (g.met.S.Sink.onward _ _ c.loop-page.invariant.later) c.flush.ensures.refusals;
+}

@@ -1,5 +1,5 @@
 use Rattle.std.proofs.Common.{◌+◌, List, ℕ, length, refl, ap}
-use Rattle.std.proofs.lemmas.Result.{err_from_is_err_and}
+use Rattle.wg_outside.proofs.PutsLemmas.{is_that_err}
 use Rattle.wg_num.specs.Lines.{lines_of}
 use Rattle.wg_ascii.proofs.ListsLemmas.{few_arcs, next_arcs, next_line}
 use Rattle.wg_ascii.proofs.PageLemmas.{page_read, page_refused}
@@ -14,8 +14,7 @@ read_first-requires c = record { some = c.requires.some; pages = c.requires.few;
 pub returns-in_err-after : goal.returns-in_err-after
 returns-in_err-after c =
     let s = c.args.self.now in
-    let e = err_from_is_err_and c.from_residual.result c.from_residual.ensures.1 in
-    rw (e.1, e.2) record {
+    rw (is_that_err c.from_residual.result _ c.from_residual.ensures.1) record {
       nodes = refl;
       line = tt;
       arcs = tt;
