@@ -126,10 +126,6 @@ none_is_0 : (o : Option ℕ) → is_none o ≡ true → value_or_0 o ≡ 0
 none_is_0 None e = refl
 none_is_0 (Some x) e = absurd cc
 
-not_both : (b : Bool) (x y : Bool) → (x && not b) ≡ true → b ≡ true → ⊥
-not_both true x y e f = absurd (let h = (and_parts x false e).1 in cc)
-not_both false x y e f = absurd cc
-
 -- a refusal for one reason that did not come
 one_reason : (b : Bool) (k : Kind) → cond b (Some k) None ≡ None → b ≡ false
 one_reason true k e = absurd cc
