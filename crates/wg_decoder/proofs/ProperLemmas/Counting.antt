@@ -79,9 +79,6 @@ alone xs g n most few all = record {
 
 -- ---- three lists
 
-either : List ℕ → List ℕ → ℕ → Bool
-either xs ys y = is_in y xs || is_in y ys
-
 few_either : (xs ys : List ℕ) (n : ℕ) → many (λ y. is_in y xs || is_in y ys) 0 n ≤ length xs + length ys
 few_either xs ys n = omega (arith, many_or (λ y. is_in y xs) (λ y. is_in y ys) 0 n, many_in xs 0 n, many_in ys 0 n)
 

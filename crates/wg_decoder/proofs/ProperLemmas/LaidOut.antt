@@ -57,6 +57,24 @@ ends_empty : (p : Parameters) (c : Context) (d : ℕ) (r : Option ℕ) → eqb d
 unfolding next
 ends_empty p c d r empty = rw empty refl
 
+-- where there is no page below, nothing is copied
+middle_alone : (p : Parameters) (page : ℕ) (below : Option (List ℕ)) (bits : List Bool) (d : ℕ) (r : Option ℕ) (last : ℕ) (t : SoFar) (end : ℕ) → is_some below ≡ false → copy (context_on p page below) r [] ≡ []
+    → Tail (unlimited p) (context_on p page below) bits d r None [] false last t end → Middle p page below bits d r last t end
+middle_alone p page below bits d r last t end no_below nothing tail = record {
+  n = None;
+  bs = [];
+  k = false;
+  values = [];
+  mid = last;
+  end = last;
+  count_stands = no_word (is_some below) p.block_counts (drop last bits) no_below;
+  blocks_stand = refl;
+  blocks_are = refl;
+  within = omega arith;
+  copied_fit = omega (arith, ap (λ (l : List ℕ). length l) nothing);
+  tail = tail;
+}
+
 middle_empty : (p : Parameters) (page : ℕ) (below : Option (List ℕ)) (bits : List Bool) (d : ℕ) (r : Option ℕ) (last : ℕ) (t : SoFar) (end : ℕ) → eqb d 0 ≡ true → r ≡ None → ltb 0 (value_or_0 t.reference) ≡ is_some below
     → LeadsTo (unlimited p) (context_on p page below) bits (state d r None [] false None [] [] []) last t end → Middle p page below bits d r last t end
 middle_empty p page below bits d r last t end empty none refers on =
@@ -79,20 +97,7 @@ middle_empty p page below bits d r last t end empty none refers on =
       whole = whole;
     } in
     let no_below : is_some below ≡ false = sym (whole_reference (unlimited p) (context_on p page below) bits d r None [] false last t end below refers tail) ∙ ap (λ (o : Option ℕ). ltb 0 (value_or_0 o)) none in
-    record {
-      n = None;
-      bs = [];
-      k = false;
-      values = [];
-      mid = last;
-      end = last;
-      count_stands = no_word (is_some below) p.block_counts (drop last bits) no_below;
-      blocks_stand = refl;
-      blocks_are = refl;
-      within = omega arith;
-      copied_fit = omega (arith, ap (λ (l : List ℕ). length l) nothing);
-      tail = tail;
-    }
+    middle_alone p page below bits d r last t end no_below nothing tail
 
 middle_plain : (p : Parameters) (page : ℕ) (below : Option (List ℕ)) (bits : List Bool) (d : ℕ) (r : Option ℕ) (last : ℕ) (t : SoFar) (end : ℕ) → HasHead (unlimited p) d r → ltb 0 (value_or_0 r) ≡ false → p.nodes ≤ 2 ^ 62 → next (unlimited p) (context_on p page below) t ≡ need.End
     → ltb 0 (value_or_0 t.reference) ≡ is_some below → LeadsTo (unlimited p) (context_on p page below) bits (state d r None [] false None [] [] []) last t end → Middle p page below bits d r last t end
@@ -102,20 +107,7 @@ middle_plain p page below bits d r last t end h none few ends refers on =
     let no_below : is_some below ≡ false = sym (whole_reference (unlimited p) (context_on p page below) bits d r None [] false last t end below refers tail) ∙ none in
     let zero_r : value_or_0 r ≡ 0 = (let e : value_or_0 r ≤ 0 = ltb-false 0 (value_or_0 r) none in omega (arith, e)) in
     let nothing : copy (context_on p page below) r [] ≡ [] = copied_none (context_on p page below) r zero_r in
-    record {
-      n = None;
-      bs = [];
-      k = false;
-      values = [];
-      mid = last;
-      end = last;
-      count_stands = no_word (is_some below) p.block_counts (drop last bits) no_below;
-      blocks_stand = refl;
-      blocks_are = refl;
-      within = omega arith;
-      copied_fit = omega (arith, ap (λ (l : List ℕ). length l) nothing);
-      tail = tail;
-    }
+    middle_alone p page below bits d r last t end no_below nothing tail
 
 middle_referring : (p : Parameters) (page : ℕ) (below : Option (List ℕ)) (bits : List Bool) (d : ℕ) (r : Option ℕ) (last : ℕ) (t : SoFar) (end : ℕ) → HasHead (unlimited p) d r → ltb 0 (value_or_0 r) ≡ true → p.nodes ≤ 2 ^ 62 → next (unlimited p) (context_on p page below) t ≡ need.End
     → ltb 0 (value_or_0 t.reference) ≡ is_some below → LeadsTo (unlimited p) (context_on p page below) bits (state d r None [] false None [] [] []) last t end → Middle p page below bits d r last t end

@@ -3,15 +3,15 @@ use Rattle.std.proofs.Common.{◌≡◌, ℕ, zero, suc, ◌+◌, ◌-◌, ◌*�
 use Rattle.std.proofs.Math.ListN.{replicate}
 use Rattle.std.proofs.Math.Nat.{div-mul-le_self, mul_comm}
 use Rattle.std.proofs.Math.Pow.{pow_mono}
-use Rattle.std.proofs.lemmas.Nat.{pow_pos, shr_high}
+use Rattle.std.proofs.lemmas.Nat.{pow_pos}
 use Rattle.std.proofs.lemmas.List.{drop_at, get_or-drop, get_or_append_left}
 use Rattle.wg_params.specs.declared.code.Code.{Code}
 use Rattle.wg_params.specs.declared.code.Code.TheVariants.{Unary, Gamma, Delta, Zeta, Nibble}
 use Rattle.wg_params.specs.Codes.{IsCode}
 use Rattle.wg_bits.specs.Bits.{low_bits, front}
 use Rattle.wg_bits.proofs.Fronts.{front_from, front_agrees}
-use Rattle.wg_bits.proofs.LowBits.{length-low_bits, low_bits-above}
-use Rattle.wg_bits.proofs.Words.{at_high, at_low, shifted}
+use Rattle.wg_bits.proofs.LowBits.{length-low_bits}
+use Rattle.wg_bits.proofs.Words.{shift_at}
 use Rattle.wg_codes.specs.declared.outcome.Word.{Word}
 use Rattle.wg_codes.specs.Words.{word, top}
 use Rattle.wg_codes.specs.Reading.{Begins}
@@ -23,24 +23,6 @@ use Rattle.wg_decoder.specs.Proper.Near.{IsNear}
 -- bits that were loaded
 pub near_all : (near : ℕ) (z : List Bool) → low_bits 64 near ≡ front 64 z → IsNear near 64 z
 near_all near z e = (omega arith, front_agrees near z e)
-
--- a bit of a number that is shifted up
-shift_at : (n s i : ℕ) → i + s < 64 → get_or (low_bits 64 (n * 2 ^ s % 2 ^ 64)) i false ≡ get_or (low_bits 64 n) (s + i) false
-shift_at n s i l =
-    let t = shifted n s (omega arith) in
-    let b : ℕ = t.0 in
-    let a : ℕ = t.1 in
-    let sum : 64 - s + s ≡ 64 = omega arith in
-    let turned : s + (64 - s) ≡ 64 = omega arith in
-    let back : b * 2 ^ s / 2 ^ s ≡ b = ap (λ m. m / 2 ^ s) (let e : b * 2 ^ s ≡ b * 2 ^ s + 0 = omega arith in e) ∙ shr_high b s 0 (pow_pos s) in
-    ap (λ m. get_or (low_bits 64 m) i false) t.3
-    ∙ ap (λ k. get_or (low_bits k (b * 2 ^ s)) i false) (sym sum)
-    ∙ at_high (64 - s) s (b * 2 ^ s) i (omega arith)
-    ∙ ap (λ m. get_or (low_bits (64 - s) m) i false) back
-    ∙ ap (λ z. get_or z i false) (sym (low_bits-above (64 - s) a b))
-    ∙ ap (λ m. get_or (low_bits (64 - s) m) i false) (sym t.2)
-    ∙ sym (at_low s (64 - s) n i)
-    ∙ ap (λ k. get_or (low_bits k n) (s + i) false) turned
 
 -- bits that are passed
 pub near_passed : (near known by : ℕ) (z : List Bool) → IsNear near known z → by < known → IsNear (near * 2 ^ by % 2 ^ 64) (known - by) (drop by z)

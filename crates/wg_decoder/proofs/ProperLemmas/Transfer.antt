@@ -53,7 +53,7 @@ join s u t (inl h) k = inl h
 join s u t (inr h) (inl k) = inl (h ∙ k)
 join s u t (inr h) (inr k) = inr (h ∙ k)
 
-fields_keep : (p : Parameters) (c : Context) (bits : List Bool) (s : SoFar) (at : ℕ) (vs : List ℕ) (t : SoFar) (end : ℕ) → Fields p c bits s at vs t end → (s.reference ≡ None) ⊎ (s.reference ≡ t.reference)
+pub fields_keep : (p : Parameters) (c : Context) (bits : List Bool) (s : SoFar) (at : ℕ) (vs : List ℕ) (t : SoFar) (end : ℕ) → Fields p c bits s at vs t end → (s.reference ≡ None) ⊎ (s.reference ≡ t.reference)
 fields_keep p c bits s at [] t end h = inr (ap (λ (x : SoFar). x.reference) (sym h.0))
 fields_keep p c bits s at (v ∷ vs) t end h = join s h.0 t (stands_keep (next p c s) p c bits s at v h.1 h.0 refl h.2) (fields_keep p c bits h.0 h.1 vs t end h.3)
 
@@ -82,7 +82,7 @@ stands_near (need.Read f code) p c bits s at v mid u x near = near_of p c (after
 stands_near need.Check p c bits s at v mid u x near = near_of p c (after p c s field.Copied v) u x.3 (after_near p c s field.Copied v x.2 near)
 stands_near need.End p c bits s at v mid u x near = absurd x
 
-fields_near : (p : Parameters) (c : Context) (bits : List Bool) (s : SoFar) (at : ℕ) (vs : List ℕ) (t : SoFar) (end : ℕ) → Fields p c bits s at vs t end → value_or_0 s.reference ≤ min p.window c.page → value_or_0 t.reference ≤ min p.window c.page
+pub fields_near : (p : Parameters) (c : Context) (bits : List Bool) (s : SoFar) (at : ℕ) (vs : List ℕ) (t : SoFar) (end : ℕ) → Fields p c bits s at vs t end → value_or_0 s.reference ≤ min p.window c.page → value_or_0 t.reference ≤ min p.window c.page
 fields_near p c bits s at [] t end h near = near_of p c s t h.0 near
 fields_near p c bits s at (v ∷ vs) t end h near = fields_near p c bits h.0 h.1 vs t end h.3 (stands_near (next p c s) p c bits s at v h.1 h.0 h.2 near)
 

@@ -51,77 +51,67 @@ with_residuals-requires-clause-below g c =
     let n = c.args.params.now.nodes in
     union_below n c.in_ok-members.members.now c.intervals.new.inside c.in_ok-others.others.now ((rw c.as_slice-inside.ensures at c.in_ok-others.ensures) n c.in_ok-members.ensures.below c.in_ok-intervals.ensures.below)
 
-pub returns-clause-reads : goal.returns-clause-reads
-returns-clause-reads g c = λ bits r.
-    let q = c.args.params.now in
-    let page = c.args.page in
-    let h = c.args.head in
-    let s = g.S.Source in
-    let kept = c.in_ok-members.members.now in
-    let inside = c.intervals.new.inside in
-    let others = c.in_ok-others.others.now in
-    let on = g.met.S.Source.same_bits _ _ bits c.in_ok-members.ensures.later r in
-    let further = g.met.S.Source.same_bits _ _ bits c.in_ok-intervals.ensures.later on in
-    let extra = h.outdegree - length c.in_ok-members.members.now in
-    let missing = extra - length c.as_slice-inside.result.now in
-    let extra_is : extra ≡ h.outdegree - length kept = omega arith in
-    let missing_is : missing ≡ h.outdegree - length kept - length inside = omega (arith, extra_is, ap length c.as_slice-inside.ensures) in
-    on_ok_weaker c.with_residuals.result
-    (λ joined before start behind names head.
-    let reached = inside_reached q page h.outdegree h.reference bits c.requires.some before start behind (s.offset c.args.source.now) head kept (s.offset c.copied.new.source) extra inside (s.offset c.intervals.new.source)
-    extra_is (c.in_ok-members.ensures.ok bits r behind names) (c.in_ok-intervals.ensures.ok bits on) in
-    all_read q (context_at page before behind) page (s.reads_from c.intervals.new.source) bits bits start h.outdegree h.reference kept inside (s.offset c.intervals.new.source) missing others c.with_residuals.new.list (s.offset c.with_residuals.new.source)
-    refl refl c.requires.some missing_is reached ((rw c.as_slice-inside.ensures at c.in_ok-others.ensures) q.nodes c.in_ok-members.ensures.below c.in_ok-intervals.ensures.below) further joined)
-    c.with_residuals.ensures.ok
-
-pub returns-clause-fault : goal.returns-clause-fault
-returns-clause-fault g c = λ bits r.
-    let q = c.args.params.now in
-    let page = c.args.page in
-    let h = c.args.head in
-    let s = g.S.Source in
-    let kept = c.in_ok-members.members.now in
-    let inside = c.intervals.new.inside in
-    let on = g.met.S.Source.same_bits _ _ bits c.in_ok-members.ensures.later r in
-    let further = g.met.S.Source.same_bits _ _ bits c.in_ok-intervals.ensures.later on in
-    let extra = h.outdegree - length c.in_ok-members.members.now in
-    let missing = extra - length c.as_slice-inside.result.now in
-    let extra_is : extra ≡ h.outdegree - length kept = omega arith in
-    let missing_is : missing ≡ h.outdegree - length kept - length inside = omega (arith, extra_is, ap length c.as_slice-inside.ensures) in
-    faults_weaker c.with_residuals.result _ _
-    (λ e not_so before start behind names head.
-    let reached = inside_reached q page h.outdegree h.reference bits c.requires.some before start behind (s.offset c.args.source.now) head kept (s.offset c.copied.new.source) extra inside (s.offset c.intervals.new.source)
-    extra_is (c.in_ok-members.ensures.ok bits r behind names) (c.in_ok-intervals.ensures.ok bits on) in
-    no_residuals q (context_at page before behind) page bits bits start h.outdegree h.reference kept inside (s.offset c.intervals.new.source) missing e refl refl c.requires.some missing_is reached not_so)
-    (c.with_residuals.ensures.fault bits further)
-
-pub returns-clause-ascends : goal.returns-clause-ascends
-returns-clause-ascends g c =
-    on_ok_weaker c.with_residuals.result (λ j. union_ascends c.args.params.now.nodes c.in_ok-others.others.now j.residuals c.with_residuals.new.list j.union) c.with_residuals.ensures.ok
-
-pub returns-clause-below : goal.returns-clause-below
-returns-clause-below g c =
-    on_ok_weaker c.with_residuals.result (λ j. union_below c.args.params.now.nodes c.in_ok-others.others.now j.residuals c.with_residuals.new.list j.union) c.with_residuals.ensures.ok
-
-pub returns-clause-few : goal.returns-clause-few
-returns-clause-few g c =
-    let n = c.args.params.now.nodes in
-    let united = (rw c.as_slice-inside.ensures at c.in_ok-others.ensures) n c.in_ok-members.ensures.below c.in_ok-intervals.ensures.below in
-    let few = union_short n c.in_ok-members.members.now c.intervals.new.inside c.in_ok-others.others.now united in
-    on_ok_weaker c.with_residuals.result
-    (λ j.
-    let all = union_short n c.in_ok-others.others.now j.residuals c.with_residuals.new.list j.union in
-    omega (arith, few, all, j.all, c.in_ok-members.ensures.fits, c.in_ok-intervals.ensures.fits, ap length c.as_slice-inside.ensures))
-    c.with_residuals.ensures.ok
-
-pub returns-clause-later : goal.returns-clause-later
-returns-clause-later g c = g.met.S.Source.goes_on _ _ _ c.in_ok-members.ensures.later (g.met.S.Source.goes_on _ _ _ c.in_ok-intervals.ensures.later c.with_residuals.ensures.later)
-
-pub returns-clause-refused : goal.returns-clause-refused
-returns-clause-refused g c =
-    refusals_weaker c.with_residuals.result _ _
-    (λ x h. g.met.S.Source.still_caused _ _ _ x c.in_ok-members.ensures.later (g.met.S.Source.still_caused _ _ _ x c.in_ok-intervals.ensures.later h))
-    c.with_residuals.ensures.refused
+pub returns : goal.returns
+returns g c = record {
+  later = g.met.S.Source.goes_on _ _ _ c.in_ok-members.ensures.later (g.met.S.Source.goes_on _ _ _ c.in_ok-intervals.ensures.later c.with_residuals.ensures.later);
+  refused =
+      refusals_weaker c.with_residuals.result _ _
+      (λ x h. g.met.S.Source.still_caused _ _ _ x c.in_ok-members.ensures.later (g.met.S.Source.still_caused _ _ _ x c.in_ok-intervals.ensures.later h))
+      c.with_residuals.ensures.refused;
+  reads = λ bits r.
+      let q = c.args.params.now in
+      let page = c.args.page in
+      let h = c.args.head in
+      let s = g.S.Source in
+      let kept = c.in_ok-members.members.now in
+      let inside = c.intervals.new.inside in
+      let others = c.in_ok-others.others.now in
+      let on = g.met.S.Source.same_bits _ _ bits c.in_ok-members.ensures.later r in
+      let further = g.met.S.Source.same_bits _ _ bits c.in_ok-intervals.ensures.later on in
+      let extra = h.outdegree - length c.in_ok-members.members.now in
+      let missing = extra - length c.as_slice-inside.result.now in
+      let extra_is : extra ≡ h.outdegree - length kept = omega arith in
+      let missing_is : missing ≡ h.outdegree - length kept - length inside = omega (arith, extra_is, ap length c.as_slice-inside.ensures) in
+      on_ok_weaker c.with_residuals.result
+      (λ joined before start behind names head.
+      let reached = inside_reached q page h.outdegree h.reference bits c.requires.some before start behind (s.offset c.args.source.now) head kept (s.offset c.copied.new.source) extra inside (s.offset c.intervals.new.source)
+      extra_is (c.in_ok-members.ensures.ok bits r behind names) (c.in_ok-intervals.ensures.ok bits on) in
+      all_read q (context_at page before behind) page (s.reads_from c.intervals.new.source) bits bits start h.outdegree h.reference kept inside (s.offset c.intervals.new.source) missing others c.with_residuals.new.list (s.offset c.with_residuals.new.source)
+      refl refl c.requires.some missing_is reached ((rw c.as_slice-inside.ensures at c.in_ok-others.ensures) q.nodes c.in_ok-members.ensures.below c.in_ok-intervals.ensures.below) further joined)
+      c.with_residuals.ensures.ok;
+  fault = λ bits r.
+      let q = c.args.params.now in
+      let page = c.args.page in
+      let h = c.args.head in
+      let s = g.S.Source in
+      let kept = c.in_ok-members.members.now in
+      let inside = c.intervals.new.inside in
+      let on = g.met.S.Source.same_bits _ _ bits c.in_ok-members.ensures.later r in
+      let further = g.met.S.Source.same_bits _ _ bits c.in_ok-intervals.ensures.later on in
+      let extra = h.outdegree - length c.in_ok-members.members.now in
+      let missing = extra - length c.as_slice-inside.result.now in
+      let extra_is : extra ≡ h.outdegree - length kept = omega arith in
+      let missing_is : missing ≡ h.outdegree - length kept - length inside = omega (arith, extra_is, ap length c.as_slice-inside.ensures) in
+      faults_weaker c.with_residuals.result _ _
+      (λ e not_so before start behind names head.
+      let reached = inside_reached q page h.outdegree h.reference bits c.requires.some before start behind (s.offset c.args.source.now) head kept (s.offset c.copied.new.source) extra inside (s.offset c.intervals.new.source)
+      extra_is (c.in_ok-members.ensures.ok bits r behind names) (c.in_ok-intervals.ensures.ok bits on) in
+      no_residuals q (context_at page before behind) page bits bits start h.outdegree h.reference kept inside (s.offset c.intervals.new.source) missing e refl refl c.requires.some missing_is reached not_so)
+      (c.with_residuals.ensures.fault bits further);
+  ascends =
+      on_ok_weaker c.with_residuals.result (λ j. union_ascends c.args.params.now.nodes c.in_ok-others.others.now j.residuals c.with_residuals.new.list j.union) c.with_residuals.ensures.ok;
+  below =
+      on_ok_weaker c.with_residuals.result (λ j. union_below c.args.params.now.nodes c.in_ok-others.others.now j.residuals c.with_residuals.new.list j.union) c.with_residuals.ensures.ok;
+  few =
+      let n = c.args.params.now.nodes in
+      let united = (rw c.as_slice-inside.ensures at c.in_ok-others.ensures) n c.in_ok-members.ensures.below c.in_ok-intervals.ensures.below in
+      let few = union_short n c.in_ok-members.members.now c.intervals.new.inside c.in_ok-others.others.now united in
+      on_ok_weaker c.with_residuals.result
+      (λ j.
+      let all = union_short n c.in_ok-others.others.now j.residuals c.with_residuals.new.list j.union in
+      omega (arith, few, all, j.all, c.in_ok-members.ensures.fits, c.in_ok-intervals.ensures.fits, ap length c.as_slice-inside.ensures))
+      c.with_residuals.ensures.ok;
+}
 
 pub returns-in_err-others-clause-later : goal.returns-in_err-others-clause-later
 returns-in_err-others-clause-later g c = g.met.S.Source.goes_on _ _ _ c.in_ok-members.ensures.later c.in_ok-intervals.ensures.later
