@@ -1,5 +1,5 @@
 -- Words of an offsets file, one after the other.
-use Rattle.std.proofs.Common.{◌≡◌, ℕ, suc, ◌+◌, ◌-◌, ◌≤◌, Bool, true, false, cond, nat_lt, ◌==◌, ◌&&◌, List, [], ◌∷◌, ◌++◌, length, drop, sum, None, Some, Ok, Err, inl, refl, sym, ◌∙◌, ap, subst, arith, length-append}
+use Rattle.std.proofs.Common.{◌≡◌, ℕ, suc, ◌+◌, ◌-◌, ◌≤◌, Bool, true, false, cond, nat_lt, ◌==◌, ◌&&◌, List, [], ◌∷◌, ◌++◌, length, drop, sum, None, Some, Err, inl, refl, sym, ◌∙◌, ap, subst, arith, length-append}
 use Rattle.std.proofs.lemmas.List.{get_or_push}
 use Rattle.std.proofs.lemmas.Bool.{ltb-false}
 use Rattle.wg_params.specs.declared.code.Code.{Code}
@@ -9,7 +9,6 @@ use Rattle.wg_codes.specs.Words.{word, top}
 use Rattle.wg_codes.specs.Reading.{Reads}
 use Rattle.wg_graph.specs.Copied.{ends_of}
 use Rattle.wg_graph.proofs.Copies.{sum_cons, sum_push}
-use Rattle.wg_grammar.specs.Archive.{IsTail}
 use Rattle.wg_grammar.specs.declared.fault.OffsetWord.{OffsetWord}
 use Rattle.wg_grammar.specs.declared.fault.OffsetWord.TheVariants as faults
 use Rattle.wg_offsets.specs.Words.{places_of, refusal, Words, IsRefused, ReadsOffsets}
@@ -42,9 +41,6 @@ length_ends n [] = refl
 length_ends n (x ∷ vs) = ap suc (length_ends (n + x) vs)
 
 module _ (c : Code) (bits : List Bool) where
-  pub none_yet : PrefixRead c bits 0 0 0 []
-  none_yet = record { read = []; values = []; words = (refl, refl); number = refl; total = refl; lead = refl }
-
   pub one_more : (count at offset : ℕ) (places : List ℕ) (next end : ℕ) → PrefixRead c bits count at offset places → LeadsTo c bits count offset at next end
       → PrefixRead c bits (count + 1) end next (places ++ next ∷ [])
   one_more count at offset places next end h leads =
@@ -70,10 +66,6 @@ module _ (c : Code) (bits : List Bool) where
       subst (λ (k : ℕ). refusal k (sum h.values) refuses.0 ≡ Some e) (sym h.number)
       (subst (λ (k : ℕ). refusal count k refuses.0 ≡ Some e) (sym h.total) refuses.2) in
       (h.read, h.values, at, h.words, inl (omega (arith, h.number), (refuses.0, refuses.1, why)))
-
-  -- all words stand, and what follows them decides
-  pub all_stand : (n at offset : ℕ) (places : List ℕ) → PrefixRead c bits (n + 1) at offset places → IsTail bits at → ReadsOffsets c n bits (Ok places)
-  all_stand n at offset places h tail = (h.read, h.values, at, h.words, (h.number, tail, h.lead))
 
 -- the last offset after one more
 pub last_more : (places : List ℕ) (p : ℕ) → last_place (places ++ p ∷ []) ≡ p

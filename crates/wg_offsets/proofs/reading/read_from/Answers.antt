@@ -1,6 +1,6 @@
 use Rattle.std.proofs.Common.{◌∙◌, ℕ, Ok, subst, arith}
 use Rattle.std.proofs.lemmas.List.{length_push}
-use Rattle.std.proofs.lemmas.Result.{err_from_is_err_and}
+use Rattle.wg_outside.proofs.PutsLemmas.{is_that_err}
 use Rattle.wg_params.specs.declared.code.Code.{Code}
 use Rattle.wg_offsets.specs.Words.{ReadsOffsets}
 use Rattle.wg_offsets.proofs.ErrorLemmas.{fault_of_file, refusal_of_file}
@@ -11,8 +11,7 @@ pub returns-in_err-offset : goal.returns-in_err-offset
 returns-in_err-offset g c =
     let i = c.loop-word.invariant in
     let n = c.in_err-offset.ensures in
-    let e = err_from_is_err_and c.from_residual.result c.from_residual.ensures.1 in
-    rw (e.1, e.2) record {
+    rw (is_that_err c.from_residual.result _ c.from_residual.ensures.1) record {
       count = tt;
       later = g.met.S.Source.goes_on _ _ _ i.later n.later;
       refused = refusal_of_file c.in_err-offset.field-0.0 _ _ (λ x h. g.met.S.Source.still_caused _ _ _ x i.later h) n.refused;
@@ -22,8 +21,7 @@ returns-in_err-offset g c =
 
 pub returns-in_err-push : goal.returns-in_err-push
 returns-in_err-push g c =
-    let e = err_from_is_err_and c.from_residual-in_err-push.result c.from_residual-in_err-push.ensures.1 in
-    rw (e.1, e.2) record {
+    rw (is_that_err c.from_residual-in_err-push.result _ c.from_residual-in_err-push.ensures.1) record {
       count = tt;
       later = g.met.S.Source.goes_on _ _ _ c.loop-word.invariant.later c.in_ok-offset.ensures.later;
       refused = tt;
@@ -35,8 +33,7 @@ pub returns-in_err-finish : goal.returns-in_err-finish
 returns-in_err-finish g c =
     let i = c.loop-word.invariant in
     let n = c.in_err-finish.ensures in
-    let e = err_from_is_err_and c.from_residual-in_err-finish.result c.from_residual-in_err-finish.ensures.1 in
-    rw (e.1, e.2) record {
+    rw (is_that_err c.from_residual-in_err-finish.result _ c.from_residual-in_err-finish.ensures.1) record {
       count = tt;
       later = g.met.S.Source.goes_on _ _ _ i.later n.later;
       refused = refusal_of_file c.in_err-finish.field-0.0 _ _ (λ x h. g.met.S.Source.still_caused _ _ _ x i.later h) n.refused;

@@ -1,5 +1,5 @@
 use Rattle.std.proofs.Common.{◌∙◌, [], ◌∷◌, ◌++◌, arith}
-use Rattle.std.proofs.lemmas.Result.{err_from_is_err_and}
+use Rattle.wg_outside.proofs.PutsLemmas.{is_that_err}
 use Rattle.wg_offsets.proofs.samples.go_on.Goals as goal
 
 pub returns-in_err-next-clause-fault : goal.returns-in_err-next-clause-fault
@@ -7,8 +7,7 @@ returns-in_err-next-clause-fault g c = λ bits before r h.
     let i = c.loop-word.invariant in
     let on = g.met.S.Source.same_bits _ _ bits i.later r in
     let a = i.read bits before r h in
-    let e = err_from_is_err_and c.from_residual.result c.from_residual.ensures.1 in
-    rw (e.1, e.2) (rw (i.code, i.pages) at (c.in_err-next.ensures.fault bits a.0 on a.1))
+    rw (is_that_err c.from_residual.result _ c.from_residual.ensures.1) (rw (i.code, i.pages) at (c.in_err-next.ensures.fault bits a.0 on a.1))
 
 pub loop-word-preserved : goal.loop-word-preserved
 loop-word-preserved g c =

@@ -1,5 +1,5 @@
 use Rattle.std.proofs.Common.{◌≡◌, ◌∙◌, ◌+◌, [], ◌∷◌, ◌++◌, sym, arith}
-use Rattle.std.proofs.lemmas.Result.{err_from_is_err_and}
+use Rattle.wg_outside.proofs.PutsLemmas.{is_that_err}
 use Rattle.wg_offsets.proofs.ErrorLemmas.{fault_of_file, refusal_of_file}
 use Rattle.wg_offsets.proofs.SamplesLemmas.{read_as}
 use Rattle.wg_offsets.proofs.samples.Samples.read.Goals as goal
@@ -8,8 +8,7 @@ pub returns-in_err-place : goal.returns-in_err-place
 returns-in_err-place g c =
     let i = c.loop-page.invariant in
     let n = c.in_err-place.ensures in
-    let e = err_from_is_err_and c.from_residual.result c.from_residual.ensures.1 in
-    rw (e.1, e.2) record {
+    rw (is_that_err c.from_residual.result _ c.from_residual.ensures.1) record {
       pages = tt;
       code = tt;
       later = g.met.S.Source.goes_on _ _ _ i.later n.later;
@@ -44,8 +43,7 @@ loop-page-preserved g c =
 
 pub returns-in_err-keep : goal.returns-in_err-keep
 returns-in_err-keep g c =
-    let e = err_from_is_err_and c.from_residual-in_err-keep.result c.from_residual-in_err-keep.ensures.1 in
-    rw (e.1, e.2) record {
+    rw (is_that_err c.from_residual-in_err-keep.result _ c.from_residual-in_err-keep.ensures.1) record {
       pages = tt;
       code = tt;
       later = g.met.S.Source.goes_on _ _ _ c.loop-page.invariant.later c.in_ok-place.ensures.later;
@@ -58,8 +56,7 @@ pub returns-in_err-finish : goal.returns-in_err-finish
 returns-in_err-finish g c =
     let i = c.loop-page.invariant in
     let n = c.in_err-finish.ensures in
-    let e = err_from_is_err_and c.from_residual-in_err-finish.result c.from_residual-in_err-finish.ensures.1 in
-    rw (e.1, e.2) record {
+    rw (is_that_err c.from_residual-in_err-finish.result _ c.from_residual-in_err-finish.ensures.1) record {
       pages = tt;
       code = tt;
       later = g.met.S.Source.goes_on _ _ _ i.later n.later;
