@@ -89,10 +89,6 @@ at_end file h1 h2 end same i =
     let none : length i.behind ≡ 0 = omega (arith, ap length i.whole, sum, sum2, i.offset, end) in
     subst (IsHeldOf file) (sym same) (record { before = i.before; behind = i.behind; whole = i.whole; offset = i.offset; ended = λ _. nil_from_length i.behind none; short = i.short })
 
--- no more can be held of it
-pub past_end : (file : List ℕ) (h : Held) → IsHeldOf file h → h.first + length h.bytes ≤ length file
-past_end file h i = omega (arith, ap length i.whole, length-append i.before (h.bytes ++ i.behind), length-append h.bytes i.behind, i.offset)
-
 -- a read of a file that is there
 pub piece_at : (o : Option (List ℕ)) (file : List ℕ) (at : ℕ) (buf : List ℕ) (count : ℕ) → o ≡ Some file → Reads o at buf (Ok count) → IsPieceOf file at buf count
 piece_at o file at buf count is told = subst (λ (q : Option (List ℕ)). Reads q at buf (Ok count)) is told
