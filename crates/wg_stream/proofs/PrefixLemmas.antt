@@ -1,5 +1,5 @@
 -- Records of pages, one after the other.
-use Rattle.std.proofs.Common.{◌≡◌, ℕ, zero, suc, ◌+◌, ◌<◌, ◌≤◌, Bool, List, [], ◌∷◌, ◌++◌, length, take, sum_by, refl, sym, ◌∙◌, ap, subst, arith, add_comm, Ok, Err, map}
+use Rattle.std.proofs.Common.{◌≡◌, ℕ, zero, suc, ◌+◌, ◌<◌, Bool, List, [], ◌∷◌, ◌++◌, length, take, sum_by, refl, sym, ◌∙◌, ap, subst, arith, add_comm, Ok, Err, map}
 use Rattle.std.proofs.lemmas.List.{reverse-append, length-reverse, length-map}
 use Rattle.std.proofs.lemmas.List.Sums.{sum_by-cons, sum_by-append}
 use Rattle.wg_params.specs.Parameters.{Parameters}
@@ -10,7 +10,7 @@ use Rattle.wg_grammar.specs.Context.{Known, Context}
 use Rattle.wg_grammar.specs.Record.{Whole, ReadsRecord}
 use Rattle.wg_grammar.specs.Archive.{Pages, context_of, lists_of, places_of, ReadsGraph}
 use Rattle.wg_decoder.specs.Answer.{context_at}
-use Rattle.wg_stream.specs.Prefix.{PagesRead, PrefixRead, IsOneMore, IsEnded}
+use Rattle.wg_stream.specs.Prefix.{PagesRead, PrefixRead, IsOneMore}
 
 -- a record more after no record
 first_page : (p : Parameters) (bits : List Bool) (first last : List Whole) (at mid : ℕ) (w : Whole) → last ≡ first → mid ≡ at
@@ -59,19 +59,6 @@ pub length-lists : (behind : List Whole) → length (lists_of behind) ≡ length
 length-lists behind = length-reverse (map (λ (v : Whole). v.known.list) behind) ∙ length-map behind (λ (v : Whole). v.known.list)
 
 module _ (p : Parameters) (bits : List Bool) where
-  pub none_yet : PrefixRead p bits 0 0 0 [] []
-  none_yet = record {
-    stood = [];
-    records = (refl, refl);
-    count = refl;
-    total = refl;
-    nearest = sym (take_none p.window);
-  }
-    where
-      take_none : (w : ℕ) → take {A = Known} w [] ≡ []
-      take_none zero = refl
-      take_none (suc w) = refl
-
   -- the context in which the next record is read
   pub next_context : (pages arcs at : ℕ) (kept : List Known) (behind : List Whole) (h : PrefixRead p bits pages arcs at kept behind) → context_at pages arcs kept ≡ context_of p behind
   next_context pages arcs at kept behind h = λ i. record { page = sym h.count i; arcs_before = sym h.total i; behind = h.nearest i }
@@ -98,11 +85,6 @@ module _ (p : Parameters) (bits : List Bool) where
     h.records,
     (omega (arith, h.count), subst (λ (c : Context). ReadsRecord p c bits at (Err e)) (next_context pages arcs at kept behind h) reads),
   )
-
-  -- the records of all pages stand, and what follows them decides
-  pub all_stand : (arcs at : ℕ) (kept : List Known) (behind : List Whole) → PrefixRead p bits p.nodes arcs at kept behind → arcs ≤ p.arcs → IsEnded p.arcs arcs bits at
-      → ReadsGraph p bits (Ok (record { graph = lists_of behind; places = places_of behind }))
-  all_stand arcs at kept behind h within e = (h.stood, behind, at, h.records, (h.count, e.tail, omega (arith, h.total, within, e.enough), refl, refl))
 
 -- the same end by another name
 pub one_more_to : (bits : List Bool) (r : PagesRead) (a b : ℕ) (behind : List Whole) → a ≡ b → IsOneMore bits r a behind → IsOneMore bits r b behind

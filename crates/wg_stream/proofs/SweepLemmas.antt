@@ -1,5 +1,5 @@
 -- The rows of a sweep.
-use Rattle.std.proofs.Common.{◌≡◌, ℕ, zero, suc, ◌-◌, ◌<◌, ◌≤◌, ◌≢◌, Bool, inl, inr, List, [], ◌∷◌, ◌++◌, length, take, drop, map, Option, Some, None, Ok, Err, Result, refl, sym, ap, subst, ◌∙◌, arith}
+use Rattle.std.proofs.Common.{◌≡◌, ℕ, zero, suc, ◌-◌, ◌<◌, ◌≤◌, ◌≢◌, Bool, inl, inr, List, [], ◌∷◌, ◌++◌, length, take, drop, map, Option, Ok, Err, Result, refl, sym, ap, subst, ◌∙◌, arith}
 use Rattle.std.specs.Prelude.{get_or, set, max, All}
 use Rattle.std.proofs.Math.Logic.{∥∥₁_elim}
 use Rattle.std.proofs.lemmas.Bool.{cases_lt}
@@ -73,17 +73,6 @@ kept_more records page turn next rows list within on kept is row back lt some be
 -- there is none to keep before the first page, or if there are no rows
 pub kept_none : (records : List Whole) (page turn : ℕ) (rows : List Filled) → page ≡ 0 → AreKept records page rows turn
 kept_none records page turn rows none row back lt some before near there = absurd (omega (arith, none, some, before))
-
--- the row of a page that a reference reaches
-pub list_there : (records : List Whole) (page turn back at : ℕ) (rows : List Filled) (row : Filled) (result : Option (List ℕ)) → 0 < back → back ≤ page → back ≤ length rows → at < length rows → IsBack (length rows) turn back at
-    → row ≡ get_or rows at no_row → result ≡ Some row.list → AreKept records page rows turn → result ≡ below_at records page back
-list_there records page turn zero at rows row result some near reach within there is gives kept = absurd (omega (arith, some))
-list_there records page turn (suc r) at rows row result some near reach within there is gives kept =
-    gives ∙ ap (λ (l : List ℕ). Some l) (ap (λ (f : Filled). f.list) is ∙ kept at (suc r) within some near reach there)
-
-pub list_none : (records : List Whole) (page back : ℕ) → back ≡ 0 → None ≡ below_at records page back
-list_none records page zero none = refl
-list_none records page (suc r) none = absurd (omega (arith, none))
 
 -- ---- no fault
 

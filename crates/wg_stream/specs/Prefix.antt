@@ -1,12 +1,10 @@
 -- How far the records of an archive have been read.
-use Rattle.std.specs.Prelude.{◌≡◌, ◌<◌, ◌≤◌, ℕ, Bool, List, [], ◌∷◌, length, take, map}
+use Rattle.std.specs.Prelude.{◌≡◌, ◌≤◌, ℕ, Bool, List, [], ◌∷◌, length, take, map}
 use Rattle.wg_params.specs.Parameters.{Parameters}
 use Rattle.wg_graph.specs.Ascending.{Ascends, Below}
 use Rattle.wg_grammar.specs.Context.{Known}
 use Rattle.wg_grammar.specs.Record.{Whole}
-use Rattle.wg_grammar.specs.Archive.{Pages, arcs_of, IsTail, IsTailFault}
-use Rattle.wg_grammar.specs.declared.fault.ArchiveFault.{ArchiveFault}
-use Rattle.wg_grammar.specs.declared.fault.ArchiveFault.TheVariants as archive
+use Rattle.wg_grammar.specs.Archive.{Pages, arcs_of}
 use Rattle.wg_decoder.specs.Remembered.{Serves}
 
 -- the parameters; how many pages and arcs were read; what is kept of the pages before the next, the nearest first; and
@@ -44,16 +42,3 @@ AreBehind bits r at behind = PrefixRead r.params bits r.page r.arcs at r.kept be
 -- one record more was read than these: it has the list of the page that was read last, and ends at the bit at
 abbrev pub IsOneMore : List Bool → PagesRead → ℕ → List Whole → Type 0
 IsOneMore bits r at behind = (w : Whole) × (w.known.list ≡ r.list) × (w.end ≡ at) × AreBehind bits r at (w ∷ behind)
-
--- after the records a tail stands, and there are as many arcs as are promised
-pub record IsEnded (promised arcs : ℕ) (bits : List Bool) (at : ℕ) : Type 0 where
-  pub tail : IsTail bits at
-  pub enough : promised ≤ arcs
-
--- after the records no tail stands, or there are too few arcs
-abbrev pub IsEndFault : ℕ → ℕ → List Bool → ℕ → ArchiveFault → Type 0
-IsEndFault promised arcs bits at (archive.Tail offset) = IsTailFault bits at offset
-IsEndFault promised arcs bits at (archive.ArcsShort total) = IsTail bits at × (total ≡ arcs) × (arcs < promised)
-IsEndFault promised arcs bits at (archive.Record f) = ⊥
-IsEndFault promised arcs bits at (archive.Offsets f) = ⊥
-IsEndFault promised arcs bits at (archive.Length page found stored) = ⊥

@@ -1,5 +1,5 @@
 use Rattle.std.proofs.Common.{rules, Bool, ℕ, sym, ap, subst, refl}
-use Rattle.std.proofs.lemmas.Result.{err_from_is_err_and}
+use Rattle.wg_outside.proofs.PutsLemmas.{is_that_err}
 use Rattle.wg_bits.specs.Bits.{bits_of}
 use Rattle.wg_source.specs.Held.{Held}
 use Rattle.wg_stream.specs.Prefix.{AreBehind}
@@ -11,8 +11,7 @@ use Rattle.wg_stream.proofs.parts.go_on.Goals as goal
 -- the error of the look
 pub returns-in_err-look : goal.returns-in_err-look
 returns-in_err-look g c =
-    let e = err_from_is_err_and c.from_residual.result c.from_residual.ensures.1 in
-    rw (e.1, e.2) record {
+    rw (is_that_err c.from_residual.result _ c.from_residual.ensures.1) record {
       params = refl;
       looked = tt;
       more = λ x. absurd (no_ok x);
@@ -31,8 +30,7 @@ pub returns-in_err-judge_end : goal.returns-in_err-judge_end
 returns-in_err-judge_end g c =
     let s = c.in_ok-look.ensures.steps in
     let h = c.in_err-judge_end.ensures in
-    let e = err_from_is_err_and c.from_residual-in_err-judge_end.result c.from_residual-in_err-judge_end.ensures.1 in
-    rw (e.1, e.2) record {
+    rw (is_that_err c.from_residual-in_err-judge_end.result _ c.from_residual-in_err-judge_end.ensures.1) record {
       params = refl;
       looked = tt;
       more = λ x. absurd (no_ok x);
@@ -78,8 +76,7 @@ pub returns-in_err-next_record : goal.returns-in_err-next_record
 returns-in_err-next_record g c =
     let s = c.in_ok-look.ensures.steps in
     let h = c.in_err-next_record.ensures in
-    let e = err_from_is_err_and c.from_residual-in_err-next_record.result c.from_residual-in_err-next_record.ensures.1 in
-    rw (e.1, e.2) record {
+    rw (is_that_err c.from_residual-in_err-next_record.result _ c.from_residual-in_err-next_record.ensures.1) record {
       params = h.params;
       looked = tt;
       more = λ x. absurd (no_ok x);

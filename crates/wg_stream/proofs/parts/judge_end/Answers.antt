@@ -6,40 +6,30 @@ use Rattle.wg_stream.proofs.parts.judge_end.Goals as goal
 
 pub returns-in-Err-clause-fault : goal.returns-in-Err-clause-fault
 returns-in-Err-clause-fault g c = λ t file is i behind r.
-    let d = c.new-source.ensures.depot in
-    let h = c.new-source.ensures.held in
-    let n = c.new-source.ensures.name in
-    let x = c.in-Err.ensures.fault (bits_of file) behind (rw (d, h, n) (t, (file, is, i, refl))) (rw h r) in
+    let a = c.new-source.ensures in
+    let x = c.in-Err.ensures.fault (bits_of file) behind (rw (a.depot, a.held, a.name) (t, (file, is, i, refl))) (rw a.held r) in
     says_graph c.in-Err.error c.first_of.result (λ f. ReadsGraph c.args.pages.now.params (bits_of file) (Err f)) c.first_of.ensures x
 
 pub returns-in-Ok-clause-steps : goal.returns-in-Ok-clause-steps
 returns-in-Ok-clause-steps g c =
-    let d = c.new-source.ensures.depot in
-    let h = c.new-source.ensures.held in
-    let n = c.new-source.ensures.name in
-    let steps = rw (d, h, n) at c.in-Ok.ensures.later.3 in
+    let a = c.new-source.ensures in
+    let steps = rw (a.depot, a.held, a.name) at c.in-Ok.ensures.later.3 in
     search (rules, steps)
 
 pub returns-in-Err-clause-steps : goal.returns-in-Err-clause-steps
 returns-in-Err-clause-steps g c =
-    let d = c.new-source.ensures.depot in
-    let h = c.new-source.ensures.held in
-    let n = c.new-source.ensures.name in
-    let steps = rw (d, h, n) at c.in-Err.ensures.later.3 in
+    let a = c.new-source.ensures in
+    let steps = rw (a.depot, a.held, a.name) at c.in-Err.ensures.later.3 in
     search (rules, steps)
 
 pub returns-in-Err-clause-cause : goal.returns-in-Err-clause-cause
 returns-in-Err-clause-cause g c =
-    let d = c.new-source.ensures.depot in
-    let h = c.new-source.ensures.held in
-    let n = c.new-source.ensures.name in
-    let refused = rw (d, h, n) at c.in-Err.ensures.refused in
+    let a = c.new-source.ensures in
+    let refused = rw (a.depot, a.held, a.name) at c.in-Err.ensures.refused in
     let said = says_outside c.in-Err.error c.first_of.result _ c.first_of.ensures refused in
     search (rules, said)
 
 pub returns-in-Ok-clause-reads : goal.returns-in-Ok-clause-reads
 returns-in-Ok-clause-reads g c = λ t file is i behind r.
-    let d = c.new-source.ensures.depot in
-    let h = c.new-source.ensures.held in
-    let n = c.new-source.ensures.name in
-    c.in-Ok.ensures.reads (bits_of file) behind (rw (d, h, n) (t, (file, is, i, refl))) (rw h r)
+    let a = c.new-source.ensures in
+    c.in-Ok.ensures.reads (bits_of file) behind (rw (a.depot, a.held, a.name) (t, (file, is, i, refl))) (rw a.held r)

@@ -1,6 +1,6 @@
 use Rattle.std.proofs.Common.{◌≡◌, ◌-◌, ◌∙◌, ℕ, List, [], ◌++◌, Ok, length, replicate, sym, ap, subst, arith}
 use Rattle.std.proofs.lemmas.List.{append-nil}
-use Rattle.std.proofs.lemmas.Result.{err_from_is_err_and}
+use Rattle.wg_outside.proofs.PutsLemmas.{is_that_err}
 use Rattle.wg_grammar.specs.Archive.{ReadsGraph}
 use Rattle.wg_stream.proofs.records.read_graph.Goals as goal
 
@@ -14,5 +14,4 @@ returns-clause-reads g c = λ bits r.
 
 pub returns-in_err-read_into-clause-fault : goal.returns-in_err-read_into-clause-fault
 returns-in_err-read_into-clause-fault g c = λ bits r.
-    let p = err_from_is_err_and c.from_residual-in_err-read_into.result c.from_residual-in_err-read_into.ensures.1 in
-    rw (p.1, p.2) (c.in_err-read_into.ensures.fault bits r)
+    rw (is_that_err c.from_residual-in_err-read_into.result _ c.from_residual-in_err-read_into.ensures.1) (c.in_err-read_into.ensures.fault bits r)

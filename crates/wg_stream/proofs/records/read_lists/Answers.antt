@@ -1,5 +1,6 @@
 use Rattle.std.proofs.Common.{◌≡◌, ◌+◌, ◌∙◌, ℕ, List, ◌∷◌, ◌++◌, [], Ok, Err, length, refl, sym, ap, subst, arith}
 use Rattle.std.proofs.lemmas.List.{length-append}
+use Rattle.wg_outside.proofs.PutsLemmas.{is_that_err}
 use Rattle.std.proofs.lemmas.Result.{err_from_is_err_and}
 use Rattle.wg_params.specs.Parameters.{Parameters}
 use Rattle.wg_graph.specs.Ascending.{Below}
@@ -37,8 +38,7 @@ returns-in_err-next-clause-fault g c = λ bits r start.
     let l = c.loop-page in
     let k = l.invariant.read bits r start in
     let on = g.met.S.Source.same_bits _ _ bits l.invariant.later r in
-    let p = err_from_is_err_and c.from_residual.result c.from_residual.ensures.1 in
-    rw (p.1, p.2) (fault_weaker c.in_err-next.field-0.0 _ _
+    rw (is_that_err c.from_residual.result _ c.from_residual.ensures.1) (fault_weaker c.in_err-next.field-0.0 _ _
     (λ f h. subst (λ (q : Parameters). ReadsGraph q bits (Err f)) l.invariant.same_params h)
     (c.in_err-next.ensures.fault bits k.0 on k.1))
 
@@ -92,36 +92,28 @@ finish-requires g c =
     let h = l.invariant in
     omega (arith, h.same_page, ap (λ (q : Parameters). q.nodes) h.same_params, c.loop-page-test.false, c.nodes-nodes.ensures.value, c.requires.nodes, l.auto._page-end)
 
-pub returns-clause-nodes : goal.returns-clause-nodes
-returns-clause-nodes g c = c.loop-page.invariant.same_nodes
-
-pub returns-clause-later : goal.returns-clause-later
-returns-clause-later g c = g.met.S.Source.goes_on _ _ _ c.loop-page.invariant.later c.finish.ensures.later
-
-pub returns-clause-refused : goal.returns-clause-refused
-returns-clause-refused g c = on_refusal c.finish.result _ _ (λ x h. g.met.S.Source.still_caused _ _ _ x c.loop-page.invariant.later h) c.finish.ensures.refused
-
-pub returns-clause-all : goal.returns-clause-all
-returns-clause-all g c =
-    let l = c.loop-page in
-    let all : length l.graph.lists ≡ c.args.graph.now.nodes = omega (arith, l.invariant.begun, c.loop-page-test.false, c.nodes-nodes.ensures.value, l.auto._page-end) in
-    on_ok c.finish.result (Unit {0}) _ (λ _. all) (holds_ok c.finish.result)
-
-pub returns-clause-reads : goal.returns-clause-reads
-returns-clause-reads g c = λ bits r start.
-    let l = c.loop-page in
-    let h = l.invariant in
-    let k = h.read bits r start in
-    let on = g.met.S.Source.same_bits _ _ bits h.later r in
-    on_ok c.finish.result _ _ (λ ends. (
-      places_of k.0,
-      subst (λ (s : List (List ℕ)). ReadsGraph c.args.pages.now.params bits (Ok (record { graph = s; places = places_of k.0 }))) (sym k.2)
-          (subst (λ (q : Parameters). ReadsGraph q bits (Ok (record { graph = lists_of k.0; places = places_of k.0 }))) h.same_params ends),
-    )) (c.finish.ensures.reads bits k.0 on k.1)
-
-pub returns-clause-fault : goal.returns-clause-fault
-returns-clause-fault g c = λ bits r start.
-    let h = c.loop-page.invariant in
-    let k = h.read bits r start in
-    let on = g.met.S.Source.same_bits _ _ bits h.later r in
-    on_fault c.finish.result _ _ (λ f e. subst (λ (q : Parameters). ReadsGraph q bits (Err f)) h.same_params e) (c.finish.ensures.fault bits k.0 on k.1)
+pub returns : goal.returns
+returns g c = record {
+  nodes = c.loop-page.invariant.same_nodes;
+  later = g.met.S.Source.goes_on _ _ _ c.loop-page.invariant.later c.finish.ensures.later;
+  refused = on_refusal c.finish.result _ _ (λ x h. g.met.S.Source.still_caused _ _ _ x c.loop-page.invariant.later h) c.finish.ensures.refused;
+  all =
+      let l = c.loop-page in
+      let all : length l.graph.lists ≡ c.args.graph.now.nodes = omega (arith, l.invariant.begun, c.loop-page-test.false, c.nodes-nodes.ensures.value, l.auto._page-end) in
+      on_ok c.finish.result (Unit {0}) _ (λ _. all) (holds_ok c.finish.result);
+  reads = λ bits r start.
+      let l = c.loop-page in
+      let h = l.invariant in
+      let k = h.read bits r start in
+      let on = g.met.S.Source.same_bits _ _ bits h.later r in
+      on_ok c.finish.result _ _ (λ ends. (
+        places_of k.0,
+        subst (λ (s : List (List ℕ)). ReadsGraph c.args.pages.now.params bits (Ok (record { graph = s; places = places_of k.0 }))) (sym k.2)
+            (subst (λ (q : Parameters). ReadsGraph q bits (Ok (record { graph = lists_of k.0; places = places_of k.0 }))) h.same_params ends),
+      )) (c.finish.ensures.reads bits k.0 on k.1);
+  fault = λ bits r start.
+      let h = c.loop-page.invariant in
+      let k = h.read bits r start in
+      let on = g.met.S.Source.same_bits _ _ bits h.later r in
+      on_fault c.finish.result _ _ (λ f e. subst (λ (q : Parameters). ReadsGraph q bits (Err f)) h.same_params e) (c.finish.ensures.fault bits k.0 on k.1);
+}

@@ -3,6 +3,7 @@ use Rattle.wg_grammar.specs.Context.{Known}
 use Rattle.wg_grammar.specs.Record.{Whole}
 use Rattle.wg_decoder.specs.Remembered.{known_of}
 use Rattle.wg_stream.specs.Prefix.{PagesRead, PrefixRead}
+use Rattle.wg_outside.proofs.PutsLemmas.{is_that_err}
 use Rattle.std.proofs.lemmas.Result.{err_from_is_err_and}
 use Rattle.wg_grammar.specs.Archive.{ReadsGraph}
 use Rattle.wg_grammar.specs.declared.fault.ArchiveFault.TheVariants as archive
@@ -47,8 +48,7 @@ returns-in_err-decoded g c =
     let n = c.in_err-decoded.ensures in
     let at = g.S.Source.offset c.args.source.now in
     let next = subst (λ (s : PagesRead). s.page < s.params.nodes) (sym c.self.view_is) c.requires.more in
-    let e = err_from_is_err_and c.from_residual.result c.from_residual.ensures.1 in
-    rw (e.1, e.2) record {
+    rw (is_that_err c.from_residual.result _ c.from_residual.ensures.1) record {
       params = ap (λ (s : PagesRead). s.params) c.self.view_is;
       page = tt;
       arcs = tt;
