@@ -1,5 +1,5 @@
 -- The least of three fronts is the first number of their union.
-use Rattle.std.proofs.Common.{◌≡◌, ℕ, suc, true, false, List, [], ◌∷◌, Option, Some, None, refl, sym, ap, subst, ◌∙◌, arith}
+use Rattle.std.proofs.Common.{◌≡◌, ℕ, suc, true, false, List, ◌∷◌, Option, Some, None, refl, sym, ap, subst, ◌∙◌, arith}
 use Rattle.std.proofs.lemmas.Bool.{eq-eqb}
 use Rattle.wg_graph.specs.Ascending.{Ascends}
 use Rattle.wg_graph.specs.Numbers.{is_in}
@@ -71,10 +71,6 @@ first_residual_on x zs a b xs ys le_a le_b h =
       },
     )
 
--- if none is left
-pub nothing_left : (a b c : Option ℕ) (xs ys zs : List ℕ) → a ≡ None → b ≡ None → c ≡ None → union_of (front a xs) (union_of (front b ys) (front c zs)) ≡ []
-nothing_left a b c xs ys zs ea eb ec = rw (ea, eb, ec) refl
-
 -- the front that was found
 pub least_is : (a b c : Option ℕ) (f g : Front) → f ≡ g → IsLeast a b c (Some f) → IsLeast a b c (Some g)
 least_is a b c f g e h = subst (λ (k : Front). IsLeast a b c (Some k)) e h
@@ -129,9 +125,3 @@ given_residual x oa ob oc ha hb hc a b c xs ys zs is le_a le_b l h =
     let g = first_residual_on x zs a b xs ys le_a le_b (subst (λ (o : Option ℕ). AreApart (front a xs) (front b ys) (front o zs)) is (fronts_apart oa ob oc ha hb hc a b c xs ys zs l h)) in
     let whole : union_of oa (union_of ob oc) ≡ union_of (front a xs) (union_of (front b ys) (x ∷ zs)) = fronts_union oa ob oc ha hb hc a b c xs ys zs l ∙ ap (λ (o : Option ℕ). union_of (front a xs) (union_of (front b ys) (front o zs))) is in
     rw (ahead_is ha a xs l.head_a, ahead_is hb b ys l.head_b) (whole ∙ g.0, g.1)
-
-pub given_none : (oa ob oc : List ℕ) (ha hb hc : Head) (a b c : Option ℕ) (xs ys zs : List ℕ) → a ≡ None → b ≡ None → c ≡ None → Looked oa ob oc ha hb hc a b c xs ys zs
-    → (union_of oa (union_of ob oc) ≡ []) × (union_of (ahead ha xs) (union_of (ahead hb ys) (ahead hc zs)) ≡ [])
-given_none oa ob oc ha hb hc a b c xs ys zs ea eb ec l =
-    let none = nothing_left a b c xs ys zs ea eb ec in
-    (fronts_union oa ob oc ha hb hc a b c xs ys zs l ∙ none, rw (ahead_is ha a xs l.head_a, ahead_is hb b ys l.head_b, ahead_is hc c zs l.head_c) none)
