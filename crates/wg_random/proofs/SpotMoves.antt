@@ -18,52 +18,17 @@ use Rattle.wg_grammar.specs.Next.{next}
 use Rattle.wg_grammar.specs.Refusal.{refusal}
 use Rattle.wg_grammar.specs.Members.{list_of, is_covered}
 use Rattle.wg_grammar.specs.Record.{Whole, Stands, Fields, ReadsRecord}
-use Rattle.wg_grammar.specs.Tally.{tally}
-use Rattle.wg_grammar.proofs.Tallies.{due, next_by_numbers}
 use Rattle.wg_decoder.specs.Apart.{page_over, HeadStands}
 use Rattle.wg_decoder.specs.Head.{of_outdegree}
 use Rattle.wg_decoder.proofs.HeadLemmas.{outdegree_due, reference_due}
 use Rattle.wg_decoder.proofs.ApartLemmas.{no_reference_stands}
+use Rattle.wg_decoder.proofs.ProperLemmas.Transfer.{fields_keep, fields_near}
 use Rattle.wg_decoder.specs.Chains.{endless}
 
--- ---- the reference is read once, and is near
-
-after_keeps : (p : Parameters) (c : Context) (s : SoFar) (f : Field) (v : ℕ) → (f ≡ field.Reference → s.reference ≡ None) → (s.reference ≡ None) ⊎ (s.reference ≡ (after p c s f v).reference)
-unfolding after
-after_keeps p c s field.Outdegree v due = inr refl
-after_keeps p c s field.Reference v due = inl (due refl)
-after_keeps p c s field.BlockCount v due = inr refl
-after_keeps p c s field.Block v due = inr refl
-after_keeps p c s field.Copied v due = inr refl
-after_keeps p c s field.IntervalCount v due = inr refl
-after_keeps p c s field.Left v due = inr refl
-after_keeps p c s field.Length v due = inr refl
-after_keeps p c s field.Residual v due = inr refl
-after_keeps p c s field.Record v due = inr refl
+-- ---- a reference that stays, and the tests that it passes
 
 abbrev Keeps : SoFar → SoFar → Type 0
 Keeps s t = (s.reference ≡ None) ⊎ (s.reference ≡ t.reference)
-
-to_state : (s u w : SoFar) → w ≡ u → Keeps s u → Keeps s w
-to_state s u w e (inl h) = inl h
-to_state s u w e (inr h) = inr (h ∙ ap (λ (x : SoFar). x.reference) (sym e))
-
-not_yet : (p : Parameters) (c : Context) (s : SoFar) (f : Field) (code : _) → next p c s ≡ need.Read f code → f ≡ field.Reference → s.reference ≡ None
-not_yet p c s f code is e = due (tally p c s) field.Reference code (sym (next_by_numbers p c s) ∙ is ∙ ap (λ (g : Field). need.Read g code) e)
-
-stands_keep : (m : Need) (p : Parameters) (c : Context) (bits : List Bool) (s : SoFar) (at v mid : ℕ) (u : SoFar) → next p c s ≡ m → Stands m p c bits s at v mid u → Keeps s u
-stands_keep (need.Read f code) p c bits s at v mid u is x = to_state s (after p c s f v) u x.3 (after_keeps p c s f v (not_yet p c s f code is))
-stands_keep need.Check p c bits s at v mid u is x = to_state s (after p c s field.Copied v) u x.3 (after_keeps p c s field.Copied v (λ e. absurd cc))
-stands_keep need.End p c bits s at v mid u is x = absurd x
-
-join : (s u t : SoFar) → Keeps s u → Keeps u t → Keeps s t
-join s u t (inl h) k = inl h
-join s u t (inr h) (inl k) = inl (h ∙ k)
-join s u t (inr h) (inr k) = inr (h ∙ k)
-
-fields_keep : (p : Parameters) (c : Context) (bits : List Bool) (s : SoFar) (at : ℕ) (vs : List ℕ) (t : SoFar) (end : ℕ) → Fields p c bits s at vs t end → Keeps s t
-fields_keep p c bits s at [] t end h = inr (ap (λ (x : SoFar). x.reference) (sym h.0))
-fields_keep p c bits s at (v ∷ vs) t end h = join s h.0 t (stands_keep (next p c s) p c bits s at v h.1 h.0 refl h.2) (fields_keep p c bits h.0 h.1 vs t end h.3)
 
 first_reason : (k : Kind) (b e : Bool) → cond b (Some kind.Range) (cond e (Some k) None) ≡ None → b ≡ false
 first_reason k true e h = absurd cc
@@ -73,31 +38,6 @@ second_reason : (k : Kind) (b e : Bool) → cond b (Some kind.Range) (cond e (So
 second_reason k true e h = absurd cc
 second_reason k false true h = absurd cc
 second_reason k false false h = refl
-
-after_near : (p : Parameters) (c : Context) (s : SoFar) (f : Field) (v : ℕ) → refusal p c s f v ≡ None → value_or_0 s.reference ≤ min p.window c.page → value_or_0 (after p c s f v).reference ≤ min p.window c.page
-unfolding after refusal
-after_near p c s field.Outdegree v fine near = near
-after_near p c s field.Reference v fine near = ltb-false (min p.window c.page) v (first_reason kind.Chain _ _ fine)
-after_near p c s field.BlockCount v fine near = near
-after_near p c s field.Block v fine near = near
-after_near p c s field.Copied v fine near = near
-after_near p c s field.IntervalCount v fine near = near
-after_near p c s field.Left v fine near = near
-after_near p c s field.Length v fine near = near
-after_near p c s field.Residual v fine near = near
-after_near p c s field.Record v fine near = near
-
-near_of : (p : Parameters) (c : Context) (u w : SoFar) → w ≡ u → value_or_0 u.reference ≤ min p.window c.page → value_or_0 w.reference ≤ min p.window c.page
-near_of p c u w e near = subst (λ (x : SoFar). value_or_0 x.reference ≤ min p.window c.page) (sym e) near
-
-stands_near : (m : Need) (p : Parameters) (c : Context) (bits : List Bool) (s : SoFar) (at v mid : ℕ) (u : SoFar) → Stands m p c bits s at v mid u → value_or_0 s.reference ≤ min p.window c.page → value_or_0 u.reference ≤ min p.window c.page
-stands_near (need.Read f code) p c bits s at v mid u x near = near_of p c (after p c s f v) u x.3 (after_near p c s f v x.2 near)
-stands_near need.Check p c bits s at v mid u x near = near_of p c (after p c s field.Copied v) u x.3 (after_near p c s field.Copied v x.2 near)
-stands_near need.End p c bits s at v mid u x near = absurd x
-
-pub fields_near : (p : Parameters) (c : Context) (bits : List Bool) (s : SoFar) (at : ℕ) (vs : List ℕ) (t : SoFar) (end : ℕ) → Fields p c bits s at vs t end → value_or_0 s.reference ≤ min p.window c.page → value_or_0 t.reference ≤ min p.window c.page
-fields_near p c bits s at [] t end h near = near_of p c s t h.0 near
-fields_near p c bits s at (v ∷ vs) t end h near = fields_near p c bits h.0 h.1 vs t end h.3 (stands_near (next p c s) p c bits s at v h.1 h.0 h.2 near)
 
 -- ---- the same fields, over the page below
 

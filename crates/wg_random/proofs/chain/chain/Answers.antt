@@ -1,6 +1,6 @@
 use Rattle.std.proofs.Common.{rules, ◌≡◌, ◌∙◌, ◌+◌, ◌-◌, ◌<◌, ◌++◌, ◌∷◌, [], List, ℕ, Ok, length, refl, ap, sym, subst, arith}
 use Rattle.std.specs.Prelude.{get_or}
-use Rattle.std.proofs.lemmas.Result.{err_from_is_err_and}
+use Rattle.wg_outside.proofs.PutsLemmas.{is_that_err}
 use Rattle.wg_decoder.specs.Chains.{HeadReads, RefersTo}
 use Rattle.wg_stream.proofs.ErrorLemmas.{refusal_weaker}
 use Rattle.wg_random.proofs.ChainLemmas.{one_are_pages, one_falls, pushed_fall, pushed_length, pushed_pages}
@@ -24,8 +24,7 @@ down-init g c =
 
 pub returns-in_err-push : goal.returns-in_err-push
 returns-in_err-push g c =
-    let q = err_from_is_err_and c.from_residual.result c.from_residual.ensures.1 in
-    rw (q.1, q.2) record {
+    rw (is_that_err c.from_residual.result _ c.from_residual.ensures.1) record {
       reached = g.met.S.Seek.by_reading _ _ (g.met.S.Source.stays _);
       refused = tt;
       some = tt;
@@ -40,8 +39,7 @@ pub returns-in_err-back : goal.returns-in_err-back
 returns-in_err-back g c =
     let h = c.down.invariant in
     let n = c.in_err-back.ensures in
-    let q = err_from_is_err_and c.from_residual-in_err-back.result c.from_residual-in_err-back.ensures.1 in
-    rw (q.1, q.2) record {
+    rw (is_that_err c.from_residual-in_err-back.result _ c.from_residual-in_err-back.ensures.1) record {
       reached = g.met.S.Seek.on_from _ _ _ h.reached n.reached;
       refused = refusal_weaker c.in_err-back.field-0.0 _ _ (λ x y. g.met.S.Seek.cause_stays _ _ _ x h.reached y) n.refused;
       some = tt;
@@ -58,8 +56,7 @@ returns-in_err-back g c =
 
 pub returns-in_err-push-2 : goal.returns-in_err-push-2
 returns-in_err-push-2 g c =
-    let q = err_from_is_err_and c.from_residual-in_err-push-2.result c.from_residual-in_err-push-2.ensures.1 in
-    rw (q.1, q.2) record {
+    rw (is_that_err c.from_residual-in_err-push-2.result _ c.from_residual-in_err-push-2.ensures.1) record {
       reached = g.met.S.Seek.on_from _ _ _ c.down.invariant.reached c.in_ok-back.ensures.reached;
       refused = tt;
       some = tt;

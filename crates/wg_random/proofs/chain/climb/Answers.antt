@@ -1,5 +1,6 @@
 use Rattle.std.proofs.Common.{rules, ◌≡◌, ◌∙◌, ◌-◌, ◌<◌, ℕ, suc, length, drop, Ok, Err, refl, sym, ap, subst, arith}
 use Rattle.std.specs.Prelude.{get_or}
+use Rattle.wg_outside.proofs.PutsLemmas.{is_that_err}
 use Rattle.std.proofs.lemmas.Result.{err_from_is_err_and}
 use Rattle.wg_graph.specs.Ascending.{Ascends, Below}
 use Rattle.wg_decoder.specs.declared.decoded.Decoded.{Decoded}
@@ -13,8 +14,7 @@ pub returns-in_err-known-clause-fault : goal.returns-in_err-known-clause-fault
 returns-in_err-known-clause-fault g c = λ bits o r l x whole.
     let p = c.args.params.now in
     let chain = c.args.chain.now in
-    let q = err_from_is_err_and c.from_residual.result c.from_residual.ensures.1 in
-    rw (q.1, q.2) (fault_weaker c.in_err-known.field-0.0 _ _
+    rw (is_that_err c.from_residual.result _ c.from_residual.ensures.1) (fault_weaker c.in_err-known.field-0.0 _ _
     (λ f h. carried p bits o x chain (length chain - 1) f (omega (arith, c.requires.some)) whole.links (last_reads p bits o chain (Err f) whole.last h))
     (c.in_err-known.ensures.fault bits o r l))
 
@@ -56,8 +56,7 @@ returns-in_err-above-clause-fault g c = λ bits o r l x whole.
     let on = g.met.S.Seek.bits_stay _ _ bits c.up.invariant.reached r in
     let lies = g.met.S.Located.lies_still _ _ o c.up.invariant.reached l in
     let under = subst (λ (k : ℕ). ChainReads p bits o (get_or chain k 0) (drop (suc k) chain) (Ok (known_of c.up.known))) (sym place) (c.up.invariant.reads bits o r l x whole) in
-    let q = err_from_is_err_and c.from_residual-in_err-above.result c.from_residual-in_err-above.ensures.1 in
-    rw (q.1, q.2) (fault_weaker c.in_err-above.field-0.0 _ _
+    rw (is_that_err c.from_residual-in_err-above.result _ c.from_residual-in_err-above.ensures.1) (fault_weaker c.in_err-above.field-0.0 _ _
     (λ f h. carried p bits o x chain i f (omega (arith, lt)) whole.links
     (up_one p bits o x chain i (Ok (known_of c.up.known)) (Err f) lt whole.links under
     (lent_reads p bits o (get_or chain i 0) c.as_slice-below.result.now c.up.known.list c.up.known.depth (Err f) c.as_slice-below.ensures h)))

@@ -4,19 +4,17 @@ use Rattle.wg_stream.proofs.ErrorLemmas.{on_refusal}
 use Rattle.wg_random.proofs.SpotLemmas.{answer_of}
 use Rattle.wg_random.proofs.chain.spot_from.Goals as goal
 
-pub returns-clause-reached : goal.returns-clause-reached
-returns-clause-reached g c = g.met.S.Seek.on_from _ _ _ c.in_ok-chain.ensures.reached c.climb.ensures.reached
-
-pub returns-clause-refused : goal.returns-clause-refused
-returns-clause-refused g c = on_refusal c.climb.result _ _ (λ x h. g.met.S.Seek.cause_stays _ _ _ x c.in_ok-chain.ensures.reached h) c.climb.ensures.refused
-
-pub returns-clause-answer : goal.returns-clause-answer
-returns-clause-answer g c = λ bits o r l.
-    let p = c.args.params.now in
-    let h = c.in_ok-chain.ensures in
-    let on = g.met.S.Seek.bits_stay _ _ bits h.reached r in
-    let lies = g.met.S.Located.lies_still _ _ o h.reached l in
-    let whole = h.chain bits o r l in
-    let lent = subst (λ (l : List ℕ). IsWholeChain p bits o c.args.page l) (sym c.as_slice.ensures) whole in
-    answer_of p bits o c.args.page c.in_ok-chain.chain c.as_slice.result.now c.args.steps.now c.chain.new.steps c.climb.result c.as_slice.ensures whole.links h.ticks
-    (c.climb.ensures.reads bits o on lies c.args.page lent) (c.climb.ensures.fault bits o on lies c.args.page lent)
+pub returns : goal.returns
+returns g c = record {
+  reached = g.met.S.Seek.on_from _ _ _ c.in_ok-chain.ensures.reached c.climb.ensures.reached;
+  refused = on_refusal c.climb.result _ _ (λ x h. g.met.S.Seek.cause_stays _ _ _ x c.in_ok-chain.ensures.reached h) c.climb.ensures.refused;
+  answer = λ bits o r l.
+      let p = c.args.params.now in
+      let h = c.in_ok-chain.ensures in
+      let on = g.met.S.Seek.bits_stay _ _ bits h.reached r in
+      let lies = g.met.S.Located.lies_still _ _ o h.reached l in
+      let whole = h.chain bits o r l in
+      let lent = subst (λ (l : List ℕ). IsWholeChain p bits o c.args.page l) (sym c.as_slice.ensures) whole in
+      answer_of p bits o c.args.page c.in_ok-chain.chain c.as_slice.result.now c.args.steps.now c.chain.new.steps c.climb.result c.as_slice.ensures whole.links h.ticks
+      (c.climb.ensures.reads bits o on lies c.args.page lent) (c.climb.ensures.fault bits o on lies c.args.page lent);
+}

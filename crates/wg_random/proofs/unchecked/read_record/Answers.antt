@@ -1,4 +1,5 @@
 use Rattle.std.proofs.Common.{◌∙◌, arith}
+use Rattle.wg_outside.proofs.PutsLemmas.{is_that_err}
 use Rattle.std.proofs.lemmas.Result.{err_from_is_err_and}
 use Rattle.wg_grammar.specs.Context.{Known}
 use Rattle.wg_decoder.specs.Remembered.{known_of}
@@ -24,8 +25,7 @@ pub returns-in_err-decoded-clause-fault : goal.returns-in_err-decoded-clause-fau
 returns-in_err-decoded-clause-fault g c = λ bits o r l.
     let k : Known = record { list = c.args.named.now; depth = c.args.depth } in
     let on = g.met.S.Seek.bits_stay _ _ bits c.in_ok-extent.ensures.reached r in
-    let q = err_from_is_err_and c.from_residual-in_err-decoded.result c.from_residual-in_err-decoded.ensures.1 in
-    rw (q.1, q.2) (unread_fault c.in_err-decoded.field-0.0 _ _
+    rw (is_that_err c.from_residual-in_err-decoded.result _ c.from_residual-in_err-decoded.ensures.1) (unread_fault c.in_err-decoded.field-0.0 _ _
     (λ e bad. record_fails c.args.params.now bits o c.args.page k (g.S.Source.offset c.go_to_record.new.source) e (c.in_ok-extent.ensures.at ∙ (c.in_ok-extent.ensures.lies o l).0) bad)
     (c.in_err-decoded.ensures.fault bits on))
 

@@ -1,4 +1,5 @@
 use Rattle.std.proofs.Common.{◌∙◌}
+use Rattle.wg_outside.proofs.PutsLemmas.{is_that_err}
 use Rattle.std.proofs.lemmas.Result.{err_from_is_err_and}
 use Rattle.std.specs.Prelude.{replicate}
 use Rattle.wg_grammar.specs.Context.{no_page}
@@ -23,8 +24,7 @@ pub returns-in_err-head-clause-fault : goal.returns-in_err-head-clause-fault
 returns-in_err-head-clause-fault g c = λ bits o r l.
     let p = c.args.params.now in
     let on = g.met.S.Seek.bits_stay _ _ bits c.in_ok-go_to_record.ensures.reached r in
-    let q = err_from_is_err_and c.from_residual-in_err-head.result c.from_residual-in_err-head.ensures.1 in
-    rw (q.1, q.2) (unread_fault c.in_err-head.field-0.0 _ _
+    rw (is_that_err c.from_residual-in_err-head.result _ c.from_residual-in_err-head.ensures.1) (unread_fault c.in_err-head.field-0.0 _ _
     (λ e bad. head_fault p bits o c.args.page (g.S.Source.offset c.go_to_record.new.source) e (c.in_ok-go_to_record.ensures.at ∙ (c.in_ok-go_to_record.ensures.lies o l).0) bad)
     (c.in_err-head.ensures.fault bits on (replicate p.window no_page)))
 

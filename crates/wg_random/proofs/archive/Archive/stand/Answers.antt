@@ -10,17 +10,15 @@ begin-requires-clause-proper c =
     let h : Held = record { params = c.self.inside.params; bits = bits_of c.self.inside.bytes.now; offsets = c.self.inside.offsets.now } in
     proper_back h _ c.self.view_is c.args.page c.cursor.result (listed c.args.below) c.cursor.ensures c.requires.ready (read_of c.self.inside.params (bits_of c.self.inside.bytes.now) _ c.self.invariant.1.1).reading
 
-pub returns-clause-whole : goal.returns-clause-whole
-returns-clause-whole c =
-    let h : Held = record { params = c.self.inside.params; bits = bits_of c.self.inside.bytes.now; offsets = c.self.inside.offsets.now } in
-    whole_back h _ c.self.view_is c.args.page c.cursor.result (listed c.args.below) (depth_of c.args.below) c.begin.result c.cursor.ensures c.requires.ready c.begin.ensures
-
-pub returns-clause-fresh : goal.returns-clause-fresh
-returns-clause-fresh c =
-    let h : Held = record { params = c.self.inside.params; bits = bits_of c.self.inside.bytes.now; offsets = c.self.inside.offsets.now } in
-    fresh_back h _ c.self.view_is c.args.page c.cursor.result (listed c.args.below) (depth_of c.args.below) c.begin.result c.cursor.ensures c.requires.ready c.begin.ensures (read_of c.self.inside.params (bits_of c.self.inside.bytes.now) _ c.self.invariant.1.1).reading
-
-pub returns-clause-depth : goal.returns-clause-depth
-returns-clause-depth c =
-    let h : Held = record { params = c.self.inside.params; bits = bits_of c.self.inside.bytes.now; offsets = c.self.inside.offsets.now } in
-    depth_back h _ c.self.view_is c.args.page c.cursor.result (listed c.args.below) (depth_of c.args.below) c.begin.result c.cursor.ensures c.requires.ready c.begin.ensures (read_of c.self.inside.params (bits_of c.self.inside.bytes.now) _ c.self.invariant.1.1).reading
+pub returns : goal.returns
+returns c = record {
+  whole =
+      let h : Held = record { params = c.self.inside.params; bits = bits_of c.self.inside.bytes.now; offsets = c.self.inside.offsets.now } in
+      whole_back h _ c.self.view_is c.args.page c.cursor.result (listed c.args.below) (depth_of c.args.below) c.begin.result c.cursor.ensures c.requires.ready c.begin.ensures;
+  fresh =
+      let h : Held = record { params = c.self.inside.params; bits = bits_of c.self.inside.bytes.now; offsets = c.self.inside.offsets.now } in
+      fresh_back h _ c.self.view_is c.args.page c.cursor.result (listed c.args.below) (depth_of c.args.below) c.begin.result c.cursor.ensures c.requires.ready c.begin.ensures (read_of c.self.inside.params (bits_of c.self.inside.bytes.now) _ c.self.invariant.1.1).reading;
+  depth =
+      let h : Held = record { params = c.self.inside.params; bits = bits_of c.self.inside.bytes.now; offsets = c.self.inside.offsets.now } in
+      depth_back h _ c.self.view_is c.args.page c.cursor.result (listed c.args.below) (depth_of c.args.below) c.begin.result c.cursor.ensures c.requires.ready c.begin.ensures (read_of c.self.inside.params (bits_of c.self.inside.bytes.now) _ c.self.invariant.1.1).reading;
+}
