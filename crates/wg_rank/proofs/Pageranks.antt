@@ -12,7 +12,7 @@ use Rattle.wg_rank.proofs.Steps.{Setting, div_mono, part_above}
 use Rattle.wg_rank.proofs.Arcs.{members_count, list_ascends, list_below, lengths_total, product_pos, factor_back}
 use Rattle.wg_rank.proofs.Iterates as laws
 use Rattle.wg_rank.proofs.Steps as steps
-use Rattle.wg_rank.proofs.Rising.{rising_below}
+use Rattle.wg_rank.proofs.Rising.{mul_pos, rising_below}
 use Rattle.wg_rank.specs.Claims.{Rises}
 
 floor_weighted : (a r n z s w x : ℕ)
@@ -40,9 +40,6 @@ near_weighted a r n s w x h k =
     sum_same n (λ v. 1000 * (a * x / (1000 * n) + r * s * w v / (1000 * z))) (λ v. 1000 * (a * x / (1000 * n)) + f v) (λ v _. omega arith) in
     omega (arith, e1, e3, e4, sum_add n (λ _. 1000 * (a * x / (1000 * n))) f, sum_const n (1000 * (a * x / (1000 * n))))
 
-pos_mul : (x y : ℕ) → 0 < x → 0 < y → 0 < x * y
-pos_mul x y h k = omega (arith, mul-le-mul_left x k)
-
 abbrev setting : (g : Digraph) (a : ℕ) (w : ℕ → ℕ) → IsGraph g → a ≤ 1000 → 0 < g.nodes → 0 < sum_below g.nodes w → Setting
 setting g a w ok damped some heavy = record {
   n = g.nodes;
@@ -61,7 +58,7 @@ setting g a w ok damped some heavy = record {
   ceil_part = λ x v. div_ceil (a * x) (1000 * g.nodes) + div_ceil ((1000 - a) * UNITS * w v) (1000 * sum_below g.nodes w);
   damped = damped;
   b_pos = omega arith;
-  whole_pos = pos_mul _ _ some heavy;
+  whole_pos = mul_pos _ _ some heavy;
   m_pos = product_pos g.nodes (λ u. max 1 (outdegree g u)) (λ u. omega arith);
   degrees = λ u h. members_count g.nodes 0 (successors g u) (list_ascends g ok u h) (list_below g ok u h);
   quotient = λ u h p. factor_back g.nodes (outdegree g) u h p;

@@ -3,27 +3,10 @@ use Rattle.std.proofs.Common.{◌≡◌, ℕ, zero, suc, ◌+◌, ◌<◌, ◌�
 use Rattle.std.proofs.lemmas.List.{take_all}
 use Rattle.wg_outside.specs.Outside.{Files, appended, content}
 use Rattle.wg_outside.specs.Puts.{Puts}
-use Rattle.wg_lines.specs.Printing.{HasPrinted, HasPrintedLess, Prints}
+use Rattle.wg_lines.specs.Printing.{HasPrinted, HasPrintedLess}
 use Rattle.wg_outside.proofs.FilesLemmas.{file_grown}
 use Rattle.wg_lines.proofs.PrintLemmas.{printed_more, less_after, less_before}
 use Rattle.wg_rank.specs.CertificateText.{bound_line, bound_lines}
-
--- a text is printed, and then another one is
-pub prints_after : {E : Type 0} (a b c waited mid waits t u : List ℕ) (r : Result (Unit {0}) E) → HasPrinted a b waited t mid → Prints u b c mid waits r
-    → Prints (t ++ u) a c waited waits r
-prints_after a b c waited mid waits t u (Ok done) h g = printed_more a b c waited mid waits t u h g
-prints_after a b c waited mid waits t u (Err e) h g = less_after a b c waited mid t u h g
-
--- three texts, of which the first or the second was not printed, or of which the third is printed last
-pub less_first : (a b waited t u v : List ℕ) → HasPrintedLess a b waited t → HasPrintedLess a b waited (t ++ u ++ v)
-less_first a b waited t u v h = less_before a b waited (t ++ u) v (less_before a b waited t u h)
-
-pub less_second : (a b c waited mid t u v : List ℕ) → HasPrinted a b waited t mid → HasPrintedLess b c mid u → HasPrintedLess a c waited (t ++ u ++ v)
-less_second a b c waited mid t u v h g = less_before a c waited (t ++ u) v (less_after a b c waited mid t u h g)
-
-pub prints_third : {E : Type 0} (a b c d waited mid next waits t u v : List ℕ) (r : Result (Unit {0}) E) → HasPrinted a b waited t mid
-    → HasPrinted b c mid u next → Prints v c d next waits r → Prints (t ++ u ++ v) a d waited waits r
-prints_third a b c d waited mid next waits t u v r h g k = prints_after a c d waited next waits (t ++ u) v r (printed_more a b c waited mid next t u h g) k
 
 -- ---- the lines of bounds
 

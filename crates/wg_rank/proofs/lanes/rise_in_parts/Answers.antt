@@ -4,26 +4,20 @@ use Rattle.wg_rank.proofs.lanes.rise_in_parts.Goals as goal
 
 pub overflow_add-below : goal.overflow_add-below
 overflow_add-below c =
-    let n = c.requires.summed.0 in
-    let low = c.requires.summed.1 in
-    let high = c.requires.summed.2 in
-    let h = c.requires.summed.3 in
+    let s = c.requires.summed in
     omega (
       arith,
-      rise_room low n _ _ _ _ c.loop-part.below c.rise-low.result.0 (c.loop-part.invariant.below n low high h) (c.rise-low.ensures.below n low high h)
-          (omega arith) (omega (arith, h.pages)) (omega (arith, h.pages)) h.low_small,
+      rise_room s.1 s.0 _ _ _ _ c.loop-part.below c.rise-low.result.0 (c.loop-part.invariant.below s.0 s.1 s.2 s.3) (c.rise-low.ensures.below s.0 s.1 s.2 s.3)
+          (omega arith) (omega (arith, s.3.pages)) (omega (arith, s.3.pages)) s.3.low_small,
     )
 
 pub overflow_add-above : goal.overflow_add-above
 overflow_add-above c =
-    let n = c.requires.summed.0 in
-    let low = c.requires.summed.1 in
-    let high = c.requires.summed.2 in
-    let h = c.requires.summed.3 in
+    let s = c.requires.summed in
     omega (
       arith,
-      rise_room high n _ _ _ _ c.loop-part.above c.rise-low.result.1 (c.loop-part.invariant.above n low high h) (c.rise-low.ensures.above n low high h)
-          (omega arith) (omega (arith, h.pages)) (omega (arith, h.pages)) h.high_small,
+      rise_room s.2 s.0 _ _ _ _ c.loop-part.above c.rise-low.result.1 (c.loop-part.invariant.above s.0 s.1 s.2 s.3) (c.rise-low.ensures.above s.0 s.1 s.2 s.3)
+          (omega arith) (omega (arith, s.3.pages)) (omega (arith, s.3.pages)) s.3.high_small,
     )
 
 pub loop-part-preserved : goal.loop-part-preserved
@@ -34,26 +28,20 @@ loop-part-preserved c = record {
 
 pub overflow_add-result : goal.overflow_add-result
 overflow_add-result c =
-    let n = c.requires.summed.0 in
-    let low = c.requires.summed.1 in
-    let high = c.requires.summed.2 in
-    let h = c.requires.summed.3 in
+    let s = c.requires.summed in
     omega (
       arith,
-      rise_room low n _ _ _ _ c.loop-part.below c.rise-low-2.result.0 (c.loop-part.invariant.below n low high h) (c.rise-low-2.ensures.below n low high h)
-          (omega arith) (omega (arith, h.pages)) (omega (arith, h.pages)) h.low_small,
+      rise_room s.1 s.0 _ _ _ _ c.loop-part.below c.rise-low-2.result.0 (c.loop-part.invariant.below s.0 s.1 s.2 s.3) (c.rise-low-2.ensures.below s.0 s.1 s.2 s.3)
+          (omega arith) (omega (arith, s.3.pages)) (omega (arith, s.3.pages)) s.3.low_small,
     )
 
 pub overflow_add-result-2 : goal.overflow_add-result-2
 overflow_add-result-2 c =
-    let n = c.requires.summed.0 in
-    let low = c.requires.summed.1 in
-    let high = c.requires.summed.2 in
-    let h = c.requires.summed.3 in
+    let s = c.requires.summed in
     omega (
       arith,
-      rise_room high n _ _ _ _ c.loop-part.above c.rise-low-2.result.1 (c.loop-part.invariant.above n low high h) (c.rise-low-2.ensures.above n low high h)
-          (omega arith) (omega (arith, h.pages)) (omega (arith, h.pages)) h.high_small,
+      rise_room s.2 s.0 _ _ _ _ c.loop-part.above c.rise-low-2.result.1 (c.loop-part.invariant.above s.0 s.1 s.2 s.3) (c.rise-low-2.ensures.above s.0 s.1 s.2 s.3)
+          (omega arith) (omega (arith, s.3.pages)) (omega (arith, s.3.pages)) s.3.high_small,
     )
 
 pub returns-clause-below : goal.returns-clause-below

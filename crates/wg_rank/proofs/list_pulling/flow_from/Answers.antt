@@ -7,40 +7,34 @@ use Rattle.wg_rank.proofs.list_pulling.flow_from.Goals as goal
 
 pub overflow_add-below : goal.overflow_add-below
 overflow_add-below c =
-    let n = c.requires.shares.0 in
-    let low = c.requires.shares.1 in
-    let high = c.requires.shares.2 in
-    let h = c.requires.shares.3 in
+    let s = c.requires.shares in
     let e = c.from_lanes-low.ensures.below
-    ∙ low_joins n low high c.args.shares.now h c.split_at.result.0.now (omega arith)
+    ∙ low_joins s.0 s.1 s.2 c.args.shares.now s.3 c.split_at.result.0.now (omega arith)
     (rw c.split_at.ensures.front (All-take (λ u. u < length c.args.shares.now) (2 ^ 24) c.parts.left.now c.parts.invariant.within))
-    c.lanes_from.result (c.lanes_from.ensures n low high h) in
+    c.lanes_from.result (c.lanes_from.ensures s.0 s.1 s.2 s.3) in
     omega (
       arith,
       e,
-      c.parts.invariant.low n low high h,
-      sum_by-take-drop low c.parts.left.now (2 ^ 24),
-      ap (sum_by low) c.split_at.ensures.front,
-      c.requires.shares.4,
+      c.parts.invariant.low s.0 s.1 s.2 s.3,
+      sum_by-take-drop s.1 c.parts.left.now (2 ^ 24),
+      ap (sum_by s.1) c.split_at.ensures.front,
+      s.4,
     )
 
 pub overflow_add-above : goal.overflow_add-above
 overflow_add-above c =
-    let n = c.requires.shares.0 in
-    let low = c.requires.shares.1 in
-    let high = c.requires.shares.2 in
-    let h = c.requires.shares.3 in
+    let s = c.requires.shares in
     let e = c.from_lanes-low.ensures.above
-    ∙ high_joins n low high c.args.shares.now h c.split_at.result.0.now (omega arith)
+    ∙ high_joins s.0 s.1 s.2 c.args.shares.now s.3 c.split_at.result.0.now (omega arith)
     (rw c.split_at.ensures.front (All-take (λ u. u < length c.args.shares.now) (2 ^ 24) c.parts.left.now c.parts.invariant.within))
-    c.lanes_from.result (c.lanes_from.ensures n low high h) in
+    c.lanes_from.result (c.lanes_from.ensures s.0 s.1 s.2 s.3) in
     omega (
       arith,
       e,
-      c.parts.invariant.high n low high h,
-      sum_by-take-drop high c.parts.left.now (2 ^ 24),
-      ap (sum_by high) c.split_at.ensures.front,
-      c.requires.shares.5,
+      c.parts.invariant.high s.0 s.1 s.2 s.3,
+      sum_by-take-drop s.2 c.parts.left.now (2 ^ 24),
+      ap (sum_by s.2) c.split_at.ensures.front,
+      s.5,
     )
 
 pub parts-preserved : goal.parts-preserved
@@ -76,25 +70,19 @@ parts-preserved c = record {
 
 pub overflow_add-result : goal.overflow_add-result
 overflow_add-result c =
-    let n = c.requires.shares.0 in
-    let low = c.requires.shares.1 in
-    let high = c.requires.shares.2 in
-    let h = c.requires.shares.3 in
+    let s = c.requires.shares in
     let e = c.from_lanes-low-2.ensures.below
-    ∙ low_joins n low high c.args.shares.now h c.parts.left.now (omega arith) c.parts.invariant.within
-    c.lanes_from-2.result (c.lanes_from-2.ensures n low high h) in
-    omega (arith, e, c.parts.invariant.low n low high h, c.requires.shares.4)
+    ∙ low_joins s.0 s.1 s.2 c.args.shares.now s.3 c.parts.left.now (omega arith) c.parts.invariant.within
+    c.lanes_from-2.result (c.lanes_from-2.ensures s.0 s.1 s.2 s.3) in
+    omega (arith, e, c.parts.invariant.low s.0 s.1 s.2 s.3, s.4)
 
 pub overflow_add-result-2 : goal.overflow_add-result-2
 overflow_add-result-2 c =
-    let n = c.requires.shares.0 in
-    let low = c.requires.shares.1 in
-    let high = c.requires.shares.2 in
-    let h = c.requires.shares.3 in
+    let s = c.requires.shares in
     let e = c.from_lanes-low-2.ensures.above
-    ∙ high_joins n low high c.args.shares.now h c.parts.left.now (omega arith) c.parts.invariant.within
-    c.lanes_from-2.result (c.lanes_from-2.ensures n low high h) in
-    omega (arith, e, c.parts.invariant.high n low high h, c.requires.shares.5)
+    ∙ high_joins s.0 s.1 s.2 c.args.shares.now s.3 c.parts.left.now (omega arith) c.parts.invariant.within
+    c.lanes_from-2.result (c.lanes_from-2.ensures s.0 s.1 s.2 s.3) in
+    omega (arith, e, c.parts.invariant.high s.0 s.1 s.2 s.3, s.5)
 
 pub returns-clause-low : goal.returns-clause-low
 returns-clause-low c = λ n low high h.

@@ -8,30 +8,24 @@ use Rattle.wg_rank.proofs.pulling.parts_along.Goals as goal
 
 pub overflow_add-below : goal.overflow_add-below
 overflow_add-below c =
-    let n = c.requires.summed.0 in
-    let low = c.requires.summed.1 in
-    let high = c.requires.summed.2 in
-    let h = c.requires.summed.3 in
+    let s = c.requires.summed in
     omega (
       arith,
-      sum_by_more_le (λ (r : PageRun). sum_below r.to low - sum_below r.from low) c.args.runs.now c.loop-run.run-index (record { from = 0; to = 0 }) (omega arith),
-      c.loop-run.invariant.below n low high h,
-      c.rise_in_parts-low.ensures.below n low high h,
-      c.requires.summed.4,
+      sum_by_more_le (λ (r : PageRun). sum_below r.to s.1 - sum_below r.from s.1) c.args.runs.now c.loop-run.run-index (record { from = 0; to = 0 }) (omega arith),
+      c.loop-run.invariant.below s.0 s.1 s.2 s.3,
+      c.rise_in_parts-low.ensures.below s.0 s.1 s.2 s.3,
+      s.4,
     )
 
 pub overflow_add-above : goal.overflow_add-above
 overflow_add-above c =
-    let n = c.requires.summed.0 in
-    let low = c.requires.summed.1 in
-    let high = c.requires.summed.2 in
-    let h = c.requires.summed.3 in
+    let s = c.requires.summed in
     omega (
       arith,
-      sum_by_more_le (λ (r : PageRun). sum_below r.to high - sum_below r.from high) c.args.runs.now c.loop-run.run-index (record { from = 0; to = 0 }) (omega arith),
-      c.loop-run.invariant.above n low high h,
-      c.rise_in_parts-low.ensures.above n low high h,
-      c.requires.summed.5,
+      sum_by_more_le (λ (r : PageRun). sum_below r.to s.2 - sum_below r.from s.2) c.args.runs.now c.loop-run.run-index (record { from = 0; to = 0 }) (omega arith),
+      c.loop-run.invariant.above s.0 s.1 s.2 s.3,
+      c.rise_in_parts-low.ensures.above s.0 s.1 s.2 s.3,
+      s.5,
     )
 
 pub loop-run-preserved : goal.loop-run-preserved

@@ -50,15 +50,19 @@ bounds-high-u-else-degree-eq0 c = subst (λ (n : ℕ). c.loop-u.u < n) (sym c.re
 pub bounds-sums-low : goal.bounds-sums-low
 bounds-sums-low c = last (length c.args.low.now) _ _ c.loop-u.auto.sums c.requires.sum_pages
 
-pub returns-clause-low_dangling : goal.returns-clause-low_dangling
-returns-clause-low_dangling c =
-    let all : c.loop-u.u ≡ c.args.runs.now.nodes = all_pages c.loop-u.u (length c.args.low.now) _ c.requires.pages c.loop-u.auto.u-end c.loop-u-test.false in
-    dangling_all c.args.runs.now c.loop-u.u c.args.low.now c.loop-u.low_dangling all c.loop-u.invariant.low_rest
-
-pub returns-clause-high_dangling : goal.returns-clause-high_dangling
-returns-clause-high_dangling c =
-    let all : c.loop-u.u ≡ c.args.runs.now.nodes = all_pages c.loop-u.u (length c.args.low.now) _ c.requires.pages c.loop-u.auto.u-end c.loop-u-test.false in
-    dangling_all c.args.runs.now c.loop-u.u c.args.high.now c.loop-u.high_dangling all c.loop-u.invariant.high_rest
+pub returns : goal.returns
+returns c = record {
+  summed =
+      summed_end c.args.runs.now.nodes (length c.args.low.now) c.loop-u.u _ _ c.loop-u.total c.loop-u.sums (omega arith) (omega arith) (omega arith) c.loop-u.invariant.total c.loop-u.invariant.each
+      (λ w h. given_le c.args.runs.now (low_share c.args.runs.now (by_page c.args.low.now)) w UNITS (le_both _ _ UNITS (div-le_self _ _) (c.requires.low_units w 0 (omega arith))))
+      (λ w h. given_le c.args.runs.now (high_share c.args.runs.now (by_page c.args.high.now)) w UNITS (le_both _ _ UNITS (div_ceil_le _ _) (c.requires.high_units w 0 (omega arith))));
+  low_dangling =
+      let all : c.loop-u.u ≡ c.args.runs.now.nodes = all_pages c.loop-u.u (length c.args.low.now) _ c.requires.pages c.loop-u.auto.u-end c.loop-u-test.false in
+      dangling_all c.args.runs.now c.loop-u.u c.args.low.now c.loop-u.low_dangling all c.loop-u.invariant.low_rest;
+  high_dangling =
+      let all : c.loop-u.u ≡ c.args.runs.now.nodes = all_pages c.loop-u.u (length c.args.low.now) _ c.requires.pages c.loop-u.auto.u-end c.loop-u-test.false in
+      dangling_all c.args.runs.now c.loop-u.u c.args.high.now c.loop-u.high_dangling all c.loop-u.invariant.high_rest;
+}
 
 pub overflow_add-low_dangling : goal.overflow_add-low_dangling
 overflow_add-low_dangling c =
@@ -119,12 +123,6 @@ loop-u-preserved c =
             high_rest = rw w.high_dangling-is (dangling_same g u high _ e i.high_rest);
           }
     ]
-
-pub returns-clause-summed : goal.returns-clause-summed
-returns-clause-summed c =
-    summed_end c.args.runs.now.nodes (length c.args.low.now) c.loop-u.u _ _ c.loop-u.total c.loop-u.sums (omega arith) (omega arith) (omega arith) c.loop-u.invariant.total c.loop-u.invariant.each
-    (λ w h. given_le c.args.runs.now (low_share c.args.runs.now (by_page c.args.low.now)) w UNITS (le_both _ _ UNITS (div-le_self _ _) (c.requires.low_units w 0 (omega arith))))
-    (λ w h. given_le c.args.runs.now (high_share c.args.runs.now (by_page c.args.high.now)) w UNITS (le_both _ _ UNITS (div_ceil_le _ _) (c.requires.high_units w 0 (omega arith))))
 
 pub in_lanes-total-requires : goal.in_lanes-total-requires
 in_lanes-total-requires c = record {

@@ -1,9 +1,8 @@
 use Rattle.std.proofs.Common.{codes}
-use Rattle.wg_lines.proofs.PrintLemmas.{less_before}
+use Rattle.wg_lines.proofs.PrintLemmas.{less_before, prints_after}
 use Rattle.wg_outside.proofs.PutsLemmas.{is_that_err}
 use Rattle.wg_outside.proofs.RefusalLemmas.{sink_after, sink_exit}
 use Rattle.wg_num.specs.Units.{text_of_units}
-use Rattle.wg_rank.proofs.Printed.{prints_after}
 use Rattle.wg_rank.proofs.writing.write_bound.Goals as goal
 
 pub returns-in_err-text : goal.returns-in_err-text

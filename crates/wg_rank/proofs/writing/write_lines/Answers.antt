@@ -2,7 +2,7 @@ use Rattle.std.proofs.Common.{codes, length}
 use Rattle.wg_outside.proofs.PutsLemmas.{is_that_err}
 use Rattle.wg_outside.proofs.RefusalLemmas.{sink_after, sink_exit}
 use Rattle.wg_rank.specs.CertificateText.{named_line, bound_lines}
-use Rattle.wg_rank.proofs.Printed.{less_first, less_second, prints_third}
+use Rattle.wg_lines.proofs.PrintLemmas.{less_first, less_second, prints_third}
 use Rattle.wg_rank.proofs.writing.write_lines.Goals as goal
 
 pub returns-in_err-write_named : goal.returns-in_err-write_named
