@@ -1,9 +1,9 @@
 -- How many upper bounds are below each of falling lower bounds.
 use Rattle.std.specs.List.{count_by, sum}
 use Rattle.std.specs.List.Sorted.{IsPartitionedBy}
-use Rattle.std.proofs.Common.{ℕ, zero, suc, ◌≡◌, ◌-◌, ◌+◌, ◌<◌, ◌≤◌, List, [], ◌∷◌, length, get_or, take, drop, set, nat_lt, replicate, Bool, true, false, refl, sym, ap, subst, arith, ◌∙◌, inl, inr}
+use Rattle.std.proofs.Common.{ℕ, zero, suc, ◌≡◌, ◌-◌, ◌+◌, ◌<◌, ◌≤◌, List, [], ◌∷◌, length, get_or, take, drop, set, nat_lt, replicate, Bool, true, false, sym, ap, subst, arith, ◌∙◌, inl, inr}
 use Rattle.std.proofs.lemmas.Bool.{cases_lt, cases_eq, cases_Bool, lt-ltb, le-ltb, both_ways}
-use Rattle.std.proofs.lemmas.List.{drop-set-lt, drop-set-add, drop_all, get_or-drop, get_or-set_same, get_or-set_other, length-drop, drop-replicate}
+use Rattle.std.proofs.lemmas.List.{drop-set-lt, drop-set-add, get_or-drop, get_or-set_same, get_or-set_other, length-drop, drop-replicate}
 use Rattle.std.proofs.lemmas.List.Folds.{sum_by-replicate}
 use Rattle.std.proofs.lemmas.List.Sums.{sum_by-cons, sum_by-set, sum_by-drop_more, sum_by-take-drop, sum_by_more}
 use Rattle.wg_order.proofs.Counts.{one, count_none, falling_parts}
@@ -100,13 +100,6 @@ pub record AreAdded (old now : List ℕ) (total i : ℕ) : Type 0 where
   pub total_is : total ≡ sum (drop i old)
   pub added : (j : ℕ) → i ≤ j → j < length old → get_or now j 0 ≡ sum (drop j old)
   pub left : (j : ℕ) → j < i → get_or now j 0 ≡ get_or old j 0
-
-pub added_none : (old : List ℕ) (i : ℕ) → i ≡ length old → AreAdded old old 0 i
-added_none old i e = record {
-  total_is = sym (ap sum (drop_all i old (omega arith)));
-  added = λ j l w. absurd (omega arith);
-  left = λ j l. refl;
-}
 
 pub added_next : (old now : List ℕ) (total i y : ℕ) → i < length old → length now ≡ length old → AreAdded old now total (i + 1) → y ≡ total + get_or now i 0
     → AreAdded old (set now i y) y i
