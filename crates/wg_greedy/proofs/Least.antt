@@ -12,7 +12,7 @@ use Rattle.wg_greedy.specs.Greedy.{size_of, is_candidate, candidates, chosen}
 
 -- ---- tests of all members
 
-all_in : (q : ℕ → Bool) (xs : List ℕ) (y : ℕ) → list_all q xs ≡ true → is_in y xs ≡ true → q y ≡ true
+pub all_in : (q : ℕ → Bool) (xs : List ℕ) (y : ℕ) → list_all q xs ≡ true → is_in y xs ≡ true → q y ≡ true
 all_in q [] y all there = absurd (true≢false (sym there))
 all_in q (x ∷ xs) y all there =
     let parts = and_parts (q x) (list_all q xs) all in

@@ -1,9 +1,9 @@
 -- A record without a reference has a word for each value: its numbers are below twice as many as there are pages, and no code has fewer.
-use Rattle.std.proofs.Common.{◌≡◌, ℕ, zero, suc, ◌+◌, ◌-◌, ◌*◌, ◌/◌, ◌^◌, ◌<◌, ◌≤◌, ltb, leb, eqb, Bool, true, not, ◌&&◌, List, [], ◌∷◌, ◌++◌, length, refl, sym, ap, subst, ◌∙◌, inl, inr, arith}
+use Rattle.std.proofs.Common.{◌≡◌, ℕ, zero, suc, ◌+◌, ◌-◌, ◌*◌, ◌/◌, ◌^◌, ◌<◌, ◌≤◌, ltb, leb, Bool, true, not, ◌&&◌, List, [], ◌∷◌, ◌++◌, length, refl, sym, ap, subst, ◌∙◌, inl, inr, arith}
 use Rattle.std.specs.Prelude.{pos, negsuc, ◌-ℤ◌, filter, Option, Some, None}
 use Rattle.std.specs.List.{list_all, flat_map, range_with_len}
 use Rattle.std.proofs.lemmas.Int.{ints}
-use Rattle.std.proofs.lemmas.Bool.{cases_lt, cases_Bool, and_from, and_parts, le-leb, leb-true, eqb-true, or_cases, true≢false}
+use Rattle.std.proofs.lemmas.Bool.{cases_lt, cases_Bool, and_from, le-leb, leb-true, eqb-true, true≢false}
 use Rattle.std.proofs.lemmas.List.Folds.{list_all-append}
 use Rattle.wg_graph.specs.Numbers.{is_in}
 use Rattle.wg_graph.specs.Ascending.{Ascends, Below}
@@ -17,6 +17,7 @@ use Rattle.wg_intervals.specs.declared.run.Run.{Run}
 use Rattle.wg_intervals.specs.Canonical.{runs_of, is_long, numbers_of, intervals_of, residuals_of}
 use Rattle.wg_intervals.proofs.Maximal.{Cut, cut_of, in_run}
 use Rattle.wg_greedy.specs.Fields.{Written, all_have_words, stored_gap, count_fields, interval_fields, residual_fields, extras, has_some, extra_fields, reference_fields, copy_fields, list_fields, record_fields}
+use Rattle.wg_greedy.proofs.Least.{all_in}
 
 abbrev has_word : Written → Bool
 has_word f = leb f.value (top f.code)
@@ -46,16 +47,10 @@ zeta_high k = leb (2 ^ 38) (2 ^ (k * (63 / k)) - 2)
 all_high : list_all zeta_high (range_with_len 1 31) ≡ true
 all_high = refl
 
-high_in : (q : ℕ → Bool) (xs : List ℕ) (y : ℕ) → list_all q xs ≡ true → is_in y xs ≡ true → q y ≡ true
-high_in q [] y all there = absurd (true≢false (sym there))
-high_in q (x ∷ xs) y all there =
-    let parts = and_parts (q x) (list_all q xs) all in
-    elim (or_cases (eqb y x) (is_in y xs) there) [ inl e ↦ ap q (eqb-true y x e) ∙ parts.0 | inr h ↦ high_in q xs y parts.1 h ]
-
 pub zeta_holds : (k v : ℕ) → 1 ≤ k → k ≤ 31 → v ≤ 2 ^ 38 → leb v (top (Zeta k)) ≡ true
 zeta_holds k v some low le =
     let there : is_in k (range_with_len 1 31) ≡ true = in_run 1 31 k [] some (omega arith) in
-    let high : 2 ^ 38 ≤ 2 ^ (k * (63 / k)) - 2 = leb-true (2 ^ 38) (2 ^ (k * (63 / k)) - 2) (high_in zeta_high (range_with_len 1 31) k all_high there) in
+    let high : 2 ^ 38 ≤ 2 ^ (k * (63 / k)) - 2 = leb-true (2 ^ 38) (2 ^ (k * (63 / k)) - 2) (all_in zeta_high (range_with_len 1 31) k all_high there) in
     le-leb v (2 ^ (k * (63 / k)) - 2) (omega (arith, high, le))
 
 residual_holds : (zeta : ℕ) (code : Code) (v : ℕ) → 1 ≤ zeta → zeta ≤ 31 → is_residual_code zeta code ≡ true → v ≤ 2 ^ 38 → leb v (top code) ≡ true
