@@ -1,8 +1,7 @@
 -- The parts of a record, added field by field.
-use Rattle.std.proofs.Common.{◌≡◌, ℕ, zero, suc, ◌+◌, ◌-◌, ◌*◌, ◌^◌, ◌<◌, ◌≤◌, Bool, not, cond, List, [], ◌∷◌, ◌++◌, length, map, drop, get_or, refl, sym, ap, subst, ◌∙◌, inl, inr, arith, append_assoc}
+use Rattle.std.proofs.Common.{◌≡◌, ℕ, zero, suc, ◌+◌, ◌-◌, ◌*◌, ◌^◌, ◌<◌, ◌≤◌, List, [], ◌∷◌, ◌++◌, length, map, drop, get_or, refl, sym, ap, subst, ◌∙◌, arith, append_assoc}
 use Rattle.std.specs.Prelude.{Option, Some}
-use Rattle.std.proofs.lemmas.Bool.{cases_Bool, cond-true, cond-false, not_from_true, not_from_false}
-use Rattle.std.proofs.lemmas.List.{append-nil, drop_more, drop_all}
+use Rattle.std.proofs.lemmas.List.{append-nil, drop_more}
 use Rattle.wg_graph.specs.Numbers.{is_in}
 use Rattle.wg_graph.specs.Ascending.{Ascends}
 use Rattle.wg_params.specs.declared.code.Code.{Code}
@@ -10,7 +9,7 @@ use Rattle.wg_params.specs.declared.code.Code.TheVariants.{Gamma}
 use Rattle.wg_intervals.specs.declared.run.Run.{Run}
 use Rattle.wg_intervals.specs.Canonical.{ends_and_lengths}
 use Rattle.wg_grammar.specs.declared.fault.Field.TheVariants as field
-use Rattle.wg_greedy.specs.Fields.{Written, written, stored_blocks, stored_gap, interval_fields, residual_fields, extras}
+use Rattle.wg_greedy.specs.Fields.{Written, written, stored_blocks, stored_gap, interval_fields, extras}
 use Rattle.wg_encoder.specs.InMemory.{AreLowRuns}
 
 -- one field more
@@ -26,14 +25,6 @@ pub record Leaving (list referenced asked : List ℕ) (i : ℕ) (others : List �
   pub up : Ascends least (drop i list)
   pub same : (y : ℕ) → least ≤ y → is_in y asked ≡ is_in y referenced
 
-first_extra : (y : ℕ) (rest referenced : List ℕ) (told : Bool) → told ≡ is_in y referenced → cond told [] (y ∷ []) ++ extras rest referenced ≡ extras (y ∷ rest) referenced
-first_extra y rest referenced told tells =
-    let more : List ℕ = extras rest referenced in
-    elim (cases_Bool (is_in y referenced)) [
-      | inl there ↦ ap (λ xs. xs ++ more) (cond-true told [] (y ∷ []) (tells ∙ there)) ∙ sym (cond-false (not (is_in y referenced)) (y ∷ more) more (not_from_true _ there))
-      | inr absent ↦ ap (λ xs. xs ++ more) (cond-false told [] (y ∷ []) (tells ∙ absent)) ∙ sym (cond-true (not (is_in y referenced)) (y ∷ more) more (not_from_false _ absent))
-    ]
-
 -- ---- blocks
 
 -- how blocks are stored if i are behind
@@ -43,19 +34,6 @@ stored_from (suc i) bs = map (λ n. n - 1) bs
 
 abbrev pub lengths_from : Code → ℕ → List ℕ → List Written
 lengths_from code i bs = map (written field.Block code) (stored_from i bs)
-
--- ---- residuals
-
-pub residuals_more : (code : Code) (page : ℕ) (last : Option ℕ) (fields new whole : List Written) (ys : List ℕ) (i stored : ℕ) → i < length ys → fields ++ residual_fields code page last (drop i ys) ≡ whole
-    → stored ≡ stored_gap page last (get_or ys i 0) → new ≡ fields ++ written field.Residual code stored ∷ [] → new ++ residual_fields code page (Some (get_or ys i 0)) (drop (i + 1) ys) ≡ whole
-residuals_more code page last fields new whole ys i stored lt is how added =
-    let y : ℕ = get_or ys i 0 in
-    let rest : List Written = residual_fields code page (Some y) (drop (i + 1) ys) in
-    grow fields new whole rest (written field.Residual code stored) added
-    (ap (λ v. fields ++ written field.Residual code v ∷ rest) how ∙ ap (λ xs. fields ++ residual_fields code page last xs) (sym (drop_more ys i 0 lt)) ∙ is)
-
-pub residuals_done : (code : Code) (page : ℕ) (last : Option ℕ) (fields whole : List Written) (ys : List ℕ) (i : ℕ) → length ys ≤ i → fields ++ residual_fields code page last (drop i ys) ≡ whole → fields ≡ whole
-residuals_done code page last fields whole ys i le is = sym (append-nil fields) ∙ ap (λ xs. fields ++ residual_fields code page last xs) (sym (drop_all i ys le)) ∙ is
 
 -- ---- intervals
 

@@ -1,21 +1,16 @@
 -- A call failed on one of the two files, as seen from an earlier moment.
-use Rattle.std.proofs.Common.{◌≡◌, ℕ, ◌≤◌, List, sym, subst, inl, inr, arith}
-use Rattle.wg_outside.specs.Outside.{Counts, Increased, NonDecreasing}
+use Rattle.std.proofs.Common.{◌≡◌, ℕ, List, sym, subst, inl, inr}
+use Rattle.wg_outside.specs.Outside.{Counts, NonDecreasing}
 use Rattle.wg_outside.specs.Suffixes.{graph_name, offsets_name}
 use Rattle.wg_outside.specs.declared.output.Output.TheVariants as output
+use Rattle.wg_outside.proofs.LoadLemmas.{risen}
 use Rattle.wg_encoder.specs.declared.error.EncodeError.{EncodeError}
 use Rattle.wg_encoder.specs.declared.error.EncodeError.TheVariants as error
 use Rattle.wg_encoder.specs.Gone.{HasFailed, HasFailedOn}
 
-increased_since : (a b c : ℕ) → a ≤ b → Increased b c → Increased a c
-increased_since a b c l r = elim r [
-  | inl x ↦ inl (omega (arith, x, l))
-  | inr x ↦ inr x
-]
-
 pub failed_since : (base : List ℕ) (a b c : List ℕ → Counts) (why : EncodeError) → NonDecreasing a b → HasFailed base b c why → HasFailed base a c why
-failed_since base a b c (error.Failed output.Graph) on h = increased_since _ _ _ (on.write_faults (graph_name base)) h
-failed_since base a b c (error.Failed output.Offsets) on h = increased_since _ _ _ (on.write_faults (offsets_name base)) h
+failed_since base a b c (error.Failed output.Graph) on h = risen _ _ _ (on.write_faults (graph_name base)) h
+failed_since base a b c (error.Failed output.Offsets) on h = risen _ _ _ (on.write_faults (offsets_name base)) h
 failed_since base a b c error.Memory on h = tt
 failed_since base a b c (error.Failed output.Properties) on h = h
 failed_since base a b c (error.Failed output.Certificate) on h = h

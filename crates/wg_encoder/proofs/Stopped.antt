@@ -1,6 +1,6 @@
 -- From list to list: what has gone out, and what stands in the files if the writing stops.
 use Rattle.std.proofs.Common.{◌≡◌, ℕ, Bool, List, [], ◌∷◌, ◌++◌, length-append, append_assoc, refl, sym, ap, subst, ◌∙◌, inl, inr, arith}
-use Rattle.std.specs.Prelude.{Some, Result, Err, IfErr}
+use Rattle.std.specs.Prelude.{Some}
 use Rattle.std.specs.FinMap as fin
 use Rattle.std.proofs.lemmas.List.{append-nil}
 use Rattle.std.proofs.lemmas.List.Elements.{All-nil}
@@ -191,8 +191,3 @@ pub all_stopped_on_offsets : (a b : Files) (base : List ℕ) (e : Encoded) (list
     → HasWritten e lists → HasSentAll a base e lists → HasStopped b base e.params lists why
 all_stopped_on_offsets a b base e lists old new why less failed written h =
     subst (λ ls. HasStopped b base e.params ls why) (append-nil lists) (stopped_on_offsets a b base e lists [] old new why less failed written h)
-
--- ---- the exit of a call
-
-pub if_err : {A E : Type 0} (r : Result A E) (P : E → Type 0) (e : E) → r ≡ Err e → P e → IfErr r P
-if_err r P e is p = subst (λ x. IfErr x P) (sym is) p

@@ -1,22 +1,15 @@
 -- What the parts of a record take together.
-use Rattle.std.proofs.Common.{◌≡◌, ℕ, ◌<◌, ◌≤◌, ltb, List, [], ◌∷◌, ◌++◌, length, refl, sym, ap, ◌∙◌, arith}
-use Rattle.std.proofs.lemmas.Bool.{cond-true, cond-false, lt-ltb, le-ltb}
+use Rattle.std.proofs.Common.{◌≡◌, ℕ, ◌<◌, ltb, List, [], ◌∷◌, ◌++◌, length, refl, sym, ap, ◌∙◌, arith}
+use Rattle.std.proofs.lemmas.Bool.{cond-true, lt-ltb}
 use Rattle.wg_params.specs.Parameters.{Parameters}
 use Rattle.wg_params.specs.declared.code.Code.{Code}
-use Rattle.wg_blocks.specs.Canonical.{canonical_blocks}
 use Rattle.wg_grammar.specs.declared.fault.Field.TheVariants as field
-use Rattle.wg_greedy.specs.Fields.{written, block_fields, reference_fields, copy_fields, extras, extra_fields, list_fields, record_fields}
+use Rattle.wg_greedy.specs.Fields.{written, reference_fields, copy_fields, extras, extra_fields, list_fields, record_fields}
 use Rattle.wg_encoder.specs.Cost.{room_after}
 use Rattle.wg_encoder.proofs.Rooms.{one_written}
 
 pub with_reference : (p : Parameters) (r : ℕ) → 0 < p.window → written field.Reference p.references r ∷ [] ≡ reference_fields p r
 with_reference p r some = sym (cond-true (ltb 0 p.window) (written field.Reference p.references r ∷ []) [] (lt-ltb 0 p.window some))
-
-pub no_reference : (p : Parameters) (r : ℕ) → p.window ≤ 0 → [] ≡ reference_fields p r
-no_reference p r none = sym (cond-false (ltb 0 p.window) (written field.Reference p.references r ∷ []) [] (le-ltb 0 p.window none))
-
-pub no_blocks : (p : Parameters) (r : ℕ) (referenced list : List ℕ) → r ≤ 0 → [] ≡ copy_fields p r referenced list
-no_blocks p r referenced list none = sym (cond-false (ltb 0 r) (block_fields p (canonical_blocks list referenced)) [] (le-ltb 0 r none))
 
 pub list_whole : (p : Parameters) (page r : ℕ) (referenced list : List ℕ) → 0 < length list → (reference_fields p r ++ copy_fields p r referenced list) ++ extra_fields p page (extras list referenced) ≡ list_fields p page r referenced list
 list_whole p page r referenced [] some = absurd (omega arith)

@@ -1,5 +1,5 @@
 use Rattle.std.proofs.Common.{◌≡◌, ◌∙◌, refl, ap}
-use Rattle.std.proofs.lemmas.Result.{err_from_is_err_and}
+use Rattle.wg_outside.proofs.PutsLemmas.{is_that_err}
 use Rattle.wg_outside.proofs.FilesLemmas.{none_falls-refl, none_falls-trans}
 use Rattle.wg_outside.specs.Suffixes.{offsets_name}
 use Rattle.wg_encoder.proofs.Failed.{failed_on_offsets, failed_since}
@@ -10,8 +10,7 @@ use Rattle.wg_encoder.proofs.list_encoder.ListEncoder.finish.Goals as goal
 
 pub returns-in_err-names : goal.returns-in_err-names
 returns-in_err-names g c =
-    let e = err_from_is_err_and c.from_residual.result c.from_residual.ensures.1 in
-    rw (e.1, e.2) record {
+    rw (is_that_err c.from_residual.result _ c.from_residual.ensures.1) record {
       bits = tt;
       ok = λ lists written t h. tt;
       err = λ lists written t h. all_stopped_by_memory _ _ c.args.self lists _ h refl;
@@ -22,10 +21,9 @@ returns-in_err-names g c =
 
 pub returns-in_err-put : goal.returns-in_err-put
 returns-in_err-put g c =
-    let e = err_from_is_err_and c.from_residual-in_err-put.result c.from_residual-in_err-put.ensures.1 in
     let sends = c.in_err-put.ensures.sends in
     let offsets : c.offsets.result.now ≡ offsets_name c.args.base.now = c.offsets.ensures ∙ ap offsets_name (c.deref.ensures ∙ c.in_ok-names.ensures.names) in
-    rw (e.1, e.2) record {
+    rw (is_that_err c.from_residual-in_err-put.result _ c.from_residual-in_err-put.ensures.1) record {
       bits = tt;
       ok = λ lists written t h. tt;
       err = λ lists written t h.
@@ -38,12 +36,11 @@ returns-in_err-put g c =
 
 pub returns-in_err-close_both : goal.returns-in_err-close_both
 returns-in_err-close_both g c =
-    let e = err_from_is_err_and c.from_residual-in_err-close_both.result c.from_residual-in_err-close_both.ensures.1 in
     let first = c.in_ok-put.ensures in
     let n = c.in_err-close_both.ensures in
     let offsets : c.offsets.result.now ≡ offsets_name c.args.base.now = c.offsets.ensures ∙ ap offsets_name (c.deref.ensures ∙ c.in_ok-names.ensures.names) in
     let on : c.deref-2.result.now ≡ c.args.base.now = c.deref-2.ensures ∙ c.in_ok-names.ensures.names in
-    rw (e.1, e.2) record {
+    rw (is_that_err c.from_residual-in_err-close_both.result _ c.from_residual-in_err-close_both.ensures.1) record {
       bits = tt;
       ok = λ lists written t h. tt;
       err = λ lists written t h.

@@ -1,5 +1,5 @@
 use Rattle.std.proofs.Common.{◌≡◌, ◌∙◌, [], ◌∷◌, ◌++◌, refl, sym, ap, subst}
-use Rattle.std.proofs.lemmas.Result.{err_from_is_err_and}
+use Rattle.wg_outside.proofs.PutsLemmas.{is_that_err}
 use Rattle.wg_outside.proofs.FilesLemmas.{none_falls-refl, none_falls-trans}
 use Rattle.wg_outside.specs.Suffixes.{graph_name, offsets_name}
 use Rattle.wg_encoder.specs.Encoding.{Encoded, HasWritten}
@@ -11,8 +11,7 @@ use Rattle.wg_encoder.proofs.list_encoder.ListEncoder.next.Goals as goal
 
 pub returns-in_err-ready : goal.returns-in_err-ready
 returns-in_err-ready g c =
-    let e = err_from_is_err_and c.from_residual.result c.from_residual.ensures.1 in
-    rw (e.1, e.2) record {
+    rw (is_that_err c.from_residual.result _ c.from_residual.ensures.1) record {
       on = tt;
       written = λ lists w. tt;
       ok = λ lists w t h. tt;
@@ -24,10 +23,9 @@ returns-in_err-ready g c =
 
 pub returns-in_err-begun : goal.returns-in_err-begun
 returns-in_err-begun g c =
-    let e = err_from_is_err_and c.from_residual-in_err-begun.result c.from_residual-in_err-begun.ensures.1 in
     let sends = c.in_err-begun.ensures.sends in
     let offsets : c.offsets.result.now ≡ offsets_name c.args.base.now = c.offsets.ensures ∙ ap offsets_name (c.deref.ensures ∙ c.in_ok-ready.ensures.names) in
-    rw (e.1, e.2) record {
+    rw (is_that_err c.from_residual-in_err-begun.result _ c.from_residual-in_err-begun.ensures.1) record {
       on = tt;
       written = λ lists w. tt;
       ok = λ lists w t h. tt;
@@ -41,14 +39,13 @@ returns-in_err-begun g c =
 
 pub returns-in_err-put : goal.returns-in_err-put
 returns-in_err-put g c =
-    let e = err_from_is_err_and c.from_residual-in_err-put.result c.from_residual-in_err-put.ensures.1 in
     let first = c.in_ok-begun.ensures in
     let sends = c.in_err-put.ensures.sends in
     let offsets : c.offsets.result.now ≡ offsets_name c.args.base.now = c.offsets.ensures ∙ ap offsets_name (c.deref.ensures ∙ c.in_ok-ready.ensures.names) in
     let graph : c.graph.result.now ≡ graph_name c.args.base.now = c.graph.ensures ∙ ap graph_name (c.deref-3.ensures ∙ c.in_ok-ready.ensures.names) in
     let same = c.prepare.ensures.same in
     let made : IsMade c.args.self c.args.list.now c.in_ok-ready.ready.choice c.record.result.now = c.record.ensures ∙ c.deref-2.ensures ∙ c.in_ok-ready.ensures.record_is in
-    rw (e.1, e.2) record {
+    rw (is_that_err c.from_residual-in_err-put.result _ c.from_residual-in_err-put.ensures.1) record {
       on = tt;
       written = λ lists w. tt;
       ok = λ lists w t h. tt;
@@ -63,14 +60,13 @@ returns-in_err-put g c =
 
 pub returns-in_err-go_on : goal.returns-in_err-go_on
 returns-in_err-go_on g c =
-    let e = err_from_is_err_and c.from_residual-in_err-go_on.result c.from_residual-in_err-go_on.ensures.1 in
     let first = c.in_ok-begun.ensures in
     let second = c.in_ok-put.ensures in
     let offsets : c.offsets.result.now ≡ offsets_name c.args.base.now = c.offsets.ensures ∙ ap offsets_name (c.deref.ensures ∙ c.in_ok-ready.ensures.names) in
     let graph : c.graph.result.now ≡ graph_name c.args.base.now = c.graph.ensures ∙ ap graph_name (c.deref-3.ensures ∙ c.in_ok-ready.ensures.names) in
     let same = c.prepare.ensures.same in
     let made : IsMade c.args.self c.args.list.now c.in_ok-ready.ready.choice c.record.result.now = c.record.ensures ∙ c.deref-2.ensures ∙ c.in_ok-ready.ensures.record_is in
-    rw (e.1, e.2) record {
+    rw (is_that_err c.from_residual-in_err-go_on.result _ c.from_residual-in_err-go_on.ensures.1) record {
       on = tt;
       written = λ lists w. tt;
       ok = λ lists w t h. tt;
