@@ -1,6 +1,8 @@
 -- A job is within its limits.
 use Rattle.std.proofs.Common.{◌≡◌, ℕ, ◌≤◌, Bool, true, false, List, Option, Some, None, Result, Ok, Err, IfOk, refl, sym, ◌∙◌, option_and_then, option_map, cond, arith, subst, codes}
 use Rattle.std.specs.Str.{bytes_eq}
+use Rattle.std.proofs.lemmas.Bool.{false_from_ne_true}
+use Rattle.std.proofs.lemmas.Slice.Eq.{bytes_eq-Decides}
 use Rattle.std.proofs.lemmas.Option.{none-some, same_Some, option_and_then_some}
 use Rattle.clap.specs.Words.{Row, Text, first_of}
 use Rattle.wg_params.specs.declared.limits.TheConstants.{MOST_PAGES, MOST_DAMPING, MOST_ROUNDS, MOST_GENERATED}
@@ -18,6 +20,10 @@ use Rattle.wg_words.specs.declared.jobs.JobError.TheVariants.{Usage}
 use Rattle.wg_words.proofs.FileLemmas.{no_file, keeps_inputs, no_file_shared_unless}
 use Rattle.wg_words.proofs.LayoutLemmas.{layout_in_within}
 use Rattle.wg_words.proofs.ValueLemmas.{up_to_within, number_within, some_unless}
+
+-- a word that is not another one
+pub differs : (word other : Text) → (word ≡ other → ⊥) → bytes_eq word other ≡ false
+differs word other not_same = false_from_ne_true (bytes_eq word other) (λ same. not_same ((bytes_eq-Decides word other).0 same))
 
 show_on_within : (rows : List Row) (base : Text) (job : Job) → show_on rows base ≡ Some job → IsWithin job
 show_on_within rows base job = made (numbers_in rows (codes "page"))

@@ -1,11 +1,10 @@
 -- A layout that the options give is within the limits.
-use Rattle.std.proofs.Common.{false, ◌≡◌, ℕ, ◌≤◌, ◌==◌, true, List, Option, Some, None, unwrap_or, option_map, arith, refl, subst, codes}
+use Rattle.std.proofs.Common.{◌≡◌, ℕ, ◌≤◌, ◌==◌, true, List, Option, Some, None, unwrap_or, option_map, arith, refl, subst, codes}
 use Rattle.std.specs.Str.{bytes_eq}
-use Rattle.std.proofs.lemmas.Bool.{le-ltb}
 use Rattle.std.proofs.lemmas.Option.{none-some, same_Some, option_and_then_some}
 use Rattle.clap.specs.Words.{Row, Text, first_of}
 use Rattle.wg_params.specs.Codes.{is_gamma_or_delta, is_unary_gamma_or_delta, is_residual_code}
-use Rattle.wg_params.specs.Parameters.{Parameters, AreCodes, IsWithinLimits, params_of, first_bad}
+use Rattle.wg_params.specs.Parameters.{AreCodes, IsWithinLimits, params_of}
 use Rattle.wg_params.specs.declared.code.Code.{Code}
 use Rattle.wg_params.specs.declared.code.Code.TheVariants.{Unary, Gamma, Delta, Zeta, Nibble}
 use Rattle.wg_params.specs.declared.limits.TheConstants.{MOST_PAGES, MOST_ARCS, MOST_WINDOW, MOST_CHAIN, MOST_INTERVAL, MOST_ZETA}
@@ -124,11 +123,3 @@ layout_for_any layout pages links other_pages other_links within few_pages few =
   residuals = within.residuals;
   offsets = within.offsets;
 }
-
-not_zero : (n : ℕ) → 1 ≤ n → (n == 0) ≡ false
-not_zero n some = grind arith
-
--- parameters within their limits have no key that is out of them, so they can be made
-pub none_bad : (p : Parameters) → IsWithinLimits p → first_bad p ≡ None
-none_bad p h =
-    rw (le-ltb MOST_PAGES p.nodes h.nodes, le-ltb MOST_ARCS p.arcs h.arcs, le-ltb MOST_WINDOW p.window h.window, le-ltb MOST_CHAIN (unwrap_or p.chain 0) h.chain, le-ltb MOST_INTERVAL p.interval h.interval, not_zero p.zeta h.some_zeta, le-ltb MOST_ZETA p.zeta h.zeta, h.outdegrees, h.references, h.block_counts, h.blocks, h.residuals, h.offsets) refl
