@@ -28,9 +28,7 @@ use Rattle.wg_ascii.specs.declared.fault.AsciiKind.{AsciiKind}
 use Rattle.wg_ascii.specs.Reading as ascii
 use Rattle.wg_ascii.proofs.Unique.{texts_are_one}
 use Rattle.wg_outcomes.specs.Answers.{Answers, Steps}
-use Rattle.wg_outcomes.specs.Names.{file_of_fault}
 use Rattle.wg_outcomes.specs.declared.ending.Ending.{Ending}
-use Rattle.wg_outcomes.specs.declared.status.Input.TheVariants as input
 use Rattle.wg_outcomes.specs.Readings.{Readings}
 use Rattle.wg_outcomes.specs.Judged.{Judged, refused, with_graph, with_offsets, with_lengths, with_list, with_pages, with_successors, with_text, unless_bad_chain, unless_bad_graph, unless_bad_offsets, unless_bad_list, unless_bad_text, unless_no_page, unless_some_differ}
 use Rattle.wg_outcomes.specs.declared.status.Status.TheVariants.{BadArcs, BadArchive, BadText, NoPage}
@@ -40,12 +38,6 @@ use Rattle.wg_readings.proofs.LimitsLemmas.{coded}
 pub steps_alike : {B : Type 0} (f g : (B → Judged) → Judged) → ((next : B → Judged) → f next ≡ g next) → (r : Result B Ending) → Steps g r → Steps f r
 steps_alike f g same (Ok b) steps = λ next. same next ∙ steps next
 steps_alike f g same (Err e) steps = λ next. subst (λ (j : Judged). Answers j e.status) (sym (same next)) (steps next)
-
--- a fault of a graph file lies there
-pub of_graph : (p : Parameters) (bits : List Bool) (f : ArchiveFault) → ReadsGraph p bits (Err f) → file_of_fault f ≡ input.Graph
-of_graph p bits (archive.Offsets e) read = absurd read.4
-of_graph p bits (archive.Length page found stored) read = absurd read.4
-of_graph p bits _ read = refl
 
 module _ (r : Readings) (p : Parameters) (limits : IsWithinLimits p) (bytes : List ℕ) where
   -- the bits stand for one thing alone

@@ -31,57 +31,51 @@ at_end : (more : Bool) (page page' nodes : ℕ) → (more ≡ true → (page' �
 at_end false page page' nodes on done = refl
 at_end true page page' nodes on done = let e = on refl in absurd (omega (arith, done, e.0, e.1))
 
-pub returns-in-Ok-clause-advances : goal.returns-in-Ok-clause-advances
-returns-in-Ok-clause-advances g c =
-    let e = c.in-Ok.ensures in
-    record {
-      params = e.params;
-      name = e.name;
-      onward = e.onward;
-      same = e.same;
-      later = e.later;
-      only = tt;
-      causes = λ names named. own_caused _ _ _ _ _ _ Done tt;
-      there = λ t held is found.
-          found_after _ _ (λ none unlooked. cc (e.absent t (ap (λ (f : Files). map.get f c.args.reader.now.name) is ∙ none) c.requires.open unlooked)) found;
-      refused = λ t limits held is found follows r. tt;
-    }
-
-pub returns-in-Ok-clause-more : goal.returns-in-Ok-clause-more
-returns-in-Ok-clause-more g c = λ lt.
-    let e = c.in-Ok.ensures in
-    let nodes : c.advance.new.self.pages.params.nodes ≡ c.args.params.now.nodes = ap (λ (p : Parameters). p.nodes) (e.params ∙ c.requires.params) in
-    let more = at_page c.in-Ok._more _ _ _ (λ no. let k = e.end (ap Ok no) in (ap (λ (r : PagesRead). r.page) k.1, k.2 ∙ nodes)) lt in
-    let k = e.more (ap Ok more) in
-    (k.0, k.2, k.4)
-
-pub returns-in-Ok-clause-end : goal.returns-in-Ok-clause-end
-returns-in-Ok-clause-end g c = λ done.
-    let e = c.in-Ok.ensures in
-    let same = e.params ∙ c.requires.params in
-    let nodes : c.advance.new.self.pages.params.nodes ≡ c.args.params.now.nodes = ap (λ (p : Parameters). p.nodes) same in
-    let none = at_end c.in-Ok._more _ _ _ (λ yes. let k = e.more (ap Ok yes) in (k.2, omega (arith, k.3, nodes))) done in
-    let k = e.end (ap Ok none) in
-    ap (λ (r : PagesRead). r.arcs) (sym k.1) ∙ k.3 ∙ ap (λ (p : Parameters). p.arcs) same
-
-pub returns-in-Ok-clause-in_step : goal.returns-in-Ok-clause-in_step
-returns-in-Ok-clause-in_step g c = λ t held same file is whole s lt.
-    let e = c.in-Ok.ensures in
-    let nodes : c.advance.new.self.pages.params.nodes ≡ c.args.params.now.nodes = ap (λ (p : Parameters). p.nodes) (e.params ∙ c.requires.params) in
-    let more = at_page c.in-Ok._more _ _ _ (λ no. let k = e.end (ap Ok no) in (ap (λ (r : PagesRead). r.page) k.1, k.2 ∙ nodes)) lt in
-    subst (λ (b : Bool). StaysInStep file c.advance.new.self whole (lent b)) more
-    (e.in_step t file (ap (λ (f : Files). map.get f c.args.reader.now.name) same ∙ is) whole s)
-
-pub returns-in-Ok-clause-judged : goal.returns-in-Ok-clause-judged
-returns-in-Ok-clause-judged g c = λ t held same file is whole s done.
-    let e = c.in-Ok.ensures in
-    let params = e.params ∙ c.requires.params in
-    let nodes : c.advance.new.self.pages.params.nodes ≡ c.args.params.now.nodes = ap (λ (p : Parameters). p.nodes) params in
-    let none = at_end c.in-Ok._more _ _ _ (λ yes. let k = e.more (ap Ok yes) in (k.2, omega (arith, k.3, nodes))) done in
-    let after : StaysInStep file c.advance.new.self whole (lent c.in-Ok._more) = e.in_step t file (ap (λ (f : Files). map.get f c.args.reader.now.name) same ∙ is) whole s in
-    let now : IsInStep file c.advance.new.self whole = subst (λ (b : Bool). StaysInStep file c.advance.new.self whole (lent b)) none after in
-    subst (λ (q : Parameters). IsJudged file q (Ok (record { graph = lists_of whole; places = places_of whole }))) params
-    (subst (λ (x : State). AgreesIn x file c.advance.new.self whole) (e.end (ap Ok none)).0 now).1
+pub returns-in-Ok : goal.returns-in-Ok
+returns-in-Ok g c = record {
+  advances =
+      let e = c.in-Ok.ensures in
+      record {
+        params = e.params;
+        name = e.name;
+        onward = e.onward;
+        same = e.same;
+        later = e.later;
+        only = tt;
+        causes = λ names named. own_caused _ _ _ _ _ _ Done tt;
+        there = λ t held is found.
+            found_after _ _ (λ none unlooked. cc (e.absent t (ap (λ (f : Files). map.get f c.args.reader.now.name) is ∙ none) c.requires.open unlooked)) found;
+        refused = λ t limits held is found follows r. tt;
+      };
+  more = λ lt.
+      let e = c.in-Ok.ensures in
+      let nodes : c.advance.new.self.pages.params.nodes ≡ c.args.params.now.nodes = ap (λ (p : Parameters). p.nodes) (e.params ∙ c.requires.params) in
+      let more = at_page c.in-Ok._more _ _ _ (λ no. let k = e.end (ap Ok no) in (ap (λ (r : PagesRead). r.page) k.1, k.2 ∙ nodes)) lt in
+      let k = e.more (ap Ok more) in
+      (k.0, k.2, k.4);
+  end = λ done.
+      let e = c.in-Ok.ensures in
+      let same = e.params ∙ c.requires.params in
+      let nodes : c.advance.new.self.pages.params.nodes ≡ c.args.params.now.nodes = ap (λ (p : Parameters). p.nodes) same in
+      let none = at_end c.in-Ok._more _ _ _ (λ yes. let k = e.more (ap Ok yes) in (k.2, omega (arith, k.3, nodes))) done in
+      let k = e.end (ap Ok none) in
+      ap (λ (r : PagesRead). r.arcs) (sym k.1) ∙ k.3 ∙ ap (λ (p : Parameters). p.arcs) same;
+  in_step = λ t held same file is whole s lt.
+      let e = c.in-Ok.ensures in
+      let nodes : c.advance.new.self.pages.params.nodes ≡ c.args.params.now.nodes = ap (λ (p : Parameters). p.nodes) (e.params ∙ c.requires.params) in
+      let more = at_page c.in-Ok._more _ _ _ (λ no. let k = e.end (ap Ok no) in (ap (λ (r : PagesRead). r.page) k.1, k.2 ∙ nodes)) lt in
+      subst (λ (b : Bool). StaysInStep file c.advance.new.self whole (lent b)) more
+      (e.in_step t file (ap (λ (f : Files). map.get f c.args.reader.now.name) same ∙ is) whole s);
+  judged = λ t held same file is whole s done.
+      let e = c.in-Ok.ensures in
+      let params = e.params ∙ c.requires.params in
+      let nodes : c.advance.new.self.pages.params.nodes ≡ c.args.params.now.nodes = ap (λ (p : Parameters). p.nodes) params in
+      let none = at_end c.in-Ok._more _ _ _ (λ yes. let k = e.more (ap Ok yes) in (k.2, omega (arith, k.3, nodes))) done in
+      let after : StaysInStep file c.advance.new.self whole (lent c.in-Ok._more) = e.in_step t file (ap (λ (f : Files). map.get f c.args.reader.now.name) same ∙ is) whole s in
+      let now : IsInStep file c.advance.new.self whole = subst (λ (b : Bool). StaysInStep file c.advance.new.self whole (lent b)) none after in
+      subst (λ (q : Parameters). IsJudged file q (Ok (record { graph = lists_of whole; places = places_of whole }))) params
+      (subst (λ (x : State). AgreesIn x file c.advance.new.self whole) (e.end (ap Ok none)).0 now).1;
+}
 
 pub returns-in-Err-clause-advances : goal.returns-in-Err-clause-advances
 returns-in-Err-clause-advances g c =
