@@ -1,5 +1,5 @@
 -- The lines of pages with their successors, part by part.
-use Rattle.std.proofs.Common.{◌≡◌, ◌≤◌, ◌∙◌, inr, get_or, ℕ, List, [], ◌++◌, map, length, codes, decimal, Bool, Result, Ok, Err, arith, refl, sym, ap, append-nil, length-append, subst}
+use Rattle.std.proofs.Common.{◌≡◌, ◌∙◌, inr, get_or, ℕ, List, [], ◌++◌, map, length, codes, decimal, Bool, Result, Ok, Err, arith, refl, sym, ap, append-nil, length-append, subst}
 use Rattle.wg_params.specs.Parameters.{Parameters}
 use Rattle.wg_grammar.specs.Archive.{Accepted, ReadsGraph}
 use Rattle.wg_random.specs.Held.{Held}
@@ -8,8 +8,7 @@ use Rattle.wg_lines.specs.Printing.{HasPrinted, HasPrintedLess, Prints}
 use Rattle.wg_lines.proofs.PrintLemmas.{printed_more, less_after, less_before}
 use Rattle.std.specs.Bool.{IsTrue}
 use Rattle.std.specs.Result.{IsErrAnd}
-use Rattle.wg_outside.proofs.PutsLemmas.{is_that_err, rose_on}
-use Rattle.wg_outside.specs.Outside.{Increased}
+use Rattle.wg_outside.proofs.PutsLemmas.{is_that_err}
 use Rattle.wg_outside.specs.declared.output.Output.TheVariants.{Out}
 use Rattle.wg_outside.specs.declared.sink.Sink as sink
 use Rattle.wg_outcomes.specs.Answers.{PrintRefusals}
@@ -48,10 +47,6 @@ lines_printed a b waited waits given all is h = subst (λ (l : List ℕ). HasPri
 pub all_printed : (a b waited waits given coming all : List ℕ) → all ≡ given ++ coming → coming ≡ [] → HasPrinted a b waited (joined (map spaced given)) waits → HasPrinted a b waited (joined (map spaced all)) waits
 all_printed a b waited waits given coming all is none h =
     lines_printed a b waited waits given all (sym (is ∙ ap (λ (l : List ℕ). given ++ l) none ∙ append-nil given)) h
-
--- what rose when the rest was sent out has risen
-pub failed_after : (a b c : ℕ) → a ≤ b → Increased b c → Increased a c
-failed_after a b c le up = rose_on a b c c le up (omega arith)
 
 -- ---- a page that is not opened
 

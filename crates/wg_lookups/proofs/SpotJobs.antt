@@ -50,7 +50,7 @@ use Rattle.wg_lookups.specs.declared.found_file.FoundFile.{FoundFile}
 use Rattle.wg_lookups.specs.declared.sampled.SampledFile.{SampledFile}
 use Rattle.wg_lookups.specs.declared.chain_files.Unread.{Unread}
 use Rattle.wg_lookups.specs.declared.chain_files.Unread.TheVariants as unread
-use Rattle.wg_lookups.specs.ChainFiles.{HasBits, HasChainCause, HasPlaces, ReadsBoth}
+use Rattle.wg_lookups.specs.ChainFiles.{HasBits, HasChainCause, HasPlaces}
 use Rattle.wg_lookups.specs.Spotting.{EndsBy, IsBadPage, SpotsPage, spotted_then, successors_then}
 
 -- a fault of the chain lies in the graph file or in the offsets file
@@ -170,50 +170,10 @@ module _ (names : Input → Option (List ℕ)) (g : FoundFile) (s : SampledFile)
     later = later;
   }
 
--- ---- the same, of what was lent to the source of the chain, where the depot is seen again behind it
-module _ {D N : Type 0} (held : D → Files) (counts : D → List ℕ → Counts) (d1 d2 d3 d4 : D) (m n : N) (end : m ≡ n → d4 ≡ d3) (lent : d2 ≡ d1) (left : m ≡ n) (g1 g2 g3 : FoundFile) (same : g2 ≡ g1) (s1 s2 s3 : SampledFile) (alike : s2 ≡ s1) (told : Bool)
-    (reads : ReadsBoth told (held d2) (held d3) (counts d2) (counts d3) g2 g3 s2 s3) (names : Input → Option (List ℕ)) (named : names Graph ≡ Some g1.name) (stored : names Offsets ≡ Some s1.file.name) (p : Parameters) (limits : IsWithinLimits p) (page : ℕ)
-    (open_on : IsTrue told → IsOpenOn (map.get (held d1) g1.name) g1.held) (sampled : IsTrue told → IsSampled names (held d1) p s1) (lt : page < p.nodes) where
-  bits_lent : (bits : List Bool) → HasBits told (held d1) g1 bits → HasBits told (held d2) g2 bits
-  bits_lent bits b = subst (λ (d : D). HasBits told (held d) g2 bits) (sym lent) (subst (λ (g : FoundFile). HasBits told (held d1) g bits) (sym same) b)
-
-  places_lent : (places : List ℕ) → HasPlaces told (held d1) s1 places → HasPlaces told (held d2) s2 places
-  places_lent places b = subst (λ (d : D). HasPlaces told (held d) s2 places) (sym lent) (subst (λ (s : SampledFile). HasPlaces told (held d1) s places) (sym alike) b)
-
-  cause_lent : (e : Unread) → HasChainCause told (held d2) (counts d2) (counts d3) g2 s2 e → HasChainCause told (held d1) (counts d1) (counts d3) g1 s1 e
-  cause_lent e x =
-      subst (λ (d : D). HasChainCause told (held d) (counts d) (counts d3) g1 s1 e) lent
-      (subst (λ (g : FoundFile). HasChainCause told (held d2) (counts d2) (counts d3) g s1 e) same (subst (λ (s : SampledFile). HasChainCause told (held d2) (counts d2) (counts d3) g2 s e) alike x))
-
-  causes_lent : (x : PagesError Unread) → OfRefusal x (HasChainCause told (held d2) (counts d2) (counts d3) g2 s2) → OfRefusal x (HasChainCause told (held d1) (counts d1) (counts d3) g1 s1)
-  causes_lent (errors.Fault f) x = tt
-  causes_lent errors.Memory x = tt
-  causes_lent (errors.Refused e) x = cause_lent e x
-
-  spots_left : (result : Result (List ℕ) Ending) → SpotsPage names p page told (held d1) (held d3) (counts d1) (counts d3) result → SpotsPage names p page told (held d1) (held d4) (counts d1) (counts d4) result
-  spots_left result h = subst (λ (d : D). SpotsPage names p page told (held d1) (held d) (counts d1) (counts d) result) (sym (end left)) h
-
-  same_files : held d3 ≡ held d1
-  same_files = reads.graph.same ∙ ap held lent
-
-  counts_later : NonDecreasing (counts d1) (counts d3)
-  counts_later = subst (λ (d : D). NonDecreasing (counts d) (counts d3)) lent reads.graph.later
-
-  abbrev AnswersLent : Result (List ℕ) (PagesError Unread) → ℕ → ℕ → Type 0
-  AnswersLent result from to = (bits : List Bool) (places : List ℕ) → HasBits told (held d2) g2 bits → HasPlaces told (held d2) s2 places → ChainAnswers {R = Unread} p bits places page from to result
-
-  pub spotted_by : (list : List ℕ) (from to : ℕ) → AnswersLent (Ok list) from to → SpotsPage names p page told (held d1) (held d4) (counts d1) (counts d4) (Ok list)
-  spotted_by list from to answers =
-      spots_left (Ok list)
-      (spotted names g1 s1 named stored p limits page told (held d1) (held d3) (counts d1) (counts d3) same_files counts_later open_on sampled lt list from to
-      (λ bits places b q. answers bits places (bits_lent bits b) (places_lent places q)))
-
-  pub unspotted_by : (x : PagesError Unread) (e : Ending) (from to : ℕ) → EndsBy p.arcs x e → AnswersLent (Err x) from to → OfRefusal x (HasChainCause told (held d2) (counts d2) (counts d3) g2 s2)
-      → SpotsPage names p page told (held d1) (held d4) (counts d1) (counts d4) (Err e)
-  unspotted_by x e from to is answers cause =
-      spots_left (Err e)
-      (unspotted names g1 s1 named stored p limits page told (held d1) (held d3) (counts d1) (counts d3) same_files counts_later open_on sampled lt x e from to is
-      (λ bits places b q. answers bits places (bits_lent bits b) (places_lent places q)) (causes_lent x cause))
+-- ---- the same, where the depot is seen again behind the source of the chain
+pub spots_lent : {D N : Type 0} (held : D → Files) (counts : D → List ℕ → Counts) (d1 d2 d3 : D) (m n : N) (end : m ≡ n → d3 ≡ d2) (left : n ≡ m) (names : Input → Option (List ℕ)) (p : Parameters) (page : ℕ) (told : Bool) (result : Result (List ℕ) Ending)
+    → SpotsPage names p page told (held d1) (held d2) (counts d1) (counts d2) result → SpotsPage names p page told (held d1) (held d3) (counts d1) (counts d3) result
+spots_lent {D = D} held counts d1 d2 d3 m n end left names p page told result h = subst (λ (d : D). SpotsPage names p page told (held d1) (held d) (counts d1) (counts d) result) (sym (end (sym left))) h
 
 -- ---- the job
 module _ (base : List ℕ) (page : ℕ) (td to : Bool) (before : Outside) where

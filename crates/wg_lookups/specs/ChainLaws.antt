@@ -59,17 +59,6 @@ module _ (told : Bool) (f1 f2 : Files) (c1 c2 : List ℕ → Counts) (g1 g2 : Fo
         (unmoved told g1.name s1.file.name f1 f2 c1 c2 g1.held g2.held s1.file.held a);
   }
 
-  pub reads_offsets : g2 ≡ g1 → s2.file.name ≡ s1.file.name → s2.samples ≡ s1.samples
-      → Moves told s1.file.name f1 f2 c1 c2 s1.file.held s2.file.held → ReadsBoth told f1 f2 c1 c2 g1 g2 s1 s2
-  reads_offsets same stored samples a = record {
-    name = ap (λ (g : FoundFile). g.name) same;
-    stored = stored;
-    samples = samples;
-    graph = subst (λ (g : FoundFile). Moves told g1.name f1 f2 c1 c2 g1.held g.held) (sym same)
-        (unmoved told s1.file.name g1.name f1 f2 c1 c2 s1.file.held s2.file.held g1.held a);
-    offsets = a;
-  }
-
   pub both_by_reading : ReadsOn told f1 f2 c1 c2 g1 g2 s1 s2 → ReadsBoth told f1 f2 c1 c2 g1 g2 s1 s2
   both_by_reading a =
       reads_graph a.name a.offsets (step_moves told g1.name f1 f2 c1 c2 g1.held g2.held a.steps)

@@ -4,7 +4,7 @@ use Rattle.wg_lines.proofs.PrintLemmas.{puts_in_the_end, puts_of_less}
 use Rattle.wg_outside.proofs.PutsLemmas.{is_that_err}
 use Rattle.wg_outcomes.specs.Commands.{successors_line}
 use Rattle.wg_outcomes.specs.declared.ending.Ending.{Ending}
-use Rattle.wg_lookups.proofs.ShownLemmas.{failed_after}
+use Rattle.wg_outside.proofs.LoadLemmas.{risen}
 use Rattle.wg_lookups.proofs.spot.print_line.Goals as goal
 
 pub returns-in_err-print_list : goal.returns-in_err-print_list
@@ -34,5 +34,5 @@ returns g c =
           c.new-lines.ensures (l.prints t))
           (e.puts t);
       only = e.refusals.only;
-      failed = λ fault. failed_after _ _ _ (g.met.O.Sink.onward _ _ l.later).0 (e.refusals.failed fault);
+      failed = λ fault. risen _ _ _ (g.met.O.Sink.onward _ _ l.later).0 (e.refusals.failed fault);
     }
