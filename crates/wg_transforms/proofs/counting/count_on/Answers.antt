@@ -1,6 +1,6 @@
 use Rattle.std.proofs.Common.{rules, ◌≡◌, ◌+◌, ◌∙◌, ℕ, ◌∷◌, Ok, Err, length, refl, sym, ap, subst, arith}
 use Rattle.std.specs.Prelude.{max}
-use Rattle.std.proofs.lemmas.Result.{err_from_is_err_and}
+use Rattle.wg_outside.proofs.PutsLemmas.{is_that_err}
 use Rattle.wg_params.specs.Parameters.{Parameters}
 use Rattle.wg_grammar.specs.Archive.{lists_of, places_of, ReadsGraph}
 use Rattle.wg_transpose.specs.SoFar.{AreCounts, predecessors_below}
@@ -14,8 +14,7 @@ pub returns-in_err-next-clause-fault : goal.returns-in_err-next-clause-fault
 returns-in_err-next-clause-fault c =
     let h = c.loop-page.invariant in
     let bits = c.args.source.now.bits in
-    let p = err_from_is_err_and c.from_residual.result c.from_residual.ensures.1 in
-    rw (p.1, p.2) (fault_weaker c.in_err-next.field-0.0 _ _
+    rw (is_that_err c.from_residual.result _ c.from_residual.ensures.1) (fault_weaker c.in_err-next.field-0.0 _ _
     (λ f k. subst (λ (q : Parameters). ReadsGraph q bits (Err f)) h.same_params k)
     (c.in_err-next.ensures.fault bits h.read.0 h.same_bits h.read.1))
 
@@ -48,8 +47,7 @@ pub returns-in_err-finish-clause-fault : goal.returns-in_err-finish-clause-fault
 returns-in_err-finish-clause-fault c =
     let h = c.loop-page.invariant in
     let bits = c.args.source.now.bits in
-    let p = err_from_is_err_and c.from_residual-in_err-finish.result c.from_residual-in_err-finish.ensures.1 in
-    rw (p.1, p.2) (fault_weaker c.in_err-finish.field-0.0 _ _
+    rw (is_that_err c.from_residual-in_err-finish.result _ c.from_residual-in_err-finish.ensures.1) (fault_weaker c.in_err-finish.field-0.0 _ _
     (λ f k. subst (λ (q : Parameters). ReadsGraph q bits (Err f)) h.same_params k)
     (c.in_err-finish.ensures.fault bits h.read.0 h.same_bits h.read.1))
 

@@ -1,7 +1,7 @@
 use Rattle.std.proofs.Common.{rules, ◌≡◌, ℕ, Bool, List, Err, refl, subst, arith}
 use Rattle.std.proofs.lemmas.List.{with_items_is}
 use Rattle.std.proofs.lemmas.List.Elements.{All-replicate}
-use Rattle.std.proofs.lemmas.Result.{err_from_is_err_and}
+use Rattle.wg_outside.proofs.PutsLemmas.{is_that_err}
 use Rattle.wg_bits.specs.Bits.{bits_of}
 use Rattle.wg_params.specs.Parameters.{Parameters}
 use Rattle.wg_grammar.specs.Archive.{ReadsGraph}
@@ -19,8 +19,7 @@ returns-in_err-greatest c =
     let bits = bits_of c.args.bytes.now in
     let same : c.new-source.result.bits ≡ bits = rw (c.new-source.ensures, c.of.ensures) refl in
     let x = c.in_err-greatest.field-0.0 in
-    let q = err_from_is_err_and c.from_residual-in_err-greatest.result c.from_residual-in_err-greatest.ensures.1 in
-    rw (q.1, q.2) record {
+    rw (is_that_err c.from_residual-in_err-greatest.result _ c.from_residual-in_err-greatest.ensures.1) record {
       finds = tt;
       fault = subst (λ (p : Parameters). OfFault x (λ f. ReadsGraph p bits (Err f))) c.new-pages.ensures.params
           (subst (λ (b : List Bool). OfFault x (λ f. ReadsGraph c.new-pages.result.params b (Err f))) same c.in_err-greatest.ensures.fault);

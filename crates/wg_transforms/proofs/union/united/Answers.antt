@@ -1,5 +1,5 @@
 use Rattle.std.proofs.Common.{◌<◌, ◌≤◌, inl, inr, subst}
-use Rattle.std.proofs.lemmas.Result.{err_from_is_err_and}
+use Rattle.wg_outside.proofs.PutsLemmas.{is_that_err}
 use Rattle.wg_params.specs.declared.limits.TheConstants.{MOST_ARCS}
 use Rattle.wg_graph.specs.Digraph.{Digraph, arc_count}
 use Rattle.wg_shape.specs.Graphs.{union_graph}
@@ -9,8 +9,7 @@ use Rattle.wg_transforms.proofs.union.united.Goals as goal
 
 pub returns-in_err-one : goal.returns-in_err-one
 returns-in_err-one c =
-    let e = err_from_is_err_and c.from_residual.result c.from_residual.ensures.1 in
-    rw (e.1, e.2) record {
+    rw (is_that_err c.from_residual.result _ c.from_residual.ensures.1) record {
       made = λ a b is_a is_b. tt;
       few = λ a b is_a is_b. tt;
       only = inl c.in_err-one.ensures.only;
@@ -19,8 +18,7 @@ returns-in_err-one c =
 
 pub returns-in_err-other : goal.returns-in_err-other
 returns-in_err-other c =
-    let e = err_from_is_err_and c.from_residual-in_err-other.result c.from_residual-in_err-other.ensures.1 in
-    rw (e.1, e.2) record {
+    rw (is_that_err c.from_residual-in_err-other.result _ c.from_residual-in_err-other.ensures.1) record {
       made = λ a b is_a is_b. tt;
       few = λ a b is_a is_b. tt;
       only = inl c.in_err-other.ensures.only;

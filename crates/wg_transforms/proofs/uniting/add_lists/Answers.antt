@@ -1,5 +1,5 @@
 use Rattle.std.proofs.Common.{rules, ◌≡◌, ◌≤◌, ◌∙◌, max, refl, sym, subst, arith}
-use Rattle.std.proofs.lemmas.Result.{err_from_is_err_and}
+use Rattle.wg_outside.proofs.PutsLemmas.{is_that_err}
 use Rattle.wg_encoder.specs.ArchiveInMemory.{HasEncoded}
 use Rattle.wg_shape.specs.Graphs.{lists_of}
 use Rattle.wg_transforms.proofs.uniting.add_lists.Goals as goal
@@ -38,9 +38,8 @@ pages-preserved g c =
 pub returns-in_err-encoder : goal.returns-in_err-encoder
 returns-in_err-encoder g c =
     let i = c.pages.invariant in
-    let e = err_from_is_err_and c.from_residual.result c.from_residual.ensures.1 in
     let n = c.in_err-encoder.ensures in
-    rw (e.1, e.2) record {
+    rw (is_that_err c.from_residual.result _ c.from_residual.ensures.1) record {
       params = tt;
       all = tt;
       encoded = tt;

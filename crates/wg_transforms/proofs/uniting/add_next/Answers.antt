@@ -1,5 +1,5 @@
 use Rattle.std.proofs.Common.{◌≡◌, ◌∙◌, ℕ, ◌+◌, ◌-◌, ◌<◌, ◌≤◌, max, List, [], ◌∷◌, ◌++◌, length, sym, ap, subst, arith}
-use Rattle.std.proofs.lemmas.Result.{err_from_is_err_and}
+use Rattle.wg_outside.proofs.PutsLemmas.{is_that_err}
 use Rattle.std.proofs.lemmas.List.FromFn.{map-range_with_len_more}
 use Rattle.wg_params.specs.Parameters.{Parameters}
 use Rattle.wg_params.specs.declared.limits.TheConstants.{MOST_ARCS}
@@ -48,8 +48,7 @@ past_room m a b n past is within most = omega (arith, past, is, within, most)
 pub returns-in_err-next_union : goal.returns-in_err-next_union
 returns-in_err-next_union g c =
     let n = c.next_union.ensures in
-    let e = err_from_is_err_and c.from_residual.result c.from_residual.ensures.1 in
-    rw (e.1, e.2) record {
+    rw (is_that_err c.from_residual.result _ c.from_residual.ensures.1) record {
       way = tt;
       params = tt;
       page = tt;
@@ -76,8 +75,7 @@ returns-then-arcs-as_slice g c =
 pub returns-in_err-encoder : goal.returns-in_err-encoder
 returns-in_err-encoder g c =
     let n = c.next_union.ensures in
-    let e = err_from_is_err_and c.from_residual-in_err-encoder.result c.from_residual-in_err-encoder.ensures.1 in
-    rw (e.1, e.2) record {
+    rw (is_that_err c.from_residual-in_err-encoder.result _ c.from_residual-in_err-encoder.ensures.1) record {
       way = tt;
       params = tt;
       page = tt;

@@ -1,3 +1,4 @@
+use Rattle.wg_outside.proofs.PutsLemmas.{is_that_err}
 use Rattle.std.proofs.lemmas.Result.{err_from_is_err_and}
 use Rattle.wg_shape.specs.Graphs.{union_graph}
 use Rattle.wg_transforms.proofs.EncodingLemmas.{arcs_begun, as_many, few_arcs, few_encoded, few_pages, greater, made_of, no_arcs, nodes_begun}
@@ -5,8 +6,7 @@ use Rattle.wg_transforms.proofs.uniting.encode_union.Goals as goal
 
 pub returns-in_err-begun : goal.returns-in_err-begun
 returns-in_err-begun g c =
-    let e = err_from_is_err_and c.from_residual.result c.from_residual.ensures.1 in
-    rw (e.1, e.2) record { made = tt; few = tt; too_many = λ is. no_arcs _ _ is }
+    rw (is_that_err c.from_residual.result _ c.from_residual.ensures.1) record { made = tt; few = tt; too_many = λ is. no_arcs _ _ is }
 
 pub returns-in_err-encoder : goal.returns-in_err-encoder
 returns-in_err-encoder g c =
