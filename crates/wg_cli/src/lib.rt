@@ -35,6 +35,7 @@
 #![tactic(auto)]
 
 mod dispatch;
+mod file_name;
 mod names;
 mod program;
 mod reporting;

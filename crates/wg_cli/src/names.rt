@@ -1,4 +1,4 @@
-ghost use Rattle.std.specs.Prelude.{◌≡◌, ◌++◌, Some, option_map};
+ghost use Rattle.std.specs.Prelude.{◌≡◌, ◌++◌, Some};
 ghost use Rattle.wg_outside.specs.declared.suffixes.TheConstants.{PROPERTIES, GRAPH, OFFSETS};
 ghost use Rattle.wg_outcomes.specs.JobFiles.{input_name, output_name};
 ghost use Rattle.wg_outcomes.specs.Names.{archive_files, archive_named, list_named, name_of_input, record_files, second_files, text_named};
@@ -6,12 +6,13 @@ ghost use Rattle.wg_outcomes.specs.Names.{certificate_file, certificate_to, map_
 ghost use Rattle.wg_cli.specs.Lines.{certificate_in};
 
 use crate::Input;
+use crate::file_name::FileName;
 use wg_outside::{GRAPH, OFFSETS, Output, PROPERTIES};
 use wg_words::{Job, Name};
 
-/// The name of a job's input, in two parts.
-pub fn input_parts(job: &Job, input: Input) -> Option<(&str, &'static str)>
-    ensures { option_map (λ parts. parts.0.now ++ parts.1.now) result ≡ input_name job.now input }
+/// The name of a job's input.
+pub(crate) fn input_name(job: &Job, input: Input) -> Option<FileName<'_>>
+    ensures { result ≡ input_name job.now input }
 {
     match job {
         Job::Check { base } | Job::Show { base, .. } | Job::Spot { base, .. } => {
@@ -28,8 +29,8 @@ pub fn input_parts(job: &Job, input: Input) -> Option<(&str, &'static str)>
             certificate,
             weights,
         } => verify_input(base, certificate, weights, input),
-        Job::Build { arcs, .. } => list_parts(arcs, input),
-        Job::Import { text, .. } => text_parts(text, input),
+        Job::Build { arcs, .. } => list_named(arcs, input),
+        Job::Import { text, .. } => text_named(text, input),
         Job::Quotient {
             input: base,
             map,
@@ -41,53 +42,43 @@ pub fn input_parts(job: &Job, input: Input) -> Option<(&str, &'static str)>
 }
 
 // The name of one of an archive's files.
-fn archive_input(base: &Name, input: Input) -> Option<(&str, &'static str)>
-    ensures { option_map (λ parts. parts.0.now ++ parts.1.now) result ≡ name_of_input (archive_files base.now) input }
+fn archive_input(base: &Name, input: Input) -> Option<FileName<'_>>
+    ensures { result ≡ name_of_input (archive_files base.now) input }
 {
     match input {
-        Input::Properties => Some((base.as_str(), PROPERTIES)),
-        Input::Graph => Some((base.as_str(), GRAPH)),
-        Input::Offsets => Some((base.as_str(), OFFSETS)),
+        Input::Properties => Some(FileName::with_suffix(base, PROPERTIES)),
+        Input::Graph => Some(FileName::with_suffix(base, GRAPH)),
+        Input::Offsets => Some(FileName::with_suffix(base, OFFSETS)),
         _ => None,
     }
 }
 
 // The name of one of the files of two archives.
-fn union_input<'a>(
-    first: &'a Name,
-    second: &'a Name,
-    input: Input,
-) -> Option<(&'a str, &'static str)>
-    ensures { option_map (λ parts. parts.0.now ++ parts.1.now) result
-        ≡ name_of_input (archive_files first.now ++ second_files second.now) input }
+fn union_input<'a>(first: &'a Name, second: &'a Name, input: Input) -> Option<FileName<'a>>
+    ensures { result ≡ name_of_input (archive_files first.now ++ second_files second.now) input }
 {
     match input {
-        Input::SecondProperties => Some((second.as_str(), PROPERTIES)),
-        Input::SecondGraph => Some((second.as_str(), GRAPH)),
-        Input::SecondOffsets => Some((second.as_str(), OFFSETS)),
+        Input::SecondProperties => Some(FileName::with_suffix(second, PROPERTIES)),
+        Input::SecondGraph => Some(FileName::with_suffix(second, GRAPH)),
+        Input::SecondOffsets => Some(FileName::with_suffix(second, OFFSETS)),
         _ => archive_input(first, input),
     }
 }
 
 // The name of one of the files of an archive's records.
-fn record_input(base: &Name, input: Input) -> Option<(&str, &'static str)>
-    ensures { option_map (λ parts. parts.0.now ++ parts.1.now) result ≡ name_of_input (record_files base.now) input }
+fn record_input(base: &Name, input: Input) -> Option<FileName<'_>>
+    ensures { result ≡ name_of_input (record_files base.now) input }
 {
     match input {
-        Input::Properties => Some((base.as_str(), PROPERTIES)),
-        Input::Graph => Some((base.as_str(), GRAPH)),
+        Input::Properties => Some(FileName::with_suffix(base, PROPERTIES)),
+        Input::Graph => Some(FileName::with_suffix(base, GRAPH)),
         _ => None,
     }
 }
 
 // The name of one of the files of an archive's records, or of the weights, if they are named.
-fn rank_input<'a>(
-    base: &'a Name,
-    weights: &'a Option<Name>,
-    input: Input,
-) -> Option<(&'a str, &'static str)>
-    ensures { option_map (λ parts. parts.0.now ++ parts.1.now) result
-        ≡ name_of_input (record_files base.now ++ weights_file weights.now) input }
+fn rank_input<'a>(base: &'a Name, weights: &'a Option<Name>, input: Input) -> Option<FileName<'a>>
+    ensures { result ≡ name_of_input (record_files base.now ++ weights_file weights.now) input }
 {
     match weights {
         Some(weights) => weighed_input(base, weights, input),
@@ -95,16 +86,11 @@ fn rank_input<'a>(
     }
 }
 
-fn weighed_input<'a>(
-    base: &'a Name,
-    weights: &'a Name,
-    input: Input,
-) -> Option<(&'a str, &'static str)>
-    ensures { option_map (λ parts. parts.0.now ++ parts.1.now) result
-        ≡ name_of_input (record_files base.now ++ weights_file (Some weights.now)) input }
+fn weighed_input<'a>(base: &'a Name, weights: &'a Name, input: Input) -> Option<FileName<'a>>
+    ensures { result ≡ name_of_input (record_files base.now ++ weights_file (Some weights.now)) input }
 {
     match input {
-        Input::Weights => Some((weights.as_str(), "")),
+        Input::Weights => Some(FileName::of(weights)),
         _ => record_input(base, input),
     }
 }
@@ -115,8 +101,8 @@ fn verify_input<'a>(
     certificate: &'a Name,
     weights: &'a Option<Name>,
     input: Input,
-) -> Option<(&'a str, &'static str)>
-    ensures { option_map (λ parts. parts.0.now ++ parts.1.now) result
+) -> Option<FileName<'a>>
+    ensures { result
         ≡ name_of_input (record_files base.now ++ weights_file weights.now ++ certificate_file certificate.now) input }
 {
     match weights {
@@ -125,16 +111,11 @@ fn verify_input<'a>(
     }
 }
 
-fn claim_input<'a>(
-    base: &'a Name,
-    certificate: &'a Name,
-    input: Input,
-) -> Option<(&'a str, &'static str)>
-    ensures { option_map (λ parts. parts.0.now ++ parts.1.now) result
-        ≡ name_of_input (record_files base.now ++ certificate_file certificate.now) input }
+fn claim_input<'a>(base: &'a Name, certificate: &'a Name, input: Input) -> Option<FileName<'a>>
+    ensures { result ≡ name_of_input (record_files base.now ++ certificate_file certificate.now) input }
 {
     match input {
-        Input::Certificate => Some((certificate.as_str(), "")),
+        Input::Certificate => Some(FileName::of(certificate)),
         _ => record_input(base, input),
     }
 }
@@ -144,51 +125,50 @@ fn weighed_claim_input<'a>(
     certificate: &'a Name,
     weights: &'a Name,
     input: Input,
-) -> Option<(&'a str, &'static str)>
-    ensures { option_map (λ parts. parts.0.now ++ parts.1.now) result
+) -> Option<FileName<'a>>
+    ensures { result
         ≡ name_of_input (record_files base.now ++ weights_file (Some weights.now) ++ certificate_file certificate.now)
         input }
 {
     match input {
-        Input::Certificate => Some((certificate.as_str(), "")),
+        Input::Certificate => Some(FileName::of(certificate)),
         _ => weighed_input(base, weights, input),
     }
 }
 
 // The name of one of the files of an archive's records, or of a map.
-fn mapped_input<'a>(base: &'a Name, map: &'a Name, input: Input) -> Option<(&'a str, &'static str)>
-    ensures { option_map (λ parts. parts.0.now ++ parts.1.now) result
-        ≡ name_of_input (record_files base.now ++ map_file map.now) input }
+fn mapped_input<'a>(base: &'a Name, map: &'a Name, input: Input) -> Option<FileName<'a>>
+    ensures { result ≡ name_of_input (record_files base.now ++ map_file map.now) input }
 {
     match input {
-        Input::Map => Some((map.as_str(), "")),
+        Input::Map => Some(FileName::of(map)),
         _ => record_input(base, input),
     }
 }
 
 // The name of the one input of a job that reads an arc list.
-fn list_parts(arcs: &Name, input: Input) -> Option<(&str, &'static str)>
-    ensures { option_map (λ parts. parts.0.now ++ parts.1.now) result ≡ list_named arcs.now input }
+fn list_named(arcs: &Name, input: Input) -> Option<FileName<'_>>
+    ensures { result ≡ list_named arcs.now input }
 {
     match input {
-        Input::ArcList => Some((arcs.as_str(), "")),
+        Input::ArcList => Some(FileName::of(arcs)),
         _ => None,
     }
 }
 
 // The name of the one input of a job that reads a plain text.
-fn text_parts(text: &Name, input: Input) -> Option<(&str, &'static str)>
-    ensures { option_map (λ parts. parts.0.now ++ parts.1.now) result ≡ text_named text.now input }
+fn text_named(text: &Name, input: Input) -> Option<FileName<'_>>
+    ensures { result ≡ text_named text.now input }
 {
     match input {
-        Input::Text => Some((text.as_str(), "")),
+        Input::Text => Some(FileName::of(text)),
         _ => None,
     }
 }
 
-/// The name of a file that a job writes, in two parts.
-pub fn output_parts(job: &Job, output: Output) -> Option<(&str, &'static str)>
-    ensures { option_map (λ parts. parts.0.now ++ parts.1.now) result ≡ output_name job.now output }
+/// The name of a file that a job writes.
+pub(crate) fn output_name(job: &Job, output: Output) -> Option<FileName<'_>>
+    ensures { result ≡ output_name job.now output }
 {
     match job {
         Job::Check { .. }
@@ -199,42 +179,42 @@ pub fn output_parts(job: &Job, output: Output) -> Option<(&str, &'static str)>
         | Job::Spot { .. }
         | Job::Verify { .. }
         | Job::Bulk { .. } => None,
-        Job::Rank { certificate, .. } => certificate_parts(certificate, output),
+        Job::Rank { certificate, .. } => certificate_in(certificate, output),
         Job::Build { base, .. }
         | Job::Import { base, .. }
         | Job::Quotient { output: base, .. }
         | Job::Recode { output: base, .. }
         | Job::Union { output: base, .. }
-        | Job::Transpose { output: base, .. } => archive_parts(base, output),
+        | Job::Transpose { output: base, .. } => archive_named(base, output),
     }
 }
 
-fn archive_parts(base: &Name, output: Output) -> Option<(&str, &'static str)>
-    ensures { option_map (λ parts. parts.0.now ++ parts.1.now) result ≡ archive_named base.now output }
+fn archive_named(base: &Name, output: Output) -> Option<FileName<'_>>
+    ensures { result ≡ archive_named base.now output }
 {
     match output {
-        Output::Properties => Some((base.as_str(), PROPERTIES)),
-        Output::Graph => Some((base.as_str(), GRAPH)),
-        Output::Offsets => Some((base.as_str(), OFFSETS)),
+        Output::Properties => Some(FileName::with_suffix(base, PROPERTIES)),
+        Output::Graph => Some(FileName::with_suffix(base, GRAPH)),
+        Output::Offsets => Some(FileName::with_suffix(base, OFFSETS)),
         Output::Certificate | Output::Out => None,
     }
 }
 
 // The name of the certificate that is written, if one is named.
-fn certificate_parts(certificate: &Option<Name>, output: Output) -> Option<(&str, &'static str)>
-    ensures { option_map (λ parts. parts.0.now ++ parts.1.now) result ≡ certificate_in certificate.now output }
+fn certificate_in(certificate: &Option<Name>, output: Output) -> Option<FileName<'_>>
+    ensures { result ≡ certificate_in certificate.now output }
 {
     match certificate {
         None => None,
-        Some(name) => written_certificate(name, output),
+        Some(name) => certificate_to(name, output),
     }
 }
 
-fn written_certificate(name: &Name, output: Output) -> Option<(&str, &'static str)>
-    ensures { option_map (λ parts. parts.0.now ++ parts.1.now) result ≡ certificate_to name.now output }
+fn certificate_to(name: &Name, output: Output) -> Option<FileName<'_>>
+    ensures { result ≡ certificate_to name.now output }
 {
     match output {
-        Output::Certificate => Some((name.as_str(), "")),
+        Output::Certificate => Some(FileName::of(name)),
         Output::Properties | Output::Graph | Output::Offsets | Output::Out => None,
     }
 }

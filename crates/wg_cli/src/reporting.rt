@@ -1,56 +1,47 @@
 //! The line on standard error that says why a job was not done. It takes no memory.
-ghost use Rattle.std.specs.Prelude.{◌≡◌, ◌≢◌, ◌⊎◌, [], ◌++◌, IsTrue, IsErr, Some, None, option_map, codes};
+ghost use Rattle.std.specs.Prelude.{◌≡◌, ◌≢◌, ◌⊎◌, [], ◌++◌, IsTrue, IsErr, Some, None, codes};
 ghost use Rattle.wg_outside.specs.Outside.{Increased};
 ghost use Rattle.wg_outside.specs.Puts.{Puts};
 ghost use Rattle.wg_cli.specs.Lines.{naming, name_in, output_in, line_of, Reports};
 ghost use Rattle.wg_outcomes.specs.declared.status.Status.TheVariants.{BadSecond};
 
-use crate::names::{input_parts, output_parts};
+use crate::file_name::FileName;
+use crate::names::{input_name, output_name};
 use crate::{Input, Status, texts};
 use wg_outcomes::{SecondFault, Text, second_input};
 use wg_outside::{Output, Sink, WriteError, write_all, write_pieces};
 use wg_words::Job;
 
-// The name of a job's input, in two parts.
-fn parts_of_input(job: &Option<Job>, input: Input) -> Option<(&str, &'static str)>
-    ensures { option_map (λ parts. parts.0.now ++ parts.1.now) result ≡ name_in job.now input }
+// The name of a job's input.
+fn name_in(job: &Option<Job>, input: Input) -> Option<FileName<'_>>
+    ensures { result ≡ name_in job.now input }
 {
     match job {
         None => None,
-        Some(job) => input_parts(job, input),
+        Some(job) => input_name(job, input),
     }
 }
 
-// A line that ends with the name of a file, in two parts.
-fn naming<S: Sink>(sink: &mut S, before: &str, stem: &str, suffix: &str) -> Result<(), WriteError>
-    ensures puts { IsTrue S.told → Puts (naming before.now (Some (stem.now ++ suffix.now)) [])
-        (S.taken sink.old) (S.taken sink.new) result }
-    ensures cause { IsErr result → Increased (S.faults sink.old) (S.faults sink.new)
-        ⊎ Increased (S.wants sink.old) (S.wants sink.new) }
-{
-    write_four(
-        sink,
-        before.as_bytes(),
-        stem.as_bytes(),
-        suffix.as_bytes(),
-        b"\n",
-    )
-}
-
-// Four pieces, one after the other.
-fn write_four<'x, S: Sink>(
+// A line that ends with the name of a file.
+fn naming<'a, S: Sink>(
     sink: &mut S,
-    a: &'x [u8],
-    b: &'x [u8],
-    c: &'x [u8],
-    d: &'x [u8],
+    before: &'a str,
+    name: &'a FileName<'a>,
 ) -> Result<(), WriteError>
-    ensures puts { IsTrue S.told → Puts (a.now ++ (b.now ++ c.now) ++ d.now) (S.taken sink.old)
+    ensures puts { IsTrue S.told → Puts (naming before.now (Some name.now) []) (S.taken sink.old)
         (S.taken sink.new) result }
     ensures cause { IsErr result → Increased (S.faults sink.old) (S.faults sink.new)
         ⊎ Increased (S.wants sink.old) (S.wants sink.new) }
 {
-    write_pieces(sink, &[a, b, c, d])
+    write_pieces(
+        sink,
+        &[
+            before.as_bytes(),
+            name.stem.as_bytes(),
+            name.suffix.as_bytes(),
+            b"\n",
+        ],
+    )
 }
 
 // A line that ends with the name of a file of the job.
@@ -65,9 +56,9 @@ fn about<S: Sink>(
     ensures cause { IsErr result → Increased (S.faults sink.old) (S.faults sink.new)
         ⊎ Increased (S.wants sink.old) (S.wants sink.new) }
 {
-    match parts_of_input(job, input) {
+    match name_in(job, input) {
         None => Ok(()),
-        Some((stem, suffix)) => naming(sink, before, stem, suffix),
+        Some(name) => naming(sink, before, &name),
     }
 }
 
@@ -78,32 +69,35 @@ fn about_output<S: Sink>(sink: &mut S, job: &Option<Job>, output: Output) -> Res
     ensures cause { IsErr result → Increased (S.faults sink.old) (S.faults sink.new)
         ⊎ Increased (S.wants sink.old) (S.wants sink.new) }
 {
-    match parts_of_output(job, output) {
+    match output_in(job, output) {
         None => Ok(()),
-        Some((stem, suffix)) => naming(sink, "wg: write failed: ", stem, suffix),
+        Some(name) => naming(sink, "wg: write failed: ", &name),
     }
 }
 
-// The name of an output of the job, in two parts.
-fn parts_of_output(job: &Option<Job>, output: Output) -> Option<(&str, &'static str)>
-    ensures { option_map (λ parts. parts.0.now ++ parts.1.now) result ≡ output_in job.now output }
+// The name of an output of the job.
+fn output_in(job: &Option<Job>, output: Output) -> Option<FileName<'_>>
+    ensures { result ≡ output_in job.now output }
 {
     match output {
-        Output::Out => Some(("-", "")),
+        Output::Out => Some(FileName {
+            stem: "-",
+            suffix: "",
+        }),
         Output::Properties | Output::Graph | Output::Offsets | Output::Certificate => {
-            file_parts(job, output)
+            written_file(job, output)
         }
     }
 }
 
-// The name of a file that the job writes, in two parts.
-fn file_parts(job: &Option<Job>, output: Output) -> Option<(&str, &'static str)>
+// The name of a file that the job writes.
+fn written_file(job: &Option<Job>, output: Output) -> Option<FileName<'_>>
     requires { output ≢ Output.Out }
-    ensures { option_map (λ parts. parts.0.now ++ parts.1.now) result ≡ output_in job.now output }
+    ensures { result ≡ output_in job.now output }
 {
     match job {
         None => None,
-        Some(job) => output_parts(job, output),
+        Some(job) => output_name(job, output),
     }
 }
 
@@ -190,34 +184,34 @@ fn fault_in<S: Sink>(
     ensures cause { IsErr result → Increased (S.faults sink.old) (S.faults sink.new)
         ⊎ Increased (S.wants sink.old) (S.wants sink.new) }
 {
-    match parts_of_input(job, input) {
+    match name_in(job, input) {
         None => Ok(()),
-        Some((stem, suffix)) => write_six(
-            sink,
-            b"wg: ",
-            stem.as_bytes(),
-            suffix.as_bytes(),
-            b": ",
-            text.as_bytes(),
-        ),
+        Some(name) => describe(sink, &name, &text),
     }
 }
 
-// Five pieces and the end of the line.
-fn write_six<'x, S: Sink>(
+// A line about a fault in the file of this name.
+fn describe<'a, S: Sink>(
     sink: &mut S,
-    a: &'x [u8],
-    b: &'x [u8],
-    c: &'x [u8],
-    d: &'x [u8],
-    e: &'x [u8],
+    name: &'a FileName<'a>,
+    text: &'a Text,
 ) -> Result<(), WriteError>
-    ensures puts { IsTrue S.told → Puts (a.now ++ (b.now ++ c.now) ++ (d.now ++ e.now) ++ codes "\n")
+    ensures puts { IsTrue S.told → Puts (naming (codes "wg: ") (Some name.now) (codes ": " ++ text.now))
         (S.taken sink.old) (S.taken sink.new) result }
     ensures cause { IsErr result → Increased (S.faults sink.old) (S.faults sink.new)
         ⊎ Increased (S.wants sink.old) (S.wants sink.new) }
 {
-    write_pieces(sink, &[a, b, c, d, e, b"\n"])
+    write_pieces(
+        sink,
+        &[
+            b"wg: ",
+            name.stem.as_bytes(),
+            name.suffix.as_bytes(),
+            b": ",
+            text.as_bytes(),
+            b"\n",
+        ],
+    )
 }
 
 /// Writes the line of a status, as far as the sink takes it. At `Done` there is none, and the sink is not called.
