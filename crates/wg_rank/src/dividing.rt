@@ -4,8 +4,10 @@ ghost use Rattle.std.specs.Int.{div_ceil};
 ghost use Rattle.wg_params.specs.declared.limits.TheConstants.{MOST_PAGES, MOST_DAMPING};
 ghost use Rattle.wg_rank.specs.declared.limits.TheConstants.{UNITS};
 
-// A flow is cut here.
-const CUT: u128 = 1 << 48;
+// A flow is cut above so many bits.
+const CUT_BITS: u32 = 48;
+
+const CUT: u128 = 1 << CUT_BITS;
 
 // The quotient of any number.
 #[cold]
@@ -36,11 +38,12 @@ fn damped_with(damping: u64, flow: u128, more: u64) -> u128
     requires more { more < 1000 }
     ensures { result ≡ (damping * flow + more) / 1000 }
 {
+    // Below 2^102 the upper part is below 2^54, and its product with a damping, which is below 2^10, fits 64 bits.
     if flow >= 1 << 102 {
         return whole_quotient(damping as u128 * flow + more as u128, 1000);
     }
     let high = damping * (flow / CUT) as u64;
-    let low = high % 1000 * (1 << 48) + damping * (flow % CUT) as u64 + more;
+    let low = high % 1000 * (1 << CUT_BITS) + damping * (flow % CUT) as u64 + more;
     (high / 1000) as u128 * CUT + (low / 1000) as u128
 }
 
