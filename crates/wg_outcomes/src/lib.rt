@@ -54,4 +54,4 @@ pub use pulled::bounds_by_rounds;
 pub use second::{as_second, second_input};
 pub use status::{Input, SecondFault, Status, WeightsFault};
 pub use text::{MOST_TEXT, Text};
-pub use ways::{MOST_ROUND_ROOM, Way, way_for};
+pub use ways::{MOST_ROUND_ROOM, PAGE_ROUND_ROOM, Way, way_for};

@@ -8,7 +8,7 @@ use wg_encoder::encode;
 use wg_graph::{Graph, GraphLists, Lists};
 use wg_io::MOST_BYTES;
 use wg_num::UNITS;
-use wg_outcomes::{Way, way_for};
+use wg_outcomes::{MOST_ROUND_ROOM, PAGE_ROUND_ROOM, Way, way_for};
 use wg_params::Params;
 use wg_random::Records;
 use wg_rank::{Bounds, Gather, ListPulling, Pulling};
@@ -113,6 +113,7 @@ const WAYS: [(u64, u64, u64, Way); 8] = [
 
 #[test]
 fn ways_by_runs_and_arcs(rt: HostRuntime) {
+    assert!(rt; MOST_ROUND_ROOM - PAGE_ROUND_ROOM == 148);
     for (runs, arcs, pages, way) in WAYS {
         assert!(rt; pages <= 2 && way_for(runs, arcs, pages) == way);
     }
