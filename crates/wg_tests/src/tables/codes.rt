@@ -8,7 +8,7 @@ use std::test::Fail;
 use wg_bits::{Bits, Cursor, Writer};
 use wg_codes::{Read, fold, holds, length, read, unfold, write};
 use wg_io::{Depot, SteadyDepot};
-use wg_params::Code;
+use wg_params::{Code, MOST_ZETA};
 use wg_vectors::{FOLDS, NO_WORDS, VECTORS, Vector, bytes_of};
 
 // The bits of a text, of at most 128, behind zeros.
@@ -28,7 +28,7 @@ fn tried(code: Code) -> Option<Code>
 {
     match code {
         Code::Zeta(k) => {
-            if k == 0 || k > 31 {
+            if k == 0 || k > MOST_ZETA {
                 return None;
             }
             Some(Code::Zeta(k))
