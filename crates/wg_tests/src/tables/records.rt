@@ -1,16 +1,20 @@
 // Records over a page that is handed in, pages that are written one by one, an archive of records and offsets, and a
 // fault in words.
+ghost use Rattle.std.specs.Prelude.{◌≡◌, ◌<◌};
+
 use std::alloc::Global;
+use std::marker::Brand;
+use std::sync::ledger::{Blank, Ledger};
 use std::test::Fail;
 use wg_bits::{Bits, Cursor};
 use wg_decoder::{Known, decode_on, head};
 use wg_encoder::Encoder;
 use wg_grammar::{ArchiveFault, Fault, Field, Kind};
-use wg_graph::Graph;
+use wg_graph::{Graph, List};
 use wg_io::{Depot, LoadError, SteadyDepot};
 use wg_offsets::{Extent, Samples};
 use wg_params::Code;
-use wg_random::{Archive, Records};
+use wg_random::{Archive, CheckError, Records, Steps};
 use wg_source::Seek;
 use wg_stream::PagesError;
 use wg_vectors::usual;
@@ -57,12 +61,43 @@ fn pages_are_written_one_by_one(rt: HostRuntime) -> Result<(), Fail> {
     Ok(())
 }
 
+// The list of page 1 of an archive that was checked against its offsets.
+fn second_list<L: Ledger>(alloc: Global, steps: &mut Steps<L>) -> Result<List, Fail> {
+    let records = Records::check(alloc, COPIED, usual(3, 4, 7, 3, 4)?)?;
+    // 1 0001101 00111 010: the words of 0, 12, 6 and 1
+    let offsets = wg_offsets::read(alloc, b"\x8D\x3A", 3, Code::Gamma)?;
+    let archive = Archive::check(alloc, records, &offsets)?;
+    Ok(archive.list(alloc, 1, steps)?)
+}
+
+fn counted<L: Ledger>(alloc: Global, blank: Blank) -> Result<List, Fail>
+    requires name { blank.name ≡ L.name }
+    requires parts { blank.parts ≡ L.parts }
+    requires some { 0 < blank.parts }
+{
+    let (book, share) = blank.open::<L>();
+    second_list(alloc, &mut Steps::new(book, share))
+}
+
 #[test]
 fn records_and_their_offsets(rt: HostRuntime) -> Result<(), Fail> {
+    let list = counted::<Brand>(rt.alloc(), Blank::new(1))?;
+    assert!(rt; list.as_slice() == [1, 2].as_slice());
+    Ok(())
+}
+
+#[test]
+fn records_and_the_offsets_of_others(rt: HostRuntime) -> Result<(), Fail> {
     let records = Records::check(rt.alloc(), COPIED, usual(3, 4, 7, 3, 4)?)?;
-    // 1 0001101 00111 010: the words of 0, 12, 6 and 1
-    let offsets = wg_offsets::read(rt.alloc(), b"\x8D\x3A", 3, Code::Gamma)?;
-    assert!(rt; Archive::check(rt.alloc(), records, &offsets).is_ok());
+    // 1 0001100 00111 010: the words of 0, 11, 6 and 1
+    let offsets = wg_offsets::read(rt.alloc(), b"\x8C\x3A", 3, Code::Gamma)?;
+    let fault = ArchiveFault::Length {
+        page: 0,
+        found: 12,
+        stored: 11,
+    };
+    let error = Archive::check(rt.alloc(), records, &offsets).err();
+    assert!(rt; error == Some(CheckError::Archive(fault)));
     Ok(())
 }
 
