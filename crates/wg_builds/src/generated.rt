@@ -22,7 +22,7 @@ use wg_params::Params;
 use wg_rank::Bounds;
 use wg_readings::{judge_files, load_graph, load_params};
 use wg_vectors::generate;
-use wg_words::{DEFAULT_DAMPING, Name, usual_layout};
+use wg_words::{DEFAULT_DAMPING, Name, default_layout};
 use wg_writing::encode_graph;
 
 // Encodes the archive of the graph, which is let go.
@@ -33,7 +33,7 @@ fn build(alloc: Global, seed: u64, pages: u64) -> Result<EncodedArchive, Ending>
     ensures only { IfErr result (λ e. e.status ≡ Status.Memory) }
 {
     let graph = generate(alloc, seed, pages)?;
-    let params = params_of(&usual_layout(), graph.nodes(), graph.arcs());
+    let params = params_of(&default_layout(), graph.nodes(), graph.arcs());
     encode_graph(alloc, &params, &graph)
 }
 

@@ -12,7 +12,7 @@
 //! ```rust
 //! let list = Name::new(alloc, "a")?;
 //! let base = Name::new(alloc, "g")?;
-//! let done = build(alloc, &list, &base, 2, &usual_layout(), depot, out);
+//! let done = build(alloc, &list, &base, 2, &default_layout(), depot, out);
 //! assert!(rt; done.is_ok());
 //! Ok(())
 //! ```

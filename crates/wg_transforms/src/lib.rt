@@ -10,7 +10,7 @@
 //! ```rust
 //! let input = Name::new(alloc, "web")?;
 //! let output = Name::new(alloc, "t")?;
-//! let done = transpose(alloc, &input, &output, &usual_layout(), depot, out);
+//! let done = transpose(alloc, &input, &output, &default_layout(), depot, out);
 //! assert!(rt; done.is_ok());
 //! Ok(())
 //! ```

@@ -1,7 +1,10 @@
 ghost use Rattle.std.specs.Prelude.{◌≡◌, Some, None, IfOk, option_and_then, option_map};
 ghost use Rattle.clap.specs.Words.{subcommand_rows_of, rows_of, found_of};
 ghost use Rattle.wg_words.specs.Asked.{IsAsked, more_on};
-ghost use Rattle.wg_words.specs.Jobs.{job_of, job_from, job_on_base, job_on, show_on, spot_on, rank_from, rank_on, verify_on, build_on, import_on, quotient_in, conversion_in, recoding, union_in, transposing, bulk_in, IsWithin};
+ghost use Rattle.wg_words.specs.Jobs.{IsWithin, job_of, job_from};
+ghost use Rattle.wg_words.specs.Jobs.{quotient_in, conversion_in, recoding, union_in, transposing, bulk_in};
+ghost use Rattle.wg_words.specs.Jobs.{job_on_base, job_on, show_on, spot_on, rank_from, rank_on};
+ghost use Rattle.wg_words.specs.Jobs.{verify_on, build_on, import_on};
 
 use crate::commands::command;
 use crate::conversion::{copied, pair_at, two_names};

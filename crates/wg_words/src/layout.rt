@@ -6,7 +6,7 @@ use crate::defaults::{DEFAULT_CHAIN, DEFAULT_INTERVAL, DEFAULT_WINDOW, DEFAULT_Z
 use wg_params::{Codes, Layout};
 
 /// The layout if no option says otherwise.
-pub fn usual_layout() -> Layout
+pub fn default_layout() -> Layout
     ensures value { result ≡ default_layout }
     ensures given { layout_in [] ≡ Some result }
     ensures within { IsWithinLimits (params_of result 0 0) }

@@ -63,6 +63,6 @@ mod words;
 pub use asked::job;
 pub use defaults::DEFAULT_DAMPING;
 pub use jobs::{Job, JobError};
-pub use layout::usual_layout;
+pub use layout::default_layout;
 pub use name::Name;
 pub use words::Words;

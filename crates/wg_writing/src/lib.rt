@@ -13,7 +13,7 @@
 //!
 //! ```rust
 //! let graph = wg_arcs::read(rt.alloc(), b"0 1\n", 2)?;
-//! let params = params_of(&usual_layout(), graph.nodes(), graph.arcs());
+//! let params = params_of(&default_layout(), graph.nodes(), graph.arcs());
 //! let Ok(archive) = encode_graph(rt.alloc(), &params, &graph) else {
 //!     return Err("out of memory".into());
 //! };

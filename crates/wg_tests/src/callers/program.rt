@@ -10,7 +10,7 @@ use wg_queries::printing::{Listing, print_records};
 use wg_readings::load_params;
 use wg_transforms::transpose::transpose;
 use wg_vectors::usual;
-use wg_words::{Job, Name, Words, usual_layout};
+use wg_words::{Job, Name, Words, default_layout};
 use wg_writing::{build_archive, encode_graph};
 
 // In the overview of wg_words.
@@ -94,7 +94,7 @@ fn a_page_is_looked_up(rt: HostRuntime) -> Result<(), Fail> {
 #[test]
 fn an_archive_is_written(rt: HostRuntime) -> Result<(), Fail> {
     let graph = wg_arcs::read(rt.alloc(), b"0 1\n", 2)?;
-    let params = params_of(&usual_layout(), graph.nodes(), graph.arcs());
+    let params = params_of(&default_layout(), graph.nodes(), graph.arcs());
     let Ok(archive) = encode_graph(rt.alloc(), &params, &graph) else {
         return Err("out of memory".into());
     };
@@ -116,7 +116,7 @@ fn an_arc_list_is_built<D: Depot, S: Sink>(
 ) -> Result<(), Fail> {
     let list = Name::new(alloc, "a")?;
     let base = Name::new(alloc, "g")?;
-    let done = build(alloc, &list, &base, 2, &usual_layout(), depot, out);
+    let done = build(alloc, &list, &base, 2, &default_layout(), depot, out);
     assert!(rt; done.is_ok());
     Ok(())
 }
@@ -140,7 +140,7 @@ fn web_is_transposed<D: Depot, S: Sink>(
 ) -> Result<(), Fail> {
     let input = Name::new(alloc, "web")?;
     let output = Name::new(alloc, "t")?;
-    let done = transpose(alloc, &input, &output, &usual_layout(), depot, out);
+    let done = transpose(alloc, &input, &output, &default_layout(), depot, out);
     assert!(rt; done.is_ok());
     Ok(())
 }

@@ -1,6 +1,6 @@
 use Rattle.std.proofs.Common.{[], refl, arith}
 use Rattle.wg_words.proofs.LayoutLemmas.{layout_in_within}
-use Rattle.wg_words.proofs.layout.usual_layout.Goals as goal
+use Rattle.wg_words.proofs.layout.default_layout.Goals as goal
 
 pub returns-clause-given : goal.returns-clause-given
 returns-clause-given c = rw c.defaults.ensures refl
