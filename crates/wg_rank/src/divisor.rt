@@ -5,8 +5,11 @@ ghost use Rattle.std.specs.Int.{div_ceil};
 use crate::dividing::{whole_quotient, whole_quotient_up};
 use std::marker::Model;
 
-// A number is cut here, so that what is above, and a rest below 2^11 with what is below, are small enough for a product.
-const CUT: u128 = 1 << 40;
+// A number is cut above so many bits, so that what is above, and a rest below 2^11 with what is below, are small enough
+// for a product.
+const CUT_BITS: u32 = 40;
+
+const CUT: u128 = 1 << CUT_BITS;
 
 // A number to divide by, and its inverse in units of 2^-63, rounded down, and 1 more. The quotient of a small number is
 // then a product. One of 128 bits takes two of them if it is below 2^92 and the divisor at most 2^11, and else a
@@ -51,7 +54,7 @@ impl Divisor {
         let top = (value / CUT) as u64;
         let high = self.exact(top);
         let rest = top - high * self.by;
-        let low = self.exact(rest * (1 << 40) + (value % CUT) as u64);
+        let low = self.exact(rest * (1 << CUT_BITS) + (value % CUT) as u64);
         high as u128 * CUT + low as u128
     }
 
