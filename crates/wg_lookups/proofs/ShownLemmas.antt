@@ -5,7 +5,6 @@ use Rattle.wg_grammar.specs.Archive.{Accepted, ReadsGraph}
 use Rattle.wg_random.specs.Held.{Held}
 use Rattle.wg_outside.specs.Puts.{joined}
 use Rattle.wg_lines.specs.Printing.{HasPrinted, HasPrintedLess, Prints}
-use Rattle.wg_lines.proofs.PrintLemmas.{printed_more, less_after, less_before}
 use Rattle.std.specs.Bool.{IsTrue}
 use Rattle.std.specs.Result.{IsErrAnd}
 use Rattle.wg_outside.proofs.PutsLemmas.{is_that_err}
@@ -17,27 +16,9 @@ use Rattle.wg_lookups.specs.Showing.{PrintsLine}
 use Rattle.wg_outcomes.specs.declared.ending.Ending.{Ending}
 use Rattle.wg_outcomes.specs.declared.status.Status.TheVariants.{Memory, WriteFault}
 
--- a text is printed, and then another one is
-pub prints_after : {E : Type 0} (a b c waited mid waits t u : List ℕ) (r : Result (Unit {0}) E) → HasPrinted a b waited t mid → Prints u b c mid waits r → Prints (t ++ u) a c waited waits r
-prints_after a b c waited mid waits t u (Ok done) h g = printed_more a b c waited mid waits t u h g
-prints_after a b c waited mid waits t u (Err e) h g = less_after a b c waited mid t u h g
-
 -- a text that was left out, at an early exit
 pub prints_exit : {E : Type 0} (r : Result (Unit {0}) E) (e : E) (t a b waited waits : List ℕ) → IsErrAnd r (λ x. x ≡ e) → HasPrintedLess a b waited t → Prints t a b waited waits r
 prints_exit r e t a b waited waits is less = subst (Prints t a b waited waits) (sym (is_that_err r e is)) less
-
--- three texts, of which the first was not printed
-pub less_first : (a b waited t u v : List ℕ) → HasPrintedLess a b waited t → HasPrintedLess a b waited (t ++ u ++ v)
-less_first a b waited t u v h = less_before a b waited (t ++ u) v (less_before a b waited t u h)
-
--- or the second was not
-pub less_second : (a b c waited mid t u v : List ℕ) → HasPrinted a b waited t mid → HasPrintedLess b c mid u → HasPrintedLess a c waited (t ++ u ++ v)
-less_second a b c waited mid t u v h g = less_before a c waited (t ++ u) v (less_after a b c waited mid t u h g)
-
--- or all but the third were
-pub prints_third : {E : Type 0} (a b c d waited mid next waits t u v : List ℕ) (r : Result (Unit {0}) E) → HasPrinted a b waited t mid → HasPrinted b c mid u next → Prints v c d next waits r
-    → Prints (t ++ u ++ v) a d waited waits r
-prints_third a b c d waited mid next waits t u v r h g k = prints_after a c d waited next waits (t ++ u) v r (printed_more a b c waited mid next t u h g) k
 
 -- the successors that are printed are all of them
 pub lines_printed : (a b waited waits given all : List ℕ) → given ≡ all → HasPrinted a b waited (joined (map spaced given)) waits → HasPrinted a b waited (joined (map spaced all)) waits

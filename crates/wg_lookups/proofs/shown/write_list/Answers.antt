@@ -2,7 +2,8 @@ use Rattle.std.proofs.Common.{codes, decimal, map}
 use Rattle.wg_outside.proofs.RefusalLemmas.{sink_after, sink_exit}
 use Rattle.wg_outside.specs.Puts.{joined}
 use Rattle.wg_outcomes.specs.Commands.{spaced}
-use Rattle.wg_lookups.proofs.ShownLemmas.{less_first, less_second, prints_exit, prints_third}
+use Rattle.wg_lines.proofs.PrintLemmas.{less_first, less_second, prints_third}
+use Rattle.wg_lookups.proofs.ShownLemmas.{prints_exit}
 use Rattle.wg_lookups.proofs.shown.write_list.Goals as goal
 
 pub returns-in_err-number : goal.returns-in_err-number
