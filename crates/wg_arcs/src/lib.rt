@@ -2,16 +2,16 @@
 //! texts.
 //!
 //! [`write_list`] puts the lines of a page to a sink, and [`write`] those of each page of a graph in turn: the text of
-//! the graph, arc by arc, ascending. Both call the sink at least once for each page that has arcs. What they are made of
-//! is [`print_list`], which prints the lines of a page through a buffer of the caller: whoever has many short lists
+//! the graph, arc by arc, ascending. Both call the sink at least once for each page that has arcs. What they are made
+//! of is [`print_list`], which prints the lines of a page through a buffer of the caller: whoever has many short lists
 //! keeps one buffer for all of them, and so the sink is called once for some hundred lines.
 //!
 //! [`read`] reads such a text into a graph, or names its first faulty line, an [`ArcsError::Line`]. It also takes
 //! blanks between the numbers and round them, lines without words, comments that begin with `#`, and a CR before the
 //! end of a line. The arcs must ascend, and no page may be as large as the number of pages, which is given.
 //!
-//! [`ArcLines`] reads it line by line, by the same rules, for whoever has not the whole text at once: it takes the first
-//! line off a text, and keeps what says whether the next one is in order.
+//! [`ArcLines`] reads it line by line, by the same rules, for whoever has not the whole text at once: it takes the
+//! first line off a text, and keeps what says whether the next one is in order.
 //!
 //! A text that is read and written again, and one whose second line is faulty:
 //!

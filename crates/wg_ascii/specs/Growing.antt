@@ -83,8 +83,8 @@ pub record BlankSoFar (lines rest : List (List ℕ)) (first line : ℕ) : Type 0
   pub split : drop done lines ≡ rest
   pub none : (x : ℕ) → x < done → words_of (get_or lines x []) ≡ []
 
--- Of all lines those that a reading has come to are in order: the first one tells the number of pages, then come those of
--- these lists, and, if these are the lists of all pages, lines without words. The others come next.
+-- Of all lines those that a reading has come to are in order: the first one tells the number of pages, then come those
+-- of these lists, and, if these are the lists of all pages, lines without words. The others come next.
 pub record IsUpTo (all next lists : List (List ℕ)) (s : PageLines) : Type 0 where
   pub first : List ℕ
   pub lines : List (List ℕ)

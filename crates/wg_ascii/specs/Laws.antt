@@ -1,4 +1,4 @@
--- What holds of all plain texts.
+-- What holds of all ASCIIGraph texts.
 use Rattle.std.specs.Prelude.{◌≡◌, ◌≤◌, ℕ, List, [], get_or, Result}
 use Rattle.wg_params.specs.declared.limits.TheConstants.{MOST_ARCS, MOST_PAGES}
 use Rattle.wg_num.specs.Lines.{lines_of}

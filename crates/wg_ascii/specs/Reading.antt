@@ -1,4 +1,4 @@
--- The graph that a plain text stands for, or its first faulty line.
+-- The graph that an ASCIIGraph text stands for, or its first faulty line.
 use Rattle.std.specs.Prelude.{◌≡◌, ℕ, zero, suc, ◌+◌, ◌<◌, ◌≤◌, ◌==◌, nat_le, nat_lt, if◌then◌else◌, List, [], ◌∷◌}
 use Rattle.std.specs.Prelude.{length, map, take, get_or, decimal, Option, Some, None, unwrap_or, Result, Ok, Err}
 use Rattle.std.specs.List.{sum_by}

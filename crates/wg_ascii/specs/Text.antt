@@ -1,4 +1,4 @@
--- The plain text of a graph: the number of pages, and a line for each page.
+-- The ASCIIGraph text of a graph: the number of pages, and a line for each page.
 use Rattle.std.specs.Prelude.{ℕ, List, [], ◌∷◌, ◌++◌, map, codes, decimal}
 use Rattle.wg_outside.specs.Puts.{joined}
 use Rattle.wg_graph.specs.Digraph.{Digraph}

@@ -5,7 +5,7 @@ use std::alloc::AllocError;
 use std::fmt;
 use thiserror::Error;
 
-/// Why a line of a plain text is refused.
+/// Why a line of an ASCIIGraph text is refused.
 #[derive(Clone, Copy, Debug, PartialEq, Eq)]
 pub enum AsciiKind {
     /// A word is no decimal number, or the first line is not one word.
@@ -35,7 +35,7 @@ impl fmt::Display for AsciiKind {
     }
 }
 
-/// Why a plain text was not read.
+/// Why an ASCIIGraph text was not read.
 #[derive(Clone, Copy, Debug, PartialEq, Eq, Error)]
 pub enum AsciiError {
     /// The first faulty line, counted from 1.

@@ -43,7 +43,8 @@ fn read_nodes(line: &[u8]) -> Result<u64, AsciiKind>
     Ok(nodes)
 }
 
-/// How far a plain text was read, line by line, and what of the lines before says whether the next one is in order.
+/// How far an ASCIIGraph text was read, line by line, and what of the lines before says whether the next one is in
+/// order.
 #[derive(Clone, Copy, Debug)]
 pub struct PageLines {
     /// How many pages the first line tells.

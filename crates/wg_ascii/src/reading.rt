@@ -40,7 +40,7 @@ fn read_lists<'a>(
     Ok(rest)
 }
 
-/// Reads the plain text of a graph, or names its first faulty line. It holds the graph and the list of one page, 8
+/// Reads the ASCIIGraph text of a graph, or names its first faulty line. It holds the graph and the list of one page, 8
 /// bytes for each arc and each page, and takes memory as the lines come; it costs a pass over the text.
 pub fn read(alloc: Global, bytes: &[u8]) -> Result<Graph, AsciiError>
     ensures { IsRead bytes.now result }

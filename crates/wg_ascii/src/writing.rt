@@ -76,7 +76,7 @@ pub fn print_list<S: Sink>(lines: &mut Lines, sink: &mut S, list: &[u64]) -> Res
     lines.byte(sink, b'\n')
 }
 
-/// Writes the plain text of a graph. It takes no memory, and one call of the sink for some hundred numbers.
+/// Writes the ASCIIGraph text of a graph. It takes no memory, and one call of the sink for some hundred numbers.
 pub fn write<S: Sink>(graph: &Graph, sink: &mut S) -> Result<(), WriteError>
     ensures puts { IsTrue S.told → Puts (text_of_graph graph.now) (S.taken sink.old) (S.taken sink.new) result }
     ensures later { S.later sink.old sink.new }

@@ -86,8 +86,8 @@ impl<'a> Cursor<'a> {
         window(self.bytes, self.at)
     }
 
-    /// The next [`GLANCE_BITS`](crate::GLANCE_BITS) bits as the highest of a number, the first of them its highest. What
-    /// stands behind them is not told, so that it takes less than to [`peek`](Cursor::peek).
+    /// The next [`GLANCE_BITS`](crate::GLANCE_BITS) bits as the highest of a number, the first of them its highest.
+    /// What stands behind them is not told, so that it takes less than to [`peek`](Cursor::peek).
     #[inline(always)]
     pub fn glance(&self) -> u64
         ensures { (i : ℕ) → i < GLANCE_BITS → get_or (low_bits 64 result) i false ≡ get_or (rest self.now) i false }

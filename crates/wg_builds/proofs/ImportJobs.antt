@@ -1,4 +1,4 @@
--- A plain text that is imported, line by line: how it ends.
+-- An ASCIIGraph text that is imported, line by line: how it ends.
 use Rattle.std.proofs.Common.{◌≡◌, inl, inr, ℕ, ◌≤◌, Bool, List, length, Some, Result, Ok, Err, refl, sym, ap, subst, ◌∙◌}
 use Rattle.std.specs.Bool.{IsTrue}
 use Rattle.std.specs.FinMap as map
@@ -32,7 +32,7 @@ use Rattle.wg_outcomes.specs.Performs.{Outside, Performs}
 use Rattle.wg_builds.specs.Imported.{status_of_text}
 use Rattle.wg_outcomes.proofs.FileLemmas.{held_goes}
 
--- a plain text that was not read ends the job
+-- an ASCIIGraph text that was not read ends the job
 pub text_unread : (text base : List ℕ) (l : Layout) (td to : Bool) (before after : Outside) (e : Ending) → after.taken ≡ before.taken → LoadsText text td before.files after.files before.counts after.counts (Err e)
     → Performs (Import text base l) td to before after e.status e.promised
 text_unread text base l td to before after e silent h =

@@ -1,4 +1,4 @@
--- Lists of a plain text that are encoded as its lines come.
+-- Lists of an ASCIIGraph text that are encoded as its lines come.
 use Rattle.std.proofs.Common.{◌≡◌, inl, inr, ℕ, ◌+◌, ◌<◌, ◌≤◌, List, [], ◌++◌, length, Bool, true, false, Result, Ok, refl, sym, ap, subst, ◌∙◌, arith}
 use Rattle.std.proofs.lemmas.Bool.{cases_lt}
 use Rattle.wg_num.specs.Lines.{lines_of}

@@ -1,4 +1,4 @@
--- The graph of a plain text on its way into an archive, line by line.
+-- The graph of an ASCIIGraph text on its way into an archive, line by line.
 use Rattle.std.specs.Prelude.{◌≡◌, ℕ, ◌+◌, ◌<◌, ◌≤◌, List, ◌++◌}
 use Rattle.wg_num.specs.Lines.{lines_of}
 use Rattle.wg_params.specs.declared.limits.TheConstants.{MOST_ARCS, MOST_PAGES}
@@ -10,7 +10,7 @@ use Rattle.wg_encoder.specs.ArchiveInMemory.{EncodedSoFar, HasEncoded}
 use Rattle.wg_outcomes.specs.declared.status.Status.{Status}
 use Rattle.wg_outcomes.specs.declared.status.Status.TheVariants.{BadText, Memory}
 
--- how a job ends at an error of a plain text
+-- how a job ends at an error of an ASCIIGraph text
 abbrev pub status_of_text : AsciiError → Status
 status_of_text (error.Line line kind) = BadText line kind
 status_of_text error.Memory = Memory

@@ -16,8 +16,9 @@ use wg_outside::Sink;
 /// First it holds the generated graph and the archive, then the archive and what `check` holds; then the archive, the
 /// bytes of its graph file again and the graph that they stand for; and last this graph and the bounds of its pages. A
 /// graph takes 8 bytes a page and 8 an arc, and up to twice that while its lists grow; the archive little more than a
-/// byte an arc and two a page, and up to twice that while its files grow; bounds take 64 bytes a page, in which they are
-/// sorted too. A page has some ten arcs. The time is in proportion to pages and arcs, but for the sorting of the bounds.
+/// byte an arc and two a page, and up to twice that while its files grow; bounds take 64 bytes a page, in which they
+/// are sorted too. A page has some ten arcs. The time is in proportion to pages and arcs, but for the sorting of the
+/// bounds.
 pub fn bulk<O: Sink>(alloc: Global, seed: u64, pages: u64, out: &mut O) -> Result<(), Ending>
     requires { pages ≤ MOST_GENERATED }
     ensures { DoesAlone ⟦<O as Sink>⟧ (Bulk seed pages) out.old out.new result }

@@ -1,4 +1,4 @@
-//! The command `import`: an archive from the plain text of a graph.
+//! The command `import`: an archive from the ASCIIGraph text of a graph.
 ghost use Rattle.wg_params.specs.Parameters.{IsWithinLimits, params_of};
 ghost use Rattle.wg_words.specs.declared.jobs.Job.TheVariants.{Import};
 ghost use Rattle.wg_outcomes.specs.Performs.{DoesOrEnds};

@@ -1,4 +1,4 @@
-//! The graph of a plain text, encoded in memory as its lines come.
+//! The graph of an ASCIIGraph text, encoded in memory as its lines come.
 ghost use Rattle.std.specs.Prelude.{◌≡◌, ◌+◌, ◌<◌, ◌≤◌, ◌^◌, ◌++◌, ℕ, List as ListOf, [], Some, IsTrue, Err, length, OnOk, IfOk, IfErr};
 ghost use Rattle.std.specs.FinMap as map;
 ghost use Rattle.wg_outside.specs.declared.limits.TheConstants.{MOST_BYTES};
@@ -24,7 +24,7 @@ use wg_readings::{next_lines, open_lines};
 use wg_words::Name;
 use wg_writing::end_archive;
 
-// How a job ends at an error of a plain text.
+// How a job ends at an error of an ASCIIGraph text.
 #[cold]
 #[inline(never)]
 fn ending_at(error: AsciiError) -> Ending
@@ -146,8 +146,8 @@ fn encode_pages<D: Depot>(
     Ok((encoder, lines))
 }
 
-/// The archive of the graph that a plain text holds, and its parameters. It goes through the text once, and holds a
-/// piece of it with the line that the piece cuts, the list of one page, and the archive. Each line is validated as it
+/// The archive of the graph that an ASCIIGraph text holds, and its parameters. It goes through the text once, and holds
+/// a piece of it with the line that the piece cuts, the list of one page, and the archive. Each line is validated as it
 /// comes; after a fault the archive is let go.
 pub fn encode_text<D: Depot>(
     alloc: Global,

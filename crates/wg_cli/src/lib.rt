@@ -11,7 +11,7 @@
 //! Besides this crate a caller needs `wg_io` alone, for its depot and its sinks: the words, the status and all that a
 //! status names are exported here.
 //!
-//! A plain text in memory is imported as an archive:
+//! An ASCIIGraph text in memory is imported as an archive:
 //!
 //! ```rust
 //! let mut words = wg_cli::Words::new(rt.alloc());

@@ -156,7 +156,7 @@ fn list_named(arcs: &Name, input: Input) -> Option<FileName<'_>>
     }
 }
 
-// The name of the one input of a job that reads a plain text.
+// The name of the one input of a job that reads an ASCIIGraph text.
 fn text_named(text: &Name, input: Input) -> Option<FileName<'_>>
     ensures { result ≡ text_named text.now input }
 {

@@ -214,9 +214,9 @@ fn describe<'a, S: Sink>(
     )
 }
 
-/// Writes the line of a status, as far as the sink takes it. At `Done` there is none, and the sink is not called.
-/// The job gives the names of files: without one, only a line that names no file is written. `promised` is how many arcs
-/// or pages the properties promise, if the line tells it.
+/// Writes the line of a status, as far as the sink takes it. At `Done` there is none, and the sink is not called. The
+/// job gives the names of files: without one, only a line that names no file is written. `promised` is how many arcs or
+/// pages the properties promise, if the line tells it.
 pub fn report<S: Sink>(sink: &mut S, job: &Option<Job>, promised: u64, status: Status)
     ensures line { IsTrue S.told → Reports (line_of job.now promised status) (S.taken sink.old) (S.taken sink.new)
         (Increased (S.faults sink.old) (S.faults sink.new) ⊎ Increased (S.wants sink.old) (S.wants sink.new)) }

@@ -193,7 +193,7 @@ fn plain_kind(kind: AsciiKind) -> &'static str
     }
 }
 
-/// A faulty line of a plain text.
+/// A faulty line of an ASCIIGraph text.
 pub fn plain(line: u64, kind: AsciiKind) -> Text
     ensures { result ≡ text_of_plain line kind }
 {

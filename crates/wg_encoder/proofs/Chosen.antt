@@ -1,4 +1,5 @@
--- The reference by which a list is written: how far it reaches, that its values have words, and that its record is short.
+-- The reference by which a list is written: how far it reaches, that its values have words, and that its record is
+-- short.
 use Rattle.std.proofs.Common.{◌≡◌, ℕ, ◌+◌, ◌^◌, ◌<◌, ◌≤◌, eqb, ltb, leb, min, true, not, ◌&&◌, List, length, sym, ap, subst, ◌∙◌, inl, inr, arith}
 use Rattle.std.proofs.lemmas.Bool.{and_parts, or_cases, eqb-true}
 use Rattle.wg_params.specs.Parameters.{Parameters, IsWithinLimits}

@@ -1,5 +1,5 @@
--- A reference to a list that has no successor in common with the page. Nothing is copied, so that the record is no shorter than without a
--- reference.
+-- A reference to a list that has no successor in common with the page. Nothing is copied, so that the record is no
+-- shorter than without a reference.
 use Rattle.std.proofs.Common.{◌≡◌, ℕ, ◌+◌, ◌≤◌, ltb, true, false, List, [], ◌∷◌, ◌++◌, length, refl, sym, ap, ◌∙◌, inl, inr, arith}
 use Rattle.std.specs.Prelude.{Some, None}
 use Rattle.std.specs.Int.Count.{count_leading_zeros}

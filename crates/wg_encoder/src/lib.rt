@@ -5,8 +5,8 @@
 //! numbers, and 32 bytes beside it. Of the page that comes next it tells the candidates, what each of them takes in
 //! bits, and which one is written; to count these bits makes no record. No record has 2 ^ 64 bits or more.
 //!
-//! [`Encoder::next`] writes the next list, and [`Encoder::finish`] ends the two files once all are written. Both take the
-//! archive's name, and write the files of its suffixes. The words of the offsets file are 0 and the length of each
+//! [`Encoder::next`] writes the next list, and [`Encoder::finish`] ends the two files once all are written. Both take
+//! the archive's name, and write the files of its suffixes. The words of the offsets file are 0 and the length of each
 //! record. An encoder has a writer of 4096 bytes for each of the files. If a call of the depot fails, the
 //! [`EncodeError`] names the file, and both files are prefixes of those that were to be written.
 //!

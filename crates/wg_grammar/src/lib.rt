@@ -40,7 +40,8 @@
 //! Ok(())
 //! ```
 //!
-//! Nothing here takes memory, and each call takes constant time; a word from memory costs what [`wg_codes::read`] costs.
+//! Nothing here takes memory, and each call takes constant time; a word from memory costs what [`wg_codes::read`]
+//! costs.
 //!
 //! Choices:
 //!

@@ -1,4 +1,5 @@
--- A record without a reference has a word for each value: its numbers are below twice as many as there are pages, and no code has fewer.
+-- A record without a reference has a word for each value: its numbers are below twice as many as there are pages, and
+-- no code has fewer.
 use Rattle.std.proofs.Common.{◌≡◌, ℕ, zero, suc, ◌+◌, ◌-◌, ◌*◌, ◌/◌, ◌^◌, ◌<◌, ◌≤◌, ltb, leb, Bool, true, not, ◌&&◌, List, [], ◌∷◌, ◌++◌, length, refl, sym, ap, subst, ◌∙◌, inl, inr, arith}
 use Rattle.std.specs.Prelude.{pos, negsuc, ◌-ℤ◌, filter, Option, Some, None}
 use Rattle.std.specs.List.{list_all, flat_map, range_with_len}

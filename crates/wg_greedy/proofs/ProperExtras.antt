@@ -32,7 +32,8 @@ use Rattle.wg_greedy.proofs.ProperReading.{with_extras, IsCounted, next_end, adm
 
 -- ---- the runs that are long enough
 
--- each is long enough, ends at m or before, and leaves out a number after the one before; the first begins at n or later
+-- each is long enough, ends at m or before, and leaves out a number after the one before; the first begins at n or
+-- later
 abbrev Apart : ℕ → ℕ → ℕ → List Run → Type 0
 Apart m least n [] = Unit {0}
 Apart m least n (r ∷ rs) = (n ≤ r.left) × (0 < r.length) × (least ≤ r.length) × (r.left + r.length ≤ m) × Apart m least (suc (r.left + r.length)) rs

@@ -1,4 +1,5 @@
--- What is needed and allowed once the copies are past: the interval count, each interval's left end and length, and each residual.
+-- What is needed and allowed once the copies are past: the interval count, each interval's left end and length, and
+-- each residual.
 use Rattle.std.proofs.Common.{◌≡◌, ℕ, suc, ◌+◌, ◌-◌, ◌*◌, ◌<◌, ◌≤◌, ltb, eqb, cond, true, false, ◌&&◌, List, [], ◌∷◌, ◌++◌, length, sum, Option, Some, None, is_none, refl, sym, ap, subst, ◌∙◌, arith}
 use Rattle.std.proofs.lemmas.Bool.{cond-true, cond-false, lt-ltb, le-ltb, ne_eqb, eq-eqb, or_from}
 use Rattle.std.proofs.lemmas.List.{length_push, get_or_push}

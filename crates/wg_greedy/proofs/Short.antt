@@ -1,4 +1,5 @@
--- No record is long: each word but those of the reference and of the block count has at most 2 ^ 8 bits, whatever the value.
+-- No record is long: each word but those of the reference and of the block count has at most 2 ^ 8 bits, whatever the
+-- value.
 use Rattle.std.proofs.Common.{◌≡◌, ℕ, zero, suc, ◌+◌, ◌-◌, ◌*◌, ◌/◌, ◌^◌, ◌<◌, ◌≤◌, ltb, Bool, true, not, ◌&&◌, List, [], ◌∷◌, ◌++◌, length, length-append, map, sum, refl, sym, ap, inl, inr, arith}
 use Rattle.std.specs.Prelude.{filter, Option, Some, None}
 use Rattle.std.proofs.Math.Nat.{div-mul-le_self, div-le_self}

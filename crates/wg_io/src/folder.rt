@@ -18,8 +18,8 @@ use wg_outside::{Depot, ReadError, WriteError};
 /// or written in pieces costs one call of the system a piece. Each holds a copy of its name; if there is no memory for
 /// it, the next call opens the file anew. A file that others put under the name of an open one goes unseen.
 ///
-/// A file that can't be positioned, as a pipe or a terminal, is read in order: once, from its first byte on. The byte at
-/// 2^46, which is asked for before the first one, is answered as if it were not there, and a read at any other place
+/// A file that can't be positioned, as a pipe or a terminal, is read in order: once, from its first byte on. The byte
+/// at 2^46, which is asked for before the first one, is answered as if it were not there, and a read at any other place
 /// than where the last one ended is refused. Such a file stays open whatever else is read, for a pipe that is opened
 /// again may wait for ever; if there is no memory for its name, the read is out of memory.
 #[derive(Debug, Drop)]

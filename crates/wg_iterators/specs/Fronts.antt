@@ -1,5 +1,5 @@
--- The copied members of a record, as the list that is still to come. It is told from what stands at the mask's offset of
--- the bits.
+-- The copied members of a record, as the list that is still to come. It is told from what stands at the mask's offset
+-- of the bits.
 use Rattle.std.specs.Prelude.{ℕ, Bool, not, if◌then◌else◌, List}
 use Rattle.wg_params.specs.Codes.{IsCode}
 use Rattle.wg_bits.specs.Bits.{rest}

@@ -1,4 +1,4 @@
--- A job that imports a plain text, and what its archive is read as.
+-- A job that imports an ASCIIGraph text, and what its archive is read as.
 use Rattle.std.proofs.Common.{◌≡◌, ℕ, ◌≤◌, List, length, Option, Some, Result, Ok, Err, refl, sym, ap, subst, ◌∙◌}
 use Rattle.std.proofs.lemmas.Option.{same_Some}
 use Rattle.wg_outside.specs.declared.limits.TheConstants.{MOST_BYTES}

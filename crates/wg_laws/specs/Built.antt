@@ -35,8 +35,8 @@ holding a input.Certificate = None
 holding a input.Text = None
 holding a input.Map = None
 
--- The greedy archive of a graph within the limits is accepted, and its arcs, plain text, places and ranking are those
--- of the graph.
+-- The greedy archive of a graph within the limits is accepted, and its arcs, ASCIIGraph text, places and ranking are
+-- those of the graph.
 pub record IsAcceptedAs (r : Readings) (p : Parameters) (g : Digraph) (base : List ℕ) : Type 0 where
   pub check : judged r (Check base) (holding (greedy_archive p g)) ≡ accepted
       (ok_line p (length (graph_bits p g.lists)))
@@ -70,8 +70,8 @@ BuildsAreAccepted r =
     → IsWithinLimits (params_of layout nodes 0) → judged r (Build list_name base nodes layout) held ≡ built a out
     → IsAcceptedBuild r held base a out
 
--- What an import comes to is accepted with its line, and its plain text has the words of the text that was read, line
--- by line.
+-- What an import comes to is accepted with its line, and its ASCIIGraph text has the words of the text that was read,
+-- line by line.
 pub record IsAcceptedImport (r : Readings) (held : Input → Option (List ℕ)) (base : List ℕ) (a : Archive)
     (out : List ℕ) : Type 0 where
   pub check : judged r (Check base) (holding a) ≡ accepted out
@@ -79,8 +79,8 @@ pub record IsAcceptedImport (r : Readings) (held : Input → Option (List ℕ)) 
       → (text : List ℕ) × (judged r (Ascii base) (holding a) ≡ accepted text)
       × HaveSameWords (lines_of bytes) (lines_of text)
 
--- It does for each text and each layout within the limits; and to import the plain text of an archive, if a file may
--- be so long, is to recode the archive.
+-- It does for each text and each layout within the limits; and to import the ASCIIGraph text of an archive, if a file
+-- may be so long, is to recode the archive.
 pub record ImportsAreAccepted (r : Readings) : Type 0 where
   pub import : (name base : List ℕ) (layout : Layout) (held : Input → Option (List ℕ)) (a : Archive) (out : List ℕ)
       → IsWithinLimits (params_of layout 0 0) → judged r (Import name base layout) held ≡ built a out

@@ -10,9 +10,9 @@ ghost use Rattle.wg_laws.specs.Rounds.{MoreRoundsNarrow};
 ghost use Rattle.wg_laws.specs.Spotted.{SpotsAreShown};
 ghost use Rattle.wg_laws.specs.Unions.{UnionsAreAccepted};
 
-/// There are functions that give for all parameters and all bytes the graph or the places that they stand for or
-/// their first fault, for all pages what they are by their chain of references alone, for all bounds their ranking, and
-/// for all arc lists and all plain texts their graph or their first faulty line; within the limits of the parameters
+/// There are functions that give for all parameters and all bytes the graph or the places that they stand for or their
+/// first fault, for all pages what they are by their chain of references alone, for all bounds their ranking, and for
+/// all arc lists and all ASCIIGraph texts their graph or their first faulty line; within the limits of the parameters
 /// there is only one of each, and a job comes to the same by any two such six. So a clause about each six speaks of one
 /// status, one output and one set of files, and is never empty.
 pub fn readings()
@@ -34,8 +34,8 @@ pub fn spotted_pages()
     ensures { (r : Readings) → SpotsAreShown r }
 {}
 
-/// What is built is accepted. Of the archive of any graph within the limits, `check` prints the pages, the arcs and
-/// the bits of the records, `arcs` the arcs of the graph, `ascii` its plain text, `offsets` the places of the records
+/// What is built is accepted. Of the archive of any graph within the limits, `check` prints the pages, the arcs and the
+/// bits of the records, `arcs` the arcs of the graph, `ascii` its ASCIIGraph text, `offsets` the places of the records
 /// that were written, `show` the successors that pages have in the graph, and `rank` the ranking of the graph. And
 /// whatever arc list `build` took, with pages and a layout within the limits, `check` accepts the three files that it
 /// wrote, and prints the very line that it printed.
@@ -44,9 +44,9 @@ pub fn built_archives()
     ensures builds { (r : Readings) → BuildsAreAccepted r }
 {}
 
-/// What is imported is accepted, whatever plain text was read, with a layout within the limits: `check` prints of the
-/// three files the very line that was printed, and `ascii` a text of the same words, line by line. And to import what
-/// `ascii` prints of an archive, if a file may be so long, is to recode the archive.
+/// What is imported is accepted, whatever ASCIIGraph text was read, with a layout within the limits: `check` prints of
+/// the three files the very line that was printed, and `ascii` a text of the same words, line by line. And to import
+/// what `ascii` prints of an archive, if a file may be so long, is to recode the archive.
 pub fn imported_archives()
     ensures { (r : Readings) → ImportsAreAccepted r }
 {}

@@ -20,10 +20,10 @@ use wg_random::{Steps as Ticks, spot_from};
 use wg_readings::{bad_archive, unread, word_ending};
 use wg_stream::PagesError;
 
-/// The successors of a page, by the records of its chain of references alone: no other record of the graph file is read,
-/// and of the offsets file the words from the last sampled page on. It takes time in proportion to the records and the
-/// lists of the chain and 2048 words for each of its pages, and holds a piece of either file, a number for each of these
-/// pages and a few lists.
+/// The successors of a page, by the records of its chain of references alone: no other record of the graph file is
+/// read, and of the offsets file the words from the last sampled page on. It takes time in proportion to the records
+/// and the lists of the chain and 2048 words for each of its pages, and holds a piece of either file, a number for each
+/// of these pages and a few lists.
 pub fn successors_of_page<D: Depot>(
     alloc: Global,
     params: &Params,

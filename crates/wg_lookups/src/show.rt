@@ -79,8 +79,8 @@ fn print_counted<L: Ledger, O: Sink>(
 /// refuses bytes.
 ///
 /// It holds one page at a time: a number for each page of its chain, and a box for each but the first, or two lists if
-/// the chain has more than [`CHAIN_PAGES`](wg_iterators::CHAIN_PAGES) pages. A page takes the time of the words of these
-/// records and of the numbers that it is copied from.
+/// the chain has more than [`CHAIN_PAGES`](wg_iterators::CHAIN_PAGES) pages. A page takes the time of the words of
+/// these records and of the numbers that it is copied from.
 pub fn print_pages<L: Ledger, O: Sink>(
     alloc: Global,
     archive: &Archive<'_>,

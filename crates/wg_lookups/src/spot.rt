@@ -21,9 +21,9 @@ use wg_readings::load_params;
 use wg_words::Name;
 
 /// Prints the successors of a page, by its chain of references alone: of the graph file no other record is read, and
-/// the offsets are held against the records of the chain and no others. It goes through the offsets file once, and comes
-/// back to it for each page of the chain. It holds a piece of either file, 16 bytes for each 1024th page, a number for
-/// each page of the chain and a few of its lists.
+/// the offsets are held against the records of the chain and no others. It goes through the offsets file once, and
+/// comes back to it for each page of the chain. It holds a piece of either file, 16 bytes for each 1024th page, a
+/// number for each page of the chain and a few of its lists.
 pub fn spot<D: Depot, O: Sink>(
     alloc: Global,
     base: &Name,

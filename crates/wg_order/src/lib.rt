@@ -1,7 +1,7 @@
 //! Pages ranked by the bounds of their PageRank, and the positions that the bounds leave to each.
 //!
-//! A [`Ranking`] sorts the pages of a [`wg_rank::Bounds`] by lower bounds falling, then by upper bounds falling, then by
-//! numbers rising; and it sorts the upper bounds by themselves. If the lower bound of one page is above the upper
+//! A [`Ranking`] sorts the pages of a [`wg_rank::Bounds`] by lower bounds falling, then by upper bounds falling, then
+//! by numbers rising; and it sorts the upper bounds by themselves. If the lower bound of one page is above the upper
 //! bound of another, the first has the greater share, whatever the exact shares are ([`Ranking::surely_above`]). So a
 //! page stands after those that are surely above it ([`Ranking::best`]) and before those that are surely below it
 //! ([`Ranking::worst`]). Both are counted by a binary search of a sorted list:

@@ -48,8 +48,8 @@ impl Model for Ranking {
 }
 
 impl Ranking {
-    /// A ranking of `n` pages that is still to be filled. All memory of later calls is taken here. For more pages than a
-    /// graph may have there is none.
+    /// A ranking of `n` pages that is still to be filled. All memory of later calls is taken here. For more pages than
+    /// a graph may have there is none.
     pub fn new(alloc: Global, n: u64) -> Result<Ranking, AllocError>
         ensures filled { IfOk result (λ r. r.filled ≡ false) }
         ensures pages { IfOk result (λ r. length r.low ≡ n) }

@@ -55,14 +55,14 @@ pub record IsBuilt (g : Digraph) (base : List ℕ) (files : Files) : Type 0 wher
   pub limits : IsWithinLimits (bulk_params g)
   pub whole : AreWhole (greedy_archive (bulk_params g) g) (archive_in base files)
 
--- Page v has this position in iterate j, and shares it with no page: so many pages and it have no smaller share, and all
--- others have one.
+-- Page v has this position in iterate j, and shares it with no page: so many pages and it have no smaller share, and
+-- all others have one.
 pub record HasPosition (b : Intervals) (g : Digraph) (j v position : ℕ) : Type 0 where
   pub greater : count_greater b g j v + 1 ≡ position
   pub smaller : position + count_smaller b g j v ≡ g.nodes
 
--- What is printed is what comes of the generated graph; its ranking is proven, and each page that is counted as sure has
--- its position in every iterate from the last round on.
+-- What is printed is what comes of the generated graph; its ranking is proven, and each page that is counted as sure
+-- has its position in every iterate from the last round on.
 pub record PrintsProvenOutcome (r : Readings) (seed pages : ℕ) (old new : List ℕ) : Type 0 where
   pub graph : Digraph
   pub graph_is : graph ≡ generated seed pages

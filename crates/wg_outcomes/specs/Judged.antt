@@ -140,11 +140,11 @@ abbrev pub unless_bad_text : Result Digraph (ℕ × AsciiKind) → (Digraph → 
 unless_bad_text (Ok g) next = next g
 unless_bad_text (Err fault) next = refused (BadText fault.0 fault.1)
 
--- goes on with the graph that the plain text stands for
+-- goes on with the graph that the ASCIIGraph text stands for
 abbrev pub with_text : Readings → List ℕ → (Digraph → Judged) → Judged
 with_text r bytes next = unless_bad_text (r.plain_text.value bytes) next
 
--- goes on with the graph that a plain text holds
+-- goes on with the graph that an ASCIIGraph text holds
 abbrev pub text_then : Readings → Option (List ℕ) → (Digraph → Judged) → Judged
 text_then r held next = with_file input.Text held (λ bytes. with_text r bytes next)
 

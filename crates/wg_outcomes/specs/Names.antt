@@ -62,8 +62,8 @@ name_of_output [] o = None
 name_of_output (entry ∷ rest) o = if nat_eq (output_code entry.0) (output_code o) then Some entry.1
     else name_of_output rest o
 
--- the files of an archive's records, all files of an archive, an arc list, a plain text, weights if they are asked for,
--- a certificate, and classes
+-- the files of an archive's records, all files of an archive, an arc list, an ASCIIGraph text, weights if they are
+-- asked for, a certificate, and classes
 abbrev pub record_files : List ℕ → List (Input × List ℕ)
 record_files base = (input.Properties, base ++ PROPERTIES.now) ∷ (input.Graph, base ++ GRAPH.now) ∷ []
 

@@ -103,8 +103,8 @@ HoldWeights (Some name) held n given =
     (bytes : List ℕ) × (ws : List ℕ) × (held input.Weights ≡ Some bytes) × (weights_in n bytes ≡ Ok ws)
     × (given ≡ Some ws)
 
--- What is printed is the ranking of this graph, by these weights of its pages, and this much is proved of its bounds and
--- positions.
+-- What is printed is the ranking of this graph, by these weights of its pages, and this much is proved of its bounds
+-- and positions.
 pub record PrintsRankingOf (r : Readings) (graph : Digraph) (given : Option (List ℕ)) (rounds damping top : ℕ)
     (old new : List ℕ) : Type 0 where
   pub proper : IsGraph graph

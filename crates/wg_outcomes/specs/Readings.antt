@@ -1,4 +1,4 @@
--- What all graph files, all offsets files, all pages, all bounds, all arc lists and all plain texts stand for.
+-- What all graph files, all offsets files, all pages, all bounds, all arc lists and all ASCIIGraph texts stand for.
 use Rattle.std.specs.Prelude.{◌≡◌, ℕ, List, Result}
 use Rattle.wg_bits.specs.Bits.{bits_of}
 use Rattle.wg_params.specs.Parameters.{Parameters, IsWithinLimits}
@@ -43,7 +43,7 @@ pub record ListReading : Type 0 where
   pub value : ℕ → List ℕ → Result Digraph (ℕ × ArcsKind)
   pub reads : (n : ℕ) (bytes : List ℕ) → IsListed n bytes (value n bytes)
 
--- from a plain text to its graph, or to its first faulty line
+-- from an ASCIIGraph text to its graph, or to its first faulty line
 pub record TextReading : Type 0 where
   pub value : List ℕ → Result Digraph (ℕ × AsciiKind)
   pub reads : (bytes : List ℕ) → IsDecided bytes (value bytes)

@@ -16,7 +16,8 @@ use Rattle.wg_outcomes.specs.Verified.{PrintsGapOf}
 use Rattle.wg_outcomes.specs.declared.status.Status.{Status}
 use Rattle.wg_outcomes.specs.declared.status.Status.TheVariants.{Done, Memory}
 
--- What is printed is the ranking of some graph, by some weights of its pages, or by none if no file of weights is named.
+-- What is printed is the ranking of some graph, by some weights of its pages, or by none if no file of weights is
+-- named.
 abbrev pub PrintsSomeRanking : Readings → Option (List ℕ) → ℕ → ℕ → ℕ → List ℕ → List ℕ → Type 0
 PrintsSomeRanking r weights rounds damping top old new =
     (graph : Digraph) × (given : Option (List ℕ)) × (weights ≡ None → given ≡ None)

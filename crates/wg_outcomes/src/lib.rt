@@ -8,8 +8,8 @@
 //! says the same of a command that is a function with a [`Result`], and `DoesAlone` of one that makes no call of a
 //! depot.
 //!
-//! A [`Status`] is how a run ended, an [`Ending`] a status with what the properties promise, arcs or pages, if its error
-//! line names that:
+//! A [`Status`] is how a run ended, an [`Ending`] a status with what the properties promise, arcs or pages, if its
+//! error line names that:
 //!
 //! ```rust
 //! let missing = Ending::of(Status::Missing(Input::Properties));

@@ -23,7 +23,7 @@ pub enum Input {
     /// A weight of teleport for each page.
     Weights,
     Certificate,
-    /// A graph as a plain text.
+    /// A graph as an ASCIIGraph text.
     Text,
     /// A class for each page.
     Map,
@@ -73,7 +73,7 @@ pub enum Status {
     /// The file is longer than a file may be.
     OverLimit(Input),
     BadWeights(WeightsFault),
-    /// The plain text's first faulty line, counted from 1.
+    /// The ASCIIGraph text's first faulty line, counted from 1.
     BadText { line: u64, kind: AsciiKind },
     /// The classes are not one number for each page, each below the limit.
     BadMap(NumbersFault),

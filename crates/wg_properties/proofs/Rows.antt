@@ -45,7 +45,8 @@ spelled : properties_of (written ++ line (codes "  nodes :  3  ") (line (codes "
 unfolding properties_of judged codes_of flag_of lines_of without_blanks_before without_blanks_after is_continued key_in value_in name_of word_of class_name long_class_name number_of digits
 spelled = refl
 
--- a line that goes on in the next comes before all else, but a comment does not go on, nor does a line with a blank at its end
+-- a line that goes on in the next comes before all else, but a comment does not go on, nor does a line with a blank at
+-- its end
 goes_on : properties_of (line (codes "#" ++ (92 ∷ [])) (line (codes "a=" ++ (92 ∷ 32 ∷ [])) (codes "nodes=" ++ (92 ∷ [])))) ≡ Err (fault.Line 3)
 unfolding properties_of judged codes_of flag_of lines_of without_blanks_before without_blanks_after is_continued key_in value_in name_of word_of class_name long_class_name number_of digits
 goes_on = refl

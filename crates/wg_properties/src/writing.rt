@@ -162,8 +162,8 @@ fn add_all(text: &mut List8, params: &Params) -> Result<(), AllocError>
 }
 
 /// The properties text of parameters, which [`read`](crate::read) reads again. Each key has its line, and of the codes
-/// those that are not the defaults are written. The class comes last, so that no prefix is read that lacks more than the
-/// last LF.
+/// those that are not the defaults are written. The class comes last, so that no prefix is read that lacks more than
+/// the last LF.
 pub fn write(alloc: Global, params: &Params) -> Result<List8, AllocError>
     ensures { IfOk result (λ text. text ≡ text_of params.now) }
 {

@@ -32,7 +32,7 @@ lines_last line (y ∷ xs) x = ap (λ (l : List ℕ). line y ++ l) (lines_last l
 offsets_more : (w : Whole) (ws : List Whole) → number_lines (places_of (w ∷ ws)) ≡ number_lines (places_of ws) ++ number_line w.end
 offsets_more w ws = ap number_lines (places_more w ws) ∙ lines_last number_line (places_of ws) w.end
 
--- ---- the plain text
+-- ---- the ASCIIGraph text
 ascii_more : (n : ℕ) (w : Whole) (ws : List Whole)
     → nodes_line n ++ joined (map list_line (lists_of (w ∷ ws))) ≡ (nodes_line n ++ joined (map list_line (lists_of ws))) ++ list_line w.known.list
 ascii_more n w ws =

@@ -89,7 +89,7 @@ pub fn print_page<O: Sink>(
     }
 }
 
-/// Prints the first line of a plain text.
+/// Prints the first line of an ASCIIGraph text.
 pub fn print_nodes<O: Sink>(lines: &mut Lines, out: &mut O, nodes: u64) -> Result<(), Ending>
     ensures prints { IsTrue O.told → Prints (nodes_line nodes) (O.taken out.old)
         (O.taken out.new) lines.old lines.new result }
@@ -102,7 +102,7 @@ pub fn print_nodes<O: Sink>(lines: &mut Lines, out: &mut O, nodes: u64) -> Resul
     }
 }
 
-/// Prints the line of a page with these successors in a plain text.
+/// Prints the line of a page with these successors in an ASCIIGraph text.
 pub fn print_list<O: Sink>(lines: &mut Lines, out: &mut O, list: &[u64]) -> Result<(), Ending>
     ensures prints { IsTrue O.told → Prints (list_line list.now) (O.taken out.old)
         (O.taken out.new) lines.old lines.new result }

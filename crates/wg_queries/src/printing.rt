@@ -15,8 +15,8 @@ use wg_readings::{end_records, judge_graph, load_params, next_record, open_graph
 use wg_stream::Reader;
 use wg_words::Name;
 
-/// What is printed of each record: the lines of its arcs, the line of its list in the plain text, or that of the offset
-/// after it.
+/// What is printed of each record: the lines of its arcs, the line of its list in the ASCIIGraph text, or that of the
+/// offset after it.
 #[derive(Clone, Copy, Debug)]
 pub enum Listing {
     Arcs,
@@ -65,8 +65,8 @@ fn print_again<D: Depot, O: Sink>(
     print_rest(&mut lines, out)
 }
 
-// What comes before the first record: of the plain text it is the number of pages, and of the offsets it is 0, where
-// this record begins.
+// What comes before the first record: of the ASCIIGraph text it is the number of pages, and of the offsets it is 0,
+// where this record begins.
 fn print_head<O: Sink>(
     lines: &mut Lines,
     out: &mut O,

@@ -29,8 +29,8 @@ pub(crate) fn whole_quotient_up(value: u128, by: u64) -> u128
     value.div_ceil(by as u128)
 }
 
-// What a damping in thousandths leaves of what flows to a page, with `more` thousandths added. The flow is cut before it
-// is multiplied, so that it takes two divisions of 64 bits by a number that is known when the program is compiled.
+// What a damping in thousandths leaves of what flows to a page, with `more` thousandths added. The flow is cut before
+// it is multiplied, so that it takes two divisions of 64 bits by a number that is known when the program is compiled.
 #[inline(always)]
 fn damped_with(damping: u64, flow: u128, more: u64) -> u128
     requires damped { damping ≤ MOST_DAMPING }

@@ -6,8 +6,8 @@ pub fn iterates()
 {}
 
 /// Bounds that hold of a graph enclose its exact iterates and stationary vectors, within a stated width; and they are
-/// the same by whatever lists of the graph they were found. What the lower bounds leave of 1, the gap, shrinks from round
-/// to round by the damping, but for what is rounded: less than a unit for each arc and three for each page.
+/// the same by whatever lists of the graph they were found. What the lower bounds leave of 1, the gap, shrinks from
+/// round to round by the damping, but for what is rounded: less than a unit for each arc and three for each page.
 pub fn bounds()
     ensures certified { BoundsAreCertified }
     ensures one { BoundsAreOne }

@@ -25,8 +25,8 @@ pub(crate) fn total_weight(weights: &[u64], n: usize) -> u128
     sum
 }
 
-// A weight's part, rounded down. It is called, as the next one is: made part of its caller, it was divided for each page
-// if no weights are given, too.
+// A weight's part, rounded down. It is called, as the next one is: made part of its caller, it was divided for each
+// page if no weights are given, too.
 #[inline(never)]
 fn weighted_below(shared: u128, parts: u128, weight: u64) -> u128
     requires few { shared ≤ 1000 * UNITS }

@@ -78,7 +78,7 @@ module _ {B : Type 0} (i : Input) (names : Input → Option (List ℕ)) (IsFault
         either e (inl want) = (subst IsOwn (sym want) tt, inl (inl want))
         either e (inr fault) = (own e fault, inr fault)
 
--- ---- a plain text
+-- ---- an ASCIIGraph text
 pub text_unloaded : (name : List ℕ) (td : Bool) (files files' : Files) (counts counts' : List ℕ → Counts) (e : Ending) → Loads (text_named name) Text td files files' counts counts' (Err e) → LoadsText name td files files' counts counts' (Err e)
 text_unloaded name td files files' counts counts' e l = record {
   steps = λ t q next. l.steps t (λ bytes. with_text q bytes next);

@@ -1,4 +1,5 @@
--- There is one function that reads all graph files, one that reads all offsets files, one that reads all pages, one that ranks all bounds, one that reads all arc lists, and one that reads all plain texts.
+-- There is one function that reads all graph files, one that reads all offsets files, one that reads all pages, one
+-- that ranks all bounds, one that reads all arc lists, and one that reads all ASCIIGraph texts.
 use Rattle.std.proofs.Common.{◌≡◌, Option, Some, None, Err, refl, sym, ◌∙◌}
 use Rattle.wg_bits.specs.Bits.{bits_of}
 use Rattle.wg_params.specs.declared.key.Key.{Key}

@@ -106,7 +106,7 @@ module _ (r : Readings) (n : ℕ) (bytes : List ℕ) where
   pub list_refused : (line : ℕ) (kind : ArcsKind) → IsFirstFault n (lines_of bytes) line kind → (next : Digraph → Judged) → with_list r n bytes next ≡ refused (BadArcs line kind)
   list_refused line kind reads next = ap (λ (w : Result Digraph (ℕ × ArcsKind)). unless_bad_list w next) (lists_as (Err (line, kind)) reads)
 
--- a plain text stands for one thing alone
+-- an ASCIIGraph text stands for one thing alone
 pub decided_one : (bytes : List ℕ) (w v : Result Digraph (ℕ × AsciiKind)) → ascii.IsDecided bytes w → ascii.IsDecided bytes v → w ≡ v
 decided_one bytes (Ok g) (Ok h) a b = ap Ok (texts_are_one.graph (lines_of bytes) g h a b)
 decided_one bytes (Ok g) (Err fault) a b = absurd (texts_are_one.never_both (lines_of bytes) g fault.0 fault.1 a b)
@@ -115,7 +115,7 @@ decided_one bytes (Err fault) (Err other) a b =
     let same = texts_are_one.fault (lines_of bytes) fault.0 other.0 fault.1 other.1 a b in
     λ i. Err (same.0 i, same.1 i)
 
--- a plain text that was read
+-- an ASCIIGraph text that was read
 module _ (r : Readings) (bytes : List ℕ) where
   text_as : (w : Result Digraph (ℕ × AsciiKind)) → ascii.IsDecided bytes w → r.plain_text.value bytes ≡ w
   text_as w reads = decided_one bytes (r.plain_text.value bytes) w (r.plain_text.reads bytes) reads

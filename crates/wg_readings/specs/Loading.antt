@@ -134,7 +134,7 @@ pub record LoadsList (name : List ℕ) (n : ℕ) (told : Bool) (files files' : F
 abbrev pub IsBadText : Ending → Type 0
 IsBadText e = (line : ℕ) × (kind : AsciiKind) × (e.status ≡ BadText line kind)
 
--- The graph that a plain text holds was read whole, or the job ends at the text.
+-- The graph that an ASCIIGraph text holds was read whole, or the job ends at the text.
 pub record LoadsText (name : List ℕ) (told : Bool) (files files' : Files) (counts counts' : List ℕ → Counts)
     (result : Result Digraph Ending) : Type 0 where
   pub steps : IsTrue told → (r : Readings) → Steps (text_then r (held_by (text_named name) files input.Text)) result

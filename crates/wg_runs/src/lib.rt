@@ -1,8 +1,8 @@
 //! For each page the pages that link to it, as runs of pages that follow one another, or listed one by one.
 //!
 //! The pages of a folder link to the same menu, and so the list of the pages that link to one page is made of runs: few
-//! [`PageRun`]s tell of many arcs. Of a sum over the predecessors of a page, each run is then one difference: of the sums
-//! over all pages before its end, and before its begin.
+//! [`PageRun`]s tell of many arcs. Of a sum over the predecessors of a page, each run is then one difference: of the
+//! sums over all pages before its end, and before its begin.
 //!
 //! Runs are made straight from lists of successors that are read in order, in two passes, without a transposed graph
 //! in memory. Both take the same step for an arc from page u to page v: if the last run to v ends before u, it is made
@@ -29,8 +29,8 @@
 //! ```
 //!
 //! Each pass takes time in proportion to the arcs and pages. Counting takes 24 bytes for each page, of which 12 are
-//! given back in the end; filling takes 8 for each run, and listing 4 for each arc, both before their pass. There are no
-//! runs or in-lists yet of graphs of 2^32 pages or more.
+//! given back in the end; filling takes 8 for each run, and listing 4 for each arc, both before their pass. There are
+//! no runs or in-lists yet of graphs of 2^32 pages or more.
 #![tactic(auto)]
 
 mod counting;

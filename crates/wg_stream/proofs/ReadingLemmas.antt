@@ -15,7 +15,8 @@ use Rattle.wg_source.specs.Held.{Held, IsHeldOf, IsSmall}
 use Rattle.wg_stream.specs.Prefix.{AreBehind}
 use Rattle.wg_stream.specs.Reading.{Reading, AgreesIn, IsInStep, Stands}
 
--- what an open reading that is in step knows of the file: what it holds, and the records up to the next bit and up to the end of the last
+-- what an open reading that is in step knows of the file: what it holds, and the records up to the next bit and up to
+-- the end of the last
 pub reads_of : (file : List ℕ) (r : Reading) (whole : List Whole) → r.state ≡ Open → Stands r r.state → IsInStep file r whole
     → IsHeldOf file r.held × AreBehind (bits_of file) r.pages r.held.at whole × AreBehind (bits_of file) r.pages r.at whole
 reads_of file r whole is stands s =

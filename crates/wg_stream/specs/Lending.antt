@@ -16,8 +16,8 @@ use Rattle.wg_stream.specs.contracts.reader.Reader.{the_row}
 abbrev pub RestsSo : MutBor Reading → (Reading → Type 0) → Fml
 RestsSo s P = Rests the_row s P
 
--- the same file by the same parameters, and an offset that does not fall; no more lists are kept than the window has, and
--- no more bytes of the file are held than one piece
+-- the same file by the same parameters, and an offset that does not fall; no more lists are kept than the window has,
+-- and no more bytes of the file are held than one piece
 pub record KeepsOn (old after : Reading) : Type 0 where
   pub params : after.pages.params ≡ old.pages.params
   pub name : after.name ≡ old.name
@@ -32,8 +32,8 @@ pub record IsDone (old after : Reading) : Type 0 where
   pub all : after.pages.page ≡ after.pages.params.nodes
   pub total : after.pages.arcs ≡ after.pages.params.arcs
 
--- the list of the next page was lent, and no more pages or arcs than are promised; of the file behind its record only so
--- few bytes were read
+-- the list of the next page was lent, and no more pages or arcs than are promised; of the file behind its record only
+-- so few bytes were read
 pub record HasLent (old after : Reading) (list : List ℕ) : Type 0 where
   pub state : after.state ≡ Open
   pub looked : after.held.looked ≡ true

@@ -22,8 +22,8 @@ pub record Reading : Type 0 where
   pub held : Held
   pub state : State
 
--- what holds whatever the bytes are: the next record begins at the end of the last; at the end all pages were read, with
--- the promised arcs; and no more lists are kept than the window has, and few bytes are held
+-- what holds whatever the bytes are: the next record begins at the end of the last; at the end all pages were read,
+-- with the promised arcs; and no more lists are kept than the window has, and few bytes are held
 abbrev pub Stands : Reading → State → Type 0
 Stands r Open = r.held.at ≡ r.at
 Stands r Done = (r.pages.page ≡ r.pages.params.nodes) × (r.pages.arcs ≡ r.pages.params.arcs)

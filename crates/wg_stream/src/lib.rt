@@ -35,8 +35,8 @@
 //! ```
 //!
 //! Memory is held for the lists of the window, each with room for at most twice its numbers, and for a few lists more
-//! while a record is read. A stretch is one piece of 4096 bytes; no bytes of a record are kept, however long it is. That
-//! a [`Reader`] keeps no more lists than the window has, that few wait, and that it holds at most
+//! while a record is read. A stretch is one piece of 4096 bytes; no bytes of a record are kept, however long it is.
+//! That a [`Reader`] keeps no more lists than the window has, that few wait, and that it holds at most
 //! [`MOST_HELD`](wg_source::MOST_HELD) bytes, is said by clauses of its calls.
 //!
 //! Of a source that cannot tell its bits it is still known that each list ascends, that its numbers are pages, and that

@@ -23,9 +23,9 @@ use wg_params::Params;
 /// of the pages before, and stands at the page that comes next.
 ///
 /// It is seen as its parameters, how many pages and arcs were read, what is kept of the pages before, and the list of
-/// the page that was read last. It keeps no more lists than the window of the parameters has, each with room for at most
-/// twice its numbers, or for few; three lists at most with room for as many as the longest; and two that have left the
-/// window. Hand in the same source at each call: the clauses on bits are of one that was.
+/// the page that was read last. It keeps no more lists than the window of the parameters has, each with room for at
+/// most twice its numbers, or for few; three lists at most with room for as many as the longest; and two that have left
+/// the window. Hand in the same source at each call: the clauses on bits are of one that was.
 #[derive(Debug)]
 pub struct Pages {
     params: Params,

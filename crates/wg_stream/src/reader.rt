@@ -28,8 +28,8 @@ use wg_source::Stretch;
 ///
 /// It keeps no more lists of the pages before than the window of the parameters has, the list that it lends, and few
 /// lists more, whose memory is used again ([`spare_lists`](Reader::spare_lists)). Of the file it holds at most
-/// [`MOST_HELD`](wg_source::MOST_HELD) bytes, however long a record is: behind the record of a list that it has lent it has
-/// read no further than that. All this holds after each call, after an error too, and whatever the depot answers.
+/// [`MOST_HELD`](wg_source::MOST_HELD) bytes, however long a record is: behind the record of a list that it has lent it
+/// has read no further than that. All this holds after each call, after an error too, and whatever the depot answers.
 #[derive(Debug)]
 pub struct Reader {
     pages: Pages,

@@ -17,9 +17,9 @@ use wg_shape::Quotienter;
 use wg_transpose::range_room;
 
 /// The archive of the graph of classes of the pages of a graph, which has so many arcs and whose lists are read in
-/// order; and its parameters. It goes along the lists once for each range of classes, at most 15 times, and once before.
-/// Beside the archive it holds 8 bytes a class, 8 an arc of the pages of one range, which are a fourteenth of the arcs
-/// or 2^24 of them, if that is more, and those of one class; and 8 an arc of one class.
+/// order; and its parameters. It goes along the lists once for each range of classes, at most 15 times, and once
+/// before. Beside the archive it holds 8 bytes a class, 8 an arc of the pages of one range, which are a fourteenth of
+/// the arcs or 2^24 of them, if that is more, and those of one class; and 8 an arc of one class.
 pub fn encode_quotient<L: Lists + Drop>(
     alloc: Global,
     layout: &Layout,

@@ -71,7 +71,8 @@ one_more g k j list up lt =
       others = λ w other. seen_other g k (take j list) (get_or list j 0) w other;
     })
 
--- A number more for list t: it is put into its place if t is one of the n lists from the first on, whose ends these are.
+-- A number more for list t: it is put into its place if t is one of the n lists from the first on, whose ends these
+-- are.
 module _ (whole before after : ℕ → List ℕ) (first n t x : ℕ) (ends all : List ℕ) (base : OneMore before after t x) (fits : (w : ℕ) → length (after w) ≤ length (whole w))
     (h : ArePrefixes n (onward first whole) (onward first before) ends all) where
   abbrev b : ℕ → List ℕ

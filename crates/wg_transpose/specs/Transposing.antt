@@ -5,7 +5,8 @@ use Rattle.wg_graph.specs.Digraph.{Digraph, IsGraph, arc_count}
 use Rattle.wg_transpose.specs.Transposed.{predecessors}
 use Rattle.wg_transpose.specs.SoFar.{onward, start, AreCounts, ArePrefixes}
 
--- a graph, and the range of pages whose lists of predecessors are at hand: from the first page up to the one before `to`
+-- a graph, and the range of pages whose lists of predecessors are at hand: from the first page up to the one before
+-- `to`
 pub record Transposing : Type 0 where
   pub graph : Digraph
   pub from : ℕ

@@ -123,8 +123,8 @@ pub(crate) fn fill<P: Placing>(pass: &mut P, from: u64, ends: &mut [u64], all: &
     pass.place(from, ends, all);
 }
 
-/// Lists of which it is counted how long each is, and of which one range after the other is at hand: from list `from` up
-/// to the list before `to`. It holds 8 bytes for each list, and 8 for each number of the range.
+/// Lists of which it is counted how long each is, and of which one range after the other is at hand: from list `from`
+/// up to the list before `to`. It holds 8 bytes for each list, and 8 for each number of the range.
 #[derive(Debug)]
 pub struct Ranges {
     // For a list of the range, where it ends; for a list behind it, how long it is.

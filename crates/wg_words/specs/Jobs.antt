@@ -64,11 +64,11 @@ build_on rows base =
     option_and_then (λ arcs. if is_file_of base arcs then None else build_from rows base arcs)
     (name_in rows (codes "arcs"))
 
--- the building of an archive from a plain text, with the layout that the options give
+-- the building of an archive from an ASCIIGraph text, with the layout that the options give
 abbrev pub import_from : List Row → Text → Text → Option Job
 import_from rows base text = option_and_then (λ layout. Some (Import text base layout)) (layout_in rows)
 
--- the building of an archive from a plain text that is none of its files
+-- the building of an archive from an ASCIIGraph text that is none of its files
 abbrev pub import_on : List Row → Text → Option Job
 import_on rows base =
     option_and_then (λ text. if is_file_of base text then None else import_from rows base text)

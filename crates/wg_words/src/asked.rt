@@ -328,7 +328,7 @@ fn build_on(alloc: Global, found: &ArgMatches<'_>, base: &str) -> Result<Job, Jo
     })
 }
 
-// The building of an archive from a plain text that is none of its files, with the layout that the options give.
+// The building of an archive from an ASCIIGraph text that is none of its files, with the layout that the options give.
 fn import_on(alloc: Global, found: &ArgMatches<'_>, base: &str) -> Result<Job, JobError>
     ensures { IsAsked (import_on (rows_of (found_of found.now)) base.now) result }
 {

@@ -18,7 +18,7 @@ pub enum Job {
     Arcs {
         base: Name,
     },
-    /// `ascii BASE`: the graph as a plain text.
+    /// `ascii BASE`: the graph as an ASCIIGraph text.
     Ascii {
         base: Name,
     },
@@ -66,8 +66,8 @@ pub enum Job {
         nodes: u64,
         layout: Layout,
     },
-    /// `import TEXT BASE`: the archive BASE of the graph that the file TEXT holds as a plain text, which tells the
-    /// pages. The layout is within the limits of `wg_params`, and TEXT is none of the files of BASE.
+    /// `import TEXT BASE`: the archive BASE of the graph that the file TEXT holds as an ASCIIGraph text, which tells
+    /// the pages. The layout is within the limits of `wg_params`, and TEXT is none of the files of BASE.
     Import {
         text: Name,
         base: Name,
