@@ -25,7 +25,7 @@
 //!
 //! Each depot and each sink counts what it refuses; the counts stand still at 2^64 - 1.
 //!
-//! A depot of the system holds the names of two open files and of each open pipe. The depots and sinks in memory hold
+//! A depot of the system holds the names of at most eight open files and of each open pipe. The depots and sinks in memory hold
 //! their own bytes, and a depot looks a name up by going through all of them.
 //!
 //! Choices:
@@ -34,8 +34,8 @@
 //!   with no bytes: so each read of `FolderDepot` gives its offset. A pipe, which has no offsets, is read in order, and
 //!   its first such question is answered with no bytes. *Revisit if* a system without positioned reads has to be
 //!   served.
-//! - `FolderDepot` keeps open two files. *Revisit if* a command reads three or more in turn, so that each piece opens
-//!   one.
+//! - `FolderDepot` keeps open the last four files that it began to read, and the last four to write, and finds a name
+//!   among them by looking at each. *Revisit if* a command reads five or more in turn, so that each piece opens one.
 //! - A write of no bytes is a failure: otherwise a full disk could be tried for ever. *Revisit if* a system is met
 //!   that writes nothing and means to go on.
 //! - A depot or a sink that is to fail does so at the call that a test names, and nowhere else: each error path can
@@ -47,6 +47,7 @@ mod folder;
 mod held;
 mod memory_depot;
 mod memory_sink;
+mod open_files;
 mod pipe;
 mod steady_depot;
 mod steady_sink;

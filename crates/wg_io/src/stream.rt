@@ -24,6 +24,7 @@ impl<W: Write + Drop> Model for StdSink<W> {
 }
 
 impl<W: Write + Drop> StdSink<W> {
+    /// A sink over this stream. It holds the stream, and has counted no refusal yet.
     pub fn new(stream: W) -> StdSink<W>
         ensures { result ≡ record { faults = 0; wants = 0 } }
     {

@@ -27,6 +27,7 @@ impl<'a> Model for ZeroDepot<'a> {
 }
 
 impl<'a> ZeroDepot<'a> {
+    /// A depot of the file of this name, of `length` zero bytes, and of no other. It borrows the name.
     pub fn new(name: &'a str, length: u64) -> ZeroDepot<'a>
         ensures { result ≡ record { name = name.now; zeros = length; write_faults = 0; absences = 0 } }
     {
