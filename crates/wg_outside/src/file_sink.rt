@@ -17,6 +17,7 @@ pub struct FileSink<'a, D: Depot> {
 }
 
 impl<'a, D: Depot> FileSink<'a, D> {
+    /// The file of this name in the depot, which need not be there yet. It makes no call.
     pub fn new(depot: &'a mut D, name: &'a str) -> FileSink<'a, D>
         ensures depot { result.depot ≡ depot.entry }
         ensures name { result.name.now ≡ name.now }
