@@ -1,12 +1,12 @@
 -- Flags that are written one by one.
 use Rattle.std.proofs.Common.{◌≡◌, ℕ, ◌+◌, ◌<◌, ◌≤◌, Bool, true, false, cond, List, [], ◌∷◌, ◌++◌, length, take, get_or, map, refl, sym, ap, ◌∙◌}
-use Rattle.std.specs.Prelude.{Option, Some, None}
-use Rattle.std.specs.List.{filter_map}
-use Rattle.std.proofs.lemmas.List.{take_more, take_all, append_assoc, append-nil, map_push}
-use Rattle.std.proofs.lemmas.List.Elements.{filter_map-append}
-use Rattle.wg_properties.specs.declared.flags.Flag.{Flag}
-use Rattle.wg_properties.specs.Words.{word_of}
-use Rattle.wg_properties.specs.Text.{joined_by_bars, flags_text}
+use Rattle.std.specs.Prelude.{filter}
+use Rattle.std.proofs.lemmas.List.{take_all, append_assoc, append-nil, map_push}
+use Rattle.std.proofs.lemmas.List.Elements.{filter_more}
+use Rattle.wg_params.specs.Parameters.{Parameters}
+use Rattle.wg_properties.specs.Words.{Flag, word_of}
+use Rattle.wg_properties.specs.declared.flags.TheConstants.{FLAGS}
+use Rattle.wg_properties.specs.Text.{is_written, joined_by_bars, flags_text}
 
 abbrev pub is_nil : {X : Type 0} → List X → Bool
 is_nil [] = true
@@ -20,54 +20,55 @@ joined_push (first ∷ next ∷ words) word =
     ap (λ text. first ++ (32 ∷ 124 ∷ 32 ∷ text)) (joined_push (next ∷ words) word)
     ∙ sym (append_assoc first (32 ∷ 124 ∷ 32 ∷ joined_by_bars (next ∷ words)) (32 ∷ 124 ∷ 32 ∷ word))
 
--- the flags that are there
-abbrev pub present : List (Option Flag) → List Flag
-present flags = filter_map (λ o. o) flags
+push_some : (words : List (List ℕ)) (word : List ℕ) → is_nil (words ++ word ∷ []) ≡ false
+push_some [] word = refl
+push_some (first ∷ words) word = refl
+
+-- the words of the first i flags, as far as they are written
+abbrev pub written_words : Parameters → ℕ → List (List ℕ)
+written_words p i = map word_of (filter (is_written p) (take i FLAGS))
 
 -- i flags are behind
-pub record Flagged (before : List ℕ) (flags : List (Option Flag)) (i : ℕ) (is_first : Bool) (text : List ℕ) : Type 0 where
-  pub written : text ≡ before ++ flags_text (take i flags)
-  pub first_is : is_first ≡ is_nil (present (take i flags))
+pub record Flagged (before : List ℕ) (p : Parameters) (i : ℕ) (is_first : Bool) (text : List ℕ) : Type 0 where
+  pub written : text ≡ before ++ joined_by_bars (written_words p i)
+  pub first_is : is_first ≡ is_nil (written_words p i)
 
-nil-push : (xs : List Flag) (x : Flag) → is_nil (xs ++ x ∷ []) ≡ false
-nil-push [] x = refl
-nil-push (y ∷ xs) x = refl
+next_words : (p : Parameters) (i : ℕ) (d : Flag) (b : Bool) → i < length FLAGS → is_written p (get_or FLAGS i d) ≡ b → written_words p (i + 1) ≡ written_words p i ++ cond b (word_of (get_or FLAGS i d) ∷ []) []
+next_words p i d b lt is = at b (filter_more (is_written p) FLAGS i d lt ∙ ap (λ b. old ++ cond b (get_or FLAGS i d ∷ []) []) is)
+  where
+    old : List Flag
+    old = filter (is_written p) (take i FLAGS)
 
-nil-map : (xs : List Flag) → is_nil (map word_of xs) ≡ is_nil xs
-nil-map [] = refl
-nil-map (x ∷ xs) = refl
+    at : (b : Bool) → filter (is_written p) (take (i + 1) FLAGS) ≡ old ++ cond b (get_or FLAGS i d ∷ []) [] → written_words p (i + 1) ≡ map word_of old ++ cond b (word_of (get_or FLAGS i d) ∷ []) []
+    at true e = ap (map word_of) e ∙ map_push word_of old (get_or FLAGS i d)
+    at false e = ap (map word_of) (e ∙ append-nil old) ∙ sym (append-nil (map word_of old))
 
-present_more : (flags : List (Option Flag)) (i : ℕ) (o : Option Flag) → i < length flags → get_or flags i None ≡ o → present (take (i + 1) flags) ≡ present (take i flags) ++ present (o ∷ [])
-present_more flags i o lt is =
-    ap present (take_more flags i None lt) ∙ filter_map-append (λ o. o) (take i flags) (get_or flags i None ∷ []) ∙ ap (λ x. present (take i flags) ++ present (x ∷ [])) is
-
-pub absent : (before : List ℕ) (flags : List (Option Flag)) (i : ℕ) (is_first : Bool) (text : List ℕ) → i < length flags → get_or flags i None ≡ None → Flagged before flags i is_first text → Flagged before flags (i + 1) is_first text
-absent before flags i is_first text lt is f =
-    let same : present (take i flags) ≡ present (take (i + 1) flags) = sym (present_more flags i None lt is ∙ append-nil (present (take i flags))) in record {
-      written = f.written ∙ ap (λ fs. before ++ joined_by_bars (map word_of fs)) same;
+pub absent : (before : List ℕ) (p : Parameters) (i : ℕ) (is_first : Bool) (d : Flag) (text : List ℕ) → i < length FLAGS → is_written p (get_or FLAGS i d) ≡ false → Flagged before p i is_first text → Flagged before p (i + 1) is_first text
+absent before p i is_first d text lt is f =
+    let same : written_words p i ≡ written_words p (i + 1) = sym (next_words p i d false lt is ∙ append-nil (written_words p i)) in record {
+      written = f.written ∙ ap (λ ws. before ++ joined_by_bars ws) same;
       first_is = f.first_is ∙ ap is_nil same;
     }
 
-pub there : (before : List ℕ) (flags : List (Option Flag)) (i : ℕ) (is_first : Bool) (flag : Flag) (text new : List ℕ) → i < length flags → get_or flags i None ≡ Some flag → Flagged before flags i is_first text
-    → new ≡ text ++ cond is_first (word_of flag) (32 ∷ 124 ∷ 32 ∷ word_of flag) → Flagged before flags (i + 1) false new
-there before flags i is_first flag text new lt is f added =
-    let old : List Flag = present (take i flags) in
-    let more : present (take (i + 1) flags) ≡ old ++ flag ∷ [] = present_more flags i (Some flag) lt is in
-    let piece : List ℕ = 32 ∷ 124 ∷ 32 ∷ word_of flag in
-    let kind : is_first ≡ is_nil (map word_of old) = f.first_is ∙ sym (nil-map old) in
-    let grown : flags_text (take i flags) ++ cond is_first (word_of flag) piece ≡ flags_text (take (i + 1) flags) =
-    ap (λ b. joined_by_bars (map word_of old) ++ cond b (word_of flag) piece) kind
-    ∙ sym (ap (λ fs. joined_by_bars (map word_of fs)) more ∙ ap joined_by_bars (map_push word_of old flag) ∙ joined_push (map word_of old) (word_of flag)) in
+pub there : (before : List ℕ) (p : Parameters) (i : ℕ) (is_first : Bool) (d : Flag) (text new : List ℕ) → i < length FLAGS → is_written p (get_or FLAGS i d) ≡ true → Flagged before p i is_first text
+    → new ≡ text ++ cond is_first (word_of (get_or FLAGS i d)) (32 ∷ 124 ∷ 32 ∷ word_of (get_or FLAGS i d)) → Flagged before p (i + 1) false new
+there before p i is_first d text new lt is f added =
+    let old : List (List ℕ) = written_words p i in
+    let word : List ℕ = word_of (get_or FLAGS i d) in
+    let piece : List ℕ = 32 ∷ 124 ∷ 32 ∷ word in
+    let more : written_words p (i + 1) ≡ old ++ word ∷ [] = next_words p i d true lt is in
+    let grown : joined_by_bars old ++ cond is_first word piece ≡ joined_by_bars (written_words p (i + 1)) =
+    ap (λ b. joined_by_bars old ++ cond b word piece) f.first_is ∙ sym (ap joined_by_bars more ∙ joined_push old word) in
     record {
-      written = added ∙ ap (λ t. t ++ cond is_first (word_of flag) piece) f.written ∙ append_assoc before (flags_text (take i flags)) (cond is_first (word_of flag) piece) ∙ ap (λ t. before ++ t) grown;
-      first_is = sym (ap is_nil more ∙ nil-push old flag);
+      written = added ∙ ap (λ t. t ++ cond is_first word piece) f.written ∙ append_assoc before (joined_by_bars old) (cond is_first word piece) ∙ ap (λ t. before ++ t) grown;
+      first_is = sym (ap is_nil more ∙ push_some old word);
     }
 
-pub all_flagged : (before : List ℕ) (flags : List (Option Flag)) (i : ℕ) (is_first : Bool) (text : List ℕ) → length flags ≤ i → Flagged before flags i is_first text → text ≡ before ++ flags_text flags
-all_flagged before flags i is_first text end f = f.written ∙ ap (λ fs. before ++ flags_text fs) (take_all i flags end)
+pub all_flagged : (before : List ℕ) (p : Parameters) (i : ℕ) (is_first : Bool) (text : List ℕ) → length FLAGS ≤ i → Flagged before p i is_first text → text ≡ before ++ flags_text p
+all_flagged before p i is_first text end f = f.written ∙ ap (λ fs. before ++ joined_by_bars (map word_of (filter (is_written p) fs))) (take_all i FLAGS end)
 
-pub begun : (text : List ℕ) (flags : List (Option Flag)) → Flagged text flags 0 true text
-begun text flags = record { written = sym (append-nil text); first_is = refl }
+pub begun : (text : List ℕ) (p : Parameters) → Flagged text p 0 true text
+begun text p = record { written = sym (append-nil text); first_is = refl }
 
-pub same_at : (before : List ℕ) (flags : List (Option Flag)) (i : ℕ) (a b : Bool) (text new : List ℕ) → a ≡ b → text ≡ new → Flagged before flags i b new → Flagged before flags i a text
-same_at before flags i a b text new kind same f = record { written = same ∙ f.written; first_is = kind ∙ f.first_is }
+pub same_at : (before : List ℕ) (p : Parameters) (i : ℕ) (a b : Bool) (text new : List ℕ) → a ≡ b → text ≡ new → Flagged before p i b new → Flagged before p i a text
+same_at before p i a b text new kind same f = record { written = same ∙ f.written; first_is = kind ∙ f.first_is }

@@ -16,7 +16,7 @@ use Rattle.wg_num.specs.Lines.{lines_of, without_empty_end, is_blank, without_bl
 use Rattle.wg_properties.specs.Pairs.{first_continued, is_skipped, ends_key, key_in, value_in, pairs_of, values_of, value_of}
 use Rattle.wg_properties.specs.Words.{name_of, class_name, long_class_name}
 use Rattle.wg_properties.specs.Judged.{judged_class, judged, unless_continued, properties_of}
-use Rattle.wg_properties.specs.Text.{pair, chain_text, flags_text, flags_of, ended, written_lines, text_of}
+use Rattle.wg_properties.specs.Text.{pair, chain_text, flags_text, ended, written_lines, text_of}
 use Rattle.wg_properties.specs.declared.fault.PropFault.{PropFault}
 use Rattle.wg_num.proofs.Cuts.{not_the_end, some_line}
 use Rattle.wg_properties.proofs.Letters.{is_plain, blank_free_before}
@@ -194,7 +194,7 @@ text_refused bytes h = unless_refused (first_continued (lines_of bytes)) _ (clas
 abbrev first_pairs : Parameters → List (Key × List ℕ)
 first_pairs p =
     (key.Version, codes "0") ∷ (key.Nodes, decimal p.nodes) ∷ (key.Arcs, decimal p.arcs) ∷ (key.WindowSize, decimal p.window) ∷ (key.MaxRefCount, chain_text p.chain)
-    ∷ (key.MinIntervalLength, decimal p.interval) ∷ (key.ZetaK, decimal p.zeta) ∷ (key.CompressionFlags, flags_text (flags_of p)) ∷ []
+    ∷ (key.MinIntervalLength, decimal p.interval) ∷ (key.ZetaK, decimal p.zeta) ∷ (key.CompressionFlags, flags_text p) ∷ []
 
 abbrev first_lines : Parameters → List (List ℕ)
 first_lines p = comment ∷ map line_of (first_pairs p)

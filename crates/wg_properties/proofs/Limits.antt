@@ -1,19 +1,25 @@
 -- What is validated is within the limits of the parameters.
-use Rattle.std.proofs.Common.{◌≡◌, ℕ, ◌+◌, ◌≤◌, Bool, true, false, ◌||◌, cond, ltb, List, [], ◌∷◌, map, Option, Some, None, Result, Ok, Err, unwrap_or, refl, subst, arith, codes, eq-eqb}
+use Rattle.std.proofs.Common.{◌≡◌, ℕ, ◌+◌, ◌≤◌, Bool, true, false, ◌||◌, cond, eqb, ltb, List, [], ◌∷◌, map, Option, Some, None, Result, Ok, Err, unwrap_or, refl, sym, ◌∙◌, inl, inr, subst, arith, codes, eq-eqb}
+use Rattle.std.specs.Prelude.{find}
+use Rattle.std.specs.List.{list_all}
 use Rattle.std.specs.Str.{bytes_eq}
-use Rattle.std.proofs.lemmas.Bool.{ltb-false, le-ltb, ne_eqb}
+use Rattle.std.proofs.lemmas.Bool.{cases_Bool, and_parts, cond-true, cond-false, ltb-false, le-ltb, ne_eqb}
 use Rattle.wg_num.specs.Decimal.{number_of}
+use Rattle.wg_params.specs.Codes.{is_gamma_or_delta, is_unary_gamma_or_delta, is_residual_code}
+use Rattle.wg_params.specs.declared.code.Code.{Code}
 use Rattle.wg_params.specs.Parameters.{Parameters, AreCodes, IsWithinLimits, first_bad, default_codes}
 use Rattle.wg_params.specs.declared.key.Key.{Key}
 use Rattle.wg_params.specs.declared.key.Key.TheVariants as key
 use Rattle.wg_params.specs.declared.limits.TheConstants.{MOST_PAGES, MOST_ARCS, MOST_WINDOW, MOST_CHAIN, MOST_INTERVAL, MOST_ZETA}
-use Rattle.wg_properties.specs.Flags.{with_flag, codes_from, codes_of, pieces_of, flag_of}
+use Rattle.wg_properties.specs.Flags.{code_of, with_code, with_flag, codes_from, codes_of, pieces_of, flag_of}
+use Rattle.wg_properties.specs.Words.{Flag, word_of}
 use Rattle.wg_properties.specs.Judged.{and_then, within, judged_number, judged_chain, judged_zeta, judged_flags}
 use Rattle.wg_properties.specs.declared.fault.PropFault.{PropFault}
 use Rattle.wg_properties.specs.declared.fault.PropFault.TheVariants as fault
 use Rattle.wg_params.specs.declared.layout.Codes.{Codes}
-use Rattle.wg_properties.specs.declared.flags.Flag.{Flag}
-use Rattle.wg_properties.specs.declared.flags.Flag.TheVariants.{OutdegreesGamma, OutdegreesDelta, BlocksGamma, BlocksDelta, ReferencesUnary, ReferencesGamma, ReferencesDelta, BlockCountUnary, BlockCountGamma, BlockCountDelta, ResidualsGamma, ResidualsDelta, ResidualsZeta, ResidualsNibble, OffsetsGamma, OffsetsDelta}
+use Rattle.wg_properties.specs.declared.flags.Field.{Field}
+use Rattle.wg_properties.specs.declared.flags.Field.TheVariants.{Outdegrees, Blocks, References, BlockCounts, Residuals, Offsets}
+use Rattle.wg_properties.specs.declared.flags.TheConstants.{FLAGS}
 
 abbrev ok_number : ℕ → Result ℕ PropFault
 ok_number n = Ok n
@@ -47,33 +53,51 @@ chain_ok (Some text) chain e = at (bytes_eq text (codes "-1")) e
     at true e = let same : None ≡ chain = cc in subst (λ o. unwrap_or o 0 ≤ MOST_CHAIN) same (omega arith)
     at false e = some (within key.MaxRefCount 0 MOST_CHAIN (number_of text)) refl e
 
-flag_keeps : (zeta : ℕ) (c : Codes) (flag : Flag) → AreCodes zeta c → AreCodes zeta (with_flag zeta c flag)
-flag_keeps zeta c OutdegreesGamma a = record { outdegrees = refl; references = a.references; block_counts = a.block_counts; blocks = a.blocks; residuals = a.residuals; offsets = a.offsets }
-flag_keeps zeta c OutdegreesDelta a = record { outdegrees = refl; references = a.references; block_counts = a.block_counts; blocks = a.blocks; residuals = a.residuals; offsets = a.offsets }
-flag_keeps zeta c BlocksGamma a = record { outdegrees = a.outdegrees; references = a.references; block_counts = a.block_counts; blocks = refl; residuals = a.residuals; offsets = a.offsets }
-flag_keeps zeta c BlocksDelta a = record { outdegrees = a.outdegrees; references = a.references; block_counts = a.block_counts; blocks = refl; residuals = a.residuals; offsets = a.offsets }
-flag_keeps zeta c ReferencesUnary a = record { outdegrees = a.outdegrees; references = refl; block_counts = a.block_counts; blocks = a.blocks; residuals = a.residuals; offsets = a.offsets }
-flag_keeps zeta c ReferencesGamma a = record { outdegrees = a.outdegrees; references = refl; block_counts = a.block_counts; blocks = a.blocks; residuals = a.residuals; offsets = a.offsets }
-flag_keeps zeta c ReferencesDelta a = record { outdegrees = a.outdegrees; references = refl; block_counts = a.block_counts; blocks = a.blocks; residuals = a.residuals; offsets = a.offsets }
-flag_keeps zeta c BlockCountUnary a = record { outdegrees = a.outdegrees; references = a.references; block_counts = refl; blocks = a.blocks; residuals = a.residuals; offsets = a.offsets }
-flag_keeps zeta c BlockCountGamma a = record { outdegrees = a.outdegrees; references = a.references; block_counts = refl; blocks = a.blocks; residuals = a.residuals; offsets = a.offsets }
-flag_keeps zeta c BlockCountDelta a = record { outdegrees = a.outdegrees; references = a.references; block_counts = refl; blocks = a.blocks; residuals = a.residuals; offsets = a.offsets }
-flag_keeps zeta c ResidualsGamma a = record { outdegrees = a.outdegrees; references = a.references; block_counts = a.block_counts; blocks = a.blocks; residuals = refl; offsets = a.offsets }
-flag_keeps zeta c ResidualsDelta a = record { outdegrees = a.outdegrees; references = a.references; block_counts = a.block_counts; blocks = a.blocks; residuals = refl; offsets = a.offsets }
-flag_keeps zeta c ResidualsZeta a = record { outdegrees = a.outdegrees; references = a.references; block_counts = a.block_counts; blocks = a.blocks; residuals = eq-eqb zeta zeta refl; offsets = a.offsets }
-flag_keeps zeta c ResidualsNibble a = record { outdegrees = a.outdegrees; references = a.references; block_counts = a.block_counts; blocks = a.blocks; residuals = refl; offsets = a.offsets }
-flag_keeps zeta c OffsetsGamma a = record { outdegrees = a.outdegrees; references = a.references; block_counts = a.block_counts; blocks = a.blocks; residuals = a.residuals; offsets = refl }
-flag_keeps zeta c OffsetsDelta a = record { outdegrees = a.outdegrees; references = a.references; block_counts = a.block_counts; blocks = a.blocks; residuals = a.residuals; offsets = refl }
+-- whether a field may be in a code
+abbrev may_have : ℕ → Field → Code → Bool
+may_have zeta Outdegrees code = is_gamma_or_delta code
+may_have zeta Blocks code = is_gamma_or_delta code
+may_have zeta References code = is_unary_gamma_or_delta code
+may_have zeta BlockCounts code = is_unary_gamma_or_delta code
+may_have zeta Residuals code = is_residual_code zeta code
+may_have zeta Offsets code = is_gamma_or_delta code
 
-from_keeps : (zeta i : ℕ) (c d : Codes) (flags : List (Option Flag)) → AreCodes zeta c → codes_from zeta i c flags ≡ Ok d → AreCodes zeta d
+code_keeps : (zeta : ℕ) (c : Codes) (field : Field) (code : Code) → may_have zeta field code ≡ true → AreCodes zeta c → AreCodes zeta (with_code c field code)
+code_keeps zeta c Outdegrees code h a = assumption (h, a)
+code_keeps zeta c _ code h a = assumption (h, a)
+
+-- whether a flag's field may be in its code
+abbrev fits : ℕ → Flag → Bool
+fits zeta flag = may_have zeta flag.0 (code_of zeta flag.1)
+
+all_fit : (zeta : ℕ) → list_all (fits zeta) FLAGS ≡ true
+all_fit zeta = let own : eqb zeta zeta ≡ true = eq-eqb zeta zeta refl in rw own refl
+
+found_passes : (p q : Flag → Bool) (flags : List Flag) (flag : Flag) → list_all p flags ≡ true → find q flags ≡ Some flag → p flag ≡ true
+found_passes p q [] flag h e = absurd cc
+found_passes p q (x ∷ xs) flag h e =
+    let parts = and_parts (p x) (list_all p xs) h in
+    elim (cases_Bool (q x)) [
+      | inl k ↦ let same : x ≡ flag = cc (cond-true (q x) (Some x) (find q xs) k) in subst (λ (f : Flag). p f ≡ true) same parts.0
+      | inr k ↦ found_passes p q xs flag parts.1 (sym (cond-false (q x) (Some x) (find q xs) k) ∙ e)
+    ]
+
+flag_keeps : (zeta : ℕ) (c : Codes) (word : List ℕ) (flag : Flag) → flag_of word ≡ Some flag → AreCodes zeta c → AreCodes zeta (with_flag zeta c flag)
+unfolding flag_of
+flag_keeps zeta c word flag e = code_keeps zeta c flag.0 (code_of zeta flag.1) (found_passes (fits zeta) (λ (f : Flag). bytes_eq word (word_of f)) FLAGS flag (all_fit zeta) e)
+
+one_keeps : (zeta i : ℕ) (c d : Codes) (word : List ℕ) (o : Option Flag) (flags : List (Option Flag)) → ((n : Codes) → AreCodes zeta n → codes_from zeta (i + 1) n flags ≡ Ok d → AreCodes zeta d) → flag_of word ≡ o → AreCodes zeta c → codes_from zeta i c (o ∷ flags) ≡ Ok d → AreCodes zeta d
+one_keeps zeta i c d word None flags rest is a e = absurd cc
+one_keeps zeta i c d word (Some flag) flags rest is a e = rest (with_flag zeta c flag) (flag_keeps zeta c word flag is a) e
+
+from_keeps : (zeta i : ℕ) (c d : Codes) (words : List (List ℕ)) → AreCodes zeta c → codes_from zeta i c (map flag_of words) ≡ Ok d → AreCodes zeta d
 from_keeps zeta i c d [] a e = subst (AreCodes zeta) (let same : c ≡ d = cc in same) a
-from_keeps zeta i c d (None ∷ flags) a e = absurd cc
-from_keeps zeta i c d (Some flag ∷ flags) a e = from_keeps zeta (i + 1) (with_flag zeta c flag) d flags (flag_keeps zeta c flag a) e
+from_keeps zeta i c d (word ∷ words) a e = one_keeps zeta i c d word (flag_of word) (map flag_of words) (λ n. from_keeps zeta (i + 1) n d words) refl a e
 
 pub codes_ok : (zeta : ℕ) (value : List ℕ) (c : Codes) → codes_of zeta value ≡ Ok c → AreCodes zeta c
 unfolding codes_of
 codes_ok zeta value c e =
-    from_keeps zeta 1 (default_codes zeta) c (map flag_of (pieces_of value)) (record { outdegrees = refl; references = refl; block_counts = refl; blocks = refl; residuals = eq-eqb zeta zeta refl; offsets = refl }) e
+    from_keeps zeta 1 (default_codes zeta) c (pieces_of value) (record { outdegrees = refl; references = refl; block_counts = refl; blocks = refl; residuals = eq-eqb zeta zeta refl; offsets = refl }) e
 
 -- within the limits no key is bad
 pub none_bad : (p : Parameters) → IsWithinLimits p → first_bad p ≡ None

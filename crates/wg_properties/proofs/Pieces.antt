@@ -4,10 +4,10 @@ use Rattle.std.specs.List.{slice_split}
 use Rattle.std.proofs.lemmas.List.{get_or-map, length-map, drop_all}
 use Rattle.wg_params.specs.Parameters.{default_codes}
 use Rattle.wg_properties.specs.Flags.{with_flag, flag_of, pieces_of, codes_from, codes_of}
+use Rattle.wg_properties.specs.Words.{Flag}
 use Rattle.wg_num.specs.Lines.{without_blanks_before, without_blanks_after}
 use Rattle.wg_properties.specs.declared.fault.PropFault.TheVariants as fault
 use Rattle.wg_params.specs.declared.layout.Codes.{Codes}
-use Rattle.wg_properties.specs.declared.flags.Flag.{Flag}
 
 abbrev pub is_bar : ℕ → Bool
 is_bar b = b == 124

@@ -9,7 +9,7 @@ use Rattle.std.proofs.lemmas.Fmt.{decimal_by_steps}
 use Rattle.std.proofs.lemmas.Slice.Eq.{bytes_eq-Decides}
 use Rattle.wg_num.specs.Decimal.{number_of}
 use Rattle.wg_num.proofs.Numbers.{number_of-decimal}
-use Rattle.wg_params.specs.Parameters.{Parameters, IsWithinLimits}
+use Rattle.wg_params.specs.Parameters.{Parameters, IsWithinLimits, layout_of}
 use Rattle.wg_params.specs.declared.key.Key.{Key}
 use Rattle.wg_params.specs.declared.key.Key.TheVariants as key
 use Rattle.wg_params.specs.declared.limits.TheConstants.{MOST_PAGES, MOST_ARCS, MOST_WINDOW, MOST_CHAIN, MOST_INTERVAL, MOST_ZETA}
@@ -17,11 +17,11 @@ use Rattle.wg_num.specs.Lines.{lines_of, is_blank, without_blanks_before}
 use Rattle.wg_properties.specs.Pairs.{first_continued, is_continued, pairs_of, value_of}
 use Rattle.wg_properties.specs.Words.{name_of, class_name}
 use Rattle.wg_properties.specs.Judged.{within, judged_class, judged_version, judged_endianness, judged_number, judged_chain, judged_zeta, judged_flags, judged, unless_continued, properties_of}
-use Rattle.wg_properties.specs.Text.{flags_text, flags_of, chain_text, written_lines, text_of}
+use Rattle.wg_properties.specs.Text.{flags_text, chain_text, written_lines, text_of}
 use Rattle.wg_properties.specs.declared.fault.PropFault.TheVariants as fault
 use Rattle.wg_properties.proofs.Letters.{every_append, every_at, every_more, is_plain, IsValue}
 use Rattle.wg_properties.proofs.Reread.{ArePlain, lines_again, AreValues, line_of, plain_lines, none_continued, pairs_again}
-use Rattle.wg_properties.proofs.Reflagged.{flags_value, codes_in, codes_again}
+use Rattle.wg_properties.proofs.Reflagged.{flags_value, codes_again}
 
 -- ---- numbers
 
@@ -90,7 +90,7 @@ chain_again (Some n) low =
 abbrev pub written_pairs : Parameters → List (Key × List ℕ)
 written_pairs p =
     (key.Version, codes "0") ∷ (key.Nodes, decimal p.nodes) ∷ (key.Arcs, decimal p.arcs) ∷ (key.WindowSize, decimal p.window) ∷ (key.MaxRefCount, chain_text p.chain)
-    ∷ (key.MinIntervalLength, decimal p.interval) ∷ (key.ZetaK, decimal p.zeta) ∷ (key.CompressionFlags, flags_text (flags_of p)) ∷ (key.GraphClass, class_name) ∷ []
+    ∷ (key.MinIntervalLength, decimal p.interval) ∷ (key.ZetaK, decimal p.zeta) ∷ (key.CompressionFlags, flags_text p) ∷ (key.GraphClass, class_name) ∷ []
 
 abbrev pub comment : List ℕ
 comment = codes "#BVGraph properties"
@@ -119,7 +119,7 @@ values_are p is = (
             (
               decimal_value p.zeta (omega (arith, is.zeta)),
               (
-                flags_value (flags_of p),
+                flags_value p,
                 (class_value, tt),
               ),
             ),
@@ -159,7 +159,7 @@ judged_again : (v : Key → Option (List ℕ)) (p : Parameters)
     → judged_class (v key.GraphClass) ≡ Ok tt → judged_version (v key.Version) ≡ Ok tt → judged_endianness (v key.Endianness) ≡ Ok tt
     → judged_number key.Nodes MOST_PAGES (v key.Nodes) ≡ Ok p.nodes → judged_number key.Arcs MOST_ARCS (v key.Arcs) ≡ Ok p.arcs → judged_number key.WindowSize MOST_WINDOW (v key.WindowSize) ≡ Ok p.window
     → judged_chain (v key.MaxRefCount) ≡ Ok p.chain → judged_number key.MinIntervalLength MOST_INTERVAL (v key.MinIntervalLength) ≡ Ok p.interval → judged_zeta (v key.ZetaK) ≡ Ok p.zeta
-    → judged_flags p.zeta (v key.CompressionFlags) ≡ Ok (codes_in p) → judged v ≡ Ok p
+    → judged_flags p.zeta (v key.CompressionFlags) ≡ Ok (layout_of p).codes → judged v ≡ Ok p
 unfolding judged
 judged_again v p e1 e2 e3 e4 e5 e6 e7 e8 e9 e10 = rw (e1, e2, e3, e4, e5, e6, e7, e8, e9, e10) refl
 

@@ -1,24 +1,27 @@
 -- Flags that were written, read again.
-use Rattle.std.proofs.Common.{◌≡◌, ℕ, suc, ◌+◌, ◌-◌, ◌<◌, ◌≤◌, Bool, true, false, not, ◌&&◌, ◌||◌, eqb, leb, List, [], ◌∷◌, ◌++◌, length, take, drop, get_or, map, reverse, refl, sym, ap, ◌∙◌, length-append, inl, inr, arith}
-use Rattle.std.specs.Prelude.{Option, Some, None, Ok, All}
-use Rattle.std.specs.List.{list_all, prefix_len, slice_split}
-use Rattle.std.proofs.lemmas.Bool.{cases_lt, and_parts, and_from, or_cases, leb-true, le-leb, eqb-true, ne_eqb, or_from, not-true, false≢true}
-use Rattle.std.proofs.lemmas.List.{append_assoc, reverse-append, take-append-le, get_or-append_right, get_or_past}
-use Rattle.std.proofs.lemmas.List.Folds.{length-prefix_len}
-use Rattle.std.proofs.lemmas.List.Sums.{AllPass-from_list_all}
+use Rattle.std.proofs.Common.{◌≡◌, ℕ, suc, ◌+◌, ◌-◌, ◌<◌, ◌≤◌, Bool, true, false, not, cond, ◌&&◌, ◌||◌, eqb, leb, ltb, List, [], ◌∷◌, ◌++◌, length, take, drop, get_or, map, reverse, refl, sym, ap, subst, ◌∙◌, length-append, inl, inr, arith}
+use Rattle.std.specs.Prelude.{Option, Some, Ok, All, filter}
+use Rattle.std.specs.List.{list_all, prefix_len, slice_split, count_by}
+use Rattle.std.proofs.lemmas.Bool.{cases_Bool, cases_lt, and_parts, and_from, or_cases, leb-true, ltb-true, le-leb, eq-eqb, eqb-true, ne_eqb, or_from, not-true}
+use Rattle.std.proofs.lemmas.List.{append_assoc, reverse-append, take-append-le, get_or-append_right, get_or_past, length-map}
+use Rattle.std.proofs.lemmas.Simd.{map-map}
+use Rattle.std.proofs.lemmas.List.Elements.{All-filter}
+use Rattle.std.proofs.lemmas.List.Folds.{length-prefix_len, list_all-map}
+use Rattle.std.proofs.lemmas.List.Sums.{AllPass-from_list_all, list_all-from_AllPass, length-filter}
 use Rattle.std.proofs.lemmas.List.Splits.{slice_split_at, slice_split_none}
-use Rattle.wg_params.specs.Codes.{is_gamma_or_delta, is_unary_gamma_or_delta, is_residual_code}
-use Rattle.wg_params.specs.Parameters.{Parameters, IsWithinLimits, default_codes}
+use Rattle.wg_params.specs.Parameters.{Parameters, AreCodes, IsWithinLimits, layout_of, default_codes}
+use Rattle.wg_params.specs.contracts.code.CodePartialEq.TheImpl as code
+use Rattle.wg_params.proofs.FieldCodes.{two_codes, three_codes, four_codes}
 use Rattle.wg_params.specs.declared.code.Code.{Code}
-use Rattle.wg_params.specs.declared.code.Code.TheVariants.{Unary, Gamma, Delta, Zeta, Nibble}
+use Rattle.wg_params.specs.declared.code.Code.TheVariants.{Unary, Zeta}
 use Rattle.wg_params.specs.declared.layout.Codes.{Codes}
-use Rattle.wg_properties.specs.declared.flags.Flag.{Flag}
-use Rattle.wg_properties.specs.declared.flags.Flag.TheVariants.{OutdegreesGamma, OutdegreesDelta, BlocksGamma, BlocksDelta, ReferencesUnary, ReferencesGamma, ReferencesDelta, BlockCountUnary, BlockCountGamma, BlockCountDelta, ResidualsGamma, ResidualsDelta, ResidualsZeta, ResidualsNibble, OffsetsGamma, OffsetsDelta}
+use Rattle.wg_properties.specs.declared.flags.Field.{Field}
+use Rattle.wg_properties.specs.declared.flags.Field.TheVariants.{Outdegrees, Blocks, References, BlockCounts, Residuals, Offsets}
+use Rattle.wg_properties.specs.declared.flags.TheConstants.{FLAGS}
 use Rattle.wg_num.specs.Lines.{is_blank, without_blanks_before, without_blanks_after}
-use Rattle.wg_properties.specs.Flags.{with_flag, flag_of, codes_from, pieces_of, codes_of}
-use Rattle.wg_properties.specs.Words.{word_of}
-use Rattle.wg_properties.specs.Text.{outdegree_flag, block_flag, reference_flag, block_count_flag, residual_flag, offset_flag, flags_of, joined_by_bars, flags_text}
-use Rattle.wg_properties.proofs.Flagged.{present}
+use Rattle.wg_properties.specs.Flags.{code_of, with_code, with_flag, flag_of, codes_from, pieces_of, codes_of}
+use Rattle.wg_properties.specs.Words.{Flag, front_of, end_of, word_of}
+use Rattle.wg_properties.specs.Text.{holds, is_written, written_flags, joined_by_bars, flags_text}
 use Rattle.wg_properties.proofs.Letters.{every_append, every_at, every_more, is_plain, blank_free_before, blank_free_after, IsValue}
 use Rattle.wg_properties.proofs.Pieces.{is_bar, trimmed, pieces_are}
 
@@ -55,75 +58,36 @@ capital_plain b h =
     plain_of : (b : ℕ) → 14 ≤ b → (b ≡ 92 → ⊥) → is_plain b ≡ true
     plain_of b low other = and_from _ _ (le-leb 14 b low) (ap not (ne_eqb b 92 other))
 
-pub word_capitals : (f : Flag) → list_all is_capital (word_of f) ≡ true
-unfolding word_of
-word_capitals OutdegreesGamma = refl
-word_capitals OutdegreesDelta = refl
-word_capitals BlocksGamma = refl
-word_capitals BlocksDelta = refl
-word_capitals ReferencesUnary = refl
-word_capitals ReferencesGamma = refl
-word_capitals ReferencesDelta = refl
-word_capitals BlockCountUnary = refl
-word_capitals BlockCountGamma = refl
-word_capitals BlockCountDelta = refl
-word_capitals ResidualsGamma = refl
-word_capitals ResidualsDelta = refl
-word_capitals ResidualsZeta = refl
-word_capitals ResidualsNibble = refl
-word_capitals OffsetsGamma = refl
-word_capitals OffsetsDelta = refl
-
-pub word_some : (f : Flag) → 0 < length (word_of f)
-unfolding word_of
-word_some OutdegreesGamma = omega arith
-word_some OutdegreesDelta = omega arith
-word_some BlocksGamma = omega arith
-word_some BlocksDelta = omega arith
-word_some ReferencesUnary = omega arith
-word_some ReferencesGamma = omega arith
-word_some ReferencesDelta = omega arith
-word_some BlockCountUnary = omega arith
-word_some BlockCountGamma = omega arith
-word_some BlockCountDelta = omega arith
-word_some ResidualsGamma = omega arith
-word_some ResidualsDelta = omega arith
-word_some ResidualsZeta = omega arith
-word_some ResidualsNibble = omega arith
-word_some OffsetsGamma = omega arith
-word_some OffsetsDelta = omega arith
-
-pub flag_again : (f : Flag) → flag_of (word_of f) ≡ Some f
-unfolding flag_of word_of
-flag_again OutdegreesGamma = refl
-flag_again OutdegreesDelta = refl
-flag_again BlocksGamma = refl
-flag_again BlocksDelta = refl
-flag_again ReferencesUnary = refl
-flag_again ReferencesGamma = refl
-flag_again ReferencesDelta = refl
-flag_again BlockCountUnary = refl
-flag_again BlockCountGamma = refl
-flag_again BlockCountDelta = refl
-flag_again ResidualsGamma = refl
-flag_again ResidualsDelta = refl
-flag_again ResidualsZeta = refl
-flag_again ResidualsNibble = refl
-flag_again OffsetsGamma = refl
-flag_again OffsetsDelta = refl
-
--- a word of capitals
 pub record IsWord (w : List ℕ) : Type 0 where
   pub some : 0 < length w
+  pub few : length w ≤ 17
   pub capitals : list_all is_capital w ≡ true
 
 abbrev pub AreWords : List (List ℕ) → Type 0
 AreWords [] = Unit {0}
 AreWords (w ∷ ws) = IsWord w × AreWords ws
 
-pub flag_words : (fs : List Flag) → AreWords (map word_of fs)
-flag_words [] = tt
-flag_words (f ∷ fs) = (record { some = word_some f; capitals = word_capitals f }, flag_words fs)
+-- a word of at most 17 capitals
+abbrev is_word : List ℕ → Bool
+is_word w = (ltb 0 (length w) && leb (length w) 17) && list_all is_capital w
+
+are_words : (ws : List (List ℕ)) → list_all is_word ws ≡ true → AreWords ws
+are_words [] h = tt
+are_words (w ∷ ws) h =
+    let parts = and_parts (is_word w) (list_all is_word ws) h in
+    let own = and_parts (ltb 0 (length w) && leb (length w) 17) (list_all is_capital w) parts.0 in
+    let size = and_parts (ltb 0 (length w)) (leb (length w) 17) own.0 in
+    (record { some = ltb-true 0 (length w) size.0; few = leb-true (length w) 17 size.1; capitals = own.1 }, are_words ws parts.1)
+
+-- the words of some of the flags
+some_words : (q : Flag → Bool) → list_all is_word (map word_of (filter q FLAGS)) ≡ true
+unfolding front_of end_of
+some_words q =
+    list_all-map is_word word_of (filter q FLAGS)
+    ∙ list_all-from_AllPass (λ (f : Flag). is_word (word_of f)) (filter q FLAGS) (All-filter q (λ (f : Flag). is_word (word_of f) ≡ true) FLAGS (AllPass-from_list_all (λ (f : Flag). is_word (word_of f)) FLAGS refl))
+
+pub written_are_words : (p : Parameters) → AreWords (map word_of (written_flags p))
+written_are_words p = are_words _ (some_words (is_written p))
 
 -- ---- blanks round a word
 
@@ -241,98 +205,131 @@ joined_last (w ∷ v ∷ vs) are =
     ap is_blank (last_append w (32 ∷ 124 ∷ 32 ∷ rest) (omega arith) ∙ last_append (32 ∷ 124 ∷ 32 ∷ []) rest (joined_some v vs are.1.0.some))
     ∙ joined_last (v ∷ vs) are.1
 
-pub flags_value : (os : List (Option Flag)) → IsValue (flags_text os)
-flags_value os = let are = flag_words (present os) in record { plain = joined_plain (map word_of (present os)) are; first = joined_first (map word_of (present os)) are; last = joined_last (map word_of (present os)) are }
+pub flags_value : (p : Parameters) → IsValue (flags_text p)
+flags_value p =
+    let are = written_are_words p in
+    let words : List (List ℕ) = map word_of (written_flags p) in
+    record { plain = joined_plain words are; first = joined_first words are; last = joined_last words are }
+
+-- ---- the flags that words name
+
+named_again : map flag_of (map word_of FLAGS) ≡ map Some FLAGS
+unfolding flag_of front_of end_of
+named_again = refl
+
+-- what two functions agree on, they agree on in a part
+agree_in_part : (f g : Flag → Option Flag) (q : Flag → Bool) (flags : List Flag) → map f flags ≡ map g flags → map f (filter q flags) ≡ map g (filter q flags)
+agree_in_part f g q [] h = refl
+agree_in_part f g q (x ∷ xs) h =
+    let here : f x ≡ g x = cc in
+    let rest : map f (filter q xs) ≡ map g (filter q xs) = agree_in_part f g q xs cc in
+    elim (cases_Bool (q x)) [ inl k ↦ rw k (λ i. here i ∷ rest i) | inr k ↦ rw k rest ]
+
+written_again : (p : Parameters) → map flag_of (map word_of (written_flags p)) ≡ map Some (written_flags p)
+written_again p =
+    map-map flag_of word_of (written_flags p)
+    ∙ agree_in_part (λ (f : Flag). flag_of (word_of f)) Some (is_written p) FLAGS (sym (map-map flag_of word_of FLAGS) ∙ named_again)
 
 -- ---- the codes that written flags give
 
-with_flags : ℕ → Codes → List Flag → Codes
+abbrev with_flags : ℕ → Codes → List Flag → Codes
 with_flags zeta c [] = c
 with_flags zeta c (f ∷ fs) = with_flags zeta (with_flag zeta c f) fs
 
-known_flags : (zeta i : ℕ) (c : Codes) (fs : List Flag) → codes_from zeta i c (map flag_of (map word_of fs)) ≡ Ok (with_flags zeta c fs)
-unfolding with_flags
+known_flags : (zeta i : ℕ) (c : Codes) (fs : List Flag) → codes_from zeta i c (map Some fs) ≡ Ok (with_flags zeta c fs)
 known_flags zeta i c [] = refl
-known_flags zeta i c (f ∷ fs) = ap (λ o. codes_from zeta i c (o ∷ map flag_of (map word_of fs))) (flag_again f) ∙ known_flags zeta (i + 1) (with_flag zeta c f) fs
+known_flags zeta i c (f ∷ fs) = known_flags zeta (i + 1) (with_flag zeta c f) fs
 
-abbrev with_option : ℕ → Codes → Option Flag → Codes
-with_option zeta c None = c
-with_option zeta c (Some f) = with_flag zeta c f
+-- the code of a field
+abbrev code_at : Codes → Field → Code
+code_at c Outdegrees = c.outdegrees
+code_at c Blocks = c.blocks
+code_at c References = c.references
+code_at c BlockCounts = c.block_counts
+code_at c Residuals = c.residuals
+code_at c Offsets = c.offsets
 
-next_option : (zeta : ℕ) (c : Codes) (o : Option Flag) (os : List (Option Flag)) → with_flags zeta c (present (o ∷ os)) ≡ with_flags zeta (with_option zeta c o) (present os)
-unfolding with_flags
-next_option zeta c None os = refl
-next_option zeta c (Some f) os = refl
+-- the codes after some of the flags, each of which is taken or leaves its field as it is
+abbrev with_some : (Flag → Bool) → ℕ → Codes → List Flag → Codes
+with_some q zeta c [] = c
+with_some q zeta c (f ∷ fs) = with_some q zeta (with_code c f.0 (cond (q f) (code_of zeta f.1) (code_at c f.0))) fs
 
-outdegrees_again : (zeta : ℕ) (c : Codes) (code : Code) → c.outdegrees ≡ Gamma → is_gamma_or_delta code ≡ true → with_option zeta c (outdegree_flag code) ≡ record c { outdegrees = code }
-outdegrees_again zeta c Gamma e h = λ i. record c { outdegrees = e i }
-outdegrees_again zeta c Delta e h = refl
-outdegrees_again zeta c Unary e h = absurd (false≢true h)
-outdegrees_again zeta c (Zeta k) e h = absurd (false≢true h)
-outdegrees_again zeta c Nibble e h = absurd (false≢true h)
+left_alone : (c : Codes) (field : Field) → with_code c field (code_at c field) ≡ c
+left_alone c Outdegrees = refl
+left_alone c _ = refl
 
-blocks_again : (zeta : ℕ) (c : Codes) (code : Code) → c.blocks ≡ Gamma → is_gamma_or_delta code ≡ true → with_option zeta c (block_flag code) ≡ record c { blocks = code }
-blocks_again zeta c Gamma e h = λ i. record c { blocks = e i }
-blocks_again zeta c Delta e h = refl
-blocks_again zeta c Unary e h = absurd (false≢true h)
-blocks_again zeta c (Zeta k) e h = absurd (false≢true h)
-blocks_again zeta c Nibble e h = absurd (false≢true h)
+taken_or_left : (q : Flag → Bool) (zeta : ℕ) (c : Codes) (fs : List Flag) → with_flags zeta c (filter q fs) ≡ with_some q zeta c fs
+taken_or_left q zeta c [] = refl
+taken_or_left q zeta c (f ∷ fs) =
+    elim (cases_Bool (q f)) [
+      | inl k ↦ rw k (taken_or_left q zeta (with_flag zeta c f) fs)
+      | inr k ↦ rw (k, left_alone c f.0) (taken_or_left q zeta c fs)
+    ]
 
-references_again : (zeta : ℕ) (c : Codes) (code : Code) → c.references ≡ Unary → is_unary_gamma_or_delta code ≡ true → with_option zeta c (reference_flag code) ≡ record c { references = code }
-references_again zeta c Unary e h = λ i. record c { references = e i }
-references_again zeta c Gamma e h = refl
-references_again zeta c Delta e h = refl
-references_again zeta c (Zeta k) e h = absurd (false≢true h)
-references_again zeta c Nibble e h = absurd (false≢true h)
+-- whether a flag says a code of these that is not the default
+abbrev is_other : ℕ → Codes → Flag → Bool
+is_other zeta c flag = holds zeta c flag && not (holds zeta (default_codes zeta) flag)
 
-block_counts_again : (zeta : ℕ) (c : Codes) (code : Code) → c.block_counts ≡ Gamma → is_unary_gamma_or_delta code ≡ true → with_option zeta c (block_count_flag code) ≡ record c { block_counts = code }
-block_counts_again zeta c Gamma e h = λ i. record c { block_counts = e i }
-block_counts_again zeta c Unary e h = refl
-block_counts_again zeta c Delta e h = refl
-block_counts_again zeta c (Zeta k) e h = absurd (false≢true h)
-block_counts_again zeta c Nibble e h = absurd (false≢true h)
+-- what the flags of codes make of the defaults
+abbrev remade : ℕ → Codes → Codes
+remade zeta c = with_some (is_other zeta c) zeta (default_codes zeta) FLAGS
 
-residuals_again : (zeta : ℕ) (c : Codes) (code : Code) → c.residuals ≡ Zeta zeta → is_residual_code zeta code ≡ true → with_option zeta c (residual_flag code) ≡ record c { residuals = code }
-residuals_again zeta c Gamma e h = refl
-residuals_again zeta c Delta e h = refl
-residuals_again zeta c Nibble e h = refl
-residuals_again zeta c (Zeta k) e h = let same : Zeta zeta ≡ Zeta k = ap Zeta (sym (eqb-true k zeta h)) in let whole : c.residuals ≡ Zeta k = e ∙ same in λ i. record c { residuals = whole i }
-residuals_again zeta c Unary e h = absurd (false≢true h)
+-- the flags of a field
+abbrev flags_at : Field → List Flag
+flags_at Outdegrees = take 2 FLAGS
+flags_at Blocks = take 2 (drop 2 FLAGS)
+flags_at References = take 3 (drop 4 FLAGS)
+flags_at BlockCounts = take 3 (drop 7 FLAGS)
+flags_at Residuals = take 4 (drop 10 FLAGS)
+flags_at Offsets = drop 14 FLAGS
 
-offsets_again : (zeta : ℕ) (c : Codes) (code : Code) → c.offsets ≡ Gamma → is_gamma_or_delta code ≡ true → with_option zeta c (offset_flag code) ≡ record c { offsets = code }
-offsets_again zeta c Gamma e h = λ i. record c { offsets = e i }
-offsets_again zeta c Delta e h = refl
-offsets_again zeta c Unary e h = absurd (false≢true h)
-offsets_again zeta c (Zeta k) e h = absurd (false≢true h)
-offsets_again zeta c Nibble e h = absurd (false≢true h)
+same_code : (c : Code) → code.ghosts.eq c c ≡ true
+same_code Unary = refl
+same_code (Zeta k) = eq-eqb k k refl
+same_code _ = refl
 
-abbrev pub codes_in : Parameters → Codes
-codes_in p = record { outdegrees = p.outdegrees; references = p.references; block_counts = p.block_counts; blocks = p.blocks; residuals = p.residuals; offsets = p.offsets }
+-- a field's code is made again, and by at most one flag
+abbrev IsRemade : ℕ → Codes → Field → Code → Type 0
+IsRemade zeta c field code =
+    ◌≡◌ {A = Code × Bool} (code_at (remade zeta (with_code c field code)) field, leb (count_by (is_other zeta (with_code c field code)) (flags_at field)) 1) (code, true)
 
-options_again : (p : Parameters) → IsWithinLimits p → with_flags p.zeta (default_codes p.zeta) (present (flags_of p)) ≡ codes_in p
-unfolding with_flags
-options_again p is =
-    let z : ℕ = p.zeta in
-    let c0 : Codes = default_codes z in
-    let c1 : Codes = record c0 { outdegrees = p.outdegrees } in
-    let c2 : Codes = record c1 { blocks = p.blocks } in
-    let c3 : Codes = record c2 { references = p.references } in
-    let c4 : Codes = record c3 { block_counts = p.block_counts } in
-    let c5 : Codes = record c4 { residuals = p.residuals } in
-    let o6 : List (Option Flag) = offset_flag p.offsets ∷ [] in
-    let o5 : List (Option Flag) = residual_flag p.residuals ∷ o6 in
-    let o4 : List (Option Flag) = block_count_flag p.block_counts ∷ o5 in
-    let o3 : List (Option Flag) = reference_flag p.references ∷ o4 in
-    let o2 : List (Option Flag) = block_flag p.blocks ∷ o3 in
-    next_option z c0 (outdegree_flag p.outdegrees) o2 ∙ ap (λ c. with_flags z c (present o2)) (outdegrees_again z c0 p.outdegrees refl is.outdegrees)
-    ∙ next_option z c1 (block_flag p.blocks) o3 ∙ ap (λ c. with_flags z c (present o3)) (blocks_again z c1 p.blocks refl is.blocks)
-    ∙ next_option z c2 (reference_flag p.references) o4 ∙ ap (λ c. with_flags z c (present o4)) (references_again z c2 p.references refl is.references)
-    ∙ next_option z c3 (block_count_flag p.block_counts) o5 ∙ ap (λ c. with_flags z c (present o5)) (block_counts_again z c3 p.block_counts refl is.block_counts)
-    ∙ next_option z c4 (residual_flag p.residuals) o6 ∙ ap (λ c. with_flags z c (present o6)) (residuals_again z c4 p.residuals refl is.residuals)
-    ∙ next_option z c5 (offset_flag p.offsets) [] ∙ offsets_again z c5 p.offsets refl is.offsets
+all_remade : (zeta : ℕ) (c : Codes) → AreCodes zeta c → (field : Field) → IsRemade zeta c field (code_at c field)
+all_remade zeta c is Outdegrees = two_codes (IsRemade zeta c Outdegrees) c.outdegrees is.outdegrees (simp same_code) (simp same_code)
+all_remade zeta c is Blocks = two_codes (IsRemade zeta c Blocks) c.blocks is.blocks (simp same_code) (simp same_code)
+all_remade zeta c is References = three_codes (IsRemade zeta c References) c.references is.references (simp same_code) (simp same_code) (simp same_code)
+all_remade zeta c is BlockCounts = three_codes (IsRemade zeta c BlockCounts) c.block_counts is.block_counts (simp same_code) (simp same_code) (simp same_code)
+all_remade zeta c is Residuals = four_codes (IsRemade zeta c Residuals) zeta c.residuals is.residuals (simp same_code) (simp same_code) (simp same_code) (simp same_code)
+all_remade zeta c is Offsets = two_codes (IsRemade zeta c Offsets) c.offsets is.offsets (simp same_code) (simp same_code)
 
-pub codes_again : (p : Parameters) → IsWithinLimits p → codes_of p.zeta (flags_text (flags_of p)) ≡ Ok (codes_in p)
+remade_same : (zeta : ℕ) (c : Codes) → AreCodes zeta c → remade zeta c ≡ c
+remade_same zeta c is =
+    let own = all_remade zeta c is in
+    λ i. record {
+      outdegrees = (own Outdegrees i).0;
+      references = (own References i).0;
+      block_counts = (own BlockCounts i).0;
+      blocks = (own Blocks i).0;
+      residuals = (own Residuals i).0;
+      offsets = (own Offsets i).0;
+    }
+
+written_codes : (p : Parameters) → IsWithinLimits p → AreCodes p.zeta (layout_of p).codes
+written_codes p is = assumption is
+
+few_at : (p : Parameters) → IsWithinLimits p → (field : Field) → count_by (is_written p) (flags_at field) ≤ 1
+few_at p is field =
+    subst (λ c. count_by (is_other p.zeta c) (flags_at field) ≤ 1) (left_alone (layout_of p).codes field)
+    (leb-true _ 1 (ap (λ (x : Code × Bool). x.1) (all_remade p.zeta (layout_of p).codes (written_codes p is) field)))
+
+pub few_words : (p : Parameters) → IsWithinLimits p → length (map word_of (written_flags p)) ≤ 6
+few_words p is =
+    let few = few_at p is in
+    omega (arith, length-map (written_flags p) word_of, length-filter (is_written p) FLAGS, few Outdegrees, few Blocks, few References, few BlockCounts, few Residuals, few Offsets)
+
+pub codes_again : (p : Parameters) → IsWithinLimits p → codes_of p.zeta (flags_text p) ≡ Ok (layout_of p).codes
 unfolding codes_of
 codes_again p is =
-    ap (λ words. codes_from p.zeta 1 (default_codes p.zeta) (map flag_of words)) (words_again (map word_of (present (flags_of p))) (flag_words (present (flags_of p))))
-    ∙ known_flags p.zeta 1 (default_codes p.zeta) (present (flags_of p)) ∙ ap Ok (options_again p is)
+    ap (λ words. codes_from p.zeta 1 (default_codes p.zeta) (map flag_of words)) (words_again (map word_of (written_flags p)) (written_are_words p))
+    ∙ ap (codes_from p.zeta 1 (default_codes p.zeta)) (written_again p)
+    ∙ known_flags p.zeta 1 (default_codes p.zeta) (written_flags p)
+    ∙ ap Ok (taken_or_left (is_written p) p.zeta (default_codes p.zeta) FLAGS ∙ remade_same p.zeta (layout_of p).codes (written_codes p is))

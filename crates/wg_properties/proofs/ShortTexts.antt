@@ -1,52 +1,22 @@
 -- A text that was written is short.
 use Rattle.std.proofs.Common.{◌≡◌, ℕ, ◌+◌, ◌*◌, ◌^◌, ◌<◌, ◌≤◌, List, [], ◌∷◌, length, length-append, map, ap, arith}
 use Rattle.std.specs.Prelude.{Option, Some, None, decimal, unwrap_or}
-use Rattle.std.specs.List.{flat_map, filter_map}
+use Rattle.std.specs.List.{flat_map}
 use Rattle.std.proofs.lemmas.Fmt.{length-decimal-le}
 use Rattle.wg_params.specs.Parameters.{Parameters, IsWithinLimits}
 use Rattle.wg_params.specs.declared.key.Key.{Key}
-use Rattle.wg_params.specs.declared.key.Key.TheVariants as key
 use Rattle.wg_params.specs.declared.limits.TheConstants.{MOST_CHAIN}
 use Rattle.wg_properties.specs.Words.{name_of, word_of, class_name}
-use Rattle.wg_properties.specs.Text.{chain_text, ended, flags_of, flags_text, joined_by_bars, text_of}
-use Rattle.wg_properties.specs.declared.flags.Flag.{Flag}
-use Rattle.wg_properties.specs.declared.flags.Flag.TheVariants as flag
+use Rattle.wg_properties.specs.Text.{chain_text, ended, written_flags, flags_text, joined_by_bars, text_of}
 use Rattle.wg_properties.proofs.Reread.{line_of}
+use Rattle.wg_properties.proofs.Reflagged.{AreWords, written_are_words, few_words}
 use Rattle.wg_properties.proofs.Readback.{comment, lines_are, written_pairs}
 
 -- ---- words
 
 short_name : (k : Key) → length (name_of k) ≤ 17
 unfolding name_of
-short_name key.GraphClass = omega arith
-short_name key.Version = omega arith
-short_name key.Endianness = omega arith
-short_name key.Nodes = omega arith
-short_name key.Arcs = omega arith
-short_name key.WindowSize = omega arith
-short_name key.MaxRefCount = omega arith
-short_name key.MinIntervalLength = omega arith
-short_name key.ZetaK = omega arith
-short_name key.CompressionFlags = omega arith
-
-short_word : (f : Flag) → length (word_of f) ≤ 17
-unfolding word_of
-short_word flag.OutdegreesGamma = omega arith
-short_word flag.OutdegreesDelta = omega arith
-short_word flag.BlocksGamma = omega arith
-short_word flag.BlocksDelta = omega arith
-short_word flag.ReferencesUnary = omega arith
-short_word flag.ReferencesGamma = omega arith
-short_word flag.ReferencesDelta = omega arith
-short_word flag.BlockCountUnary = omega arith
-short_word flag.BlockCountGamma = omega arith
-short_word flag.BlockCountDelta = omega arith
-short_word flag.ResidualsGamma = omega arith
-short_word flag.ResidualsDelta = omega arith
-short_word flag.ResidualsZeta = omega arith
-short_word flag.ResidualsNibble = omega arith
-short_word flag.OffsetsGamma = omega arith
-short_word flag.OffsetsDelta = omega arith
+short_name k = grind arith
 
 -- ---- values
 
@@ -62,10 +32,12 @@ joined_more : (w : List ℕ) (ws : List (List ℕ)) → length (joined_by_bars (
 joined_more w [] = omega arith
 joined_more w (v ∷ vs) = omega (arith, length-append w (32 ∷ 124 ∷ 32 ∷ joined_by_bars (v ∷ vs)))
 
-short_flags : (flags : List (Option Flag)) → length (flags_text flags) ≤ 20 * length flags
-short_flags [] = omega arith
-short_flags (None ∷ flags) = omega (arith, short_flags flags)
-short_flags (Some f ∷ flags) = omega (arith, joined_more (word_of f) (map word_of (filter_map (λ o. o) flags)), short_word f, short_flags flags)
+joined_short : (ws : List (List ℕ)) → AreWords ws → length (joined_by_bars ws) ≤ 20 * length ws
+joined_short [] are = omega arith
+joined_short (w ∷ ws) are = omega (arith, joined_more w ws, are.0.few, joined_short ws are.1)
+
+short_flags : (p : Parameters) → IsWithinLimits p → length (flags_text p) ≤ 120
+short_flags p is = omega (arith, joined_short (map word_of (written_flags p)) (written_are_words p), few_words p is)
 
 short_class : length class_name ≤ 29
 unfolding class_name
@@ -100,7 +72,7 @@ short_values p is =
       short_chain p.chain is.chain,
       short_number p.interval (omega (arith, is.interval)),
       short_number p.zeta (omega (arith, is.zeta)),
-      short_flags (flags_of p),
+      short_flags p is,
       short_class,
     )
 

@@ -2,35 +2,40 @@
 use Rattle.std.specs.Prelude.{ℕ, ◌+◌, ◌==◌, List, [], ◌∷◌, map, find, Option, Some, None, Result, Ok, Err}
 use Rattle.std.specs.List.{slice_split}
 use Rattle.std.specs.Str.{bytes_eq}
+use Rattle.wg_params.specs.declared.code.Code.{Code}
 use Rattle.wg_params.specs.declared.code.Code.TheVariants.{Unary, Gamma, Delta, Zeta, Nibble}
 use Rattle.wg_properties.specs.declared.fault.PropFault.{PropFault}
 use Rattle.wg_properties.specs.declared.fault.PropFault.TheVariants as fault
 use Rattle.wg_params.specs.declared.layout.Codes.{Codes}
 use Rattle.wg_params.specs.Parameters.{default_codes}
-use Rattle.wg_properties.specs.declared.flags.Flag.{Flag}
-use Rattle.wg_properties.specs.declared.flags.Flag.TheVariants.{OutdegreesGamma, OutdegreesDelta, BlocksGamma, BlocksDelta, ReferencesUnary, ReferencesGamma, ReferencesDelta, BlockCountUnary, BlockCountGamma, BlockCountDelta, ResidualsGamma, ResidualsDelta, ResidualsZeta, ResidualsNibble, OffsetsGamma, OffsetsDelta}
+use Rattle.wg_properties.specs.declared.flags.Field.{Field}
+use Rattle.wg_properties.specs.declared.flags.Field.TheVariants.{Outdegrees, Blocks, References, BlockCounts, Residuals, Offsets}
+use Rattle.wg_properties.specs.declared.flags.Form.{Form}
+use Rattle.wg_properties.specs.declared.flags.Form.TheVariants as form
 use Rattle.wg_properties.specs.declared.flags.TheConstants.{FLAGS}
 use Rattle.wg_num.specs.Lines.{without_blanks_before, without_blanks_after}
-use Rattle.wg_properties.specs.Words.{word_of}
+use Rattle.wg_properties.specs.Words.{Flag, word_of}
+
+-- the code of a form, with this parameter k of zeta
+abbrev pub code_of : ℕ → Form → Code
+code_of zeta form.Unary = Unary
+code_of zeta form.Gamma = Gamma
+code_of zeta form.Delta = Delta
+code_of zeta form.Zeta = Zeta zeta
+code_of zeta form.Nibble = Nibble
+
+-- the codes after that of one field is changed
+abbrev pub with_code : Codes → Field → Code → Codes
+with_code c Outdegrees code = record c { outdegrees = code }
+with_code c Blocks code = record c { blocks = code }
+with_code c References code = record c { references = code }
+with_code c BlockCounts code = record c { block_counts = code }
+with_code c Residuals code = record c { residuals = code }
+with_code c Offsets code = record c { offsets = code }
 
 -- the codes after one more flag
 abbrev pub with_flag : ℕ → Codes → Flag → Codes
-with_flag zeta c OutdegreesGamma = record c { outdegrees = Gamma }
-with_flag zeta c OutdegreesDelta = record c { outdegrees = Delta }
-with_flag zeta c BlocksGamma = record c { blocks = Gamma }
-with_flag zeta c BlocksDelta = record c { blocks = Delta }
-with_flag zeta c ReferencesUnary = record c { references = Unary }
-with_flag zeta c ReferencesGamma = record c { references = Gamma }
-with_flag zeta c ReferencesDelta = record c { references = Delta }
-with_flag zeta c BlockCountUnary = record c { block_counts = Unary }
-with_flag zeta c BlockCountGamma = record c { block_counts = Gamma }
-with_flag zeta c BlockCountDelta = record c { block_counts = Delta }
-with_flag zeta c ResidualsGamma = record c { residuals = Gamma }
-with_flag zeta c ResidualsDelta = record c { residuals = Delta }
-with_flag zeta c ResidualsZeta = record c { residuals = Zeta zeta }
-with_flag zeta c ResidualsNibble = record c { residuals = Nibble }
-with_flag zeta c OffsetsGamma = record c { offsets = Gamma }
-with_flag zeta c OffsetsDelta = record c { offsets = Delta }
+with_flag zeta c flag = with_code c flag.0 (code_of zeta flag.1)
 
 -- the flag that a word names
 unfoldable pub flag_of : List ℕ → Option Flag

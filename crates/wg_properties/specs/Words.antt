@@ -1,27 +1,34 @@
 -- The words of a properties text.
-use Rattle.std.specs.Prelude.{ℕ, List, codes}
+use Rattle.std.specs.Prelude.{ℕ, List, ◌++◌, codes}
 unfoldable pub use Rattle.wg_params.specs.Keys.{name_of}
-use Rattle.wg_properties.specs.declared.flags.Flag.{Flag}
-use Rattle.wg_properties.specs.declared.flags.Flag.TheVariants.{OutdegreesGamma, OutdegreesDelta, BlocksGamma, BlocksDelta, ReferencesUnary, ReferencesGamma, ReferencesDelta, BlockCountUnary, BlockCountGamma, BlockCountDelta, ResidualsGamma, ResidualsDelta, ResidualsZeta, ResidualsNibble, OffsetsGamma, OffsetsDelta}
+use Rattle.wg_properties.specs.declared.flags.Field.{Field}
+use Rattle.wg_properties.specs.declared.flags.Field.TheVariants.{Outdegrees, Blocks, References, BlockCounts, Residuals, Offsets}
+use Rattle.wg_properties.specs.declared.flags.Form.{Form}
+use Rattle.wg_properties.specs.declared.flags.Form.TheVariants.{Unary, Gamma, Delta, Zeta, Nibble}
 
--- the word of each compression flag
-unfoldable pub word_of : Flag → List ℕ
-word_of OutdegreesGamma = codes "OUTDEGREES_GAMMA"
-word_of OutdegreesDelta = codes "OUTDEGREES_DELTA"
-word_of BlocksGamma = codes "BLOCKS_GAMMA"
-word_of BlocksDelta = codes "BLOCKS_DELTA"
-word_of ReferencesUnary = codes "REFERENCES_UNARY"
-word_of ReferencesGamma = codes "REFERENCES_GAMMA"
-word_of ReferencesDelta = codes "REFERENCES_DELTA"
-word_of BlockCountUnary = codes "BLOCK_COUNT_UNARY"
-word_of BlockCountGamma = codes "BLOCK_COUNT_GAMMA"
-word_of BlockCountDelta = codes "BLOCK_COUNT_DELTA"
-word_of ResidualsGamma = codes "RESIDUALS_GAMMA"
-word_of ResidualsDelta = codes "RESIDUALS_DELTA"
-word_of ResidualsZeta = codes "RESIDUALS_ZETA"
-word_of ResidualsNibble = codes "RESIDUALS_NIBBLE"
-word_of OffsetsGamma = codes "OFFSETS_GAMMA"
-word_of OffsetsDelta = codes "OFFSETS_DELTA"
+-- a flag: a field and the form of its code
+abbrev pub Flag : Type 0
+Flag = Field × Form
+
+-- the front of its word
+unfoldable pub front_of : Field → List ℕ
+front_of Outdegrees = codes "OUTDEGREES_"
+front_of Blocks = codes "BLOCKS_"
+front_of References = codes "REFERENCES_"
+front_of BlockCounts = codes "BLOCK_COUNT_"
+front_of Residuals = codes "RESIDUALS_"
+front_of Offsets = codes "OFFSETS_"
+
+-- and the end
+unfoldable pub end_of : Form → List ℕ
+end_of Unary = codes "UNARY"
+end_of Gamma = codes "GAMMA"
+end_of Delta = codes "DELTA"
+end_of Zeta = codes "ZETA"
+end_of Nibble = codes "NIBBLE"
+
+abbrev pub word_of : Flag → List ℕ
+word_of flag = front_of flag.0 ++ end_of flag.1
 
 -- the class of graphs in this format, and the same as some write it
 unfoldable pub class_name : List ℕ

@@ -1,74 +1,95 @@
 ghost use Rattle.std.specs.Prelude.{◌≡◌};
-ghost use Rattle.wg_properties.specs.Flags.{with_flag, flag_of, codes_of};
-ghost use Rattle.wg_properties.specs.Words.{word_of};
+ghost use Rattle.std.specs.Str.{bytes_eq};
+ghost use Rattle.wg_properties.specs.Flags.{code_of, with_flag, flag_of, codes_of};
+ghost use Rattle.wg_properties.specs.Words.{front_of, end_of, word_of};
 
 use crate::PropFault;
 use wg_num::{without_blanks_after, without_blanks_before};
 use wg_params::{Code, Codes};
 
-/// A compression flag: a field, and the code that it is in.
+/// A field whose code a flag says.
 #[derive(Clone, Copy)]
-pub enum Flag {
-    OutdegreesGamma,
-    OutdegreesDelta,
-    BlocksGamma,
-    BlocksDelta,
-    ReferencesUnary,
-    ReferencesGamma,
-    ReferencesDelta,
-    BlockCountUnary,
-    BlockCountGamma,
-    BlockCountDelta,
-    ResidualsGamma,
-    ResidualsDelta,
-    ResidualsZeta,
-    ResidualsNibble,
-    OffsetsGamma,
-    OffsetsDelta,
+pub enum Field {
+    Outdegrees,
+    Blocks,
+    References,
+    BlockCounts,
+    Residuals,
+    Offsets,
 }
 
-/// All flags, field by field.
+/// A code without its parameter.
+#[derive(Clone, Copy)]
+pub enum Form {
+    Unary,
+    Gamma,
+    Delta,
+    Zeta,
+    Nibble,
+}
+
+/// A compression flag: a field and the form of its code.
+pub type Flag = (Field, Form);
+
+/// All flags, field by field, in the order in which they are written.
 pub const FLAGS: [Flag; 16] = [
-    Flag::OutdegreesGamma,
-    Flag::OutdegreesDelta,
-    Flag::BlocksGamma,
-    Flag::BlocksDelta,
-    Flag::ReferencesUnary,
-    Flag::ReferencesGamma,
-    Flag::ReferencesDelta,
-    Flag::BlockCountUnary,
-    Flag::BlockCountGamma,
-    Flag::BlockCountDelta,
-    Flag::ResidualsGamma,
-    Flag::ResidualsDelta,
-    Flag::ResidualsZeta,
-    Flag::ResidualsNibble,
-    Flag::OffsetsGamma,
-    Flag::OffsetsDelta,
+    (Field::Outdegrees, Form::Gamma),
+    (Field::Outdegrees, Form::Delta),
+    (Field::Blocks, Form::Gamma),
+    (Field::Blocks, Form::Delta),
+    (Field::References, Form::Unary),
+    (Field::References, Form::Gamma),
+    (Field::References, Form::Delta),
+    (Field::BlockCounts, Form::Unary),
+    (Field::BlockCounts, Form::Gamma),
+    (Field::BlockCounts, Form::Delta),
+    (Field::Residuals, Form::Gamma),
+    (Field::Residuals, Form::Delta),
+    (Field::Residuals, Form::Zeta),
+    (Field::Residuals, Form::Nibble),
+    (Field::Offsets, Form::Gamma),
+    (Field::Offsets, Form::Delta),
 ];
 
-/// The word that stands for a flag.
-#[tactic(auto, unfolding(crate::specs::Words::word_of))]
-pub fn word_of(flag: Flag) -> &'static [u8]
-    ensures { result.now ≡ word_of flag }
+/// The front of a flag's word, which names the field.
+#[tactic(auto, unfolding(crate::specs::Words::front_of))]
+pub fn front_of(field: Field) -> &'static [u8]
+    ensures { result.now ≡ front_of field }
 {
-    match flag {
-        Flag::OutdegreesGamma => b"OUTDEGREES_GAMMA",
-        Flag::OutdegreesDelta => b"OUTDEGREES_DELTA",
-        Flag::BlocksGamma => b"BLOCKS_GAMMA",
-        Flag::BlocksDelta => b"BLOCKS_DELTA",
-        Flag::ReferencesUnary => b"REFERENCES_UNARY",
-        Flag::ReferencesGamma => b"REFERENCES_GAMMA",
-        Flag::ReferencesDelta => b"REFERENCES_DELTA",
-        Flag::BlockCountUnary => b"BLOCK_COUNT_UNARY",
-        Flag::BlockCountGamma => b"BLOCK_COUNT_GAMMA",
-        Flag::BlockCountDelta => b"BLOCK_COUNT_DELTA",
-        Flag::ResidualsGamma => b"RESIDUALS_GAMMA",
-        Flag::ResidualsDelta => b"RESIDUALS_DELTA",
-        Flag::ResidualsZeta => b"RESIDUALS_ZETA",
-        Flag::ResidualsNibble => b"RESIDUALS_NIBBLE",
-        Flag::OffsetsGamma => b"OFFSETS_GAMMA",
-        Flag::OffsetsDelta => b"OFFSETS_DELTA",
+    match field {
+        Field::Outdegrees => b"OUTDEGREES_",
+        Field::Blocks => b"BLOCKS_",
+        Field::References => b"REFERENCES_",
+        Field::BlockCounts => b"BLOCK_COUNT_",
+        Field::Residuals => b"RESIDUALS_",
+        Field::Offsets => b"OFFSETS_",
+    }
+}
+
+/// The end of a flag's word, which names the code.
+#[tactic(auto, unfolding(crate::specs::Words::end_of))]
+pub fn end_of(form: Form) -> &'static [u8]
+    ensures { result.now ≡ end_of form }
+{
+    match form {
+        Form::Unary => b"UNARY",
+        Form::Gamma => b"GAMMA",
+        Form::Delta => b"DELTA",
+        Form::Zeta => b"ZETA",
+        Form::Nibble => b"NIBBLE",
+    }
+}
+
+// The code of a form, in an archive with this parameter k of zeta.
+fn code_of(zeta: u32, form: Form) -> Code
+    ensures { result ≡ code_of zeta form }
+{
+    match form {
+        Form::Unary => Code::Unary,
+        Form::Gamma => Code::Gamma,
+        Form::Delta => Code::Delta,
+        Form::Zeta => Code::Zeta(zeta),
+        Form::Nibble => Code::Nibble,
     }
 }
 
@@ -76,26 +97,27 @@ pub fn word_of(flag: Flag) -> &'static [u8]
 pub fn with_flag(zeta: u32, codes: Codes, flag: Flag) -> Codes
     ensures { result ≡ with_flag zeta codes flag }
 {
+    let (field, form) = flag;
+    let code = code_of(zeta, form);
     let mut new = codes;
-    match flag {
-        Flag::OutdegreesGamma => new.outdegrees = Code::Gamma,
-        Flag::OutdegreesDelta => new.outdegrees = Code::Delta,
-        Flag::BlocksGamma => new.blocks = Code::Gamma,
-        Flag::BlocksDelta => new.blocks = Code::Delta,
-        Flag::ReferencesUnary => new.references = Code::Unary,
-        Flag::ReferencesGamma => new.references = Code::Gamma,
-        Flag::ReferencesDelta => new.references = Code::Delta,
-        Flag::BlockCountUnary => new.block_counts = Code::Unary,
-        Flag::BlockCountGamma => new.block_counts = Code::Gamma,
-        Flag::BlockCountDelta => new.block_counts = Code::Delta,
-        Flag::ResidualsGamma => new.residuals = Code::Gamma,
-        Flag::ResidualsDelta => new.residuals = Code::Delta,
-        Flag::ResidualsZeta => new.residuals = Code::Zeta(zeta),
-        Flag::ResidualsNibble => new.residuals = Code::Nibble,
-        Flag::OffsetsGamma => new.offsets = Code::Gamma,
-        Flag::OffsetsDelta => new.offsets = Code::Delta,
+    match field {
+        Field::Outdegrees => new.outdegrees = code,
+        Field::Blocks => new.blocks = code,
+        Field::References => new.references = code,
+        Field::BlockCounts => new.block_counts = code,
+        Field::Residuals => new.residuals = code,
+        Field::Offsets => new.offsets = code,
     }
     new
+}
+
+fn is_word_of(flag: Flag, word: &[u8]) -> bool
+    ensures { result ≡ bytes_eq word.now (word_of flag) }
+{
+    match word.strip_prefix(front_of(flag.0)) {
+        Some(end) => end == end_of(flag.1),
+        None => false,
+    }
 }
 
 /// The flag that a word names.
@@ -103,7 +125,7 @@ pub fn with_flag(zeta: u32, codes: Codes, flag: Flag) -> Codes
 pub fn flag_of(word: &[u8]) -> Option<Flag>
     ensures { result ≡ flag_of word.now }
 {
-    FLAGS.iter().copied().find(|flag| word == word_of(*flag))
+    FLAGS.iter().copied().find(|flag| is_word_of(*flag, word))
 }
 
 /// The codes that the flags of a value give, if each is known.

@@ -1,107 +1,47 @@
 ghost use Rattle.std.specs.Prelude.{◌≡◌, [], ◌∷◌, ◌++◌, decimal, OnOk, IfOk, if◌then◌else◌};
 ghost use Rattle.wg_params.specs.declared.key.Key.TheVariants as key;
-ghost use Rattle.wg_properties.specs.Text.{outdegree_flag, block_flag, reference_flag, block_count_flag, residual_flag, offset_flag, flags_of, flags_text, chain_text, pair, ended, text_of};
+ghost use Rattle.wg_properties.specs.Text.{holds, is_written, flags_text, chain_text, pair, ended, text_of};
 ghost use Rattle.wg_properties.specs.Words.{word_of};
 
-use crate::flags::{Flag, word_of};
+use crate::flags::{FLAGS, Flag, end_of, front_of, with_flag};
 use std::alloc::{AllocError, Global};
 use wg_num::decimal_into;
 use wg_outside::List8;
-use wg_params::{Code, Key, Params, key_name};
+use wg_params::{Codes, Key, Params, key_name};
 
-fn outdegree_flag(code: Code) -> Option<Flag>
-    ensures { result ≡ outdegree_flag code }
+// Whether the codes are as the flag says: it changes none of them.
+fn holds(zeta: u32, codes: Codes, flag: Flag) -> bool
+    ensures { result ≡ holds zeta codes flag }
 {
-    match code {
-        Code::Delta => Some(Flag::OutdegreesDelta),
-        Code::Gamma | Code::Unary | Code::Zeta(_) | Code::Nibble => None,
-    }
+    with_flag(zeta, codes, flag) == codes
 }
 
-fn block_flag(code: Code) -> Option<Flag>
-    ensures { result ≡ block_flag code }
+// Whether the flag holds of the parameters, and not of the defaults.
+fn is_written(params: &Params, flag: Flag) -> bool
+    ensures { result ≡ is_written params.now flag }
 {
-    match code {
-        Code::Delta => Some(Flag::BlocksDelta),
-        Code::Gamma | Code::Unary | Code::Zeta(_) | Code::Nibble => None,
-    }
-}
-
-fn reference_flag(code: Code) -> Option<Flag>
-    ensures { result ≡ reference_flag code }
-{
-    match code {
-        Code::Gamma => Some(Flag::ReferencesGamma),
-        Code::Delta => Some(Flag::ReferencesDelta),
-        Code::Unary | Code::Zeta(_) | Code::Nibble => None,
-    }
-}
-
-fn block_count_flag(code: Code) -> Option<Flag>
-    ensures { result ≡ block_count_flag code }
-{
-    match code {
-        Code::Unary => Some(Flag::BlockCountUnary),
-        Code::Delta => Some(Flag::BlockCountDelta),
-        Code::Gamma | Code::Zeta(_) | Code::Nibble => None,
-    }
-}
-
-fn residual_flag(code: Code) -> Option<Flag>
-    ensures { result ≡ residual_flag code }
-{
-    match code {
-        Code::Gamma => Some(Flag::ResidualsGamma),
-        Code::Delta => Some(Flag::ResidualsDelta),
-        Code::Nibble => Some(Flag::ResidualsNibble),
-        Code::Unary | Code::Zeta(_) => None,
-    }
-}
-
-fn offset_flag(code: Code) -> Option<Flag>
-    ensures { result ≡ offset_flag code }
-{
-    match code {
-        Code::Delta => Some(Flag::OffsetsDelta),
-        Code::Gamma | Code::Unary | Code::Zeta(_) | Code::Nibble => None,
-    }
-}
-
-// The flag of each field, if its code is not the default.
-fn flags_of(params: &Params) -> [Option<Flag>; 6]
-    ensures { result ≡ flags_of params.now }
-{
-    [
-        outdegree_flag(params.outdegrees()),
-        block_flag(params.blocks()),
-        reference_flag(params.references()),
-        block_count_flag(params.block_counts()),
-        residual_flag(params.residuals()),
-        offset_flag(params.offsets()),
-    ]
+    let zeta = params.zeta();
+    holds(zeta, params.layout().codes, flag) && !holds(zeta, Codes::defaults(zeta), flag)
 }
 
 fn add_flag(text: &mut List8, flag: Flag, is_first: bool) -> Result<(), AllocError>
     ensures { OnOk result (text.new ≡ text.old ++ (if is_first then word_of flag else 32 ∷ 124 ∷ 32 ∷ word_of flag)) }
 {
-    if is_first {
-        return text.extend(word_of(flag));
+    if !is_first {
+        text.extend(b" | ")?;
     }
-    text.extend(b" | ")?;
-    text.extend(word_of(flag))
+    text.extend(front_of(flag.0))?;
+    text.extend(end_of(flag.1))
 }
 
-fn add_flags(text: &mut List8, flags: &[Option<Flag>]) -> Result<(), AllocError>
-    ensures { OnOk result (text.new ≡ text.old ++ flags_text flags.now) }
+fn add_flags(text: &mut List8, params: &Params) -> Result<(), AllocError>
+    ensures { OnOk result (text.new ≡ text.old ++ flags_text params.now) }
 {
     let mut is_first = true;
-    for flag in flags {
-        match flag {
-            Some(flag) => {
-                add_flag(text, *flag, is_first)?;
-                is_first = false;
-            }
-            None => {}
+    for flag in FLAGS {
+        if is_written(params, flag) {
+            add_flag(text, flag, is_first)?;
+            is_first = false;
         }
     }
     Ok(())
@@ -135,11 +75,11 @@ fn add_chain(text: &mut List8, chain: Option<u64>) -> Result<(), AllocError>
 
 fn add_codes(text: &mut List8, params: &Params) -> Result<(), AllocError>
     ensures { OnOk result (text.new ≡ text.old
-        ++ ended (pair key.CompressionFlags (flags_text (flags_of params.now)))) }
+        ++ ended (pair key.CompressionFlags (flags_text params.now))) }
 {
     text.extend(key_name(Key::CompressionFlags).as_bytes())?;
     text.extend(b"=")?;
-    add_flags(text, &flags_of(params))?;
+    add_flags(text, params)?;
     text.extend(b"\n")
 }
 

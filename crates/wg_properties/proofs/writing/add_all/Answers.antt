@@ -3,7 +3,7 @@ use Rattle.std.specs.Prelude.{decimal}
 use Rattle.std.specs.List.{flat_map}
 use Rattle.wg_params.specs.declared.key.Key.TheVariants as key
 use Rattle.wg_properties.specs.Words.{class_name}
-use Rattle.wg_properties.specs.Text.{pair, ended, chain_text, flags_text, flags_of, written_lines}
+use Rattle.wg_properties.specs.Text.{pair, ended, chain_text, flags_text, written_lines}
 use Rattle.wg_properties.proofs.Lined.{line_more}
 use Rattle.wg_properties.proofs.writing.add_all.Goals as goal
 
@@ -27,6 +27,6 @@ returns c =
     let t7 = line_more l6 _ _ (pair key.MinIntervalLength (decimal c.interval.result)) (pair key.MinIntervalLength (decimal p.interval)) t6 c.in_ok-add_number-4.ensures (ap (λ n. pair key.MinIntervalLength (decimal n)) c.interval.ensures.value) in
     let l8 : List (List ℕ) = l7 ++ pair key.ZetaK (decimal p.zeta) ∷ [] in
     let t8 = line_more l7 _ _ (pair key.ZetaK (decimal c.from.result)) (pair key.ZetaK (decimal p.zeta)) t7 c.in_ok-add_number-5.ensures (ap (λ n. pair key.ZetaK (decimal n)) (c.from.ensures ∙ c.zeta.ensures.value)) in
-    let l9 : List (List ℕ) = l8 ++ pair key.CompressionFlags (flags_text (flags_of p)) ∷ [] in
-    let t9 = line_more l8 _ _ (pair key.CompressionFlags (flags_text (flags_of p))) _ t8 c.in_ok-add_codes.ensures refl in
+    let l9 : List (List ℕ) = l8 ++ pair key.CompressionFlags (flags_text p) ∷ [] in
+    let t9 = line_more l8 _ _ (pair key.CompressionFlags (flags_text p)) _ t8 c.in_ok-add_codes.ensures refl in
     line_more l9 _ _ (pair key.GraphClass class_name) _ t9 c.in_ok-add_line-2.ensures refl
