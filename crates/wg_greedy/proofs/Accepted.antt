@@ -3,14 +3,14 @@ use Rattle.std.proofs.Common.{◌≡◌, ℕ, ◌+◌, ◌<◌, ◌≤◌, Bool,
 use Rattle.std.specs.Prelude.{All}
 use Rattle.std.specs.List.{flat_map}
 use Rattle.std.proofs.Math.Seq.{drop-append_seam}
-use Rattle.std.proofs.lemmas.Bool.{le-ltb, ne_eqb, true≢false}
+use Rattle.std.proofs.lemmas.Bool.{le-ltb, ne_eqb}
 use Rattle.std.proofs.lemmas.List.{append_assoc, append-nil}
 use Rattle.std.proofs.lemmas.List.Elements.{All-nil}
 use Rattle.wg_bits.specs.Written.{padding}
 use Rattle.wg_params.specs.declared.code.Code.{Code}
-use Rattle.wg_params.specs.declared.code.Code.TheVariants.{Unary, Gamma, Delta, Zeta, Nibble}
 use Rattle.wg_params.specs.Codes.{is_gamma_or_delta}
 use Rattle.wg_params.specs.Parameters.{Parameters, IsWithinLimits}
+use Rattle.wg_params.proofs.FieldCodes.{two_codes}
 use Rattle.wg_codes.specs.declared.outcome.Read.TheVariants.{Value}
 use Rattle.wg_codes.specs.Reading.{Reads}
 use Rattle.wg_codes.specs.Words.{word, top}
@@ -37,11 +37,7 @@ filled_tail bits =
 -- ---- offsets
 
 top_high : (c : Code) (v : ℕ) → is_gamma_or_delta c ≡ true → v ≤ MOST_PLACE → v ≤ top c
-top_high Gamma v is le = omega arith
-top_high Delta v is le = omega arith
-top_high Unary v is le = absurd (true≢false (sym is))
-top_high (Zeta k) v is le = absurd (true≢false (sym is))
-top_high Nibble v is le = absurd (true≢false (sym is))
+top_high c v is le = two_codes (λ code. v ≤ top code) c is (omega arith) (omega arith)
 
 word_stands : (c : Code) (v at : ℕ) (bits before more : List Bool) → is_gamma_or_delta c ≡ true → v ≤ MOST_PLACE → bits ≡ before ++ (word c v ++ more) → at ≡ length before → Reads (word c) (top c) (drop at bits) (Value v)
 word_stands c v at bits before more is low here start =

@@ -4,14 +4,15 @@ use Rattle.std.proofs.Common.{◌≡◌, ℕ, zero, suc, ◌+◌, ◌-◌, ◌*�
 use Rattle.std.specs.Prelude.{pos, negsuc, ◌-ℤ◌, filter, Option, Some, None}
 use Rattle.std.specs.List.{list_all, flat_map, range_with_len}
 use Rattle.std.proofs.lemmas.Int.{ints}
-use Rattle.std.proofs.lemmas.Bool.{cases_lt, cases_Bool, and_from, le-leb, leb-true, eqb-true, true≢false}
+use Rattle.std.proofs.lemmas.Bool.{cases_lt, cases_Bool, and_from, le-leb, leb-true}
 use Rattle.std.proofs.lemmas.List.Folds.{list_all-append}
 use Rattle.wg_graph.specs.Numbers.{is_in}
 use Rattle.wg_graph.specs.Ascending.{Ascends, Below}
 use Rattle.wg_params.specs.declared.code.Code.{Code}
-use Rattle.wg_params.specs.declared.code.Code.TheVariants.{Unary, Gamma, Delta, Zeta, Nibble}
+use Rattle.wg_params.specs.declared.code.Code.TheVariants.{Gamma, Zeta}
 use Rattle.wg_params.specs.Codes.{is_gamma_or_delta, is_residual_code}
 use Rattle.wg_params.specs.Parameters.{Parameters, IsWithinLimits}
+use Rattle.wg_params.proofs.FieldCodes.{two_codes, four_codes}
 use Rattle.wg_codes.specs.Words.{top}
 use Rattle.wg_codes.specs.Fold.{folded}
 use Rattle.wg_intervals.specs.declared.run.Run.{Run}
@@ -32,11 +33,7 @@ gamma_holds : (v : ℕ) → v ≤ 2 ^ 62 → leb v (top Gamma) ≡ true
 gamma_holds v le = le-leb v (2 ^ 63 - 2) (omega arith)
 
 outdegree_holds : (code : Code) (v : ℕ) → is_gamma_or_delta code ≡ true → v ≤ 2 ^ 62 → leb v (top code) ≡ true
-outdegree_holds Gamma v is le = gamma_holds v le
-outdegree_holds Delta v is le = gamma_holds v le
-outdegree_holds Unary v is le = absurd (true≢false (sym is))
-outdegree_holds (Zeta k) v is le = absurd (true≢false (sym is))
-outdegree_holds Nibble v is le = absurd (true≢false (sym is))
+outdegree_holds code v is le = two_codes (λ c. leb v (top c) ≡ true) code is (gamma_holds v le) (gamma_holds v le)
 
 none_holds : (code : Code) → leb 0 (top code) ≡ true
 none_holds code = le-leb 0 (top code) (omega arith)
@@ -55,11 +52,8 @@ zeta_holds k v some low le =
     le-leb v (2 ^ (k * (63 / k)) - 2) (omega (arith, high, le))
 
 residual_holds : (zeta : ℕ) (code : Code) (v : ℕ) → 1 ≤ zeta → zeta ≤ 31 → is_residual_code zeta code ≡ true → v ≤ 2 ^ 38 → leb v (top code) ≡ true
-residual_holds zeta Gamma v some low is le = gamma_holds v (omega arith)
-residual_holds zeta Delta v some low is le = gamma_holds v (omega arith)
-residual_holds zeta Nibble v some low is le = le-leb v (2 ^ 63 - 1) (omega arith)
-residual_holds zeta (Zeta k) v some low is le = let same : k ≡ zeta = eqb-true k zeta is in zeta_holds k v (omega arith) (omega arith) le
-residual_holds zeta Unary v some low is le = absurd (true≢false (sym is))
+residual_holds zeta code v some low is le =
+    four_codes (λ c. leb v (top c) ≡ true) zeta code is (gamma_holds v (omega arith)) (gamma_holds v (omega arith)) (zeta_holds zeta v some low le) (le-leb v (2 ^ 63 - 1) (omega arith))
 
 -- ---- gaps
 

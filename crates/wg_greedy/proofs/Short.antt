@@ -1,17 +1,18 @@
 -- No record is long: each word but those of the reference and of the block count has at most 2 ^ 8 bits, whatever the
 -- value.
-use Rattle.std.proofs.Common.{◌≡◌, ℕ, zero, suc, ◌+◌, ◌-◌, ◌*◌, ◌/◌, ◌^◌, ◌<◌, ◌≤◌, ltb, Bool, true, not, ◌&&◌, List, [], ◌∷◌, ◌++◌, length, length-append, map, sum, refl, sym, ap, inl, inr, arith}
+use Rattle.std.proofs.Common.{◌≡◌, ℕ, zero, suc, ◌+◌, ◌-◌, ◌*◌, ◌/◌, ◌^◌, ◌<◌, ◌≤◌, ltb, Bool, true, not, ◌&&◌, List, [], ◌∷◌, ◌++◌, length, length-append, map, sum, refl, ap, inl, inr, arith}
 use Rattle.std.specs.Prelude.{filter, Option, Some, None}
 use Rattle.std.proofs.Math.Nat.{div-mul-le_self, div-le_self}
-use Rattle.std.proofs.lemmas.Bool.{cases_Bool, eqb-true, true≢false}
+use Rattle.std.proofs.lemmas.Bool.{cases_Bool}
 use Rattle.wg_bits.specs.Bits.{low_bits}
 use Rattle.wg_bits.proofs.LowBits.{length-low_bits}
 use Rattle.wg_graph.specs.Numbers.{is_in}
 use Rattle.wg_graph.specs.Ascending.{Ascends, Below}
 use Rattle.wg_params.specs.declared.code.Code.{Code}
-use Rattle.wg_params.specs.declared.code.Code.TheVariants.{Unary, Gamma, Delta, Zeta, Nibble}
+use Rattle.wg_params.specs.declared.code.Code.TheVariants.{Gamma}
 use Rattle.wg_params.specs.Codes.{is_gamma_or_delta, is_unary_gamma_or_delta, is_residual_code}
 use Rattle.wg_params.specs.Parameters.{Parameters, IsWithinLimits}
+use Rattle.wg_params.proofs.FieldCodes.{two_codes, three_codes, four_codes}
 use Rattle.wg_codes.specs.Words.{highest, gamma, delta, zeta, nibble, digits, shortened, word}
 use Rattle.wg_codes.proofs.UnaryWords.{length-unary}
 use Rattle.wg_codes.proofs.Lengths.{length-gamma, length-delta}
@@ -64,26 +65,16 @@ zeta_short k v few =
 
 -- outdegrees and blocks
 pub outdegree_short : (code : Code) (v : ℕ) → is_gamma_or_delta code ≡ true → length (word code v) ≤ 2 ^ 8
-outdegree_short Gamma v is = omega (arith, gamma_short v)
-outdegree_short Delta v is = delta_short v
-outdegree_short Unary v is = absurd (true≢false (sym is))
-outdegree_short (Zeta k) v is = absurd (true≢false (sym is))
-outdegree_short Nibble v is = absurd (true≢false (sym is))
+outdegree_short code v is = two_codes (λ c. length (word c v) ≤ 2 ^ 8) code is (omega (arith, gamma_short v)) (delta_short v)
 
 -- references and block counts
 count_short : (code : Code) (v : ℕ) → is_unary_gamma_or_delta code ≡ true → length (word code v) ≤ 2 ^ 8 + v
-count_short Gamma v is = omega (arith, gamma_short v)
-count_short Delta v is = omega (arith, delta_short v)
-count_short Unary v is = omega (arith, length-unary v)
-count_short (Zeta k) v is = absurd (true≢false (sym is))
-count_short Nibble v is = absurd (true≢false (sym is))
+count_short code v is =
+    three_codes (λ c. length (word c v) ≤ 2 ^ 8 + v) code is (omega (arith, length-unary v)) (omega (arith, gamma_short v)) (omega (arith, delta_short v))
 
 residual_short : (zeta : ℕ) (code : Code) (v : ℕ) → zeta ≤ 31 → is_residual_code zeta code ≡ true → length (word code v) ≤ 2 ^ 8
-residual_short z Gamma v few is = omega (arith, gamma_short v)
-residual_short z Delta v few is = delta_short v
-residual_short z Nibble v few is = nibble_short v
-residual_short z (Zeta k) v few is = let same : k ≡ z = eqb-true k z is in zeta_short k v (omega arith)
-residual_short z Unary v few is = absurd (true≢false (sym is))
+residual_short zeta code v few is =
+    four_codes (λ c. length (word c v) ≤ 2 ^ 8) zeta code is (omega (arith, gamma_short v)) (delta_short v) (zeta_short zeta v few) (nibble_short v)
 
 -- ---- fields
 

@@ -2,13 +2,14 @@
 use Rattle.std.proofs.Common.{◌≡◌, ℕ, ◌+◌, ◌*◌, ◌^◌, ◌<◌, ◌≤◌, ltb, Bool, true, ◌&&◌, List, [], ◌∷◌, ◌++◌, length, length-append, refl, sym, subst, inl, inr, arith}
 use Rattle.std.specs.Prelude.{filter, None}
 use Rattle.std.specs.List.{flat_map}
-use Rattle.std.proofs.lemmas.Bool.{cases_Bool, true≢false}
+use Rattle.std.proofs.lemmas.Bool.{cases_Bool}
 use Rattle.std.proofs.lemmas.List.FromFn.{length-range_with_len}
 use Rattle.wg_graph.specs.Ascending.{Ascends}
 use Rattle.wg_params.specs.declared.code.Code.{Code}
-use Rattle.wg_params.specs.declared.code.Code.TheVariants.{Unary, Gamma, Delta, Zeta, Nibble}
+use Rattle.wg_params.specs.declared.code.Code.TheVariants.{Gamma}
 use Rattle.wg_params.specs.Codes.{is_unary_gamma_or_delta}
 use Rattle.wg_params.specs.Parameters.{Parameters, IsWithinLimits}
+use Rattle.wg_params.proofs.FieldCodes.{three_codes}
 use Rattle.wg_codes.specs.Words.{highest, word}
 use Rattle.wg_codes.proofs.Highest.{highest_is}
 use Rattle.wg_codes.proofs.UnaryWords.{length-unary}
@@ -31,11 +32,8 @@ one_lowest : 0 ≡ highest (0 + 1)
 one_lowest = sym (highest_is 1 0 (omega arith) (omega arith) (omega arith))
 
 nothing_short : (code : Code) → is_unary_gamma_or_delta code ≡ true → length (word code 0) ≤ 1
-nothing_short Unary is = omega (arith, length-unary 0)
-nothing_short Gamma is = omega (arith, length-gamma 0 0 one_lowest)
-nothing_short Delta is = omega (arith, length-delta 0 0 one_lowest, length-gamma 0 0 one_lowest)
-nothing_short (Zeta k) is = absurd (true≢false (sym is))
-nothing_short Nibble is = absurd (true≢false (sym is))
+nothing_short code is =
+    three_codes (λ c. length (word c 0) ≤ 1) code is (omega (arith, length-unary 0)) (omega (arith, length-gamma 0 0 one_lowest)) (omega (arith, length-delta 0 0 one_lowest, length-gamma 0 0 one_lowest))
 
 no_reference_bits : (p : Parameters) → IsWithinLimits p → length (bits_of_fields (reference_fields p 0)) ≤ 1
 no_reference_bits p within =
