@@ -3,12 +3,13 @@
 use Rattle.std.proofs.Common.{◌≡◌, ℕ, ◌+◌, ◌≤◌, ltb, true, false, List, [], ◌∷◌, ◌++◌, length, refl, sym, ap, ◌∙◌, inl, inr, arith}
 use Rattle.std.specs.Prelude.{Some, None}
 use Rattle.std.specs.Int.Count.{count_leading_zeros}
-use Rattle.std.proofs.lemmas.Bool.{cases_Bool, or_parts, cond-true, cond-false, true≢false}
+use Rattle.std.proofs.lemmas.Bool.{cases_Bool, or_parts, cond-true, cond-false}
 use Rattle.wg_graph.specs.Numbers.{is_in}
 use Rattle.wg_params.specs.declared.code.Code.{Code}
-use Rattle.wg_params.specs.declared.code.Code.TheVariants.{Unary, Gamma, Delta, Zeta, Nibble}
+use Rattle.wg_params.specs.declared.code.Code.TheVariants.{Gamma, Delta}
 use Rattle.wg_params.specs.Codes.{is_unary_gamma_or_delta}
 use Rattle.wg_params.specs.Parameters.{Parameters, IsWithinLimits}
+use Rattle.wg_params.proofs.FieldCodes.{three_codes}
 use Rattle.wg_codes.specs.Words.{highest, word}
 use Rattle.wg_codes.proofs.UnaryWords.{length-unary}
 use Rattle.wg_codes.proofs.Lengths.{length-gamma, length-delta}
@@ -36,11 +37,9 @@ unfolding highest count_leading_zeros
 lowest = refl
 
 shortest_word : (code : Code) (r : ℕ) → is_unary_gamma_or_delta code ≡ true → length (word code 0) ≤ length (word code r)
-shortest_word Unary r is = omega (arith, length-unary 0, length-unary r)
-shortest_word Gamma r is = omega (arith, length-gamma 0 0 lowest, word_some Gamma r)
-shortest_word Delta r is = omega (arith, length-delta 0 0 lowest, length-gamma 0 0 lowest, word_some Delta r)
-shortest_word (Zeta k) r is = absurd (true≢false (sym is))
-shortest_word Nibble r is = absurd (true≢false (sym is))
+shortest_word code r is =
+    three_codes (λ c. length (word c 0) ≤ length (word c r)) code is (omega (arith, length-unary 0, length-unary r)) (omega (arith, length-gamma 0 0 lowest, word_some Gamma r))
+    (omega (arith, length-delta 0 0 lowest, length-gamma 0 0 lowest, word_some Delta r))
 
 shortest_reference : (p : Parameters) (r : ℕ) → IsWithinLimits p → length (bits_of_fields (reference_fields p 0)) ≤ length (bits_of_fields (reference_fields p r))
 shortest_reference p r within =
