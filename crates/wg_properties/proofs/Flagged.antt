@@ -16,9 +16,7 @@ is_nil (x ∷ xs) = false
 joined_push : (words : List (List ℕ)) (word : List ℕ) → joined_by_bars (words ++ word ∷ []) ≡ joined_by_bars words ++ cond (is_nil words) word (32 ∷ 124 ∷ 32 ∷ word)
 joined_push [] word = refl
 joined_push (first ∷ []) word = refl
-joined_push (first ∷ next ∷ words) word =
-    ap (λ text. first ++ (32 ∷ 124 ∷ 32 ∷ text)) (joined_push (next ∷ words) word)
-    ∙ sym (append_assoc first (32 ∷ 124 ∷ 32 ∷ joined_by_bars (next ∷ words)) (32 ∷ 124 ∷ 32 ∷ word))
+joined_push (first ∷ next ∷ words) word = rw (joined_push (next ∷ words) word) (sym (append_assoc first (32 ∷ 124 ∷ 32 ∷ joined_by_bars (next ∷ words)) (32 ∷ 124 ∷ 32 ∷ word)))
 
 push_some : (words : List (List ℕ)) (word : List ℕ) → is_nil (words ++ word ∷ []) ≡ false
 push_some [] word = refl
@@ -34,14 +32,8 @@ pub record Flagged (before : List ℕ) (p : Parameters) (i : ℕ) (is_first : Bo
   pub first_is : is_first ≡ is_nil (written_words p i)
 
 next_words : (p : Parameters) (i : ℕ) (d : Flag) (b : Bool) → i < length FLAGS → is_written p (get_or FLAGS i d) ≡ b → written_words p (i + 1) ≡ written_words p i ++ cond b (word_of (get_or FLAGS i d) ∷ []) []
-next_words p i d b lt is = at b (filter_more (is_written p) FLAGS i d lt ∙ ap (λ b. old ++ cond b (get_or FLAGS i d ∷ []) []) is)
-  where
-    old : List Flag
-    old = filter (is_written p) (take i FLAGS)
-
-    at : (b : Bool) → filter (is_written p) (take (i + 1) FLAGS) ≡ old ++ cond b (get_or FLAGS i d ∷ []) [] → written_words p (i + 1) ≡ map word_of old ++ cond b (word_of (get_or FLAGS i d) ∷ []) []
-    at true e = ap (map word_of) e ∙ map_push word_of old (get_or FLAGS i d)
-    at false e = ap (map word_of) (e ∙ append-nil old) ∙ sym (append-nil (map word_of old))
+next_words p i d true lt is = let more = filter_more (is_written p) FLAGS i d lt in rw (more, is, map_push)
+next_words p i d false lt is = let more = filter_more (is_written p) FLAGS i d lt in rw (more, is, append-nil, append-nil)
 
 pub absent : (before : List ℕ) (p : Parameters) (i : ℕ) (is_first : Bool) (d : Flag) (text : List ℕ) → i < length FLAGS → is_written p (get_or FLAGS i d) ≡ false → Flagged before p i is_first text → Flagged before p (i + 1) is_first text
 absent before p i is_first d text lt is f =

@@ -1,6 +1,6 @@
 -- Fronts of a text that was written: they lack the class.
 use Rattle.std.proofs.Common.{◌≡◌, ℕ, zero, suc, ◌+◌, ◌-◌, ◌<◌, ◌≤◌, Bool, true, false, not, ◌&&◌, cond, eqb, List, [], ◌∷◌, ◌++◌, length, take, map, refl, sym, ap, subst, ◌∙◌, length-append, inl, inr, arith, codes}
-use Rattle.std.specs.Prelude.{Option, Some, None, Result, Ok, Err, filter, IsErr, decimal}
+use Rattle.std.specs.Prelude.{Option, None, Result, Ok, Err, filter, IsErr, decimal}
 use Rattle.std.specs.Result.{is_err}
 use Rattle.std.specs.List.{list_all, flat_map, position_or_len, last_or}
 use Rattle.std.specs.Str.{bytes_eq}
@@ -13,9 +13,9 @@ use Rattle.wg_params.specs.Parameters.{Parameters, IsWithinLimits}
 use Rattle.wg_params.specs.declared.key.Key.{Key}
 use Rattle.wg_params.specs.declared.key.Key.TheVariants as key
 use Rattle.wg_num.specs.Lines.{lines_of, without_empty_end, is_blank, without_blanks_before, without_blanks_after}
-use Rattle.wg_properties.specs.Pairs.{first_continued, is_skipped, ends_key, key_in, value_in, pairs_of, values_of, value_of}
+use Rattle.wg_properties.specs.Pairs.{is_skipped, ends_key, key_in, value_in, pairs_of, values_of}
 use Rattle.wg_properties.specs.Words.{name_of, class_name, long_class_name}
-use Rattle.wg_properties.specs.Judged.{judged_class, judged, unless_continued, properties_of}
+use Rattle.wg_properties.specs.Judged.{judged_class, judged, properties_of}
 use Rattle.wg_properties.specs.Text.{pair, chain_text, flags_text, ended, written_lines, text_of}
 use Rattle.wg_properties.specs.declared.fault.PropFault.{PropFault}
 use Rattle.wg_num.proofs.Cuts.{not_the_end, some_line}
@@ -62,9 +62,7 @@ classes lines = values_of (name_of key.GraphClass) (pairs_of lines)
 
 key_more : (b : ℕ) (bs : List ℕ) → ends_key b ≡ false → key_in (b ∷ bs) ≡ b ∷ key_in bs
 unfolding key_in
-key_more b bs h =
-    let rest : ℕ = position_or_len ends_key bs in
-    ap (λ n. take n (b ∷ bs)) (cond-true (not (ends_key b)) (1 + rest) 0 (not_from_false _ h) ∙ (let e : 1 + rest ≡ suc rest = omega arith in e))
+key_more b bs h = grind arith
 
 key_none : (b : ℕ) (bs : List ℕ) → ends_key b ≡ true → key_in (b ∷ bs) ≡ []
 unfolding key_in
@@ -72,12 +70,7 @@ key_none b bs h = ap (λ n. take n (b ∷ bs)) (cond-false (not (ends_key b)) (1
 
 other_key : (b : ℕ) (bs : List ℕ) → is_other b ≡ true → bytes_eq (key_in (b ∷ bs)) (name_of key.GraphClass) ≡ false
 unfolding name_of
-other_key b bs h =
-    let far : eqb b 103 ≡ false = not-true (eqb b 103) (and_parts (not (is_blank b)) (not (eqb b 103)) h).1 in
-    elim (cases_Bool (ends_key b)) [
-      | inl k ↦ ap (λ x. bytes_eq x (name_of key.GraphClass)) (key_none b bs k)
-      | inr k ↦ ap (λ x. bytes_eq x (name_of key.GraphClass)) (key_more b bs k) ∙ and_left (eqb b 103) _ far
-    ]
+other_key b bs h = grind (arith, cases_Bool, and_parts, and_left, not-true, key_more, key_none)
 
 abbrev kept_lines : List (List ℕ) → List (List ℕ)
 kept_lines lines = filter (λ l. not (is_skipped l)) (map without_blanks_before lines)
@@ -134,8 +127,7 @@ record IsFront (lines : List (List ℕ)) (n : ℕ) : Type 0 where
   pub part_is : IsOther part
 
 take_none : (n : ℕ) → take {A = ℕ} n [] ≡ []
-take_none zero = refl
-take_none (suc n) = refl
+take_none n = grind arith
 
 front_of : (n : ℕ) (lines : List (List ℕ)) → AreOther lines → IsFront lines n
 front_of n [] are = record { whole = []; part = []; is = take_none n; others = tt; part_is = record { plain = refl; other = refl } }
@@ -172,10 +164,6 @@ no_class whole (b ∷ bs) are is =
 
 -- ---- validated
 
-unless_refused : (first : Option ℕ) (r : Result Parameters PropFault) → is_err r ≡ true → is_err (unless_continued first r) ≡ true
-unless_refused None r h = h
-unless_refused (Some n) r h = refl
-
 class_refused : (v : Key → Option (List ℕ)) → is_err (judged_class (v key.GraphClass)) ≡ true → is_err (judged v) ≡ true
 unfolding judged
 class_refused v h = by_answer (judged_class (v key.GraphClass)) refl h
@@ -186,7 +174,7 @@ class_refused v h = by_answer (judged_class (v key.GraphClass)) refl h
 
 text_refused : (bytes : List ℕ) → is_err (judged_class (last_or None (classes (lines_of bytes)))) ≡ true → IsErr (properties_of bytes)
 unfolding properties_of
-text_refused bytes h = unless_refused (first_continued (lines_of bytes)) _ (class_refused (λ k. value_of (name_of k) (pairs_of (lines_of bytes))) h)
+text_refused bytes h = grind (arith, class_refused)
 
 -- ---- the whole text
 

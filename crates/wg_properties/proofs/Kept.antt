@@ -8,7 +8,7 @@ use Rattle.std.proofs.lemmas.Option.{none-some, same_Some}
 use Rattle.std.proofs.lemmas.Slice.Eq.{bytes_eq-Decides}
 use Rattle.std.proofs.lemmas.List.{get_or-map, map-set, get_or-set_same, get_or-set_other, length-map}
 use Rattle.wg_params.specs.declared.key.Key.{Key}
-use Rattle.wg_params.specs.declared.key.Key.TheVariants.{GraphClass, Version, Endianness, Nodes, Arcs, WindowSize, MaxRefCount, MinIntervalLength, ZetaK, CompressionFlags}
+use Rattle.wg_params.specs.declared.key.Key.TheVariants.{GraphClass}
 use Rattle.wg_properties.specs.declared.keys.TheConstants.{KEYS}
 use Rattle.wg_num.specs.Lines.{without_blanks_before}
 use Rattle.wg_properties.specs.Pairs.{is_skipped, key_in, value_in, pairs_of, values_of, key_of}
@@ -16,16 +16,7 @@ use Rattle.wg_properties.specs.Values.{place_of, value_at}
 use Rattle.wg_properties.specs.Words.{name_of}
 
 key_at : (k : Key) → get_or KEYS (place_of k) GraphClass ≡ k
-key_at GraphClass = refl
-key_at Version = refl
-key_at Endianness = refl
-key_at Nodes = refl
-key_at Arcs = refl
-key_at WindowSize = refl
-key_at MaxRefCount = refl
-key_at MinIntervalLength = refl
-key_at ZetaK = refl
-key_at CompressionFlags = refl
+key_at k = grind arith
 
 -- no two keys have one place
 pub place_injective : (k j : Key) → place_of k ≡ place_of j → k ≡ j
@@ -38,10 +29,7 @@ pub kept_get : (values : Kept) (k : Key) (n : ℕ) → n ≡ place_of k → n < 
 kept_get values k n e h = sym (get_or-map option_copied values n None None h) ∙ ap (λ m. get_or (map option_copied values) m None) e
 
 pub kept_set : (values : Kept) (k : Key) (n : ℕ) (v : Bor (List ℕ)) → n ≡ place_of k → n < length values → value_at (map option_copied (set values n (Some v))) k ≡ Some v.now
-kept_set values k n v e h =
-    ap (λ vs. get_or vs (place_of k) None) (map-set option_copied values n (Some v))
-    ∙ ap (λ m. get_or (set (map option_copied values) n (Some v.now)) m None) (sym e)
-    ∙ get_or-set_same (map option_copied values) n (Some v.now) None (omega (arith, length-map values option_copied))
+kept_set values k n v e h = grind (arith, map-set, get_or-set_same, length-map)
 
 pub kept_other : (values : Kept) (k j : Key) (n : ℕ) (v : Bor (List ℕ)) → n ≡ place_of k → j ≢ k → value_at (map option_copied (set values n (Some v))) j ≡ value_at (map option_copied values) j
 kept_other values k j n v e other =
@@ -51,16 +39,7 @@ kept_other values k j n v e other =
 -- each key's name is that key's alone
 key_of-name_of : (k : Key) → key_of (name_of k) ≡ Some k
 unfolding key_of name_of
-key_of-name_of GraphClass = refl
-key_of-name_of Version = refl
-key_of-name_of Endianness = refl
-key_of-name_of Nodes = refl
-key_of-name_of Arcs = refl
-key_of-name_of WindowSize = refl
-key_of-name_of MaxRefCount = refl
-key_of-name_of MinIntervalLength = refl
-key_of-name_of ZetaK = refl
-key_of-name_of CompressionFlags = refl
+key_of-name_of k = grind arith
 
 found_passes : {X : Type 0} (p : X → Bool) (xs : List X) (x : X) → find p xs ≡ Some x → p x ≡ true
 found_passes p [] x e = absurd (none-some x e)

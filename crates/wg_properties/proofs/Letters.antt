@@ -1,5 +1,5 @@
 -- Lines of letters and values, and what is read of them.
-use Rattle.std.proofs.Common.{◌≡◌, ℕ, ◌-◌, ◌<◌, ◌≤◌, Bool, true, false, not, ◌&&◌, eqb, leb, List, [], ◌∷◌, ◌++◌, length, take, get_or, reverse, refl, sym, ap, ◌∙◌, inl, inr, arith}
+use Rattle.std.proofs.Common.{◌≡◌, ℕ, ◌-◌, ◌<◌, ◌≤◌, Bool, true, false, not, ◌&&◌, eqb, leb, List, [], ◌∷◌, ◌++◌, length, take, get_or, reverse, refl, sym, ap, ◌∙◌, arith}
 use Rattle.std.specs.List.{list_all, prefix_len}
 use Rattle.std.specs.Str.Lines.{strip_carriage_return}
 use Rattle.std.proofs.lemmas.Bool.{cases_lt, and_parts, and_from, and_right, leb-true, le-leb, not-true, ne_eqb}
@@ -38,8 +38,7 @@ letter_plain b h = let low = letter_low b h in and_from _ _ (let e : leb 14 b �
 
 pub blank_free_before : (v : List ℕ) → is_blank (get_or v 0 0) ≡ false → without_blanks_before v ≡ v
 unfolding without_blanks_before
-blank_free_before [] h = refl
-blank_free_before (b ∷ bs) h = rw h refl
+blank_free_before v h = grind arith
 
 pub blank_free_after : (v : List ℕ) → is_blank (get_or v (length v - 1) 0) ≡ false → without_blanks_after v ≡ v
 unfolding without_blanks_after
@@ -48,8 +47,7 @@ blank_free_after (b ∷ bs) h =
     let v : List ℕ = b ∷ bs in
     let n : ℕ = length v in
     let none : prefix_len is_blank (reverse v) ≡ 0 = ap (λ xs. prefix_len is_blank (reverse xs)) (sym (take_all n v (omega arith))) ∙ suffix_len-take_no is_blank v n 0 (omega arith) (omega arith) h in
-    let front : length (take (prefix_len is_blank (reverse v)) (reverse v)) ≡ 0 = ap (λ k. length (take k (reverse v))) none in
-    ap (λ k. take (n - k) v) front ∙ take_all (n - 0) v (omega arith)
+    ap (λ k. take (n - k) v) (ap (λ k. length (take k (reverse v))) none) ∙ take_all (n - 0) v (omega arith)
 
 -- a value as it is written: plain bytes, and no blank at its ends
 pub record IsValue (v : List ℕ) : Type 0 where
@@ -60,11 +58,7 @@ pub record IsValue (v : List ℕ) : Type 0 where
 -- ---- a line of a key and a value
 
 at_end : (p : ℕ → Bool) (line : List ℕ) → list_all is_plain line ≡ true → p 0 ≡ false → ((b : ℕ) → is_plain b ≡ true → p b ≡ false) → p (get_or line (length line - 1) 0) ≡ false
-at_end p line h none fails =
-    elim (cases_lt (length line - 1) (length line)) [
-      | inl lt ↦ fails _ (every_at is_plain line (length line - 1) h lt)
-      | inr past ↦ ap p (get_or_past line (length line - 1) 0 past) ∙ none
-    ]
+at_end p line h none fails = grind (arith, cases_lt, get_or_past, every_at, is_plain)
 
 pub plain_parts : (b : ℕ) → is_plain b ≡ true → (14 ≤ b) × (eqb b 92 ≡ false)
 plain_parts b h = let parts = and_parts (leb 14 b) (not (eqb b 92)) h in (leb-true 14 b parts.0, not-true (eqb b 92) parts.1)

@@ -1,9 +1,9 @@
 -- What is validated is within the limits of the parameters.
-use Rattle.std.proofs.Common.{◌≡◌, ℕ, ◌+◌, ◌≤◌, Bool, true, false, ◌||◌, cond, eqb, ltb, List, [], ◌∷◌, map, Option, Some, None, Result, Ok, Err, unwrap_or, refl, sym, ◌∙◌, inl, inr, subst, arith, codes, eq-eqb}
+use Rattle.std.proofs.Common.{◌≡◌, ℕ, ◌+◌, ◌≤◌, Bool, true, false, ◌||◌, cond, ltb, List, [], ◌∷◌, map, Option, Some, None, Result, Ok, Err, unwrap_or, refl, subst, arith, codes, eq-eqb}
 use Rattle.std.specs.Prelude.{find}
 use Rattle.std.specs.List.{list_all}
 use Rattle.std.specs.Str.{bytes_eq}
-use Rattle.std.proofs.lemmas.Bool.{cases_Bool, and_parts, cond-true, cond-false, ltb-false, le-ltb, ne_eqb}
+use Rattle.std.proofs.lemmas.Bool.{and_parts, ltb-false}
 use Rattle.wg_num.specs.Decimal.{number_of}
 use Rattle.wg_params.specs.Codes.{is_gamma_or_delta, is_unary_gamma_or_delta, is_residual_code}
 use Rattle.wg_params.specs.declared.code.Code.{Code}
@@ -34,12 +34,10 @@ within_ok k least most (Some m) n e = at (ltb m least) (ltb most m) refl refl e
     at false false a b e = let same : m ≡ n = cc in (omega (arith, ltb-false m least a), omega (arith, ltb-false most m b))
 
 pub number_ok : (k : Key) (most : ℕ) (value : Option (List ℕ)) (n : ℕ) → judged_number k most value ≡ ok_number n → n ≤ most
-number_ok k most None n e = absurd cc
-number_ok k most (Some text) n e = (within_ok k 0 most (number_of text) n e).1
+number_ok k most value n h = grind arith
 
 pub zeta_ok : (value : Option (List ℕ)) (n : ℕ) → judged_zeta value ≡ ok_number n → (1 ≤ n) × (n ≤ MOST_ZETA)
-zeta_ok None n e = let three : 3 ≡ n = cc in (omega arith, omega arith)
-zeta_ok (Some text) n e = within_ok key.ZetaK 1 MOST_ZETA (number_of text) n e
+zeta_ok value n h = grind arith
 
 pub chain_ok : (value : Option (List ℕ)) (chain : Option ℕ) → judged_chain value ≡ Ok chain → unwrap_or chain 0 ≤ MOST_CHAIN
 chain_ok None chain e = absurd cc
@@ -63,24 +61,18 @@ may_have zeta Residuals code = is_residual_code zeta code
 may_have zeta Offsets code = is_gamma_or_delta code
 
 code_keeps : (zeta : ℕ) (c : Codes) (field : Field) (code : Code) → may_have zeta field code ≡ true → AreCodes zeta c → AreCodes zeta (with_code c field code)
-code_keeps zeta c Outdegrees code h a = assumption (h, a)
-code_keeps zeta c _ code h a = assumption (h, a)
+code_keeps zeta c field code h a = grind arith
 
 -- whether a flag's field may be in its code
 abbrev fits : ℕ → Flag → Bool
 fits zeta flag = may_have zeta flag.0 (code_of zeta flag.1)
 
 all_fit : (zeta : ℕ) → list_all (fits zeta) FLAGS ≡ true
-all_fit zeta = let own : eqb zeta zeta ≡ true = eq-eqb zeta zeta refl in rw own refl
+all_fit zeta = grind (arith, eq-eqb)
 
 found_passes : (p q : Flag → Bool) (flags : List Flag) (flag : Flag) → list_all p flags ≡ true → find q flags ≡ Some flag → p flag ≡ true
 found_passes p q [] flag h e = absurd cc
-found_passes p q (x ∷ xs) flag h e =
-    let parts = and_parts (p x) (list_all p xs) h in
-    elim (cases_Bool (q x)) [
-      | inl k ↦ let same : x ≡ flag = cc (cond-true (q x) (Some x) (find q xs) k) in subst (λ (f : Flag). p f ≡ true) same parts.0
-      | inr k ↦ found_passes p q xs flag parts.1 (sym (cond-false (q x) (Some x) (find q xs) k) ∙ e)
-    ]
+found_passes p q (x ∷ xs) flag h e = grind (arith, and_parts, found_passes p q xs flag)
 
 flag_keeps : (zeta : ℕ) (c : Codes) (word : List ℕ) (flag : Flag) → flag_of word ≡ Some flag → AreCodes zeta c → AreCodes zeta (with_flag zeta c flag)
 unfolding flag_of
@@ -101,15 +93,7 @@ codes_ok zeta value c e =
 
 -- within the limits no key is bad
 pub none_bad : (p : Parameters) → IsWithinLimits p → first_bad p ≡ None
-none_bad p h =
-    let nodes = le-ltb MOST_PAGES p.nodes h.nodes in
-    let arcs = le-ltb MOST_ARCS p.arcs h.arcs in
-    let window = le-ltb MOST_WINDOW p.window h.window in
-    let chain = le-ltb MOST_CHAIN (unwrap_or p.chain 0) h.chain in
-    let interval = le-ltb MOST_INTERVAL p.interval h.interval in
-    let some = ne_eqb p.zeta 0 (λ z. omega (arith, h.some_zeta)) in
-    let zeta = le-ltb MOST_ZETA p.zeta h.zeta in
-    rw (nodes, arcs, window, chain, interval, some, zeta, h.outdegrees, h.references, h.block_counts, h.blocks, h.residuals, h.offsets)
+none_bad p h = grind arith
 
 -- what was validated key by key can be made parameters
 pub never_bad : (v : Key → Option (List ℕ)) (nodes arcs window : ℕ) (chain : Option ℕ) (interval zeta : ℕ) (c : Codes) → judged_number key.Nodes MOST_PAGES (v key.Nodes) ≡ Ok nodes → judged_number key.Arcs MOST_ARCS (v key.Arcs) ≡ Ok arcs → judged_number key.WindowSize MOST_WINDOW (v key.WindowSize) ≡ Ok window → judged_chain (v key.MaxRefCount) ≡ Ok chain → judged_number key.MinIntervalLength MOST_INTERVAL (v key.MinIntervalLength) ≡ Ok interval → judged_zeta (v key.ZetaK) ≡ Ok zeta → judged_flags zeta (v key.CompressionFlags) ≡ Ok c → first_bad (record { nodes = nodes; arcs = arcs; window = window; chain = chain; interval = interval; zeta = zeta; outdegrees = c.outdegrees; references = c.references; block_counts = c.block_counts; blocks = c.blocks; residuals = c.residuals; offsets = c.offsets }) ≡ None

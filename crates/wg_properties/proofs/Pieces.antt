@@ -1,5 +1,5 @@
 -- The flags of a value, piece by piece.
-use Rattle.std.proofs.Common.{◌≡◌, ℕ, ◌+◌, ◌<◌, Bool, List, [], ◌∷◌, length, get_or, drop, map, Option, Some, None, Ok, Err, refl, ap, sym, ◌∙◌, arith, ◌==◌, add-one, drop-cons}
+use Rattle.std.proofs.Common.{◌≡◌, ℕ, ◌+◌, ◌<◌, Bool, List, ◌∷◌, length, get_or, drop, map, Option, Some, None, Ok, Err, refl, ap, sym, ◌∙◌, arith, ◌==◌, add-one, drop-cons}
 use Rattle.std.specs.List.{slice_split}
 use Rattle.std.proofs.lemmas.List.{get_or-map, length-map, drop_all}
 use Rattle.wg_params.specs.Parameters.{default_codes}
@@ -20,16 +20,14 @@ flags_of value = map flag_of (pieces_of value)
 
 pub no_flags : (zeta : ℕ) (value : List ℕ) → length value ≡ 0 → codes_of zeta value ≡ Ok (default_codes zeta)
 unfolding codes_of
-no_flags zeta [] h = refl
-no_flags zeta (b ∷ bs) h = absurd (omega arith)
+no_flags zeta value h = grind arith
 
 pub all_flags : (zeta : ℕ) (value : List ℕ) → codes_from zeta 1 (default_codes zeta) (flags_of value) ≡ codes_of zeta value
 unfolding codes_of
 all_flags zeta value = refl
 
 pub pieces_are : (value : List ℕ) → 0 < length value → pieces_of value ≡ map trimmed (slice_split is_bar value)
-pieces_are [] h = absurd (omega arith)
-pieces_are (b ∷ bs) h = refl
+pieces_are value h = grind arith
 
 -- the flag of one piece, and those after it
 pub next_flag : (value : List ℕ) (n : ℕ) (piece : List ℕ) → 0 < length value → n < length (slice_split is_bar value) → piece ≡ get_or (slice_split is_bar value) n piece → drop n (flags_of value) ≡ flag_of (trimmed piece) ∷ drop (n + 1) (flags_of value)
@@ -44,18 +42,11 @@ next_flag value n piece some h is =
     ∙ ap flag_of (get_or-map trimmed parts n piece (trimmed piece) h ∙ ap trimmed (sym is)) in
     rw (add-one, drop-cons (flags_of value) n None (omega (arith, longer)), at)
 
-pub flags_end : (value : List ℕ) (n : ℕ) → 0 < length value → n ≡ length (slice_split is_bar value) → drop n (flags_of value) ≡ []
-flags_end value n some e =
-    let parts = slice_split is_bar value in
-    let longer : length (flags_of value) ≡ length parts = ap length (ap (map flag_of) (pieces_are value some)) ∙ length-map (map trimmed parts) flag_of ∙ length-map parts trimmed in
-    drop_all n (flags_of value) (omega (arith, longer))
-
 abbrev IsPieceAt : List ℕ → ℕ → List ℕ → Type 0
 IsPieceAt value n piece = (n < length (slice_split is_bar value)) × (piece ≡ get_or (slice_split is_bar value) n piece)
 
 flag_at : (value : List ℕ) (n m : ℕ) (piece : List ℕ) (o : Option Flag) → 0 < length value → n ≡ m → IsPieceAt value m piece → o ≡ flag_of (trimmed piece) → drop n (flags_of value) ≡ o ∷ drop (n + 1) (flags_of value)
-flag_at value n m piece o some e is named =
-    ap (λ k. drop k (flags_of value)) e ∙ next_flag value m piece some is.0 is.1 ∙ (λ i. sym named i ∷ drop (sym e i + 1) (flags_of value))
+flag_at value n m piece o some e is named = grind (arith, flags_of, next_flag)
 
 -- one known flag more, an unknown one, and the end
 pub known : (zeta : ℕ) (value : List ℕ) (n m : ℕ) (piece : List ℕ) (o : Option Flag) (flag : Flag) (codes new : Codes) → 0 < length value → n ≡ m → IsPieceAt value m piece → o ≡ flag_of (trimmed piece) → o ≡ Some flag → new ≡ with_flag zeta codes flag → codes_from zeta (n + 1 + 1) new (drop (n + 1) (flags_of value)) ≡ codes_from zeta (n + 1) codes (drop n (flags_of value))
@@ -65,9 +56,7 @@ known zeta value n m piece o flag codes new some e is named found updated =
     ∙ ap (codes_from zeta (n + 1) codes) (sym (flag_at value n m piece o some e is named))
 
 pub unknown : (zeta : ℕ) (value : List ℕ) (n m : ℕ) (piece : List ℕ) (o : Option Flag) (codes : Codes) → 0 < length value → n ≡ m → IsPieceAt value m piece → o ≡ flag_of (trimmed piece) → o ≡ None → Err (fault.Flag (n + 1)) ≡ codes_from zeta (n + 1) codes (drop n (flags_of value))
-unknown zeta value n m piece o codes some e is named found =
-    ap (λ f. codes_from zeta (n + 1) codes (f ∷ drop (n + 1) (flags_of value))) (sym found)
-    ∙ ap (codes_from zeta (n + 1) codes) (sym (flag_at value n m piece o some e is named))
+unknown zeta value n m piece o codes some e is named found = grind (arith, flags_of, flag_at)
 
 pub no_more : (zeta : ℕ) (value : List ℕ) (n m : ℕ) (codes : Codes) → 0 < length value → n ≡ m → m ≡ length (slice_split is_bar value) → Ok codes ≡ codes_from zeta (n + 1) codes (drop n (flags_of value))
-no_more zeta value n m codes some e end = ap (codes_from zeta (n + 1) codes) (sym (flags_end value n some (e ∙ end)))
+no_more zeta value n m codes some e end = grind (arith, length-map, pieces_are, drop_all, flags_of, is_bar, trimmed)

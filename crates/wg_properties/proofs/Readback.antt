@@ -1,6 +1,6 @@
 -- A text that was written, read again.
-use Rattle.std.proofs.Common.{◌≡◌, ℕ, ◌+◌, ◌-◌, ◌%◌, ◌^◌, ◌<◌, ◌≤◌, Bool, true, false, not, ◌&&◌, ◌||◌, leb, ltb, List, [], ◌∷◌, length, get_or, map, refl, sym, ap, subst, ◌∙◌, inl, inr, arith, codes}
-use Rattle.std.specs.Prelude.{Option, Some, None, Ok, Err, decimal, unwrap_or}
+use Rattle.std.proofs.Common.{◌≡◌, ℕ, ◌+◌, ◌-◌, ◌%◌, ◌^◌, ◌<◌, ◌≤◌, Bool, true, false, ◌&&◌, leb, List, [], ◌∷◌, length, get_or, map, refl, sym, ap, subst, ◌∙◌, arith, codes}
+use Rattle.std.specs.Prelude.{Option, Some, None, Ok, decimal, unwrap_or}
 use Rattle.std.specs.List.{list_all, position_from}
 use Rattle.std.specs.Str.{bytes_eq}
 use Rattle.std.proofs.lemmas.Bool.{cases_lt, and_parts, and_from, leb-true, le-leb, le-ltb, ne_eqb, or_from, false≢true, false_from_ne_true, cond-false}
@@ -18,7 +18,6 @@ use Rattle.wg_properties.specs.Pairs.{first_continued, is_continued, pairs_of, v
 use Rattle.wg_properties.specs.Words.{name_of, class_name}
 use Rattle.wg_properties.specs.Judged.{within, judged_class, judged_version, judged_endianness, judged_number, judged_chain, judged_zeta, judged_flags, judged, unless_continued, properties_of}
 use Rattle.wg_properties.specs.Text.{flags_text, chain_text, written_lines, text_of}
-use Rattle.wg_properties.specs.declared.fault.PropFault.TheVariants as fault
 use Rattle.wg_properties.proofs.Letters.{every_append, every_at, every_more, is_plain, IsValue}
 use Rattle.wg_properties.proofs.Reread.{ArePlain, lines_again, AreValues, line_of, plain_lines, none_continued, pairs_again}
 use Rattle.wg_properties.proofs.Reflagged.{flags_value, codes_again}
@@ -41,18 +40,11 @@ decimal_digits n low =
 digit_low : (b : ℕ) → is_digit b ≡ true → 48 ≤ b
 digit_low b h = leb-true 48 b (and_parts (leb 48 b) (leb b 57) h).0
 
-digit_high : (b : ℕ) → is_digit b ≡ true → b ≤ 57
-digit_high b h = leb-true b 57 (and_parts (leb 48 b) (leb b 57) h).1
-
 digit_plain : (b : ℕ) → is_digit b ≡ true → is_plain b ≡ true
-digit_plain b h = let low = digit_low b h in let high = digit_high b h in and_from _ _ (le-leb 14 b (omega arith)) (ap not (ne_eqb b 92 (λ e. omega arith)))
+digit_plain b h = grind (arith, and_from, le-leb, ne_eqb, digit_low, leb-true, and_parts)
 
 no_blank_at : (ds : List ℕ) (i : ℕ) → list_all is_digit ds ≡ true → is_blank (get_or ds i 0) ≡ false
-no_blank_at ds i h =
-    elim (cases_lt i (length ds)) [
-      | inl lt ↦ let low = digit_low (get_or ds i 0) (every_at is_digit ds i h lt) in or_from _ _ (ne_eqb (get_or ds i 0) 32 (λ e. omega arith)) (ne_eqb (get_or ds i 0) 9 (λ e. omega arith))
-      | inr past ↦ ap is_blank (get_or_past ds i 0 past)
-    ]
+no_blank_at ds i h = grind (arith, cases_lt, ne_eqb, or_from, get_or_past, every_at, digit_low)
 
 decimal_value : (n : ℕ) → n < 2 ^ 64 → IsValue (decimal n)
 decimal_value n low =
@@ -63,27 +55,21 @@ decimal_value n low =
     }
 
 within_again : (k : Key) (least most n : ℕ) → least ≤ n → n ≤ most → n < 2 ^ 64 → within k least most (number_of (decimal n)) ≡ Ok n
-within_again k least most n low high small =
-    ap (within k least most) (number_of-decimal n small)
-    ∙ cond-false (ltb n least || ltb most n) (Err (fault.Range k)) (Ok n) (or_from _ _ (le-ltb n least low) (le-ltb most n high))
+within_again k least most n low high small = grind (arith, le-ltb, or_from, cond-false, number_of-decimal)
 
 -- ---- the chain limit
 
 not_minus_one : (n : ℕ) → n < 2 ^ 64 → bytes_eq (decimal n) (codes "-1") ≡ false
 not_minus_one n low = false_from_ne_true _ (λ h.
     let same : decimal n ≡ codes "-1" = (bytes_eq-Decides (decimal n) (codes "-1")).0 h in
-    let wrong : false ≡ true = subst (λ ds. list_all is_digit ds ≡ true) same (decimal_digits n low) in
-    false≢true wrong)
+    false≢true (subst (λ ds. list_all is_digit ds ≡ true) same (decimal_digits n low)))
 
 chain_value : (chain : Option ℕ) → unwrap_or chain 0 ≤ MOST_CHAIN → IsValue (chain_text chain)
 chain_value None low = record { plain = refl; first = refl; last = refl }
 chain_value (Some n) low = decimal_value n (omega (arith, low))
 
 chain_again : (chain : Option ℕ) → unwrap_or chain 0 ≤ MOST_CHAIN → judged_chain (Some (chain_text chain)) ≡ Ok chain
-chain_again None low = refl
-chain_again (Some n) low =
-    let small : n < 2 ^ 64 = omega (arith, low) in
-    rw (not_minus_one n small, within_again key.MaxRefCount 0 MOST_CHAIN n (omega arith) low small) refl
+chain_again chain h = grind (arith, within_again, not_minus_one)
 
 -- ---- lines and pairs
 

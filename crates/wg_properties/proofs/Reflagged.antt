@@ -1,22 +1,21 @@
 -- Flags that were written, read again.
-use Rattle.std.proofs.Common.{◌≡◌, ℕ, suc, ◌+◌, ◌-◌, ◌<◌, ◌≤◌, Bool, true, false, not, cond, ◌&&◌, ◌||◌, eqb, leb, ltb, List, [], ◌∷◌, ◌++◌, length, take, drop, get_or, map, reverse, refl, sym, ap, subst, ◌∙◌, length-append, inl, inr, arith}
+use Rattle.std.proofs.Common.{◌≡◌, ℕ, ◌+◌, ◌-◌, ◌<◌, ◌≤◌, Bool, true, false, not, cond, ◌&&◌, ◌||◌, eqb, leb, List, [], ◌∷◌, ◌++◌, length, take, drop, get_or, map, reverse, refl, sym, ap, subst, ◌∙◌, length-append, inl, inr, arith}
 use Rattle.std.specs.Prelude.{Option, Some, Ok, All, filter}
 use Rattle.std.specs.List.{list_all, prefix_len, slice_split, count_by}
-use Rattle.std.proofs.lemmas.Bool.{cases_Bool, cases_lt, and_parts, and_from, or_cases, leb-true, ltb-true, le-leb, eq-eqb, eqb-true, ne_eqb, or_from, not-true}
+use Rattle.std.proofs.lemmas.Bool.{cases_lt, and_parts, and_from, or_cases, leb-true, le-leb, eq-eqb, eqb-true, ne_eqb, or_from, not-true}
 use Rattle.std.proofs.lemmas.List.{append_assoc, reverse-append, take-append-le, get_or-append_right, get_or_past, length-map}
 use Rattle.std.proofs.lemmas.Simd.{map-map}
-use Rattle.std.proofs.lemmas.List.Elements.{All-filter}
-use Rattle.std.proofs.lemmas.List.Folds.{length-prefix_len, list_all-map}
-use Rattle.std.proofs.lemmas.List.Sums.{AllPass-from_list_all, list_all-from_AllPass, length-filter}
+use Rattle.std.proofs.lemmas.List.Folds.{length-prefix_len}
+use Rattle.std.proofs.lemmas.List.Sums.{AllPass-from_list_all, length-filter}
 use Rattle.std.proofs.lemmas.List.Splits.{slice_split_at, slice_split_none}
 use Rattle.wg_params.specs.Parameters.{Parameters, AreCodes, IsWithinLimits, layout_of, default_codes}
 use Rattle.wg_params.specs.contracts.code.CodePartialEq.TheImpl as code
 use Rattle.wg_params.proofs.FieldCodes.{two_codes, three_codes, four_codes}
 use Rattle.wg_params.specs.declared.code.Code.{Code}
-use Rattle.wg_params.specs.declared.code.Code.TheVariants.{Unary, Zeta}
 use Rattle.wg_params.specs.declared.layout.Codes.{Codes}
 use Rattle.wg_properties.specs.declared.flags.Field.{Field}
 use Rattle.wg_properties.specs.declared.flags.Field.TheVariants.{Outdegrees, Blocks, References, BlockCounts, Residuals, Offsets}
+use Rattle.wg_properties.specs.declared.flags.Form.{Form}
 use Rattle.wg_properties.specs.declared.flags.TheConstants.{FLAGS}
 use Rattle.wg_num.specs.Lines.{is_blank, without_blanks_before, without_blanks_after}
 use Rattle.wg_properties.specs.Flags.{code_of, with_code, with_flag, flag_of, codes_from, pieces_of, codes_of}
@@ -31,22 +30,8 @@ use Rattle.wg_properties.proofs.Pieces.{is_bar, trimmed, pieces_are}
 abbrev pub is_capital : ℕ → Bool
 is_capital b = (leb 65 b && leb b 90) || eqb b 95
 
-capital_far : (b x : ℕ) → is_capital b ≡ true → (x < 65) → (b ≡ x → ⊥)
-capital_far b x h low e =
-    elim (or_cases (leb 65 b && leb b 90) (eqb b 95) h) [
-      | inl k ↦ let parts = and_parts (leb 65 b) (leb b 90) k in let least = leb-true 65 b parts.0 in omega arith
-      | inr k ↦ let same = eqb-true b 95 k in omega arith
-    ]
-
-capital_high : (b x : ℕ) → is_capital b ≡ true → (95 < x) → (b ≡ x → ⊥)
-capital_high b x h high e =
-    elim (or_cases (leb 65 b && leb b 90) (eqb b 95) h) [
-      | inl k ↦ let parts = and_parts (leb 65 b) (leb b 90) k in let most = leb-true b 90 parts.1 in omega arith
-      | inr k ↦ let same = eqb-true b 95 k in omega arith
-    ]
-
 capital_no_blank : (b : ℕ) → is_capital b ≡ true → is_blank b ≡ false
-capital_no_blank b h = or_from _ _ (ne_eqb b 32 (capital_far b 32 h (omega arith))) (ne_eqb b 9 (capital_far b 9 h (omega arith)))
+capital_no_blank b h = grind (arith, ne_eqb, or_from, or_cases, leb-true, and_parts, eqb-true)
 
 capital_plain : (b : ℕ) → is_capital b ≡ true → is_plain b ≡ true
 capital_plain b h =
@@ -58,45 +43,40 @@ capital_plain b h =
     plain_of : (b : ℕ) → 14 ≤ b → (b ≡ 92 → ⊥) → is_plain b ≡ true
     plain_of b low other = and_from _ _ (le-leb 14 b low) (ap not (ne_eqb b 92 other))
 
-pub record IsWord (w : List ℕ) : Type 0 where
+pub record IsWord (most : ℕ) (w : List ℕ) : Type 0 where
   pub some : 0 < length w
-  pub few : length w ≤ 17
+  pub few : length w ≤ most
   pub capitals : list_all is_capital w ≡ true
+
+front_is : (field : Field) → IsWord 12 (front_of field)
+unfolding front_of
+front_is field = grind arith
+
+end_is : (form : Form) → IsWord 6 (end_of form)
+unfolding end_of
+end_is form = grind arith
 
 abbrev pub AreWords : List (List ℕ) → Type 0
 AreWords [] = Unit {0}
-AreWords (w ∷ ws) = IsWord w × AreWords ws
+AreWords (w ∷ ws) = IsWord 18 w × AreWords ws
 
--- a word of at most 17 capitals
-abbrev is_word : List ℕ → Bool
-is_word w = (ltb 0 (length w) && leb (length w) 17) && list_all is_capital w
+both_are : (a b : List ℕ) → IsWord 12 a → IsWord 6 b → IsWord 18 (a ++ b)
+both_are a b front end =
+    let size = length-append a b in record {
+      some = omega (arith, size, front.some);
+      few = omega (arith, size, front.few, end.few);
+      capitals = every_append is_capital a b front.capitals end.capitals;
+    }
 
-are_words : (ws : List (List ℕ)) → list_all is_word ws ≡ true → AreWords ws
-are_words [] h = tt
-are_words (w ∷ ws) h =
-    let parts = and_parts (is_word w) (list_all is_word ws) h in
-    let own = and_parts (ltb 0 (length w) && leb (length w) 17) (list_all is_capital w) parts.0 in
-    let size = and_parts (ltb 0 (length w)) (leb (length w) 17) own.0 in
-    (record { some = ltb-true 0 (length w) size.0; few = leb-true (length w) 17 size.1; capitals = own.1 }, are_words ws parts.1)
-
--- the words of some of the flags
-some_words : (q : Flag → Bool) → list_all is_word (map word_of (filter q FLAGS)) ≡ true
-unfolding front_of end_of
-some_words q =
-    list_all-map is_word word_of (filter q FLAGS)
-    ∙ list_all-from_AllPass (λ (f : Flag). is_word (word_of f)) (filter q FLAGS) (All-filter q (λ (f : Flag). is_word (word_of f) ≡ true) FLAGS (AllPass-from_list_all (λ (f : Flag). is_word (word_of f)) FLAGS refl))
-
-pub written_are_words : (p : Parameters) → AreWords (map word_of (written_flags p))
-written_are_words p = are_words _ (some_words (is_written p))
+pub flag_words : (fs : List Flag) → AreWords (map word_of fs)
+flag_words [] = tt
+flag_words (f ∷ fs) = (both_are (front_of f.0) (end_of f.1) (front_is f.0) (end_is f.1), flag_words fs)
 
 -- ---- blanks round a word
 
 blank_front : (x : List ℕ) → without_blanks_before (32 ∷ x) ≡ without_blanks_before x
 unfolding without_blanks_before
-blank_front x =
-    let k : ℕ = prefix_len is_blank x in
-    let more : 1 + k ≡ suc k = omega arith in
-    ap (λ n. drop n (32 ∷ x)) (length-prefix_len is_blank (32 ∷ x) ∙ more) ∙ sym (ap (λ n. drop n x) (length-prefix_len is_blank x))
+blank_front x = grind arith
 
 blank_end : (x : List ℕ) → without_blanks_after (x ++ 32 ∷ []) ≡ without_blanks_after x
 unfolding without_blanks_after
@@ -110,32 +90,23 @@ blank_end x =
     ap (λ n. take n y) less ∙ take-append-le (length x - length (take k (reverse x))) x (32 ∷ []) (omega arith)
 
 no_blank_at : (w : List ℕ) (i : ℕ) → list_all is_capital w ≡ true → is_blank (get_or w i 0) ≡ false
-no_blank_at w i h =
-    elim (cases_lt i (length w)) [
-      | inl lt ↦ capital_no_blank (get_or w i 0) (every_at is_capital w i h lt)
-      | inr past ↦ ap is_blank (get_or_past w i 0 past)
-    ]
+no_blank_at w i h = grind (arith, cases_lt, get_or_past, every_at, capital_no_blank)
 
-word_before : (w : List ℕ) → IsWord w → without_blanks_before w ≡ w
-word_before w is = blank_free_before w (no_blank_at w 0 is.capitals)
-
-word_after : (w : List ℕ) → IsWord w → without_blanks_after w ≡ w
+word_after : (w : List ℕ) → IsWord 18 w → without_blanks_after w ≡ w
 word_after w is = blank_free_after w (no_blank_at w (length w - 1) is.capitals)
 
-fronted_after : (w : List ℕ) → IsWord w → without_blanks_after (32 ∷ w) ≡ 32 ∷ w
-fronted_after w is =
-    let place : get_or (32 ∷ w) (suc (length w) - 1) 0 ≡ get_or w (length w - 1) 0 = ap (λ n. get_or (32 ∷ w) n 0) (let e : suc (length w) - 1 ≡ suc (length w - 1) = omega (arith, is.some) in e) in
-    blank_free_after (32 ∷ w) (ap is_blank place ∙ no_blank_at w (length w - 1) is.capitals)
+fronted_after : (w : List ℕ) → IsWord 18 w → without_blanks_after (32 ∷ w) ≡ 32 ∷ w
+fronted_after w is = grind (arith, blank_free_after, no_blank_at)
 
 abbrev fronted : Bool → List ℕ → List ℕ
 fronted true w = 32 ∷ w
 fronted false w = w
 
-trim_fronted : (b : Bool) (w : List ℕ) → IsWord w → trimmed (fronted b w) ≡ w
-trim_fronted true w is = ap without_blanks_before (fronted_after w is) ∙ blank_front w ∙ word_before w is
-trim_fronted false w is = ap without_blanks_before (word_after w is) ∙ word_before w is
+trim_fronted : (b : Bool) (w : List ℕ) → IsWord 18 w → trimmed (fronted b w) ≡ w
+trim_fronted true w is = grind (arith, blank_front, fronted_after, no_blank_at, blank_free_before)
+trim_fronted false w is = grind (arith, word_after, no_blank_at, blank_free_before)
 
-trim_ended : (b : Bool) (w : List ℕ) → IsWord w → trimmed (fronted b w ++ 32 ∷ []) ≡ w
+trim_ended : (b : Bool) (w : List ℕ) → IsWord 18 w → trimmed (fronted b w ++ 32 ∷ []) ≡ w
 trim_ended b w is = ap without_blanks_before (blank_end (fronted b w)) ∙ trim_fronted b w is
 
 -- ---- pieces
@@ -143,19 +114,14 @@ trim_ended b w is = ap without_blanks_before (blank_end (fronted b w)) ∙ trim_
 abbrev no_bar : ℕ → Bool
 no_bar b = not (eqb b 124)
 
-capital_no_bar : (b : ℕ) → is_capital b ≡ true → no_bar b ≡ true
-capital_no_bar b h = ap not (ne_eqb b 124 (capital_high b 124 h (omega arith)))
-
 none_bar : (w : List ℕ) → list_all no_bar w ≡ true → All (λ b. is_bar b ≡ false) w
 none_bar w h i d lt = not-true (eqb (get_or w i d) 124) (AllPass-from_list_all no_bar w h i d lt)
 
-word_no_bar : (b : Bool) (w : List ℕ) → IsWord w → list_all no_bar (fronted b w) ≡ true
-word_no_bar true w is = every_more is_capital no_bar capital_no_bar w is.capitals
-word_no_bar false w is = every_more is_capital no_bar capital_no_bar w is.capitals
+word_no_bar : (b : Bool) (w : List ℕ) → IsWord 18 w → list_all no_bar (fronted b w) ≡ true
+word_no_bar b w h = grind (arith, every_more, or_cases, leb-true, and_parts, ne_eqb, eqb-true)
 
 fronted_more : (b : Bool) (w rest : List ℕ) → fronted b (w ++ (32 ∷ 124 ∷ rest)) ≡ (fronted b w ++ 32 ∷ []) ++ 124 ∷ rest
-fronted_more true w rest = ap (λ xs. 32 ∷ xs) (sym (append_assoc w (32 ∷ []) (124 ∷ rest)))
-fronted_more false w rest = sym (append_assoc w (32 ∷ []) (124 ∷ rest))
+fronted_more b w rest = grind (arith, append_assoc)
 
 pieces_again : (b : Bool) (w : List ℕ) (ws : List (List ℕ)) → AreWords (w ∷ ws) → map trimmed (slice_split is_bar (fronted b (joined_by_bars (w ∷ ws)))) ≡ w ∷ ws
 pieces_again b w [] are = ap (map trimmed) (slice_split_none is_bar (fronted b w) (none_bar (fronted b w) (word_no_bar b w are.0))) ∙ ap (λ x. x ∷ []) (trim_fronted b w are.0)
@@ -182,7 +148,7 @@ joined_plain [] are = refl
 joined_plain (w ∷ []) are = every_more is_capital is_plain capital_plain w are.0.capitals
 joined_plain (w ∷ v ∷ vs) are = every_append is_plain w (32 ∷ 124 ∷ 32 ∷ joined_by_bars (v ∷ vs)) (every_more is_capital is_plain capital_plain w are.0.capitals) (joined_plain (v ∷ vs) are.1)
 
-first_of : (w rest : List ℕ) → IsWord w → is_blank (get_or (w ++ rest) 0 0) ≡ false
+first_of : (w rest : List ℕ) → IsWord 18 w → is_blank (get_or (w ++ rest) 0 0) ≡ false
 first_of [] rest is = absurd (omega (arith, is.some))
 first_of (b ∷ bs) rest is = capital_no_blank b (and_parts (is_capital b) (list_all is_capital bs) is.capitals).0
 
@@ -207,9 +173,8 @@ joined_last (w ∷ v ∷ vs) are =
 
 pub flags_value : (p : Parameters) → IsValue (flags_text p)
 flags_value p =
-    let are = written_are_words p in
     let words : List (List ℕ) = map word_of (written_flags p) in
-    record { plain = joined_plain words are; first = joined_first words are; last = joined_last words are }
+    let are = flag_words (written_flags p) in record { plain = joined_plain words are; first = joined_first words are; last = joined_last words are }
 
 -- ---- the flags that words name
 
@@ -220,10 +185,7 @@ named_again = refl
 -- what two functions agree on, they agree on in a part
 agree_in_part : (f g : Flag → Option Flag) (q : Flag → Bool) (flags : List Flag) → map f flags ≡ map g flags → map f (filter q flags) ≡ map g (filter q flags)
 agree_in_part f g q [] h = refl
-agree_in_part f g q (x ∷ xs) h =
-    let here : f x ≡ g x = cc in
-    let rest : map f (filter q xs) ≡ map g (filter q xs) = agree_in_part f g q xs cc in
-    elim (cases_Bool (q x)) [ inl k ↦ rw k (λ i. here i ∷ rest i) | inr k ↦ rw k rest ]
+agree_in_part f g q (x ∷ xs) h = grind (arith, agree_in_part f g q xs)
 
 written_again : (p : Parameters) → map flag_of (map word_of (written_flags p)) ≡ map Some (written_flags p)
 written_again p =
@@ -255,16 +217,11 @@ with_some q zeta c [] = c
 with_some q zeta c (f ∷ fs) = with_some q zeta (with_code c f.0 (cond (q f) (code_of zeta f.1) (code_at c f.0))) fs
 
 left_alone : (c : Codes) (field : Field) → with_code c field (code_at c field) ≡ c
-left_alone c Outdegrees = refl
-left_alone c _ = refl
+left_alone c field = grind arith
 
 taken_or_left : (q : Flag → Bool) (zeta : ℕ) (c : Codes) (fs : List Flag) → with_flags zeta c (filter q fs) ≡ with_some q zeta c fs
 taken_or_left q zeta c [] = refl
-taken_or_left q zeta c (f ∷ fs) =
-    elim (cases_Bool (q f)) [
-      | inl k ↦ rw k (taken_or_left q zeta (with_flag zeta c f) fs)
-      | inr k ↦ rw (k, left_alone c f.0) (taken_or_left q zeta c fs)
-    ]
+taken_or_left q zeta c (f ∷ fs) = grind (arith, left_alone, taken_or_left q zeta (with_flag zeta c f) fs, taken_or_left q zeta c fs)
 
 -- whether a flag says a code of these that is not the default
 abbrev is_other : ℕ → Codes → Flag → Bool
@@ -284,9 +241,7 @@ flags_at Residuals = take 4 (drop 10 FLAGS)
 flags_at Offsets = drop 14 FLAGS
 
 same_code : (c : Code) → code.ghosts.eq c c ≡ true
-same_code Unary = refl
-same_code (Zeta k) = eq-eqb k k refl
-same_code _ = refl
+same_code c = grind (arith, eq-eqb)
 
 -- a field's code is made again, and by at most one flag
 abbrev IsRemade : ℕ → Codes → Field → Code → Type 0
@@ -329,7 +284,7 @@ few_words p is =
 pub codes_again : (p : Parameters) → IsWithinLimits p → codes_of p.zeta (flags_text p) ≡ Ok (layout_of p).codes
 unfolding codes_of
 codes_again p is =
-    ap (λ words. codes_from p.zeta 1 (default_codes p.zeta) (map flag_of words)) (words_again (map word_of (written_flags p)) (written_are_words p))
+    ap (λ words. codes_from p.zeta 1 (default_codes p.zeta) (map flag_of words)) (words_again (map word_of (written_flags p)) (flag_words (written_flags p)))
     ∙ ap (codes_from p.zeta 1 (default_codes p.zeta)) (written_again p)
     ∙ known_flags p.zeta 1 (default_codes p.zeta) (written_flags p)
     ∙ ap Ok (taken_or_left (is_written p) p.zeta (default_codes p.zeta) FLAGS ∙ remade_same p.zeta (layout_of p).codes (written_codes p is))

@@ -1,20 +1,19 @@
 -- Lines that were written, read again.
-use Rattle.std.proofs.Common.{◌≡◌, ℕ, ◌+◌, ◌<◌, true, false, not, cond, eqb, List, [], ◌∷◌, ◌++◌, length, take, drop, get_or, map, refl, sym, ap, ◌∙◌, length-append, arith}
+use Rattle.std.proofs.Common.{◌≡◌, ℕ, ◌+◌, ◌<◌, true, false, not, cond, eqb, List, [], ◌∷◌, ◌++◌, length, take, get_or, map, refl, sym, ap, ◌∙◌, length-append, arith}
 use Rattle.std.specs.Prelude.{Some, None, filter, All}
 use Rattle.std.specs.List.{list_all, flat_map, slice_split, position_from, position_or_len}
 use Rattle.std.specs.Str.Lines.{strip_carriage_return}
-use Rattle.std.proofs.lemmas.Bool.{and_parts, ne_eqb, or_from, cond-true, cond-false, not_from_false}
+use Rattle.std.proofs.lemmas.Bool.{and_parts, ne_eqb, cond-true, cond-false, not_from_false}
 use Rattle.std.proofs.lemmas.List.{append_assoc, append-nil, take_at, drop_at}
 use Rattle.std.proofs.lemmas.List.Sums.{AllPass-from_list_all}
 use Rattle.std.proofs.lemmas.List.Splits.{slice_split_at, slice_split_none}
 use Rattle.wg_params.specs.declared.key.Key.{Key}
-use Rattle.wg_params.specs.declared.key.Key.TheVariants.{GraphClass, Version, Endianness, Nodes, Arcs, WindowSize, MaxRefCount, MinIntervalLength, ZetaK, CompressionFlags}
-use Rattle.wg_num.specs.Lines.{lines_of, without_empty_end, is_blank, without_blanks_before, without_blanks_after}
-use Rattle.wg_properties.specs.Pairs.{is_skipped, is_continued, ends_key, without_separator, key_in, value_in, pairs_of}
+use Rattle.wg_num.specs.Lines.{lines_of, without_empty_end, is_blank, without_blanks_before}
+use Rattle.wg_properties.specs.Pairs.{is_skipped, is_continued, ends_key, key_in, value_in, pairs_of}
 use Rattle.wg_properties.specs.Words.{name_of}
 use Rattle.wg_properties.specs.Text.{pair, ended}
 use Rattle.wg_num.proofs.Cuts.{is_end, not_the_end}
-use Rattle.wg_properties.proofs.Letters.{every_append, every_more, is_plain, plain_parts, is_letter, letter_low, letter_plain, blank_free_before, blank_free_after, IsValue, no_return, not_continued}
+use Rattle.wg_properties.proofs.Letters.{every_append, every_more, is_plain, plain_parts, is_letter, letter_plain, blank_free_before, blank_free_after, IsValue, no_return, not_continued}
 
 -- ---- lines
 
@@ -49,9 +48,7 @@ lines_again lines plain =
 -- ---- a key and its value
 
 letter_goes_on : (b : ℕ) → is_letter b ≡ true → ends_key b ≡ false
-letter_goes_on b h =
-    let low = letter_low b h in
-    or_from _ _ (or_from _ _ (ne_eqb b 61 (λ e. omega arith)) (ne_eqb b 58 (λ e. omega arith))) (or_from _ _ (ne_eqb b 32 (λ e. omega arith)) (ne_eqb b 9 (λ e. omega arith)))
+letter_goes_on b h = grind arith
 
 key_length : (name value : List ℕ) → list_all is_letter name ≡ true → position_or_len ends_key (name ++ 61 ∷ value) ≡ length name
 key_length [] value h = refl
@@ -64,21 +61,12 @@ pub key_again : (name value : List ℕ) → list_all is_letter name ≡ true →
 unfolding key_in
 key_again name value h = ap (λ n. take n (name ++ 61 ∷ value)) (key_length name value h) ∙ take_at name (61 ∷ value) (length name) refl
 
-abbrev value_behind : List ℕ → List ℕ
-value_behind text = without_blanks_after (without_blanks_before (without_separator (without_blanks_before text)))
-
 pub value_again : (name value : List ℕ) → list_all is_letter name ≡ true → IsValue value → value_in (name ++ 61 ∷ value) ≡ value
 unfolding value_in
-value_again name value h is =
-    ap (λ key. value_behind (drop (length key) (name ++ 61 ∷ value))) (key_again name value h)
-    ∙ ap value_behind (drop_at name (61 ∷ value) (length name) refl)
-    ∙ ap (λ text. without_blanks_after (without_blanks_before (without_separator text))) (blank_free_before (61 ∷ value) refl)
-    ∙ ap without_blanks_after (blank_free_before value is.first) ∙ blank_free_after value is.last
+value_again name value h is = grind (arith, drop_at, blank_free_before, blank_free_after, key_again)
 
 letter_shows : (b : ℕ) (bs : List ℕ) → is_letter b ≡ true → (is_blank b ≡ false) × (is_skipped (b ∷ bs) ≡ false)
-letter_shows b bs h =
-    let low = letter_low b h in
-    (or_from _ _ (ne_eqb b 32 (λ e. omega arith)) (ne_eqb b 9 (λ e. omega arith)), or_from _ _ (ne_eqb b 35 (λ e. omega arith)) (ne_eqb b 33 (λ e. omega arith)))
+letter_shows b bs h = grind arith
 
 pub shows : (name value : List ℕ) → list_all is_letter name ≡ true → 0 < length name → (without_blanks_before (name ++ 61 ∷ value) ≡ name ++ 61 ∷ value) × (is_skipped (name ++ 61 ∷ value) ≡ false)
 shows [] value h some = absurd (omega arith)
@@ -89,29 +77,11 @@ shows (b ∷ bs) value h some =
 
 pub name_letters : (k : Key) → list_all is_letter (name_of k) ≡ true
 unfolding name_of
-name_letters GraphClass = refl
-name_letters Version = refl
-name_letters Endianness = refl
-name_letters Nodes = refl
-name_letters Arcs = refl
-name_letters WindowSize = refl
-name_letters MaxRefCount = refl
-name_letters MinIntervalLength = refl
-name_letters ZetaK = refl
-name_letters CompressionFlags = refl
+name_letters k = grind arith
 
 pub name_some : (k : Key) → 0 < length (name_of k)
 unfolding name_of
-name_some GraphClass = omega arith
-name_some Version = omega arith
-name_some Endianness = omega arith
-name_some Nodes = omega arith
-name_some Arcs = omega arith
-name_some WindowSize = omega arith
-name_some MaxRefCount = omega arith
-name_some MinIntervalLength = omega arith
-name_some ZetaK = omega arith
-name_some CompressionFlags = omega arith
+name_some k = grind arith
 
 -- ---- lines of keys and values
 
