@@ -31,11 +31,13 @@ pub record Flagged (before : List ℕ) (p : Parameters) (i : ℕ) (is_first : Bo
   pub written : text ≡ before ++ joined_by_bars (written_words p i)
   pub first_is : is_first ≡ is_nil (written_words p i)
 
-next_words : (p : Parameters) (i : ℕ) (d : Flag) (b : Bool) → i < length FLAGS → is_written p (get_or FLAGS i d) ≡ b → written_words p (i + 1) ≡ written_words p i ++ cond b (word_of (get_or FLAGS i d) ∷ []) []
+next_words : (p : Parameters) (i : ℕ) (d : Flag) (b : Bool) → i < length FLAGS → is_written p (get_or FLAGS i d) ≡ b
+    → written_words p (i + 1) ≡ written_words p i ++ cond b (word_of (get_or FLAGS i d) ∷ []) []
 next_words p i d true lt is = let more = filter_more (is_written p) FLAGS i d lt in rw (more, is, map_push)
-next_words p i d false lt is = let more = filter_more (is_written p) FLAGS i d lt in rw (more, is, append-nil, append-nil)
+next_words p i d false lt is = let more = filter_more (is_written p) FLAGS i d lt in rw (more, is) (simp append-nil)
 
-pub absent : (before : List ℕ) (p : Parameters) (i : ℕ) (is_first : Bool) (d : Flag) (text : List ℕ) → i < length FLAGS → is_written p (get_or FLAGS i d) ≡ false → Flagged before p i is_first text → Flagged before p (i + 1) is_first text
+pub absent : (before : List ℕ) (p : Parameters) (i : ℕ) (is_first : Bool) (d : Flag) (text : List ℕ) → i < length FLAGS → is_written p (get_or FLAGS i d) ≡ false
+    → Flagged before p i is_first text → Flagged before p (i + 1) is_first text
 absent before p i is_first d text lt is f =
     let same : written_words p i ≡ written_words p (i + 1) = sym (next_words p i d false lt is ∙ append-nil (written_words p i)) in record {
       written = f.written ∙ ap (λ ws. before ++ joined_by_bars ws) same;

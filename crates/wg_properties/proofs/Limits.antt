@@ -78,7 +78,9 @@ flag_keeps : (zeta : ℕ) (c : Codes) (word : List ℕ) (flag : Flag) → flag_o
 unfolding flag_of
 flag_keeps zeta c word flag e = code_keeps zeta c flag.0 (code_of zeta flag.1) (found_passes (fits zeta) (λ (f : Flag). bytes_eq word (word_of f)) FLAGS flag (all_fit zeta) e)
 
-one_keeps : (zeta i : ℕ) (c d : Codes) (word : List ℕ) (o : Option Flag) (flags : List (Option Flag)) → ((n : Codes) → AreCodes zeta n → codes_from zeta (i + 1) n flags ≡ Ok d → AreCodes zeta d) → flag_of word ≡ o → AreCodes zeta c → codes_from zeta i c (o ∷ flags) ≡ Ok d → AreCodes zeta d
+one_keeps : (zeta i : ℕ) (c d : Codes) (word : List ℕ) (o : Option Flag) (flags : List (Option Flag))
+    → ((n : Codes) → AreCodes zeta n → codes_from zeta (i + 1) n flags ≡ Ok d → AreCodes zeta d)
+    → flag_of word ≡ o → AreCodes zeta c → codes_from zeta i c (o ∷ flags) ≡ Ok d → AreCodes zeta d
 one_keeps zeta i c d word None flags rest is a e = absurd cc
 one_keeps zeta i c d word (Some flag) flags rest is a e = rest (with_flag zeta c flag) (flag_keeps zeta c word flag is a) e
 
@@ -89,7 +91,8 @@ from_keeps zeta i c d (word ∷ words) a e = one_keeps zeta i c d word (flag_of 
 pub codes_ok : (zeta : ℕ) (value : List ℕ) (c : Codes) → codes_of zeta value ≡ Ok c → AreCodes zeta c
 unfolding codes_of
 codes_ok zeta value c e =
-    from_keeps zeta 1 (default_codes zeta) c (pieces_of value) (record { outdegrees = refl; references = refl; block_counts = refl; blocks = refl; residuals = eq-eqb zeta zeta refl; offsets = refl }) e
+    from_keeps zeta 1 (default_codes zeta) c (pieces_of value)
+    (record { outdegrees = refl; references = refl; block_counts = refl; blocks = refl; residuals = eq-eqb zeta zeta refl; offsets = refl }) e
 
 -- within the limits no key is bad
 pub none_bad : (p : Parameters) → IsWithinLimits p → first_bad p ≡ None

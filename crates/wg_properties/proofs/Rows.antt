@@ -7,6 +7,7 @@ use Rattle.wg_params.specs.declared.code.Code.TheVariants.{Unary, Gamma, Delta, 
 use Rattle.wg_params.specs.declared.key.Key.TheVariants as key
 use Rattle.wg_properties.specs.Flags.{flag_of, codes_of}
 use Rattle.wg_properties.specs.Judged.{judged, properties_of}
+use Rattle.wg_properties.specs.Text.{flags_text}
 use Rattle.wg_num.specs.Lines.{lines_of, without_blanks_before, without_blanks_after}
 use Rattle.wg_properties.specs.Pairs.{is_continued, key_in, value_in}
 use Rattle.wg_properties.specs.Words.{name_of, front_of, end_of, class_name, long_class_name}
@@ -120,3 +121,13 @@ empty_flag = refl
 other_codes : properties_of (written ++ codes "compressionflags=OUTDEGREES_DELTA|BLOCKS_DELTA|REFERENCES_GAMMA|BLOCK_COUNT_DELTA|RESIDUALS_NIBBLE|OFFSETS_DELTA") ≡ Ok (record three { outdegrees = Delta; references = Gamma; block_counts = Delta; blocks = Delta; residuals = Nibble; offsets = Delta })
 unfolding properties_of judged codes_of flag_of lines_of without_blanks_before without_blanks_after is_continued key_in value_in name_of front_of end_of class_name long_class_name number_of digits
 other_codes = refl
+
+-- the words that are written of such codes, in their order, and none of the defaults
+written_words : flags_text (record three { outdegrees = Delta; references = Gamma; block_counts = Unary; blocks = Delta; residuals = Nibble; offsets = Delta })
+    ≡ codes "OUTDEGREES_DELTA | BLOCKS_DELTA | REFERENCES_GAMMA | BLOCK_COUNT_UNARY | RESIDUALS_NIBBLE | OFFSETS_DELTA"
+unfolding front_of end_of
+written_words = refl
+
+no_words : flags_text three ≡ []
+unfolding front_of end_of
+no_words = refl
