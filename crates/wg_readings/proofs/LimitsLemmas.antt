@@ -3,10 +3,9 @@ use Rattle.std.proofs.Common.{◌≡◌, Bool, true, false, not, ◌&&◌, ◌||
 use Rattle.std.proofs.lemmas.Bool.{ltb-false, eqb-false}
 use Rattle.wg_params.specs.declared.key.Key.{Key}
 use Rattle.wg_params.specs.declared.limits.TheConstants.{MOST_PAGES, MOST_ARCS, MOST_WINDOW, MOST_CHAIN, MOST_INTERVAL, MOST_ZETA}
-use Rattle.wg_params.specs.declared.code.Code.{Code}
-use Rattle.wg_params.specs.declared.code.Code.TheVariants.{Unary, Gamma, Delta}
 use Rattle.wg_params.specs.Codes.{IsCode, is_gamma_or_delta, is_unary_gamma_or_delta, is_residual_code}
 use Rattle.wg_params.specs.Parameters.{Parameters, IsWithinLimits, first_bad}
+use Rattle.wg_grammar.proofs.FieldCodes.{gamma_or_delta}
 
 -- the first test of a chain does not hold, and none after it
 not_first : (b : Bool) (key : Key) (rest : Option Key) → cond b (Some key) rest ≡ None → (b ≡ false) × (rest ≡ None)
@@ -48,12 +47,6 @@ within_limits p none =
       offsets = k.5;
     }
 
-of_two : (c : Code) → is_gamma_or_delta c ≡ true → IsCode c
-of_two Gamma h = tt
-of_two Delta h = tt
-of_two Unary h = tt
-of_two _ h = absurd (let no : false ≡ true = h in cc)
-
 -- the code of offsets is one
 pub coded : (p : Parameters) → IsWithinLimits p → IsCode p.offsets
-coded p limits = of_two p.offsets limits.offsets
+coded p limits = gamma_or_delta p.offsets limits.offsets
