@@ -2,7 +2,7 @@
 ghost use Rattle.std.specs.Prelude.{◌≡◌, ◌<◌, ◌≤◌, ◌^◌, ◌∷◌, ◌++◌, codes, decimal, length, drop, IfSome, IsTrue};
 ghost use Rattle.wg_arcs.specs.Text.{arc_line};
 
-use wg_num::leading_decimal;
+use wg_num::leading_15_digits;
 
 // The text after its first byte, if that is this one.
 #[inline(always)]
@@ -22,9 +22,9 @@ pub fn plain_arc(text: &[u8]) -> Option<(u64, u64, &[u8])>
     ensures line { IfSome result (λ r. text.now ≡ arc_line (r.0, r.1) ++ r.2.now) }
     ensures low { IfSome result (λ r. (r.0 < 2 ^ 64) × (r.1 < 2 ^ 64)) }
 {
-    let (from, from_end) = leading_decimal(text)?;
+    let (from, from_end) = leading_15_digits(text)?;
     let second = after(&text[from_end..], b' ')?;
-    let (to, to_end) = leading_decimal(second)?;
+    let (to, to_end) = leading_15_digits(second)?;
     let rest = after(&second[to_end..], b'\n')?;
     Some((from, to, rest))
 }
@@ -58,7 +58,7 @@ pub fn plain_arc_of<'a>(page: u64, start: &[u8], text: &'a [u8]) -> Option<(u64,
         return None;
     }
     let second = &text[start.len()..];
-    let (to, to_end) = leading_decimal(second)?;
+    let (to, to_end) = leading_15_digits(second)?;
     let rest = after(&second[to_end..], b'\n')?;
     Some((to, rest))
 }

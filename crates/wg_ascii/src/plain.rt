@@ -6,7 +6,7 @@ ghost use Rattle.wg_graph.specs.Ascending.{Ascends, Below};
 ghost use Rattle.wg_ascii.specs.Text.{list_line};
 
 use wg_graph::List;
-use wg_num::leading_decimal;
+use wg_num::leading_15_digits;
 use wg_params::MOST_ARCS;
 
 /// Reads the successors of a page from the first line of a text, and answers the text after this line; so many arcs
@@ -30,7 +30,7 @@ pub fn plain_list<'a>(list: &mut List, text: &'a [u8], n: u64, arcs: u64) -> Opt
     let mut count = arcs;
     let mut rest = text;
     'words: loop {
-        let (number, end) = leading_decimal(rest)?;
+        let (number, end) = leading_15_digits(rest)?;
         if number < least || n <= number || MOST_ARCS <= count {
             return None;
         }

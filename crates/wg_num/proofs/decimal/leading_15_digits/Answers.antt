@@ -4,8 +4,8 @@ use Rattle.std.proofs.lemmas.Bool.{false≢true}
 use Rattle.std.proofs.lemmas.List.{length-take-le}
 use Rattle.wg_num.proofs.Numbers.{more_digits, value_more, in_range, digit_fits, few_digits, digits_text, number_of-none}
 use Rattle.wg_num.proofs.Leading.{leading_are, leading_some, leading_none}
-use Rattle.wg_num.proofs.decimal.leading_decimal.Goals as goal
-use Rattle.wg_num.proofs.decimal.leading_decimal.Goals.{then-digits-test+else-is_ascii_digit, else-digits-test, then-count-eq0-via-then-count-eq0, then-count-eq0-via-else-count-eq0+then-has_zero_in_front}
+use Rattle.wg_num.proofs.decimal.leading_15_digits.Goals as goal
+use Rattle.wg_num.proofs.decimal.leading_15_digits.Goals.{then-digits-test+else-is_ascii_digit, else-digits-test, then-count-eq0-via-then-count-eq0, then-count-eq0-via-else-count-eq0+then-has_zero_in_front}
 
 -- a digit's value
 digit_low : (c : ℕ) → is_ascii_digit c ≡ true → c - 48 < 10

@@ -1,6 +1,6 @@
 use Rattle.std.proofs.Common.{◌≡◌, ◌-◌, ◌*◌, ◌^◌, ◌<◌, ◌≤◌, take}
 use Rattle.std.specs.Str.Parse.{AllDigits, digits_value}
-use Rattle.wg_num.proofs.decimal.leading_decimal.Given as goal
+use Rattle.wg_num.proofs.decimal.leading_15_digits.Given as goal
 
 -- the bytes so far are digits, and write the value
 abbrev pub invariant-digits : goal.invariant-digits
