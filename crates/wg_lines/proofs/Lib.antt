@@ -1,3 +1,4 @@
+pub mod HoldLemmas
 pub mod LineLemmas
 pub mod NumberLines
 pub mod PrintLemmas

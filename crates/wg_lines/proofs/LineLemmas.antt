@@ -7,7 +7,7 @@ use Rattle.std.proofs.lemmas.List.Splits.{length-slice_split}
 use Rattle.wg_outside.specs.declared.limits.TheConstants.{MOST_BYTES}
 use Rattle.wg_num.specs.Lines.{lines_of, without_empty_end}
 use Rattle.wg_num.proofs.Cuts.{is_end, not_the_end, no_lines}
-use Rattle.wg_lines.specs.Reading.{Held, end_of, lines_after, lines_ahead, IsWhole}
+use Rattle.wg_lines.specs.Reading.{HeldLines, end_of, lines_after, lines_ahead, IsWhole}
 
 -- ---- lines behind whole lines
 
@@ -49,37 +49,37 @@ after_whole xs ys (inr end) =
 -- ---- what is held
 
 -- the lines that were lent are passed
-pub passed_ahead : (file : List ℕ) (g h : Held) → h ≡ record g { first = g.first + length g.lines; lines = [] } → lines_after file g ≡ lines_ahead file h
+pub passed_ahead : (file : List ℕ) (g h : HeldLines) → h ≡ record g { first = g.first + length g.lines; lines = [] } → lines_after file g ≡ lines_ahead file h
 passed_ahead file g h is =
     let end : end_of g ≡ g.first + length g.lines + 0 + length g.rest = omega arith in
     let rest : List ℕ = g.rest ++ drop (g.first + length g.lines + 0 + length g.rest) file in
-    ap (λ (n : ℕ). lines_of (g.rest ++ drop n file)) end ∙ ap (λ (l : List (List ℕ)). l ++ lines_of rest) (sym (none_of [] refl)) ∙ ap (λ (x : Held). lines_ahead file x) (sym is)
+    ap (λ (n : ℕ). lines_of (g.rest ++ drop n file)) end ∙ ap (λ (l : List (List ℕ)). l ++ lines_of rest) (sym (none_of [] refl)) ∙ ap (λ (x : HeldLines). lines_ahead file x) (sym is)
 
 -- nothing was read that is not lent
-all_lent : (file : List ℕ) (h : Held) → h.rest ≡ [] → length file ≤ end_of h → lines_ahead file h ≡ lines_of h.lines
+all_lent : (file : List ℕ) (h : HeldLines) → h.rest ≡ [] → length file ≤ end_of h → lines_ahead file h ≡ lines_of h.lines
 all_lent file h none end =
     ap (λ (l : List (List ℕ)). lines_of h.lines ++ l) (none_of (h.rest ++ drop (end_of h) file) (ap (λ (l : List ℕ). l ++ drop (end_of h) file) none ∙ drop_all (end_of h) file end)) ∙ append-nil (lines_of h.lines)
 
 -- at the end of the file all that is left is lent
-pub rest_lent : (file : List ℕ) (g h : Held) → g.lines ≡ [] → length file ≤ end_of g → h ≡ record g { lines = g.rest; rest = [] } → lines_ahead file h ≡ lines_of h.lines
+pub rest_lent : (file : List ℕ) (g h : HeldLines) → g.lines ≡ [] → length file ≤ end_of g → h ≡ record g { lines = g.rest; rest = [] } → lines_ahead file h ≡ lines_of h.lines
 rest_lent file g h none end is =
-    all_lent file h (ap (λ (x : Held). x.rest) is)
-    (omega (arith, ap (λ (x : Held). x.first) is, ap (λ (x : Held). length x.lines) is, ap (λ (x : Held). length x.rest) is, ap length none))
+    all_lent file h (ap (λ (x : HeldLines). x.rest) is)
+    (omega (arith, ap (λ (x : HeldLines). x.first) is, ap (λ (x : HeldLines). length x.lines) is, ap (λ (x : HeldLines). length x.rest) is, ap length none))
 
-pub rest_ahead : (file : List ℕ) (g h : Held) → g.lines ≡ [] → length file ≤ end_of g → h ≡ record g { lines = g.rest; rest = [] } → lines_ahead file h ≡ lines_ahead file g
+pub rest_ahead : (file : List ℕ) (g h : HeldLines) → g.lines ≡ [] → length file ≤ end_of g → h ≡ record g { lines = g.rest; rest = [] } → lines_ahead file h ≡ lines_ahead file g
 rest_ahead file g h none end is =
-    rest_lent file g h none end is ∙ ap (λ (x : Held). lines_of x.lines) is
+    rest_lent file g h none end is ∙ ap (λ (x : HeldLines). lines_of x.lines) is
     ∙ sym (ap (λ (l : List (List ℕ)). l ++ lines_of (g.rest ++ drop (end_of g) file)) (none_of g.lines none)
     ∙ ap (λ (l : List ℕ). lines_of (g.rest ++ l)) (drop_all (end_of g) file end) ∙ ap lines_of (append-nil g.rest))
 
-pub rest_short : (g h : Held) → h ≡ record g { lines = g.rest; rest = [] } → end_of g ≤ MOST_BYTES → end_of h ≤ MOST_BYTES
-rest_short g h is le = omega (arith, ap (λ (x : Held). x.first) is, ap (λ (x : Held). length x.lines) is, ap (λ (x : Held). length x.rest) is, le)
+pub rest_short : (g h : HeldLines) → h ≡ record g { lines = g.rest; rest = [] } → end_of g ≤ MOST_BYTES → end_of h ≤ MOST_BYTES
+rest_short g h is le = omega (arith, ap (λ (x : HeldLines). x.first) is, ap (λ (x : HeldLines). length x.lines) is, ap (λ (x : HeldLines). length x.rest) is, le)
 
 -- a piece more is held
-pub held_end : (g h : Held) (piece : List ℕ) (count : ℕ) → g.lines ≡ [] → h.first ≡ g.first → h.lines ++ h.rest ≡ g.rest ++ piece → length piece ≡ count → end_of h ≡ end_of g + count
+pub held_end : (g h : HeldLines) (piece : List ℕ) (count : ℕ) → g.lines ≡ [] → h.first ≡ g.first → h.lines ++ h.rest ≡ g.rest ++ piece → length piece ≡ count → end_of h ≡ end_of g + count
 held_end g h piece count none first bytes size = omega (arith, first, ap length bytes, length-append h.lines h.rest, length-append g.rest piece, ap length none, size)
 
-pub held_ahead : (file : List ℕ) (g h : Held) (piece : List ℕ) (count : ℕ) → g.lines ≡ [] → h.first ≡ g.first → h.lines ++ h.rest ≡ g.rest ++ piece → IsWhole h.lines
+pub held_ahead : (file : List ℕ) (g h : HeldLines) (piece : List ℕ) (count : ℕ) → g.lines ≡ [] → h.first ≡ g.first → h.lines ++ h.rest ≡ g.rest ++ piece → IsWhole h.lines
     → length piece ≡ count → piece ≡ take count (drop (end_of g) file) → lines_ahead file h ≡ lines_ahead file g
 held_ahead file g h piece count none first bytes whole size is =
     let behind : List ℕ = drop (end_of h) file in
@@ -91,7 +91,7 @@ held_ahead file g h piece count none first bytes whole size is =
     ∙ ap (λ (l : List (List ℕ)). l ++ lines_of (g.rest ++ drop (end_of g) file)) (sym (none_of g.lines none))
 
 -- before the first piece
-pub all_after : (file : List ℕ) (h : Held) → h.first ≡ 0 → h.lines ≡ [] → h.rest ≡ [] → lines_after file h ≡ lines_of file
+pub all_after : (file : List ℕ) (h : HeldLines) → h.first ≡ 0 → h.lines ≡ [] → h.rest ≡ [] → lines_after file h ≡ lines_of file
 all_after file h first lines rest =
     let end : end_of h ≡ 0 = omega (arith, first, ap length lines, ap length rest) in
     ap (λ (l : List ℕ). lines_of (l ++ drop (end_of h) file)) rest ∙ ap (λ (n : ℕ). lines_of (drop n file)) end

@@ -4,7 +4,7 @@ use Rattle.wg_outside.specs.declared.limits.TheConstants.{MOST_BYTES}
 use Rattle.wg_outside.specs.declared.whole.LoadError.{LoadError}
 use Rattle.wg_outside.specs.Reads.{Reads, IsPieceOf}
 use Rattle.wg_num.specs.Lines.{lines_of}
-use Rattle.wg_lines.specs.Reading.{Held, IsReadable, lines_ahead}
+use Rattle.wg_lines.specs.Reading.{HeldLines, IsReadable, lines_ahead}
 
 -- no byte is at the limit
 pub readable : (o : Option (List ℕ)) (buf : List ℕ) (count : ℕ) → Reads o (MOST_BYTES) buf (Ok count) → count ≤ 0 → IsReadable o
@@ -36,7 +36,7 @@ pub not_true : ◌≡◌ {A = Result Bool LoadError} (Ok false) (Ok true) → �
 not_true is = cc is
 
 -- what is said of the end of a file, in a case that does not come
-pub not_ended : (file : List ℕ) (h : Held) → ⊥ → lines_ahead file h ≡ lines_of h.lines
+pub not_ended : (file : List ℕ) (h : HeldLines) → ⊥ → lines_ahead file h ≡ lines_of h.lines
 not_ended file h bad = absurd bad
 
 -- where the reading stands after a piece more

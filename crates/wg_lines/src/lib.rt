@@ -22,7 +22,7 @@
 //! ```
 //!
 //! `Lines` holds its buffer of 8192 bytes and takes no memory. Each call takes time in proportion to what it prints,
-//! and now and then to the buffer. A `LineReader` holds up to 65536 bytes and the line that they cut, and goes over
+//! and now and then to the buffer. A `LineReader` holds part of one line and up to 65536 bytes behind it, and goes over
 //! each byte twice: to copy it, and to look for the last end of a line.
 //!
 //! Choices:

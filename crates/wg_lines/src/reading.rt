@@ -1,11 +1,12 @@
 // Files in whole lines.
-ghost use Rattle.std.specs.Prelude.{◌≡◌, ◌+◌, ◌<◌, ◌≤◌, List, ℕ, Some, Ok, Err, true, false, [], ◌++◌, length, take, drop, IsTrue, IsErrOf, IfOk, IfErr, OnOk, OnErr};
+ghost use Rattle.std.specs.Prelude.{◌≡◌, ◌≢◌, ◌+◌, ◌<◌, ◌≤◌, List, ℕ, Some, Ok, Err, true, false, [], ◌++◌, length, slice_index, take, drop, IsTrue, IsErrOf, IfOk, IfErr, OnOk, OnErr};
 ghost use Rattle.std.specs.FinMap as map;
 ghost use Rattle.wg_outside.specs.declared.limits.TheConstants.{MOST_BYTES};
+ghost use Rattle.wg_lines.specs.declared.reading.TheConstants.{PIECE};
 ghost use Rattle.wg_outside.specs.Outside.{NonDecreasing, Increased};
 ghost use Rattle.wg_outside.specs.Reads.{Loads};
 ghost use Rattle.wg_num.specs.Lines.{lines_of};
-ghost use Rattle.wg_lines.specs.Reading.{end_of, lines_after, lines_ahead, IsReadable, IsWhole};
+ghost use Rattle.wg_lines.specs.Reading.{end_of, lines_after, lines_ahead, HoldsAPiece, IsReadable, IsWhole};
 
 use std::alloc::{AllocError, Global};
 use std::marker::Model;
@@ -38,6 +39,7 @@ fn whole_lines(bytes: &[u8], from: usize) -> usize
     requires { from ≤ length bytes.now }
     ensures within { result ≤ length bytes.now }
     ensures whole { IsWhole (take result bytes.now) }
+    ensures none { (k : ℕ) → from ≤ k → result ≤ k → k < length bytes.now → slice_index bytes.now k ≢ 10 }
 {
     for index in (from..bytes.len()).rev() {
         if bytes[index] == b'\n' {
@@ -59,8 +61,8 @@ fn drop_front(bytes: &mut Vec<u8>, count: usize)
 
 /// A file that is read line after line, in pieces of at most 65536 bytes.
 ///
-/// It lends whole lines, as many as a piece has. Of the file it holds these, and the front of the line after them,
-/// which the piece cuts: so a piece, or more if a line is longer. Each byte is read once.
+/// It lends whole lines, as many as a piece has. Of the file it holds part of one line, and up to a piece behind it: so
+/// at most a piece and the longest line so far. Each byte is read once.
 #[derive(Debug, Drop)]
 pub struct LineReader {
     // what was read and is not passed; the first `whole` bytes are lent
@@ -73,13 +75,14 @@ pub struct LineReader {
 impl Model for LineReader {
     ghost use Rattle.std.specs.Prelude.{◌+◌, ◌≤◌, length, take, drop};
     ghost use Rattle.wg_outside.specs.declared.limits.TheConstants.{MOST_BYTES};
-    ghost use Rattle.wg_lines.specs.Reading.{Held};
+    ghost use Rattle.wg_lines.specs.Reading.{HeldLines, HoldsAPiece, held_lines};
 
-    ghost Value = { Held };
+    ghost Value = { HeldLines };
 
-    ghost view = { λ r. record { first = r.first; lines = take r.whole r.bytes.items; rest = drop r.whole r.bytes.items } };
+    ghost view = { λ r. held_lines r.first r.whole r.bytes.items };
 
-    ghost invariant = { λ r. (r.whole ≤ length r.bytes.items) × (r.first + length r.bytes.items ≤ MOST_BYTES) };
+    ghost invariant = { λ r. (r.whole ≤ length r.bytes.items) × (r.first + length r.bytes.items ≤ MOST_BYTES)
+        × HoldsAPiece (held_lines r.first r.whole r.bytes.items) };
 }
 
 impl LineReader {
@@ -112,6 +115,7 @@ impl LineReader {
     pub fn lines(&self) -> &[u8]
         ensures value { result.now ≡ self.now.lines }
         ensures within { self.now.first + length result.now ≤ MOST_BYTES }
+        ensures piece { HoldsAPiece self.now }
     {
         &self.bytes[..self.whole]
     }
@@ -145,6 +149,7 @@ impl LineReader {
     // Holds some bytes more, and lends the lines that end among them.
     fn hold(&mut self, piece: &[u8]) -> Result<(), AllocError>
         requires none { self.old.lines ≡ [] }
+        requires piece { length piece.now ≤ PIECE }
         requires short { end_of self.old + length piece.now ≤ MOST_BYTES }
         ensures first { self.new.first ≡ self.old.first }
         ensures bytes { OnOk result (self.new.lines ++ self.new.rest ≡ self.old.rest ++ piece.now) }
@@ -153,7 +158,8 @@ impl LineReader {
     {
         let before = self.bytes.len();
         self.bytes.extend_from_slice(piece)?;
-        self.whole = whole_lines(&self.bytes, before);
+        let whole = whole_lines(&self.bytes, before);
+        self.whole = whole;
         Ok(())
     }
 

@@ -5,14 +5,14 @@ use Rattle.wg_outside.specs.Outside.{Files}
 use Rattle.wg_outside.specs.Reads.{Loads}
 use Rattle.wg_outside.proofs.FilesLemmas.{none_falls-trans}
 use Rattle.wg_outside.proofs.LoadLemmas.{no_error, no_rise, risen}
-use Rattle.wg_lines.specs.Reading.{Held}
+use Rattle.wg_lines.specs.Reading.{HeldLines}
 use Rattle.wg_lines.proofs.LineLemmas.{none_of, passed_ahead}
 use Rattle.wg_lines.proofs.ReadingLemmas.{no_answer, none_lent, not_false, some_lent}
 use Rattle.wg_lines.proofs.reading.LineReader.advance.Goals as goal
 
 pub loop-self-init : goal.loop-self-init
 loop-self-init g c = record {
-  first = ap (λ (h : Held). h.first) c.pass.ensures.value;
+  first = ap (λ (h : HeldLines). h.first) c.pass.ensures.value;
   short = c.pass.ensures.short;
   lines = λ t file is. passed_ahead file c.args.self.now c.pass.new.self c.pass.ensures.value;
   same = refl;

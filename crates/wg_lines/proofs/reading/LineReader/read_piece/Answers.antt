@@ -3,7 +3,7 @@ use Rattle.std.proofs.lemmas.List.{length-take-le}
 use Rattle.std.proofs.lemmas.Result.{err_from_is_err_and}
 use Rattle.wg_outside.specs.declared.limits.TheConstants.{MOST_BYTES}
 use Rattle.wg_outside.proofs.LoadLemmas.{held_not_absent, held_not_failed, long_not_absent, long_not_failed, no_error, no_rise, past_limit, unheld, unread, was_absent, was_failed}
-use Rattle.wg_lines.specs.Reading.{Held}
+use Rattle.wg_lines.specs.Reading.{HeldLines}
 use Rattle.wg_lines.proofs.LineLemmas.{held_ahead, held_end, rest_ahead, rest_lent, rest_short}
 use Rattle.wg_lines.proofs.ReadingLemmas.{more_read, no_answer, not_ended, not_false, not_true, piece_of, read_out, short_read}
 use Rattle.wg_lines.proofs.reading.LineReader.read_piece.Goals as goal
@@ -70,7 +70,7 @@ returns-then-count-eq0 g c =
           let p = piece_of _ file c.end-end.result _ c.in_ok-count.count is (r.bytes t) in
           rest_lent file c.args.self.now c.lend_rest.new.self c.requires (read_out _ _ _ (p.end c.if-count-eq0.true) c.end-end.ensures.offset) lent;
       more = λ ok. absurd (not_false ok);
-      first = ap (λ (h : Held). h.first) lent;
+      first = ap (λ (h : HeldLines). h.first) lent;
       short = rest_short c.args.self.now c.lend_rest.new.self lent (subst (λ (n : ℕ). n ≤ MOST_BYTES) c.end-end.ensures.offset c.end-end.ensures.short);
       refused = λ t. tt;
       same = r.same;
