@@ -10,8 +10,8 @@ use std::alloc::{AllocError, Global};
 use std::marker::Model;
 use wg_params::MOST_ARCS;
 
-/// A graph in the making: its lists up to the last page that is begun. Memory is taken as the arcs come, and only
-/// [`GraphBuilder::finish`] takes some for pages without arcs that follow.
+/// A graph in the making: its lists up to the last page that is begun. It holds 8 bytes for each arc and 8 for each of
+/// these pages; [`GraphBuilder::finish`] takes 8 for each page that follows.
 #[derive(Debug)]
 pub struct GraphBuilder {
     nodes: u64,
@@ -106,7 +106,7 @@ impl GraphBuilder {
         x < self.nodes() && v < self.nodes() && self.is_after_all(x, v) && self.arcs() < MOST_ARCS
     }
 
-    /// Adds an arc, in constant time on average but for the pages without arcs that it passes over.
+    /// Adds an arc, in constant time on average but for the pages without arcs that it passes over, of 8 bytes each.
     #[inline(always)]
     pub fn push(&mut self, x: u64, v: u64) -> Result<(), AllocError>
         requires { FollowsOn self.old x v }
@@ -133,7 +133,7 @@ impl GraphBuilder {
         Ok(())
     }
 
-    /// The graph; pages that were not begun have no successors. It takes one step for each of these.
+    /// The graph; pages that were not begun have no successors. It takes one step and 8 bytes for each of these.
     pub fn finish(self) -> Result<Graph, AllocError>
         ensures nodes { IfOk result (λ g. g.nodes ≡ self.nodes) }
         ensures lists { IfOk result (λ g. g.lists ≡ padded self.nodes self.lists) }

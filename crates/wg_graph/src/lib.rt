@@ -27,8 +27,8 @@
 //! lemmas on them serve every crate that copies, joins or writes lists.
 //!
 //! A graph holds 8 bytes for each arc and 8 for each page, and lends any list in constant time. Building it takes time
-//! in proportion to its arcs and pages. Memory is taken as the arcs come, and never by the number of pages that is
-//! claimed.
+//! in proportion to its arcs and pages. [`GraphBuilder::new`] takes no memory for the pages that are claimed;
+//! [`GraphBuilder::push`] takes it for those up to the one of its arc, and [`GraphBuilder::finish`] for all others.
 //!
 //! Choices:
 //!
