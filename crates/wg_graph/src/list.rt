@@ -223,13 +223,15 @@ impl List {
         Ok(())
     }
 
-    /// Puts the numbers of two ascending lists in place of its own: ascending, a number of both once.
+    /// Puts the numbers of two ascending lists in place of its own: ascending, a number of both once. It has none after
+    /// an error.
     #[inline(never)]
     pub fn put_union(&mut self, members: &[u64], numbers: &[u64]) -> Result<(), AllocError>
         requires members { Ascends 0 members.now }
         requires numbers { Ascends 0 numbers.now }
-        ensures { OnOk result ((n : ℕ) → Below n members.now → Below n numbers.now
+        ensures ok { OnOk result ((n : ℕ) → Below n members.now → Below n numbers.now
             → self.new ≡ numbers_where (is_in_either members.now numbers.now) 0 n) }
+        ensures err { OnErr result (self.new ≡ []) }
     {
         self.len = 0;
         have_room(&mut self.numbers, 0, members.len() + numbers.len())?;
@@ -250,6 +252,7 @@ impl List {
         ensures joined { IfOk result (λ to. (numbers : ListOf ℕ) (m : ℕ) → m ≤ number
             → Joined members.now numbers from self.old m
             → Joined members.now (numbers ++ number ∷ []) to self.new (suc number)) }
+        ensures err { OnErr result (self.new ≡ self.old) }
     {
         have_room(&mut self.numbers, self.len, members.len() - from + 1)?;
         let (end, taken) = write_joined(&mut self.numbers, self.len, members, from, number);
