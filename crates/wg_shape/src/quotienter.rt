@@ -117,6 +117,8 @@ impl<'a, L: Lists + Drop> Quotienter<'a, L> {
         ensures some { OnOk result (self.old.to < self.old.pages.count → self.old.to < self.new.to) }
         ensures enough { OnOk result (self.new.to < self.old.pages.count
             → room ≤ arcs_from self.old.pages self.old.to self.new.to) }
+        ensures least { OnOk result ((class : ℕ) → self.old.to < class → class < self.new.to
+            → arcs_from self.old.pages self.old.to class < room) }
         ensures err { OnErr result (self.new.to ≡ self.old.to) }
     {
         self.ranges.advance(alloc, room, &mut self.reached)

@@ -1,5 +1,5 @@
 //! Lists that stand one after the other in an array, range after range of lists, if it is counted how long each is.
-ghost use Rattle.std.specs.Prelude.{◌≡◌, ◌⊎◌, ℕ, ◌+◌, ◌-◌, ◌*◌, ◌^◌, ◌<◌, ◌≤◌, List, [], length, get_or, take, sum, slice_index, slice_range, slice_set, OnOk, OnErr};
+ghost use Rattle.std.specs.Prelude.{◌≡◌, ◌⊎◌, ℕ, ◌+◌, ◌-◌, ◌*◌, ◌/◌, ◌^◌, ◌<◌, ◌≤◌, max, List, [], length, get_or, take, sum, slice_index, slice_range, slice_set, OnOk, OnErr};
 ghost use Rattle.wg_params.specs.declared.limits.TheConstants.{MOST_ARCS};
 ghost use Rattle.wg_transpose.specs.SoFar.{onward, start, AreCounts, ArePrefixes};
 ghost use Rattle.wg_transpose.specs.Transposing.{Holds, HoldsLists, numbers_between};
@@ -27,8 +27,9 @@ pub trait Placing {
 }
 
 /// How many arcs a range is to have at least, so that a graph of so many arcs is gone through in 15 ranges at most: a
-/// fourteenth of them, and 2^24 if that is more.
+/// fourteenth of them, rounded up, and 2^24 if that is more.
 pub fn range_room(arcs: u64) -> u64
+    ensures exact { result ≡ max ((arcs + 13) / 14) (2 ^ 24) }
     ensures least { 2 ^ 24 ≤ result }
     ensures few { arcs ≤ 14 * result }
 {
