@@ -8,7 +8,7 @@ use Rattle.wg_transpose.specs.SoFar.{AreCounts, ArePlaced}
 use Rattle.wg_runs.specs.declared.run.PageRun.{PageRun}
 use Rattle.wg_runs.specs.Runs.{Counted, IsCountOf, runs_to}
 use Rattle.wg_runs.specs.Held.{AreFilled, HoldsRuns}
-use Rattle.wg_runs.specs.InLists.{HoldsLists}
+use Rattle.wg_runs.specs.InLists.{HoldsSources}
 use Rattle.wg_runs.proofs.Whole.{few_in_all}
 
 -- before a page is counted, each has the same number
@@ -46,7 +46,7 @@ runs_held g c ends ends' runs runs' h e r filled = rw (e, r) record {
 -- the lists that were filled in, in the arrays that hold them
 pub lists_held : (g : Digraph) (c : Counted) (ends ends' sources sources' : List ℕ) → IsCountOf g c
     → ends' ≡ ends → sources' ≡ sources → ArePlaced g (predecessors g) ends sources
-    → HoldsLists g ends' sources' c.degrees
+    → HoldsSources g ends' sources' c.degrees
 lists_held g c ends ends' sources sources' h e s placed = rw (e, s) record {
   proper = h.proper;
   few_pages = h.few_pages;

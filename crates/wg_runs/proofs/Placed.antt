@@ -13,7 +13,7 @@ use Rattle.wg_transpose.proofs.Seen.{with_page, none_seen, all_seen}
 use Rattle.wg_transpose.proofs.Places.{longer, place_fits, place_more, same_prefixes}
 use Rattle.wg_transpose.proofs.Steps.{page_more, page_fits}
 use Rattle.wg_transpose.proofs.Whole.{begins_at, ends_within, is_transposed, list_is}
-use Rattle.wg_runs.specs.InLists.{graph_of, HoldsLists}
+use Rattle.wg_runs.specs.InLists.{graph_of_sources, HoldsSources}
 use Rattle.wg_runs.proofs.Steps.{target_below}
 
 -- ---- the arcs of page k, of which j are placed
@@ -85,10 +85,10 @@ all_below n (x ∷ xs) below = All-cons (λ (u : ℕ). u < n) x xs below.0 (all_
 pub sources_within : (g : Digraph) (v : ℕ) → All (λ u. u < g.nodes) (predecessors g v)
 sources_within g v = all_below g.nodes (predecessors g v) (below-where (λ u. has_arc g u v) 0 g.nodes g.nodes (omega arith))
 
-module _ (g : Digraph) (ends sources degrees : List ℕ) (h : HoldsLists g ends sources degrees) where
-  pub seen_as : graph_of ends sources ≡ g
-  unfolding graph_of
+module _ (g : Digraph) (ends sources degrees : List ℕ) (h : HoldsSources g ends sources degrees) where
+  pub seen_as : graph_of_sources ends sources ≡ g
+  unfolding graph_of_sources
   seen_as = ap transposed (is_transposed g ends sources h.lists) ∙ gives_back g h.proper
 
-  pub held_as_seen : HoldsLists (graph_of ends sources) ends sources degrees
-  held_as_seen = subst (λ (d : Digraph). HoldsLists d ends sources degrees) (sym seen_as) h
+  pub held_as_seen : HoldsSources (graph_of_sources ends sources) ends sources degrees
+  held_as_seen = subst (λ (d : Digraph). HoldsSources d ends sources degrees) (sym seen_as) h

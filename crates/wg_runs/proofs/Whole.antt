@@ -16,7 +16,7 @@ use Rattle.wg_transpose.proofs.Totals.{start_of_all}
 use Rattle.wg_runs.specs.declared.run.PageRun.{PageRun}
 use Rattle.wg_runs.specs.declared.run.TheConstants.{MOST_PAGES_IN_RUNS}
 use Rattle.wg_runs.specs.Runs.{numbers_of_all, StandApart, runs_to, run_start}
-use Rattle.wg_runs.specs.Held.{runs_below, AreCounted, AreFilled, AreBegun, list_at, graph_of, HoldsRuns}
+use Rattle.wg_runs.specs.Held.{runs_below, AreCounted, AreFilled, AreBegun, list_at, graph_of_runs, HoldsRuns}
 use Rattle.wg_runs.proofs.Listed.{numbers_are, stand_apart, within_from}
 use Rattle.wg_runs.proofs.Grown.{few_runs}
 use Rattle.wg_runs.proofs.Stands.{start_few, sum_is_start}
@@ -86,8 +86,8 @@ module _ (g : Digraph) (v : ℕ) where
 
 -- ---- the graph that the runs are seen as
 
-pub graph_is : (g : Digraph) (ends : List ℕ) (runs : List PageRun) → IsGraph g → AreFilled g.nodes (runs_to g) (runs_to g) ends runs → graph_of ends runs ≡ g
-unfolding graph_of
+pub graph_is : (g : Digraph) (ends : List ℕ) (runs : List PageRun) → IsGraph g → AreFilled g.nodes (runs_to g) (runs_to g) ends runs → graph_of_runs ends runs ≡ g
+unfolding graph_of_runs
 graph_is g ends runs ok h =
     let numbers : ℕ → List ℕ = λ v. numbers_of_all (list_at ends runs v) in
     let size : length (map numbers (range_with_len 0 (length ends))) ≡ g.nodes = length-map-range_with_len numbers 0 (length ends) ∙ h.pages in
@@ -100,8 +100,8 @@ graph_is g ends runs ok h =
 
 -- the same, and the outdegrees
 module _ (g : Digraph) (ends : List ℕ) (runs : List PageRun) (degrees : List ℕ) (h : HoldsRuns g ends runs degrees) where
-  pub seen_as : graph_of ends runs ≡ g
+  pub seen_as : graph_of_runs ends runs ≡ g
   seen_as = graph_is g ends runs h.proper h.lists
 
-  pub held_as_seen : HoldsRuns (graph_of ends runs) ends runs degrees
+  pub held_as_seen : HoldsRuns (graph_of_runs ends runs) ends runs degrees
   held_as_seen = subst (λ (d : Digraph). HoldsRuns d ends runs degrees) (sym seen_as) h

@@ -49,8 +49,8 @@ abbrev pub list_at : List ℕ → List PageRun → ℕ → List PageRun
 list_at ends runs v = slice_range runs (get_or (0 ∷ ends) v 0) (get_or ends v 0)
 
 -- the graph in which each page has the predecessors that stand there
-unfoldable pub graph_of : List ℕ → List PageRun → Digraph
-graph_of ends runs = transposed
+unfoldable pub graph_of_runs : List ℕ → List PageRun → Digraph
+graph_of_runs ends runs = transposed
     (record {
       nodes = length ends;
       lists = map (λ v. numbers_of_all (list_at ends runs v)) (range_with_len 0 (length ends));

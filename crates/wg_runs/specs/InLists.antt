@@ -9,11 +9,11 @@ use Rattle.wg_runs.specs.declared.run.TheConstants.{MOST_PAGES_IN_RUNS}
 use Rattle.wg_runs.specs.Runs.{AreDegrees}
 
 -- the graph in which each page has the predecessors that stand there
-unfoldable pub graph_of : List ℕ → List ℕ → Digraph
-graph_of ends sources = transposed (cut (length ends) ends sources)
+unfoldable pub graph_of_sources : List ℕ → List ℕ → Digraph
+graph_of_sources ends sources = transposed (cut (length ends) ends sources)
 
 -- these are the pages that link to each page of the graph, and the outdegrees
-pub record HoldsLists (g : Digraph) (ends sources degrees : List ℕ) : Type 0 where
+pub record HoldsSources (g : Digraph) (ends sources degrees : List ℕ) : Type 0 where
   pub proper : IsGraph g
   pub few_pages : g.nodes ≤ MOST_PAGES_IN_RUNS
   pub few_arcs : arc_count g ≤ MOST_ARCS

@@ -10,7 +10,7 @@ ghost use Rattle.wg_runs.specs.declared.run.TheConstants.{MOST_PAGES_IN_RUNS};
 
 use crate::PageRun;
 use wg_graph::Lists;
-use wg_transpose::ranges::set_starts;
+use wg_transpose::set_starts;
 
 // Makes the last run to each page of the list longer by page `page`, or begins one, and notes that it ends behind page
 // `page` now.

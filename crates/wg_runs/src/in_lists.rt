@@ -3,7 +3,7 @@ ghost use Rattle.std.specs.Prelude.{◌≡◌, ◌≤◌, ◌<◌, All};
 ghost use Rattle.wg_params.specs.declared.limits.TheConstants.{MOST_ARCS};
 ghost use Rattle.wg_graph.specs.Digraph.{Digraph, IsGraph, arc_count, outdegree};
 ghost use Rattle.wg_transpose.specs.Transposed.{predecessors};
-ghost use Rattle.wg_runs.specs.InLists.{HoldsLists};
+ghost use Rattle.wg_runs.specs.InLists.{HoldsSources};
 ghost use Rattle.wg_runs.specs.declared.run.TheConstants.{MOST_PAGES_IN_RUNS};
 
 use crate::spans::span;
@@ -33,13 +33,13 @@ impl Drop for InLists {
 
 impl Model for InLists {
     ghost use Rattle.wg_graph.specs.Digraph.{Digraph};
-    ghost use Rattle.wg_runs.specs.InLists.{graph_of, HoldsLists};
+    ghost use Rattle.wg_runs.specs.InLists.{graph_of_sources, HoldsSources};
 
     ghost Value = { Digraph };
 
-    ghost view = { λ l. graph_of l.ends.items l.sources.items };
+    ghost view = { λ l. graph_of_sources l.ends.items l.sources.items };
 
-    ghost invariant = { λ l. HoldsLists (graph_of l.ends.items l.sources.items) l.ends.items l.sources.items
+    ghost invariant = { λ l. HoldsSources (graph_of_sources l.ends.items l.sources.items) l.ends.items l.sources.items
         l.degrees.items };
 }
 
@@ -47,8 +47,8 @@ impl InLists {
     // The lists of the pages that link to each page of a graph, one after the other, up to these ends, and its
     // outdegrees.
     pub(crate) fn from_parts(ends: Vec<u64>, sources: Vec<u32>, degrees: Vec<u32>) -> InLists
-        requires { (g : Digraph) × HoldsLists g ends.items sources.items degrees.items }
-        ensures { (g : Digraph) → HoldsLists g ends.items sources.items degrees.items → result ≡ g }
+        requires { (g : Digraph) × HoldsSources g ends.items sources.items degrees.items }
+        ensures { (g : Digraph) → HoldsSources g ends.items sources.items degrees.items → result ≡ g }
     {
         InLists {
             ends,

@@ -8,7 +8,7 @@ ghost use Rattle.wg_transpose.specs.SoFar.{predecessors_below, AreCounts, ArePla
 ghost use Rattle.wg_runs.specs.declared.run.TheConstants.{MOST_PAGES_IN_RUNS};
 
 use wg_graph::Lists;
-use wg_transpose::ranges::set_starts;
+use wg_transpose::set_starts;
 
 // Puts page `page` at the end of the lists of its successors.
 fn place_arcs(page: u32, list: &[u64], ends: &mut [u64], sources: &mut [u32])

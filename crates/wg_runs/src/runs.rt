@@ -38,13 +38,13 @@ impl Drop for Runs {
 
 impl Model for Runs {
     ghost use Rattle.wg_graph.specs.Digraph.{Digraph};
-    ghost use Rattle.wg_runs.specs.Held.{graph_of, HoldsRuns};
+    ghost use Rattle.wg_runs.specs.Held.{graph_of_runs, HoldsRuns};
 
     ghost Value = { Digraph };
 
-    ghost view = { λ r. graph_of r.ends.items r.runs.items };
+    ghost view = { λ r. graph_of_runs r.ends.items r.runs.items };
 
-    ghost invariant = { λ r. HoldsRuns (graph_of r.ends.items r.runs.items) r.ends.items r.runs.items r.degrees.items };
+    ghost invariant = { λ r. HoldsRuns (graph_of_runs r.ends.items r.runs.items) r.ends.items r.runs.items r.degrees.items };
 }
 
 impl Runs {

@@ -4,7 +4,7 @@ use Rattle.wg_params.specs.declared.limits.TheConstants.{MOST_ARCS, MOST_PAGES}
 use Rattle.wg_graph.specs.Ascending.{Below}
 use Rattle.wg_graph.specs.Digraph.{Digraph, IsGraph, arc_count}
 use Rattle.wg_graph.specs.Numbers.{numbers_where}
-use Rattle.wg_transpose.specs.Transposing.{Ranging, Holds, numbers_between}
+use Rattle.wg_transpose.specs.Transposing.{Ranging, IsRangeOf, numbers_between}
 use Rattle.wg_shape.specs.Quotient.{class_of, members, reached, quotient_of}
 
 -- the graph, the class of each page, and how many classes there are
@@ -49,4 +49,4 @@ arcs_from p from to = numbers_between (reached_by p.graph p.classes) from to
 -- what the arcs of the classes of the range lead to stands there, list after list
 pub record HoldsClasses (p : Classes) (r : Ranging) : Type 0 where
   pub classes : AreClasses p
-  pub held : Holds (reached_by p.graph p.classes) r
+  pub held : IsRangeOf (reached_by p.graph p.classes) r

@@ -8,7 +8,7 @@ ghost use Rattle.wg_shape.specs.Classes.{reached_by, reached_below};
 
 use std::marker::Model;
 use wg_graph::Lists;
-use wg_transpose::ranges::{Placing, put};
+use wg_transpose::{Placing, put_in_range};
 
 // Puts the classes of the successors of a page, whose list was read, at the end of the list of its class, if that is
 // one of those from class `from` on.
@@ -33,7 +33,7 @@ fn place_page(
 {
     let class = classes[page as usize];
     for target in list {
-        put(classes[*target as usize], class, from, ends, all);
+        put_in_range(classes[*target as usize], class, from, ends, all);
     }
 }
 

@@ -11,7 +11,7 @@ use crate::placing::Reached;
 use std::alloc::{AllocError, Global};
 use std::marker::Model;
 use wg_graph::Lists;
-use wg_transpose::ranges::Ranges;
+use wg_transpose::Ranges;
 
 /// The lists of the quotient, by classes of pages, of a graph whose lists are read in order, range after range of
 /// classes.

@@ -9,7 +9,7 @@ use Rattle.wg_params.specs.declared.limits.TheConstants.{MOST_ARCS}
 use Rattle.wg_graph.specs.Digraph.{Digraph}
 use Rattle.wg_transpose.specs.Transposed.{predecessors}
 use Rattle.wg_transpose.specs.SoFar.{onward, start, AreCounts, ArePrefixes}
-use Rattle.wg_transpose.specs.Transposing.{Ranging, Holds, HoldsLists, AreRanges}
+use Rattle.wg_transpose.specs.Transposing.{Ranging, IsRangeOf, HoldsLists, AreRanges}
 use Rattle.wg_transpose.specs.Laws.{RangesAreFew}
 use Rattle.wg_transpose.proofs.Totals.{start_le, start_of_all, sum_is_start, sum_is_all}
 use Rattle.wg_transpose.proofs.Whole.{ends_within, list_is}
@@ -74,7 +74,7 @@ length_written a k xs ys fits size =
       length-drop a xs,
     )
 
-module _ (lists : ℕ → List ℕ) (r : Ranging) (h : Holds lists r) where
+module _ (lists : ℕ → List ℕ) (r : Ranging) (h : IsRangeOf lists r) where
   abbrev n : ℕ
   n = length r.ends
 
@@ -119,7 +119,7 @@ module _ (lists : ℕ → List ℕ) (r : Ranging) (h : Holds lists r) where
       pub range_length : length (put_mid to m r.ends new) ≡ n
       range_length = length_written to m r.ends new (omega (arith, range_within)) (omega arith)
 
-      pub range_held : ArePrefixes p rest rest new placed → Holds lists (record { from = to; to = to + p; ends = put_mid to m r.ends new; all = placed })
+      pub range_held : ArePrefixes p rest rest new placed → IsRangeOf lists (record { from = to; to = to + p; ends = put_mid to m r.ends new; all = placed })
       range_held h_placed =
           let le = range_within in
           let there : slice_range (put_mid to m r.ends new) to (to + p) ≡ new = between-put_mid to m r.ends new (to + p) (omega arith) (omega arith) in
@@ -140,7 +140,7 @@ module _ (lists : ℕ → List ℕ) (r : Ranging) (h : Holds lists r) where
           })
 
 -- before the first range
-pub none_held : (lists : ℕ → List ℕ) (counts : List ℕ) → start lists (length counts) ≤ MOST_ARCS → AreCounts (length counts) lists counts → Holds lists (record { from = 0; to = 0; ends = counts; all = [] })
+pub none_held : (lists : ℕ → List ℕ) (counts : List ℕ) → start lists (length counts) ≤ MOST_ARCS → AreCounts (length counts) lists counts → IsRangeOf lists (record { from = 0; to = 0; ends = counts; all = [] })
 none_held lists counts few h = record {
   few = few;
   counted = refl;

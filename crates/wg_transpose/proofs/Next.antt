@@ -7,7 +7,7 @@ use Rattle.std.proofs.lemmas.Slice.{between_to_end}
 use borrow.Rule.Slice.PartMut.{put_mid}
 use Rattle.wg_params.specs.declared.limits.TheConstants.{MOST_ARCS}
 use Rattle.wg_transpose.specs.SoFar.{onward, start, AreCounts, ArePrefixes}
-use Rattle.wg_transpose.specs.Transposing.{Ranging, Holds, numbers_between}
+use Rattle.wg_transpose.specs.Transposing.{Ranging, IsRangeOf, numbers_between}
 use Rattle.wg_transpose.proofs.Held.{length_written, sum_behind, range_within, range_size, range_arcs, range_few, range_counted, range_held}
 
 pub le_at : (a b long : ℕ) → a ≤ b → long ≡ b → a ≤ long
@@ -28,13 +28,13 @@ none_counted pages counts is k d lt =
     ap (λ (l : List ℕ). get_or l k d) is ∙ get_or-replicate pages k zero d low
 
 -- `now` is the range before, `seen` are the ends that are read
-module _ {lists : ℕ → List ℕ} {r now : Ranging} {seen : List ℕ} (is : r ≡ now) (held : Holds lists now) (same : seen ≡ r.ends) where
+module _ {lists : ℕ → List ℕ} {r now : Ranging} {seen : List ℕ} (is : r ≡ now) (held : IsRangeOf lists now) (same : seen ≡ r.ends) where
   -- how long the lists behind the range are
   abbrev behind : List ℕ
   behind = slice_range seen r.to (length seen)
 
-  held_now : Holds lists r
-  held_now = subst (Holds lists) (sym is) held
+  held_now : IsRangeOf lists r
+  held_now = subst (IsRangeOf lists) (sym is) held
 
   behind_is : behind ≡ drop r.to r.ends
   behind_is = between_to_end seen r.to (length seen) (omega arith) ∙ ap (drop r.to) same
@@ -43,7 +43,7 @@ module _ {lists : ℕ → List ℕ} {r now : Ranging} {seen : List ℕ} (is : r 
   next_sum = subst (λ (l : List ℕ). sum l ≤ MOST_ARCS) (sym behind_is) (sum_behind lists r held_now)
 
   -- no step: an empty range before the same list
-  pub none_next : (all : List ℕ) → all ≡ [] → Holds lists (record { from = r.to; to = r.to; ends = r.ends; all = all })
+  pub none_next : (all : List ℕ) → all ≡ [] → IsRangeOf lists (record { from = r.to; to = r.to; ends = r.ends; all = all })
   none_next all none =
       let none_is : 0 ≡ r.to - r.to = omega arith in
       record {
@@ -134,7 +134,7 @@ module _ {lists : ℕ → List ℕ} {r now : Ranging} {seen : List ℕ} (is : r 
 
         pub next_held : (placed ends_now all_now : List ℕ) → ends_now ≡ put_mid r.to (r.to + p - r.to) ends new → all_now ≡ placed
             → ArePrefixes (length near) (onward r.to lists) (onward r.to lists) new placed
-            → Holds lists (record { from = r.to; to = r.to + p; ends = ends_now; all = all_now })
+            → IsRangeOf lists (record { from = r.to; to = r.to + p; ends = ends_now; all = all_now })
         next_held placed ends_now all_now by all_by h =
             let by_before : ends_now ≡ put_mid r.to (r.to + p - r.to) r.ends new =
             by ∙ ap (λ (l : List ℕ). put_mid r.to (r.to + p - r.to) l new) same_ends in

@@ -39,8 +39,8 @@ pub record Ranging : Type 0 where
   pub all : List ℕ
 
 -- these lists are gone through
-abbrev pub Holds : (ℕ → List ℕ) → Ranging → Type 0
-Holds whole r = HoldsLists (length r.ends) whole r.from r.to r.ends r.all
+abbrev pub IsRangeOf : (ℕ → List ℕ) → Ranging → Type 0
+IsRangeOf whole r = HoldsLists (length r.ends) whole r.from r.to r.ends r.all
 
 -- these are the lists of the predecessors of each page
 pub record HoldsRange (g : Digraph) (r : Ranging) : Type 0 where
@@ -48,7 +48,7 @@ pub record HoldsRange (g : Digraph) (r : Ranging) : Type 0 where
   pub few_pages : g.nodes ≤ MOST_PAGES
   pub few_arcs : arc_count g ≤ MOST_ARCS
   pub pages : length r.ends ≡ g.nodes
-  pub held : Holds (predecessors g) r
+  pub held : IsRangeOf (predecessors g) r
 
 -- Ranges of pages that follow one another: range k has the pages from (at k) on, up to (at (k + 1)), and each but the
 -- last has at least `room` arcs.

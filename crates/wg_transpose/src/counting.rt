@@ -23,8 +23,8 @@ pub fn count_arcs(list: &[u64], counts: &mut [u64])
     }
 }
 
-/// Counts all arcs, each at its target, in one pass over the lists.
-pub fn count<L: Lists>(lists: &mut L, counts: &mut [u64])
+// Counts all arcs, each at its target, in one pass over the lists.
+pub(crate) fn count<L: Lists>(lists: &mut L, counts: &mut [u64])
     requires few { (L.graph lists.old).nodes ≤ MOST_PAGES }
     requires pages { length counts.old ≡ (L.graph lists.old).nodes }
     requires none { All (λ count. count ≡ 0) counts.old }

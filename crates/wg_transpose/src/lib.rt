@@ -13,8 +13,9 @@
 //! [`transpose`] makes the whole graph in memory, in two passes. A [`Transposer`] gives its lists range after range of
 //! pages, for a graph whose lists are read in order: one pass counts, and then each range takes one, in which the arcs
 //! that lead to other pages are left out. So it holds the lists of one range only. Who goes along the lists for another
-//! reason counts by [`count_arcs`] as they come, and spares the first pass. [`count()`] is that pass alone, and
-//! [`ranges`] has the steps for lists of any kind that come so.
+//! reason counts by [`count_arcs`] as they come, and spares the first pass. [`Ranges`] are lists of any kind that come
+//! so: a pass of one's own is [`Placing`], and goes by [`put_in_range`]; [`set_starts`] begins it for lists that stand
+//! in one array all at once.
 //!
 //! A graph of three arcs, transposed:
 //!
@@ -35,11 +36,11 @@
 mod counting;
 pub mod laws;
 mod placing;
-pub mod ranges;
+mod ranges;
 mod transposer;
 mod transposing;
 
-pub use counting::{count, count_arcs};
-pub use ranges::range_room;
+pub use counting::count_arcs;
+pub use ranges::{Placing, Ranges, put_in_range, range_room, set_starts};
 pub use transposer::Transposer;
 pub use transposing::transpose;

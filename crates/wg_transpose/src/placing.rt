@@ -5,7 +5,7 @@ ghost use Rattle.wg_graph.specs.Digraph.{Digraph};
 ghost use Rattle.wg_transpose.specs.Transposed.{predecessors};
 ghost use Rattle.wg_transpose.specs.SoFar.{predecessors_below, ArePlacedFrom, IsListOf};
 
-use crate::ranges::{Placing, put};
+use crate::ranges::{Placing, put_in_range};
 use wg_graph::Lists;
 
 // Puts a page, whose list was read, at the end of the lists of its successors, of those from page `from` on.
@@ -17,7 +17,7 @@ fn place_arcs(page: u64, list: &[u64], from: u64, ends: &mut [u64], all: &mut [u
         → ArePlacedFrom g from n (predecessors_below g (page + 1)) ends.new all.new }
 {
     for target in list {
-        put(page, *target, from, ends, all);
+        put_in_range(page, *target, from, ends, all);
     }
 }
 

@@ -2,7 +2,7 @@
 ghost use Rattle.std.specs.Prelude.{◌≡◌, ◌⊎◌, ℕ, ◌+◌, ◌-◌, ◌*◌, ◌/◌, ◌^◌, ◌<◌, ◌≤◌, max, List, [], length, get_or, take, sum, slice_index, slice_range, slice_set, OnOk, OnErr};
 ghost use Rattle.wg_params.specs.declared.limits.TheConstants.{MOST_ARCS};
 ghost use Rattle.wg_transpose.specs.SoFar.{onward, start, AreCounts, ArePrefixes};
-ghost use Rattle.wg_transpose.specs.Transposing.{Holds, HoldsLists, numbers_between};
+ghost use Rattle.wg_transpose.specs.Transposing.{IsRangeOf, HoldsLists, numbers_between};
 
 use std::alloc::{AllocError, Global};
 use std::marker::Model;
@@ -72,7 +72,7 @@ fn lists_with(counts: &[u64], room: u64) -> (usize, u64)
 
 /// Puts a number at the end of a list, if that is one of those from list `from` on whose ends are given.
 #[inline(always)]
-pub fn put(number: u64, list: u64, from: u64, ends: &mut [u64], all: &mut [u64])
+pub fn put_in_range(number: u64, list: u64, from: u64, ends: &mut [u64], all: &mut [u64])
     requires room { from ≤ list → list - from < length ends.old
         → slice_index ends.old (list - from) < length all.old }
     ensures ends { from ≤ list → list - from < length ends.old
@@ -205,8 +205,8 @@ impl Ranges {
         room: u64,
         pass: &mut P,
     ) -> Result<(), AllocError>
-        requires holds { Holds (P.lists pass.old) self.old }
-        ensures holds { Holds (P.lists pass.old) self.new }
+        requires holds { IsRangeOf (P.lists pass.old) self.old }
+        ensures holds { IsRangeOf (P.lists pass.old) self.new }
         ensures same { P.same pass.old pass.new }
         ensures count { length self.new.ends ≡ length self.old.ends }
         ensures from { self.new.from ≡ self.old.to }
@@ -233,8 +233,8 @@ impl Ranges {
     pub fn list(&self, list: u64) -> &[u64]
         requires from { self.now.from ≤ list }
         requires to { list < self.now.to }
-        requires holds { (whole : ℕ → List ℕ) × Holds whole self.now }
-        ensures { (whole : ℕ → List ℕ) → Holds whole self.now → result.now ≡ whole list }
+        requires holds { (whole : ℕ → List ℕ) × IsRangeOf whole self.now }
+        ensures { (whole : ℕ → List ℕ) → IsRangeOf whole self.now → result.now ≡ whole list }
     {
         let (begin, end) = span(&self.ends, &self.all, self.from, list);
         &self.all[begin..end]

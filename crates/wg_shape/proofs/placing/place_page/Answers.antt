@@ -12,8 +12,8 @@ offset_bounds-classes-target c = omega (arith, member_below (length c.args.class
 pub bounds-classes-target : goal.bounds-classes-target
 bounds-classes-target c = omega (arith, member_below (length c.args.classes.now) c.loop-target.target-index c.args.list.now c.requires.below (omega arith))
 
-pub put-requires : goal.put-requires
-put-requires c = record {
+pub put_in_range-requires : goal.put_in_range-requires
+put_in_range-requires c = record {
   room = λ low high.
       let r = c.requires.placed in
       let h = c.loop-target.invariant r.0 r.1 r.2 r.3 in
@@ -35,7 +35,7 @@ loop-target-preserved c = λ g is size h.
     place_step (reached_by g classes) (with_arcs g classes c.args.page (take j list)) (with_arcs g classes c.args.page (take (j + 1) list)) c.args.from (length c.args.ends.now)
     (class_of classes c.args.page) (class_of classes (get_or list j 0)) c.loop-target.ends c.loop-target.all
     (class_more g classes c.args.page j list (omega arith)) (class_fits g classes c.args.page (j + 1) list c.requires.page is.is) before
-    c.put.new.ends c.put.new.all c.put.ensures.ends c.put.ensures.all c.put.ensures.same_ends c.put.ensures.same_all
+    c.put_in_range.new.ends c.put_in_range.new.all c.put_in_range.ensures.ends c.put_in_range.ensures.all c.put_in_range.ensures.same_ends c.put_in_range.ensures.same_all
 
 pub returns : goal.returns
 returns c = record {

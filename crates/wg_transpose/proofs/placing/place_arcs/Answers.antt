@@ -7,8 +7,8 @@ use Rattle.wg_transpose.proofs.placing.place_arcs.Goals as goal
 pub loop-target-init : goal.loop-target-init
 loop-target-init c = λ g n is h. none_yet g c.args.from n c.args.page c.args.ends.now c.args.all.now h
 
-pub put-requires : goal.put-requires
-put-requires c = record {
+pub put_in_range-requires : goal.put_in_range-requires
+put_in_range-requires c = record {
   room = λ low high.
       let r = c.requires.placed in
       let h = c.loop-target.invariant r.0 r.1 r.2 r.3 in
@@ -26,7 +26,7 @@ loop-target-preserved c = λ g n is h.
     let list = c.args.list.now in
     place_step (predecessors g) (with_page g c.args.page (take j list)) (with_page g c.args.page (take (j + 1) list)) c.args.from n (get_or list j 0) c.args.page c.loop-target.ends c.loop-target.all
     (page_more g c.args.page j list is (omega arith)) (page_fits g c.args.page j list is (omega arith)) before
-    c.put.new.ends c.put.new.all c.put.ensures.ends c.put.ensures.all c.put.ensures.same_ends c.put.ensures.same_all
+    c.put_in_range.new.ends c.put_in_range.new.all c.put_in_range.ensures.ends c.put_in_range.ensures.all c.put_in_range.ensures.same_ends c.put_in_range.ensures.same_all
 
 pub returns : goal.returns
 returns c = record {
