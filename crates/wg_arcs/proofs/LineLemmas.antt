@@ -8,7 +8,7 @@ use Rattle.wg_arcs.specs.declared.numbers_fault.NumbersFault.{NumbersFault}
 use Rattle.wg_arcs.specs.declared.numbers_fault.NumbersFault.TheVariants as numbers
 use Rattle.wg_arcs.specs.declared.numbers_fault.NumbersKind.TheVariants as numbers_kind
 use Rattle.std.proofs.lemmas.List.{length_push, take_all, take_more, take_rest, take-append-drop}
-use Rattle.wg_arcs.specs.declared.arc_lines.ArcLines.{ArcLines}
+use Rattle.wg_arcs.specs.Growing.{ArcLinesRead}
 use Rattle.wg_arcs.specs.Growing.{IsFirst, IsRefusedLine, IsUpTo, SoFar, with_line}
 use Rattle.wg_num.specs.Lines.{lines_of}
 use Rattle.wg_num.specs.Words.{words_of}
@@ -32,9 +32,9 @@ pub as_many : (n k : ℕ) → n ≤ k → k ≤ n → k ≡ n
 as_many n k enough few = omega (arith, enough, few)
 
 -- one line more was read
-pub line_more : (s t : ArcLines) (a : Option Arc) → t ≡ with_line s a → t.line ≡ s.line + 1
-line_more s t None is = ap (λ (x : ArcLines). x.line) is
-line_more s t (Some a) is = ap (λ (x : ArcLines). x.line) is
+pub line_more : (s t : ArcLinesRead) (a : Option Arc) → t ≡ with_line s a → t.line ≡ s.line + 1
+line_more s t None is = ap (λ (x : ArcLinesRead). x.line) is
+line_more s t (Some a) is = ap (λ (x : ArcLinesRead). x.line) is
 
 -- a plain line is not empty
 pub line_taken : (u v : ℕ) (text rest : List ℕ) → text ≡ arc_line (u, v) ++ rest → length rest < length text
@@ -43,14 +43,14 @@ line_taken u v text rest is =
     omega (arith, ap length is, length-append (arc_line (u, v)) rest, all)
 
 -- a plain line is read, or refused for its arc
-module _ (a : Arc) (text rest : List ℕ) (line : text ≡ arc_line a ++ rest) (low : (a.0 < 2 ^ 64) × (a.1 < 2 ^ 64)) (s : ArcLines) (all later : List (List ℕ)) (arcs : List Arc) (up : IsUpTo all (lines_of text ++ later) arcs s) where
+module _ (a : Arc) (text rest : List ℕ) (line : text ≡ arc_line a ++ rest) (low : (a.0 < 2 ^ 64) × (a.1 < 2 ^ 64)) (s : ArcLinesRead) (all later : List (List ℕ)) (arcs : List Arc) (up : IsUpTo all (lines_of text ++ later) arcs s) where
   here : lines_of text ≡ bare a ∷ lines_of rest
   here = ap lines_of line ∙ plain_line a rest low.0 low.1
 
   fault : fault_after s.nodes s.last s.arcs (bare a) ≡ refusal_after s.nodes s.last s.arcs (Some a)
   fault = plain_fault s.nodes s.arcs s.last a low.0 low.1
 
-  pub plain_read : (t : ArcLines) → refusal_after s.nodes s.last s.arcs (Some a) ≡ None → t ≡ with_line s (Some a) → IsUpTo all (lines_of rest ++ later) (arcs ++ option_to_list (Some a)) t
+  pub plain_read : (t : ArcLinesRead) → refusal_after s.nodes s.last s.arcs (Some a) ≡ None → t ≡ with_line s (Some a) → IsUpTo all (lines_of rest ++ later) (arcs ++ option_to_list (Some a)) t
   plain_read t fine new = line_read all later text rest (bare a) arcs s t (Some a) here (fault ∙ fine) (sym (arc_at_bare a low.0 low.1)) new up
 
   pub plain_refused : (e : ArcsError) → IsRefusedLine (s.line + 1) (refusal_after s.nodes s.last s.arcs (Some a)) e → IsFirst s.nodes all e

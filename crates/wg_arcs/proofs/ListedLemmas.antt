@@ -12,7 +12,7 @@ use Rattle.wg_graph.specs.Growing.{padded}
 use Rattle.wg_graph.proofs.Arcs.{last_list, padded_arcs_from}
 use Rattle.wg_graph.proofs.Prefixes.{length-padded}
 use Rattle.wg_graph.proofs.Sets.{ascends_push, below_push}
-use Rattle.wg_arcs.specs.declared.arc_lines.ArcLines.{ArcLines}
+use Rattle.wg_arcs.specs.Growing.{ArcLinesRead}
 use Rattle.wg_arcs.specs.Growing.{IsUpTo, MayCome, SoFar, with_line}
 use Rattle.wg_arcs.specs.Listing.{AreListed, arcs_on, later_than, on_page}
 use Rattle.wg_arcs.specs.Reading.{is_after}
@@ -23,7 +23,7 @@ all_of : (P : List ℕ → Type 0) (done : List (List ℕ)) (list : List ℕ) �
 all_of P done list front here = All-append P done (list ∷ []) front (All-cons P list [] here (λ i d lt. absurd (omega arith)))
 
 -- before the first line
-pub none_listed : (s : ArcLines) → s.last ≡ None → s.arcs ≡ 0 → AreListed [] [] None s
+pub none_listed : (s : ArcLinesRead) → s.last ≡ None → s.arcs ≡ 0 → AreListed [] [] None s
 none_listed s last arcs = record {
   ascending = λ i d lt. absurd (omega arith);
   below = λ i d lt. absurd (omega arith);
@@ -37,17 +37,17 @@ none_listed s last arcs = record {
   comes = tt;
 }
 
-pub last_known : (done : List (List ℕ)) (list : List ℕ) (s : ArcLines) → AreListed done list None s → last_or None (arcs_on done list) ≡ s.last
+pub last_known : (done : List (List ℕ)) (list : List ℕ) (s : ArcLinesRead) → AreListed done list None s → last_or None (arcs_on done list) ≡ s.last
 last_known done list s h = ap (last_or None) (sym (append-nil (arcs_on done list))) ∙ h.last
 
-pub count_known : (done : List (List ℕ)) (list : List ℕ) (s : ArcLines) → AreListed done list None s → length (arcs_on done list) ≡ s.arcs
+pub count_known : (done : List (List ℕ)) (list : List ℕ) (s : ArcLinesRead) → AreListed done list None s → length (arcs_on done list) ≡ s.arcs
 count_known done list s h = ap length (sym (append-nil (arcs_on done list))) ∙ h.count
 
-pub up_to : (all next : List (List ℕ)) (done : List (List ℕ)) (list : List ℕ) (s : ArcLines) → AreListed done list None s → SoFar s.nodes all next s.line (arcs_on done list) → IsUpTo all next (arcs_on done list) s
+pub up_to : (all next : List (List ℕ)) (done : List (List ℕ)) (list : List ℕ) (s : ArcLinesRead) → AreListed done list None s → SoFar s.nodes all next s.line (arcs_on done list) → IsUpTo all next (arcs_on done list) s
 up_to all next done list s h so = record { lines = so; last = last_known done list s h; count = count_known done list s h }
 
 -- an arc that may come is of no page before, and if it is of this page, above its list
-after_page : (done : List (List ℕ)) (list : List ℕ) (s : ArcLines) (a : Arc) → AreListed done list None s → MayCome s.nodes s.last s.arcs a → (length done ≤ a.0) × (a.0 ≡ length done → Below a.1 list)
+after_page : (done : List (List ℕ)) (list : List ℕ) (s : ArcLinesRead) (a : Arc) → AreListed done list None s → MayCome s.nodes s.last s.arcs a → (length done ≤ a.0) × (a.0 ≡ length done → Below a.1 list)
 after_page done [] s a h m = elim (cases_lt 0 (length done)) [ inl lt ↦ absurd (omega (arith, h.some lt)) | inr le ↦ (omega arith, λ e. tt) ]
 after_page done (x ∷ xs) s a h m =
     let list : List ℕ = x ∷ xs in
@@ -67,10 +67,10 @@ arcs_push done list v =
 
 -- ---- a line is read
 
-abbrev AfterLine : List (List ℕ) → List ℕ → Option Arc → ArcLines → List ℕ → Option Arc → Type 0
+abbrev AfterLine : List (List ℕ) → List ℕ → Option Arc → ArcLinesRead → List ℕ → Option Arc → Type 0
 AfterLine done list arc t new next = AreListed done new next t × (arcs_on done new ++ option_to_list next ≡ arcs_on done list ++ option_to_list arc)
 
-line_later : (done : List (List ℕ)) (list : List ℕ) (s : ArcLines) (a : Arc) → AreListed done list None s → MayCome s.nodes s.last s.arcs a → length done < a.0 → AfterLine done list (Some a) (with_line s (Some a)) (list ++ []) (Some a)
+line_later : (done : List (List ℕ)) (list : List ℕ) (s : ArcLinesRead) (a : Arc) → AreListed done list None s → MayCome s.nodes s.last s.arcs a → length done < a.0 → AfterLine done list (Some a) (with_line s (Some a)) (list ++ []) (Some a)
 line_later done list s a h m later =
     let same : list ++ [] ≡ list = append-nil list in
     let arcs : List Arc = arcs_on done list in (
@@ -89,7 +89,7 @@ line_later done list s a h m later =
       ap (λ (l : List ℕ). arcs_on done l ++ a ∷ []) same,
     )
 
-line_here : (done : List (List ℕ)) (list : List ℕ) (s : ArcLines) (a : Arc) → AreListed done list None s → MayCome s.nodes s.last s.arcs a → a.0 ≤ length done → AfterLine done list (Some a) (with_line s (Some a)) (list ++ a.1 ∷ []) None
+line_here : (done : List (List ℕ)) (list : List ℕ) (s : ArcLinesRead) (a : Arc) → AreListed done list None s → MayCome s.nodes s.last s.arcs a → a.0 ≤ length done → AfterLine done list (Some a) (with_line s (Some a)) (list ++ a.1 ∷ []) None
 line_here done list s a h m here =
     let p = after_page done list s a h m in
     let e : a.0 ≡ length done = omega (arith, p.0, here) in
@@ -112,7 +112,7 @@ line_here done list s a h m here =
       more,
     )
 
-line_on : (done : List (List ℕ)) (list : List ℕ) (s : ArcLines) (arc : Option Arc) → AreListed done list None s → IfSome arc (MayCome s.nodes s.last s.arcs)
+line_on : (done : List (List ℕ)) (list : List ℕ) (s : ArcLinesRead) (arc : Option Arc) → AreListed done list None s → IfSome arc (MayCome s.nodes s.last s.arcs)
     → AfterLine done list arc (with_line s arc) (list ++ on_page (length done) arc) (later_than (length done) arc)
 line_on done list s None h m =
     let same : list ++ [] ≡ list = append-nil list in (
@@ -136,16 +136,16 @@ line_on done list s (Some a) h m =
       | inr here ↦ rw (le-ltb (length done) a.0 here) (line_here done list s a h m here)
     ]
 
-pub listed_line : (done : List (List ℕ)) (list : List ℕ) (s t : ArcLines) (arc : Option Arc) (page : ℕ) (new : List ℕ) (next : Option Arc) → length done ≡ page → AreListed done list None s → IfSome arc (MayCome s.nodes s.last s.arcs) → t ≡ with_line s arc
+pub listed_line : (done : List (List ℕ)) (list : List ℕ) (s t : ArcLinesRead) (arc : Option Arc) (page : ℕ) (new : List ℕ) (next : Option Arc) → length done ≡ page → AreListed done list None s → IfSome arc (MayCome s.nodes s.last s.arcs) → t ≡ with_line s arc
     → new ≡ list ++ on_page page arc → next ≡ later_than page arc → AfterLine done list arc t new next
 listed_line done list s t arc page new next at h m is new_is next_is =
-    let e : ◌≡◌ {A = ArcLines × (List ℕ × Option Arc)} (with_line s arc, (list ++ on_page (length done) arc, later_than (length done) arc)) (t, (new, next)) =
+    let e : ◌≡◌ {A = ArcLinesRead × (List ℕ × Option Arc)} (with_line s arc, (list ++ on_page (length done) arc, later_than (length done) arc)) (t, (new, next)) =
     λ i. (sym is i, ((ap (λ (k : ℕ). list ++ on_page k arc) at ∙ sym new_is) i, (ap (λ (k : ℕ). later_than k arc) at ∙ sym next_is) i)) in
-    subst (λ (x : ArcLines × (List ℕ × Option Arc)). AfterLine done list arc x.0 x.1.0 x.1.1) e (line_on done list s arc h m)
+    subst (λ (x : ArcLinesRead × (List ℕ × Option Arc)). AfterLine done list arc x.0 x.1.0 x.1.1) e (line_on done list s arc h m)
 
 -- ---- pages are passed
 
-pub next_page : (done : List (List ℕ)) (list : List ℕ) (s : ArcLines) (a : Arc) → AreListed done list (Some a) s
+pub next_page : (done : List (List ℕ)) (list : List ℕ) (s : ArcLinesRead) (a : Arc) → AreListed done list (Some a) s
     → AreListed (padded a.0 (done ++ list ∷ [])) (a.1 ∷ []) None s × (arcs_on (padded a.0 (done ++ list ∷ [])) (a.1 ∷ []) ≡ arcs_on done list ++ a ∷ [])
 next_page done list s a h =
     let all : List (List ℕ) = done ++ list ∷ [] in
@@ -170,7 +170,7 @@ next_page done list s a h =
     )
 
 -- the lists of all pages, once no more arcs come
-pub all_pages : (done : List (List ℕ)) (list : List ℕ) (s : ArcLines) (lists : List (List ℕ)) → AreListed done list None s → lists ≡ take s.nodes (padded s.nodes (done ++ list ∷ [])) →
+pub all_pages : (done : List (List ℕ)) (list : List ℕ) (s : ArcLinesRead) (lists : List (List ℕ)) → AreListed done list None s → lists ≡ take s.nodes (padded s.nodes (done ++ list ∷ [])) →
     IsGraph (record { nodes = s.nodes; lists = lists }) × (arcs_from 0 lists ≡ arcs_on done list)
 all_pages done list s lists h is =
     let n : ℕ = s.nodes in

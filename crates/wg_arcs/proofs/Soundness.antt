@@ -8,7 +8,7 @@ use Rattle.std.proofs.lemmas.List.Elements.{filter_map-append}
 use Rattle.wg_num.specs.Lines.{lines_of}
 use Rattle.wg_graph.specs.Digraph.{Digraph, IsGraph}
 use Rattle.wg_graph.specs.Arcs.{arcs_of}
-use Rattle.wg_arcs.specs.declared.arc_lines.ArcLines.{ArcLines}
+use Rattle.wg_arcs.specs.Growing.{ArcLinesRead}
 use Rattle.wg_arcs.specs.declared.fault.ArcsKind.{ArcsKind}
 use Rattle.wg_arcs.specs.declared.fault.ArcsError.{ArcsError}
 use Rattle.wg_arcs.specs.declared.fault.ArcsError.TheVariants as error
@@ -67,24 +67,24 @@ all_read n all count arcs g h nodes theirs proper =
 -- ---- by what is known of the lines before
 
 -- the arc of a line is the last one then
-last_more : (arcs : List Arc) (last : Option Arc) (s : ArcLines) (a : Option Arc) → last_or None arcs ≡ last → last ≡ s.last → last_or None (arcs ++ option_to_list a) ≡ (with_line s a).last
+last_more : (arcs : List Arc) (last : Option Arc) (s : ArcLinesRead) (a : Option Arc) → last_or None arcs ≡ last → last ≡ s.last → last_or None (arcs ++ option_to_list a) ≡ (with_line s a).last
 last_more arcs last s None is known = ap (last_or None) (append-nil arcs) ∙ is ∙ known
 last_more arcs last s (Some a) is known = last_or-append None arcs (a ∷ [])
 
-count_more : (arcs : List Arc) (s : ArcLines) (a : Option Arc) → length arcs ≡ s.arcs → length (arcs ++ option_to_list a) ≡ (with_line s a).arcs
+count_more : (arcs : List Arc) (s : ArcLinesRead) (a : Option Arc) → length arcs ≡ s.arcs → length (arcs ++ option_to_list a) ≡ (with_line s a).arcs
 count_more arcs s None is = ap length (append-nil arcs) ∙ is
 count_more arcs s (Some a) is = length_push arcs a ∙ ap (λ (k : ℕ). k + 1) is
 
-lines_more : (n count : ℕ) (all next : List (List ℕ)) (arcs : List Arc) (s : ArcLines) (a : Option Arc) → SoFar s.nodes all next (s.line + 1) arcs → SoFar (with_line s a).nodes all next (with_line s a).line arcs
+lines_more : (n count : ℕ) (all next : List (List ℕ)) (arcs : List Arc) (s : ArcLinesRead) (a : Option Arc) → SoFar s.nodes all next (s.line + 1) arcs → SoFar (with_line s a).nodes all next (with_line s a).line arcs
 lines_more n count all next arcs s None h = h
 lines_more n count all next arcs s (Some a) h = h
 
 -- the fault of a line, by the last arc and the number of arcs
-known_fault : (all next : List (List ℕ)) (arcs : List Arc) (s : ArcLines) (text : List ℕ) → IsUpTo all next arcs s → fault_of s.nodes arcs text ≡ fault_after s.nodes s.last s.arcs text
+known_fault : (all next : List (List ℕ)) (arcs : List Arc) (s : ArcLinesRead) (text : List ℕ) → IsUpTo all next arcs s → fault_of s.nodes arcs text ≡ fault_after s.nodes s.last s.arcs text
 known_fault all next arcs s text up = ap (λ (o : Option Arc). fault_after s.nodes o (length arcs) text) up.last ∙ ap (λ (k : ℕ). fault_after s.nodes s.last k text) up.count
 
 -- a line is read
-pub line_read : (all later : List (List ℕ)) (bytes after text : List ℕ) (arcs : List Arc) (s t : ArcLines) (a : Option Arc) → lines_of bytes ≡ text ∷ lines_of after → fault_after s.nodes s.last s.arcs text ≡ None → a ≡ arc_at text
+pub line_read : (all later : List (List ℕ)) (bytes after text : List ℕ) (arcs : List Arc) (s t : ArcLinesRead) (a : Option Arc) → lines_of bytes ≡ text ∷ lines_of after → fault_after s.nodes s.last s.arcs text ≡ None → a ≡ arc_at text
     → t ≡ with_line s a → IsUpTo all (lines_of bytes ++ later) arcs s → IsUpTo all (lines_of after ++ later) (arcs ++ option_to_list a) t
 line_read all later bytes after text arcs s t a lines fine is new up =
     let here : SoFar s.nodes all (text ∷ lines_of after ++ later) s.line arcs = subst (λ (ls : List (List ℕ)). SoFar s.nodes all (ls ++ later) s.line arcs) lines up.lines in
@@ -96,7 +96,7 @@ line_read all later bytes after text arcs s t a lines fine is new up =
     })
 
 -- a line is refused
-pub line_refused : (all later : List (List ℕ)) (bytes after text : List ℕ) (arcs : List Arc) (s : ArcLines) (e : ArcsError) → lines_of bytes ≡ text ∷ lines_of after → IsRefusedLine (s.line + 1) (fault_after s.nodes s.last s.arcs text) e
+pub line_refused : (all later : List (List ℕ)) (bytes after text : List ℕ) (arcs : List Arc) (s : ArcLinesRead) (e : ArcsError) → lines_of bytes ≡ text ∷ lines_of after → IsRefusedLine (s.line + 1) (fault_after s.nodes s.last s.arcs text) e
     → IsUpTo all (lines_of bytes ++ later) arcs s → IsFirst s.nodes all e
 line_refused all later bytes after text arcs s (error.Line l kind) lines refused up =
     let here : SoFar s.nodes all (text ∷ lines_of after ++ later) s.line arcs = subst (λ (ls : List (List ℕ)). SoFar s.nodes all (ls ++ later) s.line arcs) lines up.lines in

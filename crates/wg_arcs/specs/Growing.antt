@@ -4,10 +4,16 @@ use Rattle.std.specs.List.{All, last_or}
 use Rattle.wg_params.specs.declared.limits.TheConstants.{MOST_ARCS}
 use Rattle.wg_graph.specs.Ascending.{Ascends, Below}
 use Rattle.wg_arcs.specs.Reading.{arcs_in, is_after, fault_at, IsFirstFault}
-use Rattle.wg_arcs.specs.declared.arc_lines.ArcLines.{ArcLines}
 use Rattle.wg_arcs.specs.declared.fault.ArcsKind.{ArcsKind}
 use Rattle.wg_arcs.specs.declared.fault.ArcsError.{ArcsError}
 use Rattle.wg_arcs.specs.declared.fault.ArcsError.TheVariants as error
+
+-- how many pages there are, how many lines were read, their last arc, and how many arcs they have
+pub record ArcLinesRead : Type 0 where
+  pub nodes : ℕ
+  pub line : ℕ
+  pub last : Option (ℕ × ℕ)
+  pub arcs : ℕ
 
 -- the arc may come after so many, of which this is the last one, if n pages are given
 pub record MayCome (n : ℕ) (last : Option (ℕ × ℕ)) (count : ℕ) (a : ℕ × ℕ) : Type 0 where
@@ -32,13 +38,13 @@ pub record SoFar (n : ℕ) (all next : List (List ℕ)) (count : ℕ) (arcs : Li
   pub sound : (i : ℕ) → i < count → fault_at n all i ≡ None
 
 -- the same, of the lines that a reading has come to, which knows how many arcs there are, and the last one
-pub record IsUpTo (all next : List (List ℕ)) (arcs : List (ℕ × ℕ)) (s : ArcLines) : Type 0 where
+pub record IsUpTo (all next : List (List ℕ)) (arcs : List (ℕ × ℕ)) (s : ArcLinesRead) : Type 0 where
   pub lines : SoFar s.nodes all next s.line arcs
   pub last : last_or None arcs ≡ s.last
   pub count : length arcs ≡ s.arcs
 
 -- one line further on, which has this arc, if it has one
-abbrev pub with_line : ArcLines → Option (ℕ × ℕ) → ArcLines
+abbrev pub with_line : ArcLinesRead → Option (ℕ × ℕ) → ArcLinesRead
 with_line s None = record s { line = s.line + 1 }
 with_line s (Some a) = record s { line = s.line + 1; last = Some a; arcs = s.arcs + 1 }
 

@@ -5,7 +5,7 @@ use Rattle.std.specs.List.{All, last_or}
 use Rattle.wg_params.specs.declared.limits.TheConstants.{MOST_ARCS}
 use Rattle.wg_graph.specs.Ascending.{Ascends, Below}
 use Rattle.wg_graph.specs.Arcs.{arcs_from}
-use Rattle.wg_arcs.specs.declared.arc_lines.ArcLines.{ArcLines}
+use Rattle.wg_arcs.specs.Growing.{ArcLinesRead}
 
 -- the arcs of some pages, and of the page after them
 abbrev pub arcs_on : List (List ℕ) → List ℕ → List (ℕ × ℕ)
@@ -13,7 +13,7 @@ arcs_on done list = arcs_from 0 (done ++ list ∷ [])
 
 -- The lists of some pages, and of the page after them as far as it was read. If an arc of a later page comes next, it
 -- was read too.
-pub record AreListed (done : List (List ℕ)) (list : List ℕ) (next : Option (ℕ × ℕ)) (s : ArcLines) : Type 0 where
+pub record AreListed (done : List (List ℕ)) (list : List ℕ) (next : Option (ℕ × ℕ)) (s : ArcLinesRead) : Type 0 where
   pub ascending : All (Ascends 0) done
   pub below : All (Below s.nodes) done
   pub list_ascends : Ascends 0 list

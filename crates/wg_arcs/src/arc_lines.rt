@@ -9,22 +9,27 @@ use crate::words::{arc, entry};
 use crate::writing::write_start;
 use crate::{ArcsError, ArcsKind};
 use std::alloc::AllocError;
+use std::marker::Model;
 use wg_graph::List;
 use wg_lines::MOST_START;
 use wg_num::first_line;
 use wg_params::MOST_ARCS;
 
 /// How far a text of arcs was read, line by line, and what of the lines before says whether the next one is in order.
-#[derive(Clone, Copy, Debug)]
+#[derive(Debug, Drop)]
 pub struct ArcLines {
-    /// How many pages there are.
-    pub nodes: u64,
-    /// How many lines were read.
-    pub line: u64,
-    /// Their last arc.
-    pub last: Option<(u64, u64)>,
-    /// How many arcs they have.
-    pub arcs: u64,
+    nodes: u64,
+    line: u64,
+    last: Option<(u64, u64)>,
+    arcs: u64,
+}
+
+impl Model for ArcLines {
+    ghost use Rattle.wg_arcs.specs.Growing.{ArcLinesRead};
+
+    ghost Value = { ArcLinesRead };
+
+    ghost view = { λ l. record { nodes = l.nodes; line = l.line; last = l.last; arcs = l.arcs } };
 }
 
 impl ArcLines {
@@ -40,6 +45,13 @@ impl ArcLines {
             last: None,
             arcs: 0,
         }
+    }
+
+    /// How many arcs were read.
+    pub fn arcs(&self) -> u64
+        ensures { result ≡ self.now.arcs }
+    {
+        self.arcs
     }
 
     // Whether an arc comes after the last one.

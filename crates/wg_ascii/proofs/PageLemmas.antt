@@ -9,18 +9,18 @@ use Rattle.wg_graph.specs.Digraph.{Digraph, arc_count}
 use Rattle.wg_graph.specs.Growing.{padded}
 use Rattle.wg_ascii.specs.Reading.{StandsFor, IsFirstFault, IsRead, fault_of_words}
 use Rattle.wg_ascii.specs.Growing.{HasList, HasNoList, HasLists, IsList, IsRefused, Tells, BlankSoFar, IsUpTo, IsFirst, IsFirstAfter, IsFirstExtra}
-use Rattle.wg_ascii.specs.declared.page_lines.PageLines.{PageLines}
+use Rattle.wg_ascii.specs.Growing.{PageLinesRead}
 use Rattle.wg_ascii.specs.declared.fault.AsciiKind.TheVariants as kind
 use Rattle.wg_ascii.specs.declared.fault.AsciiError.{AsciiError}
 use Rattle.wg_ascii.specs.declared.fault.AsciiError.TheVariants as error
 use Rattle.wg_ascii.proofs.Pages.{lists_none, lists_more, lists_refused}
 use Rattle.wg_ascii.proofs.Whole.{blank_more, blank_done, blank_refused, extra_after, later_fault, no_lines_fault, stands}
 
-abbrev pub graph_of : PageLines → List (List ℕ) → Digraph
+abbrev pub graph_of : PageLinesRead → List (List ℕ) → Digraph
 graph_of s lists = record { nodes = s.nodes; lists = lists }
 
 -- ---- the first line
-pub first_read : (all after later : List (List ℕ)) (first : List ℕ) (s : PageLines) → all ≡ first ∷ after → Tells (words_of first) s.nodes → s.line ≡ 1 → s.arcs ≡ 0 → IsUpTo (all ++ later) (after ++ later) [] s
+pub first_read : (all after later : List (List ℕ)) (first : List ℕ) (s : PageLinesRead) → all ≡ first ∷ after → Tells (words_of first) s.nodes → s.line ≡ 1 → s.arcs ≡ 0 → IsUpTo (all ++ later) (after ++ later) [] s
 first_read all after later first s cut tells line arcs = record {
   first = first;
   lines = after ++ later;
@@ -38,10 +38,10 @@ no_first all later none end = no_lines_fault (all ++ later) (ap (λ (ls : List (
 
 -- ---- how many pages were read
 
-pub page_left : (all next lists : List (List ℕ)) (s : PageLines) → s.line ≤ s.nodes → IsUpTo all next lists s → length lists < s.nodes
+pub page_left : (all next lists : List (List ℕ)) (s : PageLinesRead) → s.line ≤ s.nodes → IsUpTo all next lists s → length lists < s.nodes
 page_left all next lists s le h = omega (arith, h.blank.counted)
 
-pub all_listed : (all next lists : List (List ℕ)) (s : PageLines) → s.nodes < s.line → IsUpTo all next lists s → length lists ≡ s.nodes
+pub all_listed : (all next lists : List (List ℕ)) (s : PageLinesRead) → s.nodes < s.line → IsUpTo all next lists s → length lists ≡ s.nodes
 all_listed all next lists s lt h =
     let few : length lists ≤ s.nodes = h.pages.prefix.begun in
     elim (cases_lt (length lists) s.nodes) [
@@ -49,14 +49,14 @@ all_listed all next lists s lt h =
       | inr from ↦ omega arith
     ]
 
-first_of : (all next lists : List (List ℕ)) (s : PageLines) (e : AsciiError) (h : IsUpTo all next lists s) → IsFirstAfter s.nodes h.lines e → IsFirst all e
+first_of : (all next lists : List (List ℕ)) (s : PageLinesRead) (e : AsciiError) (h : IsUpTo all next lists s) → IsFirstAfter s.nodes h.lines e → IsFirst all e
 first_of all next lists s (error.Line l k) h (x, at, fault, before) =
     subst (λ (ls : List (List ℕ)). IsFirstFault ls l k) (sym h.split) (later_fault h.first h.lines s.nodes x l k h.tells at fault before)
 first_of all next lists s error.Memory h f = tt
 
 -- ---- the line of a page
 
-pub page_read : (all lines later after lists : List (List ℕ)) (list : List ℕ) (s t : PageLines) → s.line ≤ s.nodes → HasList s.nodes s.arcs lines after list → t.nodes ≡ s.nodes → t.line ≡ s.line + 1 → t.arcs ≡ s.arcs + length list
+pub page_read : (all lines later after lists : List (List ℕ)) (list : List ℕ) (s t : PageLinesRead) → s.line ≤ s.nodes → HasList s.nodes s.arcs lines after list → t.nodes ≡ s.nodes → t.line ≡ s.line + 1 → t.arcs ≡ s.arcs + length list
     → IsUpTo all (lines ++ later) lists s → IsUpTo all (after ++ later) (lists ++ list ∷ []) t
 page_read all lines later after lists list s t le (text, cut, is) nodes line arcs h =
     let lt : length lists < s.nodes = page_left all (lines ++ later) lists s le h in
@@ -78,7 +78,7 @@ page_read all lines later after lists list s t le (text, cut, is) nodes line arc
       waits = λ less. (refl, omega (arith, line, w.1, count));
     }
 
-pub page_refused : (all lines later lists : List (List ℕ)) (s : PageLines) (line : ℕ) (e : AsciiError) → s.line ≤ s.nodes → line ≡ s.line + 1 → HasNoList line s.nodes s.arcs lines e → IsUpTo all (lines ++ later) lists s → IsFirst all e
+pub page_refused : (all lines later lists : List (List ℕ)) (s : PageLinesRead) (line : ℕ) (e : AsciiError) → s.line ≤ s.nodes → line ≡ s.line + 1 → HasNoList line s.nodes s.arcs lines e → IsUpTo all (lines ++ later) lists s → IsFirst all e
 page_refused all lines later lists s line e le at (text, after, cut, r) h =
     let lt : length lists < s.nodes = page_left all (lines ++ later) lists s le h in
     let w = h.waits lt in
@@ -87,7 +87,7 @@ page_refused all lines later lists s line e le at (text, after, cut, r) h =
     let refused : IsRefused line (fault_of_words s.nodes 0 (arc_count g) (words_of text)) e = subst (λ (n : ℕ). IsRefused line (fault_of_words s.nodes 0 n (words_of text)) e) h.arcs r in
     first_of all (lines ++ later) lists s e h (lists_refused h.lines (text ∷ (after ++ later)) g line e pages lt (omega (arith, at, w.1)) refused)
 
-pub page_missing : (all lists : List (List ℕ)) (s : PageLines) (line : ℕ) → s.line ≤ s.nodes → line ≡ s.line + 1 → IsUpTo all [] lists s → IsFirst all (error.Line line kind.Missing)
+pub page_missing : (all lists : List (List ℕ)) (s : PageLinesRead) (line : ℕ) → s.line ≤ s.nodes → line ≡ s.line + 1 → IsUpTo all [] lists s → IsFirst all (error.Line line kind.Missing)
 page_missing all lists s line le at h =
     let lt : length lists < s.nodes = page_left all [] lists s le h in
     let w = h.waits lt in
@@ -97,7 +97,7 @@ page_missing all lists s line le at h =
 
 -- ---- the lines after those of the pages
 
-pub blank_read : (all rest later after lists : List (List ℕ)) (text : List ℕ) (s t : PageLines) → s.nodes < s.line → rest ≡ text ∷ after → words_of text ≡ [] → t.nodes ≡ s.nodes → t.line ≡ s.line + 1 → t.arcs ≡ s.arcs
+pub blank_read : (all rest later after lists : List (List ℕ)) (text : List ℕ) (s t : PageLinesRead) → s.nodes < s.line → rest ≡ text ∷ after → words_of text ≡ [] → t.nodes ≡ s.nodes → t.line ≡ s.line + 1 → t.arcs ≡ s.arcs
     → IsUpTo all (rest ++ later) lists s → IsUpTo all (after ++ later) lists t
 blank_read all rest later after lists text s t over cut none nodes line arcs h =
     let full : length lists ≡ s.nodes = all_listed all (rest ++ later) lists s over h in
@@ -114,7 +114,7 @@ blank_read all rest later after lists text s t over cut none nodes line arcs h =
       waits = λ less. absurd (omega (arith, nodes, full));
     }
 
-pub word_refused : (all rest later after lists : List (List ℕ)) (text : List ℕ) (s : PageLines) (line : ℕ) → s.nodes < s.line → line ≡ s.line + 1 → rest ≡ text ∷ after → words_of text ≢ []
+pub word_refused : (all rest later after lists : List (List ℕ)) (text : List ℕ) (s : PageLinesRead) (line : ℕ) → s.nodes < s.line → line ≡ s.line + 1 → rest ≡ text ∷ after → words_of text ≢ []
     → IsUpTo all (rest ++ later) lists s → IsFirst all (error.Line line kind.Extra)
 word_refused all rest later after lists text s line over at cut some h =
     let full : length lists ≡ s.nodes = all_listed all (rest ++ later) lists s over h in
@@ -126,7 +126,7 @@ word_refused all rest later after lists text s line over at cut some h =
 
 -- ---- the end
 
-pub all_read : (all lists : List (List ℕ)) (s : PageLines) → s.nodes < s.line → IsUpTo all [] lists s → StandsFor all (graph_of s lists)
+pub all_read : (all lists : List (List ℕ)) (s : PageLinesRead) → s.nodes < s.line → IsUpTo all [] lists s → StandsFor all (graph_of s lists)
 all_read all lists s over h =
     stands all h.first h.lines h.behind (graph_of s lists) h.split h.tells h.pages (all_listed all [] lists s over h) (blank_done h.behind [] (length lists + 2) (s.line + 1) h.blank refl)
 
@@ -135,7 +135,7 @@ read_of_first bytes (error.Line l k) h = subst (λ (ls : List (List ℕ)). IsFir
 read_of_first bytes error.Memory h = tt
 
 -- the graph that is made of these lists
-pub stands_alone : (bytes : List ℕ) (lists : List (List ℕ)) (s : PageLines) (g : Digraph) (n : ℕ) → g.nodes ≡ s.nodes → n ≡ s.nodes → g.lists ≡ padded n lists → s.nodes < s.line → IsUpTo (lines_of bytes ++ []) [] lists s → StandsFor (lines_of bytes) g
+pub stands_alone : (bytes : List ℕ) (lists : List (List ℕ)) (s : PageLinesRead) (g : Digraph) (n : ℕ) → g.nodes ≡ s.nodes → n ≡ s.nodes → g.lists ≡ padded n lists → s.nodes < s.line → IsUpTo (lines_of bytes ++ []) [] lists s → StandsFor (lines_of bytes) g
 stands_alone bytes lists s g n nodes room is over h =
     let all : List (List ℕ) = lines_of bytes ++ [] in
     let none : n - length lists ≡ 0 = omega (arith, room, all_listed all [] lists s over h) in

@@ -6,11 +6,16 @@ use Rattle.wg_params.specs.declared.limits.TheConstants.{MOST_ARCS, MOST_PAGES}
 use Rattle.wg_graph.specs.Ascending.{Ascends, Below}
 use Rattle.wg_graph.specs.Digraph.{Digraph, IsGraphPrefix, arc_count, successors}
 use Rattle.wg_ascii.specs.Reading.{fault_of_words, fault_after, IsFirstFault}
-use Rattle.wg_ascii.specs.declared.page_lines.PageLines.{PageLines}
 use Rattle.wg_ascii.specs.declared.fault.AsciiKind.{AsciiKind}
 use Rattle.wg_ascii.specs.declared.fault.AsciiKind.TheVariants as kind
 use Rattle.wg_ascii.specs.declared.fault.AsciiError.{AsciiError}
 use Rattle.wg_ascii.specs.declared.fault.AsciiError.TheVariants as error
+
+-- how many pages the first line tells, how many lines were read, with the first one, and how many arcs they have
+pub record PageLinesRead : Type 0 where
+  pub nodes : ℕ
+  pub line : ℕ
+  pub arcs : ℕ
 
 -- the line is named with this fault, or memory ran out
 abbrev pub IsRefused : ℕ → Option AsciiKind → AsciiError → Type 0
@@ -85,7 +90,7 @@ pub record BlankSoFar (lines rest : List (List ℕ)) (first line : ℕ) : Type 0
 
 -- Of all lines those that a reading has come to are in order: the first one tells the number of pages, then come those
 -- of these lists, and, if these are the lists of all pages, lines without words. The others come next.
-pub record IsUpTo (all next lists : List (List ℕ)) (s : PageLines) : Type 0 where
+pub record IsUpTo (all next lists : List (List ℕ)) (s : PageLinesRead) : Type 0 where
   pub first : List ℕ
   pub lines : List (List ℕ)
   pub behind : List (List ℕ)

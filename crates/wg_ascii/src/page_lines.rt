@@ -9,6 +9,7 @@ ghost use Rattle.wg_ascii.specs.Growing.{IsFirst, IsUpTo};
 use crate::lists::read_first;
 use crate::words::next_word;
 use crate::{AsciiError, AsciiKind};
+use std::marker::Model;
 use wg_graph::List;
 use wg_num::{first_line, read_decimal};
 use wg_params::MOST_PAGES;
@@ -45,14 +46,19 @@ fn read_nodes(line: &[u8]) -> Result<u64, AsciiKind>
 
 /// How far an ASCIIGraph text was read, line by line, and what of the lines before says whether the next one is in
 /// order.
-#[derive(Clone, Copy, Debug)]
+#[derive(Debug, Drop)]
 pub struct PageLines {
-    /// How many pages the first line tells.
-    pub nodes: u64,
-    /// How many lines were read, with the first one.
-    pub line: u64,
-    /// How many arcs they have.
-    pub arcs: u64,
+    nodes: u64,
+    line: u64,
+    arcs: u64,
+}
+
+impl Model for PageLines {
+    ghost use Rattle.wg_ascii.specs.Growing.{PageLinesRead};
+
+    ghost Value = { PageLinesRead };
+
+    ghost view = { λ l. record { nodes = l.nodes; line = l.line; arcs = l.arcs } };
 }
 
 impl PageLines {
@@ -86,6 +92,51 @@ impl PageLines {
             }
             Err(kind) => Err(AsciiError::Line { line: 1, kind }),
         }
+    }
+
+    /// How many pages the first line tells.
+    pub fn nodes(&self) -> u64
+        ensures { result ≡ self.now.nodes }
+    {
+        self.nodes
+    }
+
+    /// How many arcs were read.
+    pub fn arcs(&self) -> u64
+        ensures { result ≡ self.now.arcs }
+    {
+        self.arcs
+    }
+
+    // The fault of the next line.
+    fn fault(&self, kind: AsciiKind) -> AsciiError
+        requires { self.now.line + 1 < 2 ^ 64 }
+        ensures { result ≡ AsciiError.Line (self.now.line + 1) kind }
+    {
+        AsciiError::Line {
+            line: self.line + 1,
+            kind,
+        }
+    }
+
+    // Goes over a line.
+    #[inline(always)]
+    fn pass(&mut self)
+        requires { self.old.line + 1 < 2 ^ 64 }
+        ensures { self.new ≡ record self.old { line = self.old.line + 1 } }
+    {
+        self.line += 1;
+    }
+
+    // Goes over a line that has so many arcs.
+    #[inline(always)]
+    fn pass_page(&mut self, arcs: u64)
+        requires line { self.old.line + 1 < 2 ^ 64 }
+        requires arcs { self.old.arcs + arcs < 2 ^ 64 }
+        ensures { self.new ≡ record self.old { line = self.old.line + 1; arcs = self.old.arcs + arcs } }
+    {
+        self.pass();
+        self.arcs += arcs;
     }
 
     /// Whether the next line is that of a page.
@@ -122,8 +173,7 @@ impl PageLines {
             → IfErr result (IsFirst all) }
     {
         let after = read_first(list, self.line + 1, bytes, self.nodes, self.arcs)?;
-        self.line += 1;
-        self.arcs += list.as_slice().len() as u64;
+        self.pass_page(list.as_slice().len() as u64);
         Ok(after)
     }
 
@@ -145,12 +195,9 @@ impl PageLines {
         'lines: while !rest.is_empty() {
             let (text, after) = first_line(rest);
             if next_word(text).is_some() {
-                return Err(AsciiError::Line {
-                    line: self.line + 1,
-                    kind: AsciiKind::Extra,
-                });
+                return Err(self.fault(AsciiKind::Extra));
             }
-            self.line += 1;
+            self.pass();
             rest = after;
         }
         Ok(())
@@ -165,10 +212,7 @@ impl PageLines {
         ensures fault { (all lists : ListOf (ListOf ℕ)) → IsUpTo all [] lists self.now → IfErr result (IsFirst all) }
     {
         if self.is_page() {
-            return Err(AsciiError::Line {
-                line: self.line + 1,
-                kind: AsciiKind::Missing,
-            });
+            return Err(self.fault(AsciiKind::Missing));
         }
         Ok(())
     }

@@ -46,7 +46,7 @@ pub fn read(alloc: Global, bytes: &[u8]) -> Result<Graph, AsciiError>
     ensures { IsRead bytes.now result }
 {
     let (mut lines, rest) = PageLines::begin(bytes)?;
-    let mut builder = GraphBuilder::new(alloc, lines.nodes)?;
+    let mut builder = GraphBuilder::new(alloc, lines.nodes())?;
     let rest = read_lists(alloc, &mut lines, &mut builder, rest)?;
     lines.refuse_words(rest)?;
     lines.end()?;

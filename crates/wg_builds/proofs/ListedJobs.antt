@@ -12,7 +12,7 @@ use Rattle.wg_graph.specs.Growing.{padded}
 use Rattle.wg_graph.proofs.Arcs.{length-arcs_from}
 use Rattle.wg_arcs.specs.Growing.{IsFirst, SoFar}
 use Rattle.wg_arcs.specs.Listing.{AreListed, arcs_on}
-use Rattle.wg_arcs.specs.declared.arc_lines.ArcLines.{ArcLines}
+use Rattle.wg_arcs.specs.Growing.{ArcLinesRead}
 use Rattle.wg_arcs.specs.declared.fault.ArcsKind.{ArcsKind}
 use Rattle.wg_arcs.specs.declared.fault.ArcsError.{ArcsError}
 use Rattle.wg_arcs.specs.declared.fault.ArcsError.TheVariants as error
@@ -89,7 +89,7 @@ module _ (name : List ℕ) (n : ℕ) (td : Bool) (files files' : Files) (counts 
   }
 
   -- ---- the list was read, and its lists are encoded
-  pub list_encoded : (s : ArcLines) (done : List (List ℕ)) (list : List ℕ) → s.nodes ≡ n → AreListed done list None s
+  pub list_encoded : (s : ArcLinesRead) (done : List (List ℕ)) (list : List ℕ) → s.nodes ≡ n → AreListed done list None s
       → (IsTrue td → (file : List ℕ) × (map.get files name ≡ Some file) × (length file ≤ MOST_BYTES) × SoFar n (lines_of file) [] s.line (arcs_on done list))
       → (e : EncodedSoFar) → HasEncoded e (take n (padded n (done ++ list ∷ []))) → e.page ≡ n → Encodes (λ r. LoadsList name n td files files' counts counts' r) e n s.arcs
   list_encoded s done list nodes h told e encoded page =

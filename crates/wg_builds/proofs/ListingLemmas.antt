@@ -10,7 +10,7 @@ use Rattle.wg_graph.proofs.Arcs.{length-arcs_from}
 use Rattle.wg_graph.proofs.Prefixes.{length-padded}
 use Rattle.wg_params.specs.Parameters.{Parameters}
 use Rattle.wg_arcs.specs.Listing.{AreListed, arcs_on}
-use Rattle.wg_arcs.specs.declared.arc_lines.ArcLines.{ArcLines}
+use Rattle.wg_arcs.specs.Growing.{ArcLinesRead}
 use Rattle.wg_arcs.proofs.ListedLemmas.{next_page}
 use Rattle.wg_arcs.proofs.Order.{Arc}
 use Rattle.wg_encoder.specs.ArchiveInMemory.{EncodedSoFar, HasEncoded}
@@ -31,13 +31,13 @@ padded_all n lists size = sym (padded_none n lists (omega (arith, size)))
 
 -- ---- what an encoder may be handed
 
-comes_next : (e : EncodedSoFar) (done : List (List ℕ)) (list : List ℕ) (next : Option Arc) (s : ArcLines) → HasEncoded e done → e.params.nodes ≡ s.nodes → AreListed done list next s
+comes_next : (e : EncodedSoFar) (done : List (List ℕ)) (list : List ℕ) (next : Option Arc) (s : ArcLinesRead) → HasEncoded e done → e.params.nodes ≡ s.nodes → AreListed done list next s
     → IfSome next (λ a. (e.page < a.0) × (a.0 ≤ e.params.nodes))
 comes_next e done list None s h nodes l = tt
 comes_next e done list (Some a) s h nodes l = (omega (arith, h.page, l.comes.0), omega (arith, nodes, l.comes.1))
 
 -- the lists that are encoded and the next one have no more arcs than were read
-pub may_take : (e : EncodedSoFar) (done : List (List ℕ)) (list : List ℕ) (next : Option Arc) (s : ArcLines) → HasEncoded e done → e.params.nodes ≡ s.nodes → e.params.arcs ≡ MOST_ARCS → AreListed done list next s → MayTake e list next
+pub may_take : (e : EncodedSoFar) (done : List (List ℕ)) (list : List ℕ) (next : Option Arc) (s : ArcLinesRead) → HasEncoded e done → e.params.nodes ≡ s.nodes → e.params.arcs ≡ MOST_ARCS → AreListed done list next s → MayTake e list next
 may_take e done list next s h nodes most l =
     let sizes : List ℕ → ℕ = λ x. length x in
     record {
@@ -58,12 +58,12 @@ may_take e done list next s h nodes most l =
 
 -- ---- a page is passed
 
-begun : (next : Option Arc) (done : List (List ℕ)) (list : List ℕ) (s : ArcLines) → AreListed done list next s
+begun : (next : Option Arc) (done : List (List ℕ)) (list : List ℕ) (s : ArcLinesRead) → AreListed done list next s
     → AreListed (done_at next done list) (list_at next list) None s × (arcs_on (done_at next done list) (list_at next list) ≡ arcs_on done list ++ option_to_list next)
 begun None done list s h = (h, sym (append-nil (arcs_on done list)))
 begun (Some a) done list s h = next_page done list s a h
 
-pub moved_on : (e f : EncodedSoFar) (list list' : List ℕ) (s : ArcLines) (done : List (List ℕ)) (next : Option Arc) → e.params.nodes ≡ s.nodes → e.params.arcs ≡ MOST_ARCS → AreListed done list next s → f.params ≡ e.params → list' ≡ list_at next list
+pub moved_on : (e f : EncodedSoFar) (list list' : List ℕ) (s : ArcLinesRead) (done : List (List ℕ)) (next : Option Arc) → e.params.nodes ≡ s.nodes → e.params.arcs ≡ MOST_ARCS → AreListed done list next s → f.params ≡ e.params → list' ≡ list_at next list
     → HasEncoded f (done_at next done list) → IsUnderWay f list' s (done_at next done list) × (arcs_on (done_at next done list) list' ≡ arcs_on done list ++ option_to_list next)
 moved_on e f list list' s done next nodes most h params is encoded =
     let b = begun next done list s h in (

@@ -3,7 +3,7 @@ use Rattle.std.specs.Prelude.{◌≡◌, ℕ, ◌+◌, ◌<◌, ◌≤◌, List,
 use Rattle.wg_num.specs.Lines.{lines_of}
 use Rattle.wg_params.specs.declared.limits.TheConstants.{MOST_ARCS, MOST_PAGES}
 use Rattle.wg_ascii.specs.Growing.{IsUpTo}
-use Rattle.wg_ascii.specs.declared.page_lines.PageLines.{PageLines}
+use Rattle.wg_ascii.specs.Growing.{PageLinesRead}
 use Rattle.wg_ascii.specs.declared.fault.AsciiError.{AsciiError}
 use Rattle.wg_ascii.specs.declared.fault.AsciiError.TheVariants as error
 use Rattle.wg_encoder.specs.ArchiveInMemory.{EncodedSoFar, HasEncoded}
@@ -16,7 +16,7 @@ status_of_text (error.Line line kind) = BadText line kind
 status_of_text error.Memory = Memory
 
 -- The lists of the pages whose lines were read are encoded; as many arcs are told as an archive may have.
-pub record KeepsPace (e : EncodedSoFar) (s : PageLines) : Type 0 where
+pub record KeepsPace (e : EncodedSoFar) (s : PageLinesRead) : Type 0 where
   pub nodes : e.params.nodes ≡ s.nodes
   pub few : s.nodes ≤ MOST_PAGES
   pub most : e.params.arcs ≡ MOST_ARCS
@@ -26,13 +26,13 @@ pub record KeepsPace (e : EncodedSoFar) (s : PageLines) : Type 0 where
   pub over : s.nodes < s.line → e.page ≡ s.nodes
 
 -- the first line was read, and other lines of a text; these lists are encoded
-pub record Begins (text : List ℕ) (e : EncodedSoFar) (s : PageLines) : Type 0 where
+pub record Begins (text : List ℕ) (e : EncodedSoFar) (s : PageLinesRead) : Type 0 where
   pub lists : List (List ℕ)
   pub encoded : HasEncoded e lists
   pub reads : (later : List (List ℕ)) → IsUpTo (lines_of text ++ later) later lists s
 
 -- some lines more were read, where those before gave these lists
-pub record GoesOn (text : List ℕ) (s : PageLines) (before : List (List ℕ)) (e : EncodedSoFar) (t : PageLines)
+pub record GoesOn (text : List ℕ) (s : PageLinesRead) (before : List (List ℕ)) (e : EncodedSoFar) (t : PageLinesRead)
     : Type 0 where
   pub lists : List (List ℕ)
   pub encoded : HasEncoded e lists

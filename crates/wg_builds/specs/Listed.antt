@@ -7,7 +7,7 @@ use Rattle.wg_graph.specs.Digraph.{Digraph}
 use Rattle.wg_graph.specs.Growing.{padded}
 use Rattle.wg_arcs.specs.Growing.{IsFirst, SoFar}
 use Rattle.wg_arcs.specs.Listing.{AreListed, arcs_on}
-use Rattle.wg_arcs.specs.declared.arc_lines.ArcLines.{ArcLines}
+use Rattle.wg_arcs.specs.Growing.{ArcLinesRead}
 use Rattle.wg_arcs.specs.declared.fault.ArcsError.{ArcsError}
 use Rattle.wg_arcs.specs.declared.fault.ArcsError.TheVariants as error
 use Rattle.wg_encoder.specs.ArchiveInMemory.{EncodedSoFar, HasEncoded}
@@ -27,7 +27,7 @@ abbrev pub IsFault : ℕ → List (List ℕ) → ArcsError → Type 0
 IsFault n all e = (e ≡ error.Memory) ⊎ IsFirst n all e
 
 -- The lists of these pages are encoded; the page that comes next has this list, as far as its arcs were read.
-pub record IsUnderWay (e : EncodedSoFar) (list : List ℕ) (s : ArcLines) (done : List (List ℕ)) : Type 0 where
+pub record IsUnderWay (e : EncodedSoFar) (list : List ℕ) (s : ArcLinesRead) (done : List (List ℕ)) : Type 0 where
   pub encoded : HasEncoded e done
   pub listed : AreListed done list None s
   pub nodes : e.params.nodes ≡ s.nodes
@@ -40,8 +40,8 @@ pub record MayTake (e : EncodedSoFar) (list : List ℕ) (next : Option (ℕ × �
   pub arcs : e.arcs + length list ≤ e.params.arcs
 
 -- Some lines more were read, where those before had these arcs.
-pub record GoesOn (text : List ℕ) (s : ArcLines) (arcs : List (ℕ × ℕ)) (e : EncodedSoFar) (list : List ℕ)
-    (t : ArcLines) : Type 0 where
+pub record GoesOn (text : List ℕ) (s : ArcLinesRead) (arcs : List (ℕ × ℕ)) (e : EncodedSoFar) (list : List ℕ)
+    (t : ArcLinesRead) : Type 0 where
   pub done : List (List ℕ)
   pub way : IsUnderWay e list t done
   pub reads : (all later : List (List ℕ)) → SoFar s.nodes all (lines_of text ++ later) s.line arcs

@@ -81,7 +81,7 @@ fn encode_first(
 {
     let (mut lines, rest) = PageLines::begin(text)?;
     // how many arcs there are is known at the end
-    let encoder = ArchiveEncoder::new(alloc, params_of(layout, lines.nodes, MOST_ARCS))?;
+    let encoder = ArchiveEncoder::new(alloc, params_of(layout, lines.nodes(), MOST_ARCS))?;
     let encoder = take_lines(encoder, list, &mut lines, rest)?;
     Ok((encoder, lines))
 }
@@ -161,7 +161,7 @@ pub fn encode_text<D: Depot>(
     ensures ends { IfErr result (λ e. LoadsTextBy ⟦<D as Depot>⟧ name.now depot.old depot.new (Err e)) }
 {
     let (encoder, lines) = encode_pages(alloc, layout, depot, name.as_str())?;
-    let params = params_of(layout, lines.nodes, lines.arcs);
+    let params = params_of(layout, lines.nodes(), lines.arcs());
     let archive = end_archive(alloc, encoder, &params)?;
     Ok((params, archive))
 }

@@ -154,7 +154,7 @@ fn encode_lines<D: Depot>(
         };
     }
     let encoder = end_pages(encoder, &mut list, nodes)?;
-    Ok((encoder, lines.arcs))
+    Ok((encoder, lines.arcs()))
 }
 
 /// The archive of the graph of so many pages that an arc list holds, and its parameters. It goes through the list

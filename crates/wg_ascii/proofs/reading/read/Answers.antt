@@ -1,4 +1,5 @@
-use Rattle.std.proofs.Common.{◌++◌, ◌∙◌, [], sym, refl}
+use Rattle.std.proofs.Common.{◌++◌, ◌≤◌, ◌∙◌, ℕ, [], sym, subst, refl}
+use Rattle.wg_params.specs.declared.limits.TheConstants.{MOST_PAGES}
 use Rattle.std.proofs.lemmas.Result.{err_from_is_err_and}
 use Rattle.wg_num.specs.Lines.{lines_of}
 use Rattle.wg_ascii.specs.Growing.{IsUpTo}
@@ -6,13 +7,13 @@ use Rattle.wg_ascii.proofs.PageLemmas.{read_of_first, stands_alone}
 use Rattle.wg_ascii.proofs.reading.read.Goals as goal
 
 pub new-requires : goal.new-requires
-new-requires c = c.in_ok-lines.ensures.few
+new-requires c = subst (λ (n : ℕ). n ≤ MOST_PAGES) (sym c.nodes.ensures) c.in_ok-lines.ensures.few
 
 pub read_lists-requires : goal.read_lists-requires
 read_lists-requires c =
     let n = c.in_ok-lines.ensures in
     let b = c.in_ok-builder.ensures in
-    record { nodes = sym b.nodes; few = n.few; none = b.lists; first = n.line; arcs = n.arcs }
+    record { nodes = sym (b.nodes ∙ c.nodes.ensures); few = n.few; none = b.lists; first = n.line; arcs = n.arcs }
 
 pub returns-in_err-lines : goal.returns-in_err-lines
 returns-in_err-lines c =
@@ -48,6 +49,6 @@ returns c =
     let up : IsUpTo all [] lists s = c.in_ok-refuse_words.ensures.read all [] lists (c.in_ok-rest.ensures.read all [] (c.in_ok-lines.ensures.read [])) in
     let f = c.in_ok-finish.ensures in
     let e = c.in_ok-rest.ensures in
-    let room = c.in_ok-builder.ensures.nodes in
+    let room = c.in_ok-builder.ensures.nodes ∙ c.nodes.ensures in
     let here = c.in_ok-refuse_words.ensures.nodes ∙ e.nodes in
     stands_alone c.args.bytes.now lists s c.in_ok-finish.field-0 c.read_lists.new.builder.nodes (f.nodes ∙ e.same ∙ room ∙ sym here) (e.same ∙ room ∙ sym here) f.lists c.in_ok-end.ensures.over up

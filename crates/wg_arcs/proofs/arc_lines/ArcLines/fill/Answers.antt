@@ -2,7 +2,7 @@ use Rattle.std.proofs.Common.{◌≡◌, ◌∙◌, ◌++◌, inl, inr, false, �
 use Rattle.std.specs.Prelude.{is_some, option_to_list}
 use Rattle.wg_outside.proofs.PutsLemmas.{is_that_err}
 use Rattle.wg_num.specs.Lines.{lines_of}
-use Rattle.wg_arcs.specs.declared.arc_lines.ArcLines.{ArcLines}
+use Rattle.wg_arcs.specs.Growing.{ArcLinesRead}
 use Rattle.wg_arcs.specs.Growing.{IsFirst, IsUpTo, SoFar}
 use Rattle.wg_arcs.specs.Listing.{AreListed, arcs_on}
 use Rattle.wg_arcs.proofs.LineLemmas.{all_left, is_left, line_fits, line_on, no_more, none_shorter, short_on, shorter_on}
@@ -11,10 +11,10 @@ use Rattle.wg_arcs.proofs.Order.{Arc}
 use Rattle.wg_arcs.proofs.arc_lines.ArcLines.fill.Goals as goal
 
 -- by how far all was read
-come_to : (n : ℕ) (all next done : List (List ℕ)) (list : List ℕ) (s : ArcLines) → s.nodes ≡ n → AreListed done list None s → SoFar n all next s.line (arcs_on done list) → IsUpTo all next (arcs_on done list) s
+come_to : (n : ℕ) (all next done : List (List ℕ)) (list : List ℕ) (s : ArcLinesRead) → s.nodes ≡ n → AreListed done list None s → SoFar n all next s.line (arcs_on done list) → IsUpTo all next (arcs_on done list) s
 come_to n all next done list s nodes h so = up_to all next done list s h (subst (λ (m : ℕ). SoFar m all next s.line (arcs_on done list)) (sym nodes) so)
 
-read_on : (n : ℕ) (all next : List (List ℕ)) (arcs arcs' : List Arc) (s : ArcLines) → s.nodes ≡ n → arcs' ≡ arcs → IsUpTo all next arcs s → SoFar n all next s.line arcs'
+read_on : (n : ℕ) (all next : List (List ℕ)) (arcs arcs' : List Arc) (s : ArcLinesRead) → s.nodes ≡ n → arcs' ≡ arcs → IsUpTo all next arcs s → SoFar n all next s.line arcs'
 read_on n all next arcs arcs' s nodes same up = subst (λ (m : ℕ). SoFar m all next s.line arcs') nodes (subst (λ (l : List Arc). SoFar s.nodes all next s.line l) (sym same) up.lines)
 
 not_some : (o : Option Arc) → is_some o ≡ false → o ≡ None

@@ -1,7 +1,7 @@
-use Rattle.std.proofs.Common.{◌+◌, ◌∙◌, Option, None, Some, refl, sym, subst}
+use Rattle.std.proofs.Common.{◌+◌, ◌∙◌, Option, None, Some, ap, refl, sym, subst}
 use Rattle.wg_outside.proofs.PutsLemmas.{is_that_err}
 use Rattle.wg_num.specs.Words.{words_of}
-use Rattle.wg_arcs.specs.Growing.{IsRefusedLine}
+use Rattle.wg_arcs.specs.Growing.{ArcLinesRead, IsRefusedLine}
 use Rattle.wg_arcs.specs.declared.fault.ArcsKind.{ArcsKind}
 use Rattle.wg_arcs.proofs.LineLemmas.{entry_arc, entry_fault, shape_refused}
 use Rattle.wg_arcs.proofs.Order.{Arc}
@@ -12,8 +12,8 @@ returns-in-None c = record {
   fine = rw c.in-None.ensures.skipped refl;
   comes = tt;
   arc = rw c.in-None.ensures.skipped refl;
-  ok = refl;
-  nodes = refl;
+  ok = ap (λ (s : ArcLinesRead). record s { line = s.line + 1 }) c.self.view_is;
+  nodes = ap (λ (s : ArcLinesRead). s.nodes) c.self.view_is;
   err = tt;
 }
 

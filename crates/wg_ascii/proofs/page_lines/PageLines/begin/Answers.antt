@@ -1,7 +1,7 @@
 use Rattle.std.proofs.Common.{refl}
 use Rattle.wg_num.specs.Lines.{lines_of}
 use Rattle.wg_num.proofs.Cuts.{no_lines}
-use Rattle.wg_ascii.specs.declared.page_lines.PageLines.{PageLines}
+use Rattle.wg_ascii.specs.Growing.{PageLinesRead}
 use Rattle.wg_ascii.proofs.ListsLemmas.{first_fault, is_empty, is_left}
 use Rattle.wg_ascii.proofs.PageLemmas.{first_read, no_first}
 use Rattle.wg_ascii.proofs.page_lines.PageLines.begin.Goals as goal
@@ -24,7 +24,7 @@ first_line-requires c = is_left _ c.if-is_empty.ensures
 pub returns-in-Ok : goal.returns-in-Ok
 returns-in-Ok c =
     let n = c.in-Ok.ensures in
-    let s : PageLines = record { nodes = c.in-Ok.nodes; line = 1; arcs = 0 } in
+    let s : PageLinesRead = record { nodes = c.in-Ok.nodes; line = 1; arcs = 0 } in
     record {
       few = n.few;
       line = refl;
