@@ -10,7 +10,7 @@ use Rattle.wg_params.specs.Parameters.{Parameters}
 use Rattle.wg_graph.specs.Digraph.{Digraph}
 use Rattle.wg_rank.specs.Rank.{gap}
 use Rattle.wg_rank.specs.Sum.{sum_below}
-use Rattle.wg_rank.specs.Intervals.{AreBounds, Holds, Intervals, by_page}
+use Rattle.wg_rank.specs.Intervals.{AreBounds, AreBoundsOf, Intervals, by_page}
 use Rattle.wg_rank.specs.Claims.{Claim, IsClaim, Rises, claim_of_bounds}
 use Rattle.wg_rank.specs.Weights.{weights_of}
 use Rattle.wg_rank.specs.CertificateText.{bound_line, bound_lines, claim_of, named_line, text_of_claim}
@@ -84,7 +84,7 @@ module _ (r : Readings) (held after : Input → Option (List ℕ)) (still : AreS
         let claim : Claim = claim_of_bounds b in
         let same : text ≡ certificate_text b = same_text text out (certificate_text b) (ranking_text r b top) (sym is ∙ behind.goes_on last ∙ heavy.goes_on (then_ranks g)) in
         let bounds : AreBounds b = are_bounds g given rounds damping few damped behind.few_pages heavy.proper in
-        let holds : Holds b g = bounds_hold g given rounds damping in
+        let holds : AreBoundsOf b g = bounds_hold g given rounds damping in
         let rises = complete b g behind.proper bounds holds in
         let count : length b.low ≡ g.nodes = holds.low_is.counted in
         let proper : IsClaim claim =

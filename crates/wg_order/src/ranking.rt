@@ -1,7 +1,7 @@
 ghost use Rattle.std.specs.Prelude.{◌≡◌, ℕ, ◌<◌, ◌≤◌, ◌↔◌, true, false, IsTrue, length, slice_index, IfOk};
 ghost use Rattle.wg_params.specs.declared.limits.TheConstants.{MOST_PAGES};
 ghost use Rattle.wg_graph.specs.Digraph.{Digraph, IsGraph};
-ghost use Rattle.wg_rank.specs.Intervals.{Holds, by_page};
+ghost use Rattle.wg_rank.specs.Intervals.{AreBoundsOf, by_page};
 ghost use Rattle.wg_rank.specs.declared.limits.TheConstants.{UNITS};
 ghost use Rattle.wg_order.specs.Inside.{IsRising};
 ghost use Rattle.wg_order.specs.Order.{best, worst, IsRanking};
@@ -75,7 +75,7 @@ impl Ranking {
         ensures within { (v : ℕ) → v < length result.low → (by_page result.low v ≤ UNITS)
             × (by_page result.high v ≤ UNITS) }
         ensures ranking { IsRanking result.low result.high result.pages }
-        ensures surely { (g : Digraph) → IsGraph g → Holds bounds g → IsSurely result bounds g }
+        ensures surely { (g : Digraph) → IsGraph g → AreBoundsOf bounds g → IsSurely result bounds g }
     {
         let (low, high, mut sorted) = bounds.into_parts();
         arrange(&low, &high, &mut sorted);
@@ -157,7 +157,7 @@ impl Ranking {
         ensures low { self.new.low ≡ bounds.now.low }
         ensures high { self.new.high ≡ bounds.now.high }
         ensures ranking { IsRanking self.new.low self.new.high self.new.pages }
-        ensures surely { (g : Digraph) → IsGraph g → Holds bounds.now g → IsSurely self.new bounds.now g }
+        ensures surely { (g : Digraph) → IsGraph g → AreBoundsOf bounds.now g → IsSurely self.new bounds.now g }
     {
         self.low.copy_from_slice(bounds.lower());
         self.high.copy_from_slice(bounds.upper());

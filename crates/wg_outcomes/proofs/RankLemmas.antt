@@ -8,7 +8,7 @@ use Rattle.wg_params.specs.declared.limits.TheConstants.{MOST_PAGES, MOST_DAMPIN
 use Rattle.wg_graph.specs.Digraph.{Digraph}
 use Rattle.wg_rank.specs.Rank.{low, high}
 use Rattle.wg_rank.specs.Sum.{sum_below}
-use Rattle.wg_rank.specs.Intervals.{Intervals, AreBounds, Holds, IsTable, by_page}
+use Rattle.wg_rank.specs.Intervals.{Intervals, AreBounds, AreBoundsOf, IsTable, by_page}
 use Rattle.wg_rank.specs.Weights.{AreWeights, weights_of}
 use Rattle.wg_rank.proofs.Certificates.{certified}
 use Rattle.wg_order.specs.Order.{IsRanking, Positions}
@@ -22,7 +22,7 @@ counted low high pages is = length_permutation _ _ is.all ∙ length-range_with_
 
 -- ---- bounds before the first round
 module _ {E : Type 0} (g : Digraph) (n : ℕ) (count : n ≡ g.nodes) where
-  pub ready : (r : Result Intervals E) → IfOk r (λ b. (h : Digraph) → h.nodes ≡ n → Holds b h) → IfOk r (λ b. b.rounds ≡ 0) → IfOk r (λ b. length b.low ≡ n) → IfOk r (AreReady g)
+  pub ready : (r : Result Intervals E) → IfOk r (λ b. (h : Digraph) → h.nodes ≡ n → AreBoundsOf b h) → IfOk r (λ b. b.rounds ≡ 0) → IfOk r (λ b. length b.low ≡ n) → IfOk r (AreReady g)
   ready (Ok b) holds before pages = record { holds = holds g (sym count); before = before; bounded = pages ∙ count }
   ready (Err e) holds before pages = tt
 
@@ -53,7 +53,7 @@ module _ (g : Digraph) (given : Option (List ℕ)) (rounds damping : ℕ) where
   weights = weights_of g.nodes given
 
   -- ---- bounds after the last round
-  module _ (b : Intervals) (holds : Holds b g) (after : b.rounds ≡ rounds) (damped : b.damping ≡ damping) (weighed : b.weights ≡ weights) where
+  module _ (b : Intervals) (holds : AreBoundsOf b g) (after : b.rounds ≡ rounds) (damped : b.damping ≡ damping) (weighed : b.weights ≡ weights) where
     table_after : (xs : List ℕ) (f : ℕ → (ℕ → ℕ) → ℕ → ℕ → ℕ) → IsTable xs g.nodes (f b.damping (by_page b.weights) b.rounds) → IsTable xs g.nodes (f damping (by_page weights) rounds)
     table_after xs f t =
         subst (λ (k : ℕ). IsTable xs g.nodes (f damping (by_page weights) k)) after
@@ -74,7 +74,7 @@ module _ (g : Digraph) (given : Option (List ℕ)) (rounds damping : ℕ) where
     bounds_are = λ i. record { damping = damped i; rounds = after i; weights = weighed i; low = low_after i; high = high_after i }
 
   -- ---- what is proved of them
-  pub bounds_hold : Holds (bounds_after g given damping rounds) g
+  pub bounds_hold : AreBoundsOf (bounds_after g given damping rounds) g
   bounds_hold = record {
     low_is = of_pages_is (low g damping (by_page weights) rounds);
     high_is = of_pages_is (high g damping (by_page weights) rounds);

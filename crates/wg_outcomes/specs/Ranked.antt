@@ -10,7 +10,7 @@ use Rattle.wg_graph.specs.Digraph.{Digraph, IsGraph}
 use Rattle.wg_grammar.specs.Archive.{Accepted}
 use Rattle.wg_grammar.specs.Laws.{graph_of}
 use Rattle.wg_rank.specs.Rank.{low, high}
-use Rattle.wg_rank.specs.Intervals.{Intervals, Holds, by_page}
+use Rattle.wg_rank.specs.Intervals.{Intervals, AreBoundsOf, by_page}
 use Rattle.wg_rank.specs.Certified.{IsCertified}
 use Rattle.wg_rank.specs.Claims.{claim_of_bounds}
 use Rattle.wg_rank.specs.CertificateText.{text_of_claim}
@@ -65,7 +65,7 @@ certificate_text b = text_of_claim (claim_of_bounds b)
 
 -- bounds of the graph before the first round
 pub record AreReady (g : Digraph) (b : Intervals) : Type 0 where
-  pub holds : Holds b g
+  pub holds : AreBoundsOf b g
   pub before : b.rounds ≡ 0
   pub bounded : length b.low ≡ g.nodes
 

@@ -5,7 +5,7 @@ use Rattle.wg_graph.specs.Digraph.{Digraph, IsGraph, arc_count}
 use Rattle.wg_params.specs.declared.limits.TheConstants.{MOST_PAGES, MOST_DAMPING, MOST_ROUNDS}
 use Rattle.wg_rank.specs.Sum.{sum_below}
 use Rattle.wg_rank.specs.Rank.{total, gap, low, high, IsStationary, Encloses}
-use Rattle.wg_rank.specs.Intervals.{Intervals, AreBounds, IsTable, Holds, next_low, next_high, by_page}
+use Rattle.wg_rank.specs.Intervals.{Intervals, AreBounds, IsTable, AreBoundsOf, next_low, next_high, by_page}
 use Rattle.wg_rank.specs.Certified.{IsCertified}
 use Rattle.wg_rank.specs.Weights.{AreWeights}
 use Rattle.wg_rank.specs.BoundsInside.{intervals_of, AreKept}
@@ -50,14 +50,14 @@ kept_round b c k d r more w l h i old low high e m q t u = record {
 
 -- ---- what they certify
 
-pub gap_of : (b : Intervals) (g : Digraph) → Holds b g → gap g (by_page b.low) ≡ gap g (low g b.damping (by_page b.weights) b.rounds)
+pub gap_of : (b : Intervals) (g : Digraph) → AreBoundsOf b g → gap g (by_page b.low) ≡ gap g (low g b.damping (by_page b.weights) b.rounds)
 gap_of b g o = ap (λ x. UNITS - x) (sum_same g.nodes (by_page b.low) (low g b.damping (by_page b.weights) b.rounds) o.low_is.each)
 
-some_weight : (b : Intervals) (g : Digraph) → AreBounds b → Holds b g → 0 < g.nodes → 0 < total g (by_page b.weights)
+some_weight : (b : Intervals) (g : Digraph) → AreBounds b → AreBoundsOf b g → 0 < g.nodes → 0 < total g (by_page b.weights)
 some_weight b g p o so =
     subst (λ n. 0 < sum_below n (by_page b.weights)) o.low_is.counted (p.some_weight (omega (arith, o.low_is.counted)))
 
-pub certified : (b : Intervals) (g : Digraph) → IsGraph g → AreBounds b → Holds b g → IsCertified b g
+pub certified : (b : Intervals) (g : Digraph) → IsGraph g → AreBounds b → AreBoundsOf b g → IsCertified b g
 certified b g ok p o =
     let w : ℕ → ℕ = by_page b.weights in
     let da : b.damping ≤ 1000 = omega (arith, p.damped) in
@@ -71,7 +71,7 @@ certified b g ok p o =
       width = λ v i. rw (o.low_is.each v i, o.high_is.each v i) (width_is g b.damping w ok da (omega arith) (heavy (omega arith)) b.rounds v);
     }
 
-module _ (b c : Intervals) (g : Digraph) (ok : IsGraph g) (p : AreBounds b) (o : Holds b g) (q : Holds c g)
+module _ (b c : Intervals) (g : Digraph) (ok : IsGraph g) (p : AreBounds b) (o : AreBoundsOf b g) (q : AreBoundsOf c g)
     (d : c.damping ≡ b.damping) (e : c.weights ≡ b.weights) (k : c.rounds ≡ b.rounds + 1) where
   pub nested : (v : ℕ) → v < g.nodes → (by_page b.low v ≤ by_page c.low v) × (by_page c.high v ≤ by_page b.high v)
   nested v i =
@@ -90,10 +90,10 @@ module _ (b c : Intervals) (g : Digraph) (ok : IsGraph g) (p : AreBounds b) (o :
 
 -- what a round does to bounds: they hold again, are certified, and lie within those before, whose gap they narrow
 pub record IsNext (b c : Intervals) (g : Digraph) : Type 0 where
-  pub holds : Holds b g → Holds c g
-  pub certified : Holds b g → IsCertified c g
-  pub nested : Holds b g → (v : ℕ) → v < length b.low → (by_page b.low v ≤ by_page c.low v) × (by_page c.high v ≤ by_page b.high v)
-  pub gap : Holds b g → 0 < g.nodes
+  pub holds : AreBoundsOf b g → AreBoundsOf c g
+  pub certified : AreBoundsOf b g → IsCertified c g
+  pub nested : AreBoundsOf b g → (v : ℕ) → v < length b.low → (by_page b.low v ≤ by_page c.low v) × (by_page c.high v ≤ by_page b.high v)
+  pub gap : AreBoundsOf b g → 0 < g.nodes
       → 1000 * gap g (by_page c.low) ≤ b.damping * gap g (by_page b.low) + b.damping * arc_count g + 3 * 1000 * g.nodes
 
 pub round_done : (b c : Intervals) (g : Digraph) → IsGraph g → AreBounds b → AreBounds c → g.nodes ≡ length b.low → c.damping ≡ b.damping → c.weights ≡ b.weights
@@ -110,7 +110,7 @@ round_done b c g ok p q n d e k l h = record {
 tables_same : (xs ys : List ℕ) (n : ℕ) (f : ℕ → ℕ) → IsTable xs n f → IsTable ys n f → xs ≡ ys
 tables_same xs ys n f t u = fill_by_all f xs n 0 t.counted t.each ∙ sym (fill_by_all f ys n 0 u.counted u.each)
 
-pub one_only : (b c : Intervals) (g : Digraph) → Holds b g → Holds c g → c.damping ≡ b.damping → c.weights ≡ b.weights → c.rounds ≡ b.rounds
+pub one_only : (b c : Intervals) (g : Digraph) → AreBoundsOf b g → AreBoundsOf c g → c.damping ≡ b.damping → c.weights ≡ b.weights → c.rounds ≡ b.rounds
     → (c.low ≡ b.low) × (c.high ≡ b.high)
 one_only b c g o q d e k =
     let l = rw (d, e, k) at q.low_is in
@@ -127,7 +127,7 @@ enclosing g a w l ok da heavy rises p d t fixed v i =
     let so : 0 < g.nodes = omega arith in
     rising_encloses g a w ok (omega (arith, da)) so (heavy so) (omega (arith, da)) l p d rises t fixed v i
 
-pub complete : (b : Intervals) (g : Digraph) → IsGraph g → AreBounds b → Holds b g
+pub complete : (b : Intervals) (g : Digraph) → IsGraph g → AreBounds b → AreBoundsOf b g
     → Rises g b.damping (by_page b.weights) (by_page b.low) × (total g (by_page b.low) ≤ UNITS)
 complete b g ok p o =
     let w : ℕ → ℕ = by_page b.weights in

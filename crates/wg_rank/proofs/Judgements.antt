@@ -3,7 +3,7 @@ use Rattle.std.proofs.Common.{ℕ, ◌≡◌, ◌-◌, ◌<◌, List, length, Op
 use Rattle.wg_graph.specs.Digraph.{Digraph, IsGraph}
 use Rattle.wg_rank.specs.Sum.{sum_below}
 use Rattle.wg_rank.specs.Rank.{lower, gap, EnclosesStationary}
-use Rattle.wg_rank.specs.Intervals.{Intervals, AreBounds, Holds, by_page}
+use Rattle.wg_rank.specs.Intervals.{Intervals, AreBounds, AreBoundsOf, by_page}
 use Rattle.wg_rank.specs.Weights.{AreWeights, weights_or_ones}
 use Rattle.wg_rank.specs.Claims.{Claim, IsClaim, claim_of_bounds, AreAtMost, Rises, FallsFirst, IsJudged}
 use Rattle.wg_rank.specs.declared.limits.TheConstants.{UNITS}
@@ -25,7 +25,7 @@ judged_encloses g c ws (Ok left) ok claim n heavy h = λ p d t fixed. rw h.1
 judged_encloses g c ws (Err e) ok claim n heavy h = tt
 
 pub judged_complete : (g : Digraph) (c : Claim) (ws : List ℕ) (r : Result ℕ JudgeError) → IsGraph g → IsJudged g c (by_page ws) r
-    → (b : Intervals) → AreBounds b → Holds b g → claim_of_bounds b ≡ c → b.weights ≡ ws → (page : ℕ) → r ≡ Err (errors.Falls page) → ⊥
+    → (b : Intervals) → AreBounds b → AreBoundsOf b g → claim_of_bounds b ≡ c → b.weights ≡ ws → (page : ℕ) → r ≡ Err (errors.Falls page) → ⊥
 judged_complete g c ws r ok h b p o d e page is =
     let f = rw (is, ← d, ← e) at h in
     omega (arith, f.falls, (complete b g ok p o).0 page f.there)

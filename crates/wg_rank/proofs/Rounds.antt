@@ -9,7 +9,7 @@ use Rattle.wg_graph.specs.Digraph.{Digraph, IsGraph, outdegree}
 use Rattle.wg_rank.specs.Sum.{sum_below}
 use Rattle.wg_rank.specs.Rank.{total, sum_in, sum_dangling, low_flow, high_flow, lower, upper, gap, clipped, low, high}
 use Rattle.wg_rank.specs.Settling.{settled_lows, settled_highs, least}
-use Rattle.wg_rank.specs.Intervals.{Intervals, IsTable, Holds, next_low, next_high, by_page}
+use Rattle.wg_rank.specs.Intervals.{Intervals, IsTable, AreBoundsOf, next_low, next_high, by_page}
 use Rattle.wg_rank.specs.Weights.{AreWeights, weights_or_ones}
 use Rattle.wg_rank.specs.declared.limits.TheConstants.{UNITS}
 use Rattle.wg_rank.proofs.Sums.{sum_same, sum_le, sum_const, term_le_sum}
@@ -56,7 +56,7 @@ module _ (g : Digraph) (a : ℕ) (w : ℕ → ℕ) where
 
 -- one round on, the bounds are those of one round more
 pub holds_more : (b c : Intervals) (g : Digraph) → c.damping ≡ b.damping → c.weights ≡ b.weights → c.rounds ≡ b.rounds + 1
-    → IsTable c.low g.nodes (next_low g b) → IsTable c.high g.nodes (next_high g b) → Holds b g → Holds c g
+    → IsTable c.low g.nodes (next_low g b) → IsTable c.high g.nodes (next_high g b) → AreBoundsOf b g → AreBoundsOf c g
 holds_more b c g d e k l h o = record {
   low_is = record {
     counted = l.counted;

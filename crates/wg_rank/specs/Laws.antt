@@ -3,7 +3,7 @@ use Rattle.std.specs.Prelude.{ℕ, ◌+◌, ◌*◌, ◌≡◌, ◌<◌, ◌≤�
 use Rattle.wg_num.specs.Lines.{lines_of}
 use Rattle.wg_graph.specs.Digraph.{Digraph, IsGraph, arc_count}
 use Rattle.wg_rank.specs.Rank.{total, gap, numerator, denominator, EnclosesStationary}
-use Rattle.wg_rank.specs.Intervals.{Intervals, AreBounds, Holds, by_page}
+use Rattle.wg_rank.specs.Intervals.{Intervals, AreBounds, AreBoundsOf, by_page}
 use Rattle.wg_rank.specs.Claims.{Claim, IsClaim, Rises}
 use Rattle.wg_rank.specs.CertificateText.{text_of_claim, claim_of}
 use Rattle.wg_rank.specs.CertificateLines.{IsClaimed, IsFirstFault, IsOutcome}
@@ -20,19 +20,19 @@ SharesAddUp =
 
 -- Bounds that hold of a graph after any number of rounds, also none, are certified.
 abbrev pub BoundsAreCertified : Type 0
-BoundsAreCertified = (b : Intervals) (g : Digraph) → IsGraph g → AreBounds b → Holds b g → IsCertified b g
+BoundsAreCertified = (b : Intervals) (g : Digraph) → IsGraph g → AreBounds b → AreBoundsOf b g → IsCertified b g
 
 -- They are one: the graph, the damping, the weights and the rounds alone determine them.
 abbrev pub BoundsAreOne : Type 0
 BoundsAreOne =
-    (b c : Intervals) (g : Digraph) → Holds b g → Holds c g → c.damping ≡ b.damping → c.weights ≡ b.weights
+    (b c : Intervals) (g : Digraph) → AreBoundsOf b g → AreBoundsOf c g → c.damping ≡ b.damping → c.weights ≡ b.weights
     → c.rounds ≡ b.rounds
     → (c.low ≡ b.low) × (c.high ≡ b.high)
 
 -- One round more leaves a narrower gap.
 abbrev pub GapsNarrow : Type 0
 GapsNarrow =
-    (b c : Intervals) (g : Digraph) → IsGraph g → AreBounds b → Holds b g → Holds c g → c.damping ≡ b.damping
+    (b c : Intervals) (g : Digraph) → IsGraph g → AreBounds b → AreBoundsOf b g → AreBoundsOf c g → c.damping ≡ b.damping
     → c.weights ≡ b.weights → c.rounds ≡ b.rounds + 1 → 0 < g.nodes
     → 1000 * gap g (by_page c.low) ≤ b.damping * gap g (by_page b.low) + b.damping * arc_count g + 3 * 1000 * g.nodes
 
@@ -45,7 +45,7 @@ RisingBoundsEnclose =
 -- The lower bounds after any number of rounds are such, and add up to at most 1.
 abbrev pub LowerBoundsRise : Type 0
 LowerBoundsRise =
-    (b : Intervals) (g : Digraph) → IsGraph g → AreBounds b → Holds b g
+    (b : Intervals) (g : Digraph) → IsGraph g → AreBounds b → AreBoundsOf b g
     → Rises g b.damping (by_page b.weights) (by_page b.low) × (total g (by_page b.low) ≤ UNITS)
 
 -- The text of a claim stands for the claim.

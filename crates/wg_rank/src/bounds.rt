@@ -3,7 +3,7 @@ ghost use Rattle.wg_params.specs.declared.limits.TheConstants.{MOST_PAGES, MOST_
 ghost use Rattle.wg_graph.specs.Digraph.{Digraph, arc_count};
 ghost use Rattle.wg_rank.specs.Sum.{sum_below};
 ghost use Rattle.wg_rank.specs.Rank.{gap};
-ghost use Rattle.wg_rank.specs.Intervals.{AreBounds, IsTable, Holds, next_low, next_high, by_page};
+ghost use Rattle.wg_rank.specs.Intervals.{AreBounds, IsTable, AreBoundsOf, next_low, next_high, by_page};
 ghost use Rattle.wg_rank.specs.Certified.{IsCertified};
 ghost use Rattle.wg_rank.specs.Weights.{AreWeights, weights_or_ones};
 ghost use Rattle.wg_rank.specs.declared.limits.TheConstants.{UNITS};
@@ -65,7 +65,7 @@ impl Bounds {
         ensures weights { IfOk result (λ b. b.weights ≡ replicate n 1) }
         ensures pages { IfOk result (λ b. length b.low ≡ n) }
         ensures rounds { IfOk result (λ b. b.rounds ≡ 0) }
-        ensures holds { IfOk result (λ b. (g : Digraph) → g.nodes ≡ n → Holds b g) }
+        ensures holds { IfOk result (λ b. (g : Digraph) → g.nodes ≡ n → AreBoundsOf b g) }
     {
         Bounds::begin(alloc, n, damping, List::new(alloc))
     }
@@ -84,7 +84,7 @@ impl Bounds {
         ensures weights { IfOk result (λ b. b.weights ≡ weights.now) }
         ensures pages { IfOk result (λ b. length b.low ≡ n) }
         ensures rounds { IfOk result (λ b. b.rounds ≡ 0) }
-        ensures holds { IfOk result (λ b. (g : Digraph) → g.nodes ≡ n → Holds b g) }
+        ensures holds { IfOk result (λ b. (g : Digraph) → g.nodes ≡ n → AreBoundsOf b g) }
     {
         let mut held = List::new(alloc);
         held.extend(weights.as_slice())?;
@@ -100,7 +100,7 @@ impl Bounds {
         ensures weights { IfOk result (λ b. b.weights ≡ weights_or_ones n weights) }
         ensures pages { IfOk result (λ b. length b.low ≡ n) }
         ensures rounds { IfOk result (λ b. b.rounds ≡ 0) }
-        ensures holds { IfOk result (λ b. (g : Digraph) → g.nodes ≡ n → Holds b g) }
+        ensures holds { IfOk result (λ b. (g : Digraph) → g.nodes ≡ n → AreBoundsOf b g) }
     {
         let n = n as usize;
         Ok(Bounds {
@@ -194,11 +194,11 @@ impl Bounds {
         ensures rounds { self.new.rounds ≡ self.old.rounds + 1 }
         ensures low { IsTable self.new.low (L.graph lists.old).nodes (next_low (L.graph lists.old) self.old) }
         ensures high { IsTable self.new.high (L.graph lists.old).nodes (next_high (L.graph lists.old) self.old) }
-        ensures holds { Holds self.old (L.graph lists.old) → Holds self.new (L.graph lists.old) }
-        ensures certified { Holds self.old (L.graph lists.old) → IsCertified self.new (L.graph lists.old) }
-        ensures nested { Holds self.old (L.graph lists.old) → (v : ℕ) → v < length self.old.low
+        ensures holds { AreBoundsOf self.old (L.graph lists.old) → AreBoundsOf self.new (L.graph lists.old) }
+        ensures certified { AreBoundsOf self.old (L.graph lists.old) → IsCertified self.new (L.graph lists.old) }
+        ensures nested { AreBoundsOf self.old (L.graph lists.old) → (v : ℕ) → v < length self.old.low
             → (by_page self.old.low v ≤ by_page self.new.low v) × (by_page self.new.high v ≤ by_page self.old.high v) }
-        ensures gap { let g = L.graph lists.old in Holds self.old g → 0 < g.nodes
+        ensures gap { let g = L.graph lists.old in AreBoundsOf self.old g → 0 < g.nodes
             → 1000 * gap g (by_page self.new.low)
             ≤ self.old.damping * gap g (by_page self.old.low) + self.old.damping * arc_count g + 3 * 1000 * g.nodes }
     {
@@ -216,11 +216,11 @@ impl Bounds {
         ensures rounds { self.new.rounds ≡ self.old.rounds + 1 }
         ensures low { IsTable self.new.low (G.graph source.old).nodes (next_low (G.graph source.old) self.old) }
         ensures high { IsTable self.new.high (G.graph source.old).nodes (next_high (G.graph source.old) self.old) }
-        ensures holds { Holds self.old (G.graph source.old) → Holds self.new (G.graph source.old) }
-        ensures certified { Holds self.old (G.graph source.old) → IsCertified self.new (G.graph source.old) }
-        ensures nested { Holds self.old (G.graph source.old) → (v : ℕ) → v < length self.old.low
+        ensures holds { AreBoundsOf self.old (G.graph source.old) → AreBoundsOf self.new (G.graph source.old) }
+        ensures certified { AreBoundsOf self.old (G.graph source.old) → IsCertified self.new (G.graph source.old) }
+        ensures nested { AreBoundsOf self.old (G.graph source.old) → (v : ℕ) → v < length self.old.low
             → (by_page self.old.low v ≤ by_page self.new.low v) × (by_page self.new.high v ≤ by_page self.old.high v) }
-        ensures gap { let g = G.graph source.old in Holds self.old g → 0 < g.nodes
+        ensures gap { let g = G.graph source.old in AreBoundsOf self.old g → 0 < g.nodes
             → 1000 * gap g (by_page self.new.low)
             ≤ self.old.damping * gap g (by_page self.old.low) + self.old.damping * arc_count g + 3 * 1000 * g.nodes }
     {

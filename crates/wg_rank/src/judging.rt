@@ -3,7 +3,7 @@
 ghost use Rattle.std.specs.Prelude.{◌≡◌, ◌≢◌, ℕ, ◌*◌, ◌<◌, ◌≤◌, All, length, MatchOption, IfOk, Err, option_copied};
 ghost use Rattle.wg_params.specs.declared.limits.TheConstants.{MOST_PAGES, MOST_DAMPING};
 ghost use Rattle.wg_rank.specs.Rank.{EnclosesStationary};
-ghost use Rattle.wg_rank.specs.Intervals.{Intervals, AreBounds, Holds, by_page};
+ghost use Rattle.wg_rank.specs.Intervals.{Intervals, AreBounds, AreBoundsOf, by_page};
 ghost use Rattle.wg_rank.specs.Settling.{settled_lows};
 ghost use Rattle.wg_rank.specs.Weights.{AreWeights, weights_or_ones};
 ghost use Rattle.wg_rank.specs.Claims.{IsClaim, AreAtMost, Rises, FallsFirst, IsJudged, weights_for, claim_of_bounds};
@@ -109,7 +109,7 @@ pub fn judge<L: Lists>(
     ensures enclosed { let c = certificate.now in let w = weights_for c (option_copied weights.entry) in
         IfOk result (EnclosesStationary (L.graph lists.old) c.damping (by_page w) (by_page c.low)) }
     ensures complete { let c = certificate.now in let w = weights_for c (option_copied weights.entry) in
-        (b : Intervals) → AreBounds b → Holds b (L.graph lists.old) → claim_of_bounds b ≡ c → b.weights ≡ w
+        (b : Intervals) → AreBounds b → AreBoundsOf b (L.graph lists.old) → claim_of_bounds b ≡ c → b.weights ≡ w
         → (page : ℕ) → result ≢ Err (errors.Falls page) }
 {
     // tells that they are those of a graph

@@ -1,5 +1,5 @@
 use Rattle.std.proofs.Common.{◌≡◌, length}
-use Rattle.wg_rank.specs.Intervals.{Holds}
+use Rattle.wg_rank.specs.Intervals.{AreBoundsOf}
 use Rattle.wg_outcomes.proofs.bounds.last_bounds.Given as goal
 
 -- the bounds are those of the graph after the rounds so far
@@ -10,5 +10,5 @@ invariant-loop g l = let graph = g.G.Gather.graph l.fn.source in record {
   after : l.bounds.rounds ≡ l.counter;
   damped : l.bounds.damping ≡ l.fn.bounds.damping;
   weighed : l.bounds.weights ≡ l.fn.bounds.weights;
-  holds : Holds l.bounds graph;
+  holds : AreBoundsOf l.bounds graph;
 }
