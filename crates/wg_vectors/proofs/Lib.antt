@@ -1,4 +1,5 @@
 pub mod Loops
 pub mod Placed
+pub mod Spelling
 pub mod Steps
 pub mod Whole

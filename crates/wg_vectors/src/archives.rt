@@ -3,7 +3,9 @@
 /// An archive that is in order, and what it holds.
 #[derive(Clone, Copy, Debug)]
 pub struct Sample {
+    /// How many pages it has.
     pub nodes: u64,
+    /// How many arcs it has.
     pub arcs: u64,
     /// The bits of the graph file. One blank parts the words of a record, and two part the records.
     pub graph: &'static str,

@@ -2,25 +2,32 @@
 
 use wg_params::Code;
 
-/// The word of a value in a code, as a text of ones and zeros.
+/// The word of a value in a code.
 #[derive(Clone, Copy, Debug)]
 pub struct Vector {
+    /// The code.
     pub code: Code,
+    /// The value.
     pub value: u64,
+    /// Its word, as a text of ones and zeros.
     pub word: &'static str,
 }
 
 /// The shortest bits that no word of a code begins with, and no end cuts: with one bit less there would still be one.
 #[derive(Clone, Copy, Debug)]
 pub struct NoWord {
+    /// The code.
     pub code: Code,
+    /// The bits, as a text of ones and zeros.
     pub bits: &'static str,
 }
 
 /// A whole number, and the value that it folds to.
 #[derive(Clone, Copy, Debug)]
 pub struct Folded {
+    /// The number.
     pub number: i64,
+    /// Its value.
     pub value: u64,
 }
 
