@@ -2,8 +2,8 @@
 use std::alloc::Global;
 use std::test::Fail;
 use wg_decoder::Spares;
-use wg_graph::{Graph, GraphLists, List};
-use wg_shape::Quotienter;
+use wg_graph::{Graph, GraphBuilder, GraphLists, List};
+use wg_shape::{ListWalk, Merge, Quotienter, add_union};
 use wg_vectors::generate;
 
 // The lists of the graph of 12 pages from the seed 3, which another program drew.
@@ -59,6 +59,17 @@ fn a_range_of_classes_has_few_arcs_more_than_are_asked_for(rt: HostRuntime) -> R
     for (room, ends) in ENDS {
         assert!(rt; ranges_end(rt.alloc(), &graph, room, ends)?);
     }
+    Ok(())
+}
+
+// Both lists have number 2.
+#[test]
+fn a_union_is_added_to_a_graph_in_the_making(rt: HostRuntime) -> Result<(), Fail> {
+    let mut builder = GraphBuilder::new(rt.alloc(), 4)?;
+    let both = Merge::new(ListWalk::new(&[0, 2]), ListWalk::new(&[2, 3]));
+    add_union(&mut builder, 1, both)?;
+    let graph = builder.finish()?;
+    assert!(rt; graph.arcs() == 3 && graph.list(1) == [0, 2, 3].as_slice());
     Ok(())
 }
 
