@@ -135,7 +135,7 @@ returns-clause-encodes g c =
     let r = c.in_ok-next_lines.ensures in
     let e = c.in_ok-encoder.ensures in
     let name = c.args.name.now in
-    list_encoded name c.args.nodes _ _ _ _ _ (r.same ∙ i.same) (none_falls-trans _ _ _ i.later r.later) c.loop-list.lines i.way.0 c.loop-list.list i.nodes i.way.1.listed (λ t.
+    rw c.arcs.ensures (list_encoded name c.args.nodes _ _ _ _ _ (r.same ∙ i.same) (none_falls-trans _ _ _ i.later r.later) c.loop-list.lines i.way.0 c.loop-list.list i.nodes i.way.1.listed (λ t.
     let f = still name _ _ i.same (i.readable t) in
     (f.0, f.1, f.2, subst (λ (next : List (List ℕ)). SoFar c.args.nodes (lines_of f.0) next c.loop-list.lines.line (arcs_on i.way.0 c.loop-list.list)) (r.end t f.0 f.3 (ap (λ b. Ok b) c.if-branch.false)) (i.way.2 t f.0 f.1)))
-    c.in_ok-encoder.encoder (e.encoded i.way.0 i.way.1.encoded) e.page
+    c.in_ok-encoder.encoder (e.encoded i.way.0 i.way.1.encoded) e.page)
