@@ -57,11 +57,6 @@ none_list p k r e = rw e refl
 pub none_depth : (p : Parameters) (k : Known) (r : ℕ) → r ≡ 0 → depth_of (replicate p.window k) r ≡ 0
 none_depth p k r e = rw e refl
 
--- an ascending list has no more numbers than there are below its bound
-pub ascends_short : (m n : ℕ) (xs : List ℕ) → m ≤ n → Ascends m xs → Below n xs → m + length xs ≤ n
-ascends_short m n [] fits up low = omega (arith, fits)
-ascends_short m n (x ∷ xs) fits up low = omega (arith, up.0, ascends_short (suc x) n xs (omega (arith, low.0)) up.1 low.1)
-
 -- ---- when the reference comes
 
 tests_at : (t : Tally) (code : Code) → need_of t ≡ need.Read field.Reference code → tests t field.Reference

@@ -17,6 +17,7 @@ ghost use Rattle.wg_decoder.specs.Answer.{OnFault, OnRefusal, WantsNoMemory};
 ghost use Rattle.wg_decoder.specs.Apart.{page_on, told, ReferenceStands, ReferenceFails, HeadStands, HeadFails};
 ghost use Rattle.wg_decoder.specs.Head.{of_outdegree};
 ghost use Rattle.wg_decoder.specs.Remembered.{known_of};
+ghost use Rattle.wg_decoder.specs.Spare.{NoneLonger};
 
 use crate::heads::Head;
 use crate::reading::decode_members;
@@ -154,7 +155,8 @@ pub(crate) fn read_head_over<S: Source>(
 
 /// The record that comes next from a source, of a page with `arcs_before` arcs before it. Nothing is known of the pages
 /// before but one, which its reference names, if it has one: its list and its depth. The source moves over the
-/// record, and may stand anywhere in it if it is refused, memory runs out or a word was refused.
+/// record, and may stand anywhere in it if it is refused, memory runs out or a word was refused. No list of the spares
+/// grows beyond the pages that there are, whatever the answer.
 pub fn decode_over<S: Source>(
     params: &Params,
     page: u64,
@@ -181,6 +183,7 @@ pub fn decode_over<S: Source>(
     ensures deep { IfOk result (λ d. d.depth ≤ page) }
     ensures ascends { IfOk result (λ d. Ascends 0 d.list) }
     ensures below { IfOk result (λ d. Below params.now.nodes d.list) }
+    ensures short { NoneLonger params.now.nodes spares.old → NoneLonger params.now.nodes spares.new }
 {
     let start = source.at();
     let below = Referenced {

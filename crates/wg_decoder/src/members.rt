@@ -3,9 +3,10 @@ ghost use Rattle.std.specs.Prelude.{◌≡◌, ◌<◌, ◌≤◌, Bool, List as
 ghost use Rattle.wg_graph.specs.Ascending.{Ascends, Below};
 ghost use Rattle.wg_decoder.specs.Answer.{OnFault, OnRefusal};
 ghost use Rattle.wg_decoder.specs.Members.{AreMembers, AreNoMembers};
+ghost use Rattle.wg_decoder.specs.Spare.{NoneLonger};
 
 use crate::Unread;
-use crate::copying::copied;
+use crate::copying::{chosen, copied};
 use crate::heads::Head;
 use crate::intervals::intervals;
 use crate::residuals::with_residuals;
@@ -45,8 +46,9 @@ pub fn members<S: Source>(
     ensures ascends { OnOk result (Ascends 0 list.new) }
     ensures below { OnOk result (Below params.now.nodes list.new) }
     ensures few { OnOk result (length list.new ≤ head.outdegree) }
+    ensures short { NoneLonger params.now.nodes spares.old → NoneLonger params.now.nodes spares.new }
 {
-    let members = copied(
+    let whole = copied(
         &mut spares.copied,
         params,
         page,
@@ -55,6 +57,7 @@ pub fn members<S: Source>(
         named,
         source,
     )?;
+    let members = chosen(whole, named, &spares.copied);
     let extra = head.outdegree - members.len() as u64;
     intervals(&mut spares.inside, params, page, extra, source)?;
     let inside = spares.inside.as_slice();

@@ -5,6 +5,7 @@ ghost use Rattle.wg_grammar.specs.Record.{ReadsRecord};
 ghost use Rattle.wg_decoder.specs.Apart.{IsRest};
 ghost use Rattle.wg_decoder.specs.Answer.{context_at, known_error, IfFault, OnFault, OnRefusal};
 ghost use Rattle.wg_decoder.specs.Remembered.{known_of, Serves};
+ghost use Rattle.wg_decoder.specs.Spare.{NoneLonger};
 
 use crate::heads::{Head, depth_at, list_at, read_head};
 use crate::members::members;
@@ -44,6 +45,7 @@ pub(crate) fn decode_members<S: Source>(
     ensures ascends { IfOk result (λ d. Ascends 0 d.list) }
     ensures below { IfOk result (λ d. Below params.now.nodes d.list) }
     ensures few { IfOk result (λ d. length d.list ≤ head.outdegree) }
+    ensures short { NoneLonger params.now.nodes spares.old → NoneLonger params.now.nodes spares.new }
 {
     let mut list = lend(&mut spares.furthest, spares.alloc, head.outdegree as usize);
     if head.outdegree == 0 {
@@ -63,7 +65,8 @@ pub(crate) fn decode_members<S: Source>(
 
 /// The record that comes next from a source, of a page with `arcs_before` arcs before it. The source moves over the
 /// record, and may stand anywhere in it if it is refused, memory runs out or a word was refused. Of the window only
-/// the pages count that a reference may name.
+/// the pages count that a reference may name. No list of the spares grows beyond the pages that there are, whatever the
+/// answer.
 #[inline(always)]
 pub fn decode_from<S: Source>(
     params: &Params,
@@ -88,6 +91,7 @@ pub fn decode_from<S: Source>(
     ensures ascends { IfOk result (λ d. Ascends 0 d.list) }
     ensures below { IfOk result (λ d. Below params.now.nodes d.list) }
     ensures total { IfOk result (λ d. arcs_before + length d.list ≤ params.now.arcs) }
+    ensures short { NoneLonger params.now.nodes spares.old → NoneLonger params.now.nodes spares.new }
 {
     let start = source.at();
     let head = read_head(params, page, arcs_before, window, source)?;

@@ -5,11 +5,12 @@ use Rattle.wg_decoder.specs.Apart.{page_on}
 use Rattle.wg_decoder.specs.Remembered.{known_of}
 use Rattle.wg_decoder.proofs.Faults.{fault_weaker, faults_weaker, refusals_weaker}
 use Rattle.wg_decoder.proofs.Orders.{above_0}
-use Rattle.wg_decoder.proofs.ApartLemmas.{rest_reads, head_is, head_refused, ascends_short, over_list, over_depth, none_list, none_depth}
+use Rattle.wg_decoder.proofs.ApartLemmas.{rest_reads, head_is, head_refused, over_list, over_depth, none_list, none_depth}
+use Rattle.wg_decoder.proofs.Lists.{short_below}
 use Rattle.wg_decoder.proofs.apart.decode_over.Goals as goal
 
 pub read_head_over-requires-clause-length : goal.read_head_over-requires-clause-length
-read_head_over-requires-clause-length g c = omega (arith, ascends_short 0 c.args.params.now.nodes c.args.named.now (omega arith) c.requires.ascends c.requires.below)
+read_head_over-requires-clause-length g c = short_below c.args.params.now.nodes c.args.named.now c.requires.ascends c.requires.below
 
 pub returns-in_err-head : goal.returns-in_err-head
 returns-in_err-head g c =
@@ -28,6 +29,7 @@ returns-in_err-head g c =
       deep = tt;
       ascends = tt;
       below = tt;
+      short = λ h. h;
     }
 
 pub returns-then-head-eq0-clause-reads : goal.returns-then-head-eq0-clause-reads

@@ -3,13 +3,15 @@ use Rattle.std.proofs.lemmas.Result.{err_from_is_err_and}
 use Rattle.wg_decoder.specs.Answer.{context_at}
 use Rattle.wg_decoder.proofs.Faults.{fault_weaker}
 use Rattle.wg_decoder.proofs.Orders.{above_0, from_0, up_to_itself}
+use Rattle.wg_decoder.proofs.SpareLemmas.{none_lent}
 use Rattle.wg_decoder.proofs.WholeLemmas.{empty_reads, whole_reads, whole_twice}
 use Rattle.wg_decoder.proofs.reading.decode_members.Goals as goal
 
 pub returns-then-head-eq0 : goal.returns-then-head-eq0
 returns-then-head-eq0 g c =
     let none = c.if-head-eq0.true in
-    rw c.lend-list.ensures record {
+    let q = c.args.params.now.nodes in
+    rw c.lend-list.ensures.none record {
       later = g.met.S.Source.stays _;
       refused = tt;
       reads = λ bits r arcs behind named deep stands.
@@ -19,11 +21,13 @@ returns-then-head-eq0 g c =
       ascends = tt;
       below = tt;
       few = from_0 _;
+      short = λ h. none_lent q c.spares.inside.copied c.spares.inside.inside c.spares.inside.united c.spares.inside.furthest c.lend-list.new.furthest c.args.spares.now c.spares.view_is c.lend-list.ensures.lent h;
     }
 
 pub returns-in_err-members : goal.returns-in_err-members
 returns-in_err-members g c =
     let n = c.in_err-members.ensures in
+    let q = c.args.params.now.nodes in
     let some = above_0 c.args.head.outdegree c.if-head-eq0.false in
     let p = err_from_is_err_and c.from_residual.result c.from_residual.ensures.1 in
     rw (p.1, p.2) record {
@@ -38,11 +42,13 @@ returns-in_err-members g c =
       ascends = tt;
       below = tt;
       few = tt;
+      short = λ h. n.short (none_lent q c.spares.inside.copied c.spares.inside.inside c.spares.inside.united c.spares.inside.furthest c.lend-list.new.furthest c.args.spares.now c.spares.view_is c.lend-list.ensures.lent h);
     }
 
 pub returns-then-as_slice-head : goal.returns-then-as_slice-head
 returns-then-as_slice-head g c =
     let n = c.in_ok-members.ensures in
+    let q = c.args.params.now.nodes in
     let h = c.args.head in
     let some = above_0 h.outdegree c.if-head-eq0.false in
     record {
@@ -56,11 +62,13 @@ returns-then-as_slice-head g c =
       ascends = tt;
       below = tt;
       few = tt;
+      short = λ h. n.short (none_lent q c.spares.inside.copied c.spares.inside.inside c.spares.inside.united c.spares.inside.furthest c.lend-list.new.furthest c.args.spares.now c.spares.view_is c.lend-list.ensures.lent h);
     }
 
 pub returns : goal.returns
 returns g c =
     let n = c.in_ok-members.ensures in
+    let q = c.args.params.now.nodes in
     let h = c.args.head in
     let some = above_0 h.outdegree c.if-head-eq0.false in
     record {
@@ -74,4 +82,5 @@ returns g c =
       ascends = n.ascends;
       below = n.below;
       few = n.few;
+      short = λ h. n.short (none_lent q c.spares.inside.copied c.spares.inside.inside c.spares.inside.united c.spares.inside.furthest c.lend-list.new.furthest c.args.spares.now c.spares.view_is c.lend-list.ensures.lent h);
     }
