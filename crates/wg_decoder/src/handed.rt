@@ -5,7 +5,7 @@ ghost use Rattle.wg_graph.specs.Ascending.{Ascends, Below};
 ghost use Rattle.wg_grammar.specs.Record.{ReadsRecord};
 ghost use Rattle.wg_decoder.specs.Answer.{IfFault};
 ghost use Rattle.wg_decoder.specs.Apart.{page_on};
-ghost use Rattle.wg_decoder.specs.Handed.{page_of, handed};
+ghost use Rattle.wg_decoder.specs.Handed.{page_of, handed, FitsHead};
 ghost use Rattle.wg_decoder.specs.Remembered.{known_of};
 
 use crate::reading::error_of;
@@ -18,7 +18,9 @@ use wg_params::Params;
 /// A page that a reference names: its successors, and how many references lead on from it, one after the other.
 #[derive(Clone, Copy, Debug)]
 pub struct Known<'a> {
+    /// Its successors, ascending.
     pub list: &'a List,
+    /// How many references lead on from it; 0, if its record has none.
     pub depth: u64,
 }
 
@@ -59,11 +61,10 @@ fn decode_at(
     }
 }
 
-/// The record at the cursor, of a page with `arcs_before` arcs before it, which refers to the page that is handed in;
-/// none is if it refers to none, as [`head`](crate::head) tells. If none is handed in all the same, it is read over a
-/// page without successors. The cursor moves over the record, and stands still if it is refused or memory runs out.
-/// Memory is taken as successors come, and not by the outdegree; it costs a word of each field, and a pass over the
-/// list that is handed in.
+/// The record at the cursor, of a page with `arcs_before` arcs before it, which refers to the page that is handed in.
+/// Call [`head`](crate::head) there first: hand in a page exactly if the reference that it answers is not 0. The cursor
+/// moves over the record, and stands still if it is refused or memory runs out. Memory is taken as successors come, and
+/// not by the outdegree; it costs a word of each field, and a pass over the list that is handed in.
 pub fn decode_on(
     alloc: Global,
     params: &Params,
@@ -77,6 +78,7 @@ pub fn decode_on(
     requires ascends { ForSome known (λ k. Ascends 0 k.list.now) }
     requires below { ForSome known (λ k. Below params.now.nodes k.list.now) }
     requires depth { ForSome known (λ k. k.depth < page) }
+    requires head { FitsHead params.now page arcs_before cursor.old.bits cursor.old.at known }
     ensures bits { cursor.new.bits ≡ cursor.old.bits }
     ensures reads { IfOk result (λ d. ReadsRecord params.now
         (page_on params.now page arcs_before (handed known.entry)) cursor.old.bits cursor.old.at

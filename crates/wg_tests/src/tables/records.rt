@@ -26,6 +26,10 @@ const COPIED: &[u8] = b"\x7D\xC6\xE0";
 fn a_record_over_a_page_that_is_handed_in(rt: HostRuntime) -> Result<(), Fail> {
     let params = usual(3, 4, 7, 3, 4)?;
     let mut cursor = Cursor::new(Bits::of(COPIED), 0);
+    let Ok(alone) = head(&params, 0, 0, cursor.again()) else {
+        return Err("no head".into());
+    };
+    assert!(rt; alone.outdegree == 2 && alone.reference == 0);
     let first = decode_on(rt.alloc(), &params, 0, 0, None, &mut cursor)?;
     let Ok(told) = head(&params, 1, 2, cursor.again()) else {
         return Err("no head".into());
