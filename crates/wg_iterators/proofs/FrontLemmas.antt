@@ -3,16 +3,13 @@ use Rattle.std.proofs.Common.{◌≡◌, ℕ, ◌-◌, ◌^◌, ◌<◌, ◌≤�
 use Rattle.std.specs.Prelude.{sum, unwrap_or}
 use Rattle.wg_params.specs.declared.code.Code.{Code}
 use Rattle.wg_params.specs.Parameters.{Parameters}
-use Rattle.wg_params.specs.Codes.{IsCode}
 use Rattle.wg_graph.specs.Copied.{copied_members, is_copied, at_positions}
 use Rattle.wg_blocks.specs.Stored.{blocks_of, WordsStandAt, StandAt as WordsStand}
-use Rattle.wg_blocks.specs.Follow.{Seen, Follows}
 use Rattle.wg_intervals.specs.Stored.{IntervalsStandAt}
 use Rattle.wg_graph.specs.Unions.{union_of}
 use Rattle.wg_decoder.specs.Proper.Laid.{WordsTo, IntervalsTo, ResidualsTo, list_or_none, length_of, Laid}
 use Rattle.wg_iterators.specs.Fronts.{copied_of}
 use Rattle.wg_decoder.specs.Proper.Disjoint.{AreApart}
-use Rattle.wg_iterators.proofs.CopyLemmas.{copied_is}
 use Rattle.wg_decoder.proofs.ProperLemmas.Counting.{intervals_stand, Parts}
 use Rattle.wg_decoder.proofs.ProperLemmas.Beginning.{blocks_words, intervals_words}
 
@@ -79,9 +76,9 @@ all_members : (bs list : List ℕ) → at_positions (is_copied bs) 0 list ≡ co
 unfolding copied_members
 all_members bs list = refl
 
-pub copied_front : (p : Parameters) (page : ℕ) (below : Option (List ℕ)) (z : List Bool) (list : List ℕ) (mask : Seen) → IsCode mask.code → (l : Laid p page below z list) → Follows mask (blocks_of l.values) 0 → copied_of mask (list_or_none below) ≡ l.copied
-copied_front p page below z list mask is l f =
-    copied_is mask (blocks_of l.values) 0 (list_or_none below) is f ∙ all_members (blocks_of l.values) (list_or_none below) ∙ sym l.copied_is
+pub copied_front : (p : Parameters) (page : ℕ) (below : Option (List ℕ)) (z : List Bool) (list mask : List ℕ) → (l : Laid p page below z list) → mask ≡ blocks_of l.values → copied_of mask (list_or_none below) ≡ l.copied
+copied_front p page below z list mask l is =
+    ap (λ (bs : List ℕ). copied_of bs (list_or_none below)) is ∙ all_members (blocks_of l.values) (list_or_none below) ∙ sym l.copied_is
 
 pub apart_fronts : (a b c xs ys zs list : List ℕ) → a ≡ xs → b ≡ ys → c ≡ zs → Parts xs ys zs list → AreApart a b c
 apart_fronts a b c xs ys zs list ea eb ec h = rw (ea, eb, ec) h.apart

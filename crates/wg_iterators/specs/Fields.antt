@@ -2,7 +2,7 @@
 use Rattle.std.specs.Prelude.{◌≡◌, ℕ, List, length, Option}
 use Rattle.wg_iterators.specs.declared.fields.Fronts.{Fronts}
 use Rattle.wg_graph.specs.Unions.{union_of}
-use Rattle.wg_iterators.specs.Fronts.{copied_of, IsOfBlocks}
+use Rattle.wg_iterators.specs.Fronts.{copied_of}
 use Rattle.wg_decoder.specs.Proper.Disjoint.{AreApart}
 use Rattle.wg_decoder.specs.Proper.Laid.{list_or_none}
 
@@ -10,6 +10,5 @@ use Rattle.wg_decoder.specs.Proper.Laid.{list_or_none}
 -- together they are the list.
 pub record AreFronts (f : Fronts) (below : Option (List ℕ)) (list : List ℕ) : Type 0 where
   pub outdegree : f.outdegree ≡ length list
-  pub blocks : IsOfBlocks f.mask
   pub apart : AreApart (copied_of f.mask (list_or_none below)) f.intervals f.residuals.list
   pub union : union_of (copied_of f.mask (list_or_none below)) (union_of f.intervals f.residuals.list) ≡ list

@@ -2,7 +2,7 @@
 ghost use Rattle.std.specs.Prelude.{◌≡◌, ℕ, ◌<◌, List, length, option_copied};
 ghost use Rattle.wg_graph.specs.Ascending.{Ascends};
 ghost use Rattle.wg_graph.specs.Coming.{Gives};
-ghost use Rattle.wg_iterators.specs.Fronts.{copied_of, IsOfBlocks};
+ghost use Rattle.wg_iterators.specs.Fronts.{copied_of};
 ghost use Rattle.wg_decoder.specs.Proper.Laid.{list_or_none, length_of};
 ghost use Rattle.wg_decoder.specs.Proper.{IsRecord};
 ghost use Rattle.wg_iterators.specs.Below.{depth_on, list_on, list_below, depth_of, listed, IsFresh};
@@ -42,7 +42,7 @@ impl<'a> Model for Successors<'a> {
     ghost use Rattle.std.specs.Prelude.{ℕ, List};
     ghost use Rattle.wg_iterators.specs.Coming.{Coming};
     ghost use Rattle.wg_graph.specs.Unions.{union_of};
-    ghost use Rattle.wg_iterators.specs.Fronts.{copied_of, IsOfBlocks};
+    ghost use Rattle.wg_iterators.specs.Fronts.{copied_of};
     ghost use Rattle.wg_decoder.specs.Proper.Disjoint.{AreApart};
 
     ghost Value = { Coming };
@@ -57,8 +57,7 @@ impl<'a> Model for Successors<'a> {
           (union_of (ahead m.inside m.intervals) (ahead m.residual m.residuals.list));
     } };
 
-    ghost invariant = { λ m. IsOfBlocks m.mask
-        × AreApart (ahead m.copied (copied_of m.mask (list_on m.below)))
+    ghost invariant = { λ m. AreApart (ahead m.copied (copied_of m.mask (list_on m.below)))
         (ahead m.inside m.intervals) (ahead m.residual m.residuals.list) };
 
     ghost size = { λ v. v.depth };
@@ -71,11 +70,9 @@ impl<'a> Model for Successors<'a> {
 // The next member below that the mask copies.
 #[cycle(next)]
 fn next_copied<'a>(below: &mut Below<'a>, mask: &mut Mask<'a>) -> Option<u64>
-    requires { IsOfBlocks mask.old }
     ensures gives { Gives (copied_of mask.old (list_on below.old)) result
         (copied_of mask.new (list_on below.new)) }
     ensures depth { depth_on below.new ≡ depth_on below.old }
-    ensures mask { IsOfBlocks mask.new }
 {
     'members: while let Some(member) = below.next() {
         if mask.step() {
@@ -88,12 +85,10 @@ fn next_copied<'a>(below: &mut Below<'a>, mask: &mut Mask<'a>) -> Option<u64>
 // The next copied member, which is read if it was not.
 #[cycle(next)]
 fn look_copied<'a>(head: &mut Head, below: &mut Below<'a>, mask: &mut Mask<'a>) -> Option<u64>
-    requires { IsOfBlocks mask.old }
     ensures same { ahead head.new (copied_of mask.new (list_on below.new))
         ≡ ahead head.old (copied_of mask.old (list_on below.old)) }
     ensures head { head.new ≡ head_of result }
     ensures depth { depth_on below.new ≡ depth_on below.old }
-    ensures mask { IsOfBlocks mask.new }
 {
     match *head {
         Head::Unread => {

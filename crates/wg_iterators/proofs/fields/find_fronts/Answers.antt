@@ -1,8 +1,6 @@
 -- at each step: what was read so far is what stands there
 use Rattle.std.proofs.Common.{◌≤◌, ◌^◌, refl, sym, ◌∙◌, arith}
-use Rattle.wg_params.specs.Codes.{IsCode}
 use Rattle.wg_bits.specs.Bits.{rest}
-use Rattle.wg_blocks.specs.Stored.{blocks_of}
 use Rattle.wg_intervals.specs.Stored.{numbers_inside}
 use Rattle.wg_decoder.proofs.ProperLemmas.LaidOut.{laid_of, laid_with}
 use Rattle.wg_iterators.proofs.FrontLemmas.{blocks_stand, mask_words, blocks_passed, walk_words, cover_words, intervals_passed, covered_fits, residual_words, source_long, copied_front, apart_fronts, union_fronts}
@@ -105,16 +103,14 @@ returns-clause-fronts c below list proper is up =
     let e4 = blocks_passed c.args.params.now c.args.page below (rest c.args.cursor) list (rest c.value_where-count.new.cursor) (rest c.pass_blocks-copied.new.cursor) c.value_where-count.result c.unwrap_or.result c.pass_blocks-copied.result c.blocks-3.result c.blocks-3.ensures.value (c.unwrap_or.ensures ∙ source_long c.args.source below is) (c.pass_blocks-copied.ensures.copied, c.pass_blocks-copied.ensures.behind) l e3 in
     let e5 = interval_count_read c.args.params.now c.args.page below (rest c.args.cursor) list (rest c.pass_blocks-copied.new.cursor) (rest c.value_where-count-2.new.cursor) c.read_head-outdegree.result.outdegree c.pass_blocks-copied.result c.interval.result c.value_where-count-2.result _ refl c.interval.ensures.value c.value_where-count-2.ensures.exact l e.0 e4 in
     let e6 = intervals_passed c.args.params.now c.args.page below (rest c.args.cursor) list (rest c.value_where-count-2.new.cursor) (rest c.pass_intervals-covered.new.cursor) c.interval-3.result c.value_where-count-2.result c.pass_intervals-covered.result c.interval-3.ensures.value (c.pass_intervals-covered.ensures.covered, c.pass_intervals-covered.ensures.behind) l e5 in
-    let coded : IsCode c.new-mask.result.code = rw (c.new-mask.ensures.code, c.blocks-2.ensures.value) c.blocks-2.ensures.code in
-    let follows = c.new-mask.ensures.follows l.values e3.0 (rw c.again.ensures (blocks_stand c.blocks-2.result l.values (rest c.value_where-count.new.cursor) l.after_blocks (blocks_words c.args.params.now c.args.page below (rest c.args.cursor) list (rest c.value_where-count.new.cursor) c.blocks-2.result c.blocks-2.ensures.value l e3.1))) in
-    let front_copied = copied_front c.args.params.now c.args.page below (rest c.args.cursor) list c.new-mask.result coded l follows in
+    let follows = c.new-mask.ensures l.values e3.0 (rw c.again.ensures (blocks_stand c.blocks-2.result l.values (rest c.value_where-count.new.cursor) l.after_blocks (blocks_words c.args.params.now c.args.page below (rest c.args.cursor) list (rest c.value_where-count.new.cursor) c.blocks-2.result c.blocks-2.ensures.value l e3.1))) in
+    let front_copied = copied_front c.args.params.now c.args.page below (rest c.args.cursor) list c.new-mask.result l follows in
     let front_inside = c.new-intervals.ensures.coming l.lefts l.lengths e5.0 (rw c.again-2.ensures (intervals_stand c.args.page c.interval-2.result _ l.lefts l.lengths (rest c.value_where-count-2.new.cursor) l.after_intervals (intervals_words c.args.params.now c.args.page below (rest c.args.cursor) list (rest c.value_where-count-2.new.cursor) c.interval-2.result c.interval-2.ensures.value l e5.1))) in
     let left = residuals_given c.args.params.now c.args.page below (rest c.args.cursor) list (rest c.pass_intervals-covered.new.cursor) c.read_head-outdegree.result.outdegree c.pass_blocks-copied.result c.pass_intervals-covered.result c.residuals.result c.residuals.ensures.value l e.0 e4.0 e6 in
     let front_residual = c.new-residuals.ensures.list l.residuals l.behind left.0 left.1 in
     let parts = laid_parts c.args.params.now c.args.page below (rest c.args.cursor) list up l in
     record {
       outdegree = sym e.0 ∙ sym l.all;
-      blocks = (coded, (blocks_of l.values, 0, follows));
       apart = apart_fronts _ _ _ l.copied (numbers_inside l.lefts l.lengths) l.residuals list front_copied front_inside front_residual parts;
       union = union_fronts _ _ _ l.copied (numbers_inside l.lefts l.lengths) l.residuals list front_copied front_inside front_residual parts;
     }

@@ -9,7 +9,7 @@ find_fronts-fronts-requires-clause-proper c = (list_below c.args.below, c.requir
 pub invariant_of-result : goal.invariant_of-result
 invariant_of-result c =
     let f = c.find_fronts-fronts.ensures.fronts (list_below c.args.below) c.requires.proper.0 c.requires.proper.1 c.requires.source c.requires.ascends in
-    (f.blocks, apart_on c.args.below c.find_fronts-fronts.result c.requires.proper.0 f)
+    apart_on c.args.below c.find_fronts-fronts.result c.requires.proper.0 f
 
 pub returns : goal.returns
 returns c list proper =
