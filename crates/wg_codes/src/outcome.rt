@@ -3,7 +3,9 @@
 /// A word, by its value and its length in bits.
 #[derive(Clone, Copy, Debug)]
 pub struct Word {
+    /// The number that it stands for.
     pub value: u64,
+    /// How many bits it has.
     pub bits: u64,
 }
 

@@ -9,6 +9,9 @@
 //! head that [`read_head`] has read for this. Each word is read once, in the order of the record; runs of members are
 //! copied while their blocks come, intervals are joined to them as runs, and then the residuals, all in the one row,
 //! where the members wait meanwhile.
+//!
+//! Whoever gives the successors of a page one by one, as `wg_iterators` does, stops between two fields. So the parts are
+//! public too: the words ([`value`], [`value_where`]), the head, a block ([`block_of`]), and the [`Residuals`] to come.
 
 mod block;
 mod copying;

@@ -5,17 +5,23 @@ use thiserror::Error;
 /// A field of a record, by its place in BVGraph's format, or what is checked beside the fields.
 #[derive(Clone, Copy, Debug, PartialEq, Eq)]
 pub enum Field {
+    /// How many successors the page has.
     Outdegree,
+    /// How many pages back the page lies that it copies from; 0 for none.
     Reference,
+    /// How many copy blocks come.
     BlockCount,
+    /// A copy block.
     Block,
     /// How many members are copied, checked after the blocks; it has no bits.
     Copied,
+    /// How many intervals come.
     IntervalCount,
     /// The left end of an interval.
     Left,
     /// The length of an interval.
     Length,
+    /// A successor that is neither copied nor inside an interval.
     Residual,
     /// The whole record.
     Record,
@@ -71,13 +77,17 @@ impl fmt::Display for Kind {
     }
 }
 
-/// The first fault of a record. `at` is the bit at which the refused field begins.
+/// The first fault of a record.
 #[derive(Clone, Copy, Debug, PartialEq, Eq, Error)]
 #[error("page {page}: {field} at bit {at} {kind}")]
 pub struct Fault {
+    /// The page of the record.
     pub page: u64,
+    /// The bit at which the refused field begins.
     pub at: u64,
+    /// The refused field.
     pub field: Field,
+    /// Why it is refused.
     pub kind: Kind,
 }
 
@@ -104,6 +114,7 @@ pub enum OffsetWord {
 /// The first fault of an archive.
 #[derive(Clone, Copy, Debug, PartialEq, Eq, Error)]
 pub enum ArchiveFault {
+    /// A record is refused.
     #[error("{0}")]
     Record(Fault),
     /// The bit after the records that is a one, or the 128th there.
@@ -112,6 +123,7 @@ pub enum ArchiveFault {
     /// The outdegrees add to this, which is less than the archive's arcs.
     #[error("only {0} arcs")]
     ArcsShort(u64),
+    /// A word of the offsets, or what follows them, is refused.
     #[error("{0}")]
     Offsets(OffsetWord),
     /// The first page whose stored length is not the length of its record; both in bits.

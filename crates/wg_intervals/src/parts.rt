@@ -14,6 +14,7 @@ use wg_graph::List;
 pub struct Split {
     /// Left end and length of each interval, one after the other.
     pub intervals: List,
+    /// The residuals, ascending.
     pub residuals: List,
 }
 

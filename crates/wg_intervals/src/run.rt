@@ -6,7 +6,9 @@ ghost use Rattle.wg_intervals.specs.Canonical.{runs_from};
 /// Consecutive numbers: the first, and how many there are.
 #[derive(Clone, Copy, Debug)]
 pub struct Run {
+    /// The first of them.
     pub left: u64,
+    /// How many there are.
     pub length: u64,
 }
 

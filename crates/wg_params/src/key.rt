@@ -6,15 +6,25 @@ use thiserror::Error;
 /// A key of the properties of an archive.
 #[derive(Clone, Copy, Debug, PartialEq, Eq)]
 pub enum Key {
+    /// Which format it is.
     GraphClass,
+    /// The version of the format.
     Version,
+    /// The order of the bytes of a word.
     Endianness,
+    /// How many pages there are.
     Nodes,
+    /// How many arcs there are.
     Arcs,
+    /// How many pages back a reference may reach.
     WindowSize,
+    /// How many references may follow one another.
     MaxRefCount,
+    /// The least length of an interval.
     MinIntervalLength,
+    /// The parameter k of zeta codes.
     ZetaK,
+    /// The codes that are not the default ones.
     CompressionFlags,
 }
 
@@ -41,5 +51,6 @@ pub fn key_name(key: Key) -> &'static str
 #[derive(Clone, Copy, Debug, PartialEq, Eq, Error)]
 #[error("{name} is out of its limits", name = key_name(*.key))]
 pub struct BadParam {
+    /// The key of that value.
     pub key: Key,
 }

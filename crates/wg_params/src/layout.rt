@@ -6,10 +6,15 @@ use crate::Code;
 /// The code of each field.
 #[derive(Clone, Copy, Debug, PartialEq, Eq)]
 pub struct Codes {
+    /// The code of outdegrees.
     pub outdegrees: Code,
+    /// The code of references.
     pub references: Code,
+    /// The code of the numbers of blocks.
     pub block_counts: Code,
+    /// The code of blocks.
     pub blocks: Code,
+    /// The code of residuals.
     pub residuals: Code,
     /// The code of the words of an offsets file.
     pub offsets: Code,
@@ -43,5 +48,6 @@ pub struct Layout {
     pub interval: u64,
     /// The parameter k of zeta codes.
     pub zeta: u32,
+    /// The code of each field.
     pub codes: Codes,
 }
