@@ -25,11 +25,11 @@ use Rattle.wg_grammar.specs.Judging.{Gives}
 use Rattle.wg_grammar.proofs.Chain.{field_of, tested, tests}
 use Rattle.wg_grammar.proofs.Tallies.{next_by_numbers}
 use Rattle.wg_decoder.specs.Answer.{context_at}
-use Rattle.wg_decoder.specs.Apart.{page_on, told, RefersNext, OutdegreeStands, ReferenceStands, HeadStands, ReferenceFails, HeadFails, IsRest}
+use Rattle.wg_decoder.specs.Apart.{of_outdegree, page_on, told, RefersNext, OutdegreeStands, ReferenceStands, HeadStands, ReferenceFails, HeadFails}
 use Rattle.wg_decoder.specs.Chains.{endless}
-use Rattle.wg_decoder.specs.Head.{of_outdegree, of_head}
-use Rattle.wg_decoder.specs.Members.{IsHead}
-use Rattle.wg_decoder.specs.Stages.{LeadsTo, IsWordAt, IsNoWordAt}
+use Rattle.wg_decoder.specs.Stages.Head.{of_head}
+use Rattle.wg_decoder.specs.Stages.Members.{IsHead, IsRest}
+use Rattle.wg_decoder.specs.Stages.Leading.{LeadsTo, IsWordAt, IsNoWordAt}
 use Rattle.wg_decoder.proofs.HeadLemmas.{outdegree_due, reference_due}
 
 -- ---- the rest of a record

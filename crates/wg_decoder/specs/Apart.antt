@@ -1,17 +1,19 @@
 -- Records on their own, when no page before is known but the one that they refer to.
-use Rattle.std.specs.Prelude.{◌≡◌, ◌⊎◌, ℕ, Bool, List, length, replicate, Result}
+use Rattle.std.specs.Prelude.{◌≡◌, ◌⊎◌, ℕ, Bool, List, length, replicate, Some}
 use Rattle.wg_params.specs.Parameters.{Parameters}
 use Rattle.wg_grammar.specs.declared.fault.Fault.{Fault}
 use Rattle.wg_grammar.specs.declared.fault.Field.TheVariants as field
 use Rattle.wg_grammar.specs.declared.need.Need.TheVariants as need
 use Rattle.wg_grammar.specs.declared.progress.Referenced.{Referenced}
-use Rattle.wg_grammar.specs.Context.{Known, Context, referenced, depth_of}
-use Rattle.wg_grammar.specs.SoFar.{nothing_yet, after}
+use Rattle.wg_grammar.specs.Context.{Known, Context}
+use Rattle.wg_grammar.specs.SoFar.{SoFar, nothing_yet, after}
 use Rattle.wg_grammar.specs.Next.{next}
-use Rattle.wg_grammar.specs.Record.{Whole, Stands, Refused, ReadsRecord}
+use Rattle.wg_grammar.specs.Record.{Stands, Refused}
 use Rattle.wg_decoder.specs.Answer.{context_at}
-use Rattle.wg_decoder.specs.Head.{of_outdegree}
-use Rattle.wg_decoder.specs.Members.{IsHead}
+
+-- with this outdegree alone
+abbrev pub of_outdegree : ℕ → SoFar
+of_outdegree d = record nothing_yet { outdegree = Some d }
 
 -- a page with so many arcs before it, if each reference names this page
 abbrev pub page_on : Parameters → ℕ → ℕ → Known → Context
@@ -57,11 +59,3 @@ HeadFails p c bits start e =
     (Refused (need.Read field.Outdegree p.outdegrees) p c bits start nothing_yet start e
     ⊎ ((d : ℕ) × (mid : ℕ) × OutdegreeStands p c bits start d mid × ReferenceFails p c bits start d mid e))
     × (e.page ≡ c.page)
-
--- If the head of a record stands from the bit start to the bit at, and its reference names this list and leads to
--- this depth, the record is this one.
-abbrev pub IsRest : Parameters → ℕ → ℕ → ℕ → ℕ → List ℕ → ℕ → List Bool → ℕ → Result Whole Fault → Type 0
-IsRest p page start d r named depth bits at w =
-    (arcs_before : ℕ) (behind : List Known) → referenced behind r ≡ named → depth_of behind r ≡ depth
-    → IsHead p (context_at page arcs_before behind) bits start d r at
-    → ReadsRecord p (context_at page arcs_before behind) bits start w

@@ -14,8 +14,7 @@ ghost use Rattle.wg_grammar.specs.Refusal.{refusal};
 ghost use Rattle.wg_grammar.specs.SoFar.{SoFar, after};
 ghost use Rattle.wg_grammar.specs.Tally.{Follows, need_of};
 ghost use Rattle.wg_decoder.specs.Answer.{OnFault, OnRefusal, WantsNoMemory};
-ghost use Rattle.wg_decoder.specs.Apart.{page_on, told, ReferenceStands, ReferenceFails, HeadStands, HeadFails};
-ghost use Rattle.wg_decoder.specs.Head.{of_outdegree};
+ghost use Rattle.wg_decoder.specs.Apart.{of_outdegree, page_on, told, ReferenceStands, ReferenceFails, HeadStands, HeadFails};
 ghost use Rattle.wg_decoder.specs.Remembered.{known_of};
 ghost use Rattle.wg_decoder.specs.Spare.{NoneLonger};
 

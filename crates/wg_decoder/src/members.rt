@@ -2,7 +2,7 @@
 ghost use Rattle.std.specs.Prelude.{◌≡◌, ◌<◌, ◌≤◌, Bool, List as ListOf, [], length, OnOk};
 ghost use Rattle.wg_graph.specs.Ascending.{Ascends, Below};
 ghost use Rattle.wg_decoder.specs.Answer.{OnFault, OnRefusal};
-ghost use Rattle.wg_decoder.specs.Members.{AreMembers, AreNoMembers};
+ghost use Rattle.wg_decoder.specs.Stages.Members.{AreMembers, AreNoMembers};
 ghost use Rattle.wg_decoder.specs.Spare.{NoneLonger};
 
 use crate::Unread;

@@ -2,7 +2,7 @@
 ghost use Rattle.std.specs.Prelude.{◌≡◌, ◌+◌, ◌<◌, ◌≤◌, Bool, List as ListOf, length, Ok, Err, IfOk, OnErr};
 ghost use Rattle.wg_graph.specs.Ascending.{Ascends, Below};
 ghost use Rattle.wg_grammar.specs.Record.{ReadsRecord};
-ghost use Rattle.wg_decoder.specs.Apart.{IsRest};
+ghost use Rattle.wg_decoder.specs.Stages.Members.{IsRest};
 ghost use Rattle.wg_decoder.specs.Answer.{context_at, known_error, IfFault, OnFault, OnRefusal};
 ghost use Rattle.wg_decoder.specs.Remembered.{known_of, Serves};
 ghost use Rattle.wg_decoder.specs.Spare.{NoneLonger};

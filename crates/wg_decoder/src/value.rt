@@ -5,7 +5,7 @@ ghost use Rattle.wg_params.specs.Codes.{IsCode};
 ghost use Rattle.wg_params.specs.declared.limits.TheConstants.{MOST_PAGES};
 ghost use Rattle.wg_codes.specs.Fold.{number_of_gap};
 ghost use Rattle.wg_decoder.specs.Answer.{OnFault, OnRefusal, WantsNoMemory};
-ghost use Rattle.wg_decoder.specs.Stages.{IsWordAt, IsNoWordAt, IsNumberAt, IsNoNumberAt};
+ghost use Rattle.wg_decoder.specs.Stages.Leading.{IsWordAt, IsNoWordAt, IsNumberAt, IsNoNumberAt};
 
 use crate::Unread;
 use wg_codes::{Read, unfold_from};

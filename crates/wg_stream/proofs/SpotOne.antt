@@ -12,8 +12,7 @@ use Rattle.wg_grammar.specs.Record.{Whole, ReadsRecord, Refused}
 use Rattle.wg_grammar.specs.SoFar.{nothing_yet, after}
 use Rattle.wg_grammar.proofs.Chain.{HasCode, next_coded}
 use Rattle.wg_grammar.proofs.OneRecord.{stands_one, stands_or_refused, refused_one, record_one}
-use Rattle.wg_decoder.specs.Apart.{page_over, RefersNext, OutdegreeStands, ReferenceStands, HeadStands, ReferenceFails, HeadFails}
-use Rattle.wg_decoder.specs.Head.{of_outdegree}
+use Rattle.wg_decoder.specs.Apart.{of_outdegree, page_over, RefersNext, OutdegreeStands, ReferenceStands, HeadStands, ReferenceFails, HeadFails}
 use Rattle.wg_decoder.proofs.HeadLemmas.{outdegree_due}
 use Rattle.wg_decoder.specs.Chains.{endless, start_of, HeadReads, RecordReads, EndReads, OverReads, ChainReads}
 

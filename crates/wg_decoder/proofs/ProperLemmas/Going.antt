@@ -20,7 +20,7 @@ use Rattle.wg_grammar.specs.Refusal.{refusal, is_page}
 use Rattle.wg_grammar.specs.Record.{Stands, Fields}
 use Rattle.wg_graph.specs.Copied.{copied_members}
 use Rattle.wg_codes.specs.Standing.{IsWord}
-use Rattle.wg_decoder.specs.Stages.{LeadsTo}
+use Rattle.wg_decoder.specs.Stages.Leading.{LeadsTo}
 
 -- a field stands at the bit at, and the record goes on from there
 pub record Step (p : Parameters) (c : Context) (bits : List Bool) (s : SoFar) (at : ℕ) (f : Field) (code : Code) (t : SoFar) (end : ℕ) : Type 0 where

@@ -20,7 +20,7 @@ use Rattle.wg_decoder.specs.Proper.{behind_of}
 use Rattle.wg_decoder.proofs.ProperLemmas.Taking.{block_first, no_blocks}
 use Rattle.wg_decoder.proofs.ProperLemmas.Going.{step_of, state, copy, HasHead, Settled, NoCount, Filled, next_block, next_interval_count, one_reason}
 use Rattle.wg_decoder.proofs.ProperLemmas.Tails.{residuals_go, intervals_go}
-use Rattle.wg_decoder.specs.Stages.{LeadsTo}
+use Rattle.wg_decoder.specs.Stages.Leading.{LeadsTo}
 
 -- ---- blocks
 

@@ -21,7 +21,7 @@ use Rattle.wg_decoder.specs.Proper.{unlimited, context_on, IsRecord}
 use Rattle.wg_decoder.proofs.ProperLemmas.Taking.{all_copied}
 use Rattle.wg_decoder.proofs.ProperLemmas.Going.{step_of, check_of, stop_of, end_of, state, copy, HasHead, Settled, next_block_count, next_check, one_reason}
 use Rattle.wg_decoder.proofs.ProperLemmas.Heads.{blocks_go, Tail, tail_of, source_is, Head, head_of}
-use Rattle.wg_decoder.specs.Stages.{LeadsTo}
+use Rattle.wg_decoder.specs.Stages.Leading.{LeadsTo}
 
 yes_word : (b : Bool) (code : Code) (v : ℕ) (z y : List Bool) → b ≡ true → IsWord code v z y → MaybeWord b code v z y
 yes_word true code v z y e h = h

@@ -18,7 +18,7 @@ use Rattle.wg_codes.specs.Fold.{number_of_gap}
 use Rattle.wg_intervals.specs.Stored.{IsInterval}
 use Rattle.wg_decoder.specs.Proper.Laid.{ResidualsTo, IntervalsTo}
 use Rattle.wg_decoder.proofs.ProperLemmas.Going.{step_of, stop_of, end_of, state, copy, Settled, NoCount, Filled, next_length, next_left, next_residual, page_of, one_reason}
-use Rattle.wg_decoder.specs.Stages.{LeadsTo}
+use Rattle.wg_decoder.specs.Stages.Leading.{LeadsTo}
 use Rattle.wg_decoder.proofs.InsideLists.{past_of, past_push}
 
 -- ---- numbers

@@ -14,5 +14,5 @@ TakesHead p z after outdegree reference =
     × (behind ≡ after)
 
 -- the head was read at this position
-abbrev pub IsHead : Parameters → Position → RecordHead → Type 0
-IsHead p position h = TakesHead p (rest position) (rest h.words) h.outdegree h.reference
+abbrev pub IsReadHead : Parameters → Position → RecordHead → Type 0
+IsReadHead p position h = TakesHead p (rest position) (rest h.words) h.outdegree h.reference

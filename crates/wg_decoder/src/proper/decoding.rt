@@ -1,7 +1,7 @@
 //! The whole list of a record, at once.
 ghost use Rattle.std.specs.Prelude.{◌≡◌, ◌<◌, ◌≤◌, ℕ, List, [], Option, length, is_some, option_copied};
 ghost use Rattle.wg_graph.specs.Ascending.{Ascends};
-ghost use Rattle.wg_decoder.specs.Proper.Headed.{IsHead};
+ghost use Rattle.wg_decoder.specs.Proper.Headed.{IsReadHead};
 ghost use Rattle.wg_decoder.specs.Proper.Laid.{list_or_none};
 ghost use Rattle.wg_decoder.specs.Proper.{IsRecord};
 
@@ -46,7 +46,7 @@ pub fn decode_behind<'a>(
     row: &mut Row,
 )
     requires page { page < params.now.nodes }
-    requires head { IsHead params.now cursor.old head }
+    requires head { IsReadHead params.now cursor.old head }
     requires ascends { Ascends 0 (list_or_none (option_copied below)) }
     requires proper { (list : List ℕ) × IsRecord params.now page (option_copied below) cursor.old list
         × (length list ≤ row.old.room) }

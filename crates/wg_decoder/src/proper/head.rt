@@ -1,7 +1,7 @@
 //! The head of a record: its outdegree, and where it refers to.
 ghost use Rattle.std.specs.Prelude.{◌≡◌, ◌^◌, ◌<◌, ℕ, List, Option};
 ghost use Rattle.wg_grammar.specs.SoFar.{value_or_0};
-ghost use Rattle.wg_decoder.specs.Proper.Headed.{IsHead};
+ghost use Rattle.wg_decoder.specs.Proper.Headed.{IsReadHead};
 ghost use Rattle.wg_decoder.specs.Proper.{IsRecord};
 
 use super::lookahead::{Lookahead, value, value_where};
@@ -25,7 +25,7 @@ pub fn read_head<'a>(params: &Params, cursor: Cursor<'a>) -> RecordHead<'a>
     requires { (page : ℕ) × (below : Option (List ℕ)) × (list : List ℕ)
         × IsRecord params.now page below cursor list }
     ensures short { result.outdegree < 2 ^ 63 }
-    ensures head { IsHead params.now cursor.entry result }
+    ensures head { IsReadHead params.now cursor.entry result }
     ensures reference { (page : ℕ) (below : Option (List ℕ)) (list : List ℕ)
         (h : IsRecord params.now page below cursor.entry list) → result.reference ≡ value_or_0 h.whole.reference }
 {

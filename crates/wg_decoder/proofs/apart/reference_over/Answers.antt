@@ -2,8 +2,7 @@ use Rattle.std.proofs.Common.{◌∙◌, inr}
 use Rattle.std.proofs.lemmas.Result.{err_from_is_err_and}
 use Rattle.wg_grammar.specs.declared.fault.Field.TheVariants as field
 use Rattle.wg_grammar.proofs.Tallies.{need_follows}
-use Rattle.wg_decoder.specs.Apart.{page_on}
-use Rattle.wg_decoder.specs.Head.{of_outdegree}
+use Rattle.wg_decoder.specs.Apart.{of_outdegree, page_on}
 use Rattle.wg_decoder.proofs.Faults.{fault_weaker, refusal_weaker}
 use Rattle.wg_decoder.proofs.HeadLemmas.{reference_due}
 use Rattle.wg_decoder.proofs.ApartLemmas.{unread, bad_value, reference_stands, no_reference_stands, reference_near, teller, tells}

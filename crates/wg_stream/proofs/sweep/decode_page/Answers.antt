@@ -1,6 +1,6 @@
 use Rattle.std.proofs.Common.{◌≡◌, ◌+◌, suc, Bool, List, length, ap, subst, ◌∙◌, arith}
 use Rattle.wg_bits.specs.Bits.{Position}
-use Rattle.wg_decoder.specs.Proper.Headed.{IsHead}
+use Rattle.wg_decoder.specs.Proper.Headed.{IsReadHead}
 use Rattle.wg_stream.specs.AllRecords.{known_at, offset_at}
 use Rattle.wg_stream.specs.References.{below_at}
 use Rattle.wg_stream.proofs.AllRecords.{offset_within}
@@ -53,4 +53,4 @@ returns-clause-end c r n =
     c.at.ensures.offset ∙ c.decode_behind.ensures.end (known_at r.records c.args.page).list g.proper ∙ g.end ∙ ap (offset_at r.records) next
 
 pub decode_behind-requires-clause-head : goal.decode_behind-requires-clause-head
-decode_behind-requires-clause-head c = subst (λ (q : Position). IsHead c.args.archive.now.params q c.read_head-head.result) c.again.ensures c.read_head-head.ensures.head
+decode_behind-requires-clause-head c = subst (λ (q : Position). IsReadHead c.args.archive.now.params q c.read_head-head.result) c.again.ensures c.read_head-head.ensures.head

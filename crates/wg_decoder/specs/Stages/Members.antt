@@ -1,16 +1,17 @@
 -- The head of a record, and the members that follow it.
-use Rattle.std.specs.Prelude.{◌≡◌, ℕ, ◌<◌, Bool, List, Err}
+use Rattle.std.specs.Prelude.{◌≡◌, ℕ, ◌<◌, Bool, List, Result, Err}
 use Rattle.wg_params.specs.Parameters.{Parameters}
 use Rattle.wg_grammar.specs.declared.fault.Fault.{Fault}
 use Rattle.wg_grammar.specs.declared.need.Need.TheVariants as need
-use Rattle.wg_grammar.specs.Context.{Known, Context, referenced}
+use Rattle.wg_grammar.specs.Context.{Known, Context, referenced, depth_of}
 use Rattle.wg_grammar.specs.SoFar.{SoFar, nothing_yet, value_or_0}
 use Rattle.wg_grammar.specs.Next.{next}
 use Rattle.wg_grammar.specs.Members.{list_of}
-use Rattle.wg_grammar.specs.Record.{ReadsRecord}
+use Rattle.wg_grammar.specs.Record.{Whole, ReadsRecord}
 use Rattle.wg_decoder.specs.Answer.{context_at}
-use Rattle.wg_decoder.specs.Head.{of_outdegree, of_head}
-use Rattle.wg_decoder.specs.Stages.{LeadsTo}
+use Rattle.wg_decoder.specs.Apart.{of_outdegree}
+use Rattle.wg_decoder.specs.Stages.Head.{of_head}
+use Rattle.wg_decoder.specs.Stages.Leading.{LeadsTo}
 
 -- the head stands from the bit start to the bit end: the outdegree d, and if it is not 0 the reference r
 pub record IsHead (p : Parameters) (c : Context) (bits : List Bool) (start d r end : ℕ) : Type 0 where
@@ -41,3 +42,11 @@ AreNoMembers p page d r named bits at e =
     (arcs_before start : ℕ) (behind : List Known) → referenced behind r ≡ named
     → LeadsTo p (context_at page arcs_before behind) bits nothing_yet start (of_head p d r) at
     → ReadsRecord p (context_at page arcs_before behind) bits start (Err e)
+
+-- If the head of a record stands from the bit start to the bit at, and its reference names this list and leads to
+-- this depth, the record is this one.
+abbrev pub IsRest : Parameters → ℕ → ℕ → ℕ → ℕ → List ℕ → ℕ → List Bool → ℕ → Result Whole Fault → Type 0
+IsRest p page start d r named depth bits at w =
+    (arcs_before : ℕ) (behind : List Known) → referenced behind r ≡ named → depth_of behind r ≡ depth
+    → IsHead p (context_at page arcs_before behind) bits start d r at
+    → ReadsRecord p (context_at page arcs_before behind) bits start w
