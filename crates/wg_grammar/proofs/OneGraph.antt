@@ -16,7 +16,7 @@ use Rattle.wg_grammar.specs.SoFar.{SoFar, after, nothing_yet, value_or_0}
 use Rattle.wg_grammar.specs.Record.{Whole, Stands, Fields, ReadsRecord}
 use Rattle.wg_grammar.specs.Next.{next}
 use Rattle.wg_grammar.specs.Refusal.{refusal}
-use Rattle.wg_grammar.specs.Archive.{arcs_of, context_of, Pages, IsTail, IsTailFault, Accepted, lists_of, places_of, EndsAs, ReadsGraph}
+use Rattle.wg_grammar.specs.Archive.{arcs_read, context_of, Pages, IsTail, IsTailFault, Accepted, lists_of, places_of, EndsAs, ReadsGraph}
 use Rattle.wg_grammar.specs.declared.tail.TheConstants.{MOST_TAIL}
 use Rattle.wg_codes.proofs.CodeLaws.{value_front}
 use Rattle.wg_graph.specs.Ascending.{Ascends, Below}
@@ -213,23 +213,23 @@ Found p bits behind at = (w : Result Accepted ArchiveFault) × (ks : List Whole)
 closes_here : (p : Parameters) (bits : List Bool) (behind : List Whole) (at : ℕ) (w : Result Accepted ArchiveFault) → EndsAs p bits behind at w → Found p bits behind at
 closes_here p bits behind at w h = (w, [], (behind, at, (refl, refl), h))
 
-at_end : (p : Parameters) (bits : List Bool) (behind : List Whole) (at : ℕ) → at ≤ length bits → arcs_of behind ≤ p.arcs → length behind ≡ p.nodes → Found p bits behind at
+at_end : (p : Parameters) (bits : List Bool) (behind : List Whole) (at : ℕ) → at ≤ length bits → arcs_read behind ≤ p.arcs → length behind ≡ p.nodes → Found p bits behind at
 at_end p bits behind at fits arcs all =
     elim (tail_some bits at fits) [
-      | inl tail ↦ elim (cases_eq (arcs_of behind) p.arcs) [
+      | inl tail ↦ elim (cases_eq (arcs_read behind) p.arcs) [
         | inl same ↦ closes_here p bits behind at (Ok (record { graph = lists_of behind; places = places_of behind })) (all, tail, same, refl, refl)
-        | inr other ↦ closes_here p bits behind at (Err (faults.ArcsShort (arcs_of behind))) (all, tail, refl, omega arith)
+        | inr other ↦ closes_here p bits behind at (Err (faults.ArcsShort (arcs_read behind))) (all, tail, refl, omega arith)
       ]
       | inr f ↦ closes_here p bits behind at (Err (faults.Tail f.0)) (all, f.1)
     ]
 
-arcs_more : (w : Whole) (behind : List Whole) → arcs_of (w ∷ behind) ≡ length w.known.list + arcs_of behind
+arcs_more : (w : Whole) (behind : List Whole) → arcs_read (w ∷ behind) ≡ length w.known.list + arcs_read behind
 arcs_more w behind = sum_by-cons (λ (w : Whole). length w.known.list) w behind
 
 abbrev Later : ℕ → Parameters → List Bool → Type 0
-Later n p bits = (behind : List Whole) (at : ℕ) → at ≤ length bits → arcs_of behind ≤ p.arcs → length behind + n ≡ p.nodes → Found p bits behind at
+Later n p bits = (behind : List Whole) (at : ℕ) → at ≤ length bits → arcs_read behind ≤ p.arcs → length behind + n ≡ p.nodes → Found p bits behind at
 
-record_case : (n : ℕ) (p : Parameters) (bits : List Bool) (behind : List Whole) (at : ℕ) (w : Result Whole Fault) → Later n p bits → at ≤ length bits → arcs_of behind ≤ p.arcs → length behind + suc n ≡ p.nodes → ReadsRecord p (context_of p behind) bits at w → Found p bits behind at
+record_case : (n : ℕ) (p : Parameters) (bits : List Bool) (behind : List Whole) (at : ℕ) (w : Result Whole Fault) → Later n p bits → at ≤ length bits → arcs_read behind ≤ p.arcs → length behind + suc n ≡ p.nodes → ReadsRecord p (context_of p behind) bits at w → Found p bits behind at
 record_case n p bits behind at (Ok w) later fits arcs all c =
     let rest = later (w ∷ behind) w.end (record_within p (context_of p behind) bits at w fits c) (omega (arith, arcs_more w behind, record_arcs p (context_of p behind) bits at w arcs c)) (omega arith) in
     (rest.0, w ∷ rest.1, (rest.2.0, rest.2.1, (omega arith, c, rest.2.2), rest.2.3))

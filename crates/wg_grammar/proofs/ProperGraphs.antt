@@ -9,7 +9,7 @@ use Rattle.std.proofs.lemmas.List.Sums.{sum_by-cons}
 use Rattle.wg_params.specs.Parameters.{Parameters}
 use Rattle.wg_graph.specs.Ascending.{Ascends, Below}
 use Rattle.wg_grammar.specs.Record.{Whole}
-use Rattle.wg_grammar.specs.Archive.{arcs_of, context_of, Pages, lists_of}
+use Rattle.wg_grammar.specs.Archive.{arcs_read, context_of, Pages, lists_of}
 use Rattle.wg_grammar.specs.Laws.{GraphIsProper, ArcsAreAsPromised, OffsetsAreAll}
 use Rattle.wg_grammar.proofs.OneGraph.{lists_ascend}
 
@@ -30,7 +30,7 @@ all_lists P behind h =
 length-lists_of : (behind : List Whole) → length (lists_of behind) ≡ length behind
 length-lists_of behind = length-reverse (map (λ (w : Whole). w.known.list) behind) ∙ length-map behind (λ (w : Whole). w.known.list)
 
-arcs_of_lists : (behind : List Whole) → sum_by (λ (list : List ℕ). length list) (map (λ (w : Whole). w.known.list) behind) ≡ arcs_of behind
+arcs_of_lists : (behind : List Whole) → sum_by (λ (list : List ℕ). length list) (map (λ (w : Whole). w.known.list) behind) ≡ arcs_read behind
 arcs_of_lists [] = refl
 arcs_of_lists (w ∷ behind) =
     omega (
@@ -40,7 +40,7 @@ arcs_of_lists (w ∷ behind) =
       sum_by-cons (λ (w : Whole). length w.known.list) w behind,
     )
 
-sum_of_lists : (behind : List Whole) → sum_by (λ (list : List ℕ). length list) (lists_of behind) ≡ arcs_of behind
+sum_of_lists : (behind : List Whole) → sum_by (λ (list : List ℕ). length list) (lists_of behind) ≡ arcs_read behind
 sum_of_lists behind =
     let lists : List (List ℕ) = map (λ (w : Whole). w.known.list) behind in
     sum_by-IsPermutation (λ (list : List ℕ). length list) lists (reverse lists) (IsPermutation-reverse lists) ∙ arcs_of_lists behind

@@ -10,13 +10,13 @@ use Rattle.wg_grammar.specs.Context.{Context}
 use Rattle.wg_grammar.specs.Record.{Whole, ReadsRecord}
 
 -- the arcs of the records behind
-abbrev pub arcs_of : List Whole → ℕ
-arcs_of behind = sum_by (λ w. length w.known.list) behind
+abbrev pub arcs_read : List Whole → ℕ
+arcs_read behind = sum_by (λ w. length w.known.list) behind
 
 -- the page after the records behind, the last of them first; a reference reaches as far back as the window
 abbrev pub context_of : Parameters → List Whole → Context
 context_of p behind =
-    record { page = length behind; arcs_before = arcs_of behind; behind = take p.window (map (λ w. w.known) behind) }
+    record { page = length behind; arcs_before = arcs_read behind; behind = take p.window (map (λ w. w.known) behind) }
 
 -- With these records behind, the proper records of ws stand one after the other from the bit at; then last are behind,
 -- and end is reached.
@@ -54,13 +54,13 @@ places_of behind = 0 ∷ reverse (map (λ w. w.end) behind)
 -- what the file is, if these records are behind and no more proper ones are taken
 abbrev pub EndsAs : Parameters → List Bool → List Whole → ℕ → Result Accepted ArchiveFault → Type 0
 EndsAs p bits behind at (Ok a) =
-    (length behind ≡ p.nodes) × IsTail bits at × (arcs_of behind ≡ p.arcs) × (a.graph ≡ lists_of behind)
+    (length behind ≡ p.nodes) × IsTail bits at × (arcs_read behind ≡ p.arcs) × (a.graph ≡ lists_of behind)
     × (a.places ≡ places_of behind)
 EndsAs p bits behind at (Err (faults.Record e)) = (length behind < p.nodes)
     × ReadsRecord p (context_of p behind) bits at (Err e)
 EndsAs p bits behind at (Err (faults.Tail offset)) = (length behind ≡ p.nodes) × IsTailFault bits at offset
 EndsAs p bits behind at (Err (faults.ArcsShort total)) =
-    (length behind ≡ p.nodes) × IsTail bits at × (total ≡ arcs_of behind) × (total < p.arcs)
+    (length behind ≡ p.nodes) × IsTail bits at × (total ≡ arcs_read behind) × (total < p.arcs)
 EndsAs p bits behind at (Err (faults.Offsets w)) = ⊥
 EndsAs p bits behind at (Err (faults.Length page found stored)) = ⊥
 

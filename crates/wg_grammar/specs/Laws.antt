@@ -65,17 +65,17 @@ GraphIsSome = (p : Parameters) (bits : List Bool) → IsWithinLimits p → (w : 
     × ReadsGraph p bits w
 
 -- the graph that was accepted
-abbrev pub graph_of : Parameters → Accepted → Digraph
-graph_of p a = record { nodes = p.nodes; lists = a.graph }
+abbrev pub accepted_graph : Parameters → Accepted → Digraph
+accepted_graph p a = record { nodes = p.nodes; lists = a.graph }
 
 -- Bits that stand for a graph give each page one list, which ascends and has pages alone.
 abbrev pub GraphIsProper : Type 0
-GraphIsProper = (p : Parameters) (bits : List Bool) (a : Accepted) → ReadsGraph p bits (Ok a) → IsGraph (graph_of p a)
+GraphIsProper = (p : Parameters) (bits : List Bool) (a : Accepted) → ReadsGraph p bits (Ok a) → IsGraph (accepted_graph p a)
 
 -- It has exactly the arcs that the parameters promise.
 abbrev pub ArcsAreAsPromised : Type 0
 ArcsAreAsPromised = (p : Parameters) (bits : List Bool) (a : Accepted) → ReadsGraph p bits (Ok a)
-    → arc_count (graph_of p a) ≡ p.arcs
+    → arc_count (accepted_graph p a) ≡ p.arcs
 
 -- Each record has an offset, and so has the bit after the last.
 abbrev pub OffsetsAreAll : Type 0

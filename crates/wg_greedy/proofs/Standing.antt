@@ -10,7 +10,7 @@ use Rattle.wg_params.specs.Parameters.{Parameters, IsWithinLimits}
 use Rattle.wg_graph.specs.Copied.{ends_of}
 use Rattle.wg_grammar.specs.Context.{Known, Context, depth_of}
 use Rattle.wg_grammar.specs.Record.{Whole, ReadsRecord}
-use Rattle.wg_grammar.specs.Archive.{arcs_of, context_of, Pages, lists_of, places_of}
+use Rattle.wg_grammar.specs.Archive.{arcs_read, context_of, Pages, lists_of, places_of}
 use Rattle.wg_greedy.specs.Fields.{bits_of_fields, reference_of, record_fields}
 use Rattle.wg_greedy.specs.Greedy.{canonical, size_of, chosen, known_of, context_after, records_of}
 use Rattle.wg_greedy.specs.Laws.{IsList, CanonicalIsProper}
@@ -22,7 +22,7 @@ use Rattle.wg_greedy.proofs.Totals.{AreLists, numbers_in, bits_after}
 abbrev pub knowns : List Whole → List Known
 knowns behind = map (λ w. w.known) behind
 
-arcs_known : (behind : List Whole) → sum_by (λ k. length k.list) (knowns behind) ≡ arcs_of behind
+arcs_known : (behind : List Whole) → sum_by (λ k. length k.list) (knowns behind) ≡ arcs_read behind
 arcs_known [] = refl
 arcs_known (w ∷ ws) = omega (arith, sum_by-cons (λ (k : Known). length k.list) w.known (knowns ws), sum_by-cons (λ (v : Whole). length v.known.list) w ws, arcs_known ws)
 
@@ -68,7 +68,7 @@ passed behind (w ∷ ws) = passed (w ∷ behind) ws
 
 -- The canonical records of the lists to come stand at the bit at.
 pub records_stand : CanonicalIsProper → (p : Parameters) → IsWithinLimits p → (behind : List Whole) (lists : List (List ℕ)) (bits before rest : List Bool) (at : ℕ) → AreLists p lists → All (λ (k : Known). IsList p k.list) (knowns behind)
-    → length behind + length lists ≤ p.nodes → arcs_of behind + numbers_in lists ≤ p.arcs → bits ≡ before ++ (bits_after p (knowns behind) lists ++ rest) → at ≡ length before
+    → length behind + length lists ≤ p.nodes → arcs_read behind + numbers_in lists ≤ p.arcs → bits ≡ before ++ (bits_after p (knowns behind) lists ++ rest) → at ≡ length before
     → Pages p bits behind at (wholes p (knowns behind) at lists) (passed behind (wholes p (knowns behind) at lists)) (at + length (bits_after p (knowns behind) lists))
 records_stand proper p within behind [] bits before rest at are known nodes arcs is start = (refl, omega arith)
 records_stand proper p within behind (list ∷ lists) bits before rest at are known nodes arcs is start =
@@ -79,7 +79,7 @@ records_stand proper p within behind (list ∷ lists) bits before rest at are kn
     let more : List Bool = bits_after p (w.known ∷ knowns behind) lists in
     let size : length (bits_after p (knowns behind) (list ∷ lists)) ≡ length first + length more = length-append first more in
     let sum : numbers_in (list ∷ lists) ≡ length list + numbers_in lists = sum_by-cons (λ (l : List ℕ). length l) list lists in
-    let sum' : arcs_of (w ∷ behind) ≡ length list + arcs_of behind = sum_by-cons (λ (v : Whole). length v.known.list) w behind in
+    let sum' : arcs_read (w ∷ behind) ≡ length list + arcs_read behind = sum_by-cons (λ (v : Whole). length v.known.list) w behind in
     let page : length (knowns behind) ≡ length behind = length-map behind (λ (v : Whole). v.known) in
     let cut : bits ≡ before ++ (first ++ (more ++ rest)) = is ∙ ap (λ z. before ++ z) (append_assoc first more rest) in
     let later : bits ≡ (before ++ first) ++ (more ++ rest) = cut ∙ sym (append_assoc before first (more ++ rest)) in
@@ -131,7 +131,7 @@ pub wholes_many : (p : Parameters) (behind : List Known) (at : ℕ) (lists : Lis
 wholes_many p behind at [] = refl
 wholes_many p behind at (list ∷ lists) = omega (arith, wholes_many p (known_of p (context_after p behind) list ∷ behind) (next_whole p behind at list).end lists)
 
-pub passed_arcs : (p : Parameters) (behind : List Whole) (known : List Known) (at : ℕ) (lists : List (List ℕ)) → arcs_of (passed behind (wholes p known at lists)) ≡ arcs_of behind + numbers_in lists
+pub passed_arcs : (p : Parameters) (behind : List Whole) (known : List Known) (at : ℕ) (lists : List (List ℕ)) → arcs_read (passed behind (wholes p known at lists)) ≡ arcs_read behind + numbers_in lists
 passed_arcs p behind known at [] = omega arith
 passed_arcs p behind known at (list ∷ lists) =
     let w : Whole = next_whole p known at list in

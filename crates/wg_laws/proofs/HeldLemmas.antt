@@ -15,7 +15,7 @@ use Rattle.wg_properties.specs.declared.fault.PropFault.{PropFault}
 use Rattle.wg_properties.proofs.Limits.{never_bad}
 use Rattle.wg_graph.specs.Digraph.{Digraph, IsGraph, arc_count}
 use Rattle.wg_grammar.specs.Archive.{Accepted, ReadsGraph}
-use Rattle.wg_grammar.specs.Laws.{graph_of}
+use Rattle.wg_grammar.specs.Laws.{accepted_graph}
 use Rattle.wg_grammar.specs.declared.fault.ArchiveFault.{ArchiveFault}
 use Rattle.wg_grammar.proofs.ProperGraphs.{arcs_promised, graph_proper}
 use Rattle.wg_outcomes.specs.Judged.{Judged, status_of, unless_bad_graph, unless_bad_properties, with_digraph, with_file, with_parameters, with_records}
@@ -97,11 +97,11 @@ graph_behind r held last done =
     let to_params : (n : Digraph → Judged) → with_records held (λ p b. with_digraph r p b n) ≡ on_graph n params.0 = λ n. text.2 (λ t. with_parameters t (on_graph n)) ∙ params.2 (on_graph n) in
     let bytes = file_read input.Graph (held input.Graph) (λ b. with_digraph r params.0 b last) (ap status_of (sym (to_params last)) ∙ done) in
     let to_bytes : (n : Digraph → Judged) → with_records held (λ p b. with_digraph r p b n) ≡ with_digraph r params.0 bytes.0 n = λ n. to_params n ∙ bytes.2 (λ b. with_digraph r params.0 b n) in
-    let found = graph_read (r.graph.value params.0 bytes.0) (λ a. last (graph_of params.0 a)) (ap status_of (sym (to_bytes last)) ∙ done) in
+    let found = graph_read (r.graph.value params.0 bytes.0) (λ a. last (accepted_graph params.0 a)) (ap status_of (sym (to_bytes last)) ∙ done) in
     let within = read_within text.0 params.0 params.1 in
     let reads = subst (λ (w : Result Accepted ArchiveFault). ReadsGraph params.0 (bits_of bytes.0) w) found.1 (r.graph.reads params.0 within bytes.0) in
     record {
-      graph = graph_of params.0 found.0;
+      graph = accepted_graph params.0 found.0;
       stored = record {
         text = text.0;
         parameters = params.0;
@@ -116,5 +116,5 @@ graph_behind r held last done =
       proper = graph_proper params.0 (bits_of bytes.0) found.0 reads;
       few_pages = within.nodes;
       few_arcs = subst (λ (n : ℕ). n ≤ MOST_ARCS) (sym (arcs_promised params.0 (bits_of bytes.0) found.0 reads)) within.arcs;
-      goes_on = λ n. to_bytes n ∙ found.2 (λ a. n (graph_of params.0 a));
+      goes_on = λ n. to_bytes n ∙ found.2 (λ a. n (accepted_graph params.0 a));
     }

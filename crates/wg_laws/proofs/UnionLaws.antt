@@ -7,7 +7,7 @@ use Rattle.wg_params.specs.Parameters.{Parameters, IsWithinLimits}
 use Rattle.wg_properties.specs.Judged.{properties_of}
 use Rattle.wg_graph.specs.Digraph.{Digraph, IsGraph, arc_count}
 use Rattle.wg_grammar.specs.Archive.{Accepted, ReadsGraph}
-use Rattle.wg_grammar.specs.Laws.{graph_of}
+use Rattle.wg_grammar.specs.Laws.{accepted_graph}
 use Rattle.wg_grammar.specs.declared.fault.ArchiveFault.{ArchiveFault}
 use Rattle.wg_grammar.specs.declared.fault.ArchiveFault.TheVariants as archive
 use Rattle.wg_grammar.specs.declared.fault.OffsetWord.{OffsetWord}
@@ -44,9 +44,9 @@ pub record ArchiveBehind (r : Readings) (held : Input → Option (List ℕ)) : T
   pub parameters : Parameters
   pub read : Accepted
   pub within : IsWithinLimits parameters
-  pub proper : IsGraph (graph_of parameters read)
+  pub proper : IsGraph (accepted_graph parameters read)
   pub goes_on : (next : Parameters → Accepted → Judged) → with_archive r held next ≡ next parameters read
-  pub graph_goes_on : (next : Digraph → Judged) → with_records held (λ p bytes. with_digraph r p bytes next) ≡ next (graph_of parameters read)
+  pub graph_goes_on : (next : Digraph → Judged) → with_records held (λ p bytes. with_digraph r p bytes next) ≡ next (accepted_graph parameters read)
 
 abbrev Next : Type 0
 Next = Parameters → Accepted → Judged
@@ -88,7 +88,7 @@ module _ (r : Readings) (held : Input → Option (List ℕ)) where
         within = within;
         proper = graph_proper p (bits_of bytes.0) a (subst (λ (w : Result Accepted ArchiveFault). ReadsGraph p (bits_of bytes.0) w) found.1 (r.graph.reads p within bytes.0));
         goes_on = λ n. to_stored n ∙ same (λ t. n p a);
-        graph_goes_on = λ n. to_graph (λ q x. n (graph_of q x));
+        graph_goes_on = λ n. to_graph (λ q x. n (accepted_graph q x));
       }
 
 -- a second archive that is not refused is validated as a first is
@@ -108,15 +108,15 @@ united g h next a out is =
 pub unions_accepted : (r : Readings) → UnionsAreAccepted r
 unions_accepted r first second output layout held a out within is =
     let next : Digraph → Judged = builds layout in
-    let to_second : Parameters → Accepted → Parameters → Accepted → Judged = λ p x q y. with_union (graph_of p x) (graph_of q y) next in
+    let to_second : Parameters → Accepted → Parameters → Accepted → Judged = λ p x q y. with_union (accepted_graph p x) (accepted_graph q y) next in
     let on : Parameters → Accepted → Judged = λ p x. of_second (with_archive r (second_held held) (to_second p x)) in
     let one = archive_behind r held on (ap status_of is) in
     let p : Parameters = one.parameters in
     let x : Accepted = one.read in
     let goes = behind_second (with_archive r (second_held held) (to_second p x)) a out (sym (one.goes_on on) ∙ is) in
     let other = archive_behind r (second_held held) (to_second p x) (ap status_of goes) in
-    let g : Digraph = graph_of p x in
-    let h : Digraph = graph_of other.parameters other.read in
+    let g : Digraph = accepted_graph p x in
+    let h : Digraph = accepted_graph other.parameters other.read in
     let made = united g h next a out (sym (other.goes_on (to_second p x)) ∙ goes) in
     let union = is_union g h one.proper other.proper in
     let few_first : g.nodes ≤ MOST_PAGES = one.within.nodes in

@@ -5,7 +5,7 @@ use Rattle.wg_outside.specs.Puts.{joined}
 use Rattle.wg_params.specs.Parameters.{Parameters}
 use Rattle.wg_params.specs.declared.limits.TheConstants.{MOST_ARCS}
 use Rattle.wg_graph.specs.Digraph.{Digraph, arc_count}
-use Rattle.wg_grammar.specs.Laws.{graph_of}
+use Rattle.wg_grammar.specs.Laws.{accepted_graph}
 use Rattle.wg_shape.specs.Graphs.{union_graph}
 use Rattle.wg_rank.specs.Intervals.{Intervals}
 use Rattle.wg_greedy.specs.Archive.{graph_bits}
@@ -109,7 +109,7 @@ judged r (Recode base to layout) held =
 judged r (Union first second output layout) held =
     with_archive r held (λ p a.
     of_second (with_archive r (second_held held) (λ q b.
-    with_union (graph_of p a) (graph_of q b) (λ g. builds layout g))))
+    with_union (accepted_graph p a) (accepted_graph q b) (λ g. builds layout g))))
 judged r (Transpose base to layout) held =
     with_records held (λ p bytes. with_digraph r p bytes (λ g. builds layout (transposed g)))
 judged r (Bulk seed pages) held =

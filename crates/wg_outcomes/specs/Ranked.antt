@@ -8,7 +8,7 @@ use Rattle.wg_params.specs.Parameters.{Parameters}
 use Rattle.wg_properties.specs.Judged.{properties_of}
 use Rattle.wg_graph.specs.Digraph.{Digraph, IsGraph}
 use Rattle.wg_grammar.specs.Archive.{Accepted}
-use Rattle.wg_grammar.specs.Laws.{graph_of}
+use Rattle.wg_grammar.specs.Laws.{accepted_graph}
 use Rattle.wg_rank.specs.Rank.{low, high}
 use Rattle.wg_rank.specs.Intervals.{Intervals, AreBoundsOf, by_page}
 use Rattle.wg_rank.specs.Certified.{IsCertified}
@@ -94,7 +94,7 @@ pub record HoldGraph (r : Readings) (held : Input → Option (List ℕ)) (g : Di
   pub parameters_are : properties_of text ≡ Ok parameters
   pub bytes_are : held input.Graph ≡ Some bytes
   pub read_is : r.graph.value parameters bytes ≡ Ok read
-  pub graph_is : g ≡ graph_of parameters read
+  pub graph_is : g ≡ accepted_graph parameters read
 
 -- The files hold these weights of so many pages, if a file of them is named; without one, none are given.
 abbrev pub HoldWeights : Option (List ℕ) → (Input → Option (List ℕ)) → ℕ → Option (List ℕ) → Type 0

@@ -3,7 +3,7 @@ ghost use Rattle.std.specs.Prelude.{◌≡◌, ◌+◌, ◌≤◌, ℕ, List, If
 ghost use Rattle.wg_outside.specs.declared.limits.TheConstants.{MOST_BYTES};
 ghost use Rattle.wg_bits.specs.Bits.{bits_of};
 ghost use Rattle.wg_grammar.specs.Archive.{Accepted, ReadsGraph};
-ghost use Rattle.wg_grammar.specs.Laws.{graph_of};
+ghost use Rattle.wg_grammar.specs.Laws.{accepted_graph};
 ghost use Rattle.wg_offsets.specs.Places.{ArePlaces};
 ghost use Rattle.wg_random.specs.Held.{StandsForGraph};
 ghost use Rattle.wg_stream.specs.Sweeping.{PassFinds};
@@ -93,7 +93,7 @@ impl<'a> Records<'a> {
     /// the [`Sweep`]. The records are not passed over again.
     pub fn sweep(&self, alloc: Global) -> Result<Sweep<'a>, AllocError>
         ensures graph { (a : Accepted) → ReadsGraph self.now.params self.now.bits (Ok a)
-            → IfOk result (λ s. s.graph ≡ graph_of self.now.params a) }
+            → IfOk result (λ s. s.graph ≡ accepted_graph self.now.params a) }
         ensures place { IfOk result (λ s. s.place ≡ 0) }
         ensures stands { StandsForGraph self.now }
     {

@@ -4,7 +4,7 @@ use Rattle.wg_params.specs.Parameters.{Parameters}
 use Rattle.wg_graph.specs.Ascending.{Ascends, Below}
 use Rattle.wg_grammar.specs.Context.{Known}
 use Rattle.wg_grammar.specs.Record.{Whole}
-use Rattle.wg_grammar.specs.Archive.{Pages, arcs_of}
+use Rattle.wg_grammar.specs.Archive.{Pages, arcs_read}
 use Rattle.wg_decoder.specs.Remembered.{Serves}
 
 -- the parameters; how many pages and arcs were read; what is kept of the pages before the next, the nearest first; and
@@ -32,7 +32,7 @@ pub record PrefixRead (p : Parameters) (bits : List Bool) (pages arcs at : ℕ) 
   pub stood : List Whole
   pub records : Pages p bits [] 0 stood behind at
   pub count : length behind ≡ pages
-  pub total : arcs_of behind ≡ arcs
+  pub total : arcs_read behind ≡ arcs
   pub nearest : kept ≡ take p.window (map (λ w. w.known) behind)
 
 -- these records, the last of them first, are those that were read; the next begins at the bit at

@@ -5,7 +5,7 @@ ghost use Rattle.wg_bits.specs.Bits.{bits_of};
 ghost use Rattle.wg_graph.specs.Digraph.{successors};
 ghost use Rattle.wg_grammar.specs.Record.{Whole};
 ghost use Rattle.wg_grammar.specs.Archive.{Accepted, ReadsGraph};
-ghost use Rattle.wg_grammar.specs.Laws.{graph_of};
+ghost use Rattle.wg_grammar.specs.Laws.{accepted_graph};
 ghost use Rattle.wg_stream.specs.AllRecords.{Reading, known_at, offset_at};
 ghost use Rattle.wg_stream.specs.References.{below_at};
 ghost use Rattle.wg_stream.specs.Sweeping.{AreKept, IsBack, IsNext, PassFinds};
@@ -184,7 +184,7 @@ impl<'a> Sweep<'a> {
         requires short { length bytes.now ≤ MOST_BYTES }
         requires graph { (a : Accepted) × ReadsGraph params (bits_of bytes.now) (Ok a) }
         ensures graph { (a : Accepted) → ReadsGraph params (bits_of bytes.now) (Ok a)
-            → IfOk result (λ s. s.graph ≡ graph_of params a) }
+            → IfOk result (λ s. s.graph ≡ accepted_graph params a) }
         ensures place { IfOk result (λ s. s.place ≡ 0) }
     {
         // tells the limits
@@ -207,7 +207,7 @@ impl<'a> Sweep<'a> {
         requires short { length bytes.now ≤ MOST_BYTES }
         requires finds { (offsets : ListOf ℕ) × PassFinds params (bits_of bytes.now) offsets room }
         ensures graph { (a : Accepted) → ReadsGraph params (bits_of bytes.now) (Ok a)
-            → IfOk result (λ s. s.graph ≡ graph_of params a) }
+            → IfOk result (λ s. s.graph ≡ accepted_graph params a) }
         ensures place { IfOk result (λ s. s.place ≡ 0) }
     {
         let kept = rows(alloc, params.window().min(params.nodes()), room)?;

@@ -10,7 +10,7 @@ use Rattle.wg_params.specs.declared.limits.TheConstants.{MOST_ARCS}
 use Rattle.wg_properties.specs.declared.fault.PropFault.{PropFault}
 use Rattle.wg_graph.specs.Digraph.{Digraph, arc_count}
 use Rattle.wg_grammar.specs.Archive.{Accepted}
-use Rattle.wg_grammar.specs.Laws.{graph_of}
+use Rattle.wg_grammar.specs.Laws.{accepted_graph}
 use Rattle.wg_grammar.specs.declared.fault.ArchiveFault.{ArchiveFault}
 use Rattle.wg_grammar.specs.declared.fault.ArchiveFault.TheVariants as archive
 use Rattle.wg_shape.specs.Graphs.{union_graph}
@@ -81,7 +81,7 @@ module _ (first second output : List ℕ) (layout : Layout) (td to : Bool) (befo
 
   -- what comes behind each archive
   abbrev behind_second : Parameters → Accepted → Parameters → Accepted → Judged
-  behind_second p a q b = with_union (graph_of p a) (graph_of q b) (λ g. builds layout g)
+  behind_second p a q b = with_union (accepted_graph p a) (accepted_graph q b) (λ g. builds layout g)
 
   abbrev behind_first : Readings → (Input → Option (List ℕ)) → Parameters → Accepted → Judged
   behind_first r h p a = of_second (with_archive r (second_held h) (behind_second p a))
@@ -221,12 +221,12 @@ module _ (first second output : List ℕ) (layout : Layout) (td to : Bool) (befo
       b = h.goes.0
 
       abbrev both : Digraph
-      both = union_graph (graph_of one.params a) (graph_of other.params b)
+      both = union_graph (accepted_graph one.params a) (accepted_graph other.params b)
 
       same : files2 ≡ before.files
       same = h.same ∙ l.same
 
-      goes : IsTrue td → (r : Readings) → judged_on r job before.files ≡ of_second (with_union (graph_of one.params a) (graph_of other.params b) (λ g. builds layout g))
+      goes : IsTrue td → (r : Readings) → judged_on r job before.files ≡ of_second (with_union (accepted_graph one.params a) (accepted_graph other.params b) (λ g. builds layout g))
       goes t r =
           l.goes.2 t r (behind_first r held)
           ∙ ap (λ (f : Files). of_second (with_archive r (held_by (file_of second) f) (behind_second one.params a))) (sym l.same)

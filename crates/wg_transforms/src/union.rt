@@ -4,7 +4,7 @@ ghost use Rattle.wg_params.specs.Parameters.{IsWithinLimits, params_of};
 ghost use Rattle.wg_params.specs.declared.limits.TheConstants.{MOST_ARCS, MOST_PAGES};
 ghost use Rattle.wg_graph.specs.Digraph.{arc_count};
 ghost use Rattle.wg_grammar.specs.Archive.{Accepted};
-ghost use Rattle.wg_grammar.specs.Laws.{graph_of};
+ghost use Rattle.wg_grammar.specs.Laws.{accepted_graph};
 ghost use Rattle.wg_shape.specs.Graphs.{union_graph};
 ghost use Rattle.wg_words.specs.declared.jobs.Job.TheVariants.{Union};
 ghost use Rattle.wg_transforms.specs.Loaded.{IsLoaded};
@@ -52,7 +52,7 @@ pub fn union<D: Depot, O: Sink>(
 fn lists_of<'a>(alloc: Global, archive: &'a Loaded) -> Result<Sweep<'a>, Ending>
     requires { (a : Accepted) × IsLoaded archive.now a }
     ensures graph { (a : Accepted) → IsLoaded archive.now a
-        → IfOk result (λ s. s.graph ≡ graph_of archive.now.params a) }
+        → IfOk result (λ s. s.graph ≡ accepted_graph archive.now.params a) }
     ensures few { IfOk result (λ s. s.graph.nodes ≤ MOST_PAGES) }
     ensures only { IfErr result (λ e. e.status ≡ Status.Memory) }
 {
@@ -71,13 +71,13 @@ fn united(
     requires first { (a : Accepted) × IsLoaded first a }
     requires second { (b : Accepted) × IsLoaded second b }
     ensures made { (a b : Accepted) → IsLoaded first a → IsLoaded second b → IfOk result (λ made.
-        IsArchiveOf layout.now (union_graph (graph_of first.params a) (graph_of second.params b)) made) }
+        IsArchiveOf layout.now (union_graph (accepted_graph first.params a) (accepted_graph second.params b)) made) }
     ensures few { (a b : Accepted) → IsLoaded first a → IsLoaded second b → IfOk result (λ _.
-        arc_count (union_graph (graph_of first.params a) (graph_of second.params b)) ≤ MOST_ARCS) }
+        arc_count (union_graph (accepted_graph first.params a) (accepted_graph second.params b)) ≤ MOST_ARCS) }
     ensures only { IfErr result (λ e. (e.status ≡ Status.Memory) ⊎ (e.status ≡ Status.TooManyArcs)) }
     ensures too_many { (a b : Accepted) → IsLoaded first a → IsLoaded second b
         → IfErr result (λ e. e.status ≡ Status.TooManyArcs
-        → MOST_ARCS < arc_count (union_graph (graph_of first.params a) (graph_of second.params b))) }
+        → MOST_ARCS < arc_count (union_graph (accepted_graph first.params a) (accepted_graph second.params b))) }
 {
     let mut one = lists_of(alloc, &first)?;
     let mut other = lists_of(alloc, &second)?;

@@ -1,7 +1,7 @@
 use Rattle.std.proofs.Common.{◌≡◌, ◌∙◌, ℕ, ap, sym}
 use Rattle.wg_bits.specs.Bits.{bits_of, Position}
 use Rattle.wg_grammar.specs.Archive.{Accepted}
-use Rattle.wg_grammar.specs.Laws.{graph_of}
+use Rattle.wg_grammar.specs.Laws.{accepted_graph}
 use Rattle.wg_readings.proofs.ReadingsLemmas.{goes_on}
 use Rattle.wg_readings.proofs.archive.graph_of_records.Goals as goal
 
@@ -11,7 +11,7 @@ returns-in-Ok-clause-steps c = λ r next.
     let bytes = c.args.bytes.now in
     let read = c.in-Ok.ensures.reads (bits_of bytes) (ap (λ (q : Position). q.bits) c.new.ensures ∙ c.of.ensures) in
     let pages : p.nodes ≡ c.in-Ok.graph.nodes = sym c.in-Ok.ensures.nodes in
-    goes_on r p c.in-Ok.ensures.limits bytes c.in-Ok.graph.lists read.0 read.1 (λ (a : Accepted). next (graph_of p a))
+    goes_on r p c.in-Ok.ensures.limits bytes c.in-Ok.graph.lists read.0 read.1 (λ (a : Accepted). next (accepted_graph p a))
     ∙ ap (λ (n : ℕ). next (record { nodes = n; lists = c.in-Ok.graph.lists })) pages
 
 pub returns-in-Err-clause-steps : goal.returns-in-Err-clause-steps
@@ -19,7 +19,7 @@ returns-in-Err-clause-steps c = λ r next.
     let p = c.args.params.now in
     let bytes = c.args.bytes.now in
     let fault = c.in-Err.ensures.fault (bits_of bytes) (ap (λ (q : Position). q.bits) c.new.ensures ∙ c.of.ensures) in
-    c.graph_ending.ensures.refused c.in-Err.ensures.limits r bytes fault (λ a. next (graph_of p a))
+    c.graph_ending.ensures.refused c.in-Err.ensures.limits r bytes fault (λ a. next (accepted_graph p a))
 
 pub returns-in-Err-clause-only : goal.returns-in-Err-clause-only
 returns-in-Err-clause-only c =

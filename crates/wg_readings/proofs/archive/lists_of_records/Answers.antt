@@ -3,7 +3,7 @@ use Rattle.wg_params.specs.declared.limits.TheConstants.{MOST_PAGES}
 use Rattle.wg_graph.specs.Digraph.{Digraph, arc_count}
 use Rattle.wg_grammar.specs.Archive.{Accepted}
 use Rattle.wg_bits.specs.Bits.{bits_of}
-use Rattle.wg_grammar.specs.Laws.{graph_of}
+use Rattle.wg_grammar.specs.Laws.{accepted_graph}
 use Rattle.wg_grammar.proofs.ProperGraphs.{arcs_promised}
 use Rattle.wg_readings.proofs.ReadingsLemmas.{goes_on}
 use Rattle.wg_readings.proofs.archive.lists_of_records.Goals as goal
@@ -19,7 +19,7 @@ returns c =
       nodes = ap (λ (g : Digraph). g.nodes) is;
       few = subst (λ (g : Digraph). g.nodes ≤ MOST_PAGES) (sym is) r.limits.nodes;
       arcs = ap arc_count is ∙ arcs_promised p (bits_of bytes) a r.finds.1;
-      goes = λ q next. goes_on q p r.limits bytes a.graph a.places r.finds.1 (λ x. next (graph_of p x)) ∙ ap next (sym is);
+      goes = λ q next. goes_on q p r.limits bytes a.graph a.places r.finds.1 (λ x. next (accepted_graph p x)) ∙ ap next (sym is);
       refused = λ q. tt;
       only = tt;
     }

@@ -5,7 +5,7 @@ use Rattle.wg_outside.specs.Outside.{Files, Counts, NonDecreasing}
 use Rattle.wg_outside.proofs.FilesLemmas.{none_falls-trans, none_falls-refl}
 use Rattle.wg_params.specs.Parameters.{Parameters, IsWithinLimits}
 use Rattle.wg_grammar.specs.Archive.{Accepted, lists_of}
-use Rattle.wg_grammar.specs.Laws.{graph_of}
+use Rattle.wg_grammar.specs.Laws.{accepted_graph}
 use Rattle.wg_grammar.specs.Record.{Whole}
 use Rattle.wg_stream.proofs.PrefixLemmas.{lists_more}
 use Rattle.wg_stream.specs.Reading.{Reading, IsInStep, IsJudged}
@@ -31,11 +31,11 @@ module _ (base : List ℕ) (p : Parameters) (td : Bool) (files files' : Files) (
   graph_stopped : JudgesGraph base p td files files' counts counts' (Err e) → LoadsGraph base p td files files' counts counts' (Err e)
   graph_stopped j = record {
     reads = record {
-      ends = record { only = j.reads.ends.only; causes = j.reads.ends.causes; refused = λ t r next. j.reads.ends.refused t r (λ a. next (graph_of p a)) };
+      ends = record { only = j.reads.ends.only; causes = j.reads.ends.causes; refused = λ t r next. j.reads.ends.refused t r (λ a. next (accepted_graph p a)) };
       same = j.reads.same;
       later = j.reads.later;
     };
-    goes = λ t r next. j.reads.ends.refused t r (λ a. next (graph_of p a));
+    goes = λ t r next. j.reads.ends.refused t r (λ a. next (accepted_graph p a));
     nodes = tt;
   }
 
@@ -53,7 +53,7 @@ graph_read base p td files files1 files2 counts counts1 counts2 n a b lists h li
   goes = λ t r next.
       let x = judged_by td base p files counts files1 files2 counts1 counts2 n a b _ h step judged t in
       let k = all_read td base p files counts files1 files2 counts1 counts2 n a b _ h limits judged t x.0 x.1 in
-      graph_goes r p limits (held_by (file_of base) files Graph) x.0 x.1 (λ y. next (graph_of p y))
+      graph_goes r p limits (held_by (file_of base) files Graph) x.0 x.1 (λ y. next (accepted_graph p y))
       ∙ ap (λ (l : List (List ℕ)). next (record { nodes = p.nodes; lists = l })) (ap (λ (y : Accepted). y.graph) k.2 ∙ k.1);
   nodes = refl;
 }
