@@ -1,16 +1,17 @@
 // Records over a page that is handed in, pages that are written one by one, an archive of records and offsets, and a
 // fault in words.
-ghost use Rattle.std.specs.Prelude.{◌≡◌, ◌<◌};
+ghost use Rattle.std.specs.Prelude.{◌≡◌, ◌≤◌, ◌<◌};
+ghost use Rattle.std.specs.Option.{ForSome};
 
 use std::alloc::Global;
 use std::marker::Brand;
 use std::sync::ledger::{Blank, Ledger};
 use std::test::Fail;
 use wg_bits::{Bits, Cursor};
-use wg_decoder::{Known, decode_on, head};
+use wg_decoder::{Known, Window, decode, decode_into, decode_on, head};
 use wg_encoder::Encoder;
-use wg_grammar::{ArchiveFault, Fault, Field, Kind};
-use wg_graph::{Graph, List};
+use wg_grammar::{ArchiveFault, Fault, Field, Kind, Need, Progress, Referenced};
+use wg_graph::{Graph, List, Row};
 use wg_io::{Depot, LoadError, SteadyDepot};
 use wg_offsets::{Extent, Samples};
 use wg_params::Code;
@@ -42,6 +43,60 @@ fn a_record_over_a_page_that_is_handed_in(rt: HostRuntime) -> Result<(), Fail> {
     let second = decode_on(rt.alloc(), &params, 1, 2, Some(known), &mut cursor)?;
     assert!(rt; second.list.as_slice() == [1, 2].as_slice());
     assert!(rt; second.depth == 1 && cursor.at() == 18);
+    Ok(())
+}
+
+// The record of page 0, which was decoded before, is read into a row.
+#[test]
+fn a_proper_record_in_a_row(rt: HostRuntime) -> Result<(), Fail> {
+    let params = usual(3, 4, 7, 3, 4)?;
+    let window = Window::new(rt.alloc(), &params);
+    let mut cursor = Cursor::new(Bits::of(COPIED), 0);
+    decode(rt.alloc(), &params, 0, 0, &window, &mut cursor.again())?;
+    let mut row = Row::new(rt.alloc(), params.arcs())?;
+    decode_into(&params, 0, None, &mut cursor, &mut row);
+    assert!(rt; row.as_slice() == [1, 2].as_slice());
+    assert!(rt; cursor.at() == 12);
+    Ok(())
+}
+
+// Hands over the value of the field that comes next, and tells whether it was taken.
+fn takes(progress: &mut Progress, value: u64, below: Option<Referenced>) -> bool
+    requires length { ForSome below (λ r. r.length ≤ progress.old.params.nodes) }
+    requires depth { ForSome below (λ r. r.depth < progress.old.page) }
+    ensures params { progress.new.params ≡ progress.old.params }
+    ensures page { progress.new.page ≡ progress.old.page }
+{
+    match progress.need() {
+        Need::Read(_, _) => progress.accept(value, below).is_ok(),
+        Need::Check => false,
+        Need::End => false,
+    }
+}
+
+// What the check after the blocks answers, if it comes.
+fn checked(progress: &mut Progress) -> Option<Result<(), Kind>> {
+    match progress.need() {
+        Need::Check => Some(progress.check_copied()),
+        Need::Read(_, _) => None,
+        Need::End => None,
+    }
+}
+
+#[test]
+fn more_members_are_copied_than_the_page_has(rt: HostRuntime) -> Result<(), Fail> {
+    let params = usual(3, 4, 7, 3, 4)?;
+    let below = Referenced {
+        length: 2,
+        depth: 0,
+    };
+    let mut progress = Progress::start(&params, 1, 2);
+    // an outdegree of 1, a reference to a page with 2 successors, and no blocks
+    let outdegree = takes(&mut progress, 1, None);
+    let reference = takes(&mut progress, 1, Some(below));
+    let block_count = takes(&mut progress, 0, None);
+    assert!(rt; outdegree && reference && block_count);
+    assert!(rt; checked(&mut progress) == Some(Err(Kind::Copied)));
     Ok(())
 }
 
