@@ -8,7 +8,7 @@ use Rattle.wg_outside.specs.Outside.{Files, Counts}
 use Rattle.wg_outside.specs.declared.whole.LoadError.{LoadError}
 use Rattle.wg_params.specs.declared.code.Code.{Code}
 use Rattle.wg_params.specs.Parameters.{Parameters}
-use Rattle.wg_source.specs.Held.{Held, IsHeldOf}
+use Rattle.wg_source.specs.Held.{HeldBytes, IsHeldOf}
 use Rattle.wg_source.specs.Stepping.{Steps, Moves, HasCause}
 use Rattle.wg_source.specs.StepLaws.{there_after}
 use Rattle.wg_offsets.specs.Errors.{IfRefusalOf, IfWordOf, OnRefusal, OnWord}
@@ -25,32 +25,32 @@ use Rattle.wg_lookups.proofs.SamplingLemmas.{word_caused}
 use Rattle.wg_readings.specs.Finding.{IsOpenOn}
 
 -- the bits of a file that is there, of which this is held
-abbrev pub HasBitsOf : Bool → Files → List ℕ → Held → List Bool → Type 0
+abbrev pub HasBitsOf : Bool → Files → List ℕ → HeldBytes → List Bool → Type 0
 HasBitsOf told f name h bits = IsTrue told × ((file : List ℕ) × (map.get f name ≡ Some file) × IsHeldOf file h × (bits_of file ≡ bits))
 
 -- the bits of a file that was found
-pub found_bits : (told : Bool) (f : Files) (name : List ℕ) (h : Held) → IsTrue told → (o : IsOpenOn (map.get f name) h) → HasBitsOf told f name h (bits_of o.file)
+pub found_bits : (told : Bool) (f : Files) (name : List ℕ) (h : HeldBytes) → IsTrue told → (o : IsOpenOn (map.get f name) h) → HasBitsOf told f name h (bits_of o.file)
 found_bits told f name h t o = (t, (o.file, o.is, o.held, refl))
 
 -- they are there after a move, too
-pub found_moved : (told : Bool) (name1 name2 : List ℕ) (f1 f2 : Files) (c1 c2 : List ℕ → Counts) (h1 h2 : Held) → name2 ≡ name1 → Moves told name1 f1 f2 c1 c2 h1 h2
+pub found_moved : (told : Bool) (name1 name2 : List ℕ) (f1 f2 : Files) (c1 c2 : List ℕ → Counts) (h1 h2 : HeldBytes) → name2 ≡ name1 → Moves told name1 f1 f2 c1 c2 h1 h2
     → IsTrue told → (o : IsOpenOn (map.get f1 name1) h1) → HasBitsOf told f2 name2 h2 (bits_of o.file)
 found_moved told name1 name2 f1 f2 c1 c2 h1 h2 is l t o =
     (t, (o.file, there_after told name1 name2 f1 f2 c1 c2 h1 h2 o.file is l o.is, l.in_step t o.file o.is o.held, refl))
 
 -- the depot is seen again behind the source
 module _ {D N : Type 0} (files : D → Files) (counts : D → List ℕ → Counts) (d1 d2 d3 : D) (m n : N) (end : m ≡ n → d3 ≡ d2) (left : n ≡ m) (told : Bool) where
-  pub steps_lent : (name : List ℕ) (h1 h2 : Held) → Steps told name (files d1) (files d2) (counts d1) (counts d2) h1 h2 → Steps told name (files d1) (files d3) (counts d1) (counts d3) h1 h2
+  pub steps_lent : (name : List ℕ) (h1 h2 : HeldBytes) → Steps told name (files d1) (files d2) (counts d1) (counts d2) h1 h2 → Steps told name (files d1) (files d3) (counts d1) (counts d3) h1 h2
   steps_lent name h1 h2 a = subst (λ (d : D). Steps told name (files d1) (files d) (counts d1) (counts d) h1 h2) (sym (end (sym left))) a
 
-  pub moves_lent : (name : List ℕ) (h1 h2 : Held) → Moves told name (files d1) (files d2) (counts d1) (counts d2) h1 h2 → Moves told name (files d1) (files d3) (counts d1) (counts d3) h1 h2
+  pub moves_lent : (name : List ℕ) (h1 h2 : HeldBytes) → Moves told name (files d1) (files d2) (counts d1) (counts d2) h1 h2 → Moves told name (files d1) (files d3) (counts d1) (counts d3) h1 h2
   moves_lent name h1 h2 a = subst (λ (d : D). Moves told name (files d1) (files d) (counts d1) (counts d) h1 h2) (sym (end (sym left))) a
 
-  pub cause_lent : (name : List ℕ) (h : Held) (e : LoadError) → HasCause told name (files d1) (counts d1) (counts d2) h e → HasCause told name (files d1) (counts d1) (counts d3) h e
+  pub cause_lent : (name : List ℕ) (h : HeldBytes) (e : LoadError) → HasCause told name (files d1) (counts d1) (counts d2) h e → HasCause told name (files d1) (counts d1) (counts d3) h e
   cause_lent name h e a = subst (λ (d : D). HasCause told name (files d1) (counts d1) (counts d) h e) (sym (end (sym left))) a
 
   -- the offsets file was not read to its end
-  pub stopped_lent : (name : List ℕ) (h : Held) (p : Parameters) (code : Code) (pages : ℕ) → code ≡ p.offsets → pages ≡ p.nodes → (e : PlacesError LoadError) (ending : Ending) → ending ≡ places_ending p.arcs e
+  pub stopped_lent : (name : List ℕ) (h : HeldBytes) (p : Parameters) (code : Code) (pages : ℕ) → code ≡ p.offsets → pages ≡ p.nodes → (e : PlacesError LoadError) (ending : Ending) → ending ≡ places_ending p.arcs e
       → IfRefusalOf e (HasCause told name (files d1) (counts d1) (counts d2) h) → ((bits : List Bool) → HasBitsOf told (files d1) name h bits → IfWordOf e (λ w. ReadsOffsets code pages bits (Err w)))
       → (IsTrue told → IsOpenOn (map.get (files d1) name) h) → IsStopped told (files d1) (counts d1) (counts d3) p name ending
   stopped_lent name h p code pages is_code is_pages e ending is refused fault open_on =
@@ -63,7 +63,7 @@ module _ {D N : Type 0} (files : D → Files) (counts : D → List ℕ → Count
       (fault (bits_of file) (t, (file, there, at, refl))))))
 
   -- words of the offsets file were not read again
-  pub words_lent : {A : Type 0} (d : D) (s : SampledFile) (name : List ℕ) (h : Held) → name ≡ s.file.name → Moves told s.file.name (files d1) (files d) (counts d1) (counts d) s.file.held h
+  pub words_lent : {A : Type 0} (d : D) (s : SampledFile) (name : List ℕ) (h : HeldBytes) → name ≡ s.file.name → Moves told s.file.name (files d1) (files d) (counts d1) (counts d) s.file.held h
       → (x : Result A (WordError LoadError)) → OnRefusal x (HasCause told name (files d) (counts d) (counts d2) h)
       → ((bits : List Bool) (places : List ℕ) → HasBitsOf told (files d) name h bits → IsSampleOf bits s.samples places → OnWord x (λ w. ⊥)) → IfErr x (HasWordCause told (files d1) (counts d1) (counts d3) s)
   words_lent d s name h is moves x refused right =

@@ -12,14 +12,14 @@ use Rattle.wg_offsets.specs.declared.error.WordError.{WordError}
 use Rattle.wg_offsets.specs.declared.error.WordError.TheVariants as words
 use Rattle.wg_offsets.specs.declared.samples.TheConstants.{SAMPLED}
 use Rattle.wg_offsets.proofs.SamplesLemmas.{prefix_fits}
-use Rattle.wg_source.specs.Held.{Held}
+use Rattle.wg_source.specs.Held.{HeldBytes}
 use Rattle.wg_source.specs.Stepping.{Moves, HasCause as HasReadCause}
 use Rattle.wg_source.specs.StepLaws.{cause_after}
 use Rattle.wg_lookups.specs.Sampling.{HasWordCause, IsSampledOn}
 use Rattle.wg_lookups.specs.declared.sampled.SampledFile.{SampledFile}
 
 -- the cause of an error after a move
-pub word_caused : {A : Type 0} (told : Bool) (f1 f2 : Files) (c1 c2 c3 : List ℕ → Counts) (s : SampledFile) (h : Held) (x : Result A (WordError LoadError)) → Moves told s.file.name f1 f2 c1 c2 s.file.held h
+pub word_caused : {A : Type 0} (told : Bool) (f1 f2 : Files) (c1 c2 c3 : List ℕ → Counts) (s : SampledFile) (h : HeldBytes) (x : Result A (WordError LoadError)) → Moves told s.file.name f1 f2 c1 c2 s.file.held h
     → OnRefusal x (λ e. HasReadCause told s.file.name f2 c2 c3 h e) → (IsTrue told → (places : List ℕ) → IsSampledOn (map.get f1 s.file.name) s places → OnWord x (λ w. ⊥)) → IfErr x (HasWordCause told f1 c1 c3 s)
 word_caused told f1 f2 c1 c2 c3 s h (Ok a) moves cause right = tt
 word_caused told f1 f2 c1 c2 c3 s h (Err (words.Refused e)) moves cause right = cause_after told s.file.name s.file.name f1 f2 c1 c2 c3 s.file.held h e refl moves cause

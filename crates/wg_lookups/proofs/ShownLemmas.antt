@@ -2,7 +2,7 @@
 use Rattle.std.proofs.Common.{◌≡◌, ◌∙◌, inr, get_or, ℕ, List, [], ◌++◌, map, length, codes, decimal, Bool, Result, Ok, Err, arith, refl, sym, ap, append-nil, length-append, subst}
 use Rattle.wg_params.specs.Parameters.{Parameters}
 use Rattle.wg_grammar.specs.Archive.{Accepted, ReadsGraph}
-use Rattle.wg_random.specs.Held.{Held}
+use Rattle.wg_random.specs.Checked.{CheckedRecords}
 use Rattle.wg_outside.specs.Puts.{joined}
 use Rattle.wg_lines.specs.Printing.{HasPrinted, HasPrintedLess, Prints}
 use Rattle.std.specs.Bool.{IsTrue}
@@ -32,9 +32,9 @@ all_printed a b waited waits given coming all is none h =
 -- ---- a page that is not opened
 
 -- an archive stands for the graph of the records that it is made of
-pub archive_reads : (archive records : Held) (p : Parameters) (bits : List Bool) (a : Accepted) → archive ≡ records → records.params ≡ p → records.bits ≡ bits → ReadsGraph p bits (Ok a) → ReadsGraph archive.params archive.bits (Ok a)
+pub archive_reads : (archive records : CheckedRecords) (p : Parameters) (bits : List Bool) (a : Accepted) → archive ≡ records → records.params ≡ p → records.bits ≡ bits → ReadsGraph p bits (Ok a) → ReadsGraph archive.params archive.bits (Ok a)
 archive_reads archive records p bits a same params is read =
-    subst (λ (h : Held). ReadsGraph h.params h.bits (Ok a)) (sym same)
+    subst (λ (h : CheckedRecords). ReadsGraph h.params h.bits (Ok a)) (sym same)
     (subst (λ (q : Parameters). ReadsGraph q records.bits (Ok a)) (sym params) (subst (λ (b : List Bool). ReadsGraph p b (Ok a)) (sym is) read))
 
 -- no line is empty, and so if nothing was printed of it something is left out
@@ -52,7 +52,7 @@ none_of_line old waited page list =
     }
 
 -- memory ran out before anything of the line was printed
-pub line_unbegun : {S : Type 0} (s : sink.Ghosts S) (archive : Held) (page : ℕ) (sink : S) (waited waits : List ℕ) (e : Ending) → s.later sink sink → e.status ≡ Memory → PrintsLine s archive page sink sink waited waits (Err e)
+pub line_unbegun : {S : Type 0} (s : sink.Ghosts S) (archive : CheckedRecords) (page : ℕ) (sink : S) (waited waits : List ℕ) (e : Ending) → s.later sink sink → e.status ≡ Memory → PrintsLine s archive page sink sink waited waits (Err e)
 line_unbegun s archive page sink waited waits e stays is = record {
   prints = λ t a read. none_of_line (s.taken sink) waited page (get_or a.graph page []);
   later = stays;
@@ -61,7 +61,7 @@ line_unbegun s archive page sink waited waits e stays is = record {
 }
 
 -- the line of a page was printed by its list
-pub line_by_list : {S : Type 0} (s : sink.Ghosts S) (archive : Held) (page : ℕ) (before after : S) (waited waits list : List ℕ) (r : Result (Unit {0}) Ending)
+pub line_by_list : {S : Type 0} (s : sink.Ghosts S) (archive : CheckedRecords) (page : ℕ) (before after : S) (waited waits list : List ℕ) (r : Result (Unit {0}) Ending)
     → ((a : Accepted) → ReadsGraph archive.params archive.bits (Ok a) → list ≡ get_or a.graph page [])
     → (IsTrue s.told → Prints (successors_line page list) (s.taken before) (s.taken after) waited waits r) → s.later before after → PrintRefusals s before after r
     → PrintsLine s archive page before after waited waits r

@@ -17,7 +17,7 @@ use Rattle.wg_bits.specs.Bits.{bits_of}
 use Rattle.wg_params.specs.Parameters.{Parameters, IsWithinLimits}
 use Rattle.wg_grammar.specs.declared.fault.ArchiveFault.{ArchiveFault}
 use Rattle.wg_grammar.specs.declared.fault.ArchiveFault.TheVariants as archive
-use Rattle.wg_source.specs.Held.{Held}
+use Rattle.wg_source.specs.Held.{HeldBytes}
 use Rattle.wg_source.specs.Stepping.{HasCause as HasReadCause}
 use Rattle.wg_stream.specs.Errors.{OfRefusal}
 use Rattle.wg_stream.specs.declared.error.PagesError.{PagesError}
@@ -69,7 +69,7 @@ hindered i load.Absent s is there short = absurd (there refl)
 hindered i load.TooLong s is there short = absurd (short refl)
 
 -- so with one that was found
-still_open : (told : Bool) (name : List ℕ) (files : Files) (counts counts' : List ℕ → Counts) (h : Held) (i : Input) (x : LoadError) (s : Status) → s ≡ status_at i x → HasReadCause told name files counts counts' h x
+still_open : (told : Bool) (name : List ℕ) (files : Files) (counts counts' : List ℕ → Counts) (h : HeldBytes) (i : Input) (x : LoadError) (s : Status) → s ≡ status_at i x → HasReadCause told name files counts counts' h x
     → (IsTrue told → IsOpenOn (map.get files name) h) → IsTrue told → IsHindrance s
 still_open told name files counts counts' h i x s is cause open_on t =
     let o = open_on t in
@@ -121,7 +121,7 @@ module _ (names : Input → Option (List ℕ)) (g : FoundFile) (s : SampledFile)
     later = later;
   }
 
-  unread_from : (i : Input) (name : List ℕ) (h : Held) → names i ≡ Some name → (IsTrue told → IsOpenOn (map.get files name) h) → (x : LoadError) (e : Ending)
+  unread_from : (i : Input) (name : List ℕ) (h : HeldBytes) → names i ≡ Some name → (IsTrue told → IsOpenOn (map.get files name) h) → (x : LoadError) (e : Ending)
       → e.status ≡ status_at i x → (IsOfInput i e.status → IsOfInput Graph e.status ⊎ IsOfInput Offsets e.status) → HasReadCause told name files counts counts' h x → SpotsPage names p page told files files' counts counts' (Err e)
   unread_from i name h is_named found x e is side cause =
       hinders e (side (subst (IsOfInput i) (sym is) (of_input i x)))
@@ -205,7 +205,7 @@ module _ (base : List ℕ) (page : ℕ) (td to : Bool) (before : Outside) where
         ends job base td to before p files counts (Properties ∷ []) Graph refl (λ r. with_file Graph) (behind_graph p) k1 (λ h holds. holds) (λ t r n. refl)
         refl after e silent b.same b.later (record { only = inl b.mine; causes = b.causes; refused = λ t r. b.steps t })
 
-    module _ (files1 : Files) (counts1 : List ℕ → Counts) (same : files1 ≡ files) (later : NonDecreasing counts counts1) (name : List ℕ) (is : file_of base Graph ≡ Some name) (h : Held) (found : IsTrue td → IsOpenOn (map.get files name) h) where
+    module _ (files1 : Files) (counts1 : List ℕ → Counts) (same : files1 ≡ files) (later : NonDecreasing counts counts1) (name : List ℕ) (is : file_of base Graph ≡ Some name) (h : HeldBytes) (found : IsTrue td → IsOpenOn (map.get files name) h) where
       -- the bytes of the graph file, if they are told
       abbrev bytes : List ℕ
       bytes = unwrap_or (held_by (file_of base) files Graph) []

@@ -6,7 +6,7 @@ use Rattle.wg_offsets.specs.Sampling.{Sampled, IsSampleOf}
 use Rattle.wg_offsets.specs.declared.error.WordError.{WordError}
 use Rattle.wg_offsets.specs.declared.error.WordError.TheVariants as words
 use Rattle.wg_outside.specs.declared.whole.LoadError.{LoadError}
-use Rattle.wg_source.specs.Held.{Held}
+use Rattle.wg_source.specs.Held.{HeldBytes}
 use Rattle.wg_source.specs.Stepping.{Moves}
 use Rattle.wg_source.specs.StepLaws.{no_step, two_steps, step_moves, two_moves, there_after, cause_after}
 use Rattle.wg_lookups.specs.Sampling.{HasWordCause}
@@ -17,7 +17,7 @@ use Rattle.wg_lookups.specs.declared.chain_files.Unread.TheVariants as unread
 use Rattle.wg_lookups.specs.ChainFiles.{HasBits, HasChainCause, HasPlaces, ReadsBoth, ReadsOn}
 
 -- a file that is let be while another is read
-pub unmoved : (told : Bool) (m n : List ℕ) (f1 f2 : Files) (c1 c2 : List ℕ → Counts) (h1 h2 g : Held)
+pub unmoved : (told : Bool) (m n : List ℕ) (f1 f2 : Files) (c1 c2 : List ℕ → Counts) (h1 h2 g : HeldBytes)
     → Moves told m f1 f2 c1 c2 h1 h2 → Moves told n f1 f2 c1 c2 g g
 unmoved told m n f1 f2 c1 c2 h1 h2 g a =
     record { same = a.same; later = a.later; looked = λ e. e; in_step = λ t file is i. i }

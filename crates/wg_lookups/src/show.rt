@@ -8,7 +8,7 @@ ghost use Rattle.wg_words.specs.declared.jobs.Job.TheVariants.{Show};
 ghost use Rattle.wg_outcomes.specs.Answers.{IsUnput, status_in};
 ghost use Rattle.wg_outcomes.specs.Commands.{successors_lines};
 ghost use Rattle.wg_outcomes.specs.Performs.{DoesOrEnds};
-ghost use Rattle.wg_stream.specs.AllRecords.{Reading};
+ghost use Rattle.wg_stream.specs.AllRecords.{AllRecords};
 ghost use Rattle.wg_lookups.specs.Showing.{PrintsLine, chain_records};
 
 use crate::shown::print_read;
@@ -93,9 +93,9 @@ pub fn print_pages<L: Ledger, O: Sink>(
         → Puts (successors_lines a.graph pages.now) (O.taken out.old) (O.taken out.new) result }
     ensures only { IfErr result (λ e. IsUnput e.status) }
     ensures failed { status_in result ≡ Status.WriteFault Out → Increased (O.faults out.old) (O.faults out.new) }
-    ensures each { (r : Reading archive.now.params archive.now.bits)
+    ensures each { (r : AllRecords archive.now.params archive.now.bits)
         → OnOk result (steps.new ≡ steps.old + sum_by (chain_records r.records) pages.now) }
-    ensures most { (r : Reading archive.now.params archive.now.bits)
+    ensures most { (r : AllRecords archive.now.params archive.now.bits)
         → steps.new ≤ steps.old + sum_by (chain_records r.records) pages.now }
 {
     let mut lines = Lines::new();
@@ -116,9 +116,9 @@ fn show_page<L: Ledger, O: Sink>(
 ) -> Result<(), Ending>
     requires { page < archive.now.params.nodes }
     ensures line { PrintsLine ⟦<O as Sink>⟧ archive.now page out.old out.new lines.old lines.new result }
-    ensures each { (r : Reading archive.now.params archive.now.bits)
+    ensures each { (r : AllRecords archive.now.params archive.now.bits)
         → OnOk result (steps.new ≡ steps.old + chain_records r.records page) }
-    ensures most { (r : Reading archive.now.params archive.now.bits)
+    ensures most { (r : AllRecords archive.now.params archive.now.bits)
         → steps.new ≤ steps.old + chain_records r.records page }
 {
     match archive.read(alloc, page, steps) {

@@ -12,7 +12,7 @@ use Rattle.wg_graph.proofs.Copies.{sum_cons}
 use Rattle.wg_grammar.specs.declared.fault.OffsetWord.{OffsetWord}
 use Rattle.wg_offsets.specs.Errors.{OfWord}
 use Rattle.wg_offsets.specs.Sampling.{AreSamples, IsSampleOf, Sampled, bit_before}
-use Rattle.wg_offsets.specs.Stages.{AreRead, PrefixRead, WordsRead}
+use Rattle.wg_offsets.specs.Stages.{AreRead, WordsStand, WordsRead}
 use Rattle.wg_offsets.specs.Words.{Words, ReadsOffsets}
 use Rattle.wg_offsets.specs.declared.error.WordError.{WordError}
 use Rattle.wg_offsets.specs.declared.error.WordError.TheVariants as words
@@ -20,14 +20,14 @@ use Rattle.wg_offsets.specs.declared.samples.TheConstants.{SAMPLED}
 use Rattle.wg_offsets.proofs.OneFile.{offsets_one}
 
 -- what was read, as it is kept
-pub read_as : (c d : Code) (file : List Bool) (n m a b p q : ℕ) (before : List ℕ) → c ≡ d → n ≡ m → a ≡ b → p ≡ q → PrefixRead c file n a p before → PrefixRead d file m b q before
+pub read_as : (c d : Code) (file : List Bool) (n m a b p q : ℕ) (before : List ℕ) → c ≡ d → n ≡ m → a ≡ b → p ≡ q → WordsStand c file n a p before → WordsStand d file m b q before
 read_as c d file n m a b p q before code count at place h =
-    subst (λ (k : ℕ). PrefixRead d file m b k before) place
-    (subst (λ (k : ℕ). PrefixRead d file m k p before) at (subst (λ (k : ℕ). PrefixRead d file k a p before) count (subst (λ (k : Code). PrefixRead k file n a p before) code h)))
+    subst (λ (k : ℕ). WordsStand d file m b k before) place
+    (subst (λ (k : ℕ). WordsStand d file m k p before) at (subst (λ (k : ℕ). WordsStand d file k a p before) count (subst (λ (k : Code). WordsStand k file n a p before) code h)))
 
 -- one sample more
 pub samples_more : (c : Code) (file : List Bool) (places bits : List ℕ) (place bit page : ℕ) (before : List ℕ) → length bits ≡ length places → SAMPLED * length places ≡ page
-    → AreSamples c file places bits → PrefixRead c file (page + 1) bit place before → AreSamples c file (places ++ place ∷ []) (bits ++ bit ∷ [])
+    → AreSamples c file places bits → WordsStand c file (page + 1) bit place before → AreSamples c file (places ++ place ∷ []) (bits ++ bit ∷ [])
 samples_more c file places bits place bit page before many here samples read = λ k lt.
     elim (cases_lt k (length places)) [
       | inl less ↦
@@ -36,7 +36,7 @@ samples_more c file places bits place bit page before many here samples read = �
       | inr ge ↦
           let is : k ≡ length places = omega (arith, lt, ge, length-append places (place ∷ [])) in
           let count : page + 1 ≡ SAMPLED * k + 1 = omega (arith, is, here) in
-          (before, rw (get_or_push bits bit 0 k (omega (arith, is, many)), get_or_push places place 0 k (sym is)) (subst (λ (n : ℕ). PrefixRead c file n bit place before) count read))
+          (before, rw (get_or_push bits bit 0 k (omega (arith, is, many)), get_or_push places place 0 k (sym is)) (subst (λ (n : ℕ). WordsStand c file n bit place before) count read))
     ]
 
 -- ---- the words up to a page lead to its place
@@ -71,7 +71,7 @@ ends_at n (u ∷ us) rest (suc x) e =
     let later : get_or (ends_of (n + u) (us ++ rest)) x 0 ≡ (n + u) + sum us = ends_at (n + u) us rest x (omega (arith, e)) in
     omega (arith, later, sum_cons u us)
 
-pub place_at : (c : Code) → IsCode c → (n : ℕ) (bits : List Bool) (places : List ℕ) → ReadsOffsets c n bits (Ok places) → (x at offset : ℕ) (before : List ℕ) → PrefixRead c bits (x + 1) at offset before → x ≤ n
+pub place_at : (c : Code) → IsCode c → (n : ℕ) (bits : List Bool) (places : List ℕ) → ReadsOffsets c n bits (Ok places) → (x at offset : ℕ) (before : List ℕ) → WordsStand c bits (x + 1) at offset before → x ≤ n
     → get_or places x 0 ≡ offset
 place_at c coded n bits places h x at offset before p le =
     let all = values_of c bits [] 0 h.0 h.1 h.2 h.3 in
@@ -104,7 +104,7 @@ words_fit c bits before at (v ∷ vs) last end le h =
     let room : at + length (word c v) ≤ length bits = omega (arith, (value_front c (drop at bits) v h.0).0, length-drop at bits, le) in
     words_fit c bits (before ++ v ∷ []) (at + length (word c v)) vs last end room h.2
 
-pub prefix_fits : (c : Code) (bits : List Bool) (count at offset : ℕ) (before : List ℕ) → PrefixRead c bits count at offset before → at ≤ length bits
+pub prefix_fits : (c : Code) (bits : List Bool) (count at offset : ℕ) (before : List ℕ) → WordsStand c bits count at offset before → at ≤ length bits
 prefix_fits c bits count at offset before p = words_fit c bits [] 0 p.read p.values at (omega arith) p.words
 
 -- ---- how words are read on from a sample
@@ -114,12 +114,12 @@ pub from_sample : (s : Sampled) (w : WordsRead) (file : List Bool) (places : Lis
     → IsSampleOf file s places → (before : List ℕ) × AreRead file w at before
 from_sample s w file places page at is lt here h =
     let a = h.samples (page / SAMPLED) lt in
-    (a.0, subst (λ (x : WordsRead). AreRead file x at a.0) (sym is) (subst (λ (b : ℕ). PrefixRead s.code file (SAMPLED * (page / SAMPLED) + 1) b (get_or s.places (page / SAMPLED) 0) a.0) (sym here) a.1))
+    (a.0, subst (λ (x : WordsRead). AreRead file x at a.0) (sym is) (subst (λ (b : ℕ). WordsStand s.code file (SAMPLED * (page / SAMPLED) + 1) b (get_or s.places (page / SAMPLED) 0) a.0) (sym here) a.1))
 
 pub place_of : (s : Sampled) (w : WordsRead) (file : List Bool) (places : List ℕ) (x at : ℕ) (before : List ℕ) → w.code ≡ s.code → w.count ≡ x + 1 → IsCode s.code → x ≤ s.pages
     → IsSampleOf file s places → AreRead file w at before → w.offset ≡ get_or places x 0
 place_of s w file places x at before code count coded le h read =
-    let here : PrefixRead s.code file (x + 1) at w.offset before = read_as _ _ file _ _ _ _ _ _ before code count refl refl read in
+    let here : WordsStand s.code file (x + 1) at w.offset before = read_as _ _ file _ _ _ _ _ _ before code count refl refl read in
     sym (place_at s.code coded s.pages file places h.reads x at w.offset before here le)
 
 pub never_refused : {R : Type 0} (s : Sampled) (c : Code) (n : ℕ) (file : List Bool) (places : List ℕ) (e : WordError R) → c ≡ s.code → n ≡ s.pages → IsCode s.code → IsSampleOf file s places

@@ -15,7 +15,7 @@ use Rattle.wg_offsets.specs.Words.{places_of, refusal, Words, IsRefused, ReadsOf
 use Rattle.wg_offsets.specs.declared.places.TheConstants.{MOST_PLACE}
 use Rattle.wg_offsets.specs.Places.{last_place}
 use Rattle.wg_grammar.specs.Standing.{IsReadAt}
-use Rattle.wg_offsets.specs.Stages.{PrefixRead, LeadsTo, LeadsBy}
+use Rattle.wg_offsets.specs.Stages.{WordsStand, LeadsTo, LeadsBy}
 
 -- a word more after some
 pub words_more : (c : Code) (bits : List Bool) (before : List ℕ) (at : ℕ) (vs values : List ℕ) (mid v : ℕ) → Words c bits before at vs values mid
@@ -41,8 +41,8 @@ length_ends n [] = refl
 length_ends n (x ∷ vs) = ap suc (length_ends (n + x) vs)
 
 module _ (c : Code) (bits : List Bool) where
-  pub one_more : (count at offset : ℕ) (places : List ℕ) (next end : ℕ) → PrefixRead c bits count at offset places → LeadsTo c bits count offset at next end
-      → PrefixRead c bits (count + 1) end next (places ++ next ∷ [])
+  pub one_more : (count at offset : ℕ) (places : List ℕ) (next end : ℕ) → WordsStand c bits count at offset places → LeadsTo c bits count offset at next end
+      → WordsStand c bits (count + 1) end next (places ++ next ∷ [])
   one_more count at offset places next end h leads =
       let v : ℕ = leads.0 in
       let next_is : 0 + sum h.values + v ≡ next = omega (arith, h.total, leads.3) in
@@ -59,7 +59,7 @@ module _ (c : Code) (bits : List Bool) where
       }
 
   -- the next word is refused, and so is the file
-  pub one_refused : (n count at offset : ℕ) (places : List ℕ) (e : OffsetWord) → PrefixRead c bits count at offset places → count ≤ n → IsRefused c bits count offset at e
+  pub one_refused : (n count at offset : ℕ) (places : List ℕ) (e : OffsetWord) → WordsStand c bits count at offset places → count ≤ n → IsRefused c bits count offset at e
       → ReadsOffsets c n bits (Err e)
   one_refused n count at offset places e h le refuses =
       let why : refusal (length h.values) (sum h.values) refuses.0 ≡ Some e =

@@ -3,7 +3,7 @@ use Rattle.std.specs.Prelude.{ℕ, ◌+◌, ◌*◌, ◌/◌, ◌<◌, Bool, Lis
 use Rattle.wg_params.specs.declared.code.Code.{Code}
 use Rattle.wg_offsets.specs.declared.samples.TheConstants.{SAMPLED}
 use Rattle.wg_offsets.specs.Words.{ReadsOffsets}
-use Rattle.wg_offsets.specs.Stages.{PrefixRead}
+use Rattle.wg_offsets.specs.Stages.{WordsStand}
 
 -- the code; the number of records; of each page that is sampled its place, and the bit of the file after its word
 pub record Sampled : Type 0 where
@@ -15,7 +15,7 @@ pub record Sampled : Type 0 where
 -- the words of the file up to that of each sampled page lead to this place, and the next word begins at this bit
 abbrev pub AreSamples : Code → List Bool → List ℕ → List ℕ → Type 0
 AreSamples c file places bits = (k : ℕ) → k < length places
-    → (before : List ℕ) × PrefixRead c file (SAMPLED * k + 1) (get_or bits k 0) (get_or places k 0) before
+    → (before : List ℕ) × WordsStand c file (SAMPLED * k + 1) (get_or bits k 0) (get_or places k 0) before
 
 -- the file stores these places, and the samples are of it
 pub record IsSampleOf (file : List Bool) (s : Sampled) (places : List ℕ) : Type 0 where

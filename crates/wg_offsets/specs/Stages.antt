@@ -16,7 +16,7 @@ IfWord (errors.Word w) P = P w
 IfWord errors.Memory P = Unit {0}
 
 -- so many words stand from the first bit to the bit at; they lead to these places, the last of which is this one
-pub record PrefixRead (c : Code) (bits : List Bool) (count at offset : ℕ) (places : List ℕ) : Type 0 where
+pub record WordsStand (c : Code) (bits : List Bool) (count at offset : ℕ) (places : List ℕ) : Type 0 where
   pub read : List ℕ
   pub values : List ℕ
   pub words : Words c bits [] 0 read values at
@@ -43,4 +43,4 @@ pub record WordsRead : Type 0 where
 
 -- these are the places that the words lead to that were read; the next word begins at the bit at
 abbrev pub AreRead : List Bool → WordsRead → ℕ → List ℕ → Type 0
-AreRead bits w at places = PrefixRead w.code bits w.count at w.offset places
+AreRead bits w at places = WordsStand w.code bits w.count at w.offset places

@@ -7,7 +7,7 @@ ghost use Rattle.wg_offsets.specs.declared.places.TheConstants.{MOST_PLACE};
 ghost use Rattle.wg_offsets.specs.declared.samples.TheConstants.{SAMPLED};
 ghost use Rattle.wg_offsets.specs.Errors.{IfWordOf, IfRefusalOf, OnWord, OnRefusal};
 ghost use Rattle.wg_offsets.specs.Words.{ReadsOffsets};
-ghost use Rattle.wg_offsets.specs.Stages.{PrefixRead, AreRead};
+ghost use Rattle.wg_offsets.specs.Stages.{WordsStand, AreRead};
 ghost use Rattle.wg_offsets.specs.Sampling.{AreSamples, IsSampleOf, bit_before};
 
 use crate::{OffsetWords, PlacesError, WordError};
@@ -84,7 +84,7 @@ fn keep(
     ensures bits { OnOk result (length bits.new.items ≡ length places.new.items) }
     ensures within { OnOk result (All (λ p. p ≤ MOST_PLACE) places.new.items) }
     ensures each { (c : Code) (file : List Bool) (before : List ℕ)
-        → AreSamples c file places.old.items bits.old.items → PrefixRead c file (page + 1) bit place before
+        → AreSamples c file places.old.items bits.old.items → WordsStand c file (page + 1) bit place before
         → OnOk result (AreSamples c file places.new.items bits.new.items) }
 {
     if page % SAMPLED == 0 {

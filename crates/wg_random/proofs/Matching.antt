@@ -9,8 +9,8 @@ use Rattle.wg_offsets.specs.Places.{ArePlaces, AgreeInLengths}
 use Rattle.wg_random.specs.Answer.{IsReadOf, list_in}
 use Rattle.wg_random.specs.declared.reading.Page.{Page}
 use Rattle.wg_random.specs.declared.reading.Page.TheVariants.{Opened, Listed}
-use Rattle.wg_random.specs.Held.{Held}
-use Rattle.wg_stream.specs.AllRecords.{Reading, known_at}
+use Rattle.wg_random.specs.Checked.{CheckedRecords}
+use Rattle.wg_stream.specs.AllRecords.{AllRecords, known_at}
 use Rattle.wg_stream.proofs.AcceptedRecords.{read_of, list_at}
 
 -- ---- places that agree in all lengths
@@ -31,7 +31,7 @@ same_places here there h k len agree = ext_get_or 0 here there len (place_same h
 -- ---- the list of a page in the graph
 
 -- a list that is the page's in each reading is the list of the graph
-pub graph_list : (v : Held) (x : ℕ) (list : List ℕ) → ((r : Reading v.params v.bits) → list ≡ (known_at r.records x).list) → (a : Accepted) → ReadsGraph v.params v.bits (Ok a)
+pub graph_list : (v : CheckedRecords) (x : ℕ) (list : List ℕ) → ((r : AllRecords v.params v.bits) → list ≡ (known_at r.records x).list) → (a : Accepted) → ReadsGraph v.params v.bits (Ok a)
     → list ≡ get_or a.graph x []
 graph_list v x list is a h =
     let g = read_of v.params v.bits a h in

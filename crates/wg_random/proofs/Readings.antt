@@ -7,7 +7,7 @@ use Rattle.wg_grammar.specs.Record.{Whole}
 use Rattle.wg_grammar.specs.Archive.{context_of, Pages}
 use Rattle.wg_grammar.proofs.OneRecord.{record_one}
 use Rattle.wg_grammar.proofs.Depths.{record_limited}
-use Rattle.wg_stream.specs.AllRecords.{Reading, no_record, known_at, offset_at}
+use Rattle.wg_stream.specs.AllRecords.{AllRecords, no_record, known_at, offset_at}
 use Rattle.wg_stream.proofs.AllRecords.{all_records}
 
 -- ---- there is one reading
@@ -25,7 +25,7 @@ one_pages p limits bits (w ∷ ws) (v ∷ vs) first l m at e f same h k =
     let rests : ws ≡ vs = one_pages p limits bits ws vs (w ∷ first) l m w.end e f (omega (arith, same)) h.2 others in
     ap (λ (x : Whole). x ∷ ws) one ∙ ap (λ (xs : List Whole). v ∷ xs) rests
 
-pub one_reading : (p : Parameters) (bits : List Bool) → IsWithinLimits p → (r s : Reading p bits) → r.records ≡ s.records
+pub one_reading : (p : Parameters) (bits : List Bool) → IsWithinLimits p → (r s : AllRecords p bits) → r.records ≡ s.records
 one_reading p bits limits r s = one_pages p limits bits r.records s.records [] r.behind s.behind 0 r.end s.end (omega (arith, all_records p bits r, all_records p bits s)) r.pages s.pages
 
 -- ---- how deep a page is
@@ -36,11 +36,11 @@ depth_within p bits first at (w ∷ ws) last end zero limit has h = record_limit
 depth_within p bits first at (w ∷ ws) last end (suc x) limit has h = depth_within p bits (w ∷ first) w.end ws last end x limit has h.2
 
 -- no deeper than chains may be
-pub depth_limited : (p : Parameters) (bits : List Bool) (r : Reading p bits) (x limit : ℕ) → p.chain ≡ Some limit → (known_at r.records x).depth ≤ limit
+pub depth_limited : (p : Parameters) (bits : List Bool) (r : AllRecords p bits) (x limit : ℕ) → p.chain ≡ Some limit → (known_at r.records x).depth ≤ limit
 depth_limited p bits r x limit has = depth_within p bits [] 0 r.records r.behind r.end x limit has r.pages
 
 -- so few records are read if as many are read as its chain has
-pub few_opened : (p : Parameters) (bits : List Bool) (x from to : ℕ) → Reading p bits → ((r : Reading p bits) → to ≤ from + (known_at r.records x).depth + 1) → (limit : ℕ) → p.chain ≡ Some limit → to ≤ from + limit + 1
+pub few_opened : (p : Parameters) (bits : List Bool) (x from to : ℕ) → AllRecords p bits → ((r : AllRecords p bits) → to ≤ from + (known_at r.records x).depth + 1) → (limit : ℕ) → p.chain ≡ Some limit → to ≤ from + limit + 1
 few_opened p bits x from to r most limit has = omega (arith, most r, depth_limited p bits r x limit has)
 
 -- ---- the places

@@ -1,4 +1,4 @@
-pub mod Held
+pub mod Checked
 pub mod Chain
 pub mod Answer
 pub mod Checking

@@ -7,9 +7,9 @@ ghost use Rattle.wg_iterators.specs.Below.{depth_of, listed, IsFresh};
 ghost use Rattle.wg_decoder.specs.Proper.Laid.{list_or_none};
 ghost use Rattle.wg_random.specs.declared.error.CheckError.{CheckError};
 ghost use Rattle.wg_random.specs.declared.error.OpenError.{OpenError};
-ghost use Rattle.wg_random.specs.Held.{StandsForGraph};
+ghost use Rattle.wg_random.specs.Checked.{StandsForGraph};
 ghost use Rattle.wg_random.specs.Checking.{OfArchive, IsLengthFault};
-ghost use Rattle.wg_stream.specs.AllRecords.{Reading, known_at, offset_at};
+ghost use Rattle.wg_stream.specs.AllRecords.{AllRecords, known_at, offset_at};
 ghost use Rattle.wg_random.specs.Chain.{ArePages, Ended};
 ghost use Rattle.wg_stream.specs.References.{StandsOn, Refers};
 ghost use Rattle.wg_random.specs.Answer.{all_of, Opens};
@@ -39,9 +39,9 @@ impl<'a> Model for Archive<'a> {
     ghost use Rattle.std.specs.Prelude.{◌≤◌, length};
     ghost use Rattle.wg_outside.specs.declared.limits.TheConstants.{MOST_BYTES};
     ghost use Rattle.wg_bits.specs.Bits.{bits_of};
-    ghost use Rattle.wg_random.specs.Held.{Held, StandsForGraph};
+    ghost use Rattle.wg_random.specs.Checked.{CheckedRecords, StandsForGraph};
 
-    ghost Value = { Held };
+    ghost Value = { CheckedRecords };
 
     ghost view = { λ a. record { params = a.params; bits = bits_of a.bytes.now; offsets = a.offsets.now } };
 
@@ -96,7 +96,7 @@ impl<'a> Archive<'a> {
     pub(crate) fn nodes(&self) -> u64
         ensures count { result ≡ self.now.params.nodes }
         ensures stands { StandsForGraph self.now }
-        ensures records { Reading self.now.params self.now.bits }
+        ensures records { AllRecords self.now.params self.now.bits }
     {
         self.params.nodes()
     }
@@ -104,7 +104,7 @@ impl<'a> Archive<'a> {
     // A cursor at the record of a page.
     fn cursor(&self, page: u64) -> Cursor<'a>
         requires { page < self.now.params.nodes }
-        ensures { (r : Reading self.now.params self.now.bits)
+        ensures { (r : AllRecords self.now.params self.now.bits)
             → result ≡ record { bits = self.now.bits; at = offset_at r.records page } }
     {
         // tells the limits
@@ -115,7 +115,7 @@ impl<'a> Archive<'a> {
     // How many pages back the record of a page refers.
     pub(crate) fn reference(&self, page: u64) -> u64
         requires { page < self.now.params.nodes }
-        ensures refers { (r : Reading self.now.params self.now.bits)
+        ensures refers { (r : AllRecords self.now.params self.now.bits)
             → Refers self.now.params self.now.bits r.records page result }
         ensures near { result ≤ page }
     {
@@ -126,9 +126,9 @@ impl<'a> Archive<'a> {
     fn stand(&self, page: u64, below: Option<Box<Successors<'a>>>) -> Successors<'a>
         requires page { page < self.now.params.nodes }
         requires fresh { IsFresh below }
-        requires ready { (r : Reading self.now.params self.now.bits)
+        requires ready { (r : AllRecords self.now.params self.now.bits)
             → StandsOn self.now.params self.now.bits r.records page (listed below) }
-        ensures whole { (r : Reading self.now.params self.now.bits)
+        ensures whole { (r : AllRecords self.now.params self.now.bits)
             → let list : List ℕ = (known_at r.records page).list in
             result ≡ record { outdegree = length list; depth = depth_of below.entry; list = list } }
         ensures fresh { length result.list ≡ result.outdegree }
@@ -143,9 +143,9 @@ impl<'a> Archive<'a> {
         'a: 'b,
         requires page { page < self.now.params.nodes }
         requires ascends { Ascends 0 (list_or_none (option_copied below)) }
-        requires ready { (r : Reading self.now.params self.now.bits)
+        requires ready { (r : AllRecords self.now.params self.now.bits)
             → StandsOn self.now.params self.now.bits r.records page (option_copied below) }
-        ensures { (r : Reading self.now.params self.now.bits) → result.list ≡ (known_at r.records page).list }
+        ensures { (r : AllRecords self.now.params self.now.bits) → result.list ≡ (known_at r.records page).list }
     {
         Successors::begin_on(&self.params, page, self.cursor(page), below)
     }
@@ -158,7 +158,7 @@ impl<'a> Archive<'a> {
         steps: &mut Steps<L>,
     ) -> u64
         requires { x < self.now.params.nodes }
-        ensures chain { (r : Reading self.now.params self.now.bits)
+        ensures chain { (r : AllRecords self.now.params self.now.bits)
             → Ended self.now.params self.now.bits r.records chain.new x result }
         ensures pages { ArePages self.now.params.nodes chain.new result }
         ensures ticks { steps.new ≡ steps.old + result + 1 }
@@ -192,9 +192,9 @@ impl<'a> Archive<'a> {
         requires near { depth < CHAIN_PAGES }
         requires long { depth < length chain.now }
         requires pages { ArePages self.now.params.nodes chain.now depth }
-        requires chain { (r : Reading self.now.params self.now.bits)
+        requires chain { (r : AllRecords self.now.params self.now.bits)
             → Ended self.now.params self.now.bits r.records chain.now x depth }
-        ensures page { (r : Reading self.now.params self.now.bits)
+        ensures page { (r : AllRecords self.now.params self.now.bits)
             → IfOk result (λ s. s ≡ all_of (known_at r.records x)) }
         ensures memory { OnErr result (0 < depth) }
     {
@@ -217,17 +217,17 @@ impl<'a> Archive<'a> {
         x: u64,
         steps: &mut Steps<L>,
     ) -> Result<Successors<'a>, OpenError>
-        ensures answer { (r : Reading self.now.params self.now.bits)
+        ensures answer { (r : AllRecords self.now.params self.now.bits)
             → Opens self.now.params.nodes x (known_at r.records x) result }
         ensures graph { (a : Accepted) → ReadsGraph self.now.params self.now.bits (Ok a)
             → IfOk result (λ s. s.list ≡ get_or a.graph x []) }
-        ensures ticks { (r : Reading self.now.params self.now.bits)
+        ensures ticks { (r : AllRecords self.now.params self.now.bits)
             → OnOk result (steps.new ≡ steps.old + (known_at r.records x).depth + 1) }
-        ensures most { (r : Reading self.now.params self.now.bits)
+        ensures most { (r : AllRecords self.now.params self.now.bits)
             → steps.new ≤ steps.old + (known_at r.records x).depth + 1 }
         ensures none { self.now.params.nodes ≤ x → steps.new ≡ steps.old }
         ensures stands { StandsForGraph self.now }
-        ensures records { Reading self.now.params self.now.bits }
+        ensures records { AllRecords self.now.params self.now.bits }
         ensures no_page { self.now.params.nodes ≤ x → result ≡ Err OpenError.NoPage }
         ensures no_page_only_then { result ≡ Err OpenError.NoPage → self.now.params.nodes ≤ x }
         ensures few { (limit : ℕ) → self.now.params.chain ≡ Some limit → steps.new ≤ steps.old + limit + 1 }

@@ -4,8 +4,8 @@ ghost use Rattle.wg_graph.specs.Ascending.{Ascends};
 ghost use Rattle.wg_grammar.specs.Archive.{Accepted, ReadsGraph};
 ghost use Rattle.wg_decoder.specs.Proper.Laid.{list_or_none};
 ghost use Rattle.wg_random.specs.declared.error.ListError.{ListError};
-ghost use Rattle.wg_random.specs.Held.{StandsForGraph};
-ghost use Rattle.wg_stream.specs.AllRecords.{Reading, known_at};
+ghost use Rattle.wg_random.specs.Checked.{StandsForGraph};
+ghost use Rattle.wg_stream.specs.AllRecords.{AllRecords, known_at};
 ghost use Rattle.wg_random.specs.Chain.{ArePages, Ended};
 ghost use Rattle.wg_stream.specs.References.{StandsOn};
 ghost use Rattle.wg_random.specs.Answer.{Lists};
@@ -38,10 +38,10 @@ impl<'a> Archive<'a> {
         requires { x < self.now.params.nodes }
         ensures some { IfOk result (λ chain. 0 < length chain) }
         ensures pages { IfOk result (λ chain. ArePages self.now.params.nodes chain (length chain - 1)) }
-        ensures chain { (r : Reading self.now.params self.now.bits)
+        ensures chain { (r : AllRecords self.now.params self.now.bits)
             → IfOk result (λ chain. Ended self.now.params self.now.bits r.records chain x (length chain - 1)) }
         ensures ticks { IfOk result (λ chain. steps.new ≡ steps.old + length chain) }
-        ensures most { (r : Reading self.now.params self.now.bits)
+        ensures most { (r : AllRecords self.now.params self.now.bits)
             → steps.new ≤ steps.old + (known_at r.records x).depth + 1 }
     {
         let mut chain = List::new(alloc);
@@ -63,9 +63,9 @@ impl<'a> Archive<'a> {
     fn fill(&self, page: u64, below: Option<&[u64]>, list: &mut List) -> Result<(), AllocError>
         requires page { page < self.now.params.nodes }
         requires ascends { Ascends 0 (list_or_none (option_copied below)) }
-        requires ready { (r : Reading self.now.params self.now.bits)
+        requires ready { (r : AllRecords self.now.params self.now.bits)
             → StandsOn self.now.params self.now.bits r.records page (option_copied below) }
-        ensures list { (r : Reading self.now.params self.now.bits)
+        ensures list { (r : AllRecords self.now.params self.now.bits)
             → OnOk result (list.new ≡ (known_at r.records page).list) }
         ensures ascends { OnOk result (Ascends 0 list.new) }
     {
@@ -81,9 +81,9 @@ impl<'a> Archive<'a> {
     pub(crate) fn climb(&self, alloc: Global, x: u64, chain: &[u64]) -> Result<List, AllocError>
         requires some { 0 < length chain.now }
         requires pages { ArePages self.now.params.nodes chain.now (length chain.now - 1) }
-        requires chain { (r : Reading self.now.params self.now.bits)
+        requires chain { (r : AllRecords self.now.params self.now.bits)
             → Ended self.now.params self.now.bits r.records chain.now x (length chain.now - 1) }
-        ensures { (r : Reading self.now.params self.now.bits)
+        ensures { (r : AllRecords self.now.params self.now.bits)
             → IfOk result (λ list. list ≡ (known_at r.records x).list) }
     {
         let mut left = chain.len() - 1;
@@ -109,17 +109,17 @@ impl<'a> Archive<'a> {
         x: u64,
         steps: &mut Steps<L>,
     ) -> Result<List, ListError>
-        ensures answer { (r : Reading self.now.params self.now.bits)
+        ensures answer { (r : AllRecords self.now.params self.now.bits)
             → Lists self.now.params.nodes x (known_at r.records x) result }
         ensures graph { (a : Accepted) → ReadsGraph self.now.params self.now.bits (Ok a)
             → IfOk result (λ list. list ≡ get_or a.graph x []) }
-        ensures ticks { (r : Reading self.now.params self.now.bits)
+        ensures ticks { (r : AllRecords self.now.params self.now.bits)
             → OnOk result (steps.new ≡ steps.old + (known_at r.records x).depth + 1) }
-        ensures most { (r : Reading self.now.params self.now.bits)
+        ensures most { (r : AllRecords self.now.params self.now.bits)
             → steps.new ≤ steps.old + (known_at r.records x).depth + 1 }
         ensures none { self.now.params.nodes ≤ x → steps.new ≡ steps.old }
         ensures stands { StandsForGraph self.now }
-        ensures records { Reading self.now.params self.now.bits }
+        ensures records { AllRecords self.now.params self.now.bits }
         ensures no_page { self.now.params.nodes ≤ x → result ≡ Err ListError.NoPage }
         ensures no_page_only_then { result ≡ Err ListError.NoPage → self.now.params.nodes ≤ x }
         ensures few { (limit : ℕ) → self.now.params.chain ≡ Some limit → steps.new ≤ steps.old + limit + 1 }

@@ -2,8 +2,8 @@
 ghost use Rattle.std.specs.Prelude.{◌≡◌, ◌+◌, ◌-◌, ◌<◌, ◌≤◌, ℕ, [], length, get_or, Some, Ok, Err, IfOk, OnOk};
 ghost use Rattle.wg_grammar.specs.Archive.{Accepted, ReadsGraph};
 ghost use Rattle.wg_random.specs.declared.error.ListError.{ListError};
-ghost use Rattle.wg_random.specs.Held.{StandsForGraph};
-ghost use Rattle.wg_stream.specs.AllRecords.{Reading, known_at};
+ghost use Rattle.wg_random.specs.Checked.{StandsForGraph};
+ghost use Rattle.wg_stream.specs.AllRecords.{AllRecords, known_at};
 ghost use Rattle.wg_random.specs.Chain.{ArePages, Ended};
 ghost use Rattle.wg_random.specs.Answer.{IsReadOf, Reads, list_in};
 
@@ -27,9 +27,9 @@ impl<'a> Archive<'a> {
     fn open_or_list(&self, alloc: Global, x: u64, chain: &[u64]) -> Result<Page<'a>, AllocError>
         requires some { 0 < length chain.now }
         requires pages { ArePages self.now.params.nodes chain.now (length chain.now - 1) }
-        requires chain { (r : Reading self.now.params self.now.bits)
+        requires chain { (r : AllRecords self.now.params self.now.bits)
             → Ended self.now.params self.now.bits r.records chain.now x (length chain.now - 1) }
-        ensures { (r : Reading self.now.params self.now.bits) → IfOk result (IsReadOf (known_at r.records x)) }
+        ensures { (r : AllRecords self.now.params self.now.bits) → IfOk result (IsReadOf (known_at r.records x)) }
     {
         if chain.len() <= CHAIN_PAGES {
             let depth = chain.len() as u64 - 1;
@@ -51,17 +51,17 @@ impl<'a> Archive<'a> {
         x: u64,
         steps: &mut Steps<L>,
     ) -> Result<Page<'a>, ListError>
-        ensures answer { (r : Reading self.now.params self.now.bits)
+        ensures answer { (r : AllRecords self.now.params self.now.bits)
             → Reads self.now.params.nodes x (known_at r.records x) result }
         ensures graph { (a : Accepted) → ReadsGraph self.now.params self.now.bits (Ok a)
             → IfOk result (λ page. list_in page ≡ get_or a.graph x []) }
-        ensures ticks { (r : Reading self.now.params self.now.bits)
+        ensures ticks { (r : AllRecords self.now.params self.now.bits)
             → OnOk result (steps.new ≡ steps.old + (known_at r.records x).depth + 1) }
-        ensures most { (r : Reading self.now.params self.now.bits)
+        ensures most { (r : AllRecords self.now.params self.now.bits)
             → steps.new ≤ steps.old + (known_at r.records x).depth + 1 }
         ensures none { self.now.params.nodes ≤ x → steps.new ≡ steps.old }
         ensures stands { StandsForGraph self.now }
-        ensures records { Reading self.now.params self.now.bits }
+        ensures records { AllRecords self.now.params self.now.bits }
         ensures no_page { self.now.params.nodes ≤ x → result ≡ Err ListError.NoPage }
         ensures no_page_only_then { result ≡ Err ListError.NoPage → self.now.params.nodes ≤ x }
         ensures few { (limit : ℕ) → self.now.params.chain ≡ Some limit → steps.new ≤ steps.old + limit + 1 }

@@ -5,7 +5,7 @@ ghost use Rattle.wg_bits.specs.Bits.{bits_of};
 ghost use Rattle.wg_grammar.specs.Archive.{Accepted, ReadsGraph};
 ghost use Rattle.wg_grammar.specs.Laws.{accepted_graph};
 ghost use Rattle.wg_offsets.specs.Places.{ArePlaces};
-ghost use Rattle.wg_random.specs.Held.{StandsForGraph};
+ghost use Rattle.wg_random.specs.Checked.{StandsForGraph};
 ghost use Rattle.wg_stream.specs.Sweeping.{PassFinds};
 ghost use Rattle.wg_random.specs.Checking.{OfArchive};
 
@@ -43,10 +43,10 @@ impl<'a> Model for Records<'a> {
     ghost use Rattle.std.specs.Prelude.{◌≤◌, length};
     ghost use Rattle.wg_outside.specs.declared.limits.TheConstants.{MOST_BYTES};
     ghost use Rattle.wg_bits.specs.Bits.{bits_of};
-    ghost use Rattle.wg_random.specs.Held.{Held};
+    ghost use Rattle.wg_random.specs.Checked.{CheckedRecords};
     ghost use Rattle.wg_stream.specs.Sweeping.{PassFinds};
 
-    ghost Value = { Held };
+    ghost Value = { CheckedRecords };
 
     ghost view = { λ r. record { params = r.params; bits = bits_of r.bytes.now; offsets = r.offsets } };
 

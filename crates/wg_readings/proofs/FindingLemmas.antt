@@ -6,7 +6,7 @@ use Rattle.wg_outside.specs.Outside.{Files, Counts}
 use Rattle.wg_outside.specs.declared.limits.TheConstants.{MOST_BYTES}
 use Rattle.wg_outside.specs.declared.whole.LoadError.{LoadError}
 use Rattle.wg_outside.specs.declared.whole.LoadError.TheVariants as load
-use Rattle.wg_source.specs.Held.{Held, IsHeldOf}
+use Rattle.wg_source.specs.Held.{HeldBytes, IsHeldOf}
 use Rattle.wg_source.specs.Stepping.{Steps as StepsOn, HasCause as HasReadCause}
 use Rattle.wg_outcomes.specs.Answers.{Answers}
 use Rattle.wg_outcomes.specs.Causes.{HasCause}
@@ -30,7 +30,7 @@ of_input i load.Absent = inr (inr (inl refl))
 of_input i load.TooLong = inr (inr (inr refl))
 of_input i load.Memory = inl refl
 
-pub caused_at : (told : Bool) (name : List ℕ) (files : Files) (old new : List ℕ → Counts) (h : Held) (i : Input) (e : LoadError) → HasReadCause told name files old new h e
+pub caused_at : (told : Bool) (name : List ℕ) (files : Files) (old new : List ℕ → Counts) (h : HeldBytes) (i : Input) (e : LoadError) → HasReadCause told name files old new h e
     → (names : Input → Option (List ℕ)) → names i ≡ Some name → HasCause names no_outputs old new 0 0 (status_at i e)
 caused_at told name files old new h i load.TooLong cause names named = own_caused _ _ _ _ _ _ (OverLimit i) tt
 caused_at told name files old new h i load.Memory cause names named = own_caused _ _ _ _ _ _ Memory tt
@@ -51,11 +51,11 @@ error_steps i e (Some file) none some next = let k = some file refl in by_file i
 -- ---- a file that is looked for
 
 -- of which nothing is held
-pub nothing_held : (file : List ℕ) (h : Held) → h ≡ record { bytes = []; first = 0; at = 0; ended = false; looked = false } → IsHeldOf file h
+pub nothing_held : (file : List ℕ) (h : HeldBytes) → h ≡ record { bytes = []; first = 0; at = 0; ended = false; looked = false } → IsHeldOf file h
 nothing_held file h is = subst (IsHeldOf file) (sym is) (record { before = []; behind = file; whole = refl; offset = refl; ended = λ e. absurd (cc e); short = λ e. absurd (cc e) })
 
 -- it is not there, or too long, or was not read
-pub not_found : (i : Input) (names : Input → Option (List ℕ)) (name : List ℕ) (told : Bool) (files files' : Files) (counts counts' : List ℕ → Counts) (h h' : Held) (e : LoadError) (s : Ending)
+pub not_found : (i : Input) (names : Input → Option (List ℕ)) (name : List ℕ) (told : Bool) (files files' : Files) (counts counts' : List ℕ → Counts) (h h' : HeldBytes) (e : LoadError) (s : Ending)
     → names i ≡ Some name → s.status ≡ status_at i e → h ≡ record { bytes = []; first = 0; at = 0; ended = false; looked = false }
     → StepsOn told name files files' counts counts' h h' → HasReadCause told name files counts counts' h e → (IsTrue told → map.get files name ≡ None → e ≡ load.Absent)
     → Loads names i told files files' counts counts' (Err s)
@@ -75,7 +75,7 @@ not_found i names name told files files' counts counts' h h' e s named is fresh 
     here = ap (λ (o : Option (List ℕ)). option_and_then (map.get files) o) named
 
 -- it is
-pub found_open : (files : Files) (name : List ℕ) (told : Bool) (files' : Files) (counts counts' : List ℕ → Counts) (h h' : Held) (found : (file : List ℕ) × (map.get files name ≡ Some file)) → IsTrue told
+pub found_open : (files : Files) (name : List ℕ) (told : Bool) (files' : Files) (counts counts' : List ℕ → Counts) (h h' : HeldBytes) (found : (file : List ℕ) × (map.get files name ≡ Some file)) → IsTrue told
     → h ≡ record { bytes = []; first = 0; at = 0; ended = false; looked = false } → h'.looked ≡ true → StepsOn told name files files' counts counts' h h' → IsOpenOn (map.get files name) h'
 found_open files name told files' counts counts' h h' found t fresh looked steps =
     let held = steps.in_step t found.0 found.1 (nothing_held found.0 h fresh) in

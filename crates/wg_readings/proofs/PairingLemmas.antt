@@ -24,7 +24,7 @@ use Rattle.wg_offsets.specs.declared.error.PlacesError.TheVariants as unread
 use Rattle.wg_offsets.specs.Words.{ReadsOffsets}
 use Rattle.wg_offsets.specs.declared.error.WordError.{WordError}
 use Rattle.wg_offsets.specs.declared.error.WordError.TheVariants as words
-use Rattle.wg_source.specs.Held.{Held, IsHeldOf}
+use Rattle.wg_source.specs.Held.{HeldBytes, IsHeldOf}
 use Rattle.wg_source.specs.Stepping.{Steps as StepsOn, HasCause as HasReadCause}
 use Rattle.wg_outcomes.specs.Answers.{Answers, Steps}
 use Rattle.wg_outcomes.specs.Causes.{IncreasedAt}
@@ -60,7 +60,7 @@ module _ (r : Readings) (p : Parameters) where
   places_go limits held file is short places reads next =
       held_goes Offsets held file is short (λ more. with_offsets r p more next) ∙ goes_on_from r p limits file places reads next
 
-module _ (told : Bool) (name : List ℕ) (files : Files) (old new : List ℕ → Counts) (h : Held) (p : Parameters) where
+module _ (told : Bool) (name : List ℕ) (files : Files) (old new : List ℕ → Counts) (h : HeldBytes) (p : Parameters) where
   pub load_stopped : (e : LoadError) → HasReadCause told name files old new h e → (IsTrue told → map.get files name ≡ None → e ≡ load.Absent)
       → (IsTrue told → (file : List ℕ) → map.get files name ≡ Some file → IsHeldOf file h) → IsStopped told files old new p name (record { status = status_at Offsets e; promised = 0 })
   load_stopped e cause none some = record {
@@ -154,14 +154,14 @@ unread_held p b file u = nothing_held file b.held u.held
 
 pub looked_read : (p : Parameters) (a b : Pairing) (bits : List Bool) → IsUnread p a → b.words ≡ a.words → b.held ≡ record a.held { looked = true } → AreRead bits b.words b.held.at []
 looked_read p a b bits u same is =
-    let at : b.held.at ≡ 0 = ap (λ (h : Held). h.at) is ∙ ap (λ (h : Held). h.at) u.held in
+    let at : b.held.at ≡ 0 = ap (λ (h : HeldBytes). h.at) is ∙ ap (λ (h : HeldBytes). h.at) u.held in
     subst (λ (w : WordsRead). AreRead bits w b.held.at []) (sym same) (subst (λ (n : ℕ). AreRead bits a.words n []) (sym at) (u.none bits))
 
 -- ---- a source that was made of a depot and what is held of a file
-pub steps_as : {D : Type 0} (told : Bool) (files : D → Files) (counts : D → List ℕ → Counts) (m n : List ℕ) (x a y b : D) (s h k : Held) → m ≡ n → x ≡ a → y ≡ b → s ≡ h → StepsOn told m (files x) (files y) (counts x) (counts y) s k
+pub steps_as : {D : Type 0} (told : Bool) (files : D → Files) (counts : D → List ℕ → Counts) (m n : List ℕ) (x a y b : D) (s h k : HeldBytes) → m ≡ n → x ≡ a → y ≡ b → s ≡ h → StepsOn told m (files x) (files y) (counts x) (counts y) s k
     → StepsOn told n (files a) (files b) (counts a) (counts b) h k
 steps_as told files counts m n x a y b s h k named depot after held steps =
-    subst (λ (i : Held). StepsOn told n (files a) (files b) (counts a) (counts b) i k) held
+    subst (λ (i : HeldBytes). StepsOn told n (files a) (files b) (counts a) (counts b) i k) held
     (subst (λ z. StepsOn told n (files a) (files z) (counts a) (counts z) s k) after
     (subst (λ z. StepsOn told n (files z) (files y) (counts z) (counts y) s k) depot
     (subst (λ (l : List ℕ). StepsOn told l (files x) (files y) (counts x) (counts y) s k) named steps)))
@@ -213,7 +213,7 @@ first_paired p a m b u words lengths held kept code pages count first looked =
         pages = pages ∙ ap (λ (x : WordsRead). x.pages) w;
         count = count ∙ ap (λ (x : WordsRead). x.count + 1) w ∙ ap (λ (k : ℕ). k + 1) (sym page);
         there = ap (λ (l : Compared). l.there) (kept ∙ lengths) ∙ u.there ∙ sym zero;
-        looked = looked (ap (λ (h : Held). h.looked) held);
+        looked = looked (ap (λ (h : HeldBytes). h.looked) held);
       },
       page,
       ap (λ (l : Compared). l.here) (kept ∙ lengths) ∙ u.here,

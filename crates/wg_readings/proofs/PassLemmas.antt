@@ -12,7 +12,7 @@ use Rattle.wg_grammar.specs.Archive.{Accepted}
 use Rattle.wg_stream.specs.declared.first.First.{First}
 use Rattle.wg_stream.specs.declared.first.First.TheVariants as first
 use Rattle.wg_stream.specs.FirstError.{of_first, OfGraph, OfOutside}
-use Rattle.wg_source.specs.Held.{Held}
+use Rattle.wg_source.specs.Held.{HeldBytes}
 use Rattle.wg_grammar.specs.Record.{Whole}
 use Rattle.wg_stream.specs.declared.state.State.{State}
 use Rattle.wg_stream.specs.declared.state.State.TheVariants.{Open, Closed}
@@ -50,7 +50,7 @@ only_at n first.Absent = inl (inr (inr (inl refl)))
 only_at n first.TooLong = inl (inr (inr (inr refl)))
 only_at n first.Memory = inl (inl refl)
 
-module _ (told : Bool) (name : List ℕ) (files : Files) (old new : List ℕ → Counts) (h : Held) (names : Input → Option (List ℕ)) (named : names Graph ≡ Some name) where
+module _ (told : Bool) (name : List ℕ) (files : Files) (old new : List ℕ → Counts) (h : HeldBytes) (names : Input → Option (List ℕ)) (named : names Graph ≡ Some name) where
   pub cause_at : (n : ℕ) (f : First) → OfOutside f (HasReadCause told name files old new h) → HasCause names no_outputs old new 0 0 (ending_at n f).status
   cause_at n first.Failed cause = failed_caused _ _ _ _ _ _ Graph name named (cause.failed refl)
   cause_at n first.Absent cause = absent_caused _ _ _ _ _ _ Graph name named (cause.absent refl)

@@ -4,7 +4,7 @@ use Rattle.wg_params.specs.Parameters.{Parameters, IsWithinLimits}
 use Rattle.wg_grammar.specs.Record.{Whole}
 use Rattle.wg_grammar.specs.Archive.{Accepted, Pages, ReadsGraph, context_of}
 use Rattle.wg_grammar.proofs.OneRecord.{record_one}
-use Rattle.wg_stream.specs.Prefix.{PagesRead, AreBehind, PrefixRead}
+use Rattle.wg_stream.specs.Prefix.{PagesRead, AreBehind, RecordsStand}
 use Rattle.wg_readings.specs.Passes.{accepted_of, Advances, FollowsFile, IsFound, IsFresh, IsGraphFile, graph_then}
 use Rattle.std.specs.Bool.{IsTrue}
 use Rattle.std.specs.FinMap as map
@@ -52,7 +52,7 @@ module _ (p : Parameters) (bits : List Bool) where
 first_of : (p : Parameters) → IsWithinLimits p → (bits : List Bool) (x : Accepted) (whole : List Whole) (r : PagesRead) (at : ℕ) → r.params ≡ p → r.page ≤ p.nodes
     → AreBehind bits r at whole → ReadsGraph p bits (Ok x) → (rest : List Whole) × (x ≡ accepted_of (rest ++ whole))
 first_of p limits bits x whole r at same few read g =
-    let h = subst (λ (q : Parameters). PrefixRead q bits r.page r.arcs at r.kept whole) same read in
+    let h = subst (λ (q : Parameters). RecordsStand q bits r.page r.arcs at r.kept whole) same read in
     let k = pages_one p bits limits [] 0 h.stood g.0 whole g.1 at g.2 h.records g.3 (omega (arith, h.count, few, g.4.0)) in
     let is : x ≡ accepted_of g.1 = λ i. record { graph = g.4.3 i; places = g.4.4 i } in
     (k.0, is ∙ ap accepted_of k.1)

@@ -6,12 +6,12 @@ use Rattle.wg_outside.specs.Outside.{Files, Counts}
 use Rattle.wg_outside.specs.Reads.{Reads}
 use Rattle.wg_outside.specs.declared.limits.TheConstants.{MOST_BYTES}
 use Rattle.wg_outside.specs.declared.whole.LoadError.TheVariants as load
-use Rattle.wg_source.specs.Held.{Held}
+use Rattle.wg_source.specs.Held.{HeldBytes}
 use Rattle.wg_source.specs.Stepping.{HasCause}
 use Rattle.wg_source.proofs.HeldLemmas.{piece_at}
 
 -- why a file is refused of which bytes past the limit were read
-pub too_long : (told : Bool) (name : List ℕ) (f : Files) (c1 c2 : List ℕ → Counts) (h : Held) (at : ℕ) (buf : List ℕ) (count : ℕ)
+pub too_long : (told : Bool) (name : List ℕ) (f : Files) (c1 c2 : List ℕ → Counts) (h : HeldBytes) (at : ℕ) (buf : List ℕ) (count : ℕ)
     → (IsTrue told → Reads (map.get f name) at buf (Ok count)) → count ≢ 0 → MOST_BYTES < at + count
     → HasCause told name f c1 c2 h load.TooLong
 too_long told name f c1 c2 h at buf count reads some more = record {

@@ -8,11 +8,11 @@ use Rattle.wg_bits.specs.Bits.{bits_of, Position, rest, moved}
 use Rattle.wg_outside.specs.Reads.{Reads, IsPieceOf}
 use Rattle.wg_bits.proofs.Words.{length-bits_of}
 use Rattle.wg_bits.proofs.Writes.{bits_of-append}
-use Rattle.wg_source.specs.Held.{Held, IsHeldOf, IsInside, IsSmall, ahead}
+use Rattle.wg_source.specs.Held.{HeldBytes, IsHeldOf, IsInside, IsSmall, ahead}
 use Rattle.wg_source.specs.declared.stretch.TheConstants.{MOST_HELD}
 
 -- the bits of the file from the next one on
-pub rest_of_file : (file : List ℕ) (h : Held) (i : IsHeldOf file h) → IsInside h → drop h.at (bits_of file) ≡ ahead h ++ bits_of i.behind
+pub rest_of_file : (file : List ℕ) (h : HeldBytes) (i : IsHeldOf file h) → IsInside h → drop h.at (bits_of file) ≡ ahead h ++ bits_of i.behind
 rest_of_file file h i inside =
     let a = length-bits_of i.before in
     let b = length-bits_of h.bytes in
@@ -24,11 +24,11 @@ rest_of_file file h i inside =
     ∙ drop-append-le (h.at - 8 * h.first) (bits_of h.bytes) (bits_of i.behind) (omega (arith, inside.from, inside.to))
 
 -- how many bits are held from the next one on
-pub length-ahead : (h : Held) → IsInside h → length (ahead h) ≡ 8 * (h.first + length h.bytes) - h.at
+pub length-ahead : (h : HeldBytes) → IsInside h → length (ahead h) ≡ 8 * (h.first + length h.bytes) - h.at
 length-ahead h inside = let a = length-drop (h.at - 8 * h.first) (bits_of h.bytes) in let b = length-bits_of h.bytes in omega (arith, inside.from, inside.to)
 
 -- two that agree in each part
-pub same_held : (g h : Held) → g.bytes ≡ h.bytes → g.first ≡ h.first → g.at ≡ h.at → g.ended ≡ h.ended → g.looked ≡ h.looked → g ≡ h
+pub same_held : (g h : HeldBytes) → g.bytes ≡ h.bytes → g.first ≡ h.first → g.at ≡ h.at → g.ended ≡ h.ended → g.looked ≡ h.looked → g ≡ h
 same_held g h bytes first at ended looked = λ i. record { bytes = bytes i; first = first i; at = at i; ended = ended i; looked = looked i }
 
 -- bytes copied to the front
@@ -40,7 +40,7 @@ front_dropped bytes n k few fits =
     ap (λ m. take m (copy_within bytes k n 0)) none ∙ take-paste bytes 0 (drop k bytes) (n - k) (omega arith) left ∙ sym (drop-take k (n - k) bytes) ∙ ap (λ m. drop k (take m bytes)) (sym sum)
 
 -- the first bytes are let go
-pub dropped : (file : List ℕ) (h1 h2 : Held) (k : ℕ) → k ≤ length h1.bytes → h2.bytes ≡ drop k h1.bytes → h2.first ≡ h1.first + k → h2.ended ≡ h1.ended → h2.looked ≡ h1.looked
+pub dropped : (file : List ℕ) (h1 h2 : HeldBytes) (k : ℕ) → k ≤ length h1.bytes → h2.bytes ≡ drop k h1.bytes → h2.first ≡ h1.first + k → h2.ended ≡ h1.ended → h2.looked ≡ h1.looked
     → IsHeldOf file h1 → IsHeldOf file h2
 dropped file h1 h2 k few bytes first ended looked i = record {
   before = i.before ++ take k h1.bytes;
@@ -55,7 +55,7 @@ dropped file h1 h2 k few bytes first ended looked i = record {
 }
 
 -- one piece more is held
-pub added : (file : List ℕ) (h1 h2 : Held) (buf : List ℕ) (count : ℕ) → take count buf ≡ take count (drop (h1.first + length h1.bytes) file)
+pub added : (file : List ℕ) (h1 h2 : HeldBytes) (buf : List ℕ) (count : ℕ) → take count buf ≡ take count (drop (h1.first + length h1.bytes) file)
     → h2.bytes ≡ h1.bytes ++ take count buf → h2.first ≡ h1.first → ¬ (h2.ended ≡ true) → h2.looked ≡ h1.looked → IsHeldOf file h1 → IsHeldOf file h2
 added file h1 h2 buf count piece bytes first more looked i =
     let sum : h1.first + length h1.bytes ≡ length (i.before ++ h1.bytes) = omega (arith, length-append i.before h1.bytes, i.offset) in
@@ -75,14 +75,14 @@ added file h1 h2 buf count piece bytes first more looked i =
     }
 
 -- few bytes are held with one piece more, and if there is none
-pub added_small : (g h : Held) (piece : List ℕ) → length g.bytes + length piece ≤ MOST_HELD → h ≡ record g { bytes = g.bytes ++ piece } → IsSmall g → IsSmall h
+pub added_small : (g h : HeldBytes) (piece : List ℕ) → length g.bytes + length piece ≤ MOST_HELD → h ≡ record g { bytes = g.bytes ++ piece } → IsSmall g → IsSmall h
 added_small g h piece room e s = subst IsSmall (sym e) (record { few = omega (arith, length-append g.bytes piece, room); from = s.from })
 
-pub end_small : (g h : Held) → h ≡ record g { ended = true } → IsSmall g → IsSmall h
+pub end_small : (g h : HeldBytes) → h ≡ record g { ended = true } → IsSmall g → IsSmall h
 end_small g h e s = subst IsSmall (sym e) (record { few = s.few; from = s.from })
 
 -- the file has no more bytes
-pub at_end : (file : List ℕ) (h1 h2 : Held) → length file ≤ h1.first + length h1.bytes → h2 ≡ record h1 { ended = true } → IsHeldOf file h1 → IsHeldOf file h2
+pub at_end : (file : List ℕ) (h1 h2 : HeldBytes) → length file ≤ h1.first + length h1.bytes → h2 ≡ record h1 { ended = true } → IsHeldOf file h1 → IsHeldOf file h2
 at_end file h1 h2 end same i =
     let sum = length-append i.before (h1.bytes ++ i.behind) in
     let sum2 = length-append h1.bytes i.behind in
@@ -94,14 +94,14 @@ pub piece_at : (o : Option (List ℕ)) (file : List ℕ) (at : ℕ) (buf : List 
 piece_at o file at buf count is told = subst (λ (q : Option (List ℕ)). Reads q at buf (Ok count)) is told
 
 -- the bits ahead, after a cursor has moved over some of them
-pub ahead_moved : (g h : Held) (p q : Position) (n : ℕ) → IsInside g → p ≡ record { bits = bits_of g.bytes; at = g.at - 8 * g.first } → q ≡ moved p n → h ≡ record g { at = g.at + n }
+pub ahead_moved : (g h : HeldBytes) (p q : Position) (n : ℕ) → IsInside g → p ≡ record { bits = bits_of g.bytes; at = g.at - 8 * g.first } → q ≡ moved p n → h ≡ record g { at = g.at + n }
     → rest q ≡ ahead h
 ahead_moved g h p q n inside ep eq eh =
     let offset : g.at - 8 * g.first + n ≡ g.at + n - 8 * g.first = omega (arith, inside.from) in
     ap rest (eq ∙ ap (λ (x : Position). moved x n) ep) ∙ ap (λ m. drop m (bits_of g.bytes)) offset ∙ ap ahead (sym eh)
 
 -- in place of what was held, a piece of the file is, from some byte on
-pub taken_up : (file : List ℕ) (h1 h2 : Held) (buf : List ℕ) (first at count : ℕ) → 0 < count → IsPieceOf file first buf count
+pub taken_up : (file : List ℕ) (h1 h2 : HeldBytes) (buf : List ℕ) (first at count : ℕ) → 0 < count → IsPieceOf file first buf count
     → h2 ≡ record { bytes = take count buf; first = first; at = at; ended = false; looked = h1.looked } → IsHeldOf file h1 → IsHeldOf file h2
 taken_up file h1 h2 buf first at count some piece is i = subst (IsHeldOf file) (sym is) (record {
   before = take first file;
@@ -115,7 +115,7 @@ taken_up file h1 h2 buf first at count some piece is i = subst (IsHeldOf file) (
 })
 
 -- nothing of the file is, at its beginning
-pub begun : (file : List ℕ) (h1 h2 : Held) → h2 ≡ record { bytes = []; first = 0; at = 0; ended = false; looked = h1.looked } → IsHeldOf file h1 → IsHeldOf file h2
+pub begun : (file : List ℕ) (h1 h2 : HeldBytes) → h2 ≡ record { bytes = []; first = 0; at = 0; ended = false; looked = h1.looked } → IsHeldOf file h1 → IsHeldOf file h2
 begun file h1 h2 is i = subst (IsHeldOf file) (sym is) (record {
   before = [];
   behind = file;

@@ -7,16 +7,16 @@ use Rattle.wg_bits.proofs.Writes.{bits_of-append}
 use Rattle.wg_grammar.specs.Archive.{IsTail, IsTailFault}
 use Rattle.wg_grammar.specs.Standing.{IsTailAt}
 use Rattle.wg_source.specs.declared.stretch.TheConstants.{WORD}
-use Rattle.wg_source.specs.Held.{Held, IsHeldOf, IsInside, HoldsNext}
+use Rattle.wg_source.specs.Held.{HeldBytes, IsHeldOf, IsInside, HoldsNext}
 use Rattle.wg_source.proofs.FillLemmas.{no_bits}
 
 -- how many bits the file has
-length_of_file : (file : List ℕ) (h : Held) (i : IsHeldOf file h) → length (bits_of file) ≡ 8 * h.first + length (bits_of h.bytes) + length (bits_of i.behind)
+length_of_file : (file : List ℕ) (h : HeldBytes) (i : IsHeldOf file h) → length (bits_of file) ≡ 8 * h.first + length (bits_of h.bytes) + length (bits_of i.behind)
 length_of_file file h i =
     omega (arith, length-bits_of file, length-bits_of h.bytes, length-bits_of i.behind, ap length i.whole, length-append i.before (h.bytes ++ i.behind), length-append h.bytes i.behind, i.offset)
 
 -- a bit that is held
-held_bit : (file : List ℕ) (h : Held) (i : IsHeldOf file h) (k : ℕ) → 8 * h.first ≤ k → k - 8 * h.first < length (bits_of h.bytes) → get_or (bits_of file) k false ≡ get_or (bits_of h.bytes) (k - 8 * h.first) false
+held_bit : (file : List ℕ) (h : HeldBytes) (i : IsHeldOf file h) (k : ℕ) → 8 * h.first ≤ k → k - 8 * h.first < length (bits_of h.bytes) → get_or (bits_of file) k false ≡ get_or (bits_of h.bytes) (k - 8 * h.first) false
 held_bit file h i k from there =
     let whole : bits_of file ≡ bits_of i.before ++ (bits_of h.bytes ++ bits_of i.behind) =
     ap bits_of i.whole ∙ bits_of-append i.before (h.bytes ++ i.behind) ∙ ap (λ z. bits_of i.before ++ z) (bits_of-append h.bytes i.behind) in
@@ -25,7 +25,7 @@ held_bit file h i k from there =
     ∙ get_or-append-add (bits_of i.before) (bits_of h.bytes ++ bits_of i.behind) (k - 8 * h.first) false
     ∙ get_or_append_left (bits_of h.bytes) (bits_of i.behind) false (k - 8 * h.first) there
 
-pub tail_of_file : (file : List ℕ) (h : Held) → IsHeldOf file h → IsInside h → HoldsNext WORD h → IsTail (bits_of h.bytes) (h.at - 8 * h.first) → IsTail (bits_of file) h.at
+pub tail_of_file : (file : List ℕ) (h : HeldBytes) → IsHeldOf file h → IsInside h → HoldsNext WORD h → IsTail (bits_of h.bytes) (h.at - 8 * h.first) → IsTail (bits_of file) h.at
 tail_of_file file h i inside next tail = ⊎_elim
     (λ (e : h.ended ≡ true).
     let none : length (bits_of i.behind) ≡ 0 = ap length (no_bits i.behind (i.ended e)) in
@@ -39,7 +39,7 @@ tail_of_file file h i inside next tail = ⊎_elim
     (λ (many : h.at / 8 + WORD ≤ h.first + length h.bytes). absurd (omega (arith, tail.short, many, length-bits_of h.bytes, inside.from)))
     next
 
-pub fault_of_file : (file : List ℕ) (h : Held) (offset : ℕ) → IsHeldOf file h → IsInside h → 8 * h.first ≤ offset → IsTailFault (bits_of h.bytes) (h.at - 8 * h.first) (offset - 8 * h.first) → IsTailFault (bits_of file) h.at offset
+pub fault_of_file : (file : List ℕ) (h : HeldBytes) (offset : ℕ) → IsHeldOf file h → IsInside h → 8 * h.first ≤ offset → IsTailFault (bits_of h.bytes) (h.at - 8 * h.first) (offset - 8 * h.first) → IsTailFault (bits_of file) h.at offset
 fault_of_file file h offset i inside low f =
     let all = length_of_file file h i in
     record {
@@ -56,7 +56,7 @@ fault_of_file file h offset i inside low f =
     }
 
 -- the tail that is validated by what is held is that of the file
-pub judged_of_file : (file : List ℕ) (h : Held) (o : Option ℕ) → IsHeldOf file h → IsInside h → HoldsNext WORD h → IfNone o (IsTail (bits_of h.bytes) (h.at - 8 * h.first))
+pub judged_of_file : (file : List ℕ) (h : HeldBytes) (o : Option ℕ) → IsHeldOf file h → IsInside h → HoldsNext WORD h → IfNone o (IsTail (bits_of h.bytes) (h.at - 8 * h.first))
     → IfSome o (λ at. (8 * h.first ≤ at) × IsTailFault (bits_of h.bytes) (h.at - 8 * h.first) (at - 8 * h.first)) → IsTailAt (bits_of file) h.at o
 judged_of_file file h None i inside next none some = tail_of_file file h i inside next none
 judged_of_file file h (Some at) i inside next none some = fault_of_file file h at i inside some.0 some.1

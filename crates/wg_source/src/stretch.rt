@@ -42,10 +42,10 @@ pub struct Stretch {
 impl Model for Stretch {
     ghost use Rattle.std.specs.Prelude.{ℕ, ◌+◌, ◌*◌, ◌≤◌, take};
     ghost use Rattle.wg_outside.specs.declared.limits.TheConstants.{MOST_BYTES};
-    ghost use Rattle.wg_source.specs.Held.{Held};
+    ghost use Rattle.wg_source.specs.Held.{HeldBytes};
     ghost use Rattle.wg_source.specs.declared.stretch.TheConstants.{MOST_HELD};
 
-    ghost Value = { Held };
+    ghost Value = { HeldBytes };
 
     ghost view = { λ s. record { bytes = take s.length s.bytes; first = s.first; at = 8 * s.first + s.here; ended = s.ended; looked = s.looked } };
 

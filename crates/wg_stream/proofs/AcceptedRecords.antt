@@ -5,7 +5,7 @@ use Rattle.std.proofs.lemmas.List.{reverse-append, append_assoc, append-nil}
 use Rattle.wg_params.specs.Parameters.{Parameters}
 use Rattle.wg_grammar.specs.Record.{Whole}
 use Rattle.wg_grammar.specs.Archive.{Pages, Accepted, ReadsGraph}
-use Rattle.wg_stream.specs.AllRecords.{Reading, known_at}
+use Rattle.wg_stream.specs.AllRecords.{AllRecords, known_at}
 
 -- the parts of the records behind, in the order of the pages
 module _ {X : Type 0} (part : Whole → X) (p : Parameters) (bits : List Bool) where
@@ -16,7 +16,7 @@ module _ {X : Type 0} (part : Whole → X) (p : Parameters) (bits : List Bool) w
 
 -- the graph and the places of the records are those of the reading
 pub record Read (p : Parameters) (bits : List Bool) (a : Accepted) : Type 0 where
-  pub reading : Reading p bits
+  pub reading : AllRecords p bits
   pub places : a.places ≡ 0 ∷ map (λ w. w.end) reading.records
   pub graph : a.graph ≡ map (λ w. w.known.list) reading.records
 

@@ -11,14 +11,14 @@ use Rattle.wg_grammar.specs.Archive.{context_of, Pages}
 use Rattle.wg_grammar.proofs.OneGraph.{record_within}
 use Rattle.wg_decoder.specs.Proper.{IsRecord}
 use Rattle.wg_decoder.proofs.ProperLemmas.Transfer.{below_of, Judged, judged_of}
-use Rattle.wg_stream.specs.AllRecords.{Reading, no_record, known_at, offset_at}
+use Rattle.wg_stream.specs.AllRecords.{AllRecords, no_record, known_at, offset_at}
 use Rattle.wg_stream.specs.References.{below_at, depth_at, Refers}
 
 length_pages : (p : Parameters) (bits : List Bool) (first : List Whole) (at : ℕ) (ws last : List Whole) (end : ℕ) → Pages p bits first at ws last end → length last ≡ length first + length ws
 length_pages p bits first at [] last end h = omega (arith, ap (λ (l : List Whole). length l) h.0)
 length_pages p bits first at (w ∷ ws) last end h = omega (arith, length_pages p bits (w ∷ first) w.end ws last end h.2)
 
-pub all_records : (p : Parameters) (bits : List Bool) (r : Reading p bits) → length r.records ≡ p.nodes
+pub all_records : (p : Parameters) (bits : List Bool) (r : AllRecords p bits) → length r.records ≡ p.nodes
 all_records p bits r = omega (arith, length_pages p bits [] 0 r.records r.behind r.end r.pages, r.all)
 
 -- ---- the record of a page
@@ -88,7 +88,7 @@ unfolding start_at
 start_is ws zero = refl
 start_is ws (suc x) = refl
 
-pub offset_within : (p : Parameters) (bits : List Bool) (r : Reading p bits) (x : ℕ) → x < p.nodes → offset_at r.records x ≤ length bits
+pub offset_within : (p : Parameters) (bits : List Bool) (r : AllRecords p bits) (x : ℕ) → x < p.nodes → offset_at r.records x ≤ length bits
 offset_within p bits r x lt = subst (λ (k : ℕ). k ≤ length bits) (start_is r.records x) (starts_within p bits [] 0 r.records r.behind r.end x r.pages (omega (arith, lt, all_records p bits r)) (omega arith))
 
 -- ---- the page that it refers to
@@ -145,11 +145,11 @@ found_on p bits ws x at lt place j =
       end = four.2;
     }
 
-pub found_of : (p : Parameters) (bits : List Bool) (r : Reading p bits) (x : ℕ) → x < p.nodes → Found p bits r.records x
+pub found_of : (p : Parameters) (bits : List Bool) (r : AllRecords p bits) (x : ℕ) → x < p.nodes → Found p bits r.records x
 found_of p bits r x lt =
     let there : x < length r.records = omega (arith, lt, all_records p bits r) in
     found_on p bits r.records x (start_at 0 r.records x) there (start_is r.records x) (judged_of p (context_of p (earlier x r.records [])) bits (start_at 0 r.records x) (get_or r.records x no_record) (record_at p bits [] 0 r.records r.behind r.end x r.pages there))
 
 -- a place for each record, and one after the last
-pub offsets_count : (p : Parameters) (bits : List Bool) (r : Reading p bits) (places : List ℕ) → places ≡ 0 ∷ map (λ w. w.end) r.records → length places ≡ p.nodes + 1
+pub offsets_count : (p : Parameters) (bits : List Bool) (r : AllRecords p bits) (places : List ℕ) → places ≡ 0 ∷ map (λ w. w.end) r.records → length places ≡ p.nodes + 1
 offsets_count p bits r places e = omega (arith, ap (λ (l : List ℕ). length l) e, length-map r.records (λ (w : Whole). w.end), all_records p bits r)

@@ -10,7 +10,7 @@ use Rattle.wg_grammar.specs.Context.{Known, Context}
 use Rattle.wg_grammar.specs.Record.{Whole, ReadsRecord}
 use Rattle.wg_grammar.specs.Archive.{Pages, context_of, lists_of, places_of, ReadsGraph}
 use Rattle.wg_decoder.specs.Answer.{context_at}
-use Rattle.wg_stream.specs.Prefix.{PagesRead, PrefixRead, IsOneMore}
+use Rattle.wg_stream.specs.Prefix.{PagesRead, RecordsStand, IsOneMore}
 
 -- a record more after no record
 first_page : (p : Parameters) (bits : List Bool) (first last : List Whole) (at mid : ℕ) (w : Whole) → last ≡ first → mid ≡ at
@@ -60,12 +60,12 @@ length-lists behind = length-reverse (map (λ (v : Whole). v.known.list) behind)
 
 module _ (p : Parameters) (bits : List Bool) where
   -- the context in which the next record is read
-  pub next_context : (pages arcs at : ℕ) (kept : List Known) (behind : List Whole) (h : PrefixRead p bits pages arcs at kept behind) → context_at pages arcs kept ≡ context_of p behind
+  pub next_context : (pages arcs at : ℕ) (kept : List Known) (behind : List Whole) (h : RecordsStand p bits pages arcs at kept behind) → context_at pages arcs kept ≡ context_of p behind
   next_context pages arcs at kept behind h = λ i. record { page = sym h.count i; arcs_before = sym h.total i; behind = h.nearest i }
 
-  pub one_more : (pages arcs at : ℕ) (kept : List Known) (behind : List Whole) (w : Whole) → PrefixRead p bits pages arcs at kept behind → pages < p.nodes
+  pub one_more : (pages arcs at : ℕ) (kept : List Known) (behind : List Whole) (w : Whole) → RecordsStand p bits pages arcs at kept behind → pages < p.nodes
       → ReadsRecord p (context_at pages arcs kept) bits at (Ok w)
-      → PrefixRead p bits (pages + 1) (arcs + length w.known.list) w.end (take p.window (w.known ∷ kept)) (w ∷ behind)
+      → RecordsStand p bits (pages + 1) (arcs + length w.known.list) w.end (take p.window (w.known ∷ kept)) (w ∷ behind)
   one_more pages arcs at kept behind w h lt reads = record {
     stood = h.stood ++ w ∷ [];
     records = pages_more p bits [] 0 h.stood behind at w h.records (omega (arith, h.count))
@@ -76,7 +76,7 @@ module _ (p : Parameters) (bits : List Bool) where
   }
 
   -- the next record is refused, and so is the file
-  pub one_refused : (pages arcs at : ℕ) (kept : List Known) (behind : List Whole) (e : Fault) → PrefixRead p bits pages arcs at kept behind → pages < p.nodes
+  pub one_refused : (pages arcs at : ℕ) (kept : List Known) (behind : List Whole) (e : Fault) → RecordsStand p bits pages arcs at kept behind → pages < p.nodes
       → ReadsRecord p (context_at pages arcs kept) bits at (Err e) → ReadsGraph p bits (Err (faults.Record e))
   one_refused pages arcs at kept behind e h lt reads = (
     h.stood,

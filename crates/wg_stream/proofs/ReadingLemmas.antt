@@ -11,7 +11,7 @@ use Rattle.wg_stream.specs.declared.stream_error.StreamError.TheVariants as erro
 use Rattle.wg_stream.specs.FirstError.{of_first, OfOutside}
 use Rattle.wg_outside.specs.declared.whole.LoadError.{LoadError}
 use Rattle.wg_source.specs.declared.stretch.TheConstants.{MOST_HELD}
-use Rattle.wg_source.specs.Held.{Held, IsHeldOf, IsSmall}
+use Rattle.wg_source.specs.Held.{HeldBytes, IsHeldOf, IsSmall}
 use Rattle.wg_stream.specs.Prefix.{AreBehind}
 use Rattle.wg_stream.specs.Reading.{Reading, AgreesIn, IsInStep, Stands}
 
@@ -38,7 +38,7 @@ pub told_again : (s : State) (e f : First) → s ≡ Closed e → s ≡ Closed f
 told_again s e f is other = cc (is, other)
 
 -- what is held ends soon after the next bit
-pub near_of : (h : Held) (at : ℕ) → IsSmall h → at ≡ h.at → h.first + length h.bytes ≤ at / 8 + MOST_HELD
+pub near_of : (h : HeldBytes) (at : ℕ) → IsSmall h → at ≡ h.at → h.first + length h.bytes ≤ at / 8 + MOST_HELD
 near_of h at s is = omega (arith, s.few, s.from, is)
 
 pub onward_of : (r : Reading) (n at : ℕ) → r.state ≡ Open → Stands r r.state → r.held.at ≤ n → at ≡ n → r.at ≤ at

@@ -17,7 +17,7 @@ use Rattle.wg_grammar.proofs.OneGraph.{graph_one, lists_ascend}
 use Rattle.wg_decoder.specs.Proper.Laid.{list_or_none}
 use Rattle.wg_decoder.specs.Proper.{IsRecord}
 use Rattle.wg_stream.proofs.PrefixLemmas.{lists_more}
-use Rattle.wg_stream.specs.AllRecords.{Reading, no_record, known_at, offset_at}
+use Rattle.wg_stream.specs.AllRecords.{AllRecords, no_record, known_at, offset_at}
 use Rattle.wg_stream.specs.References.{below_at}
 use Rattle.wg_stream.specs.Sweeping.{StandFor, HaveGraph, no_row, IsBack, AreKept, IsNext}
 use Rattle.wg_stream.specs.OneStands.{one_set, stand_one}
@@ -87,7 +87,7 @@ abbrev pub ReadsReference : Parameters → Position → ℕ → Type 0
 ReadsReference p c result = (page : ℕ) (below : Option (List ℕ)) (list : List ℕ) (h : IsRecord p page below c list) → result ≡ value_or_0 h.whole.reference
 
 -- it stands at the position q
-pub record NextRecord (p : Parameters) (bits : List Bool) (r : Reading p bits) (page : ℕ) (q : Position) : Type 0 where
+pub record NextRecord (p : Parameters) (bits : List Bool) (r : AllRecords p bits) (page : ℕ) (q : Position) : Type 0 where
   pub back : ℕ
   pub near : back ≤ page
   pub reach : back ≤ p.window
@@ -95,20 +95,20 @@ pub record NextRecord (p : Parameters) (bits : List Bool) (r : Reading p bits) (
   pub reference : value_or_0 proper.whole.reference ≡ back
   pub end : proper.end ≡ offset_at r.records (suc page)
 
-pub next_record : (p : Parameters) (bits : List Bool) (r : Reading p bits) (page at turn : ℕ) (kept : List Filled) (q : Position) → page < p.nodes → q ≡ (let x : Position = record { bits = bits; at = at } in x) → IsNext p bits r page at kept turn → NextRecord p bits r page q
+pub next_record : (p : Parameters) (bits : List Bool) (r : AllRecords p bits) (page at turn : ℕ) (kept : List Filled) (q : Position) → page < p.nodes → q ≡ (let x : Position = record { bits = bits; at = at } in x) → IsNext p bits r page at kept turn → NextRecord p bits r page q
 next_record p bits r page at turn kept q lt is n =
     let f = found_of p bits r page lt in
     let there : q ≡ (let x : Position = record { bits = bits; at = offset_at r.records page } in x) = is ∙ ap (λ (k : ℕ). record { bits = bits; at = k }) n.begins in
     subst (λ (x : Position). NextRecord p bits r page x) (sym there) (record { back = f.r; near = f.refers.near; reach = f.reach; proper = f.refers.proper; reference = f.reference; end = f.end })
 
 -- so far back it refers
-pub back_is : (p : Parameters) (bits : List Bool) (r : Reading p bits) (page : ℕ) (q : Position) (result : ℕ) → ReadsReference p q result → (n : NextRecord p bits r page q) → result ≡ n.back
+pub back_is : (p : Parameters) (bits : List Bool) (r : AllRecords p bits) (page : ℕ) (q : Position) (result : ℕ) → ReadsReference p q result → (n : NextRecord p bits r page q) → result ≡ n.back
 back_is p bits r page q result reads n = reads page (below_at r.records page n.back) (known_at r.records page).list n.proper ∙ n.reference
 
-pub back_near : (p : Parameters) (bits : List Bool) (r : Reading p bits) (page : ℕ) (q : Position) (result : ℕ) → ReadsReference p q result → NextRecord p bits r page q → result ≤ page
+pub back_near : (p : Parameters) (bits : List Bool) (r : AllRecords p bits) (page : ℕ) (q : Position) (result : ℕ) → ReadsReference p q result → NextRecord p bits r page q → result ≤ page
 back_near p bits r page q result reads n = omega (arith, n.near, back_is p bits r page q result reads n)
 
-pub back_reach : (p : Parameters) (bits : List Bool) (r : Reading p bits) (page at turn : ℕ) (kept : List Filled) (q : Position) (result : ℕ) → page < p.nodes → ReadsReference p q result → IsNext p bits r page at kept turn → NextRecord p bits r page q → result ≤ length kept
+pub back_reach : (p : Parameters) (bits : List Bool) (r : AllRecords p bits) (page at turn : ℕ) (kept : List Filled) (q : Position) (result : ℕ) → page < p.nodes → ReadsReference p q result → IsNext p bits r page at kept turn → NextRecord p bits r page q → result ≤ length kept
 back_reach p bits r page at turn kept q result lt reads next n = omega (arith, lt, n.near, n.reach, next.enough, back_is p bits r page q result reads n)
 
 -- ---- lists ascend
@@ -118,26 +118,26 @@ past_end [] x le = refl
 past_end (w ∷ ws) zero le = absurd (omega (arith, le))
 past_end (w ∷ ws) (suc x) le = past_end ws x (omega (arith, le))
 
-known_ascends : (p : Parameters) (bits : List Bool) (r : Reading p bits) (x : ℕ) → Ascends 0 (known_at r.records x).list
+known_ascends : (p : Parameters) (bits : List Bool) (r : AllRecords p bits) (x : ℕ) → Ascends 0 (known_at r.records x).list
 known_ascends p bits r x =
     elim (cases_lt x (length r.records)) [
       | inl lt ↦ (lists_ascend p _ bits _ _ (record_at p bits [] 0 r.records r.behind r.end x r.pages lt)).0
       | inr ge ↦ subst (λ (w : Whole). Ascends 0 w.known.list) (sym (past_end r.records x ge)) tt
     ]
 
-pub below_ascends : (p : Parameters) (bits : List Bool) (r : Reading p bits) (page back : ℕ) → Ascends 0 (list_or_none (below_at r.records page back))
+pub below_ascends : (p : Parameters) (bits : List Bool) (r : AllRecords p bits) (page back : ℕ) → Ascends 0 (list_or_none (below_at r.records page back))
 below_ascends p bits r page zero = tt
 below_ascends p bits r page (suc k) = known_ascends p bits r (page - suc k)
 
 -- ---- what stands at the cursor, against the list that was found
 
 -- the list below is the one that the record refers to
-pub record Below (p : Parameters) (bits : List Bool) (r : Reading p bits) (page : ℕ) (q : Position) (below : Option (List ℕ)) : Type 0 where
+pub record Below (p : Parameters) (bits : List Bool) (r : AllRecords p bits) (page : ℕ) (q : Position) (below : Option (List ℕ)) : Type 0 where
   pub ascends : Ascends 0 (list_or_none below)
   pub proper : IsRecord p page below q (known_at r.records page).list
   pub end : proper.end ≡ offset_at r.records (suc page)
 
-pub found_below : (p : Parameters) (bits : List Bool) (r : Reading p bits) (page at turn : ℕ) (kept : List Filled) (q again : Position) (back : ℕ) (below : Option (List ℕ)) → page < p.nodes → q ≡ (let x : Position = record { bits = bits; at = at } in x) → again ≡ q
+pub found_below : (p : Parameters) (bits : List Bool) (r : AllRecords p bits) (page at turn : ℕ) (kept : List Filled) (q again : Position) (back : ℕ) (below : Option (List ℕ)) → page < p.nodes → q ≡ (let x : Position = record { bits = bits; at = at } in x) → again ≡ q
     → ReadsReference p again back → IsNext p bits r page at kept turn
     → (back ≤ page → AreKept r.records page kept turn → below ≡ below_at r.records page back) → Below p bits r page q below
 found_below p bits r page at turn kept q again back below lt is same reads next gives =
@@ -150,7 +150,7 @@ found_below p bits r page at turn kept q again back below lt is same reads next 
 
 -- ---- the greatest list fits
 
-pub fits_room : (p : Parameters) (bits : List Bool) (r : Reading p bits) (graph : List (List ℕ)) (room page : ℕ) → graph ≡ map (λ w. w.known.list) r.records → page < p.nodes → All (λ s. length s ≤ room) graph → length (known_at r.records page).list ≤ room
+pub fits_room : (p : Parameters) (bits : List Bool) (r : AllRecords p bits) (graph : List (List ℕ)) (room page : ℕ) → graph ≡ map (λ w. w.known.list) r.records → page < p.nodes → All (λ s. length s ≤ room) graph → length (known_at r.records page).list ≤ room
 fits_room p bits r graph room page is lt all =
     let long : page < length graph = omega (arith, lt, all_records p bits r, ap (λ (l : List (List ℕ)). length l) is, length-map r.records (λ (w : Whole). w.known.list)) in
     let here : get_or graph page [] ≡ (known_at r.records page).list = ap (λ (l : List (List ℕ)). get_or l page []) is ∙ list_at r.records page in

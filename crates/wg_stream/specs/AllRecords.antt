@@ -6,7 +6,7 @@ use Rattle.wg_grammar.specs.Record.{Whole}
 use Rattle.wg_grammar.specs.Archive.{Pages}
 
 -- the records that stand from the first bit on, one for each page
-pub record Reading (p : Parameters) (bits : List Bool) : Type 0 where
+pub record AllRecords (p : Parameters) (bits : List Bool) : Type 0 where
   pub records : List Whole
   pub behind : List Whole
   pub end : ℕ

@@ -27,7 +27,7 @@ pub record AreSound (r : PagesRead) : Type 0 where
 
 -- the records of so many pages with so many arcs stand from the first bit to the bit at, and these pages are kept of
 -- them
-pub record PrefixRead (p : Parameters) (bits : List Bool) (pages arcs at : ℕ) (kept : List Known)
+pub record RecordsStand (p : Parameters) (bits : List Bool) (pages arcs at : ℕ) (kept : List Known)
     (behind : List Whole) : Type 0 where
   pub stood : List Whole
   pub records : Pages p bits [] 0 stood behind at
@@ -37,7 +37,7 @@ pub record PrefixRead (p : Parameters) (bits : List Bool) (pages arcs at : ℕ) 
 
 -- these records, the last of them first, are those that were read; the next begins at the bit at
 abbrev pub AreBehind : List Bool → PagesRead → ℕ → List Whole → Type 0
-AreBehind bits r at behind = PrefixRead r.params bits r.page r.arcs at r.kept behind
+AreBehind bits r at behind = RecordsStand r.params bits r.page r.arcs at r.kept behind
 
 -- one record more was read than these: it has the list of the page that was read last, and ends at the bit at
 abbrev pub IsOneMore : List Bool → PagesRead → ℕ → List Whole → Type 0

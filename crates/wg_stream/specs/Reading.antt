@@ -10,7 +10,7 @@ use Rattle.wg_stream.specs.declared.state.State.{State}
 use Rattle.wg_stream.specs.declared.state.State.TheVariants.{Open, Done, Closed}
 use Rattle.wg_stream.specs.declared.stream_error.StreamError.{StreamError}
 use Rattle.wg_stream.specs.FirstError.{OfGraph}
-use Rattle.wg_source.specs.Held.{Held, IsHeldOf, IsSmall}
+use Rattle.wg_source.specs.Held.{HeldBytes, IsHeldOf, IsSmall}
 use Rattle.wg_stream.specs.Prefix.{PagesRead, AreBehind}
 
 -- what was read of the records; the name of the file; the end of the last record; what is held of the file; and
@@ -19,7 +19,7 @@ pub record Reading : Type 0 where
   pub pages : PagesRead
   pub name : List ℕ
   pub at : ℕ
-  pub held : Held
+  pub held : HeldBytes
   pub state : State
 
 -- what holds whatever the bytes are: the next record begins at the end of the last; at the end all pages were read,

@@ -7,7 +7,7 @@ use Rattle.wg_graph.specs.Digraph.{IsGraph}
 use Rattle.wg_graph.specs.Filled.{Filled}
 use Rattle.wg_grammar.specs.Record.{Whole}
 use Rattle.wg_grammar.specs.Archive.{ReadsGraph}
-use Rattle.wg_stream.specs.AllRecords.{Reading, known_at, offset_at}
+use Rattle.wg_stream.specs.AllRecords.{AllRecords, known_at, offset_at}
 
 -- the bits stand for this graph
 pub record StandFor (p : Parameters) (bits : List Bool) (graph : List (List ℕ)) : Type 0 where
@@ -46,7 +46,7 @@ AreKept records page rows turn =
 pub record Sweeping (p : Parameters) (bytes : List ℕ) (graph : List (List ℕ)) (page at : ℕ) (kept : List Filled)
     (turn : ℕ) (list : Filled) : Type 0 where
   pub short : length bytes ≤ MOST_BYTES
-  pub reading : Reading p (bits_of bytes)
+  pub reading : AllRecords p (bits_of bytes)
   pub graph_is : graph ≡ map (λ w. w.known.list) reading.records
   pub proper : IsGraph (record { nodes = p.nodes; lists = graph })
   pub few : page ≤ p.nodes
@@ -60,7 +60,7 @@ pub record Sweeping (p : Parameters) (bytes : List ℕ) (graph : List (List ℕ)
 
 -- What the record of the page is decoded from: it begins at the bit at, and the rows have the lists that it may refer
 -- to.
-pub record IsNext (p : Parameters) (bits : List Bool) (r : Reading p bits) (page at : ℕ) (kept : List Filled)
+pub record IsNext (p : Parameters) (bits : List Bool) (r : AllRecords p bits) (page at : ℕ) (kept : List Filled)
     (turn : ℕ) : Type 0 where
   pub begins : at ≡ offset_at r.records page
   pub enough : min p.window p.nodes ≤ length kept

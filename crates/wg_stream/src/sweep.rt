@@ -5,8 +5,8 @@ ghost use Rattle.wg_bits.specs.Bits.{bits_of};
 ghost use Rattle.wg_graph.specs.Digraph.{successors};
 ghost use Rattle.wg_grammar.specs.Record.{Whole};
 ghost use Rattle.wg_grammar.specs.Archive.{Accepted, ReadsGraph};
-ghost use Rattle.wg_grammar.specs.Laws.{accepted_graph};
-ghost use Rattle.wg_stream.specs.AllRecords.{Reading, known_at, offset_at};
+ghost use Rattle.wg_grammar.specs.Laws.{graph_of};
+ghost use Rattle.wg_stream.specs.AllRecords.{AllRecords, known_at, offset_at};
 ghost use Rattle.wg_stream.specs.References.{below_at};
 ghost use Rattle.wg_stream.specs.Sweeping.{AreKept, IsBack, IsNext, PassFinds};
 
@@ -156,13 +156,13 @@ fn decode_page(
     requires short { length archive.now.bytes.now ≤ MOST_BYTES }
     requires page { page < archive.now.params.nodes }
     requires turn { 0 < length kept.now → turn < length kept.now }
-    requires next { (r : Reading archive.now.params (bits_of archive.now.bytes.now))
+    requires next { (r : AllRecords archive.now.params (bits_of archive.now.bytes.now))
         × IsNext archive.now.params (bits_of archive.now.bytes.now) r page at kept.now turn
         × (length (known_at r.records page).list ≤ list.old.room) }
-    ensures list { (r : Reading archive.now.params (bits_of archive.now.bytes.now))
+    ensures list { (r : AllRecords archive.now.params (bits_of archive.now.bytes.now))
         → IsNext archive.now.params (bits_of archive.now.bytes.now) r page at kept.now turn
         → list.new.list ≡ (known_at r.records page).list }
-    ensures end { (r : Reading archive.now.params (bits_of archive.now.bytes.now))
+    ensures end { (r : AllRecords archive.now.params (bits_of archive.now.bytes.now))
         → IsNext archive.now.params (bits_of archive.now.bytes.now) r page at kept.now turn
         → result ≡ offset_at r.records (page + 1) }
     ensures room { list.new.room ≡ list.old.room }

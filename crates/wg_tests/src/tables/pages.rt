@@ -1,7 +1,7 @@
 // Pages of archives: a chain of references that is too long to be opened, the end of a list, and pages that were not
 // checked.
 ghost use Rattle.std.specs.Prelude.{◌≡◌, ◌+◌, ◌<◌, OnOk, IfSome};
-ghost use Rattle.wg_stream.specs.AllRecords.{Reading, known_at};
+ghost use Rattle.wg_stream.specs.AllRecords.{AllRecords, known_at};
 
 use std::alloc::{AllocError, Global};
 use std::marker::Brand;
@@ -39,7 +39,7 @@ fn too_deep<L: Ledger>(
     page: u64,
     steps: &mut Steps<L>,
 ) -> Option<u64>
-    ensures { (r : Reading archive.now.params archive.now.bits)
+    ensures { (r : AllRecords archive.now.params archive.now.bits)
         → IfSome result (λ depth. depth ≡ (known_at r.records page).depth) }
 {
     match archive.open(alloc, page, steps) {
@@ -56,7 +56,7 @@ fn listed<L: Ledger>(
     page: u64,
     steps: &mut Steps<L>,
 ) -> Result<List, ListError>
-    requires depth { (r : Reading archive.now.params archive.now.bits) → (known_at r.records page).depth ≡ 256 }
+    requires depth { (r : AllRecords archive.now.params archive.now.bits) → (known_at r.records page).depth ≡ 256 }
     ensures ticks { OnOk result (steps.new ≡ steps.old + 257) }
 {
     archive.list(alloc, page, steps)

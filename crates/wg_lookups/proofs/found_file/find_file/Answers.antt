@@ -6,7 +6,7 @@ use Rattle.wg_outside.proofs.PutsLemmas.{is_that_err}
 use Rattle.wg_outside.specs.declared.whole.LoadError.{LoadError}
 use Rattle.wg_outside.specs.declared.whole.LoadError.TheVariants as load
 use Rattle.wg_outcomes.specs.Names.{file_of}
-use Rattle.wg_source.specs.Held.{Held}
+use Rattle.wg_source.specs.Held.{HeldBytes}
 use Rattle.wg_readings.proofs.FindingLemmas.{found_open, not_found}
 use Rattle.wg_readings.proofs.LoadLemmas.{loads_none}
 use Rattle.wg_readings.proofs.PassLemmas.{found_after}
@@ -47,12 +47,12 @@ returns-in-Ok g c =
       same = r.steps.same;
       later = r.steps.later;
       name = search rules;
-      start = ap (λ (h : Held). h.at) r.ok ∙ ap (λ (h : Held). h.at) fresh;
+      start = ap (λ (h : HeldBytes). h.at) r.ok ∙ ap (λ (h : HeldBytes). h.at) fresh;
       found = λ t.
           let found = found_after (map.get files c.in_ok-name.name) false
-          (λ none unlooked. absurd (not_absent (r.absent t (ap (map.get files) named ∙ none) (ap (λ (h : Held). h.looked) fresh))))
+          (λ none unlooked. absurd (not_absent (r.absent t (ap (map.get files) named ∙ none) (ap (λ (h : HeldBytes). h.looked) fresh))))
           (λ looked. absurd (not_looked looked)) in
-          found_open files c.in_ok-name.name g.D.Depot.told _ _ _ c.new-held.result c.look.new.self found t fresh (ap (λ (h : Held). h.looked) r.ok) (rw named at r.steps);
+          found_open files c.in_ok-name.name g.D.Depot.told _ _ _ c.new-held.result c.look.new.self found t fresh (ap (λ (h : HeldBytes). h.looked) r.ok) (rw named at r.steps);
       ends = tt;
     }
 
@@ -69,5 +69,5 @@ returns-in-Err g c =
       found = λ t. tt;
       ends =
           not_found c.args.input (file_of c.args.base.now) c.as_str.result.now g.D.Depot.told _ _ _ _ c.new-held.result c.look.new.self c.in-Err.error _ named c.unread.ensures.status fresh e.steps e.cause
-          (λ t none. same_error _ _ (e.absent t none (ap (λ (h : Held). h.looked) fresh)));
+          (λ t none. same_error _ _ (e.absent t none (ap (λ (h : HeldBytes). h.looked) fresh)));
     }

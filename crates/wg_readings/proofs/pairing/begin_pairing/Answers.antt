@@ -2,7 +2,7 @@ use Rattle.std.proofs.Common.{◌∙◌, ℕ, [], ◌∷◌, sym, ap, subst}
 use Rattle.wg_bits.specs.Bits.{bits_of}
 use Rattle.wg_offsets.specs.Stages.{AreRead, WordsRead}
 use Rattle.wg_outside.proofs.FilesLemmas.{none_falls-trans}
-use Rattle.wg_source.specs.Held.{Held}
+use Rattle.wg_source.specs.Held.{HeldBytes}
 use Rattle.wg_readings.proofs.PairingLemmas.{comes, first_paired, goes_at, looked_read, still_named, stopped_since, unread_held}
 use Rattle.wg_readings.proofs.pairing.begin_pairing.Goals as goal
 
@@ -28,7 +28,7 @@ returns-in-Err-next_word g c =
       same = n.steps.same ∙ l.steps.same;
       later = none_falls-trans _ _ _ l.steps.later n.steps.later;
       come = stopped_since _ _ _ _ _ _ p c.look.new.pairing.name a.name _ l.steps.same l.steps.later l.kept.0
-          (n.stopped (ap (λ (h : Held). h.looked) l.looked)
+          (n.stopped (ap (λ (h : HeldBytes). h.looked) l.looked)
           (λ t. let f = l.there t in (f.0, still_named _ _ c.look.new.pairing.name a.name f.0 l.steps.same l.kept.0 f.1))
           (λ t file is.
           let is' = still_named _ _ a.name c.look.new.pairing.name file (sym l.steps.same) (sym l.kept.0) is in

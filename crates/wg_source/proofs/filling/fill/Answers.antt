@@ -1,6 +1,6 @@
 use Rattle.std.proofs.Common.{◌∙◌, ◌/◌, sym, ap, refl, arith}
 use Rattle.std.proofs.lemmas.Result.{err_from_is_err_and}
-use Rattle.wg_source.specs.Held.{Held}
+use Rattle.wg_source.specs.Held.{HeldBytes}
 use Rattle.wg_source.specs.StepLaws.{no_step, two_steps, later_cause}
 use Rattle.wg_source.proofs.FillLemmas.{fewer_waits, passed_dropped, dropped_small}
 use Rattle.wg_source.proofs.filling.fill.Goals as goal
@@ -13,13 +13,13 @@ loop-held-init g c =
       steps = record {
         same = refl;
         later = none.later;
-        onward = omega (arith, ap (λ (h : Held). h.at) c.drop_passed.ensures);
-        looked = λ e. ap (λ (h : Held). h.looked) c.drop_passed.ensures ∙ e;
+        onward = omega (arith, ap (λ (h : HeldBytes). h.at) c.drop_passed.ensures);
+        looked = λ e. ap (λ (h : HeldBytes). h.looked) c.drop_passed.ensures ∙ e;
         in_step = λ t file is i. passed_dropped file _ _ c.is_ready.ensures.inside c.drop_passed.ensures i;
         small = λ s. dropped_small _ _ c.drop_passed.ensures s;
       };
-      at = ap (λ (h : Held). h.at) c.drop_passed.ensures;
-      first = ap (λ (h : Held). h.first) c.drop_passed.ensures ∙ ap (λ n. n / 8) (sym (ap (λ (h : Held). h.at) c.drop_passed.ensures));
+      at = ap (λ (h : HeldBytes). h.at) c.drop_passed.ensures;
+      first = ap (λ (h : HeldBytes). h.first) c.drop_passed.ensures ∙ ap (λ n. n / 8) (sym (ap (λ (h : HeldBytes). h.at) c.drop_passed.ensures));
     }
 
 pub loop-held-smaller : goal.loop-held-smaller

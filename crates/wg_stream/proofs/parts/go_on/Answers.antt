@@ -1,7 +1,7 @@
 use Rattle.std.proofs.Common.{rules, Bool, ℕ, sym, ap, subst, refl}
 use Rattle.wg_outside.proofs.PutsLemmas.{is_that_err}
 use Rattle.wg_bits.specs.Bits.{bits_of}
-use Rattle.wg_source.specs.Held.{Held}
+use Rattle.wg_source.specs.Held.{HeldBytes}
 use Rattle.wg_stream.specs.Prefix.{AreBehind}
 use Rattle.wg_source.specs.StepLaws.{still_there, two_steps, later_cause}
 use Rattle.wg_stream.proofs.ErrorLemmas.{no_ok, no_err, no_more, no_end}
@@ -43,8 +43,8 @@ returns-in_err-judge_end g c =
       fault = λ t file is i behind r.
           let there = still_there _ _ _ _ _ _ _ _ _ file refl s is in
           let j = s.in_step t file is i in
-          let short = j.short (ap (λ (h : Held). h.looked) c.in_ok-look.ensures.ok) in
-          let here = subst (λ (n : ℕ). AreBehind (bits_of file) c.args.pages.now n behind) (sym (ap (λ (h : Held). h.at) c.in_ok-look.ensures.ok)) r in
+          let short = j.short (ap (λ (h : HeldBytes). h.looked) c.in_ok-look.ensures.ok) in
+          let here = subst (λ (n : ℕ). AreBehind (bits_of file) c.args.pages.now n behind) (sym (ap (λ (h : HeldBytes). h.at) c.in_ok-look.ensures.ok)) r in
           graph_weaker c.in_err-judge_end.field-0.0 _ _ (λ f x. record { short = short; reads = x }) (h.fault t file there j behind here);
       few = λ x. x;
     }
@@ -55,7 +55,7 @@ returns-then-is_done g c =
     let h = c.in_ok-judge_end.ensures in
     record {
       params = refl;
-      looked = h.steps.looked (ap (λ (h : Held). h.looked) c.in_ok-look.ensures.ok);
+      looked = h.steps.looked (ap (λ (h : HeldBytes). h.looked) c.in_ok-look.ensures.ok);
       more = λ x. absurd (no_more x);
       end = λ _. (refl, c.is_done.ensures.done c.if-is_done.true, h.total);
       steps = two_steps _ _ _ _ _ _ _ _ _ _ _ _ refl s h.steps;
@@ -65,8 +65,8 @@ returns-then-is_done g c =
       judged = λ t file is i behind r _.
           let there = still_there _ _ _ _ _ _ _ _ _ file refl s is in
           let j = s.in_step t file is i in
-          let here = subst (λ (n : ℕ). AreBehind (bits_of file) c.args.pages.now n behind) (sym (ap (λ (h : Held). h.at) c.in_ok-look.ensures.ok)) r in
-          record { short = j.short (ap (λ (h : Held). h.looked) c.in_ok-look.ensures.ok); reads = h.reads t file there j behind here };
+          let here = subst (λ (n : ℕ). AreBehind (bits_of file) c.args.pages.now n behind) (sym (ap (λ (h : HeldBytes). h.at) c.in_ok-look.ensures.ok)) r in
+          record { short = j.short (ap (λ (h : HeldBytes). h.looked) c.in_ok-look.ensures.ok); reads = h.reads t file there j behind here };
       fault = λ t file is i behind r. tt;
       few = λ x. x;
     }
@@ -89,8 +89,8 @@ returns-in_err-next_record g c =
       fault = λ t file is i behind r.
           let there = still_there _ _ _ _ _ _ _ _ _ file refl s is in
           let j = s.in_step t file is i in
-          let short = j.short (ap (λ (h : Held). h.looked) c.in_ok-look.ensures.ok) in
-          let here = subst (λ (n : ℕ). AreBehind (bits_of file) c.args.pages.now n behind) (sym (ap (λ (h : Held). h.at) c.in_ok-look.ensures.ok)) r in
+          let short = j.short (ap (λ (h : HeldBytes). h.looked) c.in_ok-look.ensures.ok) in
+          let here = subst (λ (n : ℕ). AreBehind (bits_of file) c.args.pages.now n behind) (sym (ap (λ (h : HeldBytes). h.at) c.in_ok-look.ensures.ok)) r in
           graph_weaker c.in_err-next_record.field-0.0 _ _ (λ f x. record { short = short; reads = x }) (h.fault t file there j behind here);
       few = λ _. h.few;
     }
@@ -101,7 +101,7 @@ returns g c =
     let h = c.in_ok-next_record.ensures in
     record {
       params = h.params;
-      looked = h.steps.looked (ap (λ (h : Held). h.looked) c.in_ok-look.ensures.ok);
+      looked = h.steps.looked (ap (λ (h : HeldBytes). h.looked) c.in_ok-look.ensures.ok);
       more = λ _. (h.page, search rules, h.arcs);
       end = λ x. absurd (no_end x);
       steps = two_steps _ _ _ _ _ _ _ _ _ _ _ _ refl s h.steps;
@@ -109,7 +109,7 @@ returns g c =
       absent = λ t n l. absurd (no_err (c.in_ok-look.ensures.absent t n l));
       reads = λ t file is i behind r _.
           let there = still_there _ _ _ _ _ _ _ _ _ file refl s is in
-          let here = subst (λ (n : ℕ). AreBehind (bits_of file) c.args.pages.now n behind) (sym (ap (λ (h : Held). h.at) c.in_ok-look.ensures.ok)) r in
+          let here = subst (λ (n : ℕ). AreBehind (bits_of file) c.args.pages.now n behind) (sym (ap (λ (h : HeldBytes). h.at) c.in_ok-look.ensures.ok)) r in
           h.reads t file there (s.in_step t file is i) behind here;
       judged = λ t file is i behind r x. absurd (no_end x);
       fault = λ t file is i behind r. tt;

@@ -3,7 +3,7 @@ use Rattle.std.specs.Result.{IfOk}
 use Rattle.wg_bits.specs.Bits.{bits_of}
 use Rattle.wg_codes.specs.declared.outcome.Read.TheVariants.{Value, Cut}
 use Rattle.wg_grammar.specs.Standing.{IsReadAt}
-use Rattle.wg_source.specs.Held.{Held, IsHeldOf}
+use Rattle.wg_source.specs.Held.{HeldBytes, IsHeldOf}
 use Rattle.wg_source.proofs.FillLemmas.{whole_of_file}
 use Rattle.wg_source.proofs.file_source.FileSourceSource.read.Goals as goal
 
@@ -18,5 +18,5 @@ pub returns-in-None-clause-found : goal.returns-in-None-clause-found
 returns-in-None-clause-found g c = λ bits r.
     let still = c.in-None.ensures.still in
     subst (λ (b : List Bool). IfOk c.word_in_pieces.result (λ x. IsReadAt c.args.code b c.args.self.now.held.now.at x c.word_in_pieces.new.held.at)) r.1.3
-    (subst (λ (n : ℕ). IfOk c.word_in_pieces.result (λ x. IsReadAt c.args.code (bits_of r.1.0) n x c.word_in_pieces.new.held.at)) (ap (λ (h : Held). h.at) still)
+    (subst (λ (n : ℕ). IfOk c.word_in_pieces.result (λ x. IsReadAt c.args.code (bits_of r.1.0) n x c.word_in_pieces.new.held.at)) (ap (λ (h : HeldBytes). h.at) still)
     (c.word_in_pieces.ensures.found r.0 r.1.0 r.1.1 (subst (IsHeldOf r.1.0) (sym still) r.1.2)))

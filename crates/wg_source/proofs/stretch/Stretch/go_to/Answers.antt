@@ -2,7 +2,7 @@ use Rattle.std.proofs.Common.{◌≡◌, ◌∙◌, ◌<◌, ◌-◌, ◌/◌, �
 use Rattle.std.proofs.lemmas.Result.{err_from_is_err_and}
 use Rattle.wg_outside.specs.Outside.{Files, Counts, NonDecreasing}
 use Rattle.wg_outside.proofs.FilesLemmas.{none_falls-refl}
-use Rattle.wg_source.specs.Held.{Held, IsHeldOf}
+use Rattle.wg_source.specs.Held.{HeldBytes, IsHeldOf}
 use Rattle.wg_source.specs.Stepping.{Moves}
 use Rattle.wg_source.proofs.CauseLemmas.{too_long}
 use Rattle.wg_source.proofs.FillLemmas.{moved_held}
@@ -10,11 +10,11 @@ use Rattle.wg_source.proofs.HeldLemmas.{begun, piece_at, taken_up}
 use Rattle.wg_source.proofs.stretch.Stretch.go_to.Goals as goal
 
 -- what is held stays as it is
-not_moved : (told : Bool) (name : List ℕ) (f1 f2 : Files) (c1 c2 : List ℕ → Counts) (h1 h2 : Held) → h2 ≡ h1 → f2 ≡ f1 → NonDecreasing c1 c2 → Moves told name f1 f2 c1 c2 h1 h2
+not_moved : (told : Bool) (name : List ℕ) (f1 f2 : Files) (c1 c2 : List ℕ → Counts) (h1 h2 : HeldBytes) → h2 ≡ h1 → f2 ≡ f1 → NonDecreasing c1 c2 → Moves told name f1 f2 c1 c2 h1 h2
 not_moved told name f1 f2 c1 c2 h1 h2 still same later = record {
   same = same;
   later = later;
-  looked = λ e. ap (λ (h : Held). h.looked) still ∙ e;
+  looked = λ e. ap (λ (h : HeldBytes). h.looked) still ∙ e;
   in_step = λ t file is i. subst (IsHeldOf file) (sym still) i;
 }
 
@@ -24,7 +24,7 @@ returns-then-at-eq0-clause-moves g c =
     record {
       same = refl;
       later = none_falls-refl _;
-      looked = λ e. ap (λ (h : Held). h.looked) (c.hold.ensures) ∙ ap (λ (h : Held). h.looked) still ∙ e;
+      looked = λ e. ap (λ (h : HeldBytes). h.looked) (c.hold.ensures) ∙ ap (λ (h : HeldBytes). h.looked) still ∙ e;
       in_step = λ t file is i. begun file c.go_within.new.self c.hold.new.self c.hold.ensures (subst (IsHeldOf file) (sym still) i);
     }
 
@@ -35,14 +35,14 @@ returns g c =
       moves = record {
         same = c.in_ok-count.ensures.same;
         later = c.in_ok-count.ensures.later;
-        looked = λ e. ap (λ (h : Held). h.looked) (c.hold-2.ensures) ∙ ap (λ (h : Held). h.looked) still ∙ e;
+        looked = λ e. ap (λ (h : HeldBytes). h.looked) (c.hold-2.ensures) ∙ ap (λ (h : HeldBytes). h.looked) still ∙ e;
         in_step = λ t file is i.
             let some : 0 < c.in_ok-count.count = omega arith in
             taken_up file c.go_within.new.self c.hold-2.new.self c.read.new.buf ((c.args.at - 1) / 8) c.args.at c.in_ok-count.count some
             (piece_at _ file ((c.args.at - 1) / 8) _ c.in_ok-count.count is (c.in_ok-count.ensures.bytes t)) c.hold-2.ensures (subst (IsHeldOf file) (sym still) i);
       };
       cause = tt;
-      there = λ t. ap (λ (h : Held). h.at) c.hold-2.ensures;
+      there = λ t. ap (λ (h : HeldBytes). h.at) c.hold-2.ensures;
       past = λ t file is e. absurd (true≢false e);
     }
 
@@ -53,11 +53,11 @@ returns-then-go_within g c =
       moves = record {
         same = refl;
         later = none_falls-refl _;
-        looked = λ e. ap (λ (h : Held). h.looked) there ∙ e;
+        looked = λ e. ap (λ (h : HeldBytes). h.looked) there ∙ e;
         in_step = λ t file is i. moved_held file _ _ _ there i;
       };
       cause = tt;
-      there = λ t. ap (λ (h : Held). h.at) there;
+      there = λ t. ap (λ (h : HeldBytes). h.at) there;
       past = λ t file is e. absurd (true≢false e);
     }
 

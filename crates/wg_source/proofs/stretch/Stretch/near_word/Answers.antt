@@ -5,7 +5,7 @@ use Rattle.wg_codes.specs.Reading.{Reads}
 use Rattle.wg_codes.specs.Words.{word, top}
 use Rattle.wg_codes.specs.declared.outcome.Read.TheVariants.{Value}
 use Rattle.wg_codes.proofs.PrefixReads.{prefix_value}
-use Rattle.wg_source.specs.Held.{Held, ahead}
+use Rattle.wg_source.specs.Held.{HeldBytes, ahead}
 use Rattle.wg_source.specs.declared.stretch.TheConstants.{WORD}
 use Rattle.wg_source.proofs.NearLemmas.{near_bits, length-near, told_here}
 use Rattle.wg_source.proofs.stretch.Stretch.near_word.Goals as goal
@@ -24,10 +24,10 @@ returns-clause-found c =
     let near : rest c.new-near.result ≡ drop (s.here % 8) (bits_of (take m (drop (s.here / 8) s.bytes))) =
     ap rest c.new-near.ensures ∙ ap (drop (s.here % 8)) c.of.ensures in
     let here : c.args.self.now.at - 8 * c.args.self.now.first ≡ 8 * (s.here / 8) + s.here % 8 =
-    omega (arith, ap (λ (h : Held). h.at) c.self.view_is, ap (λ (h : Held). h.first) c.self.view_is) in
+    omega (arith, ap (λ (h : HeldBytes). h.at) c.self.view_is, ap (λ (h : HeldBytes). h.first) c.self.view_is) in
     let whole : ahead c.args.self.now ≡ rest c.new-near.result ++ behind =
     ap (λ k. drop k (bits_of c.args.self.now.bytes)) here
-    ∙ ap (λ (h : Held). drop (8 * (s.here / 8) + s.here % 8) (bits_of h.bytes)) (sym c.self.view_is)
+    ∙ ap (λ (h : HeldBytes). drop (8 * (s.here / 8) + s.here % 8) (bits_of h.bytes)) (sym c.self.view_is)
     ∙ near_bits s.bytes s.length (s.here / 8) (s.here % 8) m (omega arith) (omega (arith, c.self.invariant.0)) (omega arith)
     ∙ ap (λ (z : List Bool). z ++ behind) (sym near) in
     let fits : GLANCE_BITS ≤ length (rest c.new-near.result) =

@@ -2,7 +2,7 @@ use Rattle.std.proofs.Common.{◌≡◌, ◌+◌, ◌<◌, ◌∙◌, ℕ, List,
 use Rattle.wg_grammar.specs.Context.{Known}
 use Rattle.wg_grammar.specs.Record.{Whole}
 use Rattle.wg_decoder.specs.Remembered.{known_of}
-use Rattle.wg_stream.specs.Prefix.{PagesRead, PrefixRead}
+use Rattle.wg_stream.specs.Prefix.{PagesRead, RecordsStand}
 use Rattle.wg_outside.proofs.PutsLemmas.{is_that_err}
 use Rattle.std.proofs.lemmas.Result.{err_from_is_err_and}
 use Rattle.wg_grammar.specs.Archive.{ReadsGraph}
@@ -19,7 +19,7 @@ returns-clause-reads g c = λ bits behind r h.
     let end = g.S.Source.offset c.decode_from.new.source in
     let d = c.in_ok-decoded.decoded in
     let w : Whole = record { known = known_of d; end = end } in
-    let here = subst (λ (s : PagesRead). PrefixRead s.params bits s.page s.arcs at s.kept behind) (sym c.self.view_is) h in
+    let here = subst (λ (s : PagesRead). RecordsStand s.params bits s.page s.arcs at s.kept behind) (sym c.self.view_is) h in
     let next = subst (λ (s : PagesRead). s.page < s.params.nodes) (sym c.self.view_is) c.requires.more in
     let more = one_more i.params bits i.page i.arcs at i.window.behind behind w here next (c.in_ok-decoded.ensures.reads bits r) in
     let counted : i.arcs + length d.list ≡ i.arcs + length c.as_slice.result.now = ap (λ (s : List ℕ). i.arcs + length s) (sym c.as_slice.ensures) in
@@ -28,8 +28,8 @@ returns-clause-reads g c = λ bits behind r h.
       w,
       sym c.in_ok-keep.ensures.list,
       refl,
-      subst (λ (kept : List Known). PrefixRead i.params bits (i.page + 1) (i.arcs + length c.as_slice.result.now) end kept (w ∷ behind)) nearest
-          (subst (λ (n : ℕ). PrefixRead i.params bits (i.page + 1) n end (take i.params.window (w.known ∷ i.window.behind)) (w ∷ behind)) counted more),
+      subst (λ (kept : List Known). RecordsStand i.params bits (i.page + 1) (i.arcs + length c.as_slice.result.now) end kept (w ∷ behind)) nearest
+          (subst (λ (n : ℕ). RecordsStand i.params bits (i.page + 1) n end (take i.params.window (w.known ∷ i.window.behind)) (w ∷ behind)) counted more),
     )
 
 pub decode_from-requires : goal.decode_from-requires
@@ -58,7 +58,7 @@ returns-in_err-decoded g c =
       refused = unread_refusal c.in_err-decoded.field-0.0 _ n.refused;
       reads = λ bits behind r h. tt;
       fault = λ bits behind r h.
-          let here = subst (λ (s : PagesRead). PrefixRead s.params bits s.page s.arcs at s.kept behind) (sym c.self.view_is) h in
+          let here = subst (λ (s : PagesRead). RecordsStand s.params bits s.page s.arcs at s.kept behind) (sym c.self.view_is) h in
           unread_fault c.in_err-decoded.field-0.0 _ _
           (λ f refused. subst (λ (s : PagesRead). ReadsGraph s.params bits (Err (archive.Record f))) c.self.view_is (one_refused i.params bits i.page i.arcs at i.window.behind behind f here next refused))
           (n.fault bits r);
