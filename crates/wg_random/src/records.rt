@@ -24,7 +24,7 @@ pub struct Records<'a> {
     pub(crate) bytes: &'a [u8],
     pub(crate) params: Params,
     pub(crate) offsets: Offsets,
-    // at least the outdegree of each page
+    // the greatest outdegree
     pub(crate) greatest: u64,
 }
 

@@ -4,7 +4,7 @@ use Rattle.std.specs.Prelude.{get_or, set, max, All}
 use Rattle.std.proofs.Math.Logic.{∥∥₁_elim}
 use Rattle.std.proofs.lemmas.Bool.{cases_lt}
 use Rattle.std.proofs.lemmas.List.{length-set, get_or-set_same, get_or-set_other, length-map}
-use Rattle.std.proofs.lemmas.List.Elements.{All-get_or, All-nil, All-push, All-weaker}
+use Rattle.std.proofs.lemmas.List.Elements.{All-cons, All-get_or, All-nil, All-weaker}
 use Rattle.wg_params.specs.Parameters.{Parameters, IsWithinLimits}
 use Rattle.wg_bits.specs.Bits.{Position, bits_of}
 use Rattle.wg_graph.specs.Ascending.{Ascends}
@@ -19,7 +19,7 @@ use Rattle.wg_decoder.specs.Proper.{IsRecord}
 use Rattle.wg_stream.proofs.PrefixLemmas.{lists_more}
 use Rattle.wg_stream.specs.AllRecords.{AllRecords, no_record, known_at, offset_at}
 use Rattle.wg_stream.specs.References.{below_at}
-use Rattle.wg_stream.specs.Sweeping.{StandFor, HaveGraph, no_row, IsBack, AreKept, IsNext}
+use Rattle.wg_stream.specs.Sweeping.{greatest_outdegree, StandFor, HaveGraph, no_row, IsBack, AreKept, IsNext}
 use Rattle.wg_stream.specs.OneStands.{one_set, stand_one}
 use Rattle.wg_stream.proofs.AllRecords.{all_records, record_at, found_of}
 use Rattle.wg_stream.proofs.AcceptedRecords.{list_at}
@@ -156,15 +156,22 @@ fits_room p bits r graph room page is lt all =
     let here : get_or graph page [] ≡ (known_at r.records page).list = ap (λ (l : List (List ℕ)). get_or l page []) is ∙ list_at r.records page in
     subst (λ (l : List ℕ). length l ≤ room) here (All-get_or (λ s. length s ≤ room) graph page [] long all)
 
--- one list more, and the greatest so far
-pub none_greater : (g : ℕ) → All (λ s. length s ≤ g) (lists_of [])
-none_greater g = All-nil (λ s. length s ≤ g)
+-- no list is longer than the greatest outdegree
+pub none_longer : (lists : List (List ℕ)) → All (λ s. length s ≤ greatest_outdegree lists) lists
+none_longer [] = All-nil (λ s. length s ≤ 0)
+none_longer (list ∷ lists) =
+    let m = greatest_outdegree (list ∷ lists) in
+    All-cons (λ s. length s ≤ m) list lists (omega arith)
+    (All-weaker (λ s. length s ≤ greatest_outdegree lists) (λ s. length s ≤ m) (λ s h. omega (arith, h)) lists (none_longer lists))
 
-pub one_greater : (behind : List Whole) (w : Whole) (g m n : ℕ) (list lent : List ℕ) → w.known.list ≡ list → lent ≡ list → n ≡ length lent → m ≡ max g n → All (λ s. length s ≤ g) (lists_of behind) → All (λ s. length s ≤ m) (lists_of (w ∷ behind))
-one_greater behind w g m n list lent is lent_is len most all =
-    subst (All (λ s. length s ≤ m)) (sym (lists_more w behind))
-    (All-push (λ s. length s ≤ m) (lists_of behind) w.known.list (All-weaker (λ s. length s ≤ g) (λ s. length s ≤ m) (λ s h. omega (arith, h, most)) (lists_of behind) all)
-    (omega (arith, most, len, ap (λ (l : List ℕ). length l) is, ap (λ (l : List ℕ). length l) lent_is)))
+greatest-push : (lists : List (List ℕ)) (list : List ℕ) → greatest_outdegree (lists ++ list ∷ []) ≡ max (greatest_outdegree lists) (length list)
+greatest-push [] list = omega arith
+greatest-push (s ∷ lists) list = omega (arith, greatest-push lists list)
+
+-- one list more, and the greatest so far
+pub one_greater : (behind : List Whole) (w : Whole) (g m n : ℕ) (list lent : List ℕ) → w.known.list ≡ list → lent ≡ list → n ≡ length lent → m ≡ max g n → g ≡ greatest_outdegree (lists_of behind) → m ≡ greatest_outdegree (lists_of (w ∷ behind))
+one_greater behind w g m n list lent is lent_is len most same =
+    omega (arith, most, len, same, ap (λ (l : List ℕ). length l) is, ap (λ (l : List ℕ). length l) lent_is, greatest-push (lists_of behind) w.known.list, ap greatest_outdegree (lists_more w behind))
 
 -- ---- a vector that was written through a slice of it
 

@@ -1,5 +1,5 @@
 -- The lists of an archive that are decoded in order, page after page.
-use Rattle.std.specs.Prelude.{◌≡◌, ◌⊎◌, ℕ, ◌+◌, ◌-◌, ◌<◌, ◌≤◌, min, Bool, List, [], length, get_or, map, All, Ok}
+use Rattle.std.specs.Prelude.{◌≡◌, ◌⊎◌, ℕ, ◌+◌, ◌-◌, ◌<◌, ◌≤◌, min, max, Bool, List, [], ◌∷◌, length, get_or, map, All, Ok}
 use Rattle.wg_outside.specs.declared.limits.TheConstants.{MOST_BYTES}
 use Rattle.wg_params.specs.Parameters.{Parameters, IsWithinLimits}
 use Rattle.wg_bits.specs.Bits.{bits_of}
@@ -15,12 +15,17 @@ pub record StandFor (p : Parameters) (bits : List Bool) (graph : List (List ℕ)
   pub places : List ℕ
   pub reads : ReadsGraph p bits (Ok (record { graph = graph; places = places }))
 
--- What a pass over all records finds: the bits stand for a graph whose records have these offsets, and no list of it is
--- longer than the greatest.
+-- the length of the longest of these lists, 0 if there is none
+abbrev pub greatest_outdegree : List (List ℕ) → ℕ
+greatest_outdegree [] = 0
+greatest_outdegree (list ∷ lists) = max (length list) (greatest_outdegree lists)
+
+-- What a pass over all records finds: the bits stand for a graph whose records have these offsets, and this is its
+-- greatest outdegree.
 abbrev pub PassFinds : Parameters → List Bool → List ℕ → ℕ → Type 0
 PassFinds p bits offsets greatest =
     (graph : List (List ℕ)) × ReadsGraph p bits (Ok (record { graph = graph; places = offsets }))
-    × All (λ s. length s ≤ greatest) graph
+    × (greatest ≡ greatest_outdegree graph)
 
 -- they stand for a graph; there is one at most
 abbrev pub HaveGraph : Parameters → List Bool → Type 0

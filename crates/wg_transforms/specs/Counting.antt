@@ -1,9 +1,10 @@
 -- The arcs of a graph file, counted at their targets while its records are validated.
-use Rattle.std.specs.Prelude.{◌≡◌, ℕ, ◌≤◌, All, Bool, List, length, Ok, Err}
+use Rattle.std.specs.Prelude.{◌≡◌, ℕ, Bool, List, Ok, Err}
 use Rattle.wg_params.specs.Parameters.{Parameters}
 use Rattle.wg_graph.specs.Digraph.{Digraph}
 use Rattle.wg_grammar.specs.Archive.{Accepted, ReadsGraph}
-use Rattle.wg_grammar.specs.Laws.{accepted_graph}
+use Rattle.wg_grammar.specs.Laws.{graph_of}
+use Rattle.wg_stream.specs.Sweeping.{greatest_outdegree}
 use Rattle.wg_transpose.specs.Transposed.{predecessors}
 use Rattle.wg_transpose.specs.SoFar.{AreCounts}
 use Rattle.wg_transpose.specs.Transposing.{Transposing}
@@ -14,13 +15,12 @@ use Rattle.wg_outcomes.specs.Readings.{Readings}
 use Rattle.wg_outcomes.specs.declared.ending.Ending.{Ending}
 use Rattle.wg_outcomes.specs.declared.status.Input.TheVariants.{Graph}
 
--- What such a pass finds: the bits stand for a graph, no list of it is longer than the greatest, and so many arcs lead
--- to each page.
+-- What such a pass finds: the bits stand for a graph, this is its greatest outdegree, and so many arcs lead to each page.
 pub record CountsArcs (p : Parameters) (bits : List Bool) (greatest : ℕ) (counts : List ℕ) : Type 0 where
   pub accepted : Accepted
   pub reads : ReadsGraph p bits (Ok accepted)
-  pub room : All (λ list. length list ≤ greatest) accepted.graph
-  pub counted : AreCounts p.nodes (predecessors (accepted_graph p accepted)) counts
+  pub greatest_is : greatest ≡ greatest_outdegree accepted.graph
+  pub counted : AreCounts p.nodes (predecessors (graph_of p accepted)) counts
 
 -- The graph of a graph file was validated, and the first range of the lists of the transposed graph is still to come.
 pub record IsReversed (p : Parameters) (bytes : List ℕ) (t : Transposing) : Type 0 where

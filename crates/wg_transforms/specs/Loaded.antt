@@ -1,5 +1,5 @@
 -- An archive whose three files are validated before a job goes on with its graph.
-use Rattle.std.specs.Prelude.{◌≡◌, ◌⊎◌, ℕ, ◌≤◌, Bool, List, length, Result, Ok, Err, IsTrue, All, IfOk, IfErr}
+use Rattle.std.specs.Prelude.{◌≡◌, ◌⊎◌, ℕ, ◌≤◌, Bool, List, length, Result, Ok, Err, IsTrue, IfOk, IfErr}
 use Rattle.wg_outside.specs.Outside.{Files, Counts, NonDecreasing}
 use Rattle.wg_outside.specs.declared.depot.Depot as depot
 use Rattle.wg_outside.specs.declared.limits.TheConstants.{MOST_BYTES}
@@ -9,6 +9,7 @@ use Rattle.wg_grammar.specs.Archive.{Accepted, ReadsGraph}
 use Rattle.wg_outcomes.specs.Answers.{Answers, Steps, status_in, without}
 use Rattle.wg_outcomes.specs.Causes.{HasCause}
 use Rattle.wg_outcomes.specs.Judged.{Judged, refused, with_archive, with_graph}
+use Rattle.wg_stream.specs.Sweeping.{greatest_outdegree}
 use Rattle.wg_readings.specs.Loading.{JudgesOffsets}
 use Rattle.wg_outcomes.specs.Names.{file_of, held_by, no_outputs}
 use Rattle.wg_outcomes.specs.Promised.{ArePromised, IsBadFile, promised_in}
@@ -38,9 +39,9 @@ IsOfArchive (BadProperties f) = Unit {0}
 IsOfArchive (BadArchive f) = Unit {0}
 IsOfArchive _ = ⊥
 
--- the bytes stand for this graph, and no page of it has more successors than the greatest
+-- the bytes stand for this graph, and this is its greatest outdegree
 abbrev pub IsJudged : Parameters → List ℕ → ℕ → Accepted → Type 0
-IsJudged p bytes greatest a = ReadsGraph p (bits_of bytes) (Ok a) × All (λ list. length list ≤ greatest) a.graph
+IsJudged p bytes greatest a = ReadsGraph p (bits_of bytes) (Ok a) × (greatest ≡ greatest_outdegree a.graph)
 
 -- the graph file that was read, by its parameters, stands for this graph
 pub record IsLoaded (l : Loaded) (a : Accepted) : Type 0 where

@@ -9,7 +9,7 @@ use Rattle.wg_offsets.proofs.WordsLemmas.{last_more}
 use Rattle.wg_stream.specs.Prefix.{AreBehind}
 use Rattle.wg_stream.proofs.ErrorLemmas.{fault_weaker}
 use Rattle.wg_stream.proofs.PrefixLemmas.{places_more}
-use Rattle.wg_stream.proofs.SweepLemmas.{none_greater, one_greater}
+use Rattle.wg_stream.proofs.SweepLemmas.{one_greater}
 use Rattle.wg_stream.proofs.passed.pass_on.Goals as goal
 
 pub loop-page-init : goal.loop-page-init
@@ -22,7 +22,7 @@ loop-page-init c =
       same_bits = refl;
       counted = ap length one;
       last = ap last_place one ∙ sym start;
-      read = ([], subst (λ (n : ℕ). AreBehind c.args.source.now.bits c.args.pages.now n []) (sym start) c.requires.behind, one, none_greater 0);
+      read = ([], subst (λ (n : ℕ). AreBehind c.args.source.now.bits c.args.pages.now n []) (sym start) c.requires.behind, one, refl);
     }
 
 pub next-requires : goal.next-requires

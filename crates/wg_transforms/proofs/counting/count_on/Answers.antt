@@ -62,6 +62,6 @@ returns-clause-finds c =
     record {
       accepted = record { graph = lists_of behind; places = places_of behind };
       reads = subst (λ (q : Parameters). ReadsGraph q bits (Ok (record { graph = lists_of behind; places = places_of behind }))) h.same_params (c.in_ok-finish.ensures.reads bits behind h.same_bits h.read.1);
-      room = h.read.2;
+      greatest_is = h.read.2;
       counted = subst (λ (k : ℕ). AreCounts k (predecessors_below (graph_behind k behind) k) c.loop-page.counts) nodes counted;
     }

@@ -1,4 +1,4 @@
-use Rattle.std.proofs.Common.{◌≡◌, ◌∙◌, All, ◌≤◌, ◌⊎◌, inl, inr, length, ℕ, Bool, List, Option, Ok, Err, refl, sym, ap, subst}
+use Rattle.std.proofs.Common.{◌≡◌, ◌∙◌, ◌⊎◌, inl, inr, ℕ, Bool, List, Option, Ok, Err, refl, sym, ap, subst}
 use Rattle.std.specs.Bool.{IsTrue}
 use Rattle.wg_outside.specs.Outside.{Files, Counts, NonDecreasing}
 use Rattle.wg_outside.proofs.FilesLemmas.{none_falls-trans}
@@ -8,6 +8,7 @@ use Rattle.wg_properties.specs.declared.fault.PropFault.{PropFault}
 use Rattle.wg_grammar.specs.Archive.{Accepted, ReadsGraph}
 use Rattle.wg_outcomes.specs.Answers.{Answers, Steps, without}
 use Rattle.wg_outcomes.specs.Judged.{Judged, refused, with_archive, with_file, with_graph}
+use Rattle.wg_stream.specs.Sweeping.{greatest_outdegree}
 use Rattle.wg_readings.specs.Loading.{JudgesOffsets, Loads, LoadsParams, lengths_then, params_then}
 use Rattle.wg_outcomes.specs.Names.{IsOfInput, file_of, held_by}
 use Rattle.wg_outcomes.specs.Promised.{IsStopAt, ArePromised, IsBadFile}
@@ -153,7 +154,7 @@ module _ (base : List ℕ) (td : Bool) (files : Files) (counts : List ℕ → Co
             stop_promised t (inl only) = unread_promised held Offsets e.status e.promised only
             stop_promised t (inr bad) = bad_promised held p Offsets e (l.given t) bad
 
-        loads_all : (files' : Files) (counts' : List ℕ → Counts) (greatest : ℕ) → All (λ list. length list ≤ greatest) a.graph → JudgesOffsets base p a.places td files2 files' counts2 counts' (Ok tt)
+        loads_all : (files' : Files) (counts' : List ℕ → Counts) (greatest : ℕ) → greatest ≡ greatest_outdegree a.graph → JudgesOffsets base p a.places td files2 files' counts2 counts' (Ok tt)
             → LoadsArchive base td files files' counts counts' (Ok (record { params = p; bytes = bytes; greatest = greatest }))
         loads_all files' counts' greatest most o = record {
           goes = (

@@ -16,7 +16,7 @@ returns-in_err-found-clause-ends c =
     rw (is_that_err c.from_residual.result _ c.from_residual.ensures.1) (record { refused = λ q next. e.refused q (λ a. next (accepted_graph c.args.params.now a)); only = e.only })
 
 pub with_room-requires-clause-finds : goal.with_room-requires-clause-finds
-with_room-requires-clause-finds c = let f = c.in_ok-found.ensures.finds in (f.accepted.places, (f.accepted.graph, f.reads, f.room))
+with_room-requires-clause-finds c = let f = c.in_ok-found.ensures.finds in (f.accepted.places, (f.accepted.graph, f.reads, f.greatest_is))
 
 pub with_counts-requires : goal.with_counts-requires
 with_counts-requires c =

@@ -6,7 +6,7 @@ use Rattle.wg_grammar.specs.Archive.{Accepted}
 use Rattle.wg_grammar.proofs.ProperGraphs.{graph_proper}
 use Rattle.wg_stream.specs.Sweeping.{Sweeping}
 use Rattle.wg_stream.proofs.AcceptedRecords.{read_of}
-use Rattle.wg_stream.proofs.SweepLemmas.{graph_there, kept_none}
+use Rattle.wg_stream.proofs.SweepLemmas.{graph_there, kept_none, none_longer}
 use Rattle.wg_stream.proofs.sweep.Sweep.with_room.Goals as goal
 
 pub invariant_of-result : goal.invariant_of-result
@@ -24,7 +24,7 @@ invariant_of-result c =
       few = omega arith;
       begins = refl;
       count = many;
-      room = subst (λ (k : ℕ). All (λ s. length s ≤ k) a.graph) (sym c.in_ok-list.ensures.room) c.requires.finds.1.2;
+      room = subst (λ (k : ℕ). All (λ s. length s ≤ k) a.graph) (sym c.requires.finds.1.2 ∙ sym c.in_ok-list.ensures.room) (none_longer a.graph);
       rooms = subst (λ (k : ℕ). All (λ r. r.room ≡ k) c.in_ok-kept.kept.items) (sym c.in_ok-list.ensures.room) c.in_ok-kept.ensures.rooms;
       last = λ some. absurd (omega (arith, some));
       turns = λ some. some;
