@@ -19,10 +19,12 @@ use wg_params::Code;
 /// One page of so many has its place kept.
 pub const SAMPLED: u64 = 1024;
 
-/// Where the record of a page begins, and where the next one does, in bits.
+/// Where the record of a page lies.
 #[derive(Clone, Copy, Debug, PartialEq, Eq)]
 pub struct Extent {
+    /// The bit of the graph file where it begins.
     pub start: u64,
+    /// The bit after it.
     pub end: u64,
 }
 

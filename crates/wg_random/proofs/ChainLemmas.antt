@@ -6,49 +6,50 @@ use Rattle.std.proofs.lemmas.List.{length-set, length-append, get_or-set_same, g
 use Rattle.wg_params.specs.Parameters.{Parameters}
 use Rattle.wg_grammar.specs.Record.{Whole}
 use Rattle.wg_stream.specs.AllRecords.{known_at}
-use Rattle.wg_random.specs.Chain.{ArePages, Fall, Link, Going, Ended}
+use Rattle.wg_random.specs.Chain.{ArePages, Fall, Leads, Link, Going, Ended}
 use Rattle.wg_stream.specs.References.{StandsOn, Refers}
 
-pub ended_of : (p : Parameters) (bits : List Bool) (ws : List Whole) (chain : List ℕ) (x page depth back : ℕ) → back ≡ 0 → Refers p bits ws page back → Going p bits ws chain x page depth → Ended p bits ws chain x depth
-ended_of p bits ws chain x page depth back none h g =
-    let at_end : Refers p bits ws page 0 = subst (λ (k : ℕ). Refers p bits ws page k) none h in
-    record {
-      first = g.first;
-      links = g.links;
-      bottom = λ lt. subst (λ (k : ℕ). StandsOn p bits ws k None) (sym (g.here lt)) at_end.proper;
-      deep = omega (arith, g.deep, at_end.depth);
-    }
+pub ended_of : (p : Parameters) (bits : List Bool) (ws : List Whole) (chain : List ℕ) (x page depth : ℕ) → Leads p bits ws page None → Going p bits ws chain x page depth → Ended p bits ws chain x depth
+ended_of p bits ws chain x page depth none g = record {
+  first = g.first;
+  links = g.links;
+  bottom = λ lt. subst (λ (k : ℕ). StandsOn p bits ws k None) (sym (g.here lt)) none.0;
+  deep = omega (arith, g.deep, none.1);
+}
 
-link_of : (p : Parameters) (bits : List Bool) (ws : List Whole) (page back : ℕ) → 0 < back → Refers p bits ws page back → Link p bits ws page (page - back)
+pub no_link : (p : Parameters) (bits : List Bool) (ws : List Whole) (page back : ℕ) → back ≡ 0 → Refers p bits ws page back → Leads p bits ws page None
+no_link p bits ws page back none h =
+    let at_end : Refers p bits ws page 0 = subst (λ (k : ℕ). Refers p bits ws page k) none h in
+    (at_end.proper, at_end.depth)
+
+pub link_of : (p : Parameters) (bits : List Bool) (ws : List Whole) (page back : ℕ) → 0 < back → Refers p bits ws page back → Link p bits ws page (page - back)
 link_of p bits ws page zero some h = absurd (omega (arith, some))
 link_of p bits ws page (suc b) some h = record { proper = h.proper; depth = h.depth }
 
 -- one reference more; the chain keeps the page if it has room
-going_on : (p : Parameters) (bits : List Bool) (ws : List Whole) (chain new : List ℕ) (x page depth back : ℕ) → 0 < back
+going_on : (p : Parameters) (bits : List Bool) (ws : List Whole) (chain new : List ℕ) (x page depth below : ℕ) → Link p bits ws page below
     → ((i : ℕ) → i ≤ depth → i < length new → i < length chain)
     → ((i : ℕ) → i ≤ depth → i < length new → get_or new i 0 ≡ get_or chain i 0)
-    → (depth + 1 < length new → get_or new (depth + 1) 0 ≡ page - back)
-    → Refers p bits ws page back → Going p bits ws chain x page depth → 0 < length new → Going p bits ws new x (page - back) (depth + 1)
-going_on p bits ws chain new x page depth back some keeps same put h g there =
-    let link : Link p bits ws page (page - back) = link_of p bits ws page back some h in
-    record {
-      first = same 0 (omega arith) there ∙ g.first;
-      links = λ i lt near. elim (cases_lt i depth) [
-        | inl less ↦
-            let l : Link p bits ws (get_or chain i 0) (get_or chain (suc i) 0) = g.links i less (keeps (suc i) (omega (arith, less)) near) in
-            let one = subst (λ (k : ℕ). Link p bits ws (get_or chain i 0) k) (sym (same (suc i) (omega (arith, less)) near)) l in
-            subst (λ (k : ℕ). Link p bits ws k (get_or new (suc i) 0)) (sym (same i (omega (arith, less)) (omega (arith, near)))) one
-        | inr ge ↦
-            let e : i ≡ depth = omega (arith, lt, ge) in
-            let kept : depth < length chain = keeps depth (omega arith) (omega (arith, near, e)) in
-            let here : get_or new i 0 ≡ page = same i (omega (arith, e)) (omega (arith, near)) ∙ ap (λ (k : ℕ). get_or chain k 0) e ∙ g.here kept in
-            let place : suc i ≡ depth + 1 = omega (arith, e) in
-            let next : get_or new (suc i) 0 ≡ page - back = ap (λ (k : ℕ). get_or new k 0) place ∙ put (omega (arith, near, e)) in
-            subst (λ (k : ℕ). Link p bits ws k (get_or new (suc i) 0)) (sym here) (subst (λ (k : ℕ). Link p bits ws page k) (sym next) link)
-      ];
-      here = put;
-      deep = omega (arith, g.deep, link.depth);
-    }
+    → (depth + 1 < length new → get_or new (depth + 1) 0 ≡ below)
+    → Going p bits ws chain x page depth → 0 < length new → Going p bits ws new x below (depth + 1)
+going_on p bits ws chain new x page depth below link keeps same put g there = record {
+  first = same 0 (omega arith) there ∙ g.first;
+  links = λ i lt near. elim (cases_lt i depth) [
+    | inl less ↦
+        let l : Link p bits ws (get_or chain i 0) (get_or chain (suc i) 0) = g.links i less (keeps (suc i) (omega (arith, less)) near) in
+        let one = subst (λ (k : ℕ). Link p bits ws (get_or chain i 0) k) (sym (same (suc i) (omega (arith, less)) near)) l in
+        subst (λ (k : ℕ). Link p bits ws k (get_or new (suc i) 0)) (sym (same i (omega (arith, less)) (omega (arith, near)))) one
+    | inr ge ↦
+        let e : i ≡ depth = omega (arith, lt, ge) in
+        let kept : depth < length chain = keeps depth (omega arith) (omega (arith, near, e)) in
+        let here : get_or new i 0 ≡ page = same i (omega (arith, e)) (omega (arith, near)) ∙ ap (λ (k : ℕ). get_or chain k 0) e ∙ g.here kept in
+        let place : suc i ≡ depth + 1 = omega (arith, e) in
+        let next : get_or new (suc i) 0 ≡ below = ap (λ (k : ℕ). get_or new k 0) place ∙ put (omega (arith, near, e)) in
+        subst (λ (k : ℕ). Link p bits ws k (get_or new (suc i) 0)) (sym here) (subst (λ (k : ℕ). Link p bits ws page k) (sym next) link)
+  ];
+  here = put;
+  deep = omega (arith, g.deep, link.depth);
+}
 
 -- the next page up
 pub next_up : (p : Parameters) (bits : List Bool) (ws : List Whole) (chain list : List ℕ) (x depth left : ℕ) → 0 < left → left ≤ depth → depth < length chain
@@ -74,21 +75,21 @@ set_pages chain n depth v lt low pages i le near =
       | inr before ↦ omega (arith, set_before chain depth v i before, pages i before (omega (arith, near, length-set chain (depth + 1) v)))
     ]
 
-pub set_going : (p : Parameters) (bits : List Bool) (ws : List Whole) (chain : List ℕ) (x page depth back : ℕ) → 0 < back → depth + 1 < length chain
-    → Refers p bits ws page back → Going p bits ws chain x page depth → Going p bits ws (set chain (depth + 1) (page - back)) x (page - back) (depth + 1)
-set_going p bits ws chain x page depth back some lt h g =
-    let len : length (set chain (depth + 1) (page - back)) ≡ length chain = length-set chain (depth + 1) (page - back) in
-    going_on p bits ws chain (set chain (depth + 1) (page - back)) x page depth back some
+pub set_going : (p : Parameters) (bits : List Bool) (ws : List Whole) (chain : List ℕ) (x page depth below : ℕ) → Link p bits ws page below → depth + 1 < length chain
+    → Going p bits ws chain x page depth → Going p bits ws (set chain (depth + 1) below) x below (depth + 1)
+set_going p bits ws chain x page depth below link lt g =
+    let len : length (set chain (depth + 1) below) ≡ length chain = length-set chain (depth + 1) below in
+    going_on p bits ws chain (set chain (depth + 1) below) x page depth below link
     (λ i le near. omega (arith, near, len))
-    (λ i le near. set_before chain depth (page - back) i le)
-    (λ near. set_here chain depth (page - back) lt)
-    h g (omega (arith, lt, len))
+    (λ i le near. set_before chain depth below i le)
+    (λ near. set_here chain depth below lt)
+    g (omega (arith, lt, len))
 
 -- if it has no room, it stays
-pub full_going : (p : Parameters) (bits : List Bool) (ws : List Whole) (chain : List ℕ) (x page depth back : ℕ) → 0 < back → length chain ≤ depth + 1 → 0 < length chain
-    → Refers p bits ws page back → Going p bits ws chain x page depth → Going p bits ws chain x (page - back) (depth + 1)
-full_going p bits ws chain x page depth back some full there h g =
-    going_on p bits ws chain chain x page depth back some (λ i le near. near) (λ i le near. refl) (λ near. absurd (omega (arith, near, full))) h g there
+pub full_going : (p : Parameters) (bits : List Bool) (ws : List Whole) (chain : List ℕ) (x page depth below : ℕ) → Link p bits ws page below → length chain ≤ depth + 1 → 0 < length chain
+    → Going p bits ws chain x page depth → Going p bits ws chain x below (depth + 1)
+full_going p bits ws chain x page depth below link full there g =
+    going_on p bits ws chain chain x page depth below link (λ i le near. near) (λ i le near. refl) (λ near. absurd (omega (arith, near, full))) g there
 
 -- ---- a chain that grows
 
@@ -137,20 +138,20 @@ pushed_fall chain new page v is some here low falls i near =
           omega (arith, same, next, push_here chain (suc i) v e, ap (λ (k : ℕ). get_or chain k 0) last, here, low)
     ]
 
-pub pushed_going : (p : Parameters) (bits : List Bool) (ws : List Whole) (chain new : List ℕ) (x page back : ℕ) → new ≡ chain ++ (page - back) ∷ [] → 0 < length chain → 0 < back
-    → Refers p bits ws page back → Going p bits ws chain x page (length chain - 1) → Going p bits ws new x (page - back) (length new - 1)
-pushed_going p bits ws chain new x page back is there some h g =
-    let len : length new ≡ length chain + 1 = pushed_length chain new (page - back) is in
+pub pushed_going : (p : Parameters) (bits : List Bool) (ws : List Whole) (chain new : List ℕ) (x page below : ℕ) → new ≡ chain ++ below ∷ [] → 0 < length chain → Link p bits ws page below
+    → Going p bits ws chain x page (length chain - 1) → Going p bits ws new x below (length new - 1)
+pushed_going p bits ws chain new x page below is there link g =
+    let len : length new ≡ length chain + 1 = pushed_length chain new below is in
     let depth : length chain - 1 + 1 ≡ length new - 1 = omega (arith, len, there) in
     let place : length chain - 1 + 1 ≡ length chain = omega (arith, there) in
-    let put : get_or new (length chain - 1 + 1) 0 ≡ page - back =
-    ap (λ (k : ℕ). get_or new k 0) place ∙ ap (λ (l : List ℕ). get_or l (length chain) 0) is ∙ push_here chain (length chain) (page - back) refl in
-    subst (λ (k : ℕ). Going p bits ws new x (page - back) k) depth
-    (going_on p bits ws chain new x page (length chain - 1) back some
+    let put : get_or new (length chain - 1 + 1) 0 ≡ below =
+    ap (λ (k : ℕ). get_or new k 0) place ∙ ap (λ (l : List ℕ). get_or l (length chain) 0) is ∙ push_here chain (length chain) below refl in
+    subst (λ (k : ℕ). Going p bits ws new x below k) depth
+    (going_on p bits ws chain new x page (length chain - 1) below link
     (λ i le near. omega (arith, le, there))
-    (λ i le near. ap (λ (l : List ℕ). get_or l i 0) is ∙ push_before chain (page - back) i (omega (arith, le, there)))
+    (λ i le near. ap (λ (l : List ℕ). get_or l i 0) is ∙ push_before chain below i (omega (arith, le, there)))
     (λ near. put)
-    h g (omega (arith, len)))
+    g (omega (arith, len)))
 
 -- the same chain, lent
 pub ended_as : (p : Parameters) (bits : List Bool) (ws : List Whole) (chain lent : List ℕ) (x : ℕ) → lent ≡ chain → Ended p bits ws chain x (length chain - 1) → Ended p bits ws lent x (length lent - 1)

@@ -1,5 +1,5 @@
 -- The pages that references lead to, one from the other.
-use Rattle.std.specs.Prelude.{◌≡◌, ℕ, suc, ◌+◌, ◌<◌, ◌≤◌, Bool, List, Some, None, length, get_or}
+use Rattle.std.specs.Prelude.{◌≡◌, ℕ, suc, ◌+◌, ◌<◌, ◌≤◌, Bool, List, Option, Some, None, length, get_or}
 use Rattle.wg_params.specs.Parameters.{Parameters}
 use Rattle.wg_grammar.specs.Record.{Whole}
 use Rattle.wg_stream.specs.AllRecords.{known_at}
@@ -9,6 +9,11 @@ use Rattle.wg_stream.specs.References.{StandsOn}
 pub record Link (p : Parameters) (bits : List Bool) (records : List Whole) (x y : ℕ) : Type 0 where
   pub proper : StandsOn p bits records x (Some (known_at records y).list)
   pub depth : (known_at records x).depth ≡ suc (known_at records y).depth
+
+-- the record of page x refers to this page, or to none
+abbrev pub Leads : Parameters → List Bool → List Whole → ℕ → Option ℕ → Type 0
+Leads p bits records x (Some y) = Link p bits records x y
+Leads p bits records x None = StandsOn p bits records x None × ((known_at records x).depth ≡ 0)
 
 -- the numbers of the chain up to this index are pages
 abbrev pub ArePages : ℕ → List ℕ → ℕ → Type 0

@@ -1,5 +1,5 @@
 //! Pages by their offsets.
-ghost use Rattle.std.specs.Prelude.{◌≡◌, ◌≢◌, ◌+◌, ◌<◌, ◌≤◌, ℕ, List, [], length, get_or, Some, Ok, Err, IfOk, IfErr, OnOk, OnErr, option_copied};
+ghost use Rattle.std.specs.Prelude.{◌≡◌, ◌≢◌, ◌+◌, ◌<◌, ◌≤◌, ℕ, List, [], length, get_or, Some, Ok, Err, IfSome, IfOk, IfErr, OnOk, OnErr, option_copied};
 ghost use Rattle.wg_graph.specs.Ascending.{Ascends};
 ghost use Rattle.wg_grammar.specs.Archive.{Accepted, ReadsGraph};
 ghost use Rattle.wg_iterators.specs.declared.below.TheConstants.{CHAIN_PAGES};
@@ -10,7 +10,7 @@ ghost use Rattle.wg_random.specs.declared.error.OpenError.{OpenError};
 ghost use Rattle.wg_random.specs.Checked.{StandsForGraph};
 ghost use Rattle.wg_random.specs.Checking.{OfArchive, IsLengthFault};
 ghost use Rattle.wg_stream.specs.AllRecords.{AllRecords, known_at, offset_at};
-ghost use Rattle.wg_random.specs.Chain.{ArePages, Ended};
+ghost use Rattle.wg_random.specs.Chain.{ArePages, Ended, Leads};
 ghost use Rattle.wg_stream.specs.References.{StandsOn, Refers};
 ghost use Rattle.wg_random.specs.Answer.{all_of, Opens};
 
@@ -113,13 +113,29 @@ impl<'a> Archive<'a> {
     }
 
     // How many pages back the record of a page refers.
-    pub(crate) fn reference(&self, page: u64) -> u64
+    fn reference(&self, page: u64) -> u64
         requires { page < self.now.params.nodes }
         ensures refers { (r : AllRecords self.now.params self.now.bits)
             → Refers self.now.params self.now.bits r.records page result }
         ensures near { result ≤ page }
     {
         reference(&self.params, self.cursor(page))
+    }
+
+    /// Opens the record of a page on the way down its chain, with a tick, and gives the page that it refers to.
+    pub(crate) fn follow<L: Ledger>(&self, page: u64, steps: &mut Steps<L>) -> Option<u64>
+        requires { page < self.now.params.nodes }
+        ensures leads { (r : AllRecords self.now.params self.now.bits)
+            → Leads self.now.params self.now.bits r.records page result }
+        ensures down { IfSome result (λ below. below < page) }
+        ensures ticks { steps.new ≡ steps.old + 1 }
+    {
+        steps.tick();
+        let back = self.reference(page);
+        if back == 0 {
+            return None;
+        }
+        Some(page - back)
     }
 
     // The page, if all of its successors are to come.
@@ -166,18 +182,14 @@ impl<'a> Archive<'a> {
         let mut page = x;
         let mut depth = 0;
         chain[0] = x;
-        'down: loop {
-            steps.tick();
-            let back = self.reference(page);
-            if back == 0 {
-                return depth;
-            }
-            page -= back;
+        'down: while let Some(below) = self.follow(page, steps) {
+            page = below;
             depth += 1;
             if depth < CHAIN_PAGES as u64 {
                 chain[depth as usize] = page;
             }
         }
+        depth
     }
 
     // Makes the pages of a chain that ends after `depth` references, from the last one up, each below the one before

@@ -8,8 +8,9 @@ ghost use Rattle.wg_stream.specs.Errors.{OnFault, OnRefusal};
 ghost use Rattle.wg_random.specs.Chain.{ArePages, Fall};
 ghost use Rattle.wg_random.specs.Spot.{ChainAnswers, IsWholeChain, SpotAnswers};
 
+use crate::located::Indexed;
 use crate::unchecked::{read_record, reference};
-use crate::{Indexed, Located, SpotError, Steps};
+use crate::{Located, SpotError, Steps};
 use std::alloc::Global;
 use std::mem::replace;
 use std::sync::ledger::Ledger;

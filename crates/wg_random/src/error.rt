@@ -9,8 +9,10 @@ use wg_grammar::ArchiveFault;
 /// Why a graph file is refused.
 #[derive(Clone, Copy, Debug, PartialEq, Eq, Error)]
 pub enum CheckError {
+    /// The first fault of the records, or the first length that differs.
     #[error("{0}")]
     Archive(ArchiveFault),
+    /// There was no memory for a list or for the offsets.
     #[error("out of memory")]
     Memory,
 }
@@ -18,11 +20,13 @@ pub enum CheckError {
 /// Why a page was not opened.
 #[derive(Clone, Copy, Debug, PartialEq, Eq, Error)]
 pub enum OpenError {
+    /// The archive has no such page.
     #[error("no such page")]
     NoPage,
     /// More references lead on from it than may be followed, namely so many.
     #[error("too deep: {0}")]
     Deep(u64),
+    /// There was no memory for a box. A page without a reference takes none.
     #[error("out of memory")]
     Memory,
 }
@@ -30,8 +34,10 @@ pub enum OpenError {
 /// Why the list of a page was not made.
 #[derive(Clone, Copy, Debug, PartialEq, Eq, Error)]
 pub enum ListError {
+    /// The archive has no such page.
     #[error("no such page")]
     NoPage,
+    /// There was no memory for a list or for the pages of the chain.
     #[error("out of memory")]
     Memory,
 }
@@ -47,11 +53,13 @@ impl From<AllocError> for ListError {
 /// Why the list of a page was not read from an archive that was not checked.
 #[derive(Clone, Copy, Debug, PartialEq, Eq, Error)]
 pub enum SpotError {
+    /// The archive has no such page.
     #[error("no such page")]
     NoPage,
     /// The first fault of the page's chain of references.
     #[error("{0}")]
     Archive(ArchiveFault),
+    /// There was no memory for a list or for the pages of the chain.
     #[error("out of memory")]
     Memory,
 }

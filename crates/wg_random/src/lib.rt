@@ -26,9 +26,8 @@
 //! It goes down once, as for a list, and then up the one way or the other. So it opens each record once.
 //!
 //! [`spot_from`] reads a page of an archive that was not checked, by the offsets and the same chain alone, from any
-//! source that goes to any offset of its bits and tells where the record of a page lies ([`Located`]), as one does
-//! whose offsets are held ([`Indexed`]); of a file in a depot it reads no other record. [`spot`] does so from bytes in
-//! memory. The heads of these records are validated first, from the page down, and then the whole records, from the
+//! source that goes to any offset of its bits and tells where the record of a page lies ([`Located`]); of a file in a
+//! depot it reads no other record. [`spot`] does so from bytes in memory, by offsets that are held. The heads of these records are validated first, from the page down, and then the whole records, from the
 //! last one up, and the answer is the list of the page or the first fault. The functions of [`laws`] state that there
 //! is one answer, and that it is the page's list of the graph if the archive is accepted.
 //!
@@ -45,6 +44,14 @@
 //! assert!(rt; lists.next_list() == Some([1, 2].as_slice()));
 //! assert!(rt; lists.next_list() == Some([].as_slice()));
 //! Ok(())
+//! ```
+//!
+//! Opening a page takes two lines beside the call, and three conditions that say what the blank is of:
+//!
+//! ```text
+//! opened::<Brand>(alloc, &archive, Blank::new(1))      whoever begins to count; the proof of this call names the ledger
+//! let mut steps = Steps::<L>::open(blank);             in `fn opened<L: Ledger>(.., blank: Blank)`
+//! archive.open(alloc, page, &mut steps)?               one tick for each record that is opened
 //! ```
 //!
 //! | call | memory | time |
@@ -85,7 +92,7 @@ mod unchecked;
 pub use archive::Archive;
 pub use chain::{spot, spot_from};
 pub use error::{CheckError, ListError, OpenError, SpotError};
-pub use located::{Indexed, Located};
+pub use located::Located;
 pub use reading::Page;
 pub use records::Records;
 pub use steps::Steps;

@@ -47,15 +47,11 @@ impl<'a> Archive<'a> {
         let mut chain = List::new(alloc);
         chain.push(x)?;
         let mut page = x;
-        'down: loop {
-            steps.tick();
-            let back = self.reference(page);
-            if back == 0 {
-                return Ok(chain);
-            }
-            page -= back;
+        'down: while let Some(below) = self.follow(page, steps) {
+            page = below;
             chain.push(page)?;
         }
+        Ok(chain)
     }
 
     // Puts the successors of a page into the list, in place of those that it had. The list of the page that the record

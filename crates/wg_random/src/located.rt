@@ -33,9 +33,9 @@ pub trait Located: Seek {
 
 /// A source of records whose offsets are all held: one for each record, and last the offset after them.
 #[derive(Debug, Drop)]
-pub struct Indexed<'a, S: Seek> {
-    pub source: S,
-    pub offsets: &'a Offsets,
+pub(crate) struct Indexed<'a, S: Seek> {
+    pub(crate) source: S,
+    pub(crate) offsets: &'a Offsets,
 }
 
 impl<'a, S: Seek> Source for Indexed<'a, S> {

@@ -21,6 +21,7 @@ use wg_params::Code;
 /// is to be of the same file at each call. [`Stretch::look`] tells before the first word whether the file is too long.
 #[derive(Debug, Drop)]
 pub struct FileSource<'a, D: Depot> {
+    /// Where the file is.
     pub depot: &'a mut D,
     /// The name of the file.
     pub name: &'a str,

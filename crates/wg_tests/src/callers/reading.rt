@@ -139,8 +139,7 @@ fn counted<L: Ledger>(rt: &impl Abort, alloc: Global, blank: Blank) -> Result<()
     requires parts { blank.parts ≡ L.parts }
     requires some { 0 < blank.parts }
 {
-    let (book, share) = blank.open::<L>();
-    let mut steps = Steps::new(book, share);
+    let mut steps = Steps::<L>::open(blank);
     let records = Records::check(alloc, b"\x7D\xC6\xE0", usual(3, 4, 7, 3, 4)?)?;
     opened_pages(rt, alloc, &records.archive(), &mut steps)
 }

@@ -84,8 +84,7 @@ fn long_chain<L: Ledger>(rt: &impl Abort, alloc: Global, blank: Blank) -> Result
     requires parts { blank.parts ≡ L.parts }
     requires some { 0 < blank.parts }
 {
-    let (book, share) = blank.open::<L>();
-    let mut steps = Steps::new(book, share);
+    let mut steps = Steps::<L>::open(blank);
     let bytes = copies(alloc)?;
     assert!(rt; bytes.len() as u64 <= MOST_BYTES);
     let records = Records::check(alloc, bytes.as_slice(), endless()?)?;
@@ -113,8 +112,7 @@ fn opened_to_the_end<L: Ledger>(rt: &impl Abort, alloc: Global, blank: Blank) ->
     requires parts { blank.parts ≡ L.parts }
     requires some { 0 < blank.parts }
 {
-    let (book, share) = blank.open::<L>();
-    let mut steps = Steps::new(book, share);
+    let mut steps = Steps::<L>::open(blank);
     let params = usual(8, 7, 7, 3, 4)?;
     let records = Records::check(alloc, b"\x2F\x75\x54\x45\xAF\xE0", params)?;
     let mut successors = records.archive().open(alloc, 1, &mut steps)?;
@@ -135,8 +133,7 @@ fn spotted<L: Ledger>(rt: &impl Abort, alloc: Global, blank: Blank) -> Result<()
     requires parts { blank.parts ≡ L.parts }
     requires some { 0 < blank.parts }
 {
-    let (book, share) = blank.open::<L>();
-    let mut steps = Steps::new(book, share);
+    let mut steps = Steps::<L>::open(blank);
     let params = usual(3, 4, 7, 3, 4)?;
     // 1 0001101 00111 010: the words of 0, 12, 6 and 1
     let offsets = wg_offsets::read(alloc, b"\x8D\x3A", 3, Code::Gamma)?;

@@ -134,8 +134,7 @@ fn counted<L: Ledger>(alloc: Global, blank: Blank) -> Result<List, Fail>
     requires parts { blank.parts ≡ L.parts }
     requires some { 0 < blank.parts }
 {
-    let (book, share) = blank.open::<L>();
-    second_list(alloc, &mut Steps::new(book, share))
+    second_list(alloc, &mut Steps::<L>::open(blank))
 }
 
 #[test]
