@@ -3,3 +3,4 @@ pub mod SamplingLemmas
 pub mod ShowJobs
 pub mod ShownLemmas
 pub mod SpotJobs
+pub mod SpotTicks

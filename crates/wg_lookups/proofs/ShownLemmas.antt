@@ -1,5 +1,5 @@
 -- The lines of pages with their successors, part by part.
-use Rattle.std.proofs.Common.{◌≡◌, ◌∙◌, inr, get_or, ℕ, List, [], ◌++◌, map, length, codes, decimal, Bool, Result, Ok, Err, arith, refl, sym, ap, append-nil, length-append, subst}
+use Rattle.std.proofs.Common.{◌≡◌, ◌∙◌, inr, get_or, ℕ, List, [], ◌++◌, map, length, codes, decimal, Bool, Option, Some, Result, Ok, Err, OnOk, arith, refl, sym, ap, append-nil, length-append, subst}
 use Rattle.wg_params.specs.Parameters.{Parameters}
 use Rattle.wg_grammar.specs.Archive.{Accepted, ReadsGraph}
 use Rattle.wg_random.specs.Checked.{CheckedRecords}
@@ -12,7 +12,11 @@ use Rattle.wg_outside.specs.declared.output.Output.TheVariants.{Out}
 use Rattle.wg_outside.specs.declared.sink.Sink as sink
 use Rattle.wg_outcomes.specs.Answers.{PrintRefusals}
 use Rattle.wg_outcomes.specs.Commands.{spaced, successors_line}
-use Rattle.wg_lookups.specs.Showing.{PrintsLine}
+use Rattle.wg_outside.specs.Outside.{Files}
+use Rattle.wg_outcomes.specs.Names.{file_of, held_by}
+use Rattle.wg_outcomes.specs.declared.status.Input.{Input}
+use Rattle.wg_readings.specs.Loading.{IsPropertiesFile}
+use Rattle.wg_lookups.specs.Showing.{OpensChains, PrintsLine}
 use Rattle.wg_outcomes.specs.declared.ending.Ending.{Ending}
 use Rattle.wg_outcomes.specs.declared.status.Status.TheVariants.{Memory, WriteFault}
 
@@ -71,3 +75,28 @@ line_by_list s archive page before after waited waits list r is prints later ref
   only = refusals.only;
   failed = refusals.failed;
 }
+
+-- ---- the records that are opened
+
+pub if_always : {A E P : Type 0} (r : Result A E) → P → OnOk r P
+if_always (Ok x) p = p
+if_always (Err e) p = tt
+
+-- a job that has ended before it opened any
+pub none_opened : (p : Parameters) (bits : List Bool) (pages : List ℕ) (n : ℕ) (r : Result (Unit {0}) Ending) (e : Ending) → IsErrAnd r (λ x. x ≡ e) → OpensChains p bits pages n n r
+none_opened p bits pages n r e is = rw (is_that_err r e is) record { each = λ w. tt; most = λ w. omega arith }
+
+-- the same records, by other names
+pub opened_as : (p q : Parameters) (bits file : List Bool) (pages asked : List ℕ) (from to : ℕ) (r : Result (Unit {0}) Ending) → p ≡ q → bits ≡ file → pages ≡ asked → OpensChains p bits pages from to r → OpensChains q file asked from to r
+opened_as p q bits file pages asked from to r params same all h =
+    subst (λ (ps : List ℕ). OpensChains q file ps from to r) all
+    (subst (λ (b : List Bool). OpensChains q b pages from to r) same (subst (λ (x : Parameters). OpensChains x bits pages from to r) params h))
+
+-- a properties file gives one set of parameters
+pub same_parameters : (held : Option (List ℕ)) (p q : Parameters) → IsPropertiesFile held p → IsPropertiesFile held q → p ≡ q
+same_parameters held p q a b = let text : Some a.text ≡ Some b.text = sym a.is ∙ b.is in let one = a.gives in let other = b.gives in cc
+
+-- a file is the same after a step that changes none
+pub same_held : (base : List ℕ) (i : Input) (files files' : Files) (bytes file : List ℕ) → files' ≡ files → held_by (file_of base) files' i ≡ Some bytes → held_by (file_of base) files i ≡ Some file → bytes ≡ file
+same_held base i files files' bytes file same a b =
+    let one : Some bytes ≡ Some file = sym a ∙ ap (λ (f : Files). held_by (file_of base) f i) same ∙ b in cc

@@ -1,14 +1,16 @@
 -- A page of an archive that is not checked, in a validation.
-use Rattle.std.specs.Prelude.{◌≡◌, ◌⊎◌, ℕ, Bool, List, Option, Result, IsTrue, IfErr}
+use Rattle.std.specs.Prelude.{◌≡◌, ◌⊎◌, ℕ, Bool, List, Option, Result, Ok, Err, IsTrue, IfErr, OnOk}
 use Rattle.wg_outside.specs.Outside.{Files, Counts, NonDecreasing}
 use Rattle.wg_outside.specs.declared.depot.Depot as depot
+use Rattle.wg_bits.specs.Bits.{bits_of}
 use Rattle.wg_params.specs.Parameters.{Parameters}
+use Rattle.wg_random.specs.Spot.{ChainAnswers}
 use Rattle.wg_stream.specs.declared.error.PagesError.{PagesError}
 use Rattle.wg_stream.specs.declared.error.PagesError.TheVariants as errors
 use Rattle.wg_outcomes.specs.Answers.{IsHindrance, Steps, status_in}
 use Rattle.wg_outcomes.specs.Causes.{HasCause}
 use Rattle.wg_outcomes.specs.Judged.{Judged, offsets_then, with_file, with_successors}
-use Rattle.wg_outcomes.specs.Names.{IsOfInput, held_by, no_outputs}
+use Rattle.wg_outcomes.specs.Names.{IsOfInput, file_of, held_by, no_outputs}
 use Rattle.wg_outcomes.specs.Promised.{IsBadFile}
 use Rattle.wg_outcomes.specs.Readings.{Readings}
 use Rattle.wg_outcomes.specs.declared.ending.Ending.{Ending}
@@ -16,6 +18,7 @@ use Rattle.wg_outcomes.specs.declared.status.Input.{Input}
 use Rattle.wg_outcomes.specs.declared.status.Input.TheVariants as input
 use Rattle.wg_outcomes.specs.declared.status.Status.TheVariants.{BadArchive, Memory, NoPage}
 use Rattle.wg_readings.specs.Pairing.{status_at, word_ending}
+use Rattle.wg_lookups.specs.Showing.{HoldsGraphFile}
 use Rattle.wg_lookups.specs.declared.chain_files.Unread.{Unread}
 use Rattle.wg_lookups.specs.declared.chain_files.Unread.TheVariants as unread
 
@@ -59,3 +62,29 @@ abbrev pub SpotsPageBy : {D : Type 0} → depot.Ghosts D → (Input → Option (
     → Result (List ℕ) Ending → Type 0
 SpotsPageBy d names p page before after result =
     SpotsPage names p page d.told (d.files before) (d.files after) (d.counts before) (d.counts after) result
+
+-- The records of a page's chain were opened, each once and no other, and this was answered; or there is no such page.
+abbrev pub OpensChain : Parameters → List Bool → List ℕ → ℕ → ℕ → ℕ → Result (List ℕ) Ending → Type 0
+OpensChain p bits places page from to (Ok list) = ChainAnswers {R = Unread} p bits places page from to (Ok list)
+OpensChain p bits places page from to (Err e) =
+    (to ≡ from) ⊎ ((why : PagesError Unread) × ChainAnswers p bits places page from to (Err why))
+
+-- The same of an archive, by the places that a validation finds in its offsets file.
+pub record IsChainOpened (held : Input → Option (List ℕ)) (p : Parameters) (bytes : List ℕ) (page from to : ℕ)
+    (answer : Result (List ℕ) (PagesError Unread)) : Type 0 where
+  pub places : List ℕ
+  pub stored : (r : Readings) → Steps {B = List ℕ} (offsets_then r p (held input.Offsets)) (Ok places)
+  pub answers : ChainAnswers p (bits_of bytes) places page from to answer
+
+-- The line of a page was printed, and the records of its chain were opened, each once and no other; or only some of
+-- them, or none.
+pub record SpotsByChain (held : Input → Option (List ℕ)) (p : Parameters) (bytes : List ℕ) (page from to : ℕ)
+    (result : Result (Unit {0}) Ending) : Type 0 where
+  pub each : OnOk result ((list : List ℕ) × IsChainOpened held p bytes page from to (Ok list))
+  pub most : (to ≡ from)
+      ⊎ ((answer : Result (List ℕ) (PagesError Unread)) × IsChainOpened held p bytes page from to answer)
+
+abbrev pub SpotsByChainIn : {D : Type 0} → depot.Ghosts D → List ℕ → ℕ → D → ℕ → ℕ → Result (Unit {0}) Ending → Type 0
+SpotsByChainIn d base page before from to result =
+    IsTrue d.told → (p : Parameters) (bytes : List ℕ) → HoldsGraphFile (held_by (file_of base) (d.files before)) p bytes
+    → SpotsByChain (held_by (file_of base) (d.files before)) p bytes page from to result

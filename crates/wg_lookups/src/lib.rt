@@ -22,7 +22,7 @@
 //!
 //! [`show`] holds the graph file whole, reads the offsets in pieces, and validates both; it reads pages by their
 //! offsets, prints their successors as they come, and opens each record of their chains of references once
-//! ([`show::print_pages`]). [`spot`] holds neither file: it keeps samples of the offsets, and reads no record of the
+//! ([`show::show_pages`] counts them). [`spot`] holds neither file: it keeps samples of the offsets, and reads no record of the
 //! graph file but those that one page refers to, a step of its own (`successors_of_page`).
 #![tactic(auto)]
 

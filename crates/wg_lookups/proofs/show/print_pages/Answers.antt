@@ -1,4 +1,4 @@
-use Rattle.std.proofs.Common.{◌≡◌, ◌+◌, ◌∙◌, [], List, ℕ, Result, Ok, Err, OnOk, ap, arith, map, subst, sum_by, take}
+use Rattle.std.proofs.Common.{◌≡◌, ◌+◌, ◌∙◌, [], List, ℕ, ap, arith, map, subst, sum_by, take}
 use Rattle.std.proofs.lemmas.List.{take_all}
 use Rattle.std.proofs.lemmas.List.Sums.{sum_by_more, sum_by_more_le}
 use Rattle.wg_outside.specs.Puts.{joined}
@@ -9,11 +9,8 @@ use Rattle.wg_outcomes.specs.Commands.{line_in, successors_lines}
 use Rattle.wg_outcomes.specs.declared.ending.Ending.{Ending}
 use Rattle.wg_lines.proofs.NumberLines.{line_printed, line_less}
 use Rattle.wg_lookups.specs.Showing.{chain_records}
+use Rattle.wg_lookups.proofs.ShownLemmas.{if_always}
 use Rattle.wg_lookups.proofs.show.print_pages.Goals as goal
-
-if_always : {A E P : Type 0} (r : Result A E) → P → OnOk r P
-if_always (Ok x) p = p
-if_always (Err e) p = tt
 
 pub loop-page-preserved : goal.loop-page-preserved
 loop-page-preserved g c = record {
@@ -39,8 +36,10 @@ returns-in_err-show_page g c =
           (line_less (line_in a.graph) (taken c.args.out.now) (taken c.loop-page.out) (taken out) [] c.loop-page.lines pages c.loop-page.page-index c.loop-page-test.true (i.printed t a read) (n.line.prints t a read));
       only = n.line.only;
       failed = λ is. rose_on (faults c.args.out.now) (faults c.loop-page.out) (faults out) (faults out) (g.met.O.Sink.onward _ _ i.later).0 (n.line.failed is) (omega arith);
-      each = λ r. tt;
-      most = λ r. omega (arith, i.opened r, n.most r, sum_by_more_le (chain_records r.records) pages c.loop-page.page-index 0 c.loop-page-test.true);
+      opens = record {
+        each = λ r. tt;
+        most = λ r. omega (arith, i.opened r, n.most r, sum_by_more_le (chain_records r.records) pages c.loop-page.page-index 0 c.loop-page-test.true);
+      };
     }
 
 pub returns : goal.returns
@@ -58,6 +57,8 @@ returns g c =
           (subst (λ (ps : List ℕ). HasPrinted (taken c.args.out.now) (taken c.loop-page.out) [] (joined (map (line_in a.graph) ps)) c.loop-page.lines) all (i.printed t a read)) (n.puts t);
       only = n.refusals.only;
       failed = λ is. rose_on (faults c.args.out.now) (faults c.loop-page.out) (faults out) (faults out) (g.met.O.Sink.onward _ _ i.later).0 (n.refusals.failed is) (omega arith);
-      each = λ r. if_always c.print_rest.result (i.opened r ∙ ap (λ (ps : List ℕ). c.args.steps.now + sum_by (chain_records r.records) ps) all);
-      most = λ r. omega (arith, i.opened r, ap (λ (ps : List ℕ). sum_by (chain_records r.records) ps) all);
+      opens = record {
+        each = λ r. if_always c.print_rest.result (i.opened r ∙ ap (λ (ps : List ℕ). c.args.steps.now + sum_by (chain_records r.records) ps) all);
+        most = λ r. omega (arith, i.opened r, ap (λ (ps : List ℕ). sum_by (chain_records r.records) ps) all);
+      };
     }

@@ -1,5 +1,5 @@
-use Rattle.wg_lookups.proofs.chains.successors_of_page.Given as goal
+use Rattle.wg_lookups.proofs.spot.spot.Given as goal
 
--- the ledger of the records that are read
-abbrev pub ghosts-counted : goal.ghosts-counted
-ghosts-counted g a = record { name = a.blank.name; parts = a.blank.parts }
+-- the ledger of the records that are opened
+abbrev pub ghosts-uncounted : goal.ghosts-uncounted
+ghosts-uncounted g a = record { name = a.blank.name; parts = a.blank.parts }

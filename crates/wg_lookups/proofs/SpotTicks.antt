@@ -1,0 +1,57 @@
+-- The records that `spot` opens.
+use Rattle.std.proofs.Common.{◌≡◌, ◌∙◌, ◌⊎◌, inl, inr, ℕ, List, Option, Some, Result, Ok, Err, option_and_then, refl, sym, ap, subst}
+use Rattle.std.specs.FinMap as map
+use Rattle.std.specs.Result.{IsErrAnd}
+use Rattle.wg_outside.specs.Outside.{Files}
+use Rattle.wg_outside.proofs.PutsLemmas.{is_that_err}
+use Rattle.wg_bits.specs.Bits.{bits_of}
+use Rattle.wg_params.specs.Parameters.{Parameters}
+use Rattle.wg_source.specs.Held.{HeldBytes, IsHeldOf}
+use Rattle.wg_stream.specs.declared.error.PagesError.{PagesError}
+use Rattle.wg_random.specs.Spot.{ChainAnswers}
+use Rattle.wg_outcomes.specs.Names.{file_of, held_by}
+use Rattle.wg_outcomes.specs.declared.ending.Ending.{Ending}
+use Rattle.wg_outcomes.specs.declared.status.Input.{Input}
+use Rattle.wg_outcomes.specs.declared.status.Input.TheVariants.{Graph}
+use Rattle.wg_readings.specs.Finding.{IsOpenOn}
+use Rattle.wg_lookups.proofs.ShownLemmas.{if_always}
+use Rattle.wg_lookups.specs.Sampling.{IsSampled}
+use Rattle.wg_lookups.specs.Spotting.{IsChainOpened, OpensChain, SpotsByChain}
+use Rattle.wg_lookups.specs.declared.chain_files.Unread.{Unread}
+use Rattle.wg_lookups.specs.declared.sampled.SampledFile.{SampledFile}
+
+-- a job that has ended before it opened any
+pub none_spotted : (held : Input → Option (List ℕ)) (p : Parameters) (bytes : List ℕ) (page n : ℕ) (r : Result (Unit {0}) Ending) (e : Ending) → IsErrAnd r (λ x. x ≡ e) → SpotsByChain held p bytes page n n r
+none_spotted held p bytes page n r e is = rw (is_that_err r e is) record { each = tt; most = inl refl }
+
+-- the graph file that was found is the one that the depot held from the start
+pub graph_at : (base : List ℕ) (files files1 files2 : Files) (name : List ℕ) (h : HeldBytes) → file_of base Graph ≡ Some name → files1 ≡ files → files2 ≡ files1 → IsOpenOn (map.get files1 name) h
+    → (bytes : List ℕ) → held_by (file_of base) files Graph ≡ Some bytes → (map.get files2 name ≡ Some bytes) × IsHeldOf bytes h
+graph_at base files files1 files2 name h named same same2 found bytes is =
+    let by_name : (f : Files) → held_by (file_of base) f Graph ≡ map.get f name = λ f. ap (λ (o : Option (List ℕ)). option_and_then (map.get f) o) named in
+    let there : map.get files1 name ≡ Some bytes = ap (λ (f : Files). map.get f name) same ∙ sym (by_name files) ∙ is in
+    let both : Some found.file ≡ Some bytes = sym found.is ∙ there in
+    let one : found.file ≡ bytes = cc in
+    (ap (λ (f : Files). map.get f name) same2 ∙ there, subst (λ (b : List ℕ). IsHeldOf b h) one found.held)
+
+module _ (base : List ℕ) (files files1 : Files) (p q : Parameters) (bytes : List ℕ) (page from to : ℕ) where
+  opened : (answer : Result (List ℕ) (PagesError Unread)) → files1 ≡ files → p ≡ q → (s : SampledFile) → (stored : IsSampled (file_of base) files1 p s) → ChainAnswers p (bits_of bytes) stored.places page from to answer
+      → IsChainOpened (held_by (file_of base) files) q bytes page from to answer
+  opened answer same params s stored answers =
+      subst (λ (f : Files). IsChainOpened (held_by (file_of base) f) q bytes page from to answer) same
+      (subst (λ (x : Parameters). IsChainOpened (held_by (file_of base) files1) x bytes page from to answer) params
+      (record { places = stored.places; stored = stored.goes; answers = answers }))
+
+  -- its successors were not read
+  pub unlisted_by : (r : Result (Unit {0}) Ending) (e : Ending) → IsErrAnd r (λ x. x ≡ e) → files1 ≡ files → p ≡ q → {s : SampledFile} → (stored : IsSampled (file_of base) files1 p s)
+      → OpensChain p (bits_of bytes) stored.places page from to (Err e) → SpotsByChain (held_by (file_of base) files) q bytes page from to r
+  unlisted_by r e is same params {s} stored (inl none) = rw (is_that_err r e is) record { each = tt; most = inl none }
+  unlisted_by r e is same params {s} stored (inr (why, answers)) =
+      rw (is_that_err r e is) record { each = tt; most = inr (Err why, opened (Err why) same params s stored answers) }
+
+  -- they were
+  pub listed_by : (list : List ℕ) (r : Result (Unit {0}) Ending) → files1 ≡ files → p ≡ q → {s : SampledFile} → (stored : IsSampled (file_of base) files1 p s)
+      → OpensChain p (bits_of bytes) stored.places page from to (Ok list) → SpotsByChain (held_by (file_of base) files) q bytes page from to r
+  listed_by list r same params {s} stored answers =
+      let h = opened (Ok list) same params s stored answers in
+      record { each = if_always r (list, h); most = inr (Ok list, h) }
