@@ -1,7 +1,10 @@
 ghost use Rattle.std.specs.Prelude.{◌≡◌, ◌<◌, true, List, [], ℕ, length, slice_get};
+ghost use Rattle.wg_graph.specs.Digraph.{Digraph, IsGraph};
+ghost use Rattle.wg_rank.specs.Intervals.{Holds};
 ghost use Rattle.wg_order.specs.Inside.{IsFalling, IsRising};
 ghost use Rattle.wg_order.specs.Order.{IsRanking, Positions};
 ghost use Rattle.wg_order.specs.Summary.{is_sure, sure_pages, summary_of};
+ghost use Rattle.wg_order.specs.Surely.{IsSurely};
 
 use crate::counting::{count_below, count_higher};
 use crate::sorting::{compare, sort_falling, sort_rising};
@@ -20,8 +23,10 @@ impl RankingSummary {
     /// That of the ranking by these bounds, which it takes over. The pages need not be ranked for it: it takes time for
     /// two sorts of numbers, and no memory, as these are sorted where rounds added up what flows to the pages.
     pub fn of(bounds: Bounds) -> RankingSummary
-        ensures { (s : Positions) → s.low ≡ bounds.low → s.high ≡ bounds.high → IsRanking s.low s.high s.pages
+        ensures is { (s : Positions) → s.low ≡ bounds.low → s.high ≡ bounds.high → IsRanking s.low s.high s.pages
             → result ≡ summary_of s }
+        ensures surely { (g : Digraph) → IsGraph g → Holds bounds g → (s : Positions) → s.low ≡ bounds.low
+            → s.high ≡ bounds.high → IsSurely s bounds g }
     {
         let (low, high, mut sorted) = bounds.into_parts();
         let (falling, rising) = sorted.split_at_mut(low.len());

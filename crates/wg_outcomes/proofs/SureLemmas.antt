@@ -7,15 +7,13 @@ use Rattle.wg_params.specs.declared.limits.TheConstants.{MOST_GENERATED}
 use Rattle.wg_graph.specs.Digraph.{Digraph}
 use Rattle.wg_vectors.specs.Generated.{generated}
 use Rattle.wg_vectors.proofs.Whole.{generated_is_proper}
-use Rattle.wg_rank.specs.Certified.{numerator_of}
-use Rattle.wg_rank.specs.Intervals.{Intervals}
 use Rattle.wg_rank.specs.Sum.{sum_below}
 use Rattle.wg_rank.proofs.Weighing.{ones}
 use Rattle.wg_order.specs.Order.{Positions, best, worst}
 use Rattle.wg_order.specs.Summary.{is_sure}
-use Rattle.wg_order.specs.Surely.{IsSurely, count_greater, count_smaller}
+use Rattle.wg_order.specs.Surely.{AreOrdered, count_greater, count_smaller}
 use Rattle.wg_words.specs.declared.defaults.TheConstants.{DEFAULT_DAMPING}
-use Rattle.wg_outcomes.specs.Bulk.{HasPosition, PrintsProvenOutcome, bulk_bounds, bulk_positions, outcome_of, outcome_text}
+use Rattle.wg_outcomes.specs.Bulk.{HavePositions, PrintsProvenOutcome, bulk_bounds, bulk_positions, outcome_of, outcome_text}
 use Rattle.wg_outcomes.specs.Ranked.{IsProvenRanking}
 use Rattle.wg_outcomes.specs.Readings.{Readings}
 use Rattle.wg_outcomes.specs.declared.outcome.TheConstants.{BULK_ROUNDS}
@@ -52,15 +50,14 @@ module _ (f : ℕ → ℕ) (v : ℕ) where
       ]
 
 -- ---- the position of a page
-module _ (s : Positions) (b : Intervals) (g : Digraph) (surely : IsSurely s b g) where
-  placed : (first last above below n : ℕ) → first ≤ 1 + above → n - below ≤ last → first ≡ last → above + below + 1 ≤ n → (above + 1 ≡ first) × (first + below ≡ n)
-  placed first last above below n best_is worst_is one apart = (omega (arith, best_is, worst_is, one, apart), omega (arith, best_is, worst_is, one, apart))
+placed : (first last above below n : ℕ) → first ≤ 1 + above → n - below ≤ last → first ≡ last → above + below + 1 ≤ n → (above + 1 ≡ first) × (first + below ≡ n)
+placed first last above below n best_is worst_is one apart = (omega (arith, best_is, worst_is, one, apart), omega (arith, best_is, worst_is, one, apart))
 
-  pub one_position : (v : ℕ) → v < g.nodes → IsTrue (is_sure s v) → (j : ℕ) → b.rounds ≤ j → HasPosition b g j v (best s v)
-  one_position v there sure j late =
-      let at = placed (best s v) (worst s v) (count_greater b g j v) (count_smaller b g j v) g.nodes (surely.best_is j late v there) (surely.worst_is j late v there)
-      (eqb-true (best s v) (worst s v) sure) (others_counted (numerator_of b g j) v g.nodes there) in
-      record { greater = at.0; smaller = at.1 }
+pub one_position : (s : Positions) (g : Digraph) (p : ℕ → ℕ) → AreOrdered s g p → HavePositions g s p
+one_position s g p ordered v there sure =
+    let at = placed (best s v) (worst s v) (count_greater g p v) (count_smaller g p v) g.nodes (ordered.best_is v there) (ordered.worst_is v there)
+    (eqb-true (best s v) (worst s v) sure) (others_counted p v g.nodes there) in
+    record { greater = at.0; smaller = at.1 }
 
 -- ---- what `bulk` prints
 generated_nodes : (seed n : ℕ) → (generated seed n).nodes ≡ n
@@ -72,4 +69,12 @@ proven_outcome r seed pages old new few put =
     let g = generated seed pages in
     let proper = generated_is_proper seed pages in
     let is_proven : IsProvenRanking r (bulk_bounds g) g = proven r BULK_ROUNDS DEFAULT_DAMPING (omega arith) (omega arith) g proper (omega (arith, few, generated_nodes seed pages)) None (ones g.nodes) in
-    record { graph = g; graph_is = refl; proper = proper; printed = put; proven = is_proven; sure = one_position (bulk_positions r g) (bulk_bounds g) g is_proven.surely }
+    record {
+      graph = g;
+      graph_is = refl;
+      proper = proper;
+      printed = put;
+      proven = is_proven;
+      sure = λ j late. one_position (bulk_positions r g) g _ (is_proven.surely.iterates j late);
+      settled = λ p d pos sum still. one_position (bulk_positions r g) g p (is_proven.surely.stationary p d pos sum still);
+    }

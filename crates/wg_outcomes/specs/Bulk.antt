@@ -4,7 +4,9 @@ use Rattle.wg_outside.specs.Outside.{Files}
 use Rattle.wg_params.specs.Parameters.{Parameters, IsWithinLimits}
 use Rattle.wg_graph.specs.Digraph.{Digraph, IsGraph, arc_count}
 use Rattle.wg_greedy.specs.Archive.{graph_bits, referring_pages}
-use Rattle.wg_rank.specs.Intervals.{Intervals}
+use Rattle.wg_rank.specs.Certified.{numerator_of}
+use Rattle.wg_rank.specs.Intervals.{Intervals, by_page}
+use Rattle.wg_rank.specs.Rank.{total, IsStationary}
 use Rattle.wg_order.specs.Order.{Positions, best}
 use Rattle.wg_order.specs.Summary.{is_sure, sure_pages}
 use Rattle.wg_order.specs.Surely.{count_greater, count_smaller}
@@ -55,19 +57,26 @@ pub record IsBuilt (g : Digraph) (base : List ℕ) (files : Files) : Type 0 wher
   pub limits : IsWithinLimits (bulk_params g)
   pub whole : AreWhole (greedy_archive (bulk_params g) g) (archive_in base files)
 
--- Page v has this position in iterate j, and shares it with no page: so many pages and it have no smaller share, and
--- all others have one.
-pub record HasPosition (b : Intervals) (g : Digraph) (j v position : ℕ) : Type 0 where
-  pub greater : count_greater b g j v + 1 ≡ position
-  pub smaller : position + count_smaller b g j v ≡ g.nodes
+-- Page v has this position by shares p, over one denominator, and shares it with no page: so many pages and it have no
+-- smaller share, and all others have one.
+pub record HasPosition (g : Digraph) (p : ℕ → ℕ) (v position : ℕ) : Type 0 where
+  pub greater : count_greater g p v + 1 ≡ position
+  pub smaller : position + count_smaller g p v ≡ g.nodes
+
+-- each page that these positions count as sure has its position by these shares
+abbrev pub HavePositions : Digraph → Positions → (ℕ → ℕ) → Type 0
+HavePositions g s p = (v : ℕ) → v < g.nodes → IsTrue (is_sure s v) → HasPosition g p v (best s v)
 
 -- What is printed is what comes of the generated graph; its ranking is proven, and each page that is counted as sure
--- has its position in every iterate from the last round on.
+-- has its position in every iterate from the last round on, and by every stationary vector.
 pub record PrintsProvenOutcome (r : Readings) (seed pages : ℕ) (old new : List ℕ) : Type 0 where
   pub graph : Digraph
   pub graph_is : graph ≡ generated seed pages
   pub proper : IsGraph graph
   pub printed : new ≡ old ++ outcome_text (outcome_of r graph)
   pub proven : IsProvenRanking r (bulk_bounds graph) graph
-  pub sure : (v : ℕ) → v < graph.nodes → IsTrue (is_sure (bulk_positions r graph) v) → (j : ℕ) → BULK_ROUNDS ≤ j
-      → HasPosition (bulk_bounds graph) graph j v (best (bulk_positions r graph) v)
+  pub sure : (j : ℕ) → BULK_ROUNDS ≤ j
+      → HavePositions graph (bulk_positions r graph) (numerator_of (bulk_bounds graph) graph j)
+  pub settled : (p : ℕ → ℕ) (d : ℕ) → 0 < d → total graph p ≡ d
+      → IsStationary graph DEFAULT_DAMPING (by_page (bulk_bounds graph).weights) p d
+      → HavePositions graph (bulk_positions r graph) p

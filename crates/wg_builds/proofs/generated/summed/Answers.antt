@@ -12,7 +12,7 @@ returns c = λ r g params bits referring is.
     let s : Positions = bulk_positions r g in
     let low = ap (λ (b : Intervals). b.low) (sym is) in
     let high = ap (λ (b : Intervals). b.high) (sym is) in
-    let ranking : c.of-ranking.result ≡ summary_of s = c.of-ranking.ensures s low high (r.ranking.reads s.low s.high) in
+    let ranking : c.of-ranking.result ≡ summary_of s = c.of-ranking.ensures.is s low high (r.ranking.reads s.low s.high) in
     λ i. record {
       pages = (c.nodes.ensures.value ∙ ap (λ (p : Parameters). p.nodes) params) i;
       arcs = (c.arcs.ensures.value ∙ ap (λ (p : Parameters). p.arcs) params) i;

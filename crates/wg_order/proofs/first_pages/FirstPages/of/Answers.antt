@@ -2,6 +2,7 @@ use Rattle.std.proofs.Common.{arith, ℕ, ◌≡◌, ◌≤◌, ◌*◌, ◌∙�
 use Rattle.wg_params.specs.declared.limits.TheConstants.{MOST_PAGES}
 use Rattle.wg_order.specs.Front.{first_in}
 use Rattle.wg_order.proofs.Fronts.{first_is, length-first_in, take_front}
+use Rattle.wg_order.proofs.Surely.{surely_from}
 use Rattle.wg_order.proofs.first_pages.FirstPages.of.Goals as goal
 
 pub arrange_first-requires : goal.arrange_first-requires
@@ -48,4 +49,5 @@ returns c =
       pages = λ ranked r.
           let front = rw (c.deref.ensures.value ∙ e.low, c.deref-2.ensures.value ∙ e.high) at c.arrange_first.ensures.front in
           first ∙ first_is c.args.bounds.low c.args.bounds.high (first_in count n room) ranked front r ∙ ap (λ (k : ℕ). take k ranked) counted;
+      surely = λ g ok o. surely_from _ c.args.bounds g ok e.proper o e.low e.high;
     }
