@@ -22,12 +22,11 @@ use wg_outside::Depot;
 use wg_params::{Layout, MOST_ARCS, Params};
 use wg_readings::{next_lines, open_lines};
 use wg_words::Name;
-use wg_writing::end_archive;
 
 // How a job ends at an error of an ASCIIGraph text.
 #[cold]
 #[inline(never)]
-fn ending_at(error: AsciiError) -> Ending
+fn text_ending(error: AsciiError) -> Ending
     ensures { result.status ≡ status_of_text error }
 {
     Ending::of(match error {
@@ -161,7 +160,7 @@ pub fn encode_text<D: Depot>(
     ensures ends { IfErr result (λ e. LoadsTextBy ⟦<D as Depot>⟧ name.now depot.old depot.new (Err e)) }
 {
     let (encoder, lines) = encode_pages(alloc, layout, depot, name.as_str())?;
-    let params = params_of(layout, lines.nodes(), lines.arcs());
-    let archive = end_archive(alloc, encoder, &params)?;
+    let params = params_of(layout, lines.nodes, lines.arcs);
+    let archive = encoder.finish(alloc, &params)?;
     Ok((params, archive))
 }

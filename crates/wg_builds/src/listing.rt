@@ -21,12 +21,11 @@ use wg_outside::Depot;
 use wg_params::{Layout, MOST_ARCS, Params};
 use wg_readings::{next_lines, open_lines};
 use wg_words::Name;
-use wg_writing::end_archive;
 
 // How a job ends at an error of an arc list.
 #[cold]
 #[inline(never)]
-fn ending_at(error: ArcsError) -> Ending
+fn list_ending(error: ArcsError) -> Ending
     ensures { result.status ≡ status_of_list error }
 {
     Ending::of(match error {
@@ -177,6 +176,6 @@ pub fn encode_list<D: Depot>(
     let encoder = ArchiveEncoder::new(alloc, params_of(layout, nodes, MOST_ARCS))?;
     let (encoder, arcs) = encode_lines(alloc, encoder, nodes, depot, name.as_str())?;
     let params = params_of(layout, nodes, arcs);
-    let archive = end_archive(alloc, encoder, &params)?;
+    let archive = encoder.finish(alloc, &params)?;
     Ok((params, archive))
 }

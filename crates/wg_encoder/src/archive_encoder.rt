@@ -3,6 +3,7 @@ ghost use Rattle.std.specs.Prelude.{◌≡◌, ℕ, ◌+◌, ◌<◌, ◌≤◌,
 ghost use Rattle.std.specs.FinMap as fin;
 ghost use Rattle.wg_outside.specs.Suffixes.{graph_name, offsets_name};
 ghost use Rattle.wg_params.specs.Parameters.{Parameters};
+ghost use Rattle.wg_properties.specs.Text.{text_of};
 ghost use Rattle.wg_graph.specs.Digraph.{arc_count};
 ghost use Rattle.wg_greedy.specs.Laws.{IsList};
 ghost use Rattle.wg_encoder.specs.ArchiveInMemory.{encoded, HasEncoded};
@@ -103,9 +104,20 @@ impl ArchiveEncoder {
         }
     }
 
-    /// The archive of the lists, once those of all pages were encoded, with this properties text. It takes the memory
-    /// of the text.
-    pub fn finish(self, properties: &[u8]) -> Result<EncodedArchive, AllocError>
+    /// The archive of the lists, once those of all pages were encoded, with the properties text of these parameters:
+    /// those that it began with, but for the number of arcs, which is the lists'. It takes the memory of the text.
+    pub fn finish(self, alloc: Global, params: &Params) -> Result<EncodedArchive, AllocError>
+        requires { self.page ≡ self.params.nodes }
+        ensures { (lists : List (List ℕ)) → HasEncoded self lists
+            → params.now ≡ record self.params { arcs = params.now.arcs }
+            → IfOk result (λ a. a ≡ encoded params.now (text_of params.now) lists) }
+    {
+        let text = wg_properties::write(alloc, params)?;
+        self.end(text.as_slice())
+    }
+
+    // The archive of the lists, with this properties text.
+    fn end(self, properties: &[u8]) -> Result<EncodedArchive, AllocError>
         requires pages { self.page ≡ self.params.nodes }
         ensures { (lists : List (List ℕ)) (p : Parameters) → HasEncoded self lists
             → p ≡ record self.params { arcs = p.arcs } → IfOk result (λ a. a ≡ encoded p properties.now lists) }
@@ -145,22 +157,17 @@ fn wanting(error: EncodeError) -> AllocError
     }
 }
 
-/// The archive of a graph, in memory, with this properties text. Beside the graph it holds what an [`ArchiveEncoder`]
-/// holds.
-pub fn encode(
-    alloc: Global,
-    params: Params,
-    graph: &Graph,
-    properties: &[u8],
-) -> Result<EncodedArchive, AllocError>
+/// The archive of a graph, in memory, with the properties text of its parameters. Beside the graph it holds what an
+/// [`ArchiveEncoder`] holds.
+pub fn encode(alloc: Global, params: Params, graph: &Graph) -> Result<EncodedArchive, AllocError>
     requires nodes { params.nodes ≡ graph.now.nodes }
     requires arcs { params.arcs ≡ arc_count graph.now }
-    ensures { IfOk result (λ a. a ≡ encoded params properties.now graph.now.lists) }
+    ensures { IfOk result (λ a. a ≡ encoded params (text_of params) graph.now.lists) }
 {
     let mut encoder = ArchiveEncoder::new(alloc, params)?;
     while encoder.page() < graph.nodes() {
         let list = graph.list(encoder.page());
         encoder = encoder.add(list)?;
     }
-    encoder.finish(properties)
+    encoder.finish(alloc, &params)
 }

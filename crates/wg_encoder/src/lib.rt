@@ -20,7 +20,7 @@
 //! ```rust
 //! let graph = wg_arcs::read(rt.alloc(), b"0 1\n0 2\n1 1\n1 2\n", 3)?;
 //! let params = usual(graph.nodes(), graph.arcs(), 7, 3, 4)?;
-//! let archive = encode(rt.alloc(), params, &graph, b"nodes=3\n")?;
+//! let archive = encode(rt.alloc(), params, &graph)?;
 //! assert!(rt; archive.bits() == 19 && archive.referring() == 1);
 //! assert!(rt; archive.graph() == b"\x7D\xC6\xE0".as_slice());
 //! Ok(())

@@ -16,7 +16,6 @@ use wg_outcomes::params_of;
 use wg_params::{Layout, MOST_ARCS, Params};
 use wg_shape::Quotienter;
 use wg_transpose::Transposer;
-use wg_writing::end_archive;
 
 /// A graph whose lists come range after range of pages: those from page `from` up to the page before `to` are at hand.
 pub(crate) trait Ranged {
@@ -173,6 +172,6 @@ pub(crate) fn archive_of_ranges<R: Ranged + Drop>(
     let begun = ArchiveEncoder::new(alloc, params_of(layout, nodes, MOST_ARCS))?;
     let encoder = add_ranges(alloc, begun, &mut ranges, room)?;
     let params = params_of(layout, nodes, encoder.arcs());
-    let archive = end_archive(alloc, encoder, &params)?;
+    let archive = encoder.finish(alloc, &params)?;
     Ok((params, archive))
 }

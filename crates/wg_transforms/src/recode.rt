@@ -13,7 +13,7 @@ use wg_outside::{Depot, Sink};
 use wg_params::{Layout, Params};
 use wg_readings::{end_records, load_params, next_record, open_graph};
 use wg_words::Name;
-use wg_writing::{build_archive, end_archive};
+use wg_writing::build_archive;
 
 /// Writes the greedy archive of an archive's graph, in the layout that is given, and prints the line of what it
 /// holds. It goes through the graph file once, and validates the whole graph before it touches a file. It holds a piece
@@ -59,6 +59,6 @@ fn recoded<D: Depot>(
         encoder = encoder.add(reader.list())?;
     }
     end_records(&mut reader, depot, params)?;
-    let archive = end_archive(alloc, encoder, made)?;
+    let archive = encoder.finish(alloc, made)?;
     Ok(archive)
 }

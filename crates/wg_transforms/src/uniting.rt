@@ -14,7 +14,6 @@ use wg_graph::{List, Lists};
 use wg_outcomes::params_of;
 use wg_params::{Layout, MOST_ARCS, Params};
 use wg_shape::{ShapeError, next_union};
-use wg_writing::end_archive;
 
 // Encodes the list that comes next; `list` has room for it.
 fn add_next<A: Lists, B: Lists>(
@@ -92,6 +91,6 @@ pub fn encode_union<A: Lists, B: Lists>(
     let begun = ArchiveEncoder::new(alloc, params_of(layout, nodes, MOST_ARCS))?;
     let encoder = add_lists(alloc, begun, first, second)?;
     let params = params_of(layout, nodes, encoder.arcs());
-    let archive = end_archive(alloc, encoder, &params)?;
+    let archive = encoder.finish(alloc, &params)?;
     Ok((params, archive))
 }

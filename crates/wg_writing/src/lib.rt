@@ -1,12 +1,12 @@
 //! The archive of a command that writes one: encoded in memory, and then written.
 //!
-//! A command encodes its lists one after the other by an [`ArchiveEncoder`](wg_encoder::ArchiveEncoder), up to
-//! [`end_archive`], or a graph at once ([`encode_graph`]). Until then no file is touched. [`build_archive`] is the one
-//! way out: it creates the three files, fills them, the properties last, and prints the line of what the archive holds.
-//! Its contract alone says what stands in the files and on the output after each failure.
+//! A command encodes its lists one after the other by an [`ArchiveEncoder`](wg_encoder::ArchiveEncoder), or a graph at
+//! once ([`encode_graph`]). Until then no file is touched. [`build_archive`] is the one way out: it creates the three
+//! files, fills them, the properties last, and prints the line of what the archive holds. Its contract alone says what
+//! stands in the files and on the output after each failure.
 //!
 //! ```text
-//! lists --> new, add, end --> EncodedArchive --> build_archive: create, fill --> three files, the line
+//! lists --> new, add, finish --> EncodedArchive --> build_archive: create, fill --> three files, the line
 //! ```
 //!
 //! The archive of a graph of one arc:
@@ -34,4 +34,4 @@ mod encoding;
 mod writing;
 
 pub use building::build_archive;
-pub use encoding::{encode_graph, end_archive};
+pub use encoding::encode_graph;

@@ -85,7 +85,7 @@ fn swept(rt: &impl Abort, alloc: Global, bytes: &[u8], params: Params) -> Result
 // The same of the archive of a graph.
 fn archived(rt: &impl Abort, alloc: Global, graph: &Graph) -> Result<Bounds, Fail> {
     let params = usual(graph.nodes(), graph.arcs(), 7, 3, 4)?;
-    let archive = encode(alloc, params, graph, b"")?;
+    let archive = encode(alloc, params, graph)?;
     swept(rt, alloc, archive.graph(), params)
 }
 

@@ -48,4 +48,4 @@ returns c =
     let g = c.args.graph.now in
     let page = c.loop-encoder.encoder.page in
     let all : page ≡ g.nodes = omega arith in
-    c.finish.ensures g.lists c.args.params (subst (HasEncoded c.loop-encoder.encoder) (whole_front g page c.nodes.ensures.proper all) i.encoded) (sym (ap (λ (p : Parameters). record p { arcs = c.args.params.arcs }) i.params))
+    c.finish.ensures g.lists (subst (HasEncoded c.loop-encoder.encoder) (whole_front g page c.nodes.ensures.proper all) i.encoded) (sym (ap (λ (p : Parameters). record p { arcs = c.args.params.arcs }) i.params))

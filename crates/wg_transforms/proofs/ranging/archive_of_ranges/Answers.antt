@@ -42,7 +42,7 @@ params_of-params-requires g c = record {
   arcs = few_encoded _ c.nodes-nodes.result _ _ c.params_of.ensures c.in_ok-begun.ensures.params c.in_ok-encoder.encoder c.in_ok-encoder.ensures.params _ c.arcs.ensures.within;
 }
 
-pub end_archive-requires : goal.end_archive-requires
-end_archive-requires g c =
+pub finish-requires : goal.finish-requires
+finish-requires g c =
     all_encoded _ c.nodes-nodes.result _ _ c.params_of.ensures c.in_ok-begun.ensures.params c.in_ok-encoder.encoder c.in_ok-encoder.ensures.params c.arcs.result
     (g.R.Ranged.graph c.args.ranges) c.arcs.ensures.value c.in_ok-encoder.ensures.encoded c.nodes-nodes.ensures.proper.counted c.nodes-nodes.ensures.value

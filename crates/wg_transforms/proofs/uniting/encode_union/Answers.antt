@@ -62,5 +62,5 @@ params_of-params-requires g c = record {
   arcs = few_encoded _ c.max-nodes.result _ _ c.params_of.ensures c.in_ok-begun.ensures.params c.in_ok-encoder.encoder c.in_ok-encoder.ensures.params _ c.arcs.ensures.within;
 }
 
-pub end_archive-requires : goal.end_archive-requires
-end_archive-requires g c = c.in_ok-encoder.ensures.all
+pub finish-requires : goal.finish-requires
+finish-requires g c = c.in_ok-encoder.ensures.all
