@@ -3,6 +3,7 @@ use Rattle.std.proofs.Common.{◌≡◌, ℕ, ◌≤◌, List, length, nat_lt, r
 use Rattle.std.proofs.lemmas.Bool.{cases_Bool}
 use Rattle.std.proofs.lemmas.Option.{none-some, same_Some}
 use Rattle.wg_outside.specs.declared.limits.TheConstants.{MOST_BYTES}
+use Rattle.wg_bits.specs.Bits.{bits_of}
 use Rattle.wg_params.specs.Parameters.{Parameters, IsWithinLimits}
 use Rattle.wg_properties.specs.Text.{text_of}
 use Rattle.wg_properties.specs.declared.fault.PropFault.{PropFault}
@@ -13,6 +14,7 @@ use Rattle.wg_graph.specs.Digraph.{Digraph, arc_count}
 use Rattle.wg_offsets.specs.Places.{last_place}
 use Rattle.wg_offsets.specs.Words.{places_of}
 use Rattle.wg_grammar.specs.Archive.{Accepted}
+use Rattle.wg_grammar.proofs.OneGraph.{graph_one}
 use Rattle.wg_greedy.specs.Archive.{Archive, graph_bits, graph_file, offset_values, offsets_file}
 use Rattle.wg_greedy.specs.Laws.{IsAcceptedArchive}
 use Rattle.wg_greedy.proofs.Accepted.{greedy_accepted}
@@ -29,7 +31,7 @@ use Rattle.wg_words.specs.declared.jobs.Job.TheVariants.{Check, Arcs}
 use Rattle.wg_laws.specs.Built.{holding, IsAcceptedAs, BuiltAreAccepted, BuildsAreAccepted}
 use Rattle.wg_outcomes.specs.Commands.{builds, judged, number_lines, ok_line, successors_lines}
 use Rattle.wg_outcomes.specs.Judged.{Judged, refused, accepted, built, certified, unless_bad_list, unless_bad_properties, with_archive, with_digraph, with_file, with_graph, with_lengths, with_list, with_offsets, with_pages, with_parameters, with_places, with_records}
-use Rattle.wg_outcomes.specs.Ranked.{bounds_after, ranking_text}
+use Rattle.wg_outcomes.specs.Ranked.{HoldGraph, bounds_after, ranking_text}
 use Rattle.wg_outcomes.specs.Readings.{Readings}
 use Rattle.wg_outcomes.specs.Written.{greedy_archive, params_for}
 use Rattle.wg_outcomes.specs.declared.status.Input.{Input}
@@ -56,6 +58,19 @@ module _ (r : Readings) (p : Parameters) (g : Digraph) (limits : IsWithinLimits 
       records_go_on (λ q bytes. with_digraph r q bytes next)
       ∙ goes_on r p limits (graph_file p g.lists) g.lists places is.graph (λ a. next (record { nodes = p.nodes; lists = a.graph }))
       ∙ ap (λ (n : ℕ). next (record { nodes = n; lists = g.lists })) nodes
+
+  pub holds_graph : HoldGraph r (holding (greedy_archive p g)) g
+  holds_graph = record {
+    text = text_of p;
+    parameters = p;
+    bytes = graph_file p g.lists;
+    read = record { graph = g.lists; places = places };
+    text_is = refl;
+    parameters_are = read_again p limits;
+    bytes_are = refl;
+    read_is = graph_one p limits (bits_of (graph_file p g.lists)) (r.graph.value p (graph_file p g.lists)) (Ok (record { graph = g.lists; places = places })) (r.graph.reads p limits (graph_file p g.lists)) is.graph;
+    graph_is = ap (λ (n : ℕ). record { nodes = n; lists = g.lists }) (sym nodes);
+  }
 
   offsets_go_on : (next : List ℕ → Judged) → with_file input.Offsets (Some (offsets_file p g.lists)) (λ more. with_offsets r p more next) ≡ next places
   offsets_go_on next =

@@ -16,13 +16,15 @@ use Rattle.wg_laws.specs.Built.{holding, ConversionsAreAccepted}
 use Rattle.wg_outcomes.specs.Commands.{builds, greedy_line, judged}
 use Rattle.wg_outcomes.specs.Judged.{Judged, accepted, built, status_of, with_digraph, with_records}
 use Rattle.wg_greedy.specs.Archive.{Archive}
+use Rattle.wg_outcomes.specs.Ranked.{HoldGraph}
 use Rattle.wg_outcomes.specs.Readings.{Readings}
 use Rattle.wg_outcomes.specs.Written.{greedy_archive, params_for}
-use Rattle.wg_laws.proofs.BuiltLemmas.{built_accepted, lists_go_on, same_built}
+use Rattle.wg_laws.proofs.BuiltLemmas.{built_accepted, holds_graph, lists_go_on, same_built}
 use Rattle.wg_laws.proofs.HeldLemmas.{graph_behind}
 
 -- the archive of a graph is accepted with its line, and each validation goes on with that graph
 pub record IsReadAgain (r : Readings) (g : Digraph) (a : Archive) (out : List ℕ) : Type 0 where
+  pub written : HoldGraph r (holding a) g
   pub check : (base : List ℕ) → judged r (Check base) (holding a) ≡ accepted out
   pub goes_on : (next : Digraph → Judged) → with_records (holding a) (λ q bytes. with_digraph r q bytes next) ≡ next g
 
@@ -32,10 +34,12 @@ read_again r l g a out within proper few few_arcs is =
     let p : Parameters = params_for l g in
     let same = same_built (greedy_archive p g) a (greedy_line p g) out is in
     let limits : IsWithinLimits p = layout_for_any l g.nodes (arc_count g) 0 0 within few few_arcs in
+    let is_accepted = greedy_accepted canonical_proper p g limits proper refl refl in
     record {
+      written = subst (λ (b : Archive). HoldGraph r (holding b) g) same.0 (holds_graph r p g limits refl is_accepted);
       check = λ base. ap (λ (b : Archive). judged r (Check base) (holding b)) (sym same.0) ∙ (built_accepted r p g base limits proper refl refl).check ∙ ap accepted same.1;
       goes_on = λ next. ap (λ (b : Archive). with_records (holding b) (λ q bytes. with_digraph r q bytes next)) (sym same.0)
-          ∙ lists_go_on r p g limits refl (greedy_accepted canonical_proper p g limits proper refl refl) next;
+          ∙ lists_go_on r p g limits refl is_accepted next;
     }
 
 pub conversions_accepted : (r : Readings) → ConversionsAreAccepted r
@@ -44,7 +48,7 @@ conversions_accepted r = record {
       let behind = graph_behind r held (builds layout) (ap status_of is) in
       let again = read_again r layout behind.graph a out within behind.proper behind.few_pages behind.few_arcs (sym (behind.goes_on (builds layout)) ∙ is) in
       let text : Digraph → Judged = λ g. accepted (text_of_graph g) in
-      record { check = again.check output; arcs = again.goes_on text ∙ sym (behind.goes_on text) };
+      record { graph = behind.graph; stored = behind.stored; written = again.written; check = again.check output; arcs = again.goes_on text ∙ sym (behind.goes_on text) };
   transpose = λ input output layout held a out within is.
       let turned : Layout → Digraph → Judged = λ l g. builds l (transposed g) in
       let behind = graph_behind r held (turned layout) (ap status_of is) in
@@ -57,6 +61,7 @@ conversions_accepted r = record {
         nodes = refl;
         proper = is_proper behind.graph;
         reversed = are_reversed behind.graph behind.proper;
+        written = again.written;
         arcs = again.goes_on (λ g. accepted (text_of_graph g));
         check = again.check output;
         back = λ third l. again.goes_on (turned l) ∙ ap (λ (g : Digraph). builds l g) (gives_back behind.graph behind.proper) ∙ sym (behind.goes_on (builds l));

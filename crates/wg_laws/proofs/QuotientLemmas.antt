@@ -55,6 +55,7 @@ quotients_accepted r input map output count layout held a out few within is =
       text_is = file.1;
       classes_are = found.1;
       quotient_is = quotient;
+      written = again.written;
       arcs = again.goes_on (λ q. accepted (text_of_graph q));
       check = again.check output;
     }

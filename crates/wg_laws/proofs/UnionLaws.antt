@@ -18,6 +18,7 @@ use Rattle.wg_shape.proofs.GraphUnions.{is_union}
 use Rattle.wg_arcs.specs.Text.{text_of_graph}
 use Rattle.wg_outcomes.specs.Judged.{Judged, accepted, built, certified, refused, status_of, unless_bad_offsets, unless_some_differ, with_archive, with_digraph, with_file, with_graph, with_lengths, with_offsets, with_parameters, with_records}
 use Rattle.wg_greedy.specs.Archive.{Archive}
+use Rattle.wg_outcomes.specs.Ranked.{HoldGraph}
 use Rattle.wg_outcomes.specs.Readings.{Readings}
 use Rattle.wg_outcomes.specs.Second.{as_second, of_second, second_held}
 use Rattle.wg_outcomes.specs.declared.status.Input.{Input}
@@ -44,7 +45,8 @@ pub record ArchiveBehind (r : Readings) (held : Input → Option (List ℕ)) : T
   pub parameters : Parameters
   pub read : Accepted
   pub within : IsWithinLimits parameters
-  pub proper : IsGraph (accepted_graph parameters read)
+  pub stored : HoldGraph r held (graph_of parameters read)
+  pub proper : IsGraph (graph_of parameters read)
   pub goes_on : (next : Parameters → Accepted → Judged) → with_archive r held next ≡ next parameters read
   pub graph_goes_on : (next : Digraph → Judged) → with_records held (λ p bytes. with_digraph r p bytes next) ≡ next (accepted_graph parameters read)
 
@@ -86,6 +88,17 @@ module _ (r : Readings) (held : Input → Option (List ℕ)) where
         parameters = p;
         read = a;
         within = within;
+        stored = record {
+          text = text.0;
+          parameters = p;
+          bytes = bytes.0;
+          read = a;
+          text_is = text.1;
+          parameters_are = params.1;
+          bytes_are = bytes.1;
+          read_is = found.1;
+          graph_is = refl;
+        };
         proper = graph_proper p (bits_of bytes.0) a (subst (λ (w : Result Accepted ArchiveFault). ReadsGraph p (bits_of bytes.0) w) found.1 (r.graph.reads p within bytes.0));
         goes_on = λ n. to_stored n ∙ same (λ t. n p a);
         graph_goes_on = λ n. to_graph (λ q x. n (accepted_graph q x));
@@ -128,7 +141,10 @@ unions_accepted r first second output layout held a out within is =
       one = g;
       other = h;
       both = union_graph g h;
+      stored_first = one.stored;
+      stored_second = other.stored;
       union = union;
+      written = again.written;
       first_arcs = one.graph_goes_on text;
       second_arcs = other.graph_goes_on text;
       arcs = again.goes_on text;

@@ -89,9 +89,12 @@ pub record ImportsAreAccepted (r : Readings) : Type 0 where
       → judged r (Ascii base) held ≡ accepted text → length text ≤ MOST_BYTES → after input.Text ≡ Some text
       → judged r (Import name output layout) after ≡ judged r (Recode base output layout) held
 
--- What a recoding comes to is accepted with its line, and has the arcs of the archive that was read.
+-- What a recoding comes to is accepted with its line, and its graph is the graph that was read; so it has the same arcs.
 pub record IsAcceptedRecoding (r : Readings) (held : Input → Option (List ℕ)) (input output : List ℕ) (a : Archive)
     (out : List ℕ) : Type 0 where
+  pub graph : Digraph
+  pub stored : HoldGraph r held graph
+  pub written : HoldGraph r (holding a) graph
   pub check : judged r (Check output) (holding a) ≡ accepted out
   pub arcs : judged r (Arcs output) (holding a) ≡ judged r (Arcs input) held
 
@@ -105,6 +108,7 @@ pub record IsAcceptedTransposing (r : Readings) (held : Input → Option (List �
   pub nodes : turned.nodes ≡ graph.nodes
   pub proper : IsGraph turned
   pub reversed : (u v : ℕ) → has_arc turned v u ≡ has_arc graph u v
+  pub written : HoldGraph r (holding a) turned
   pub arcs : judged r (Arcs output) (holding a) ≡ accepted (text_of_graph turned)
   pub check : judged r (Check output) (holding a) ≡ accepted out
   pub back : (third : List ℕ) (layout : Layout)

@@ -29,6 +29,7 @@ pub record IsAcceptedQuotient (r : Readings) (held : Input → Option (List ℕ)
   pub text_is : held input.Map ≡ Some text
   pub classes_are : numbers_of graph.nodes count text ≡ Ok classes
   pub quotient_is : IsQuotient graph classes count quotient
+  pub written : HoldGraph r (holding a) quotient
   pub arcs : judged r (Arcs output) (holding a) ≡ accepted (text_of_graph quotient)
   pub check : judged r (Check output) (holding a) ≡ accepted out
 

@@ -8,6 +8,7 @@ use Rattle.wg_words.specs.declared.jobs.Job.TheVariants.{Arcs, Check, Union}
 use Rattle.wg_params.specs.declared.layout.Layout.{Layout}
 use Rattle.wg_outcomes.specs.Judged.{accepted, built}
 use Rattle.wg_greedy.specs.Archive.{Archive}
+use Rattle.wg_outcomes.specs.Ranked.{HoldGraph}
 use Rattle.wg_outcomes.specs.Readings.{Readings}
 use Rattle.wg_outcomes.specs.Second.{second_held}
 use Rattle.wg_outcomes.specs.declared.status.Input.{Input}
@@ -20,7 +21,10 @@ pub record IsAcceptedUnion (r : Readings) (held : Input → Option (List ℕ)) (
   pub one : Digraph
   pub other : Digraph
   pub both : Digraph
+  pub stored_first : HoldGraph r held one
+  pub stored_second : HoldGraph r (second_held held) other
   pub union : IsUnion one other both
+  pub written : HoldGraph r (holding a) both
   pub first_arcs : judged r (Arcs first) held ≡ accepted (text_of_graph one)
   pub second_arcs : judged r (Arcs second) (second_held held) ≡ accepted (text_of_graph other)
   pub arcs : judged r (Arcs output) (holding a) ≡ accepted (text_of_graph both)

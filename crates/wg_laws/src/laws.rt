@@ -59,16 +59,17 @@ pub fn quotients()
 {}
 
 /// What is recoded or transposed is accepted, whatever archive was read, with a layout within the limits: `check`
-/// prints of the three files the very line that was printed. Of a recoded archive `arcs` prints what it prints of
-/// the one that was read. The graph of a transposed one, whose arcs `arcs` prints, has an arc exactly if the graph that
-/// was read has it the other way round, and to transpose an archive twice is to recode it.
+/// prints of the three files the very line that was printed. The graph of a recoded archive is the graph that was read,
+/// with its pages, and `arcs` prints of it what it prints of the one that was read. The graph of a transposed one, whose
+/// arcs `arcs` prints, has an arc exactly if the graph that was read has it the other way round, and to transpose an
+/// archive twice is to recode it.
 pub fn converted_archives()
     ensures { (r : Readings) → ConversionsAreAccepted r }
 {}
 
 /// What is joined is accepted, whatever two archives were read, with a layout within the limits: `check` prints of the
 /// three files the very line that was printed, and their graph, whose arcs `arcs` prints, is the union of the graphs of
-/// both archives.
+/// both archives: it has the pages and the arcs of either.
 pub fn joined_archives()
     ensures { (r : Readings) → UnionsAreAccepted r }
 {}
