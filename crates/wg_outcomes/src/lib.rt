@@ -50,7 +50,7 @@ pub use names::suffix;
 pub use outcome::{BULK_ROUNDS, Outcome};
 pub use outputs::{output_ending, writing_ending};
 pub use print::{print_ok, print_piece, print_rest};
-pub use pulled::bounds_by_rounds;
+pub use pulled::{Pulled, bounds_by_rounds, pulled_for};
 pub use second::{as_second, second_input};
 pub use status::{Input, SecondFault, Status, WeightsFault};
 pub use text::{MOST_TEXT, Text};

@@ -15,10 +15,12 @@ use wg_graph::Lists;
 use wg_rank::{Bounds, ListPulling, Pulling};
 use wg_runs::{MOST_PAGES_IN_RUNS, RunCounts};
 
-// The pages that link to each page, as runs or listed one by one.
+/// The pages that link to each page, which rounds go along.
 #[derive(Drop)]
-pub(crate) enum Pulled {
+pub enum Pulled {
+    /// As runs.
     Runs(Pulling),
+    /// Listed one by one.
     InLists(ListPulling),
 }
 
@@ -58,8 +60,9 @@ fn fitting<L: Lists>(alloc: Global, lists: &mut L) -> Result<Option<Pulled>, All
     }
 }
 
-// The same, if memory suffices for it.
-fn pulled_for<L: Lists>(alloc: Global, lists: &mut L) -> Option<Pulled>
+/// What rounds go along beside the lists, if it fits [`crate::MOST_ROUND_ROOM`] bytes a page and memory suffices for
+/// it. It goes along the lists twice.
+pub fn pulled_for<L: Lists>(alloc: Global, lists: &mut L) -> Option<Pulled>
     requires few_arcs { arc_count (L.graph lists.old) ≤ MOST_ARCS }
     ensures graph { L.graph lists.new ≡ L.graph lists.old }
     ensures pulled { IfSome result (λ p. pulled_graph p ≡ L.graph lists.old) }
@@ -73,22 +76,21 @@ fn pulled_for<L: Lists>(alloc: Global, lists: &mut L) -> Option<Pulled>
     }
 }
 
-/// The bounds after so many rounds. They go along the pages that link to each page, as runs or listed one by one, if
-/// these fit [`crate::MOST_ROUND_ROOM`] bytes a page and memory suffices; it is taken before the first round. Else each
-/// round is one pass along the lists, and takes none.
+/// The bounds after so many rounds. They go along what was made beside the lists of the same graph; if nothing was,
+/// each round is one pass along the lists. They take no memory.
 pub fn bounds_by_rounds<L: Lists>(
-    alloc: Global,
+    pulled: Option<Pulled>,
     bounds: Bounds,
     lists: &mut L,
     rounds: u64,
 ) -> Bounds
+    requires pulled { IfSome pulled (λ p. pulled_graph p ≡ L.graph lists.old) }
     requires rounds { rounds ≤ MOST_ROUNDS }
-    requires few_arcs { arc_count (L.graph lists.old) ≤ MOST_ARCS }
     requires ready { AreReady (L.graph lists.old) bounds }
     ensures { (given : Option (List ℕ)) → bounds.weights ≡ weights_of (L.graph lists.old).nodes given
         → result ≡ bounds_after (L.graph lists.old) given bounds.damping rounds }
 {
-    match pulled_for(alloc, lists) {
+    match pulled {
         Some(Pulled::Runs(mut runs)) => last_bounds(bounds, &mut runs, rounds),
         Some(Pulled::InLists(mut made)) => last_bounds(bounds, &mut made, rounds),
         None => last_bounds(bounds, lists, rounds),

@@ -8,6 +8,7 @@ use Rattle.wg_outside.specs.declared.output.Output.TheVariants.{Out}
 use Rattle.wg_params.specs.Parameters.{Parameters}
 use Rattle.wg_graph.specs.Digraph.{Digraph}
 use Rattle.wg_rank.specs.Intervals.{Intervals}
+use Rattle.wg_rank.specs.Weights.{weights_of}
 use Rattle.wg_words.specs.declared.jobs.Job.{Job}
 use Rattle.wg_words.specs.declared.jobs.Job.TheVariants.{Rank}
 use Rattle.wg_outcomes.specs.Answers.{IsUnput, status_in}
@@ -28,6 +29,14 @@ use Rattle.wg_outcomes.proofs.BuildLemmas.{produced}
 use Rattle.wg_readings.proofs.JobSteps.{ComesTo, ends_without, judges_rest, prints}
 use Rattle.wg_readings.proofs.GraphJobs.{IsOfGraph, behind_graph}
 use Rattle.wg_readings.proofs.GraphJobs as graphs
+
+-- bounds after the last round, along lists that stayed those of the same graph
+pub last_is : (graph still : Digraph) (b : Intervals) (given : Option (List ℕ)) (damping rounds : ℕ) (last : Intervals) → still ≡ graph
+    → (b.weights ≡ weights_of still.nodes given → last ≡ bounds_after still given b.damping rounds)
+    → b.weights ≡ weights_of graph.nodes given → b.damping ≡ damping → last ≡ bounds_after graph given damping rounds
+last_is graph still b given damping rounds last same after weighed damped =
+    subst (λ (h : Digraph). b.weights ≡ weights_of h.nodes given → last ≡ bounds_after h given b.damping rounds) same after weighed
+    ∙ ap (λ (d : ℕ). bounds_after graph given d rounds) damped
 
 weights_are : (base : List ℕ) (rounds damping top : ℕ) (name certificate : Option (List ℕ)) → input_name (Rank base rounds damping top name certificate) Weights ≡ weights_named name Weights
 weights_are base rounds damping top None certificate = refl

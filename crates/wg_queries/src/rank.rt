@@ -17,7 +17,7 @@ use crate::print::print_ranking;
 use std::alloc::Global;
 use wg_graph::Lists;
 use wg_order::FirstPages;
-use wg_outcomes::{Ending, Input, bounds_by_rounds, room_for};
+use wg_outcomes::{Ending, Input, bounds_by_rounds, pulled_for, room_for};
 use wg_outside::{Depot, Sink};
 use wg_rank::Bounds;
 use wg_readings::{lists_of_records, load, load_params, load_weights};
@@ -60,7 +60,8 @@ pub fn rank<D: Depot, O: Sink>(
     let mut lists = lists_of_records(alloc, &params, bytes.as_slice())?;
     let given = load_weights(alloc, lists.nodes(), depot, weights)?;
     let first = room_for(alloc, &lists, given, asked.damping)?;
-    let bounds = bounds_by_rounds(alloc, first, &mut lists, asked.rounds);
+    let pulled = pulled_for(alloc, &mut lists);
+    let bounds = bounds_by_rounds(pulled, first, &mut lists, asked.rounds);
     match certificate {
         None => print_ranks(out, bounds, asked.top),
         Some(name) => certify(bounds, name, asked.top, depot, out),

@@ -7,16 +7,11 @@ use Rattle.wg_outcomes.proofs.pulled.bounds_by_rounds.Goals as goal
 pub returns-in-Some-Runs : goal.returns-in-Some-Runs
 returns-in-Some-Runs g c = λ given weighed.
     let b = c.args.bounds in
-    let same = rw c.in-Some-Runs.field-0-is at c.in-Some-Runs.ensures.pulled in
+    let same = rw c.in-Some-Runs.field-0-is at (rw c.in-Some-Runs.is at c.requires.pulled) in
     subst (λ (h : Digraph). b.weights ≡ weights_of h.nodes given → c.last_bounds.result ≡ bounds_after h given b.damping c.args.rounds) same (c.last_bounds.ensures given) weighed
 
 pub returns-in-Some-InLists : goal.returns-in-Some-InLists
 returns-in-Some-InLists g c = λ given weighed.
     let b = c.args.bounds in
-    let same = rw c.in-Some-InLists.field-0-is at c.in-Some-InLists.ensures.pulled in
+    let same = rw c.in-Some-InLists.field-0-is at (rw c.in-Some-InLists.is at c.requires.pulled) in
     subst (λ (h : Digraph). b.weights ≡ weights_of h.nodes given → c.last_bounds-in-Some-InLists.result ≡ bounds_after h given b.damping c.args.rounds) same (c.last_bounds-in-Some-InLists.ensures given) weighed
-
-pub returns-in-None : goal.returns-in-None
-returns-in-None g c = λ given weighed.
-    let b = c.args.bounds in
-    subst (λ (h : Digraph). b.weights ≡ weights_of h.nodes given → c.last_bounds-in-None.result ≡ bounds_after h given b.damping c.args.rounds) c.in-None.ensures.graph (c.last_bounds-in-None.ensures given) weighed

@@ -1,10 +1,10 @@
-use Rattle.std.proofs.Common.{◌≡◌, ◌∙◌, inl, inr, Ok, Err, ap, refl, subst}
+use Rattle.std.proofs.Common.{◌≡◌, ◌∙◌, inl, inr, Ok, Err, refl, subst}
 use Rattle.wg_outside.proofs.FilesLemmas.{none_falls-trans}
 use Rattle.wg_readings.proofs.LoadLemmas.{graph_loaded, graph_unloaded}
 use Rattle.wg_outcomes.specs.Answers.{HasOutput}
 use Rattle.wg_outcomes.specs.Ranked.{bounds_after, ranking_text}
-use Rattle.wg_readings.proofs.JobSteps.{performs_exit}
-use Rattle.wg_queries.proofs.RankJobs.{certifies, no_room, no_weights, of_graph, only_prints}
+use Rattle.wg_readings.proofs.JobSteps.{does_exit}
+use Rattle.wg_queries.proofs.RankJobs.{certifies, last_is, no_room, no_weights, of_graph, only_prints}
 use Rattle.wg_readings.proofs.GraphJobs.{no_graph, no_params}
 use Rattle.wg_queries.proofs.UntoldLemmas.{all_put, ranks_none, some_ranking, undone_graph, undone_params, undone_reading, undone_room, undone_weights, wants_since}
 use Rattle.wg_queries.proofs.rank.rank.Goals as goal
@@ -59,11 +59,14 @@ returns-in-None-clause-does g c =
     let f = c.in_ok-first.ensures in
     let o = c.print_ranks.ensures in
     let is : c.bounds_by_rounds-bounds.result ≡ bounds_after graph c.in_ok-given.given asked.damping asked.rounds =
-    c.bounds_by_rounds-bounds.ensures c.in_ok-given.given f.weights ∙ ap (λ d. bounds_after graph c.in_ok-given.given d asked.rounds) f.damping in
-    only_prints c.args.base.now asked.rounds asked.damping asked.top c.args.weights.now c.args.certificate.now _ g.O.Sink.told _ p _ _ c.in_ok-params.ensures _ _ graph
-    (graph_loaded c.args.base.now p _ _ _ _ _ c.in_ok-bytes.bytes _ c.as_slice.ensures c.in_ok-bytes.ensures (Ok graph) c.in_ok-lists.ensures.goes tt c.in_ok-lists.ensures.nodes)
-    _ _ c.in_ok-given.given (rw c.nodes.ensures.count at c.in_ok-given.ensures)
-    c.bounds_by_rounds-bounds.result is c.in-None.is _ _ c.print_ranks.result o.puts o.refusals.only o.refusals.failed
+    last_is c.in_ok-lists.lists.graph c.pulled_for-pulled.new.lists.graph c.in_ok-first.first c.in_ok-given.given asked.damping asked.rounds c.bounds_by_rounds-bounds.result c.pulled_for-pulled.ensures.graph (c.bounds_by_rounds-bounds.ensures c.in_ok-given.given) f.weights f.damping in
+    record {
+      does = only_prints c.args.base.now asked.rounds asked.damping asked.top c.args.weights.now c.args.certificate.now _ g.O.Sink.told _ p _ _ c.in_ok-params.ensures _ _ graph
+          (graph_loaded c.args.base.now p _ _ _ _ _ c.in_ok-bytes.bytes _ c.as_slice.ensures c.in_ok-bytes.ensures (Ok graph) c.in_ok-lists.ensures.goes tt c.in_ok-lists.ensures.nodes)
+          _ _ c.in_ok-given.given (rw c.nodes.ensures.count at c.in_ok-given.ensures)
+          c.bounds_by_rounds-bounds.result is c.in-None.is _ _ c.print_ranks.result o.puts o.refusals.only o.refusals.failed o.refusals.memory;
+      later = o.later;
+    }
 
 pub returns-clause-does : goal.returns-clause-does
 returns-clause-does g c =
@@ -72,11 +75,14 @@ returns-clause-does g c =
     let graph = c.in_ok-lists.lists.graph in
     let f = c.in_ok-first.ensures in
     let is : c.bounds_by_rounds-bounds.result ≡ bounds_after graph c.in_ok-given.given asked.damping asked.rounds =
-    c.bounds_by_rounds-bounds.ensures c.in_ok-given.given f.weights ∙ ap (λ d. bounds_after graph c.in_ok-given.given d asked.rounds) f.damping in
-    certifies c.args.base.now asked.rounds asked.damping asked.top c.args.weights.now c.args.certificate.now _ g.O.Sink.told _ p _ _ c.in_ok-params.ensures _ _ graph
-    (graph_loaded c.args.base.now p _ _ _ _ _ c.in_ok-bytes.bytes _ c.as_slice.ensures c.in_ok-bytes.ensures (Ok graph) c.in_ok-lists.ensures.goes tt c.in_ok-lists.ensures.nodes)
-    _ _ c.in_ok-given.given (rw c.nodes.ensures.count at c.in_ok-given.ensures)
-    c.bounds_by_rounds-bounds.result is c.in-Some.name c.in-Some.is _ c.certify.result c.certify.ensures.does
+    last_is c.in_ok-lists.lists.graph c.pulled_for-pulled.new.lists.graph c.in_ok-first.first c.in_ok-given.given asked.damping asked.rounds c.bounds_by_rounds-bounds.result c.pulled_for-pulled.ensures.graph (c.bounds_by_rounds-bounds.ensures c.in_ok-given.given) f.weights f.damping in
+    record {
+      does = certifies c.args.base.now asked.rounds asked.damping asked.top c.args.weights.now c.args.certificate.now _ g.O.Sink.told _ p _ _ c.in_ok-params.ensures _ _ graph
+          (graph_loaded c.args.base.now p _ _ _ _ _ c.in_ok-bytes.bytes _ c.as_slice.ensures c.in_ok-bytes.ensures (Ok graph) c.in_ok-lists.ensures.goes tt c.in_ok-lists.ensures.nodes)
+          _ _ c.in_ok-given.given (rw c.nodes.ensures.count at c.in_ok-given.ensures)
+          c.bounds_by_rounds-bounds.result is c.in-Some.name c.in-Some.is _ c.certify.result c.certify.ensures.does;
+      later = c.certify.ensures.later;
+    }
 
 pub returns-in_err-params-clause-anywhere : goal.returns-in_err-params-clause-anywhere
 returns-in_err-params-clause-anywhere g c =
@@ -107,7 +113,7 @@ returns-in-None-clause-anywhere g c =
     let f = c.in_ok-first.ensures in
     let o = c.print_ranks.ensures in
     let is : c.bounds_by_rounds-bounds.result ≡ bounds_after graph c.in_ok-given.given asked.damping asked.rounds =
-    c.bounds_by_rounds-bounds.ensures c.in_ok-given.given f.weights ∙ ap (λ d. bounds_after graph c.in_ok-given.given d asked.rounds) f.damping in
+    last_is c.in_ok-lists.lists.graph c.pulled_for-pulled.new.lists.graph c.in_ok-first.first c.in_ok-given.given asked.damping asked.rounds c.bounds_by_rounds-bounds.result c.pulled_for-pulled.ensures.graph (c.bounds_by_rounds-bounds.ensures c.in_ok-given.given) f.weights f.damping in
     record {
       wants = λ want. inr (inl (o.refusals.memory want));
       ranking = λ t done r.
@@ -121,7 +127,7 @@ returns-clause-anywhere g c =
     let graph = c.in_ok-lists.lists.graph in
     let f = c.in_ok-first.ensures in
     let is : c.bounds_by_rounds-bounds.result ≡ bounds_after graph c.in_ok-given.given asked.damping asked.rounds =
-    c.bounds_by_rounds-bounds.ensures c.in_ok-given.given f.weights ∙ ap (λ d. bounds_after graph c.in_ok-given.given d asked.rounds) f.damping in
+    last_is c.in_ok-lists.lists.graph c.pulled_for-pulled.new.lists.graph c.in_ok-first.first c.in_ok-given.given asked.damping asked.rounds c.bounds_by_rounds-bounds.result c.pulled_for-pulled.ensures.graph (c.bounds_by_rounds-bounds.ensures c.in_ok-given.given) f.weights f.damping in
     record {
       wants = λ want.
           inr (wants_since _ _ c.in-Some.is _ _ _ (none_falls-trans _ _ _ (none_falls-trans _ _ _ c.in_ok-params.ensures.later c.in_ok-bytes.ensures.later) c.in_ok-given.ensures.reads.later)
@@ -131,3 +137,9 @@ returns-clause-anywhere g c =
           (rw c.nodes.ensures.count at c.in_ok-given.ensures.weights) is
           (subst (HasOutput (ranking_text r c.bounds_by_rounds-bounds.result asked.top) (g.O.Sink.taken c.args.out.now) (g.O.Sink.taken c.certify.new.out)) done (c.certify.ensures.does.output t r));
     }
+
+pub bounds_by_rounds-bounds-requires-clause-pulled : goal.bounds_by_rounds-bounds-requires-clause-pulled
+bounds_by_rounds-bounds-requires-clause-pulled g c = rw c.pulled_for-pulled.ensures.graph c.pulled_for-pulled.ensures.pulled
+
+pub bounds_by_rounds-bounds-requires-clause-ready : goal.bounds_by_rounds-bounds-requires-clause-ready
+bounds_by_rounds-bounds-requires-clause-ready g c = rw c.pulled_for-pulled.ensures.graph c.in_ok-first.ensures.ready
