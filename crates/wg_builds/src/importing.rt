@@ -110,12 +110,12 @@ fn encode_rest<D: Depot>(
     while next_lines(reader, depot, name, Input::Text)? {
         encoder = match take_lines(encoder, list, lines, reader.lines()) {
             Ok(encoder) => encoder,
-            Err(error) => return Err(ending_at(error)),
+            Err(error) => return Err(text_ending(error)),
         };
     }
     match lines.end() {
         Ok(()) => Ok(encoder),
-        Err(error) => Err(ending_at(error)),
+        Err(error) => Err(text_ending(error)),
     }
 }
 
@@ -139,7 +139,7 @@ fn encode_pages<D: Depot>(
     let mut list = List::new(alloc);
     let (encoder, mut lines) = match encode_first(alloc, layout, &mut list, reader.lines()) {
         Ok(first) => first,
-        Err(error) => return Err(ending_at(error)),
+        Err(error) => return Err(text_ending(error)),
     };
     let encoder = encode_rest(encoder, &mut list, &mut lines, &mut reader, depot, name)?;
     Ok((encoder, lines))

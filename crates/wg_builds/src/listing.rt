@@ -149,7 +149,7 @@ fn encode_lines<D: Depot>(
     while next_lines(&mut reader, depot, name, Input::ArcList)? {
         encoder = match take_lines(encoder, &mut list, &mut lines, reader.lines()) {
             Ok(encoder) => encoder,
-            Err(error) => return Err(ending_at(error)),
+            Err(error) => return Err(list_ending(error)),
         };
     }
     let encoder = end_pages(encoder, &mut list, nodes)?;

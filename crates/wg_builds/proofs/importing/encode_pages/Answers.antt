@@ -47,7 +47,7 @@ returns-in-Err-clause-ends g c =
     let x = c.in-Err.error in
     let name = c.args.name.now in
     let new = c.next_lines.new.reader in
-    text_stops name _ _ _ _ _ (r.same ∙ o.same) (none_falls-trans _ _ _ o.later r.later) c.ending_at.result x c.ending_at.ensures (λ t.
+    text_stops name _ _ _ _ _ (r.same ∙ o.same) (none_falls-trans _ _ _ o.later r.later) c.text_ending.result x c.text_ending.ensures (λ t.
     let f = still name _ _ o.same (o.readable t) in
     let later = lines_after f.0 new in
     let next = r.lines t f.0 f.3 in

@@ -38,7 +38,7 @@ returns-in-Err g c =
       few = tt;
       encodes = tt;
       ends =
-          text_stops name _ _ _ _ _ (r.same ∙ i.same) (none_falls-trans _ _ _ i.later r.later) c.ending_at.result c.in-Err.error c.ending_at.ensures (λ t.
+          text_stops name _ _ _ _ _ (r.same ∙ i.same) (none_falls-trans _ _ _ i.later r.later) c.text_ending.result c.in-Err.error c.text_ending.ensures (λ t.
           let f = still name _ _ i.same (c.requires.readable t) in
           let up = lent (lines_of f.0) _ (lines_after f.0 new) i.way.0 c.lines.result.now new.lines c.loop-encoder.lines (r.lines t f.0 f.3) c.lines.ensures.value (i.way.2 t f.0 f.1) in
           (f.0, f.1, f.2, c.in-Err.ensures.fault (lines_of f.0) (lines_after f.0 new) i.way.0 i.way.1 up));
@@ -101,7 +101,7 @@ returns-in-Err-end g c =
       few = tt;
       encodes = tt;
       ends =
-          text_stops name _ _ _ _ _ (r.same ∙ i.same) (none_falls-trans _ _ _ i.later r.later) c.ending_at-in-Err-end.result c.in-Err-end.error c.ending_at-in-Err-end.ensures (λ t.
+          text_stops name _ _ _ _ _ (r.same ∙ i.same) (none_falls-trans _ _ _ i.later r.later) c.text_ending-in-Err-end.result c.in-Err-end.error c.text_ending-in-Err-end.ensures (λ t.
           let f = still name _ _ i.same (c.requires.readable t) in
           (f.0, f.1, f.2, c.in-Err-end.ensures.fault (lines_of f.0) lists (subst (λ (ls : List (List ℕ)). IsUpTo (lines_of f.0) ls lists s) (r.end t f.0 f.3 (ap (λ b. Ok b) c.if-branch.false)) (i.way.2 t f.0 f.1))));
     }

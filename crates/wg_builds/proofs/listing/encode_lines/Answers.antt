@@ -49,7 +49,7 @@ returns-in-Err g c =
       few = tt;
       encodes = tt;
       ends =
-          list_stops name n _ _ _ _ _ (r.same ∙ i.same) (none_falls-trans _ _ _ i.later r.later) c.ending_at.result c.in-Err.error c.ending_at.ensures (λ t.
+          list_stops name n _ _ _ _ _ (r.same ∙ i.same) (none_falls-trans _ _ _ i.later r.later) c.list_ending.result c.in-Err.error c.list_ending.ensures (λ t.
           let f = still name _ _ i.same (i.readable t) in
           let later = lines_after f.0 c.next_lines.new.reader in
           let here = lent_now n c.loop-list.lines.nodes (lines_of f.0) _ later c.lines.result.now c.next_lines.new.reader.lines c.loop-list.lines.line _ i.nodes (r.lines t f.0 f.3) c.lines.ensures.value (i.way.2 t f.0 f.1) in
