@@ -45,7 +45,7 @@ use Rattle.wg_outside.proofs.FilesLemmas.{none_falls-refl}
 use Rattle.wg_writing.specs.Writing.{archive_of}
 use Rattle.wg_words.specs.declared.jobs.Job.{Job}
 use Rattle.wg_outcomes.specs.JobFiles.{input_name}
-use Rattle.wg_outcomes.specs.Performs.{Performs, outside}
+use Rattle.wg_outcomes.specs.Performs.{OutCounts, Performs, outside}
 use Rattle.wg_outcomes.proofs.PerformsLemmas.{by_memory, hindered}
 use Rattle.wg_readings.proofs.JobSteps.{ends_refused, want_refuses}
 
@@ -165,9 +165,9 @@ module _ (g : Digraph) (base : List ℕ) (files : Files) (is : IsBuilt g base fi
 
 -- ---- a command without files ended out of memory
 
-pub ends_alone : (job : Job) (told_files told_out : Bool) (files : Files) (counts : List ℕ → Counts) (taken : List ℕ) (faults : ℕ) (e : Ending) → e.status ≡ Memory
-    → Performs job told_files told_out (outside files counts taken faults) (outside files counts taken faults) e.status e.promised
-ends_alone job told_files told_out files counts taken faults e want =
-    let here = outside files counts taken faults in
+pub ends_alone : (job : Job) (told_files told_out : Bool) (files : Files) (counts : List ℕ → Counts) (taken : List ℕ) (out : OutCounts) (e : Ending) → e.status ≡ Memory
+    → Performs job told_files told_out (outside files counts taken out) (outside files counts taken out) e.status e.promised
+ends_alone job told_files told_out files counts taken out e want =
+    let here = outside files counts taken out in
     ends_refused job told_files told_out here here e refl refl (none_falls-refl counts) (λ t r. inr (subst IsHindrance (sym want) tt)) (want_refuses job e.status want)
     (λ t. subst (λ (s : Status). ArePromised (held_by (input_name job) files) s e.promised) (sym want) tt)

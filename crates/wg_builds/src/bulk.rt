@@ -21,7 +21,8 @@ use wg_outside::Sink;
 /// bounds.
 pub fn bulk<O: Sink>(alloc: Global, seed: u64, pages: u64, out: &mut O) -> Result<(), Ending>
     requires { pages ≤ MOST_GENERATED }
-    ensures { DoesAlone ⟦<O as Sink>⟧ (Bulk seed pages) out.old out.new result }
+    ensures does { DoesAlone ⟦<O as Sink>⟧ (Bulk seed pages) out.old out.new result }
+    ensures later { O.later out.old out.new }
 {
     let outcome = try_generated(alloc, seed, pages)?;
     print_piece(out, outcome.text().as_bytes())

@@ -25,7 +25,7 @@ use wg_transforms::union::union;
 use wg_words::Job;
 
 // How what was done or has ended is reported.
-fn ending_of(done: Result<(), Ending>) -> Ending
+fn as_ending(done: Result<(), Ending>) -> Ending
     ensures status { result.status ≡ status_in done }
     ensures promised { result.promised ≡ promised_in done }
 {
@@ -40,11 +40,12 @@ pub fn perform<D: Depot, O: Sink>(alloc: Global, job: &Job, depot: &mut D, out: 
     requires { IsWithin job.now }
     ensures does { Does ⟦<D as Depot>⟧ ⟦<O as Sink>⟧ job.now depot.old depot.new out.old out.new result.status
         result.promised }
+    ensures later { O.later out.old out.new }
     ensures anywhere { DoesAnywhere ⟦<D as Depot>⟧ ⟦<O as Sink>⟧ job.now depot.old depot.new out.old out.new
         result.status }
     ensures untouched { calls_depot job.now ≡ false → depot.new ≡ depot.old }
 {
-    ending_of(do_job(alloc, job, depot, out))
+    as_ending(do_job(alloc, job, depot, out))
 }
 
 // Does the job by the function of its command.
@@ -88,12 +89,12 @@ fn do_job<D: Depot, O: Sink>(
             weights,
         } => verify(alloc, base, certificate, weights, depot, out),
         Job::Bulk { seed, pages } => bulk(alloc, *seed, *pages, out),
-        _ => write_archive(alloc, job, depot, out),
+        _ => do_archive_job(alloc, job, depot, out),
     }
 }
 
 // Does a job that writes an archive.
-fn write_archive<D: Depot, O: Sink>(
+fn do_archive_job<D: Depot, O: Sink>(
     alloc: Global,
     job: &Job,
     depot: &mut D,

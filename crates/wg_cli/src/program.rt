@@ -4,13 +4,13 @@ ghost use Rattle.wg_outside.specs.declared.output.Output.{Output};
 ghost use Rattle.wg_words.specs.Jobs.{job_of, IsWithin};
 ghost use Rattle.wg_words.specs.declared.jobs.Job.{Job};
 ghost use Rattle.wg_outcomes.specs.Reached.{Reaches};
-ghost use Rattle.wg_outcomes.specs.Answers.{Answers, HasOutput, IsHindrance, IsPutLast};
+ghost use Rattle.wg_outcomes.specs.Answers.{Answers, HasOutput, IsHindrance, IsPutLast, IsUnprinted};
 ghost use Rattle.wg_outcomes.specs.Causes.{AreFaultless, HasCause};
 ghost use Rattle.wg_outcomes.specs.Commands.{written_by};
 ghost use Rattle.wg_outcomes.specs.Judged.{output_of, status_of};
 ghost use Rattle.wg_cli.specs.Lines.{line_of, Reports};
 ghost use Rattle.wg_cli.specs.Wanted.{some_calls_depot, some_writes_files, ArePromisedBy};
-ghost use Rattle.wg_outcomes.specs.JobFiles.{can_end, held_for, input_name, output_name, prints_while_reading};
+ghost use Rattle.wg_outcomes.specs.JobFiles.{can_end, held_for, input_name, output_name, prints_in_parts, prints_while_reading};
 ghost use Rattle.wg_outcomes.specs.Performs.{judged_on, Does};
 ghost use Rattle.wg_outcomes.specs.Bulk.{PrintsProvenOutcome};
 ghost use Rattle.wg_outcomes.specs.Ranked.{PrintsProvenRanking};
@@ -62,9 +62,12 @@ pub fn run<D: Depot, O: Sink, E: Sink>(
         → status_of (judged_on r job (D.files depot.old)) ≡ Status.Done }
 
     // What is printed comes last, but for the jobs that print while they read: nothing is printed at a refusal, at a
-    // read fault, if a file could not be written, or if memory ran out before the files were whole.
+    // read fault, if a file could not be written, or if memory ran out before the files were whole. But for these jobs
+    // and `show`, which print in parts, nothing is printed if memory ran out, unless the output counted it.
     ensures silent { (job : Job) → job_of words.now ≡ Some job → prints_while_reading job ≡ false
         → IsPutLast result (O.taken out.old) (O.taken out.new) }
+    ensures unprinted { (job : Job) → job_of words.now ≡ Some job → prints_in_parts job ≡ false
+        → IsUnprinted result (O.taken out.old) (O.taken out.new) (O.wants out.old) (O.wants out.new) }
     ensures printed_last { IsTrue D.told → (r : Readings) (job : Job) → job_of words.now ≡ Some job
         → result ≡ Status.Memory → (O.taken out.new ≡ O.taken out.old)
         ⊎ AreAllWhole (output_name job) (written_by r job (held_for job (D.files depot.old))) (D.files depot.new) }
@@ -117,6 +120,8 @@ pub fn run<D: Depot, O: Sink, E: Sink>(
     ensures same { some_writes_files (job_of words.now) ≡ false → D.files depot.new ≡ D.files depot.old }
     ensures untouched { some_calls_depot (job_of words.now) ≡ false → depot.new ≡ depot.old }
     ensures later { NonDecreasing (D.counts depot.old) (D.counts depot.new) }
+    ensures later_out { O.later out.old out.new }
+    ensures later_err { E.later err.old err.new }
     ensures line { IsTrue E.told
         → (promised : ℕ) × (IsTrue D.told → ArePromisedBy (job_of words.now) (D.files depot.old) result promised)
         × Reports (line_of (job_of words.now) promised result) (E.taken err.old) (E.taken err.new)
@@ -165,6 +170,7 @@ fn try_job<D: Depot, O: Sink>(
     ensures same { some_writes_files wanted.now ≡ false → D.files depot.new ≡ D.files depot.old }
     ensures untouched { some_calls_depot wanted.now ≡ false → depot.new ≡ depot.old }
     ensures later { NonDecreasing (D.counts depot.old) (D.counts depot.new) }
+    ensures later_out { O.later out.old out.new }
 {
     match wanted {
         None => Ending::of(Status::Usage),

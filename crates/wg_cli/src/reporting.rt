@@ -32,6 +32,7 @@ fn naming<'a, S: Sink>(
         (S.taken sink.new) result }
     ensures cause { IsErr result → Increased (S.faults sink.old) (S.faults sink.new)
         ⊎ Increased (S.wants sink.old) (S.wants sink.new) }
+    ensures later { S.later sink.old sink.new }
 {
     write_pieces(
         sink,
@@ -55,6 +56,7 @@ fn about<S: Sink>(
         (S.taken sink.new) result }
     ensures cause { IsErr result → Increased (S.faults sink.old) (S.faults sink.new)
         ⊎ Increased (S.wants sink.old) (S.wants sink.new) }
+    ensures later { S.later sink.old sink.new }
 {
     match name_in(job, input) {
         None => Ok(()),
@@ -68,6 +70,7 @@ fn about_output<S: Sink>(sink: &mut S, job: &Option<Job>, output: Output) -> Res
         (S.taken sink.old) (S.taken sink.new) result }
     ensures cause { IsErr result → Increased (S.faults sink.old) (S.faults sink.new)
         ⊎ Increased (S.wants sink.old) (S.wants sink.new) }
+    ensures later { S.later sink.old sink.new }
 {
     match output_in(job, output) {
         None => Ok(()),
@@ -111,6 +114,7 @@ fn write_line<S: Sink>(
         (S.taken sink.new) result }
     ensures cause { IsErr result → Increased (S.faults sink.old) (S.faults sink.new)
         ⊎ Increased (S.wants sink.old) (S.wants sink.new) }
+    ensures later { S.later sink.old sink.new }
     ensures quiet { status ≡ Status.Done → sink.new ≡ sink.old }
 {
     match status {
@@ -160,6 +164,7 @@ fn fault_of_second<S: Sink>(
         (S.taken sink.new) result }
     ensures cause { IsErr result → Increased (S.faults sink.old) (S.faults sink.new)
         ⊎ Increased (S.wants sink.old) (S.wants sink.new) }
+    ensures later { S.later sink.old sink.new }
 {
     match fault {
         SecondFault::Properties(fault) => {
@@ -183,6 +188,7 @@ fn fault_in<S: Sink>(
         (S.taken sink.old) (S.taken sink.new) result }
     ensures cause { IsErr result → Increased (S.faults sink.old) (S.faults sink.new)
         ⊎ Increased (S.wants sink.old) (S.wants sink.new) }
+    ensures later { S.later sink.old sink.new }
 {
     match name_in(job, input) {
         None => Ok(()),
@@ -200,6 +206,7 @@ fn describe<'a, S: Sink>(
         (S.taken sink.old) (S.taken sink.new) result }
     ensures cause { IsErr result → Increased (S.faults sink.old) (S.faults sink.new)
         ⊎ Increased (S.wants sink.old) (S.wants sink.new) }
+    ensures later { S.later sink.old sink.new }
 {
     write_pieces(
         sink,
@@ -220,6 +227,7 @@ fn describe<'a, S: Sink>(
 pub fn report<S: Sink>(sink: &mut S, job: &Option<Job>, promised: u64, status: Status)
     ensures line { IsTrue S.told → Reports (line_of job.now promised status) (S.taken sink.old) (S.taken sink.new)
         (Increased (S.faults sink.old) (S.faults sink.new) ⊎ Increased (S.wants sink.old) (S.wants sink.new)) }
+    ensures later { S.later sink.old sink.new }
     ensures quiet { status ≡ Status.Done → sink.new ≡ sink.old }
 {
     let _ = write_line(sink, job, promised, status);

@@ -3,9 +3,9 @@ ghost use Rattle.wg_outside.specs.Outside.{Increased};
 ghost use Rattle.wg_outside.specs.declared.output.Output.{Output};
 ghost use Rattle.wg_words.specs.Jobs.{job_of};
 ghost use Rattle.wg_words.specs.declared.jobs.Job.{Job};
-ghost use Rattle.wg_outcomes.specs.Answers.{HasOutput};
+ghost use Rattle.wg_outcomes.specs.Answers.{HasOutput, IsUnprinted};
 ghost use Rattle.wg_outcomes.specs.Commands.{written_by};
-ghost use Rattle.wg_outcomes.specs.JobFiles.{held_for, output_name};
+ghost use Rattle.wg_outcomes.specs.JobFiles.{held_for, output_name, prints_in_parts};
 ghost use Rattle.wg_outcomes.specs.Judged.{output_of, status_of};
 ghost use Rattle.wg_outcomes.specs.Performs.{judged_on};
 ghost use Rattle.wg_outcomes.specs.Readings.{Readings};
@@ -39,6 +39,8 @@ pub fn run_in_memory(
     ensures files { (r : Readings) (job : Job) → job_of words.now ≡ Some job
         → HasFiles (output_name job) (written_by r job (held_for job depot.old.files)) depot.old.files depot.new.files
         result }
+    ensures unprinted { (job : Job) → job_of words.now ≡ Some job → prints_in_parts job ≡ false
+        → IsUnprinted result out.old.taken out.new.taken out.old.wants out.new.wants }
     ensures same { some_writes_files (job_of words.now) ≡ false → depot.new.files ≡ depot.old.files }
     ensures line { (promised : ℕ) × ArePromisedBy (job_of words.now) depot.old.files result promised
         × Reports (line_of (job_of words.now) promised result) err.old.taken err.new.taken

@@ -1,5 +1,5 @@
 -- How `show` goes on from step to step, or ends.
-use Rattle.std.proofs.Common.{◌≡◌, ◌∙◌, inl, ℕ, Bool, List, [], ◌∷◌, Option, Result, Ok, Err, refl, sym, subst}
+use Rattle.std.proofs.Common.{◌≡◌, ◌∙◌, inl, ℕ, Bool, true, false, List, [], ◌∷◌, Option, Result, Ok, Err, refl, sym, subst}
 use Rattle.std.specs.Bool.{IsTrue}
 use Rattle.std.specs.Result.{IfErr}
 use Rattle.wg_outside.specs.Outside.{Files, Counts, Increased}
@@ -16,7 +16,7 @@ use Rattle.wg_outcomes.specs.Commands.{successors_lines}
 use Rattle.wg_outcomes.specs.Judged.{Judged, accepted, with_file, with_graph, with_lengths, with_pages, offsets_then}
 use Rattle.wg_readings.specs.Loading.{JudgesOffsets, Loads, LoadsParams, lengths_then}
 use Rattle.wg_outcomes.specs.Names.{file_of}
-use Rattle.wg_outcomes.specs.Performs.{Outside, Performs, outside}
+use Rattle.wg_outcomes.specs.Performs.{OutCounts, Outside, Performs, outside}
 use Rattle.wg_outcomes.specs.Promised.{IsBadFile, promised_in}
 use Rattle.wg_outcomes.specs.Readings.{Readings}
 use Rattle.wg_outcomes.specs.declared.ending.Ending.{Ending}
@@ -63,10 +63,10 @@ module _ (base pages : List ℕ) (td to : Bool) (before : Outside) where
       k2 = subst (λ (x : List ℕ). ComesTo job p td before files1 counts1 (Graph ∷ Properties ∷ []) (next1 x)) (sym is)
           (comes_on job base td to before p files counts (Properties ∷ []) Graph refl (λ r. with_file Graph) next1 k1 files1 counts1 bytes (λ t r. b.steps t) b.same b.later)
 
-      pub no_records : (taken : List ℕ) (faults : ℕ) (e : Ending) → taken ≡ before.taken → IsBadFile Graph p.arcs e → ((r : Readings) → Steps {B = Accepted} (with_graph r p slice) (Err e))
-          → Performs job td to before (outside files1 counts1 taken faults) e.status e.promised
-      no_records taken faults e silent bad steps =
-          refuses job base td to before p files1 counts1 (Graph ∷ Properties ∷ []) (next1 slice) k2 Graph refl taken faults e silent bad (λ t r. steps r _)
+      pub no_records : (taken : List ℕ) (out : OutCounts) (e : Ending) → taken ≡ before.taken → IsBadFile Graph p.arcs e → ((r : Readings) → Steps {B = Accepted} (with_graph r p slice) (Err e))
+          → Performs job td to before (outside files1 counts1 taken out) e.status e.promised
+      no_records taken out e silent bad steps =
+          refuses job base td to before p files1 counts1 (Graph ∷ Properties ∷ []) (next1 slice) k2 Graph refl taken out e silent bad (λ t r. steps r _)
 
       module _ (limits : IsWithinLimits p) (a : Accepted) (reads : ReadsGraph p (bits_of slice) (Ok a)) where
         k3 : ComesTo job p td before files1 counts1 (Graph ∷ Properties ∷ []) (behind_graph p a)
@@ -89,16 +89,16 @@ module _ (base pages : List ℕ) (td to : Bool) (before : Outside) where
               files2 counts2 tt o.goes o.reads.same o.reads.later
 
           module _ (asked : List ℕ) (asked_is : asked ≡ pages) where
-            pub no_page : (taken : List ℕ) (faults : ℕ) (e : Ending) → taken ≡ before.taken → (page : ℕ) × IsTrue (is_in page asked) × (e.status ≡ NoPage page)
-                → Steps {B = Unit {0}} (with_pages p.nodes asked) (Err e) → Performs job td to before (outside files2 counts2 taken faults) e.status e.promised
-            no_page taken faults e silent bad steps =
+            pub no_page : (taken : List ℕ) (out : OutCounts) (e : Ending) → taken ≡ before.taken → (page : ℕ) × IsTrue (is_in page asked) × (e.status ≡ NoPage page)
+                → Steps {B = Unit {0}} (with_pages p.nodes asked) (Err e) → Performs job td to before (outside files2 counts2 taken out) e.status e.promised
+            no_page taken out e silent bad steps =
                 refuses_page job base td to before p files2 counts2 (Offsets ∷ Graph ∷ Properties ∷ []) (λ r h. behind_lengths p a) k4 bad.0
-                (subst (λ (x : List ℕ). IsTrue (is_in bad.0 x)) asked_is bad.1) taken faults e silent bad.2
+                (subst (λ (x : List ℕ). IsTrue (is_in bad.0 x)) asked_is bad.1) taken out e silent bad.2
                 (λ t r. subst (λ (x : List ℕ). Answers (with_pages p.nodes x (λ all. lines a)) e.status) asked_is (steps (λ all. lines a)))
 
-            pub shows : Steps (with_pages p.nodes asked) (Ok tt) → (taken : List ℕ) (faults : ℕ) (r : Result (Unit {0}) Ending) → (IsTrue to → Puts (successors_lines a.graph pages) before.taken taken r)
-                → IfErr r (λ e. IsUnput e.status) → (status_in r ≡ WriteFault Out → Increased before.faults faults) → Performs job td to before (outside files2 counts2 taken faults) (status_in r) (promised_in r)
-            shows all taken faults r puts only rose =
+            pub shows : Steps (with_pages p.nodes asked) (Ok tt) → (taken : List ℕ) (out : OutCounts) (r : Result (Unit {0}) Ending) → (IsTrue to → Puts (successors_lines a.graph pages) before.taken taken r)
+                → IfErr r (λ e. IsUnput e.status) → (status_in r ≡ WriteFault Out → Increased before.out.faults out.faults) → Performs job td to before (outside files2 counts2 taken out) (status_in r) (promised_in r)
+            shows all taken out r puts only rose =
                 prints job base td to before p files2 counts2 (Offsets ∷ Graph ∷ Properties ∷ []) (λ r h. behind_lengths p a) k4 (λ q. successors_lines a.graph pages)
                 (λ q. subst (λ (x : List ℕ). with_pages p.nodes x (λ every. lines a) ≡ lines a) asked_is (all (λ every. lines a)))
-                refl taken faults r (λ t q. puts t) only rose
+                refl taken out r (λ t q. puts t) only rose (λ apart. absurd (let no : true ≡ false = apart in cc))

@@ -30,14 +30,14 @@ use Rattle.wg_outcomes.specs.Causes.{HasCause}
 use Rattle.wg_outcomes.specs.Commands.{successors_line}
 use Rattle.wg_outcomes.specs.Judged.{Judged, accepted, status_of, with_file, with_successors, offsets_then}
 use Rattle.wg_outcomes.specs.Names.{IsOfInput, file_of, held_by, no_outputs}
-use Rattle.wg_outcomes.specs.Performs.{Outside, Performs, outside}
+use Rattle.wg_outcomes.specs.Performs.{OutCounts, Outside, Performs, outside}
 use Rattle.wg_outcomes.specs.Promised.{promised_in}
 use Rattle.wg_outcomes.specs.Readings.{Readings}
 use Rattle.wg_outcomes.specs.declared.ending.Ending.{Ending}
 use Rattle.wg_outcomes.specs.declared.status.Input.{Input}
 use Rattle.wg_outcomes.specs.declared.status.Input.TheVariants.{Properties, Graph, Offsets}
 use Rattle.wg_outcomes.specs.declared.status.Status.{Status}
-use Rattle.wg_outcomes.specs.declared.status.Status.TheVariants.{BadArchive, Done, NoPage, WriteFault}
+use Rattle.wg_outcomes.specs.declared.status.Status.TheVariants.{BadArchive, Done, Memory, NoPage, WriteFault}
 use Rattle.wg_outcomes.proofs.Statuses.{IsOwn, own_caused}
 use Rattle.wg_readings.specs.Finding.{IsOpenOn}
 use Rattle.wg_readings.specs.Loading.{Loads, LoadsParams, Reads, status_at}
@@ -247,9 +247,9 @@ module _ (base : List ℕ) (page : ℕ) (td to : Bool) (before : Outside) where
                 go (λ bytes. behind_graph p bytes r h)
                 ∙ sym (λ i. offsets_then r p (h Offsets) (λ places. go (λ bytes. with_successors r p bytes places page line) i))
 
-        module _ (files3 : Files) (counts3 : List ℕ → Counts) (taken : List ℕ) (faults : ℕ) where
+        module _ (files3 : Files) (counts3 : List ℕ → Counts) (taken : List ℕ) (out : OutCounts) where
           -- its successors were not read
-          pub no_list : (e : Ending) → taken ≡ before.taken → SpotsPage (file_of base) p page td files2 files3 counts2 counts3 (Err e) → Performs job td to before (outside files3 counts3 taken faults) e.status e.promised
+          pub no_list : (e : Ending) → taken ≡ before.taken → SpotsPage (file_of base) p page td files2 files3 counts2 counts3 (Err e) → Performs job td to before (outside files3 counts3 taken out) e.status e.promised
           no_list e silent s = by_only s.only
             where
               k4 : ComesTo job p td before files3 counts3 (Graph ∷ Properties ∷ []) (behind_both p)
@@ -258,27 +258,28 @@ module _ (base : List ℕ) (page : ℕ) (td to : Bool) (before : Outside) where
               answers : IsTrue td → (r : Readings) → Answers (behind_both p r (held_by (file_of base) before.files)) e.status
               answers t r = subst (λ (f : Files). Answers (behind_both p r (held_by (file_of base) f)) e.status) k3.same (s.steps t r line)
 
-              by_only : IsBadPage td page p.arcs e → Performs job td to before (outside files3 counts3 taken faults) e.status e.promised
+              by_only : IsBadPage td page p.arcs e → Performs job td to before (outside files3 counts3 taken out) e.status e.promised
               by_only (inl none) =
-                  refuses_page job base td to before p files3 counts3 (Graph ∷ Properties ∷ []) (behind_both p) k4 page (eq-eqb page page refl) taken faults e silent none answers
+                  refuses_page job base td to before p files3 counts3 (Graph ∷ Properties ∷ []) (behind_both p) k4 page (eq-eqb page page refl) taken out e silent none answers
               by_only (inr (inl (inl bad))) =
-                  refuses job base td to before p files3 counts3 (Graph ∷ Properties ∷ []) (behind_both p) k4 Graph refl taken faults e silent bad answers
+                  refuses job base td to before p files3 counts3 (Graph ∷ Properties ∷ []) (behind_both p) k4 Graph refl taken out e silent bad answers
               by_only (inr (inl (inr bad))) =
-                  refuses job base td to before p files3 counts3 (Graph ∷ Properties ∷ []) (behind_both p) k4 Offsets refl taken faults e silent bad answers
+                  refuses job base td to before p files3 counts3 (Graph ∷ Properties ∷ []) (behind_both p) k4 Offsets refl taken out e silent bad answers
               by_only (inr (inr ((inl own), why))) =
                   ends job base td to before p files2 counts2 (Properties ∷ []) {B = List ℕ} Graph refl (λ r. with_file Graph) (behind_graph p) k1' (λ h holds. holds) (λ t r n. refl)
-                  refl (outside files3 counts3 taken faults) e silent s.same s.later (record { only = inl own; causes = s.causes; refused = λ t r next. inr (why t) })
+                  refl (outside files3 counts3 taken out) e silent s.same s.later (record { only = inl own; causes = s.causes; refused = λ t r next. inr (why t) })
               by_only (inr (inr ((inr own), why))) =
                   ends job base td to before p files2 counts2 (Graph ∷ Properties ∷ []) {B = List ℕ} Offsets refl (λ r. offsets_then r p) (λ places r h. with_successors r p bytes places page line) k2' (λ h holds. holds) (λ t r n. refl)
-                  refl (outside files3 counts3 taken faults) e silent s.same s.later (record { only = inl own; causes = s.causes; refused = λ t r next. inr (why t) })
+                  refl (outside files3 counts3 taken out) e silent s.same s.later (record { only = inl own; causes = s.causes; refused = λ t r next. inr (why t) })
 
           -- they were
           pub spots : (list : List ℕ) → SpotsPage (file_of base) p page td files2 files3 counts2 counts3 (Ok list) → (shown : List ℕ) → shown ≡ list
               → (r : Result (Unit {0}) Ending) → (IsTrue to → Puts (successors_line page shown) before.taken taken r)
-              → IfErr r (λ e. IsUnput e.status) → (status_in r ≡ WriteFault Out → Increased before.faults faults) → Performs job td to before (outside files3 counts3 taken faults) (status_in r) (promised_in r)
-          spots list s shown same_list r puts only rose =
+              → IfErr r (λ e. IsUnput e.status) → (status_in r ≡ WriteFault Out → Increased before.out.faults out.faults) → (status_in r ≡ Memory → Increased before.out.wants out.wants)
+              → Performs job td to before (outside files3 counts3 taken out) (status_in r) (promised_in r)
+          spots list s shown same_list r puts only rose wanted =
               prints job base td to before p files3 counts3 (Offsets ∷ Graph ∷ Properties ∷ []) (λ q h. line list) k4
-              (λ q. successors_line page list) (λ q. refl) refl taken faults r (λ t q. subst (λ (x : List ℕ). Puts (successors_line page x) before.taken taken r) same_list (puts t)) only rose
+              (λ q. successors_line page list) (λ q. refl) refl taken out r (λ t q. subst (λ (x : List ℕ). Puts (successors_line page x) before.taken taken r) same_list (puts t)) only rose (λ apart. wanted)
             where
               k4 : ComesTo job p td before files3 counts3 (Offsets ∷ Graph ∷ Properties ∷ []) (λ q h. line list)
               k4 = record {

@@ -5,7 +5,7 @@ ghost use Rattle.wg_outside.specs.Puts.{Puts};
 ghost use Rattle.wg_outside.specs.declared.output.Output.TheVariants.{Out};
 ghost use Rattle.wg_words.specs.declared.jobs.Job.TheVariants.{Spot};
 ghost use Rattle.wg_outcomes.specs.Answers.{IsUnput, status_in};
-ghost use Rattle.wg_outcomes.specs.declared.status.Status.TheVariants.{WriteFault};
+ghost use Rattle.wg_outcomes.specs.declared.status.Status.TheVariants.{Memory, WriteFault};
 ghost use Rattle.wg_outcomes.specs.Commands.{successors_line};
 ghost use Rattle.wg_outcomes.specs.Performs.{DoesOrEnds};
 ghost use Rattle.wg_lookups.specs.Spotting.{SpotsByChainIn};
@@ -85,6 +85,8 @@ fn print_line<O: Sink>(out: &mut O, page: u64, list: &[u64]) -> Result<(), Endin
     ensures puts { IsTrue O.told → Puts (successors_line page list.now) (O.taken out.old) (O.taken out.new) result }
     ensures only { IfErr result (λ e. IsUnput e.status) }
     ensures failed { status_in result ≡ WriteFault Out → Increased (O.faults out.old) (O.faults out.new) }
+    ensures memory { status_in result ≡ Memory → Increased (O.wants out.old) (O.wants out.new) }
+    ensures later { O.later out.old out.new }
 {
     let mut lines = Lines::new();
     print_list(&mut lines, out, page, list)?;

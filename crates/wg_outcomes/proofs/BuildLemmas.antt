@@ -80,18 +80,19 @@ pub produced : (job : Job) (td to : Bool) (before after : Outside) (files : File
     → (IsTrue td → (q : Readings) → (status_of (judged_on q job before.files) ≡ Done) × (output_of (judged_on q job before.files) ≡ text q) × (files_of (judged_on q job before.files) ≡ Some what))
     → files ≡ before.files
     → NonDecreasing before.counts counts
-    → Produces (output_name job) what text td to (outside files counts before.taken before.faults) after r
+    → Produces (output_name job) what text td to (outside files counts before.taken before.out) after r
     → Performs job td to before after (status_in r) (promised_in r)
 produced job td to before after files counts what text r writes is same later h = record {
   answers = λ t q. by_written (Answers (judged_on q job before.files)) r h.only (inl (sym (is t q).0)) (λ o. inr tt) (inr tt);
   possible =
       by_written (λ s. ((o : Output) → s ≡ WriteFault o → IsTrue (has_output job o)) → IsTrue (can_end job s)) r h.only (λ has. refl) (λ o has. has o refl) (λ has. refl)
-      (has_each job (input_name job) counts after.counts before.faults after.faults (status_in r) (h.causes (input_name job)));
-  causes = cause_since (input_name job) (output_name job) before.counts counts after.counts before.faults after.faults r h.only later (h.causes (input_name job));
+      (has_each job (input_name job) counts after.counts before.out.faults after.out.faults (status_in r) (h.causes (input_name job)));
+  causes = cause_since (input_name job) (output_name job) before.counts counts after.counts before.out.faults after.out.faults r h.only later (h.causes (input_name job));
   reached = λ t q i fault. absurd (subst IsRead fault (by_written IsRead r h.only tt (λ o. tt) tt));
   needed = λ t q o fault. (is t q).0;
   output = λ t o q. subst (λ (due : List ℕ). HasOutput due before.taken after.taken (status_in r)) (sym (is t q).1) (h.output o q);
   silent = λ apart. h.silent;
+  unprinted = λ apart. h.unprinted;
   printed_last = λ t q want. subst (λ (w : Option Written). (after.taken ≡ before.taken) ⊎ AreAllWhole (output_name job) w after.files) (sym (due t q)) (h.printed_last t want);
   files = λ t q.
       subst (λ (f : Files). HasFiles (output_name job) (written_by q job (held_by (input_name job) before.files)) f after.files (status_in r)) same
@@ -111,9 +112,9 @@ pub written : (job : Job) (td to : Bool) (before after : Outside) (files : Files
     → (IsTrue td → (q : Readings) → judged_on q job before.files ≡ builds l g)
     → files ≡ before.files
     → NonDecreasing before.counts counts
-    → BuildsArchive l g base td to (outside files counts before.taken before.faults) after r
+    → BuildsArchive l g base td to (outside files counts before.taken before.out) after r
     → Performs job td to before after (status_in r) (promised_in r)
 written job td to before after files counts l g base r writes named is same later h =
     produced job td to before after files counts (an_archive (greedy_archive (params_for l g) g)) (λ q. greedy_line (params_for l g) g) r writes
     (λ t q. (ap status_of (is t q), ap output_of (is t q), ap files_of (is t q))) same later
-    (subst (λ (names : Output → Option (List ℕ)). Produces names (an_archive (greedy_archive (params_for l g) g)) (λ q. greedy_line (params_for l g) g) td to (outside files counts before.taken before.faults) after r) named h)
+    (subst (λ (names : Output → Option (List ℕ)). Produces names (an_archive (greedy_archive (params_for l g) g)) (λ q. greedy_line (params_for l g) g) td to (outside files counts before.taken before.out) after r) named h)

@@ -21,9 +21,9 @@ use Rattle.wg_outcomes.specs.Commands.{judged, written_by}
 use Rattle.wg_outcomes.specs.Judged.{Judged, accepted, files_of, output_of, status_of, Written, an_archive, a_certificate, refused}
 use Rattle.wg_greedy.specs.Archive.{Archive}
 use Rattle.wg_outcomes.specs.Promised.{ArePromised, promised_in}
-use Rattle.wg_outcomes.specs.JobFiles.{can_end, has_input, input_name, output_name, writes_files}
+use Rattle.wg_outcomes.specs.JobFiles.{can_end, has_input, input_name, output_name, prints_in_parts, writes_files}
 use Rattle.wg_outcomes.specs.Names.{held_by, no_outputs, IsOfInput}
-use Rattle.wg_outcomes.specs.Performs.{DoesAlone, Outside, Performs, judged_on}
+use Rattle.wg_outcomes.specs.Performs.{DoesAlone, DoesOrEnds, Outside, Performs, judged_on}
 use Rattle.wg_outcomes.specs.Readings.{Readings}
 use Rattle.wg_outcomes.specs.Untold.{DoesAnywhere, GeneratesAnywhere}
 use Rattle.wg_outcomes.specs.Written.{AreAllWhole, ArchiveFiles, CertificateAfter, FilesAfter, HasFiles, archive_at, content_of}
@@ -40,6 +40,10 @@ performs_at j k td to before after s t a b same is count h =
     subst (λ (x : Job). Performs x td to before after s a) (sym same)
     (subst (λ (x : Status). Performs k td to before after x a) (sym is)
     (subst (λ (x : ℕ). Performs k td to before after t x) (sym count) h))
+
+pub does_at : {D O : Type 0} (d : depot.Ghosts D) (o : sink.Ghosts O) (j k : Job) (before after : D) (out out' : O) (r : Result (Unit {0}) Ending) → j ≡ k → DoesOrEnds d o k before after out out' r
+    → DoesOrEnds d o j before after out out' r
+does_at d o j k before after out out' r same h = subst (λ (x : Job). DoesOrEnds d o x before after out out' r) (sym same) h
 
 pub anywhere_at : {D O : Type 0} (d : depot.Ghosts D) (o : sink.Ghosts O) (j k : Job) (before after : D) (out out' : O) (s t : Status) → j ≡ k → s ≡ t → DoesAnywhere d o k before after out out' t
     → DoesAnywhere d o j before after out out' s
@@ -95,7 +99,7 @@ pub stopped : (job : Job) (td to : Bool) (before after : Outside) (s : Status) (
     → IsStop s → after.taken ≡ before.taken → after.files ≡ before.files
     → (IsTrue td → (r : Readings) → Answers (judged_on r job before.files) s)
     → IsTrue (can_end job s)
-    → HasCause (input_name job) (output_name job) before.counts after.counts before.faults after.faults s
+    → HasCause (input_name job) (output_name job) before.counts after.counts before.out.faults after.out.faults s
     → (IsTrue td → (r : Readings) (i : Input) → s ≡ ReadFault i → Reaches r job (held_by (input_name job) before.files) i)
     → NonDecreasing before.counts after.counts
     → (IsTrue td → ArePromised (held_by (input_name job) before.files) s a)
@@ -108,6 +112,7 @@ stopped job td to before after s a stop silent same answers possible causes reac
   needed = λ t r o is. absurd (subst IsStop is stop);
   output = λ t o r. stop_output _ before.taken after.taken s stop silent;
   silent = λ apart. inr (inr silent);
+  unprinted = λ apart want. inl silent;
   printed_last = λ t r want. inl silent;
   files = λ t r. files_kept (output_name job) _ before.files after.files s stop same;
   same = λ is. same;
@@ -136,9 +141,10 @@ pub printed_by : (job : Job) (td to : Bool) (before after : Outside) (text : Rea
     → NonDecreasing before.counts after.counts
     → (IsTrue to → (q : Readings) → Puts (text q) before.taken after.taken r)
     → IfErr r (λ e. IsUnput e.status)
-    → (status_in r ≡ WriteFault Out → Increased before.faults after.faults)
+    → (status_in r ≡ WriteFault Out → Increased before.out.faults after.out.faults)
+    → (prints_in_parts job ≡ false → status_in r ≡ Memory → Increased before.out.wants after.out.wants)
     → Performs job td to before after (status_in r) (promised_in r)
-printed_by job td to before after text r none is same later puts only cause = record {
+printed_by job td to before after text r none is same later puts only cause wanted = record {
   answers = λ t q. by_put (Answers (judged_on q job before.files)) r only (inl (sym (ap status_of (is t q)))) (inr tt) (inr tt);
   possible = by_put (λ s. IsTrue (can_end job s)) r only refl refl refl;
   causes = unput_cause _ _ _ _ _ _ r only cause;
@@ -146,6 +152,7 @@ printed_by job td to before after text r none is same later puts only cause = re
   needed = λ t q o fault. ap status_of (is t q);
   output = λ t o q. output_put _ (text q) _ _ r (sym (ap output_of (is t q))) (puts o q) only;
   silent = λ apart. put_last r before.taken after.taken only;
+  unprinted = λ apart want. inr (wanted apart want);
   printed_last = λ t q want. inr (nothing_whole job none q (held_by (input_name job) before.files) after.files);
   files = λ t q. files_same job none before after (status_in r) same q;
   same = λ is. same;
@@ -176,7 +183,7 @@ pub unread : (names : Names) (i : Input) (job : Job) (td to : Bool) (before afte
     → Performs job td to before after s a
 unread names i job td to before after s a has named silent only cause same later answers reached =
     stopped job td to before after s a (by_input IsStop i s only tt tt tt tt) silent same answers (unread_possible job i s has only)
-    (cause_named i s names (input_name job) (output_name job) before.counts after.counts before.faults after.faults only named cause)
+    (cause_named i s names (input_name job) (output_name job) before.counts after.counts before.out.faults after.out.faults only named cause)
     reached later (λ t. unread_promised (held_by (input_name job) before.files) i s a only)
 
 -- ---- a job that nothing outside hinders

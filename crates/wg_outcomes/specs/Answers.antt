@@ -53,6 +53,10 @@ IsUnput status = (status ≡ WriteFault Out) ⊎ (status ≡ Memory)
 abbrev pub IsPutLast : Status → List ℕ → List ℕ → Type 0
 IsPutLast status old new = (status ≡ Done) ⊎ IsUnput status ⊎ (new ≡ old)
 
+-- nothing was printed if memory ran out, unless the output counted it
+abbrev pub IsUnprinted : Status → List ℕ → List ℕ → ℕ → ℕ → Type 0
+IsUnprinted status old new wants wants' = status ≡ Memory → (new ≡ old) ⊎ Increased wants wants'
+
 -- a job ended at its output, and only if the output counted a fault or that it was out of memory
 pub record PrintRefusals {S A : Type 0} (s : sink.Ghosts S) (before after : S) (result : Result A Ending) : Type 0 where
   pub only : IfErr result (λ e. IsUnput e.status)

@@ -79,6 +79,11 @@ prints_while_reading (Ascii base) = true
 prints_while_reading (Offsets base) = true
 prints_while_reading _ = false
 
+-- whether a job prints before its last step: while it reads a file again, or page by page
+abbrev pub prints_in_parts : Job → Bool
+prints_in_parts (Show base pages) = true
+prints_in_parts job = prints_while_reading job
+
 -- how a job can end at all
 abbrev pub can_end : Job → Status → Bool
 can_end job Done = true

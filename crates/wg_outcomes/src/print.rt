@@ -14,6 +14,7 @@ use wg_params::Params;
 /// A piece of the output, in one call if the output takes it whole.
 pub fn print_piece<O: Sink>(out: &mut O, piece: &[u8]) -> Result<(), Ending>
     ensures puts { IsTrue O.told → Puts piece.now (O.taken out.old) (O.taken out.new) result }
+    ensures later { O.later out.old out.new }
     ensures refusals { PrintRefusals ⟦<O as Sink>⟧ out.old out.new result }
 {
     write_all(out, piece).map_err(output_ending)
@@ -44,6 +45,7 @@ fn ok_line(params: &Params, bits: u64) -> Text
 /// Prints the line of an accepted archive, in one call if the output takes it whole.
 pub fn print_ok<O: Sink>(out: &mut O, params: &Params, bits: u64) -> Result<(), Ending>
     ensures puts { IsTrue O.told → Puts (ok_line params.now bits) (O.taken out.old) (O.taken out.new) result }
+    ensures later { O.later out.old out.new }
     ensures refusals { PrintRefusals ⟦<O as Sink>⟧ out.old out.new result }
 {
     print_piece(out, ok_line(params, bits).as_bytes())

@@ -15,7 +15,7 @@ use Rattle.wg_outcomes.specs.Names.{certificate_to}
 use Rattle.wg_outcomes.specs.Readings.{Readings}
 use Rattle.wg_outcomes.specs.declared.ending.Ending.{Ending}
 use Rattle.wg_outcomes.specs.declared.status.Status.{Status}
-use Rattle.wg_outcomes.specs.declared.status.Status.TheVariants.{WriteFault}
+use Rattle.wg_outcomes.specs.declared.status.Status.TheVariants.{Memory, WriteFault}
 use Rattle.wg_outcomes.proofs.Statuses.{by_put, by_stop, unput_cause}
 use Rattle.wg_outcomes.specs.Performs.{CertifiesRanking, Outside}
 use Rattle.wg_outcomes.specs.Ranked.{certificate_text, ranking_text}
@@ -62,6 +62,7 @@ module _ (b : Intervals) (name : List ℕ) (top : ℕ) (td to : Bool) (before af
         subst (λ (new : List ℕ). HasOutput (ranking_text q b top) before.taken new e.status) (sym silent)
         (stopped_output (ranking_text q b top) before.taken e.status (stopped_at Certificate e.status h.only) (not_at_out e.status h.only));
     silent = inr (inr silent);
+    unprinted = λ want. inl silent;
     printed_last = λ t want. inl silent;
     files = λ t. (
       others_stay name before.files after.files (h.others t),
@@ -78,12 +79,13 @@ module _ (b : Intervals) (name : List ℕ) (top : ℕ) (td to : Bool) (before af
 
   pub certify_done : (r : Result (Unit {0}) Ending) → (IsTrue td → HoldsWhole name (certificate_text b) after.files) → Touches Certificate name td before.files after.files before.counts after.counts (Ok tt)
       → (IsTrue to → (q : Readings) → Puts (ranking_text q b top) before.taken after.taken r) → IfErr r (λ e. IsUnput e.status)
-      → (status_in r ≡ WriteFault Out → Increased before.faults after.faults) → CertifiesRanking b name top td to before after r
-  certify_done r whole h puts only rose = record {
+      → (status_in r ≡ WriteFault Out → Increased before.out.faults after.out.faults) → (status_in r ≡ Memory → Increased before.out.wants after.out.wants) → CertifiesRanking b name top td to before after r
+  certify_done r whole h puts only rose wanted = record {
     only = put_stopped r only;
-    causes = λ inputs. unput_cause inputs (certificate_to name) before.counts after.counts before.faults after.faults r only rose;
+    causes = λ inputs. unput_cause inputs (certificate_to name) before.counts after.counts before.out.faults after.out.faults r only rose;
     output = λ o q. output_put (ranking_text q b top) (ranking_text q b top) before.taken after.taken r refl (puts o q) only;
     silent = put_last r before.taken after.taken only;
+    unprinted = λ want. inr (wanted want);
     printed_last = λ t want. inr (whole t);
     files = λ t. (others_stay name before.files after.files (h.others t), put_certificate (map.get before.files name) (map.get after.files name) r only (whole t));
     later = h.later;

@@ -19,7 +19,7 @@ use Rattle.wg_outcomes.specs.Answers.{IsHindrance, IsUnput, status_in, Answers, 
 use Rattle.wg_outcomes.specs.Names.{file_of, no_outputs, held_by}
 use Rattle.wg_readings.specs.Passes.{Advances, accepted_of, graph_then}
 use Rattle.wg_outcomes.specs.Promised.{IsStopAt, ArePromised, promised_in}
-use Rattle.wg_outcomes.specs.Performs.{Outside, outside, Performs, judged_on}
+use Rattle.wg_outcomes.specs.Performs.{OutCounts, Outside, outside, Performs, judged_on}
 use Rattle.wg_queries.specs.Printed.{PrintsGraph, PutsUpTo}
 use Rattle.wg_outcomes.specs.declared.ending.Ending.{Ending}
 use Rattle.wg_outcomes.specs.declared.status.Input.TheVariants.{Graph}
@@ -29,11 +29,12 @@ use Rattle.wg_outcomes.proofs.Statuses.{IsOwn, any_faults, bad_own, no_write, ow
 use Rattle.wg_readings.proofs.UnderWay.{IsUnderWay, all_read, ends_caused, first_read, cause_later}
 use Rattle.wg_outside.specs.declared.output.Output.{Output}
 use Rattle.wg_words.specs.declared.jobs.Job.{Job}
+use Rattle.wg_words.specs.declared.jobs.Job.TheVariants.{Show}
 use Rattle.wg_outcomes.specs.Reached.{Reaches}
 use Rattle.wg_outcomes.specs.Causes.{HasCause}
 use Rattle.wg_outcomes.specs.Judged.{Judged, accepted, output_of, status_of}
 use Rattle.wg_readings.specs.Loading.{JudgesGraph}
-use Rattle.wg_outcomes.specs.JobFiles.{input_name, output_name, prints_while_reading, writes_files}
+use Rattle.wg_outcomes.specs.JobFiles.{input_name, output_name, prints_in_parts, prints_while_reading, writes_files}
 use Rattle.wg_outcomes.specs.declared.status.Input.{Input}
 use Rattle.wg_readings.proofs.JobSteps.{ComesTo, Hold, reaches}
 use Rattle.wg_outcomes.proofs.PerformsLemmas.{files_same, nothing_whole}
@@ -86,7 +87,7 @@ pub prints_exit : (base : List ℕ) (p : Parameters) (text : Accepted → List �
     → PrintsGraph base p text td to before after (Err e) → PrintsGraph base p text td to before after r
 prints_exit base p text td to before after r e is h = subst (λ (x : Result (Unit {0}) Ending). PrintsGraph base p text td to before after x) (sym (is_that_err r e is)) h
 
-module _ (base : List ℕ) (p : Parameters) (text : Accepted → List ℕ) (td to : Bool) (files : Files) (counts : List ℕ → Counts) (t0 : List ℕ) (f0 : ℕ) where
+module _ (base : List ℕ) (p : Parameters) (text : Accepted → List ℕ) (td to : Bool) (files : Files) (counts : List ℕ → Counts) (t0 : List ℕ) (f0 : OutCounts) where
   -- nothing was begun, since memory ran out
   pub prints_none : (e : Ending) → e.status ≡ Memory → PrintsGraph base p text td to (outside files counts t0 f0) (outside files counts t0 f0) (Err e)
   prints_none e want = record {
@@ -101,13 +102,13 @@ module _ (base : List ℕ) (p : Parameters) (text : Accepted → List ℕ) (td t
   module _ (limits : IsWithinLimits p) (grows : Grows text) (files1 : Files) (counts1 : List ℕ → Counts) (n : ℕ) (a : Reading) (t1 : List ℕ) where
     -- the reading stopped
     pub prints_read : (waits : List ℕ) (h : IsUnderWay td base p files files1 counts counts1 n a (λ whole. IsTrue to → HasPrinted t0 t1 [] (text (accepted_of whole)) waits)) → n ≤ p.nodes
-        → (files2 : Files) (counts2 : List ℕ → Counts) (b : Reading) (f1 : ℕ) (e : Ending) → Advances {B = Unit {0}} td files1 files2 counts1 counts2 p a b (Err e)
+        → (files2 : Files) (counts2 : List ℕ → Counts) (b : Reading) (f1 : OutCounts) (e : Ending) → Advances {B = Unit {0}} td files1 files2 counts1 counts2 p a b (Err e)
         → PrintsGraph base p text td to (outside files counts t0 f0) (outside files2 counts2 t1 f1) (Err e)
     prints_read waits h few files2 counts2 b f1 e step = record {
       same = step.same ∙ h.same;
       later = none_falls-trans _ _ _ h.later step.later;
       only = inl step.only;
-      causes = any_faults (file_of base) no_outputs counts counts2 f0 f1 e.status (ends_caused td base p files counts files1 files2 counts1 counts2 n a b _ h e step);
+      causes = any_faults (file_of base) no_outputs counts counts2 f0.faults f1.faults e.status (ends_caused td base p files counts files1 files2 counts1 counts2 n a b _ h e step);
       hindered = λ t x g. read_hindered base p td files counts limits files1 files2 counts1 counts2 n a b _ h e step t x g;
       puts = λ t o x g.
           let k = first_read td base p files counts files1 files1 counts1 counts1 n a a _ h limits few t x g in
@@ -118,13 +119,13 @@ module _ (base : List ℕ) (p : Parameters) (text : Accepted → List ℕ) (td t
 
     -- the output stopped
     pub prints_less : (h : IsUnderWay td base p files files1 counts counts1 n a (λ whole. IsTrue to → HasPrintedLess t0 t1 [] (text (accepted_of whole)))) → n ≤ p.nodes
-        → (f1 : ℕ) (e : Ending) → IsUnput e.status → (e.status ≡ WriteFault Out → Increased f0 f1)
+        → (f1 : OutCounts) (e : Ending) → IsUnput e.status → (e.status ≡ WriteFault Out → Increased f0.faults f1.faults)
         → PrintsGraph base p text td to (outside files counts t0 f0) (outside files1 counts1 t1 f1) (Err e)
     prints_less h few f1 e only rose = record {
       same = h.same;
       later = h.later;
       only = inr only;
-      causes = unput_cause (file_of base) no_outputs counts counts1 f0 f1 (Err e) only rose;
+      causes = unput_cause (file_of base) no_outputs counts counts1 f0.faults f1.faults (Err e) only rose;
       hindered = λ t x g. unput_hinders e.status only;
       puts = λ t o x g.
           let k = first_read td base p files counts files1 files1 counts1 counts1 n a a _ h limits few t x g in
@@ -140,13 +141,13 @@ module _ (base : List ℕ) (p : Parameters) (text : Accepted → List ℕ) (td t
     pub prints_all : (waits : List ℕ) (h : IsUnderWay td base p files files1 counts counts1 n a (λ whole. IsTrue to → HasPrinted t0 t1 [] (text (accepted_of whole)) waits))
         → (files2 : Files) (counts2 : List ℕ → Counts) (b : Reading) → Advances {B = Unit {0}} td files1 files2 counts1 counts2 p a b (Ok tt)
         → (IsTrue td → (held : Files) → files1 ≡ held → (file : List ℕ) → map.get held a.name ≡ Some file → (whole : List Whole) → IsInStep file a whole → IsJudged file p (Ok (accepted_of whole)))
-        → (t2 : List ℕ) (f1 : ℕ) (r : Result (Unit {0}) Ending) → (IsTrue to → Puts waits t1 t2 r) → IfErr r (λ e. IsUnput e.status) → (status_in r ≡ WriteFault Out → Increased f0 f1)
+        → (t2 : List ℕ) (f1 : OutCounts) (r : Result (Unit {0}) Ending) → (IsTrue to → Puts waits t1 t2 r) → IfErr r (λ e. IsUnput e.status) → (status_in r ≡ WriteFault Out → Increased f0.faults f1.faults)
         → PrintsGraph base p text td to (outside files counts t0 f0) (outside files2 counts2 t2 f1) r
     prints_all waits h files2 counts2 b step judged t2 f1 r put only rose = record {
       same = step.same ∙ h.same;
       later = none_falls-trans _ _ _ h.later step.later;
       only = only_in p.arcs r only;
-      causes = unput_cause (file_of base) no_outputs counts counts2 f0 f1 r only rose;
+      causes = unput_cause (file_of base) no_outputs counts counts2 f0.faults f1.faults r only rose;
       hindered = λ t x g. hinders_in r only;
       puts = λ t o x g.
           let k = all_read td base p files counts files1 files2 counts1 counts2 n a b _ h limits judged t x g in
@@ -182,21 +183,25 @@ pass_caused names inputs outputs n old mid new f f' (Err e) named (inl (inl only
 pass_caused names inputs outputs n old mid new f f' (Err e) named (inl (inr bad)) later h = own_caused inputs outputs old new f f' e.status (bad_own Graph n e bad)
 pass_caused names inputs outputs n old mid new f f' (Err e) named (inr unput) later h = unput_cause inputs outputs old new f f' (Err e) unput h.out_fault
 
+in_parts : (job : Job) → prints_while_reading job ≡ true → prints_in_parts job ≡ true
+in_parts (Show base pages) prints = refl
+in_parts _ prints = prints
+
 -- the file was validated, and a text of its graph was printed while it was read again
 pub printed_again : (base : List ℕ) (p : Parameters) (print : Accepted → List ℕ) (job : Job) (td to : Bool) (before mid after : Outside) (read : List Input) (files : Files) (counts : List ℕ → Counts) (r : Result (Unit {0}) Ending)
     → writes_files job ≡ false → prints_while_reading job ≡ true → (named : input_name job Graph ≡ file_of base Graph)
-    → mid.taken ≡ before.taken → mid.faults ≡ before.faults
+    → mid.taken ≡ before.taken → mid.out ≡ before.out
     → ((h : Input → Option (List ℕ)) → Hold (input_name job) before.files read h → Hold (input_name job) before.files read (without Graph h))
     → ComesTo job p td before files counts read (λ q h. graph_then q p (h Graph) (λ a. accepted (print a)))
     → JudgesGraph base p td files mid.files counts mid.counts (Ok tt)
     → PrintsGraph base p print td to mid after r
     → Performs job td to before after (status_in r) (promised_in r)
-printed_again base p print job td to before mid after read files counts r none prints named silent faults apart k j h =
+printed_again base p print job td to before mid after read files counts r none prints named silent same_out apart k j h =
     let known = graph_known job base td before p files mid.files counts mid.counts read (λ a q h. accepted (print a)) named k j in record {
       answers = λ t q. let a = known t in answers_in (judged_on q job before.files) (print a.0) r (a.2 q) (h.hindered t a.0 a.1);
       possible = pass_possible job p.arcs r (ap is_some named) h.only;
-      causes = subst (λ (f : ℕ). HasCause (input_name job) (output_name job) before.counts after.counts f after.faults (status_in r)) faults
-          (pass_caused (file_of base) (input_name job) (output_name job) p.arcs before.counts mid.counts after.counts mid.faults after.faults r named h.only (none_falls-trans _ _ _ k.later j.reads.later) h.causes);
+      causes = subst (λ (f : OutCounts). HasCause (input_name job) (output_name job) before.counts after.counts f.faults after.out.faults (status_in r)) same_out
+          (pass_caused (file_of base) (input_name job) (output_name job) p.arcs before.counts mid.counts after.counts mid.out.faults after.out.faults r named h.only (none_falls-trans _ _ _ k.later j.reads.later) h.causes);
       reached = λ t q i is. subst (λ (x : Input). Reaches q job (held_by (input_name job) before.files) x) (pass_read p.arcs r i h.only is) (reaches job base td to before p files counts read Graph named (λ q. graph_then q p) (λ a q h. accepted (print a)) k apart (λ t q n. refl) t q);
       needed = λ t q o is. let a = known t in ap status_of (a.2 q);
       output = λ t o q.
@@ -205,6 +210,7 @@ printed_again base p print job td to before mid after read files counts r none p
           (subst (λ (old : List ℕ). HasOutput (print a.0) old after.taken (status_in r)) silent
           (output_up_to (print a.0) mid.taken after.taken r (h.hindered t a.0 a.1) h.causes.write_fault (h.puts t o a.0 a.1)));
       silent = λ apart. absurd (let no : true ≡ false = sym prints ∙ apart in cc);
+      unprinted = λ apart. absurd (let no : true ≡ false = sym (in_parts job prints) ∙ apart in cc);
       printed_last = λ t q want. inr (nothing_whole job none q (held_by (input_name job) before.files) after.files);
       files = λ t q. files_same job none before after (status_in r) (h.same ∙ j.reads.same ∙ k.same) q;
       same = λ is. h.same ∙ j.reads.same ∙ k.same;

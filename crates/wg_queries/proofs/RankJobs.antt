@@ -23,7 +23,7 @@ use Rattle.wg_outcomes.specs.declared.status.Input.TheVariants.{Properties, Grap
 use Rattle.wg_outcomes.specs.declared.status.Status.TheVariants.{Memory, WriteFault}
 use Rattle.wg_outcomes.specs.Commands.{ranks}
 use Rattle.wg_outcomes.specs.JobFiles.{input_name, output_name, writes_files}
-use Rattle.wg_outcomes.specs.Performs.{CertifiesRanking, Outside, Performs, Produces, outside}
+use Rattle.wg_outcomes.specs.Performs.{CertifiesRanking, OutCounts, Outside, Performs, Produces, outside}
 use Rattle.wg_outcomes.specs.Ranked.{bounds_after, certificate_text, ranking_text}
 use Rattle.wg_outcomes.proofs.BuildLemmas.{produced}
 use Rattle.wg_readings.proofs.JobSteps.{ComesTo, ends_without, judges_rest, prints}
@@ -68,22 +68,23 @@ module _ (base : List ℕ) (rounds damping top : ℕ) (name certificate : Option
       come = graphs.has_weights job base name rest (of_graph base rounds damping top name certificate) (weights_are base rounds damping top name certificate) td to before p files counts l files1 counts1 graph g files2 counts2 given w
 
       -- memory ran out before the first round
-      pub no_room : (taken : List ℕ) (faults : ℕ) (e : Ending) → taken ≡ before.taken → e.status ≡ Memory → Performs job td to before (outside files2 counts2 taken faults) e.status e.promised
-      no_room taken faults e silent want =
-          ends_without job base td to before p files2 counts2 (Weights ∷ Graph ∷ Properties ∷ []) (rest p graph given) come taken faults e silent want
+      pub no_room : (taken : List ℕ) (out : OutCounts) (e : Ending) → taken ≡ before.taken → e.status ≡ Memory → Performs job td to before (outside files2 counts2 taken out) e.status e.promised
+      no_room taken out e silent want =
+          ends_without job base td to before p files2 counts2 (Weights ∷ Graph ∷ Properties ∷ []) (rest p graph given) come taken out e silent want
 
       module _ (b : Intervals) (is : b ≡ bounds_after graph given damping rounds) where
         -- the ranking is printed, and nothing is written
-        pub only_prints : certificate ≡ None → (taken : List ℕ) (faults : ℕ) (r : Result (Unit {0}) Ending) → (IsTrue to → (q : Readings) → Puts (ranking_text q b top) before.taken taken r)
-            → IfErr r (λ e. IsUnput e.status) → (status_in r ≡ WriteFault Out → Increased before.faults faults) → Performs job td to before (outside files2 counts2 taken faults) (status_in r) (promised_in r)
-        only_prints none taken faults r puts only rose =
+        pub only_prints : certificate ≡ None → (taken : List ℕ) (out : OutCounts) (r : Result (Unit {0}) Ending) → (IsTrue to → (q : Readings) → Puts (ranking_text q b top) before.taken taken r)
+            → IfErr r (λ e. IsUnput e.status) → (status_in r ≡ WriteFault Out → Increased before.out.faults out.faults) → (status_in r ≡ Memory → Increased before.out.wants out.wants)
+            → Performs job td to before (outside files2 counts2 taken out) (status_in r) (promised_in r)
+        only_prints none taken out r puts only rose wanted =
             prints job base td to before p files2 counts2 (Weights ∷ Graph ∷ Properties ∷ []) (rest p graph given) come (λ q. ranking_text q b top)
             (λ q. ap (λ (x : Intervals). ranks q certificate top x) (sym is) ∙ ap (λ (o : Option (List ℕ)). ranks q o top b) none)
-            (ap (λ (o : Option (List ℕ)). writes_files (Rank base rounds damping top name o)) none) taken faults r puts only rose
+            (ap (λ (o : Option (List ℕ)). writes_files (Rank base rounds damping top name o)) none) taken out r puts only rose (λ apart. wanted)
 
         -- the certificate is written before
         pub certifies : (to_name : List ℕ) → certificate ≡ Some to_name → (after : Outside) (r : Result (Unit {0}) Ending)
-            → CertifiesRanking b to_name top td to (outside files2 counts2 before.taken before.faults) after r → Performs job td to before after (status_in r) (promised_in r)
+            → CertifiesRanking b to_name top td to (outside files2 counts2 before.taken before.out) after r → Performs job td to before after (status_in r) (promised_in r)
         certifies to_name some after r h =
             produced job td to before after files2 counts2 (a_certificate (certificate_text b)) (λ q. ranking_text q b top) r
             (ap (λ (o : Option (List ℕ)). writes_files (Rank base rounds damping top name o)) some)
@@ -93,4 +94,4 @@ module _ (base : List ℕ) (rounds damping top : ℕ) (name certificate : Option
             ∙ ap (λ (x : Intervals). ranks q certificate top x) (sym is) ∙ ap (λ (o : Option (List ℕ)). ranks q o top b) some in
             (ap status_of judged_is, ap output_of judged_is, ap files_of judged_is))
             come.same come.later
-            (subst (λ (o : Option (List ℕ)). Produces (output_name (Rank base rounds damping top name o)) (a_certificate (certificate_text b)) (λ q. ranking_text q b top) td to (outside files2 counts2 before.taken before.faults) after r) (sym some) h)
+            (subst (λ (o : Option (List ℕ)). Produces (output_name (Rank base rounds damping top name o)) (a_certificate (certificate_text b)) (λ q. ranking_text q b top) td to (outside files2 counts2 before.taken before.out) after r) (sym some) h)

@@ -21,7 +21,7 @@ use Rattle.wg_outcomes.specs.declared.status.Input.{Input}
 use Rattle.wg_outcomes.specs.declared.status.Input.TheVariants.{Properties, Graph, Weights, Certificate}
 use Rattle.wg_outcomes.specs.declared.status.Status.TheVariants.{Memory, WriteFault}
 use Rattle.wg_outcomes.specs.JobFiles.{has_input, input_name}
-use Rattle.wg_outcomes.specs.Performs.{Outside, Performs, outside}
+use Rattle.wg_outcomes.specs.Performs.{OutCounts, Outside, Performs, outside}
 use Rattle.wg_outcomes.specs.Verified.{verified_line, with_gap}
 use Rattle.wg_readings.proofs.JobSteps.{ComesTo, prints}
 use Rattle.wg_readings.proofs.JobSteps.{certificate_refused, comes_on_named, ends_named, refuses_own}
@@ -79,16 +79,17 @@ module _ (base certificate : List ℕ) (given : Option (List ℕ)) (td to : Bool
             (claim_then graph.nodes) (λ x r h. behind_claim graph ws x r h) come files3 counts3 claim c.reads
 
         -- the claim does not hold
-        pub no_gap : (taken : List ℕ) (faults : ℕ) (e : Ending) → taken ≡ before.taken → (e.status ≡ Memory) ⊎ IsBadCertificate e
-            → Steps {B = ℕ} (with_gap graph claim ws) (Err e) → Performs job td to before (outside files3 counts3 taken faults) e.status e.promised
-        no_gap taken faults e silent only steps =
+        pub no_gap : (taken : List ℕ) (out : OutCounts) (e : Ending) → taken ≡ before.taken → (e.status ≡ Memory) ⊎ IsBadCertificate e
+            → Steps {B = ℕ} (with_gap graph claim ws) (Err e) → Performs job td to before (outside files3 counts3 taken out) e.status e.promised
+        no_gap taken out e silent only steps =
             refuses_own job base td to before p files3 counts3 (Certificate ∷ Weights ∷ Graph ∷ Properties ∷ []) IsBadCertificate (certificate_refused job p (has_certificate base certificate given))
-            (behind_claim graph ws claim) come_to_claim taken faults e silent only (λ t r. steps (λ left. accepted (verified_line claim left)))
+            (behind_claim graph ws claim) come_to_claim taken out e silent only (λ t r. steps (λ left. accepted (verified_line claim left)))
 
         -- it does
-        pub verifies : (left : ℕ) → Steps {B = ℕ} (with_gap graph claim ws) (Ok left) → (taken : List ℕ) (faults : ℕ) (r : Result (Unit {0}) Ending)
+        pub verifies : (left : ℕ) → Steps {B = ℕ} (with_gap graph claim ws) (Ok left) → (taken : List ℕ) (out : OutCounts) (r : Result (Unit {0}) Ending)
             → (IsTrue to → Puts (verified_line claim left) before.taken taken r) → IfErr r (λ e. IsUnput e.status)
-            → (status_in r ≡ WriteFault Out → Increased before.faults faults) → Performs job td to before (outside files3 counts3 taken faults) (status_in r) (promised_in r)
-        verifies left steps taken faults r puts only rose =
+            → (status_in r ≡ WriteFault Out → Increased before.out.faults out.faults) → (status_in r ≡ Memory → Increased before.out.wants out.wants)
+            → Performs job td to before (outside files3 counts3 taken out) (status_in r) (promised_in r)
+        verifies left steps taken out r puts only rose wanted =
             prints job base td to before p files3 counts3 (Certificate ∷ Weights ∷ Graph ∷ Properties ∷ []) (behind_claim graph ws claim) come_to_claim
-            (λ q. verified_line claim left) (λ q. steps (λ x. accepted (verified_line claim x))) refl taken faults r (λ o q. puts o) only rose
+            (λ q. verified_line claim left) (λ q. steps (λ x. accepted (verified_line claim x))) refl taken out r (λ o q. puts o) only rose (λ apart. wanted)

@@ -17,7 +17,7 @@ use Rattle.wg_outcomes.specs.Commands.{number_line, number_lines}
 use Rattle.wg_outcomes.specs.Names.{file_of, held_by, no_outputs}
 use Rattle.wg_readings.specs.Passes.{IsGraphFile}
 use Rattle.wg_outcomes.specs.Promised.{IsStopAt}
-use Rattle.wg_outcomes.specs.Performs.{Outside, outside}
+use Rattle.wg_outcomes.specs.Performs.{Outside, out_counts, outside}
 use Rattle.wg_outcomes.specs.declared.ending.Ending.{Ending}
 use Rattle.wg_queries.specs.declared.printing.Listing.{Listing}
 use Rattle.wg_queries.specs.declared.printing.Listing.TheVariants.{Arcs, Ascii, Offsets}
@@ -60,7 +60,7 @@ pub record PrintsGraph (base : List ℕ) (p : Parameters) (text : Accepted → L
   pub same : after.files ≡ before.files
   pub later : NonDecreasing before.counts after.counts
   pub only : IfErr result (λ e. IsStopAt input.Graph p.arcs e ⊎ IsUnput e.status)
-  pub causes : HasCause (file_of base) no_outputs before.counts after.counts before.faults after.faults
+  pub causes : HasCause (file_of base) no_outputs before.counts after.counts before.out.faults after.out.faults
       (status_in result)
   pub hindered : IsTrue told_files → (a : Accepted)
       → IsGraphFile (held_by (file_of base) before.files input.Graph) p a → IfErr result (λ e. IsHindrance e.status)
@@ -72,5 +72,5 @@ pub record PrintsGraph (base : List ℕ) (p : Parameters) (text : Accepted → L
 abbrev pub PrintsAgain : {D O : Type 0} → depot.Ghosts D → sink.Ghosts O → List ℕ → Parameters → (Accepted → List ℕ)
     → D → D → O → O → Result (Unit {0}) Ending → Type 0
 PrintsAgain d o base p text before after out out' result =
-    PrintsGraph base p text d.told o.told (outside (d.files before) (d.counts before) (o.taken out) (o.faults out))
-    (outside (d.files after) (d.counts after) (o.taken out') (o.faults out')) result
+    PrintsGraph base p text d.told o.told (outside (d.files before) (d.counts before) (o.taken out) (out_counts o out))
+    (outside (d.files after) (d.counts after) (o.taken out') (out_counts o out')) result

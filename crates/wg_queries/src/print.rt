@@ -42,6 +42,7 @@ pub fn print_verified<O: Sink>(
     requires { left ≤ UNITS }
     ensures puts { IsTrue O.told → Puts (verified_line certificate.now left) (O.taken out.old) (O.taken out.new)
         result }
+    ensures later { O.later out.old out.new }
     ensures refusals { PrintRefusals ⟦<O as Sink>⟧ out.old out.new result }
 {
     print_piece(out, verified_line(certificate, left).as_bytes())
@@ -103,7 +104,7 @@ pub fn print_nodes<O: Sink>(lines: &mut Lines, out: &mut O, nodes: u64) -> Resul
 }
 
 /// Prints the line of a page with these successors in an ASCIIGraph text.
-pub fn print_list<O: Sink>(lines: &mut Lines, out: &mut O, list: &[u64]) -> Result<(), Ending>
+pub fn print_ascii_list<O: Sink>(lines: &mut Lines, out: &mut O, list: &[u64]) -> Result<(), Ending>
     ensures prints { IsTrue O.told → Prints (list_line list.now) (O.taken out.old)
         (O.taken out.new) lines.old lines.new result }
     ensures later { O.later out.old out.new }
@@ -153,6 +154,7 @@ fn write_ranking<S: Sink>(sink: &mut S, first: &FirstPages) -> Result<(), WriteE
 pub fn print_ranking<O: Sink>(out: &mut O, first: &FirstPages) -> Result<(), Ending>
     ensures puts { IsTrue O.told → Puts (rank_lines first.now first.now.pages)
         (O.taken out.old) (O.taken out.new) result }
+    ensures later { O.later out.old out.new }
     ensures refusals { PrintRefusals ⟦<O as Sink>⟧ out.old out.new result }
 {
     match write_ranking(out, first) {

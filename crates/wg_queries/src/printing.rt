@@ -5,7 +5,7 @@ ghost use Rattle.wg_outcomes.specs.Answers.{PrintRefusals};
 ghost use Rattle.wg_outcomes.specs.Performs.{DoesOrEnds};
 ghost use Rattle.wg_queries.specs.Printed.{PrintsAgain, head_of, job_of, listed, piece_of};
 
-use crate::print::{print_list, print_nodes, print_number, print_page};
+use crate::print::{print_ascii_list, print_nodes, print_number, print_page};
 use std::alloc::Global;
 use wg_lines::Lines;
 use wg_outcomes::{Ending, print_rest};
@@ -51,15 +51,16 @@ fn print_again<D: Depot, O: Sink>(
     base: &Name,
     out: &mut O,
 ) -> Result<(), Ending>
-    ensures { PrintsAgain ⟦<D as Depot>⟧ ⟦<O as Sink>⟧ base.now params.now (listed listing params.now.nodes)
+    ensures prints { PrintsAgain ⟦<D as Depot>⟧ ⟦<O as Sink>⟧ base.now params.now (listed listing params.now.nodes)
         depot.old depot.new out.old out.new result }
+    ensures later { O.later out.old out.new }
 {
     let mut reader = open_graph(alloc, params, base)?;
     let mut lines = Lines::new();
     print_head(&mut lines, out, listing, params)?;
     for page in 0..params.nodes() {
         next_record(&mut reader, depot, params)?;
-        print_piece(&mut lines, out, listing, page, &reader)?;
+        print_record(&mut lines, out, listing, page, &reader)?;
     }
     end_records(&mut reader, depot, params)?;
     print_rest(&mut lines, out)
@@ -86,7 +87,7 @@ fn print_head<O: Sink>(
 }
 
 // The text of the record of this page, which was just read.
-fn print_piece<O: Sink>(
+fn print_record<O: Sink>(
     lines: &mut Lines,
     out: &mut O,
     listing: Listing,
@@ -100,7 +101,7 @@ fn print_piece<O: Sink>(
 {
     match listing {
         Listing::Arcs => print_page(lines, out, page, reader.list()),
-        Listing::Ascii => print_list(lines, out, reader.list()),
+        Listing::Ascii => print_ascii_list(lines, out, reader.list()),
         Listing::Offsets => print_number(lines, out, reader.at()),
     }
 }

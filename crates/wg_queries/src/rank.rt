@@ -72,6 +72,7 @@ pub fn rank<D: Depot, O: Sink>(
 fn print_ranks<O: Sink>(out: &mut O, bounds: Bounds, top: u64) -> Result<(), Ending>
     ensures puts { IsTrue O.told → (r : Readings)
         → Puts (ranking_text r bounds top) (O.taken out.old) (O.taken out.new) result }
+    ensures later { O.later out.old out.new }
     ensures refusals { PrintRefusals ⟦<O as Sink>⟧ out.old out.new result }
 {
     let pages = bounds.lower().len() as u64;
@@ -90,6 +91,7 @@ fn certify<D: Depot, O: Sink>(
 ) -> Result<(), Ending>
     ensures does { Certifies ⟦<D as Depot>⟧ ⟦<O as Sink>⟧
         bounds name.now top depot.old depot.new out.old out.new result }
+    ensures later { O.later out.old out.new }
     ensures wants { status_in result ≡ Memory → Increased (O.wants out.old) (O.wants out.new)
         ⊎ IncreasedAt (λ c. c.wants) (Some name.now) (D.counts depot.old) (D.counts depot.new) }
 {

@@ -5,6 +5,8 @@ use Rattle.std.specs.FinMap as map
 use Rattle.std.specs.Result.{IfErr, IsErrAnd}
 use Rattle.wg_outside.specs.Outside.{Files, Counts, NonDecreasing, Increased}
 use Rattle.wg_outside.specs.Puts.{Puts}
+use Rattle.wg_outside.specs.declared.depot.Depot as depot
+use Rattle.wg_outside.specs.declared.sink.Sink as sink
 use Rattle.wg_outside.specs.declared.output.Output.TheVariants.{Out}
 use Rattle.wg_outside.proofs.FilesLemmas.{none_falls-trans}
 use Rattle.wg_outside.proofs.PutsLemmas.{is_that_err}
@@ -22,10 +24,10 @@ use Rattle.wg_outcomes.specs.Causes.{HasCause}
 use Rattle.wg_outcomes.specs.Commands.{builds, judged}
 use Rattle.wg_outcomes.specs.Judged.{Judged, accepted, refused}
 use Rattle.wg_readings.specs.Loading.{EndsAt, IsPropertiesFile, LoadsParams, Reads, params_then, IsBadCertificate, IsBadMap, IsBadWeights, ReadsNamed}
-use Rattle.wg_outcomes.specs.JobFiles.{asks_for, can_end, has_input, input_name, output_name, writes_files}
+use Rattle.wg_outcomes.specs.JobFiles.{asks_for, can_end, has_input, input_name, output_name, prints_in_parts, writes_files}
 use Rattle.wg_outcomes.specs.Names.{archive_named, file_of, held_by, no_outputs, IsOfInput}
 use Rattle.wg_outcomes.specs.Promised.{ArePromised, IsBadFile, IsPromised, promised_in}
-use Rattle.wg_outcomes.specs.Performs.{BuildsArchive, Outside, Performs, judged_on, outside}
+use Rattle.wg_outcomes.specs.Performs.{BuildsArchive, Does, DoesOrEnds, OutCounts, Outside, Performs, judged_on, outside}
 use Rattle.wg_outcomes.specs.Readings.{Readings}
 use Rattle.wg_outcomes.specs.declared.ending.Ending.{Ending}
 use Rattle.wg_outcomes.specs.declared.status.Input.{Input}
@@ -43,6 +45,14 @@ use Rattle.wg_outcomes.specs.declared.status.WeightsFault.TheVariants.{Numbers, 
 pub performs_exit : {B : Type 0} (job : Job) (td to : Bool) (before after : Outside) (r : Result B Ending) (e : Ending) → IsErrAnd r (λ x. x ≡ e)
     → Performs job td to before after e.status e.promised → Performs job td to before after (status_in r) (promised_in r)
 performs_exit job td to before after r e is h = subst (λ x. Performs job td to before after (status_in x) (promised_in x)) (sym (is_that_err r e is)) h
+
+-- the same before anything is printed
+pub does_exit : {D O : Type 0} (d : depot.Ghosts D) (o : sink.Ghosts O) (job : Job) (before after : D) (out : O) (r : Result (Unit {0}) Ending) (e : Ending) → ((a : O) → o.later a a) → IsErrAnd r (λ x. x ≡ e)
+    → Does d o job before after out out e.status e.promised → DoesOrEnds d o job before after out out r
+does_exit d o job before after out r e stays is h = record {
+  does = performs_exit job d.told o.told _ _ r e is h;
+  later = stays out;
+}
 
 -- ---- what an ending names as promised
 
@@ -227,37 +237,38 @@ module _ (job : Job) (base : List ℕ) (td to : Bool) (before : Outside) where
       judges_rest t r = k.goes t r held (hold_all (input_name job) before.files read)
 
       -- ---- a step that reads nothing ends the job
-      module _ (taken : List ℕ) (faults : ℕ) (e : Ending) (silent : taken ≡ before.taken) where
+      module _ (taken : List ℕ) (out : OutCounts) (e : Ending) (silent : taken ≡ before.taken) where
         pub refuses_so : IsRefusal job e.status → (IsTrue td → ArePromised held e.status e.promised) → (IsTrue td → (r : Readings) → Answers (rest r held) e.status)
-            → Performs job td to before (outside files counts taken faults) e.status e.promised
+            → Performs job td to before (outside files counts taken out) e.status e.promised
         refuses_so is promised answers =
-            ends_refused job td to before (outside files counts taken faults) e silent k.same k.later (λ t r. subst (λ (j : Judged). Answers j e.status) (sym (judges_rest t r)) (answers t r)) is promised
+            ends_refused job td to before (outside files counts taken out) e silent k.same k.later (λ t r. subst (λ (j : Judged). Answers j e.status) (sym (judges_rest t r)) (answers t r)) is promised
 
         -- memory ran out
-        pub ends_without : e.status ≡ Memory → Performs job td to before (outside files counts taken faults) e.status e.promised
+        pub ends_without : e.status ≡ Memory → Performs job td to before (outside files counts taken out) e.status e.promised
         ends_without want =
             refuses_so (want_refuses job e.status want) (λ t. subst (λ (s : Status). ArePromised held s e.promised) (sym want) tt) (λ t r. inr (subst IsHindrance (sym want) tt))
 
-      pub refuses : (i : Input) → IsTrue (has_input job i) → (taken : List ℕ) (faults : ℕ) (e : Ending) → taken ≡ before.taken → IsBadFile i p.arcs e
-          → (IsTrue td → (r : Readings) → Answers (rest r held) e.status) → Performs job td to before (outside files counts taken faults) e.status e.promised
-      refuses i has taken faults e silent bad answers = refuses_so taken faults e silent (bad_refuses job i p.arcs e has bad) (λ t. bad_promised held p i e (k.given t) bad) answers
+      pub refuses : (i : Input) → IsTrue (has_input job i) → (taken : List ℕ) (out : OutCounts) (e : Ending) → taken ≡ before.taken → IsBadFile i p.arcs e
+          → (IsTrue td → (r : Readings) → Answers (rest r held) e.status) → Performs job td to before (outside files counts taken out) e.status e.promised
+      refuses i has taken out e silent bad answers = refuses_so taken out e silent (bad_refuses job i p.arcs e has bad) (λ t. bad_promised held p i e (k.given t) bad) answers
 
       -- a page that is asked for and that the graph does not have ends it
-      pub refuses_page : (page : ℕ) → IsTrue (asks_for job page) → (taken : List ℕ) (faults : ℕ) (e : Ending) → taken ≡ before.taken → e.status ≡ NoPage page
-          → (IsTrue td → (r : Readings) → Answers (rest r held) e.status) → Performs job td to before (outside files counts taken faults) e.status e.promised
-      refuses_page page asked taken faults e silent is answers =
-          refuses_so taken faults e silent (subst (IsRefusal job) (sym is) (record { own = tt; stop = tt; possible = asked })) (λ t. subst (λ (s : Status). ArePromised held s e.promised) (sym is) tt) answers
+      pub refuses_page : (page : ℕ) → IsTrue (asks_for job page) → (taken : List ℕ) (out : OutCounts) (e : Ending) → taken ≡ before.taken → e.status ≡ NoPage page
+          → (IsTrue td → (r : Readings) → Answers (rest r held) e.status) → Performs job td to before (outside files counts taken out) e.status e.promised
+      refuses_page page asked taken out e silent is answers =
+          refuses_so taken out e silent (subst (IsRefusal job) (sym is) (record { own = tt; stop = tt; possible = asked })) (λ t. subst (λ (s : Status). ArePromised held s e.promised) (sym is) tt) answers
 
       -- ---- the last step prints a text
       pub prints : (text : Readings → List ℕ) → ((r : Readings) → rest r held ≡ accepted (text r)) → writes_files job ≡ false
-          → (taken : List ℕ) (faults : ℕ) (r : Result (Unit {0}) Ending) → (IsTrue to → (q : Readings) → Puts (text q) before.taken taken r) → IfErr r (λ e. IsUnput e.status)
-          → (status_in r ≡ WriteFault Out → Increased before.faults faults) → Performs job td to before (outside files counts taken faults) (status_in r) (promised_in r)
-      prints text is none taken faults r puts only rose =
-          printed_by job td to before (outside files counts taken faults) text r none (λ t q. judges_rest t q ∙ is q) k.same k.later puts only rose
+          → (taken : List ℕ) (out : OutCounts) (r : Result (Unit {0}) Ending) → (IsTrue to → (q : Readings) → Puts (text q) before.taken taken r) → IfErr r (λ e. IsUnput e.status)
+          → (status_in r ≡ WriteFault Out → Increased before.out.faults out.faults) → (prints_in_parts job ≡ false → status_in r ≡ Memory → Increased before.out.wants out.wants)
+          → Performs job td to before (outside files counts taken out) (status_in r) (promised_in r)
+      prints text is none taken out r puts only rose wanted =
+          printed_by job td to before (outside files counts taken out) text r none (λ t q. judges_rest t q ∙ is q) k.same k.later puts only rose wanted
 
       -- ---- or it writes an archive
       pub writes : (l : Layout) (g : Digraph) (output : List ℕ) → ((r : Readings) → rest r held ≡ builds l g) → IsTrue (writes_files job) → archive_named output ≡ output_name job
-          → (after : Outside) (r : Result (Unit {0}) Ending) → BuildsArchive l g output td to (outside files counts before.taken before.faults) after r
+          → (after : Outside) (r : Result (Unit {0}) Ending) → BuildsArchive l g output td to (outside files counts before.taken before.out) after r
           → Performs job td to before after (status_in r) (promised_in r)
       writes l g output is some named after r h = written job td to before after files counts l g output r some named (λ t q. judges_rest t q ∙ is q) k.same k.later h
 
@@ -298,8 +309,8 @@ module _ (job : Job) (base : List ℕ) (td to : Bool) (before : Outside) where
 
     -- a step that reads nothing ends it, with such a fault or since memory ran out
     module _ (IsFault : Ending → Type 0) (refusals : AreRefusals job p IsFault) (rest : Readings → (Input → Option (List ℕ)) → Judged) (k : ComesTo job p td before files counts read rest) where
-      pub refuses_own : (taken : List ℕ) (faults : ℕ) (e : Ending) → taken ≡ before.taken → (e.status ≡ Memory) ⊎ IsFault e
-          → (IsTrue td → (r : Readings) → Answers (rest r held) e.status) → Performs job td to before (outside files counts taken faults) e.status e.promised
-      refuses_own taken faults e silent (inl want) answers = ends_without rest k taken faults e silent want
-      refuses_own taken faults e silent (inr fault) answers =
-          refuses_so rest k taken faults e silent (refusals.refusal e fault) (λ t. refusals.promised held e (k.given t) fault) answers
+      pub refuses_own : (taken : List ℕ) (out : OutCounts) (e : Ending) → taken ≡ before.taken → (e.status ≡ Memory) ⊎ IsFault e
+          → (IsTrue td → (r : Readings) → Answers (rest r held) e.status) → Performs job td to before (outside files counts taken out) e.status e.promised
+      refuses_own taken out e silent (inl want) answers = ends_without rest k taken out e silent want
+      refuses_own taken out e silent (inr fault) answers =
+          refuses_so rest k taken out e silent (refusals.refusal e fault) (λ t. refusals.promised held e (k.given t) fault) answers

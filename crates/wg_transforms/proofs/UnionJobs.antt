@@ -35,7 +35,7 @@ use Rattle.wg_readings.proofs.UnderWay.{cause_later}
 use Rattle.wg_outcomes.specs.Commands.{builds, with_union}
 use Rattle.wg_transforms.specs.Loaded.{IsArchiveFile, IsOfArchive, LoadsArchive, result_of_second}
 use Rattle.wg_outcomes.specs.JobFiles.{can_end, has_input, input_name, output_name}
-use Rattle.wg_outcomes.specs.Performs.{BuildsArchive, Outside, Performs, judged_on, outside}
+use Rattle.wg_outcomes.specs.Performs.{BuildsArchive, OutCounts, Outside, Performs, judged_on, outside}
 use Rattle.wg_outcomes.specs.Reached.{Reaches}
 use Rattle.wg_transforms.specs.declared.loaded.Loaded.{Loaded}
 use Rattle.wg_outcomes.proofs.BuildLemmas.{written}
@@ -233,21 +233,21 @@ module _ (first second output : List ℕ) (layout : Layout) (td to : Bool) (befo
           ∙ ap of_second (h.goes.2 t r (behind_second one.params a))
 
       -- the union was not made
-      pub no_union : (taken : List ℕ) (faults : ℕ) (e : Ending) → taken ≡ before.taken → (e.status ≡ Memory) ⊎ (e.status ≡ TooManyArcs) → (e.status ≡ TooManyArcs → MOST_ARCS < arc_count both)
-          → Performs job td to before (outside files2 counts2 taken faults) e.status e.promised
-      no_union taken faults e silent only many = by_only only
+      pub no_union : (taken : List ℕ) (out : OutCounts) (e : Ending) → taken ≡ before.taken → (e.status ≡ Memory) ⊎ (e.status ≡ TooManyArcs) → (e.status ≡ TooManyArcs → MOST_ARCS < arc_count both)
+          → Performs job td to before (outside files2 counts2 taken out) e.status e.promised
+      no_union taken out e silent only many = by_only only
         where
-          ends : (IsTrue td → (r : Readings) → Answers (judged_on r job before.files) e.status) → IsRefusal job e.status → ArePromised held e.status e.promised → Performs job td to before (outside files2 counts2 taken faults) e.status e.promised
-          ends answers refusal told = ends_refused job td to before (outside files2 counts2 taken faults) e silent same (none_falls-trans _ _ _ l.later h.later) answers refusal (λ t. told)
+          ends : (IsTrue td → (r : Readings) → Answers (judged_on r job before.files) e.status) → IsRefusal job e.status → ArePromised held e.status e.promised → Performs job td to before (outside files2 counts2 taken out) e.status e.promised
+          ends answers refusal told = ends_refused job td to before (outside files2 counts2 taken out) e silent same (none_falls-trans _ _ _ l.later h.later) answers refusal (λ t. told)
 
-          by_only : ((e.status ≡ Memory) ⊎ (e.status ≡ TooManyArcs)) → Performs job td to before (outside files2 counts2 taken faults) e.status e.promised
+          by_only : ((e.status ≡ Memory) ⊎ (e.status ≡ TooManyArcs)) → Performs job td to before (outside files2 counts2 taken out) e.status e.promised
           by_only (inl want) = ends (λ t r. inr (subst IsHindrance (sym want) tt)) (want_refuses job e.status want) (subst (λ (s : Status). ArePromised held s e.promised) (sym want) tt)
           by_only (inr many_is) =
               ends (λ t r. inl (many_is ∙ sym (ap status_of (goes t r ∙ ap (λ (x : Bool). of_second (if x then refused TooManyArcs else builds layout both)) (lt-ltb MOST_ARCS (arc_count both) (many many_is))))))
               (subst (IsRefusal job) (sym many_is) (record { own = tt; stop = tt; possible = refl })) (subst (λ (s : Status). ArePromised held s e.promised) (sym many_is) tt)
 
       -- it was, and is written
-      pub unites : arc_count both ≤ MOST_ARCS → (after : Outside) (r : Result (Unit {0}) Ending) → BuildsArchive layout both output td to (outside files2 counts2 before.taken before.faults) after r
+      pub unites : arc_count both ≤ MOST_ARCS → (after : Outside) (r : Result (Unit {0}) Ending) → BuildsArchive layout both output td to (outside files2 counts2 before.taken before.out) after r
           → Performs job td to before after (status_in r) (promised_in r)
       unites few after r h' =
           written job td to before after files2 counts2 layout both output r refl refl

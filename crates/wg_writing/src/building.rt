@@ -25,8 +25,9 @@ pub fn build_archive<D: Depot, O: Sink>(
     depot: &mut D,
     out: &mut O,
 ) -> Result<(), Ending>
-    ensures { (l : Layout) (g : Digraph) → params.now ≡ params_for l g → archive.now ≡ archive_of params.now g
+    ensures builds { (l : Layout) (g : Digraph) → params.now ≡ params_for l g → archive.now ≡ archive_of params.now g
         → Builds ⟦<D as Depot>⟧ ⟦<O as Sink>⟧ l g base.now depot.old depot.new out.old out.new result }
+    ensures later { O.later out.old out.new }
 {
     write_archive(alloc, archive, base, depot)?;
     print_ok(out, params, archive.bits())

@@ -32,17 +32,17 @@ returns-in-Verify g c =
 pub returns-in-Bulk : goal.returns-in-Bulk
 returns-in-Bulk g c =
     rw c.in-Bulk.is record {
-      does = c.bulk.ensures _ _ _;
-      anywhere = generates g.O.Sink _ _ c.args.out.now c.bulk.new.out c.bulk.result c.bulk.ensures;
+      does = record { does = c.bulk.ensures.does _ _ _; later = c.bulk.ensures.later };
+      anywhere = generates g.O.Sink _ _ c.args.out.now c.bulk.new.out c.bulk.result c.bulk.ensures.does;
       untouched = λ none. refl;
     }
 
-pub write_archive-requires-clause-writes : goal.write_archive-requires-clause-writes
-write_archive-requires-clause-writes g c = archive_left _ c.in_default.not-Check c.in_default.not-Arcs c.in_default.not-Ascii c.in_default.not-Offsets c.in_default.not-Show c.in_default.not-Spot c.in_default.not-Rank c.in_default.not-Verify c.in_default.not-Bulk
+pub do_archive_job-requires-clause-writes : goal.do_archive_job-requires-clause-writes
+do_archive_job-requires-clause-writes g c = archive_left _ c.in_default.not-Check c.in_default.not-Arcs c.in_default.not-Ascii c.in_default.not-Offsets c.in_default.not-Show c.in_default.not-Spot c.in_default.not-Rank c.in_default.not-Verify c.in_default.not-Bulk
 
 pub returns-in_default : goal.returns-in_default
 returns-in_default g c = record {
-  does = c.write_archive.ensures;
+  does = c.do_archive_job.ensures;
   anywhere = anywhere_left g.D.Depot g.O.Sink _ _ _ _ _ _ c.in_default.not-Rank c.in_default.not-Verify c.in_default.not-Bulk;
   untouched = λ none. calls (calls_left _ c.in_default.not-Bulk) none;
 }

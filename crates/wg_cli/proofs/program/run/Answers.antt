@@ -5,7 +5,7 @@ use Rattle.wg_words.specs.declared.jobs.Job.TheVariants.{Bulk, Rank, Verify}
 use Rattle.wg_outcomes.specs.Answers.{Answers, HasOutput}
 use Rattle.wg_outcomes.specs.Judged.{Judged, output_of}
 use Rattle.wg_outcomes.specs.JobFiles.{held_for}
-use Rattle.wg_outcomes.specs.Performs.{Outside, Performs, judged_on, outside}
+use Rattle.wg_outcomes.specs.Performs.{Outside, Performs, judged_on, out_counts, outside}
 use Rattle.wg_outcomes.specs.declared.status.Status.TheVariants.{Memory}
 use Rattle.wg_cli.specs.Wanted.{ArePromisedBy, some_calls_depot, some_writes_files}
 use Rattle.wg_cli.proofs.LineLemmas.{nothing_promised}
@@ -23,7 +23,7 @@ use Rattle.wg_cli.proofs.program.run.Goals as goal
 pub returns-in_default : goal.returns-in_default
 returns-in_default g c =
     let counts = g.D.Depot.counts c.args.depot.now in
-    let at : Outside = outside (g.D.Depot.files c.args.depot.now) counts (g.O.Sink.taken c.args.out.now) (g.O.Sink.faults c.args.out.now) in
+    let at : Outside = outside (g.D.Depot.files c.args.depot.now) counts (g.O.Sink.taken c.args.out.now) (out_counts g.O.Sink c.args.out.now) in
     let stop : (job : Job) → Performs job g.D.Depot.told g.O.Sink.told at at Memory 0 = λ job. not_begun job g.D.Depot.told g.O.Sink.told at in
     record {
       usage = λ is. not_usage is;
@@ -36,6 +36,7 @@ returns-in_default g c =
       reached = λ t r job asked i is. absurd (subst IsRead is tt);
       needed = λ t r job asked o is. absurd (subst IsStop is tt);
       silent = λ job asked apart. inr (inr refl);
+      unprinted = λ job asked apart want. inl refl;
       printed_last = λ t r job asked want. inl refl;
       certified = λ t o r base rounds damping top weights certificate asked is. not_done is;
       ranked = λ o r base rounds damping top weights certificate asked is. not_done is;
@@ -49,6 +50,8 @@ returns-in_default g c =
       same = λ none. refl;
       untouched = λ none. refl;
       later = none_falls-refl counts;
+      later_out = g.met.O.Sink.stays _;
+      later_err = c.report.ensures.later;
       line = λ e. (0, λ t. nothing_promised (job_of c.args.words.now) (g.D.Depot.files c.args.depot.now) 0, c.report.ensures.line e);
       quiet = λ is. not_done is;
     }
@@ -71,6 +74,7 @@ returns g c =
       reached = λ t r job asked i fault. (does job asked).reached t r i fault;
       needed = λ t r job asked o fault. (does job asked).needed t r o fault;
       silent = λ job asked apart. (does job asked).silent apart;
+      unprinted = λ job asked apart. (does job asked).unprinted apart;
       printed_last = λ t r job asked want. (does job asked).printed_last t r want;
       certified = λ t o r base rounds damping top weights certificate asked done.
           let job = Rank base rounds damping top weights certificate in
@@ -100,6 +104,8 @@ returns g c =
       same = λ none. ended.same (ap some_writes_files e ∙ none);
       untouched = λ none. ended.untouched (ap some_calls_depot e ∙ none);
       later = ended.later;
+      later_out = ended.later_out;
+      later_err = c.report-2.ensures.later;
       line = λ told. (
         c.try_job-ending.result.promised,
         λ t. subst (λ (asked : Option Job). ArePromisedBy asked files c.try_job-ending.result.status c.try_job-ending.result.promised) e (ended.promised t),

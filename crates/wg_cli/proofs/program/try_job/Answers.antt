@@ -16,6 +16,7 @@ returns-in-None g c =
       same = λ none. refl;
       untouched = λ none. refl;
       later = none_falls-refl _;
+      later_out = g.met.O.Sink.stays _;
     }
 
 pub returns-in-Some-clause-usage : goal.returns-in-Some-clause-usage
@@ -43,3 +44,6 @@ returns-in-Some-clause-untouched g c = rw c.in-Some.is c.perform.ensures.untouch
 
 pub returns-in-Some-clause-later : goal.returns-in-Some-clause-later
 returns-in-Some-clause-later g c = c.perform.ensures.does.later
+
+pub returns-in-Some-clause-later_out : goal.returns-in-Some-clause-later_out
+returns-in-Some-clause-later_out g c = c.perform.ensures.later

@@ -41,3 +41,6 @@ returns-clause-same c = c.run.ensures.same
 
 pub returns-clause-quiet : goal.returns-clause-quiet
 returns-clause-quiet c = c.run.ensures.quiet
+
+pub returns-clause-unprinted : goal.returns-clause-unprinted
+returns-clause-unprinted c = c.run.ensures.unprinted

@@ -36,10 +36,9 @@ returns-in_err-show_page g c =
           (line_less (line_in a.graph) (taken c.args.out.now) (taken c.loop-page.out) (taken out) [] c.loop-page.lines pages c.loop-page.page-index c.loop-page-test.true (i.printed t a read) (n.line.prints t a read));
       only = n.line.only;
       failed = λ is. rose_on (faults c.args.out.now) (faults c.loop-page.out) (faults out) (faults out) (g.met.O.Sink.onward _ _ i.later).0 (n.line.failed is) (omega arith);
-      opens = record {
-        each = λ r. tt;
-        most = λ r. omega (arith, i.opened r, n.most r, sum_by_more_le (chain_records r.records) pages c.loop-page.page-index 0 c.loop-page-test.true);
-      };
+      later = g.met.O.Sink.goes_on _ _ _ i.later n.line.later;
+      each = λ r. tt;
+      most = λ r. omega (arith, i.opened r, n.most r, sum_by_more_le (chain_records r.records) pages c.loop-page.page-index 0 c.loop-page-test.true);
     }
 
 pub returns : goal.returns
@@ -57,8 +56,7 @@ returns g c =
           (subst (λ (ps : List ℕ). HasPrinted (taken c.args.out.now) (taken c.loop-page.out) [] (joined (map (line_in a.graph) ps)) c.loop-page.lines) all (i.printed t a read)) (n.puts t);
       only = n.refusals.only;
       failed = λ is. rose_on (faults c.args.out.now) (faults c.loop-page.out) (faults out) (faults out) (g.met.O.Sink.onward _ _ i.later).0 (n.refusals.failed is) (omega arith);
-      opens = record {
-        each = λ r. if_always c.print_rest.result (i.opened r ∙ ap (λ (ps : List ℕ). c.args.steps.now + sum_by (chain_records r.records) ps) all);
-        most = λ r. omega (arith, i.opened r, ap (λ (ps : List ℕ). sum_by (chain_records r.records) ps) all);
-      };
+      later = g.met.O.Sink.goes_on _ _ _ i.later n.later;
+      each = λ r. if_always c.print_rest.result (i.opened r ∙ ap (λ (ps : List ℕ). c.args.steps.now + sum_by (chain_records r.records) ps) all);
+      most = λ r. omega (arith, i.opened r, ap (λ (ps : List ℕ). sum_by (chain_records r.records) ps) all);
     }

@@ -19,6 +19,8 @@ returns-in_err-print_list g c =
           c.new-lines.ensures (e.prints t));
       only = e.refusals.only;
       failed = e.refusals.failed;
+      memory = e.refusals.memory;
+      later = e.later;
     }
 
 pub returns : goal.returns
@@ -35,4 +37,6 @@ returns g c =
           (e.puts t);
       only = e.refusals.only;
       failed = λ fault. risen _ _ _ (g.met.O.Sink.onward _ _ l.later).0 (e.refusals.failed fault);
+      memory = λ want. risen _ _ _ (g.met.O.Sink.onward _ _ l.later).1 (e.refusals.memory want);
+      later = g.met.O.Sink.goes_on _ _ _ l.later e.later;
     }

@@ -6,15 +6,21 @@ use Rattle.wg_queries.proofs.PrintedLines.{head_less, head_printed, listed_grow,
 use Rattle.wg_queries.proofs.printing.print_again.Goals as goal
 
 pub returns-in_err-reader : goal.returns-in_err-reader
-returns-in_err-reader g c = prints_exit _ _ _ _ _ _ _ _ _ c.from_residual.ensures.1 (prints_none _ _ _ _ _ _ _ _ _ _ c.in_err-reader.ensures.only)
+returns-in_err-reader g c = record {
+  prints = prints_exit _ _ _ _ _ _ _ _ _ c.from_residual.ensures.1 (prints_none _ _ _ _ _ _ _ _ _ _ c.in_err-reader.ensures.only);
+  later = g.met.O.Sink.stays _;
+}
 
 pub returns-in_err-print_head : goal.returns-in_err-print_head
 returns-in_err-print_head g c =
     let n = c.in_err-print_head.ensures in
-    prints_exit _ _ _ _ _ _ _ _ _ c.from_residual-in_err-print_head.ensures.1
-    (prints_less _ _ _ _ _ _ _ _ _ c.in_ok-reader.ensures.fresh.limits (listed_grow c.args.listing c.args.params.now.nodes) _ _ 0 c.in_ok-reader.reader _
-    (begins _ _ _ _ _ _ _ c.in_ok-reader.ensures.fresh (λ o. head_less c.args.listing c.args.params.now.nodes _ _ _ c.new-lines.ensures (n.prints o)))
-    (omega arith) _ _ n.refusals.only n.refusals.failed)
+    record {
+      prints = prints_exit _ _ _ _ _ _ _ _ _ c.from_residual-in_err-print_head.ensures.1
+          (prints_less _ _ _ _ _ _ _ _ _ c.in_ok-reader.ensures.fresh.limits (listed_grow c.args.listing c.args.params.now.nodes) _ _ 0 c.in_ok-reader.reader _
+          (begins _ _ _ _ _ _ _ c.in_ok-reader.ensures.fresh (λ o. head_less c.args.listing c.args.params.now.nodes _ _ _ c.new-lines.ensures (n.prints o)))
+          (omega arith) _ _ n.refusals.only n.refusals.failed);
+      later = n.later;
+    }
 
 pub loop-page-init : goal.loop-page-init
 loop-page-init g c = record {
@@ -33,25 +39,31 @@ next_record-requires-clause-more g c = omega (arith, c.loop-page.invariant.way.p
 
 pub returns-in_err-next_record : goal.returns-in_err-next_record
 returns-in_err-next_record g c =
-    prints_exit _ _ _ _ _ _ _ _ _ c.from_residual-in_err-next_record.ensures.1
-    (prints_read _ _ _ _ _ _ _ _ _ c.nodes-page-end.ensures.limits (listed_grow c.args.listing c.args.params.now.nodes) _ _ _ _ _ _ c.loop-page.invariant.way (omega (arith, c.loop-page-test.true, c.nodes-page-end.ensures.value))
-    _ _ _ _ _ c.in_err-next_record.ensures.advances)
+    record {
+      prints = prints_exit _ _ _ _ _ _ _ _ _ c.from_residual-in_err-next_record.ensures.1
+          (prints_read _ _ _ _ _ _ _ _ _ c.nodes-page-end.ensures.limits (listed_grow c.args.listing c.args.params.now.nodes) _ _ _ _ _ _ c.loop-page.invariant.way (omega (arith, c.loop-page-test.true, c.nodes-page-end.ensures.value))
+          _ _ _ _ _ c.in_err-next_record.ensures.advances);
+      later = c.loop-page.invariant.later;
+    }
 
-pub returns-in_err-print_piece : goal.returns-in_err-print_piece
-returns-in_err-print_piece g c =
+pub returns-in_err-print_record : goal.returns-in_err-print_record
+returns-in_err-print_record g c =
     let r = c.in_ok-next_record.ensures in
-    let n = c.in_err-print_piece.ensures in
+    let n = c.in_err-print_record.ensures in
     let on = (g.met.O.Sink.onward _ _ c.loop-page.invariant.later).0 in
-    prints_exit _ _ _ _ _ _ _ _ _ c.from_residual-in_err-print_piece.ensures.1
-    (prints_less _ _ _ _ _ _ _ _ _ c.nodes-page-end.ensures.limits (listed_grow c.args.listing c.args.params.now.nodes) _ _ _ _ _
-    (goes_further _ _ _ _ _ _ _ _ _ _ _ _ _ c.loop-page.invariant.way _ r.advances r.open r.page r.in_step
-    (λ whole w count list end h o. piece_less c.args.listing c.args.params.now.nodes _ _ _ _ _ _ _ w whole count list end (h o) (n.prints o)))
-    (omega (arith, c.loop-page-test.true, c.nodes-page-end.ensures.value)) _ _ n.refusals.only (λ is. rose_on _ _ _ _ on (n.refusals.failed is) (omega arith)))
+    record {
+      prints = prints_exit _ _ _ _ _ _ _ _ _ c.from_residual-in_err-print_record.ensures.1
+          (prints_less _ _ _ _ _ _ _ _ _ c.nodes-page-end.ensures.limits (listed_grow c.args.listing c.args.params.now.nodes) _ _ _ _ _
+          (goes_further _ _ _ _ _ _ _ _ _ _ _ _ _ c.loop-page.invariant.way _ r.advances r.open r.page r.in_step
+          (λ whole w count list end h o. piece_less c.args.listing c.args.params.now.nodes _ _ _ _ _ _ _ w whole count list end (h o) (n.prints o)))
+          (omega (arith, c.loop-page-test.true, c.nodes-page-end.ensures.value)) _ _ n.refusals.only (λ is. rose_on _ _ _ _ on (n.refusals.failed is) (omega arith)));
+      later = g.met.O.Sink.goes_on _ _ _ c.loop-page.invariant.later n.later;
+    }
 
 pub loop-page-preserved : goal.loop-page-preserved
 loop-page-preserved g c =
     let r = c.in_ok-next_record.ensures in
-    let n = c.in_ok-print_piece.ensures in
+    let n = c.in_ok-print_record.ensures in
     record {
       way = goes_further _ _ _ _ _ _ _ _ _ _ _ _ _ c.loop-page.invariant.way _ r.advances r.open r.page r.in_step
           (λ whole w count list end h o. piece_printed c.args.listing c.args.params.now.nodes _ _ _ _ _ _ _ w whole count list end (h o) _ (n.prints o));
@@ -69,13 +81,19 @@ end_records-requires-clause-done g c = omega (arith, c.loop-page.invariant.way.p
 
 pub returns-in_err-end_records : goal.returns-in_err-end_records
 returns-in_err-end_records g c =
-    prints_exit _ _ _ _ _ _ _ _ _ c.from_residual-in_err-end_records.ensures.1
-    (prints_read _ _ _ _ _ _ _ _ _ c.nodes-page-end.ensures.limits (listed_grow c.args.listing c.args.params.now.nodes) _ _ _ _ _ _ c.loop-page.invariant.way (omega (arith, c.loop-page.auto.page-end, c.nodes-page-end.ensures.value))
-    _ _ _ _ _ c.in_err-end_records.ensures.advances)
+    record {
+      prints = prints_exit _ _ _ _ _ _ _ _ _ c.from_residual-in_err-end_records.ensures.1
+          (prints_read _ _ _ _ _ _ _ _ _ c.nodes-page-end.ensures.limits (listed_grow c.args.listing c.args.params.now.nodes) _ _ _ _ _ _ c.loop-page.invariant.way (omega (arith, c.loop-page.auto.page-end, c.nodes-page-end.ensures.value))
+          _ _ _ _ _ c.in_err-end_records.ensures.advances);
+      later = c.loop-page.invariant.later;
+    }
 
 pub returns : goal.returns
 returns g c =
     let on = (g.met.O.Sink.onward _ _ c.loop-page.invariant.later).0 in
     let n = c.print_rest.ensures in
-    prints_all _ _ _ _ _ _ _ _ _ c.nodes-page-end.ensures.limits (listed_grow c.args.listing c.args.params.now.nodes) _ _ _ _ _ _ c.loop-page.invariant.way _ _ _ c.in_ok-end_records.ensures.advances c.in_ok-end_records.ensures.judged
-    _ _ c.print_rest.result n.puts n.refusals.only (λ is. rose_on _ _ _ _ on (n.refusals.failed is) (omega arith))
+    record {
+      prints = prints_all _ _ _ _ _ _ _ _ _ c.nodes-page-end.ensures.limits (listed_grow c.args.listing c.args.params.now.nodes) _ _ _ _ _ _ c.loop-page.invariant.way _ _ _ c.in_ok-end_records.ensures.advances c.in_ok-end_records.ensures.judged
+          _ _ c.print_rest.result n.puts n.refusals.only (λ is. rose_on _ _ _ _ on (n.refusals.failed is) (omega arith));
+      later = g.met.O.Sink.goes_on _ _ _ c.loop-page.invariant.later n.later;
+    }

@@ -12,14 +12,14 @@ use Rattle.wg_queries.proofs.rank.rank.Goals as goal
 pub returns-in_err-params-clause-does : goal.returns-in_err-params-clause-does
 returns-in_err-params-clause-does g c =
     let asked = c.args.asked in
-    performs_exit _ _ _ _ _ _ _ c.from_residual.ensures.1
+    does_exit _ _ _ _ _ _ _ _ g.met.O.Sink.stays c.from_residual.ensures.1
     (no_params _ _ _ (of_graph c.args.base.now asked.rounds asked.damping asked.top c.args.weights.now c.args.certificate.now) _ _ _ _ _ refl c.in_err-params.ensures)
 
 pub returns-in_err-bytes-clause-does : goal.returns-in_err-bytes-clause-does
 returns-in_err-bytes-clause-does g c =
     let asked = c.args.asked in
     let p = c.in_ok-params.params in
-    performs_exit _ _ _ _ _ _ _ c.from_residual-in_err-bytes.ensures.1
+    does_exit _ _ _ _ _ _ _ _ g.met.O.Sink.stays c.from_residual-in_err-bytes.ensures.1
     (no_graph _ _ _ (of_graph c.args.base.now asked.rounds asked.damping asked.top c.args.weights.now c.args.certificate.now) _ _ _ p _ _ c.in_ok-params.ensures _ _ refl
     (graph_unloaded c.args.base.now p _ _ _ _ _ _ c.in_err-bytes.ensures))
 
@@ -28,7 +28,7 @@ returns-in_err-lists-clause-does g c =
     let asked = c.args.asked in
     let p = c.in_ok-params.params in
     let e = c.in_err-lists.ensures in
-    performs_exit _ _ _ _ _ _ _ c.from_residual-in_err-lists.ensures.1
+    does_exit _ _ _ _ _ _ _ _ g.met.O.Sink.stays c.from_residual-in_err-lists.ensures.1
     (no_graph _ _ _ (of_graph c.args.base.now asked.rounds asked.damping asked.top c.args.weights.now c.args.certificate.now) _ _ _ p _ _ c.in_ok-params.ensures _ _ refl
     (graph_loaded c.args.base.now p _ _ _ _ _ c.in_ok-bytes.bytes _ c.as_slice.ensures c.in_ok-bytes.ensures (Err c.in_err-lists.field-0.0) e.refused e.only tt))
 
@@ -36,7 +36,7 @@ pub returns-in_err-given-clause-does : goal.returns-in_err-given-clause-does
 returns-in_err-given-clause-does g c =
     let asked = c.args.asked in
     let p = c.in_ok-params.params in
-    performs_exit _ _ _ _ _ _ _ c.from_residual-in_err-given.ensures.1
+    does_exit _ _ _ _ _ _ _ _ g.met.O.Sink.stays c.from_residual-in_err-given.ensures.1
     (no_weights c.args.base.now asked.rounds asked.damping asked.top c.args.weights.now c.args.certificate.now _ _ _ p _ _ c.in_ok-params.ensures _ _ c.in_ok-lists.lists.graph
     (graph_loaded c.args.base.now p _ _ _ _ _ c.in_ok-bytes.bytes _ c.as_slice.ensures c.in_ok-bytes.ensures (Ok c.in_ok-lists.lists.graph) c.in_ok-lists.ensures.goes tt c.in_ok-lists.ensures.nodes)
     _ _ refl (rw c.nodes.ensures.count at c.in_err-given.ensures))
@@ -45,7 +45,7 @@ pub returns-in_err-first-clause-does : goal.returns-in_err-first-clause-does
 returns-in_err-first-clause-does g c =
     let asked = c.args.asked in
     let p = c.in_ok-params.params in
-    performs_exit _ _ _ _ _ _ _ c.from_residual-in_err-first.ensures.1
+    does_exit _ _ _ _ _ _ _ _ g.met.O.Sink.stays c.from_residual-in_err-first.ensures.1
     (no_room c.args.base.now asked.rounds asked.damping asked.top c.args.weights.now c.args.certificate.now _ g.O.Sink.told _ p _ _ c.in_ok-params.ensures _ _ c.in_ok-lists.lists.graph
     (graph_loaded c.args.base.now p _ _ _ _ _ c.in_ok-bytes.bytes _ c.as_slice.ensures c.in_ok-bytes.ensures (Ok c.in_ok-lists.lists.graph) c.in_ok-lists.ensures.goes tt c.in_ok-lists.ensures.nodes)
     _ _ c.in_ok-given.given (rw c.nodes.ensures.count at c.in_ok-given.ensures)

@@ -1,7 +1,7 @@
 use Rattle.std.proofs.Common.{◌∙◌, Ok, Err, refl}
 use Rattle.wg_outcomes.specs.Verified.{verified_line}
 use Rattle.wg_readings.proofs.LoadLemmas.{graph_loaded, graph_unloaded}
-use Rattle.wg_readings.proofs.JobSteps.{performs_exit}
+use Rattle.wg_readings.proofs.JobSteps.{does_exit}
 use Rattle.wg_readings.proofs.GraphJobs.{no_graph, no_params}
 use Rattle.wg_queries.proofs.VerifyJobs.{no_claim, no_gap, no_weights, of_graph, verifies}
 use Rattle.wg_queries.proofs.UntoldLemmas.{all_put, some_gap, undone, undone_claim, undone_gap, undone_graph, undone_params, undone_reading, undone_weights}
@@ -9,13 +9,13 @@ use Rattle.wg_queries.proofs.verify.verify.Goals as goal
 
 pub returns-in_err-params-clause-does : goal.returns-in_err-params-clause-does
 returns-in_err-params-clause-does g c =
-    performs_exit _ _ _ _ _ _ _ c.from_residual.ensures.1
+    does_exit _ _ _ _ _ _ _ _ g.met.O.Sink.stays c.from_residual.ensures.1
     (no_params _ _ _ (of_graph c.args.base.now c.args.certificate.now c.args.weights.now) _ _ _ _ _ refl c.in_err-params.ensures)
 
 pub returns-in_err-bytes-clause-does : goal.returns-in_err-bytes-clause-does
 returns-in_err-bytes-clause-does g c =
     let p = c.in_ok-params.params in
-    performs_exit _ _ _ _ _ _ _ c.from_residual-in_err-bytes.ensures.1
+    does_exit _ _ _ _ _ _ _ _ g.met.O.Sink.stays c.from_residual-in_err-bytes.ensures.1
     (no_graph _ _ _ (of_graph c.args.base.now c.args.certificate.now c.args.weights.now) _ _ _ p _ _ c.in_ok-params.ensures _ _ refl
     (graph_unloaded c.args.base.now p _ _ _ _ _ _ c.in_err-bytes.ensures))
 
@@ -23,14 +23,14 @@ pub returns-in_err-lists-clause-does : goal.returns-in_err-lists-clause-does
 returns-in_err-lists-clause-does g c =
     let p = c.in_ok-params.params in
     let e = c.in_err-lists.ensures in
-    performs_exit _ _ _ _ _ _ _ c.from_residual-in_err-lists.ensures.1
+    does_exit _ _ _ _ _ _ _ _ g.met.O.Sink.stays c.from_residual-in_err-lists.ensures.1
     (no_graph _ _ _ (of_graph c.args.base.now c.args.certificate.now c.args.weights.now) _ _ _ p _ _ c.in_ok-params.ensures _ _ refl
     (graph_loaded c.args.base.now p _ _ _ _ _ c.in_ok-bytes.bytes _ c.as_slice.ensures c.in_ok-bytes.ensures (Err c.in_err-lists.field-0.0) e.refused e.only tt))
 
 pub returns-in_err-weighed-clause-does : goal.returns-in_err-weighed-clause-does
 returns-in_err-weighed-clause-does g c =
     let p = c.in_ok-params.params in
-    performs_exit _ _ _ _ _ _ _ c.from_residual-in_err-weighed.ensures.1
+    does_exit _ _ _ _ _ _ _ _ g.met.O.Sink.stays c.from_residual-in_err-weighed.ensures.1
     (no_weights c.args.base.now c.args.certificate.now c.args.weights.now _ _ _ p _ _ c.in_ok-params.ensures _ _ c.in_ok-lists.lists.graph
     (graph_loaded c.args.base.now p _ _ _ _ _ c.in_ok-bytes.bytes _ c.as_slice.ensures c.in_ok-bytes.ensures (Ok c.in_ok-lists.lists.graph) c.in_ok-lists.ensures.goes tt c.in_ok-lists.ensures.nodes)
     _ _ refl (rw c.nodes-pages.ensures.count at c.in_err-weighed.ensures))
@@ -38,7 +38,7 @@ returns-in_err-weighed-clause-does g c =
 pub returns-in_err-claimed-clause-does : goal.returns-in_err-claimed-clause-does
 returns-in_err-claimed-clause-does g c =
     let p = c.in_ok-params.params in
-    performs_exit _ _ _ _ _ _ _ c.from_residual-in_err-claimed.ensures.1
+    does_exit _ _ _ _ _ _ _ _ g.met.O.Sink.stays c.from_residual-in_err-claimed.ensures.1
     (no_claim c.args.base.now c.args.certificate.now c.args.weights.now _ _ _ p _ _ c.in_ok-params.ensures _ _ c.in_ok-lists.lists.graph
     (graph_loaded c.args.base.now p _ _ _ _ _ c.in_ok-bytes.bytes _ c.as_slice.ensures c.in_ok-bytes.ensures (Ok c.in_ok-lists.lists.graph) c.in_ok-lists.ensures.goes tt c.in_ok-lists.ensures.nodes)
     _ _ c.in_ok-weighed.weighed (rw c.nodes-pages.ensures.count at c.in_ok-weighed.ensures)
@@ -47,7 +47,7 @@ returns-in_err-claimed-clause-does g c =
 pub returns-in_err-left-clause-does : goal.returns-in_err-left-clause-does
 returns-in_err-left-clause-does g c =
     let p = c.in_ok-params.params in
-    performs_exit _ _ _ _ _ _ _ c.from_residual-in_err-left.ensures.1
+    does_exit _ _ _ _ _ _ _ _ g.met.O.Sink.stays c.from_residual-in_err-left.ensures.1
     (no_gap c.args.base.now c.args.certificate.now c.args.weights.now _ g.O.Sink.told _ p _ _ c.in_ok-params.ensures _ _ c.in_ok-lists.lists.graph
     (graph_loaded c.args.base.now p _ _ _ _ _ c.in_ok-bytes.bytes _ c.as_slice.ensures c.in_ok-bytes.ensures (Ok c.in_ok-lists.lists.graph) c.in_ok-lists.ensures.goes tt c.in_ok-lists.ensures.nodes)
     _ _ c.in_ok-weighed.weighed (rw c.nodes-pages.ensures.count at c.in_ok-weighed.ensures)
@@ -58,11 +58,14 @@ pub returns-clause-does : goal.returns-clause-does
 returns-clause-does g c =
     let p = c.in_ok-params.params in
     let o = c.print_verified.ensures in
-    verifies c.args.base.now c.args.certificate.now c.args.weights.now _ g.O.Sink.told _ p _ _ c.in_ok-params.ensures _ _ c.in_ok-lists.lists.graph
-    (graph_loaded c.args.base.now p _ _ _ _ _ c.in_ok-bytes.bytes _ c.as_slice.ensures c.in_ok-bytes.ensures (Ok c.in_ok-lists.lists.graph) c.in_ok-lists.ensures.goes tt c.in_ok-lists.ensures.nodes)
-    _ _ c.in_ok-weighed.weighed (rw c.nodes-pages.ensures.count at c.in_ok-weighed.ensures)
-    _ _ c.in_ok-claimed.claimed (rw c.nodes-pages.ensures.count at c.in_ok-claimed.ensures)
-    c.in_ok-left.left c.in_ok-left.ensures.steps _ _ c.print_verified.result o.puts o.refusals.only o.refusals.failed
+    record {
+      does = verifies c.args.base.now c.args.certificate.now c.args.weights.now _ g.O.Sink.told _ p _ _ c.in_ok-params.ensures _ _ c.in_ok-lists.lists.graph
+          (graph_loaded c.args.base.now p _ _ _ _ _ c.in_ok-bytes.bytes _ c.as_slice.ensures c.in_ok-bytes.ensures (Ok c.in_ok-lists.lists.graph) c.in_ok-lists.ensures.goes tt c.in_ok-lists.ensures.nodes)
+          _ _ c.in_ok-weighed.weighed (rw c.nodes-pages.ensures.count at c.in_ok-weighed.ensures)
+          _ _ c.in_ok-claimed.claimed (rw c.nodes-pages.ensures.count at c.in_ok-claimed.ensures)
+          c.in_ok-left.left c.in_ok-left.ensures.steps _ _ c.print_verified.result o.puts o.refusals.only o.refusals.failed o.refusals.memory;
+      later = o.later;
+    }
 
 pub returns-in_err-params-clause-anywhere : goal.returns-in_err-params-clause-anywhere
 returns-in_err-params-clause-anywhere g c = λ t done. absurd (undone _ _ c.from_residual.ensures.1 (undone_params _ _ _ _ _ _ _ c.in_err-params.ensures) done)

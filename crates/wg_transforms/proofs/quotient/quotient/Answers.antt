@@ -19,7 +19,7 @@ use Rattle.wg_outcomes.specs.declared.status.Input.TheVariants.{Properties, Grap
 use Rattle.wg_outcomes.specs.Commands.{builds}
 use Rattle.wg_outcomes.specs.Performs.{Outside, Performs}
 use Rattle.wg_readings.proofs.GraphJobs as graphs
-use Rattle.wg_readings.proofs.JobSteps.{ComesTo, ends_without, writes, performs_exit}
+use Rattle.wg_readings.proofs.JobSteps.{ComesTo, ends_without, writes, does_exit}
 use Rattle.wg_readings.proofs.JobSteps.{comes_on_named, ends_named, map_refused}
 use Rattle.wg_readings.proofs.LoadLemmas.{graph_loaded, graph_unloaded}
 use Rattle.wg_transforms.proofs.quotient.quotient.Goals as goal
@@ -56,13 +56,13 @@ module _ (input map output : List ℕ) (classes : ℕ) (layout : Layout) (td to 
 
 pub returns-in_err-params : goal.returns-in_err-params
 returns-in_err-params g c =
-    performs_exit _ _ _ _ _ _ _ c.from_residual.ensures.1
+    does_exit _ _ _ _ _ _ _ _ g.met.O.Sink.stays c.from_residual.ensures.1
     (graphs.no_params _ _ _ (of_graph c.args.input.now c.args.map.now c.args.output.now c.args.classes c.args.layout.now) _ _ _ _ _ refl c.in_err-params.ensures)
 
 pub returns-in_err-bytes : goal.returns-in_err-bytes
 returns-in_err-bytes g c =
     let p = c.in_ok-params.params in
-    performs_exit _ _ _ _ _ _ _ c.from_residual-in_err-bytes.ensures.1
+    does_exit _ _ _ _ _ _ _ _ g.met.O.Sink.stays c.from_residual-in_err-bytes.ensures.1
     (graphs.no_graph _ _ _ (of_graph c.args.input.now c.args.map.now c.args.output.now c.args.classes c.args.layout.now) _ _ _ p _ _ c.in_ok-params.ensures
     _ _ refl (graph_unloaded c.args.input.now p _ _ _ _ _ _ c.in_err-bytes.ensures))
 
@@ -70,7 +70,7 @@ pub returns-in_err-lists : goal.returns-in_err-lists
 returns-in_err-lists g c =
     let p = c.in_ok-params.params in
     let e = c.in_err-lists.ensures in
-    performs_exit _ _ _ _ _ _ _ c.from_residual-in_err-lists.ensures.1
+    does_exit _ _ _ _ _ _ _ _ g.met.O.Sink.stays c.from_residual-in_err-lists.ensures.1
     (graphs.no_graph _ _ _ (of_graph c.args.input.now c.args.map.now c.args.output.now c.args.classes c.args.layout.now) _ _ _ p _ _ c.in_ok-params.ensures
     _ _ refl (graph_loaded c.args.input.now p _ _ _ _ _ c.in_ok-bytes.bytes _ c.as_slice.ensures c.in_ok-bytes.ensures (Err c.in_err-lists.field-0.0) e.refused e.only tt))
 
@@ -78,7 +78,7 @@ pub returns-in_err-classes_of : goal.returns-in_err-classes_of
 returns-in_err-classes_of g c =
     let p = c.in_ok-params.params in
     let graph = c.in_ok-lists.lists.graph in
-    performs_exit _ _ _ _ _ _ _ c.from_residual-in_err-classes_of.ensures.1
+    does_exit _ _ _ _ _ _ _ _ g.met.O.Sink.stays c.from_residual-in_err-classes_of.ensures.1
     (no_map c.args.input.now c.args.map.now c.args.output.now c.args.classes c.args.layout.now _ _ _ p _ _ c.in_ok-params.ensures
     _ _ graph (graph_loaded c.args.input.now p _ _ _ _ _ c.in_ok-bytes.bytes _ c.as_slice.ensures c.in_ok-bytes.ensures (Ok graph) c.in_ok-lists.ensures.goes tt c.in_ok-lists.ensures.nodes)
     _ _ refl (rw c.nodes.ensures.count at c.in_err-classes_of.ensures))
@@ -87,7 +87,7 @@ pub returns-in_err-made : goal.returns-in_err-made
 returns-in_err-made g c =
     let p = c.in_ok-params.params in
     let graph = c.in_ok-lists.lists.graph in
-    performs_exit _ _ _ _ _ _ _ c.from_residual-in_err-made.ensures.1
+    does_exit _ _ _ _ _ _ _ _ g.met.O.Sink.stays c.from_residual-in_err-made.ensures.1
     (ends_without (Quotient c.args.input.now c.args.map.now c.args.output.now c.args.classes c.args.layout.now) c.args.input.now _ _ _ p _ _ _ _
     (come_to_map c.args.input.now c.args.map.now c.args.output.now c.args.classes c.args.layout.now _ g.O.Sink.told _ p _ _ c.in_ok-params.ensures
     _ _ graph (graph_loaded c.args.input.now p _ _ _ _ _ c.in_ok-bytes.bytes _ c.as_slice.ensures c.in_ok-bytes.ensures (Ok graph) c.in_ok-lists.ensures.goes tt c.in_ok-lists.ensures.nodes)
@@ -100,11 +100,14 @@ returns g c =
     let graph = c.in_ok-lists.lists.graph in
     let list = c.in_ok-classes_of.classes_of in
     let made = rw c.as_slice-2.ensures at c.in_ok-made.ensures.made in
-    writes (Quotient c.args.input.now c.args.map.now c.args.output.now c.args.classes c.args.layout.now) c.args.input.now _ _ _ p _ _ _ _
-    (come_to_map c.args.input.now c.args.map.now c.args.output.now c.args.classes c.args.layout.now _ g.O.Sink.told _ p _ _ c.in_ok-params.ensures
-    _ _ graph (graph_loaded c.args.input.now p _ _ _ _ _ c.in_ok-bytes.bytes _ c.as_slice.ensures c.in_ok-bytes.ensures (Ok graph) c.in_ok-lists.ensures.goes tt c.in_ok-lists.ensures.nodes)
-    _ _ list (rw c.nodes.ensures.count at c.in_ok-classes_of.ensures))
-    c.args.layout.now (quotient_of graph list c.args.classes) c.args.output.now (λ o. refl) refl refl _ c.build_archive.result (c.build_archive.ensures c.args.layout.now (quotient_of graph list c.args.classes) made.0 made.1)
+    record {
+      does = writes (Quotient c.args.input.now c.args.map.now c.args.output.now c.args.classes c.args.layout.now) c.args.input.now _ _ _ p _ _ _ _
+          (come_to_map c.args.input.now c.args.map.now c.args.output.now c.args.classes c.args.layout.now _ g.O.Sink.told _ p _ _ c.in_ok-params.ensures
+          _ _ graph (graph_loaded c.args.input.now p _ _ _ _ _ c.in_ok-bytes.bytes _ c.as_slice.ensures c.in_ok-bytes.ensures (Ok graph) c.in_ok-lists.ensures.goes tt c.in_ok-lists.ensures.nodes)
+          _ _ list (rw c.nodes.ensures.count at c.in_ok-classes_of.ensures))
+          c.args.layout.now (quotient_of graph list c.args.classes) c.args.output.now (λ o. refl) refl refl _ c.build_archive.result (c.build_archive.ensures.builds c.args.layout.now (quotient_of graph list c.args.classes) made.0 made.1);
+      later = c.build_archive.ensures.later;
+    }
 
 pub encode_quotient-requires : goal.encode_quotient-requires
 encode_quotient-requires g c =

@@ -1,17 +1,17 @@
 use Rattle.std.proofs.Common.{refl}
-use Rattle.wg_readings.proofs.JobSteps.{performs_exit}
+use Rattle.wg_readings.proofs.JobSteps.{does_exit}
 use Rattle.wg_transforms.proofs.UnionJobs.{no_first, no_second, no_union, second_read, unites}
 use Rattle.wg_transforms.proofs.union.union.Goals as goal
 
 pub returns-in_err-one : goal.returns-in_err-one
 returns-in_err-one g c =
-    performs_exit _ _ _ _ _ _ _ c.from_residual.ensures.1
+    does_exit _ _ _ _ _ _ _ _ g.met.O.Sink.stays c.from_residual.ensures.1
     (no_first c.args.first.now c.args.second.now c.args.output.now c.args.layout.now _ _ _ _ _ refl c.in_err-one.ensures)
 
 pub returns-in_err-other : goal.returns-in_err-other
 returns-in_err-other g c =
     let read = c.in_err-other.ensures in
-    performs_exit _ _ _ _ _ _ _ c.from_residual-in_err-other.ensures.1
+    does_exit _ _ _ _ _ _ _ _ g.met.O.Sink.stays c.from_residual-in_err-other.ensures.1
     (no_second c.args.first.now c.args.second.now c.args.output.now c.args.layout.now _ _ _ c.in_ok-one.one _ _ c.in_ok-one.ensures _ read.0 _ refl read.1 read.2)
 
 pub united-requires-clause-second : goal.united-requires-clause-second
@@ -26,7 +26,7 @@ returns-in_err-params g c =
     let one = c.in_ok-one.ensures in
     let other = second_read _ _ _ _ _ _ read.0 c.in_ok-other.other read.1 read.2 in
     let e = c.in_err-params.ensures in
-    performs_exit _ _ _ _ _ _ _ c.from_residual-in_err-params.ensures.1
+    does_exit _ _ _ _ _ _ _ _ g.met.O.Sink.stays c.from_residual-in_err-params.ensures.1
     (no_union c.args.first.now c.args.second.now c.args.output.now c.args.layout.now _ _ _ c.in_ok-one.one _ _ one c.in_ok-other.other _ _ other
     _ _ _ refl e.only (e.too_many one.goes.0 other.goes.0 one.goes.1 other.goes.1))
 
@@ -37,5 +37,8 @@ returns g c =
     let other = second_read _ _ _ _ _ _ read.0 c.in_ok-other.other read.1 read.2 in
     let u = c.in_ok-params.ensures in
     let made = u.made one.goes.0 other.goes.0 one.goes.1 other.goes.1 in
-    unites c.args.first.now c.args.second.now c.args.output.now c.args.layout.now _ _ _ c.in_ok-one.one _ _ one c.in_ok-other.other _ _ other
-    (u.few one.goes.0 other.goes.0 one.goes.1 other.goes.1) _ c.build_archive.result (c.build_archive.ensures c.args.layout.now _ made.0 made.1)
+    record {
+      does = unites c.args.first.now c.args.second.now c.args.output.now c.args.layout.now _ _ _ c.in_ok-one.one _ _ one c.in_ok-other.other _ _ other
+          (u.few one.goes.0 other.goes.0 one.goes.1 other.goes.1) _ c.build_archive.result (c.build_archive.ensures.builds c.args.layout.now _ made.0 made.1);
+      later = c.build_archive.ensures.later;
+    }

@@ -16,7 +16,7 @@ use Rattle.wg_outcomes.specs.Names.{archive_named}
 use Rattle.wg_outcomes.specs.Performs.{BuildsArchive, Outside}
 use Rattle.wg_outcomes.specs.Written.{AreWhole, ArchiveFiles, FilesAfter, archive_in, greedy_archive, params_for}
 use Rattle.wg_outcomes.specs.declared.ending.Ending.{Ending}
-use Rattle.wg_outcomes.specs.declared.status.Status.TheVariants.{WriteFault}
+use Rattle.wg_outcomes.specs.declared.status.Status.TheVariants.{Memory, WriteFault}
 use Rattle.wg_outcomes.proofs.PerformsLemmas.{output_put, put_last}
 use Rattle.wg_outcomes.proofs.Statuses.{unput_cause}
 use Rattle.wg_outcomes.proofs.BuildLemmas.{put_stands, put_stopped, stopped_cause, stopped_output}
@@ -40,6 +40,7 @@ module _ (l : Layout) (g : Digraph) (base : List ℕ) (td to : Bool) (before aft
         subst (λ (new : List ℕ). HasOutput (greedy_line (params_for l g) g) before.taken new e.status) (sym silent)
         (stopped_output (greedy_line (params_for l g) g) before.taken e.status w.only (w.causes Out));
     silent = inr (inr silent);
+    unprinted = λ want. inl silent;
     printed_last = λ t want. inl silent;
     files = λ t. (w.others t, subst (λ (x : Archive). FilesAfter x (archive_in base before.files) (archive_in base after.files) e.status) files_are (w.err t));
     later = w.later;
@@ -48,13 +49,14 @@ module _ (l : Layout) (g : Digraph) (base : List ℕ) (td to : Bool) (before aft
   -- they were, and then the line is printed
   builds_done : (bits : ℕ) → bits ≡ a.summary.bits → (r : Result (Unit {0}) Ending)
       → WritesFiles a.files base (archive_in base before.files) (whole a.files) td before.files after.files before.counts after.counts (Ok tt)
-      → (IsTrue to → Puts (ok_line p bits) before.taken after.taken r) → IfErr r (λ e. IsUnput e.status) → (status_in r ≡ WriteFault Out → Increased before.faults after.faults)
+      → (IsTrue to → Puts (ok_line p bits) before.taken after.taken r) → IfErr r (λ e. IsUnput e.status) → (status_in r ≡ WriteFault Out → Increased before.out.faults after.out.faults) → (status_in r ≡ Memory → Increased before.out.wants after.out.wants)
       → BuildsArchive l g base td to before after r
-  builds_done bits count r w puts only cause = record {
+  builds_done bits count r w puts only cause wanted = record {
     only = put_stopped r only;
-    causes = λ inputs. unput_cause inputs (archive_named base) before.counts after.counts before.faults after.faults r only cause;
+    causes = λ inputs. unput_cause inputs (archive_named base) before.counts after.counts before.out.faults after.out.faults r only cause;
     output = λ o q. output_put (greedy_line (params_for l g) g) (ok_line p bits) before.taken after.taken r line (puts o) only;
     silent = put_last r before.taken after.taken only;
+    unprinted = λ want. inr (wanted want);
     printed_last = λ t want. inr (all t);
     files = λ t. (w.others t, put_stands (greedy_archive (params_for l g) g) (archive_in base before.files) (archive_in base after.files) r only (all t));
     later = w.later;
@@ -67,12 +69,19 @@ module _ (l : Layout) (g : Digraph) (base : List ℕ) (td to : Bool) (before aft
       all t = subst (λ (x : Archive). AreWhole x (archive_in base after.files)) files_are (are_whole a.files (archive_in base after.files) (w.ok t))
 
 pub returns-in_err-write_archive : goal.returns-in_err-write_archive
-returns-in_err-write_archive g c = λ l d params is.
-    rw (is_that_err c.from_residual.result _ c.from_residual.ensures.1)
-    (builds_stopped l d c.args.base.now _ _ _ _ c.args.params.now params c.args.archive.now is c.in_err-write_archive.field-0.0 refl c.in_err-write_archive.ensures)
+returns-in_err-write_archive g c = record {
+  builds = λ l d params is.
+      rw (is_that_err c.from_residual.result _ c.from_residual.ensures.1)
+      (builds_stopped l d c.args.base.now _ _ _ _ c.args.params.now params c.args.archive.now is c.in_err-write_archive.field-0.0 refl c.in_err-write_archive.ensures);
+  later = g.met.O.Sink.stays _;
+}
 
 pub returns : goal.returns
-returns g c = λ l d params is.
+returns g c =
     let o = c.print_ok.ensures in
-    builds_done l d c.args.base.now _ _ _ _ c.args.params.now params c.args.archive.now is c.bits.result c.bits.ensures c.print_ok.result c.in_ok-write_archive.ensures
-    o.puts o.refusals.only o.refusals.failed
+    record {
+      builds = λ l d params is.
+          builds_done l d c.args.base.now _ _ _ _ c.args.params.now params c.args.archive.now is c.bits.result c.bits.ensures c.print_ok.result c.in_ok-write_archive.ensures
+          o.puts o.refusals.only o.refusals.failed o.refusals.memory;
+      later = o.later;
+    }
