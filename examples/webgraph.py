@@ -190,7 +190,10 @@ def _pair(source: object, target: object) -> tuple[numpy.ndarray, numpy.ndarray]
     for row in pair:
         if len(row) and row.dtype.kind not in "iu":
             raise TypeError(f"pages are whole numbers, not {row.dtype}")
-    return pair
+    source, target = (row.astype(numpy.int64, copy=False) for row in pair)
+    if min(source.min(initial=0), target.min(initial=0)) < 0:
+        raise ValueError("pages are numbers from 0 on")
+    return source, target
 
 
 def _encoded(lines: Iterable[str]) -> Iterator[bytes]:
@@ -202,11 +205,10 @@ def _encoded(lines: Iterable[str]) -> Iterator[bytes]:
 def _lines(pieces: Iterable[tuple[object, object]]) -> Iterator[bytes]:
     import numpy
 
-    for source, target in pieces:
-        pairs = numpy.stack(_pair(source, target), axis=1)
-        for start in range(0, len(pairs), LINES):
-            part = pairs[start:start + LINES]
-            yield ("%d %d\n" * len(part) % tuple(part.ravel().tolist())).encode()
+    for source, target in itertools.starmap(_pair, pieces):
+        for start in range(0, len(source), LINES):
+            pairs = numpy.stack((source[start:start + LINES], target[start:start + LINES]), axis=1)
+            yield ("%d %d\n" * len(pairs) % tuple(pairs.ravel().tolist())).encode()
 
 
 def build_pieces(out: Name, pieces: Iterable[tuple[object, object]], nodes: int, **options: object) -> Size:
