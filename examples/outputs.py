@@ -50,9 +50,9 @@ def refuse_inputs(outputs, inputs):
     be 0, for standard input. What is no regular file may be both."""
     for output in outputs:
         held = regular(output)
-        for place in (*inputs, 1):
+        for place in (*inputs, 1) if held else ():
             read = regular(place)
-            if held and read and os.path.samestat(held, read):
+            if read and os.path.samestat(held, read):
                 place = {0: "standard input", 1: "standard output"}.get(place, place)
                 fail(f"{output} is also {place}: name another output")
 

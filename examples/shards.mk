@@ -13,22 +13,30 @@ joins := $(shell awk 'BEGIN { for (k = 1; k < $(PARTS); k++) print k "," 2 * k "
 1.properties:
 
 ifneq ($(wildcard list),)
-# An arc that has no page for its source goes to the last part, whose step refuses it.
+# The part that a line is in; an arc that has no page for its source is in the last one, whose step refuses it.
+cut := awk -v nodes=$(NODES) -v parts=$(PARTS)
+part := /^[ \t\r]*(\#|$$)/ { next } { \
+	part = int($$1 * parts / nodes); \
+	part = parts + (part < 0 || part >= parts ? parts - 1 : part) \
+}
 lists $(parts:=.arcs) &: list
 	@for part in $(parts); do : >$$part.arcs; done
-	@awk -v nodes=$(NODES) -v parts=$(PARTS) ' \
-	    /^[ \t\r]*(#|$$)/ { next } \
-	    { \
-	        part = int($$1 * parts / nodes); \
-	        if (part < 0 || part >= parts) part = parts - 1; \
-	        file = parts + part ".arcs"; \
-	        if (file != last) { if (last) close(last); last = file } \
-	        print >>file \
-	    }' list
+	@$(cut) '$(part) { \
+	    file = part ".arcs"; \
+	    if (file != last) { if (last) close(last); last = file } \
+	    print >>file \
+	}' list
 	@touch lists
 
+# A line that is refused is told by its number in the whole list.
 $(parts:=.properties): %.properties: %.arcs
-	@'$(WEBGRAPH)' build --nodes $(NODES) $(OPTIONS) $*.arcs $*
+	@'$(WEBGRAPH)' build --nodes $(NODES) $(OPTIONS) $*.arcs $* 2>$*.told || { \
+	    status=$$?; \
+	    line=$$(sed -n 's/^wg: $*\.arcs: line \([0-9]*\): .*/\1/p' $*.told); \
+	    [ -z "$$line" ] || line=$$($(cut) -v line=$$line '$(part) part == $* && ++count == line { print NR; exit }' list); \
+	    sed "s|^wg: $*\.arcs: line [0-9]*: |wg: $$(readlink list): line $$line: |" $*.told >&2; \
+	    exit $$status; \
+	}
 endif
 
 define joined
