@@ -1,11 +1,8 @@
 # Completions of webgraph for fish. Made by completions/make.
 
+# The folders and archives among the files that fish itself completes the word to, whatever quotes and ~ it has.
 function __webgraph_archives
-    set -l word (commandline -ct)
-    for name in $word*.properties
-        string replace -r '\.properties$' '' -- $name
-    end
-    __fish_complete_directories $word ''
+    complete -C "'' "(commandline -ct) | string match -r '^.*/$|^.*(?=\.properties$)'
 end
 
 # Whether the word to complete is this one of the command, counted from 1.
