@@ -2,7 +2,7 @@
 
     >>> import webgraph
     >>> webgraph.build("web", [0, 0, 1], [1, 2, 2], nodes=3)
-    Size(nodes=3, arcs=3, bits=20)
+    Size(nodes=3, arcs=3, bits=22)
     >>> web = webgraph.Archive("web")
     >>> source, target = web.arcs()
     >>> source.tolist(), target.tolist()
@@ -11,7 +11,7 @@
     >>> first.page, round(float(first.low), 3), first.high - first.low < 1e-9
     (2, 0.521, True)
     >>> web.transpose("back")
-    Size(nodes=3, arcs=3, bits=22)
+    Size(nodes=3, arcs=3, bits=21)
     >>> webgraph.Archive("back").csr().toarray().tolist()
     [[0.0, 0.0, 0.0], [1.0, 0.0, 0.0], [1.0, 1.0, 0.0]]
 
