@@ -216,7 +216,8 @@ def build_pieces(out: Name, pieces: Iterable[tuple[object, object]], nodes: int,
 
     The arcs ascend, by source and then by target, within a piece and from one to the next, and none comes twice; the
     program counts them as the lines of `/dev/stdin`, from 1. They go through a pipe, so that no more than a piece is
-    held. `nodes` is the number of pages, and the options are those of `build`.
+    held, and take about half a microsecond each beside what the program takes. `nodes` is the number of pages, and the
+    options are those of `build`.
 
     An archive that is there is replaced once the new one is whole. If anything fails before, in `pieces` as well, then
     it stays as it was.
