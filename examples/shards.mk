@@ -33,7 +33,8 @@ $(parts:=.properties): %.properties: %.arcs
 	@'$(WEBGRAPH)' build --nodes $(NODES) $(OPTIONS) $*.arcs $* 2>$*.told || { \
 	    status=$$?; \
 	    line=$$(sed -n 's/^wg: $*\.arcs: line \([0-9]*\): .*/\1/p' $*.told); \
-	    [ -z "$$line" ] || line=$$($(cut) -v line=$$line '$(part) part == $* && ++count == line { print NR; exit }' list); \
+	    [ -z "$$line" ] || line=$$($(cut) -v line=$$line '$(part) \
+	        part == $* && ++count == line { print NR; exit }' list); \
 	    sed "s|^wg: $*\.arcs: line [0-9]*: |wg: $$(readlink list): line $$line: |" $*.told >&2; \
 	    exit $$status; \
 	}
