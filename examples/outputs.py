@@ -75,8 +75,6 @@ def written(place, mode="w", **options):
         beside = os.path.join(os.path.dirname(whole), f".{name()}-{secrets.token_hex(8)}")
         with open(beside, mode.replace("w", "x"), **options) as out:
             yield out
-            out.flush()
-            os.fsync(out.fileno())
         if held:
             os.chmod(beside, stat.S_IMODE(held.st_mode))
         os.replace(beside, whole)
