@@ -36,12 +36,8 @@ filled_tail bits =
 
 -- ---- offsets
 
-top_high : (c : Code) (v : ℕ) → is_gamma_or_delta c ≡ true → v ≤ MOST_PLACE → v ≤ top c
-top_high c v is le = two_codes (λ code. v ≤ top code) c is (omega arith) (omega arith)
-
 word_stands : (c : Code) (v at : ℕ) (bits before more : List Bool) → is_gamma_or_delta c ≡ true → v ≤ MOST_PLACE → bits ≡ before ++ (word c v ++ more) → at ≡ length before → Reads (word c) (top c) (drop at bits) (Value v)
-word_stands c v at bits before more is low here start =
-    (top_high c v is low, (more, (λ i. drop (start i) (here i)) ∙ drop-append_seam before (word c v ++ more)))
+word_stands c v at bits before more is low here start = grind (arith, drop-append_seam, true≢false)
 
 fine_value : (number offset v : ℕ) → 0 < number → offset + v ≤ MOST_PLACE → refusal number offset (Value v) ≡ None
 fine_value number offset v some le = rw (ne_eqb number 0 (λ e. absurd (omega arith)), le-ltb MOST_PLACE (offset + v) le) refl

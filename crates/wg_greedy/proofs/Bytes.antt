@@ -53,10 +53,7 @@ filled_length bits =
     ap (λ n. n % 8) (length-append bits (replicate (padding (length bits)) false) ∙ ap (λ k. length bits + k) (length-replicate (padding (length bits)) false)) ∙ padded (length bits)
 
 pub bits_again : (bits : List Bool) → bits_of (bytes_of (filled bits)) ≡ filled bits
-bits_again bits =
-    let z : List Bool = filled bits in
-    let even = filled_length bits in
-    chunks (length z / 8) 0 z (omega arith) ∙ take_all (8 * (length z / 8)) z (omega (arith, even))
+bits_again bits = grind (arith, take_all, chunks, filled_length)
 
 low_byte : (bits : List Bool) → length bits ≤ 8 → spelled bits < 2 ^ 8
 low_byte bits few = let up : 2 ^ length bits ≤ 2 ^ 8 = pow_mono few in omega (arith, spelled_is bits, number_of-lt bits, up)

@@ -104,8 +104,7 @@ chosen_found p c list =
     let xs : List ℕ = candidates p c list in
     let m = least_among size xs 0 (member p c list 0 refl) in
     let f = find_first (is_least size xs) 0 xs m.0 (ascends-where (is_candidate p c list) 0 (min p.window c.page + 1)) m.1 m.2 in
-    let same : f.0 ≡ unwrap_or (find (is_least size xs) xs) 0 = sym (ap (λ o. unwrap_or o 0) f.1.found) in
-    subst (IsFound (is_least size xs) xs) same f.1
+    subst (IsFound (is_least size xs) xs) (sym (ap (λ o. unwrap_or o 0) f.1.found)) f.1
 
 pub chosen_candidate : (p : Parameters) (c : Context) (list : List ℕ) → is_candidate p c list (chosen p c list) ≡ true
 chosen_candidate p c list =

@@ -1,16 +1,15 @@
 -- A record without a reference has a word for each value: its numbers are below twice as many as there are pages, and
 -- no code has fewer.
 use Rattle.std.proofs.Common.{◌≡◌, ℕ, zero, suc, ◌+◌, ◌-◌, ◌*◌, ◌/◌, ◌^◌, ◌<◌, ◌≤◌, ltb, leb, Bool, true, not, ◌&&◌, List, [], ◌∷◌, ◌++◌, length, refl, sym, ap, subst, ◌∙◌, inl, inr, arith}
-use Rattle.std.specs.Prelude.{pos, negsuc, ◌-ℤ◌, filter, Option, Some, None}
+use Rattle.std.specs.Prelude.{pos, ◌-ℤ◌, filter, Option, Some, None}
 use Rattle.std.specs.List.{list_all, flat_map, range_with_len}
-use Rattle.std.proofs.lemmas.Int.{ints}
-use Rattle.std.proofs.lemmas.Bool.{cases_lt, cases_Bool, and_from, le-leb, leb-true}
+use Rattle.std.proofs.lemmas.Bool.{cases_Bool, and_from, le-leb, leb-true, eqb-true, true≢false}
 use Rattle.std.proofs.lemmas.List.Folds.{list_all-append}
 use Rattle.wg_graph.specs.Numbers.{is_in}
 use Rattle.wg_graph.specs.Ascending.{Ascends, Below}
 use Rattle.wg_params.specs.declared.code.Code.{Code}
 use Rattle.wg_params.specs.declared.code.Code.TheVariants.{Gamma, Zeta}
-use Rattle.wg_params.specs.Codes.{is_gamma_or_delta, is_residual_code}
+use Rattle.wg_params.specs.Codes.{is_residual_code}
 use Rattle.wg_params.specs.Parameters.{Parameters, IsWithinLimits}
 use Rattle.wg_params.proofs.FieldCodes.{two_codes, four_codes}
 use Rattle.wg_codes.specs.Words.{top}
@@ -32,12 +31,6 @@ both_have us vs first second = list_all-append has_word us vs ∙ and_from (all_
 gamma_holds : (v : ℕ) → v ≤ 2 ^ 62 → leb v (top Gamma) ≡ true
 gamma_holds v le = le-leb v (2 ^ 63 - 2) (omega arith)
 
-outdegree_holds : (code : Code) (v : ℕ) → is_gamma_or_delta code ≡ true → v ≤ 2 ^ 62 → leb v (top code) ≡ true
-outdegree_holds code v is le = two_codes (λ c. leb v (top c) ≡ true) code is (gamma_holds v le) (gamma_holds v le)
-
-none_holds : (code : Code) → leb 0 (top code) ≡ true
-none_holds code = le-leb 0 (top code) (omega arith)
-
 -- the greatest value of a zeta code
 abbrev zeta_high : ℕ → Bool
 zeta_high k = leb (2 ^ 38) (2 ^ (k * (63 / k)) - 2)
@@ -52,17 +45,12 @@ zeta_holds k v some low le =
     le-leb v (2 ^ (k * (63 / k)) - 2) (omega (arith, high, le))
 
 residual_holds : (zeta : ℕ) (code : Code) (v : ℕ) → 1 ≤ zeta → zeta ≤ 31 → is_residual_code zeta code ≡ true → v ≤ 2 ^ 38 → leb v (top code) ≡ true
-residual_holds zeta code v some low is le =
-    four_codes (λ c. leb v (top c) ≡ true) zeta code is (gamma_holds v (omega arith)) (gamma_holds v (omega arith)) (zeta_holds zeta v some low le) (le-leb v (2 ^ 63 - 1) (omega arith))
+residual_holds zeta code v h h2 h3 h4 = grind (arith, le-leb, eqb-true, true≢false, gamma_holds, zeta_holds)
 
 -- ---- gaps
 
 folded_low : (y x n : ℕ) → y < n → x < n → folded (pos y -ℤ pos x) ≤ 2 * n
-folded_low y x n low page =
-    elim (cases_lt y x) [
-      | inl less ↦ let e : folded (pos y -ℤ pos x) ≡ 2 * (x - y - 1 + 1) - 1 = ap folded (let d : pos y -ℤ pos x ≡ negsuc (x - y - 1) = omega (arith, ints) in d) in omega (arith, e)
-      | inr more ↦ let e : folded (pos y -ℤ pos x) ≡ 2 * (y - x) = ap folded (let d : pos y -ℤ pos x ≡ pos (y - x) = omega (arith, ints) in d) in omega (arith, e)
-    ]
+folded_low y x n low page = grind arith
 
 gap_low : (page : ℕ) (before : Option ℕ) (y n : ℕ) → y < n → page < n → stored_gap page before y ≤ 2 * n
 gap_low page None y n low here = folded_low y page n low here
@@ -88,8 +76,7 @@ cut_low n m (r ∷ rs) xs cut low =
 pub cut_few : (n m : ℕ) (rs : List Run) (xs : List ℕ) → Cut m rs xs → Low n rs → length rs ≤ n - m
 cut_few n m [] xs cut low = omega arith
 cut_few n m (r ∷ rs) xs cut low =
-    let rest : length rs ≤ n - (r.left + r.length + 1) = cut_few n (r.left + r.length + 1) rs cut.2 cut.4 low.2 in
-    omega (arith, rest, cut.0, cut.1, low.1)
+    omega (arith, (cut_few n (r.left + r.length + 1) rs cut.2 cut.4 low.2), cut.0, cut.1, low.1)
 
 low_where : (n : ℕ) (t : Run → Bool) (rs : List Run) → Low n rs → Low n (filter t rs)
 low_where n t [] low = tt
@@ -126,7 +113,7 @@ count_has : (found : Bool) (least count : ℕ) → count ≤ 2 ^ 62 → all_have
 count_has found least count le = elim (cases_Bool (found && ltb 0 least)) [ inl h ↦ rw h (and_from _ _ (gamma_holds count le) refl) | inr h ↦ rw h refl ]
 
 reference_has : (p : Parameters) → all_have_words (reference_fields p 0) ≡ true
-reference_has p = elim (cases_Bool (ltb 0 p.window)) [ inl h ↦ rw h (and_from _ _ (none_holds p.references) refl) | inr h ↦ rw h refl ]
+reference_has p = grind (arith, cases_Bool, and_from, le-leb)
 
 extras_have : (p : Parameters) (page n : ℕ) (xs : List ℕ) → IsWithinLimits p → n ≤ 2 ^ 36 → page < n → Ascends 0 xs → Below n xs → all_have_words (extra_fields p page xs) ≡ true
 extras_have p page n xs within few here up low =
@@ -153,6 +140,4 @@ short_list m n (x ∷ xs) up low = let rest : length xs ≤ n - suc x = short_li
 
 pub no_reference_has : (p : Parameters) (page n : ℕ) (list : List ℕ) → IsWithinLimits p → n ≤ 2 ^ 36 → page < n → Ascends 0 list → Below n list → all_have_words (record_fields p page 0 [] list) ≡ true
 unfolding record_fields
-no_reference_has p page n list within few here up low =
-    let short : length list ≤ n - 0 = short_list 0 n list up low in
-    and_from _ _ (outdegree_holds p.outdegrees (length list) within.outdegrees (omega (arith, short, few))) (list_has p page n list within few here up low)
+no_reference_has p page n list within few here up low = grind (arith, and_from, list_has, short_list)

@@ -65,8 +65,7 @@ sum_long : (m least n : ℕ) (rs : List Run) → Apart m least n rs → length r
 sum_long m least n [] apart = omega arith
 sum_long m least n (r ∷ rs) apart =
     let rest : length rs * least ≤ sum (lengths_of rs) = sum_long m least (suc (r.left + r.length)) rs apart.4 in
-    let more : suc (length rs) * least ≡ length rs * least + least = suc-mul (length rs) least in
-    omega (arith, rest, more, apart.2, sum_cons r.length (lengths_of rs))
+    omega (arith, rest, (suc-mul (length rs) least), apart.2, sum_cons r.length (lengths_of rs))
 
 sum_inside : (rs : List Run) → sum (lengths_of rs) ≡ length (flat_map numbers_of rs)
 sum_inside [] = refl
@@ -82,8 +81,7 @@ abbrev Counts : Parameters → Context → SoFar → List ℕ → ℕ → Type 0
 Counts p c s xs count = (n : Option ℕ) × (value_or_0 n ≡ count) × IsCounted p c s n × Admits p c s (count_fields (has_some xs) p.interval count) (with_extras s n [] [] [])
 
 some_length : (xs : List ℕ) → has_some xs ≡ ltb 0 (length xs)
-some_length [] = refl
-some_length (x ∷ xs) = sym (lt-ltb 0 (suc (length xs)) (omega arith))
+some_length xs = grind arith
 
 count_read : (p : Parameters) (c : Context) (s : SoFar) (xs : List ℕ) → IsPastCopies p c s → extra c s ≡ length xs → length (intervals_of p.interval xs) * p.interval ≤ extra c s → Counts p c s xs (length (intervals_of p.interval xs))
 count_read p c s xs past all few =

@@ -5,18 +5,16 @@ use Rattle.std.proofs.lemmas.Bool.{and_parts, leb-true}
 use Rattle.wg_params.specs.Parameters.{Parameters}
 use Rattle.wg_params.specs.declared.code.Code.{Code}
 use Rattle.wg_codes.specs.Words.{word, top}
-use Rattle.wg_codes.specs.Reading.{Reads}
 use Rattle.wg_codes.specs.declared.outcome.Read.TheVariants as reads
 use Rattle.wg_codes.proofs.CodeLaws.{word_reads}
 use Rattle.wg_grammar.specs.declared.fault.Field.{Field}
 use Rattle.wg_grammar.specs.declared.fault.Field.TheVariants as field
-use Rattle.wg_grammar.specs.declared.need.Need.{Need}
 use Rattle.wg_grammar.specs.declared.need.Need.TheVariants as need
 use Rattle.wg_grammar.specs.Context.{Context}
 use Rattle.wg_grammar.specs.SoFar.{SoFar, after}
 use Rattle.wg_grammar.specs.Next.{next}
 use Rattle.wg_grammar.specs.Refusal.{refusal}
-use Rattle.wg_grammar.specs.Record.{Stands, Fields}
+use Rattle.wg_grammar.specs.Record.{Fields}
 use Rattle.wg_greedy.specs.Fields.{Written, bits_of_fields, all_have_words}
 
 -- ---- values that stand
@@ -31,20 +29,11 @@ drop_here (b ∷ before) z = drop_here before z
 
 pub one_field : (p : Parameters) (c : Context) (s : SoFar) (f : Field) (code : Code) (v : ℕ) (before rest : List Bool) → next p c s ≡ need.Read f code → v ≤ top code → refusal p c s f v ≡ None
     → Fields p c (before ++ (word code v ++ rest)) s (length before) (v ∷ []) (after p c s f v) (length before + length (word code v))
-one_field p c s f code v before rest is has fine =
-    let bits : List Bool = before ++ (word code v ++ rest) in
-    let t : SoFar = after p c s f v in
-    let end : ℕ = length before + length (word code v) in
-    let found : Reads (word code) (top code) (drop (length before) bits) (reads.Value v) = subst (λ z. Reads (word code) (top code) z (reads.Value v)) (sym (drop_here before (word code v ++ rest))) (word_reads code v rest has) in
-    let stands : Stands (need.Read f code) p c bits s (length before) v end t = (found, refl, fine, refl) in
-    (t, end, subst (λ (m : Need). Stands m p c bits s (length before) v end t) (sym is) stands, (refl, refl))
+one_field p c s f code v before rest is has fine = grind (arith, word_reads, drop_here)
 
 -- the check of what is copied has no bits
 pub one_check : (p : Parameters) (c : Context) (bits : List Bool) (s : SoFar) (at : ℕ) → next p c s ≡ need.Check → refusal p c s field.Copied 0 ≡ None → Fields p c bits s at (0 ∷ []) (after p c s field.Copied 0) at
-one_check p c bits s at is fine =
-    let t : SoFar = after p c s field.Copied 0 in
-    let stands : Stands need.Check p c bits s at 0 at t = (refl, refl, fine, refl) in
-    (t, at, subst (λ (m : Need). Stands m p c bits s at 0 at t) (sym is) stands, (refl, refl))
+one_check p c bits s at is fine = grind arith
 
 -- ---- fields that are needed and allowed
 

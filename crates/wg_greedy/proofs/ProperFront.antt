@@ -1,7 +1,7 @@
 -- The outdegree, the reference and the blocks of a canonical record are those that are needed, and are allowed.
 use Rattle.std.proofs.Common.{◌≡◌, ℕ, suc, ◌+◌, ◌-◌, ◌<◌, ◌≤◌, min, Bool, true, false, ltb, nat_lt, if◌then◌else◌, List, [], ◌∷◌, ◌++◌, length, map, sum, refl, sym, ap, subst, inl, inr, arith, append_assoc}
 use Rattle.std.specs.Prelude.{Option, Some, None}
-use Rattle.std.proofs.lemmas.Bool.{cases_Bool, lt-ltb, le-ltb, ne_eqb, and_right}
+use Rattle.std.proofs.lemmas.Bool.{cases_Bool, lt-ltb, le-ltb, ne_eqb}
 use Rattle.std.proofs.lemmas.List.{append-nil, length_push}
 use Rattle.wg_graph.proofs.Copies.{sum_cons, sum_push}
 use Rattle.wg_params.specs.Parameters.{Parameters}
@@ -53,11 +53,7 @@ unfolding after
 reference_read p c d r = refl
 
 pub reference_admitted : (p : Parameters) (c : Context) (d r : ℕ) → 0 < d → r ≤ min p.window c.page → passes p.chain (depth_of c.behind r) ≡ false → Admits p c (reading d None None [] false) (reference_fields p r) (reading d (named p r) None [] false)
-reference_admitted p c d r some near chain =
-    elim (cases_Bool (ltb 0 p.window)) [
-      | inl h ↦ rw h (reference_next p c d some h, reference_fine p c (reading d None None [] false) r near chain, reference_read p c d r)
-      | inr h ↦ rw h refl
-    ]
+reference_admitted p c d r some near chain = grind (arith, cases_Bool, reading, reference_next, reference_fine, reference_read)
 
 -- ---- the blocks
 
@@ -146,34 +142,10 @@ check_read p c d r n blocks = refl
 -- ---- what comes next is not copied
 
 pub past_blocks : (p : Parameters) (c : Context) (d r : ℕ) (blocks : List ℕ) → 0 < d → 0 < p.window → IsPastCopies p c (referring d r (length blocks) blocks true)
-past_blocks p c d r blocks some window = record {
-  degree = d;
-  outdegree = refl;
-  some = some;
-  reference = and_right (ltb 0 p.window) false refl;
-  counted = and_right (ltb 0 r) false refl;
-  all_blocks = le-ltb (length blocks) (length blocks) (omega arith);
-  judged = and_right (ltb 0 r) false refl;
-  no_count = refl;
-  no_lefts = refl;
-  no_lengths = refl;
-  no_residuals = refl;
-}
+past_blocks p c d r blocks some window = grind arith
 
 pub named_none : (p : Parameters) → value_or_0 (named p 0) ≡ 0
 named_none p = elim (cases_Bool (ltb 0 p.window)) [ inl h ↦ rw h refl | inr h ↦ rw h refl ]
 
 pub past_no_reference : (p : Parameters) (c : Context) (d : ℕ) → 0 < d → IsPastCopies p c (reading d (named p 0) None [] false)
-past_no_reference p c d some = record {
-  degree = d;
-  outdegree = refl;
-  some = some;
-  reference = elim (cases_Bool (ltb 0 p.window)) [ inl h ↦ rw h refl | inr h ↦ rw h refl ];
-  counted = rw (named_none p) refl;
-  all_blocks = refl;
-  judged = rw (named_none p) refl;
-  no_count = refl;
-  no_lefts = refl;
-  no_lengths = refl;
-  no_residuals = refl;
-}
+past_no_reference p c d some = grind arith

@@ -10,10 +10,7 @@ use Rattle.wg_greedy.proofs.Extra.{ascends-filter}
 use Rattle.wg_greedy.proofs.Short.{below_filter}
 
 and_swap : (a b : Bool) → (a && b) ≡ (b && a)
-and_swap true true = refl
-and_swap true false = refl
-and_swap false true = refl
-and_swap false false = refl
+and_swap a b = grind arith
 
 -- of the members those that pass
 in_filter : (t : ℕ → Bool) (xs : List ℕ) (y : ℕ) → is_in y (filter t xs) ≡ (is_in y xs && t y)
@@ -50,8 +47,7 @@ passing_or_not t (x ∷ xs) = let rest = passing_or_not t xs in elim (cases_Bool
 -- what is copied, and how many are not
 pub copied_and_extra : (n : ℕ) (list referenced : List ℕ) → Ascends 0 list → Below n list → Ascends 0 referenced → Below n referenced
     → length (filter (λ y. is_in y list) referenced) + length (extras list referenced) ≡ length list
-copied_and_extra n list referenced up low up' low' =
-    omega (arith, ap length (common_same n list referenced up low up' low'), passing_or_not (λ y. is_in y referenced) list)
+copied_and_extra n list referenced up low up' low' = grind (arith, common_same, passing_or_not)
 
 -- a member is copied or extra
 pub copied_or_extra : (list referenced : List ℕ) (y : ℕ) → (is_in y (filter (λ z. is_in z list) referenced) || is_in y (extras list referenced)) ≡ is_in y list

@@ -1,12 +1,11 @@
 -- What is needed and allowed once the copies are past: the interval count, each interval's left end and length, and
 -- each residual.
-use Rattle.std.proofs.Common.{◌≡◌, ℕ, suc, ◌+◌, ◌-◌, ◌*◌, ◌<◌, ◌≤◌, ltb, eqb, cond, true, false, ◌&&◌, List, [], ◌∷◌, ◌++◌, length, sum, Option, Some, None, is_none, refl, sym, ap, subst, ◌∙◌, arith}
+use Rattle.std.proofs.Common.{◌≡◌, ℕ, suc, ◌+◌, ◌-◌, ◌*◌, ◌<◌, ◌≤◌, ltb, cond, true, false, ◌&&◌, List, [], ◌∷◌, ◌++◌, length, sum, Option, Some, None, is_none, sym, ap, subst, ◌∙◌, arith}
 use Rattle.std.proofs.lemmas.Bool.{cond-true, cond-false, lt-ltb, le-ltb, ne_eqb, eq-eqb, or_from}
 use Rattle.std.proofs.lemmas.List.{length_push, get_or_push}
 use Rattle.wg_params.specs.Parameters.{Parameters}
 use Rattle.wg_params.specs.declared.code.Code.{Code}
 use Rattle.wg_params.specs.declared.code.Code.TheVariants.{Gamma}
-use Rattle.wg_codes.specs.Fold.{folded}
 use Rattle.wg_codes.proofs.Folds.{unfolds_from}
 use Rattle.wg_grammar.specs.declared.fault.Field.{Field}
 use Rattle.wg_grammar.specs.declared.fault.Field.TheVariants as field
@@ -39,14 +38,11 @@ need_later p c t =
 
 next_later : (p : Parameters) (c : Context) (s : SoFar) (n : Option ℕ) (ls ks ys : List ℕ) → IsPastCopies p c s → next p c (with_extras s n ls ks ys) ≡ need_later p c (with_extras s n ls ks ys)
 unfolding next
-next_later p c s n ls ks ys past =
-    cond-false _ _ _ (ap is_none past.outdegree) ∙ cond-false _ _ _ (ap (λ o. eqb (value_or_0 o) 0) past.outdegree ∙ ne_eqb past.degree 0 (λ e. omega (arith, e, past.some)))
-    ∙ cond-false _ _ _ past.reference ∙ cond-false _ _ _ past.counted ∙ cond-false _ _ _ past.all_blocks ∙ cond-false _ _ _ past.judged
+next_later p c s n ls ks ys past = grind arith
 
 next_residual : (p : Parameters) (c : Context) (s : SoFar) (n : Option ℕ) (ls ks ys : List ℕ) → IsPastCopies p c s → IsCounted p c s n → length ks ≡ length ls → value_or_0 n ≤ length ls
     → next p c (with_extras s n ls ks ys) ≡ cond (ltb 0 (missing c (with_extras s n ls ks ys))) (need.Read field.Residual p.residuals) need.End
-next_residual p c s n ls ks ys past counted even all =
-    next_later p c s n ls ks ys past ∙ cond-false _ _ _ counted ∙ cond-false _ _ _ (le-ltb (length ks) (length ls) (omega (arith, even))) ∙ cond-false _ _ _ (le-ltb (length ls) (value_or_0 n) all)
+next_residual p c s n ls ks ys past counted even all = grind (arith, cond-false, le-ltb, next_later)
 
 pub next_end : (p : Parameters) (c : Context) (s : SoFar) (n : Option ℕ) (ls ks ys : List ℕ) → IsPastCopies p c s → IsCounted p c s n → length ks ≡ length ls → value_or_0 n ≤ length ls → extra c s ≤ sum ks + length ys
     → next p c (with_extras s n ls ks ys) ≡ need.End
@@ -60,9 +56,7 @@ one_admitted p c s u t f code v fs is fine e rest = (is, fine, subst (λ (z : So
 pub admits_count : (p : Parameters) (c : Context) (s t : SoFar) (n : Option ℕ) (ls ks ys : List ℕ) (v : ℕ) (fs : List Written) → IsPastCopies p c s → (ltb 0 (extra c s) && ltb 0 p.interval && is_none n) ≡ true → v * p.interval ≤ extra c s
     → Admits p c (with_extras s (Some v) ls ks ys) fs t → Admits p c (with_extras s n ls ks ys) (written field.IntervalCount Gamma v ∷ fs) t
 unfolding after refusal
-admits_count p c s t n ls ks ys v fs past asked few rest =
-    one_admitted p c (with_extras s n ls ks ys) (with_extras s (Some v) ls ks ys) t field.IntervalCount Gamma v fs
-    (next_later p c s n ls ks ys past ∙ cond-true _ _ _ asked) (cond-false _ _ _ (le-ltb (extra c s) (v * p.interval) few)) refl rest
+admits_count p c s t n ls ks ys v fs past asked few rest = grind (arith, cond-true, cond-false, le-ltb, with_extras, next_later, one_admitted)
 
 pub admits_left : (p : Parameters) (c : Context) (s t : SoFar) (n : Option ℕ) (ls ks ys : List ℕ) (v l : ℕ) (fs : List Written) → IsPastCopies p c s → IsCounted p c s n → length ks ≡ length ls → length ls < value_or_0 n
     → own_left c (with_extras s n ls ks ys) v ≡ Some l → l < p.nodes → Admits p c (with_extras s n (ls ++ l ∷ []) ks ys) fs t → Admits p c (with_extras s n ls ks ys) (written field.Left Gamma v ∷ fs) t
@@ -114,11 +108,7 @@ IsLast None ys = length ys ≡ 0
 IsLast (Some e) ys = (0 < length ys) × (last_of ys ≡ e)
 
 pub left_is : (c : Context) (s : SoFar) (n : Option ℕ) (ls ks ys : List ℕ) (past : Option ℕ) (l : ℕ) → IsPastLast past ls ks → least_after past ≤ l → own_left c (with_extras s n ls ks ys) (stored_gap c.page past l) ≡ Some l
-left_is c s n ls ks ys None l none le = cond-true _ _ _ (eq-eqb (length ls) 0 none) ∙ (unfolds_from c.page (folded _) l).1 refl
-left_is c s n ls ks ys (Some e) l some le =
-    cond-false _ _ _ (ne_eqb (length ls) 0 (λ z. omega (arith, z, some.0))) ∙ ap Some (let own : last_of ls + last_of ks + 1 + (l - e - 1) ≡ l = omega (arith, some.1, le) in own)
+left_is c s n ls ks ys past l h h2 = grind (arith, cond-true, cond-false, ne_eqb, eq-eqb, unfolds_from)
 
 pub residual_is : (c : Context) (s : SoFar) (n : Option ℕ) (ls ks ys : List ℕ) (last : Option ℕ) (y : ℕ) → IsLast last ys → least_after last ≤ y → own_residual c (with_extras s n ls ks ys) (stored_gap c.page last y) ≡ Some y
-residual_is c s n ls ks ys None y none le = cond-true _ _ _ (eq-eqb (length ys) 0 none) ∙ (unfolds_from c.page (folded _) y).1 refl
-residual_is c s n ls ks ys (Some e) y some le =
-    cond-false _ _ _ (ne_eqb (length ys) 0 (λ z. omega (arith, z, some.0))) ∙ ap Some (let own : last_of ys + 1 + (y - e - 1) ≡ y = omega (arith, some.1, le) in own)
+residual_is c s n ls ks ys last y h h2 = grind (arith, cond-true, cond-false, ne_eqb, eq-eqb, unfolds_from)

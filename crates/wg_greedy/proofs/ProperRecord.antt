@@ -1,7 +1,7 @@
 -- The canonical record of a list is a proper record of it.
-use Rattle.std.proofs.Common.{◌≡◌, ℕ, zero, suc, ◌+◌, ◌<◌, ◌≤◌, min, Bool, true, false, not, ◌||◌, eqb, ltb, leb, List, [], ◌∷◌, ◌++◌, length, length-append, get_or, refl, sym, ap, subst, ◌∙◌, inl, inr, arith, append_assoc, Result, Ok}
+use Rattle.std.proofs.Common.{◌≡◌, ℕ, zero, suc, ◌+◌, ◌<◌, ◌≤◌, min, Bool, true, false, not, ◌||◌, eqb, ltb, leb, List, [], ◌∷◌, ◌++◌, length, length-append, refl, sym, ap, subst, ◌∙◌, inl, inr, arith, append_assoc, Result, Ok}
 use Rattle.std.specs.Prelude.{Option, Some, None, All, filter}
-use Rattle.std.proofs.lemmas.Bool.{cases_lt, or_cases, and_parts, eqb-true, not-true, le-ltb, lt-ltb, cond-true}
+use Rattle.std.proofs.lemmas.Bool.{cases_lt, or_cases, and_parts, eqb-true, not-true, lt-ltb, cond-true}
 use Rattle.std.proofs.lemmas.List.{get_or_past}
 use Rattle.std.proofs.lemmas.List.Folds.{list_all-append}
 use Rattle.wg_graph.specs.Numbers.{is_in}
@@ -13,11 +13,11 @@ use Rattle.wg_blocks.specs.Canonical.{canonical_blocks}
 use Rattle.wg_blocks.proofs.Alternate.{copy_successors, end_within, later_some}
 use Rattle.wg_grammar.specs.declared.fault.Field.TheVariants as field
 use Rattle.wg_grammar.specs.declared.need.Need.TheVariants as need
-use Rattle.wg_grammar.specs.Context.{Known, Context, no_page, referenced, depth_of}
+use Rattle.wg_grammar.specs.Context.{Known, Context, referenced, depth_of}
 use Rattle.wg_grammar.specs.SoFar.{SoFar, nothing_yet, value_or_0, copied, extra}
 use Rattle.wg_grammar.specs.Refusal.{passes}
 use Rattle.wg_grammar.specs.Next.{next}
-use Rattle.wg_grammar.specs.Members.{is_covered, is_member, list_of}
+use Rattle.wg_grammar.specs.Members.{is_member, list_of}
 use Rattle.wg_grammar.specs.Record.{Fields, Whole, ReadsRecord}
 use Rattle.wg_grammar.specs.declared.fault.Fault.{Fault}
 use Rattle.wg_greedy.specs.Fields.{Written, written, bits_of_fields, all_have_words, extras, extra_fields, block_fields, reference_fields, copy_fields, reference_of, record_fields}
@@ -37,16 +37,10 @@ use Rattle.wg_greedy.proofs.ProperExtras.{ExtrasRead, extras_stand}
 
 -- the list that a reference names ascends below the number of pages
 named_list : (p : Parameters) (behind : List Known) (r : ℕ) → All (λ (k : Known). IsList p k.list) behind → IsList p (referenced behind r)
-named_list p behind zero lists = record { ascends = tt; below = tt }
-named_list p behind (suc i) lists =
-    elim (cases_lt i (length behind)) [
-      | inl lt ↦ lists i no_page lt
-      | inr past ↦ let none : get_or behind i no_page ≡ no_page = get_or_past behind i no_page past in subst (λ (k : Known). IsList p k.list) (sym none) (record { ascends = tt; below = tt })
-    ]
+named_list p behind r h = grind (arith, cases_lt, get_or_past)
 
 none_passes : (chain : Option ℕ) → passes chain 0 ≡ false
-none_passes None = refl
-none_passes (Some limit) = le-ltb limit 0 (omega arith)
+none_passes chain = grind arith
 
 -- what a reference that may be taken has
 record Candidate (p : Parameters) (c : Context) (list : List ℕ) (r : ℕ) : Type 0 where
@@ -150,16 +144,10 @@ front_stands p c list (suc i) before rest some few total is list_is asked_is wor
 -- ---- its list
 
 or_assoc : (a b d : Bool) → ((a || b) || d) ≡ (a || (b || d))
-or_assoc true b d = refl
-or_assoc false b d = refl
+or_assoc a b d = grind arith
 
 members_are : (p : Parameters) (c : Context) (s t : SoFar) (list asked : List ℕ) → copied c s ≡ filter (λ y. is_in y list) asked → ExtrasRead p c s t (extras list asked) → (y : ℕ) → is_member c t y ≡ is_in y list
-members_are p c s t list asked copies read y =
-    let same : copied c t ≡ copied c s = λ i. copied_members (read.blocks i) (referenced c.behind (value_or_0 (read.reference i))) in
-    or_assoc (is_in y (copied c t)) (is_covered t.lefts t.lengths y) (is_in y t.residuals)
-    ∙ ap (λ b. is_in y (copied c t) || b) (read.members y)
-    ∙ ap (λ xs. is_in y xs || is_in y (extras list asked)) (same ∙ copies)
-    ∙ copied_or_extra list asked y
+members_are p c s t list asked copies read y = grind (arith, copied_or_extra, or_assoc)
 
 list_is_read : (p : Parameters) (c : Context) (t : SoFar) (list : List ℕ) → IsList p list → ((y : ℕ) → is_member c t y ≡ is_in y list) → list_of p c t ≡ list
 unfolding list_of

@@ -52,11 +52,7 @@ unfolding nibble
 nibble_short v = omega (arith, digits_short (highest v / 3 + 1) v, low_highest v)
 
 shortened_short : (k h y : ℕ) → length (shortened k h y) ≤ h * k + k
-shortened_short k h y =
-    elim (cases_Bool (ltb (y - 2 ^ (h * k)) (2 ^ (h * k)))) [
-      | inl few ↦ rw few (omega (arith, length-low_bits (h * k + k - 1) (y - 2 ^ (h * k))))
-      | inr many ↦ rw many (omega (arith, length-low_bits (h * k + k) y))
-    ]
+shortened_short k h y = grind (arith, cases_Bool, length-low_bits)
 
 zeta_short : (k v : ℕ) → k ≤ 31 → length (zeta k v) ≤ 2 ^ 8
 zeta_short k v few =
@@ -65,16 +61,14 @@ zeta_short k v few =
 
 -- outdegrees and blocks
 pub outdegree_short : (code : Code) (v : ℕ) → is_gamma_or_delta code ≡ true → length (word code v) ≤ 2 ^ 8
-outdegree_short code v is = two_codes (λ c. length (word c v) ≤ 2 ^ 8) code is (omega (arith, gamma_short v)) (delta_short v)
+outdegree_short code v h = grind (arith, true≢false, gamma_short, delta_short)
 
 -- references and block counts
 count_short : (code : Code) (v : ℕ) → is_unary_gamma_or_delta code ≡ true → length (word code v) ≤ 2 ^ 8 + v
-count_short code v is =
-    three_codes (λ c. length (word c v) ≤ 2 ^ 8 + v) code is (omega (arith, length-unary v)) (omega (arith, gamma_short v)) (omega (arith, delta_short v))
+count_short code v h = grind (arith, true≢false, length-unary, gamma_short, delta_short)
 
 residual_short : (zeta : ℕ) (code : Code) (v : ℕ) → zeta ≤ 31 → is_residual_code zeta code ≡ true → length (word code v) ≤ 2 ^ 8
-residual_short zeta code v few is =
-    four_codes (λ c. length (word c v) ≤ 2 ^ 8) zeta code is (omega (arith, gamma_short v)) (delta_short v) (zeta_short zeta v few) (nibble_short v)
+residual_short zeta code v h h2 = grind (arith, eqb-true, true≢false, gamma_short, delta_short, nibble_short, zeta_short)
 
 -- ---- fields
 
@@ -125,12 +119,8 @@ few_some : (bs : List ℕ) → AllSome bs → length bs ≤ sum bs
 few_some [] some = omega arith
 few_some (b ∷ bs) some = omega (arith, sum_cons b bs, some.0, few_some bs some.1)
 
-few_later : (bs : List ℕ) → LaterSome bs → length bs ≤ 1 + sum bs
-few_later [] some = omega arith
-few_later (b ∷ bs) some = omega (arith, sum_cons b bs, few_some bs some)
-
 pub few_blocks : (list referenced : List ℕ) → length (canonical_blocks list referenced) ≤ 1 + length referenced
-few_blocks list referenced = omega (arith, few_later (canonical_blocks list referenced) (later_some list referenced), end_within list referenced)
+few_blocks list referenced = grind (arith, end_within, later_some, LaterSome, sum_cons, few_some)
 
 stored_as_many : (bs : List ℕ) → length (stored_blocks bs) ≡ length bs
 stored_as_many [] = refl
@@ -156,10 +146,6 @@ below_filter t n (x ∷ xs) low = let rest = below_filter t n xs low.1 in elim (
 others_short : (p : Parameters) (page n : ℕ) (xs : List ℕ) → IsWithinLimits p → Ascends 0 xs → Below n xs → length (bits_of_fields (extra_fields p page xs)) ≤ 2 ^ 9 * (n + 1)
 others_short p page n xs within up low =
     let cut = cut_of 0 xs up in
-    let count : length (runs_of xs) ≤ n - 0 = cut_few n 0 (runs_of xs) xs cut (cut_low n 0 (runs_of xs) xs cut low) in
-    let long : length (intervals_of p.interval xs) ≤ length (runs_of xs) = few_where (is_long p.interval) (runs_of xs) in
-    let once = are_once p.interval xs up in
-    let all : length xs ≤ n - 0 = short_list 0 n xs up low in
     let counts : List Written = count_fields (has_some xs) p.interval (length (intervals_of p.interval xs)) in
     let intervals : List Written = interval_fields page p.interval None (intervals_of p.interval xs) in
     omega (
@@ -169,10 +155,10 @@ others_short p page n xs within up low =
       count_bits (has_some xs) p.interval (length (intervals_of p.interval xs)),
       intervals_short page p.interval None (intervals_of p.interval xs),
       residuals_short p page None (residuals_of p.interval xs) within,
-      count,
-      long,
-      once,
-      all,
+      (cut_few n 0 (runs_of xs) xs cut (cut_low n 0 (runs_of xs) xs cut low)),
+      (few_where (is_long p.interval) (runs_of xs)),
+      (are_once p.interval xs up),
+      (short_list 0 n xs up low),
     )
 
 list_short : (p : Parameters) (page r n : ℕ) (referenced list : List ℕ) → IsWithinLimits p → n ≤ 2 ^ 36 → r ≤ 2 ^ 36 → Ascends 0 list → Below n list → Ascends 0 referenced → Below n referenced → length (bits_of_fields (list_fields p page r referenced list)) ≤ 2 ^ 50

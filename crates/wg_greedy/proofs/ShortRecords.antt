@@ -1,6 +1,6 @@
 -- The record that is written takes few bits for each successor, since the one without a reference does.
 use Rattle.std.proofs.Common.{◌≡◌, ℕ, ◌+◌, ◌*◌, ◌^◌, ◌<◌, ◌≤◌, ltb, Bool, true, ◌&&◌, List, [], ◌∷◌, ◌++◌, length, length-append, refl, sym, subst, inl, inr, arith}
-use Rattle.std.specs.Prelude.{filter, None}
+use Rattle.std.specs.Prelude.{filter}
 use Rattle.std.specs.List.{flat_map}
 use Rattle.std.proofs.lemmas.Bool.{cases_Bool}
 use Rattle.std.proofs.lemmas.List.FromFn.{length-range_with_len}
@@ -15,11 +15,11 @@ use Rattle.wg_codes.proofs.Highest.{highest_is}
 use Rattle.wg_codes.proofs.UnaryWords.{length-unary}
 use Rattle.wg_codes.proofs.Lengths.{length-gamma, length-delta}
 use Rattle.wg_intervals.specs.declared.run.Run.{Run}
-use Rattle.wg_intervals.specs.Canonical.{runs_of, is_long, numbers_of, intervals_of, residuals_of}
+use Rattle.wg_intervals.specs.Canonical.{is_long, numbers_of}
 use Rattle.wg_intervals.proofs.Divided.{are_once}
 use Rattle.wg_grammar.specs.Context.{Context}
 use Rattle.wg_grammar.specs.declared.fault.Field.TheVariants as field
-use Rattle.wg_greedy.specs.Fields.{Written, written, bits_of_fields, count_fields, interval_fields, residual_fields, extras, has_some, extra_fields, reference_fields, copy_fields, list_fields, record_fields}
+use Rattle.wg_greedy.specs.Fields.{written, bits_of_fields, count_fields, extras, extra_fields, reference_fields, copy_fields, list_fields, record_fields}
 use Rattle.wg_greedy.specs.Greedy.{size_of, chosen}
 use Rattle.wg_greedy.specs.Laws.{IsList, enough_bits}
 use Rattle.wg_greedy.proofs.Extra.{long_enough}
@@ -32,9 +32,7 @@ one_lowest : 0 ≡ highest (0 + 1)
 one_lowest = sym (highest_is 1 0 (omega arith) (omega arith) (omega arith))
 
 nothing_short : (code : Code) → is_unary_gamma_or_delta code ≡ true → length (word code 0) ≤ 1
-nothing_short code is =
-    three_codes (λ c. length (word c 0) ≤ 1) code is (omega (arith, length-unary 0)) (omega (arith, length-gamma 0 0 one_lowest))
-    (omega (arith, length-delta 0 0 one_lowest, length-gamma 0 0 one_lowest))
+nothing_short code h = grind (arith, true≢false, length-unary, length-gamma, length-delta, one_lowest)
 
 no_reference_bits : (p : Parameters) → IsWithinLimits p → length (bits_of_fields (reference_fields p 0)) ≤ 1
 no_reference_bits p within =
@@ -61,19 +59,7 @@ few_inside least (r ∷ rs) =
     ]
 
 others_few : (p : Parameters) (page : ℕ) (xs : List ℕ) → IsWithinLimits p → Ascends 0 xs → length (bits_of_fields (extra_fields p page xs)) ≤ 2 ^ 7 + 2 ^ 8 * length xs
-others_few p page xs within up =
-    let counts : List Written = count_fields (has_some xs) p.interval (length (intervals_of p.interval xs)) in
-    let intervals : List Written = interval_fields page p.interval None (intervals_of p.interval xs) in
-    omega (
-      arith,
-      bits_both (counts ++ intervals) (residual_fields p.residuals page None (residuals_of p.interval xs)),
-      bits_both counts intervals,
-      count_bits (has_some xs) p.interval (length (intervals_of p.interval xs)),
-      intervals_short page p.interval None (intervals_of p.interval xs),
-      residuals_short p page None (residuals_of p.interval xs) within,
-      few_inside p.interval (runs_of xs),
-      are_once p.interval xs up,
-    )
+others_few p page xs within up = grind (arith, are_once, bits_both, intervals_short, residuals_short, count_bits, few_inside)
 
 list_few : (p : Parameters) (page : ℕ) (list : List ℕ) → IsWithinLimits p → Ascends 0 list → length (bits_of_fields (list_fields p page 0 [] list)) ≤ 1 + 2 ^ 7 + 2 ^ 8 * length list
 list_few p page [] within up = omega arith
@@ -91,8 +77,7 @@ list_few p page (y ∷ ys) within up =
 
 record_few : (p : Parameters) (page : ℕ) (list : List ℕ) → IsWithinLimits p → Ascends 0 list → length (bits_of_fields (record_fields p page 0 [] list)) ≤ enough_bits 1 (length list)
 unfolding record_fields
-record_few p page list within up =
-    omega (arith, bits_more (written field.Outdegree p.outdegrees (length list)) (list_fields p page 0 [] list), outdegree_short p.outdegrees (length list) within.outdegrees, list_few p page list within up)
+record_few p page list within up = omega (arith, outdegree_short, bits_more, list_few)
 
 pub chosen_short : (p : Parameters) (c : Context) (list : List ℕ) → IsWithinLimits p → c.page < p.nodes → IsList p list → size_of p c list (chosen p c list) ≤ enough_bits 1 (length list)
 chosen_short p c list within here is = omega (arith, (chosen_shortest p c list 0 refl).0, record_few p c.page list within is.ascends)

@@ -18,7 +18,7 @@ use Rattle.wg_graph.proofs.Copies.{sum_cons}
 use Rattle.wg_grammar.specs.Context.{Known}
 use Rattle.wg_greedy.specs.Fields.{bits_of_fields}
 use Rattle.wg_greedy.specs.Greedy.{canonical, chosen, known_of, context_after, records_of}
-use Rattle.wg_greedy.specs.Archive.{record_bits, graph_bits, offset_values, offsets_bits, filled, spelled, bytes_of, graph_file, offsets_file}
+use Rattle.wg_greedy.specs.Archive.{record_bits, graph_bits, offset_values, filled, spelled, bytes_of, graph_file, offsets_file}
 use Rattle.wg_greedy.specs.Laws.{IsList, enough_bits}
 use Rattle.wg_greedy.proofs.Short.{outdegree_short}
 use Rattle.wg_greedy.proofs.ShortRecords.{chosen_short}
@@ -63,9 +63,7 @@ graph_short p lists within are nodes arcs = omega (arith, records_short p [] lis
 
 -- the lengths of the records are together that of the bits
 pub values_sum : (p : Parameters) (lists : List (List ℕ)) → sum (offset_values p lists) ≡ length (graph_bits p lists)
-values_sum p lists =
-    let bits : List (List Bool) = record_bits p lists in
-    omega (arith, sum_cons 0 (map length bits), sum-map (λ (b : List Bool). length b) bits, length-flat_map (λ (b : List Bool). b) bits)
+values_sum p lists = grind (arith, length-flat_map, sum-map, sum_cons)
 
 as_many_records : (p : Parameters) (behind : List Known) (lists : List (List ℕ)) → length (map bits_of_fields (records_of p behind lists)) ≡ length lists
 as_many_records p behind [] = refl
@@ -79,9 +77,6 @@ as_many_values p lists = omega (arith, length-map (record_bits p lists) length, 
 words_short : (c : Code) (vs : List ℕ) → is_gamma_or_delta c ≡ true → length (flat_map (word c) vs) ≤ 2 ^ 8 * length vs
 words_short c [] is = omega arith
 words_short c (v ∷ vs) is = omega (arith, length-append (word c v) (flat_map (word c) vs), outdegree_short c v is, words_short c vs is)
-
-offsets_short : (p : Parameters) (lists : List (List ℕ)) → IsWithinLimits p → length lists ≡ p.nodes → length (offsets_bits p lists) ≤ 2 ^ 8 * (2 ^ 36 + 1)
-offsets_short p lists within nodes = omega (arith, words_short p.offsets (offset_values p lists) within.offsets, as_many_values p lists, nodes, within.nodes)
 
 -- ---- bytes
 
@@ -105,4 +100,4 @@ short_graph p lists within are nodes arcs = omega (arith, file_short (graph_bits
 
 pub short_offsets : (p : Parameters) (lists : List (List ℕ)) → IsWithinLimits p → length lists ≡ p.nodes → length (offsets_file p lists) < MOST_BYTES
 unfolding offsets_file
-short_offsets p lists within nodes = omega (arith, file_short (offsets_bits p lists), offsets_short p lists within nodes)
+short_offsets p lists within nodes = omega (arith, file_short, as_many_values, words_short, within)

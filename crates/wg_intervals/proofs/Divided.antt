@@ -38,14 +38,10 @@ in_append y [] ys = refl
 in_append y (x ∷ xs) ys = elim (cases_Bool (eqb y x)) [ inl h ↦ rw h refl | inr h ↦ rw h (in_append y xs ys) ]
 
 or_front : (a b c : Bool) → ((a || b) || c) ≡ (a || (b || c))
-or_front true b c = refl
-or_front false b c = refl
+or_front a b c = grind arith
 
 or_middle : (a b c : Bool) → (b || (a || c)) ≡ (a || (b || c))
-or_middle true true c = refl
-or_middle true false c = refl
-or_middle false true c = refl
-or_middle false false c = refl
+or_middle a b c = grind arith
 
 pub together : (t : Run → Bool) (rs : List Run) (n : ℕ) (xs : List ℕ) → Cut n rs xs → (y : ℕ) → (is_in y (of_runs t rs) || is_in y (of_runs (others t) rs)) ≡ is_in y xs
 together t [] n xs cut y = ap (is_in y) (sym cut)
@@ -96,14 +92,10 @@ cut_ascends (r ∷ rs) n xs cut =
 
 -- no member stands right after the first run
 gap_after : (r : Run) (rs : List Run) (n : ℕ) (xs : List ℕ) → Cut n (r ∷ rs) xs → is_in (r.left + r.length) xs ≡ false
-gap_after r rs n xs cut =
-    ap (is_in (r.left + r.length)) cut.3 ∙ past_run r.left r.length (r.left + r.length) cut.2 (omega arith)
-    ∙ in_below (r.left + r.length + 1) (r.left + r.length) cut.2 (cut_ascends rs (r.left + r.length + 1) cut.2 cut.4) (omega arith)
+gap_after r rs n xs cut = grind (arith, in_below, past_run, cut_ascends)
 
 before_first : (r : Run) (rs : List Run) (n : ℕ) (xs : List ℕ) → Cut n (r ∷ rs) xs → (y : ℕ) → y < r.left → is_in y xs ≡ false
-before_first r rs n xs cut y lt =
-    let rest : Ascends (r.left + r.length + 1) cut.2 = cut_ascends rs (r.left + r.length + 1) cut.2 cut.4 in
-    ap (is_in y) cut.3 ∙ in_below r.left y (numbers_of r ++ cut.2) (range_ascends r.left r.left r.length cut.2 (omega arith) (ascends_more (r.left + r.length) (r.left + r.length + 1) cut.2 (omega arith) rest)) lt
+before_first r rs n xs cut y lt = grind (arith, in_below, ascends_more, range_ascends, cut_ascends)
 
 not_both : (b : Bool) → b ≡ false → b ≡ true → ⊥
 not_both b isnt is = true≢false (sym is ∙ isnt)

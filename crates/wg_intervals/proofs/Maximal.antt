@@ -1,7 +1,7 @@
 -- The maximal runs of an ascending list, one after the other.
-use Rattle.std.proofs.Common.{◌≡◌, ℕ, zero, suc, ◌+◌, ◌-◌, ◌<◌, ◌≤◌, Bool, true, false, not, ◌||◌, eqb, List, [], ◌∷◌, ◌++◌, map, refl, sym, ap, subst, ◌∙◌, inl, inr, arith}
+use Rattle.std.proofs.Common.{◌≡◌, ℕ, zero, suc, ◌+◌, ◌-◌, ◌<◌, ◌≤◌, Bool, true, false, not, ◌||◌, eqb, List, [], ◌∷◌, ◌++◌, refl, sym, ap, subst, ◌∙◌, inl, inr, arith}
 use Rattle.std.specs.Prelude.{filter}
-use Rattle.std.specs.List.{range_with_len, zip}
+use Rattle.std.specs.List.{range_with_len}
 use Rattle.std.proofs.lemmas.Bool.{cases_eq, cond-true, or_left, or_right, or_from, eq-eqb, ne_eqb}
 use Rattle.std.proofs.lemmas.List.{append_assoc}
 use Rattle.std.proofs.lemmas.List.Elements.{filter-append}
@@ -42,9 +42,7 @@ filter_none p a (suc k) h = rw (h a (omega arith) (omega arith)) (filter_none p 
 filter_same : (p q : ℕ → Bool) (a : ℕ) (zs : List ℕ) → Ascends a zs → ((y : ℕ) → a ≤ y → p y ≡ q y) → filter p zs ≡ filter q zs
 filter_same p q a [] up same = refl
 filter_same p q a (z ∷ zs) up same =
-    let here : p z ≡ q z = same z up.0 in
-    let rest : filter p zs ≡ filter q zs = filter_same p q (suc z) zs up.1 (λ y low. same y (omega (arith, up.0))) in
-    rw (here, rest) refl
+    rw ((same z up.0), (filter_same p q (suc z) zs up.1 (λ y low. same y (omega (arith, up.0))))) refl
 
 -- ---- the first of the maximal runs
 
@@ -52,11 +50,7 @@ abbrev begins : List ℕ → ℕ → Bool
 begins xs y = eqb y 0 || not (is_in (y - 1) xs)
 
 begins_here : (l : ℕ) (xs : List ℕ) → Ascends l xs → begins xs l ≡ true
-begins_here l xs up =
-    elim (cases_eq l 0) [
-      | inl none ↦ or_left _ _ (eq-eqb l 0 none)
-      | inr some ↦ or_right _ _ (ap not (in_below l (l - 1) xs up (omega arith)))
-    ]
+begins_here l xs up = grind (arith, cases_eq, or_left, or_right, eq-eqb, in_below)
 
 firsts_run : (l m : ℕ) (zs : List ℕ) → Ascends (l + suc m + 1) zs → firsts (range_with_len l (suc m) ++ zs) ≡ l ∷ firsts zs
 firsts_run l m zs up =
@@ -90,26 +84,15 @@ no_runs = refl
 
 pub first_run : (l n : ℕ) (zs : List ℕ) → 0 < n → Ascends (l + n + 1) zs → runs_of (range_with_len l n ++ zs) ≡ record { left = l; length = n } ∷ runs_of zs
 unfolding runs_of
-first_run l zero zs some up = absurd (omega arith)
-first_run l (suc m) zs some up =
-    let run : ℕ × ℕ → Run = λ ends. record { left = ends.0; length = ends.1 + 1 - ends.0 } in
-    let size : l + m + 1 - l ≡ suc m = omega arith in
-    ap (λ fs. map run (zip fs (lasts (range_with_len l (suc m) ++ zs)))) (firsts_run l m zs up)
-    ∙ ap (λ ls. map run (zip (l ∷ firsts zs) ls)) (lasts_run l m zs up)
-    ∙ ap (λ k. record { left = l; length = k } ∷ map run (zip (firsts zs) (lasts zs))) size
+first_run l n zs h h2 = grind (arith, firsts_run, lasts_run)
 
 -- ---- one number more
 
 pub one_on : (l n y : ℕ) (ys : List ℕ) → y ≡ l + n → runs_of (range_with_len l n ++ y ∷ ys) ≡ runs_of (range_with_len l (n + 1) ++ ys)
-one_on l n y ys next =
-    ap runs_of (ap (λ k. range_with_len l n ++ k ∷ ys) next ∙ range_push l n ys ∙ ap (λ k. range_with_len l k ++ ys) (let e : suc n ≡ n + 1 = omega arith in e))
+one_on l n y ys next = grind (arith, range_push)
 
 pub apart : (l n y : ℕ) (ys : List ℕ) (ended : List Run) → l + n < y → Ascends (y + 1) ys → runs_of (range_with_len l n ++ []) ≡ ended → runs_of (range_with_len l n ++ y ∷ ys) ≡ ended ++ runs_of (range_with_len y 1 ++ ys)
-apart l zero y ys ended lt up is = ap (λ rs. rs ++ runs_of (y ∷ ys)) (sym no_runs ∙ is)
-apart l (suc m) y ys ended lt up is =
-    let above : Ascends (suc y) ys = subst (λ k. Ascends k ys) (let e : y + 1 ≡ suc y = omega arith in e) up in
-    let one : ended ≡ record { left = l; length = suc m } ∷ [] = sym is ∙ first_run l (suc m) [] (omega arith) tt ∙ ap (λ rs. record { left = l; length = suc m } ∷ rs) no_runs in
-    first_run l (suc m) (y ∷ ys) (omega arith) (omega arith, above) ∙ ap (λ rs. rs ++ runs_of (y ∷ ys)) (sym one)
+apart l n y ys ended h h2 h3 = grind (arith, no_runs, first_run)
 
 -- ---- an ascending list is its runs, one after the other, with a number missing between two
 

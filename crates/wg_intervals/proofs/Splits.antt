@@ -1,6 +1,6 @@
 -- Numbers that are split run by run.
 use Rattle.std.proofs.Common.{◌≡◌, ℕ, suc, ◌+◌, ◌^◌, ◌<◌, ◌≤◌, not, List, [], ◌∷◌, ◌++◌, length, drop, get_or, sym, ap, subst, ◌∙◌, arith}
-use Rattle.std.specs.Prelude.{Option, Some, None, option_to_list, filter, IfSome}
+use Rattle.std.specs.Prelude.{Option, option_to_list, filter, IfSome}
 use Rattle.std.specs.Option.{ForSome}
 use Rattle.std.specs.List.{range_with_len, flat_map}
 use Rattle.std.proofs.lemmas.List.{drop_more, drop_all, append_assoc}
@@ -12,9 +12,7 @@ use Rattle.wg_intervals.specs.Canonical.{runs_of, runs_from, is_long, numbers_of
 use Rattle.wg_intervals.proofs.Maximal.{range_more}
 
 pub numbers_more : (before list new : List ℕ) (l n : ℕ) → list ≡ before ++ range_with_len l n → new ≡ list ++ (l + n) ∷ [] → new ≡ before ++ range_with_len l (n + 1)
-numbers_more before list new l n is pushed =
-    let one : range_with_len l n ++ (l + n) ∷ [] ≡ range_with_len l (n + 1) = sym (range_more l n) ∙ ap (range_with_len l) (let e : suc n ≡ n + 1 = omega arith in e) in
-    pushed ∙ ap (λ xs. xs ++ (l + n) ∷ []) is ∙ append_assoc before (range_with_len l n) ((l + n) ∷ []) ∙ ap (λ xs. before ++ xs) one
+numbers_more before list new l n is pushed = grind (arith, append_assoc, range_more)
 
 -- what long runs, and all other runs, are stored as
 abbrev pub long_part : ℕ → List Run → List ℕ
@@ -38,17 +36,10 @@ pub record Splitting (least : ℕ) (extras : List ℕ) (i : ℕ) (run : Run) (in
   pub short : residuals ≡ short_part least ended
 
 pub begun : (least : ℕ) (extras : List ℕ) (run : Run) (intervals residuals : List ℕ) → (run.left ≡ 0) × (run.length ≡ 0) → intervals ≡ [] → residuals ≡ [] → Ascends 0 extras → Splitting least extras 0 run intervals residuals
-begun least extras run intervals residuals none no_intervals no_residuals up = record {
-  ended = [];
-  all = ap (λ n. runs_of (range_with_len run.left n ++ extras)) none.1;
-  up = subst (λ k. Ascends k extras) (let e : 0 ≡ run.left + run.length = omega (arith, none.0, none.1) in e) up;
-  long = no_intervals;
-  short = no_residuals;
-}
+begun least extras run intervals residuals none no_intervals no_residuals up = grind arith
 
 pub first_above : (least : ℕ) (extras : List ℕ) (i : ℕ) (run : Run) (intervals residuals : List ℕ) → i < length extras → Splitting least extras i run intervals residuals → run.left + run.length ≤ get_or extras i 0
-first_above least extras i run intervals residuals lt s =
-    let up : Ascends (run.left + run.length) (get_or extras i 0 ∷ drop (i + 1) extras) = subst (Ascends (run.left + run.length)) (drop_more extras i 0 lt) s.up in up.0
+first_above least extras i run intervals residuals lt s = grind (arith, drop_more)
 
 pub more : (least : ℕ) (extras : List ℕ) (i : ℕ) (run next : Run) (o : Option Run) (intervals residuals intervals' residuals' : List ℕ) → i < length extras → Splitting least extras i run intervals residuals
     → ((numbers : List ℕ) → Ascends (get_or extras i 0 + 1) numbers → runs_from run (get_or extras i 0 ∷ numbers) ≡ option_to_list o ++ runs_from next numbers) → next.left + next.length ≡ get_or extras i 0 + 1
@@ -83,5 +74,4 @@ residuals_done least extras i run o intervals residuals residuals' le s last sho
 
 -- a run that ends is within the numbers that a u64 has
 pub ends_low : (o : Option Run) (run : Run) → IfSome o (λ r. r ≡ run) → run.left + run.length ≤ 2 ^ 64 → ForSome o (λ r. r.left + r.length ≤ 2 ^ 64)
-ends_low None run is low r e = absurd (let f : None ≡ Some r = e in cc)
-ends_low (Some s) run is low r e = let same : s ≡ r = cc in subst (λ (k : Run). k.left + k.length ≤ 2 ^ 64) (sym is ∙ same) low
+ends_low x1 x2 x3 x4 x5 x6 = grind arith

@@ -1,5 +1,5 @@
 -- A walk over intervals that stand at bits.
-use Rattle.std.proofs.Common.{◌≡◌, ℕ, suc, ◌+◌, ◌-◌, ◌<◌, Bool, List, [], ◌∷◌, ◌++◌, length, refl, sym, ap, ◌∙◌, subst, arith}
+use Rattle.std.proofs.Common.{◌≡◌, ℕ, suc, ◌+◌, ◌-◌, ◌<◌, Bool, List, [], ◌∷◌, ◌++◌, length, refl, sym, ap, ◌∙◌, arith}
 use Rattle.std.specs.Prelude.{Option, Some, unwrap_or}
 use Rattle.std.specs.List.{range_with_len}
 use Rattle.wg_params.specs.declared.code.Code.TheVariants.{Gamma}
@@ -22,10 +22,7 @@ first_of page least past count bits some (l ∷ ls, n ∷ ns, len, stand) = (l, 
 
 same_stand : (page least l n l1 n1 : ℕ) (bits bits1 : List Bool) (ls ns : List ℕ) → l ≡ l1 → n ≡ n1 → bits ≡ bits1
     → StandAt page least (Some (l + n)) ls ns bits → StandAt page least (Some (l1 + n1)) ls ns bits1
-same_stand page least l n l1 n1 bits bits1 ls ns el en eb stand =
-    subst (λ (y : List Bool). StandAt page least (Some (l1 + n1)) ls ns y) eb
-    (subst (λ (k : ℕ). StandAt page least (Some (l1 + k)) ls ns bits) en
-    (subst (λ (k : ℕ). StandAt page least (Some (k + n)) ls ns bits) el stand))
+same_stand page least l n l1 n1 bits bits1 ls ns el en eb stand = grind arith
 
 -- behind an interval that was read the others stand
 pub left_behind : (old new : List Bool) (page least : ℕ) (past : Option ℕ) (l n count : ℕ) → Takes old new page least past l n → 0 < count
@@ -47,8 +44,7 @@ one_at page least past count l n bits behind h =
     let left : unwrap_or (number_of_gap page past (value_at Gamma bits)) 0 ≡ l =
     ap (λ (k : ℕ). unwrap_or (number_of_gap page past k) 0) (value_is Gamma tt h.v bits h.between h.left_word) ∙ ap (λ (o : Option ℕ). unwrap_or o 0) h.left_is in
     let long : value_at Gamma h.between + least ≡ n = ap (λ (k : ℕ). k + least) (value_is Gamma tt h.w h.between behind h.length_word) ∙ sym h.length_is in
-    let after : behind_value Gamma h.between ≡ behind = behind_is Gamma tt h.w h.between behind h.length_word in
-    rw (between, left, long, after) refl
+    rw (between, left, long, (behind_is Gamma tt h.w h.between behind h.length_word)) refl
 
 pub numbers_inside_are : (page least : ℕ) (past : Option ℕ) (lefts lengths : List ℕ) (bits : List Bool) → StandAt page least past lefts lengths bits
     → numbers_at page least past (length lefts) bits ≡ numbers_inside lefts lengths

@@ -1,12 +1,7 @@
 -- An archive that was built, in a validation.
-use Rattle.std.proofs.Common.{◌≡◌, ℕ, ◌≤◌, List, length, nat_lt, refl, sym, ap, subst, ◌∙◌, arith, inl, inr, Option, Some, None, Result, Ok, Err}
-use Rattle.std.proofs.lemmas.Bool.{cases_Bool}
-use Rattle.std.proofs.lemmas.Option.{none-some, same_Some}
-use Rattle.wg_outside.specs.declared.limits.TheConstants.{MOST_BYTES}
-use Rattle.wg_bits.specs.Bits.{bits_of}
+use Rattle.std.proofs.Common.{◌≡◌, ℕ, ◌≤◌, List, length, refl, sym, ap, subst, ◌∙◌, arith, Option, Some, None, Result}
+use Rattle.std.proofs.lemmas.Option.{same_Some}
 use Rattle.wg_params.specs.Parameters.{Parameters, IsWithinLimits}
-use Rattle.wg_properties.specs.Text.{text_of}
-use Rattle.wg_properties.specs.declared.fault.PropFault.{PropFault}
 use Rattle.wg_properties.proofs.Readback.{read_again}
 use Rattle.wg_properties.proofs.ShortTexts.{text_short}
 use Rattle.wg_num.specs.Lines.{lines_of}
@@ -30,14 +25,12 @@ use Rattle.wg_words.proofs.LayoutLemmas.{layout_for_any}
 use Rattle.wg_words.specs.declared.jobs.Job.TheVariants.{Check, Arcs}
 use Rattle.wg_laws.specs.Built.{holding, IsAcceptedAs, BuiltAreAccepted, BuildsAreAccepted}
 use Rattle.wg_outcomes.specs.Commands.{builds, judged, number_lines, ok_line, successors_lines}
-use Rattle.wg_outcomes.specs.Judged.{Judged, refused, accepted, built, certified, unless_bad_list, unless_bad_properties, with_archive, with_digraph, with_file, with_graph, with_lengths, with_list, with_offsets, with_pages, with_parameters, with_places, with_records}
-use Rattle.wg_outcomes.specs.Ranked.{HoldGraph, bounds_after, ranking_text}
+use Rattle.wg_outcomes.specs.Judged.{Judged, refused, accepted, built, certified, unless_bad_list, with_archive, with_digraph, with_file, with_graph, with_lengths, with_list, with_offsets, with_pages, with_places, with_records}
+use Rattle.wg_outcomes.specs.Ranked.{bounds_after, ranking_text}
 use Rattle.wg_outcomes.specs.Readings.{Readings}
 use Rattle.wg_outcomes.specs.Written.{greedy_archive, params_for}
 use Rattle.wg_outcomes.specs.declared.status.Input.{Input}
 use Rattle.wg_outcomes.specs.declared.status.Input.TheVariants as input
-use Rattle.wg_outcomes.specs.declared.status.Status.{Status}
-use Rattle.wg_outcomes.specs.declared.status.Status.TheVariants.{BadArcs, Missing, OverLimit}
 use Rattle.wg_readings.proofs.ReadingsLemmas.{all_agree, goes_on, goes_on_from}
 use Rattle.wg_outcomes.proofs.FileLemmas.{file_goes, last_bit}
 
@@ -48,10 +41,7 @@ module _ (r : Readings) (p : Parameters) (g : Digraph) (limits : IsWithinLimits 
   places = places_of (offset_values p g.lists)
 
   records_go_on : (next : Parameters → List ℕ → Judged) → with_records (holding (greedy_archive p g)) next ≡ next p (graph_file p g.lists)
-  records_go_on next =
-      file_goes input.Properties (text_of p) (omega (arith, text_short p limits)) (λ text. with_parameters text (λ q. with_file input.Graph (Some (graph_file p g.lists)) (λ bytes. next q bytes)))
-      ∙ ap (λ (w : Result Parameters PropFault). unless_bad_properties w (λ q. with_file input.Graph (Some (graph_file p g.lists)) (λ bytes. next q bytes))) (read_again p limits)
-      ∙ file_goes input.Graph (graph_file p g.lists) (omega (arith, is.short_graph)) (λ bytes. next p bytes)
+  records_go_on next = grind (arith, read_again, text_short, file_goes)
 
   pub lists_go_on : (next : Digraph → Judged) → with_records (holding (greedy_archive p g)) (λ q bytes. with_digraph r q bytes next) ≡ next g
   lists_go_on next =
@@ -110,26 +100,15 @@ built_in (accepted out) = None
 built_in (built a out) = Some (a, out)
 built_in (certified text out) = None
 
-pub none_built : (status : Status) (a : Archive) (out : List ℕ) → refused status ≡ built a out → ⊥
-none_built status a out is = none-some (a, out) (ap built_in is)
-
 pub same_built : (a b : Archive) (out text : List ℕ) → built a out ≡ built b text → (a ≡ b) × (out ≡ text)
-same_built a b out text is =
-    let same : (a, out) ≡ (b, text) = same_Some (a, out) (b, text) (ap built_in is) in
-    (λ i. (same i).0, λ i. (same i).1)
+same_built a b out text is = grind arith
 
 module _ (a : Archive) (out : List ℕ) where
   pub file_behind : (i : Input) (o : Option (List ℕ)) (next : List ℕ → Judged) → with_file i o next ≡ built a out → (bytes : List ℕ) × (o ≡ Some bytes) × (next bytes ≡ built a out)
-  file_behind i None next is = absurd (none_built (Missing i) a out is)
-  file_behind i (Some bytes) next is =
-      elim (cases_Bool (nat_lt MOST_BYTES (length bytes))) [
-        | inl long ↦ absurd (none_built (OverLimit i) a out (rw long at is))
-        | inr few ↦ (bytes, refl, rw few at is)
-      ]
+  file_behind i o next h = grind arith
 
   graph_behind : (n : ℕ) (bytes : List ℕ) (w : Result Digraph (ℕ × ArcsKind)) (next : Digraph → Judged) → IsListed n bytes w → unless_bad_list w next ≡ built a out → (g : Digraph) × AreArcs n (lines_of bytes) g × (next g ≡ built a out)
-  graph_behind n bytes (Ok g) next are is = (g, are, is)
-  graph_behind n bytes (Err fault) next are is = absurd (none_built (BadArcs fault.0 fault.1) a out is)
+  graph_behind n bytes w next h h2 = grind arith
 
 pub builds_accepted : (r : Readings) → BuildsAreAccepted r
 builds_accepted r list_name base nodes layout held a out within is =

@@ -1,17 +1,13 @@
 -- What a certificate's text claims is within the limits, and of as many pages as are asked for.
-use Rattle.std.proofs.Common.{◌≡◌, ◌∙◌, ◌≤◌, ◌+◌, ℕ, zero, suc, nat_le, List, [], ◌∷◌, length, drop, codes, Option, Some, None, Result, Ok, Err, inl, inr, refl, sym, ap, arith}
-use Rattle.std.proofs.lemmas.Bool.{cases_Bool, leb-true}
+use Rattle.std.proofs.Common.{◌≡◌, ◌∙◌, ◌≤◌, ◌+◌, ℕ, zero, suc, List, [], ◌∷◌, length, drop, Option, Result, Ok, Err, sym, ap, arith}
 use Rattle.wg_num.specs.Lines.{lines_of}
 use Rattle.wg_num.specs.Units.{units_of}
 use Rattle.wg_params.specs.declared.limits.TheConstants.{MOST_DAMPING}
-use Rattle.wg_rank.specs.Sum.{sum_below}
-use Rattle.wg_rank.specs.Intervals.{by_page}
 use Rattle.wg_rank.specs.Claims.{Claim}
-use Rattle.wg_rank.specs.CertificateText.{and_then, at_most, before, bounds_of, claim_of, claimed, damping_of, number_after, or_fault, pages_of}
+use Rattle.wg_rank.specs.CertificateText.{and_then, at_most, before, bounds_of, claim_of, claimed, damping_of, or_fault, pages_of}
 use Rattle.wg_rank.specs.declared.fault.CertFault.{CertFault}
 use Rattle.wg_rank.specs.declared.fault.CertFault.TheVariants as fault
 use Rattle.wg_rank.specs.declared.fault.CertKind.TheVariants as kind
-use Rattle.wg_rank.specs.declared.limits.TheConstants.{UNITS}
 
 abbrev pub right : {A : Type 0} → A → Result A CertFault
 right x = Ok x
@@ -27,39 +23,27 @@ same_right x y is = cc is
 
 -- what went on was Ok
 ok_behind : {A B : Type 0} (r : Result A CertFault) (f : A → Result B CertFault) (b : B) → and_then r f ≡ right b → (a : A) × (r ≡ right a) × (f a ≡ right b)
-ok_behind (Ok a) f b e = (a, refl, e)
-ok_behind (Err x) f b e = absurd (never_right x b e)
+ok_behind r f b h = grind arith
 
 module _ (a : ℕ) where
   small : (o : Option ℕ) → or_fault 1 kind.Shape (at_most MOST_DAMPING o) ≡ right a → a ≤ MOST_DAMPING
-  small None is = absurd (never_right (fault.Line 1 kind.Shape) a is)
-  small (Some x) is =
-      elim (cases_Bool (nat_le x MOST_DAMPING)) [
-        | inl fits ↦ let same = same_right x a (rw fits at is) in omega (arith, same, leb-true x MOST_DAMPING fits)
-        | inr large ↦ absurd (never_right (fault.Line 1 kind.Shape) a (rw large at is))
-      ]
+  small o h = grind arith
 
   damped : (lines : List (List ℕ)) → damping_of lines ≡ right a → a ≤ MOST_DAMPING
-  damped [] is = absurd (never_right (fault.Line 1 kind.Missing) a is)
-  damped (line ∷ lines) is = small (number_after (codes "damping ") line) is
+  damped lines h = grind (arith, never_right, small)
 
 -- a bound for each page
 as_many : (number n : ℕ) (lines : List (List ℕ)) (low : List ℕ) → bounds_of number n lines ≡ right low → length low ≡ n
-as_many number zero [] low is = ap length (sym (same_right [] low is))
+as_many number zero [] low is = grind (arith, right)
 as_many number zero (line ∷ lines) low is = absurd (never_right (fault.Line number kind.Extra) low is)
 as_many number (suc n) [] low is = absurd (never_right (fault.Line number kind.Missing) low is)
 as_many number (suc n) (line ∷ lines) low is =
     let first = ok_behind (or_fault number kind.Shape (units_of line)) (λ x. before x (bounds_of (number + 1) n lines)) low is in
     let rest = ok_behind (bounds_of (number + 1) n lines) (λ xs. right (first.0 ∷ xs)) low first.2 in
-    let count = as_many (number + 1) n lines rest.0 rest.1 in
-    ap length (sym (same_right (first.0 ∷ rest.0) low rest.2)) ∙ ap suc count
+    ap length (sym (same_right (first.0 ∷ rest.0) low rest.2)) ∙ ap suc (as_many (number + 1) n lines rest.0 rest.1)
 
 is_claimed : (a : ℕ) (low : List ℕ) (c : Claim) → claimed a low ≡ right c → (c.damping ≡ a) × (c.low ≡ low)
-is_claimed a low c is =
-    elim (cases_Bool (nat_le (sum_below (length low) (by_page low)) UNITS)) [
-      | inl fits ↦ let same = same_right (record { damping = a; low = low }) c (rw fits at is) in (ap (λ (x : Claim). x.damping) (sym same), ap (λ (x : Claim). x.low) (sym same))
-      | inr large ↦ absurd (never_right fault.Sum c (rw large at is))
-    ]
+is_claimed a low c is = grind arith
 
 pub claim_within : (n : ℕ) (bytes : List ℕ) (c : Claim) → claim_of n bytes ≡ right c → (c.damping ≤ MOST_DAMPING) × (length c.low ≡ n)
 unfolding claim_of

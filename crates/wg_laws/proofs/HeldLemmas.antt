@@ -1,7 +1,5 @@
 -- The graph that the files of an archive stand for, from a validation that went on with it.
-use Rattle.std.proofs.Common.{◌≡◌, ◌≤◌, ℕ, List, length, nat_lt, Option, Some, None, Result, Ok, Err, inl, inr, refl, sym, ◌∙◌, ap, subst}
-use Rattle.std.proofs.lemmas.Bool.{cases_Bool}
-use Rattle.wg_outside.specs.declared.limits.TheConstants.{MOST_BYTES}
+use Rattle.std.proofs.Common.{◌≡◌, ◌≤◌, ℕ, List, Option, Some, None, Result, Ok, refl, sym, ◌∙◌, ap, subst, arith}
 use Rattle.wg_bits.specs.Bits.{bits_of}
 use Rattle.wg_params.specs.declared.key.Key.{Key}
 use Rattle.wg_params.specs.declared.key.Key.TheVariants as key
@@ -23,15 +21,14 @@ use Rattle.wg_outcomes.specs.Ranked.{HoldGraph}
 use Rattle.wg_outcomes.specs.Readings.{Readings}
 use Rattle.wg_outcomes.specs.declared.status.Input.{Input}
 use Rattle.wg_outcomes.specs.declared.status.Input.TheVariants as input
-use Rattle.wg_outcomes.specs.declared.status.Status.TheVariants.{Done, Missing, OverLimit, BadArchive, BadProperties}
+use Rattle.wg_outcomes.specs.declared.status.Status.TheVariants.{Done}
 use Rattle.wg_readings.proofs.LimitsLemmas.{within_limits}
 
 -- ---- parameters that were read are within their limits
 
 -- what went on was Ok
 ok_behind : {A B : Type 0} (r : Result A PropFault) (f : A → Result B PropFault) (b : B) → and_then r f ≡ Ok b → (a : A) × (r ≡ Ok a) × (f a ≡ Ok b)
-ok_behind (Ok a) f b e = (a, refl, e)
-ok_behind (Err x) f b e = absurd cc
+ok_behind r f b h = grind arith
 
 abbrev given : Parameters → Result Parameters PropFault
 given p = Ok p
@@ -65,20 +62,13 @@ read_within text p e = at (first_continued (lines_of text)) e
 -- ---- from a job that was done back to the graph
 
 pub file_read : (i : Input) (o : Option (List ℕ)) (next : List ℕ → Judged) → status_of (with_file i o next) ≡ Done → (bytes : List ℕ) × (o ≡ Some bytes) × ((n : List ℕ → Judged) → with_file i o n ≡ n bytes)
-file_read i None next is = absurd (let no : Missing i ≡ Done = is in cc)
-file_read i (Some bytes) next is =
-    elim (cases_Bool (nat_lt MOST_BYTES (length bytes))) [
-      | inl long ↦ absurd (let no : OverLimit i ≡ Done = rw long at is in cc)
-      | inr few ↦ (bytes, refl, λ n. rw few refl)
-    ]
+file_read i o next h = grind arith
 
 pub text_read : (w : Result Parameters PropFault) (next : Parameters → Judged) → status_of (unless_bad_properties w next) ≡ Done → (p : Parameters) × (w ≡ Ok p) × ((n : Parameters → Judged) → unless_bad_properties w n ≡ n p)
-text_read (Ok p) next is = (p, refl, λ n. refl)
-text_read (Err f) next is = absurd (let no : BadProperties f ≡ Done = is in cc)
+text_read w next h = grind arith
 
 pub graph_read : (w : Result Accepted ArchiveFault) (next : Accepted → Judged) → status_of (unless_bad_graph w next) ≡ Done → (a : Accepted) × (w ≡ Ok a) × ((n : Accepted → Judged) → unless_bad_graph w n ≡ n a)
-graph_read (Ok a) next is = (a, refl, λ n. refl)
-graph_read (Err f) next is = absurd (let no : BadArchive f ≡ Done = is in cc)
+graph_read w next h = grind arith
 
 -- the graph behind the files, which is a proper one within the limits, and with which each validation goes on
 pub record GraphBehind (r : Readings) (held : Input → Option (List ℕ)) : Type 0 where

@@ -1,5 +1,5 @@
 -- A job that imports an ASCIIGraph text, and what its archive is read as.
-use Rattle.std.proofs.Common.{◌≡◌, ℕ, ◌≤◌, List, length, Option, Some, Result, Ok, Err, refl, sym, ap, subst, ◌∙◌}
+use Rattle.std.proofs.Common.{◌≡◌, ℕ, ◌≤◌, List, length, Option, Some, Result, refl, sym, ap, subst, ◌∙◌, arith}
 use Rattle.std.proofs.lemmas.Option.{same_Some}
 use Rattle.wg_outside.specs.declared.limits.TheConstants.{MOST_BYTES}
 use Rattle.wg_num.specs.Lines.{lines_of}
@@ -17,11 +17,10 @@ use Rattle.wg_greedy.specs.Archive.{Archive}
 use Rattle.wg_outcomes.specs.Readings.{Readings}
 use Rattle.wg_outcomes.specs.declared.status.Input.{Input}
 use Rattle.wg_outcomes.specs.declared.status.Input.TheVariants.{Text}
-use Rattle.wg_outcomes.specs.declared.status.Status.TheVariants.{BadText}
 use Rattle.wg_readings.proofs.ReadingsLemmas.{text_goes_on}
 use Rattle.wg_laws.specs.Built.{ImportsAreAccepted, IsAcceptedImport}
 use Rattle.wg_outcomes.specs.Commands.{builds, judged}
-use Rattle.wg_laws.proofs.BuiltLemmas.{file_behind, none_built}
+use Rattle.wg_laws.proofs.BuiltLemmas.{file_behind}
 use Rattle.wg_outcomes.proofs.FileLemmas.{held_goes}
 use Rattle.wg_laws.proofs.ConversionLemmas.{read_again}
 use Rattle.wg_laws.proofs.HeldLemmas.{graph_behind}
@@ -31,8 +30,7 @@ use Rattle.wg_laws.proofs.HeldLemmas.{graph_behind}
 module _ (a : Archive) (out : List ℕ) where
   stood_for : (bytes : List ℕ) (w : Result Digraph (ℕ × AsciiKind)) (next : Digraph → Judged) → IsDecided bytes w → unless_bad_text w next ≡ built a out
       → (g : Digraph) × StandsFor (lines_of bytes) g × (next g ≡ built a out)
-  stood_for bytes (Ok g) next are is = (g, are, is)
-  stood_for bytes (Err fault) next are is = absurd (none_built (BadText fault.0 fault.1) a out is)
+  stood_for bytes w next h h2 = grind arith
 
 import_accepted : (r : Readings) (name base : List ℕ) (layout : Layout) (held : Input → Option (List ℕ)) (a : Archive) (out : List ℕ)
     → IsWithinLimits (params_of layout 0 0) → judged r (Import name base layout) held ≡ built a out → IsAcceptedImport r held base a out

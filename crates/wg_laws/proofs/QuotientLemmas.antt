@@ -1,5 +1,5 @@
 -- What a quotient comes to, read again.
-use Rattle.std.proofs.Common.{◌≡◌, ℕ, ◌≤◌, List, Result, Ok, Err, refl, sym, ap, ◌∙◌, arith}
+use Rattle.std.proofs.Common.{◌≡◌, ℕ, ◌≤◌, List, Result, Ok, sym, ap, ◌∙◌, arith}
 use Rattle.wg_params.specs.declared.limits.TheConstants.{MOST_ARCS}
 use Rattle.wg_graph.specs.Ascending.{Below}
 use Rattle.wg_graph.specs.Digraph.{Digraph, arc_count}
@@ -13,11 +13,10 @@ use Rattle.wg_outcomes.specs.Judged.{Judged, accepted, built, map_then, status_o
 use Rattle.wg_greedy.specs.Archive.{Archive}
 use Rattle.wg_outcomes.specs.Readings.{Readings}
 use Rattle.wg_outcomes.specs.declared.status.Input.TheVariants.{Map}
-use Rattle.wg_outcomes.specs.declared.status.Status.TheVariants.{BadMap}
 use Rattle.wg_readings.proofs.ClassLemmas.{each_below}
 use Rattle.wg_laws.specs.Quotients.{QuotientsAreAccepted}
 use Rattle.wg_outcomes.specs.Commands.{builds}
-use Rattle.wg_laws.proofs.BuiltLemmas.{file_behind, none_built}
+use Rattle.wg_laws.proofs.BuiltLemmas.{file_behind}
 use Rattle.wg_laws.proofs.ConversionLemmas.{read_again}
 use Rattle.wg_laws.proofs.HeldLemmas.{graph_behind}
 use Rattle.wg_laws.proofs.WeightsLemmas.{numbers_fit}
@@ -28,8 +27,7 @@ told xs = Ok xs
 -- from what was built back to the classes
 classes_behind : (a : Archive) (out : List ℕ) (w : Result (List ℕ) NumbersFault) (next : List ℕ → Judged) → unless_bad_map w next ≡ built a out
     → (list : List ℕ) × (w ≡ told list) × (next list ≡ built a out)
-classes_behind a out (Ok list) next is = (list, refl, is)
-classes_behind a out (Err f) next is = absurd (none_built (BadMap f) a out is)
+classes_behind a out w next h = grind arith
 
 pub quotients_accepted : (r : Readings) → QuotientsAreAccepted r
 quotients_accepted r input map output count layout held a out few within is =

@@ -1,5 +1,5 @@
 -- More rounds narrow what a ranking prints.
-use Rattle.std.proofs.Common.{◌≡◌, ◌∙◌, ◌+◌, ◌<◌, ◌≤◌, ℕ, zero, suc, List, Option, Some, None, inl, inr, refl, sym, ap, arith, add-one}
+use Rattle.std.proofs.Common.{◌≡◌, ◌∙◌, ◌+◌, ◌<◌, ◌≤◌, ℕ, zero, suc, List, Option, inl, inr, sym, ap, arith, add-one}
 use Rattle.std.proofs.lemmas.Bool.{cases_lt}
 use Rattle.wg_graph.specs.Digraph.{Digraph}
 use Rattle.wg_rank.specs.Rank.{high, low, total}
@@ -38,12 +38,10 @@ falls f step k (suc j) le =
 
 -- a ranking is printed, whether a certificate is written or not
 pub text_ranked : (r : Readings) (certificate : Option (List ℕ)) (top : ℕ) (b : Intervals) → output_of (ranks r certificate top b) ≡ ranking_text r b top
-text_ranked r None top b = refl
-text_ranked r (Some name) top b = refl
+text_ranked r certificate top b = grind arith
 
 ranking_done : (r : Readings) (certificate : Option (List ℕ)) (top : ℕ) (b : Intervals) → status_of (ranks r certificate top b) ≡ Done
-ranking_done r None top b = refl
-ranking_done r (Some name) top b = refl
+ranking_done r certificate top b = grind arith
 
 pub more_narrow : (r : Readings) → MoreRoundsNarrow r
 more_narrow r held base fewer more damping top weights certificate le damped done =

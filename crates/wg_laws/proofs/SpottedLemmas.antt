@@ -1,5 +1,5 @@
 -- A page that is read without a check, of an archive that is accepted.
-use Rattle.std.proofs.Common.{◌≡◌, ◌∙◌, ℕ, zero, suc, ◌+◌, ◌-◌, ◌<◌, ◌≤◌, ◌==◌, Bool, false, not, List, [], ◌∷◌, length, map, get_or, reverse, inl, inr, Option, Result, Ok, Err, refl, sym, ap, subst, arith}
+use Rattle.std.proofs.Common.{◌≡◌, ◌∙◌, ℕ, zero, suc, ◌+◌, ◌-◌, ◌<◌, ◌≤◌, ◌==◌, Bool, false, not, List, [], ◌∷◌, length, map, get_or, reverse, inl, inr, Option, Result, Ok, sym, ap, subst, arith}
 use Rattle.std.proofs.lemmas.Bool.{cases_Bool, cases_lt, eqb-true, not-false}
 use Rattle.std.proofs.lemmas.List.{append-nil, ext_get_or, length-map, length-reverse}
 use Rattle.wg_bits.specs.Bits.{bits_of}
@@ -21,7 +21,7 @@ use Rattle.wg_outcomes.specs.Judged.{Judged, accepted, status_of, unless_bad_off
 use Rattle.wg_outcomes.specs.Readings.{Readings}
 use Rattle.wg_outcomes.specs.declared.status.Input.{Input}
 use Rattle.wg_outcomes.specs.declared.status.Input.TheVariants as input
-use Rattle.wg_outcomes.specs.declared.status.Status.TheVariants.{Done, BadArchive}
+use Rattle.wg_outcomes.specs.declared.status.Status.TheVariants.{Done}
 use Rattle.wg_readings.proofs.ReadingsLemmas.{page_absent, page_refused, page_there, successors_go_on}
 use Rattle.wg_outcomes.specs.Commands.{line_in, ok_line, successors_line, successors_lines}
 use Rattle.wg_laws.specs.Spotted.{SpotsAreShown}
@@ -88,12 +88,10 @@ stored_same p bits more a stored reads stores same =
 -- ---- from an archive that was accepted back to what its files hold
 
 offsets_read : (w : Result (List ℕ) OffsetWord) (next : List ℕ → Judged) → status_of (unless_bad_offsets w next) ≡ Done → (places : List ℕ) × (w ≡ Ok places) × ((n : List ℕ → Judged) → unless_bad_offsets w n ≡ n places)
-offsets_read (Ok places) next is = (places, refl, λ n. refl)
-offsets_read (Err w) next is = absurd (let no : BadArchive (archive.Offsets w) ≡ Done = is in cc)
+offsets_read w next h = grind arith
 
 none_differs : (l found stored : List ℕ) (next : Unit {0} → Judged) → status_of (unless_some_differ l found stored next) ≡ Done → l ≡ []
-none_differs [] found stored next is = refl
-none_differs (x ∷ rest) found stored next is = absurd (let no : BadArchive (archive.Length x (record_length found x) (record_length stored x)) ≡ Done = is in cc)
+none_differs l found stored next h = grind arith
 
 -- the parameters and the graph file of an archive, with which each validation goes on
 record RecordsBehind (held : Input → Option (List ℕ)) : Type 0 where

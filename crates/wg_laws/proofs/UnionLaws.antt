@@ -1,6 +1,5 @@
 -- What a union comes to, read again.
-use Rattle.std.proofs.Common.{◌≡◌, ◌≤◌, ◌∙◌, inl, inr, ℕ, List, [], ◌∷◌, Option, Result, Ok, Err, refl, sym, ap, subst, arith}
-use Rattle.std.proofs.lemmas.Bool.{cases_lt, le-ltb, lt-ltb}
+use Rattle.std.proofs.Common.{◌≡◌, ◌≤◌, ◌∙◌, ℕ, List, Option, Result, Ok, Err, refl, sym, ap, subst, arith}
 use Rattle.wg_bits.specs.Bits.{bits_of}
 use Rattle.wg_params.specs.declared.limits.TheConstants.{MOST_ARCS, MOST_PAGES}
 use Rattle.wg_params.specs.Parameters.{Parameters, IsWithinLimits}
@@ -12,21 +11,20 @@ use Rattle.wg_grammar.specs.declared.fault.ArchiveFault.{ArchiveFault}
 use Rattle.wg_grammar.specs.declared.fault.ArchiveFault.TheVariants as archive
 use Rattle.wg_grammar.specs.declared.fault.OffsetWord.{OffsetWord}
 use Rattle.wg_grammar.proofs.ProperGraphs.{graph_proper}
-use Rattle.wg_offsets.specs.Places.{pages_that_differ, record_length}
+use Rattle.wg_offsets.specs.Places.{pages_that_differ}
 use Rattle.wg_shape.specs.Graphs.{union_graph}
 use Rattle.wg_shape.proofs.GraphUnions.{is_union}
 use Rattle.wg_arcs.specs.Text.{text_of_graph}
-use Rattle.wg_outcomes.specs.Judged.{Judged, accepted, built, certified, refused, status_of, unless_bad_offsets, unless_some_differ, with_archive, with_digraph, with_file, with_graph, with_lengths, with_offsets, with_parameters, with_records}
+use Rattle.wg_outcomes.specs.Judged.{Judged, accepted, built, status_of, unless_bad_offsets, unless_some_differ, with_archive, with_digraph, with_file, with_graph, with_lengths, with_offsets, with_parameters, with_records}
 use Rattle.wg_greedy.specs.Archive.{Archive}
 use Rattle.wg_outcomes.specs.Ranked.{HoldGraph}
 use Rattle.wg_outcomes.specs.Readings.{Readings}
-use Rattle.wg_outcomes.specs.Second.{as_second, of_second, second_held}
+use Rattle.wg_outcomes.specs.Second.{of_second, second_held}
 use Rattle.wg_outcomes.specs.declared.status.Input.{Input}
 use Rattle.wg_outcomes.specs.declared.status.Input.TheVariants as input
-use Rattle.wg_outcomes.specs.declared.status.Status.TheVariants.{Done, BadArchive, TooManyArcs}
+use Rattle.wg_outcomes.specs.declared.status.Status.TheVariants.{Done, BadArchive}
 use Rattle.wg_outcomes.specs.Commands.{builds, with_union}
 use Rattle.wg_laws.specs.Unions.{UnionsAreAccepted}
-use Rattle.wg_laws.proofs.BuiltLemmas.{none_built}
 use Rattle.wg_laws.proofs.ConversionLemmas.{read_again}
 use Rattle.wg_laws.proofs.HeldLemmas.{file_read, graph_read, read_within, text_read}
 
@@ -37,8 +35,7 @@ places_read (Ok places) next is = (places, λ n. refl)
 places_read (Err w) next is = absurd (let no : BadArchive (archive.Offsets w) ≡ Done = is in cc)
 
 none_differ : (found stored : List ℕ) (differ : List ℕ) (next : Unit {0} → Judged) → status_of (unless_some_differ differ found stored next) ≡ Done → (n : Unit {0} → Judged) → unless_some_differ differ found stored n ≡ n tt
-none_differ found stored [] next is = λ n. refl
-none_differ found stored (x ∷ rest) next is = absurd (let no : BadArchive (archive.Length x (record_length found x) (record_length stored x)) ≡ Done = is in cc)
+none_differ found stored differ next h = grind arith
 
 -- the archive behind the files, with which each validation goes on
 pub record ArchiveBehind (r : Readings) (held : Input → Option (List ℕ)) : Type 0 where
@@ -106,17 +103,10 @@ module _ (r : Readings) (held : Input → Option (List ℕ)) where
 
 -- a second archive that is not refused is validated as a first is
 behind_second : (j : Judged) (a : Archive) (out : List ℕ) → of_second j ≡ built a out → j ≡ built a out
-behind_second (refused s) a out is = absurd (none_built (as_second s) a out is)
-behind_second (accepted text) a out is = is
-behind_second (built files text) a out is = is
-behind_second (certified text rest) a out is = is
+behind_second j a out h = grind arith
 
 united : (g h : Digraph) (next : Digraph → Judged) (a : Archive) (out : List ℕ) → with_union g h next ≡ built a out → (arc_count (union_graph g h) ≤ MOST_ARCS) × (next (union_graph g h) ≡ built a out)
-united g h next a out is =
-    elim (cases_lt MOST_ARCS (arc_count (union_graph g h))) [
-      | inl many ↦ absurd (none_built TooManyArcs a out (rw (lt-ltb MOST_ARCS (arc_count (union_graph g h)) many) at is))
-      | inr few ↦ (few, rw (le-ltb MOST_ARCS (arc_count (union_graph g h)) few) at is)
-    ]
+united g h next a out is = grind arith
 
 pub unions_accepted : (r : Readings) → UnionsAreAccepted r
 unions_accepted r first second output layout held a out within is =
@@ -132,9 +122,7 @@ unions_accepted r first second output layout held a out within is =
     let h : Digraph = accepted_graph other.parameters other.read in
     let made = united g h next a out (sym (other.goes_on (to_second p x)) ∙ goes) in
     let union = is_union g h one.proper other.proper in
-    let few_first : g.nodes ≤ MOST_PAGES = one.within.nodes in
-    let few_second : h.nodes ≤ MOST_PAGES = other.within.nodes in
-    let few_pages : (union_graph g h).nodes ≤ MOST_PAGES = omega (arith, few_first, few_second) in
+    let few_pages : (union_graph g h).nodes ≤ MOST_PAGES = omega (arith, one.within.nodes, other.within.nodes) in
     let again = read_again r layout (union_graph g h) a out within union.proper few_pages made.0 made.1 in
     let text : Digraph → Judged = λ u. accepted (text_of_graph u) in
     record {

@@ -1,5 +1,5 @@
 -- What `verify` has printed holds of the graph that the files stand for.
-use Rattle.std.proofs.Common.{◌≡◌, ◌∙◌, ◌<◌, ℕ, List, ◌++◌, Option, Some, None, Result, Ok, Err, refl, sym, ap, subst}
+use Rattle.std.proofs.Common.{◌≡◌, ◌∙◌, ◌<◌, ℕ, List, ◌++◌, Option, None, Result, refl, sym, ap, subst, arith}
 use Rattle.wg_graph.specs.Digraph.{Digraph}
 use Rattle.wg_rank.specs.Rank.{gap}
 use Rattle.wg_rank.specs.Sum.{sum_below}
@@ -8,14 +8,13 @@ use Rattle.wg_rank.specs.Claims.{Claim, weights_for}
 use Rattle.wg_rank.specs.Weights.{weights_of}
 use Rattle.wg_rank.specs.CertificateText.{claim_of}
 use Rattle.wg_rank.specs.declared.fault.CertFault.{CertFault}
-use Rattle.wg_rank.specs.declared.fault.CertFault.TheVariants.{Falls}
 use Rattle.wg_rank.proofs.Certificates.{enclosing}
 use Rattle.wg_words.specs.declared.jobs.Job.TheVariants.{Verify}
 use Rattle.wg_outcomes.specs.Judged.{Judged, accepted, claim_then, output_of, status_of, unless_bad_claim, weights_then, with_claim}
 use Rattle.wg_outcomes.specs.Readings.{Readings}
 use Rattle.wg_outcomes.specs.declared.status.Input.{Input}
 use Rattle.wg_outcomes.specs.declared.status.Input.TheVariants as input
-use Rattle.wg_outcomes.specs.declared.status.Status.TheVariants.{BadCertificate, Done}
+use Rattle.wg_outcomes.specs.declared.status.Status.TheVariants.{Done}
 use Rattle.wg_outcomes.specs.Commands.{judged}
 use Rattle.wg_outcomes.specs.Verified.{PrintsProvenGap, first_fall, unless_falls, verified_line, with_gap}
 use Rattle.wg_laws.proofs.ClaimLemmas.{claim_within, right}
@@ -24,12 +23,10 @@ use Rattle.wg_outcomes.proofs.VerifyLemmas.{rises_all}
 use Rattle.wg_laws.proofs.WeightsLemmas.{weights_behind}
 
 claim_read : (w : Result Claim CertFault) (next : Claim → Judged) → status_of (unless_bad_claim w next) ≡ Done → (c : Claim) × (w ≡ right c) × ((n : Claim → Judged) → unless_bad_claim w n ≡ n c)
-claim_read (Ok c) next is = (c, refl, λ n. refl)
-claim_read (Err f) next is = absurd (let no : BadCertificate f ≡ Done = is in cc)
+claim_read w next h = grind arith
 
 gap_read : (o : Option ℕ) (left : ℕ) (next : ℕ → Judged) → status_of (unless_falls o left next) ≡ Done → (o ≡ None) × (unless_falls o left next ≡ next left)
-gap_read None left next is = (refl, refl)
-gap_read (Some page) left next is = absurd (let no : BadCertificate (Falls page) ≡ Done = is in cc)
+gap_read o left next h = grind arith
 
 pub proven_gap : (r : Readings) (held : Input → Option (List ℕ)) (base certificate : List ℕ) (weights : Option (List ℕ)) (old new : List ℕ)
     → Done ≡ status_of (judged r (Verify base certificate weights) held) → new ≡ old ++ output_of (judged r (Verify base certificate weights) held)

@@ -1,15 +1,11 @@
 -- Weights that a text gives are weights of the pages, and a validation that went on has them from its file.
-use Rattle.std.proofs.Common.{◌≡◌, ◌≤◌, ◌<◌, ◌+◌, ℕ, zero, suc, Bool, true, false, nat_eq, nat_le, nat_lt, ◌&&◌, if◌then◌else◌, All, List, [], ◌∷◌, ◌++◌, length, Option, Some, None, Result, Ok, Err, inl, inr, refl, sym, ◌∙◌, ap, subst, arith}
-use Rattle.std.proofs.lemmas.Bool.{cases_Bool, leb-false, lt-ltb, ltb-false, ltb-true}
+use Rattle.std.proofs.Common.{◌≡◌, ◌≤◌, ◌<◌, ◌+◌, ℕ, false, nat_eq, nat_lt, ◌&&◌, All, List, [], ◌∷◌, ◌++◌, length, Option, Some, None, Result, Ok, Err, inl, inr, refl, sym, ◌∙◌, ap, subst, arith}
+use Rattle.std.proofs.lemmas.Bool.{cases_Bool, leb-false}
 use Rattle.std.proofs.lemmas.List.{length-append}
-use Rattle.std.proofs.lemmas.List.Elements.{All-append, All-cons, All-nil, All-weaker}
+use Rattle.std.proofs.lemmas.List.Elements.{All-append, All-nil, All-weaker}
 use Rattle.wg_num.specs.Lines.{lines_of}
-use Rattle.wg_num.specs.Words.{words_of}
-use Rattle.wg_arcs.specs.Numbers.{and_then, judged, number_in, numbers_from, numbers_of, numbers_on}
-use Rattle.wg_arcs.specs.Reading.{is_skipped}
+use Rattle.wg_arcs.specs.Numbers.{and_then, numbers_from, numbers_of, numbers_on}
 use Rattle.wg_arcs.specs.declared.numbers_fault.NumbersFault.{NumbersFault}
-use Rattle.wg_arcs.specs.declared.numbers_fault.NumbersFault.TheVariants.{Count, Line}
-use Rattle.wg_arcs.specs.declared.numbers_fault.NumbersKind.TheVariants.{Range, Shape, TooMany}
 use Rattle.wg_rank.specs.Intervals.{by_page}
 use Rattle.wg_rank.specs.Sum.{sum_below}
 use Rattle.wg_rank.specs.Weights.{AreWeights, weights_of}
@@ -18,7 +14,7 @@ use Rattle.wg_rank.proofs.Weighing.{ones}
 use Rattle.wg_outcomes.specs.Judged.{Judged, status_of, unless_bad_weights, unless_zero, weights_in, weights_then, with_weights}
 use Rattle.wg_outcomes.specs.declared.status.Input.{Input}
 use Rattle.wg_outcomes.specs.declared.status.Input.TheVariants as input
-use Rattle.wg_outcomes.specs.declared.status.Status.TheVariants.{BadWeights, Done}
+use Rattle.wg_outcomes.specs.declared.status.Status.TheVariants.{Done}
 use Rattle.wg_outcomes.specs.declared.status.WeightsFault.{WeightsFault}
 use Rattle.wg_outcomes.specs.declared.status.WeightsFault.TheVariants.{Numbers, Zero}
 use Rattle.wg_outcomes.specs.Ranked.{HoldWeights}
@@ -29,12 +25,8 @@ use Rattle.wg_laws.proofs.HeldLemmas.{file_read}
 abbrev told : List ℕ → Result (List ℕ) NumbersFault
 told xs = Ok xs
 
-abbrev refused_by : NumbersFault → Result (List ℕ) NumbersFault
-refused_by f = Err f
-
 ok_behind : (r : Result (List ℕ) NumbersFault) (f : List ℕ → Result (List ℕ) NumbersFault) (b : List ℕ) → and_then r f ≡ told b → (a : List ℕ) × (r ≡ told a) × (f a ≡ told b)
-ok_behind (Ok a) f b e = (a, refl, e)
-ok_behind (Err x) f b e = absurd (let no : refused_by x ≡ told b = e in cc)
+ok_behind r f b h = grind arith
 
 same_told : (xs ys : List ℕ) → told xs ≡ told ys → xs ≡ ys
 same_told xs ys is = cc
@@ -44,35 +36,11 @@ module _ (n limit : ℕ) where
   abbrev Fit : ℕ → List ℕ → Type 0
   Fit before xs = (before + length xs ≤ n) × All (λ v. v < limit) xs
 
-  by_room : (line before v : ℕ) (these : List ℕ) → (if nat_lt before n then told (v ∷ []) else refused_by (Line line TooMany)) ≡ told these → v < limit → Fit before these
-  by_room line before v these is below =
-      elim (cases_Bool (nat_lt before n)) [
-        | inl room ↦ subst (Fit before) (same_told (v ∷ []) these (rw room at is)) (let lt = ltb-true before n room in omega (arith, lt), All-cons (λ x. x < limit) v [] below (All-nil (λ x. x < limit)))
-        | inr full ↦ absurd (let none : refused_by (Line line TooMany) ≡ told these = rw full at is in cc)
-      ]
-
-  by_number : (line before : ℕ) (o : Option ℕ) (these : List ℕ) → judged n limit line before o ≡ told these → Fit before these
-  by_number line before None these is = absurd (let none : refused_by (Line line Shape) ≡ told these = is in cc)
-  by_number line before (Some v) these is =
-      elim (cases_Bool (nat_le limit v)) [
-        | inl high ↦ absurd (let none : refused_by (Line line Range) ≡ told these = rw high at is in cc)
-        | inr low ↦ by_room line before v these (rw low at is) (leb-false limit v low)
-      ]
-
   on_line : (line before : ℕ) (text these : List ℕ) → before ≤ n → numbers_on n limit line before text ≡ told these → Fit before these
-  on_line line before text these small is =
-      elim (cases_Bool (is_skipped (words_of text))) [
-        | inl skipped ↦ subst (Fit before) (same_told [] these (rw skipped at is)) (omega (arith, small), All-nil (λ v. v < limit))
-        | inr not ↦ by_number line before (number_in (words_of text)) these (rw not at is)
-      ]
+  on_line line before text these small is = grind (arith, cases_Bool, leb-false, All-nil, same_told)
 
   on_lines : (line before : ℕ) (lines : List (List ℕ)) (all : List ℕ) → before ≤ n → numbers_from n limit line before lines ≡ told all → (before + length all ≡ n) × All (λ v. v < limit) all
-  on_lines line before [] all small is =
-      elim (cases_Bool (nat_lt before n)) [
-        | inl more ↦ absurd (let none : refused_by (Count before) ≡ told all = rw more at is in cc)
-        | inr full ↦
-            subst (λ (xs : List ℕ). (before + length xs ≡ n) × All (λ v. v < limit) xs) (same_told [] all (rw full at is)) (let ge = ltb-false before n full in omega (arith, ge, small), All-nil (λ v. v < limit))
-      ]
+  on_lines line before [] all small is = grind arith
   on_lines line before (text ∷ lines) all small is =
       let first = ok_behind (numbers_on n limit line before text) _ all is in
       let rest = ok_behind (numbers_from n limit (line + 1) (before + length first.0) lines) (λ others. told (first.0 ++ others)) all first.2 in
@@ -97,9 +65,7 @@ abbrev unless : WeightsFault → Result (List ℕ) WeightsFault
 unless f = Err f
 
 positive : (n s : ℕ) → (nat_lt 0 n && nat_eq s 0) ≡ false → 0 < n → 0 < s
-positive zero s is some = absurd (omega (arith, some))
-positive (suc n) zero is some = absurd (let none : true ≡ false = subst (λ (b : Bool). (b && nat_eq 0 0) ≡ false) (lt-ltb 0 (suc n) (omega arith)) is in cc)
-positive (suc n) (suc s) is some = omega arith
+positive n s h h2 = grind arith
 
 pub weights_read : (n : ℕ) (bytes ws : List ℕ) → weights_in n bytes ≡ given_by ws → AreWeights n ws
 weights_read n bytes ws is = by_result (numbers_of n (MOST_WEIGHT + 1) bytes) refl is
@@ -129,8 +95,7 @@ pub record WeightsBehind (name : Option (List ℕ)) (held : Input → Option (Li
   pub goes_on : (next : Option (List ℕ) → Judged) → weights_then name n (held input.Weights) next ≡ next given
 
 text_read : (w : Result (List ℕ) WeightsFault) (next : List ℕ → Judged) → status_of (unless_bad_weights w next) ≡ Done → (ws : List ℕ) × (w ≡ given_by ws) × ((m : List ℕ → Judged) → unless_bad_weights w m ≡ m ws)
-text_read (Ok ws) next is = (ws, refl, λ m. refl)
-text_read (Err f) next is = absurd (let none : BadWeights f ≡ Done = is in cc)
+text_read w next h = grind arith
 
 pub weights_behind : (name : Option (List ℕ)) (held : Input → Option (List ℕ)) (n : ℕ) (last : Option (List ℕ) → Judged) → status_of (weights_then name n (held input.Weights) last) ≡ Done → WeightsBehind name held n
 weights_behind None held n last done = record { given = None; stored = refl; proper = ones n; goes_on = λ next. refl }

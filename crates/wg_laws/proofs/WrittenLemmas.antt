@@ -19,7 +19,7 @@ use Rattle.wg_rank.specs.declared.limits.TheConstants.{UNITS}
 use Rattle.wg_rank.proofs.Certificates.{complete}
 use Rattle.wg_rank.proofs.WrittenBack.{written_back}
 use Rattle.wg_words.specs.declared.jobs.Job.TheVariants.{Rank, Verify}
-use Rattle.wg_outcomes.specs.Judged.{Judged, accepted, certified, claim_then, status_of, unless_bad_claim, weights_then, with_claim, with_digraph, with_file, with_parameters, with_records}
+use Rattle.wg_outcomes.specs.Judged.{Judged, accepted, certified, claim_then, status_of, unless_bad_claim, weights_then, with_claim, with_digraph, with_records}
 use Rattle.wg_outcomes.specs.Readings.{Readings}
 use Rattle.wg_outcomes.specs.declared.status.Input.{Input}
 use Rattle.wg_outcomes.specs.declared.status.Input.TheVariants as input
@@ -38,17 +38,13 @@ use Rattle.wg_laws.proofs.WeightsLemmas.{weights_behind}
 lines_length : (low : List ℕ) → length (bound_lines low) ≡ 27 * length low
 lines_length [] = refl
 lines_length (x ∷ low) =
-    let one = text_length x in
-    let end = length-append (text_of_units x) (codes "\n") in
     let all = length-append (bound_line x) (bound_lines low) in
-    omega (arith, one, end, all, lines_length low)
+    omega (arith, (text_length x), (length-append (text_of_units x) (codes "\n")), all, lines_length low)
 
 short_line : (word : List ℕ) (number : ℕ) → number < 10 ^ 11 → length (named_line word number) ≤ length word + 12
 short_line word number small =
     let digits = length-decimal-le 11 number (omega arith) small (omega (arith, small)) in
-    let first : length (named_line word number) ≡ length (word ++ decimal number) + 1 = length-append (word ++ decimal number) (codes "\n") in
-    let second : length (word ++ decimal number) ≡ length word + length (decimal number) = length-append word (decimal number) in
-    omega (arith, digits, first, second)
+    omega (arith, digits, (length-append (word ++ decimal number) (codes "\n")), (length-append word (decimal number)))
 
 three_parts : (a b c : List ℕ) → length (a ++ b ++ c) ≡ length a + length b + length c
 three_parts a b c = length-append (a ++ b) c ∙ ap (λ (n : ℕ). n + length c) (length-append a b)
@@ -66,9 +62,7 @@ same_text text out text' out' is = cc is
 
 module _ (r : Readings) (held after : Input → Option (List ℕ)) (still : AreStill held after) where
   same_records : (next : Parameters → List ℕ → Judged) → with_records after next ≡ with_records held next
-  same_records next =
-      ap (λ (o : Option (List ℕ)). with_file input.Properties o (λ t. with_parameters t (λ p. with_file input.Graph (after input.Graph) (λ b. next p b)))) still.properties
-      ∙ ap (λ (o : Option (List ℕ)). with_file input.Properties (held input.Properties) (λ t. with_parameters t (λ p. with_file input.Graph o (λ b. next p b)))) still.graph
+  same_records next = grind arith
 
   module _ (base certificate : List ℕ) (rounds damping top : ℕ) (weights : Option (List ℕ)) (text out : List ℕ) (few : rounds ≤ MOST_ROUNDS) (damped : damping ≤ MOST_DAMPING)
       (is : judged r (Rank base rounds damping top weights (Some certificate)) held ≡ certified text out) (there : after input.Certificate ≡ Some text) where

@@ -15,7 +15,6 @@ pub leading_are : (text : List ℕ) (count most : ℕ) → most ≡ min (length 
     → (count < most → is_ascii_digit (get_or text count 0) ≡ false) → leading_digits text ≡ take count text
 leading_are text count most e within digits ended =
     let size : length (take 15 text) ≡ most = omega (arith, length-take 15 text, e) in
-    let short : count ≤ 15 = omega (arith, e) in
     let all : (k : ℕ) → k < count → is_ascii_digit (get_or (take 15 text) k 0) ≡ true = λ k h.
     let r = digit_at (take count text) k digits (omega (arith, length-take-le count text (omega (arith, e)))) in
     let s = rw (get_or-take count text k 0 h) at r in
@@ -23,15 +22,12 @@ leading_are text count most e within digits ended =
     let stop : count < length (take 15 text) → is_ascii_digit (get_or (take 15 text) count 0) ≡ false = λ h.
     rw (get_or-take 15 text count 0 (omega (arith, size, e))) (ended (omega (arith, size))) in
     ap (λ n. take n (take 15 text)) (prefix_len_is is_ascii_digit (take 15 text) count 0 (omega (arith, size)) all stop)
-    ∙ take-take count 15 text short
+    ∙ take-take count 15 text (omega (arith, e))
 
 pub leading_some : (text : List ℕ) (v count : ℕ) → count ≤ length text → leading_digits text ≡ take count text → take count text ≡ decimal v → v < 2 ^ 64
     → Some (v, count) ≡ leading_number text
 unfolding leading_number
-leading_some text v count there are is small =
-    let size : length (leading_digits text) ≡ count = ap length are ∙ length-take-le count text there in
-    let read : number_of (leading_digits text) ≡ Some v = ap number_of (are ∙ is) ∙ number_of-decimal v small in
-    sym (λ i. option_map (λ n. (n, size i)) (read i))
+leading_some text v count there are is small = grind (arith, length-take-le, number_of-decimal)
 
 pub leading_none : (text digits : List ℕ) → leading_digits text ≡ digits → number_of digits ≡ None → None ≡ leading_number text
 unfolding leading_number

@@ -76,12 +76,7 @@ split (b ∷ text) =
 
 no_words : (text : List ℕ) → Begins text → length (take (position_or_len is_blank text) text) ≡ 0 → words_of text ≡ []
 unfolding words_of
-no_words [] h none = refl
-no_words (b ∷ text) h none =
-    let k : ℕ = position_or_len is_blank text in
-    let one : 1 + k ≡ suc k = omega arith in
-    let more : position_or_len is_blank (b ∷ text) ≡ suc k = ap (λ (t : Bool). cond (not t) (1 + k) 0) h ∙ one in
-    absurd (let some : length (take (suc k) (b ∷ text)) ≡ 0 = subst (λ (n : ℕ). length (take n (b ∷ text)) ≡ 0) more none in omega (arith, some))
+no_words text h h2 = grind arith
 
 one_word : (text : List ℕ) → 0 < length (take (position_or_len is_blank text) text) → words_of text ≡ take (position_or_len is_blank text) text ∷ words_of (drop (position_or_len is_blank text) text)
 unfolding words_of
@@ -109,6 +104,4 @@ first_some text bare end is at some =
 -- what follows the first word is shorter than the text
 pub rest_shorter : (text bare : List ℕ) (end : ℕ) → bare ≡ without_blanks_before text → 0 < length (take end bare) → length (take (length bare - end) (drop end bare)) < length text
 unfolding without_blanks_before
-rest_shorter text bare end is some =
-    let whole = ap length is ∙ length-drop _ text in
-    omega (arith, whole, some, length-take end bare, length-take (length bare - end) (drop end bare), length-drop end bare)
+rest_shorter text bare end is some = grind (arith, length-drop, length-take)

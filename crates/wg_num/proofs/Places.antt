@@ -1,5 +1,5 @@
 -- A number's text at the front of a place.
-use Rattle.std.proofs.Common.{◌≡◌, ℕ, ◌+◌, ◌*◌, ◌%◌, ◌^◌, ◌<◌, ◌≤◌, List, ◌++◌, length, take, drop, ◌∙◌, ap, subst, ⊎_elim, arith, length-append, length-drop}
+use Rattle.std.proofs.Common.{◌≡◌, ℕ, ◌+◌, ◌*◌, ◌%◌, ◌^◌, ◌<◌, ◌≤◌, List, ◌++◌, length, take, drop, ◌∙◌, ap, ⊎_elim, arith, length-append, length-drop}
 use Rattle.std.specs.Fmt.{decimal}
 use Rattle.std.proofs.lemmas.Bool.{cases_lt}
 use Rattle.std.proofs.lemmas.Fmt.{decimal_by_steps, length-decimal-le}
@@ -23,9 +23,7 @@ digits_of_power k n low high small =
 
 -- digits that end where there are as many bytes before
 pub at_front : (old new ds : List ℕ) (r count : ℕ) → r + length ds ≡ count → count ≡ length ds → drop r new ≡ ds ++ drop count old → new ≡ ds ++ drop count old
-at_front old new ds r count ends many written =
-    let first : r ≡ 0 = omega (arith, ends, many) in
-    subst (λ (k : ℕ). drop k new ≡ ds ++ drop count old) first written
+at_front old new ds r count ends many written = grind arith
 
 pub front_is : (old new ds : List ℕ) (count : ℕ) → count ≡ length ds → new ≡ ds ++ drop count old → take count new ≡ ds
 front_is old new ds count many is = ap (λ (l : List ℕ). take count l) is ∙ ap (λ (k : ℕ). take k (ds ++ drop count old)) many ∙ take-append_seam ds (drop count old)

@@ -1,8 +1,7 @@
 -- Lines of bytes that are no control characters: digits, letters and what stands between them.
-use Rattle.std.proofs.Common.{ℕ, zero, suc, ◌≡◌, ◌+◌, ◌-◌, ◌<◌, ◌≤◌, ◌^◌, ◌/◌, ◌%◌, leb, eqb, Bool, true, false, cond, List, [], ◌∷◌, ◌++◌, length, get_or, take, ap, ◌∙◌, subst, arith, inl, inr, leb-true}
+use Rattle.std.proofs.Common.{ℕ, zero, suc, ◌≡◌, ◌+◌, ◌-◌, ◌<◌, ◌≤◌, ◌^◌, ◌/◌, ◌%◌, leb, true, List, [], ◌∷◌, ◌++◌, subst, arith, leb-true}
 use Rattle.std.specs.Fmt.{decimal}
 use Rattle.std.specs.List.{All, list_all}
-use Rattle.std.specs.Str.Lines.{strip_carriage_return}
 use Rattle.std.proofs.lemmas.Bool.{cases_lt, ne_eqb, and_parts}
 use Rattle.std.proofs.lemmas.Fmt.{decimal_is_IsNumeral}
 use Rattle.std.proofs.lemmas.List.{get_or_past, get_or_default}
@@ -16,21 +15,8 @@ use Rattle.wg_num.proofs.Cuts.{line_with_end}
 abbrev pub IsPlain : List ℕ → Type 0
 IsPlain text = All (λ b. 32 ≤ b) text
 
--- such a line has no CR at its end, and no LF in it
-pub unstripped : (line : List ℕ) → IsPlain line → strip_carriage_return line ≡ line
-unstripped line plain =
-    let k : ℕ = length line - 1 in
-    let other : get_or line k 0 ≡ 13 → ⊥ = λ e.
-    elim (cases_lt k (length line)) [
-      | inl lt ↦ (let h = plain k 0 lt in omega arith)
-      | inr le ↦ (let h = get_or_past line k 0 le in omega arith)
-    ] in
-    ap (λ (t : Bool). cond t (take k line) line) (ne_eqb (get_or line k 0) 13 other)
-
 pub line_read : (line rest : List ℕ) → IsPlain line → lines_of (line ++ 10 ∷ rest) ≡ line ∷ lines_of rest
-line_read line rest plain =
-    line_with_end line rest (All-weaker (λ b. 32 ≤ b) (λ b. eqb b 10 ≡ false) (λ b le. ne_eqb b 10 (λ e. omega arith)) line plain)
-    ∙ ap (λ (l : List ℕ). l ∷ lines_of rest) (unstripped line plain)
+line_read line rest plain = grind (arith, ne_eqb, All-weaker, line_with_end, get_or_past, cases_lt)
 
 -- ---- what is such a text
 

@@ -49,8 +49,7 @@ pub same_units : (v w : ℕ) → text_of_units v ≡ text_of_units w → v ≡ w
 unfolding text_of_units
 same_units v w e =
     let whole : v / UNITS ≡ w / UNITS = omega (arith, ap (λ l. get_or l 0 0) e) in
-    let part : v % UNITS ≡ w % UNITS = same_digits 24 v w (ap (λ l. drop 2 l) e) in
-    omega (arith, whole, part)
+    omega (arith, whole, (same_digits 24 v w (ap (λ l. drop 2 l) e)))
 
 -- a number has the last digits of what it leaves
 pub last_after : (k w v : ℕ) → last_digits k (w * 10 ^ k + v) ≡ last_digits k v

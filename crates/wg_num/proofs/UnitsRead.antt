@@ -1,9 +1,9 @@
 -- Units from the digits of their text.
-use Rattle.std.proofs.Common.{ℕ, zero, suc, ◌≡◌, ◌+◌, ◌*◌, ◌/◌, ◌%◌, ◌^◌, ◌<◌, ◌≤◌, leb, true, ◌&&◌, cond, List, [], ◌∷◌, ◌++◌, length, get_or, take, drop, Option, Some, None, refl, ap, sym, ◌∙◌, subst, arith, le-leb, leb-true}
+use Rattle.std.proofs.Common.{ℕ, zero, suc, ◌≡◌, ◌+◌, ◌*◌, ◌/◌, ◌%◌, ◌^◌, ◌<◌, ◌≤◌, leb, List, [], ◌∷◌, ◌++◌, length, get_or, take, drop, Option, Some, None, refl, ap, sym, ◌∙◌, subst, arith, leb-true}
 use Rattle.std.specs.Str.{bytes_eq}
-use Rattle.std.proofs.Math.Nat.{div-add-mod, pow-zero, pow-succ', one-le-pow}
+use Rattle.std.proofs.Math.Nat.{div-add-mod, pow-zero, pow-succ'}
 use Rattle.std.proofs.lemmas.Nat.{div-mul-add}
-use Rattle.std.proofs.lemmas.List.{drop-drop, take-append-drop, length-take, length-drop}
+use Rattle.std.proofs.lemmas.List.{drop-drop, take-append-drop, length-drop}
 use Rattle.std.proofs.lemmas.Int.Digits.{digits_value-lt}
 use Rattle.std.proofs.lemmas.Str.Parse.{digit_from_value}
 use Rattle.std.proofs.lemmas.Bool.{and_parts}
@@ -40,11 +40,7 @@ value_of_text v h =
 
 pub units_of-text : (v : ℕ) → v ≤ UNITS → units_of (text_of_units v) ≡ Some v
 unfolding units_of
-units_of-text v h =
-    let e = value_of_text v h in
-    let same : bytes_eq (text_of_units (value_of_units (text_of_units v))) (text_of_units v) ≡ true = (bytes_eq-Decides _ _).1 (ap text_of_units e) in
-    let few : leb (value_of_units (text_of_units v)) UNITS ≡ true = le-leb _ _ (omega (arith, e)) in
-    (λ i. cond (few i && same i) (Some (value_of_units (text_of_units v))) None) ∙ ap Some e
+units_of-text v h = grind (arith, bytes_eq-Decides, value_of_text)
 
 text-units_of : (text : List ℕ) (v : ℕ) → units_of text ≡ Some v → (v ≤ UNITS) × (text ≡ text_of_units v)
 unfolding units_of
@@ -105,7 +101,6 @@ digits_last zero (c ∷ cs) e p = absurd (omega (arith, e))
 digits_last (suc k) [] e p = absurd (omega (arith, e))
 digits_last (suc k) (c ∷ cs) e p =
     let n : length cs ≡ k = omega (arith, e) in
-    let some : 0 < 10 ^ k = one-le-pow k 10 (omega arith) in
     let small : digits_value 10 cs < 10 ^ k = few_digits k cs n p.1 in
     let value : digits_value 10 (c ∷ cs) ≡ digit_value c * 10 ^ k + digits_value 10 cs =
     subst (λ m. digits_value 10 (c ∷ cs) ≡ digit_value c * 10 ^ m + digits_value 10 cs) n (value_append (c ∷ []) cs ∙ omega arith) in
@@ -147,7 +142,6 @@ halves text = ap (λ l. take 12 (drop 2 text) ++ l) (sym (drop-drop 12 2 text)) 
 pub halves_value : (text : List ℕ) → length text ≡ 26
     → value_of_units text ≡ (digits_value 10 (take 1 text) * 10 ^ 12 + digits_value 10 (take 12 (drop 2 text))) * 10 ^ 12 + digits_value 10 (drop 14 text)
 halves_value text n =
-    let high : length (take 12 (drop 2 text)) ≡ 12 = omega (arith, length-take 12 (drop 2 text), length-drop 2 text, n) in
     let low : length (drop 14 text) ≡ 12 = omega (arith, length-drop 14 text, n) in
     let rest : length (drop 2 text) ≡ 24 = omega (arith, length-drop 2 text, n) in
     omega (
@@ -161,13 +155,9 @@ halves_value text n =
 
 pub halves_digits : (text : List ℕ) → AllDigits 10 (take 1 text) → AllDigits 10 (take 12 (drop 2 text)) → AllDigits 10 (drop 14 text)
     → AllDigits 10 (take 1 text ++ drop 2 text)
-halves_digits text w h l =
-    digits_append (take 1 text) (drop 2 text) w (subst (AllDigits 10) (halves text) (digits_append (take 12 (drop 2 text)) (drop 14 text) h l))
+halves_digits text w h l = grind (arith, digits_append, halves)
 
 -- each part of such digits is digits
 pub part_digits : (text : List ℕ) → AllDigits 10 (take 1 text ++ drop 2 text)
     → AllDigits 10 (take 1 text) × AllDigits 10 (take 12 (drop 2 text)) × AllDigits 10 (drop 14 text)
-part_digits text p =
-    let r = digits_parts (take 1 text) (drop 2 text) p in
-    let s = digits_parts (take 12 (drop 2 text)) (drop 14 text) (subst (AllDigits 10) (sym (halves text)) r.1) in
-    (r.0, s.0, s.1)
+part_digits text p = grind (arith, digits_parts, halves)

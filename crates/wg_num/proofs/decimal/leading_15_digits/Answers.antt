@@ -38,10 +38,9 @@ returns-clause-digits c =
     let i = c.digits.invariant in
     let there : c.digits.count ≤ length c.args.text.now = omega (arith, i.within, c.min-most.ensures) in
     let size : length (take c.digits.count c.args.text.now) ≡ c.digits.count = length-take-le c.digits.count c.args.text.now there in
-    let few = few_digits c.digits.value c.digits.count (omega (arith, i.within, c.min-most.ensures)) i.small in
     digits_text (take c.digits.count c.args.text.now) c.digits.value i.digits i.value (omega (arith, size, c.if-count-eq0.false))
     (λ e. let no : 1 < length (take c.digits.count c.args.text.now) → ⊥ = λ h. false≢true (sym c.if-has_zero_in_front.false ∙ c.has_zero_in_front.ensures.1 (e, h)) in omega (arith, size, c.if-count-eq0.false))
-    (omega (arith, few))
+    (omega arith)
 
 pub returns-then-count-eq0-clause-value : goal.returns-then-count-eq0-clause-value
 returns-then-count-eq0-clause-value c =
