@@ -160,7 +160,7 @@ pub fn encode_text<D: Depot>(
     ensures ends { IfErr result (λ e. LoadsTextBy ⟦<D as Depot>⟧ name.now depot.old depot.new (Err e)) }
 {
     let (encoder, lines) = encode_pages(alloc, layout, depot, name.as_str())?;
-    let params = params_of(layout, lines.nodes, lines.arcs);
+    let params = params_of(layout, lines.nodes(), lines.arcs());
     let archive = encoder.finish(alloc, &params)?;
     Ok((params, archive))
 }

@@ -223,8 +223,8 @@ impl List {
         Ok(())
     }
 
-    /// Puts the numbers of two ascending lists in place of its own: ascending, a number of both once. If memory runs out,
-    /// none are left.
+    /// Puts the numbers of two ascending lists in place of its own: ascending, a number of both once. It has none after
+    /// an error.
     #[inline(never)]
     pub fn put_union(&mut self, members: &[u64], numbers: &[u64]) -> Result<(), AllocError>
         requires members { Ascends 0 members.now }

@@ -3,7 +3,7 @@ use Rattle.std.proofs.Common.{◌≡◌, ℕ, ◌+◌, ◌<◌, ◌≤◌, Bool,
 use Rattle.std.specs.Prelude.{All}
 use Rattle.std.specs.List.{flat_map}
 use Rattle.std.proofs.Math.Seq.{drop-append_seam}
-use Rattle.std.proofs.lemmas.Bool.{le-ltb, ne_eqb}
+use Rattle.std.proofs.lemmas.Bool.{le-ltb, ne_eqb, true≢false}
 use Rattle.std.proofs.lemmas.List.{append_assoc, append-nil}
 use Rattle.std.proofs.lemmas.List.Elements.{All-nil}
 use Rattle.wg_bits.specs.Written.{padding}
@@ -35,6 +35,9 @@ filled_tail bits =
     all_zero (filled bits) [] (length bits) (padding (length bits)) (omega (arith, length-append bits zeros)) (drop-append_seam bits zeros ∙ sym (append-nil zeros)) (omega (arith, few_missing (length bits))) refl
 
 -- ---- offsets
+
+top_high : (c : Code) (v : ℕ) → is_gamma_or_delta c ≡ true → v ≤ MOST_PLACE → v ≤ top c
+top_high c v is le = two_codes (λ code. v ≤ top code) c is (omega arith) (omega arith)
 
 word_stands : (c : Code) (v at : ℕ) (bits before more : List Bool) → is_gamma_or_delta c ≡ true → v ≤ MOST_PLACE → bits ≡ before ++ (word c v ++ more) → at ≡ length before → Reads (word c) (top c) (drop at bits) (Value v)
 word_stands c v at bits before more is low here start = grind (arith, drop-append_seam, true≢false)

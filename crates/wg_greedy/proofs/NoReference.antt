@@ -3,13 +3,14 @@
 use Rattle.std.proofs.Common.{◌≡◌, ℕ, zero, suc, ◌+◌, ◌-◌, ◌*◌, ◌/◌, ◌^◌, ◌<◌, ◌≤◌, ltb, leb, Bool, true, not, ◌&&◌, List, [], ◌∷◌, ◌++◌, length, refl, sym, ap, subst, ◌∙◌, inl, inr, arith}
 use Rattle.std.specs.Prelude.{pos, ◌-ℤ◌, filter, Option, Some, None}
 use Rattle.std.specs.List.{list_all, flat_map, range_with_len}
-use Rattle.std.proofs.lemmas.Bool.{cases_Bool, and_from, le-leb, leb-true, eqb-true, true≢false}
+use Rattle.std.proofs.lemmas.Int.{ints}
+use Rattle.std.proofs.lemmas.Bool.{cases_lt, cases_Bool, and_from, le-leb, leb-true}
 use Rattle.std.proofs.lemmas.List.Folds.{list_all-append}
 use Rattle.wg_graph.specs.Numbers.{is_in}
 use Rattle.wg_graph.specs.Ascending.{Ascends, Below}
 use Rattle.wg_params.specs.declared.code.Code.{Code}
 use Rattle.wg_params.specs.declared.code.Code.TheVariants.{Gamma, Zeta}
-use Rattle.wg_params.specs.Codes.{is_residual_code}
+use Rattle.wg_params.specs.Codes.{is_gamma_or_delta, is_residual_code}
 use Rattle.wg_params.specs.Parameters.{Parameters, IsWithinLimits}
 use Rattle.wg_params.proofs.FieldCodes.{two_codes, four_codes}
 use Rattle.wg_codes.specs.Words.{top}
@@ -31,6 +32,12 @@ both_have us vs first second = list_all-append has_word us vs ∙ and_from (all_
 gamma_holds : (v : ℕ) → v ≤ 2 ^ 62 → leb v (top Gamma) ≡ true
 gamma_holds v le = le-leb v (2 ^ 63 - 2) (omega arith)
 
+outdegree_holds : (code : Code) (v : ℕ) → is_gamma_or_delta code ≡ true → v ≤ 2 ^ 62 → leb v (top code) ≡ true
+outdegree_holds code v is le = two_codes (λ c. leb v (top c) ≡ true) code is (gamma_holds v le) (gamma_holds v le)
+
+none_holds : (code : Code) → leb 0 (top code) ≡ true
+none_holds code = le-leb 0 (top code) (omega arith)
+
 -- the greatest value of a zeta code
 abbrev zeta_high : ℕ → Bool
 zeta_high k = leb (2 ^ 38) (2 ^ (k * (63 / k)) - 2)
@@ -45,7 +52,8 @@ zeta_holds k v some low le =
     le-leb v (2 ^ (k * (63 / k)) - 2) (omega (arith, high, le))
 
 residual_holds : (zeta : ℕ) (code : Code) (v : ℕ) → 1 ≤ zeta → zeta ≤ 31 → is_residual_code zeta code ≡ true → v ≤ 2 ^ 38 → leb v (top code) ≡ true
-residual_holds zeta code v h h2 h3 h4 = grind (arith, le-leb, eqb-true, true≢false, gamma_holds, zeta_holds)
+residual_holds zeta code v some low is le =
+    four_codes (λ c. leb v (top c) ≡ true) zeta code is (gamma_holds v (omega arith)) (gamma_holds v (omega arith)) (zeta_holds zeta v some low le) (le-leb v (2 ^ 63 - 1) (omega arith))
 
 -- ---- gaps
 

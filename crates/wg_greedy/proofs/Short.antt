@@ -61,14 +61,16 @@ zeta_short k v few =
 
 -- outdegrees and blocks
 pub outdegree_short : (code : Code) (v : ℕ) → is_gamma_or_delta code ≡ true → length (word code v) ≤ 2 ^ 8
-outdegree_short code v h = grind (arith, true≢false, gamma_short, delta_short)
+outdegree_short code v is = two_codes (λ c. length (word c v) ≤ 2 ^ 8) code is (omega (arith, gamma_short v)) (delta_short v)
 
 -- references and block counts
 count_short : (code : Code) (v : ℕ) → is_unary_gamma_or_delta code ≡ true → length (word code v) ≤ 2 ^ 8 + v
-count_short code v h = grind (arith, true≢false, length-unary, gamma_short, delta_short)
+count_short code v is =
+    three_codes (λ c. length (word c v) ≤ 2 ^ 8 + v) code is (omega (arith, length-unary v)) (omega (arith, gamma_short v)) (omega (arith, delta_short v))
 
 residual_short : (zeta : ℕ) (code : Code) (v : ℕ) → zeta ≤ 31 → is_residual_code zeta code ≡ true → length (word code v) ≤ 2 ^ 8
-residual_short zeta code v h h2 = grind (arith, eqb-true, true≢false, gamma_short, delta_short, nibble_short, zeta_short)
+residual_short zeta code v few is =
+    four_codes (λ c. length (word c v) ≤ 2 ^ 8) zeta code is (omega (arith, gamma_short v)) (delta_short v) (zeta_short zeta v few) (nibble_short v)
 
 -- ---- fields
 

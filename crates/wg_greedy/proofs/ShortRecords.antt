@@ -32,7 +32,9 @@ one_lowest : 0 ≡ highest (0 + 1)
 one_lowest = sym (highest_is 1 0 (omega arith) (omega arith) (omega arith))
 
 nothing_short : (code : Code) → is_unary_gamma_or_delta code ≡ true → length (word code 0) ≤ 1
-nothing_short code h = grind (arith, true≢false, length-unary, length-gamma, length-delta, one_lowest)
+nothing_short code is =
+    three_codes (λ c. length (word c 0) ≤ 1) code is (omega (arith, length-unary 0)) (omega (arith, length-gamma 0 0 one_lowest))
+    (omega (arith, length-delta 0 0 one_lowest, length-gamma 0 0 one_lowest))
 
 no_reference_bits : (p : Parameters) → IsWithinLimits p → length (bits_of_fields (reference_fields p 0)) ≤ 1
 no_reference_bits p within =

@@ -42,8 +42,8 @@ pub record ArchiveBehind (r : Readings) (held : Input → Option (List ℕ)) : T
   pub parameters : Parameters
   pub read : Accepted
   pub within : IsWithinLimits parameters
-  pub stored : HoldGraph r held (graph_of parameters read)
-  pub proper : IsGraph (graph_of parameters read)
+  pub stored : HoldGraph r held (accepted_graph parameters read)
+  pub proper : IsGraph (accepted_graph parameters read)
   pub goes_on : (next : Parameters → Accepted → Judged) → with_archive r held next ≡ next parameters read
   pub graph_goes_on : (next : Digraph → Judged) → with_records held (λ p bytes. with_digraph r p bytes next) ≡ next (accepted_graph parameters read)
 

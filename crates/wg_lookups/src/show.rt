@@ -80,36 +80,7 @@ pub fn show_pages<L: Ledger, D: Depot, O: Sink>(
     judge_offsets(alloc, &params, &found.offsets, depot, base)?;
     find_pages(&params, pages.as_slice())?;
     let records = Records::of_pass(graph, params, found);
-    print_counted::<Brand, O>(
-        alloc,
-        &records.archive(),
-        pages.as_slice(),
-        out,
-        Blank::new(1),
-    )
-}
-
-// Prints the lines of pages that are there; how many records are opened for them is counted by nobody.
-fn print_counted<L: Ledger, O: Sink>(
-    alloc: Global,
-    archive: &Archive<'_>,
-    pages: &[u64],
-    out: &mut O,
-    blank: Blank,
-) -> Result<(), Ending>
-    requires name { blank.name ≡ L.name }
-    requires parts { blank.parts ≡ L.parts }
-    requires some { 0 < blank.parts }
-    requires pages { All (λ page. page < archive.now.params.nodes) pages.now }
-    ensures puts { IsTrue O.told → (a : Accepted) → ReadsGraph archive.now.params archive.now.bits (Ok a)
-        → Puts (successors_lines a.graph pages.now) (O.taken out.old) (O.taken out.new) result }
-    ensures only { IfErr result (λ e. IsUnput e.status) }
-    ensures failed { status_in result ≡ Status.WriteFault Out → Increased (O.faults out.old) (O.faults out.new) }
-    ensures later { O.later out.old out.new }
-{
-    let (book, share) = blank.open::<L>();
-    let mut steps = Steps::new(book, share);
-    print_pages(alloc, archive, pages, out, &mut steps)
+    print_pages(alloc, &records.archive(), pages.as_slice(), out, steps)
 }
 
 /// Prints the successors of pages of an archive that was checked, a line for each, in their order. Of each page, the
@@ -132,10 +103,7 @@ pub fn print_pages<L: Ledger, O: Sink>(
     ensures only { IfErr result (λ e. IsUnput e.status) }
     ensures failed { status_in result ≡ Status.WriteFault Out → Increased (O.faults out.old) (O.faults out.new) }
     ensures later { O.later out.old out.new }
-    ensures each { (r : Reading archive.now.params archive.now.bits)
-        → OnOk result (steps.new ≡ steps.old + sum_by (chain_records r.records) pages.now) }
-    ensures most { (r : Reading archive.now.params archive.now.bits)
-        → steps.new ≤ steps.old + sum_by (chain_records r.records) pages.now }
+    ensures opens { OpensChains archive.now.params archive.now.bits pages.now steps.old steps.new result }
 {
     let mut lines = Lines::new();
     for page in pages {

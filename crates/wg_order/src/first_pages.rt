@@ -1,7 +1,7 @@
 ghost use Rattle.std.specs.Prelude.{◌≡◌, ℕ, ◌<◌, ◌≤◌, List, length, slice_index, take};
 ghost use Rattle.wg_params.specs.declared.limits.TheConstants.{MOST_PAGES};
 ghost use Rattle.wg_graph.specs.Digraph.{Digraph, IsGraph};
-ghost use Rattle.wg_rank.specs.Intervals.{Holds, by_page};
+ghost use Rattle.wg_rank.specs.Intervals.{AreBoundsOf, by_page};
 ghost use Rattle.wg_rank.specs.declared.limits.TheConstants.{UNITS};
 ghost use Rattle.wg_order.specs.Front.{AreFirst};
 ghost use Rattle.wg_order.specs.Order.{best, worst, IsRanking};
@@ -58,7 +58,7 @@ impl FirstPages {
         ensures high { result.high ≡ bounds.high }
         ensures pages { (ranked : List ℕ) → IsRanking bounds.low bounds.high ranked
             → result.pages ≡ take count ranked }
-        ensures surely { (g : Digraph) → IsGraph g → Holds bounds g → IsSurely result bounds g }
+        ensures surely { (g : Digraph) → IsGraph g → AreBoundsOf bounds g → IsSurely result bounds g }
     {
         let (low, high, mut room) = bounds.into_parts();
         let count = count as usize;

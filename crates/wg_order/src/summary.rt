@@ -1,6 +1,6 @@
 ghost use Rattle.std.specs.Prelude.{◌≡◌, ◌<◌, true, List, [], ℕ, length, slice_get};
 ghost use Rattle.wg_graph.specs.Digraph.{Digraph, IsGraph};
-ghost use Rattle.wg_rank.specs.Intervals.{Holds};
+ghost use Rattle.wg_rank.specs.Intervals.{AreBoundsOf};
 ghost use Rattle.wg_order.specs.Inside.{IsFalling, IsRising};
 ghost use Rattle.wg_order.specs.Order.{IsRanking, Positions};
 ghost use Rattle.wg_order.specs.Summary.{is_sure, sure_pages, summary_of};
@@ -25,7 +25,7 @@ impl RankingSummary {
     pub fn of(bounds: Bounds) -> RankingSummary
         ensures is { (s : Positions) → s.low ≡ bounds.low → s.high ≡ bounds.high → IsRanking s.low s.high s.pages
             → result ≡ summary_of s }
-        ensures surely { (g : Digraph) → IsGraph g → Holds bounds g → (s : Positions) → s.low ≡ bounds.low
+        ensures surely { (g : Digraph) → IsGraph g → AreBoundsOf bounds g → (s : Positions) → s.low ≡ bounds.low
             → s.high ≡ bounds.high → IsSurely s bounds g }
     {
         let (low, high, mut sorted) = bounds.into_parts();

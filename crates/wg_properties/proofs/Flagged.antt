@@ -1,12 +1,12 @@
 -- Flags that are written one by one.
-use Rattle.std.proofs.Common.{◌≡◌, ℕ, ◌+◌, ◌<◌, ◌≤◌, Bool, true, false, cond, List, [], ◌∷◌, ◌++◌, length, take, get_or, map, refl, sym, ap, ◌∙◌, arith}
-use Rattle.std.specs.Prelude.{Option, Some, None}
-use Rattle.std.specs.List.{filter_map}
-use Rattle.std.proofs.lemmas.List.{take_more, take_all, append_assoc, append-nil, map_push}
-use Rattle.std.proofs.lemmas.List.Elements.{filter_map-append}
-use Rattle.wg_properties.specs.declared.flags.Flag.{Flag}
-use Rattle.wg_properties.specs.Words.{word_of}
-use Rattle.wg_properties.specs.Text.{joined_by_bars, flags_text}
+use Rattle.std.proofs.Common.{◌≡◌, ℕ, ◌+◌, ◌<◌, ◌≤◌, Bool, true, false, cond, List, [], ◌∷◌, ◌++◌, length, take, get_or, map, refl, sym, ap, ◌∙◌}
+use Rattle.std.specs.Prelude.{filter}
+use Rattle.std.proofs.lemmas.List.{take_all, append_assoc, append-nil, map_push}
+use Rattle.std.proofs.lemmas.List.Elements.{filter_more}
+use Rattle.wg_params.specs.Parameters.{Parameters}
+use Rattle.wg_properties.specs.Words.{Flag, word_of}
+use Rattle.wg_properties.specs.declared.flags.TheConstants.{FLAGS}
+use Rattle.wg_properties.specs.Text.{is_written, joined_by_bars, flags_text}
 
 abbrev pub is_nil : {X : Type 0} → List X → Bool
 is_nil [] = true
@@ -36,17 +36,11 @@ next_words : (p : Parameters) (i : ℕ) (d : Flag) (b : Bool) → i < length FLA
 next_words p i d true lt is = let more = filter_more (is_written p) FLAGS i d lt in rw (more, is, map_push)
 next_words p i d false lt is = let more = filter_more (is_written p) FLAGS i d lt in rw (more, is) (simp append-nil)
 
-nil-map : (xs : List Flag) → is_nil (map word_of xs) ≡ is_nil xs
-nil-map xs = grind arith
-
-present_more : (flags : List (Option Flag)) (i : ℕ) (o : Option Flag) → i < length flags → get_or flags i None ≡ o → present (take (i + 1) flags) ≡ present (take i flags) ++ present (o ∷ [])
-present_more flags i o lt is =
-    ap present (take_more flags i None lt) ∙ filter_map-append (λ o. o) (take i flags) (get_or flags i None ∷ []) ∙ ap (λ x. present (take i flags) ++ present (x ∷ [])) is
-
-pub absent : (before : List ℕ) (flags : List (Option Flag)) (i : ℕ) (is_first : Bool) (text : List ℕ) → i < length flags → get_or flags i None ≡ None → Flagged before flags i is_first text → Flagged before flags (i + 1) is_first text
-absent before flags i is_first text lt is f =
-    let same : present (take i flags) ≡ present (take (i + 1) flags) = sym (present_more flags i None lt is ∙ append-nil (present (take i flags))) in record {
-      written = f.written ∙ ap (λ fs. before ++ joined_by_bars (map word_of fs)) same;
+pub absent : (before : List ℕ) (p : Parameters) (i : ℕ) (is_first : Bool) (d : Flag) (text : List ℕ) → i < length FLAGS → is_written p (get_or FLAGS i d) ≡ false
+    → Flagged before p i is_first text → Flagged before p (i + 1) is_first text
+absent before p i is_first d text lt is f =
+    let same : written_words p i ≡ written_words p (i + 1) = sym (next_words p i d false lt is ∙ append-nil (written_words p i)) in record {
+      written = f.written ∙ ap (λ ws. before ++ joined_by_bars ws) same;
       first_is = f.first_is ∙ ap is_nil same;
     }
 

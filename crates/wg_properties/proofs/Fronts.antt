@@ -16,7 +16,7 @@ use Rattle.wg_num.specs.Lines.{lines_of, without_empty_end, is_blank, without_bl
 use Rattle.wg_properties.specs.Pairs.{is_skipped, ends_key, key_in, value_in, pairs_of, values_of}
 use Rattle.wg_properties.specs.Words.{name_of, class_name, long_class_name}
 use Rattle.wg_properties.specs.Judged.{judged_class, judged, properties_of}
-use Rattle.wg_properties.specs.Text.{pair, chain_text, flags_text, flags_of, ended, written_lines, text_of}
+use Rattle.wg_properties.specs.Text.{pair, chain_text, flags_text, ended, written_lines, text_of}
 use Rattle.wg_properties.specs.declared.fault.PropFault.{PropFault}
 use Rattle.wg_num.proofs.Cuts.{not_the_end, some_line}
 use Rattle.wg_properties.proofs.Letters.{is_plain, blank_free_before}

@@ -3,7 +3,7 @@ use Rattle.std.proofs.Common.{◌≡◌, ℕ, ◌+◌, ◌≤◌, Bool, true, fa
 use Rattle.std.specs.Prelude.{find}
 use Rattle.std.specs.List.{list_all}
 use Rattle.std.specs.Str.{bytes_eq}
-use Rattle.std.proofs.lemmas.Bool.{ltb-false}
+use Rattle.std.proofs.lemmas.Bool.{and_parts, ltb-false}
 use Rattle.wg_num.specs.Decimal.{number_of}
 use Rattle.wg_params.specs.Codes.{is_gamma_or_delta, is_unary_gamma_or_delta, is_residual_code}
 use Rattle.wg_params.specs.declared.code.Code.{Code}
@@ -17,7 +17,9 @@ use Rattle.wg_properties.specs.Judged.{and_then, within, judged_number, judged_c
 use Rattle.wg_properties.specs.declared.fault.PropFault.{PropFault}
 use Rattle.wg_properties.specs.declared.fault.PropFault.TheVariants as fault
 use Rattle.wg_params.specs.declared.layout.Codes.{Codes}
-use Rattle.wg_properties.specs.declared.flags.Flag.{Flag}
+use Rattle.wg_properties.specs.declared.flags.Field.{Field}
+use Rattle.wg_properties.specs.declared.flags.Field.TheVariants.{Outdegrees, Blocks, References, BlockCounts, Residuals, Offsets}
+use Rattle.wg_properties.specs.declared.flags.TheConstants.{FLAGS}
 
 abbrev ok_number : ℕ → Result ℕ PropFault
 ok_number n = Ok n
@@ -49,8 +51,14 @@ chain_ok (Some text) chain e = at (bytes_eq text (codes "-1")) e
     at true e = let same : None ≡ chain = cc in subst (λ o. unwrap_or o 0 ≤ MOST_CHAIN) same (omega arith)
     at false e = some (within key.MaxRefCount 0 MOST_CHAIN (number_of text)) refl e
 
-flag_keeps : (zeta : ℕ) (c : Codes) (flag : Flag) → AreCodes zeta c → AreCodes zeta (with_flag zeta c flag)
-flag_keeps zeta c flag h = grind arith
+-- whether a field may be in a code
+abbrev may_have : ℕ → Field → Code → Bool
+may_have zeta Outdegrees code = is_gamma_or_delta code
+may_have zeta Blocks code = is_gamma_or_delta code
+may_have zeta References code = is_unary_gamma_or_delta code
+may_have zeta BlockCounts code = is_unary_gamma_or_delta code
+may_have zeta Residuals code = is_residual_code zeta code
+may_have zeta Offsets code = is_gamma_or_delta code
 
 code_keeps : (zeta : ℕ) (c : Codes) (field : Field) (code : Code) → may_have zeta field code ≡ true → AreCodes zeta c → AreCodes zeta (with_code c field code)
 code_keeps zeta c field code h a = grind arith

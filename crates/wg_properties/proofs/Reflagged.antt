@@ -1,9 +1,10 @@
 -- Flags that were written, read again.
-use Rattle.std.proofs.Common.{◌≡◌, ℕ, ◌+◌, ◌-◌, ◌<◌, ◌≤◌, Bool, true, false, not, ◌&&◌, ◌||◌, eqb, leb, List, [], ◌∷◌, ◌++◌, length, take, get_or, map, reverse, refl, ap, ◌∙◌, length-append, inl, inr, arith}
-use Rattle.std.specs.Prelude.{Option, Some, None, Ok, All}
-use Rattle.std.specs.List.{list_all, prefix_len, slice_split}
-use Rattle.std.proofs.lemmas.Bool.{cases_lt, and_parts, and_from, or_cases, leb-true, le-leb, eqb-true, ne_eqb, or_from, not-true}
-use Rattle.std.proofs.lemmas.List.{append_assoc, reverse-append, take-append-le, get_or-append_right, get_or_past}
+use Rattle.std.proofs.Common.{◌≡◌, ℕ, ◌+◌, ◌-◌, ◌<◌, ◌≤◌, Bool, true, false, not, cond, ◌&&◌, ◌||◌, eqb, leb, List, [], ◌∷◌, ◌++◌, length, take, drop, get_or, map, reverse, refl, sym, ap, subst, ◌∙◌, length-append, inl, inr, arith}
+use Rattle.std.specs.Prelude.{Option, Some, Ok, All, filter}
+use Rattle.std.specs.List.{list_all, prefix_len, slice_split, count_by}
+use Rattle.std.proofs.lemmas.Bool.{cases_lt, and_parts, and_from, or_cases, leb-true, le-leb, eq-eqb, eqb-true, ne_eqb, or_from, not-true}
+use Rattle.std.proofs.lemmas.List.{append_assoc, reverse-append, take-append-le, get_or-append_right, get_or_past, length-map}
+use Rattle.std.proofs.lemmas.Simd.{map-map}
 use Rattle.std.proofs.lemmas.List.Folds.{length-prefix_len}
 use Rattle.std.proofs.lemmas.List.Sums.{AllPass-from_list_all, length-filter}
 use Rattle.std.proofs.lemmas.List.Splits.{slice_split_at, slice_split_none}
@@ -11,10 +12,11 @@ use Rattle.wg_params.specs.Parameters.{Parameters, AreCodes, IsWithinLimits, lay
 use Rattle.wg_params.specs.contracts.code.CodePartialEq.TheImpl as code
 use Rattle.wg_params.proofs.FieldCodes.{two_codes, three_codes, four_codes}
 use Rattle.wg_params.specs.declared.code.Code.{Code}
-use Rattle.wg_params.specs.declared.code.Code.TheVariants.{Unary, Gamma, Zeta}
 use Rattle.wg_params.specs.declared.layout.Codes.{Codes}
-use Rattle.wg_properties.specs.declared.flags.Flag.{Flag}
-use Rattle.wg_properties.specs.declared.flags.Flag.TheVariants.{OutdegreesGamma}
+use Rattle.wg_properties.specs.declared.flags.Field.{Field}
+use Rattle.wg_properties.specs.declared.flags.Field.TheVariants.{Outdegrees, Blocks, References, BlockCounts, Residuals, Offsets}
+use Rattle.wg_properties.specs.declared.flags.Form.{Form}
+use Rattle.wg_properties.specs.declared.flags.TheConstants.{FLAGS}
 use Rattle.wg_num.specs.Lines.{is_blank, without_blanks_before, without_blanks_after}
 use Rattle.wg_properties.specs.Flags.{code_of, with_code, with_flag, flag_of, codes_from, pieces_of, codes_of}
 use Rattle.wg_properties.specs.Words.{Flag, front_of, end_of, word_of}
@@ -41,21 +43,7 @@ capital_plain b h =
     plain_of : (b : ℕ) → 14 ≤ b → (b ≡ 92 → ⊥) → is_plain b ≡ true
     plain_of b low other = and_from _ _ (le-leb 14 b low) (ap not (ne_eqb b 92 other))
 
-pub word_capitals : (f : Flag) → list_all is_capital (word_of f) ≡ true
-unfolding word_of
-word_capitals f = grind arith
-
-pub word_some : (f : Flag) → 0 < length (word_of f)
-unfolding word_of
-word_some f = grind arith
-
-pub flag_again : (f : Flag) → flag_of (word_of f) ≡ Some f
-unfolding flag_of word_of
-flag_again OutdegreesGamma = refl
-flag_again _ = refl
-
--- a word of capitals
-pub record IsWord (w : List ℕ) : Type 0 where
+pub record IsWord (most : ℕ) (w : List ℕ) : Type 0 where
   pub some : 0 < length w
   pub few : length w ≤ most
   pub capitals : list_all is_capital w ≡ true
@@ -104,17 +92,17 @@ blank_end x =
 no_blank_at : (w : List ℕ) (i : ℕ) → list_all is_capital w ≡ true → is_blank (get_or w i 0) ≡ false
 no_blank_at w i h = grind (arith, cases_lt, get_or_past, every_at, capital_no_blank)
 
-word_after : (w : List ℕ) → IsWord w → without_blanks_after w ≡ w
+word_after : (w : List ℕ) → IsWord 18 w → without_blanks_after w ≡ w
 word_after w is = blank_free_after w (no_blank_at w (length w - 1) is.capitals)
 
-fronted_after : (w : List ℕ) → IsWord w → without_blanks_after (32 ∷ w) ≡ 32 ∷ w
+fronted_after : (w : List ℕ) → IsWord 18 w → without_blanks_after (32 ∷ w) ≡ 32 ∷ w
 fronted_after w is = grind (arith, blank_free_after, no_blank_at)
 
 abbrev fronted : Bool → List ℕ → List ℕ
 fronted true w = 32 ∷ w
 fronted false w = w
 
-trim_fronted : (b : Bool) (w : List ℕ) → IsWord w → trimmed (fronted b w) ≡ w
+trim_fronted : (b : Bool) (w : List ℕ) → IsWord 18 w → trimmed (fronted b w) ≡ w
 trim_fronted true w is = grind (arith, blank_front, fronted_after, no_blank_at, blank_free_before)
 trim_fronted false w is = grind (arith, word_after, no_blank_at, blank_free_before)
 
@@ -129,7 +117,7 @@ no_bar b = not (eqb b 124)
 none_bar : (w : List ℕ) → list_all no_bar w ≡ true → All (λ b. is_bar b ≡ false) w
 none_bar w h i d lt = not-true (eqb (get_or w i d) 124) (AllPass-from_list_all no_bar w h i d lt)
 
-word_no_bar : (b : Bool) (w : List ℕ) → IsWord w → list_all no_bar (fronted b w) ≡ true
+word_no_bar : (b : Bool) (w : List ℕ) → IsWord 18 w → list_all no_bar (fronted b w) ≡ true
 word_no_bar b w h = grind (arith, every_more, or_cases, leb-true, and_parts, ne_eqb, eqb-true)
 
 fronted_more : (b : Bool) (w rest : List ℕ) → fronted b (w ++ (32 ∷ 124 ∷ rest)) ≡ (fronted b w ++ 32 ∷ []) ++ 124 ∷ rest
@@ -223,27 +211,37 @@ code_at c BlockCounts = c.block_counts
 code_at c Residuals = c.residuals
 code_at c Offsets = c.offsets
 
-next_option : (zeta : ℕ) (c : Codes) (o : Option Flag) (os : List (Option Flag)) → with_flags zeta c (present (o ∷ os)) ≡ with_flags zeta (with_option zeta c o) (present os)
-unfolding with_flags
-next_option zeta c o os = grind arith
+-- the codes after some of the flags, each of which is taken or leaves its field as it is
+abbrev with_some : (Flag → Bool) → ℕ → Codes → List Flag → Codes
+with_some q zeta c [] = c
+with_some q zeta c (f ∷ fs) = with_some q zeta (with_code c f.0 (cond (q f) (code_of zeta f.1) (code_at c f.0))) fs
 
-outdegrees_again : (zeta : ℕ) (c : Codes) (code : Code) → c.outdegrees ≡ Gamma → is_gamma_or_delta code ≡ true → with_option zeta c (outdegree_flag code) ≡ record c { outdegrees = code }
-outdegrees_again zeta c code h h2 = grind arith
+left_alone : (c : Codes) (field : Field) → with_code c field (code_at c field) ≡ c
+left_alone c field = grind arith
 
-blocks_again : (zeta : ℕ) (c : Codes) (code : Code) → c.blocks ≡ Gamma → is_gamma_or_delta code ≡ true → with_option zeta c (block_flag code) ≡ record c { blocks = code }
-blocks_again zeta c code h h2 = grind arith
+taken_or_left : (q : Flag → Bool) (zeta : ℕ) (c : Codes) (fs : List Flag) → with_flags zeta c (filter q fs) ≡ with_some q zeta c fs
+taken_or_left q zeta c [] = refl
+taken_or_left q zeta c (f ∷ fs) = grind (arith, left_alone, taken_or_left q zeta (with_flag zeta c f) fs, taken_or_left q zeta c fs)
 
-references_again : (zeta : ℕ) (c : Codes) (code : Code) → c.references ≡ Unary → is_unary_gamma_or_delta code ≡ true → with_option zeta c (reference_flag code) ≡ record c { references = code }
-references_again zeta c code h h2 = grind arith
+-- whether a flag says a code of these that is not the default
+abbrev is_other : ℕ → Codes → Flag → Bool
+is_other zeta c flag = holds zeta c flag && not (holds zeta (default_codes zeta) flag)
 
-block_counts_again : (zeta : ℕ) (c : Codes) (code : Code) → c.block_counts ≡ Gamma → is_unary_gamma_or_delta code ≡ true → with_option zeta c (block_count_flag code) ≡ record c { block_counts = code }
-block_counts_again zeta c code h h2 = grind arith
+-- what the flags of codes make of the defaults
+abbrev remade : ℕ → Codes → Codes
+remade zeta c = with_some (is_other zeta c) zeta (default_codes zeta) FLAGS
 
-residuals_again : (zeta : ℕ) (c : Codes) (code : Code) → c.residuals ≡ Zeta zeta → is_residual_code zeta code ≡ true → with_option zeta c (residual_flag code) ≡ record c { residuals = code }
-residuals_again zeta c code h h2 = grind arith
+-- the flags of a field
+abbrev flags_at : Field → List Flag
+flags_at Outdegrees = take 2 FLAGS
+flags_at Blocks = take 2 (drop 2 FLAGS)
+flags_at References = take 3 (drop 4 FLAGS)
+flags_at BlockCounts = take 3 (drop 7 FLAGS)
+flags_at Residuals = take 4 (drop 10 FLAGS)
+flags_at Offsets = drop 14 FLAGS
 
-offsets_again : (zeta : ℕ) (c : Codes) (code : Code) → c.offsets ≡ Gamma → is_gamma_or_delta code ≡ true → with_option zeta c (offset_flag code) ≡ record c { offsets = code }
-offsets_again zeta c code h h2 = grind arith
+same_code : (c : Code) → code.ghosts.eq c c ≡ true
+same_code c = grind (arith, eq-eqb)
 
 -- a field's code is made again, and by at most one flag
 abbrev IsRemade : ℕ → Codes → Field → Code → Type 0
@@ -285,4 +283,8 @@ few_words p is =
 
 pub codes_again : (p : Parameters) → IsWithinLimits p → codes_of p.zeta (flags_text p) ≡ Ok (layout_of p).codes
 unfolding codes_of
-codes_again p is = grind (arith, flags_of, present, flag_words, words_again, known_flags, options_again)
+codes_again p is =
+    ap (λ words. codes_from p.zeta 1 (default_codes p.zeta) (map flag_of words)) (words_again (map word_of (written_flags p)) (flag_words (written_flags p)))
+    ∙ ap (codes_from p.zeta 1 (default_codes p.zeta)) (written_again p)
+    ∙ known_flags p.zeta 1 (default_codes p.zeta) (written_flags p)
+    ∙ ap Ok (taken_or_left (is_written p) p.zeta (default_codes p.zeta) FLAGS ∙ remade_same p.zeta (layout_of p).codes (written_codes p is))

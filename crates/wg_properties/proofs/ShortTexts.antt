@@ -18,10 +18,6 @@ short_name : (k : Key) → length (name_of k) ≤ 17
 unfolding name_of
 short_name k = grind arith
 
-short_word : (f : Flag) → length (word_of f) ≤ 17
-unfolding word_of
-short_word f = grind arith
-
 -- ---- values
 
 short_number : (n : ℕ) → n < 2 ^ 64 → length (decimal n) ≤ 20
@@ -65,8 +61,8 @@ short_lines (p ∷ ps) =
       short_lines ps,
     )
 
-short_values : (p : Parameters) → IsWithinLimits p → in_values (written_pairs p) ≤ 290
-short_values p is = omega (arith, flags_of, short_number, short_chain, short_flags, short_class)
+short_values : (p : Parameters) → IsWithinLimits p → in_values (written_pairs p) ≤ 296
+short_values p is = omega (arith, short_number, short_chain, short_flags p is, short_class)
 
 pub text_short : (p : Parameters) → IsWithinLimits p → length (text_of p) < 2 ^ 9
 text_short p is =

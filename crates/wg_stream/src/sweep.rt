@@ -5,7 +5,7 @@ ghost use Rattle.wg_bits.specs.Bits.{bits_of};
 ghost use Rattle.wg_graph.specs.Digraph.{successors};
 ghost use Rattle.wg_grammar.specs.Record.{Whole};
 ghost use Rattle.wg_grammar.specs.Archive.{Accepted, ReadsGraph};
-ghost use Rattle.wg_grammar.specs.Laws.{graph_of};
+ghost use Rattle.wg_grammar.specs.Laws.{accepted_graph};
 ghost use Rattle.wg_stream.specs.AllRecords.{AllRecords, known_at, offset_at};
 ghost use Rattle.wg_stream.specs.References.{below_at};
 ghost use Rattle.wg_stream.specs.Sweeping.{AreKept, IsBack, IsNext, PassFinds};

@@ -3,7 +3,7 @@ use Rattle.std.specs.Prelude.{◌≡◌, ℕ, Bool, List, Ok, Err}
 use Rattle.wg_params.specs.Parameters.{Parameters}
 use Rattle.wg_graph.specs.Digraph.{Digraph}
 use Rattle.wg_grammar.specs.Archive.{Accepted, ReadsGraph}
-use Rattle.wg_grammar.specs.Laws.{graph_of}
+use Rattle.wg_grammar.specs.Laws.{accepted_graph}
 use Rattle.wg_stream.specs.Sweeping.{greatest_outdegree}
 use Rattle.wg_transpose.specs.Transposed.{predecessors}
 use Rattle.wg_transpose.specs.SoFar.{AreCounts}
@@ -20,7 +20,7 @@ pub record CountsArcs (p : Parameters) (bits : List Bool) (greatest : ℕ) (coun
   pub accepted : Accepted
   pub reads : ReadsGraph p bits (Ok accepted)
   pub greatest_is : greatest ≡ greatest_outdegree accepted.graph
-  pub counted : AreCounts p.nodes (predecessors (graph_of p accepted)) counts
+  pub counted : AreCounts p.nodes (predecessors (accepted_graph p accepted)) counts
 
 -- The graph of a graph file was validated, and the first range of the lists of the transposed graph is still to come.
 pub record IsReversed (p : Parameters) (bytes : List ℕ) (t : Transposing) : Type 0 where

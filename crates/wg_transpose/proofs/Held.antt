@@ -1,5 +1,5 @@
 -- The lists of one range, and the range after it.
-use Rattle.std.proofs.Common.{◌≡◌, ℕ, zero, suc, ◌+◌, ◌-◌, ◌*◌, ◌<◌, ◌≤◌, List, ◌++◌, length, take, drop, get_or, slice_range, refl, sym, ap, subst, ◌∙◌, arith, length-drop, length-append, []}
+use Rattle.std.proofs.Common.{◌≡◌, ℕ, zero, suc, ◌+◌, ◌-◌, ◌*◌, ◌<◌, ◌≤◌, List, ◌++◌, length, take, drop, get_or, slice_range, refl, sym, ap, subst, ◌∙◌, arith, length-drop, length-append, zero-add, []}
 use Rattle.std.specs.Prelude.{sum}
 use Rattle.std.proofs.lemmas.List.{length-take-le, get_or-take, get_or-drop, drop-drop}
 use Rattle.std.proofs.lemmas.Slice.{drop-put_mid, between-put_mid}
@@ -30,7 +30,9 @@ module _ (n : ℕ) (lists : ℕ → List ℕ) (from to : ℕ) (ends all : List �
   end_there = omega (arith, h.counted, h.within)
 
   at_end : get_or part v 0 ≡ get_or ends page 0
-  at_end = grind (arith, get_or-between)
+  at_end =
+      let e : from + v ≡ page = omega arith in
+      get_or-between ends from to v 0 (omega arith) ∙ ap (λ (k : ℕ). get_or ends k 0) e
 
   pub begins_first : page ≡ from → 0 ≡ start whole v
   begins_first at = let none : 0 ≡ v = omega arith in ap (start whole) none
@@ -50,7 +52,10 @@ module _ (n : ℕ) (lists : ℕ → List ℕ) (from to : ℕ) (ends all : List �
   list_ordered begin is = omega (arith, is, at_end, h.lists.reached v (omega arith))
 
   pub list_there : (begin : ℕ) → begin ≡ start whole v → slice_range all begin (get_or ends page 0) ≡ lists page
-  list_there begin is = grind (arith, list_is, at_end)
+  list_there begin is =
+      let e : from + v ≡ page = omega arith in
+      ap (λ (b : ℕ). slice_range all b (get_or ends page 0)) is ∙ ap (slice_range all (start whole v)) (sym at_end)
+      ∙ list_is (to - from) whole part all h.lists v (omega arith) ∙ ap lists e
 
 -- ---- the next range
 
@@ -135,17 +140,26 @@ module _ (lists : ℕ → List ℕ) (r : Ranging) (h : IsRangeOf lists r) where
           })
 
 -- before the first range
-pub none_held : (lists : ℕ → List ℕ) (counts : List ℕ) → start lists (length counts) ≤ MOST_ARCS → AreCounts (length counts) lists counts → Holds lists (record { from = 0; to = 0; ends = counts; all = [] })
-none_held lists counts few h = grind arith
+pub none_held : (lists : ℕ → List ℕ) (counts : List ℕ) → start lists (length counts) ≤ MOST_ARCS → AreCounts (length counts) lists counts → IsRangeOf lists (record { from = 0; to = 0; ends = counts; all = [] })
+none_held lists counts few h = record {
+  few = few;
+  counted = refl;
+  ordered = omega arith;
+  within = omega arith;
+  lists = record { pages = refl; room = refl; reached = λ v lt. absurd (omega arith); members = λ v lt. absurd (omega arith) };
+  counts = record { pages = omega arith; each = λ v lt. h.each v (omega arith) ∙ ap (λ (u : ℕ). length (lists u)) (sym (zero-add v)) };
+}
 
 -- ---- how many ranges there are
 
 ranges_have : (g : Digraph) (room n : ℕ) (at : ℕ → ℕ) → AreRanges g room (n + 1) at → (k : ℕ) → k ≤ n → room * k ≤ start (predecessors g) (at k)
 ranges_have g room n at h zero le = omega arith
 ranges_have g room n at h (suc k) le =
+    let follow = h.follow k (omega arith) in
+    let full = h.full k (omega arith) in
     let e : at k + (at (k + 1) - at k) ≡ at (k + 1) = omega arith in
     let next : at (k + 1) ≡ at (suc k) = ap at (omega arith) in
-    omega (arith, ranges_have g room n at h k (omega arith), start_split (predecessors g) (at k) (at (k + 1) - at k), ap (start (predecessors g)) e, ap (start (predecessors g)) next)
+    omega (arith, full, ranges_have g room n at h k (omega arith), start_split (predecessors g) (at k) (at (k + 1) - at k), ap (start (predecessors g)) e, ap (start (predecessors g)) next)
 
 pub are_few : RangesAreFew
 are_few g ok room n at h =

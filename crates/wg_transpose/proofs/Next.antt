@@ -2,6 +2,7 @@
 use Rattle.std.proofs.Common.{◌≡◌, ℕ, ◌+◌, ◌-◌, ◌<◌, ◌≤◌, List, [], length, replicate, take, drop, get_or, slice_range, refl, sym, ap, subst, ◌∙◌, arith, length-drop}
 use Rattle.std.specs.Prelude.{sum}
 use Rattle.std.proofs.lemmas.List.{length-replicate, get_or-replicate}
+use Rattle.std.proofs.lemmas.List.Edits.{length-between}
 use Rattle.std.proofs.lemmas.Slice.{between_to_end}
 use borrow.Rule.Slice.PartMut.{put_mid}
 use Rattle.wg_params.specs.declared.limits.TheConstants.{MOST_ARCS}
@@ -21,7 +22,10 @@ le_both a b le = (omega arith, le)
 -- before any arc is counted
 pub none_counted : (pages : ℕ) (counts : List ℕ) → counts ≡ replicate pages 0
     → (k d : ℕ) → k < length counts → get_or counts k d ≡ 0
-none_counted pages counts is k d lt = grind (arith, length-replicate, get_or-replicate)
+none_counted pages counts is k d lt =
+    let zero : ℕ = 0 in
+    let low : k < pages = omega (arith, lt, ap length is, length-replicate pages zero) in
+    ap (λ (l : List ℕ). get_or l k d) is ∙ get_or-replicate pages k zero d low
 
 -- `now` is the range before, `seen` are the ends that are read
 module _ {lists : ℕ → List ℕ} {r now : Ranging} {seen : List ℕ} (is : r ≡ now) (held : IsRangeOf lists now) (same : seen ≡ r.ends) where
@@ -39,8 +43,22 @@ module _ {lists : ℕ → List ℕ} {r now : Ranging} {seen : List ℕ} (is : r 
   next_sum = subst (λ (l : List ℕ). sum l ≤ MOST_ARCS) (sym behind_is) (sum_behind lists r held_now)
 
   -- no step: an empty range before the same list
-  pub none_next : (all : List ℕ) → all ≡ [] → Holds lists (record { from = r.to; to = r.to; ends = r.ends; all = all })
-  none_next all none = grind arith
+  pub none_next : (all : List ℕ) → all ≡ [] → IsRangeOf lists (record { from = r.to; to = r.to; ends = r.ends; all = all })
+  none_next all none =
+      let none_is : 0 ≡ r.to - r.to = omega arith in
+      record {
+        few = held_now.few;
+        counted = refl;
+        ordered = omega arith;
+        within = held_now.within;
+        lists = record {
+          pages = length-between r.ends r.to r.to held_now.within;
+          room = ap length none ∙ ap (start (onward r.to lists)) none_is;
+          reached = λ v lt. absurd (omega arith);
+          members = λ v lt. absurd (omega arith);
+        };
+        counts = held_now.counts;
+      }
 
   pub none_within : r.to ≤ length now.ends
   none_within = subst (λ (s : Ranging). r.to ≤ length s.ends) is held_now.within

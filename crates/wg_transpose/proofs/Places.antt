@@ -19,7 +19,12 @@ place_fits n whole b ends all v at lt h is room = omega (arith, is, h.reached v 
 
 -- the same lists stand in the same places
 pub same_prefixes : (n : ℕ) (whole b c : ℕ → List ℕ) (ends all : List ℕ) → ((w : ℕ) → w < n → b w ≡ c w) → ArePrefixes n whole b ends all → ArePrefixes n whole c ends all
-same_prefixes n whole b c ends all same h = grind arith
+same_prefixes n whole b c ends all same h = record {
+  pages = h.pages;
+  room = h.room;
+  reached = λ w lt. subst (λ (l : List ℕ). get_or ends w 0 ≡ start whole w + length l) (same w lt) (h.reached w lt);
+  members = λ w lt. subst (λ (l : List ℕ). (i : ℕ) → i < length l → get_or all (start whole w + i) 0 ≡ get_or l i 0) (same w lt) (h.members w lt);
+}
 
 -- places in the lists of two pages are apart
 apart : (s : ℕ → List ℕ) (v w i j : ℕ) → w ≢ v → i < length (s v) → j < length (s w) → start s w + j ≢ start s v + i

@@ -1,5 +1,5 @@
 -- The arcs of one page, one by one.
-use Rattle.std.proofs.Common.{All, ◌≡◌, ◌≢◌, ◌⊎◌, Bool, ℕ, ◌+◌, ◌-◌, ◌<◌, ◌≤◌, cond, List, [], ◌∷◌, ◌++◌, length, take, get_or, set, refl, sym, ap, subst, ◌∙◌, arith, inl, inr, get_or-set_same, get_or-set_other}
+use Rattle.std.proofs.Common.{All, ◌≡◌, ◌≢◌, ◌⊎◌, Bool, ℕ, ◌+◌, ◌-◌, ◌<◌, ◌≤◌, cond, List, [], ◌∷◌, ◌++◌, length, take, get_or, set, refl, sym, ap, subst, ◌∙◌, arith, inl, inr, add-one, get_or-set_same, get_or-set_other}
 use Rattle.std.proofs.lemmas.Bool.{cases_lt, cases_eq}
 use Rattle.std.proofs.lemmas.List.{take_all, take_more}
 use Rattle.std.proofs.lemmas.List.Elements.{All-from_get_or}
@@ -24,19 +24,24 @@ pub record HaveOneMore (list old new : List ℕ) : Type 0 where
 -- the next page of the list has none yet
 pub not_counted : (list : List ℕ) (j : ℕ) (old new : List ℕ) → Ascends 0 list → j < length list → get_or list j 0 < length old → HaveOneMore (take j list) old new
     → get_or new (get_or list j 0) 0 ≡ get_or old (get_or list j 0) 0
-not_counted list j old new up lt below h = grind (arith, not_before)
+not_counted list j old new up lt below h =
+    let e = not_before 0 j list up lt in
+    let here = rw e at (h.each (get_or list j 0) below) in
+    omega (arith, here)
 
 pub count_step : (list : List ℕ) (j : ℕ) (old new : List ℕ) → Ascends 0 list → j < length list → get_or list j 0 < length old → length new ≡ length old → HaveOneMore (take j list) old new
     → HaveOneMore (take (j + 1) list) old (set new (get_or list j 0) (get_or new (get_or list j 0) 0 + 1))
 count_step list j old new up lt below size h =
     let x : ℕ = get_or list j 0 in
     let seen : List ℕ = take j list in
+    let more : take (j + 1) list ≡ seen ++ x ∷ [] = take_more list j 0 lt in
     record {
-      each = λ v v_lt. rw (take_more list j 0 lt) (elim (cases_eq v x) [
+      each = λ v v_lt. rw more (elim (cases_eq v x) [
         | inl same ↦
             let now = in_push_same x seen in
             let before = not_counted list j old new up lt below h in
-            rw (same, now) (omega (arith, (get_or-set_same new x (get_or new x 0 + 1) 0 (omega arith)), before))
+            let written = get_or-set_same new x (get_or new x 0 + 1) 0 (omega arith) in
+            rw (same, now) (omega (arith, written, before))
         | inr other ↦
             get_or-set_other new x v (get_or new x 0 + 1) 0 other ∙ h.each v v_lt
             ∙ ap (λ (b : Bool). get_or old v 0 + cond b 1 0) (sym (in_push_other v x seen other))
@@ -45,7 +50,12 @@ count_step list j old new up lt below size h =
 
 pub counted_more : (g : Digraph) (k : ℕ) (list old new : List ℕ) → list ≡ successors g k → length new ≡ length old → ((v : ℕ) → v < length old → get_or new v 0 ≡ get_or old v 0 + cond (is_in v list) 1 0)
     → AreCounts g.nodes (predecessors_below g k) old → AreCounts g.nodes (predecessors_below g (k + 1)) new
-counted_more g k list old new is size each h = grind (arith, count_if)
+counted_more g k list old new is size each h = record {
+  pages = size ∙ h.pages;
+  each = λ v lt.
+      let here = rw is at (each v (omega (arith, h.pages))) in
+      rw add-one (omega (arith, here, h.each v lt, count_if (λ u. has_arc g u v) k));
+}
 
 -- each page has as many arcs at most as pages were gone through
 pub few_counts : (g : Digraph) (k : ℕ) (counts : List ℕ) → k < MOST_PAGES → AreCounts g.nodes (predecessors_below g k) counts → All (λ count. count < MOST_PAGES) counts
@@ -55,7 +65,8 @@ few_counts g k counts few h = All-from_get_or (λ count. count < MOST_PAGES) cou
 
 one_more : (g : Digraph) (k j : ℕ) (list : List ℕ) → Ascends 0 list → j < length list → OneMore (with_page g k (take j list)) (with_page g k (take (j + 1) list)) (get_or list j 0) k
 one_more g k j list up lt =
-    rw (take_more list j 0 lt) (record {
+    let more : take (j + 1) list ≡ take j list ++ get_or list j 0 ∷ [] = take_more list j 0 lt in
+    rw more (record {
       here = seen_now g k (take j list) (get_or list j 0) (not_before 0 j list up lt);
       others = λ w other. seen_other g k (take j list) (get_or list j 0) w other;
     })
@@ -113,7 +124,10 @@ module _ (g : Digraph) (k j : ℕ) (list : List ℕ) (is : IsListOf g k list) (l
   page_more = one_more g k j list (subst (Ascends 0) (sym is.is) (list_ascends g is.proper k is.page)) lt
 
   pub page_fits : (v : ℕ) → length (with_page g k (take (j + 1) list) v) ≤ length (predecessors g v)
-  page_fits v = grind (arith, with_page, seen_le, where_le)
+  page_fits v =
+      let le = subst (λ (l : List ℕ). length (with_page g k (take (j + 1) l) v) ≤ length (predecessors_below g (k + 1) v)) (sym is.is) (seen_le g k (j + 1) v) in
+      let page = is.page in
+      omega (arith, le, where_le (λ u. has_arc g u v) (k + 1) g.nodes (omega arith))
 
 pub place_end : (g : Digraph) (first n k j : ℕ) (list ends all : List ℕ) → IsListOf g k list → length list ≤ j → ArePlacedFrom g first n (with_page g k (take j list)) ends all → ArePlacedFrom g first n (predecessors_below g (k + 1)) ends all
 place_end g first n k j list ends all is past h =

@@ -1,5 +1,5 @@
 -- As many arcs lead to the pages as leave them.
-use Rattle.std.proofs.Common.{Fits, w64, ◌≡◌, ℕ, zero, suc, ◌+◌, ◌<◌, ◌≤◌, Bool, cond, List, [], ◌∷◌, length, take, get_or, set, map, refl, sym, ap, subst, ◌∙◌, arith, inl, inr, length-append}
+use Rattle.std.proofs.Common.{Fits, w64, ◌≡◌, ℕ, zero, suc, ◌+◌, ◌<◌, ◌≤◌, Bool, cond, List, [], ◌∷◌, length, take, get_or, set, map, true, false, refl, sym, ap, subst, ◌∙◌, arith, inl, inr, length-append}
 use Rattle.std.specs.List.{sum_by, range_with_len}
 use Rattle.std.specs.Prelude.{sum}
 use Rattle.std.proofs.lemmas.Bool.{cases_lt}
@@ -32,7 +32,8 @@ start_le lists v (suc w) le =
     ]
 
 length-cond : (b : Bool) (k : ℕ) → length (cond b (k ∷ []) []) ≡ one_if b
-length-cond b k = grind arith
+length-cond true k = refl
+length-cond false k = refl
 
 -- how long a list is with one number more, if there is one
 pub count_if : (t : ℕ → Bool) (k : ℕ) → length (numbers_where t 0 (suc k)) ≡ length (numbers_where t 0 k) + one_if (t k)
@@ -117,7 +118,13 @@ module _ (counts : List ℕ) (room page arcs : ℕ) where
       sum_next = omega (arith, total, sum_by_more (λ (x : ℕ). x) counts page 0 lt)
 
       pub least_next : arcs + get_or counts page 0 < room → (k : ℕ) → 0 < k → k ≤ page + 1 → sum (take k counts) < room
-      least_next few k some le = grind (arith, cases_lt, sum_next)
+      least_next few k some le =
+          elim (cases_lt page k) [
+            | inl last ↦
+                let e : page + 1 ≡ k = omega (arith, last, le) in
+                subst (λ (j : ℕ). sum (take j counts) < room) e (omega (arith, few, sum_next))
+            | inr before ↦ least k some before
+          ]
 
 -- ---- the sums before each count, put in place of it: of these counts, those up to this one are done
 
@@ -145,7 +152,8 @@ module _ (counts items : List ℕ) (at begin : ℕ) (long : length items ≡ len
         elim (cases_lt v at) [
           | inl before ↦ get_or-set_other items at v begin 0 (λ e. omega (arith, e, before)) ∙ done v before
           | inr behind ↦
-              subst (λ (j : ℕ). get_or (set items at begin) j 0 ≡ sum (take j counts)) (omega (arith, low, behind))
+              let e : at ≡ v = omega (arith, low, behind) in
+              subst (λ (j : ℕ). get_or (set items at begin) j 0 ≡ sum (take j counts)) e
               (get_or-set_same items at begin 0 (at_item lt) ∙ total)
         ]
 

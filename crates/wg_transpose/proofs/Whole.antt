@@ -73,6 +73,7 @@ is_transposed g ends all h = λ i. record { nodes = h.pages i; lists = lists_are
 pub is_whole : (g : Digraph) → IsGraph g → (ends all : List ℕ) → ArePlaced g (predecessors g) ends all → g.nodes ≤ MOST_PAGES → arc_count g ≤ MOST_ARCS → IsCut (length ends) ends all
 is_whole g ok ends all h few_pages few_arcs =
     let proper = is_proper g in
+    let count : arc_count (transposed g) ≡ arc_count g = as_many g ok in
     record {
       whole = ends_at g.nodes (predecessors g) ends all h;
       prefix = subst IsGraphPrefix (sym (is_transposed g ends all h)) (record {
@@ -80,7 +81,7 @@ is_whole g ok ends all h few_pages few_arcs =
         ascending = proper.ascending;
         below = proper.below;
         few_pages = few_pages;
-        few_arcs = omega (arith, (as_many g ok));
+        few_arcs = omega (arith, count);
       });
     }
 

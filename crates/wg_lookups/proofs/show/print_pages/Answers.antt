@@ -37,8 +37,10 @@ returns-in_err-show_page g c =
       only = n.line.only;
       failed = λ is. rose_on (faults c.args.out.now) (faults c.loop-page.out) (faults out) (faults out) (g.met.O.Sink.onward _ _ i.later).0 (n.line.failed is) (omega arith);
       later = g.met.O.Sink.goes_on _ _ _ i.later n.line.later;
-      each = λ r. tt;
-      most = λ r. omega (arith, i.opened r, n.most r, sum_by_more_le (chain_records r.records) pages c.loop-page.page-index 0 c.loop-page-test.true);
+      opens = record {
+        each = λ r. tt;
+        most = λ r. omega (arith, i.opened r, n.most r, sum_by_more_le (chain_records r.records) pages c.loop-page.page-index 0 c.loop-page-test.true);
+      };
     }
 
 pub returns : goal.returns
@@ -57,6 +59,8 @@ returns g c =
       only = n.refusals.only;
       failed = λ is. rose_on (faults c.args.out.now) (faults c.loop-page.out) (faults out) (faults out) (g.met.O.Sink.onward _ _ i.later).0 (n.refusals.failed is) (omega arith);
       later = g.met.O.Sink.goes_on _ _ _ i.later n.later;
-      each = λ r. if_always c.print_rest.result (i.opened r ∙ ap (λ (ps : List ℕ). c.args.steps.now + sum_by (chain_records r.records) ps) all);
-      most = λ r. omega (arith, i.opened r, ap (λ (ps : List ℕ). sum_by (chain_records r.records) ps) all);
+      opens = record {
+        each = λ r. if_always c.print_rest.result (i.opened r ∙ ap (λ (ps : List ℕ). c.args.steps.now + sum_by (chain_records r.records) ps) all);
+        most = λ r. omega (arith, i.opened r, ap (λ (ps : List ℕ). sum_by (chain_records r.records) ps) all);
+      };
     }

@@ -12,6 +12,7 @@ put_in_range-requires c = record {
   room = λ low high.
       let r = c.requires.placed in
       let h = c.loop-target.invariant r.0 r.1 r.2 r.3 in
+      let pages = h.pages in
       let j = c.loop-target.target-index in
       let list = c.args.list.now in
       place_below (predecessors r.0) (with_page r.0 c.args.page (take j list)) (with_page r.0 c.args.page (take (j + 1) list)) c.args.from r.1 (get_or list j 0) c.args.page c.loop-target.ends c.loop-target.all
