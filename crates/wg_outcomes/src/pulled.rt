@@ -1,11 +1,11 @@
 //! Rounds along the pages that link to each page, if these fit in memory.
 ghost use Rattle.std.specs.Prelude.{◌≡◌, ◌≤◌, ℕ, List, Option, IfOk, IfSome};
 ghost use Rattle.wg_params.specs.declared.limits.TheConstants.{MOST_ARCS, MOST_ROUNDS};
-ghost use Rattle.wg_runs.specs.declared.run.TheConstants.{MOST_PAGES_IN_RUNS};
+ghost use Rattle.wg_transpose.specs.declared.run.TheConstants.{MOST_PAGES_IN_RUNS};
 ghost use Rattle.wg_graph.specs.Digraph.{arc_count};
 ghost use Rattle.wg_rank.specs.Weights.{weights_of};
 ghost use Rattle.wg_outcomes.specs.Ranked.{AreReady, bounds_after};
-ghost use Rattle.wg_runs.specs.Runs.{IsCountOf};
+ghost use Rattle.wg_transpose.specs.Runs.{IsCountOf};
 ghost use Rattle.wg_outcomes.specs.Pulled.{pulled_graph};
 
 use crate::bounds::last_bounds;
@@ -13,7 +13,7 @@ use crate::ways::{Way, way_for};
 use std::alloc::{AllocError, Global};
 use wg_graph::Lists;
 use wg_rank::{Bounds, ListPulling, Pulling};
-use wg_runs::{MOST_PAGES_IN_RUNS, RunCounts};
+use wg_transpose::{MOST_PAGES_IN_RUNS, RunCounts};
 
 /// The pages that link to each page, which rounds go along.
 #[derive(Drop)]

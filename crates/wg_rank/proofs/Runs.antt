@@ -12,8 +12,8 @@ use Rattle.wg_graph.specs.Arcs.{has_arc}
 use Rattle.wg_graph.specs.Digraph.{Digraph, successors, outdegree}
 use Rattle.wg_graph.specs.Numbers.{is_in, numbers_where}
 use Rattle.wg_transpose.specs.Transposed.{predecessors}
-use Rattle.wg_runs.specs.declared.run.PageRun.{PageRun}
-use Rattle.wg_runs.specs.Runs.{numbers_of, numbers_of_all, StandApart}
+use Rattle.wg_transpose.specs.declared.run.PageRun.{PageRun}
+use Rattle.wg_transpose.specs.Runs.{numbers_of, numbers_of_all, StandApart}
 use Rattle.wg_rank.specs.Sum.{sum_below}
 use Rattle.wg_rank.specs.Rank.{sum_in}
 use Rattle.wg_rank.specs.Pulling.{given, along}

@@ -2,8 +2,8 @@
 use Rattle.std.specs.Prelude.{◌≡◌, ℕ, ◌+◌, ◌/◌, ◌%◌, ◌^◌, ◌<◌, ◌≤◌, List, [], ◌∷◌, length, get_or, All}
 use Rattle.wg_graph.specs.Digraph.{Digraph}
 use Rattle.wg_transpose.specs.Transposed.{predecessors}
-use Rattle.wg_runs.specs.declared.run.PageRun.{PageRun}
-use Rattle.wg_runs.specs.Runs.{numbers_of_all, StandApart}
+use Rattle.wg_transpose.specs.declared.run.PageRun.{PageRun}
+use Rattle.wg_transpose.specs.Runs.{numbers_of_all, StandApart}
 use Rattle.wg_rank.specs.Sum.{sum_below}
 use Rattle.wg_rank.specs.declared.limits.TheConstants.{UNITS}
 

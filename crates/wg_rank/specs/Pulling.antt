@@ -3,7 +3,7 @@ use Rattle.std.specs.Prelude.{ℕ, ◌-◌, ◌/◌, ◌==◌, cond, List}
 use Rattle.std.specs.Int.{div_ceil}
 use Rattle.std.specs.List.{sum_by}
 use Rattle.wg_graph.specs.Digraph.{Digraph, outdegree}
-use Rattle.wg_runs.specs.declared.run.PageRun.{PageRun}
+use Rattle.wg_transpose.specs.declared.run.PageRun.{PageRun}
 
 -- a graph, and what its pages shared out last, in lanes
 pub record Pulled : Type 0 where

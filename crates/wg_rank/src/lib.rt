@@ -16,11 +16,11 @@
 //! ```
 //!
 //! Three ways lead to the same bounds. [`Bounds::round`] reads the lists of successors in each round. [`Bounds::pull`]
-//! does so too, or goes along what was made of them once. [`wg_runs::Runs`] are of use if the pages that link to one
+//! does so too, or goes along what was made of them once. [`wg_transpose::Runs`] are of use if the pages that link to one
 //! page are often neighbours, as those of a folder, so that a few runs hold many arcs. First it adds up what each page
 //! gives to each of its successors, over all pages below each page; a dangling page gives nothing there. What the pages
 //! of a run give is then the difference of two such sums. A [`Pulling`] has the runs and the room for these sums. If
-//! runs are rare, a [`ListPulling`] has [`wg_runs::InLists`], the pages that link to each page one by one, and the room
+//! runs are rare, a [`ListPulling`] has [`wg_transpose::InLists`], the pages that link to each page one by one, and the room
 //! for what each page gives to each of its successors; what flows to a page is then the sum over its list.
 //!
 //! ```text

@@ -3,7 +3,7 @@ ghost use Rattle.std.specs.Prelude.{◌≡◌, ℕ, ◌*◌, ◌<◌, ◌≤◌,
 ghost use Rattle.std.specs.List.{sum_by};
 ghost use Rattle.wg_params.specs.declared.limits.TheConstants.{MOST_PAGES};
 ghost use Rattle.wg_graph.specs.Digraph.{IsGraph};
-ghost use Rattle.wg_runs.specs.declared.run.TheConstants.{MOST_PAGES_IN_RUNS};
+ghost use Rattle.wg_transpose.specs.declared.run.TheConstants.{MOST_PAGES_IN_RUNS};
 ghost use Rattle.wg_rank.specs.Rank.{sum_dangling};
 ghost use Rattle.wg_rank.specs.Intervals.{by_page};
 ghost use Rattle.wg_rank.specs.Lanes.{in_lanes};
@@ -17,7 +17,7 @@ use crate::lanes::{MOST_ADDED, from_lanes, in_lanes};
 use std::alloc::{AllocError, Global};
 use std::marker::Model;
 use std::simd::u64x4;
-use wg_runs::InLists;
+use wg_transpose::InLists;
 
 /// The pages that link to each page of a graph, and the room for a round along them. It is seen as the graph, and what
 /// its pages give to each of their successors. It holds 32 bytes for each page beside the lists.

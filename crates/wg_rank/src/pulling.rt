@@ -4,7 +4,7 @@ ghost use Rattle.std.specs.List.{sum_by};
 ghost use Rattle.wg_params.specs.declared.limits.TheConstants.{MOST_PAGES};
 ghost use Rattle.wg_graph.specs.Digraph.{Digraph, IsGraph};
 ghost use Rattle.wg_transpose.specs.Transposed.{predecessors};
-ghost use Rattle.wg_runs.specs.declared.run.TheConstants.{MOST_PAGES_IN_RUNS};
+ghost use Rattle.wg_transpose.specs.declared.run.TheConstants.{MOST_PAGES_IN_RUNS};
 ghost use Rattle.wg_rank.specs.Sum.{sum_below};
 ghost use Rattle.wg_rank.specs.Rank.{sum_dangling};
 ghost use Rattle.wg_rank.specs.Intervals.{by_page};
@@ -18,7 +18,7 @@ use crate::lanes::{MOST_ADDED, from_lanes, in_lanes, rise_in_parts};
 use std::alloc::{AllocError, Global};
 use std::marker::Model;
 use std::simd::u64x4;
-use wg_runs::{PageRun, Runs};
+use wg_transpose::{PageRun, Runs};
 
 /// The runs of a graph, and the room for a round along them. It is seen as the graph, and what its pages give to their
 /// successors, added up. It holds 32 bytes for each page, and 32, beside the runs.

@@ -1,9 +1,12 @@
--- What holds of all transposed graphs.
-use Rattle.std.specs.Prelude.{◌≡◌, ℕ, ◌+◌, ◌*◌, ◌≤◌}
+-- What holds of all transposed graphs, and of the runs of ascending lists.
+use Rattle.std.specs.Prelude.{◌≡◌, ℕ, ◌+◌, ◌*◌, ◌≤◌, List}
+use Rattle.wg_graph.specs.Ascending.{Ascends}
 use Rattle.wg_graph.specs.Digraph.{Digraph, IsGraph, arc_count}
 use Rattle.wg_graph.specs.Arcs.{has_arc}
 use Rattle.wg_transpose.specs.Transposed.{transposed}
 use Rattle.wg_transpose.specs.Transposing.{AreRanges}
+use Rattle.wg_transpose.specs.declared.run.PageRun.{PageRun}
+use Rattle.wg_transpose.specs.Runs.{numbers_of_all, StandApart, runs_in}
 
 -- An arc leads from v to u exactly if it led from u to v.
 abbrev pub ArcsAreReversed : Type 0
@@ -30,3 +33,15 @@ ReversedIsOne = (g t : Digraph) → IsGraph g → IsGraph t → t.nodes ≡ g.no
 abbrev pub RangesAreFew : Type 0
 RangesAreFew = (g : Digraph) → IsGraph g → (room n : ℕ) (at : ℕ → ℕ) → AreRanges g room (n + 1) at
     → room * n ≤ arc_count g
+
+-- The numbers of the runs, one run after the other, are the list.
+abbrev pub NumbersAreTheList : Type 0
+NumbersAreTheList = (xs : List ℕ) → Ascends 0 xs → numbers_of_all (runs_in xs) ≡ xs
+
+-- Between two runs a number is left out, so none could be longer.
+abbrev pub RunsStandApart : Type 0
+RunsStandApart = (xs : List ℕ) → Ascends 0 xs → StandApart 0 (runs_in xs)
+
+-- No other runs that stand apart have these numbers.
+abbrev pub RunsAreOne : Type 0
+RunsAreOne = (rs : List PageRun) → StandApart 0 rs → rs ≡ runs_in (numbers_of_all rs)

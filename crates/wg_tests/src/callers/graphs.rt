@@ -6,7 +6,7 @@ use wg_io::SteadySink;
 use wg_num::UNITS;
 use wg_order::Ranking;
 use wg_rank::Bounds;
-use wg_runs::{PageRun, Runs};
+use wg_transpose::{PageRun, Runs};
 use wg_shape::{quotient, union};
 use wg_transpose::transpose;
 use wg_vectors::{COPIED, bytes_of, generate};

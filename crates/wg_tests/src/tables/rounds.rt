@@ -12,7 +12,7 @@ use wg_outcomes::{MOST_ROUND_ROOM, PAGE_ROUND_ROOM, Way, way_for};
 use wg_params::Params;
 use wg_random::Records;
 use wg_rank::{Bounds, Gather, ListPulling, Pulling};
-use wg_runs::{RunCounts, Runs};
+use wg_transpose::{RunCounts, Runs};
 use wg_stream::Sweep;
 use wg_vectors::{generate, usual};
 

@@ -2,7 +2,7 @@ use Rattle.std.specs.Simd.Lanes.{zip2}
 use Rattle.std.proofs.Common.{ℕ, ◌+◌, ◌-◌, ◌%◌, ◌^◌, List, ap, ap₂, sym, ◌∙◌, arith, take, get_or}
 use Rattle.std.proofs.lemmas.List.{take_all}
 use Rattle.std.proofs.lemmas.List.Sums.{sum_by_more}
-use Rattle.wg_runs.specs.declared.run.PageRun.{PageRun}
+use Rattle.wg_transpose.specs.declared.run.PageRun.{PageRun}
 use Rattle.wg_rank.specs.Sum.{sum_below}
 use Rattle.wg_rank.specs.Lanes.{in_lanes}
 use Rattle.wg_rank.specs.Pulling.{along}

@@ -1,7 +1,7 @@
 use Rattle.std.proofs.Common.{◌-◌, List, ap, ◌∙◌, arith}
 use Rattle.std.proofs.lemmas.List.{take_all}
 use Rattle.std.proofs.lemmas.List.Sums.{sum_by_more, sum_by_more_le}
-use Rattle.wg_runs.specs.declared.run.PageRun.{PageRun}
+use Rattle.wg_transpose.specs.declared.run.PageRun.{PageRun}
 use Rattle.wg_rank.specs.Sum.{sum_below}
 use Rattle.wg_rank.specs.Pulling.{along}
 use Rattle.wg_rank.proofs.pulling.parts_along.Goals as goal

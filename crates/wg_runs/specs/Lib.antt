@@ -1,4 +1,0 @@
-pub mod Runs
-pub mod Held
-pub mod InLists
-pub mod Laws
