@@ -7,10 +7,7 @@ pub mod Whole
 pub mod Held
 pub mod Next
 pub mod InOrder
-pub mod Listed
-pub mod Grown
-pub mod Stands
 pub mod RunSteps
 pub mod RunWhole
-pub mod Placed
+pub mod Begun
 pub mod Made

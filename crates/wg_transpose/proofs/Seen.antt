@@ -17,12 +17,6 @@ where_more t k =
       | inr no_it_is ↦ rw (no_it_is, append-nil) (sym (grow_end t k (k + 1) (omega arith) (λ y low high. let e : y ≡ k = omega arith in rw e no_it_is)))
     ]
 
-pub where_le : (t : ℕ → Bool) (k m : ℕ) → k ≤ m → length (numbers_where t 0 k) ≤ length (numbers_where t 0 m)
-where_le t k m le =
-    let parts : m ≡ k + (m - k) = omega arith in
-    let both = ap length (ap (numbers_where t 0) parts ∙ where_split t 0 k (m - k)) in
-    omega (arith, both, length-append (numbers_where t 0 k) (numbers_where t (0 + k) (m - k)))
-
 pub where_few : (t : ℕ → Bool) (k : ℕ) → length (numbers_where t 0 k) ≤ k
 where_few t zero = omega arith
 where_few t (suc k) =
@@ -91,11 +85,22 @@ seen_other g k seen v w other = ap (λ (b : Bool). predecessors_below g k w ++ c
 pub seen_now : (g : Digraph) (k : ℕ) (seen : List ℕ) (v : ℕ) → is_in v seen ≡ false → with_page g k (seen ++ v ∷ []) v ≡ with_page g k seen v ++ k ∷ []
 seen_now g k seen v new = let now = in_push_same v seen in rw (now, new, append-nil) refl
 
--- no list is longer than it will be after the page
-pub seen_le : (g : Digraph) (k j v : ℕ) → length (with_page g k (take j (successors g k)) v) ≤ length (predecessors_below g (k + 1) v)
-seen_le g k j v =
-    let all = ap length (all_seen g k v) in
-    elim (cases_Bool (is_in v (take j (successors g k)))) [
-      | inl e ↦ let f : is_in v (successors g k) ≡ true = in_take v j (successors g k) e in rw e (let h = rw f at all in omega (arith, h))
-      | inr e ↦ rw (e, append-nil) (where_le (λ u. has_arc g u v) k (k + 1) (omega arith))
-    ]
+-- ---- what stands for these lists, if more stands for a longer one
+
+module _ {X : Type 0} (items : List ℕ → List X) (more : (xs ys : List ℕ) → length (items xs) ≤ length (items (xs ++ ys))) where
+  pub where_le : (t : ℕ → Bool) (k m : ℕ) → k ≤ m → length (items (numbers_where t 0 k)) ≤ length (items (numbers_where t 0 m))
+  where_le t k m le =
+      let e : m ≡ k + (m - k) = omega arith in
+      let parts = ap (λ (l : List ℕ). length (items l)) (ap (numbers_where t 0) e ∙ where_split t 0 k (m - k)) in
+      omega (arith, parts, more (numbers_where t 0 k) (numbers_where t (0 + k) (m - k)))
+
+  -- for no list is there more than there will be after the page
+  pub seen_le : (g : Digraph) (k j v : ℕ) → length (items (with_page g k (take j (successors g k)) v)) ≤ length (items (predecessors_below g (k + 1) v))
+  seen_le g k j v =
+      let all = ap (λ (l : List ℕ). length (items l)) (all_seen g k v) in
+      elim (cases_Bool (is_in v (take j (successors g k)))) [
+        | inl e ↦ let f : is_in v (successors g k) ≡ true = in_take v j (successors g k) e in rw e (let h = rw f at all in omega (arith, h))
+        | inr e ↦
+            let none : with_page g k (take j (successors g k)) v ≡ predecessors_below g k v = rw (e, append-nil) refl in
+            omega (arith, ap (λ (l : List ℕ). length (items l)) none, where_le (λ u. has_arc g u v) k (k + 1) (omega arith))
+      ]

@@ -1,5 +1,5 @@
 -- The arcs of one page, one by one.
-use Rattle.std.proofs.Common.{All, ◌≡◌, ◌≢◌, ◌⊎◌, Bool, ℕ, ◌+◌, ◌-◌, ◌<◌, ◌≤◌, cond, List, [], ◌∷◌, ◌++◌, length, take, get_or, set, refl, sym, ap, subst, ◌∙◌, arith, inl, inr, add-one, get_or-set_same, get_or-set_other}
+use Rattle.std.proofs.Common.{All, ◌≡◌, ◌≢◌, ◌⊎◌, Bool, ℕ, ◌+◌, ◌-◌, ◌<◌, ◌≤◌, cond, List, [], ◌∷◌, ◌++◌, length, take, get_or, set, sym, ap, subst, ◌∙◌, arith, inl, inr, add-one, get_or-set_same, get_or-set_other}
 use Rattle.std.proofs.lemmas.Bool.{cases_lt, cases_eq}
 use Rattle.std.proofs.lemmas.List.{take_all, take_more}
 use Rattle.std.proofs.lemmas.List.Elements.{All-from_get_or}
@@ -9,11 +9,11 @@ use Rattle.wg_graph.specs.Numbers.{is_in}
 use Rattle.wg_graph.specs.Digraph.{Digraph, successors}
 use Rattle.wg_graph.specs.Arcs.{has_arc}
 use Rattle.wg_transpose.specs.Transposed.{predecessors}
-use Rattle.wg_transpose.specs.SoFar.{predecessors_below, onward, AreCounts, ArePrefixes, ArePlacedFrom, IsListOf}
-use Rattle.wg_transpose.proofs.Reversed.{list_ascends}
+use Rattle.wg_transpose.specs.SoFar.{predecessors_below, onward, AreCounts, ArePrefixes, ArePlacedFrom, IsListOf, OneMore}
+use Rattle.wg_transpose.proofs.Reversed.{list_ascends, list_below}
 use Rattle.wg_transpose.proofs.Totals.{count_if}
-use Rattle.wg_transpose.proofs.Seen.{in_push_same, in_push_other, with_page, not_before, seen_now, seen_other, seen_le, none_seen, all_seen, where_le, where_few}
-use Rattle.wg_transpose.proofs.Places.{OneMore, longer, place_more, place_fits, same_prefixes}
+use Rattle.wg_transpose.proofs.Seen.{in_push_same, in_push_other, with_page, not_before, seen_now, seen_other, seen_le, none_seen, all_seen, where_le, where_few, member_below}
+use Rattle.wg_transpose.proofs.Places.{place_more, place_fits, same_prefixes}
 
 -- ---- counting
 
@@ -91,7 +91,7 @@ module _ (whole before after : ℕ → List ℕ) (first n t x : ℕ) (ends all :
   pub place_below : first ≤ t → t - first < n → get_or ends (t - first) 0 < length all
   place_below low high =
       let v : ℕ = t - first in
-      place_fits n (onward first whole) b ends all v (get_or ends v 0) high h refl (omega (arith, longer b c v x (more v (omega arith)), fits (first + v)))
+      place_fits n (onward first whole) b c v x ends all high (more v (omega arith)) (λ w. fits (first + w)) h
 
   outside : (t < first) ⊎ (n ≤ t - first) → ArePrefixes n (onward first whole) c ends all
   outside out = same_prefixes n (onward first whole) b c ends all (λ w w_lt. sym (base.others (first + w) (away w w_lt out))) h
@@ -103,7 +103,7 @@ module _ (whole before after : ℕ → List ℕ) (first n t x : ℕ) (ends all :
   inside : first ≤ t → t - first < n → ArePrefixes n (onward first whole) c (set ends (t - first) (get_or ends (t - first) 0 + 1)) (set all (get_or ends (t - first) 0) x)
   inside low high =
       let v : ℕ = t - first in
-      place_more n (onward first whole) b c v x ends all (get_or ends v 0) high (more v (omega arith)) (λ w. fits (first + w)) h refl
+      place_more n (onward first whole) b c v x ends all high (more v (omega arith)) (λ w. fits (first + w)) h
 
   pub place_step : (new_ends new_all : List ℕ)
       → (first ≤ t → t - first < length ends → new_ends ≡ set ends (t - first) (get_or ends (t - first) 0 + 1))
@@ -123,11 +123,16 @@ module _ (g : Digraph) (k j : ℕ) (list : List ℕ) (is : IsListOf g k list) (l
   pub page_more : OneMore (with_page g k (take j list)) (with_page g k (take (j + 1) list)) (get_or list j 0) k
   page_more = one_more g k j list (subst (Ascends 0) (sym is.is) (list_ascends g is.proper k is.page)) lt
 
-  pub page_fits : (v : ℕ) → length (with_page g k (take (j + 1) list) v) ≤ length (predecessors g v)
-  page_fits v =
-      let le = subst (λ (l : List ℕ). length (with_page g k (take (j + 1) l) v) ≤ length (predecessors_below g (k + 1) v)) (sym is.is) (seen_le g k (j + 1) v) in
+  -- what stands for a list is no more than there will be
+  pub page_fits : {X : Type 0} (items : List ℕ → List X) → ((xs ys : List ℕ) → length (items xs) ≤ length (items (xs ++ ys)))
+      → (v : ℕ) → length (items (with_page g k (take (j + 1) list) v)) ≤ length (items (predecessors g v))
+  page_fits items more v =
+      let le = subst (λ (l : List ℕ). length (items (with_page g k (take (j + 1) l) v)) ≤ length (items (predecessors_below g (k + 1) v))) (sym is.is) (seen_le items more g k (j + 1) v) in
       let page = is.page in
-      omega (arith, le, where_le (λ u. has_arc g u v) (k + 1) g.nodes (omega arith))
+      omega (arith, le, where_le items more (λ u. has_arc g u v) (k + 1) g.nodes (omega arith))
+
+  pub target_below : get_or list j 0 < g.nodes
+  target_below = subst (λ (l : List ℕ). get_or l j 0 < g.nodes) (sym is.is) (member_below g.nodes j (successors g k) (list_below g is.proper k is.page) (subst (λ (l : List ℕ). j < length l) is.is lt))
 
 pub place_end : (g : Digraph) (first n k j : ℕ) (list ends all : List ℕ) → IsListOf g k list → length list ≤ j → ArePlacedFrom g first n (with_page g k (take j list)) ends all → ArePlacedFrom g first n (predecessors_below g (k + 1)) ends all
 place_end g first n k j list ends all is past h =

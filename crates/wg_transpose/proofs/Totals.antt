@@ -19,17 +19,22 @@ use Rattle.wg_transpose.proofs.Seen.{where_more}
 abbrev pub one_if : Bool → ℕ
 one_if b = cond b 1 0
 
-start_of_none : (v : ℕ) → start (λ w. []) v ≡ 0
+start_of_none : (v : ℕ) → start {X = ℕ} (λ w. []) v ≡ 0
 start_of_none zero = refl
 start_of_none (suc v) = omega (arith, start_of_none v)
 
-pub start_le : (lists : ℕ → List ℕ) (v w : ℕ) → v ≤ w → start lists v ≤ start lists w
+pub start_le : {X : Type 0} (lists : ℕ → List X) (v w : ℕ) → v ≤ w → start lists v ≤ start lists w
 start_le lists v zero le = let e : v ≡ 0 = omega arith in rw e (omega arith)
 start_le lists v (suc w) le =
     elim (cases_lt w v) [
       | inl last ↦ let e : v ≡ suc w = omega arith in rw e (omega arith)
       | inr before ↦ omega (arith, start_le lists v w before)
     ]
+
+-- lists have as many items at most as others have numbers
+pub start_few : {X : Type 0} (lists : ℕ → List X) (others : ℕ → List ℕ) → ((v : ℕ) → length (lists v) ≤ length (others v)) → (n : ℕ) → start lists n ≤ start others n
+start_few lists others few zero = omega arith
+start_few lists others few (suc n) = omega (arith, start_few lists others few n, few n)
 
 length-cond : (b : Bool) (k : ℕ) → length (cond b (k ∷ []) []) ≡ one_if b
 length-cond true k = refl
@@ -72,14 +77,14 @@ as_many g ok = sum_of_lengths (predecessors g) g.nodes ∙ start_of_all g ok
 
 -- ---- sums of counts
 
-pub sum_is_start : (n : ℕ) (lists : ℕ → List ℕ) (counts : List ℕ) → AreCounts n lists counts → (v : ℕ) → v ≤ n → sum (take v counts) ≡ start lists v
+pub sum_is_start : {X : Type 0} (n : ℕ) (lists : ℕ → List X) (counts : List ℕ) → AreCounts n lists counts → (v : ℕ) → v ≤ n → sum (take v counts) ≡ start lists v
 sum_is_start n lists counts h zero le = refl
 sum_is_start n lists counts h (suc v) le =
     let e : v + 1 ≡ suc v = omega arith in
     let more = sum_by_more (λ (x : ℕ). x) counts v 0 (omega (arith, h.pages)) in
     subst (λ m. sum (take m counts) ≡ start lists (suc v)) e (omega (arith, more, sum_is_start n lists counts h v (omega arith), h.each v (omega arith)))
 
-pub sum_is_all : (n : ℕ) (lists : ℕ → List ℕ) (counts : List ℕ) → AreCounts n lists counts → sum counts ≡ start lists n
+pub sum_is_all : {X : Type 0} (n : ℕ) (lists : ℕ → List X) (counts : List ℕ) → AreCounts n lists counts → sum counts ≡ start lists n
 sum_is_all n lists counts h = ap sum (sym (take_all n counts (omega (arith, h.pages)))) ∙ sum_is_start n lists counts h n (omega arith)
 
 -- ---- a sum of counts up to a page

@@ -9,7 +9,7 @@ use Rattle.wg_graph.specs.Digraph.{Digraph, IsGraph, IsGraphPrefix, arc_count}
 use Rattle.wg_graph.specs.Pieces.{pieces, EndsAt, cut, IsCut}
 use Rattle.wg_graph.proofs.Ends.{length-pieces, piece_at}
 use Rattle.wg_transpose.specs.Transposed.{predecessors, transposed}
-use Rattle.wg_transpose.specs.SoFar.{onward, start, AreCounts, ArePrefixes, ArePlaced, ArePlacedFrom}
+use Rattle.wg_transpose.specs.SoFar.{onward, start, AreCounts, AreFilled, ArePrefixes, ArePlaced, ArePlacedFrom}
 use Rattle.wg_transpose.proofs.Reversed.{is_proper}
 use Rattle.wg_transpose.proofs.Totals.{start_le, start_of_all, as_many, sum_is_start}
 
@@ -22,19 +22,19 @@ ends_are s up k (end ∷ ends) each =
     (omega (arith, first, up k), subst (λ m. EndsAt m ends (s (k + suc (length ends)))) (sym first) (subst (EndsAt (s (suc k)) ends) total rest))
 
 -- a list stands in its place
-stands : (all list : List ℕ) (from to : ℕ) → to ≡ from + length list → to ≤ length all → ((i : ℕ) → i < length list → get_or all (from + i) 0 ≡ get_or list i 0) → slice_range all from to ≡ list
-stands all list from to is fits members =
+stands : {X : Type 0} (none : X) (all list : List X) (from to : ℕ) → to ≡ from + length list → to ≤ length all → ((i : ℕ) → i < length list → get_or all (from + i) none ≡ get_or list i none) → slice_range all from to ≡ list
+stands none all list from to is fits members =
     let size : length (slice_range all from to) ≡ length list = omega (arith, length-take-le (to - from) (drop from all) (omega (arith, length-drop from all))) in
-    ext_get_or 0 (slice_range all from to) list size
-    (λ i lt. get_or-take (to - from) (drop from all) i 0 (omega arith) ∙ get_or-drop from all i 0 ∙ members i (omega arith))
+    ext_get_or none (slice_range all from to) list size
+    (λ i lt. get_or-take (to - from) (drop from all) i none (omega arith) ∙ get_or-drop from all i none ∙ members i (omega arith))
 
 -- all lists, from the first on
 pub from_none : (lists : ℕ → List ℕ) → onward 0 lists ≡ lists
 from_none lists = λ i v. lists (zero-add v i)
 
 -- before the first page
-pub none_placed : (n : ℕ) (whole : ℕ → List ℕ) (counts starts all : List ℕ) → AreCounts n whole counts → length starts ≡ length counts → ((v : ℕ) → v < length counts → get_or starts v 0 ≡ sum (take v counts)) → length all ≡ start whole n
-    → ArePrefixes n whole (λ v. []) starts all
+pub none_placed : {X : Type 0} {none : X} (n : ℕ) (whole : ℕ → List X) (counts starts : List ℕ) (all : List X) → AreCounts n whole counts → length starts ≡ length counts → ((v : ℕ) → v < length counts → get_or starts v 0 ≡ sum (take v counts)) → length all ≡ start whole n
+    → AreFilled none n whole (λ v. []) starts all
 none_placed n whole counts starts all h pages begins room = record {
   pages = pages ∙ h.pages;
   room = room;
@@ -42,7 +42,7 @@ none_placed n whole counts starts all h pages begins room = record {
   members = λ v lt i none. absurd (omega arith);
 }
 
-module _ (n : ℕ) (whole : ℕ → List ℕ) (ends all : List ℕ) (h : ArePrefixes n whole whole ends all) where
+module _ {X : Type 0} {none : X} (n : ℕ) (whole : ℕ → List X) (ends : List ℕ) (all : List X) (h : AreFilled none n whole whole ends all) where
   pub begins_at : (v : ℕ) → v < n → get_or (0 ∷ ends) v 0 ≡ start whole v
   begins_at zero lt = refl
   begins_at (suc v) lt = h.reached v (omega arith)
@@ -51,10 +51,11 @@ module _ (n : ℕ) (whole : ℕ → List ℕ) (ends all : List ℕ) (h : ArePref
   ends_within v lt = omega (arith, h.reached v lt, h.room, start_le whole (suc v) n (omega arith))
 
   pub list_is : (v : ℕ) → v < n → slice_range all (start whole v) (get_or ends v 0) ≡ whole v
-  list_is v lt = stands all (whole v) (start whole v) (get_or ends v 0) (h.reached v lt) (ends_within v lt) (h.members v lt)
+  list_is v lt = stands none all (whole v) (start whole v) (get_or ends v 0) (h.reached v lt) (ends_within v lt) (h.members v lt)
 
+module _ (n : ℕ) (whole : ℕ → List ℕ) (ends all : List ℕ) (h : ArePrefixes n whole whole ends all) where
   list_at : (v : ℕ) → v < n → get_or (pieces 0 ends all) v [] ≡ whole v
-  list_at v lt = piece_at 0 ends all v (omega (arith, h.pages)) ∙ ap (λ m. slice_range all m (get_or ends v 0)) (begins_at v lt) ∙ list_is v lt
+  list_at v lt = piece_at 0 ends all v (omega (arith, h.pages)) ∙ ap (λ m. slice_range all m (get_or ends v 0)) (begins_at n whole ends all h v lt) ∙ list_is n whole ends all h v lt
 
   pub lists_are : pieces 0 ends all ≡ map whole (range_with_len 0 n)
   lists_are = fill_by_all whole (pieces 0 ends all) n [] (length-pieces 0 ends all ∙ h.pages) list_at

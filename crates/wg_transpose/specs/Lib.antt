@@ -3,5 +3,6 @@ pub mod SoFar
 pub mod Transposing
 pub mod Runs
 pub mod Held
-pub mod InLists
 pub mod Laws
+pub mod Listed
+pub mod Grown

@@ -1,9 +1,9 @@
 -- Runs of numbers that follow one another, and the runs of the pages that link to a page.
-use Rattle.std.specs.Prelude.{◌≡◌, ℕ, zero, suc, ◌+◌, ◌-◌, ◌<◌, ◌≤◌, ◌==◌, if◌then◌else◌, List, [], ◌∷◌, ◌++◌, length, get_or}
+use Rattle.std.specs.Prelude.{◌≡◌, ℕ, suc, ◌-◌, ◌<◌, ◌≤◌, ◌==◌, if◌then◌else◌, List, [], ◌∷◌, ◌++◌, length, get_or}
 use Rattle.std.specs.List.{range_with_len}
 use Rattle.wg_params.specs.declared.limits.TheConstants.{MOST_ARCS}
 use Rattle.wg_graph.specs.Digraph.{Digraph, IsGraph, arc_count, outdegree}
-use Rattle.wg_transpose.specs.SoFar.{AreCounts}
+use Rattle.wg_transpose.specs.SoFar.{start, AreCounts}
 use Rattle.wg_transpose.specs.Transposed.{predecessors}
 use Rattle.wg_transpose.specs.declared.run.PageRun.{PageRun}
 use Rattle.wg_transpose.specs.declared.run.TheConstants.{MOST_PAGES_IN_RUNS}
@@ -37,11 +37,6 @@ runs_in (x ∷ xs) = with_first x (runs_in xs)
 abbrev pub runs_to : Digraph → ℕ → List PageRun
 runs_to g v = runs_in (predecessors g v)
 
--- how many runs the lists below list v have
-abbrev pub run_start : (ℕ → List PageRun) → ℕ → ℕ
-run_start lists zero = 0
-run_start lists (suc v) = run_start lists v + length (lists v)
-
 -- these are the outdegrees of all pages
 pub record AreDegrees (g : Digraph) (degrees : List ℕ) : Type 0 where
   pub pages : length degrees ≡ g.nodes
@@ -60,9 +55,8 @@ pub record IsCountOf (g : Digraph) (c : Counted) : Type 0 where
   pub proper : IsGraph g
   pub few_pages : g.nodes ≤ MOST_PAGES_IN_RUNS
   pub few_arcs : arc_count g ≤ MOST_ARCS
-  pub pages : length c.counts ≡ g.nodes
-  pub each : (v : ℕ) → v < g.nodes → get_or c.counts v 0 ≡ length (runs_to g v)
+  pub counted : AreCounts g.nodes (runs_to g) c.counts
   pub linked : AreCounts g.nodes (predecessors g) c.links
   pub degrees : AreDegrees g c.degrees
-  pub runs : c.runs ≡ run_start (runs_to g) g.nodes
+  pub runs : c.runs ≡ start (runs_to g) g.nodes
   pub arcs : c.arcs ≡ arc_count g

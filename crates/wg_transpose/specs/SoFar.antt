@@ -1,5 +1,5 @@
 -- Which arcs have been counted or placed so far.
-use Rattle.std.specs.Prelude.{◌≡◌, ℕ, zero, suc, ◌+◌, ◌<◌, List, length, get_or}
+use Rattle.std.specs.Prelude.{◌≡◌, ◌≢◌, ℕ, zero, suc, ◌+◌, ◌<◌, List, [], ◌∷◌, ◌++◌, length, get_or}
 use Rattle.wg_graph.specs.Numbers.{numbers_where}
 use Rattle.wg_graph.specs.Digraph.{Digraph, IsGraph, successors}
 use Rattle.wg_graph.specs.Arcs.{has_arc}
@@ -14,12 +14,12 @@ abbrev pub onward : ℕ → (ℕ → List ℕ) → ℕ → List ℕ
 onward first lists v = lists (first + v)
 
 -- the sum of the lengths of the lists below list v
-abbrev pub start : (ℕ → List ℕ) → ℕ → ℕ
+abbrev pub start : {X : Type 0} → (ℕ → List X) → ℕ → ℕ
 start lists zero = 0
 start lists (suc v) = start lists v + length (lists v)
 
 -- these are the lengths of the first n lists
-pub record AreCounts (n : ℕ) (lists : ℕ → List ℕ) (counts : List ℕ) : Type 0 where
+pub record AreCounts {X : Type 0} (n : ℕ) (lists : ℕ → List X) (counts : List ℕ) : Type 0 where
   pub pages : length counts ≡ n
   pub each : (v : ℕ) → v < n → get_or counts v 0 ≡ length (lists v)
 
@@ -29,14 +29,23 @@ pub record IsListOf (g : Digraph) (k : ℕ) (list : List ℕ) : Type 0 where
   pub page : k < g.nodes
   pub is : list ≡ successors g k
 
+-- one list grows by one number, and the others stay
+pub record OneMore {X : Type 0} (b c : ℕ → List X) (v : ℕ) (x : X) : Type 0 where
+  pub here : c v ≡ b v ++ x ∷ []
+  pub others : (w : ℕ) → w ≢ v → c w ≡ b w
+
 -- These are prefixes of the first n of the whole lists: each stands from the start of its whole list on, and its end is
--- known.
-pub record ArePrefixes (n : ℕ) (whole lists : ℕ → List ℕ) (ends all : List ℕ) : Type 0 where
+-- known. `none` is in place of what is not written yet.
+pub record AreFilled {X : Type 0} (none : X) (n : ℕ) (whole lists : ℕ → List X) (ends : List ℕ) (all : List X) : Type 0 where
   pub pages : length ends ≡ n
   pub room : length all ≡ start whole n
   pub reached : (v : ℕ) → v < n → get_or ends v 0 ≡ start whole v + length (lists v)
   pub members : (v : ℕ) → v < n → (i : ℕ) → i < length (lists v)
-      → get_or all (start whole v + i) 0 ≡ get_or (lists v) i 0
+      → get_or all (start whole v + i) none ≡ get_or (lists v) i none
+
+-- the same of lists of numbers
+abbrev pub ArePrefixes : ℕ → (ℕ → List ℕ) → (ℕ → List ℕ) → List ℕ → List ℕ → Type 0
+ArePrefixes n whole lists ends all = AreFilled 0 n whole lists ends all
 
 -- these are prefixes of the lists of predecessors
 abbrev pub ArePlaced : Digraph → (ℕ → List ℕ) → List ℕ → List ℕ → Type 0

@@ -6,9 +6,7 @@ ghost use Rattle.wg_transpose.specs.Runs.{IsCountOf};
 ghost use Rattle.wg_transpose.specs.declared.run.TheConstants.{MOST_PAGES_IN_RUNS};
 
 use crate::run_counting::count;
-use crate::filling::fill;
-use crate::listing::list;
-use crate::{InLists, PageRun, Runs};
+use crate::{InArcs, InLists, PageRun, Runs};
 use std::alloc::{AllocError, Global};
 use std::marker::Model;
 use wg_graph::Lists;
@@ -102,22 +100,20 @@ impl RunCounts {
         ensures runs { IfOk result (λ runs. runs ≡ L.graph lists.old) }
     {
         let RunCounts {
-            counts: mut ends,
+            counts,
             links,
-            mut reach,
+            reach,
             degrees,
-            runs: count,
+            runs,
             arcs: _,
         } = self;
         drop(links);
         let none = PageRun { from: 0, to: 0 };
-        let mut runs = vec![in alloc; none; count as usize]?;
-        fill(lists, &mut ends, &mut reach, &mut runs);
-        Ok(Runs::from_parts(ends, runs, degrees))
+        InArcs::of(alloc, lists, counts, reach, degrees, none, runs)
     }
 
     /// Lists the pages that link to each page one by one in place of runs, in one pass over the lists of the same
-    /// graph. It gives back 12 bytes for each page, and takes 4 for each arc.
+    /// graph. It gives back 8 bytes for each page, takes 4 for each arc, and gives back 4 more for each page in the end.
     pub fn list<L: Lists>(self, alloc: Global, lists: &mut L) -> Result<InLists, AllocError>
         requires counted { IsCountOf (L.graph lists.old) self }
         ensures graph { L.graph lists.new ≡ L.graph lists.old }
@@ -125,16 +121,13 @@ impl RunCounts {
     {
         let RunCounts {
             counts,
-            links: mut ends,
+            links,
             reach,
             degrees,
             runs: _,
             arcs,
         } = self;
         drop(counts);
-        drop(reach);
-        let mut sources = vec![in alloc; 0; arcs as usize]?;
-        list(lists, &mut ends, &mut sources);
-        Ok(InLists::from_parts(ends, sources, degrees))
+        InArcs::of(alloc, lists, links, reach, degrees, 0, arcs)
     }
 }

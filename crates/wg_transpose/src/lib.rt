@@ -38,7 +38,7 @@
 //! sums over all pages before its end, and before its begin. Runs are made straight from lists of successors, in two
 //! passes. Both take the same step for an arc from page u to page v: if the last run to v ends before u, it is made one
 //! page longer, and else a run of u alone begins. So it is known how many runs there are before memory for them is
-//! taken. If they are nearly as many as the arcs, [`RunCounts::list`] makes whole lists, [`InLists`], in place of them.
+//! taken. If they are nearly as many as the arcs, [`RunCounts::list`] makes whole lists in place of them: both are [`InArcs`].
 //!
 //! ```text
 //! lists of the graph --> RunCounts::of: how many runs and arcs lead to each page, outdegrees
@@ -50,7 +50,8 @@
 //!
 //! ```rust
 //! let graph = wg_arcs::read(rt.alloc(), b"0 4\n1 0\n1 4\n2 4\n4 4\n", 5)?;
-//! let runs = Runs::of(rt.alloc(), &mut GraphLists::new(&graph))?;
+//! let counts = RunCounts::of(rt.alloc(), &mut GraphLists::new(&graph))?;
+//! let runs = counts.fill(rt.alloc(), &mut GraphLists::new(&graph))?;
 //! let to_last = [PageRun { from: 0, to: 3 }, PageRun { from: 4, to: 5 }];
 //! assert!(rt; runs.nodes() == 5 && runs.of_page(4) == to_last.as_slice());
 //! assert!(rt; runs.of_page(3).is_empty() && runs.degree(1) == 2);
@@ -64,23 +65,22 @@
 mod counting;
 mod counts;
 mod filling;
-mod in_lists;
+mod in_arc;
+mod in_arcs;
 pub mod laws;
-mod listing;
 mod placing;
 mod ranges;
 mod run;
 mod run_counting;
-mod runs;
 mod spans;
 mod transposer;
 mod transposing;
 
 pub use counting::count_arcs;
 pub use counts::RunCounts;
-pub use in_lists::InLists;
+pub use in_arc::InArc;
+pub use in_arcs::{InArcs, InLists, Runs};
 pub use ranges::{Placing, Ranges, put_in_range, range_room, set_starts};
 pub use run::{MOST_PAGES_IN_RUNS, PageRun};
-pub use runs::Runs;
 pub use transposer::Transposer;
 pub use transposing::transpose;

@@ -9,8 +9,8 @@ ghost use Rattle.wg_transpose.specs.Runs.{runs_to, AreDegrees, IsCountOf};
 ghost use Rattle.wg_transpose.specs.Held.{runs_below, AreCounted};
 ghost use Rattle.wg_transpose.specs.declared.run.TheConstants.{MOST_PAGES_IN_RUNS};
 
-use wg_graph::Lists;
 use crate::count_arcs;
+use wg_graph::Lists;
 
 // Counts a run more to each page of the list to which page `page` begins one, and notes that its last run ends behind
 // page `page` now.

@@ -1,6 +1,7 @@
 use Rattle.std.proofs.Common.{◌≡◌, ℕ, ◌+◌, ◌∙◌, ap, subst, arith}
-use Rattle.wg_transpose.specs.Runs.{runs_to}
-use Rattle.wg_transpose.specs.Held.{runs_below, AreBegun}
+use Rattle.wg_transpose.specs.Transposed.{predecessors}
+use Rattle.wg_transpose.specs.SoFar.{predecessors_below}
+use Rattle.wg_transpose.specs.Held.{AreBegun}
 use Rattle.wg_transpose.proofs.filling.place.Goals as goal
 use Rattle.wg_transpose.proofs.filling.place.Goals.{in-Some, in_default}
 
@@ -22,7 +23,7 @@ loop-page-preserved g c =
           record {
             same = rw w.lists-is (p.0 ∙ i.same);
             place = rw w.lists-is (p.1 ∙ ap (λ k. k + 1) i.place);
-            begun = rw (w.ends-is, w.reach-is, w.runs-is) (w.place_arcs.ensures.begun graph (record { proper = c.nodes-pages.ensures.proper; page = l.0; is = l.1 }) i.begun);
+            begun = rw (w.ends-is, w.reach-is, w.all-is) (w.place_arcs.ensures.begun graph (record { proper = c.nodes-pages.ensures.proper; page = l.0; is = l.1 }) i.begun);
           }
       | in_default w ↦ absurd (omega (arith, rw (i.same, i.place) at w.in_default.ensures.lent))
     ]
@@ -30,6 +31,6 @@ loop-page-preserved g c =
 pub returns-clause-filled : goal.returns-clause-filled
 returns-clause-filled g c =
     let graph = g.L.Lists.graph c.args.lists.now in
+    let t = g.T.InArc in
     let all : c.loop-page.page ≡ graph.nodes = omega arith in
-    let done = subst (λ (k : ℕ). AreBegun graph.nodes (runs_to graph) (runs_below graph k) c.loop-page.ends c.loop-page.reach c.loop-page.runs) all c.loop-page.invariant.begun in
-    done.filled
+    subst (λ (k : ℕ). AreBegun t.items t.mark t.none graph.nodes (predecessors graph) (predecessors_below graph k) c.loop-page.ends c.loop-page.reach c.loop-page.all) all c.loop-page.invariant.begun

@@ -1,4 +1,4 @@
-use Rattle.wg_transpose.proofs.Listed.{numbers_are, stand_apart, are_one}
+use Rattle.wg_transpose.specs.Listed.{numbers_are, stand_apart, are_one}
 use Rattle.wg_transpose.proofs.laws.runs_of_lists.Goals as goal
 
 pub returns : goal.returns

@@ -1,5 +1,6 @@
 use Rattle.std.proofs.Common.{◌+◌, take, get_or, arith}
 use Rattle.wg_transpose.specs.Transposed.{predecessors}
+use Rattle.wg_transpose.specs.Listed.{more_pages}
 use Rattle.wg_transpose.proofs.Seen.{with_page}
 use Rattle.wg_transpose.proofs.Steps.{place_below, place_step, page_more, page_fits, place_end, none_yet}
 use Rattle.wg_transpose.proofs.placing.place_arcs.Goals as goal
@@ -16,7 +17,7 @@ put_in_range-requires c = record {
       let j = c.loop-target.target-index in
       let list = c.args.list.now in
       place_below (predecessors r.0) (with_page r.0 c.args.page (take j list)) (with_page r.0 c.args.page (take (j + 1) list)) c.args.from r.1 (get_or list j 0) c.args.page c.loop-target.ends c.loop-target.all
-      (page_more r.0 c.args.page j list r.2 (omega arith)) (page_fits r.0 c.args.page j list r.2 (omega arith)) h low (omega arith);
+      (page_more r.0 c.args.page j list r.2 (omega arith)) (page_fits r.0 c.args.page j list r.2 (omega arith) (λ xs. xs) more_pages) h low (omega arith);
 }
 
 pub loop-target-preserved : goal.loop-target-preserved
@@ -25,7 +26,7 @@ loop-target-preserved c = λ g n is h.
     let j = c.loop-target.target-index in
     let list = c.args.list.now in
     place_step (predecessors g) (with_page g c.args.page (take j list)) (with_page g c.args.page (take (j + 1) list)) c.args.from n (get_or list j 0) c.args.page c.loop-target.ends c.loop-target.all
-    (page_more g c.args.page j list is (omega arith)) (page_fits g c.args.page j list is (omega arith)) before
+    (page_more g c.args.page j list is (omega arith)) (page_fits g c.args.page j list is (omega arith) (λ xs. xs) more_pages) before
     c.put_in_range.new.ends c.put_in_range.new.all c.put_in_range.ensures.ends c.put_in_range.ensures.all c.put_in_range.ensures.same_ends c.put_in_range.ensures.same_all
 
 pub returns : goal.returns

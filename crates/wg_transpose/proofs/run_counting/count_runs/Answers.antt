@@ -1,9 +1,9 @@
 use Rattle.std.proofs.Common.{◌<◌, ◌+◌, [], length, take, get_or, arith, sym}
 use Rattle.wg_transpose.proofs.Seen.{with_page}
-use Rattle.wg_transpose.proofs.Steps.{page_more}
+use Rattle.wg_transpose.proofs.Steps.{page_more, target_below}
 use Rattle.wg_transpose.specs.declared.run.TheConstants.{MOST_PAGES_IN_RUNS}
 use Rattle.wg_transpose.specs.Held.{runs_below}
-use Rattle.wg_transpose.proofs.RunSteps.{runs_of, counted_new, counted_longer, target_below, runs_with, runs_done, runs_yet, same_counted, target_counted}
+use Rattle.wg_transpose.proofs.RunSteps.{runs_of, counted_new, counted_longer, runs_with, runs_done, runs_yet, same_counted, target_counted}
 use Rattle.wg_transpose.proofs.run_counting.count_runs.Goals as goal
 use Rattle.wg_transpose.proofs.run_counting.count_runs.Goals.{then-reach-place, else-reach-place}
 
@@ -58,7 +58,7 @@ loop-target-preserved c = λ g is h0.
     let list = c.args.list.now in
     let lt : j < length list = omega arith in
     let page = is.page in
-    let small : k < MOST_PAGES_IN_RUNS = omega (arith, page, h.pages, c.requires.few) in
+    let small : k < MOST_PAGES_IN_RUNS = omega (arith, page, h.counted.pages, c.requires.few) in
     let b = with_page g k (take j list) in
     let d = with_page g k (take (j + 1) list) in
     elim c.if-reach-place.branch [

@@ -19,7 +19,7 @@ flow_along-requires-clause-summed c =
       c.args.v,
       given g (low_share g c.requires.shared.0),
       given g (high_share g c.requires.shared.1),
-      record { apart = c.of_page.ensures.apart; within = c.of_page.ensures.within; numbers = c.of_page.ensures.numbers },
+      record { apart = c.of_page.ensures.proper.0; within = c.of_page.ensures.proper.1; numbers = c.of_page.ensures.numbers },
       rw c.deref.ensures.value s,
     )
 
@@ -27,7 +27,7 @@ pub returns-clause-low : goal.returns-clause-low
 returns-clause-low c = λ l h s.
     let g = c.self.inside.runs in
     let runs : AreRunsTo g c.args.v c.of_page.result.now =
-    record { apart = c.of_page.ensures.apart; within = c.of_page.ensures.within; numbers = c.of_page.ensures.numbers } in
+    record { apart = c.of_page.ensures.proper.0; within = c.of_page.ensures.proper.1; numbers = c.of_page.ensures.numbers } in
     let t = rw (← c.self.view_is) at s in
     rw (← c.self.view_is)
     (c.flow_along.ensures.low g c.args.v (given g (low_share g l)) (given g (high_share g h)) runs (rw c.deref.ensures.value t) ∙ in_sum g (low_share g l) c.args.v)
@@ -36,7 +36,7 @@ pub returns-clause-high : goal.returns-clause-high
 returns-clause-high c = λ l h s.
     let g = c.self.inside.runs in
     let runs : AreRunsTo g c.args.v c.of_page.result.now =
-    record { apart = c.of_page.ensures.apart; within = c.of_page.ensures.within; numbers = c.of_page.ensures.numbers } in
+    record { apart = c.of_page.ensures.proper.0; within = c.of_page.ensures.proper.1; numbers = c.of_page.ensures.numbers } in
     let t = rw (← c.self.view_is) at s in
     rw (← c.self.view_is)
     (c.flow_along.ensures.high g c.args.v (given g (low_share g l)) (given g (high_share g h)) runs (rw c.deref.ensures.value t) ∙ in_sum g (high_share g h) c.args.v)
@@ -47,7 +47,7 @@ returns-clause-low_room c =
     let low : ℕ → ℕ = given g (low_share g c.requires.shared.0) in
     let high : ℕ → ℕ = given g (high_share g c.requires.shared.1) in
     let runs : AreRunsTo g c.args.v c.of_page.result.now =
-    record { apart = c.of_page.ensures.apart; within = c.of_page.ensures.within; numbers = c.of_page.ensures.numbers } in
+    record { apart = c.of_page.ensures.proper.0; within = c.of_page.ensures.proper.1; numbers = c.of_page.ensures.numbers } in
     let s = rw (← c.self.view_is) at c.requires.shared.2 in
     let few : g.nodes ≤ MOST_PAGES = omega (arith, c.requires.few, ap (λ (p : Pulled). p.graph.nodes) c.self.view_is) in
     omega (
@@ -62,7 +62,7 @@ returns-clause-high_room c =
     let low : ℕ → ℕ = given g (low_share g c.requires.shared.0) in
     let high : ℕ → ℕ = given g (high_share g c.requires.shared.1) in
     let runs : AreRunsTo g c.args.v c.of_page.result.now =
-    record { apart = c.of_page.ensures.apart; within = c.of_page.ensures.within; numbers = c.of_page.ensures.numbers } in
+    record { apart = c.of_page.ensures.proper.0; within = c.of_page.ensures.proper.1; numbers = c.of_page.ensures.numbers } in
     let s = rw (← c.self.view_is) at c.requires.shared.2 in
     let few : g.nodes ≤ MOST_PAGES = omega (arith, c.requires.few, ap (λ (p : Pulled). p.graph.nodes) c.self.view_is) in
     omega (

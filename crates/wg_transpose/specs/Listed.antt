@@ -1,5 +1,5 @@
 -- The runs of an ascending list have its numbers, and no others do.
-use Rattle.std.proofs.Common.{All, ◌≡◌, ℕ, zero, suc, ◌+◌, ◌-◌, ◌<◌, ◌≤◌, List, [], ◌∷◌, ◌++◌, refl, sym, ap, ◌∙◌, arith, inl, inr}
+use Rattle.std.proofs.Common.{All, ◌≡◌, ℕ, zero, suc, ◌+◌, ◌-◌, ◌<◌, ◌≤◌, List, [], ◌∷◌, ◌++◌, length, length-append, refl, sym, ap, ◌∙◌, arith, inl, inr}
 use Rattle.std.specs.List.{range_with_len}
 use Rattle.std.proofs.lemmas.Bool.{cases_eq, ne_eqb, eq-eqb}
 use Rattle.std.proofs.lemmas.List.Elements.{All-nil, All-cons, All-head, All-tail}
@@ -63,6 +63,18 @@ first_within n x (r ∷ rs) lt all =
 pub within_from : (n : ℕ) (xs : List ℕ) → Below n xs → All (λ run. run.to ≤ n) (runs_in xs)
 within_from n [] below = All-nil (λ (run : PageRun). run.to ≤ n)
 within_from n (x ∷ xs) below = first_within n x (runs_in xs) below.0 (within_from n xs below.1)
+
+pub are_proper_runs : (n : ℕ) (xs : List ℕ) → Ascends 0 xs → Below n xs → StandApart 0 (runs_in xs) × All (λ run. run.to ≤ n) (runs_in xs)
+are_proper_runs n xs up below = (stand_apart xs up, within_from n xs below)
+
+-- ---- pages one by one
+
+pub pages_below : (n : ℕ) (xs : List ℕ) → Below n xs → All (λ u. u < n) xs
+pages_below n [] below = All-nil (λ (u : ℕ). u < n)
+pages_below n (x ∷ xs) below = All-cons (λ (u : ℕ). u < n) x xs below.0 (pages_below n xs below.1)
+
+pub more_pages : (xs ys : List ℕ) → length xs ≤ length (xs ++ ys)
+more_pages xs ys = omega (arith, length-append xs ys)
 
 -- ---- no other runs
 
