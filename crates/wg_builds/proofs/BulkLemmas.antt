@@ -38,7 +38,7 @@ use Rattle.wg_outcomes.specs.declared.status.Status.TheVariants.{Memory}
 use Rattle.wg_readings.proofs.ReadingsLaws.{the_readings}
 use Rattle.wg_readings.proofs.ReadingsLemmas.{all_agree, goes_on, goes_on_from}
 use Rattle.wg_outcomes.specs.Bulk.{IsBuilt, bulk_params}
-use Rattle.wg_outcomes.specs.Ranked.{bounds_after}
+use Rattle.wg_rank.specs.Rounds.{bounds_after}
 use Rattle.wg_outcomes.specs.Written.{AreWhole, archive_in}
 use Rattle.wg_outcomes.proofs.FileLemmas.{held_goes, last_bit}
 use Rattle.wg_outside.proofs.FilesLemmas.{none_falls-refl}

@@ -6,7 +6,8 @@ use Rattle.wg_words.specs.declared.jobs.Job.TheVariants.{Rank}
 use Rattle.wg_outcomes.specs.Answers.{Answers}
 use Rattle.wg_outcomes.specs.Commands.{judged, ranks}
 use Rattle.wg_outcomes.specs.Judged.{Judged, output_of, status_of, weights_then}
-use Rattle.wg_outcomes.specs.Ranked.{PrintsProvenRanking, bounds_after}
+use Rattle.wg_rank.specs.Rounds.{bounds_after}
+use Rattle.wg_outcomes.specs.Ranked.{PrintsProvenRanking}
 use Rattle.wg_outcomes.specs.Readings.{Readings}
 use Rattle.wg_outcomes.specs.declared.status.Input.{Input}
 use Rattle.wg_outcomes.specs.declared.status.Input.TheVariants.{Weights}

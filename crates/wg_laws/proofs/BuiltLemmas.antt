@@ -30,7 +30,8 @@ use Rattle.wg_words.specs.declared.jobs.Job.TheVariants.{Check, Arcs}
 use Rattle.wg_laws.specs.Built.{holding, IsAcceptedAs, BuiltAreAccepted, BuildsAreAccepted}
 use Rattle.wg_outcomes.specs.Commands.{builds, judged, number_lines, ok_line, successors_lines}
 use Rattle.wg_outcomes.specs.Judged.{Judged, refused, accepted, built, certified, unless_bad_list, unless_bad_properties, with_archive, with_digraph, with_file, with_graph, with_lengths, with_list, with_offsets, with_pages, with_parameters, with_places, with_records}
-use Rattle.wg_outcomes.specs.Ranked.{HoldGraph, bounds_after, ranking_text}
+use Rattle.wg_rank.specs.Rounds.{bounds_after}
+use Rattle.wg_outcomes.specs.Ranked.{HoldGraph, ranking_text}
 use Rattle.wg_outcomes.specs.Readings.{Readings}
 use Rattle.wg_outcomes.specs.Written.{greedy_archive, params_for}
 use Rattle.wg_outcomes.specs.declared.status.Input.{Input}

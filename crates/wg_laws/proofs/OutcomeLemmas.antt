@@ -19,7 +19,7 @@ use Rattle.wg_words.specs.declared.jobs.Job.TheVariants.{Check, Arcs, Ascii, Off
 use Rattle.wg_outcomes.specs.Bulk.{bulk_bounds, bulk_params, outcome_of, outcome_text}
 use Rattle.wg_outcomes.specs.Commands.{builds, judged, ranks}
 use Rattle.wg_outcomes.specs.Judged.{Judged, accepted, claim_then, map_then, offsets_then, unless_bad_list, unless_some_differ, weights_then, with_archive, with_digraph, with_file, with_graph, with_records, with_successors}
-use Rattle.wg_outcomes.specs.Ranked.{bounds_after}
+use Rattle.wg_rank.specs.Rounds.{bounds_after}
 use Rattle.wg_outcomes.specs.Readings.{Readings, ReadingsAgree}
 use Rattle.wg_outcomes.specs.Second.{of_second, second_held}
 use Rattle.wg_outcomes.specs.Verified.{verified_line, with_gap}

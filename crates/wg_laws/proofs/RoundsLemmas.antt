@@ -9,12 +9,13 @@ use Rattle.wg_rank.proofs.Certificates.{gap_of}
 use Rattle.wg_rank.proofs.Pageranks.{gap_shrinks, high_falls, low_rises}
 use Rattle.wg_words.specs.declared.jobs.Job.TheVariants.{Rank}
 use Rattle.wg_outcomes.specs.Judged.{Judged, output_of, status_of, weights_then}
-use Rattle.wg_outcomes.specs.Ranked.{bounds_after, ranking_text}
+use Rattle.wg_rank.specs.Rounds.{bounds_after}
+use Rattle.wg_outcomes.specs.Ranked.{ranking_text}
 use Rattle.wg_outcomes.specs.Readings.{Readings}
 use Rattle.wg_outcomes.specs.declared.status.Input.TheVariants.{Weights}
 use Rattle.wg_outcomes.specs.declared.status.Status.TheVariants.{Done}
 use Rattle.wg_outcomes.specs.Commands.{judged, ranks}
-use Rattle.wg_outcomes.proofs.RankLemmas.{bounds_hold}
+use Rattle.wg_rank.proofs.After.{bounds_hold}
 use Rattle.wg_laws.specs.Rounds.{MoreRoundsNarrow}
 use Rattle.wg_laws.proofs.HeldLemmas.{graph_behind}
 use Rattle.wg_laws.proofs.WeightsLemmas.{weights_behind}

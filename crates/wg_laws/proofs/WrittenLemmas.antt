@@ -25,11 +25,12 @@ use Rattle.wg_outcomes.specs.declared.status.Input.{Input}
 use Rattle.wg_outcomes.specs.declared.status.Input.TheVariants as input
 use Rattle.wg_laws.specs.Certificates.{AreStill}
 use Rattle.wg_outcomes.specs.Commands.{judged, ranks}
-use Rattle.wg_outcomes.specs.Ranked.{bounds_after, certificate_text, ranking_text}
+use Rattle.wg_rank.specs.Rounds.{bounds_after}
+use Rattle.wg_outcomes.specs.Ranked.{certificate_text, ranking_text}
 use Rattle.wg_outcomes.specs.Verified.{first_fall, unless_falls, verified_line, with_gap}
 use Rattle.wg_laws.proofs.ClaimLemmas.{right}
 use Rattle.wg_laws.proofs.HeldLemmas.{graph_behind}
-use Rattle.wg_outcomes.proofs.RankLemmas.{are_bounds, bounds_hold}
+use Rattle.wg_rank.proofs.After.{are_bounds, bounds_hold}
 use Rattle.wg_outcomes.proofs.VerifyLemmas.{none_falls}
 use Rattle.wg_outcomes.proofs.FileLemmas.{file_goes}
 use Rattle.wg_laws.proofs.WeightsLemmas.{weights_behind}

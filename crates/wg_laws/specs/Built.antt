@@ -14,7 +14,8 @@ use Rattle.wg_ascii.specs.Text as plain
 use Rattle.wg_words.specs.declared.jobs.Job.TheVariants.{Check, Arcs, Ascii, Offsets, Show, Rank, Build, Import, Recode, Transpose}
 use Rattle.wg_params.specs.declared.layout.Layout.{Layout}
 use Rattle.wg_outcomes.specs.Readings.{Readings}
-use Rattle.wg_outcomes.specs.Ranked.{HoldGraph, bounds_after, ranking_text}
+use Rattle.wg_rank.specs.Rounds.{bounds_after}
+use Rattle.wg_outcomes.specs.Ranked.{HoldGraph, ranking_text}
 use Rattle.wg_outcomes.specs.Written.{greedy_archive}
 use Rattle.wg_outcomes.specs.Judged.{accepted, built, with_pages}
 use Rattle.wg_outcomes.specs.Commands.{judged, number_lines, ok_line, successors_lines}

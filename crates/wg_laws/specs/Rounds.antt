@@ -6,7 +6,8 @@ use Rattle.wg_rank.specs.Intervals.{Intervals, by_page}
 use Rattle.wg_rank.specs.Rank.{gap}
 use Rattle.wg_words.specs.declared.jobs.Job.TheVariants.{Rank}
 use Rattle.wg_outcomes.specs.Judged.{output_of, status_of}
-use Rattle.wg_outcomes.specs.Ranked.{HoldGraph, HoldWeights, bounds_after, ranking_text}
+use Rattle.wg_rank.specs.Rounds.{bounds_after}
+use Rattle.wg_outcomes.specs.Ranked.{HoldGraph, HoldWeights, ranking_text}
 use Rattle.wg_outcomes.specs.Readings.{Readings}
 use Rattle.wg_outcomes.specs.declared.status.Input.{Input}
 use Rattle.wg_outcomes.specs.declared.status.Status.TheVariants.{Done}

@@ -14,7 +14,8 @@ use Rattle.wg_vectors.specs.Generated.{generated}
 use Rattle.wg_words.specs.Layouts.{default_layout}
 use Rattle.wg_words.specs.declared.defaults.TheConstants.{DEFAULT_DAMPING}
 use Rattle.wg_outcomes.specs.Readings.{Readings}
-use Rattle.wg_outcomes.specs.Ranked.{IsProvenRanking, bounds_after, positions_of}
+use Rattle.wg_rank.specs.Rounds.{bounds_after}
+use Rattle.wg_outcomes.specs.Ranked.{IsProvenRanking, positions_of}
 use Rattle.wg_outcomes.specs.Written.{AreWhole, archive_in, greedy_archive, params_for}
 use Rattle.wg_outcomes.specs.declared.outcome.Outcome.{Outcome}
 use Rattle.wg_outcomes.specs.declared.outcome.TheConstants.{BULK_ROUNDS}

@@ -8,7 +8,6 @@ pub mod Judged
 pub mod Names
 pub mod Performs
 pub mod Promised
-pub mod Pulled
 pub mod Ranked
 pub mod Reached
 pub mod Readings

@@ -22,21 +22,6 @@ use Rattle.wg_outcomes.specs.Readings.{Readings}
 use Rattle.wg_outcomes.specs.declared.status.Input.{Input}
 use Rattle.wg_outcomes.specs.declared.status.Input.TheVariants as input
 
--- f of each page
-abbrev pub of_pages : Digraph → (ℕ → ℕ) → List ℕ
-of_pages g f = map f (range_with_len 0 g.nodes)
-
--- the bounds of a graph's pages after so many rounds, with teleport by the weights that are given, or to each page
--- alike
-abbrev pub bounds_after : Digraph → Option (List ℕ) → ℕ → ℕ → Intervals
-bounds_after g given damping rounds = let w = weights_of g.nodes given in record {
-  damping = damping;
-  rounds = rounds;
-  weights = w;
-  low = of_pages g (low g damping (by_page w) rounds);
-  high = of_pages g (high g damping (by_page w) rounds);
-}
-
 abbrev pub pages_of : Readings → Intervals → List ℕ
 pages_of r b = r.ranking.value b.low b.high
 
@@ -62,12 +47,6 @@ ranking_text r b top = let s = positions_of r b in rank_lines s (take top s.page
 -- the certificate of these bounds: the damping, the pages, and the lower bound of each
 abbrev pub certificate_text : Intervals → List ℕ
 certificate_text b = text_of_claim (claim_of_bounds b)
-
--- bounds of the graph before the first round
-pub record AreReady (g : Digraph) (b : Intervals) : Type 0 where
-  pub holds : AreBoundsOf b g
-  pub before : b.rounds ≡ 0
-  pub bounded : length b.low ≡ g.nodes
 
 -- What the bounds and positions that are printed say: they enclose every exact iterate from these rounds on and every
 -- stationary vector, within the stated width; and pages whose intervals are disjoint are in the order of their exact

@@ -19,8 +19,8 @@
 //! ```
 //!
 //! The equations take the graph of a file from a function that reads all graph files (`Readings`); `wg_laws` states
-//! that the grammar leaves exactly one. Besides, the crate has what commands of both kinds share: short texts, what
-//! is printed in one call, and bounds before the first round and after the last.
+//! that the grammar leaves exactly one. Besides, the crate has what commands of both kinds share: short texts, and what
+//! is printed in one call.
 //!
 //! Choices:
 //!
@@ -28,7 +28,6 @@
 //!   beside the status. *Revisit if* more than one number of another file has to go with a fault.
 #![tactic(auto)]
 
-mod bounds;
 mod ending;
 mod files;
 mod layouts;
@@ -36,13 +35,10 @@ mod names;
 mod outcome;
 mod outputs;
 mod print;
-mod pulled;
 mod second;
 mod status;
 mod text;
-mod ways;
 
-pub use bounds::{last_bounds, room_for};
 pub use ending::Ending;
 pub use files::{create_file, fill_file};
 pub use layouts::params_of;
@@ -50,8 +46,6 @@ pub use names::suffix;
 pub use outcome::{BULK_ROUNDS, Outcome};
 pub use outputs::{output_ending, writing_ending};
 pub use print::{print_ok, print_piece, print_rest};
-pub use pulled::{Pulled, bounds_by_rounds, pulled_for};
 pub use second::{as_second, second_input};
 pub use status::{Input, SecondFault, Status, WeightsFault};
 pub use text::{MOST_TEXT, Text};
-pub use ways::{MOST_ROUND_ROOM, PAGE_ROUND_ROOM, Way, way_for};

@@ -24,7 +24,8 @@ use Rattle.wg_outcomes.specs.declared.status.Status.TheVariants.{Memory, WriteFa
 use Rattle.wg_outcomes.specs.Commands.{ranks}
 use Rattle.wg_outcomes.specs.JobFiles.{input_name, output_name, writes_files}
 use Rattle.wg_outcomes.specs.Performs.{CertifiesRanking, OutCounts, Outside, Performs, Produces, outside}
-use Rattle.wg_outcomes.specs.Ranked.{bounds_after, certificate_text, ranking_text}
+use Rattle.wg_rank.specs.Rounds.{bounds_after}
+use Rattle.wg_outcomes.specs.Ranked.{certificate_text, ranking_text}
 use Rattle.wg_outcomes.proofs.BuildLemmas.{produced}
 use Rattle.wg_readings.proofs.JobSteps.{ComesTo, ends_without, judges_rest, prints}
 use Rattle.wg_readings.proofs.GraphJobs.{IsOfGraph, behind_graph}

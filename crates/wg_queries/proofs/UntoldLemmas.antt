@@ -16,7 +16,8 @@ use Rattle.wg_outcomes.specs.Answers.{IsUnput, status_in}
 use Rattle.wg_outcomes.specs.Causes.{IncreasedAt}
 use Rattle.wg_outcomes.specs.Names.{IsOfInput}
 use Rattle.wg_outcomes.specs.Promised.{IsBadFile}
-use Rattle.wg_outcomes.specs.Ranked.{bounds_after, ranking_text}
+use Rattle.wg_rank.specs.Rounds.{bounds_after}
+use Rattle.wg_outcomes.specs.Ranked.{ranking_text}
 use Rattle.wg_outcomes.specs.Readings.{Readings}
 use Rattle.wg_outcomes.specs.Untold.{PrintsSomeGap, PrintsSomeRanking, RanksAnywhere}
 use Rattle.wg_outcomes.specs.Verified.{Leaves, verified_line}

@@ -17,9 +17,9 @@ use crate::print::print_ranking;
 use std::alloc::Global;
 use wg_graph::Lists;
 use wg_order::FirstPages;
-use wg_outcomes::{Ending, Input, bounds_by_rounds, pulled_for, room_for};
+use wg_outcomes::{Ending, Input};
 use wg_outside::{Depot, Sink};
-use wg_rank::Bounds;
+use wg_rank::{Bounds, bounds_by_rounds, pulled_for, room_for};
 use wg_readings::{lists_of_records, load, load_params, load_weights};
 use wg_words::Name;
 

@@ -22,3 +22,4 @@ pub mod ReadBounds
 pub mod WrittenBack
 pub mod CertificateLines
 pub mod Printed
+pub mod After

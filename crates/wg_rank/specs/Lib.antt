@@ -8,8 +8,10 @@ pub mod Inflows
 pub mod Intervals
 pub mod Lanes
 pub mod Laws
+pub mod Pulled
 pub mod Pulling
 pub mod Rank
+pub mod Rounds
 pub mod Settling
 pub mod Shares
 pub mod Sum

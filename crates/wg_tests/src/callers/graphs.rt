@@ -6,7 +6,7 @@ use wg_io::SteadySink;
 use wg_num::UNITS;
 use wg_order::Ranking;
 use wg_rank::Bounds;
-use wg_transpose::{PageRun, Runs};
+use wg_transpose::{PageRun, RunCounts};
 use wg_shape::{quotient, union};
 use wg_transpose::transpose;
 use wg_vectors::{COPIED, bytes_of, generate};
@@ -73,11 +73,12 @@ fn arcs_the_other_way_round(rt: HostRuntime) -> Result<(), Fail> {
     Ok(())
 }
 
-// In the overview of wg_runs.
+// In the overview of wg_transpose.
 #[test]
 fn runs_of_the_pages_that_link_to_a_page(rt: HostRuntime) -> Result<(), Fail> {
     let graph = wg_arcs::read(rt.alloc(), b"0 4\n1 0\n1 4\n2 4\n4 4\n", 5)?;
-    let runs = Runs::of(rt.alloc(), &mut GraphLists::new(&graph))?;
+    let counts = RunCounts::of(rt.alloc(), &mut GraphLists::new(&graph))?;
+    let runs = counts.fill(rt.alloc(), &mut GraphLists::new(&graph))?;
     let to_last = [PageRun { from: 0, to: 3 }, PageRun { from: 4, to: 5 }];
     assert!(rt; runs.nodes() == 5 && runs.of_page(4) == to_last.as_slice());
     assert!(rt; runs.of_page(3).is_empty() && runs.degree(1) == 2);

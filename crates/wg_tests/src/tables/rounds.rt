@@ -8,12 +8,12 @@ use wg_encoder::encode;
 use wg_graph::{Graph, GraphLists, Lists};
 use wg_io::MOST_BYTES;
 use wg_num::UNITS;
-use wg_outcomes::{MOST_ROUND_ROOM, PAGE_ROUND_ROOM, Way, way_for};
 use wg_params::Params;
 use wg_random::Records;
 use wg_rank::{Bounds, Gather, ListPulling, Pulling};
-use wg_transpose::{RunCounts, Runs};
+use wg_rank::{MOST_ROUND_ROOM, PAGE_ROUND_ROOM, Way, way_for};
 use wg_stream::Sweep;
+use wg_transpose::RunCounts;
 use wg_vectors::{generate, usual};
 
 // Page 3 dangles between two runs to page 4, which links to itself: its last run ends at the last page.
@@ -46,7 +46,8 @@ fn has_worked_bounds<G: Gather>(rt: &impl Abort, alloc: Global, source: &mut G) 
 #[test]
 fn two_rounds_along_runs(rt: HostRuntime) -> Result<(), Fail> {
     let graph = wg_arcs::read(rt.alloc(), ARCS, 5)?;
-    let runs = Runs::of(rt.alloc(), &mut GraphLists::new(&graph))?;
+    let mut lists = GraphLists::new(&graph);
+    let runs = RunCounts::of(rt.alloc(), &mut lists)?.fill(rt.alloc(), &mut lists)?;
     let mut pulling = Pulling::new(rt.alloc(), runs)?;
     assert!(rt; pulling.nodes() == 5);
     has_worked_bounds(&rt, rt.alloc(), &mut pulling)

@@ -1,7 +1,7 @@
 use Rattle.std.proofs.Common.{◌∙◌, None, refl, ap}
 use Rattle.wg_rank.proofs.Weighing.{ones}
 use Rattle.wg_words.specs.declared.defaults.TheConstants.{DEFAULT_DAMPING}
-use Rattle.wg_outcomes.specs.Ranked.{bounds_after}
+use Rattle.wg_rank.specs.Rounds.{bounds_after}
 use Rattle.wg_outcomes.specs.declared.outcome.TheConstants.{BULK_ROUNDS}
 use Rattle.wg_builds.proofs.BulkLemmas.{bounds_of_graph, no_graph}
 use Rattle.wg_outcomes.proofs.PerformsLemmas.{faultless}

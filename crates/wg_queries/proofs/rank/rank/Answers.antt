@@ -2,7 +2,8 @@ use Rattle.std.proofs.Common.{◌≡◌, ◌∙◌, inl, inr, Ok, Err, refl, sub
 use Rattle.wg_outside.proofs.FilesLemmas.{none_falls-trans}
 use Rattle.wg_readings.proofs.LoadLemmas.{graph_loaded, graph_unloaded}
 use Rattle.wg_outcomes.specs.Answers.{HasOutput}
-use Rattle.wg_outcomes.specs.Ranked.{bounds_after, ranking_text}
+use Rattle.wg_rank.specs.Rounds.{bounds_after}
+use Rattle.wg_outcomes.specs.Ranked.{ranking_text}
 use Rattle.wg_readings.proofs.JobSteps.{does_exit}
 use Rattle.wg_queries.proofs.RankJobs.{certifies, last_is, no_room, no_weights, of_graph, only_prints}
 use Rattle.wg_readings.proofs.GraphJobs.{no_graph, no_params}
@@ -49,7 +50,7 @@ returns-in_err-first-clause-does g c =
     (no_room c.args.base.now asked.rounds asked.damping asked.top c.args.weights.now c.args.certificate.now _ g.O.Sink.told _ p _ _ c.in_ok-params.ensures _ _ c.in_ok-lists.lists.graph
     (graph_loaded c.args.base.now p _ _ _ _ _ c.in_ok-bytes.bytes _ c.as_slice.ensures c.in_ok-bytes.ensures (Ok c.in_ok-lists.lists.graph) c.in_ok-lists.ensures.goes tt c.in_ok-lists.ensures.nodes)
     _ _ c.in_ok-given.given (rw c.nodes.ensures.count at c.in_ok-given.ensures)
-    _ _ _ refl c.in_err-first.ensures.only)
+    _ _ _ refl refl)
 
 pub returns-in-None-clause-does : goal.returns-in-None-clause-does
 returns-in-None-clause-does g c =
@@ -104,7 +105,7 @@ returns-in_err-given-clause-anywhere g c =
 pub returns-in_err-first-clause-anywhere : goal.returns-in_err-first-clause-anywhere
 returns-in_err-first-clause-anywhere g c =
     ranks_none g.D.Depot g.O.Sink _ _ _ _ _ _ _ _ _ _ c.from_residual-in_err-first.ensures.1
-    (c.in_ok-given.ensures.reads.same ∙ c.in_ok-bytes.ensures.same ∙ c.in_ok-params.ensures.same) (undone_room c.in_err-first.field-0.0 c.in_err-first.ensures.only)
+    (c.in_ok-given.ensures.reads.same ∙ c.in_ok-bytes.ensures.same ∙ c.in_ok-params.ensures.same) (undone_room _ refl)
 
 pub returns-in-None-clause-anywhere : goal.returns-in-None-clause-anywhere
 returns-in-None-clause-anywhere g c =

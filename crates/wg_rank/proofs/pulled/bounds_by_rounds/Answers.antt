@@ -1,8 +1,8 @@
 use Rattle.std.proofs.Common.{◌≡◌, subst}
 use Rattle.wg_graph.specs.Digraph.{Digraph}
 use Rattle.wg_rank.specs.Weights.{weights_of}
-use Rattle.wg_outcomes.specs.Ranked.{bounds_after}
-use Rattle.wg_outcomes.proofs.pulled.bounds_by_rounds.Goals as goal
+use Rattle.wg_rank.specs.Rounds.{bounds_after}
+use Rattle.wg_rank.proofs.pulled.bounds_by_rounds.Goals as goal
 
 pub returns-in-Some-Runs : goal.returns-in-Some-Runs
 returns-in-Some-Runs g c = λ given weighed.

@@ -4,15 +4,16 @@ ghost use Rattle.wg_params.specs.declared.limits.TheConstants.{MOST_ARCS, MOST_R
 ghost use Rattle.wg_transpose.specs.declared.run.TheConstants.{MOST_PAGES_IN_RUNS};
 ghost use Rattle.wg_graph.specs.Digraph.{arc_count};
 ghost use Rattle.wg_rank.specs.Weights.{weights_of};
-ghost use Rattle.wg_outcomes.specs.Ranked.{AreReady, bounds_after};
+ghost use Rattle.wg_rank.specs.Rounds.{AreReady, bounds_after};
 ghost use Rattle.wg_transpose.specs.Runs.{IsCountOf};
-ghost use Rattle.wg_outcomes.specs.Pulled.{pulled_graph};
+ghost use Rattle.wg_rank.specs.Pulled.{pulled_graph};
 
-use crate::bounds::last_bounds;
+use crate::rounds::last_bounds;
 use crate::ways::{Way, way_for};
+use crate::{Bounds, ListPulling, Pulling};
 use std::alloc::{AllocError, Global};
 use wg_graph::Lists;
-use wg_rank::{Bounds, ListPulling, Pulling};
+
 use wg_transpose::{MOST_PAGES_IN_RUNS, RunCounts};
 
 /// The pages that link to each page, which rounds go along.

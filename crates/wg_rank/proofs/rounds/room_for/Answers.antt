@@ -2,8 +2,8 @@ use Rattle.std.proofs.Common.{◌≡◌, ℕ, List, Option, None, sym, subst}
 use Rattle.std.specs.Result.{IfOk}
 use Rattle.wg_rank.specs.Intervals.{Intervals}
 use Rattle.wg_rank.specs.Weights.{AreWeights, weights_of}
-use Rattle.wg_outcomes.proofs.RankLemmas.{ready, weighed_by}
-use Rattle.wg_outcomes.proofs.bounds.first_bounds.Goals as goal
+use Rattle.wg_rank.proofs.After.{ready, weighed_by}
+use Rattle.wg_rank.proofs.rounds.room_for.Goals as goal
 
 pub weighted-requires-clause-weights : goal.weighted-requires-clause-weights
 weighted-requires-clause-weights g c =

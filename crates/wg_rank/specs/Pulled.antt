@@ -1,7 +1,7 @@
 -- The graph that rounds go along.
 use Rattle.wg_graph.specs.Digraph.{Digraph}
-use Rattle.wg_outcomes.specs.declared.pulled.Pulled.{Pulled}
-use Rattle.wg_outcomes.specs.declared.pulled.Pulled.TheVariants as pulled
+use Rattle.wg_rank.specs.declared.pulled.Pulled.{Pulled}
+use Rattle.wg_rank.specs.declared.pulled.Pulled.TheVariants as pulled
 
 -- that of the runs, or of the lists
 abbrev pub pulled_graph : Pulled → Digraph

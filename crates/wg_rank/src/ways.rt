@@ -1,7 +1,7 @@
 //! Which way rounds find what flows to each page.
 ghost use Rattle.std.specs.Prelude.{◌≡◌, ◌+◌, ◌*◌, ◌<◌, ◌≤◌};
 ghost use Rattle.wg_params.specs.declared.limits.TheConstants.{MOST_PAGES};
-ghost use Rattle.wg_outcomes.specs.declared.ways.TheConstants.{MOST_ROUND_ROOM, PAGE_ROUND_ROOM};
+ghost use Rattle.wg_rank.specs.declared.ways.TheConstants.{MOST_ROUND_ROOM, PAGE_ROUND_ROOM};
 
 /// The most bytes a page that rounds may hold beside the bounds.
 pub const MOST_ROUND_ROOM: u64 = 192;
