@@ -4,9 +4,9 @@ use Rattle.std.proofs.lemmas.Bool.{cases_eq, ne_eqb, eq-eqb}
 use Rattle.std.proofs.lemmas.List.{take_all, take_more, map-append, append_assoc, length-map}
 use Rattle.wg_graph.specs.Digraph.{Digraph, successors}
 use Rattle.wg_graph.specs.Numbers.{numbers_where}
-use Rattle.wg_transpose.specs.SoFar.{onward, AreCounts, ArePrefixes}
+use Rattle.wg_transpose.specs.SoFar.{onward, AreCounts, ArePrefixes, OneMore}
 use Rattle.wg_transpose.proofs.Seen.{where_more}
-use Rattle.wg_transpose.proofs.Places.{OneMore, same_prefixes}
+use Rattle.wg_transpose.proofs.Places.{same_prefixes}
 use Rattle.wg_shape.specs.Quotient.{class_of, reached}
 use Rattle.wg_shape.specs.Classes.{reached_by, reached_below}
 
