@@ -91,6 +91,7 @@ mod advancing;
 mod bounds;
 mod certificate;
 mod dividing;
+mod driving;
 mod divisor;
 mod fault;
 mod gathering;
@@ -104,7 +105,7 @@ mod parts;
 mod pulled;
 mod pulling;
 mod reading;
-mod rounds;
+
 mod settling;
 mod spreading;
 mod teleport;
@@ -113,6 +114,7 @@ mod writing;
 
 pub use bounds::Bounds;
 pub use certificate::Certificate;
+pub use driving::{last_bounds, room_for};
 pub use fault::{CertError, CertFault, CertKind, JudgeError};
 pub use gathering::Gather;
 pub use judging::judge;
@@ -122,6 +124,6 @@ pub use list_pulling::ListPulling;
 pub use pulled::{Pulled, bounds_by_rounds, pulled_for};
 pub use pulling::Pulling;
 pub use reading::read_certificate;
-pub use rounds::{last_bounds, room_for};
+
 pub use ways::{MOST_ROUND_ROOM, PAGE_ROUND_ROOM, Way, way_for};
 pub use writing::write_certificate;

@@ -8,7 +8,7 @@ ghost use Rattle.wg_rank.specs.Rounds.{AreReady, bounds_after};
 ghost use Rattle.wg_transpose.specs.Runs.{IsCountOf};
 ghost use Rattle.wg_rank.specs.Pulled.{pulled_graph};
 
-use crate::rounds::last_bounds;
+use crate::driving::last_bounds;
 use crate::ways::{Way, way_for};
 use crate::{Bounds, ListPulling, Pulling};
 use std::alloc::{AllocError, Global};

@@ -1,6 +1,6 @@
 use Rattle.std.proofs.Common.{◌≡◌, ◌∙◌, rules, refl}
 use Rattle.wg_rank.proofs.After.{bounds_are}
-use Rattle.wg_rank.proofs.rounds.last_bounds.Goals as goal
+use Rattle.wg_rank.proofs.driving.last_bounds.Goals as goal
 
 pub loop-init : goal.loop-init
 loop-init g c =

@@ -1,6 +1,6 @@
 use Rattle.std.proofs.Common.{◌≡◌, length}
 use Rattle.wg_rank.specs.Intervals.{AreBoundsOf}
-use Rattle.wg_rank.proofs.rounds.last_bounds.Given as goal
+use Rattle.wg_rank.proofs.driving.last_bounds.Given as goal
 
 -- the bounds are those of the graph after the rounds so far
 abbrev pub invariant-loop : goal.invariant-loop
